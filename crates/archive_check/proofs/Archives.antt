@@ -10,9 +10,9 @@ use Rattle.archive_check.specs.Value.{Value, number}
 use Rattle.archive_check.specs.Reads.{Schema, LaidOut}
 use Rattle.archive_check.specs.Defined.{Reaches, reaches, reaches_through, HeldIn, held, held_through, mentions_held, WellFormed}
 use Rattle.archive_check.specs.Definitions.{Definitions, no_definition, defines, both, listed, NoOthers, Has, Knows}
-use Rattle.archive_check.specs.Ranges.{RangeState, whole}
-use Rattle.archive_check.specs.PositionStates.{Positions, nothing_met}
-use Rattle.archive_check.specs.FreshContexts.{IsWhole}
+use Rattle.archive_check.specs.context.Ranges.{RangeState, whole}
+use Rattle.archive_check.specs.context.PositionStates.{Positions, nothing_met}
+use Rattle.archive_check.specs.context.FreshContexts.{IsWhole}
 use Rattle.archive_check.specs.Archives.{ExplainsNoSchema, IsArchiveWithin, IsArchive, IsValueOf, ReadsWhole, Answers, IsFaulty, IsRefusal, ExplainsNoArchive}
 use Rattle.archive_check.specs.Tour.{Entry}
 use Rattle.archive_check.specs.Denotes.{Meaning, Naming, Denotes}
@@ -20,16 +20,16 @@ use Rattle.archive_check.specs.Reached.{Names, LeadsTo, leads_at_once, leads_thr
 use Rattle.archive_check.specs.Pooled.{Entries}
 use Rattle.archive_check.specs.Entries.{NoEntries, AreNamedByPosition, AreShared, AreRight, IsCyclic, ReadsBack}
 use Rattle.archive_check.specs.Viewed.{Viewed, Says}
-use Rattle.archive_check.proofs.Rounds.{rounds}
-use Rattle.archive_check.proofs.AcceptedWalks.{walks}
-use Rattle.archive_check.proofs.FaultyNotWalked.{root_no_walk}
-use Rattle.archive_check.proofs.PositiveAlignments.{rounds_pos}
-use Rattle.archive_check.proofs.LaidOutNames.{names_of, rounds_solve_reached}
-use Rattle.archive_check.proofs.WellFormed.{found_stands, involved_reached}
+use Rattle.archive_check.proofs.Names.Rounds.{rounds}
+use Rattle.archive_check.proofs.Checks.AcceptedWalks.{walks}
+use Rattle.archive_check.proofs.Checks.FaultyNotWalked.{root_no_walk}
+use Rattle.archive_check.proofs.Names.PositiveAlignments.{rounds_pos}
+use Rattle.archive_check.proofs.Names.LaidOutNames.{names_of, rounds_solve_reached}
+use Rattle.archive_check.proofs.Names.WellFormed.{found_stands, involved_reached}
 use Rattle.archive_check.proofs.Elements.{contains_cases, contains_first}
-use Rattle.archive_check.proofs.Viewed.{root_lies, root_says}
-use Rattle.archive_check.proofs.Seen.{same_some}
-use Rattle.archive_check.proofs.NamesReached.{names_reached}
+use Rattle.archive_check.proofs.Viewing.Viewed.{root_lies, root_says}
+use Rattle.archive_check.proofs.Tours.Seen.{same_some}
+use Rattle.archive_check.proofs.Meanings.NamesReached.{names_reached}
 
 -- a schema that has the definitions has each that their list shows
 pub has_each : (s : Schema) (D : Definitions) → Has s D → (name : Name) (Y : Shape) → Contains (listed D) (name, Y) → definition s.table name ≡ Some Y

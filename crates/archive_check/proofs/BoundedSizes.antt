@@ -3,8 +3,8 @@ use Rattle.std.proofs.Common.{◌≡◌, ⊎_elim, ℕ, zero, suc, refl, sym, ap
 use Rattle.std.proofs.lemmas.Bool.Decides.{nat_tests}
 use Rattle.std.proofs.lemmas.Bool.{cases_lt}
 use Rattle.archive_check.specs.Layout.{up}
-use Rattle.archive_check.specs.BoundedSizes.{times, fits, rounded}
-use Rattle.archive_check.proofs.PartsInside.{up_le}
+use Rattle.archive_check.specs.Words.BoundedSizes.{times, fits, rounded}
+use Rattle.archive_check.proofs.Tours.PartsInside.{up_le}
 
 pub fits_some : (n : ℕ) → n < 18446744073709551616 → fits n ≡ Some n
 fits_some n h = grind (arith, nat_tests)

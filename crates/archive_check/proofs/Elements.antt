@@ -1,7 +1,7 @@
 -- Elements of lists: what a list contains, and what stands at an index.
 use Rattle.std.proofs.Common.{◌≡◌, ◌⊎◌, inl, inr, ⊎_elim, ℕ, zero, suc, refl, sym, ap, ap₂, ◌∙◌, subst, ◌+◌, ◌-◌, ◌<◌, ◌≤◌, arith, List, [], ◌∷◌, ◌++◌, length, slice_index_or, take, drop, drop-cons, length-take, length-drop, get_or-take, get_or-drop, Contains}
 use Rattle.std.proofs.lemmas.List.{get_or_default}
-use Rattle.archive_check.specs.Elements.{IsAt, span}
+use Rattle.archive_check.specs.Words.Elements.{IsAt, span}
 
 -- the first or a later one
 pub contains_cases : {X : Type 0} (y : X) (xs : List X) (x : X) → Contains (y ∷ xs) x → (y ≡ x) ⊎ Contains xs x

@@ -10,9 +10,9 @@ use Rattle.archive_check.specs.Definitions.{Definitions, listed, Has, Knows}
 use Rattle.archive_check.specs.Unshared.{has_flavors, IsUnshared}
 use Rattle.archive_check.specs.Denotes.{Meaning, Fills, Denotes, IsSharedValue, Same, rename}
 use Rattle.archive_check.specs.Tidy.{IsTidy}
-use Rattle.archive_check.proofs.Seen.{same_some}
+use Rattle.archive_check.proofs.Tours.Seen.{same_some}
 use Rattle.archive_check.proofs.Unshared.{Right, contents_right}
-use Rattle.archive_check.proofs.SameMeanings.{rename_same}
+use Rattle.archive_check.proofs.Meanings.SameMeanings.{rename_same}
 use Rattle.archive_check.proofs.OneList.Twins.{Renamed}
 use Rattle.archive_check.proofs.OneList.Tours.{KnownAlike}
 use Rattle.archive_check.proofs.OneList.Buffers.{buffers_equal}

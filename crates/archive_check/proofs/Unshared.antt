@@ -12,11 +12,11 @@ use Rattle.archive_check.specs.Pooled.{Entries}
 use Rattle.archive_check.specs.Entries.{MeetsOpen, meets_open, meets_in_unique, meets_in_shared, IsCyclic}
 use Rattle.archive_check.specs.Archives.{IsArchiveWithin}
 use Rattle.archive_check.specs.Unshared.{has_flavors, pointee_has_flavors, parts_have_flavors, variants_have_flavors, IsAcyclic, IsNeverOpen}
-use Rattle.archive_check.proofs.WellFormed.{found_stands}
+use Rattle.archive_check.proofs.Names.WellFormed.{found_stands}
 use Rattle.archive_check.proofs.Archives.{has_each}
-use Rattle.archive_check.proofs.Viewed.{root_lies}
-use Rattle.archive_check.proofs.Seen.{same_some}
-use Rattle.archive_check.proofs.CalmArchives.{never_open}
+use Rattle.archive_check.proofs.Viewing.Viewed.{root_lies}
+use Rattle.archive_check.proofs.Tours.Seen.{same_some}
+use Rattle.archive_check.proofs.Meanings.CalmArchives.{never_open}
 
 pub found : {A : Type 0} (o : Option A) → IsTrue (is_some o) → (x : A) × (o ≡ Some x)
 found None h = cc

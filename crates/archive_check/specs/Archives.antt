@@ -15,8 +15,8 @@ use Rattle.archive_check.specs.Defined.{WellFormed, AllDefined}
 use Rattle.archive_check.specs.Definitions.{Definitions, listed, Knows}
 use Rattle.archive_check.specs.Pooled.{Entries}
 use Rattle.archive_check.specs.Trail.{Fault, RootTrips}
-use Rattle.archive_check.specs.Faults.{IsFor, IsOfCheck}
-use Rattle.archive_check.specs.FreshContexts.{HasLevels}
+use Rattle.archive_check.specs.Words.Faults.{IsFor, IsOfCheck}
+use Rattle.archive_check.specs.context.FreshContexts.{HasLevels}
 
 -- The definitions give X a meaning, some schema knows them, and under each that does the buffer is an archive of an X at root, with no region too
 -- deep.

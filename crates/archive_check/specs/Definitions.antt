@@ -7,6 +7,7 @@ use Rattle.archive_check.specs.Layout.{Layout, layout}
 use Rattle.archive_check.specs.Defined.{HeldIn, Involves}
 use Rattle.archive_check.specs.Reads.{Schema, LaidOut}
 
+-- the definitions that a type brings with it: none, one under a name, or those of two
 pub data Definitions : Type 0 where
   no_definition : Definitions
   defines : Name → Shape → Definitions

@@ -15,6 +15,7 @@ pub record Kept : Type 0 where
 abbrev pub EntryState : Type 0
 EntryState = Option (Option Kept)
 
+-- what a pool knows of each position
 abbrev pub Entries : Type 0
 Entries = ℕ → EntryState
 

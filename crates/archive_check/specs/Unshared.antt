@@ -18,15 +18,18 @@ abbrev mutual
   has_flavors right table (weak flavor P) = right flavor && pointee_has_flavors right table P
   has_flavors right table (named name) = is_some (definition table name)
 
+  -- the same of what a pointer leads to
   pub pointee_has_flavors : (Flavor → Bool) → Table → Pointee → Bool
   pointee_has_flavors right table (one X) = has_flavors right table X
   pointee_has_flavors right table (run X) = has_flavors right table X
   pointee_has_flavors right table text = true
 
+  -- the same of parts
   pub parts_have_flavors : (Flavor → Bool) → Table → Parts → Bool
   parts_have_flavors right table no_part = true
   parts_have_flavors right table (part X ps) = has_flavors right table X && parts_have_flavors right table ps
 
+  -- the same of variants
   pub variants_have_flavors : (Flavor → Bool) → Table → Variants → Bool
   variants_have_flavors right table no_variant = true
   variants_have_flavors right table (variant ps vs) = parts_have_flavors right table ps && variants_have_flavors right table vs

@@ -1,8 +1,8 @@
 //! What a check keeps: the range that regions may lie in, and the shared positions that it came to.
 
 ghost use Rattle.std.specs.Prelude.{◌≡◌, ◌<◌, ◌≤◌, ◌↔◌, IsTrue, OnOk, OnErr, IfOk, IfErr, IsErrOf, Some};
-ghost use Rattle.archive_check.specs.PositionStates.{Positions, IsStartAnswer, IsFinishedAs, Starts, finish_answer, finished, entry_as};
-ghost use Rattle.archive_check.specs.Ranges.{RangeState, subtree_answer, pushed, pop_answer, popped};
+ghost use Rattle.archive_check.specs.context.PositionStates.{Positions, IsStartAnswer, IsFinishedAs, Starts, finish_answer, finished, entry_as};
+ghost use Rattle.archive_check.specs.context.Ranges.{RangeState, subtree_answer, pushed, pop_answer, popped};
 
 pub mod positions;
 pub mod range;

@@ -6,7 +6,7 @@ ghost use Rattle.std.specs.Int.{w8};
 ghost use Rattle.archive_check.specs.Shape.{Shape, leaf, unit};
 ghost use Rattle.archive_check.specs.Definitions.{Definitions, no_definition};
 ghost use Rattle.archive_check.specs.SelfCheck.Ways.{shape_way};
-ghost use Rattle.archive_check.specs.Pushes.{Spends};
+ghost use Rattle.archive_check.specs.context.Pushes.{Spends};
 ghost use Rattle.archive_check.specs.SelfCheck.Steps.{Went, Stopped};
 
 use crate::context::ArchiveContext;

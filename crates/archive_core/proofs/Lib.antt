@@ -9,11 +9,11 @@ pub mod PooledPositions
 pub mod Whole
 pub mod OwnKeys
 pub use Rattle.archive_check.proofs.Archives
-pub use Rattle.archive_check.proofs.ViewedValues
+pub use Rattle.archive_check.proofs.Viewing.ViewedValues
 pub use Rattle.archive_check.proofs.format.AddedDefinitions
 pub use Rattle.archive_check.proofs.format.RecordParts
 pub use Rattle.archive_check.proofs.format.Views
-pub use Rattle.archive_types.proofs.Causes
-pub use Rattle.archive_types.proofs.Planned
-pub use Rattle.archive_types.proofs.Unhindered
-pub use Rattle.archive_types.proofs.ViewsTogether
+pub use Rattle.archive_types.proofs.Planning.Causes
+pub use Rattle.archive_types.proofs.Planning.Planned
+pub use Rattle.archive_types.proofs.Planning.Unhindered
+pub use Rattle.archive_types.proofs.Viewing.ViewsTogether

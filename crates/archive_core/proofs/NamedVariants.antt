@@ -9,17 +9,17 @@ use Rattle.archive_check.specs.WriterState.{WriterState}
 use Rattle.archive_check.specs.Pooled.{Entries}
 use Rattle.archive_check.specs.Entries.{ReadsBack, RefusesReading}
 use Rattle.archive_check.specs.declared.format.error.Error.{Error}
-use Rattle.archive_check.proofs.ReadVariants.{case_read_back, empty_case_read_back, case_refuses, named_read_back, named_refuses}
+use Rattle.archive_check.proofs.Reading.ReadVariants.{case_read_back, empty_case_read_back, case_refuses, named_read_back, named_refuses}
 use Rattle.archive_write.specs.Written.{GoesOn}
 use Rattle.archive_types.specs.Writing.{Naming, Resolves, to_pointee}
 use Rattle.archive_types.specs.Plans.{Serialized}
 use Rattle.archive_types.specs.Causes.{IsRefused, HindersAt}
 use Rattle.archive_types.specs.Inner.{IsBoxed, IsNotBoxed}
-use Rattle.archive_types.specs.Variants.{case_of, HoldsCase}
-use Rattle.archive_types.proofs.Owners.{box_refused}
-use Rattle.archive_types.proofs.Planned.{one_owned}
-use Rattle.archive_types.proofs.ResolvedVariants.{resolves_case}
-use Rattle.archive_types.proofs.WrittenVariants.{serialized_case, case_refused, case_hindered_at, serialized_empty_case, serialized_named, named_refused, resolves_named, named_hindered_at}
+use Rattle.archive_types.specs.Members.Variants.{case_of, HoldsCase}
+use Rattle.archive_types.proofs.Planning.Owners.{box_refused}
+use Rattle.archive_types.proofs.Planning.Planned.{one_owned}
+use Rattle.archive_types.proofs.Writing.ResolvedVariants.{resolves_case}
+use Rattle.archive_types.proofs.Writing.WrittenVariants.{serialized_case, case_refused, case_hindered_at, serialized_empty_case, serialized_named, named_refused, resolves_named, named_hindered_at}
 
 module _ (D : Definitions) (name : Name) (vs : Variants) (has : (s : Schema) → Knows s D → definition s.table name ≡ Some (choice name vs)) (tag : ℕ) where
   -- a variant with no part

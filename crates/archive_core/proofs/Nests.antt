@@ -7,8 +7,8 @@ use Rattle.std.specs.Coded.{le_prop}
 use Rattle.archive_check.specs.Shape.{Name, Shape, choice, named, boxed, one, Variants, no_variant, variant, no_part, part, variant_at, definition}
 use Rattle.archive_check.specs.Layout.{Layout, size_of}
 use Rattle.archive_check.specs.Definitions.{Definitions, Knows, HasLayout}
-use Rattle.archive_check.specs.PartsLayout.{StandsFor, for_itself, by_name}
-use Rattle.archive_check.specs.VariantsLayout.{IsChoice}
+use Rattle.archive_check.specs.Members.PartsLayout.{StandsFor, for_itself, by_name}
+use Rattle.archive_check.specs.Members.VariantsLayout.{IsChoice}
 use Rattle.archive_check.specs.Value.{Value, case, box, hole, no_value}
 use Rattle.archive_check.specs.Reads.{Schema, length_at}
 use Rattle.archive_check.specs.Readable.{target_from}
@@ -18,23 +18,23 @@ use Rattle.archive_check.specs.Viewed.{Viewed}
 use Rattle.archive_check.specs.Within.{IsPart, first_part, whole, in_choice, in_named}
 use Rattle.archive_check.specs.WriterState.{WriterState}
 use Rattle.archive_check.specs.declared.format.error.Error.{Error}
-use Rattle.archive_check.proofs.PartsInside.{within_inside}
-use Rattle.archive_check.proofs.ReadVariants.{case_read_back, case_refuses, named_read_back, named_refuses}
-use Rattle.archive_check.proofs.UniqueBefore.{lies_before}
-use Rattle.archive_check.proofs.Viewed.{lies_reads}
-use Rattle.archive_check.proofs.ViewedVariants.{case_viewed, definition_viewed}
+use Rattle.archive_check.proofs.Tours.PartsInside.{within_inside}
+use Rattle.archive_check.proofs.Reading.ReadVariants.{case_read_back, case_refuses, named_read_back, named_refuses}
+use Rattle.archive_check.proofs.Tours.UniqueBefore.{lies_before}
+use Rattle.archive_check.proofs.Viewing.Viewed.{lies_reads}
+use Rattle.archive_check.proofs.Viewing.ViewedVariants.{case_viewed, definition_viewed}
 use Rattle.archive_write.specs.Written.{GoesOn}
 use Rattle.archive_types.specs.Writing.{Naming, Resolves, ZeroedPlace, to_pointee}
 use Rattle.archive_types.specs.Plans.{Serialized}
 use Rattle.archive_types.specs.Causes.{IsRefused, HindersAt}
 use Rattle.archive_types.specs.Inner.{IsBoxed, IsNotBoxed}
-use Rattle.archive_types.specs.Variants.{case_of, HoldsCase}
+use Rattle.archive_types.specs.Members.Variants.{case_of, HoldsCase}
 use Rattle.archive_core.specs.Nests.{box_part, AreNests, HoldsNothing, HoldsBox, IsTagOf, IsResolvedBy, nest_of, nest_flat}
 use Rattle.archive_core.proofs.NamedVariants.{empty_serialized, empty_read_back, part_resolves, part_hindered_at, inner_serialized, inner_refused, inner_unboxed}
-use Rattle.archive_types.proofs.OwnersRead.{box_read, box_unread}
-use Rattle.archive_types.proofs.PartsShown.{box_has, box_shown}
-use Rattle.archive_types.proofs.ResolvedVariants.{resolves_empty_case}
-use Rattle.archive_types.proofs.WrittenVariants.{resolves_named}
+use Rattle.archive_types.proofs.Reading.OwnersRead.{box_read, box_unread}
+use Rattle.archive_types.proofs.Viewing.PartsShown.{box_has, box_shown}
+use Rattle.archive_types.proofs.Writing.ResolvedVariants.{resolves_empty_case}
+use Rattle.archive_types.proofs.Writing.WrittenVariants.{resolves_named}
 
 -- which variants hold what
 

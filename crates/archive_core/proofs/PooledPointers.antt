@@ -10,10 +10,10 @@ use Rattle.archive_check.specs.Pooled.{Kept, Entries}
 use Rattle.archive_check.specs.Readable.{target_from}
 use Rattle.archive_check.specs.Viewed.{Viewed, Says}
 use Rattle.archive_check.specs.Entries.{ReadsBack, RefusesReading}
-use Rattle.archive_check.proofs.ReadBack.{read_back, bare}
-use Rattle.archive_check.proofs.ReadShared.{shared_there, weak_there}
+use Rattle.archive_check.proofs.Reading.ReadBack.{read_back, bare}
+use Rattle.archive_check.proofs.Reading.ReadShared.{shared_there, weak_there}
 use Rattle.archive_core.specs.Pooling.{LeadsHere, ReadsShared, RefusesShared}
-use Rattle.archive_types.proofs.SharedViews.{shared_shown, weak_shown}
+use Rattle.archive_types.proofs.SharedValues.SharedViews.{shared_shown, weak_shown}
 
 module _ (D : Definitions) (bytes : List ℕ) (q n : ℕ) (flavor : Flavor) (P : Pointee) where
   shared_leads : Viewed D bytes q (one (shared flavor P)) n → LeadsHere bytes q n (shared flavor P) P (target_from bytes q q) (length_at bytes q P)

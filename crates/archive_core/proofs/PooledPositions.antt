@@ -8,7 +8,7 @@ use Rattle.archive_check.specs.Denotes.{Naming}
 use Rattle.archive_check.specs.Pooled.{Kept, Entries, pooled}
 use Rattle.archive_check.specs.Viewed.{Says}
 use Rattle.archive_check.specs.Entries.{NoEntries, AreNamedByPosition, KeepsEntries, ReadsBack}
-use Rattle.archive_check.proofs.Seen.{same_some}
+use Rattle.archive_check.proofs.Tours.Seen.{same_some}
 use Rattle.archive_core.specs.Pooling.{kept_at, IsPut, IsSame}
 use Rattle.archive_core.proofs.PooledReading.{put_here, put_apart, start_same, still_named, by_keeping}
 

@@ -14,9 +14,9 @@ use Rattle.archive_check.specs.Reads.{length_at}
 use Rattle.archive_check.specs.Pooled.{Kept, EntryState, Entries, pooled}
 use Rattle.archive_check.specs.Viewed.{Viewed, Says}
 use Rattle.archive_check.specs.Entries.{NoEntries, AreNamedByPosition, IsCyclic, KeepsEntries, ReadsBack, RefusesReading}
-use Rattle.archive_check.proofs.ReadShared.{meets_within, meets_alone, again_read_back, pending_cyclic, inner_cyclic, shared_read_back, alone_cyclic, alone_read_back}
-use Rattle.archive_check.proofs.Seen.{same_some}
-use Rattle.archive_types.specs.SharedSources.{rc_flavor}
+use Rattle.archive_check.proofs.Reading.ReadShared.{meets_within, meets_alone, again_read_back, pending_cyclic, inner_cyclic, shared_read_back, alone_cyclic, alone_read_back}
+use Rattle.archive_check.proofs.Tours.Seen.{same_some}
+use Rattle.archive_types.specs.Members.SharedSources.{rc_flavor}
 use Rattle.archive_core.specs.Pooling.{kept_at, IsPut, IsSame, LeadsHere, ReadsShared, RefusesShared, Spans}
 
 -- what is put there, and elsewhere

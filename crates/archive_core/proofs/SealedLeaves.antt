@@ -10,13 +10,13 @@ use Rattle.archive_check.specs.Laws.{LeafWritten}
 use Rattle.archive_check.specs.Definitions.{Definitions}
 use Rattle.archive_check.specs.Viewed.{Lies, Viewed}
 use Rattle.archive_check.specs.Within.{in_string}
-use Rattle.archive_check.proofs.ViewedValues.{leaf_readable, text_readable, string_readable}
-use Rattle.archive_check.proofs.EditedBytes.{bytes_long}
+use Rattle.archive_check.proofs.Viewing.ViewedValues.{leaf_readable, text_readable, string_readable}
+use Rattle.archive_check.proofs.Editing.EditedBytes.{bytes_long}
 use Rattle.archive_types.specs.Sealed.{Encodes, leaf_at, text_begin, string_leaf}
 use Rattle.archive_types.specs.Standing.{KeepsParts}
 use Rattle.archive_core.proofs.StandingParts.{leaf_keeps}
 use Rattle.archive_check.specs.Readable.{string_text}
-use Rattle.archive_types.proofs.Shown.{leaf_shown, text_shown, string_shown}
+use Rattle.archive_types.proofs.Viewing.Shown.{leaf_shown, text_shown, string_shown}
 
 -- it lies in the buffer
 pub leaf_lies : (D : Definitions) (bytes : List ℕ) (q : ℕ) (P : Pointee) (n count : ℕ) (kind : Kind) → P ≡ one (leaf kind) → kind_size kind ≡ count → Viewed D bytes q P n → q + count ≤ length bytes

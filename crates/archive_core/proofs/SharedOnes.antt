@@ -9,8 +9,8 @@ use Rattle.archive_check.specs.declared.format.error.Error.TheVariants.{Position
 use Rattle.archive_types.specs.Writing.{Naming, to_shared}
 use Rattle.archive_types.specs.Plans.{Serialized}
 use Rattle.archive_types.specs.Causes.{IsRefused}
-use Rattle.archive_types.specs.SharedLaws.{naming_of}
-use Rattle.archive_types.proofs.SharedWritten.{far_shared_refused}
+use Rattle.archive_types.specs.Members.SharedLaws.{naming_of}
+use Rattle.archive_types.proofs.SharedValues.SharedWritten.{far_shared_refused}
 
 module _ (D : Definitions) (flavor : Flavor) (P : Pointee) (X : Shape) (is : P ≡ one X) (key n : ℕ) (ks : List Naming) (v : Value) where
   pub shared_one : (t : ℕ) (old new : WriterState) → Serialized D (shared flavor (one X)) (naming_of key flavor (one X) n v ∷ ks) (shared_value key) (hole (to_shared t flavor (one X) n)) old new

@@ -9,14 +9,14 @@ use Rattle.archive_check.specs.Reads.{Schema, LaidOut, bytes_at, before_end, IsO
 use Rattle.archive_check.specs.Tour.{Region, region_of, root_region, pointee_size, Rising, Contents, contents_one, contents_run, contents_text, Leads, Seen, Tour, tour_end, tour_unique, tour_new, tour_again, Accepted}
 use Rattle.archive_check.specs.Leaves.{Leaf, number_leaf, text_leaf, leaf_begin, leaf_size, leaf_value, leaves, leaves_of_contents, leaves_of_tour, leaves_of, regions_of, edit, Overwrites, overwrites_number, overwrites_text, Replaced, Altered, altered_here, altered_product, altered_case, altered_list, altered_box, AlteredAmong, altered_first, altered_later, StillAccepted}
 use Rattle.archive_check.specs.Within.{IsPart, first_part, later_part, Within, whole, in_parts, in_choice, in_array, in_named, PartOf, whole_region, in_one, in_run, in_string, PartOfSome}
-use Rattle.archive_check.proofs.EditedArchives.{replaced_has, Split, in_first, in_later, split, overwrites_size, renewed, contents_renewed, accepted_renewed, leaf_fits, replaced_one}
-use Rattle.archive_check.proofs.EditedBytes.{Edits, edit_edits}
-use Rattle.archive_check.proofs.EqualBytes.{Agrees, agrees_part, reads_agree}
-use Rattle.archive_check.proofs.EqualTours.{contents_agree}
-use Rattle.archive_check.proofs.JoinedTours.{rising_le, rising_front, rising_back}
-use Rattle.archive_check.proofs.MeaningUnique.{tours_one}
-use Rattle.archive_check.proofs.RegionsApart.{Between, leaves_between, contents_between, tour_between}
-use Rattle.archive_check.proofs.Texts.{inline_bytes}
+use Rattle.archive_check.proofs.Editing.EditedArchives.{replaced_has, Split, in_first, in_later, split, overwrites_size, renewed, contents_renewed, accepted_renewed, leaf_fits, replaced_one}
+use Rattle.archive_check.proofs.Editing.EditedBytes.{Edits, edit_edits}
+use Rattle.archive_check.proofs.Tours.EqualBytes.{Agrees, agrees_part, reads_agree}
+use Rattle.archive_check.proofs.Tours.EqualTours.{contents_agree}
+use Rattle.archive_check.proofs.Tours.JoinedTours.{rising_le, rising_front, rising_back}
+use Rattle.archive_check.proofs.Meanings.MeaningUnique.{tours_one}
+use Rattle.archive_check.proofs.Tours.RegionsApart.{Between, leaves_between, contents_between, tour_between}
+use Rattle.archive_check.proofs.Editing.Texts.{inline_bytes}
 use Rattle.archive_check.specs.Definitions.{Definitions, Knows}
 use Rattle.archive_check.specs.Revised.{WritesLeaf}
 use Rattle.archive_types.specs.Sealed.{StandsIn}

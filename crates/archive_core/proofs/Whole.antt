@@ -15,15 +15,15 @@ use Rattle.archive_check.specs.CleanRegions.{Occurs, CleanRegions}
 use Rattle.archive_check.specs.WriterState.{WriterState}
 use Rattle.archive_check.specs.declared.format.error.Error.{Error}
 use Rattle.archive_types.specs.Plans.{SerializedRegion, serialized_region}
-use Rattle.archive_check.proofs.PositiveAlignments.{align_pos}
-use Rattle.archive_check.proofs.MeaningExists.{has_meaning}
-use Rattle.archive_check.proofs.MeaningUnique.{tours_one}
-use Rattle.archive_check.proofs.StandingBytes.{stands_zero, zero_nowhere, stands_begun}
-use Rattle.archive_check.proofs.CleanRegions.{regions_clean}
-use Rattle.archive_check.proofs.Tightness.{tight_append, clean_regions_append, ArePositive, positive_append, sized_append, tour_positive, tour_sized, rising_lower, tight_rises}
-use Rattle.archive_check.proofs.AcceptedWalks.{reads_of}
+use Rattle.archive_check.proofs.Names.PositiveAlignments.{align_pos}
+use Rattle.archive_check.proofs.Meanings.MeaningExists.{has_meaning}
+use Rattle.archive_check.proofs.Meanings.MeaningUnique.{tours_one}
+use Rattle.archive_check.proofs.Tours.StandingBytes.{stands_zero, zero_nowhere, stands_begun}
+use Rattle.archive_check.proofs.Tours.CleanRegions.{regions_clean}
+use Rattle.archive_check.proofs.Tours.Tightness.{tight_append, clean_regions_append, ArePositive, positive_append, sized_append, tour_positive, tour_sized, rising_lower, tight_rises}
+use Rattle.archive_check.proofs.Checks.AcceptedWalks.{reads_of}
 use Rattle.archive_types.specs.Writing.{Naming, IsKeyed, World, Covers, Known as KnownKeys, Unseen, Found, Appends, LaysOut, Archives}
-use Rattle.archive_types.proofs.Denoting.{InTheEnd, same_in_the_end, rename_plain}
+use Rattle.archive_types.proofs.Writing.Denoting.{InTheEnd, same_in_the_end, rename_plain}
 
 abbrev position_in : Option (Option ℕ) → ℕ
 position_in None = 0

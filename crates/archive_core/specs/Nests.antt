@@ -6,9 +6,9 @@ use Rattle.archive_check.specs.Definitions.{Definitions, defines}
 use Rattle.archive_check.specs.Value.{Value, case, box, hole, no_value, value}
 use Rattle.archive_types.specs.Writing.{to_pointee, IsKeyed}
 use Rattle.archive_types.specs.Plans.{HasPlan}
-use Rattle.archive_types.specs.Keyed.{box_keyed, nothing_keyed, case_keyed}
-use Rattle.archive_types.specs.PlannedOwners.{boxed_one_planned}
-use Rattle.archive_types.specs.Variants.{case_of, one_keyed, case_planned, empty_planned, named_planned}
+use Rattle.archive_types.specs.Members.Keyed.{box_keyed, nothing_keyed, case_keyed}
+use Rattle.archive_types.specs.Members.PlannedOwners.{boxed_one_planned}
+use Rattle.archive_types.specs.Members.Variants.{case_of, one_keyed, case_planned, empty_planned, named_planned}
 
 -- the only part is a box of an X
 abbrev pub box_part : Shape → Parts

@@ -6,8 +6,8 @@ use Rattle.archive_check.specs.Entries.{ReadsBack, RefusesReading}
 use Rattle.archive_check.specs.Pooled.{Entries}
 use Rattle.archive_check.specs.declared.format.error.Error.{Error}
 use Rattle.archive_check.specs.declared.format.traits.ArchivePointee as ArchivePointee
-use Rattle.archive_types.specs.Seen.{part_tag}
-use Rattle.archive_types.specs.Variants.{case_of}
+use Rattle.archive_types.specs.Words.Seen.{part_tag}
+use Rattle.archive_types.specs.Members.Variants.{case_of}
 use Rattle.archive_types.specs.declared.view.RawView.{RawView}
 
 -- where the inner part is read back, the whole is, as a box of that under its tag

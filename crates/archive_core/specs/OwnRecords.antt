@@ -2,8 +2,8 @@
 use Rattle.std.specs.Prelude.{◌≡◌, ℕ, [], ◌∷◌, Some, None, true, false, nat_le, refl}
 use Rattle.archive_check.specs.Shape.{Name, parts, named, Parts, definition}
 use Rattle.archive_check.specs.Definitions.{Definitions, defines, both, listed}
-use Rattle.archive_check.specs.PartsLayout.{knows_right}
-use Rattle.archive_check.specs.BoundedSizes.{fits}
+use Rattle.archive_check.specs.Members.PartsLayout.{knows_right}
+use Rattle.archive_check.specs.Words.BoundedSizes.{fits}
 use Rattle.archive_check.specs.MissingNames.{missing}
 use Rattle.archive_check.specs.SelfCheck.Orders.{IsOrder}
 use Rattle.archive_check.specs.SelfCheck.Laws.{IsCheckOf, by_schema, named_leads}

@@ -11,10 +11,10 @@ use Rattle.archive_check.specs.Reads.{Schema, length_at, pointer_at}
 use Rattle.archive_check.specs.Tour.{Contents}
 use Rattle.archive_check.specs.Denotes.{Naming}
 use Rattle.archive_check.specs.Pooled.{Kept, EntryState, Entries}
-use Rattle.archive_check.specs.PositionStates.{finish_answer}
+use Rattle.archive_check.specs.context.PositionStates.{finish_answer}
 use Rattle.archive_check.specs.Viewed.{Viewed, Says}
 use Rattle.archive_check.specs.Entries.{IsCyclic, LeadsToOpen, ReadsBack}
-use Rattle.archive_types.specs.SharedSources.{rc_flavor}
+use Rattle.archive_types.specs.Members.SharedSources.{rc_flavor}
 use Rattle.archive_core.specs.declared.pooling.PoolingState.{PoolingState}
 use Rattle.archive_core.specs.declared.pooling.PoolingState.TheVariants.{Started, Pending, Finished}
 

@@ -1,7 +1,7 @@
 -- What is said of the iterator that an option's seal becomes.
 use Rattle.std.specs.Prelude.{◌≡◌, Option, MatchOption, IfSome}
 use Rattle.archive_check.specs.Shape.{one}
-use Rattle.archive_check.specs.Formats.{FormatOf}
+use Rattle.archive_check.specs.Words.Formats.{FormatOf}
 use Rattle.archive_core.specs.SealedResults.{ShowsA, BorrowsSame, HasSameBytes, BeginsAfter}
 use Rattle.archive_core.specs.SealsWritten.{SealsBeside, seal_tag}
 use Rattle.archive_core.specs.declared.seal.Seal.{Seal}

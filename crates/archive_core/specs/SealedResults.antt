@@ -3,7 +3,7 @@ use Rattle.std.specs.Prelude.{◌≡◌, ◌+◌, ℕ, Result, MatchResult}
 use Rattle.archive_check.specs.Shape.{Pointee, one}
 use Rattle.archive_check.specs.Definitions.{Definitions, both}
 use Rattle.archive_check.specs.Viewed.{Viewed}
-use Rattle.archive_check.specs.Formats.{FormatOf}
+use Rattle.archive_check.specs.Words.Formats.{FormatOf}
 use Rattle.archive_core.specs.SealsWritten.{SealsBeside}
 use Rattle.archive_core.specs.declared.seal.Seal.{Seal}
 use Rattle.archive_enum.specs.ResultShapes.{result_shape}

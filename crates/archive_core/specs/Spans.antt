@@ -10,8 +10,8 @@ use Rattle.archive_check.specs.Reads.{Schema, bytes_at, ReadsRun, reads_none, re
 use Rattle.archive_check.specs.Tour.{Contents, contents_run, contents_text}
 use Rattle.archive_check.specs.Denotes.{Naming, Fills, fills_text, fills_list, FillsAll, fills_no_value, fills_value}
 use Rattle.archive_check.specs.Viewed.{Lies, Viewed, Says}
-use Rattle.archive_check.proofs.EditedBytes.{bytes_long}
-use Rattle.archive_check.proofs.Viewed.{lies_fits, lies_reads}
+use Rattle.archive_check.proofs.Editing.EditedBytes.{bytes_long}
+use Rattle.archive_check.proofs.Viewing.Viewed.{lies_fits, lies_reads}
 use Rattle.archive_core.specs.Pooling.{kept_at, Spans}
 use Rattle.archive_types.specs.Runs.{each_meaning}
 

@@ -2,15 +2,15 @@
 //! buffer's first one.
 
 ghost use Rattle.std.specs.Prelude.{◌≡◌, ◌⊎◌, ◌≤◌, ◌-◌, None, length, IfOk, OnOk, IfErr, ℕ, []};
-ghost use Rattle.archive_check.specs.FreshContexts.{KeepsLevels, IsWhole};
-ghost use Rattle.archive_check.specs.Pushes.{FewPushed};
+ghost use Rattle.archive_check.specs.context.FreshContexts.{KeepsLevels, IsWhole};
+ghost use Rattle.archive_check.specs.context.Pushes.{FewPushed};
 ghost use Rattle.archive_check.specs.Archives.{IsAnswerable, Answers, root_in};
 ghost use Rattle.archive_check.specs.declared.format.error.Error.TheVariants.{OutOfMemory};
 ghost use Rattle.archive_check.specs.Shape.{one};
-ghost use Rattle.archive_types.specs.ArchivesOf.{Leaves, LeavesOne, LeavesIn, IsArchiveOf, NoArchiveOf, EndsWithNone, IsArchiveIn, ReadsArchive, RefusesArchive, AsCheckIfNeverOpen, LacksSchema, AnswersRoot, WholeRefused};
+ghost use Rattle.archive_types.specs.Words.ArchivesOf.{Leaves, LeavesOne, LeavesIn, IsArchiveOf, NoArchiveOf, EndsWithNone, IsArchiveIn, ReadsArchive, RefusesArchive, AsCheckIfNeverOpen, LacksSchema, AnswersRoot, WholeRefused};
 ghost use Rattle.archive_types.specs.Causes.{IsRegionRefused};
 ghost use Rattle.archive_types.specs.Plans.{unshared};
-ghost use Rattle.archive_types.specs.Seen.{ReadsView, RefusesView};
+ghost use Rattle.archive_types.specs.Words.Seen.{ReadsView, RefusesView};
 ghost use Rattle.archive_write.specs.Written.{GoesOn};
 ghost use Rattle.archive_schema.specs.ContextAnswers.{AnswersIn};
 

@@ -4,13 +4,13 @@
 ghost use Rattle.std.specs.Prelude.{◌≡◌, IfOk, IfErr, IsTrue, refl};
 ghost use Rattle.archive_check.specs.Definitions.{both, defines};
 ghost use Rattle.archive_check.specs.Layout.{up};
-ghost use Rattle.archive_check.specs.NoOthers.{defined_reached};
-ghost use Rattle.archive_check.specs.PartsLayout.{holds_parts, is_named_record, named_has_layout, record_has_layout};
+ghost use Rattle.archive_check.specs.Members.NoOthers.{defined_reached};
+ghost use Rattle.archive_check.specs.Members.PartsLayout.{holds_parts, is_named_record, named_has_layout, record_has_layout};
 ghost use Rattle.archive_check.specs.SelfCheck.Laws.{IsCheckOf};
 ghost use Rattle.archive_check.specs.Shape.{Name, named, one, parts};
 ghost use Rattle.archive_check.specs.Value.{product};
-ghost use Rattle.archive_types.specs.Seen.{IsPartOf, RefusesPart};
-ghost use Rattle.archive_types.specs.Sources.{Read};
+ghost use Rattle.archive_types.specs.Words.Seen.{IsPartOf, RefusesPart};
+ghost use Rattle.archive_types.specs.Words.Sources.{Read};
 
 mod choices;
 mod nested;

@@ -9,8 +9,8 @@ use Rattle.archive_check.specs.Layout.{Layout, up, size_of, align_of}
 use Rattle.archive_check.specs.Reads.{Schema}
 use Rattle.archive_check.specs.Defined.{Mentions, mentions_choice, mentions_other, mentions_variant, mentions_first}
 use Rattle.archive_check.specs.Definitions.{Definitions, no_definition, both, Knows, NoOthers, HasLayout, IsAlign}
-use Rattle.archive_check.specs.NoOthers.{around_reached}
-use Rattle.archive_check.specs.BoundedSizes.{fits}
+use Rattle.archive_check.specs.Members.NoOthers.{around_reached}
+use Rattle.archive_check.specs.Words.BoundedSizes.{fits}
 use Rattle.archive_check.specs.SelfCheck.Laws.{IsCheckOf}
 
 -- nothing, or a value

@@ -6,5 +6,5 @@ pub mod ResultShapes
 pub mod StandsFor
 pub mod Orders
 pub use Rattle.archive_check.specs.Definitions
-pub use Rattle.archive_check.specs.PartsLayout
+pub use Rattle.archive_check.specs.Members.PartsLayout
 pub use Rattle.archive_check.specs.Shape

@@ -8,8 +8,8 @@ use Rattle.archive_check.specs.Layout.{Layout, up, size_of, align_of}
 use Rattle.archive_check.specs.Defined.{Mentions, mentions_choice, mentions_other, mentions_variant, mentions_first}
 use Rattle.archive_check.specs.Reads.{Schema}
 use Rattle.archive_check.specs.Definitions.{Definitions, no_definition, both, listed, Knows, NoOthers, HasLayout, IsAlign}
-use Rattle.archive_check.specs.NoOthers.{around_reached, both_reached}
-use Rattle.archive_check.specs.PartsLayout.{knows_left, knows_right}
+use Rattle.archive_check.specs.Members.NoOthers.{around_reached, both_reached}
+use Rattle.archive_check.specs.Members.PartsLayout.{knows_left, knows_right}
 use Rattle.archive_check.specs.MissingNames.{missing}
 use Rattle.archive_check.specs.SelfCheck.Laws.{IsCheckOf, no_more}
 use Rattle.archive_check.specs.SelfCheck.Lone.{HasOrder, none_missing, first_order, later_order, plain_order, or_parts, small_fits}

@@ -9,8 +9,8 @@ use Rattle.archive_check.specs.Value.{Value, Values, value}
 use Rattle.archive_check.specs.CleanRegions.{IsZeroed}
 use Rattle.archive_types.specs.Parts.{ZeroedParts, ResolvesParts}
 use Rattle.archive_types.specs.Writing.{Resolves}
-use Rattle.archive_types.proofs.PartBytes.{behind_is, before_is, zeroed_front}
-use Rattle.archive_types.proofs.ResolvedParts.{resolves_part}
+use Rattle.archive_types.proofs.Writing.PartBytes.{behind_is, before_is, zeroed_front}
+use Rattle.archive_types.proofs.Writing.ResolvedParts.{resolves_part}
 use Rattle.archive_fields.specs.Front.{FrontPut}
 
 -- the first field alone ends where all do, or before

@@ -4,7 +4,7 @@ use Rattle.std.proofs.Math.ListN.{drop_of_length-le}
 use Rattle.archive_check.specs.Shape.{Name, Shape, choice, Parts, Variants, variant_at}
 use Rattle.archive_check.specs.Layout.{Layout, size_of}
 use Rattle.archive_check.specs.Definitions.{Definitions, Knows, HasLayout}
-use Rattle.archive_check.specs.VariantsLayout.{IsChoice}
+use Rattle.archive_check.specs.Members.VariantsLayout.{IsChoice}
 use Rattle.archive_check.specs.Value.{case, Values}
 use Rattle.archive_check.specs.Reads.{Schema, Reads, reads_choice}
 use Rattle.archive_check.specs.Denotes.{fills_case}
@@ -12,18 +12,18 @@ use Rattle.archive_check.specs.Reached.{names_case}
 use Rattle.archive_check.specs.CleanRegions.{clean_choice}
 use Rattle.archive_check.specs.WriterState.{KeyStates, WriterState}
 use Rattle.archive_check.specs.declared.format.error.Error.{Error}
-use Rattle.archive_check.proofs.StandingBytes.{stands_back}
+use Rattle.archive_check.proofs.Tours.StandingBytes.{stands_back}
 use Rattle.archive_types.specs.Writing.{Naming, AreFinished, AllFinished, Writes, WritesAll, Resolves}
 use Rattle.archive_types.specs.Plans.{cursor, plans_choice, Serialized, serialized}
 use Rattle.archive_types.specs.Parts.{SerializedParts, serialized_parts, ArePartsRefused, ResolvesParts, HindersPartsAt}
-use Rattle.archive_types.specs.PartsPlanned.{standing_plan}
+use Rattle.archive_types.specs.Members.PartsPlanned.{standing_plan}
 use Rattle.archive_types.specs.Causes.{IsRefused, HindersAt, part_of_choice}
 use Rattle.archive_fields.specs.OwnChoices.{variant_definitions, knows_variant, variant_plan}
-use Rattle.archive_types.proofs.Appending.{size_is}
-use Rattle.archive_types.proofs.Causes.{explains_sooner}
-use Rattle.archive_types.proofs.ResolvedParts.{standing_reads, standing_clean, standing_part, standing_size}
-use Rattle.archive_types.proofs.ResolvedVariants.{first_stands}
-use Rattle.archive_types.proofs.WrittenVariants.{writes_more}
+use Rattle.archive_types.proofs.Writing.Appending.{size_is}
+use Rattle.archive_types.proofs.Planning.Causes.{explains_sooner}
+use Rattle.archive_types.proofs.Writing.ResolvedParts.{standing_reads, standing_clean, standing_part, standing_size}
+use Rattle.archive_types.proofs.Writing.ResolvedVariants.{first_stands}
+use Rattle.archive_types.proofs.Writing.WrittenVariants.{writes_more}
 
 finished_variant : (s : KeyStates) (tag : ℕ) (vs : Values) → AllFinished s vs → AreFinished s (case tag vs)
 finished_variant s tag vs h k (names_case n) = h k n

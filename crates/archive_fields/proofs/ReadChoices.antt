@@ -8,20 +8,20 @@ use Rattle.archive_check.specs.Reads.{Schema, Reads, reads_choice, reads_named, 
 use Rattle.archive_check.specs.Tour.{Contents, contents_one}
 use Rattle.archive_check.specs.Denotes.{Naming, Fills, fills_case}
 use Rattle.archive_check.specs.Definitions.{Definitions, Knows}
-use Rattle.archive_check.specs.PartsLayout.{StandsFor, for_itself, by_name}
-use Rattle.archive_check.specs.VariantsLayout.{IsChoice}
+use Rattle.archive_check.specs.Members.PartsLayout.{StandsFor, for_itself, by_name}
+use Rattle.archive_check.specs.Members.VariantsLayout.{IsChoice}
 use Rattle.archive_check.specs.Pooled.{Entries}
 use Rattle.archive_check.specs.Viewed.{Lies, Viewed}
 use Rattle.archive_check.specs.Within.{IsPart, Within, whole, in_choice, in_named}
 use Rattle.archive_check.specs.Entries.{AreNamedByPosition, MeetsOpen, ReadsBack, RefusesReading}
-use Rattle.archive_check.proofs.OpenPaths.{by_pointer, hits_meet}
-use Rattle.archive_check.proofs.ReadingUnique.{contents_one_value}
-use Rattle.archive_check.proofs.ReachedParts.{within_reached}
-use Rattle.archive_check.proofs.Viewed.{lies_reads, lies_reached, reached_lies}
+use Rattle.archive_check.proofs.Tours.OpenPaths.{by_pointer, hits_meet}
+use Rattle.archive_check.proofs.Tours.ReadingUnique.{contents_one_value}
+use Rattle.archive_check.proofs.Meanings.ReachedParts.{within_reached}
+use Rattle.archive_check.proofs.Viewing.Viewed.{lies_reads, lies_reached, reached_lies}
 use Rattle.archive_types.specs.PartsReading.{PartsViewed, PartsReadBack, RefusesParts}
 use Rattle.archive_fields.specs.OwnChoices.{variant_definitions}
 use Rattle.archive_fields.proofs.OwnChoices.{knows_its}
-use Rattle.archive_types.proofs.ReadRecords.{keeps_itself, Tail, TailRead, tail_read, tail_meets}
+use Rattle.archive_types.proofs.Reading.ReadRecords.{keeps_itself, Tail, TailRead, tail_read, tail_meets}
 
 -- what is read of a choice
 record IsCase (s : Schema) (bytes : List ℕ) (q tag : ℕ) (ps : Parts) (v : Value) : Type 0 where

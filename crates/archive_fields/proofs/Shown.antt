@@ -8,17 +8,17 @@ use Rattle.archive_check.specs.Tour.{Contents, contents_one}
 use Rattle.archive_check.specs.Denotes.{Fills, fills_case, FillsAll, fills_no_value, fills_value}
 use Rattle.archive_check.specs.Within.{Within, in_choice, IsPart}
 use Rattle.archive_check.specs.Definitions.{Definitions, Knows}
-use Rattle.archive_check.specs.PartsLayout.{part_at, offset_at, StandsFor, for_itself, by_name}
-use Rattle.archive_check.specs.VariantsLayout.{payload_at, payload_offset, IsChoice}
+use Rattle.archive_check.specs.Members.PartsLayout.{part_at, offset_at, StandsFor, for_itself, by_name}
+use Rattle.archive_check.specs.Members.VariantsLayout.{payload_at, payload_offset, IsChoice}
 use Rattle.archive_check.specs.Viewed.{Lies, Viewed}
-use Rattle.archive_check.proofs.Viewed.{lies_reached, reached_lies, lies_fits}
+use Rattle.archive_check.proofs.Viewing.Viewed.{lies_reached, reached_lies, lies_fits}
 use Rattle.std.proofs.Math.Logic.{∥∥₁_map, ∥∥₁_elim}
 use Rattle.std.specs.Coded.{le_prop}
 use Rattle.archive_check.specs.Reached.{Reached}
-use Rattle.archive_check.proofs.MeaningUnique.{fills_one}
-use Rattle.archive_check.proofs.ReadingUnique.{contents_one_value}
-use Rattle.archive_check.proofs.ReachedParts.{within_reached}
-use Rattle.archive_check.proofs.ViewedPayloads.{IsPayload, is_payload, offset_is, part_stands, choice_within}
+use Rattle.archive_check.proofs.Meanings.MeaningUnique.{fills_one}
+use Rattle.archive_check.proofs.Tours.ReadingUnique.{contents_one_value}
+use Rattle.archive_check.proofs.Meanings.ReachedParts.{within_reached}
+use Rattle.archive_check.proofs.Viewing.ViewedPayloads.{IsPayload, is_payload, offset_is, part_stands, choice_within}
 use Rattle.archive_types.specs.Views.{value_at, ShowsPart}
 use Rattle.archive_types.specs.Payloads.{payload_in}
 

@@ -9,16 +9,16 @@ use Rattle.archive_check.specs.Tour.{contents_one}
 use Rattle.archive_check.specs.Denotes.{Fills, fills_product}
 use Rattle.archive_check.specs.Within.{IsPart}
 use Rattle.archive_check.specs.Definitions.{Definitions, no_definition, Knows}
-use Rattle.archive_check.specs.PartsLayout.{part_at, offset_at, IsRecord}
+use Rattle.archive_check.specs.Members.PartsLayout.{part_at, offset_at, IsRecord}
 use Rattle.archive_check.specs.Viewed.{Lies, Viewed}
-use Rattle.archive_check.proofs.Viewed.{lies_reached, reached_lies, lies_fits}
-use Rattle.archive_check.proofs.MeaningUnique.{fills_one}
-use Rattle.archive_check.proofs.ReadingUnique.{contents_one_value}
-use Rattle.archive_check.proofs.ReachedParts.{within_reached}
-use Rattle.archive_check.proofs.ViewedPayloads.{part_stands}
+use Rattle.archive_check.proofs.Viewing.Viewed.{lies_reached, reached_lies, lies_fits}
+use Rattle.archive_check.proofs.Meanings.MeaningUnique.{fills_one}
+use Rattle.archive_check.proofs.Tours.ReadingUnique.{contents_one_value}
+use Rattle.archive_check.proofs.Meanings.ReachedParts.{within_reached}
+use Rattle.archive_check.proofs.Viewing.ViewedPayloads.{part_stands}
 use Rattle.archive_types.specs.Fields.{field_in}
 use Rattle.archive_types.specs.Views.{ShowsPart}
-use Rattle.archive_types.proofs.ReadRecords.{record_contents, record_within}
+use Rattle.archive_types.proofs.Reading.ReadRecords.{record_contents, record_within}
 use Rattle.archive_fields.specs.FieldsAt.{field_at, FieldBegins}
 use Rattle.archive_fields.proofs.Shown.{filled_part}
 

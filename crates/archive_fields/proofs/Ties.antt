@@ -6,8 +6,8 @@ use Rattle.archive_types.specs.Writing.{ZeroedPlace}
 use Rattle.std.specs.Prelude.{is_some}
 use Rattle.archive_check.specs.Shape.{Name, Shape, leaf, parts, choice, array, boxed, vec, str, shared, weak, named, Parts, Variants, no_variant, variant, variant_at}
 use Rattle.archive_check.specs.Definitions.{Definitions, no_definition, defines, both, Knows, Has, listed}
-use Rattle.archive_check.specs.PartsLayout.{IsRecord}
-use Rattle.archive_check.specs.VariantsLayout.{IsChoice, payload_at, payload_offset}
+use Rattle.archive_check.specs.Members.PartsLayout.{IsRecord}
+use Rattle.archive_check.specs.Members.VariantsLayout.{IsChoice, payload_at, payload_offset}
 use Rattle.archive_check.specs.Reads.{Schema}
 use Rattle.archive_fields.specs.OwnChoices.{variant_definitions}
 use Rattle.archive_fields.specs.Plain.{variant_count, variant_in, part_in, BeginsAt, is_choice, are_none, plain_record, plain_choice}

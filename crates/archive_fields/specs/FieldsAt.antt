@@ -3,7 +3,7 @@ use Rattle.std.specs.Prelude.{◌≡◌, ℕ, zero, Option, None}
 use Rattle.archive_check.specs.Shape.{Shape, parts}
 use Rattle.archive_check.specs.Layout.{Layouts}
 use Rattle.archive_check.specs.Definitions.{no_definition, Knows}
-use Rattle.archive_check.specs.PartsLayout.{part_at, offset_at}
+use Rattle.archive_check.specs.Members.PartsLayout.{part_at, offset_at}
 use Rattle.archive_check.specs.Reads.{Schema}
 
 -- The field with this index, where the shape is a record.

@@ -8,11 +8,11 @@ pub use Rattle.archive_check.specs.Shape
 pub use Rattle.archive_check.specs.Value
 pub use Rattle.archive_types.specs.Causes
 pub use Rattle.archive_types.specs.Fields
-pub use Rattle.archive_types.specs.KindsWritten
+pub use Rattle.archive_types.specs.Words.KindsWritten
 pub use Rattle.archive_types.specs.Parts
 pub use Rattle.archive_types.specs.Payloads
-pub use Rattle.archive_types.specs.Placed
+pub use Rattle.archive_types.specs.Words.Placed
 pub use Rattle.archive_types.specs.Plans
-pub use Rattle.archive_types.specs.Seen
+pub use Rattle.archive_types.specs.Words.Seen
 pub use Rattle.archive_types.specs.Writing
 pub use Rattle.archive_write.specs.Written

@@ -2,7 +2,7 @@
 use Rattle.std.specs.Prelude.{◌≡◌, ℕ, zero, suc, List, Some}
 use Rattle.archive_check.specs.Shape.{Name, choice, Parts, Variants, variant_at}
 use Rattle.archive_check.specs.Definitions.{Definitions, no_definition, defines, both, Knows}
-use Rattle.archive_check.specs.PartsLayout.{knows_none, knows_left, knows_right}
+use Rattle.archive_check.specs.Members.PartsLayout.{knows_none, knows_left, knows_right}
 use Rattle.archive_check.specs.Value.{Value, case, Values}
 use Rattle.archive_check.specs.Reads.{Schema}
 use Rattle.archive_types.specs.Writing.{NameMap}

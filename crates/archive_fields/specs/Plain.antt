@@ -3,17 +3,17 @@ use Rattle.std.specs.Prelude.{◌≡◌, ℕ, zero, suc, List, Bool, true, false
 use Rattle.std.proofs.Common.{refl, subst, Contains, ◌++◌}
 use Rattle.archive_check.specs.Shape.{Name, Shape, parts, choice, Parts, Variants, no_variant, variant, variant_at}
 use Rattle.archive_check.specs.Definitions.{Definitions, no_definition, defines, both, Knows, Has, listed}
-use Rattle.archive_check.specs.PartsLayout.{IsRecord, for_itself}
-use Rattle.archive_check.specs.VariantsLayout.{IsChoice, payload_at, payload_offset}
+use Rattle.archive_check.specs.Members.PartsLayout.{IsRecord, for_itself}
+use Rattle.archive_check.specs.Members.VariantsLayout.{IsChoice, payload_at, payload_offset}
 use Rattle.archive_check.specs.Layout.{Layouts}
 use Rattle.archive_check.specs.Reads.{Schema}
 use Rattle.archive_check.specs.MissingNames.{missing}
-use Rattle.archive_check.specs.BoundedSizes.{fits}
+use Rattle.archive_check.specs.Words.BoundedSizes.{fits}
 use Rattle.archive_check.specs.SelfCheck.Laws.{IsCheckOf}
 use Rattle.archive_check.specs.Value.{Values, product, case}
 use Rattle.archive_types.specs.Writing.{Naming}
 use Rattle.archive_types.specs.Parts.{HavePlan}
-use Rattle.archive_types.specs.PartsPlanned.{record_planned}
+use Rattle.archive_types.specs.Members.PartsPlanned.{record_planned}
 use Rattle.archive_types.specs.Plans.{HasPlan}
 use Rattle.archive_fields.specs.OwnChoices.{variant_plan}
 

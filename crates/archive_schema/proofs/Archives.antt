@@ -13,8 +13,8 @@ use Rattle.archive_check.specs.Trail.{RootTrips}
 use Rattle.archive_schema.specs.Schemas.{root_of, defined_by, definitions_in, IsSchemaOf}
 use Rattle.archive_check.specs.Archives.{IsArchiveWithin, IsRefusal, Answers}
 use Rattle.archive_schema.specs.plan.Names.{Prepared}
-use Rattle.archive_check.proofs.WellFormed.{found_stands}
-use Rattle.archive_check.proofs.MissingNames.{none_near}
+use Rattle.archive_check.proofs.Names.WellFormed.{found_stands}
+use Rattle.archive_check.proofs.Names.MissingNames.{none_near}
 use Rattle.archive_check.proofs.Archives.{has_each, some_knows, refusal_no_archive}
 use Rattle.archive_schema.proofs.SchemaDefinitions.{listed_defined, listed_in, defined_has, schema_meaning}
 

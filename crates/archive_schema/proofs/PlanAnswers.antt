@@ -20,8 +20,8 @@ use Rattle.archive_schema.specs.Schemas.{root_of, definitions_in}
 use Rattle.archive_schema.specs.plan.SoundPlans.{IsSound}
 use Rattle.archive_schema.proofs.plan.SoundPlans.{sound_again}
 use Rattle.archive_schema.proofs.SchemaDefinitions.{knows_own, own_laid_out, schema_meaning}
-use Rattle.archive_check.proofs.WellFormed.{reached_within}
-use Rattle.archive_check.proofs.ReachedNames.{SameName, same_accepted_within, same_faults}
+use Rattle.archive_check.proofs.Names.WellFormed.{reached_within}
+use Rattle.archive_check.proofs.Names.ReachedNames.{SameName, same_accepted_within, same_faults}
 
 abbrev own_table : RustSchema → Table
 own_table s = entries_of s.definitions.items

@@ -11,8 +11,8 @@ use Rattle.archive_check.specs.Definitions.{listed, Has, Knows}
 use Rattle.archive_schema.specs.Schemas.{root_of, defined_by, definitions_in, HasMeaning}
 use Rattle.archive_schema.specs.OneSchema.{WellFormed-prop}
 use Rattle.archive_check.proofs.Elements.{contains_first, contains_later}
-use Rattle.archive_check.proofs.MissingNames.{held_defined}
-use Rattle.archive_check.proofs.WellFormed.{found_stands, reached_within, arranged_never}
+use Rattle.archive_check.proofs.Names.MissingNames.{held_defined}
+use Rattle.archive_check.proofs.Names.WellFormed.{found_stands, reached_within, arranged_never}
 use Rattle.archive_check.proofs.Archives.{has_each}
 
 -- what a table lists is the table

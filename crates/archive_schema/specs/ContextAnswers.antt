@@ -8,7 +8,7 @@ use Rattle.archive_check.specs.declared.format.error.Error.{Error}
 use Rattle.archive_check.specs.Shape.{Shape}
 use Rattle.archive_check.specs.Definitions.{Definitions}
 use Rattle.archive_check.specs.Archives.{Answers}
-use Rattle.archive_check.specs.FreshContexts.{IsWholeIn}
+use Rattle.archive_check.specs.context.FreshContexts.{IsWholeIn}
 
 module _ {C : Type 0} (D : Definitions) (X : Shape) (k : Context.Ghosts C) (c : Both (MutBor C) (MutBor C)) where
   -- in a context for these bytes that met nothing yet: what is answered, with the root at p

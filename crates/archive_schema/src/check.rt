@@ -3,7 +3,7 @@
 ghost use Rattle.std.specs.Prelude.{◌≡◌, ◌+◌, ◌*◌, ◌<◌, ◌≤◌, ℕ, length, slice_index, IfSome, IfNone, IsTrue, OnSome};
 ghost use Rattle.archive_schema.specs.declared.plan.Part.{Part};
 ghost use Rattle.archive_schema.specs.check.Runs.{pointee_count, pointee_length, pointer_bytes, IsVariant, IsNoVariant, Takes};
-ghost use Rattle.archive_check.specs.Elements.{IsAt};
+ghost use Rattle.archive_check.specs.Words.Elements.{IsAt};
 ghost use Rattle.archive_schema.specs.check.Lists.{list_of};
 ghost use Rattle.archive_schema.specs.plan.SoundPlans.{IsSound};
 ghost use Rattle.archive_schema.specs.check.LoopInvariant.{PartFits, PartsFit, ElementsFit, IsLegalHere, PartIsLegalHere, LiesLegal, IsToOpen};

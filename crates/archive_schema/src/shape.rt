@@ -47,13 +47,13 @@ impl Schema {
     ghost use Rattle.std.specs.Prelude.{◌≡◌, ◌≤◌, length, None, false, OnOk, IfOk, IfErr};
     ghost use Rattle.archive_check.specs.declared.format.error.Error.TheVariants.{LayoutTooLarge};
     ghost use Rattle.archive_schema.specs.ContextAnswers.{AnswersIn};
-    ghost use Rattle.archive_check.specs.Faults.{IsOfCheck};
-    ghost use Rattle.archive_check.specs.FreshContexts.{HasLevels, KeepsLevels};
-    ghost use Rattle.archive_check.specs.Pushes.{FewPushed};
+    ghost use Rattle.archive_check.specs.Words.Faults.{IsOfCheck};
+    ghost use Rattle.archive_check.specs.context.FreshContexts.{HasLevels, KeepsLevels};
+    ghost use Rattle.archive_check.specs.context.Pushes.{FewPushed};
     ghost use Rattle.archive_schema.specs.Schemas.{root_of, definitions_in, HasMeaning, IsSchemaOf, layout_of};
     ghost use Rattle.archive_check.specs.Definitions.{listed, HasLayout};
     ghost use Rattle.archive_check.specs.MissingNames.{missing};
-    ghost use Rattle.archive_check.specs.RegionLayout.{IsLargeRegion};
+    ghost use Rattle.archive_check.specs.Members.RegionLayout.{IsLargeRegion};
     ghost use Rattle.archive_check.specs.Shape.{one};
     ghost use Rattle.archive_check.specs.Archives.{ExplainsNoSchema};
     ghost use Rattle.archive_check.specs.Expressions.{shape_of};

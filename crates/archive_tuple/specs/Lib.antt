@@ -1,4 +1,4 @@
 pub use Rattle.archive_check.specs.Layout
-pub use Rattle.archive_check.specs.PartsLayout
+pub use Rattle.archive_check.specs.Members.PartsLayout
 pub use Rattle.archive_check.specs.SelfCheck
 pub use Rattle.archive_check.specs.Shape

@@ -4,7 +4,7 @@
 ghost use Rattle.std.specs.Prelude.{refl};
 ghost use Rattle.archive_check.specs.Shape.{one, parts};
 ghost use Rattle.archive_check.specs.Layout.{up};
-ghost use Rattle.archive_check.specs.PartsLayout.{is_record, record_has_layout, holds_parts};
+ghost use Rattle.archive_check.specs.Members.PartsLayout.{is_record, record_has_layout, holds_parts};
 ghost use Rattle.archive_check.specs.SelfCheck.Lone.{tuple_check};
 
 use archive_check::format::error::Error;

@@ -86,6 +86,7 @@ mutual
         → PartOfRun s n X vs o Y w
         → PartOfRun s (suc n) X (value v vs) (size_of s.layouts X + o) Y w
 
+-- a Y that says w lies at an offset in a pointee that says v
 pub data PartOfPointee (s : Schema) : Pointee → ℕ → Value → ℕ → Shape → Value → Type 0 where
   part_of_one : {X : Shape} {v : Value} {o : ℕ} {Y : Shape} {w : Value} → PartOf s X v o Y w → PartOfPointee s (one X) 0 v o Y w
   part_of_run : {n : ℕ} {X : Shape} {vs : Values} {o : ℕ} {Y : Shape} {w : Value} → PartOfRun s n X vs o Y w → PartOfPointee s (run X) n (list vs) o Y w
@@ -166,6 +167,7 @@ HindersRegionAt D X L flat p e = ((e ≡ LayoutTooLarge) × (2 ^ 64 ≤ p + L.si
 abbrev pub Reaches : Definitions → Shape → List Naming → Value → Cursor → ℕ → Type 0
 Reaches D X keys v a n = Foreseen D keys a (λ s names. PlanOf s names X v a (λ flat C b. n ≤ b.position))
 
+-- the plan of a pointee with its region goes on to m at least
 abbrev pub RegionReaches : Definitions → Pointee → ℕ → List Naming → Value → Cursor → ℕ → Type 0
 RegionReaches D P n keys v a m = Foreseen D keys a (λ s names. RegionPlan s names P n v a (λ t C b. m ≤ b.position))
 

@@ -3,7 +3,7 @@ use denote.Triple.Both.{Both}
 use denote.Ref.{MutBor}
 use Rattle.std.specs.Prelude.{◌≡◌, ◌⊎◌, ℕ, List}
 use Rattle.archive_check.specs.Entries.{ReadsBack, RefusesReading}
-use Rattle.archive_check.specs.Formats.{FormatOf}
+use Rattle.archive_check.specs.Words.Formats.{FormatOf}
 use Rattle.archive_check.specs.Shape.{Shape, Pointee, array, one, run}
 use Rattle.archive_check.specs.Value.{list}
 use Rattle.archive_check.specs.declared.format.error.Error.{Error}

@@ -13,8 +13,8 @@ use Rattle.archive_check.specs.declared.format.error.Error.TheVariants.{Position
 use Rattle.archive_check.specs.declared.format.traits.Keys as Keys
 use Rattle.archive_write.specs.Written.{padding, ExplainsRefusal}
 use Rattle.archive_types.specs.Causes.{Explains, HindersRegionAt, IsRefused}
-use Rattle.archive_types.specs.KindsWritten.{VecSerialized}
-use Rattle.archive_check.specs.Formats.{FormatOf}
+use Rattle.archive_types.specs.Words.KindsWritten.{VecSerialized}
+use Rattle.archive_check.specs.Words.Formats.{FormatOf}
 use Rattle.archive_types.specs.Plans.{Serialized}
 use Rattle.archive_types.specs.Writing.{Naming, Puts}
 use Rattle.archive_types.specs.declared.traits.Archive as Archive

@@ -7,7 +7,7 @@ use Rattle.archive_check.specs.Unshared.{IsAcyclic}
 use Rattle.archive_check.specs.Value.{Value}
 use Rattle.archive_check.specs.declared.format.traits.ArchivePointee as ArchivePointee
 use Rattle.archive_types.specs.Compared.{Standing}
-use Rattle.archive_types.specs.Seen.{shown}
+use Rattle.archive_types.specs.Words.Seen.{shown}
 use Rattle.archive_types.specs.ValueOrder.{value_cmp, Means}
 use Rattle.archive_types.specs.declared.view.Ref.{Ref}
 

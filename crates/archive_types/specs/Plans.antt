@@ -17,6 +17,7 @@ pub record Cursor : Type 0 where
   pub position : ℕ
   pub states : KeyStates
 
+-- where a writer stands: how many bytes it holds, and what is known of its keys
 abbrev pub cursor : WriterState → Cursor
 cursor w = record { position = length w.bytes; states = w.states }
 
@@ -87,6 +88,7 @@ mutual
         → Plans s names X v a w C b
         → Plans s names (named name) v a w C b
 
+  -- parts come one after another
   pub data PlansParts (s : Schema) (names : NameMap) : Parts → Values → Cursor → Values → List Step → Cursor → Type 0 where
     plans_no_part : {a : Cursor} → PlansParts s names no_part no_value a no_value [] a
     plans_part : {X : Shape} {ps : Parts} {v w : Value} {vs ws : Values} {a b c : Cursor} {C D : List Step}
@@ -94,6 +96,7 @@ mutual
         → PlansParts s names ps vs b ws D c
         → PlansParts s names (part X ps) (value v vs) a (value w ws) (C ++ D) c
 
+  -- elements come one after another
   pub data PlansRun (s : Schema) (names : NameMap) : ℕ → Shape → Values → Cursor → Values → List Step → Cursor → Type 0 where
     plans_none : {X : Shape} {a : Cursor} → PlansRun s names zero X no_value a no_value [] a
     plans_element : {n : ℕ} {X : Shape} {v w : Value} {vs ws : Values} {a b c : Cursor} {C D : List Step}

@@ -4,7 +4,7 @@ use Rattle.std.specs.declared.cmp.Ordering.{Ordering}
 use Rattle.archive_check.specs.Reached.{Names}
 use Rattle.archive_check.specs.Value.{Value}
 use Rattle.archive_check.specs.declared.format.traits.ArchivePointee as ArchivePointee
-use Rattle.archive_types.specs.Seen.{ShowsValue}
+use Rattle.archive_types.specs.Words.Seen.{ShowsValue}
 use Rattle.archive_types.specs.ValueOrder.{value_cmp}
 use Rattle.archive_types.specs.declared.view.Ref.{Ref}
 

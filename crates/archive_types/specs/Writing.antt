@@ -23,6 +23,7 @@ NameMap = FinMap nat_cmp (Entry × Value)
 abbrev pub Naming : Type 0
 Naming = ℕ × (Entry × Value)
 
+-- each of these keys names what the map says
 abbrev pub AreNamed : NameMap → List Naming → Type 0
 AreNamed names [] = Unit {0}
 AreNamed names (k ∷ ks) = (get names k.0 ≡ Some k.1) × AreNamed names ks

@@ -2,7 +2,7 @@
 
 ghost use Rattle.std.specs.Prelude.{◌≡◌, ◌+◌, ◌-◌, ◌*◌, ◌<◌, ◌↔◌, IfSome, IsSome, IsTrue};
 ghost use Rattle.archive_check.specs.Shape.{one};
-ghost use Rattle.archive_types.specs.Seen.{ShowsPartOf, elements_between, elements_of};
+ghost use Rattle.archive_types.specs.Words.Seen.{ShowsPartOf, elements_between, elements_of};
 ghost use Rattle.archive_types.specs.Views.{element_in};
 
 mod owned;

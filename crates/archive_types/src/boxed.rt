@@ -6,7 +6,7 @@ ghost use Rattle.archive_check.specs.Shape.{one, boxed};
 ghost use Rattle.archive_check.specs.Layout.{pointer_size};
 ghost use Rattle.archive_check.specs.Readable.{target_from};
 ghost use Rattle.archive_check.specs.Reads.{length_at};
-ghost use Rattle.archive_types.specs.Seen.{ShowsPartOf};
+ghost use Rattle.archive_types.specs.Words.Seen.{ShowsPartOf};
 ghost use Rattle.archive_types.specs.Views.{ShowsPart, boxed_in};
 
 mod inner;

@@ -3,10 +3,10 @@
 ghost use Rattle.std.specs.Prelude.{◌≡◌, ◌+◌, ◌<◌, ◌^◌, Some, is_some, length, slice_index, slice_set, true};
 ghost use Rattle.archive_check.specs.Reads.{bytes_at};
 ghost use Rattle.archive_check.specs.Shape.{variant_at};
-ghost use Rattle.archive_check.specs.VariantsLayout.{payload_at, payload_definitions};
-ghost use Rattle.archive_types.specs.KnownParts.{KnowsAlso};
+ghost use Rattle.archive_check.specs.Members.VariantsLayout.{payload_at, payload_definitions};
+ghost use Rattle.archive_types.specs.Members.KnownParts.{KnowsAlso};
 ghost use Rattle.archive_types.specs.Payloads.{payload_in};
-ghost use Rattle.archive_types.specs.Seen.{tag_of, ShowsValueOf};
+ghost use Rattle.archive_types.specs.Words.Seen.{tag_of, ShowsValueOf};
 ghost use Rattle.archive_types.specs.Views.{ShowsPart};
 
 use crate::place::Place;

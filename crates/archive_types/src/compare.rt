@@ -8,7 +8,7 @@ ghost use Rattle.std.specs.declared.cmp.Ordering.{Ordering as Order};
 ghost use Rattle.archive_check.specs.Viewed.{Viewed};
 ghost use Rattle.archive_types.specs.Compared.{Standing, standing, AreLevelBy};
 ghost use Rattle.archive_types.specs.ValueOrder.{OrdersValues};
-ghost use Rattle.archive_types.specs.Seen.{part_shown};
+ghost use Rattle.archive_types.specs.Words.Seen.{part_shown};
 
 mod leaves;
 mod lists;

@@ -1,10 +1,10 @@
 //! Records: views of their parts.
 
 ghost use Rattle.std.specs.Prelude.{◌≡◌, ◌+◌, Some};
-ghost use Rattle.archive_check.specs.PartsLayout.{part_at, definitions_at};
+ghost use Rattle.archive_check.specs.Members.PartsLayout.{part_at, definitions_at};
 ghost use Rattle.archive_types.specs.Fields.{field_in};
-ghost use Rattle.archive_types.specs.KnownParts.{KnowsAlso};
-ghost use Rattle.archive_types.specs.Seen.{ShowsValueOf};
+ghost use Rattle.archive_types.specs.Members.KnownParts.{KnowsAlso};
+ghost use Rattle.archive_types.specs.Words.Seen.{ShowsValueOf};
 ghost use Rattle.archive_types.specs.Views.{ShowsPart};
 
 use crate::traits::{Portable, Record};

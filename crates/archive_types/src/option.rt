@@ -6,11 +6,11 @@ ghost use Rattle.archive_check.specs.Viewed.{Viewed};
 ghost use Rattle.archive_check.specs.Entries.{ReadsBack, RefusesReading};
 ghost use Rattle.archive_enum.specs.Choices.{option_shape, option_layout};
 ghost use Rattle.archive_types.specs.Causes.{HindersAt};
-ghost use Rattle.archive_types.specs.Options.{option_meaning, option_keys, option_flat, OptionBelongs, option_keyed, option_planned};
-ghost use Rattle.archive_types.specs.Placed.{Resolved, Hindered};
-ghost use Rattle.archive_types.specs.PlannedOwners.{one_planned};
-ghost use Rattle.archive_types.specs.Seen.{tag_of, StandsBeside, IsPartOf, RefusesPart};
-ghost use Rattle.archive_types.specs.Sources.{Read};
+ghost use Rattle.archive_types.specs.Members.Options.{option_meaning, option_keys, option_flat, OptionBelongs, option_keyed, option_planned};
+ghost use Rattle.archive_types.specs.Words.Placed.{Resolved, Hindered};
+ghost use Rattle.archive_types.specs.Members.PlannedOwners.{one_planned};
+ghost use Rattle.archive_types.specs.Words.Seen.{tag_of, StandsBeside, IsPartOf, RefusesPart};
+ghost use Rattle.archive_types.specs.Words.Sources.{Read};
 ghost use Rattle.archive_types.specs.Standing.{StandsWith, view};
 ghost use Rattle.archive_types.specs.Writing.{ZeroedPlace, Resolves};
 

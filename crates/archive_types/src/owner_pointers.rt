@@ -11,7 +11,7 @@ use archive_check::format::bytes::read_u32;
 use archive_check::format::error::Error;
 
 // How many bytes a pointer to a `T` has.
-#[tactic(auto, using(crate::proofs::Owned::size_by_length))]
+#[tactic(auto, using(crate::proofs::Writing::Owned::size_by_length))]
 pub(crate) fn pointer_size<T: PortablePointee>() -> usize
     ensures { result ≡ pointer_size T.pointee }
 {

@@ -4,12 +4,12 @@
 ghost use Rattle.std.specs.Prelude.{◌≡◌, ◌<◌, ℕ, length, List, [], ◌++◌, IfOk, OnOk, IfErr};
 ghost use Rattle.archive_check.specs.Shape.{part};
 ghost use Rattle.archive_check.specs.Value.{Values, no_value, product, value};
-ghost use Rattle.archive_types.specs.Keyed.{nothing_keyed, part_keyed};
+ghost use Rattle.archive_types.specs.Members.Keyed.{nothing_keyed, part_keyed};
 ghost use Rattle.archive_types.specs.Parts.{ArePlanned, AreKeyed, ZeroedParts};
-ghost use Rattle.archive_types.specs.PartsPlanned.{no_part_planned, part_planned};
+ghost use Rattle.archive_types.specs.Members.PartsPlanned.{no_part_planned, part_planned};
 ghost use Rattle.archive_types.specs.PartsReading.{PartsViewed};
 ghost use Rattle.archive_types.specs.Writing.{Naming};
-ghost use Rattle.archive_types.specs.PartsWritten.{PartsPut, PartsUnput, ReadsParts, UnreadParts};
+ghost use Rattle.archive_types.specs.Words.PartsWritten.{PartsPut, PartsUnput, ReadsParts, UnreadParts};
 
 mod four_parts;
 mod serializing;

@@ -7,13 +7,13 @@ ghost use Rattle.archive_check.specs.Entries.{ReadsBack};
 ghost use Rattle.archive_check.specs.Value.{product, no_value};
 ghost use Rattle.archive_check.specs.Viewed.{Viewed};
 ghost use Rattle.archive_types.specs.Causes.{HindersAt, IsRefused};
-ghost use Rattle.archive_types.specs.KindsWritten.{NothingSerialized, NothingRefused};
-ghost use Rattle.archive_types.specs.Nothing.{empty_product_keyed, empty_product_planned};
-ghost use Rattle.archive_types.specs.Placed.{Resolved};
-ghost use Rattle.archive_types.specs.PlannedOwners.{one_planned};
+ghost use Rattle.archive_types.specs.Words.KindsWritten.{NothingSerialized, NothingRefused};
+ghost use Rattle.archive_types.specs.Members.Nothing.{empty_product_keyed, empty_product_planned};
+ghost use Rattle.archive_types.specs.Words.Placed.{Resolved};
+ghost use Rattle.archive_types.specs.Members.PlannedOwners.{one_planned};
 ghost use Rattle.archive_types.specs.Plans.{Serialized};
-ghost use Rattle.archive_types.specs.Seen.{IsPartOf};
-ghost use Rattle.archive_types.specs.Sources.{Read};
+ghost use Rattle.archive_types.specs.Words.Seen.{IsPartOf};
+ghost use Rattle.archive_types.specs.Words.Sources.{Read};
 ghost use Rattle.archive_types.specs.Writing.{ZeroedPlace, Resolves};
 ghost use Rattle.archive_write.specs.Written.{GoesOn};
 
@@ -48,7 +48,7 @@ impl<T> Archive for PhantomData<T> {
 
     ghost planned = { λ _. empty_product_planned };
 
-    #[tactic(auto, using(crate::proofs::Nothing::resolves_empty_product))]
+    #[tactic(auto, using(crate::proofs::Writing::Nothing::resolves_empty_product))]
     fn resolve(&self, _resolver: (), place: Place<'_, PhantomData<T>>) -> Result<(), Error>
         requires zeroed { ZeroedPlace 0 place.pos place.bytes.now }
         requires same_value { ⊤ }
@@ -84,7 +84,7 @@ impl<T> Copied for PhantomData<T> {
 
     ghost copied_bytes = { λ _. [] };
 
-    #[tactic(auto, using(crate::proofs::Nothing::serialized_empty_product))]
+    #[tactic(auto, using(crate::proofs::Writing::Nothing::serialized_empty_product))]
     fn copied_size() -> usize {
         0
     }
@@ -99,7 +99,7 @@ impl<T> CopiedSource for PhantomData<T> {
 }
 
 impl<T, S: Writer + Keys> Serialize<S> for PhantomData<T> {
-    #[tactic(auto, using(crate::proofs::Nothing::serialized_empty_product, crate::proofs::Causes::goes_nowhere))]
+    #[tactic(auto, using(crate::proofs::Writing::Nothing::serialized_empty_product, crate::proofs::Planning::Causes::goes_nowhere))]
     fn serialize(&self, _serializer: &mut S) -> Result<(), Error>
         ensures serialized { IfOk result (NothingSerialized S.Keys _serializer) }
         ensures same_value { ⊤ }

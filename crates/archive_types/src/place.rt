@@ -1,7 +1,7 @@
 //! Where an archived value is to be written.
 
 ghost use Rattle.std.specs.Prelude.{◌≡◌, ◌+◌, ◌*◌, ◌<◌, ◌≤◌, ◌^◌, Some, length};
-ghost use Rattle.archive_check.specs.PartsLayout.{part_at};
+ghost use Rattle.archive_check.specs.Members.PartsLayout.{part_at};
 ghost use Rattle.archive_check.specs.Reads.{bytes_at};
 
 use crate::primitive::{SealedLeaf, write_leaf};

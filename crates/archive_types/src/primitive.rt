@@ -6,8 +6,8 @@ ghost use Rattle.archive_check.specs.Shape.{leaf, one};
 ghost use Rattle.archive_check.specs.Reads.{bytes_at, IsLegal};
 ghost use Rattle.archive_check.specs.Definitions.{Definitions};
 ghost use Rattle.archive_check.specs.Value.{number};
-ghost use Rattle.archive_types.specs.Seen.{IsPartOf};
-ghost use Rattle.archive_types.specs.Sources.{Read};
+ghost use Rattle.archive_types.specs.Words.Seen.{IsPartOf};
+ghost use Rattle.archive_types.specs.Words.Sources.{Read};
 ghost use Rattle.archive_types.specs.Writing.{Resolves};
 
 use crate::traits::{Archive, ArchivePointee, Deserialize, Entries, Portable};

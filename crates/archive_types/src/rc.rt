@@ -6,7 +6,7 @@ ghost use Rattle.archive_check.specs.Expressions.{flavor_of};
 ghost use Rattle.archive_check.specs.Layout.{pointer_size};
 ghost use Rattle.archive_check.specs.SelfCheck.Laws.{by_schema};
 ghost use Rattle.archive_check.specs.Shape.{Name, Flavor as FlavorOf, one, shared, weak};
-ghost use Rattle.archive_types.specs.SharedLaws.{flavor_as, shared_reaches, weak_reaches};
+ghost use Rattle.archive_types.specs.Members.SharedLaws.{flavor_as, shared_reaches, weak_reaches};
 
 mod views;
 mod writing;

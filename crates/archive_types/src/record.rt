@@ -5,10 +5,10 @@ ghost use Rattle.archive_check.specs.Entries.{ReadsBack, RefusesReading};
 ghost use Rattle.archive_check.specs.Value.{product};
 ghost use Rattle.archive_check.specs.Viewed.{Viewed};
 ghost use Rattle.archive_types.specs.Causes.{HindersAt, IsRefused};
-ghost use Rattle.archive_types.specs.KindsWritten.{RecordSerialized, RecordRefused};
-ghost use Rattle.archive_types.specs.Placed.{Resolved, Hindered};
+ghost use Rattle.archive_types.specs.Words.KindsWritten.{RecordSerialized, RecordRefused};
+ghost use Rattle.archive_types.specs.Words.Placed.{Resolved, Hindered};
 ghost use Rattle.archive_types.specs.Plans.{Serialized};
-ghost use Rattle.archive_types.specs.Seen.{IsPartOf, RefusesPart, ReadsRecord};
+ghost use Rattle.archive_types.specs.Words.Seen.{IsPartOf, RefusesPart, ReadsRecord};
 ghost use Rattle.archive_types.specs.Writing.{ZeroedPlace, Resolves};
 ghost use Rattle.archive_write.specs.Written.{GoesOn};
 
@@ -22,7 +22,7 @@ use std::alloc::Global;
 
 /// Writes what the parts of a record own, one after another, and answers their resolvers. It asks nothing. Refused as `Serialize::serialize` is, for
 /// a cause of one of the parts.
-#[tactic(auto, using(crate::proofs::PlannedParts::serialized_record, crate::proofs::PlannedParts::record_refused))]
+#[tactic(auto, using(crate::proofs::Planning::PlannedParts::serialized_record, crate::proofs::Planning::PlannedParts::record_refused))]
 #[inline(always)]
 pub fn serialize_record<
     T,

@@ -7,10 +7,10 @@ ghost use Rattle.archive_check.specs.Viewed.{Viewed};
 ghost use Rattle.archive_check.specs.Entries.{ReadsBack, RefusesReading};
 ghost use Rattle.archive_enum.specs.ResultShapes.{result_shape, result_layout};
 ghost use Rattle.archive_types.specs.Causes.{HindersAt};
-ghost use Rattle.archive_types.specs.PlannedOwners.{one_planned};
-ghost use Rattle.archive_types.specs.Results.{result_meaning, result_keys, result_flat, ResultBelongs, result_keyed, result_planned};
-ghost use Rattle.archive_types.specs.Seen.{tag_of, StandsBeside, IsPartOf, RefusesPart, IsBufferOf, IsBehind};
-ghost use Rattle.archive_types.specs.Sources.{Read, ResolvedAs, HinderedAs};
+ghost use Rattle.archive_types.specs.Members.PlannedOwners.{one_planned};
+ghost use Rattle.archive_types.specs.Members.Results.{result_meaning, result_keys, result_flat, ResultBelongs, result_keyed, result_planned};
+ghost use Rattle.archive_types.specs.Words.Seen.{tag_of, StandsBeside, IsPartOf, RefusesPart, IsBufferOf, IsBehind};
+ghost use Rattle.archive_types.specs.Words.Sources.{Read, ResolvedAs, HinderedAs};
 ghost use Rattle.archive_types.specs.Writing.{ZeroedPlace, Resolves};
 
 use crate::place::Place;

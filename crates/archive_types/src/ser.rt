@@ -7,10 +7,10 @@ ghost use Rattle.archive_check.specs.Layout.{has_length};
 ghost use Rattle.archive_check.specs.Shape.{one};
 ghost use Rattle.archive_num.specs.Offsets.{distance};
 ghost use Rattle.archive_types.specs.Causes.{HindersAt};
-ghost use Rattle.archive_types.specs.KindsWritten.{BytesResolved, RegionPut, RegionRefused, EachPut, EachHindered};
-ghost use Rattle.archive_types.specs.Placed.{GrowsBy, Pointed, Unpointed};
+ghost use Rattle.archive_types.specs.Words.KindsWritten.{BytesResolved, RegionPut, RegionRefused, EachPut, EachHindered};
+ghost use Rattle.archive_types.specs.Words.Placed.{GrowsBy, Pointed, Unpointed};
 ghost use Rattle.archive_types.specs.Runs.{EachBelongs};
-ghost use Rattle.archive_types.specs.Sources.{OneStored, OneUnstored};
+ghost use Rattle.archive_types.specs.Words.Sources.{OneStored, OneUnstored};
 ghost use Rattle.archive_types.specs.Writing.{ZeroedPlace, Resolves};
 ghost use Rattle.archive_write.specs.Written.{GoesOn};
 
@@ -48,7 +48,7 @@ pub(crate) fn by_words(error: Error) -> Error
 }
 
 // Resolves a value into zeros that are to stand at the writer's end, and writes them.
-#[tactic(auto, using(crate::proofs::Regions::puts_by, crate::proofs::Regions::region_hindered, crate::proofs::Regions::region_refused, crate::proofs::Causes::goes_nowhere, crate::proofs::Causes::goes_written, crate::proofs::Causes::goes_refused))]
+#[tactic(auto, using(crate::proofs::Writing::Regions::puts_by, crate::proofs::Writing::Regions::region_hindered, crate::proofs::Writing::Regions::region_refused, crate::proofs::Planning::Causes::goes_nowhere, crate::proofs::Planning::Causes::goes_written, crate::proofs::Planning::Causes::goes_refused))]
 #[inline(always)]
 fn resolve_region<W: Writer, T: Archive>(
     writer: &mut W,
@@ -73,7 +73,7 @@ fn resolve_region<W: Writer, T: Archive>(
 
 // Resolves a value into zeros in memory from `alloc`, and writes them at the writer's end, wherever that is. It stands apart, so that a caller holds the
 // code that resolves once.
-#[tactic(auto, using(crate::proofs::Regions::fresh_zeros, crate::proofs::Causes::goes_nowhere))]
+#[tactic(auto, using(crate::proofs::Writing::Regions::fresh_zeros, crate::proofs::Planning::Causes::goes_nowhere))]
 #[inline(never)]
 fn resolve_large<W: Writer, A: Allocator + Drop, T: Archive>(
     writer: &mut W,
@@ -97,7 +97,7 @@ fn resolve_large<W: Writer, A: Allocator + Drop, T: Archive>(
 }
 
 // Resolves a value into zeros at the writer's end, wherever that is, and writes them. Memory for a region above 64 bytes comes from `alloc`.
-#[tactic(auto, using(crate::proofs::Regions::fresh_zeros, crate::proofs::Regions::fresh_front, crate::proofs::Regions::region_too_large, crate::proofs::Causes::goes_nowhere))]
+#[tactic(auto, using(crate::proofs::Writing::Regions::fresh_zeros, crate::proofs::Writing::Regions::fresh_front, crate::proofs::Writing::Regions::region_too_large, crate::proofs::Planning::Causes::goes_nowhere))]
 #[inline(always)]
 pub(crate) fn resolve_next<W: Writer, A: Allocator + Drop, T: Archive>(
     writer: &mut W,
@@ -142,7 +142,7 @@ pub(crate) fn resolve_into<T: Archive>(
 }
 
 // Resolves values one after another at the writer's end, each into zeros over the same bytes. There is a resolver for each.
-#[tactic(auto, using(crate::proofs::Regions::fresh_zeros, crate::proofs::RunRegions::completes_start, crate::proofs::RunRegions::completes_step, crate::proofs::RunRegions::completes_more, crate::proofs::RunRegions::completes_end, crate::proofs::RunRegions::belongs_here, crate::proofs::RunRegions::place_here))]
+#[tactic(auto, using(crate::proofs::Writing::Regions::fresh_zeros, crate::proofs::Writing::RunRegions::completes_start, crate::proofs::Writing::RunRegions::completes_step, crate::proofs::Writing::RunRegions::completes_more, crate::proofs::Writing::RunRegions::completes_end, crate::proofs::Writing::RunRegions::belongs_here, crate::proofs::Writing::RunRegions::place_here))]
 #[inline(always)]
 fn resolve_each<W: Writer, T: Archive, A: Allocator + Drop>(
     writer: &mut W,
@@ -173,7 +173,7 @@ fn resolve_each<W: Writer, T: Archive, A: Allocator + Drop>(
 }
 
 // The same over zeros in memory from `alloc`. It stands apart, as `resolve_large` does.
-#[tactic(auto, using(crate::proofs::Causes::goes_nowhere))]
+#[tactic(auto, using(crate::proofs::Planning::Causes::goes_nowhere))]
 #[inline(never)]
 fn resolve_each_large<W: Writer, A: Allocator + Drop, T: Archive, B: Allocator + Drop>(
     writer: &mut W,
@@ -239,7 +239,7 @@ pub trait ResolveExt: Writer {
     /// `LayoutTooLarge`, 23, where the region would end above `usize::MAX`, with what `resolve` refuses with, or as the writer refuses
     /// (`BufferOverflow`, 8; `WriterFailed`, 9). After a refusal, too, the bytes from before are a beginning of those that the writer holds. Our own:
     /// rkyv 0.8.18 has it within `serialize_unsized` of a slice.
-    #[tactic(auto, using(crate::proofs::RunRegions::run_too_large, crate::proofs::Causes::goes_nowhere))]
+    #[tactic(auto, using(crate::proofs::Writing::RunRegions::run_too_large, crate::proofs::Planning::Causes::goes_nowhere))]
     #[inline(always)]
     final fn resolve_slice_aligned<A: Allocator + Drop, T: Archive, B: Allocator + Drop>(
         &mut self,
@@ -276,7 +276,7 @@ pub trait ResolveExt: Writer {
     /// memory. Refused with `LengthTooLarge`, 5, exactly where the length is above 4,294,967,295, with `LayoutTooLarge`, 23, where the pointer would end
     /// above `usize::MAX`, else exactly where the offset doesn't fit, with `IsizeOverflow`, 2, or `OffsetOverflow`, 3, nothing being written, or as the writer refuses
     /// (`BufferOverflow`, 8; `WriterFailed`, 9). rkyv 0.8.18 has the call in `WriterExt`, and panics where the offset doesn't fit.
-    #[tactic(auto, using(crate::proofs::Owned::size_by_length, crate::proofs::Causes::goes_nowhere, crate::proofs::Causes::goes_written, crate::proofs::Causes::goes_refused))]
+    #[tactic(auto, using(crate::proofs::Writing::Owned::size_by_length, crate::proofs::Planning::Causes::goes_nowhere, crate::proofs::Planning::Causes::goes_written, crate::proofs::Planning::Causes::goes_refused))]
     #[inline(always)]
     final fn resolve_unsized_aligned<T: ArchiveUnsized>(
         &mut self,

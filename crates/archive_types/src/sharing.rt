@@ -4,7 +4,7 @@ ghost use Rattle.std.specs.Prelude.{◌≡◌, ◌⊎◌, None, Option, Some, �
 ghost use Rattle.archive_check.specs.WriterState.{KeepsBytes, KeepsKeys};
 ghost use Rattle.archive_types.specs.Causes.{Explains, HindersShared, HindersRegion, RegionReaches};
 ghost use Rattle.archive_types.specs.Plans.{cursor, begun, SerializedShared};
-ghost use Rattle.archive_types.specs.SharedWriting.{IsUnchangedIfKnown, IsUnfinished, StoresIfUnknown, UnstoredUnder};
+ghost use Rattle.archive_types.specs.Words.SharedWriting.{IsUnchangedIfKnown, IsUnfinished, StoresIfUnknown, UnstoredUnder};
 ghost use Rattle.archive_write.specs.Sharing.{known_answer};
 ghost use Rattle.archive_write.specs.Written.{GoesOn};
 
@@ -20,7 +20,7 @@ pub trait SharingExt: Sharing + Writer {
     /// `CyclicSerialize`, 11, where the key is pending, so that its value holds itself; nothing changes then. Else refused with `OutOfMemory`, 1,
     /// where memory is refused, or as the value and the writer refuse; the key is then unknown or pending. Never refused with `NotStarted`, 14, or
     /// `AlreadyFinished`, 15.
-    #[tactic(auto, using(crate::proofs::Causes::goes_nowhere))]
+    #[tactic(auto, using(crate::proofs::Planning::Causes::goes_nowhere))]
     final fn serialize_shared<T: SerializeUnsized<Self>>(
         &mut self,
         key: u64,

@@ -3,7 +3,7 @@
 ghost use Rattle.std.specs.Prelude.{◌≡◌, ◌+◌, ◌*◌, ◌<◌, ◌↔◌, IfOk, IfErr, IfSome, IsSome, IsTrue};
 ghost use Rattle.archive_check.specs.Shape.{run};
 ghost use Rattle.archive_check.specs.SelfCheck.Owners.{run_check, run_reaches};
-ghost use Rattle.archive_types.specs.Seen.{ShowsPartOf};
+ghost use Rattle.archive_types.specs.Words.Seen.{ShowsPartOf};
 ghost use Rattle.archive_types.specs.Views.{ShowsPart, element_in};
 
 mod copying;

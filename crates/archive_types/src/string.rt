@@ -5,7 +5,7 @@ ghost use Rattle.std.specs.Int.{w32};
 ghost use Rattle.std.proofs.Common.{inl, inr};
 ghost use Rattle.archive_check.specs.Shape.{str as str_shape, boxed, one, text};
 ghost use Rattle.archive_check.specs.Definitions.{no_definition};
-ghost use Rattle.archive_check.specs.LeafLayout.{no_definition_reached};
+ghost use Rattle.archive_check.specs.Members.LeafLayout.{no_definition_reached};
 ghost use Rattle.archive_check.specs.SelfCheck.Laws.{plain_check};
 ghost use Rattle.archive_check.specs.SelfCheck.Owners.{text_check};
 ghost use Rattle.archive_check.specs.Reads.{bytes_at};
@@ -17,15 +17,15 @@ ghost use Rattle.archive_check.specs.declared.format.error.Error.TheVariants.{Ou
 ghost use Rattle.archive_check.specs.WriterState.{KeepsKeys};
 ghost use Rattle.archive_write.specs.Written.{GoesOn};
 ghost use Rattle.archive_types.specs.Causes.{HindersAt, IsRefused, IsRegionRefused};
-ghost use Rattle.archive_types.specs.Keyed.{text_keyed};
-ghost use Rattle.archive_types.specs.KindsWritten.{TextStored, TextUnstored, NoTextSince, StringSerialized, StringRefused, NoStringSince, StringResolved, StringHindered};
+ghost use Rattle.archive_types.specs.Members.Keyed.{text_keyed};
+ghost use Rattle.archive_types.specs.Words.KindsWritten.{TextStored, TextUnstored, NoTextSince, StringSerialized, StringRefused, NoStringSince, StringResolved, StringHindered};
 ghost use Rattle.archive_num.specs.Offsets.{distance, IsTooFar};
-ghost use Rattle.archive_types.specs.Placed.{IsTooFarFrom, AtOnce, Added};
-ghost use Rattle.archive_types.specs.Planned.{string_planned, text_planned};
-ghost use Rattle.archive_types.specs.PlannedOwners.{is_long, one_planned};
+ghost use Rattle.archive_types.specs.Words.Placed.{IsTooFarFrom, AtOnce, Added};
+ghost use Rattle.archive_types.specs.Members.Planned.{string_planned, text_planned};
+ghost use Rattle.archive_types.specs.Members.PlannedOwners.{is_long, one_planned};
 ghost use Rattle.archive_types.specs.Plans.{Serialized, SerializedRegion};
-ghost use Rattle.archive_types.specs.Seen.{IsPartOf};
-ghost use Rattle.archive_types.specs.Sources.{Read};
+ghost use Rattle.archive_types.specs.Words.Seen.{IsPartOf};
+ghost use Rattle.archive_types.specs.Words.Sources.{Read};
 ghost use Rattle.archive_types.specs.Strings.{string_form, string_flat};
 ghost use Rattle.archive_types.specs.TextPlans.{HindersStringAt, ExplainsTextRefusal, ExplainsStringRefusal};
 ghost use Rattle.archive_types.specs.Writing.{ZeroedPlace, Resolves};
@@ -199,7 +199,7 @@ impl<'a> ArchiveUnsized for Text<'a> {
 }
 
 impl<'a, S: Writer + Keys> SerializeUnsized<S> for Text<'a> {
-    #[tactic(auto, using(crate::proofs::Planned::serialized_text, crate::proofs::Planned::text_refused, crate::proofs::Planned::long_text_refused, crate::proofs::Causes::goes_nowhere, crate::proofs::Causes::goes_written, crate::proofs::Causes::goes_refused))]
+    #[tactic(auto, using(crate::proofs::Planning::Planned::serialized_text, crate::proofs::Planning::Planned::text_refused, crate::proofs::Planning::Planned::long_text_refused, crate::proofs::Planning::Causes::goes_nowhere, crate::proofs::Planning::Causes::goes_written, crate::proofs::Planning::Causes::goes_refused))]
     #[inline(always)]
     fn serialize_unsized(&self, serializer: &mut S) -> Result<usize, Error>
         ensures serialized { IfOk result (TextStored self.now.text.now S.Keys serializer) }
@@ -242,7 +242,7 @@ impl ArchivedString {
     /// longer than 1,073,741,823 bytes, before anything is written, with `PositionTooLarge`, 4, where it was written above position 4,294,967,295, or
     /// as the writer refuses (`OutOfMemory`, 1; `BufferOverflow`, 8; `WriterFailed`, 9). After a refusal, too, the bytes from before are a beginning
     /// of those that `serializer` holds. rkyv 0.8.18 cuts such a position off.
-    #[tactic(auto, using(crate::proofs::Planned::serialized_inline, crate::proofs::Planned::serialized_out_of_line, crate::proofs::Planned::string_refused, crate::proofs::Planned::long_string_refused, crate::proofs::Planned::far_string_refused, crate::proofs::Causes::goes_nowhere))]
+    #[tactic(auto, using(crate::proofs::Planning::Planned::serialized_inline, crate::proofs::Planning::Planned::serialized_out_of_line, crate::proofs::Planning::Planned::string_refused, crate::proofs::Planning::Planned::long_string_refused, crate::proofs::Planning::Planned::far_string_refused, crate::proofs::Planning::Causes::goes_nowhere))]
     #[inline(always)]
     pub fn serialize_from_str<S: Writer + Keys>(
         value: &str,
@@ -273,7 +273,7 @@ impl ArchivedString {
     /// Writes the string's bytes over those of `place`. Asks that these are eight, and that `value` has at most 1,073,741,823 bytes; `resolver` should
     /// be the answer of `serialize_from_str` for it. Refused with `IsizeOverflow`, 2, or `OffsetOverflow`, 3, exactly where the offset to a text of
     /// more than eight bytes doesn't fit; they are then unchanged. rkyv 0.8.18 panics there.
-    #[tactic(auto, using(crate::proofs::StringsWritten::resolves_inline_flat, crate::proofs::StringsWritten::resolves_out_of_line_flat))]
+    #[tactic(auto, using(crate::proofs::Writing::StringsWritten::resolves_inline_flat, crate::proofs::Writing::StringsWritten::resolves_out_of_line_flat))]
     #[inline(always)]
     pub fn resolve_from_str(
         value: &str,

@@ -8,9 +8,9 @@ ghost use Rattle.archive_check.specs.Shape.{run};
 ghost use Rattle.archive_check.specs.Value.{Value, list};
 ghost use Rattle.archive_check.specs.Viewed.{Viewed};
 ghost use Rattle.archive_check.specs.declared.format.error.Error.TheVariants.{LengthTooLarge};
-ghost use Rattle.archive_types.specs.KindsWritten.{RunStoredIf, RunUnstored, RunCopiedIf, RunUncopied};
-ghost use Rattle.archive_types.specs.Placed.{Resolved, Hindered, IsPlanned};
-ghost use Rattle.archive_types.specs.Seen.{IsPartOf, RefusesPart, ReadsView, RefusesView};
+ghost use Rattle.archive_types.specs.Words.KindsWritten.{RunStoredIf, RunUnstored, RunCopiedIf, RunUncopied};
+ghost use Rattle.archive_types.specs.Words.Placed.{Resolved, Hindered, IsPlanned};
+ghost use Rattle.archive_types.specs.Words.Seen.{IsPartOf, RefusesPart, ReadsView, RefusesView};
 ghost use Rattle.archive_types.specs.Causes.{HindersAt, IsRefused, IsRegionRefused};
 ghost use Rattle.archive_types.specs.Plans.{HasPlan, HasRegionPlan, Serialized, SerializedRegion};
 ghost use Rattle.archive_types.specs.Runs.{each_keys, each_meaning};
@@ -82,7 +82,7 @@ pub trait Archive {
 
     /// Writes `values` in bulk as a region of their own, so many `together` always in one piece, and answers its position, in bytes from the first one.
     /// What is `Copied` writes this call with `slice::copy_groups`; by default nothing is written, and none is answered. Refused as `copy_slice` is.
-    #[tactic(auto, using(crate::proofs::Causes::goes_nowhere))]
+    #[tactic(auto, using(crate::proofs::Planning::Causes::goes_nowhere))]
     #[inline(always)]
     fn serialize_copied<S: Writer + Keys>(
         _values: &[Self],
@@ -108,7 +108,7 @@ pub trait Archive {
 
 /// A source that can be serialized to an `S`. As in rkyv 0.8.18.
 pub trait Serialize<S: Writer + Keys>: Archive {
-    ghost use Rattle.archive_types.specs.Sources.{Wrote, Refused};
+    ghost use Rattle.archive_types.specs.Words.Sources.{Wrote, Refused};
 
     /// Writes what the value owns, region by region, and answers what its archived form is resolved with. It asks nothing. Refused for a cause of the
     /// value's own, as the writer refuses (`BufferOverflow`, 8; `WriterFailed`, 9), or with `OutOfMemory`, 1, where memory is refused; never with
@@ -124,7 +124,7 @@ pub trait Serialize<S: Writer + Keys>: Archive {
 /// A format that can be read back as a `T`. As in rkyv 0.8.18, by views in place of references.
 pub trait Deserialize<T: Archive, D: Entries>: ArchivePointee {
     ghost use Rattle.archive_types.specs.FirstRead.{AreFirstRead};
-    ghost use Rattle.archive_types.specs.Sources.{Read};
+    ghost use Rattle.archive_types.specs.Words.Sources.{Read};
     ghost use Rattle.archive_types.specs.Views.{AreViewed};
 
     /// What implements this trait writes this call, over the part of a view, and callers use `deserialize`. Asks for what a view promises of the part.
@@ -202,7 +202,7 @@ pub trait ArchiveUnsized {
 
 /// A source that can be serialized to an `S` as a region of its own. As in rkyv 0.8.18.
 pub trait SerializeUnsized<S: Writer + Keys>: ArchiveUnsized {
-    ghost use Rattle.archive_types.specs.ArchivesOf.{Stored, Unstored};
+    ghost use Rattle.archive_types.specs.Words.ArchivesOf.{Stored, Unstored};
 
     /// Writes what the source owns and then its region, and answers the region's position, in bytes from the first one. It asks nothing. Refused for a
     /// cause of the source's own, as the writer refuses (`BufferOverflow`, 8; `WriterFailed`, 9), or with `OutOfMemory`, 1, where memory is refused;
@@ -216,7 +216,7 @@ pub trait SerializeUnsized<S: Writer + Keys>: ArchiveUnsized {
 
 /// A pointee that can be read back as a `T`: the value, a vector of the elements, or a string. As in rkyv 0.8.18, by views in place of references.
 pub trait DeserializeUnsized<T: Archive, D: Entries>: ArchivePointee {
-    ghost use Rattle.archive_types.specs.Sources.{Read};
+    ghost use Rattle.archive_types.specs.Words.Sources.{Read};
 
     /// What implements this trait writes this call, over the part of a view, and callers use `deserialize_unsized`. Asks for what a view promises of
     /// the part. Our own.
@@ -243,7 +243,7 @@ pub trait DeserializeUnsized<T: Archive, D: Entries>: ArchivePointee {
     }
 
     /// Its length: 0 for one value, else the number of elements or bytes.
-    #[tactic(auto, using(crate::proofs::OneLengths::one_has_no_length))]
+    #[tactic(auto, using(crate::proofs::Viewing::OneLengths::one_has_no_length))]
     final fn deserialize_metadata(view: Ref<'_, Self>) -> usize
         ensures length { result ≡ view.entry.len }
         ensures one_value { has_length Self.pointee ≡ false → result ≡ 0 }

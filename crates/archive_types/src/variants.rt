@@ -3,8 +3,8 @@
 ghost use Rattle.std.specs.Prelude.{◌≡◌, ◌+◌, ◌<◌, ◌≤◌, ◌^◌, length, OnOk, IfErr};
 ghost use Rattle.archive_check.specs.CleanRegions.{IsZeroed};
 ghost use Rattle.archive_types.specs.Causes.{HindersAt};
-ghost use Rattle.archive_types.specs.KindsWritten.{CaseHeld, CaseHindered};
-ghost use Rattle.archive_types.specs.Variants.{HoldsCase};
+ghost use Rattle.archive_types.specs.Words.KindsWritten.{CaseHeld, CaseHindered};
+ghost use Rattle.archive_types.specs.Members.Variants.{HoldsCase};
 
 use crate::ser::resolve_into;
 use crate::traits::{Archive, Portable};

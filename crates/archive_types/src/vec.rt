@@ -6,7 +6,7 @@ ghost use Rattle.archive_check.specs.Shape.{one, run, vec as vec_shape};
 ghost use Rattle.archive_check.specs.Readable.{target_from};
 ghost use Rattle.archive_check.specs.Reads.{u32_at};
 ghost use Rattle.archive_check.specs.SelfCheck.Owners.{vec_check, vec_reaches};
-ghost use Rattle.archive_types.specs.Seen.{ShowsPartOf};
+ghost use Rattle.archive_types.specs.Words.Seen.{ShowsPartOf};
 ghost use Rattle.archive_types.specs.Views.{ShowsPart, itself};
 
 mod copying;

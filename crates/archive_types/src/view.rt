@@ -98,10 +98,10 @@ fn read_leaf<N: Native>(part: RawView<'_>) -> N
 }
 
 impl<'a, N: Native> Ref<'a, LittleEndian<N>> {
-    ghost use Rattle.archive_types.specs.Seen.{ShowsValue};
+    ghost use Rattle.archive_types.specs.Words.Seen.{ShowsValue};
 
     /// The number.
-    #[tactic(auto, using(archive_check::proofs::ViewedValues::leaf_readable))]
+    #[tactic(auto, using(archive_check::proofs::Viewing::ViewedValues::leaf_readable))]
     pub fn get(self) -> N
         ensures number { result ≡ N.number_of (bytes_at self.entry.bytes.now self.entry.pos N.byte_count) }
         ensures says { ShowsValue self.entry (number (N.value_of result)) }
@@ -111,7 +111,7 @@ impl<'a, N: Native> Ref<'a, LittleEndian<N>> {
 }
 
 impl<'a, N: Integer> Ref<'a, NonZero<N>> {
-    ghost use Rattle.archive_types.specs.Seen.{ShowsValue};
+    ghost use Rattle.archive_types.specs.Words.Seen.{ShowsValue};
 
     /// The number, which isn't 0.
     pub fn get(self) -> N
@@ -124,10 +124,10 @@ impl<'a, N: Integer> Ref<'a, NonZero<N>> {
 }
 
 impl<'a, N: Plain> Ref<'a, N> {
-    ghost use Rattle.archive_types.specs.Seen.{ShowsValue};
+    ghost use Rattle.archive_types.specs.Words.Seen.{ShowsValue};
 
     /// The value: nothing, a bool, or a number of one byte.
-    #[tactic(auto, using(archive_check::proofs::ViewedValues::leaf_readable))]
+    #[tactic(auto, using(archive_check::proofs::Viewing::ViewedValues::leaf_readable))]
     pub fn get(self) -> N
         ensures number { result ≡ N.number_of (bytes_at self.entry.bytes.now self.entry.pos N.byte_count) }
         ensures says { ShowsValue self.entry (number (N.value_of result)) }

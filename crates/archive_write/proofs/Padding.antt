@@ -5,7 +5,7 @@ use Rattle.std.proofs.lemmas.Nat.{div-add-mod', div-mul-add, mod-mul-add}
 use Rattle.std.proofs.lemmas.List.{get_or-replicate, length-replicate}
 use Rattle.archive_check.specs.Definitions.{IsAlign}
 use Rattle.archive_check.specs.Layout.{up}
-use Rattle.archive_check.proofs.PartsInside.{up_le}
+use Rattle.archive_check.proofs.Tours.PartsInside.{up_le}
 use Rattle.archive_check.specs.CleanRegions.{IsZeroed}
 use Rattle.archive_check.specs.WriterState.{WriterState, KeepsKeys, Pads}
 use Rattle.archive_write.specs.Written.{padding}

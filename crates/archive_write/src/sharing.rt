@@ -3,7 +3,7 @@
 
 ghost use Rattle.std.specs.Prelude.{◌≡◌, ◌+◌, ◌≤◌, ◌<◌, None, Some, OnOk, OnErr, IfOk, IfErr, IsOk, IsSome, is_some};
 ghost use Rattle.archive_write.specs.Known.{known_keys, spare_keys};
-ghost use Rattle.archive_check.specs.PositionStates.{finish_answer};
+ghost use Rattle.archive_check.specs.context.PositionStates.{finish_answer};
 ghost use Rattle.archive_check.specs.WriterState.{KeepsKeys, KeepsBytes, only_keys};
 ghost use Rattle.archive_write.specs.Sharing.{start_answer, IsSet, KnowsNone};
 ghost use Rattle.archive_write.specs.Writes.{IsStarted};

@@ -1,7 +1,7 @@
 -- A definition that is added under a name and a shape that are known by other words.
 use Rattle.std.proofs.Common.{◌≡◌, ◌∷◌, ◌++◌, [], subst, Bool, Ok, if◌then◌else◌}
 use Rattle.archive_check.specs.Shape.{Name, Shape, Table, definition}
-use Rattle.archive_check.specs.AddAnswer.{IsAddAnswer}
+use Rattle.archive_check.specs.Words.AddAnswer.{IsAddAnswer}
 use Rattle.archive_check.specs.Definitions.{defines, Extended}
 use Rattle.archive_check.proofs.format.AddedDefinitions.{extended_by}
 

@@ -6,9 +6,9 @@ use Rattle.archive_check.specs.Layout.{Layouts, size_of}
 use Rattle.archive_check.specs.Reads.{bytes_at, u32_at, i32_at}
 use Rattle.archive_check.specs.Depth.{AcceptedWithin}
 use Rattle.archive_check.specs.Walk.{RootWalk, walk_one, walk_leaf, walk_vec, follow_unique, enter, walk_run, walk_element, walk_none}
-use Rattle.archive_check.proofs.Subtrees.{enters}
+use Rattle.archive_check.proofs.Checks.Subtrees.{enters}
 use Rattle.archive_check.specs.Trail.{RootTrips, outside, too_deep, trips_within, trips_one, trips_boxed, trips_vec, trips_unique, trips_range, trips_depth}
-use Rattle.archive_check.proofs.AcceptedWalks.{walked}
+use Rattle.archive_check.proofs.Checks.AcceptedWalks.{walked}
 use Rattle.archive_check.proofs.Examples.Terms.{u8, u32, option, no_names, Refused, refused}
 
 -- an option of a number takes eight bytes, and numbers between smaller ones are aligned

@@ -8,8 +8,8 @@ use Rattle.archive_check.specs.Tour.{Region, region_at, root_region, Contents, c
 use Rattle.archive_check.specs.Walk.{walk_leaf, walk_boxed, walk_vec, follow_unique, enter, walk_one, walk_run, RootWalk}
 use Rattle.archive_check.specs.Trail.{outside, no_such_variant, trips_within, trips_one, trips_array, trips_later_element, trips_element, trips_boxed, trips_unique, trips_range, trips_named, trips_choice, trips_tag, trips_first}
 use Rattle.archive_check.specs.Denotes.{fills_number, fills_case, fills_list, fills_box, fills_unique, fills_no_value, fills_value}
-use Rattle.archive_check.proofs.AcceptedWalks.{walked}
-use Rattle.archive_check.proofs.PlainRuns.{empty_run, plain_run}
+use Rattle.archive_check.proofs.Checks.AcceptedWalks.{walked}
+use Rattle.archive_check.proofs.Checks.PlainRuns.{empty_run, plain_run}
 use Rattle.archive_check.proofs.Examples.Terms.{u8, u32, nothing, option, numbers, no_names, Says, Refused, refused, shares_nothing, laid_out, one_definition}
 
 -- two numbers, and at 8 their vector

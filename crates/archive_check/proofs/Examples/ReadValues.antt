@@ -10,7 +10,7 @@ use Rattle.archive_check.specs.Pooled.{Entries}
 use Rattle.archive_check.specs.Entries.{MeetsOpen, meets_open, meets_in_shared}
 use Rattle.archive_check.specs.Archives.{IsValueOf}
 use Rattle.archive_check.proofs.Elements.{contains_first}
-use Rattle.archive_check.proofs.Seen.{same_some, inserted_has}
+use Rattle.archive_check.proofs.Tours.Seen.{same_some, inserted_has}
 use Rattle.archive_check.proofs.Examples.Terms.{u32, pair, both, rc, no_names, laid_out}
 use Rattle.archive_check.proofs.Examples.SharedValues.{known_as, ten, one_ten, ring, all_values, cycles, sharing_itself}
 

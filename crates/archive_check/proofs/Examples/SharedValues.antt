@@ -12,8 +12,8 @@ use Rattle.archive_check.specs.Leaves.{edit}
 use Rattle.archive_check.specs.Tightness.{TightFrom}
 use Rattle.archive_check.specs.Trail.{cyclic, other_type, other_length, trips_within, trips_one, trips_parts, trips_later, trips_first, trips_shared, trips_type, trips_length, trips_cycle, trips_new, trips_named, trips_choice}
 use Rattle.archive_check.specs.Denotes.{Denotes, fills_number, fills_product, fills_case, fills_list, fills_null, fills_shared, fills_no_value, fills_value}
-use Rattle.archive_check.proofs.MeaningExists.{knows_insert}
-use Rattle.archive_check.proofs.PlainRuns.{plain_run}
+use Rattle.archive_check.proofs.Meanings.MeaningExists.{knows_insert}
+use Rattle.archive_check.proofs.Checks.PlainRuns.{plain_run}
 use Rattle.archive_check.proofs.Examples.Terms.{u8, u32, i32, nothing, pair, both, numbers, rc, no_names, Refused, refused, shares_nothing, laid_out, one_definition}
 
 -- how a pointer of the flavor knows a shared pointee

@@ -9,8 +9,8 @@ use Rattle.archive_check.specs.Reads.{Schema, LaidOut}
 use Rattle.archive_check.specs.Tour.{Entry, Accepted}
 use Rattle.archive_check.specs.Trail.{Fault, RootTrips}
 use Rattle.archive_check.specs.Denotes.{IsSharedValue, Denotes}
-use Rattle.archive_check.proofs.AcceptedWalks.{walks}
-use Rattle.archive_check.proofs.FaultyNotWalked.{root_no_walk}
+use Rattle.archive_check.proofs.Checks.AcceptedWalks.{walks}
+use Rattle.archive_check.proofs.Checks.FaultyNotWalked.{root_no_walk}
 
 abbrev pub u8 : Shape
 u8 = leaf (number_kind unsigned w8)

@@ -15,9 +15,9 @@ use Rattle.archive_check.specs.LittleEndian.{AreBytes}
 use Rattle.archive_check.specs.Within.{PartOfSome}
 use Rattle.archive_check.specs.Tightness.{after, Tight, Owned, owned_part, owned_text, Clean, TightFrom, CleanFrom}
 use Rattle.archive_check.specs.Denotes.{Fills}
-use Rattle.archive_check.proofs.UniqueBefore.{part_after}
-use Rattle.archive_check.proofs.Viewed.{lies_fits}
-use Rattle.archive_check.proofs.Tightness.{positive_append, pointee_positive, tour_positive, tight_rises}
+use Rattle.archive_check.proofs.Tours.UniqueBefore.{part_after}
+use Rattle.archive_check.proofs.Viewing.Viewed.{lies_fits}
+use Rattle.archive_check.proofs.Tours.Tightness.{positive_append, pointee_positive, tour_positive, tight_rises}
 use Rattle.archive_check.proofs.OneList.Twins.{Renamed, Like, reads_like}
 use Rattle.archive_check.proofs.OneList.Placed.{tours_placed}
 use Rattle.archive_check.proofs.OneList.Tours.{Alike, KnownAlike, SameTours, tight_split, tight_next, tours_same}

@@ -11,9 +11,9 @@ use Rattle.archive_check.specs.LittleEndian.{little_number, AreBytes}
 use Rattle.archive_check.specs.Tightness.{own_size}
 use Rattle.archive_check.proofs.format.BytesAt.{byte_in}
 use Rattle.archive_check.proofs.format.LegalBytes.{encoding_unique}
-use Rattle.archive_check.proofs.EditedBytes.{bytes_long}
+use Rattle.archive_check.proofs.Editing.EditedBytes.{bytes_long}
 use Rattle.archive_check.proofs.LittleEndian.{from_le_bytes-little, from_le_bytes-one, with_sign-one}
-use Rattle.archive_check.proofs.Texts.{inline_bytes}
+use Rattle.archive_check.proofs.Editing.Texts.{inline_bytes}
 
 -- a part of the bytes is bytes
 few : (bytes : List ℕ) (p n : ℕ) → AreBytes bytes → AreBytes (bytes_at bytes p n)

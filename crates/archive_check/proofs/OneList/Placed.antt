@@ -8,8 +8,8 @@ use Rattle.archive_check.specs.Reads.{Schema}
 use Rattle.archive_check.specs.Tour.{Region, region_at, region_of, Leads, Entry, entry, Seen, Tour, tour_end, tour_unique, tour_new, tour_again}
 use Rattle.archive_check.specs.Denotes.{Fills}
 use Rattle.archive_check.specs.Tightness.{after, Tight}
-use Rattle.archive_check.proofs.RevisedTour.{tour_grows}
-use Rattle.archive_check.proofs.Seen.{inserted_has, inserted_apart}
+use Rattle.archive_check.proofs.Editing.RevisedTour.{tour_grows}
+use Rattle.archive_check.proofs.Tours.Seen.{inserted_has, inserted_apart}
 use Rattle.archive_check.proofs.OneList.Twins.{Renamed, Twin, Twins, twins_none, twins_more, unique_filled, contents_like}
 use Rattle.archive_check.proofs.OneList.Tours.{KnownAlike, tight_split, arrive, same_name, never_shared, ever_shared, found, met_new}
 

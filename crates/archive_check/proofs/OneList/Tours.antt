@@ -9,9 +9,9 @@ use Rattle.archive_check.specs.Reads.{Schema}
 use Rattle.archive_check.specs.Tour.{Region, region_of, pointee_align, Contents, Leads, Entry, entry, Seen, Tour, tour_end, tour_unique, tour_new, tour_again}
 use Rattle.archive_check.specs.Denotes.{Fills}
 use Rattle.archive_check.specs.Tightness.{after, Tight}
-use Rattle.archive_check.proofs.ReadingUnique.{contents_one_value, pos_one}
-use Rattle.archive_check.proofs.RevisedTour.{tour_grows}
-use Rattle.archive_check.proofs.Seen.{inserted_has, same_some}
+use Rattle.archive_check.proofs.Tours.ReadingUnique.{contents_one_value, pos_one}
+use Rattle.archive_check.proofs.Editing.RevisedTour.{tour_grows}
+use Rattle.archive_check.proofs.Tours.Seen.{inserted_has, same_some}
 use Rattle.archive_check.proofs.OneList.Twins.{Renamed, Twin, Twins, twins_none, twins_more, Like, names, unique_filled, shared_filled, contents_like}
 
 -- up to a region of a tight list, and on behind it

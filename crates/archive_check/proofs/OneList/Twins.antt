@@ -5,9 +5,9 @@ use Rattle.archive_check.specs.Value.{Pointer, Value, Values, number, product, c
 use Rattle.archive_check.specs.Reads.{Schema, bytes_at, u32_at, before_end, decoded_length, length_at, pointer_at, string_at, Reads, reads_leaf, reads_parts, reads_choice, reads_array, reads_boxed, reads_vec, reads_inline, reads_out_of_line, reads_shared, reads_null, reads_weak, reads_named, ReadsParts, reads_no_part, reads_part, ReadsRun, reads_none, reads_element}
 use Rattle.archive_check.specs.Tour.{Contents, contents_one, contents_run, contents_text, Leads, pointee_size}
 use Rattle.archive_check.specs.Denotes.{rename, rename_all, Fills, fills_number, fills_product, fills_case, fills_list, fills_text, fills_box, fills_null, fills_unique, fills_shared, FillsAll, fills_no_value, fills_value}
-use Rattle.archive_check.proofs.ReadingUnique.{leads_position, leads_value}
-use Rattle.archive_check.proofs.RegionsApart.{before_end_le, bytes_few}
-use Rattle.archive_check.proofs.EditedBytes.{bytes_long}
+use Rattle.archive_check.proofs.Tours.ReadingUnique.{leads_position, leads_value}
+use Rattle.archive_check.proofs.Tours.RegionsApart.{before_end_le, bytes_few}
+use Rattle.archive_check.proofs.Editing.EditedBytes.{bytes_long}
 
 -- the second value is the first one, under other names
 pub record Renamed (to : ℕ → ℕ) (x y : Value) : Type 0 where

@@ -3,10 +3,10 @@ use Rattle.std.proofs.Common.{◌≡◌, ◌≢◌, ℕ, suc, sym, ◌∙◌, �
 use Rattle.archive_check.specs.Shape.{Shape}
 use Rattle.archive_check.specs.Layout.{size_of, Layout}
 use Rattle.archive_check.specs.declared.format.error.Error.{Error}
-use Rattle.archive_check.specs.Ranges.{RangeState}
+use Rattle.archive_check.specs.context.Ranges.{RangeState}
 use Rattle.archive_check.specs.Definitions.{Definitions, HasLayout}
 use Rattle.archive_check.specs.SelfCheck.Ways.{Goes, Halts, shape_way, run_way}
-use Rattle.archive_check.proofs.PlainRuns.{empty_stays, empty_run}
+use Rattle.archive_check.proofs.Checks.PlainRuns.{empty_stays, empty_run}
 use Rattle.archive_check.proofs.SelfCheck.Ways.{Toward, toward_same, toward_then, toward_halts, toward_end}
 use Rattle.archive_check.proofs.SelfCheck.Layouts.{its_size}
 use Rattle.archive_check.proofs.SelfCheck.Steps.{element_way, element_stop, none_way}

@@ -3,7 +3,7 @@ use Rattle.std.proofs.Common.{Bool, ℕ, ◌+◌, ◌≤◌, arith, List, Option
 use Rattle.std.proofs.lemmas.Bool.Decides.{nat_tests}
 use Rattle.archive_check.specs.declared.format.error.Error.{Error}
 use Rattle.archive_check.specs.Shape.{Shape}
-use Rattle.archive_check.specs.Ranges.{RangeState}
+use Rattle.archive_check.specs.context.Ranges.{RangeState}
 use Rattle.archive_check.specs.Definitions.{Definitions}
 use Rattle.archive_check.specs.SelfCheck.Ways.{Goes, Halts, shape_way}
 use Rattle.archive_check.specs.SelfCheck.Laws.{IsCheckOf}

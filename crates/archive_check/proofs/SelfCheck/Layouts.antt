@@ -4,7 +4,7 @@ use Rattle.archive_check.specs.Shape.{Shape}
 use Rattle.archive_check.specs.Reads.{Schema}
 use Rattle.archive_check.specs.Layout.{Layout, size_of, align_of}
 use Rattle.archive_check.specs.Definitions.{Definitions, Knows, HasLayout}
-use Rattle.archive_check.specs.BoundedSizes.{fits, times}
+use Rattle.archive_check.specs.Words.BoundedSizes.{fits, times}
 use Rattle.archive_check.proofs.BoundedSizes.{times_fits}
 
 -- the layout of a type, as a schema has it

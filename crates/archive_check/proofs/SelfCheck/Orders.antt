@@ -7,7 +7,7 @@ use Rattle.archive_check.specs.Defined.{WellFormed}
 use Rattle.archive_check.specs.MissingNames.{missing, Collected, Arranged}
 use Rattle.archive_check.specs.SelfCheck.Orders.{AllIn, AllClosed, Placed, IsOrder}
 use Rattle.archive_check.proofs.Elements.{contains_cases}
-use Rattle.archive_check.proofs.WellFormed.{found_stands, reached_there, well_formed}
+use Rattle.archive_check.proofs.Names.WellFormed.{found_stands, reached_there, well_formed}
 
 all_in : (table xs : Table) → AllIn table xs → (n : Name) (Y : Shape) → Contains xs (n, Y) → definition table n ≡ Some Y
 all_in table [] all n Y c = absurd (omega (arith, c.1))

@@ -4,9 +4,9 @@ use Rattle.archive_check.specs.Shape.{Shape, Parts, part}
 use Rattle.archive_check.specs.Layout.{up, size_of, align_of, Layout}
 use Rattle.archive_check.specs.Reads.{Schema}
 use Rattle.archive_check.specs.declared.format.error.Error.{Error}
-use Rattle.archive_check.specs.Ranges.{RangeState}
+use Rattle.archive_check.specs.context.Ranges.{RangeState}
 use Rattle.archive_check.specs.Definitions.{Definitions, both, Knows, HasLayout}
-pub use Rattle.archive_check.specs.PartsLayout.{knows_left, knows_right}
+pub use Rattle.archive_check.specs.Members.PartsLayout.{knows_left, knows_right}
 use Rattle.archive_check.specs.SelfCheck.Ways.{Goes, Halts, shape_way, parts_way}
 use Rattle.archive_check.proofs.SelfCheck.Ways.{Toward, toward_same, toward_then, toward_halts, toward_goes}
 use Rattle.archive_check.proofs.SelfCheck.Layouts.{its_size, its_align}

@@ -4,20 +4,20 @@ use Rattle.archive_check.specs.declared.format.error.Error.{Error}
 use Rattle.archive_check.specs.declared.context.range.Region.{Region}
 use Rattle.archive_check.specs.Value.{Pointer}
 use Rattle.archive_check.specs.Reads.{Schema}
-use Rattle.archive_check.specs.Ranges.{RangeState, one_more, pop_answer, popped}
+use Rattle.archive_check.specs.context.Ranges.{RangeState, one_more, pop_answer, popped}
 use Rattle.archive_check.specs.Tour.{Seen, region_of, pointee_size, pointee_align}
 use Rattle.archive_check.specs.Walk.{enter}
 use Rattle.archive_check.specs.Trail.{Fault, TripsEnter, trips_size, trips_range, trips_align, trips_depth, trips_within}
 use Rattle.archive_check.specs.Definitions.{Definitions, Knows}
 use Rattle.archive_check.specs.Outcomes.{refused}
-use Rattle.archive_check.specs.FreshContexts.{HasLevels}
-use Rattle.archive_check.specs.BoundedSizes.{fits}
-use Rattle.archive_check.specs.EnteredRegions.{NotEntered, not_sized, not_within, not_aligned, not_allowed, EntersNot, Begun}
+use Rattle.archive_check.specs.context.FreshContexts.{HasLevels}
+use Rattle.archive_check.specs.Words.BoundedSizes.{fits}
+use Rattle.archive_check.specs.context.EnteredRegions.{NotEntered, not_sized, not_within, not_aligned, not_allowed, EntersNot, Begun}
 use Rattle.archive_check.specs.SelfCheck.Ways.{Goes, Halts, enter_way}
 use Rattle.archive_check.specs.SelfCheck.Regions.{contents_way}
 use Rattle.archive_check.proofs.BoundedSizes.{some_is, some_below, none_is}
-use Rattle.archive_check.proofs.RangeLevels.{taken_back, not_taken, levels_inside, inside_few, level_back}
-use Rattle.archive_check.proofs.Depths.{levels_allow}
+use Rattle.archive_check.proofs.Checks.RangeLevels.{taken_back, not_taken, levels_inside, inside_few, level_back}
+use Rattle.archive_check.proofs.Checks.Depths.{levels_allow}
 
 -- a region of N bytes, aligned so, whatever schema knows the definitions
 module _ (D : Definitions) (bytes : List ℕ) (p : Pointer) (N align : ℕ)

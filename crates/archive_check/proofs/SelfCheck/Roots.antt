@@ -7,17 +7,17 @@ use Rattle.archive_check.specs.Reads.{Schema}
 use Rattle.archive_check.specs.Tour.{root_pointer, Seen}
 use Rattle.archive_check.specs.Trail.{Fault, TripsEnter, RootTrips}
 use Rattle.archive_check.specs.Walk.{Enter, enter, RootWalk}
-use Rattle.archive_check.specs.Ranges.{RangeState}
-use Rattle.archive_check.specs.PositionStates.{Positions}
-use Rattle.archive_check.specs.FreshContexts.{KeepsLevels, IsWhole}
+use Rattle.archive_check.specs.context.Ranges.{RangeState}
+use Rattle.archive_check.specs.context.PositionStates.{Positions}
+use Rattle.archive_check.specs.context.FreshContexts.{KeepsLevels, IsWhole}
 use Rattle.archive_check.specs.Definitions.{Definitions, listed, NoOthers}
 use Rattle.archive_check.specs.Defined.{WellFormed}
 use Rattle.archive_check.specs.Archives.{IsArchiveWithin, IsRefusal, ExplainsNoArchive}
 use Rattle.archive_check.specs.SelfCheck.Ways.{Way, Goes, Halts, enter_way}
-use Rattle.archive_check.proofs.ReadingUnique.{pos_one}
-use Rattle.archive_check.proofs.AcceptedWalks.{walked}
+use Rattle.archive_check.proofs.Tours.ReadingUnique.{pos_one}
+use Rattle.archive_check.proofs.Checks.AcceptedWalks.{walked}
 use Rattle.archive_check.proofs.Archives.{some_knows, refusal_no_archive}
-use Rattle.archive_check.proofs.RangeLevels.{fresh_levels}
+use Rattle.archive_check.proofs.Checks.RangeLevels.{fresh_levels}
 
 -- the root is entered where it is said to lie
 entered_root : (s : Schema) (bytes : List ℕ) (limit : Option ℕ) (root : ℕ) (X : Shape) {t : ℕ} {last : Seen} {later : ℕ} → Enter s bytes [] limit (length bytes) (root_pointer root X) t 0 empty later last → RootWalk s bytes limit root X

@@ -1,9 +1,9 @@
 -- What is spent on the regions that a type's own check enters.
 use Rattle.std.proofs.Common.{◌≡◌, ℕ, ℤ, ap, ◌+◌, ◌-◌, ◌*◌, ◌<◌, ◌≤◌, arith, Option, Some, None, OnSome, IfNone}
 use Rattle.archive_check.specs.declared.context.range.Region.{Region}
-use Rattle.archive_check.specs.Ranges.{RangeState, popped}
-use Rattle.archive_check.specs.Pushes.{Spends}
-use Rattle.archive_check.specs.EnteredRegions.{Begun}
+use Rattle.archive_check.specs.context.Ranges.{RangeState, popped}
+use Rattle.archive_check.specs.context.Pushes.{Spends}
+use Rattle.archive_check.specs.context.EnteredRegions.{Begun}
 
 -- what a region holds is paid for by its bytes
 pub region_spends : {s s1 : RangeState} (s2 : RangeState) {z : ℤ} {align : ℕ} {r : Region} (n : ℕ) → Begun s s1 z align r → s1.pushes ≤ s.pushes + 1 → n ≡ r.size → Spends n s1 s2 → Spends 4 s s2

@@ -7,9 +7,9 @@ use Rattle.archive_check.specs.Walk.{walk_choice}
 use Rattle.archive_check.specs.Trail.{no_such_variant, trips_choice, trips_tag}
 use Rattle.archive_check.specs.Outcomes.{Outcome, done, refused}
 use Rattle.archive_check.specs.declared.format.error.Error.{Error}
-use Rattle.archive_check.specs.Ranges.{RangeState}
+use Rattle.archive_check.specs.context.Ranges.{RangeState}
 use Rattle.archive_check.specs.Definitions.{Definitions, both}
-use Rattle.archive_check.specs.Faults.{IsFor}
+use Rattle.archive_check.specs.Words.Faults.{IsFor}
 use Rattle.archive_check.specs.SelfCheck.Ways.{VariantGoes, VariantHalts, Goes, Halts, shape_way, parts_way}
 use Rattle.archive_check.proofs.SelfCheck.Ways.{goes_from, halts_from}
 use Rattle.archive_check.proofs.SelfCheck.Parts.{knows_left, knows_right}

@@ -2,12 +2,12 @@
 use Rattle.std.proofs.Common.{◌≡◌, ℕ, refl, ◌∙◌, List, Option, OnSome, IfNone}
 use Rattle.archive_check.specs.declared.format.error.Error.{Error}
 use Rattle.archive_check.specs.Reads.{Schema}
-use Rattle.archive_check.specs.Ranges.{RangeState}
+use Rattle.archive_check.specs.context.Ranges.{RangeState}
 use Rattle.archive_check.specs.Tour.{Seen}
 use Rattle.archive_check.specs.Trail.{Fault}
 use Rattle.archive_check.specs.Definitions.{Definitions, Knows}
 use Rattle.archive_check.specs.Outcomes.{Outcome, done, refused}
-use Rattle.archive_check.specs.FreshContexts.{HasLevels}
+use Rattle.archive_check.specs.context.FreshContexts.{HasLevels}
 use Rattle.archive_check.specs.SelfCheck.Ways.{Way, Goes, Halts}
 use Rattle.archive_check.proofs.SelfCheck.Outcomes.{some_map, none_map}
 

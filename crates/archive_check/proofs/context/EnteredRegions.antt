@@ -4,11 +4,11 @@ use Rattle.std.proofs.lemmas.Bool.Decides.{nat_tests}
 use Rattle.archive_check.specs.declared.format.error.Error.{Error}
 use Rattle.archive_check.specs.declared.format.error.Error.TheVariants.{ExceededMaximumSubtreeDepth}
 use Rattle.archive_check.specs.declared.context.range.Region.{Region}
-use Rattle.archive_check.specs.Ranges.{RangeState, subtree_answer, pushed, Lands}
+use Rattle.archive_check.specs.context.Ranges.{RangeState, subtree_answer, pushed, Lands}
 use Rattle.archive_check.specs.Trail.{Fault, outside, unaligned, too_deep}
-use Rattle.archive_check.specs.Faults.{IsFor}
-use Rattle.archive_check.specs.EnteredRegions.{NotEntered, not_within, not_aligned, not_allowed, EntersNot, Begun}
-use Rattle.archive_check.proofs.RangeLevels.{lands, last_level}
+use Rattle.archive_check.specs.Words.Faults.{IsFor}
+use Rattle.archive_check.specs.context.EnteredRegions.{NotEntered, not_within, not_aligned, not_allowed, EntersNot, Begun}
+use Rattle.archive_check.proofs.Checks.RangeLevels.{lands, last_level}
 
 -- what a refusal of the range says
 negative : (n t : ℕ) → negsuc n ≡ pos t → ⊥

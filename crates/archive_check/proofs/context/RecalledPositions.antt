@@ -7,7 +7,7 @@ use Rattle.std.specs.HashMap.{HashMap, get, Updates, IsUnchanged}
 use Rattle.std.proofs.lemmas.List.Elements.{All-weaker}
 use Rattle.archive_check.specs.declared.context.positions.SharedPosition.{SharedPosition}
 use Rattle.archive_check.specs.declared.context.recalled.FinishedPosition.{FinishedPosition}
-use Rattle.archive_check.specs.RecalledPositions.{Recalls, AreRecalled, StaysRecalled}
+use Rattle.archive_check.specs.context.RecalledPositions.{Recalls, AreRecalled, StaysRecalled}
 
 other_stays : (b : Bool) (x y : Option SharedPosition) → (b ≡ true → ⊥) → cond b x y ≡ y
 other_stays true x y other = absurd (other refl)

@@ -20,8 +20,8 @@ use Rattle.archive_check.specs.Shape.{Flavor, Pointee}
 use Rattle.archive_check.specs.Expressions.{flavor_of, pointee_of}
 use Rattle.archive_check.specs.Equality.{same_flavor-Decides}
 use Rattle.archive_check.specs.Tour.{Entry}
-use Rattle.archive_check.specs.PositionStates.{PositionState, Positions, started, started_at, finish_answer, IsStartAnswer}
-use Rattle.archive_check.specs.SharedPositions.{met_as, met_in, positions_in, AreKnown, HasType, IsAbsent, IsGrown}
+use Rattle.archive_check.specs.context.PositionStates.{PositionState, Positions, started, started_at, finish_answer, IsStartAnswer}
+use Rattle.archive_check.specs.context.SharedPositions.{met_as, met_in, positions_in, AreKnown, HasType, IsAbsent, IsGrown}
 
 slice_get-append : {A : Type 0} (xs ys : List A) (k : ℕ) → k < length xs → slice_get (xs ++ ys) k ≡ slice_get xs k
 slice_get-append [] ys k h = absurd (omega arith)

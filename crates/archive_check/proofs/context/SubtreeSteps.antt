@@ -5,10 +5,10 @@ use Rattle.archive_check.specs.declared.format.error.Error.{Error}
 use Rattle.archive_check.specs.declared.format.error.Error.TheVariants.{ExceededMaximumSubtreeDepth, LayoutTooLarge}
 use Rattle.archive_check.specs.Shape.{Pointee}
 use Rattle.archive_check.specs.Definitions.{Definitions}
-use Rattle.archive_check.specs.RegionLayout.{HasNoLayout}
-use Rattle.archive_check.specs.Ranges.{RangeState, subtree_answer, pushed, pop_answer, popped}
-use Rattle.archive_check.specs.PositionStates.{Positions}
-use Rattle.archive_check.specs.InSubtree.{IsEntered, InSubtree, InRegion, layout_refused, check_refused, push_refused, call_refused, pop_refused, entered_and_left}
+use Rattle.archive_check.specs.Members.RegionLayout.{HasNoLayout}
+use Rattle.archive_check.specs.context.Ranges.{RangeState, subtree_answer, pushed, pop_answer, popped}
+use Rattle.archive_check.specs.context.PositionStates.{Positions}
+use Rattle.archive_check.specs.context.InSubtree.{IsEntered, InSubtree, InRegion, layout_refused, check_refused, push_refused, call_refused, pop_refused, entered_and_left}
 
 -- a position that is accepted isn't below 0
 accepted_at : (s : RangeState) (z : ℤ) (size align : ℕ) → Ok tt ≡ subtree_answer s z size align → z ≡ pos (nat_abs z)

@@ -4,12 +4,12 @@ use Rattle.std.proofs.Common.{◌≡◌, ◌≢◌, ◌⊎◌, inl, inr, ⊎_eli
 use Rattle.archive_check.specs.declared.format.error.Error.{Error}
 use Rattle.archive_check.specs.declared.format.error.Error.TheVariants.{OutOfMemory, ShapeConflict}
 use Rattle.archive_check.specs.Shape.{Name, Shape, Table, definition}
-use Rattle.archive_check.specs.AddAnswer.{IsAddAnswer}
+use Rattle.archive_check.specs.Words.AddAnswer.{IsAddAnswer}
 use Rattle.archive_check.specs.Definitions.{Definitions, defines, both, listed, Extended, Conflicts}
-use Rattle.archive_check.proofs.Named.{definition_here, append_known, append_unknown, push_some}
+use Rattle.archive_check.proofs.Names.Named.{definition_here, append_known, append_unknown, push_some}
 use Rattle.archive_check.proofs.Elements.{contains_cases, contains_first, contains_later}
-use Rattle.archive_check.proofs.Seen.{same_some}
-use Rattle.archive_check.proofs.WellFormed.{found_stands}
+use Rattle.archive_check.proofs.Tours.Seen.{same_some}
+use Rattle.archive_check.proofs.Names.WellFormed.{found_stands}
 
 -- it is the only one of its own
 only_one : (name n : Name) (X Y : Shape) → Contains (listed (defines name X)) (n, Y) → (name ≡ n) × (X ≡ Y)

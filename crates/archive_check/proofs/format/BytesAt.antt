@@ -4,7 +4,7 @@ use Rattle.std.proofs.lemmas.Bool.Decides.{nat_tests}
 use Rattle.std.proofs.lemmas.Grind.{common_steps}
 use Rattle.std.proofs.lemmas.List.{get_or_past}
 use Rattle.archive_check.specs.Reads.{bytes_at, before_end}
-use Rattle.archive_check.proofs.EditedBytes.{bytes_long}
+use Rattle.archive_check.proofs.Editing.EditedBytes.{bytes_long}
 
 pub bytes_one : (bytes : List ℕ) (p : ℕ) → p < length bytes → bytes_at bytes p 1 ≡ slice_index bytes p ∷ []
 unfolding bytes_at

@@ -3,7 +3,7 @@ use Rattle.std.proofs.Common.{◌≡◌, List, [], ◌∷◌, ◌++◌, refl, ap
 use Rattle.archive_check.specs.declared.format.expr.Expr.{Expr}
 use Rattle.archive_check.specs.Shape.{Parts, Variants, no_variant, variant}
 use Rattle.archive_check.specs.Expressions.{shapes_in, variants_in}
-use Rattle.archive_check.specs.VariantsLayout.{joined_variants}
+use Rattle.archive_check.specs.Members.VariantsLayout.{joined_variants}
 
 pub joined_no_variant : (vs : Variants) → joined_variants vs no_variant ≡ vs
 joined_no_variant no_variant = refl

@@ -8,13 +8,13 @@ use Rattle.archive_check.specs.declared.format.expr.Kind.TheVariants as expr
 use Rattle.archive_check.specs.declared.format.expr.IntegerKind.{IntegerKind}
 use Rattle.archive_check.specs.declared.format.error.Error.TheVariants.{ZeroNumber}
 use Rattle.archive_check.specs.Expressions.{kind_of}
-use Rattle.archive_check.specs.Faults.{illegal_error}
+use Rattle.archive_check.specs.Words.Faults.{illegal_error}
 use Rattle.archive_check.specs.Shape.{Sign, bool, char, non_zero, Kind as LeafKind, unit, number, raw_rel}
 use Rattle.archive_check.specs.Layout.{kind_size}
 use Rattle.archive_check.specs.Reads.{bytes_at, u32_at, kind_number, IsLegal, IsLegalNumber, kind_value}
 use Rattle.archive_check.specs.LittleEndian.{AreBytes}
 use Rattle.archive_check.proofs.format.BytesAt.{bytes_one, byte_in}
-use Rattle.archive_check.proofs.EditedBytes.{bytes_long}
+use Rattle.archive_check.proofs.Editing.EditedBytes.{bytes_long}
 use Rattle.archive_check.proofs.LittleEndian.{some_byte, from_le_bytes-one, with_sign-one}
 use Rattle.std.proofs.Math.Nat.{eq_of_mul-eq-mul_right, one-le-pow, zero-mul}
 

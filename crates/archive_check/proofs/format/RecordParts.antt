@@ -4,7 +4,7 @@ use Rattle.archive_check.specs.declared.format.error.Error.{Error}
 use Rattle.archive_check.specs.declared.format.expr.Expr.{Expr}
 use Rattle.archive_check.specs.Shape.{Shape, Parts, no_part, part}
 use Rattle.archive_check.specs.Expressions.{shape_of, shapes_in}
-use Rattle.archive_check.specs.PartsLayout.{joined}
+use Rattle.archive_check.specs.Members.PartsLayout.{joined}
 
 pub joined_none : (ps : Parts) → joined ps no_part ≡ ps
 joined_none no_part = refl

@@ -7,10 +7,10 @@ use Rattle.archive_check.specs.Shape.{Shape, array}
 use Rattle.archive_check.specs.Layout.{Layout}
 use Rattle.archive_check.specs.Defined.{mentions_array}
 use Rattle.archive_check.specs.Definitions.{Definitions, NoOthers, HasLayout}
-use Rattle.archive_check.specs.NoOthers.{around_reached}
+use Rattle.archive_check.specs.Members.NoOthers.{around_reached}
 use Rattle.archive_check.specs.SelfCheck.Laws.{IsCheckOf, own_check}
 use Rattle.archive_check.specs.SelfCheck.Owners.{owned_order}
-use Rattle.archive_check.specs.BoundedSizes.{fits}
+use Rattle.archive_check.specs.Words.BoundedSizes.{fits}
 
 -- so many elements, one behind another
 abbrev pub array_layout : ℕ → Layout → Layout

@@ -11,7 +11,7 @@ use Rattle.archive_check.specs.Tour.{Seen}
 use Rattle.archive_check.specs.Outcomes.{Outcome, done, refused}
 use Rattle.archive_check.specs.Walk.{walk_named}
 use Rattle.archive_check.specs.Trail.{trips_named}
-use Rattle.archive_check.specs.BoundedSizes.{fits}
+use Rattle.archive_check.specs.Words.BoundedSizes.{fits}
 use Rattle.archive_check.specs.Definitions.{Definitions, no_definition, listed, Knows}
 use Rattle.archive_check.specs.SelfCheck.Ways.{shape_way}
 use Rattle.archive_check.specs.MissingNames.{missing}

@@ -7,7 +7,7 @@ use Rattle.std.proofs.lemmas.List.{append-nil}
 use Rattle.archive_check.specs.Shape.{Name, Shape, leaf, parts, choice, array, boxed, vec, str, shared, weak, named, Pointee, one, run, text, Parts, no_part, part, Variants, no_variant, variant, Table}
 use Rattle.archive_check.specs.Definitions.{Definitions, no_definition, both, listed}
 use Rattle.archive_check.specs.MissingNames.{or_else, missing, pointee_missing, parts_missing, variants_missing}
-use Rattle.archive_check.specs.BoundedSizes.{fits}
+use Rattle.archive_check.specs.Words.BoundedSizes.{fits}
 use Rattle.archive_check.specs.SelfCheck.Orders.{AllIn, IsOrder}
 use Rattle.archive_check.specs.SelfCheck.Laws.{IsCheckOf}
 

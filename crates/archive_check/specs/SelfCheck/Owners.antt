@@ -9,7 +9,7 @@ use Rattle.archive_check.specs.Trail.{trips_boxed, trips_vec}
 use Rattle.archive_check.specs.Outcomes.{done, refused}
 use Rattle.archive_check.specs.Defined.{mentions_boxed, mentions_vec, mentions_one, mentions_run}
 use Rattle.archive_check.specs.Definitions.{Definitions, no_definition, NoOthers}
-use Rattle.archive_check.specs.NoOthers.{around_reached}
+use Rattle.archive_check.specs.Members.NoOthers.{around_reached}
 use Rattle.archive_check.specs.SelfCheck.Orders.{IsOrder}
 use Rattle.archive_check.specs.SelfCheck.Laws.{IsCheckOf, Leads, own_check, plain_check, no_more}
 use Rattle.archive_check.specs.MissingNames.{missing}

@@ -7,7 +7,7 @@ use Rattle.std.specs.Prelude.{ℕ, ℤ, List, Option, OnSome, IfSome, IfNone, Bo
 use Rattle.archive_check.specs.declared.context.Context as Context
 use Rattle.archive_check.specs.declared.format.error.Error.{Error}
 use Rattle.archive_check.specs.Definitions.{Definitions}
-use Rattle.archive_check.specs.Formats.{FormatOf}
+use Rattle.archive_check.specs.Words.Formats.{FormatOf}
 use Rattle.archive_check.specs.Shape.{Shape, Variants, Name, one, run, text, choice}
 use Rattle.archive_check.specs.SelfCheck.Ways.{Way, Goes, Halts, VariantGoes, VariantHalts, shape_way, enter_way, owned}
 

@@ -5,14 +5,14 @@ use Rattle.archive_check.specs.declared.format.error.Error.{Error}
 use Rattle.archive_check.specs.Shape.{Shape, Pointee, Parts, Variants, variant_at}
 use Rattle.archive_check.specs.Value.{Pointer}
 use Rattle.archive_check.specs.Reads.{Schema}
-use Rattle.archive_check.specs.Ranges.{RangeState}
+use Rattle.archive_check.specs.context.Ranges.{RangeState}
 use Rattle.archive_check.specs.Tour.{Seen}
 use Rattle.archive_check.specs.Walk.{Walk, WalkParts, WalkRun, Enter}
 use Rattle.archive_check.specs.Trail.{Fault, Trips, TripsParts, TripsRun, TripsEnter}
-use Rattle.archive_check.specs.Faults.{IsFor}
+use Rattle.archive_check.specs.Words.Faults.{IsFor}
 use Rattle.archive_check.specs.Definitions.{Definitions, Knows}
 use Rattle.archive_check.specs.Outcomes.{Outcome, done, refused}
-use Rattle.archive_check.specs.FreshContexts.{HasLevels}
+use Rattle.archive_check.specs.context.FreshContexts.{HasLevels}
 
 -- a way through an archive, under a schema: by what is pending, the levels left, the range's end and start, what is seen, and the outcome
 abbrev pub Way : Type 1

@@ -3,11 +3,11 @@
 ghost use Rattle.std.specs.Prelude.{◌≡◌, ◌⊎◌, ◌↔◌, ◌≤◌, IsTrue, Some, None, IfOk, IfErr, OnOk, OnErr};
 ghost use Rattle.std.specs.HashMap.{get};
 ghost use Rattle.std.specs.Ordering.{int_eq};
-ghost use Rattle.archive_check.specs.SharedPositions.{met_as, AreKnown, HasType, IsGrown, IsType, IsAddedOnce};
-ghost use Rattle.archive_check.specs.RecalledPositions.{AreRecalled};
+ghost use Rattle.archive_check.specs.context.SharedPositions.{met_as, AreKnown, HasType, IsGrown, IsType, IsAddedOnce};
+ghost use Rattle.archive_check.specs.context.RecalledPositions.{AreRecalled};
 ghost use Rattle.archive_check.specs.Expressions.{flavor_of, pointee_of};
-ghost use Rattle.archive_check.specs.Ranges.{whole};
-ghost use Rattle.archive_check.specs.PositionStates.{nothing_met, IsStartAnswer, IsFinishedAs, Starts, entry_as};
+ghost use Rattle.archive_check.specs.context.Ranges.{whole};
+ghost use Rattle.archive_check.specs.context.PositionStates.{nothing_met, IsStartAnswer, IsFinishedAs, Starts, entry_as};
 ghost use Rattle.archive_check.specs.declared.format.error.Error.TheVariants.{OutOfMemory};
 
 use crate::context::recalled::FinishedPositions;
@@ -120,7 +120,7 @@ pub struct SharedValidator<A: Allocator = Global> {
 }
 
 impl<A: Allocator + Copy> SharedValidator<A> {
-    ghost use Rattle.archive_check.specs.Validators.{positions_of, room_of};
+    ghost use Rattle.archive_check.specs.context.Validators.{positions_of, room_of};
 
     /// No position. Memory comes from `alloc`, and none is taken yet.
     pub fn new(alloc: A) -> SharedValidator<A>
@@ -198,7 +198,7 @@ impl<A: Allocator + Copy> SharedValidator<A> {
 }
 
 impl<A: Allocator + Copy> Context for SharedValidator<A> {
-    ghost use Rattle.archive_check.specs.Validators.{positions_of};
+    ghost use Rattle.archive_check.specs.context.Validators.{positions_of};
 
     ghost state = { λ v. whole 0 None };
 

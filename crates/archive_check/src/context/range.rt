@@ -1,8 +1,8 @@
 //! The range that regions may lie in.
 
 ghost use Rattle.std.specs.Prelude.{◌≡◌, ◌≢◌, ◌<◌, ◌%◌, ◌↔◌, IsTrue, Some, None, length};
-ghost use Rattle.archive_check.specs.PositionStates.{nothing_met};
-ghost use Rattle.archive_check.specs.Ranges.{RangeState, whole};
+ghost use Rattle.archive_check.specs.context.PositionStates.{nothing_met};
+ghost use Rattle.archive_check.specs.context.Ranges.{RangeState, whole};
 
 use crate::context::{ArchiveContext, Context};
 use crate::format::error::Error;

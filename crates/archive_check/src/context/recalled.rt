@@ -2,7 +2,7 @@
 
 ghost use Rattle.std.specs.Prelude.{◌≡◌, ℤ, Option};
 ghost use Rattle.archive_check.specs.declared.context.positions.SharedPosition.{SharedPosition};
-ghost use Rattle.archive_check.specs.RecalledPositions.{AreRecalled, IsRecalled, StaysRecalled};
+ghost use Rattle.archive_check.specs.context.RecalledPositions.{AreRecalled, IsRecalled, StaysRecalled};
 
 use crate::context::positions::SharedPosition;
 use std::alloc::{AllocError, Allocator};

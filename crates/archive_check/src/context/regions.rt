@@ -1,8 +1,8 @@
 //! Regions are entered and left, and why not is kept beside the answer. The calls that do so stand in their callers, since what they answer is wide.
 
 ghost use Rattle.std.specs.Prelude.{◌≡◌, ◌+◌, ◌<◌, ◌≤◌, ℕ, pos, OnSome, IfSome, IfNone, Some, Err, is_err, true};
-ghost use Rattle.archive_check.specs.Ranges.{subtree_answer, pop_answer, popped};
-ghost use Rattle.archive_check.specs.EnteredRegions.{Begun, Enters, EntersNot, IsTakenBack};
+ghost use Rattle.archive_check.specs.context.Ranges.{subtree_answer, pop_answer, popped};
+ghost use Rattle.archive_check.specs.context.EnteredRegions.{Begun, Enters, EntersNot, IsTakenBack};
 
 use crate::context::ArchiveContext;
 use crate::context::range::Region;

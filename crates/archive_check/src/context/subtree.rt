@@ -1,7 +1,7 @@
 //! Calls within a region of a check.
 
 ghost use Rattle.std.specs.Fn.{FnOnceReturnsAtMut as Returns};
-ghost use Rattle.archive_check.specs.InSubtree.{MayCall, MayCallAt, CalledIn, CalledAt};
+ghost use Rattle.archive_check.specs.context.InSubtree.{MayCall, MayCallAt, CalledIn, CalledAt};
 
 use crate::context::ArchiveContext;
 use crate::format::error::Error;

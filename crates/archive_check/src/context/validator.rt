@@ -1,8 +1,8 @@
 //! Contexts of a check that are made of one for the range and one for the shared positions.
 
 ghost use Rattle.std.specs.Prelude.{◌≡◌, ◌≢◌, Some, None, OnOk, OnErr};
-ghost use Rattle.archive_check.specs.FreshContexts.{IsWhole, IsWholeIn};
-ghost use Rattle.archive_check.specs.PositionStates.{IsStartAnswer, Starts, entry_as};
+ghost use Rattle.archive_check.specs.context.FreshContexts.{IsWhole, IsWholeIn};
+ghost use Rattle.archive_check.specs.context.PositionStates.{IsStartAnswer, Starts, entry_as};
 
 use crate::context::positions::SharedValidator;
 use crate::context::{ArchiveContext, ArchiveValidator, Context, SharedContext, ValidationState};
@@ -39,7 +39,7 @@ impl<'a, S: Context> Validator<ArchiveValidator<'a>, S> {
 }
 
 impl<A: Context, S: Context> Context for Validator<A, S> {
-    ghost use Rattle.archive_check.specs.Validators.{archive_of, shared_of};
+    ghost use Rattle.archive_check.specs.context.Validators.{archive_of, shared_of};
 
     ghost state = { λ v. A.state (archive_of v) };
 
@@ -102,7 +102,7 @@ pub struct HighValidator<'a> {
 }
 
 impl<'a> HighValidator<'a> {
-    ghost use Rattle.archive_check.specs.Validators.{positions_met};
+    ghost use Rattle.archive_check.specs.context.Validators.{positions_met};
 
     /// The whole of `bytes`, of which nothing was met yet, with no limit of depth. Memory comes from `alloc`, and none is taken yet. Our own.
     pub fn new(alloc: Global, bytes: &'a [u8]) -> HighValidator<'a>
@@ -160,7 +160,7 @@ impl<'a> HighValidator<'a> {
 }
 
 impl Context for HighValidator<'_> {
-    ghost use Rattle.archive_check.specs.Validators.{positions_met};
+    ghost use Rattle.archive_check.specs.context.Validators.{positions_met};
 
     ghost state = { λ v. v.range };
 

@@ -3,8 +3,8 @@
 ghost use Rattle.std.specs.Prelude.{◌≡◌, ◌++◌, ◌∷◌, [], IfOk, OnErr, if◌then◌else◌};
 ghost use Rattle.archive_check.specs.Shape.{definition};
 ghost use Rattle.archive_check.specs.Expressions.{shape_of, entries_of, table_of};
-ghost use Rattle.archive_check.specs.AddAnswer.{IsFound, IsAddAnswer};
-ghost use Rattle.archive_check.specs.AddedDefinitions.{table_after};
+ghost use Rattle.archive_check.specs.Words.AddAnswer.{IsFound, IsAddAnswer};
+ghost use Rattle.archive_check.specs.Words.AddedDefinitions.{table_after};
 
 use crate::format::error::Error;
 use crate::format::expr::Expr;
@@ -38,7 +38,7 @@ impl Defs {
     /// Defines `name`. Answers true where the name is new, and false where it has this very definition already. Refused with `ShapeConflict`, 30,
     /// where it has another one, and with `OutOfMemory`, 1, where it is new and memory is refused; a refused call changes nothing. Memory comes
     /// from the allocator that the definitions were made with.
-    #[tactic(auto, using(crate::proofs::Named::tables))]
+    #[tactic(auto, using(crate::proofs::Names::Named::tables))]
     pub fn add(&mut self, name: &'static str, expr: Expr) -> Result<bool, Error>
         ensures answer { IsAddAnswer (definition (table_of self.old) name.now) (shape_of expr) result }
         ensures added { IfOk result (λ new. table_of self.new ≡ table_after (table_of self.old) name.now (shape_of expr) new) }
@@ -70,7 +70,7 @@ impl Defs {
 }
 
 // The first definition of a name.
-#[tactic(auto, using(crate::proofs::Named::tables))]
+#[tactic(auto, using(crate::proofs::Names::Named::tables))]
 fn find<'a>(items: &'a [Def], name: &str) -> Option<&'a Expr>
     ensures { IsFound result (definition (entries_of items.now) name.now) }
 {

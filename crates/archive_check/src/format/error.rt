@@ -1,7 +1,7 @@
 //! The refusals. Each has a number and a name; text for people comes by `Display`. docs/FORMAT.md has a table of them.
 
 ghost use Rattle.std.specs.Prelude.{◌≡◌};
-ghost use Rattle.archive_check.specs.Errors.{number_of, name_of};
+ghost use Rattle.archive_check.specs.Words.Errors.{number_of, name_of};
 ghost use Rattle.archive_check.specs.declared.format.error.Error.TheVariants.{OutOfMemory};
 
 use std::alloc::{AllocError, AllocFailed};

@@ -2,7 +2,7 @@
 
 ghost use Rattle.std.specs.Prelude.{◌≡◌, ◌<◌, min};
 ghost use Rattle.archive_check.specs.Layout.{up as up_to};
-ghost use Rattle.archive_check.specs.BoundedSizes.{fits, rounded, times as times_of};
+ghost use Rattle.archive_check.specs.Words.BoundedSizes.{fits, rounded, times as times_of};
 
 // A number, where it fits.
 fn narrow(n: u128) -> Option<usize>

@@ -4,7 +4,7 @@ ghost use Rattle.std.specs.Prelude.{◌≡◌, ◌≢◌, ℕ, ◌↔◌, ◌+�
 ghost use Rattle.archive_check.specs.Expressions.{kind_of};
 ghost use Rattle.archive_check.specs.Layout.{kind_size};
 ghost use Rattle.archive_check.specs.Reads.{bytes_at, IsLegal};
-ghost use Rattle.archive_check.specs.Faults.{illegal_error};
+ghost use Rattle.archive_check.specs.Words.Faults.{illegal_error};
 
 use crate::format::bytes::read_u32;
 use crate::format::error::Error;

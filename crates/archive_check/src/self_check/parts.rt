@@ -7,7 +7,7 @@ ghost use Rattle.archive_check.specs.Definitions.{Definitions, both, no_definiti
 ghost use Rattle.archive_check.specs.SelfCheck.Ways.{parts_way};
 ghost use Rattle.archive_check.specs.SelfCheck.Lone.{AreOrdered, none_ordered, part_ordered};
 ghost use Rattle.archive_check.specs.SelfCheck.Regions.{no_lower, rises_over};
-ghost use Rattle.archive_check.specs.Pushes.{Spends};
+ghost use Rattle.archive_check.specs.context.Pushes.{Spends};
 ghost use Rattle.archive_check.specs.SelfCheck.Steps.{Went, StoppedIf as Stops};
 
 use super::SelfCheck;

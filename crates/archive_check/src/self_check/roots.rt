@@ -3,10 +3,10 @@
 ghost use Rattle.std.specs.Prelude.{◌≡◌, ◌⊎◌, ◌≤◌, length, OnOk, IfErr, IsTrue};
 ghost use Rattle.archive_check.specs.Definitions.{listed};
 ghost use Rattle.archive_check.specs.Defined.{WellFormed};
-ghost use Rattle.archive_check.specs.Faults.{IsOfCheck};
-ghost use Rattle.archive_check.specs.FreshContexts.{HasLevels, KeepsLevels};
-ghost use Rattle.archive_check.specs.Pushes.{FewPushed};
-ghost use Rattle.archive_check.specs.Contexts.{AcceptsIn, RefusesIn, IsExactIn};
+ghost use Rattle.archive_check.specs.Words.Faults.{IsOfCheck};
+ghost use Rattle.archive_check.specs.context.FreshContexts.{HasLevels, KeepsLevels};
+ghost use Rattle.archive_check.specs.context.Pushes.{FewPushed};
+ghost use Rattle.archive_check.specs.context.Contexts.{AcceptsIn, RefusesIn, IsExactIn};
 
 use super::values::check_one;
 use crate::context::ArchiveContext;

@@ -3,7 +3,7 @@
 ghost use Rattle.std.specs.Prelude.{◌≡◌, ◌≤◌, length, OnSome, IfNone, true};
 ghost use Rattle.archive_check.specs.Shape.{text, str, boxed};
 ghost use Rattle.archive_check.specs.Definitions.{no_definition};
-ghost use Rattle.archive_check.specs.Pushes.{Spends};
+ghost use Rattle.archive_check.specs.context.Pushes.{Spends};
 ghost use Rattle.archive_check.specs.SelfCheck.Steps.{Went, Stopped, text_at};
 
 use super::SelfCheck;

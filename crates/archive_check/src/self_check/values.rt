@@ -2,9 +2,9 @@
 
 ghost use Rattle.std.specs.Prelude.{◌≡◌, ◌+◌, ◌≤◌, length, OnSome, IfNone, IsTrue};
 ghost use Rattle.archive_check.specs.Shape.{one, boxed};
-ghost use Rattle.archive_check.specs.BoundedSizes.{fits};
+ghost use Rattle.archive_check.specs.Words.BoundedSizes.{fits};
 ghost use Rattle.archive_check.specs.SelfCheck.Ways.{shape_way};
-ghost use Rattle.archive_check.specs.Pushes.{Spends};
+ghost use Rattle.archive_check.specs.context.Pushes.{Spends};
 ghost use Rattle.archive_check.specs.SelfCheck.Steps.{WentOver, StoppedIn, one_at};
 
 use super::SelfCheck;

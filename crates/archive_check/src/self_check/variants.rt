@@ -3,7 +3,7 @@
 ghost use Rattle.std.specs.Prelude.{Bool, ◌&&◌, ◌≡◌, ◌+◌, ◌<◌, ◌≤◌, ℕ, length, max, OnSome, IfSome, IfNone, None, true, false, IsTrue};
 ghost use Rattle.archive_check.specs.Shape.{choice, Variants, no_variant, variant, variant_at};
 ghost use Rattle.archive_check.specs.Definitions.{Definitions, both, no_definition};
-ghost use Rattle.archive_check.specs.Pushes.{Spends};
+ghost use Rattle.archive_check.specs.context.Pushes.{Spends};
 ghost use Rattle.archive_check.specs.SelfCheck.Steps.{Went, StoppedIf as Stops, VariantWent, VariantStops, choice_at};
 
 use super::parts::CheckedParts;

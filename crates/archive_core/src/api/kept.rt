@@ -5,12 +5,12 @@ ghost use Rattle.std.proofs.Props.{props};
 ghost use Rattle.archive_check.specs.Archives.{Answers, root_in, ExplainsNoSchema};
 ghost use Rattle.archive_check.specs.Defined.{WellFormed};
 ghost use Rattle.archive_check.specs.Definitions.{listed};
-ghost use Rattle.archive_check.specs.Faults.{IsOfCheck};
-ghost use Rattle.archive_check.specs.FreshContexts.{HasLevels, KeepsLevels};
+ghost use Rattle.archive_check.specs.Words.Faults.{IsOfCheck};
+ghost use Rattle.archive_check.specs.context.FreshContexts.{HasLevels, KeepsLevels};
 ghost use Rattle.archive_schema.specs.OneSchema.{IsSchemaOf-prop};
-ghost use Rattle.archive_check.specs.Pushes.{FewPushed};
+ghost use Rattle.archive_check.specs.context.Pushes.{FewPushed};
 ghost use Rattle.archive_schema.specs.Schemas.{IsSchemaOf};
-ghost use Rattle.archive_types.specs.ArchivesOf.{IsArchiveIn, ReadsArchive, RefusesArchive, AsCheckIfNeverOpen};
+ghost use Rattle.archive_types.specs.Words.ArchivesOf.{IsArchiveIn, ReadsArchive, RefusesArchive, AsCheckIfNeverOpen};
 ghost use Rattle.archive_schema.specs.ContextAnswers.{AnswersIn};
 
 use archive_check::context::{ArchiveContext, HighValidator, SharedContext};

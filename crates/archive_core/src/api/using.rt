@@ -3,7 +3,7 @@
 ghost use Rattle.std.specs.Prelude.{◌≡◌, ◌⊎◌, IfOk, IfErr, ℕ, []};
 ghost use Rattle.archive_check.specs.Shape.{one};
 ghost use Rattle.archive_check.specs.declared.format.error.Error.TheVariants.{OutOfMemory};
-ghost use Rattle.archive_types.specs.ArchivesOf.{LeavesOne, IsArchiveOf, NoArchiveOf, EndsWithNone, Stored, Unstored};
+ghost use Rattle.archive_types.specs.Words.ArchivesOf.{LeavesOne, IsArchiveOf, NoArchiveOf, EndsWithNone, Stored, Unstored};
 ghost use Rattle.archive_types.specs.Causes.{HindersRegion, IsRegionRefused};
 ghost use Rattle.archive_types.specs.Plans.{SerializedRegion, at_start, unshared};
 ghost use Rattle.archive_types.specs.Writing.{Archives};

@@ -3,11 +3,11 @@
 ghost use Rattle.std.specs.Prelude.{◌≡◌, IsTrue, refl};
 ghost use Rattle.archive_check.specs.Definitions.{both, defines};
 ghost use Rattle.archive_check.specs.Layout.{up};
-ghost use Rattle.archive_check.specs.NoOthers.{defined_reached};
-ghost use Rattle.archive_check.specs.PartsLayout.{holds_parts, named_has_layout};
+ghost use Rattle.archive_check.specs.Members.NoOthers.{defined_reached};
+ghost use Rattle.archive_check.specs.Members.PartsLayout.{holds_parts, named_has_layout};
 ghost use Rattle.archive_check.specs.SelfCheck.Laws.{IsCheckOf};
 ghost use Rattle.archive_check.specs.Shape.{Name, choice, named, one};
-ghost use Rattle.archive_check.specs.VariantsLayout.{choice_has_layout, is_named_choice};
+ghost use Rattle.archive_check.specs.Members.VariantsLayout.{choice_has_layout, is_named_choice};
 
 use archive_check::format::error::Error;
 use archive_check::format::expr::{Defs, Expr};

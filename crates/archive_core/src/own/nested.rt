@@ -6,10 +6,10 @@ ghost use Rattle.archive_check.specs.Shape.{named};
 ghost use Rattle.archive_check.specs.Value.{case, box, no_value};
 ghost use Rattle.archive_core.specs.Nests.{AreNests, HoldsNothing, HoldsBox, IsTagOf, IsResolvedBy, nest_of, nest_flat};
 ghost use Rattle.archive_core.specs.NestsRead.{IsReadIn, IsRefusedIn};
-ghost use Rattle.archive_types.specs.Placed.{Resolved, Hindered};
-ghost use Rattle.archive_types.specs.Seen.{IsPartOf, RefusesPart, part_tag};
-ghost use Rattle.archive_types.specs.Sources.{Wrote, Refused, Read};
-ghost use Rattle.archive_types.specs.Variants.{case_of};
+ghost use Rattle.archive_types.specs.Words.Placed.{Resolved, Hindered};
+ghost use Rattle.archive_types.specs.Words.Seen.{IsPartOf, RefusesPart, part_tag};
+ghost use Rattle.archive_types.specs.Words.Sources.{Wrote, Refused, Read};
+ghost use Rattle.archive_types.specs.Members.Variants.{case_of};
 ghost use Rattle.archive_types.specs.Writing.{ZeroedPlace};
 ghost use Rattle.archive_write.specs.Written.{GoesOn};
 

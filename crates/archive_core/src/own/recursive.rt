@@ -1,14 +1,14 @@
 // Types of your own that hold themselves behind pointers: their format, which is told once for all of them.
 
 ghost use Rattle.std.specs.Prelude.{◌≡◌, ◌≤◌, IfOk, IfErr, OnOk, min, refl};
-ghost use Rattle.archive_check.specs.AddedDefinitions.{AreAdded};
+ghost use Rattle.archive_check.specs.Words.AddedDefinitions.{AreAdded};
 ghost use Rattle.archive_check.specs.Definitions.{ExplainsConflict, HasLayout, IsAlign, defines};
 ghost use Rattle.archive_check.specs.Expressions.{shape_of, table_of, variants_in};
 ghost use Rattle.archive_check.specs.Layout.{Layout};
-ghost use Rattle.archive_check.specs.NamedLayout.{name_has_layout, name_reached};
+ghost use Rattle.archive_check.specs.Members.NamedLayout.{name_has_layout, name_reached};
 ghost use Rattle.archive_check.specs.SelfCheck.Laws.{by_schema};
 ghost use Rattle.archive_check.specs.Shape.{Name, Shape, choice, named, one};
-ghost use Rattle.archive_check.specs.VariantsLayout.{IsChoice};
+ghost use Rattle.archive_check.specs.Members.VariantsLayout.{IsChoice};
 
 use archive_check::format::error::Error;
 use archive_check::format::expr::{Defs, Expr};

@@ -4,9 +4,9 @@ ghost use Rattle.std.specs.Prelude.{◌≡◌, ◌+◌, ◌<◌, ◌≤◌, Some
 ghost use Rattle.archive_check.specs.Shape.{variant_at};
 ghost use Rattle.archive_check.specs.Value.{case};
 ghost use Rattle.archive_fields.specs.OwnChoices.{variant_definitions};
-ghost use Rattle.archive_types.specs.KindsWritten.{VariantOwned, VariantRefused};
-ghost use Rattle.archive_types.specs.Placed.{Resolved, Hindered};
-ghost use Rattle.archive_types.specs.Seen.{part_tag, IsPartOf, RefusesPart, ReadsVariant};
+ghost use Rattle.archive_types.specs.Words.KindsWritten.{VariantOwned, VariantRefused};
+ghost use Rattle.archive_types.specs.Words.Placed.{Resolved, Hindered};
+ghost use Rattle.archive_types.specs.Words.Seen.{part_tag, IsPartOf, RefusesPart, ReadsVariant};
 ghost use Rattle.archive_types.specs.Writing.{ZeroedPlace};
 ghost use Rattle.archive_write.specs.Written.{GoesOn};
 

@@ -9,10 +9,10 @@ ghost use Rattle.archive_check.specs.Value.{list, shared_value, text_value};
 ghost use Rattle.archive_check.specs.Viewed.{Viewed};
 ghost use Rattle.archive_core.specs.Pooling.{kept_at};
 ghost use Rattle.archive_types.specs.Runs.{each_keys, each_meaning};
-ghost use Rattle.archive_types.specs.Seen.{IsPartOf, RefusesPart};
-ghost use Rattle.archive_types.specs.SharedLaws.{flavor_as, weak_keys, weak_value};
-ghost use Rattle.archive_types.specs.SharedSources.{rc_keys};
-ghost use Rattle.archive_types.specs.Sources.{Read};
+ghost use Rattle.archive_types.specs.Words.Seen.{IsPartOf, RefusesPart};
+ghost use Rattle.archive_types.specs.Members.SharedLaws.{flavor_as, weak_keys, weak_value};
+ghost use Rattle.archive_types.specs.Members.SharedSources.{rc_keys};
+ghost use Rattle.archive_types.specs.Words.Sources.{Read};
 ghost use Rattle.archive_core.specs.SharedSeen.{HandsOutTarget, FinishesTarget};
 ghost use Rattle.archive_core.specs.Spans.{one_spans, text_spans, slice_spans, cloned_kept};
 

@@ -5,10 +5,10 @@ ghost use Rattle.archive_check.specs.Layout.{pointer_size};
 ghost use Rattle.archive_check.specs.Shape.{one, shared};
 ghost use Rattle.archive_check.specs.Value.{shared_value};
 ghost use Rattle.archive_types.specs.Causes.{HindersAt, IsRefused};
-ghost use Rattle.archive_types.specs.PlannedOwners.{one_planned};
+ghost use Rattle.archive_types.specs.Members.PlannedOwners.{one_planned};
 ghost use Rattle.archive_types.specs.Plans.{Serialized};
-ghost use Rattle.archive_types.specs.SharedSources.{rc_flavor, rc_keys, rc_flat, rc_keyed, rc_planned, rc_one_planned};
-ghost use Rattle.archive_types.specs.Sources.{ResolvedAs, HinderedAs, Wrote, Refused};
+ghost use Rattle.archive_types.specs.Members.SharedSources.{rc_flavor, rc_keys, rc_flat, rc_keyed, rc_planned, rc_one_planned};
+ghost use Rattle.archive_types.specs.Words.Sources.{ResolvedAs, HinderedAs, Wrote, Refused};
 ghost use Rattle.archive_types.specs.Writing.{ZeroedPlace, Resolves};
 ghost use Rattle.archive_write.specs.Written.{GoesOn};
 
@@ -106,7 +106,7 @@ impl<T: Archive> Archive for Shared<T> {
     ghost planned = { λ s. rc_one_planned T.Archived.definitions s.key T.Archived.pointee T.Archived.shape T.Archived.is_one
         (T.meaning s.value.value) (T.keys s.value.value) (T.planned s.value.value) };
 
-    #[tactic(auto, using(archive_types::proofs::SharedBytes::resolves_shared, archive_types::proofs::SharedBytes::shared_hindered_at))]
+    #[tactic(auto, using(archive_types::proofs::SharedValues::SharedBytes::resolves_shared, archive_types::proofs::SharedValues::SharedBytes::shared_hindered_at))]
     fn resolve(
         &self,
         resolver: RcResolver,

@@ -1,10 +1,10 @@
 // Seals of what stands behind the tags of choices.
 
 ghost use Rattle.std.specs.Prelude.{◌≡◌, ◌+◌, Some, slice_index};
-ghost use Rattle.archive_check.specs.VariantsLayout.{payload_at, payload_definitions};
+ghost use Rattle.archive_check.specs.Members.VariantsLayout.{payload_at, payload_definitions};
 ghost use Rattle.archive_check.specs.Viewed.{Viewed};
 ghost use Rattle.archive_core.specs.SealsWritten.{SealsBeside, seal_tag};
-ghost use Rattle.archive_types.specs.KnownParts.{KnowsAlso};
+ghost use Rattle.archive_types.specs.Members.KnownParts.{KnowsAlso};
 ghost use Rattle.archive_types.specs.Standing.{StandsWith, view};
 
 use super::{Seal, Spot};

@@ -1,10 +1,10 @@
 // Seals of a record's parts.
 
 ghost use Rattle.std.specs.Prelude.{◌≡◌, ◌+◌, Some};
-ghost use Rattle.archive_check.specs.PartsLayout.{part_at, definitions_at};
+ghost use Rattle.archive_check.specs.Members.PartsLayout.{part_at, definitions_at};
 ghost use Rattle.archive_check.specs.Viewed.{Viewed};
 ghost use Rattle.archive_core.specs.SealsWritten.{SealsBeside};
-ghost use Rattle.archive_types.specs.KnownParts.{KnowsAlso};
+ghost use Rattle.archive_types.specs.Members.KnownParts.{KnowsAlso};
 ghost use Rattle.archive_types.specs.Standing.{StandsWith, view};
 
 use super::{Seal, Spot};

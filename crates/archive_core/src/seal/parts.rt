@@ -7,8 +7,8 @@ ghost use Rattle.archive_check.specs.Reads.{i32_at, length_at, u32_at};
 ghost use Rattle.archive_check.specs.Shape.{array, one, run, text, boxed, shared, weak, vec as vec_shape};
 ghost use Rattle.archive_check.specs.Viewed.{Viewed};
 ghost use Rattle.archive_core.specs.SealsWritten.{SealsBeside, seal_tag};
-ghost use Rattle.archive_types.specs.SharedLaws.{flavor_as};
-ghost use Rattle.archive_types.specs.SharedWriting.{flavor_of, weak_to};
+ghost use Rattle.archive_types.specs.Members.SharedLaws.{flavor_as};
+ghost use Rattle.archive_types.specs.Words.SharedWriting.{flavor_of, weak_to};
 ghost use Rattle.archive_types.specs.Standing.{StandsWith, view};
 ghost use Rattle.archive_enum.specs.Choices.{option_shape};
 

@@ -10,7 +10,7 @@ ghost use Rattle.archive_check.specs.Shape.{str as str_shape, one, text};
 ghost use Rattle.archive_check.specs.Viewed.{Viewed};
 ghost use Rattle.archive_types.specs.Sealed.{StandsIn, text_begin, string_leaf};
 ghost use Rattle.archive_core.specs.SealsWritten.{SealsBeside, TextStands, TextWritten, TextKeepsParts, StringStands, StringWritten, string_edit};
-ghost use Rattle.archive_types.specs.Seen.{IsTextAt, TextStandsBeside};
+ghost use Rattle.archive_types.specs.Words.Seen.{IsTextAt, TextStandsBeside};
 ghost use Rattle.archive_types.specs.Standing.{KeepsParts, KeepsViews, view};
 
 use super::{Seal, Spot};

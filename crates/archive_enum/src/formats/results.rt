@@ -3,7 +3,7 @@
 ghost use Rattle.std.specs.Prelude.{◌&&◌, refl};
 ghost use Rattle.archive_check.specs.Shape.{one};
 ghost use Rattle.archive_check.specs.Definitions.{both};
-ghost use Rattle.archive_check.specs.PartsLayout.{greater_align};
+ghost use Rattle.archive_check.specs.Members.PartsLayout.{greater_align};
 ghost use Rattle.archive_enum.specs.ResultShapes.{result_shape, result_layout, result_definitions, result_direct, result_has_layout, result_reached, result_check};
 
 use crate::result::ArchivedResult;

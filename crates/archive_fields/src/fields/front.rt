@@ -7,7 +7,7 @@ ghost use Rattle.archive_check.specs.Shape.{no_part};
 ghost use Rattle.archive_check.specs.Value.{no_value};
 ghost use Rattle.archive_fields.specs.Front.{FrontPut};
 ghost use Rattle.archive_types.specs.Causes.{HindersAt};
-ghost use Rattle.archive_types.specs.KindsWritten.{BytesResolved};
+ghost use Rattle.archive_types.specs.Words.KindsWritten.{BytesResolved};
 ghost use Rattle.archive_types.specs.Parts.{SerializedParts, ArePartsRefused, ResolvesParts, HindersPartsAt, ZeroedParts};
 ghost use Rattle.archive_types.specs.Writing.{ZeroedPlace};
 ghost use Rattle.archive_write.specs.Written.{GoesOn};
@@ -71,7 +71,7 @@ pub(super) fn resolve_front<T: Archive>(
 }
 
 /// Writes what no field owns, which is nothing.
-#[tactic(auto, using(archive_types::proofs::PlannedParts::serialized_no_part, archive_types::proofs::Causes::goes_nowhere))]
+#[tactic(auto, using(archive_types::proofs::Planning::PlannedParts::serialized_no_part, archive_types::proofs::Planning::Causes::goes_nowhere))]
 pub fn serialize_0<S: Writer + Keys>(_serializer: &mut S) -> Result<(), Error>
     ensures serialized { IfOk result (λ r. SerializedParts no_definition no_part [] no_value no_value (S.state _serializer.old) (S.state _serializer.new)) }
     ensures goes_on { GoesOn (S.state _serializer.old) (S.state _serializer.new) }

@@ -5,7 +5,7 @@ ghost use Rattle.archive_check.specs.Definitions.{no_definition};
 ghost use Rattle.archive_fields.specs.FieldsAt.{FieldBegins, field_at};
 ghost use Rattle.archive_fields.specs.Plain.{are_none};
 ghost use Rattle.archive_types.specs.Fields.{field_in};
-ghost use Rattle.archive_types.specs.Seen.{ShowsValueOf};
+ghost use Rattle.archive_types.specs.Words.Seen.{ShowsValueOf};
 
 use archive_types::traits::Portable;
 use archive_types::view::{RawView, Ref};

@@ -7,7 +7,7 @@ ghost use Rattle.archive_check.specs.Layout.{up};
 ghost use Rattle.archive_check.specs.Shape.{part, no_part, parts};
 ghost use Rattle.archive_check.specs.Value.{value, no_value, product};
 ghost use Rattle.archive_fields.specs.Plain.{are_none};
-ghost use Rattle.archive_types.specs.Placed.{Resolved, Hindered};
+ghost use Rattle.archive_types.specs.Words.Placed.{Resolved, Hindered};
 ghost use Rattle.archive_types.specs.Writing.{ZeroedPlace};
 
 use super::front::resolve_0;

@@ -5,7 +5,7 @@ ghost use Rattle.archive_check.specs.Definitions.{no_definition};
 ghost use Rattle.archive_check.specs.Value.{case};
 ghost use Rattle.archive_fields.specs.Plain.{BeginsAt, are_none, case_count, is_choice, part_in, variant_in};
 ghost use Rattle.archive_types.specs.Payloads.{payload_in};
-ghost use Rattle.archive_types.specs.Seen.{IsPartOf, RefusesPart, ReadsPart, ShowsValueOf, part_tag, tag_of};
+ghost use Rattle.archive_types.specs.Words.Seen.{IsPartOf, RefusesPart, ReadsPart, ShowsValueOf, part_tag, tag_of};
 
 use archive_check::format::error::Error;
 use archive_types::parts::{DeserializeParts, OwnedParts};

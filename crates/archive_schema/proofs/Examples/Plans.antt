@@ -16,7 +16,7 @@ use Rattle.archive_check.specs.Shape.{Shape, leaf, bool, choice, boxed, shared, 
 use Rattle.archive_check.specs.Layout.{size_of}
 use Rattle.archive_check.specs.Reads.{Schema}
 use Rattle.archive_check.specs.Expressions.{flavor_of}
-use Rattle.archive_check.specs.Elements.{IsAt, span}
+use Rattle.archive_check.specs.Words.Elements.{IsAt, span}
 use Rattle.archive_schema.specs.check.Runs.{Takes}
 use Rattle.archive_schema.specs.plan.SoundPlans.{PartsWithin, NodeKindFits, SpanFits, IsSound}
 use Rattle.archive_schema.specs.plan.Represents.{StandsFor, stands, stands_named, PartsStand, parts_over, parts_more, Sized, points_one, Made, made_leaf, made_choice, made_boxed, made_shared}

@@ -10,17 +10,17 @@ use Rattle.archive_schema.specs.declared.plan.Span.{Span}
 use Rattle.archive_schema.specs.declared.check.Checker.{Checker}
 use Rattle.archive_schema.specs.declared.check.worklist.Work.{Work}
 use Rattle.archive_schema.specs.declared.check.worklist.Work.TheVariants.{Part as PartWork}
-use Rattle.archive_check.specs.Ranges.{RangeState}
-use Rattle.archive_check.specs.PositionStates.{Positions}
+use Rattle.archive_check.specs.context.Ranges.{RangeState}
+use Rattle.archive_check.specs.context.PositionStates.{Positions}
 use Rattle.archive_check.specs.Tour.{Seen}
 use Rattle.archive_check.specs.Trail.{Fault, no_such_variant}
 use Rattle.archive_check.specs.Outcomes.{Outcome, done, refused}
-use Rattle.archive_check.specs.Elements.{IsAt, span}
+use Rattle.archive_check.specs.Words.Elements.{IsAt, span}
 use Rattle.archive_schema.specs.check.Runs.{IsNode, IsVariant, IsNoVariant, Takes, run_tag, run_choice, RegionIs, ElementsRun, parts_end, parts_next, parts_stop, elements_end, elements_next, elements_stop, list_part, list_part_stop}
 use Rattle.archive_schema.specs.plan.SoundPlans.{SpanFits, ArrayFits, IsSound}
 use Rattle.archive_schema.specs.plan.Shallow.{marked, free_at, parts_shallow, variants_shallow, IsShallow}
 use Rattle.archive_schema.specs.check.LoopInvariant.{IsLegalHere, PartFits, PartsFit, ElementsFit, Stage, stage, pending_in, Ready, Listing, cost, rank}
-use Rattle.archive_check.specs.FreshContexts.{HasLevels}
+use Rattle.archive_check.specs.context.FreshContexts.{HasLevels}
 use Rattle.archive_schema.specs.check.Through.{Rule, Stops, Passed, PassesFrom, TestsFrom, node_rule, parts_rule, span_rule, elements_rule}
 use Rattle.archive_schema.specs.check.Turns.{TurnsFrom}
 use Rattle.std.proofs.lemmas.Bool.{and_parts}

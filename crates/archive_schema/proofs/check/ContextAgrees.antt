@@ -8,14 +8,14 @@ use Rattle.std.specs.Map.{update}
 use Rattle.std.specs.Ordering.{nat_cmp, int_eq}
 use Rattle.std.specs.FinMap.{get, insert, empty, get-empty}
 use Rattle.archive_check.specs.Depth.{Allows, inside}
-use Rattle.archive_check.specs.Ranges.{RangeState, one_more}
-use Rattle.archive_check.specs.PositionStates.{PositionState, Positions, started_at, started, finished}
+use Rattle.archive_check.specs.context.Ranges.{RangeState, one_more}
+use Rattle.archive_check.specs.context.PositionStates.{PositionState, Positions, started_at, started, finished}
 use Rattle.archive_check.specs.Tour.{Seen, Entry}
-use Rattle.archive_check.specs.FreshContexts.{HasLevels, IsFresh}
+use Rattle.archive_check.specs.context.FreshContexts.{HasLevels, IsFresh}
 use Rattle.archive_schema.specs.check.LoopInvariant.{Agrees}
 use Rattle.archive_check.proofs.Elements.{contains_later}
-use Rattle.archive_check.proofs.Seen.{same_some, inserted_has, inserted_apart}
-use Rattle.archive_check.proofs.Depths.{levels_allow}
+use Rattle.archive_check.proofs.Tours.Seen.{same_some, inserted_has, inserted_apart}
+use Rattle.archive_check.proofs.Checks.Depths.{levels_allow}
 
 -- lists
 

@@ -9,24 +9,24 @@ use Rattle.archive_schema.specs.declared.check.Checker.{Checker}
 use Rattle.archive_schema.specs.declared.check.worklist.Work.{Work}
 use Rattle.archive_schema.specs.declared.check.worklist.Work.TheVariants.{Part as PartWork, Elements, Leave}
 use Rattle.archive_check.specs.Depth.{inside}
-use Rattle.archive_check.specs.Ranges.{RangeState, one_more, pop_answer, popped}
-use Rattle.archive_check.specs.PositionStates.{Positions}
+use Rattle.archive_check.specs.context.Ranges.{RangeState, one_more, pop_answer, popped}
+use Rattle.archive_check.specs.context.PositionStates.{Positions}
 use Rattle.archive_check.specs.Reads.{bytes_at}
 use Rattle.archive_check.specs.Tour.{Seen}
-use Rattle.archive_check.specs.BoundedSizes.{times}
+use Rattle.archive_check.specs.Words.BoundedSizes.{times}
 use Rattle.archive_check.specs.Outcomes.{Outcome, done, refused}
 use Rattle.archive_schema.specs.check.Runs.{Takes, RegionIs, enter_stop, contents_text, contents_empty, contents_one, contents_run, run_free, elements_free, IsNode, enter_within, ListRuns}
 use Rattle.archive_check.specs.declared.context.range.Region.{Region}
 use Rattle.archive_schema.specs.check.Entered.{Entered}
 use Rattle.archive_schema.specs.check.Through.{Rule, Through, Stops, region_rule, contents_rule}
 use Rattle.archive_schema.specs.check.LoopInvariant.{and_then, RegionIsLegalHere, Ready, stage, pending_in, regions_in, Agreeing, IsOrderly, Listing, Entering, TurnLeads, power, level, cost}
-use Rattle.archive_check.specs.FreshContexts.{HasLevels}
+use Rattle.archive_check.specs.context.FreshContexts.{HasLevels}
 use Rattle.archive_schema.proofs.check.TurnRules.{enter_one, enter_run}
 use Rattle.archive_schema.proofs.check.ContextAgrees.{allows, agrees_inside, levels_of}
-use Rattle.archive_check.proofs.RangeLevels.{taken_back, not_taken, levels_inside, inside_few, level_back}
+use Rattle.archive_check.proofs.Checks.RangeLevels.{taken_back, not_taken, levels_inside, inside_few, level_back}
 use Rattle.archive_schema.proofs.check.OrderlyContexts.{orderly_levels, orderly_inside}
 use Rattle.archive_schema.proofs.check.TurnsEnd.{level_end, falls_enter}
-use Rattle.archive_check.proofs.Depths.{levels_allow}
+use Rattle.archive_check.proofs.Checks.Depths.{levels_allow}
 
 pub times_size : (size : Option ℕ) (n z : ℕ) → times size n ≡ Some z → 0 < z → (y : ℕ) × (size ≡ Some y) × (n * y ≡ z)
 times_size None n z e lt = absurd (grind (arith, nat_tests))

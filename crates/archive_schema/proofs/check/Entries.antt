@@ -12,12 +12,12 @@ use Rattle.archive_schema.specs.declared.check.Checker.{Checker}
 use Rattle.archive_check.specs.declared.context.range.Region.{Region}
 use Rattle.archive_schema.specs.declared.check.worklist.Work.{Work}
 use Rattle.archive_schema.specs.declared.check.worklist.Work.TheVariants.{Part as PartWork, Elements, Leave}
-use Rattle.archive_check.specs.Ranges.{RangeState, pop_answer, popped}
-use Rattle.archive_check.specs.EnteredRegions.{NotEntered, not_sized, not_within, not_aligned, not_allowed, Enters, EntersNot, IsTakenBack}
+use Rattle.archive_check.specs.context.Ranges.{RangeState, pop_answer, popped}
+use Rattle.archive_check.specs.context.EnteredRegions.{NotEntered, not_sized, not_within, not_aligned, not_allowed, Enters, EntersNot, IsTakenBack}
 use Rattle.archive_check.specs.Tour.{Seen}
 use Rattle.archive_check.specs.Trail.{Fault}
 use Rattle.archive_check.specs.Outcomes.{refused}
-use Rattle.archive_check.specs.BoundedSizes.{times}
+use Rattle.archive_check.specs.Words.BoundedSizes.{times}
 use Rattle.archive_schema.specs.check.Runs.{RegionIs, EnterRuns, enter_too_large, enter_outside, enter_unaligned, enter_too_deep}
 use Rattle.archive_schema.specs.check.LoopInvariant.{Stage, stage, PointeeFits, Ready, RegionIsLegalHere}
 use Rattle.archive_schema.specs.check.Through.{Stops, Passed, PassesFrom, TestsFrom, region_rule, contents_rule}

@@ -13,13 +13,13 @@ use Rattle.archive_check.specs.declared.context.positions.SharedType.{SharedType
 use Rattle.archive_schema.specs.declared.check.Checker.{Checker}
 use Rattle.archive_schema.specs.declared.check.worklist.Work.{Work}
 use Rattle.archive_schema.specs.declared.check.worklist.Work.TheVariants.{Finish}
-use Rattle.archive_check.specs.Ranges.{RangeState}
-use Rattle.archive_check.specs.PositionStates.{PositionState, Positions, IsStartAnswer, IsFinishedAs, started}
+use Rattle.archive_check.specs.context.Ranges.{RangeState}
+use Rattle.archive_check.specs.context.PositionStates.{PositionState, Positions, IsStartAnswer, IsFinishedAs, started}
 use Rattle.archive_check.specs.Reads.{i32_at}
 use Rattle.archive_check.specs.Tour.{Seen, Entry}
 use Rattle.archive_check.specs.Trail.{Fault, cyclic, other_type, other_length}
 use Rattle.archive_check.specs.Outcomes.{Outcome, done, refused}
-use Rattle.archive_check.specs.Elements.{IsAt}
+use Rattle.archive_check.specs.Words.Elements.{IsAt}
 use Rattle.archive_schema.specs.check.Runs.{IsNode, run_shared, run_weak, run_null, pointee_count, pointee_length, entry_for, EnterRuns, FollowRuns, follow_before, follow_new, follow_again, follow_type, follow_length, follow_cycle}
 use Rattle.archive_schema.specs.check.LoopInvariant.{Stage, stage, pending_in, Ready, Agrees, Agreeing, LeadsBack, LeadsNowhere, IsOrderly, Then, and_then, stops, Entering, Following, TurnLeads, TurnRefuses, IsStopped}
 use Rattle.archive_schema.specs.check.Turns.{ComesInto}

@@ -12,12 +12,12 @@ use Rattle.archive_schema.specs.declared.plan.Node.{Node}
 use Rattle.archive_schema.specs.declared.check.Checker.{Checker}
 use Rattle.archive_schema.specs.declared.check.worklist.Work.{Work}
 use Rattle.archive_schema.specs.declared.check.worklist.Work.TheVariants.{Elements}
-use Rattle.archive_check.specs.Ranges.{RangeState}
-use Rattle.archive_check.specs.PositionStates.{Positions}
+use Rattle.archive_check.specs.context.Ranges.{RangeState}
+use Rattle.archive_check.specs.context.PositionStates.{Positions}
 use Rattle.archive_check.specs.Tour.{Seen}
 use Rattle.archive_schema.specs.check.Runs.{IsNode, Takes, NodeRuns, ListRuns, elements_end, elements_next, list_elements, list_elements_stop}
 use Rattle.archive_check.specs.Outcomes.{Outcome, done}
-use Rattle.archive_check.specs.Elements.{IsAt}
+use Rattle.archive_check.specs.Words.Elements.{IsAt}
 use Rattle.archive_schema.specs.check.LoopInvariant.{LiesLegal, lies_free, lies_leaf, PartFits, ElementsFit, IsLegalHere, LeadsNowhere, Agreeing, pending_in, regions_in, Ready, stage, Listing, TurnLeads, level, cost}
 use Rattle.archive_schema.proofs.check.TurnsEnd.{power_falls, level_same}
 use Rattle.archive_check.proofs.Elements.{same_at}

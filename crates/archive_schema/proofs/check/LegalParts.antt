@@ -5,11 +5,11 @@ use Rattle.archive_schema.specs.declared.plan.Part.{Part}
 use Rattle.archive_schema.specs.declared.check.Checker.{Checker}
 use Rattle.archive_schema.specs.declared.check.worklist.Work.{Work}
 use Rattle.archive_schema.specs.declared.check.worklist.Work.TheVariants.{Parts}
-use Rattle.archive_check.specs.Ranges.{RangeState}
-use Rattle.archive_check.specs.PositionStates.{Positions}
+use Rattle.archive_check.specs.context.Ranges.{RangeState}
+use Rattle.archive_check.specs.context.PositionStates.{Positions}
 use Rattle.archive_check.specs.Tour.{Seen}
 use Rattle.archive_check.specs.Outcomes.{Outcome}
-use Rattle.archive_check.specs.Elements.{IsAt, span}
+use Rattle.archive_check.specs.Words.Elements.{IsAt, span}
 use Rattle.archive_schema.specs.check.Runs.{ListRuns, parts_end, parts_next, list_parts, list_parts_stop}
 use Rattle.archive_schema.specs.check.LoopInvariant.{PartFits, PartsFit, PartIsLegalHere, Ready, stage, pending_in, Listing, TurnLeads, level, rank, cost}
 use Rattle.archive_schema.proofs.check.TurnsEnd.{power_falls, level_same}

@@ -3,13 +3,13 @@ use Rattle.std.proofs.Common.{◌≡◌, inl, inr, ℕ, ℤ, pos, sym, ap, ◌�
 use Rattle.std.proofs.lemmas.Map.Made.{Contains-tail}
 use Rattle.std.proofs.lemmas.Bool.{cases_eq}
 use Rattle.archive_check.specs.Depth.{inside}
-use Rattle.archive_check.specs.Ranges.{one_more}
-use Rattle.archive_check.specs.PositionStates.{Positions, started_at, started, finished, finish_answer}
+use Rattle.archive_check.specs.context.Ranges.{one_more}
+use Rattle.archive_check.specs.context.PositionStates.{Positions, started_at, started, finished, finish_answer}
 use Rattle.archive_check.specs.Tour.{Entry}
-use Rattle.archive_check.specs.FreshContexts.{HasLevels}
+use Rattle.archive_check.specs.context.FreshContexts.{HasLevels}
 use Rattle.archive_schema.specs.check.LoopInvariant.{Orderly}
 use Rattle.archive_check.proofs.Elements.{contains_first, contains_later}
-use Rattle.archive_check.proofs.Depths.{levels_allow}
+use Rattle.archive_check.proofs.Checks.Depths.{levels_allow}
 use Rattle.archive_schema.proofs.check.ContextAgrees.{update_here, update_apart, pos_apart, deeper_levels, deeper_few, higher_levels, higher_few}
 
 -- a check begins in order, in each context that has levels

@@ -10,8 +10,8 @@ use Rattle.archive_schema.specs.declared.check.Checker.{Checker}
 use Rattle.archive_schema.specs.declared.check.worklist.Work.{Work}
 use Rattle.archive_schema.specs.declared.check.worklist.Work.TheVariants.{Leave}
 use Rattle.archive_check.specs.declared.context.range.Region.{Region}
-use Rattle.archive_check.specs.Ranges.{RangeState}
-use Rattle.archive_check.specs.Elements.{span, IsAt}
+use Rattle.archive_check.specs.context.Ranges.{RangeState}
+use Rattle.archive_check.specs.Words.Elements.{span, IsAt}
 use Rattle.archive_schema.specs.plan.SoundPlans.{IsSound}
 use Rattle.archive_schema.specs.plan.PackedPlans.{size_at, parts_size, variants_size, ArePacked}
 use Rattle.archive_schema.specs.check.Runs.{IsNode, IsVariant, RegionIs, pointer_bytes}

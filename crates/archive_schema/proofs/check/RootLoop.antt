@@ -5,10 +5,10 @@ use Rattle.archive_check.specs.declared.format.error.Error.{Error}
 use Rattle.archive_schema.specs.declared.plan.PointeeKind.TheVariants.{One}
 use Rattle.archive_schema.specs.declared.check.Checker.{Checker}
 use Rattle.archive_schema.specs.declared.check.worklist.Work.{Work}
-use Rattle.archive_check.specs.Ranges.{RangeState}
-use Rattle.archive_check.specs.PositionStates.{Positions}
+use Rattle.archive_check.specs.context.Ranges.{RangeState}
+use Rattle.archive_check.specs.context.PositionStates.{Positions}
 use Rattle.archive_check.specs.Tour.{Seen}
-use Rattle.archive_check.specs.FreshContexts.{HasLevels, KeepsLevels, IsFresh}
+use Rattle.archive_check.specs.context.FreshContexts.{HasLevels, KeepsLevels, IsFresh}
 use Rattle.archive_check.specs.Outcomes.{Outcome, done, refused}
 use Rattle.archive_schema.specs.check.Runs.{list_end}
 use Rattle.archive_schema.specs.check.LoopInvariant.{Stage, stage, Agreeing, IsOrderly, Listing, Entering, TurnLeads, TurnRefuses, IsStopped}

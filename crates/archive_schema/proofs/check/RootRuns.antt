@@ -10,18 +10,18 @@ use Rattle.archive_check.specs.Reads.{Schema}
 use Rattle.archive_check.specs.Tour.{root_pointer, Seen}
 use Rattle.archive_check.specs.Trail.{Fault, RootTrips}
 use Rattle.archive_check.specs.Walk.{Enter, enter, RootWalk}
-use Rattle.archive_check.specs.Ranges.{RangeState}
-use Rattle.archive_check.specs.PositionStates.{Positions}
-use Rattle.archive_check.specs.FreshContexts.{HasLevels, IsFresh, IsWhole}
-use Rattle.archive_check.specs.Faults.{IsFor, IsOfCheck}
+use Rattle.archive_check.specs.context.Ranges.{RangeState}
+use Rattle.archive_check.specs.context.PositionStates.{Positions}
+use Rattle.archive_check.specs.context.FreshContexts.{HasLevels, IsFresh, IsWhole}
+use Rattle.archive_check.specs.Words.Faults.{IsFor, IsOfCheck}
 use Rattle.archive_check.specs.Outcomes.{Outcome, done, refused}
 use Rattle.archive_schema.specs.check.Runs.{EnterRuns}
 use Rattle.archive_schema.specs.plan.SoundPlans.{IsSound}
 use Rattle.archive_schema.specs.check.PlanChecks.{PlanOf, PlanAccepts, PlanRefuses, PlanIsExact}
-use Rattle.archive_check.proofs.ReadingUnique.{pos_one}
-use Rattle.archive_check.proofs.AcceptedWalks.{walked, walks}
-use Rattle.archive_check.proofs.FaultyNotWalked.{root_no_walk}
-use Rattle.archive_check.proofs.RangeLevels.{fresh_levels}
+use Rattle.archive_check.proofs.Tours.ReadingUnique.{pos_one}
+use Rattle.archive_check.proofs.Checks.AcceptedWalks.{walked, walks}
+use Rattle.archive_check.proofs.Checks.FaultyNotWalked.{root_no_walk}
+use Rattle.archive_check.proofs.Checks.RangeLevels.{fresh_levels}
 use Rattle.archive_schema.proofs.plan.Represented.{enter_says}
 
 module _ (s : Schema) (bytes : List ℕ) (limit : Option ℕ) (root : ℕ) (X : Shape) where

@@ -11,15 +11,15 @@ use Rattle.archive_schema.specs.declared.plan.Span.{Span}
 use Rattle.archive_schema.specs.declared.check.Checker.{Checker}
 use Rattle.archive_schema.specs.declared.check.worklist.Work.{Work}
 use Rattle.archive_schema.specs.declared.check.worklist.Work.TheVariants.{Part as PartWork, Parts, Elements, Leave, Finish}
-use Rattle.archive_check.specs.Ranges.{RangeState}
-use Rattle.archive_check.specs.PositionStates.{Positions, finished, finish_answer}
+use Rattle.archive_check.specs.context.Ranges.{RangeState}
+use Rattle.archive_check.specs.context.PositionStates.{Positions, finished, finish_answer}
 use Rattle.archive_check.specs.Tour.{Seen}
 use Rattle.archive_check.specs.Trail.{no_such_variant}
 use Rattle.archive_check.specs.Reads.{i32_at}
 use Rattle.archive_schema.specs.plan.SoundPlans.{IsSound}
 use Rattle.archive_schema.specs.check.Lists.{IsMore}
 use Rattle.archive_check.specs.Outcomes.{Outcome, refused}
-use Rattle.archive_check.specs.Elements.{IsAt}
+use Rattle.archive_check.specs.Words.Elements.{IsAt}
 use Rattle.archive_schema.specs.check.Runs.{IsNode, IsVariant, IsNoVariant, Takes, pointee_count, run_tag, run_null}
 use Rattle.archive_schema.specs.check.LoopInvariant.{Stage, stage, Ready, PartIsLegalHere, LeadsNowhere, Listing, Entering, Following, TurnLeads, TurnRefuses, IsStopped, stops, pending_in, power, level, cost}
 use Rattle.archive_schema.specs.check.Entered.{LeavesFrom}

@@ -9,20 +9,20 @@ use Rattle.archive_schema.specs.declared.plan.Span.{Span}
 use Rattle.archive_schema.specs.declared.check.Checker.{Checker}
 use Rattle.archive_schema.specs.declared.check.worklist.Work.{Work}
 use Rattle.archive_schema.specs.declared.check.worklist.Work.TheVariants.{Part as PartWork, Parts, Elements, Leave, Finish}
-use Rattle.archive_check.specs.Ranges.{RangeState, pop_answer, popped}
-use Rattle.archive_check.specs.PositionStates.{Positions, finished, finish_answer}
+use Rattle.archive_check.specs.context.Ranges.{RangeState, pop_answer, popped}
+use Rattle.archive_check.specs.context.PositionStates.{Positions, finished, finish_answer}
 use Rattle.archive_check.specs.Tour.{Seen}
 use Rattle.archive_check.specs.Trail.{Fault}
 use Rattle.archive_check.specs.Outcomes.{Outcome, done, refused}
-use Rattle.archive_check.specs.Elements.{IsAt, span}
+use Rattle.archive_check.specs.Words.Elements.{IsAt, span}
 use Rattle.archive_schema.specs.check.Runs.{IsNode, IsVariant, NodeRuns, ListRuns, list_part, list_part_stop, list_leave, list_finish}
 use Rattle.archive_schema.specs.check.Lists.{IsMore}
 use Rattle.archive_schema.specs.plan.SoundPlans.{PartsWithin, SpanFits, ArrayFits, NodeKindFits, IsSound}
-use Rattle.archive_check.specs.Faults.{IsFor}
+use Rattle.archive_check.specs.Words.Faults.{IsFor}
 use Rattle.archive_schema.specs.check.LoopInvariant.{PartsHere, PartFits, Ready, stage, pending_in, regions_in, Listing, TurnLeads, TurnRefuses, level, rank, cost}
 use Rattle.archive_schema.proofs.check.TurnRules.{turn_parts, turn_elements, turn_part_last, turn_element_last, turn_elements_free}
 use Rattle.archive_schema.proofs.check.ContextAgrees.{agrees_finished, agrees_outside, inside_more}
-use Rattle.archive_check.proofs.RangeLevels.{taken_back}
+use Rattle.archive_check.proofs.Checks.RangeLevels.{taken_back}
 use Rattle.archive_schema.proofs.check.OrderlyContexts.{orderly_finished, finish_fine, orderly_outside}
 use Rattle.archive_schema.proofs.check.TurnsEnd.{level_node, level_same, falls_one, falls_two}
 use Rattle.archive_check.proofs.Elements.{same_at, span_next}

@@ -10,10 +10,10 @@ use Rattle.archive_schema.specs.declared.plan.growing.NamedNode.{NamedNode}
 use Rattle.archive_check.specs.Shape.{Shape}
 use Rattle.archive_check.specs.Layout.{Layouts, size_of, align_of}
 use Rattle.archive_check.specs.Reads.{Schema}
-use Rattle.archive_check.specs.Elements.{IsAt}
+use Rattle.archive_check.specs.Words.Elements.{IsAt}
 use Rattle.archive_schema.specs.plan.SoundPlans.{NodeKindFits}
 use Rattle.archive_schema.specs.plan.Represents.{StandsFor, stands, Made}
-use Rattle.archive_check.specs.BoundedSizes.{fits}
+use Rattle.archive_check.specs.Words.BoundedSizes.{fits}
 use Rattle.archive_schema.specs.plan.PlanGrowth.{PlanLists, Goes, Grows, IsPushed, nothing_to_check, IsMade}
 use Rattle.archive_schema.specs.plan.Compiled.{Follows, Below, NamesSized, SoundTo, Settled, Given, MadeTo, Adds, Compiled}
 use Rattle.archive_schema.specs.plan.NodeCounts.{count_of}

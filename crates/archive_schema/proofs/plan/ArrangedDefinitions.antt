@@ -11,11 +11,11 @@ use Rattle.archive_check.specs.Expressions.{shape_of, entries_of}
 use Rattle.archive_check.specs.Defined.{HeldIn}
 use Rattle.archive_check.specs.MissingNames.{missing}
 use Rattle.archive_schema.specs.plan.Names.{NotReady, NextReady, Complete}
-use Rattle.archive_check.proofs.Named.{append_known, append_unknown, definition_here, definition_other, names_decided, entries_of-append, push_some}
+use Rattle.archive_check.proofs.Names.Named.{append_known, append_unknown, definition_here, definition_other, names_decided, entries_of-append, push_some}
 use Rattle.archive_schema.proofs.plan.Named.{definition-remove, push_none, contains-remove, contains-at, one_at}
-use Rattle.archive_check.proofs.MissingNames.{missed_held, held_defined}
-use Rattle.archive_check.proofs.NamesComeBack.{DefinitionHolds, some_comes_back}
-use Rattle.archive_check.proofs.LaidOutNames.{names_of, defined_named, named_defined}
+use Rattle.archive_check.proofs.Names.MissingNames.{missed_held, held_defined}
+use Rattle.archive_check.proofs.Names.NamesComeBack.{DefinitionHolds, some_comes_back}
+use Rattle.archive_check.proofs.Names.LaidOutNames.{names_of, defined_named, named_defined}
 
 below_or_last : (k n : ℕ) → k < n + 1 → (k < n) ⊎ (k ≡ n)
 below_or_last zero zero h = inr refl

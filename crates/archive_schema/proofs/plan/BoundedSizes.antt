@@ -1,7 +1,7 @@
 -- Which sizes fit into 64 bits, and what is computed from them.
 use Rattle.std.proofs.Common.{◌≡◌, ⊎_elim, ℕ, refl, sym, ap, ap₂, ◌∙◌, ◌+◌, max, arith, Option, Some, None}
 use Rattle.std.proofs.lemmas.Bool.{cases_lt}
-use Rattle.archive_check.specs.BoundedSizes.{fits}
+use Rattle.archive_check.specs.Words.BoundedSizes.{fits}
 use Rattle.archive_schema.specs.plan.BoundedSizes.{sum_of, greater_of}
 use Rattle.archive_check.proofs.BoundedSizes.{fits_none, fits_some, some_is}
 

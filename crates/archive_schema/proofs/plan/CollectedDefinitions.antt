@@ -7,12 +7,12 @@ use Rattle.archive_check.specs.Defined.{Mentions, Reaches, reaches}
 use Rattle.archive_check.specs.MissingNames.{missing, Collected}
 use Rattle.archive_schema.specs.plan.Names.{Taken, shapes_from}
 use Rattle.archive_schema.specs.plan.NodeNumbers.{def_shapes}
-use Rattle.archive_check.proofs.Named.{append_known, definition_here, definition_other, names_decided, entries_of-append, push_some}
+use Rattle.archive_check.proofs.Names.Named.{append_known, definition_here, definition_other, names_decided, entries_of-append, push_some}
 use Rattle.archive_schema.proofs.plan.Named.{push_none, push_once}
 use Rattle.std.proofs.lemmas.List.{get_or_default}
 use Rattle.archive_check.proofs.Elements.{contains_later}
-use Rattle.archive_check.proofs.MissingNames.{missed_mentioned, none_missed}
-use Rattle.archive_check.proofs.LaidOutNames.{reaches_next}
+use Rattle.archive_check.proofs.Names.MissingNames.{missed_mentioned, none_missed}
+use Rattle.archive_check.proofs.Names.LaidOutNames.{reaches_next}
 use Rattle.archive_schema.proofs.plan.NodeNumbers.{def_count}
 
 -- the shape behind the root's, at its definition

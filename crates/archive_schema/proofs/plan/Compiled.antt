@@ -9,26 +9,26 @@ use Rattle.archive_schema.specs.declared.plan.growing.NamedNode.{NamedNode}
 use Rattle.archive_schema.specs.declared.plan.growing.LaidRange.{LaidRange}
 use Rattle.archive_check.specs.Shape.{Name, Kind, Shape, leaf, parts, choice, array, named, Parts, Variants}
 use Rattle.archive_check.specs.Layout.{Layouts, up, size_of, align_of, kind_size, kind_align, parts_end, variants_end}
-use Rattle.archive_check.specs.PlainData.{is_plain_kind}
+use Rattle.archive_check.specs.Words.PlainData.{is_plain_kind}
 use Rattle.archive_check.specs.Reads.{Schema}
 use Rattle.archive_check.specs.Walk.{walk_parts, walk_array, walk_none}
 use Rattle.archive_check.specs.Expressions.{kind_of}
-use Rattle.archive_check.specs.Elements.{IsAt, span}
+use Rattle.archive_check.specs.Words.Elements.{IsAt, span}
 use Rattle.archive_schema.specs.check.Runs.{IsNode, Takes}
-use Rattle.archive_check.specs.BoundedSizes.{times, fits, rounded}
+use Rattle.archive_check.specs.Words.BoundedSizes.{times, fits, rounded}
 use Rattle.archive_schema.specs.plan.SoundPlans.{PartsWithin, SpanFits, ArrayFits}
 use Rattle.archive_schema.specs.plan.Represents.{Made, made_free, made_leaf, made_record, made_choice, made_array}
 use Rattle.archive_schema.specs.plan.CompileQueue.{Waits}
 use Rattle.archive_schema.specs.plan.PlanGrowth.{node_of, PlanLists, IsMade}
 use Rattle.archive_schema.specs.plan.Compiled.{Follows, NamesSized, Settled, Given, MadeTo, Compiled, IsPartWithin, CompiledParts, CompiledVariants}
 use Rattle.archive_schema.proofs.plan.Compilable.{can_parts, can_choice, can_array}
-use Rattle.archive_check.proofs.PlainRuns.{plain_walk}
+use Rattle.archive_check.proofs.Checks.PlainRuns.{plain_walk}
 use Rattle.archive_check.proofs.BoundedSizes.{fits_some, some_is, rounded_fits, rounded_some, times_none, times_fits}
 use Rattle.archive_schema.proofs.plan.GrowingPlans.{at_more, goes_longer, grows_trans, pushed_grows}
 use Rattle.archive_check.proofs.Elements.{same_at, at_dropped, at_taken}
 use Rattle.archive_schema.proofs.plan.AddedNodes.{knows_settled, adds_refl, compiled_made, stands_of}
 use Rattle.archive_schema.proofs.plan.FreeWalks.{kind_few, empty_plain, AnyBytes, any_stands, any_parts, any_run}
-use Rattle.archive_check.proofs.PartsInside.{up_le}
+use Rattle.archive_check.proofs.Tours.PartsInside.{up_le}
 use Rattle.std.proofs.Math.Nat.{eq_of_mul-eq-mul_right, zero-mul}
 
 -- a leaf

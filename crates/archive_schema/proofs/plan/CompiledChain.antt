@@ -7,7 +7,7 @@ use Rattle.archive_check.specs.Shape.{Shape, named}
 use Rattle.archive_check.specs.Expressions.{shape_of}
 use Rattle.archive_check.specs.Measure.{measure_of}
 use Rattle.archive_schema.specs.plan.NodeCounts.{count_of}
-use Rattle.archive_check.specs.Elements.{IsAt}
+use Rattle.archive_check.specs.Words.Elements.{IsAt}
 use Rattle.archive_schema.specs.plan.PlanGrowth.{node_of, PlanLists, no_lists, Goes}
 use Rattle.archive_schema.specs.plan.CompileQueue.{Wait, Waits, no_waits, waits_in, wait_shapes, measure_of_waits}
 use Rattle.archive_schema.specs.plan.Compilable.{Can}

@@ -13,11 +13,11 @@ use Rattle.archive_schema.specs.declared.plan.growing.LaidRange.{LaidRange}
 use Rattle.archive_check.specs.Shape.{Shape, Parts, no_part, part, Variants, no_variant, variant, variant_at}
 use Rattle.archive_check.specs.Layout.{Layouts, up, size_of, align_of, parts_end, parts_align, variants_end}
 use Rattle.archive_check.specs.Reads.{Schema}
-use Rattle.archive_check.specs.Elements.{IsAt}
+use Rattle.archive_check.specs.Words.Elements.{IsAt}
 use Rattle.archive_schema.specs.check.Runs.{IsNode, Takes}
 use Rattle.archive_schema.specs.plan.SoundPlans.{SpanFits}
 use Rattle.archive_schema.specs.plan.Represents.{StandsFor, PartsStand, parts_over, parts_more}
-use Rattle.archive_check.specs.BoundedSizes.{fits, rounded}
+use Rattle.archive_check.specs.Words.BoundedSizes.{fits, rounded}
 use Rattle.archive_schema.specs.plan.BoundedSizes.{sum_of, greater_of}
 use Rattle.archive_schema.specs.plan.CompileQueue.{Waits}
 use Rattle.archive_schema.specs.plan.PlanGrowth.{PlanLists, IsPartAdded, IsVariantAdded, PartsLaid, VariantsLaid}
@@ -31,7 +31,7 @@ use Rattle.archive_schema.proofs.plan.AddedNodes.{given_first, given_second, set
 use Rattle.archive_schema.proofs.plan.Compilable.{can_first, can_later, can_variant, can_others}
 use Rattle.archive_schema.proofs.plan.Compiled.{fits_wider, span_within, span_wider}
 use Rattle.archive_schema.proofs.plan.ShallowMarks.{kind_free}
-use Rattle.archive_check.proofs.PositiveAlignments.{parts_align_pos, variants_align_pos}
+use Rattle.archive_check.proofs.Names.PositiveAlignments.{parts_align_pos, variants_align_pos}
 
 pub ends_positive : (l : Layouts) (vs : Variants) → 0 < variants_end l vs
 ends_positive l no_variant = omega arith

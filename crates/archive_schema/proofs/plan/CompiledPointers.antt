@@ -13,11 +13,11 @@ use Rattle.archive_check.specs.Shape.{unsigned, number, Shape, leaf, boxed, vec,
 use Rattle.archive_check.specs.Layout.{Layouts, size_of, align_of}
 use Rattle.archive_check.specs.Reads.{Schema}
 use Rattle.archive_check.specs.Expressions.{flavor_of, pointee_of}
-use Rattle.archive_check.specs.Elements.{IsAt}
+use Rattle.archive_check.specs.Words.Elements.{IsAt}
 use Rattle.archive_schema.specs.check.Runs.{pointer_bytes}
 use Rattle.archive_schema.specs.plan.SoundPlans.{NodeKindFits}
 use Rattle.archive_schema.specs.plan.Represents.{Sized, Points, points_one, points_run, points_text, Made, made_free, made_boxed, made_vec, made_str, made_shared, made_weak}
-use Rattle.archive_check.specs.BoundedSizes.{fits}
+use Rattle.archive_check.specs.Words.BoundedSizes.{fits}
 use Rattle.archive_check.specs.Measure.{measure_of}
 use Rattle.archive_schema.specs.plan.Compilable.{Can, AllKnown}
 use Rattle.archive_schema.specs.plan.CompileQueue.{Waits, measure_of_waits}
@@ -25,7 +25,7 @@ use Rattle.archive_schema.specs.plan.PlanGrowth.{PlanLists, IsPushed, IsTypeAdde
 use Rattle.archive_schema.specs.plan.Compiled.{counted, Follows, Below, Settled, Given, Adds, Compiled, CompiledPointeeKind, CompiledPointee}
 use Rattle.archive_schema.specs.plan.NodeCounts.{count_of}
 use Rattle.archive_schema.proofs.plan.Compilable.{can_one, can_run, can_boxed, can_vec, can_shared, can_weak}
-use Rattle.archive_check.proofs.PlainRuns.{plain_walk}
+use Rattle.archive_check.proofs.Checks.PlainRuns.{plain_walk}
 use Rattle.archive_check.proofs.BoundedSizes.{fits_some}
 use Rattle.archive_schema.proofs.plan.GrowingPlans.{at_more, goes_longer, grows_trans, pushed_grows, pushed_at, pushed_is, type_added_grows, type_added_at}
 use Rattle.archive_schema.proofs.plan.AddedNodes.{adds_refl, adds_same, adds_push, compiled_push}

@@ -10,16 +10,16 @@ use Rattle.archive_schema.specs.declared.shape.Schema.{Schema as RustSchema}
 use Rattle.archive_check.specs.Shape.{Name, Shape, named, Pointee, one, run, text, Parts, no_part, part, Variants, no_variant, variant}
 use Rattle.archive_check.specs.Layout.{Layouts, up, pointer_size, size_of, align_of, parts_end, parts_align, variants_end, variants_align}
 use Rattle.archive_check.specs.Reads.{Schema, LaidOut}
-use Rattle.archive_check.specs.Elements.{IsAt}
+use Rattle.archive_check.specs.Words.Elements.{IsAt}
 use Rattle.archive_check.specs.Expressions.{entries_of}
-use Rattle.archive_check.specs.BoundedSizes.{fits, rounded}
+use Rattle.archive_check.specs.Words.BoundedSizes.{fits, rounded}
 use Rattle.archive_schema.specs.plan.BoundedSizes.{sum_of, greater_of}
 use Rattle.archive_schema.specs.plan.PlanGrowth.{node_of}
 use Rattle.archive_schema.specs.plan.Extents.{Ends, HasExtent, PartsSoFar, VariantsSoFar}
 use Rattle.archive_check.proofs.BoundedSizes.{fits_some, rounded_fits}
 use Rattle.archive_schema.proofs.plan.BoundedSizes.{sum_fits, greater_fits}
 use Rattle.archive_schema.proofs.plan.CompiledParts.{ends_positive}
-use Rattle.archive_check.proofs.PositiveAlignments.{parts_align_pos, variants_align_pos}
+use Rattle.archive_check.proofs.Names.PositiveAlignments.{parts_align_pos, variants_align_pos}
 use Rattle.archive_schema.proofs.SchemaDefinitions.{own_laid_out}
 
 -- what ends nowhere is too large

@@ -7,15 +7,15 @@ use Rattle.archive_schema.specs.declared.plan.Part.{Part as PlanPart}
 use Rattle.archive_schema.specs.declared.check.Checker.{Checker}
 use Rattle.archive_check.specs.Shape.{Kind, unit, bool, char, number, non_zero, raw_rel, Shape, Parts}
 use Rattle.archive_check.specs.Layout.{up, kind_size, size_of, align_of, parts_end}
-use Rattle.archive_check.specs.PlainData.{is_plain_kind}
+use Rattle.archive_check.specs.Words.PlainData.{is_plain_kind}
 use Rattle.archive_check.specs.Reads.{Schema, LaidOut}
 use Rattle.archive_check.specs.Tour.{Seen}
 use Rattle.archive_check.specs.Walk.{Walk, walk_named, WalkParts, walk_no_part, walk_part, WalkRun, walk_none, walk_element}
-use Rattle.archive_check.specs.Elements.{IsAt}
+use Rattle.archive_check.specs.Words.Elements.{IsAt}
 use Rattle.archive_schema.specs.check.Runs.{IsNode}
 use Rattle.archive_schema.specs.plan.Represents.{StandsFor, stands, stands_named, PartsStand, parts_over, parts_more, Made, made_free}
 use Rattle.archive_schema.specs.plan.Compiled.{MadeTo}
-use Rattle.archive_check.proofs.PartsInside.{parts_end_le}
+use Rattle.archive_check.proofs.Tours.PartsInside.{parts_end_le}
 use Rattle.archive_check.proofs.Elements.{same_at}
 
 few_bytes : (w : Width) → (1 ≤ byte_len w) × (byte_len w ≤ 16)

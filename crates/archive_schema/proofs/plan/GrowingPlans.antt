@@ -4,7 +4,7 @@ use Rattle.archive_schema.specs.declared.plan.NodeKind.{NodeKind}
 use Rattle.archive_schema.specs.declared.plan.Part.{Part}
 use Rattle.archive_schema.specs.declared.plan.Span.{Span}
 use Rattle.archive_check.specs.declared.context.positions.SharedType.{SharedType}
-use Rattle.archive_check.specs.Elements.{IsAt}
+use Rattle.archive_check.specs.Words.Elements.{IsAt}
 use Rattle.archive_schema.specs.plan.PlanGrowth.{PlanLists, Goes, Grows, IsPushed, IsTypeAdded, IsExtended}
 use Rattle.std.proofs.lemmas.List.{get_or_append_left}
 use Rattle.archive_check.proofs.Elements.{at_end, at_behind, at_second}

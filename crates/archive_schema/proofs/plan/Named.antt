@@ -9,7 +9,7 @@ use Rattle.archive_check.specs.Shape.{Name, Shape, Table, definition}
 use Rattle.archive_check.specs.Expressions.{shape_of, entries_of}
 use Rattle.archive_check.proofs.Elements.{contains_cases, contains_later}
 use Rattle.archive_schema.specs.plan.Names.{Taken}
-use Rattle.archive_check.proofs.Named.{append_known, append_unknown, definition_here, definition_other, entries_of-drop}
+use Rattle.archive_check.proofs.Names.Named.{append_known, append_unknown, definition_here, definition_other, entries_of-drop}
 
 pub entries_of-end : (xs : List Def) (i : ℕ) → length xs ≡ i → entries_of (drop i xs) ≡ []
 entries_of-end xs i e = ap (λ j. entries_of (drop j xs)) (sym e) ∙ ap entries_of (drop-length xs)

@@ -4,7 +4,7 @@ use Rattle.archive_check.specs.declared.format.defs.Def.{Def}
 use Rattle.archive_schema.specs.declared.plan.growing.NamedNode.{NamedNode}
 use Rattle.archive_check.specs.Shape.{Name, Shape, definition}
 use Rattle.archive_check.specs.Expressions.{shape_of, entries_of}
-use Rattle.archive_check.specs.Elements.{IsAt}
+use Rattle.archive_check.specs.Words.Elements.{IsAt}
 use Rattle.archive_schema.specs.plan.PlanGrowth.{node_of}
 use Rattle.archive_schema.specs.plan.NodeCounts.{count_of}
 use Rattle.archive_schema.specs.plan.NodeNumbers.{def_shapes, start_of, FirstAt, IsDefinitionNode, IsExpressionNode, IsNumbered}

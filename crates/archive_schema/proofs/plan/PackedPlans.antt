@@ -11,7 +11,7 @@ use Rattle.archive_check.specs.Shape.{Shape, Table, Parts}
 use Rattle.archive_check.specs.Expressions.{entries_of}
 use Rattle.archive_check.specs.Layout.{align_of, parts_align, variants_align, size_of, parts_end, variants_end}
 use Rattle.archive_check.specs.Reads.{Schema, LaidOut}
-use Rattle.archive_check.specs.Elements.{IsAt, span}
+use Rattle.archive_check.specs.Words.Elements.{IsAt, span}
 use Rattle.archive_schema.specs.check.Runs.{Takes}
 use Rattle.archive_schema.specs.plan.SoundPlans.{NodeKindFits, IsSound}
 use Rattle.archive_schema.specs.plan.Represents.{PartsStand, parts_over, parts_more, Made, made_free, made_leaf, made_record, made_choice, made_array, made_boxed, made_vec, made_str, made_shared, made_weak, Represents}
@@ -19,11 +19,11 @@ use Rattle.archive_schema.specs.plan.PackedPlans.{size_at, parts_size, variants_
 use Rattle.archive_check.specs.MissingNames.{Arranged}
 use Rattle.archive_schema.specs.plan.Planned.{IsOf, IsPlan}
 use Rattle.archive_check.proofs.Elements.{span_next, at_span, at_taken, at_dropped}
-use Rattle.archive_check.proofs.Rounds.{rounds}
-use Rattle.archive_check.proofs.PositiveAlignments.{rounds_pos, parts_align_pos, variants_align_pos}
-use Rattle.archive_check.proofs.LaidOutNames.{names_of, defined_named, ordered_placed, placed_solved}
-use Rattle.archive_check.proofs.WellFormed.{arranged_ordered}
-use Rattle.archive_check.proofs.PartsInside.{up_le, positive, variant_end_le}
+use Rattle.archive_check.proofs.Names.Rounds.{rounds}
+use Rattle.archive_check.proofs.Names.PositiveAlignments.{rounds_pos, parts_align_pos, variants_align_pos}
+use Rattle.archive_check.proofs.Names.LaidOutNames.{names_of, defined_named, ordered_placed, placed_solved}
+use Rattle.archive_check.proofs.Names.WellFormed.{arranged_ordered}
+use Rattle.archive_check.proofs.Tours.PartsInside.{up_le, positive, variant_end_le}
 use Rattle.archive_schema.proofs.plan.Planned.{checker_of}
 
 -- the size at an index is that of the node there

@@ -1,7 +1,7 @@
 -- What the nodes of a plan take, and so many of them.
 use Rattle.std.proofs.Common.{◌≡◌, ℕ, sym, ap, ◌∙◌, ◌*◌, ◌<◌, ◌≤◌, arith, Option, Some, None, suc, zero}
 use Rattle.archive_schema.specs.declared.check.Checker.{Checker}
-use Rattle.archive_check.specs.BoundedSizes.{times, fits}
+use Rattle.archive_check.specs.Words.BoundedSizes.{times, fits}
 use Rattle.archive_schema.specs.check.Runs.{Takes}
 use Rattle.archive_schema.specs.plan.Represents.{Sized}
 use Rattle.archive_check.proofs.Elements.{same_at}

@@ -12,9 +12,9 @@ use Rattle.archive_check.specs.Layout.{Layouts, layout, size_of, align_of}
 use Rattle.archive_check.specs.Expressions.{shape_of, entries_of}
 use Rattle.archive_schema.specs.plan.NodeCounts.{count_of}
 use Rattle.archive_check.specs.Reads.{Schema, LaidOut}
-use Rattle.archive_check.specs.Elements.{IsAt}
+use Rattle.archive_check.specs.Words.Elements.{IsAt}
 use Rattle.archive_schema.specs.plan.Represents.{StandsFor, stands, stands_named, Sized, points_one}
-use Rattle.archive_check.specs.BoundedSizes.{fits}
+use Rattle.archive_check.specs.Words.BoundedSizes.{fits}
 use Rattle.archive_schema.specs.plan.PlanGrowth.{node_of, PlanLists, lists_of, Grows}
 use Rattle.archive_schema.specs.plan.CompileQueue.{Wait, Waits, wait_shapes, Reserved}
 use Rattle.archive_schema.specs.plan.Compilable.{Can}

@@ -5,9 +5,9 @@ use Rattle.archive_check.specs.Shape.{Name, Shape, Table, definition}
 use Rattle.archive_check.specs.Expressions.{shape_of, entries_of}
 use Rattle.archive_schema.specs.plan.Names.{HasAll}
 use Rattle.archive_check.specs.MissingNames.{Arranged}
-use Rattle.archive_check.specs.Elements.{IsAt}
+use Rattle.archive_check.specs.Words.Elements.{IsAt}
 use Rattle.archive_schema.specs.plan.Planned.{InOrder}
-use Rattle.archive_check.proofs.MissingNames.{IsDefined, held_defined, mentioned_defined}
+use Rattle.archive_check.proofs.Names.MissingNames.{IsDefined, held_defined, mentioned_defined}
 use Rattle.archive_schema.proofs.plan.Named.{contains-at}
 
 entry_at : (ds : List Def) (i : ℕ) (d : Def) → IsAt ds i d → IsAt (entries_of ds) i (d.name.now, shape_of d.expr)

@@ -8,8 +8,8 @@ use Rattle.archive_check.specs.Definitions.{Definitions, listed, NoOthers, Exten
 use Rattle.archive_schema.specs.plan.Names.{Complete, Prepared, HasAll}
 use Rattle.archive_check.specs.MissingNames.{Collected, Arranged}
 use Rattle.archive_check.specs.Archives.{ExplainsNoSchema}
-use Rattle.archive_check.proofs.MissingNames.{none_near, none_missed}
-use Rattle.archive_check.proofs.WellFormed.{all_defined, held_not_well_formed, involved_reached, lost_not_defined, placed_listed, placed_reached, well_formed}
+use Rattle.archive_check.proofs.Names.MissingNames.{none_near, none_missed}
+use Rattle.archive_check.proofs.Names.WellFormed.{all_defined, held_not_well_formed, involved_reached, lost_not_defined, placed_listed, placed_reached, well_formed}
 
 -- what is collected is complete
 pub collected_complete : (old : Table) (X : Shape) (new : Table) → Collected old X new → Complete new

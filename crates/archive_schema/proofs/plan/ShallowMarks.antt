@@ -10,7 +10,7 @@ use Rattle.archive_schema.specs.declared.plan.NodeKind.TheVariants.{Free, Leaf, 
 use Rattle.archive_schema.specs.declared.plan.Node.{Node}
 use Rattle.archive_schema.specs.declared.plan.Part.{Part}
 use Rattle.archive_schema.specs.declared.plan.Span.{Span}
-use Rattle.archive_check.specs.Elements.{IsAt, span}
+use Rattle.archive_check.specs.Words.Elements.{IsAt, span}
 use Rattle.archive_check.proofs.Elements.{same_at}
 use Rattle.archive_schema.specs.plan.Shallow.{marked, is_free, free_at, parts_shallow, variants_shallow, kind_shallow, AreShallow, HasIndexes, AreAllMarked}
 

@@ -12,7 +12,7 @@ use Rattle.archive_schema.specs.declared.check.Checker.{Checker}
 use Rattle.archive_check.specs.Layout.{kind_size}
 use Rattle.archive_check.specs.Expressions.{kind_of}
 use Rattle.archive_schema.specs.check.Runs.{pointer_bytes, Takes}
-use Rattle.archive_check.specs.Elements.{IsAt, span}
+use Rattle.archive_check.specs.Words.Elements.{IsAt, span}
 use Rattle.archive_schema.specs.plan.SoundPlans.{PartsWithin, SpanFits, ArrayFits, VariantsFit, NodeKindFits, IsSound}
 use Rattle.archive_check.proofs.Elements.{same_at, some_at}
 use Rattle.archive_schema.proofs.plan.PlanSizes.{take_same}

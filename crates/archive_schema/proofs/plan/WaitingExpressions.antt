@@ -7,7 +7,7 @@ use Rattle.archive_schema.specs.declared.plan.queue.Waiting.{Waiting}
 use Rattle.archive_check.specs.Expressions.{shape_of}
 use Rattle.archive_check.specs.Shape.{Name, Shape, named}
 use Rattle.archive_schema.specs.plan.NodeCounts.{count_of}
-use Rattle.archive_check.specs.Elements.{IsAt}
+use Rattle.archive_check.specs.Words.Elements.{IsAt}
 use Rattle.archive_schema.specs.plan.PlanGrowth.{node_of, PlanLists}
 use Rattle.archive_schema.specs.plan.Compilable.{CanWait}
 use Rattle.archive_schema.specs.plan.CompileQueue.{Wait, Waits, waits_in, wait_shapes, measure_of_waits, Reserved, IsWaiting, IsQueued}

@@ -9,7 +9,7 @@ use Rattle.archive_schema.specs.declared.check.Checker.{Checker}
 use Rattle.archive_check.specs.declared.context.range.Region.{Region}
 use Rattle.archive_schema.specs.declared.check.worklist.Worklist.{Worklist}
 use Rattle.archive_check.specs.Depth.{inside}
-use Rattle.archive_check.specs.Ranges.{RangeState, pop_answer, popped, Lands}
+use Rattle.archive_check.specs.context.Ranges.{RangeState, pop_answer, popped, Lands}
 use Rattle.archive_schema.specs.check.Runs.{RegionIs}
 use Rattle.archive_schema.specs.check.LoopInvariant.{Stage}
 use Rattle.archive_schema.specs.check.Through.{Stops, region_rule, stage_before, stage_behind}

@@ -10,8 +10,8 @@ use Rattle.archive_check.specs.declared.context.positions.SharedType.{SharedType
 use Rattle.archive_schema.specs.declared.check.Checker.{Checker}
 use Rattle.archive_schema.specs.declared.check.worklist.Work.{Work}
 use Rattle.archive_schema.specs.declared.check.worklist.Work.TheVariants.{Part as PartWork, Parts, Elements, Leave, Finish}
-use Rattle.archive_check.specs.Ranges.{RangeState}
-use Rattle.archive_check.specs.PositionStates.{Positions, IsFinishedAs}
+use Rattle.archive_check.specs.context.Ranges.{RangeState}
+use Rattle.archive_check.specs.context.PositionStates.{Positions, IsFinishedAs}
 use Rattle.archive_check.specs.Tour.{Seen, Entry}
 use Rattle.archive_check.specs.Trail.{Fault}
 use Rattle.archive_check.specs.declared.format.expr.Kind.{Kind as KindExpr}
@@ -21,9 +21,9 @@ use Rattle.archive_check.specs.Layout.{kind_size}
 use Rattle.archive_check.specs.Reads.{bytes_at, i32_at, IsLegal}
 use Rattle.archive_check.specs.Outcomes.{Outcome, done, refused}
 use Rattle.archive_schema.specs.check.Runs.{Takes, pointee_count, pointee_length, entry_for, IsNode, NodeRuns, ContentsRun, EnterRuns, FollowRuns, ListRuns}
-use Rattle.archive_check.specs.Elements.{IsAt, span}
-use Rattle.archive_check.specs.Faults.{IsFor}
-use Rattle.archive_check.specs.FreshContexts.{HasLevels}
+use Rattle.archive_check.specs.Words.Elements.{IsAt, span}
+use Rattle.archive_check.specs.Words.Faults.{IsFor}
+use Rattle.archive_check.specs.context.FreshContexts.{HasLevels}
 
 -- n of the node j may be pointed to
 pub record PointeeFits (m : Checker) (target : PointeeKind) (j n : ℕ) : Type 0 where

@@ -7,9 +7,9 @@ use Rattle.archive_schema.specs.declared.check.Checker.{Checker}
 use Rattle.archive_schema.specs.declared.check.worklist.Work.{Work}
 use Rattle.archive_schema.specs.declared.check.worklist.Work.TheVariants.{Part as PartWork, Parts, Elements, Leave, Finish}
 use Rattle.archive_schema.specs.declared.check.worklist.Worklist.{Worklist}
-use Rattle.archive_check.specs.Ranges.{RangeState}
-use Rattle.archive_check.specs.Pushes.{worth}
-use Rattle.archive_check.specs.Elements.{span}
+use Rattle.archive_check.specs.context.Ranges.{RangeState}
+use Rattle.archive_check.specs.context.Pushes.{worth}
+use Rattle.archive_check.specs.Words.Elements.{span}
 use Rattle.archive_schema.specs.plan.PackedPlans.{size_at, parts_size}
 use Rattle.archive_schema.specs.check.Lists.{list_of}
 

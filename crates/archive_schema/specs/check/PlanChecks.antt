@@ -8,10 +8,10 @@ use Rattle.archive_check.specs.Shape.{Shape, one}
 use Rattle.archive_check.specs.Reads.{Schema}
 use Rattle.archive_check.specs.Depth.{AcceptedWithin}
 use Rattle.archive_check.specs.Trail.{Fault, RootTrips}
-use Rattle.archive_check.specs.Faults.{IsFor}
-use Rattle.archive_check.specs.Ranges.{RangeState}
-use Rattle.archive_check.specs.PositionStates.{Positions}
-use Rattle.archive_check.specs.FreshContexts.{IsWhole}
+use Rattle.archive_check.specs.Words.Faults.{IsFor}
+use Rattle.archive_check.specs.context.Ranges.{RangeState}
+use Rattle.archive_check.specs.context.PositionStates.{Positions}
+use Rattle.archive_check.specs.context.FreshContexts.{IsWhole}
 use Rattle.archive_schema.specs.plan.Represents.{Represents, Points}
 
 -- the plan is one of a schema, and its node j stands for X

@@ -16,16 +16,16 @@ use Rattle.std.specs.Borrow.{Bor}
 use Rattle.archive_schema.specs.declared.check.Checker.{Checker}
 use Rattle.archive_schema.specs.declared.check.worklist.Work.{Work}
 use Rattle.archive_schema.specs.declared.check.worklist.Work.TheVariants.{Part as PartWork, Parts, Elements, Leave, Finish}
-use Rattle.archive_check.specs.PositionStates.{SameType}
+use Rattle.archive_check.specs.context.PositionStates.{SameType}
 use Rattle.archive_check.specs.Layout.{kind_size}
 use Rattle.archive_check.specs.Reads.{bytes_at, u32_at, i32_at, IsLegal, IsOutOfLine, before_end, decoded_length}
 use Rattle.archive_check.specs.Expressions.{kind_of, flavor_of, pointee_of}
 use Rattle.archive_check.specs.Depth.{Allows, inside}
 use Rattle.archive_check.specs.Tour.{Seen, Entry}
 use Rattle.archive_check.specs.Trail.{Fault, too_large, outside, unaligned, too_deep, cyclic, other_type, other_length, illegal, no_such_variant, no_text, no_string}
-use Rattle.archive_check.specs.Elements.{IsAt}
+use Rattle.archive_check.specs.Words.Elements.{IsAt}
 use Rattle.archive_check.specs.Outcomes.{Outcome, done, refused}
-use Rattle.archive_check.specs.BoundedSizes.{times}
+use Rattle.archive_check.specs.Words.BoundedSizes.{times}
 
 abbrev pub pointer_bytes : PointeeKind → ℕ
 pointer_bytes One = 4

@@ -9,16 +9,16 @@ use Rattle.archive_schema.specs.declared.plan.Span.{Span}
 use Rattle.archive_schema.specs.declared.plan.PointeeKind.TheVariants.{Text}
 use Rattle.archive_schema.specs.declared.check.Checker.{Checker}
 use Rattle.archive_schema.specs.declared.check.worklist.Worklist.{Worklist}
-use Rattle.archive_check.specs.Ranges.{RangeState}
-use Rattle.archive_check.specs.PositionStates.{Positions}
+use Rattle.archive_check.specs.context.Ranges.{RangeState}
+use Rattle.archive_check.specs.context.PositionStates.{Positions}
 use Rattle.archive_check.specs.Tour.{Seen}
 use Rattle.archive_check.specs.Trail.{Fault}
-use Rattle.archive_check.specs.Faults.{IsFor}
+use Rattle.archive_check.specs.Words.Faults.{IsFor}
 use Rattle.archive_check.specs.Outcomes.{Outcome, done, refused}
 use Rattle.archive_schema.specs.check.Runs.{NodeRuns, PartsRun, ElementsRun, EnterRuns, ContentsRun}
 use Rattle.archive_schema.specs.check.Lists.{list_of}
 use Rattle.archive_schema.specs.check.LoopInvariant.{Stage, stage}
-use Rattle.archive_check.specs.FreshContexts.{HasLevels}
+use Rattle.archive_check.specs.context.FreshContexts.{HasLevels}
 
 -- a rule of the check, by what is pending, the levels left, the range's end and start, what is seen, and the outcome
 abbrev pub Rule : Type 1

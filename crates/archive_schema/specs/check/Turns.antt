@@ -11,12 +11,12 @@ use Rattle.archive_schema.specs.declared.plan.PointeeKind.TheVariants.{One}
 use Rattle.archive_schema.specs.declared.check.Checker.{Checker}
 use Rattle.archive_schema.specs.declared.check.worklist.Work.{Work}
 use Rattle.archive_schema.specs.declared.check.worklist.Worklist.{Worklist}
-use Rattle.archive_check.specs.Ranges.{RangeState}
-use Rattle.archive_check.specs.PositionStates.{Positions}
+use Rattle.archive_check.specs.context.Ranges.{RangeState}
+use Rattle.archive_check.specs.context.PositionStates.{Positions}
 use Rattle.archive_check.specs.Tour.{Seen}
 use Rattle.archive_check.specs.Trail.{Fault}
-use Rattle.archive_check.specs.Faults.{IsFor}
-use Rattle.archive_check.specs.FreshContexts.{HasLevels, IsFresh}
+use Rattle.archive_check.specs.Words.Faults.{IsFor}
+use Rattle.archive_check.specs.context.FreshContexts.{HasLevels, IsFresh}
 use Rattle.archive_schema.specs.plan.SoundPlans.{IsSound}
 use Rattle.archive_schema.specs.plan.Shallow.{IsMarked}
 use Rattle.archive_schema.specs.plan.PackedPlans.{ArePacked}

@@ -1,6 +1,6 @@
 -- Sizes in usize: None stands for all above usize::MAX.
 use Rattle.std.specs.Prelude.{ℕ, ◌+◌, max, Option, Some, None}
-use Rattle.archive_check.specs.BoundedSizes.{fits}
+use Rattle.archive_check.specs.Words.BoundedSizes.{fits}
 
 abbrev pub sum_of : Option ℕ → Option ℕ → Option ℕ
 sum_of (Some a) (Some b) = fits (a + b)

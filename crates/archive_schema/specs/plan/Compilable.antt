@@ -3,7 +3,7 @@ use Rattle.std.specs.Prelude.{◌≡◌, ℕ, ◌<◌, List, Some, IsSome}
 use Rattle.archive_schema.specs.declared.plan.growing.NamedNode.{NamedNode}
 use Rattle.archive_check.specs.Shape.{Name, Shape, Pointee, Parts, Variants}
 use Rattle.archive_check.specs.Defined.{Holds, PartsHold, VariantsHold, Mentions, PointeeMentions, PartsMention, VariantsMention}
-use Rattle.archive_check.specs.Elements.{IsAt}
+use Rattle.archive_check.specs.Words.Elements.{IsAt}
 use Rattle.archive_schema.specs.plan.PlanGrowth.{node_of}
 use Rattle.archive_schema.specs.plan.CompileQueue.{Wait}
 

@@ -16,11 +16,11 @@ use Rattle.archive_schema.specs.declared.plan.growing.LaidRange.{LaidRange}
 use Rattle.archive_check.specs.Shape.{Name, Shape, str, named, shared, weak, Flavor, Pointee, Parts, Variants, variant_at}
 use Rattle.archive_check.specs.Layout.{Layouts, size_of, align_of, parts_end, parts_align, variants_end, variants_align, pointer_size}
 use Rattle.archive_check.specs.Reads.{Schema, LaidOut}
-use Rattle.archive_check.specs.Elements.{IsAt}
+use Rattle.archive_check.specs.Words.Elements.{IsAt}
 use Rattle.archive_schema.specs.check.Runs.{IsNode, Takes, pointer_bytes}
 use Rattle.archive_schema.specs.plan.SoundPlans.{NodeKindFits, SpanFits}
 use Rattle.archive_schema.specs.plan.Represents.{StandsFor, PartsStand, Sized, Points, Made}
-use Rattle.archive_check.specs.BoundedSizes.{fits}
+use Rattle.archive_check.specs.Words.BoundedSizes.{fits}
 use Rattle.archive_schema.specs.plan.NodeCounts.{count_of, count_pointee, counts_of, variant_counts_of}
 use Rattle.archive_check.specs.Measure.{measure_of, measure_of_parts, measure_of_variants, measure_of_pointee}
 use Rattle.archive_schema.specs.plan.PlanGrowth.{node_of, PlanLists, lists_of, lists_in, Goes, Grows}

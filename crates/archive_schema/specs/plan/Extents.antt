@@ -7,7 +7,7 @@ use Rattle.archive_check.specs.Layout.{Layouts, size_of, align_of, parts_end, pa
 use Rattle.archive_check.specs.Reads.{Schema}
 use Rattle.archive_check.specs.Definitions.{Knows}
 use Rattle.archive_schema.specs.Schemas.{definitions_in}
-use Rattle.archive_check.specs.BoundedSizes.{fits}
+use Rattle.archive_check.specs.Words.BoundedSizes.{fits}
 
 -- it ends there, or nowhere up to usize::MAX, and is aligned so
 pub record Ends (e : Extent) (end align : ℕ) : Type 0 where

@@ -5,7 +5,7 @@ use Rattle.archive_schema.specs.declared.plan.NodeKind.TheVariants.{Free, Leaf, 
 use Rattle.archive_schema.specs.declared.plan.Node.{Node}
 use Rattle.archive_schema.specs.declared.plan.Part.{Part}
 use Rattle.archive_schema.specs.declared.plan.Span.{Span}
-use Rattle.archive_check.specs.Elements.{IsAt, span}
+use Rattle.archive_check.specs.Words.Elements.{IsAt, span}
 
 -- the bytes that the node at i takes; 0 where there is none, or it takes more than usize::MAX
 abbrev pub size_at : List Node → ℕ → ℕ

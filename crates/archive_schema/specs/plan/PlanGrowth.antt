@@ -16,10 +16,10 @@ use Rattle.archive_check.specs.Shape.{Name, Pointee}
 use Rattle.archive_check.specs.Expressions.{kind_of, pointee_of}
 use Rattle.archive_check.specs.Layout.{kind_size, kind_align}
 use Rattle.archive_check.specs.declared.format.expr.Kind.{Kind as KindExpr}
-use Rattle.archive_check.specs.PlainData.{is_plain_kind}
+use Rattle.archive_check.specs.Words.PlainData.{is_plain_kind}
 use Rattle.archive_check.specs.declared.format.expr.FlavorInfo.{FlavorInfo}
 use Rattle.archive_check.specs.declared.format.expr.Pointee.{Pointee as PointeeExpr}
-use Rattle.archive_check.specs.BoundedSizes.{rounded}
+use Rattle.archive_check.specs.Words.BoundedSizes.{rounded}
 use Rattle.archive_schema.specs.plan.BoundedSizes.{sum_of, greater_of}
 use Rattle.archive_schema.specs.plan.Shallow.{is_free}
 

@@ -12,10 +12,10 @@ use Rattle.archive_check.specs.Shape.{Name, Shape, definition}
 use Rattle.archive_check.specs.Expressions.{shape_of, entries_of}
 use Rattle.archive_check.specs.Defined.{Holds, Mentions}
 use Rattle.archive_check.specs.Reads.{Schema, LaidOut}
-use Rattle.archive_check.specs.Elements.{IsAt}
+use Rattle.archive_check.specs.Words.Elements.{IsAt}
 use Rattle.archive_schema.specs.plan.SoundPlans.{IsSound}
 use Rattle.archive_schema.specs.check.PlanChecks.{PlanOf}
-use Rattle.archive_check.specs.BoundedSizes.{fits}
+use Rattle.archive_check.specs.Words.BoundedSizes.{fits}
 use Rattle.archive_schema.specs.plan.PlanGrowth.{node_of, PlanLists, lists_of, no_lists, Grows}
 use Rattle.archive_schema.specs.plan.CompileQueue.{Waits, waits_of, no_waits, wait_shapes}
 use Rattle.archive_schema.specs.plan.Compilable.{Can, AllKnown}

@@ -18,7 +18,7 @@ use Rattle.archive_check.specs.Tour.{Seen}
 use Rattle.archive_check.specs.Trail.{Fault}
 use Rattle.archive_check.specs.Walk.{Walk}
 use Rattle.archive_check.specs.Expressions.{kind_of, flavor_of, pointee_of}
-use Rattle.archive_check.specs.Elements.{IsAt}
+use Rattle.archive_check.specs.Words.Elements.{IsAt}
 use Rattle.archive_schema.specs.check.Runs.{Takes}
 use Rattle.archive_check.specs.Outcomes.{Outcome, done, refused}
 

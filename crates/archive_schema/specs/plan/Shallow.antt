@@ -8,7 +8,7 @@ use Rattle.archive_schema.specs.declared.plan.Part.{Part}
 use Rattle.archive_schema.specs.declared.plan.Span.{Span}
 use Rattle.archive_schema.specs.declared.plan.Plan.{Plan}
 use Rattle.archive_schema.specs.declared.check.Checker.{Checker}
-use Rattle.archive_check.specs.Elements.{IsAt, span}
+use Rattle.archive_check.specs.Words.Elements.{IsAt, span}
 
 -- whether a node is marked as shallow
 abbrev pub marked : List Bool → ℕ → Bool

@@ -9,7 +9,7 @@ use Rattle.archive_schema.specs.declared.check.Checker.{Checker}
 use Rattle.archive_check.specs.Layout.{kind_size}
 use Rattle.archive_check.specs.Expressions.{kind_of}
 use Rattle.archive_schema.specs.check.Runs.{pointer_bytes, Takes}
-use Rattle.archive_check.specs.Elements.{IsAt, span}
+use Rattle.archive_check.specs.Words.Elements.{IsAt, span}
 
 -- each part lies in the z bytes of the node i, and comes before it
 abbrev pub PartsWithin : Checker → ℕ → ℕ → List Part → Type 0

@@ -5,7 +5,7 @@ ghost use Rattle.archive_schema.specs.declared.plan.NodeKind.TheVariants.{Str, L
 ghost use Rattle.archive_schema.specs.declared.plan.PointeeKind.TheVariants.{Text};
 ghost use Rattle.archive_schema.specs.check.Runs.{IsNode};
 ghost use Rattle.archive_schema.specs.plan.SoundPlans.{IsSound};
-ghost use Rattle.archive_check.specs.Elements.{span};
+ghost use Rattle.archive_check.specs.Words.Elements.{span};
 ghost use Rattle.archive_schema.specs.plan.Shallow.{marked, free_at, parts_shallow, IsShallow};
 ghost use Rattle.archive_schema.specs.check.LoopInvariant.{PointeeFits, PartFits, PartsFit, ElementsFit};
 ghost use Rattle.archive_schema.specs.check.Through.{Passes, PassesIf, PassesRegion, node_rule, parts_rule, span_rule, elements_rule};

@@ -5,8 +5,8 @@ ghost use Rattle.archive_schema.specs.declared.check.worklist.Work.TheVariants.{
 ghost use Rattle.archive_schema.specs.check.Lists.{list_of};
 ghost use Rattle.archive_schema.specs.check.Runs.{pointer_bytes};
 ghost use Rattle.archive_schema.specs.check.LoopInvariant.{Ready};
-ghost use Rattle.archive_check.specs.FreshContexts.{KeepsLevels};
-ghost use Rattle.archive_check.specs.Pushes.{FewPushed};
+ghost use Rattle.archive_check.specs.context.FreshContexts.{KeepsLevels};
+ghost use Rattle.archive_check.specs.context.Pushes.{FewPushed};
 ghost use Rattle.archive_schema.specs.plan.PackedPlans.{size_at};
 ghost use Rattle.archive_schema.specs.check.Paid.{Pays, bytes_of, bytes_of_parts};
 ghost use Rattle.archive_schema.specs.check.Turns.{IsCheckable, Turn, Follows, PassesRoot, StopsInRoot};

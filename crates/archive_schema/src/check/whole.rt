@@ -4,9 +4,9 @@ ghost use Rattle.std.specs.Prelude.{◌<◌, ◌≤◌, length, OnOk, IfErr};
 ghost use Rattle.archive_schema.specs.plan.SoundPlans.{IsSound};
 ghost use Rattle.archive_schema.specs.plan.Shallow.{IsMarked};
 ghost use Rattle.archive_schema.specs.plan.PackedPlans.{ArePacked};
-ghost use Rattle.archive_check.specs.Faults.{IsOfCheck};
-ghost use Rattle.archive_check.specs.FreshContexts.{HasLevels, KeepsLevels};
-ghost use Rattle.archive_check.specs.Pushes.{FewPushed};
+ghost use Rattle.archive_check.specs.Words.Faults.{IsOfCheck};
+ghost use Rattle.archive_check.specs.context.FreshContexts.{HasLevels, KeepsLevels};
+ghost use Rattle.archive_check.specs.context.Pushes.{FewPushed};
 ghost use Rattle.archive_schema.specs.check.PlanChecks.{WholeAccepts, WholeRefuses, WholeIsExact};
 
 use crate::check::Checker;

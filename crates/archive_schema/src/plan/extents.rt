@@ -3,9 +3,9 @@
 ghost use Rattle.std.specs.Prelude.{◌≡◌, ◌<◌, max, min, Some};
 ghost use Rattle.archive_check.specs.Layout.{up as up_to};
 ghost use Rattle.archive_check.specs.Expressions.{kind_of};
-ghost use Rattle.archive_check.specs.BoundedSizes.{times as times_of, fits, rounded};
+ghost use Rattle.archive_check.specs.Words.BoundedSizes.{times as times_of, fits, rounded};
 ghost use Rattle.archive_schema.specs.check.Runs.{pointer_bytes};
-ghost use Rattle.archive_check.specs.PlainData.{is_plain_kind};
+ghost use Rattle.archive_check.specs.Words.PlainData.{is_plain_kind};
 ghost use Rattle.archive_schema.specs.plan.BoundedSizes.{sum_of, greater_of};
 
 use crate::plan::PointeeKind;

@@ -3,7 +3,7 @@
 ghost use Rattle.std.specs.Prelude.{◌≡◌, ◌<◌, true, IfOk, OnOk, IsSome, [], Some};
 ghost use Rattle.archive_check.specs.Layout.{kind_size, kind_align};
 ghost use Rattle.archive_check.specs.Expressions.{kind_of};
-ghost use Rattle.archive_check.specs.PlainData.{is_plain_kind};
+ghost use Rattle.archive_check.specs.Words.PlainData.{is_plain_kind};
 ghost use Rattle.archive_schema.specs.plan.PlanGrowth.{node_of, lists_of, no_lists, nothing_to_check, IsPushed, IsTypeAdded, type_of, IsMade, IsLeafMade, IsPartAdded, IsVariantAdded, PartsLaid, VariantsLaid};
 ghost use Rattle.archive_schema.specs.plan.Shallow.{is_free as is_free_kind};
 

@@ -1,7 +1,7 @@
 //! Which nodes of a plan are shallow: they lead to nothing but bytes that are legal whatever they are, and texts.
 
 ghost use Rattle.std.specs.Prelude.{◌≡◌, length, IfOk, IsTrue};
-ghost use Rattle.archive_check.specs.Elements.{span};
+ghost use Rattle.archive_check.specs.Words.Elements.{span};
 ghost use Rattle.archive_schema.specs.plan.Shallow.{marked, free_at, parts_shallow, variants_shallow, IsShallowSpan, AreShallowVariants, HasRange, HasSpans, shallow_in, HasItsIndexes, AreShallowIn, AreAllMarkedIn};
 
 use crate::plan::growing::is_free;

@@ -2,9 +2,9 @@
 
 ghost use Rattle.std.specs.Prelude.{◌≡◌, ◌↔◌, List, length, OnOk, IfErr, IfSome, IsSome};
 ghost use Rattle.archive_check.specs.Value.{list};
-ghost use Rattle.archive_types.specs.Arrays.{array_meaning, array_keys, array_keyed, array_planned};
+ghost use Rattle.archive_types.specs.Members.Arrays.{array_meaning, array_keys, array_keyed, array_planned};
 ghost use Rattle.archive_types.specs.Runs.{each_flat, EachBelongs};
-ghost use Rattle.archive_types.specs.Sources.{ResolvedAs, HinderedAs};
+ghost use Rattle.archive_types.specs.Words.Sources.{ResolvedAs, HinderedAs};
 ghost use Rattle.archive_types.specs.Writing.{ZeroedPlace};
 
 use super::sources::resolve_elements;
@@ -110,7 +110,7 @@ impl<T: Archive, const N: usize> Archive for OwnedArray<T, N> {
         CopyOptimization::disable()
     }
 
-    #[tactic(auto, using(crate::proofs::Causes::goes_nowhere))]
+    #[tactic(auto, using(crate::proofs::Planning::Causes::goes_nowhere))]
     #[inline(always)]
     fn serialize_copied<S: Writer + Keys>(
         _values: &[OwnedArray<T, N>],

@@ -1,8 +1,8 @@
 // The elements of an array are read back one after another.
 
 ghost use Rattle.std.specs.Prelude.{◌≡◌, IfOk, IfErr};
-ghost use Rattle.archive_types.specs.Seen.{IsPartOf, RefusesPart};
-ghost use Rattle.archive_types.specs.Sources.{Read};
+ghost use Rattle.archive_types.specs.Words.Seen.{IsPartOf, RefusesPart};
+ghost use Rattle.archive_types.specs.Words.Sources.{Read};
 
 use super::owned::OwnedArray;
 use crate::slice::read_each;

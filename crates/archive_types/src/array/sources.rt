@@ -2,9 +2,9 @@
 
 ghost use Rattle.std.specs.Prelude.{◌≡◌, ◌*◌, length, None, OnOk, IfOk, IfErr, All};
 ghost use Rattle.archive_check.specs.Value.{list};
-ghost use Rattle.archive_types.specs.Arrays.{array_meaning, array_keys, array_keyed, array_planned};
+ghost use Rattle.archive_types.specs.Members.Arrays.{array_meaning, array_keys, array_keyed, array_planned};
 ghost use Rattle.archive_types.specs.Runs.{each_flat, EachBelongs};
-ghost use Rattle.archive_types.specs.Sources.{ResolvedAs, HinderedAs, EachResolved, EachHinderedAt};
+ghost use Rattle.archive_types.specs.Words.Sources.{ResolvedAs, HinderedAs, EachResolved, EachHinderedAt};
 ghost use Rattle.archive_types.specs.Writing.{ZeroedPlace};
 ghost use Rattle.archive_write.specs.Written.{GoesOn};
 
@@ -104,7 +104,7 @@ impl<T: Archive, const N: usize> Archive for [T; N] {
         CopyOptimization::enable_if(is_small && T::copy_optimization().is_enabled())
     }
 
-    #[tactic(auto, using(crate::proofs::Causes::goes_nowhere))]
+    #[tactic(auto, using(crate::proofs::Planning::Causes::goes_nowhere))]
     #[inline(always)]
     fn serialize_copied<S: Writer + Keys>(
         values: &[[T; N]],

@@ -1,8 +1,8 @@
 // Arrays as regions of their own: the array itself, as one value. Their elements are written as those of a slice, with no length beside.
 
 ghost use Rattle.std.specs.Prelude.{refl};
-ghost use Rattle.archive_types.specs.Arrays.{array_meaning, array_keys, array_keyed, array_planned};
-ghost use Rattle.archive_types.specs.PlannedOwners.{one_planned};
+ghost use Rattle.archive_types.specs.Members.Arrays.{array_meaning, array_keys, array_keyed, array_planned};
+ghost use Rattle.archive_types.specs.Members.PlannedOwners.{one_planned};
 
 use super::owned::OwnedArray;
 use crate::slice::serialize_in_turn;

@@ -6,9 +6,9 @@ ghost use Rattle.archive_check.specs.Shape.{boxed, one};
 ghost use Rattle.archive_check.specs.Value.{box, hole};
 ghost use Rattle.archive_types.specs.Causes.{HindersAt, IsOfWriting};
 ghost use Rattle.archive_types.specs.Inner.{IsBoxed, IsNotBoxed};
-ghost use Rattle.archive_types.specs.KindsWritten.{BoxCase, InnerResolved, InnerHindered};
-ghost use Rattle.archive_types.specs.Sources.{InnerBoxed, InnerPut, InnerUnboxed};
-ghost use Rattle.archive_types.specs.Variants.{HoldsCase};
+ghost use Rattle.archive_types.specs.Words.KindsWritten.{BoxCase, InnerResolved, InnerHindered};
+ghost use Rattle.archive_types.specs.Words.Sources.{InnerBoxed, InnerPut, InnerUnboxed};
+ghost use Rattle.archive_types.specs.Members.Variants.{HoldsCase};
 ghost use Rattle.archive_types.specs.Writing.{Resolves, to_pointee};
 ghost use Rattle.archive_write.specs.Written.{GoesOn};
 

@@ -8,17 +8,17 @@ ghost use Rattle.archive_check.specs.Entries.{ReadsBack, RefusesReading};
 ghost use Rattle.archive_check.specs.Viewed.{Viewed};
 ghost use Rattle.archive_check.specs.declared.format.error.Error.TheVariants.{LengthTooLarge, OutOfMemory};
 ghost use Rattle.archive_types.specs.Causes.{HindersAt, IsRefused};
-ghost use Rattle.archive_types.specs.Keyed.{box_keyed, each_keyed, text_keyed};
-ghost use Rattle.archive_types.specs.KindsWritten.{SliceBoxResolved, SliceBoxHindered, TextBoxResolved, TextBoxHindered, TextBoxed, TextUnboxed};
+ghost use Rattle.archive_types.specs.Members.Keyed.{box_keyed, each_keyed, text_keyed};
+ghost use Rattle.archive_types.specs.Words.KindsWritten.{SliceBoxResolved, SliceBoxHindered, TextBoxResolved, TextBoxHindered, TextBoxed, TextUnboxed};
 ghost use Rattle.archive_num.specs.Offsets.{distance, IsTooFar};
 ghost use Rattle.archive_num.specs.OwnerBytes.{owner_bytes};
-ghost use Rattle.archive_types.specs.Placed.{PointsTo, AtOnce};
-ghost use Rattle.archive_types.specs.Planned.{text_planned};
-ghost use Rattle.archive_types.specs.PlannedOwners.{box_planned, one_planned, slice_planned};
+ghost use Rattle.archive_types.specs.Words.Placed.{PointsTo, AtOnce};
+ghost use Rattle.archive_types.specs.Members.Planned.{text_planned};
+ghost use Rattle.archive_types.specs.Members.PlannedOwners.{box_planned, one_planned, slice_planned};
 ghost use Rattle.archive_types.specs.Plans.{Serialized};
 ghost use Rattle.archive_types.specs.Runs.{each_keys, each_meaning};
-ghost use Rattle.archive_types.specs.Seen.{IsPartOf, RefusesPart};
-ghost use Rattle.archive_types.specs.Sources.{Read, SliceBoxed, SliceUnboxed};
+ghost use Rattle.archive_types.specs.Words.Seen.{IsPartOf, RefusesPart};
+ghost use Rattle.archive_types.specs.Words.Sources.{Read, SliceBoxed, SliceUnboxed};
 ghost use Rattle.archive_types.specs.Writing.{ZeroedPlace, Resolves, to_pointee};
 ghost use Rattle.archive_write.specs.Written.{GoesOn};
 
@@ -96,7 +96,7 @@ impl<S: Writer + ResolverAlloc, T: Serialize<S>> Serialize<S> for BoxSlice<T> {
     /// Writes what each element owns, in order, and then all elements as one region. Refused with `LengthTooLarge`, 5, before anything is written,
     /// exactly where there are more than 4,294,967,295 elements, with `PositionTooLarge`, 4, where they stand above 4,294,967,295, and else as
     /// `serialize_unsized` of a `Slice` refuses.
-    #[tactic(auto, using(crate::proofs::Owners::serialized_box, crate::proofs::Owners::box_refused, crate::proofs::Owners::far_box_refused))]
+    #[tactic(auto, using(crate::proofs::Planning::Owners::serialized_box, crate::proofs::Planning::Owners::box_refused, crate::proofs::Planning::Owners::far_box_refused))]
     fn serialize(&self, serializer: &mut S) -> Result<BoxResolver, Error>
         ensures serialized { IfOk result (SliceBoxed T.Archive T.Archived.Portable self.now.items.items S.Keys serializer) }
         ensures same_value { OnOk result (length self.now.items.items ≤ 4294967295) }
@@ -198,7 +198,7 @@ impl Archive for BoxStr {
 impl<S: Writer + ResolverAlloc> Serialize<S> for BoxStr {
     /// Writes the text as a region of its own. Refused with `LengthTooLarge`, 5, before anything is written, exactly where it is longer than
     /// 4,294,967,295 bytes, with `PositionTooLarge`, 4, where it stands above 4,294,967,295, and else as the writer refuses.
-    #[tactic(auto, using(crate::proofs::Owners::serialized_box, crate::proofs::Owners::box_refused, crate::proofs::Owners::far_box_refused))]
+    #[tactic(auto, using(crate::proofs::Planning::Owners::serialized_box, crate::proofs::Planning::Owners::box_refused, crate::proofs::Planning::Owners::far_box_refused))]
     fn serialize(&self, serializer: &mut S) -> Result<BoxResolver, Error>
         ensures serialized { IfOk result (TextBoxed (string_bytes self.now.text) S.Keys serializer) }
         ensures same_value { OnOk result (length (string_bytes self.now.text) ≤ 4294967295) }

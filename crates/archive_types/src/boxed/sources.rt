@@ -7,14 +7,14 @@ ghost use Rattle.archive_check.specs.Layout.{pointer_size, has_length};
 ghost use Rattle.archive_check.specs.Value.{box, hole};
 ghost use Rattle.archive_check.specs.declared.format.error.Error.TheVariants.{LengthTooLarge};
 ghost use Rattle.archive_types.specs.Causes.{HindersAt, IsRefused};
-ghost use Rattle.archive_types.specs.Keyed.{box_keyed};
-ghost use Rattle.archive_types.specs.KindsWritten.{BoxResolved, BoxHindered};
+ghost use Rattle.archive_types.specs.Members.Keyed.{box_keyed};
+ghost use Rattle.archive_types.specs.Words.KindsWritten.{BoxResolved, BoxHindered};
 ghost use Rattle.archive_num.specs.Offsets.{distance, IsTooFar};
 ghost use Rattle.archive_num.specs.OwnerBytes.{owner_bytes};
-ghost use Rattle.archive_types.specs.Placed.{IsTooFarFrom, PointsTo, IsNoPointer};
-ghost use Rattle.archive_types.specs.PlannedOwners.{one_planned, boxed_one_planned};
+ghost use Rattle.archive_types.specs.Words.Placed.{IsTooFarFrom, PointsTo, IsNoPointer};
+ghost use Rattle.archive_types.specs.Members.PlannedOwners.{one_planned, boxed_one_planned};
 ghost use Rattle.archive_types.specs.Plans.{Serialized};
-ghost use Rattle.archive_types.specs.Sources.{BoxSerialized, BoxRefused, OneBoxed, OneUnboxed};
+ghost use Rattle.archive_types.specs.Words.Sources.{BoxSerialized, BoxRefused, OneBoxed, OneUnboxed};
 ghost use Rattle.archive_types.specs.Writing.{ZeroedPlace, Resolves, to_pointee};
 ghost use Rattle.archive_write.specs.Written.{GoesOn};
 
@@ -57,7 +57,7 @@ impl BoxResolver {
 impl<T: PortablePointee> ArchivedBox<T> {
     /// Writes what `value` owns and then its region, and answers where. It asks nothing. Refused with `PositionTooLarge`, 4, where the region stands
     /// above 4,294,967,295, and as `serialize_unsized` of `value` refuses.
-    #[tactic(auto, using(crate::proofs::Owners::serialized_box, crate::proofs::Owners::box_refused, crate::proofs::Owners::far_box_refused))]
+    #[tactic(auto, using(crate::proofs::Planning::Owners::serialized_box, crate::proofs::Planning::Owners::box_refused, crate::proofs::Planning::Owners::far_box_refused))]
     pub fn serialize_from_ref<S: Writer, U: SerializeUnsized<S, Archived = T>>(
         value: &U,
         serializer: &mut S,
@@ -74,7 +74,7 @@ impl<T: PortablePointee> ArchivedBox<T> {
     /// Writes the box's bytes over those of `place`, with this length of what it leads to. Asks that they are as many as the box has, and that the
     /// length is 0 where that is one value. Refused with `IsizeOverflow`, 2, or `OffsetOverflow`, 3, exactly where the offset doesn't fit; they are then
     /// unchanged. rkyv 0.8.18 takes the pointer's metadata, and panics there.
-    #[tactic(auto, using(crate::proofs::OwnersWritten::resolves_box, crate::proofs::OwnersWritten::box_hindered_at))]
+    #[tactic(auto, using(crate::proofs::Writing::OwnersWritten::resolves_box, crate::proofs::Writing::OwnersWritten::box_hindered_at))]
     pub fn resolve_from_raw_parts(
         resolver: BoxResolver,
         count: FixedUsize,
@@ -151,7 +151,7 @@ impl<T: Archive> Archive for Box<T> {
 impl<S: Writer + ResolverAlloc, T: Serialize<S>> Serialize<S> for Box<T> {
     /// Writes what the value owns and then the value as a region of its own. Refused with `PositionTooLarge`, 4, where it stands above 4,294,967,295,
     /// with `LayoutTooLarge`, 23, where it would end above `usize::MAX`, as the value refuses, and as the trait says it.
-    #[tactic(auto, using(crate::proofs::Owners::serialized_boxed_one, crate::proofs::Owners::boxed_one_refused, crate::proofs::Owners::far_boxed_one_refused))]
+    #[tactic(auto, using(crate::proofs::Planning::Owners::serialized_boxed_one, crate::proofs::Planning::Owners::boxed_one_refused, crate::proofs::Planning::Owners::far_boxed_one_refused))]
     fn serialize(&self, serializer: &mut S) -> Result<BoxResolver, Error>
         ensures serialized { IfOk result (OneBoxed T.Archived.ArchivePointee T.Archive self.now.value S.Keys serializer) }
         ensures same_value { ⊤ }

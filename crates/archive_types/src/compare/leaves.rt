@@ -8,7 +8,7 @@ ghost use Rattle.archive_check.specs.Reads.{bytes_at};
 ghost use Rattle.archive_check.specs.Definitions.{no_definition};
 ghost use Rattle.archive_check.specs.Shape.{leaf, non_zero, one};
 ghost use Rattle.archive_types.specs.Compared.{level_fed, level_values};
-ghost use Rattle.archive_types.specs.OrderedParts.{as_pointee, leaves_ordered, non_zero_law, non_zero_size};
+ghost use Rattle.archive_types.specs.Members.OrderedParts.{as_pointee, leaves_ordered, non_zero_law, non_zero_size};
 
 use super::Ordered;
 use crate::primitive::Plain;

@@ -4,8 +4,8 @@ ghost use Rattle.std.specs.Prelude.{◌≡◌, ◌+◌, ◌*◌, ◌<◌, fold};
 ghost use Rattle.std.specs.Hash as fed;
 ghost use Rattle.archive_check.specs.Shape.{one};
 ghost use Rattle.archive_types.specs.Compared.{elements, slices, slices_total, slices_fed};
-ghost use Rattle.archive_types.specs.OrderedParts.{as_pointee, slices_ordered};
-ghost use Rattle.archive_types.specs.Seen.{shown, element_shown};
+ghost use Rattle.archive_types.specs.Members.OrderedParts.{as_pointee, slices_ordered};
+ghost use Rattle.archive_types.specs.Words.Seen.{shown, element_shown};
 
 use super::Ordered;
 use super::runs::skip_level;

@@ -12,8 +12,8 @@ ghost use Rattle.archive_check.specs.Definitions.{no_definition};
 ghost use Rattle.archive_check.specs.Shape.{leaf, non_zero, str, one};
 ghost use Rattle.archive_check.specs.Value.{number, text_value};
 ghost use Rattle.archive_types.specs.Compared.{Standing, standing, number_alike};
-ghost use Rattle.archive_types.specs.OrderedParts.{as_native_pointee, leaves_native, non_zero_law, non_zero_size};
-ghost use Rattle.archive_types.specs.Seen.{shown, ViewComparesTo, ViewEquals};
+ghost use Rattle.archive_types.specs.Members.OrderedParts.{as_native_pointee, leaves_native, non_zero_law, non_zero_size};
+ghost use Rattle.archive_types.specs.Words.Seen.{shown, ViewComparesTo, ViewEquals};
 ghost use Rattle.archive_types.specs.ValueOrder.{OrdersNative};
 
 use super::Ordered;
@@ -45,7 +45,7 @@ pub trait CompareNative<U: Archive>: Ordered {
 
 impl<'a, T: Ordered> Ref<'a, T> {
     /// The order of what the view shows and a value of the machine. Our own.
-    #[tactic(auto, using(crate::proofs::ComparedValues::compares))]
+    #[tactic(auto, using(crate::proofs::Comparing::ComparedValues::compares))]
     pub fn cmp_native<U: Archive>(self, value: &U) -> Ordering
     where
         T: CompareNative<U>,
@@ -56,7 +56,7 @@ impl<'a, T: Ordered> Ref<'a, T> {
     }
 
     /// Whether what the view shows equals a value of the machine. Our own.
-    #[tactic(auto, using(crate::proofs::ComparedValues::equals))]
+    #[tactic(auto, using(crate::proofs::Comparing::ComparedValues::equals))]
     pub fn eq_native<U: Archive>(self, value: &U) -> bool
     where
         T: CompareNative<U>,

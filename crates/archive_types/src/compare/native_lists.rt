@@ -7,10 +7,10 @@ ghost use Rattle.archive_check.specs.Definitions.{both};
 ghost use Rattle.archive_check.specs.Shape.{one, vec};
 ghost use Rattle.archive_check.specs.Value.{list};
 ghost use Rattle.archive_types.specs.Compared.{elements, value_of, option_order, result_order};
-ghost use Rattle.archive_types.specs.Options.{option_meaning};
-ghost use Rattle.archive_types.specs.Results.{result_meaning};
+ghost use Rattle.archive_types.specs.Members.Options.{option_meaning};
+ghost use Rattle.archive_types.specs.Members.Results.{result_meaning};
 ghost use Rattle.archive_types.specs.Runs.{each_meaning};
-ghost use Rattle.archive_types.specs.Seen.{shown, ViewComparesTo, ViewEquals, elements_shown, elements_in, element_shown, result_to};
+ghost use Rattle.archive_types.specs.Words.Seen.{shown, ViewComparesTo, ViewEquals, elements_shown, elements_in, element_shown, result_to};
 
 use super::CompareNative;
 use crate::option::ArchivedOption;
@@ -33,7 +33,7 @@ impl<'a, T: Portable> Ref<'a, ArchivedSlice<T>> {
     }
 
     /// Whether the elements equal those of a slice of the machine, and are as many. Our own.
-    #[tactic(auto, using(crate::proofs::ComparedValues::slice_equals))]
+    #[tactic(auto, using(crate::proofs::Comparing::ComparedValues::slice_equals))]
     pub fn eq_slice<U: Archive>(self, values: &[U]) -> bool
     where
         T: CompareNative<U>,
@@ -56,7 +56,7 @@ impl<'a, T: Portable> Ref<'a, ArchivedVec<T>> {
     }
 
     /// Whether the elements equal those of a slice of the machine, and are as many. Our own.
-    #[tactic(auto, using(crate::proofs::ComparedValues::vec_equals))]
+    #[tactic(auto, using(crate::proofs::Comparing::ComparedValues::vec_equals))]
     pub fn eq_slice<U: Archive>(self, values: &[U]) -> bool
     where
         T: CompareNative<U>,
@@ -79,7 +79,7 @@ impl<'a, T: Portable> Ref<'a, ArchivedOption<T>> {
     }
 
     /// Whether the option equals one of the machine. Our own.
-    #[tactic(auto, using(crate::proofs::ComparedValues::option_equals))]
+    #[tactic(auto, using(crate::proofs::Comparing::ComparedValues::option_equals))]
     pub fn eq_option<U: Archive>(self, option: &Option<U>) -> bool
     where
         T: CompareNative<U>,

@@ -7,8 +7,8 @@ ghost use Rattle.archive_check.specs.Readable.{string_text};
 ghost use Rattle.archive_check.specs.Definitions.{no_definition};
 ghost use Rattle.archive_check.specs.Shape.{one};
 ghost use Rattle.archive_types.specs.Compared.{elements, pointee_at, slice_of, value_of, option_order};
-ghost use Rattle.archive_types.specs.ComparedNative.{text_alike, lists_alike, option_alike, strings_native, boxes_native, vecs_native};
-ghost use Rattle.archive_types.specs.OrderedParts.{as_native_pointee, option_native};
+ghost use Rattle.archive_types.specs.Members.ComparedNative.{text_alike, lists_alike, option_alike, strings_native, boxes_native, vecs_native};
+ghost use Rattle.archive_types.specs.Members.OrderedParts.{as_native_pointee, option_native};
 
 use super::CompareNative;
 use crate::boxed::ArchivedBox;

@@ -8,7 +8,7 @@ ghost use Rattle.std.specs.Option.{option_cmp};
 ghost use Rattle.std.specs.Ordering.{on};
 ghost use Rattle.archive_check.specs.Shape.{one};
 ghost use Rattle.archive_types.specs.Compared.{value_of, option_fed};
-ghost use Rattle.archive_types.specs.OrderedParts.{as_pointee, options_ordered};
+ghost use Rattle.archive_types.specs.Members.OrderedParts.{as_pointee, options_ordered};
 
 use super::Ordered;
 use crate::option::ArchivedOption;

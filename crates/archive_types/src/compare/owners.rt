@@ -6,8 +6,8 @@ ghost use Rattle.std.specs.Hash as fed;
 ghost use Rattle.std.specs.Ordering.{on};
 ghost use Rattle.archive_check.specs.Shape.{one};
 ghost use Rattle.archive_types.specs.Compared.{elements, pointee_at, slice_of, slices, slices_total, slices_fed};
-ghost use Rattle.archive_types.specs.OrderedParts.{as_pointee, boxes_ordered, shared_ordered, slices_ordered, vecs_ordered};
-ghost use Rattle.archive_types.specs.SharedLaws.{flavor_as};
+ghost use Rattle.archive_types.specs.Members.OrderedParts.{as_pointee, boxes_ordered, shared_ordered, slices_ordered, vecs_ordered};
+ghost use Rattle.archive_types.specs.Members.SharedLaws.{flavor_as};
 
 use super::Ordered;
 use crate::boxed::ArchivedBox;

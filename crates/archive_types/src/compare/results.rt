@@ -8,7 +8,7 @@ ghost use Rattle.std.specs.Result.{result_cmp};
 ghost use Rattle.archive_check.specs.Shape.{one};
 ghost use Rattle.archive_enum.specs.Orders.{results_total};
 ghost use Rattle.archive_types.specs.Compared.{result_in, result_fed};
-ghost use Rattle.archive_types.specs.OrderedParts.{as_pointee, results_ordered};
+ghost use Rattle.archive_types.specs.Members.OrderedParts.{as_pointee, results_ordered};
 
 use super::Ordered;
 use crate::result::ArchivedResult;

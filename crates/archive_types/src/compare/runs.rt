@@ -3,7 +3,7 @@
 ghost use Rattle.std.specs.Prelude.{◌≡◌, ◌+◌, ◌*◌, ◌<◌, ◌≤◌, IsTrue};
 ghost use Rattle.archive_check.specs.Reads.{bytes_at};
 ghost use Rattle.archive_types.specs.Compared.{AreLevelBetween, AreSameFrom};
-ghost use Rattle.archive_types.specs.Seen.{shown};
+ghost use Rattle.archive_types.specs.Words.Seen.{shown};
 
 use super::Ordered;
 use crate::slice::ArchivedSlice;

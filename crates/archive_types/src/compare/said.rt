@@ -3,7 +3,7 @@
 ghost use Rattle.std.specs.Prelude.{◌≡◌};
 ghost use Rattle.archive_types.specs.MeantOrder.{OrdersMeant};
 ghost use Rattle.archive_types.specs.SaidOrder.{OrdersSaid};
-ghost use Rattle.archive_types.specs.Seen.{shown};
+ghost use Rattle.archive_types.specs.Words.Seen.{shown};
 
 use super::Ordered;
 use crate::view::Ref;

@@ -10,7 +10,7 @@ ghost use Rattle.archive_check.specs.Reads.{bytes_at};
 ghost use Rattle.archive_check.specs.Readable.{string_text};
 ghost use Rattle.archive_check.specs.Definitions.{no_definition};
 ghost use Rattle.archive_types.specs.Compared.{text_fed};
-ghost use Rattle.archive_types.specs.OrderedParts.{texts_ordered, strings_ordered};
+ghost use Rattle.archive_types.specs.Members.OrderedParts.{texts_ordered, strings_ordered};
 
 use super::Ordered;
 use crate::string::{ArchivedStr, ArchivedString};

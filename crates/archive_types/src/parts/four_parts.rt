@@ -2,8 +2,8 @@
 
 ghost use Rattle.std.specs.Prelude.{◌++◌};
 ghost use Rattle.archive_check.specs.Value.{value};
-ghost use Rattle.archive_types.specs.Keyed.{part_keyed};
-ghost use Rattle.archive_types.specs.PartsPlanned.{part_planned};
+ghost use Rattle.archive_types.specs.Members.Keyed.{part_keyed};
+ghost use Rattle.archive_types.specs.Members.PartsPlanned.{part_planned};
 
 use super::{DeserializeParts, OwnedParts, PartOf, SerializeParts, SourceParts};
 use crate::traits::{Archive, Deserialize, Entries, FourParts, Keys, Portable, Serialize};

@@ -1,7 +1,7 @@
 // Parts that are serialized one after another.
 
 ghost use Rattle.std.specs.Prelude.{IfOk, IfErr};
-ghost use Rattle.archive_types.specs.PartsStored.{PartsStored, PartsUnstored};
+ghost use Rattle.archive_types.specs.Words.PartsStored.{PartsStored, PartsUnstored};
 ghost use Rattle.archive_write.specs.Written.{GoesOn};
 
 use super::{PartOf, SourceParts};
@@ -21,7 +21,7 @@ pub trait SerializeParts<T, S: Writer + Keys>: SourceParts<T> {
 }
 
 impl<T, S: Writer + Keys> SerializeParts<T, S> for () {
-    #[tactic(auto, using(crate::proofs::PlannedParts::serialized_no_part))]
+    #[tactic(auto, using(crate::proofs::Planning::PlannedParts::serialized_no_part))]
     #[inline(always)]
     fn serialize_parts(_whole: &T, _serializer: &mut S) -> Result<(), Error> {
         Ok(())

@@ -1,9 +1,9 @@
 // The parts of a place, resolved where they lie: a record's fields, an array's elements, and what stands behind a choice's tag.
 
 ghost use Rattle.std.specs.Prelude.{◌≡◌, ◌+◌, ◌*◌, ◌<◌, ◌≤◌, ◌^◌, Some, length, OnOk, IfErr};
-ghost use Rattle.archive_check.specs.PartsLayout.{part_at};
-ghost use Rattle.archive_check.specs.VariantsLayout.{payload_at};
-ghost use Rattle.archive_types.specs.PlacedParts.{ChangesOnly, PartHindered, PartResolved, ZeroedPart};
+ghost use Rattle.archive_check.specs.Members.PartsLayout.{part_at};
+ghost use Rattle.archive_check.specs.Members.VariantsLayout.{payload_at};
+ghost use Rattle.archive_types.specs.Words.PlacedParts.{ChangesOnly, PartHindered, PartResolved, ZeroedPart};
 
 use super::Place;
 use crate::ser::resolve_into;

@@ -6,11 +6,11 @@ ghost use Rattle.archive_check.specs.Definitions.{Definitions};
 ghost use Rattle.archive_check.specs.Layout.{kind_size};
 ghost use Rattle.archive_check.specs.Shape.{Kind, leaf, non_zero};
 ghost use Rattle.archive_check.specs.Value.{number};
-ghost use Rattle.archive_types.specs.Keyed.{number_keyed};
-ghost use Rattle.archive_types.specs.KindsWritten.{NumberSerialized, NumberRefused};
-ghost use Rattle.archive_types.specs.Placed.{Resolved, Hindered};
-ghost use Rattle.archive_types.specs.Planned.{leaf_planned};
-ghost use Rattle.archive_types.specs.PlannedOwners.{pointee_planned};
+ghost use Rattle.archive_types.specs.Members.Keyed.{number_keyed};
+ghost use Rattle.archive_types.specs.Words.KindsWritten.{NumberSerialized, NumberRefused};
+ghost use Rattle.archive_types.specs.Words.Placed.{Resolved, Hindered};
+ghost use Rattle.archive_types.specs.Members.Planned.{leaf_planned};
+ghost use Rattle.archive_types.specs.Members.PlannedOwners.{pointee_planned};
 ghost use Rattle.archive_types.specs.Writing.{ZeroedPlace, Resolves};
 ghost use Rattle.archive_write.specs.Written.{GoesOn};
 
@@ -175,7 +175,7 @@ impl<L: Leaf> Archive for L {
 }
 
 impl<L: Leaf, S: Writer + Keys> Serialize<S> for L {
-    #[tactic(auto, using(crate::proofs::Causes::goes_nowhere))]
+    #[tactic(auto, using(crate::proofs::Planning::Causes::goes_nowhere))]
     #[inline(always)]
     fn serialize(&self, _serializer: &mut S) -> Result<(), Error>
         ensures serialized { IfOk result (NumberSerialized L.LeafFormat.Portable (L.leaf_number self.now) S.Keys _serializer) }
@@ -212,7 +212,7 @@ impl<L: Leaf> ArchiveUnsized for L {
 }
 
 impl<L: Leaf, S: Writer + ResolverAlloc> SerializeUnsized<S> for L {
-    #[tactic(auto, using(crate::proofs::Owners::serialized_pointee, crate::proofs::Owners::pointee_refused))]
+    #[tactic(auto, using(crate::proofs::Planning::Owners::serialized_pointee, crate::proofs::Planning::Owners::pointee_refused))]
     fn serialize_unsized(&self, serializer: &mut S) -> Result<usize, Error> {
         serialize_one(self, serializer)
     }

@@ -11,14 +11,14 @@ ghost use Rattle.archive_check.specs.Viewed.{Viewed};
 ghost use Rattle.archive_check.specs.Entries.{ReadsBack};
 ghost use Rattle.archive_check.specs.declared.format.error.Error.TheVariants.{NumberTooLarge};
 ghost use Rattle.archive_check.specs.LittleEndian.{little_bytes, little_number};
-ghost use Rattle.archive_types.specs.Keyed.{number_keyed};
+ghost use Rattle.archive_types.specs.Members.Keyed.{number_keyed};
 ghost use Rattle.archive_types.specs.Causes.{HindersAt, IsRefused};
-ghost use Rattle.archive_types.specs.KindsWritten.{LeafSerialized, LeafRefused, LeafResolved, LeafHindered};
-ghost use Rattle.archive_types.specs.Planned.{leaf_planned};
-ghost use Rattle.archive_types.specs.PlannedOwners.{one_planned};
+ghost use Rattle.archive_types.specs.Words.KindsWritten.{LeafSerialized, LeafRefused, LeafResolved, LeafHindered};
+ghost use Rattle.archive_types.specs.Members.Planned.{leaf_planned};
+ghost use Rattle.archive_types.specs.Members.PlannedOwners.{one_planned};
 ghost use Rattle.archive_types.specs.Plans.{Serialized};
-ghost use Rattle.archive_types.specs.Seen.{IsPartOf, part_number};
-ghost use Rattle.archive_types.specs.Sources.{Read};
+ghost use Rattle.archive_types.specs.Words.Seen.{IsPartOf, part_number};
+ghost use Rattle.archive_types.specs.Words.Sources.{Read};
 ghost use Rattle.archive_types.specs.Writing.{ZeroedPlace, Resolves};
 ghost use Rattle.archive_write.specs.Written.{GoesOn};
 
@@ -51,7 +51,7 @@ impl Archive for usize {
 
     ghost planned = { λ n. leaf_planned no_definition (leaf (number unsigned w32)) (number unsigned w32) [] (pos n) refl };
 
-    #[tactic(auto, using(crate::proofs::Resolving::resolves_usize))]
+    #[tactic(auto, using(crate::proofs::Writing::Resolving::resolves_usize))]
     fn resolve(&self, _resolver: (), place: Place<'_, ArchivedUsize>) -> Result<(), Error>
         requires zeroed { ZeroedPlace 4 place.pos place.bytes.now }
         requires same_value { self.now < 2 ^ 32 }
@@ -69,7 +69,7 @@ impl Archive for usize {
 
 impl<S: Writer + Keys> Serialize<S> for usize {
     /// Writes nothing. Refused with `NumberTooLarge`, 6, exactly where the number doesn't fit 32 bits without a sign. rkyv 0.8.18 cuts it off.
-    #[tactic(auto, using(crate::proofs::Causes::goes_nowhere, crate::proofs::Planned::usize_refused))]
+    #[tactic(auto, using(crate::proofs::Planning::Causes::goes_nowhere, crate::proofs::Planning::Planned::usize_refused))]
     fn serialize(&self, _serializer: &mut S) -> Result<(), Error>
         ensures serialized { IfOk result (LeafSerialized (number unsigned w32) (pos self.now) S.Keys _serializer) }
         ensures same_value { IfOk result (λ _. self.now < 2 ^ 32) }
@@ -146,7 +146,7 @@ impl Archive for isize {
 
     ghost planned = { λ n. leaf_planned no_definition (leaf (number signed w32)) (number signed w32) [] n refl };
 
-    #[tactic(auto, using(crate::proofs::Resolving::resolves_isize))]
+    #[tactic(auto, using(crate::proofs::Writing::Resolving::resolves_isize))]
     fn resolve(&self, _resolver: (), place: Place<'_, ArchivedIsize>) -> Result<(), Error>
         requires zeroed { ZeroedPlace 4 place.pos place.bytes.now }
         requires same_value { FitsSigned w32 self.now }
@@ -164,7 +164,7 @@ impl Archive for isize {
 
 impl<S: Writer + Keys> Serialize<S> for isize {
     /// Writes nothing. Refused with `NumberTooLarge`, 6, exactly where the number doesn't fit 32 bits with a sign. rkyv 0.8.18 cuts it off.
-    #[tactic(auto, using(crate::proofs::Causes::goes_nowhere, crate::proofs::Planned::isize_refused))]
+    #[tactic(auto, using(crate::proofs::Planning::Causes::goes_nowhere, crate::proofs::Planning::Planned::isize_refused))]
     fn serialize(&self, _serializer: &mut S) -> Result<(), Error>
         ensures serialized { IfOk result (LeafSerialized (number signed w32) self.now S.Keys _serializer) }
         ensures same_value { IfOk result (λ _. FitsSigned w32 self.now) }

@@ -7,8 +7,8 @@ ghost use Rattle.archive_check.specs.Reads.{i32_at, length_at};
 ghost use Rattle.archive_check.specs.Shape.{one, shared, weak};
 ghost use Rattle.archive_check.specs.Value.{null, shared_value};
 ghost use Rattle.archive_check.specs.Viewed.{Says};
-ghost use Rattle.archive_types.specs.Seen.{ShowsValue, StandsBeside, IsTargetOf};
-ghost use Rattle.archive_types.specs.SharedLaws.{flavor_as};
+ghost use Rattle.archive_types.specs.Words.Seen.{ShowsValue, StandsBeside, IsTargetOf};
+ghost use Rattle.archive_types.specs.Members.SharedLaws.{flavor_as};
 ghost use Rattle.archive_types.specs.Standing.{StandsWith, view};
 
 use super::{ArchivedRc, ArchivedRcWeak, Flavor};

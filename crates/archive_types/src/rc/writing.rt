@@ -10,10 +10,10 @@ ghost use Rattle.archive_check.specs.declared.format.error.Error.TheVariants.{Cy
 ghost use Rattle.archive_types.specs.Causes.{HindersAt, IsRefused};
 ghost use Rattle.archive_num.specs.Offsets.{distance, IsTooFar};
 ghost use Rattle.archive_num.specs.OwnerBytes.{owner_bytes};
-ghost use Rattle.archive_types.specs.Placed.{IsTooFarFrom};
+ghost use Rattle.archive_types.specs.Words.Placed.{IsTooFarFrom};
 ghost use Rattle.archive_types.specs.Plans.{Serialized};
-ghost use Rattle.archive_types.specs.SharedLaws.{flavor_as, naming_of, weak_value, weak_keys, weak_count, weak_flat};
-ghost use Rattle.archive_types.specs.SharedWriting.{AnswersPending, SharedResolved, SharedHindered, WeakResolved, WeakHindered, IsShared, IsntShared, IsWeak, IsntWeak};
+ghost use Rattle.archive_types.specs.Members.SharedLaws.{flavor_as, naming_of, weak_value, weak_keys, weak_count, weak_flat};
+ghost use Rattle.archive_types.specs.Words.SharedWriting.{AnswersPending, SharedResolved, SharedHindered, WeakResolved, WeakHindered, IsShared, IsntShared, IsWeak, IsntWeak};
 ghost use Rattle.archive_types.specs.Writing.{Resolves, to_shared};
 ghost use Rattle.archive_write.specs.Written.{GoesOn};
 
@@ -80,7 +80,7 @@ pub fn write_shared<F: Flavor, U: SerializeUnsized<S>, S: Sharing + Writer>(
 /// Writes the bytes of a pointer at `pos` to `target`, both in bytes from the buffer's first one, with the length `count`. Asks for as many bytes as the
 /// pointer has, and that one value has the length 0. Refused with `IsizeOverflow`, 2, or `OffsetOverflow`, 3, exactly where the offset doesn't fit. Our
 /// own.
-#[tactic(auto, using(crate::proofs::Owned::size_by_length))]
+#[tactic(auto, using(crate::proofs::Writing::Owned::size_by_length))]
 pub fn write_pointer<T: PortablePointee>(
     target: usize,
     count: FixedUsize,
@@ -117,7 +117,7 @@ where
     /// 4,294,967,295 elements or bytes; with `PositionTooLarge`, 4, where it stands above 4,294,967,295; as the value refuses, and as the writer does
     /// (`OutOfMemory`, 1; `BufferOverflow`, 8; `WriterFailed`, 9). After a refusal, too, the bytes from before are a beginning of those that
     /// `serializer` holds. As in rkyv 0.8.18, with a key in place of an address.
-    #[tactic(auto, using(crate::proofs::SharedWritten::far_shared_refused, crate::proofs::SharedWritten::long_shared_refused))]
+    #[tactic(auto, using(crate::proofs::SharedValues::SharedWritten::far_shared_refused, crate::proofs::SharedValues::SharedWritten::long_shared_refused))]
     pub fn serialize_from_ref<U: SerializeUnsized<S, Archived = T>, S: Sharing + Writer>(
         key: u64,
         value: &U,
@@ -141,7 +141,7 @@ where
     /// has, and that there are at most 4,294,967,295 elements or bytes; `resolver` should be the answer of `serialize_from_ref` for `value`. Refused
     /// with `IsizeOverflow`, 2, or `OffsetOverflow`, 3, exactly where the offset to the value doesn't fit; the bytes are then unchanged. rkyv 0.8.18
     /// panics there.
-    #[tactic(auto, using(crate::proofs::SharedBytes::resolves_shared, crate::proofs::SharedBytes::shared_hindered_at))]
+    #[tactic(auto, using(crate::proofs::SharedValues::SharedBytes::resolves_shared, crate::proofs::SharedValues::SharedBytes::shared_hindered_at))]
     pub fn resolve_from_ref<U: ArchiveUnsized<Archived = T>>(
         value: &U,
         resolver: RcResolver,
@@ -179,7 +179,7 @@ where
     T::ArchivedMetadata: Drop,
 {
     /// Writes `value`, where there is one, as `ArchivedRc::serialize_from_ref` does, with its refusals; where there is none, nothing, and it isn't refused.
-    #[tactic(auto, using(crate::proofs::SharedWritten::weak_serialized, crate::proofs::SharedWritten::weak_refused, crate::proofs::SharedWritten::null_serialized, crate::proofs::Causes::goes_nowhere))]
+    #[tactic(auto, using(crate::proofs::SharedValues::SharedWritten::weak_serialized, crate::proofs::SharedValues::SharedWritten::weak_refused, crate::proofs::SharedValues::SharedWritten::null_serialized, crate::proofs::Planning::Causes::goes_nowhere))]
     pub fn serialize_from_ref<U: SerializeUnsized<S, Archived = T>, S: Sharing + Writer>(
         key: u64,
         value: Option<&U>,
@@ -203,7 +203,7 @@ where
     /// Writes the pointer's bytes over those of `place`: a null where `resolver` is none, which is never refused. Asks what
     /// `ArchivedRc::resolve_from_ref` asks, and refuses as it does; with `OffsetOverflow`, 3, also where the value stands one byte behind the pointer,
     /// which the offset 1 of a null would say. rkyv 0.8.18 panics in place of a refusal.
-    #[tactic(auto, using(crate::proofs::SharedBytes::resolves_weak, crate::proofs::SharedBytes::resolves_null, crate::proofs::SharedBytes::weak_hindered_at, crate::proofs::SharedBytes::null_hindered_at))]
+    #[tactic(auto, using(crate::proofs::SharedValues::SharedBytes::resolves_weak, crate::proofs::SharedValues::SharedBytes::resolves_null, crate::proofs::SharedValues::SharedBytes::weak_hindered_at, crate::proofs::SharedValues::SharedBytes::null_hindered_at))]
     pub fn resolve_from_ref<U: ArchiveUnsized<Archived = T>>(
         value: Option<&U>,
         resolver: RcWeakResolver,

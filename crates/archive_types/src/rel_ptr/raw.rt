@@ -8,10 +8,10 @@ ghost use Rattle.archive_check.specs.Definitions.{no_definition};
 ghost use Rattle.archive_check.specs.Expressions.{kind_of};
 ghost use Rattle.archive_check.specs.Layout.{kind_size};
 ghost use Rattle.archive_check.specs.SelfCheck.Laws.{leaf_check};
-ghost use Rattle.archive_check.specs.LeafLayout.{leaf_layout, leaf_align, leaf_has_layout, no_definition_reached};
+ghost use Rattle.archive_check.specs.Members.LeafLayout.{leaf_layout, leaf_align, leaf_has_layout, no_definition_reached};
 ghost use Rattle.archive_check.specs.declared.format.error.Error.TheVariants.{OffsetOverflow};
 ghost use Rattle.archive_num.specs.Offsets.{distance, Fits, IsBeyond, offset_bytes, offset_at};
-ghost use Rattle.archive_types.specs.OffsetsWritten.{OffsetWritten, OffsetPut};
+ghost use Rattle.archive_types.specs.Words.OffsetsWritten.{OffsetWritten, OffsetPut};
 
 use super::{Offset, OffsetNumber, signed_offset};
 use crate::place::Place;

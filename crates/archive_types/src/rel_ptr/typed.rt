@@ -7,15 +7,15 @@ ghost use Rattle.archive_check.specs.SelfCheck.Laws.{by_schema};
 ghost use Rattle.archive_check.specs.Shape.{one, parts};
 ghost use Rattle.archive_check.specs.Definitions.{no_definition};
 ghost use Rattle.archive_check.specs.Expressions.{shape_of};
-ghost use Rattle.archive_check.specs.LeafLayout.{no_definition_reached};
+ghost use Rattle.archive_check.specs.Members.LeafLayout.{no_definition_reached};
 ghost use Rattle.archive_check.specs.LittleEndian.{little_bytes};
 ghost use Rattle.archive_check.specs.declared.format.error.Error.TheVariants.{OutOfMemory, OffsetOverflow};
 ghost use Rattle.archive_num.specs.Offsets.{distance, offset_at};
-ghost use Rattle.archive_types.specs.OffsetsWritten.{RelWritten, RelPut, InvalidPut};
-ghost use Rattle.archive_types.specs.PointersWritten.{PointerPut};
+ghost use Rattle.archive_types.specs.Words.OffsetsWritten.{RelWritten, RelPut, InvalidPut};
+ghost use Rattle.archive_types.specs.Words.PointersWritten.{PointerPut};
 ghost use Rattle.archive_types.specs.RelativePointers.{rel_parts, length_begin, rel_layout, written_at};
-ghost use Rattle.archive_types.specs.RelativeLayout.{rel_align, rel_has_layout};
-ghost use Rattle.archive_types.specs.LengthsSeen.{length_of};
+ghost use Rattle.archive_types.specs.Members.RelativeLayout.{rel_align, rel_has_layout};
+ghost use Rattle.archive_types.specs.Words.LengthsSeen.{length_of};
 
 use super::metadata::Metadata;
 use super::raw::{raw_kind, read_offset, write_offset};
@@ -47,7 +47,7 @@ fn length_begin<N: Integer>() -> usize
 }
 
 // The record of an offset alone.
-#[tactic(auto, using(crate::proofs::Records::record_shape))]
+#[tactic(auto, using(crate::proofs::Writing::Records::record_shape))]
 fn record_of_one<N: Integer>(alloc: Global) -> Result<Expr, Error>
     ensures shape { IfOk result (λ e. shape_of e ≡ parts (rel_parts N.sign N.width false)) }
     ensures refused { IfErr result (λ e. e ≡ OutOfMemory) }
@@ -57,7 +57,7 @@ fn record_of_one<N: Integer>(alloc: Global) -> Result<Expr, Error>
 }
 
 // The record of an offset and a length.
-#[tactic(auto, using(crate::proofs::Records::record_shape))]
+#[tactic(auto, using(crate::proofs::Writing::Records::record_shape))]
 fn record_of_two<N: Integer>(alloc: Global) -> Result<Expr, Error>
     ensures shape { IfOk result (λ e. shape_of e ≡ parts (rel_parts N.sign N.width true)) }
     ensures refused { IfErr result (λ e. e ≡ OutOfMemory) }

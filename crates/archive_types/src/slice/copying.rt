@@ -3,11 +3,11 @@
 ghost use Rattle.std.specs.Prelude.{◌≡◌, ◌+◌, ◌*◌, ◌^◌, ◌++◌, ◌<◌, ◌≤◌, IfOk, OnOk, IfErr, IsOk, IsErrOf, IsTrue, IsFalse, length, take, None};
 ghost use Rattle.archive_check.specs.WriterState.{KeepsKeys};
 ghost use Rattle.archive_types.specs.Copies.{each_bytes, copies_from};
-ghost use Rattle.archive_types.specs.KindsWritten.{OwnsNothingAs, EachCopiedAs};
-ghost use Rattle.archive_types.specs.Sources.{SliceStored, SliceUnstored, CopiesStored, CopiesStoredIf, CopiesUnstored, CopiesInBulkIf, CopiesNotInBulk};
+ghost use Rattle.archive_types.specs.Words.KindsWritten.{OwnsNothingAs, EachCopiedAs};
+ghost use Rattle.archive_types.specs.Words.Sources.{SliceStored, SliceUnstored, CopiesStored, CopiesStoredIf, CopiesUnstored, CopiesInBulkIf, CopiesNotInBulk};
 ghost use Rattle.archive_write.specs.Written.{GoesOn};
-ghost use Rattle.archive_types.specs.CopiesWritten.{AllCopied, PiecesUnwritten, CopyRefused, CopiesRefused, Takes, AddedAligned};
-ghost use Rattle.archive_types.specs.Placed.{BytesAdded, WriteRefused};
+ghost use Rattle.archive_types.specs.Words.CopiesWritten.{AllCopied, PiecesUnwritten, CopyRefused, CopiesRefused, Takes, AddedAligned};
+ghost use Rattle.archive_types.specs.Words.Placed.{BytesAdded, WriteRefused};
 
 use crate::ser::run_fits;
 use crate::traits::{Copied, CopiedSource, Keys};
@@ -26,7 +26,7 @@ const BLOCK: usize = 4096;
 const LARGE_BLOCK: usize = 16_384;
 
 // Writes the bytes of values, which take no more than `bytes`. Nothing is written where they have none.
-#[tactic(auto, using(crate::proofs::Causes::goes_written, crate::proofs::Causes::goes_refused, crate::proofs::Causes::goes_nowhere))]
+#[tactic(auto, using(crate::proofs::Planning::Causes::goes_written, crate::proofs::Planning::Causes::goes_refused, crate::proofs::Planning::Causes::goes_nowhere))]
 #[inline(always)]
 fn write_piece<W: Writer, T: Copied>(
     values: &[T],
@@ -49,7 +49,7 @@ fn write_piece<W: Writer, T: Copied>(
 }
 
 // How many values of so many bytes are written at once, of `count` that are left: as many times `together` as fit `room` bytes.
-#[tactic(auto, using(crate::proofs::Copies::fits_piece, crate::proofs::Copies::some_fit))]
+#[tactic(auto, using(crate::proofs::Copying::Copies::fits_piece, crate::proofs::Copying::Copies::some_fit))]
 #[inline(always)]
 fn count_at_once(size: usize, together: usize, count: usize, room: usize) -> usize
     requires joined { 0 < together }
@@ -96,7 +96,7 @@ fn copy_by<W: Writer, T: Copied, const N: usize>(
 }
 
 // Writes the bytes of values, which take no more than `bytes`, where the writer has the room for them at hand.
-#[tactic(auto, using(crate::proofs::Causes::goes_if))]
+#[tactic(auto, using(crate::proofs::Planning::Causes::goes_if))]
 #[inline(always)]
 fn write_block<W: Writer, T: Copied>(values: &[T], bytes: &mut [u8], writer: &mut W) -> bool
     requires sized { length bytes.old ≡ length values.now * T.CopiedAs.layout.size }
@@ -301,7 +301,7 @@ pub fn copy_slice<S: Writer + Keys, T: CopiedSource>(
 
 /// The same, so many values `together` always in one piece: those of an array. Where these have more than 1,024 bytes, nothing is written, and no position
 /// is answered. An own type's `serialize_copied` is this call. Our own.
-#[tactic(auto, using(crate::proofs::Causes::goes_nowhere))]
+#[tactic(auto, using(crate::proofs::Planning::Causes::goes_nowhere))]
 #[inline(always)]
 pub fn copy_groups<S: Writer + Keys, T: Copied>(
     values: &[T],

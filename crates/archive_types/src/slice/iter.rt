@@ -3,7 +3,7 @@
 ghost use Rattle.std.specs.Prelude.{◌≡◌, ◌+◌, ◌*◌, ◌-◌, ◌≤◌, ◌<◌};
 ghost use Rattle.std.specs.Iterator.{YieldsFirstBy, YieldsLastBy, item_count};
 ghost use Rattle.archive_check.specs.Viewed.{Viewed};
-ghost use Rattle.archive_types.specs.Seen.{elements_between, elements_shown, first_elements, shown};
+ghost use Rattle.archive_types.specs.Words.Seen.{elements_between, elements_shown, first_elements, shown};
 ghost use Rattle.archive_types.specs.Views.{AreViewed};
 
 use super::ArchivedSlice;
@@ -90,7 +90,7 @@ impl<'a, T: Portable> Iterator for Iter<'a, T> {
         Some(item)
     }
 
-    #[tactic(auto, using(crate::proofs::Compared::count))]
+    #[tactic(auto, using(crate::proofs::Comparing::Compared::count))]
     fn size_hint(&self) -> (usize, Option<usize>) {
         let left = self.len();
         (left, Some(left))
@@ -111,7 +111,7 @@ impl<'a, T: Portable> DoubleEndedIterator for Iter<'a, T> {
 }
 
 impl<'a, T: Portable> ExactSizeIterator for Iter<'a, T> {
-    #[tactic(auto, using(crate::proofs::Compared::count))]
+    #[tactic(auto, using(crate::proofs::Comparing::Compared::count))]
     fn len(&self) -> usize {
         self.back - self.front
     }

@@ -9,8 +9,8 @@ ghost use Rattle.archive_check.specs.Entries.{ReadsBack, RefusesReading};
 ghost use Rattle.archive_types.specs.ElementsRead.{ReadsEach, RefusesEach};
 ghost use Rattle.archive_types.specs.FirstRead.{AreFirstRead};
 ghost use Rattle.archive_types.specs.Runs.{each_meaning, each_keys};
-ghost use Rattle.archive_types.specs.Seen.{IsPartOf, RefusesPart};
-ghost use Rattle.archive_types.specs.Sources.{Read, AreElementsOf, ReadsElements, RefusesElements};
+ghost use Rattle.archive_types.specs.Words.Seen.{IsPartOf, RefusesPart};
+ghost use Rattle.archive_types.specs.Words.Sources.{Read, AreElementsOf, ReadsElements, RefusesElements};
 ghost use Rattle.archive_types.specs.Views.{AreViewed};
 
 use super::ArchivedSlice;

@@ -5,12 +5,12 @@ ghost use Rattle.archive_check.specs.Shape.{run};
 ghost use Rattle.archive_check.specs.Value.{list};
 ghost use Rattle.archive_check.specs.declared.format.error.Error.TheVariants.{LengthTooLarge};
 ghost use Rattle.archive_types.specs.Causes.{IsRegionRefused};
-ghost use Rattle.archive_types.specs.Keyed.{each_keyed};
-ghost use Rattle.archive_types.specs.Placed.{AtOnce};
-ghost use Rattle.archive_types.specs.PlannedOwners.{is_long, slice_planned};
+ghost use Rattle.archive_types.specs.Members.Keyed.{each_keyed};
+ghost use Rattle.archive_types.specs.Words.Placed.{AtOnce};
+ghost use Rattle.archive_types.specs.Members.PlannedOwners.{is_long, slice_planned};
 ghost use Rattle.archive_types.specs.Plans.{SerializedRegion};
 ghost use Rattle.archive_types.specs.Runs.{each_keys, each_meaning, each_flat, EachBelongs, SerializedRun, IsRunRefused};
-ghost use Rattle.archive_types.specs.Sources.{EachOwned, EachRefused, SliceStored, SliceUnstored, ArrayStored, ArrayUnstored};
+ghost use Rattle.archive_types.specs.Words.Sources.{EachOwned, EachRefused, SliceStored, SliceUnstored, ArrayStored, ArrayUnstored};
 ghost use Rattle.archive_write.specs.Written.{GoesOn};
 
 use super::ArchivedSlice;
@@ -29,7 +29,7 @@ pub struct Slice<'a, T> {
 }
 
 // Writes what each of the values owns, in order, and answers their resolvers, in memory from `alloc`.
-#[tactic(auto, using(crate::proofs::Runs::continues_start, crate::proofs::Runs::continues_step, crate::proofs::Runs::continues_end, crate::proofs::Runs::belongs_end))]
+#[tactic(auto, using(crate::proofs::Planning::Runs::continues_start, crate::proofs::Planning::Runs::continues_step, crate::proofs::Planning::Runs::continues_end, crate::proofs::Planning::Runs::belongs_end))]
 #[inline(always)]
 pub(crate) fn serialize_each<A: Allocator + Drop, S: Writer, T: Serialize<S>>(
     alloc: A,

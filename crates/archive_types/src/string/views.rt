@@ -6,7 +6,7 @@ ghost use Rattle.archive_check.specs.Reads.{bytes_at, u32_at, i32_at, IsOutOfLin
 ghost use Rattle.archive_check.specs.Readable.{string_text};
 ghost use Rattle.archive_check.specs.Value.{text_value};
 ghost use Rattle.archive_check.specs.Viewed.{Says};
-ghost use Rattle.archive_types.specs.Seen.{ShowsValue};
+ghost use Rattle.archive_types.specs.Words.Seen.{ShowsValue};
 
 use super::{ArchivedStr, ArchivedString};
 use crate::view::{RawView, Ref};

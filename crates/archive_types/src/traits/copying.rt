@@ -3,7 +3,7 @@
 ghost use Rattle.std.specs.Prelude.{◌≡◌, ◌*◌, ◌≤◌, ℕ, List, length, true, false};
 ghost use Rattle.archive_check.specs.Value.{Value};
 ghost use Rattle.archive_types.specs.Copies.{each_bytes, IsCopied, EachCopied, OwnsNothing};
-ghost use Rattle.archive_types.specs.KindsWritten.{OwnsNothingAs, IsCopiedAs, EachCopiedAs};
+ghost use Rattle.archive_types.specs.Words.KindsWritten.{OwnsNothingAs, IsCopiedAs, EachCopiedAs};
 ghost use Rattle.archive_types.specs.Writing.{Naming};
 
 use super::{Archive, Portable};

@@ -3,7 +3,7 @@
 ghost use Rattle.std.specs.Prelude.{◌≡◌, IfOk, IfErr};
 ghost use Rattle.archive_check.specs.Viewed.{Viewed};
 ghost use Rattle.archive_check.specs.Entries.{ReadsBack, RefusesReading};
-ghost use Rattle.archive_types.specs.Seen.{IsPartOf, ReadsPart, RefusesPart};
+ghost use Rattle.archive_types.specs.Words.Seen.{IsPartOf, ReadsPart, RefusesPart};
 
 use super::{Archive, Deserialize, DeserializeUnsized, Entries, Portable};
 use crate::view::RawView;

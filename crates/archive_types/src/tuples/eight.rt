@@ -3,9 +3,9 @@
 ghost use Rattle.std.specs.Prelude.{◌≡◌, length, OnOk, IfErr, refl};
 ghost use Rattle.std.proofs.Common.{rules};
 ghost use Rattle.archive_check.specs.Value.{product};
-ghost use Rattle.archive_types.specs.PartsPlanned.{whole_planned, whole_keyed};
-ghost use Rattle.archive_types.specs.PlannedOwners.{one_planned};
-ghost use Rattle.archive_types.specs.Sources.{ResolvedAs, HinderedAs};
+ghost use Rattle.archive_types.specs.Members.PartsPlanned.{whole_planned, whole_keyed};
+ghost use Rattle.archive_types.specs.Members.PlannedOwners.{one_planned};
+ghost use Rattle.archive_types.specs.Words.Sources.{ResolvedAs, HinderedAs};
 ghost use Rattle.archive_types.specs.Writing.{ZeroedPlace};
 
 use super::parts::{Part0, Part1, Part2, Part3, Part4, Part5, Part6, Part7, Parts8};

@@ -1,8 +1,8 @@
 // Tuples are read back: from their parts, one after another.
 
 ghost use Rattle.std.specs.Prelude.{IfOk, IfErr};
-ghost use Rattle.archive_types.specs.Seen.{IsPartOf, RefusesPart};
-ghost use Rattle.archive_types.specs.Sources.{Read};
+ghost use Rattle.archive_types.specs.Words.Seen.{IsPartOf, RefusesPart};
+ghost use Rattle.archive_types.specs.Words.Sources.{Read};
 
 use crate::parts::{DeserializeParts, FromParts};
 use crate::record::deserialize_record;

@@ -3,9 +3,9 @@
 ghost use Rattle.std.specs.Prelude.{◌≡◌, length, OnOk, IfErr};
 ghost use Rattle.archive_check.specs.Value.{product};
 ghost use Rattle.archive_types.specs.Causes.{HindersAt};
-ghost use Rattle.archive_types.specs.Keyed.{nothing_keyed, part_keyed, record_keyed};
-ghost use Rattle.archive_types.specs.PartsPlanned.{no_part_planned, part_planned, product_planned};
-ghost use Rattle.archive_types.specs.Sources.{ResolvedAs, HinderedAs};
+ghost use Rattle.archive_types.specs.Members.Keyed.{nothing_keyed, part_keyed, record_keyed};
+ghost use Rattle.archive_types.specs.Members.PartsPlanned.{no_part_planned, part_planned, product_planned};
+ghost use Rattle.archive_types.specs.Words.Sources.{ResolvedAs, HinderedAs};
 ghost use Rattle.archive_types.specs.Writing.{ZeroedPlace, Resolves};
 
 use super::parts::{Parts1, Parts2, Parts3};

@@ -1,9 +1,9 @@
 // Tuples as regions of their own: the tuple itself, as one value.
 
 ghost use Rattle.std.specs.Prelude.{refl};
-ghost use Rattle.archive_types.specs.Keyed.{nothing_keyed, part_keyed, record_keyed};
-ghost use Rattle.archive_types.specs.PartsPlanned.{no_part_planned, part_planned, product_planned};
-ghost use Rattle.archive_types.specs.PlannedOwners.{one_planned};
+ghost use Rattle.archive_types.specs.Members.Keyed.{nothing_keyed, part_keyed, record_keyed};
+ghost use Rattle.archive_types.specs.Members.PartsPlanned.{no_part_planned, part_planned, product_planned};
+ghost use Rattle.archive_types.specs.Members.PlannedOwners.{one_planned};
 
 use crate::ser::serialize_one;
 use crate::traits::{Archive, ArchiveUnsized, Serialize, SerializeUnsized};

@@ -4,9 +4,9 @@ ghost use Rattle.std.specs.Prelude.{◌≡◌, ◌<◌, ◌≤◌, IfOk, OnOk, I
 ghost use Rattle.archive_check.specs.declared.format.error.Error.TheVariants.{LengthTooLarge};
 ghost use Rattle.archive_types.specs.Copies.{each_bytes, copies_from};
 ghost use Rattle.archive_write.specs.Written.{GoesOn};
-ghost use Rattle.archive_types.specs.CopiesWritten.{AddedAligned, ElementsRefused, CopiesSucceed};
-ghost use Rattle.archive_types.specs.KindsWritten.{VecSerialized};
-ghost use Rattle.archive_types.specs.Placed.{AtOnce};
+ghost use Rattle.archive_types.specs.Words.CopiesWritten.{AddedAligned, ElementsRefused, CopiesSucceed};
+ghost use Rattle.archive_types.specs.Words.KindsWritten.{VecSerialized};
+ghost use Rattle.archive_types.specs.Words.Placed.{AtOnce};
 
 use super::{ArchivedVec, VecResolver};
 use crate::owner_pointers::position_of;
@@ -20,7 +20,7 @@ impl<T: Portable> ArchivedVec<T> {
     /// behind another. So does `serialize_from_slice` where the elements' type says that they are copied; this call takes no allocator, and no memory
     /// but the writer's. It asks nothing. Refused with `LengthTooLarge`, 5, before anything is written, exactly where there are more than 4,294,967,295
     /// elements; with `PositionTooLarge`, 4, only where they would stand above 4,294,967,295; else as `copy_slice`. Our own.
-    #[tactic(auto, using(crate::proofs::Owners::serialized_vec, crate::proofs::Causes::goes_nowhere, crate::proofs::Copies::copies_refused, crate::proofs::Copies::long_copies_refused, crate::proofs::Copies::far_copies_refused))]
+    #[tactic(auto, using(crate::proofs::Planning::Owners::serialized_vec, crate::proofs::Planning::Causes::goes_nowhere, crate::proofs::Copying::Copies::copies_refused, crate::proofs::Copying::Copies::long_copies_refused, crate::proofs::Copying::Copies::far_copies_refused))]
     #[inline(always)]
     pub fn serialize_from_copied<U: CopiedSource + Archive<Archived = T>, S: Writer + Keys>(
         value: &[U],

@@ -4,7 +4,7 @@ ghost use Rattle.std.specs.Prelude.{◌≡◌, ◌≤◌, ◌⊎◌, List, IfOk,
 ghost use Rattle.std.specs.Iterator.{IsFinite, Drains};
 ghost use Rattle.archive_check.specs.declared.format.error.Error.TheVariants.{OutOfMemory};
 ghost use Rattle.archive_types.specs.ItemsWritten.{ItemPut, ItemUnput, ItemsStored, ItemsUnstored};
-ghost use Rattle.archive_types.specs.KindsWritten.{VecOfItems, NoVecOfItems};
+ghost use Rattle.archive_types.specs.Words.KindsWritten.{VecOfItems, NoVecOfItems};
 ghost use Rattle.archive_write.specs.Written.{GoesOn};
 
 use super::{ArchivedVec, VecResolver};

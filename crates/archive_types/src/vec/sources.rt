@@ -6,12 +6,12 @@ ghost use Rattle.archive_check.specs.Shape.{vec as vec_shape, run};
 ghost use Rattle.archive_check.specs.Value.{list, hole};
 ghost use Rattle.archive_check.specs.declared.format.error.Error.TheVariants.{LengthTooLarge};
 ghost use Rattle.archive_types.specs.Causes.{HindersAt, IsRefused};
-ghost use Rattle.archive_types.specs.Keyed.{each_keyed};
-ghost use Rattle.archive_types.specs.KindsWritten.{VecSerialized, VecRefused, VecResolved, VecHindered};
+ghost use Rattle.archive_types.specs.Members.Keyed.{each_keyed};
+ghost use Rattle.archive_types.specs.Words.KindsWritten.{VecSerialized, VecRefused, VecResolved, VecHindered};
 ghost use Rattle.archive_num.specs.Offsets.{distance, IsTooFar};
 ghost use Rattle.archive_num.specs.OwnerBytes.{owner_bytes};
-ghost use Rattle.archive_types.specs.Placed.{IsTooFarFrom, PointsTo, AtOnce};
-ghost use Rattle.archive_types.specs.PlannedOwners.{one_planned, vec_planned, slice_planned};
+ghost use Rattle.archive_types.specs.Words.Placed.{IsTooFarFrom, PointsTo, AtOnce};
+ghost use Rattle.archive_types.specs.Members.PlannedOwners.{one_planned, vec_planned, slice_planned};
 ghost use Rattle.archive_types.specs.Plans.{Serialized};
 ghost use Rattle.archive_types.specs.Runs.{each_keys, each_meaning};
 ghost use Rattle.archive_types.specs.Writing.{ZeroedPlace, Resolves, to_pointee};
@@ -61,7 +61,7 @@ impl<T: Portable> ArchivedVec<T> {
     /// they stand above 4,294,967,295; with `LayoutTooLarge`, 23, where their region would end above `usize::MAX`; with `OutOfMemory`, 1, where
     /// memory for the elements' resolvers is refused; as the elements refuse, and as the writer does (`BufferOverflow`, 8; `WriterFailed`, 9). rkyv
     /// 0.8.18 cuts the length off.
-    #[tactic(auto, using(crate::proofs::Owners::serialized_vec, crate::proofs::Owners::vec_refused, crate::proofs::Owners::far_vec_refused))]
+    #[tactic(auto, using(crate::proofs::Planning::Owners::serialized_vec, crate::proofs::Planning::Owners::vec_refused, crate::proofs::Planning::Owners::far_vec_refused))]
     #[inline(always)]
     pub fn serialize_from_slice<U: Serialize<S, Archived = T>, S: Writer + ResolverAlloc>(
         value: &[U],
@@ -81,7 +81,7 @@ impl<T: Portable> ArchivedVec<T> {
     /// Writes the vector's bytes over those of `place`, of `len` elements. Asks that these are eight, and that `len` is at most 4,294,967,295;
     /// `resolver` should be that of so many elements. Refused with `IsizeOverflow`, 2, or `OffsetOverflow`, 3, exactly where the offset to the elements
     /// doesn't fit; they are then unchanged. rkyv 0.8.18 panics there.
-    #[tactic(auto, using(crate::proofs::OwnersWritten::resolves_vec, crate::proofs::OwnersWritten::vec_hindered_at))]
+    #[tactic(auto, using(crate::proofs::Writing::OwnersWritten::resolves_vec, crate::proofs::Writing::OwnersWritten::vec_hindered_at))]
     #[inline(always)]
     pub fn resolve_from_len(
         len: usize,

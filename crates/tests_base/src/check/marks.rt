@@ -7,9 +7,9 @@ ghost use Rattle.archive_check.specs.Layout.{Layout as LayoutOf, Layouts, layout
 ghost use Rattle.archive_check.specs.Expressions.{pointee_of, shape_of};
 ghost use Rattle.archive_check.specs.Defined.{Mentions, mentions_array, mentions_boxed, mentions_vec, mentions_shared, mentions_weak, mentions_one, mentions_run};
 ghost use Rattle.archive_check.specs.Definitions.{no_definition, defines, IsAlign};
-ghost use Rattle.archive_check.specs.LeafLayout.{no_definition_reached};
-ghost use Rattle.archive_check.specs.NamedLayout.{name_has_layout, name_reached};
-ghost use Rattle.archive_check.specs.NoOthers.{around_reached};
+ghost use Rattle.archive_check.specs.Members.LeafLayout.{no_definition_reached};
+ghost use Rattle.archive_check.specs.Members.NamedLayout.{name_has_layout, name_reached};
+ghost use Rattle.archive_check.specs.Members.NoOthers.{around_reached};
 ghost use Rattle.tests_base.specs.Forms.{rc};
 ghost use Rattle.archive_check.specs.SelfCheck.Laws.{by_schema};
 

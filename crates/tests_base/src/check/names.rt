@@ -6,8 +6,8 @@ ghost use Rattle.archive_check.specs.Shape.{named, boxed, one};
 ghost use Rattle.archive_check.specs.Layout.{layout as layout_of};
 ghost use Rattle.archive_check.specs.Defined.{mentions_parts, mentions_first, mentions_later, mentions_boxed, mentions_one};
 ghost use Rattle.archive_check.specs.Definitions.{defines};
-ghost use Rattle.archive_check.specs.NamedLayout.{name_reached};
-ghost use Rattle.archive_check.specs.NoOthers.{around_reached};
+ghost use Rattle.archive_check.specs.Members.NamedLayout.{name_reached};
+ghost use Rattle.archive_check.specs.Members.NoOthers.{around_reached};
 ghost use Rattle.tests_base.specs.Forms.{u64 as number64, tagged, itself};
 ghost use Rattle.archive_check.specs.SelfCheck.Laws.{by_schema};
 

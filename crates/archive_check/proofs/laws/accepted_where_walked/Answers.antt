@@ -1,4 +1,4 @@
-use Rattle.archive_check.proofs.AcceptedWalks.{walked, walks}
+use Rattle.archive_check.proofs.Checks.AcceptedWalks.{walked, walks}
 use Rattle.archive_check.proofs.laws.accepted_where_walked.Goals as goal
 
 pub returns : goal.returns

@@ -1,4 +1,4 @@
-use Rattle.archive_check.proofs.ReachedParts.{element_reached}
+use Rattle.archive_check.proofs.Meanings.ReachedParts.{element_reached}
 use Rattle.archive_check.proofs.laws.elements_reached.Goals as goal
 
 pub returns : goal.returns

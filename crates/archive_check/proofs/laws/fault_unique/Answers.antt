@@ -1,4 +1,4 @@
-use Rattle.archive_check.proofs.FaultUnique.{root_one_fault}
+use Rattle.archive_check.proofs.Checks.FaultUnique.{root_one_fault}
 use Rattle.archive_check.proofs.laws.fault_unique.Goals as goal
 
 pub returns : goal.returns

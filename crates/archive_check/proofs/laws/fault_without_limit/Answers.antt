@@ -1,4 +1,4 @@
-use Rattle.archive_check.proofs.WithoutLimit.{root_trips_free}
+use Rattle.archive_check.proofs.Checks.WithoutLimit.{root_trips_free}
 use Rattle.archive_check.proofs.laws.fault_without_limit.Goals as goal
 
 pub returns : goal.returns

@@ -1,4 +1,4 @@
-use Rattle.archive_check.proofs.FaultyNotWalked.{root_no_walk}
+use Rattle.archive_check.proofs.Checks.FaultyNotWalked.{root_no_walk}
 use Rattle.archive_check.proofs.laws.faulty_not_walked.Goals as goal
 
 pub returns : goal.returns

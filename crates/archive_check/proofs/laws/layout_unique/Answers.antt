@@ -1,4 +1,4 @@
-use Rattle.archive_check.proofs.LaidOutNames.{reached_one_layout, shape_one_layout}
+use Rattle.archive_check.proofs.Names.LaidOutNames.{reached_one_layout, shape_one_layout}
 use Rattle.archive_check.proofs.laws.layout_unique.Goals as goal
 
 pub returns : goal.returns

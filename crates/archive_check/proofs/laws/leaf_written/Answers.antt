@@ -1,5 +1,5 @@
-use Rattle.archive_check.proofs.EditedArchives.{edit_accepted, replaced_one}
-use Rattle.archive_check.proofs.RevisedMeanings.{edit_revises}
+use Rattle.archive_check.proofs.Editing.EditedArchives.{edit_accepted, replaced_one}
+use Rattle.archive_check.proofs.Editing.RevisedMeanings.{edit_revises}
 use Rattle.archive_check.specs.Leaves.{leaves_of}
 use Rattle.archive_check.proofs.laws.leaf_written.Goals as goal
 

@@ -1,4 +1,4 @@
-use Rattle.archive_check.proofs.RegionsApart.{leaf_in_one}
+use Rattle.archive_check.proofs.Tours.RegionsApart.{leaf_in_one}
 use Rattle.archive_check.proofs.laws.leaves_in_regions.Goals as goal
 
 pub returns : goal.returns

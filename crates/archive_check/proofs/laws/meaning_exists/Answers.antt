@@ -1,4 +1,4 @@
-use Rattle.archive_check.proofs.MeaningExists.{has_meaning}
+use Rattle.archive_check.proofs.Meanings.MeaningExists.{has_meaning}
 use Rattle.archive_check.proofs.laws.meaning_exists.Goals as goal
 
 pub returns : goal.returns

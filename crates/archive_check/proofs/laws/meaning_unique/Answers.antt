@@ -1,4 +1,4 @@
-use Rattle.archive_check.proofs.MeaningUnique.{meaning_one}
+use Rattle.archive_check.proofs.Meanings.MeaningUnique.{meaning_one}
 use Rattle.archive_check.proofs.laws.meaning_unique.Goals as goal
 
 pub returns : goal.returns

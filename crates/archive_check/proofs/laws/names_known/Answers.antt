@@ -1,4 +1,4 @@
-use Rattle.archive_check.proofs.NamesReached.{names_known}
+use Rattle.archive_check.proofs.Meanings.NamesReached.{names_known}
 use Rattle.archive_check.proofs.laws.names_known.Goals as goal
 
 pub returns : goal.returns

@@ -1,4 +1,4 @@
-use Rattle.archive_check.proofs.PartsInside.{within_inside}
+use Rattle.archive_check.proofs.Tours.PartsInside.{within_inside}
 use Rattle.archive_check.proofs.laws.parts_inside.Goals as goal
 
 pub returns : goal.returns

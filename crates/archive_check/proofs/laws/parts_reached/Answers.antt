@@ -1,4 +1,4 @@
-use Rattle.archive_check.proofs.ReachedParts.{part_reached}
+use Rattle.archive_check.proofs.Meanings.ReachedParts.{part_reached}
 use Rattle.archive_check.proofs.laws.parts_reached.Goals as goal
 
 pub returns : goal.returns

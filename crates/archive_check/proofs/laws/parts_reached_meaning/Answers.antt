@@ -1,4 +1,4 @@
-use Rattle.archive_check.proofs.ReachedMeanings.{part_has_meaning}
+use Rattle.archive_check.proofs.Meanings.ReachedMeanings.{part_has_meaning}
 use Rattle.archive_check.proofs.laws.parts_reached_meaning.Goals as goal
 
 pub returns : goal.returns

@@ -1,4 +1,4 @@
-use Rattle.archive_check.proofs.ReachedParts.{pointer_reached}
+use Rattle.archive_check.proofs.Meanings.ReachedParts.{pointer_reached}
 use Rattle.archive_check.proofs.laws.pointers_reached.Goals as goal
 
 pub returns : goal.returns

@@ -1,4 +1,4 @@
-use Rattle.archive_check.proofs.ReachedMeanings.{reached_meaning_one}
+use Rattle.archive_check.proofs.Meanings.ReachedMeanings.{reached_meaning_one}
 use Rattle.archive_check.proofs.laws.reached_meaning_unique.Goals as goal
 
 pub returns : goal.returns

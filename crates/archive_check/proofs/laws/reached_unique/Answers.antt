@@ -1,4 +1,4 @@
-use Rattle.archive_check.proofs.ReachedParts.{reached_one}
+use Rattle.archive_check.proofs.Meanings.ReachedParts.{reached_one}
 use Rattle.archive_check.proofs.laws.reached_unique.Goals as goal
 
 pub returns : goal.returns

@@ -1,6 +1,6 @@
 use Rattle.std.proofs.Common.{◌∙◌, ap, sym}
 use Rattle.archive_check.specs.Value.{pointers}
-use Rattle.archive_check.proofs.ReadingUnique.{reads_one}
+use Rattle.archive_check.proofs.Tours.ReadingUnique.{reads_one}
 use Rattle.archive_check.proofs.laws.reading_unique.Goals as goal
 
 pub returns : goal.returns

@@ -1,4 +1,4 @@
-use Rattle.archive_check.proofs.RegionsApart.{rising_disjoint}
+use Rattle.archive_check.proofs.Tours.RegionsApart.{rising_disjoint}
 use Rattle.std.proofs.Common.{length}
 use Rattle.archive_check.specs.Leaves.{regions_of}
 use Rattle.archive_check.proofs.laws.regions_disjoint.Goals as goal

@@ -1,4 +1,4 @@
-use Rattle.archive_check.proofs.ReachedParts.{root_reached}
+use Rattle.archive_check.proofs.Meanings.ReachedParts.{root_reached}
 use Rattle.archive_check.proofs.laws.root_reached.Goals as goal
 
 pub returns : goal.returns

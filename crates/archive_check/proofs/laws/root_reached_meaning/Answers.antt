@@ -1,4 +1,4 @@
-use Rattle.archive_check.proofs.NamesReached.{root_reached_meaning}
+use Rattle.archive_check.proofs.Meanings.NamesReached.{root_reached_meaning}
 use Rattle.archive_check.proofs.laws.root_reached_meaning.Goals as goal
 
 pub returns : goal.returns

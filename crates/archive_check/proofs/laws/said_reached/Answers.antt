@@ -1,4 +1,4 @@
-use Rattle.archive_check.proofs.Viewed.{reached_says}
+use Rattle.archive_check.proofs.Viewing.Viewed.{reached_says}
 use Rattle.archive_check.proofs.laws.said_reached.Goals as goal
 
 pub returns : goal.returns

@@ -1,4 +1,4 @@
-use Rattle.archive_check.proofs.SameMeanings.{same_reflexive}
+use Rattle.archive_check.proofs.Meanings.SameMeanings.{same_reflexive}
 use Rattle.archive_check.proofs.laws.same_reflexive.Goals as goal
 
 pub returns : goal.returns

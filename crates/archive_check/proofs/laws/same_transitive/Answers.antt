@@ -1,4 +1,4 @@
-use Rattle.archive_check.proofs.SameMeanings.{same_transitive}
+use Rattle.archive_check.proofs.Meanings.SameMeanings.{same_transitive}
 use Rattle.archive_check.proofs.laws.same_transitive.Goals as goal
 
 pub returns : goal.returns

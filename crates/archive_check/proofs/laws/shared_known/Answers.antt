@@ -1,4 +1,4 @@
-use Rattle.archive_check.proofs.SharedKnown.{shared_known}
+use Rattle.archive_check.proofs.Meanings.SharedKnown.{shared_known}
 use Rattle.archive_check.proofs.laws.shared_known.Goals as goal
 
 pub returns : goal.returns

@@ -1,5 +1,5 @@
 use Rattle.std.proofs.Common.{sym}
-use Rattle.archive_check.proofs.ReadingUnique.{tour_one}
+use Rattle.archive_check.proofs.Tours.ReadingUnique.{tour_one}
 use Rattle.archive_check.proofs.laws.tour_unique.Goals as goal
 
 pub returns : goal.returns

@@ -1,4 +1,4 @@
-use Rattle.archive_check.proofs.UniqueBefore.{lies_before}
+use Rattle.archive_check.proofs.Tours.UniqueBefore.{lies_before}
 use Rattle.archive_check.proofs.laws.unique_before.Goals as goal
 
 pub returns : goal.returns

@@ -1,4 +1,4 @@
-use Rattle.archive_check.proofs.ReachedParts.{within_reached}
+use Rattle.archive_check.proofs.Meanings.ReachedParts.{within_reached}
 use Rattle.archive_check.proofs.laws.within_reached.Goals as goal
 
 pub returns : goal.returns

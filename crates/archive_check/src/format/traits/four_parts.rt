@@ -2,8 +2,8 @@
 
 ghost use Rattle.archive_check.specs.Definitions.{both};
 ghost use Rattle.archive_check.specs.Layout.{up};
-ghost use Rattle.archive_check.specs.NoOthers.{part_reached};
-ghost use Rattle.archive_check.specs.PartsLayout.{part_laid_out, part_sized, first_or, greater_align, begins_over, within_over};
+ghost use Rattle.archive_check.specs.Members.NoOthers.{part_reached};
+ghost use Rattle.archive_check.specs.Members.PartsLayout.{part_laid_out, part_sized, first_or, greater_align, begins_over, within_over};
 ghost use Rattle.archive_check.specs.SelfCheck.Lone.{part_ordered};
 ghost use Rattle.archive_check.specs.SelfCheck.Regions.{rises_over};
 ghost use Rattle.archive_check.specs.Shape.{part};

@@ -2,7 +2,7 @@
 
 ghost use Rattle.std.specs.Prelude.{◌≡◌, IfOk, IfErr, IsOk};
 ghost use Rattle.archive_check.specs.Shape.{run};
-ghost use Rattle.archive_check.specs.RegionLayout.{IsRegionLayout, HasNoLayout};
+ghost use Rattle.archive_check.specs.Members.RegionLayout.{IsRegionLayout, HasNoLayout};
 ghost use Rattle.archive_check.specs.declared.format.error.Error.TheVariants.{LayoutTooLarge};
 
 use super::{ArchivePointee, Portable};

@@ -4,7 +4,7 @@ ghost use Rattle.std.specs.Prelude.{refl};
 ghost use Rattle.std.specs.Int.{w8};
 ghost use Rattle.archive_check.specs.Shape.{one, leaf, unit, bool, number, unsigned, signed};
 ghost use Rattle.archive_check.specs.Definitions.{no_definition};
-ghost use Rattle.archive_check.specs.LeafLayout.{leaf_layout, leaf_align, leaf_has_layout, no_definition_reached};
+ghost use Rattle.archive_check.specs.Members.LeafLayout.{leaf_layout, leaf_align, leaf_has_layout, no_definition_reached};
 ghost use Rattle.archive_check.specs.SelfCheck.Laws.{leaf_check};
 
 use super::{ArchivePointee, Portable};

@@ -5,10 +5,10 @@ ghost use Rattle.archive_check.specs.Shape.{parts, no_part, part};
 ghost use Rattle.archive_check.specs.Layout.{up};
 ghost use Rattle.archive_check.specs.Expressions.{shape_of, shapes_in, table_of};
 ghost use Rattle.archive_check.specs.Definitions.{IsAlign, NoOthers, Extended, ExplainsConflict, named_record};
-ghost use Rattle.archive_check.specs.NoOthers.{no_parts_reached, part_reached};
-ghost use Rattle.archive_check.specs.PartsLayout.{PartsLaidOut, HaveSizes, IsRecord, joined, first_or, no_part_laid_out, no_part_sized, part_laid_out, part_sized, greater_align, one_align, begins_at, begins_over, within_at, within_over};
+ghost use Rattle.archive_check.specs.Members.NoOthers.{no_parts_reached, part_reached};
+ghost use Rattle.archive_check.specs.Members.PartsLayout.{PartsLaidOut, HaveSizes, IsRecord, joined, first_or, no_part_laid_out, no_part_sized, part_laid_out, part_sized, greater_align, one_align, begins_at, begins_over, within_at, within_over};
 ghost use Rattle.archive_check.specs.declared.format.error.Error.TheVariants.{OutOfMemory};
-ghost use Rattle.archive_check.specs.AddedDefinitions.{AreAdded};
+ghost use Rattle.archive_check.specs.Words.AddedDefinitions.{AreAdded};
 
 use super::Portable;
 use crate::format::error::Error;

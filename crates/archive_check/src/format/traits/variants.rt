@@ -5,11 +5,11 @@ ghost use Rattle.archive_check.specs.Shape.{Name, choice, no_variant, variant};
 ghost use Rattle.archive_check.specs.Layout.{up};
 ghost use Rattle.archive_check.specs.Expressions.{shape_of, variants_in, table_of};
 ghost use Rattle.archive_check.specs.Definitions.{IsAlign, NoOthers, Extended, ExplainsConflict, named_choice};
-ghost use Rattle.archive_check.specs.PartsLayout.{greater_align, one_align};
-ghost use Rattle.archive_check.specs.VariantsHeld.{HavePayloadSizes, no_payload_sized, no_payload_within, payload_sized, payload_within};
-ghost use Rattle.archive_check.specs.VariantsLayout.{VariantsLaidOut, IsChoice, joined_variants, first_variant_or, no_variant_laid_out, variant_laid_out, no_variants_reached, variant_reached};
+ghost use Rattle.archive_check.specs.Members.PartsLayout.{greater_align, one_align};
+ghost use Rattle.archive_check.specs.Members.VariantsHeld.{HavePayloadSizes, no_payload_sized, no_payload_within, payload_sized, payload_within};
+ghost use Rattle.archive_check.specs.Members.VariantsLayout.{VariantsLaidOut, IsChoice, joined_variants, first_variant_or, no_variant_laid_out, variant_laid_out, no_variants_reached, variant_reached};
 ghost use Rattle.archive_check.specs.declared.format.error.Error.TheVariants.{OutOfMemory};
-ghost use Rattle.archive_check.specs.AddedDefinitions.{AreAdded};
+ghost use Rattle.archive_check.specs.Words.AddedDefinitions.{AreAdded};
 
 use super::Portable;
 use super::parts::PortableParts;

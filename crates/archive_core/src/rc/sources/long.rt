@@ -6,13 +6,13 @@ ghost use Rattle.archive_check.specs.Definitions.{no_definition};
 ghost use Rattle.archive_check.specs.Shape.{run, shared, text};
 ghost use Rattle.archive_check.specs.Value.{list, shared_value, text_value};
 ghost use Rattle.archive_types.specs.Causes.{HindersAt, IsRefused};
-ghost use Rattle.archive_types.specs.Keyed.{each_keyed, text_keyed};
-ghost use Rattle.archive_types.specs.Planned.{text_planned};
-ghost use Rattle.archive_types.specs.PlannedOwners.{one_planned, slice_planned};
+ghost use Rattle.archive_types.specs.Members.Keyed.{each_keyed, text_keyed};
+ghost use Rattle.archive_types.specs.Members.Planned.{text_planned};
+ghost use Rattle.archive_types.specs.Members.PlannedOwners.{one_planned, slice_planned};
 ghost use Rattle.archive_types.specs.Plans.{Serialized};
 ghost use Rattle.archive_types.specs.Runs.{each_keys, each_meaning};
-ghost use Rattle.archive_types.specs.SharedSources.{rc_flavor, rc_keys, rc_flat, rc_keyed, rc_planned};
-ghost use Rattle.archive_types.specs.Sources.{ResolvedAs, HinderedAs};
+ghost use Rattle.archive_types.specs.Members.SharedSources.{rc_flavor, rc_keys, rc_flat, rc_keyed, rc_planned};
+ghost use Rattle.archive_types.specs.Words.Sources.{ResolvedAs, HinderedAs};
 ghost use Rattle.archive_types.specs.Writing.{ZeroedPlace, Resolves};
 ghost use Rattle.archive_write.specs.Written.{GoesOn};
 

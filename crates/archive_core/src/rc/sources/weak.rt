@@ -5,11 +5,11 @@ ghost use Rattle.archive_check.specs.Layout.{pointer_size};
 ghost use Rattle.archive_check.specs.Shape.{weak};
 ghost use Rattle.archive_check.specs.Value.{shared_value};
 ghost use Rattle.archive_types.specs.Causes.{HindersAt, IsRefused};
-ghost use Rattle.archive_types.specs.PlannedOwners.{one_planned};
+ghost use Rattle.archive_types.specs.Members.PlannedOwners.{one_planned};
 ghost use Rattle.archive_types.specs.Plans.{Serialized};
-ghost use Rattle.archive_types.specs.SharedLaws.{weak_value, weak_keys, weak_flat, weak_keyed, weak_planned};
-ghost use Rattle.archive_types.specs.SharedSources.{rc_flavor, rc_keys, rc_keyed, rc_one_planned};
-ghost use Rattle.archive_types.specs.Sources.{ResolvedAs, HinderedAs, Wrote, Refused};
+ghost use Rattle.archive_types.specs.Members.SharedLaws.{weak_value, weak_keys, weak_flat, weak_keyed, weak_planned};
+ghost use Rattle.archive_types.specs.Members.SharedSources.{rc_flavor, rc_keys, rc_keyed, rc_one_planned};
+ghost use Rattle.archive_types.specs.Words.Sources.{ResolvedAs, HinderedAs, Wrote, Refused};
 ghost use Rattle.archive_types.specs.Writing.{ZeroedPlace, Resolves};
 ghost use Rattle.archive_write.specs.Written.{GoesOn};
 
@@ -49,7 +49,7 @@ impl<T: Archive> Archive for WeakShared<T> {
         (λ s. rc_one_planned T.Archived.definitions s.key T.Archived.pointee T.Archived.shape T.Archived.is_one
         (T.meaning s.value.value) (T.keys s.value.value) (T.planned s.value.value)) w.value };
 
-    #[tactic(auto, using(archive_types::proofs::SharedBytes::resolves_weak, archive_types::proofs::SharedBytes::resolves_null, archive_types::proofs::SharedBytes::weak_hindered_at, archive_types::proofs::SharedBytes::null_hindered_at))]
+    #[tactic(auto, using(archive_types::proofs::SharedValues::SharedBytes::resolves_weak, archive_types::proofs::SharedValues::SharedBytes::resolves_null, archive_types::proofs::SharedValues::SharedBytes::weak_hindered_at, archive_types::proofs::SharedValues::SharedBytes::null_hindered_at))]
     fn resolve(
         &self,
         resolver: RcWeakResolver,
@@ -75,7 +75,7 @@ impl<T: Archive> Archive for WeakShared<T> {
 
 impl<T: Serialize<S>, S: Sharing + Writer + ResolverAlloc> Serialize<S> for WeakShared<T> {
     /// Writes what it leads to as a shared value, with its refusals; where that is none, nothing, and it isn't refused.
-    #[tactic(auto, using(archive_types::proofs::SharedWritten::weak_serialized, archive_types::proofs::SharedWritten::weak_refused, archive_types::proofs::SharedWritten::null_serialized, archive_types::proofs::Causes::goes_nowhere))]
+    #[tactic(auto, using(archive_types::proofs::SharedValues::SharedWritten::weak_serialized, archive_types::proofs::SharedValues::SharedWritten::weak_refused, archive_types::proofs::SharedValues::SharedWritten::null_serialized, archive_types::proofs::Planning::Causes::goes_nowhere))]
     fn serialize(&self, serializer: &mut S) -> Result<RcWeakResolver, Error>
         ensures serialized { IfOk result (Wrote ⟦<Self as Archive>⟧ ⟦<Self::Archived as Portable>⟧ self.now S.Keys serializer) }
         ensures same_value { ⊤ }

@@ -1,5 +1,5 @@
 use Rattle.std.proofs.Common.{refl}
-use Rattle.archive_types.proofs.Resolving.{resolves_number}
+use Rattle.archive_types.proofs.Writing.Resolving.{resolves_number}
 use Rattle.archive_types.proofs.primitive.write_leaf.Goals as goal
 
 pub returns-clause-resolved : goal.returns-clause-resolved

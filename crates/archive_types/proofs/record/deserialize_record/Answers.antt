@@ -1,6 +1,6 @@
 use Rattle.std.proofs.Common.{◌≡◌}
-use Rattle.archive_types.proofs.Causes.{err_from}
-use Rattle.archive_types.proofs.ReadRecords.{parts_viewed, record_read, record_refuses}
+use Rattle.archive_types.proofs.Planning.Causes.{err_from}
+use Rattle.archive_types.proofs.Reading.ReadRecords.{parts_viewed, record_read, record_refuses}
 use Rattle.archive_types.proofs.record.deserialize_record.Goals as goal
 
 pub deserialize_parts-requires : goal.deserialize_parts-requires

@@ -1,6 +1,6 @@
 use Rattle.std.proofs.Common.{sym, ◌∙◌}
-use Rattle.archive_types.proofs.Causes.{goes_both}
-use Rattle.archive_types.proofs.RunRegions.{completes_more, completes_step, completes_broken, completes_end}
+use Rattle.archive_types.proofs.Planning.Causes.{goes_both}
+use Rattle.archive_types.proofs.Writing.RunRegions.{completes_more, completes_step, completes_broken, completes_end}
 use Rattle.archive_types.proofs.ser.resolve_each.Goals as goal
 
 pub unreachable-requires : goal.unreachable-requires

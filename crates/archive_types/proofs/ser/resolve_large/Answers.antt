@@ -1,6 +1,6 @@
 use Rattle.archive_check.specs.declared.format.error.Error.TheVariants.{OutOfMemory}
 use Rattle.archive_types.specs.Causes.{no_memory}
-use Rattle.archive_types.proofs.Causes.{err_by}
+use Rattle.archive_types.proofs.Planning.Causes.{err_by}
 use Rattle.archive_types.proofs.ser.resolve_large.Goals as goal
 
 pub returns-in_err-region-clause-refused : goal.returns-in_err-region-clause-refused

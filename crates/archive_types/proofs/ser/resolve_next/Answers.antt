@@ -1,5 +1,5 @@
 use Rattle.std.proofs.Common.{arith}
-use Rattle.archive_types.proofs.Regions.{fresh_front, sum_fits}
+use Rattle.archive_types.proofs.Writing.Regions.{fresh_front, sum_fits}
 use Rattle.archive_types.proofs.ser.resolve_next.Goals as goal
 
 pub resolve_large-requires-clause-ends : goal.resolve_large-requires-clause-ends

@@ -1,6 +1,6 @@
 use Rattle.std.proofs.Common.{◌∙◌}
-use Rattle.archive_types.proofs.Causes.{err_by, goes_refused}
-use Rattle.archive_types.proofs.Regions.{region_refused}
+use Rattle.archive_types.proofs.Planning.Causes.{err_by, goes_refused}
+use Rattle.archive_types.proofs.Writing.Regions.{region_refused}
 use Rattle.archive_types.proofs.ser.resolve_region.Goals as goal
 
 pub returns-in_err-write-clause-refused : goal.returns-in_err-write-clause-refused

@@ -1,5 +1,5 @@
-use Rattle.archive_types.proofs.Causes.{err_by, err_from, goes_both, goes_written, goes_refused}
-use Rattle.archive_types.proofs.Planned.{one_owned, one_padded, one_hindered, serialized_if}
+use Rattle.archive_types.proofs.Planning.Causes.{err_by, err_from, goes_both, goes_written, goes_refused}
+use Rattle.archive_types.proofs.Planning.Planned.{one_owned, one_padded, one_hindered, serialized_if}
 use Rattle.archive_types.proofs.ser.serialize_with.Goals as goal
 
 pub returns-in-Err-clause-refused : goal.returns-in-Err-clause-refused

@@ -1,7 +1,7 @@
 use Rattle.std.proofs.Common.{◌≡◌, ◌+◌, ◌-◌, ◌<◌, ◌≤◌, length, drop, slice_set, arith}
 use Rattle.std.proofs.lemmas.List.{length-take, length-drop, length-set}
 use Rattle.archive_check.specs.SelfCheck.Regions.{align_some}
-use Rattle.archive_types.proofs.ResolvedVariants.{on_ok, case_written}
+use Rattle.archive_types.proofs.Writing.ResolvedVariants.{on_ok, case_written}
 use Rattle.archive_types.proofs.variants.resolve_case.Goals as goal
 
 pub returns-clause-held : goal.returns-clause-held

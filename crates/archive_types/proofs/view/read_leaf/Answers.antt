@@ -1,6 +1,6 @@
 use Rattle.std.proofs.Common.{arith, ap, ◌∙◌}
 use Rattle.archive_check.specs.Reads.{bytes_at}
-use Rattle.archive_types.proofs.Shown.{leaf_shown, leaf_slice, slice_is}
+use Rattle.archive_types.proofs.Viewing.Shown.{leaf_shown, leaf_slice, slice_is}
 use Rattle.archive_types.proofs.view.read_leaf.Goals as goal
 
 pub read_from-requires-clause-legal : goal.read_from-requires-clause-legal

@@ -1,6 +1,6 @@
 use Rattle.std.proofs.Common.{inr, ◌<◌, ◌≡◌, ◌∙◌, sym, arith, length, get_or, subst, rules, true, false}
 use Rattle.archive_check.specs.Expressions.{flavor_of, pointee_of}
-use Rattle.archive_check.specs.SharedPositions.{IsAbsent}
+use Rattle.archive_check.specs.context.SharedPositions.{IsAbsent}
 use Rattle.archive_check.proofs.context.SharedPositions.{has_type, has_pushed, none_next, none_absent}
 use Rattle.archive_check.proofs.context.positions.type_index.Goals as goal
 

@@ -2,12 +2,12 @@ use Rattle.std.proofs.Common.{◌≡◌, refl, ap, sym, ◌∙◌, Some, Err, to
 use Rattle.std.proofs.lemmas.Int.{to_z-of_z}
 use mir.Syntax.{w128}
 use Rattle.archive_check.specs.declared.format.error.Error.TheVariants.{LayoutTooLarge, ExceededMaximumSubtreeDepth}
-use Rattle.archive_check.specs.Ranges.{subtree_answer}
+use Rattle.archive_check.specs.context.Ranges.{subtree_answer}
 use Rattle.archive_check.specs.Trail.{too_large}
-use Rattle.archive_check.specs.EnteredRegions.{EntersNot, not_sized}
+use Rattle.archive_check.specs.context.EnteredRegions.{EntersNot, not_sized}
 use Rattle.archive_check.proofs.SelfCheck.Outcomes.{if_none}
-use Rattle.archive_check.proofs.TestedAnswers.{not_err, not_refused}
-use Rattle.archive_check.proofs.RangeLevels.{lands}
+use Rattle.archive_check.proofs.Checks.TestedAnswers.{not_err, not_refused}
+use Rattle.archive_check.proofs.Checks.RangeLevels.{lands}
 use Rattle.archive_check.proofs.context.EnteredRegions.{astray, stopped_deep, begun}
 use Rattle.archive_check.proofs.context.regions.enter.Goals as goal
 

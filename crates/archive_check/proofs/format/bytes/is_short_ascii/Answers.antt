@@ -1,6 +1,6 @@
 use Rattle.std.proofs.Common.{arith}
 use Rattle.archive_check.proofs.format.BytesAt.{ascii_ends}
-use Rattle.archive_check.proofs.TestedAnswers.{is_true}
+use Rattle.archive_check.proofs.Checks.TestedAnswers.{is_true}
 use Rattle.archive_check.proofs.format.bytes.is_short_ascii.Goals as goal
 
 pub returns : goal.returns

@@ -1,5 +1,5 @@
 use Rattle.std.proofs.Common.{◌≡◌, ◌+◌, ◌-◌, ◌*◌, ◌≤◌}
-use Rattle.archive_check.specs.Pushes.{worth}
+use Rattle.archive_check.specs.context.Pushes.{worth}
 use Rattle.archive_check.specs.SelfCheck.Ways.{run_way}
 use Rattle.archive_check.proofs.SelfCheck.Ways.{Toward}
 use Rattle.archive_check.proofs.self_check.elements.check_elements.Given as goal

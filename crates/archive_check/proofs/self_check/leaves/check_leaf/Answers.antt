@@ -3,14 +3,14 @@ use Rattle.archive_check.specs.Shape.{leaf}
 use Rattle.archive_check.specs.Layout.{kind_size}
 use Rattle.archive_check.specs.Reads.{bytes_at}
 use Rattle.archive_check.specs.Expressions.{kind_of}
-use Rattle.archive_check.specs.Faults.{illegal_error}
+use Rattle.archive_check.specs.Words.Faults.{illegal_error}
 use Rattle.archive_check.specs.Definitions.{no_definition}
 use Rattle.archive_check.specs.Walk.{walk_leaf}
 use Rattle.archive_check.specs.Trail.{trips_leaf, illegal}
 use Rattle.archive_check.specs.SelfCheck.Ways.{Halts, shape_way}
-use Rattle.archive_check.proofs.EditedBytes.{bytes_long}
+use Rattle.archive_check.proofs.Editing.EditedBytes.{bytes_long}
 use Rattle.archive_check.proofs.SelfCheck.Outcomes.{if_none}
-use Rattle.archive_check.proofs.TestedAnswers.{not_true, is_true}
+use Rattle.archive_check.proofs.Checks.TestedAnswers.{not_true, is_true}
 use Rattle.archive_check.proofs.SelfCheck.Ways.{goes_same}
 use Rattle.archive_check.proofs.self_check.leaves.check_leaf.Goals as goal
 

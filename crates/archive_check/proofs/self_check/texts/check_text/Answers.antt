@@ -11,7 +11,7 @@ use Rattle.archive_check.specs.SelfCheck.Ways.{Halts, enter_way}
 use Rattle.archive_check.specs.SelfCheck.Regions.{contents_way}
 use Rattle.archive_check.proofs.BoundedSizes.{fits_some, some_is}
 use Rattle.archive_check.proofs.SelfCheck.Outcomes.{if_none, some_map, none_map}
-use Rattle.archive_check.proofs.TestedAnswers.{not_true, is_true}
+use Rattle.archive_check.proofs.Checks.TestedAnswers.{not_true, is_true}
 use Rattle.archive_check.proofs.SelfCheck.Ways.{goes_same}
 use Rattle.archive_check.proofs.SelfCheck.Regions.{enters_not, region_goes, region_left, region_halts}
 use Rattle.archive_check.proofs.self_check.texts.check_text.Goals as goal

@@ -3,7 +3,7 @@ use Rattle.archive_check.specs.Shape.{one}
 use Rattle.archive_check.specs.WriterState.{only_bytes}
 use Rattle.archive_types.specs.Plans.{at_start}
 use Rattle.archive_types.specs.Causes.{HindersRegion, RegionReaches}
-use Rattle.archive_types.proofs.Causes.{err_by, err_at, explains_unlimited}
+use Rattle.archive_types.proofs.Planning.Causes.{err_by, err_at, explains_unlimited}
 use Rattle.archive_core.proofs.api.using.to_bytes_with_alloc.Goals as goal
 
 pub returns-in_err-root-clause-refused : goal.returns-in_err-root-clause-refused

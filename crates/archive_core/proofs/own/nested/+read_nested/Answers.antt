@@ -1,6 +1,6 @@
 use Rattle.std.proofs.Common.{◌≡◌, [], slice_index, refl, sym, arith}
 use Rattle.std.proofs.lemmas.Grind.{common_steps}
-use Rattle.archive_types.proofs.Causes.{err_by}
+use Rattle.archive_types.proofs.Planning.Causes.{err_by}
 use Rattle.archive_core.proofs.Nests.{box_otherwise, empty_back}
 use Rattle.archive_core.proofs.own.nested.+read_nested.Goals as goal
 

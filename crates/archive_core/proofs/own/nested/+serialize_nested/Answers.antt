@@ -1,4 +1,4 @@
-use Rattle.archive_types.proofs.Causes.{goes_both}
+use Rattle.archive_types.proofs.Planning.Causes.{goes_both}
 use Rattle.archive_core.proofs.Nests.{empty_written, box_written, inner_unwritten, box_unwritten}
 use Rattle.archive_core.proofs.own.nested.+serialize_nested.Goals as goal
 

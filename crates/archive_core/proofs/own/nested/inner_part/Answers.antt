@@ -1,6 +1,6 @@
 use Rattle.std.proofs.Common.{◌<◌, ◌^◌, length, refl, arith}
 use Rattle.archive_core.proofs.Nests.{box_viewed, inner_before, box_back, box_refuses}
-use Rattle.archive_types.proofs.PartsShown.{box_within}
+use Rattle.archive_types.proofs.Viewing.PartsShown.{box_within}
 use Rattle.archive_check.specs.Shape.{one, named}
 use Rattle.archive_core.proofs.own.nested.inner_part.Goals as goal
 

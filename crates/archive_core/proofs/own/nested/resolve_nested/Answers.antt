@@ -1,7 +1,7 @@
 use Rattle.std.proofs.Common.{◌∙◌}
-use Rattle.archive_types.proofs.Causes.{err_from}
+use Rattle.archive_types.proofs.Planning.Causes.{err_from}
 use Rattle.archive_core.proofs.Nests.{empty_resolved, box_resolved, box_hindered}
-use Rattle.archive_types.proofs.ResolvedVariants.{on_ok}
+use Rattle.archive_types.proofs.Writing.ResolvedVariants.{on_ok}
 use Rattle.archive_core.proofs.own.nested.resolve_nested.Goals as goal
 
 pub returns-in_default-clause-resolved : goal.returns-in_default-clause-resolved

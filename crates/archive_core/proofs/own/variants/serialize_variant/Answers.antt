@@ -1,4 +1,4 @@
-use Rattle.archive_types.proofs.Causes.{err_from}
+use Rattle.archive_types.proofs.Planning.Causes.{err_from}
 use Rattle.archive_fields.proofs.OwnChoices.{variant_serialized_if, variant_refused}
 use Rattle.archive_core.proofs.own.variants.serialize_variant.Goals as goal
 

@@ -1,4 +1,4 @@
-use Rattle.archive_types.proofs.Causes.{err_by}
+use Rattle.archive_types.proofs.Planning.Causes.{err_by}
 use Rattle.archive_core.proofs.PooledReading.{kept_again, kept_pending, kept_refused, kept_new}
 use Rattle.archive_core.proofs.PooledPositions.{again_handed_out, again_finished, again_kept, new_handed_out, new_finished, new_says, new_kept}
 use Rattle.archive_core.proofs.pooling.PoolingExt.deserialize_shared.Goals as goal

@@ -1,5 +1,5 @@
 use Rattle.archive_core.proofs.SealedLeaves.{leaf_lies}
-use Rattle.archive_types.proofs.StandingLeaves.{leaf_stands}
+use Rattle.archive_types.proofs.Viewing.StandingLeaves.{leaf_stands}
 use Rattle.archive_core.proofs.StandingParts.{views_kept}
 use Rattle.archive_core.proofs.seal.Seal.write_at.Goals as goal
 

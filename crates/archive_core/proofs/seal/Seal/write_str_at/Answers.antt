@@ -1,5 +1,5 @@
 use Rattle.archive_core.proofs.SealedLeaves.{text_lies}
-use Rattle.archive_types.proofs.StandingLeaves.{text_stands}
+use Rattle.archive_types.proofs.Viewing.StandingLeaves.{text_stands}
 use Rattle.archive_core.proofs.StandingParts.{views_kept}
 use Rattle.archive_core.proofs.seal.Seal.write_str_at.Goals as goal
 

@@ -1,8 +1,8 @@
 use Rattle.std.proofs.Common.{arith}
-use Rattle.archive_check.proofs.ViewedValues.{string_readable, out_viewed}
-use Rattle.archive_types.proofs.Shown.{string_shown, elsewhere_shown}
+use Rattle.archive_check.proofs.Viewing.ViewedValues.{string_readable, out_viewed}
+use Rattle.archive_types.proofs.Viewing.Shown.{string_shown, elsewhere_shown}
 use Rattle.archive_core.proofs.SealedLeaves.{inline_viewed, inline_long}
-use Rattle.archive_types.proofs.ViewsTogether.{text_with, inline_with}
+use Rattle.archive_types.proofs.Viewing.ViewsTogether.{text_with, inline_with}
 use Rattle.archive_core.proofs.seal.text.text_spot.Goals as goal
 
 pub is_out_of_line-requires : goal.is_out_of_line-requires

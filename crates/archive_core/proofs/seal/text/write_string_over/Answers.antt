@@ -1,6 +1,6 @@
 use Rattle.std.proofs.Common.{sym, ◌∙◌}
 use Rattle.archive_core.proofs.SealedLeaves.{text_lies, text_long, string_changed, string_kept}
-use Rattle.archive_types.proofs.StandingLeaves.{string_stands}
+use Rattle.archive_types.proofs.Viewing.StandingLeaves.{string_stands}
 use Rattle.archive_core.proofs.StandingParts.{views_kept}
 use Rattle.archive_core.proofs.seal.text.write_string_over.Goals as goal
 

@@ -2,7 +2,7 @@ use Rattle.std.proofs.Common.{◌≡◌, ◌+◌, ◌-◌, ◌<◌, ◌≤◌, �
 use Rattle.std.proofs.lemmas.List.{length-take, length-drop}
 use Rattle.archive_check.specs.Layout.{up}
 use Rattle.archive_check.specs.SelfCheck.Regions.{align_some}
-use Rattle.archive_types.proofs.Causes.{err_by}
+use Rattle.archive_types.proofs.Planning.Causes.{err_by}
 use Rattle.archive_fields.proofs.Front.{put_front}
 use Rattle.archive_fields.proofs.fields.front.resolve_front.Goals as goal
 

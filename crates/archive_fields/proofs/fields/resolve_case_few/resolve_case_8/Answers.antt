@@ -2,8 +2,8 @@ use Rattle.std.proofs.Common.{◌≡◌, ◌+◌, ◌-◌, ◌<◌, ◌≤◌, �
 use Rattle.std.proofs.lemmas.List.{length-take, length-drop, length-set}
 use Rattle.archive_check.specs.Layout.{up}
 use Rattle.archive_check.specs.SelfCheck.Regions.{no_lower, rises_over}
-use Rattle.archive_types.proofs.Causes.{err_from}
-use Rattle.archive_types.proofs.ResolvedVariants.{on_ok}
+use Rattle.archive_types.proofs.Planning.Causes.{err_from}
+use Rattle.archive_types.proofs.Writing.ResolvedVariants.{on_ok}
 use Rattle.archive_fields.proofs.OwnChoices.{resolves_variant, variant_hindered, tagged_whole}
 use Rattle.archive_fields.proofs.Ties.{zeroed_case, variant_of, plain_case, lone_at}
 use Rattle.archive_fields.proofs.fields.resolve_case_few.resolve_case_8.Goals as goal

@@ -1,9 +1,9 @@
 use Rattle.std.proofs.Common.{◌≡◌, ◌+◌, ◌-◌, ◌≤◌, ℕ, length, refl}
 use Rattle.archive_check.specs.Layout.{up}
 use Rattle.archive_check.specs.SelfCheck.Regions.{no_lower, rises_over}
-use Rattle.archive_types.proofs.Causes.{err_by, err_from}
-use Rattle.archive_types.proofs.ResolvedParts.{first_hinders, later_hinders}
-use Rattle.archive_types.proofs.ResolvedVariants.{on_ok}
+use Rattle.archive_types.proofs.Planning.Causes.{err_by, err_from}
+use Rattle.archive_types.proofs.Writing.ResolvedParts.{first_hinders, later_hinders}
+use Rattle.archive_types.proofs.Writing.ResolvedVariants.{on_ok}
 use Rattle.archive_fields.proofs.Front.{front_room, rest_fresh, front_and_rest}
 use Rattle.archive_fields.proofs.fields.resolve_few.resolve_4.Goals as goal
 

@@ -1,7 +1,7 @@
 use Rattle.std.proofs.Common.{◌≡◌, ◌+◌, ◌≤◌, length, arith, ◌∙◌}
-use Rattle.archive_types.proofs.Causes.{err_from}
-use Rattle.archive_types.proofs.ResolvedParts.{resolves_record, record_hinders}
-use Rattle.archive_types.proofs.ResolvedVariants.{on_ok}
+use Rattle.archive_types.proofs.Planning.Causes.{err_from}
+use Rattle.archive_types.proofs.Writing.ResolvedParts.{resolves_record, record_hinders}
+use Rattle.archive_types.proofs.Writing.ResolvedVariants.{on_ok}
 use Rattle.archive_fields.proofs.Ties.{plain_record_of, zeroed_record}
 use Rattle.archive_fields.proofs.fields.resolve_record_few.resolve_record_8.Goals as goal
 

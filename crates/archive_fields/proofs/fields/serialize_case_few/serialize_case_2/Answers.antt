@@ -1,4 +1,4 @@
-use Rattle.archive_types.proofs.Causes.{err_from}
+use Rattle.archive_types.proofs.Planning.Causes.{err_from}
 use Rattle.archive_fields.proofs.OwnChoices.{serialized_variant, variant_refused}
 use Rattle.archive_fields.proofs.Ties.{if_ok, variant_of, plain_case, lone_at}
 use Rattle.archive_fields.proofs.fields.serialize_case_few.serialize_case_2.Goals as goal

@@ -1,6 +1,6 @@
-use Rattle.archive_types.specs.PartsPlanned.{no_part_planned, part_planned}
-use Rattle.archive_types.proofs.Causes.{err_by, goes_both}
-use Rattle.archive_types.proofs.PlannedParts.{serialized_part, first_refused, later_refused}
+use Rattle.archive_types.specs.Members.PartsPlanned.{no_part_planned, part_planned}
+use Rattle.archive_types.proofs.Planning.Causes.{err_by, goes_both}
+use Rattle.archive_types.proofs.Planning.PlannedParts.{serialized_part, first_refused, later_refused}
 use Rattle.archive_fields.proofs.fields.serialize_few.serialize_4.Goals as goal
 
 pub returns-in_err-first-clause-refused : goal.returns-in_err-first-clause-refused

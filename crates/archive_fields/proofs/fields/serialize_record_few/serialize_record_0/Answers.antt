@@ -1,5 +1,5 @@
-use Rattle.archive_types.proofs.Causes.{err_from}
-use Rattle.archive_types.proofs.PlannedParts.{serialized_record, record_refused}
+use Rattle.archive_types.proofs.Planning.Causes.{err_from}
+use Rattle.archive_types.proofs.Planning.PlannedParts.{serialized_record, record_refused}
 use Rattle.archive_fields.proofs.Ties.{plain_record_of, if_ok}
 use Rattle.archive_fields.proofs.fields.serialize_record_few.serialize_record_0.Goals as goal
 

@@ -1,6 +1,6 @@
 use Rattle.std.proofs.Common.{◌<◌, sym, subst, refl}
 use Rattle.archive_check.specs.Definitions.{no_definition}
-use Rattle.archive_check.proofs.ViewedPayloads.{choice_tag_fits, choice_tag_known}
+use Rattle.archive_check.proofs.Viewing.ViewedPayloads.{choice_tag_fits, choice_tag_known}
 use Rattle.archive_fields.specs.Plain.{case_count}
 use Rattle.archive_fields.proofs.Ties.{choice_of, plain_in, some_below}
 use Rattle.archive_fields.proofs.fields.variants.tag_in.Goals as goal

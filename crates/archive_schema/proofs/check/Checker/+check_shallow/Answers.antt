@@ -1,13 +1,13 @@
 use Rattle.std.proofs.Common.{rules, ◌+◌, ◌*◌, ◌<◌, ◌≤◌, ◌-◌, arith, refl, ap, slice_index_or, length}
 use Rattle.archive_schema.specs.check.Runs.{run_free, run_record, run_array}
-use Rattle.archive_check.specs.Elements.{span}
+use Rattle.archive_check.specs.Words.Elements.{span}
 use Rattle.archive_schema.specs.check.LoopInvariant.{rank}
 use Rattle.archive_check.proofs.Elements.{at_default}
 use Rattle.archive_schema.proofs.check.TurnInvariants.{node_is, node_fits, record_fits, variant_fits, rank_less, less_by}
 use Rattle.archive_schema.proofs.check.LegalElements.{node_takes, element_fits}
 use Rattle.archive_schema.proofs.check.LegalParts.{part_fits}
 use Rattle.archive_schema.proofs.check.AtOnce.{pointer_shallow, record_shallow, choice_shallow, array_shallow, part_marked, part_below, parts_here, elements_here, passes_by, passes_same, passes_from, passes_behind, passes_stopped, passes_known, no_variant, variant_passed, towards_passed, towards_same, towards_element, element_stops, elements_over, towards_part, part_stops, parts_over}
-use Rattle.archive_check.specs.Pushes.{worth}
+use Rattle.archive_check.specs.context.Pushes.{worth}
 use Rattle.archive_schema.specs.check.Paid.{bytes_in}
 use Rattle.archive_schema.proofs.check.Paid.{record_few, variant_few, array_few, parts_next_is, elements_next_is, elements_few}
 use Rattle.archive_schema.proofs.check.Checker.+check_shallow.Goals as goal

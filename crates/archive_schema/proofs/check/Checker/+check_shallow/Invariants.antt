@@ -1,8 +1,8 @@
 use Rattle.std.proofs.Common.{◌+◌, ◌-◌, ◌*◌, ◌≤◌}
-use Rattle.archive_check.specs.Pushes.{worth}
+use Rattle.archive_check.specs.context.Pushes.{worth}
 use Rattle.archive_schema.specs.check.Lists.{list_of}
 use Rattle.archive_schema.specs.check.Paid.{bytes_in, bytes_of_parts, bytes_of_elements}
-use Rattle.archive_check.specs.Elements.{span}
+use Rattle.archive_check.specs.Words.Elements.{span}
 use Rattle.archive_schema.specs.check.LoopInvariant.{rank}
 use Rattle.archive_schema.specs.check.Through.{parts_rule, elements_rule, stage_of}
 use Rattle.archive_schema.proofs.check.AtOnce.{Towards}

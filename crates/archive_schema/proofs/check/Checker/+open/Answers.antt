@@ -1,7 +1,7 @@
 use Rattle.std.proofs.Common.{◌≡◌, ◌+◌, ◌*◌, ◌<◌, ◌≤◌, ◌-◌, SFits, arith, sym, ap, ◌∙◌, to_z, of_z, rules, slice_index_or, length}
 use Rattle.std.proofs.lemmas.Int.{to_z-of_z}
 use mir.Syntax.{w32}
-use Rattle.archive_check.specs.Elements.{span}
+use Rattle.archive_check.specs.Words.Elements.{span}
 use Rattle.archive_schema.specs.check.LoopInvariant.{rank}
 use Rattle.archive_check.proofs.Elements.{at_default}
 use Rattle.archive_schema.proofs.check.AtOnce.{part_below, once_turns}

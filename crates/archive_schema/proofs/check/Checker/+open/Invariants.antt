@@ -1,5 +1,5 @@
 use Rattle.std.proofs.Common.{◌+◌, ◌*◌}
-use Rattle.archive_check.specs.Elements.{span}
+use Rattle.archive_check.specs.Words.Elements.{span}
 use Rattle.archive_schema.specs.check.LoopInvariant.{rank}
 use Rattle.archive_schema.proofs.check.Checker.+open.Given as goal
 

@@ -4,8 +4,8 @@ use Rattle.archive_check.specs.Layout.{kind_size}
 use Rattle.archive_check.specs.Reads.{bytes_at}
 use Rattle.archive_check.specs.Trail.{illegal}
 use Rattle.archive_schema.specs.check.Runs.{run_leaf, run_illegal}
-use Rattle.archive_check.proofs.EditedBytes.{bytes_long}
-use Rattle.archive_check.proofs.TestedAnswers.{not_true, is_true}
+use Rattle.archive_check.proofs.Editing.EditedBytes.{bytes_long}
+use Rattle.archive_check.proofs.Checks.TestedAnswers.{not_true, is_true}
 use Rattle.archive_schema.proofs.check.TurnInvariants.{node_fits}
 use Rattle.archive_schema.proofs.check.AtOnce.{passes_refused, passes_same}
 use Rattle.archive_schema.proofs.check.Checker.check_leaf.Goals as goal

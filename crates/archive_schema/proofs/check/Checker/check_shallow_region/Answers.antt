@@ -4,7 +4,7 @@ use mir.Syntax.{w128}
 use Rattle.archive_check.specs.Trail.{no_text}
 use Rattle.archive_schema.specs.check.Runs.{contents_no_text}
 use Rattle.archive_schema.specs.check.LoopInvariant.{RegionIsLegalHere}
-use Rattle.archive_check.proofs.TestedAnswers.{not_true, is_true}
+use Rattle.archive_check.proofs.Checks.TestedAnswers.{not_true, is_true}
 use Rattle.archive_schema.proofs.check.EnteredRegions.{passes_text, passes_free}
 use Rattle.archive_schema.proofs.check.AtOnce.{free_is, passed_same}
 use Rattle.archive_schema.proofs.check.Entries.{region_shut, region_refused, region_passes}

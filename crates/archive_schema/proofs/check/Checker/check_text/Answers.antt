@@ -2,7 +2,7 @@ use Rattle.std.proofs.Common.{arith, refl}
 use Rattle.archive_check.specs.Trail.{no_text, no_string}
 use Rattle.archive_schema.specs.check.Runs.{run_inline, run_no_text, run_short, run_out_of_line}
 use Rattle.archive_schema.proofs.check.TurnInvariants.{node_fits}
-use Rattle.archive_check.proofs.TestedAnswers.{not_true, is_true}
+use Rattle.archive_check.proofs.Checks.TestedAnswers.{not_true, is_true}
 use Rattle.archive_schema.proofs.check.Entries.{read_at}
 use Rattle.archive_schema.proofs.check.AtOnce.{passes_by, passes_refused, passes_same}
 use Rattle.archive_schema.proofs.check.Paid.{node_size}

@@ -1,7 +1,7 @@
 use Rattle.std.proofs.Common.{arith, refl, ◌<◌, length}
 use Rattle.archive_check.specs.Trail.{no_text}
 use Rattle.archive_schema.specs.check.Runs.{contents_one, contents_run, contents_no_text}
-use Rattle.archive_check.proofs.TestedAnswers.{not_true, is_true}
+use Rattle.archive_check.proofs.Checks.TestedAnswers.{not_true, is_true}
 use Rattle.archive_schema.proofs.check.EnteredRegions.{run_left, passes_text, passes_empty}
 use Rattle.archive_schema.proofs.check.Entries.{free_region}
 use Rattle.archive_schema.proofs.check.AtOnce.{region_part, region_elements, mark_is, passed_by, passed_same, test_known, test_other, test_refused, test_fails}

@@ -1,6 +1,6 @@
 use Rattle.std.proofs.Common.{◌+◌, ◌*◌, arith}
 use Rattle.archive_schema.specs.check.LoopInvariant.{LeadsNowhere}
-use Rattle.archive_check.proofs.TestedAnswers.{is_true}
+use Rattle.archive_check.proofs.Checks.TestedAnswers.{is_true}
 use Rattle.archive_schema.proofs.check.LegalElements.{element_fits, holds_more}
 use Rattle.archive_schema.proofs.check.Checker.count_checked.Goals as goal
 

@@ -1,5 +1,5 @@
 use Rattle.std.proofs.Common.{rules, ◌+◌, ◌≤◌, arith, length, slice_index_or}
-use Rattle.archive_check.proofs.TestedAnswers.{is_true, not_true}
+use Rattle.archive_check.proofs.Checks.TestedAnswers.{is_true, not_true}
 use Rattle.archive_check.proofs.Elements.{at_default, same_at}
 use Rattle.archive_schema.proofs.check.LegalParts.{part_fits, stays_more}
 use Rattle.archive_schema.proofs.check.Checker.first_to_open.Goals as goal

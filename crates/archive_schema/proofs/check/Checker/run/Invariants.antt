@@ -2,10 +2,10 @@ use Rattle.std.proofs.Common.{pos, [], ◌+◌, ◌≤◌}
 use Rattle.std.specs.FinMap.{empty}
 use Rattle.archive_schema.specs.declared.plan.PointeeKind.TheVariants.{One}
 use Rattle.archive_check.specs.Tour.{Seen}
-use Rattle.archive_check.specs.Pushes.{worth}
+use Rattle.archive_check.specs.context.Pushes.{worth}
 use Rattle.archive_schema.specs.check.Lists.{list_of}
 use Rattle.archive_schema.specs.check.Paid.{bytes_in}
-use Rattle.archive_check.specs.FreshContexts.{HasLevels, IsFresh}
+use Rattle.archive_check.specs.context.FreshContexts.{HasLevels, IsFresh}
 use Rattle.archive_check.specs.Outcomes.{Outcome}
 use Rattle.archive_schema.specs.check.Runs.{EnterRuns}
 use Rattle.archive_schema.specs.check.LoopInvariant.{Ready, cost, stage, Agreeing, IsOrderly, Listing}

@@ -5,7 +5,7 @@ use Rattle.archive_schema.specs.plan.PlanGrowth.{lists_of}
 use Rattle.archive_schema.specs.plan.CompileQueue.{waits_of}
 use Rattle.archive_schema.proofs.plan.Restated.{as_shape, as_done}
 use Rattle.archive_schema.proofs.plan.CompiledChain.{chained_start, defs_next, defs_begin}
-use Rattle.archive_check.specs.Elements.{IsAt}
+use Rattle.archive_check.specs.Words.Elements.{IsAt}
 use Rattle.archive_schema.specs.plan.NodeNumbers.{def_shapes, start_of}
 use Rattle.archive_schema.specs.plan.Compilable.{Can}
 use Rattle.archive_schema.proofs.plan.Compilable.{can_as}

@@ -1,7 +1,7 @@
 use Rattle.std.proofs.Common.{IsSome, ◌≡◌, ◌+◌, ap, sym, ◌∙◌, subst, arith, slice_index_or}
 use Rattle.archive_check.specs.declared.format.defs.Def.{Def}
 use Rattle.archive_check.specs.Expressions.{shape_of}
-use Rattle.archive_check.specs.Elements.{IsAt}
+use Rattle.archive_check.specs.Words.Elements.{IsAt}
 use Rattle.archive_schema.specs.plan.NodeCounts.{count_of}
 use Rattle.archive_schema.specs.plan.NodeNumbers.{IsExpressionNode, def_shapes}
 use Rattle.archive_check.proofs.Elements.{same_at}

@@ -1,6 +1,6 @@
 use Rattle.std.proofs.Common.{arith, sym, subst, ap, ◌∙◌, length, length-append, ◌∷◌, [], List, Bool, IsTrue}
 use Rattle.archive_schema.specs.declared.plan.Node.{Node}
-use Rattle.archive_check.specs.Elements.{IsAt}
+use Rattle.archive_check.specs.Words.Elements.{IsAt}
 use Rattle.archive_schema.specs.plan.Shallow.{AreShallow, AreAllMarked, HasIndexes, kind_shallow}
 use Rattle.archive_schema.proofs.plan.ShallowMarks.{shallow_more, all_more}
 use Rattle.archive_schema.proofs.plan.shallow.shallow_nodes.Goals as goal

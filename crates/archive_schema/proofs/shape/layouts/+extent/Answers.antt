@@ -2,10 +2,10 @@ use Rattle.std.proofs.Common.{⊎_elim, ◌+◌, ◌<◌, ap, sym, ◌∙◌, su
 use Rattle.archive_check.specs.Expressions.{kind_of, flavor_of, shape_of, pointee_of, shapes_in, variants_in, entries_of}
 use Rattle.archive_check.specs.Measure.{measure_of_variants}
 use Rattle.archive_check.specs.Shape.{parts, choice, array, boxed, shared, weak, variant}
-use Rattle.archive_check.specs.BoundedSizes.{times}
+use Rattle.archive_check.specs.Words.BoundedSizes.{times}
 use Rattle.archive_check.specs.MissingNames.{missing, parts_missing, variants_missing}
 use Rattle.archive_check.proofs.format.Views.{choice_falls, shape_of-Choice, shape_of-Record, shapes_in-drop, shapes_in-end, variants_in-drop, variants_in-end}
-use Rattle.archive_check.proofs.MissingNames.{or_none}
+use Rattle.archive_check.proofs.Names.MissingNames.{or_none}
 use Rattle.archive_check.proofs.BoundedSizes.{fits_some, times_fits}
 use Rattle.archive_schema.proofs.plan.FreeWalks.{kind_few}
 use Rattle.archive_schema.proofs.plan.ExtentsOf.{pointer_fits, arm, whole_ends, parts_start, parts_left, parts_next, parts_done, variants_start, variants_left, variants_next, variants_done}

@@ -1,5 +1,5 @@
 use Rattle.std.proofs.Common.{◌≡◌, ◌+◌, ◌*◌, ◌≤◌, ◌<◌, ℕ, length, min, arith, ap, refl}
-use Rattle.archive_types.proofs.ArraysShown.{array_element_within, array_element_viewed, array_element_shows}
+use Rattle.archive_types.proofs.Viewing.ArraysShown.{array_element_within, array_element_viewed, array_element_shows}
 use Rattle.archive_types.proofs.array.Ref+array+N+T.index.Goals as goal
 
 -- an element that lies in bytes has its size, and ends in them

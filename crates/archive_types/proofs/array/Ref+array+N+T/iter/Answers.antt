@@ -1,4 +1,4 @@
-use Rattle.archive_types.proofs.ArraysShown.{array_element_viewed}
+use Rattle.archive_types.proofs.Viewing.ArraysShown.{array_element_viewed}
 use Rattle.archive_types.proofs.array.Ref+array+N+T.iter.Goals as goal
 
 pub over-requires : goal.over-requires

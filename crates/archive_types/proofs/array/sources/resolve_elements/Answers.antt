@@ -1,8 +1,8 @@
 use Rattle.std.proofs.Common.{◌≡◌, ◌+◌, ◌-◌, ◌<◌, ◌≤◌, ◌^◌, length, drop, arith, refl, sym, ◌∙◌, take_all}
 use Rattle.std.proofs.lemmas.List.{length-take, length-drop}
-use Rattle.archive_types.proofs.Arrays.{fills_start, fills_more, fills_broken, fills_end, left_behind, its_size, none_left, fresh_element, zeroed_behind}
-use Rattle.archive_types.proofs.Causes.{err_by}
-use Rattle.archive_types.proofs.PartBytes.{put_length, behind_is, before_is}
+use Rattle.archive_types.proofs.Writing.Arrays.{fills_start, fills_more, fills_broken, fills_end, left_behind, its_size, none_left, fresh_element, zeroed_behind}
+use Rattle.archive_types.proofs.Planning.Causes.{err_by}
+use Rattle.archive_types.proofs.Writing.PartBytes.{put_length, behind_is, before_is}
 use Rattle.archive_types.proofs.array.sources.resolve_elements.Goals as goal
 
 pub loop-resolver-init : goal.loop-resolver-init

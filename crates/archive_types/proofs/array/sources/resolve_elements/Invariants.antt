@@ -1,7 +1,7 @@
 use Rattle.std.proofs.Common.{◌≡◌, ◌+◌, ◌*◌, length, take, drop}
 use Rattle.archive_check.specs.CleanRegions.{IsZeroed}
 use Rattle.archive_types.specs.Runs.{each_flat}
-use Rattle.archive_types.proofs.Arrays.{Fills}
+use Rattle.archive_types.proofs.Writing.Arrays.{Fills}
 use Rattle.archive_types.proofs.array.sources.resolve_elements.Given as goal
 
 abbrev pub invariant-loop-resolver : goal.invariant-loop-resolver

@@ -1,4 +1,4 @@
-use Rattle.archive_types.proofs.OwnersWritten.{box_unresolved}
+use Rattle.archive_types.proofs.Writing.OwnersWritten.{box_unresolved}
 use Rattle.archive_types.proofs.boxed.ArchivedBox.resolve_from_raw_parts.Goals as goal
 
 pub returns-clause-refused : goal.returns-clause-refused

@@ -1,6 +1,6 @@
 use Rattle.std.proofs.Common.{arith}
-use Rattle.archive_types.proofs.Owned.{pointer_some}
-use Rattle.archive_types.proofs.PartsShown.{box_shown, box_shows, box_within}
+use Rattle.archive_types.proofs.Writing.Owned.{pointer_some}
+use Rattle.archive_types.proofs.Viewing.PartsShown.{box_shown, box_shows, box_within}
 use Rattle.archive_types.proofs.boxed.Ref+ArchivedBox+T.get.Goals as goal
 
 pub read_target-requires-clause-within : goal.read_target-requires-clause-within

@@ -1,5 +1,5 @@
 use Rattle.std.proofs.Common.{arith, refl}
-use Rattle.archive_types.proofs.ResolvedVariants.{on_ok, case_written}
+use Rattle.archive_types.proofs.Writing.ResolvedVariants.{on_ok, case_written}
 use Rattle.archive_types.proofs.boxed.inner.resolve_inner.Goals as goal
 
 pub returns-clause-held : goal.returns-clause-held

@@ -1,7 +1,7 @@
 use Rattle.std.proofs.Common.{◌≡◌, ◌<◌, ◌∙◌, arith}
-use Rattle.archive_types.proofs.Causes.{err_by, goes_both, goes_written, goes_refused}
+use Rattle.archive_types.proofs.Planning.Causes.{err_by, goes_both, goes_written, goes_refused}
 use Rattle.archive_types.specs.Causes.{of_position, of_value}
-use Rattle.archive_types.proofs.Inner.{boxed_there, put_there, unpadded, padding_number, unresolved, region_number, too_far_inner}
+use Rattle.archive_types.proofs.Writing.Inner.{boxed_there, put_there, unpadded, padding_number, unresolved, region_number, too_far_inner}
 use Rattle.archive_types.proofs.boxed.inner.write_inner.Goals as goal
 
 pub returns-in_err-align_for-clause-refused : goal.returns-in_err-align_for-clause-refused

@@ -1,6 +1,6 @@
 use Rattle.std.proofs.Common.{◌≡◌, ◌<◌, ◌≤◌, true, false, arith, sym, ◌∙◌}
 use Rattle.std.specs.Ordering.{is_ne, nat_cmp}
-use Rattle.archive_types.proofs.Compared.{rest_start, rest_over, rest_done, rest_here, rest_later}
+use Rattle.archive_types.proofs.Comparing.Compared.{rest_start, rest_over, rest_done, rest_here, rest_later}
 use Rattle.archive_types.proofs.compare.lists.compare_elements.Goals as goal
 
 pub loop-index-init : goal.loop-index-init

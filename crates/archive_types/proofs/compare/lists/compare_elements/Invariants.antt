@@ -1,7 +1,7 @@
 use Rattle.std.proofs.Common.{◌≡◌, ◌≤◌}
 use Rattle.std.specs.Cmp.Lexicographic.{slice_cmp}
 use Rattle.archive_types.specs.Compared.{elements_from}
-use Rattle.archive_types.proofs.Compared.{rest}
+use Rattle.archive_types.proofs.Comparing.Compared.{rest}
 use Rattle.archive_types.proofs.compare.lists.compare_elements.Given as goal
 
 abbrev pub invariant-loop-index : goal.invariant-loop-index

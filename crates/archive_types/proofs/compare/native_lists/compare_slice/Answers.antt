@@ -1,7 +1,7 @@
 use Rattle.std.proofs.Common.{◌≡◌, ◌+◌, ◌*◌, ◌<◌, ◌≤◌, true, false, length, arith, sym, ap, ◌∙◌}
 use Rattle.std.specs.Ordering.{is_ne, nat_cmp}
 use Rattle.archive_types.specs.Compared.{standing}
-use Rattle.archive_types.proofs.Compared.{left_start, left_over, left_done, left_here, left_later}
+use Rattle.archive_types.proofs.Comparing.Compared.{left_start, left_over, left_done, left_here, left_later}
 use Rattle.archive_types.proofs.compare.native_lists.compare_slice.Goals as goal
 
 pub loop-index-init : goal.loop-index-init

@@ -1,7 +1,7 @@
 use Rattle.std.proofs.Common.{◌≡◌, ◌≤◌, length}
 use Rattle.std.specs.Cmp.Lexicographic.{slice_cmp}
 use Rattle.archive_types.specs.Compared.{elements_from}
-use Rattle.archive_types.proofs.Compared.{left_order}
+use Rattle.archive_types.proofs.Comparing.Compared.{left_order}
 use Rattle.archive_types.proofs.compare.native_lists.compare_slice.Given as goal
 
 abbrev pub invariant-loop-index : goal.invariant-loop-index

@@ -1,6 +1,6 @@
 use Rattle.std.proofs.Common.{◌≡◌, ◌+◌, ◌*◌, ◌≤◌, length, arith, ap, refl, ◌∙◌}
-use Rattle.archive_types.proofs.PartsShown.{run_within}
-use Rattle.archive_types.proofs.LevelRuns.{ends_within, bytes_between}
+use Rattle.archive_types.proofs.Viewing.PartsShown.{run_within}
+use Rattle.archive_types.proofs.Comparing.LevelRuns.{ends_within, bytes_between}
 use Rattle.archive_types.proofs.compare.runs.bytes_of.Goals as goal
 
 pub overflow_mul-first : goal.overflow_mul-first

@@ -1,5 +1,5 @@
 use Rattle.std.proofs.Common.{◌+◌, ◌≤◌, arith, ◌∙◌}
-use Rattle.archive_types.proofs.LevelRuns.{skipped}
+use Rattle.archive_types.proofs.Comparing.LevelRuns.{skipped}
 use Rattle.archive_types.proofs.compare.runs.skip.Goals as goal
 
 pub loop-at-preserved : goal.loop-at-preserved

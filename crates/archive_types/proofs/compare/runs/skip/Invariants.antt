@@ -1,5 +1,5 @@
 use Rattle.std.proofs.Common.{◌-◌, ◌≡◌, ◌≤◌}
-use Rattle.archive_types.proofs.Compared.{rest}
+use Rattle.archive_types.proofs.Comparing.Compared.{rest}
 use Rattle.archive_types.proofs.compare.runs.skip.Given as goal
 
 abbrev pub invariant-loop-at : goal.invariant-loop-at

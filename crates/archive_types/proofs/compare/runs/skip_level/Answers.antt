@@ -1,6 +1,6 @@
 use Rattle.std.proofs.Common.{length, arith, sym, ◌∙◌}
-use Rattle.archive_types.proofs.PartsShown.{run_within}
-use Rattle.archive_types.proofs.LevelRuns.{some_element, their_size}
+use Rattle.archive_types.proofs.Viewing.PartsShown.{run_within}
+use Rattle.archive_types.proofs.Comparing.LevelRuns.{some_element, their_size}
 use Rattle.archive_types.proofs.compare.runs.skip_level.Goals as goal
 
 pub skip-far-requires-clause-sized : goal.skip-far-requires-clause-sized

@@ -1,7 +1,7 @@
 use Rattle.std.proofs.Common.{sym, ap, ◌∙◌, arith, length}
 use Rattle.std.specs.Slice.Scan.{big_endian}
 use Rattle.std.specs.Simd.Lanes.{chunk}
-use Rattle.archive_types.proofs.FirstBytes.{first_word, second_word}
+use Rattle.archive_types.proofs.Comparing.FirstBytes.{first_word, second_word}
 use Rattle.archive_types.proofs.compare.texts.front_order.Goals as goal
 
 pub returns-then-first-other : goal.returns-then-first-other

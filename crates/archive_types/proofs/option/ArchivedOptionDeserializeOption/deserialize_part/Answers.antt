@@ -1,7 +1,7 @@
 use Rattle.std.proofs.Common.{refl, sym}
-use Rattle.archive_check.proofs.ReadVariants.{case_read_back, case_refuses, empty_case_read_back}
+use Rattle.archive_check.proofs.Reading.ReadVariants.{case_read_back, case_refuses, empty_case_read_back}
 use Rattle.archive_enum.specs.Choices.{up_first}
-use Rattle.archive_types.proofs.Causes.{err_by}
+use Rattle.archive_types.proofs.Planning.Causes.{err_by}
 use Rattle.archive_types.proofs.option.ArchivedOptionDeserializeOption.deserialize_part.Goals as goal
 
 pub returns-in_err-deserialize-in-Some-clause-refused :

@@ -1,8 +1,8 @@
 use Rattle.std.proofs.Common.{◌<◌, length, arith, refl, sym, ◌∙◌}
 use Rattle.archive_enum.specs.Choices.{option_layout, option_has_layout, option_holds, align_low_first, up_first}
-use Rattle.archive_types.proofs.Causes.{err_from}
-use Rattle.archive_types.proofs.ResolvedVariants.{on_ok, resolves_case, resolves_zeros}
-use Rattle.archive_types.proofs.WrittenVariants.{case_hindered_at}
+use Rattle.archive_types.proofs.Planning.Causes.{err_from}
+use Rattle.archive_types.proofs.Writing.ResolvedVariants.{on_ok, resolves_case, resolves_zeros}
+use Rattle.archive_types.proofs.Writing.WrittenVariants.{case_hindered_at}
 use Rattle.archive_types.proofs.option.OptionArchive.resolve.Goals as goal
 
 pub returns-in-None-clause-resolved : goal.returns-in-None-clause-resolved

@@ -1,6 +1,6 @@
 use Rattle.std.proofs.Common.{refl}
-use Rattle.archive_types.proofs.Causes.{err_by}
-use Rattle.archive_types.proofs.WrittenVariants.{serialized_case, serialized_empty_case, case_refused}
+use Rattle.archive_types.proofs.Planning.Causes.{err_by}
+use Rattle.archive_types.proofs.Writing.WrittenVariants.{serialized_case, serialized_empty_case, case_refused}
 use Rattle.archive_types.proofs.option.OptionSerialize.serialize.Goals as goal
 
 pub returns-in_err-serialize-in-Some-clause-refused :

@@ -1,7 +1,7 @@
 use Rattle.std.proofs.Common.{◌≡◌, slice_index, refl, sym}
-use Rattle.archive_check.proofs.ViewedVariants.{tag_fits, tag_known, case_viewed}
+use Rattle.archive_check.proofs.Viewing.ViewedVariants.{tag_fits, tag_known, case_viewed}
 use Rattle.archive_enum.specs.Choices.{option_tag, up_first}
-use Rattle.archive_types.proofs.ViewsTogether.{case_with}
+use Rattle.archive_types.proofs.Viewing.ViewsTogether.{case_with}
 use Rattle.archive_types.proofs.option.Ref+ArchivedOption+T.as_ref.Goals as goal
 
 pub bounds-bytes-pos : goal.bounds-bytes-pos

@@ -1,8 +1,8 @@
 use Rattle.std.proofs.Common.{◌≡◌, inl, inr, ◌+◌, ◌<◌, ◌≤◌, ◌^◌, ℕ, List, length, min, Fits, w64, arith}
 use Rattle.archive_check.specs.Layout.{up}
 use Rattle.archive_types.specs.PartsReading.{part_read_back}
-use Rattle.archive_types.proofs.Causes.{err_by}
-use Rattle.archive_types.proofs.ReadRecords.{first_viewed, rest_viewed, first_within, first_refuses, later_refuses}
+use Rattle.archive_types.proofs.Planning.Causes.{err_by}
+use Rattle.archive_types.proofs.Reading.ReadRecords.{first_viewed, rest_viewed, first_within, first_refuses, later_refuses}
 use Rattle.archive_types.proofs.parts.Tuple2DeserializeParts.deserialize_parts.Goals as goal
 
 -- where the first part begins

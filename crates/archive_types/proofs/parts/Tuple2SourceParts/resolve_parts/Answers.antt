@@ -2,10 +2,10 @@ use Rattle.std.proofs.Common.{◌≡◌, ◌+◌, ◌-◌, ◌<◌, ◌≤◌, �
 use Rattle.std.proofs.lemmas.List.{length-take, length-drop}
 use Rattle.archive_check.specs.Layout.{up}
 use Rattle.archive_check.specs.SelfCheck.Regions.{align_some}
-use Rattle.archive_types.proofs.Causes.{err_by, err_from}
-use Rattle.archive_types.proofs.PartBytes.{fresh_behind, both_written, zeroed_front, put_length}
-use Rattle.archive_types.proofs.ResolvedParts.{resolves_part, first_hinders, later_hinders}
-use Rattle.archive_types.proofs.ResolvedVariants.{on_ok}
+use Rattle.archive_types.proofs.Planning.Causes.{err_by, err_from}
+use Rattle.archive_types.proofs.Writing.PartBytes.{fresh_behind, both_written, zeroed_front, put_length}
+use Rattle.archive_types.proofs.Writing.ResolvedParts.{resolves_part, first_hinders, later_hinders}
+use Rattle.archive_types.proofs.Writing.ResolvedVariants.{on_ok}
 use Rattle.archive_types.proofs.parts.Tuple2SourceParts.resolve_parts.Goals as goal
 
 pub returns-in_err-resolve_into-clause-refused : goal.returns-in_err-resolve_into-clause-refused

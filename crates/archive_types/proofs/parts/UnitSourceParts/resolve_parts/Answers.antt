@@ -1,4 +1,4 @@
-use Rattle.archive_types.proofs.ResolvedParts.{resolves_nothing}
+use Rattle.archive_types.proofs.Writing.ResolvedParts.{resolves_nothing}
 use Rattle.archive_types.proofs.parts.UnitSourceParts.resolve_parts.Goals as goal
 
 pub returns-clause-resolved : goal.returns-clause-resolved

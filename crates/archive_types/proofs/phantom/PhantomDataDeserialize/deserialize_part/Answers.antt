@@ -1,5 +1,5 @@
 use Rattle.std.proofs.Common.{refl}
-use Rattle.archive_types.proofs.Nothing.{empty_product_read_back}
+use Rattle.archive_types.proofs.Writing.Nothing.{empty_product_read_back}
 use Rattle.archive_types.proofs.phantom.PhantomDataDeserialize.deserialize_part.Goals as goal
 
 pub returns-clause-read : goal.returns-clause-read

@@ -1,5 +1,5 @@
 use Rattle.std.proofs.Common.{◌≡◌, ◌+◌, ◌-◌, arith}
-use Rattle.archive_types.proofs.PlacedParts.{zeroed_place, put_there, put_changes_only}
+use Rattle.archive_types.proofs.Writing.PlacedParts.{zeroed_place, put_there, put_changes_only}
 use Rattle.archive_types.proofs.place.filling.resolve_part.Goals as goal
 
 pub resolve_into-requires-clause-zeroed : goal.resolve_into-requires-clause-zeroed

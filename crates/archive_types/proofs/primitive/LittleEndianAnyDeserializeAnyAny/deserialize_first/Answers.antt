@@ -4,7 +4,7 @@ use Rattle.std.specs.Vec.{vec_len}
 use Rattle.archive_check.specs.Definitions.{no_definition}
 use Rattle.archive_check.specs.Layout.{kind_size}
 use Rattle.archive_check.specs.Value.{number}
-use Rattle.archive_types.proofs.FirstRead.{leaves_read}
+use Rattle.archive_types.proofs.Reading.FirstRead.{leaves_read}
 use Rattle.archive_types.proofs.primitive.LittleEndianAnyDeserializeAnyAny.deserialize_first.Goals as goal
 
 pub read_blocks-requires-clause-viewed : goal.read_blocks-requires-clause-viewed

@@ -1,5 +1,5 @@
 use Rattle.std.proofs.Common.{refl}
-use Rattle.archive_check.proofs.ReadBack.{leaf_read_back}
+use Rattle.archive_check.proofs.Reading.ReadBack.{leaf_read_back}
 use Rattle.archive_types.proofs.primitive.NonZeroDeserialize.deserialize_part.Goals as goal
 
 pub returns-clause-read : goal.returns-clause-read

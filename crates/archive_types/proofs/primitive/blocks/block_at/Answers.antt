@@ -4,7 +4,7 @@ use Rattle.archive_check.specs.Definitions.{no_definition}
 use Rattle.archive_check.specs.Layout.{kind_size}
 use Rattle.archive_check.specs.Shape.{leaf, one}
 use Rattle.archive_check.specs.Value.{number}
-use Rattle.archive_types.proofs.FirstRead.{said_set}
+use Rattle.archive_types.proofs.Reading.FirstRead.{said_set}
 use Rattle.archive_types.proofs.primitive.blocks.block_at.Goals as goal
 
 pub loop-index-init : goal.loop-index-init

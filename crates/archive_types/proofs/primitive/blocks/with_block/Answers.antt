@@ -6,7 +6,7 @@ use Rattle.archive_check.specs.Layout.{kind_size}
 use Rattle.archive_check.specs.Shape.{leaf, one}
 use Rattle.archive_check.specs.Value.{number}
 use Rattle.archive_check.specs.Viewed.{Says}
-use Rattle.archive_types.proofs.FirstRead.{said_push}
+use Rattle.archive_types.proofs.Reading.FirstRead.{said_push}
 use Rattle.archive_types.proofs.primitive.blocks.with_block.Goals as goal
 
 pub loop-index-preserved : goal.loop-index-preserved

@@ -1,6 +1,6 @@
 use Rattle.std.proofs.Common.{arith, sym}
 use Rattle.std.proofs.lemmas.Result.{IfErr-weaker}
-use Rattle.archive_types.proofs.SharedBytes.{weak_hindered_at, null_hindered_at}
+use Rattle.archive_types.proofs.SharedValues.SharedBytes.{weak_hindered_at, null_hindered_at}
 use Rattle.archive_types.proofs.rc.ArchivedRcWeak.resolve_from_ref.Goals as goal
 
 pub returns-then-saturating_sub-eq1-clause-refused : goal.returns-then-saturating_sub-eq1-clause-refused

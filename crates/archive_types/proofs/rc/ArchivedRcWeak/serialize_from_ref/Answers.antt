@@ -1,4 +1,4 @@
-use Rattle.archive_types.proofs.SharedWritten.{weak_serialized, null_serialized}
+use Rattle.archive_types.proofs.SharedValues.SharedWritten.{weak_serialized, null_serialized}
 use Rattle.archive_types.proofs.rc.ArchivedRcWeak.serialize_from_ref.Goals as goal
 
 pub returns-in_default-clause-serialized : goal.returns-in_default-clause-serialized

@@ -1,8 +1,8 @@
 use Rattle.std.proofs.Common.{refl, sym, ap, ◌∙◌, [], ◌∷◌, None}
 use Rattle.std.proofs.lemmas.List.{append-nil}
-use Rattle.archive_check.proofs.StandingBytes.{zeroed_none}
-use Rattle.archive_types.proofs.Causes.{err_by, goes_both, goes_written, goes_refused}
-use Rattle.archive_types.proofs.SharedWritten.{shared_refused, byte_refused, shared_serialized, without_byte, with_byte, a_zero, pending_said}
+use Rattle.archive_check.proofs.Tours.StandingBytes.{zeroed_none}
+use Rattle.archive_types.proofs.Planning.Causes.{err_by, goes_both, goes_written, goes_refused}
+use Rattle.archive_types.proofs.SharedValues.SharedWritten.{shared_refused, byte_refused, shared_serialized, without_byte, with_byte, a_zero, pending_said}
 use Rattle.archive_types.proofs.rc.writing.write_shared.Goals as goal
 
 pub returns-in_err-pos-clause-refused : goal.returns-in_err-pos-clause-refused

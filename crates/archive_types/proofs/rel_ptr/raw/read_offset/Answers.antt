@@ -1,11 +1,11 @@
 use Rattle.std.proofs.Common.{◌≡◌, sym, ap, ◌∙◌}
 use Rattle.archive_check.specs.Layout.{kind_size}
 use Rattle.archive_check.specs.Reads.{bytes_at, with_sign}
-use Rattle.archive_check.proofs.EditedBytes.{bytes_long}
+use Rattle.archive_check.proofs.Editing.EditedBytes.{bytes_long}
 use Rattle.std.specs.Int.{byte_len, from_le_bytes}
 use Rattle.archive_num.specs.Offsets.{as_isize}
-use Rattle.archive_types.proofs.Pointers.{number_read, as_isize_again}
-use Rattle.archive_types.proofs.Shown.{slice_is}
+use Rattle.archive_types.proofs.Writing.Pointers.{number_read, as_isize_again}
+use Rattle.archive_types.proofs.Viewing.Shown.{slice_is}
 use Rattle.archive_types.proofs.rel_ptr.raw.read_offset.Goals as goal
 
 pub returns : goal.returns

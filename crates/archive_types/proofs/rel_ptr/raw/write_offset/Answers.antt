@@ -1,5 +1,5 @@
 use Rattle.std.proofs.Common.{◌≡◌, ◌∙◌, w64, to_z-of_z}
-use Rattle.archive_types.proofs.Pointers.{number_is_offset}
+use Rattle.archive_types.proofs.Writing.Pointers.{number_is_offset}
 use Rattle.archive_types.proofs.rel_ptr.raw.write_offset.Goals as goal
 
 pub returns-in-Ok : goal.returns-in-Ok

@@ -1,8 +1,8 @@
 use Rattle.std.proofs.Common.{refl, sym}
-use Rattle.archive_check.specs.PartsLayout.{knows_left, knows_right}
-use Rattle.archive_check.proofs.ReadVariants.{case_read_back, case_refuses}
+use Rattle.archive_check.specs.Members.PartsLayout.{knows_left, knows_right}
+use Rattle.archive_check.proofs.Reading.ReadVariants.{case_read_back, case_refuses}
 use Rattle.archive_enum.specs.Choices.{up_first}
-use Rattle.archive_types.proofs.Causes.{err_by}
+use Rattle.archive_types.proofs.Planning.Causes.{err_by}
 use Rattle.archive_types.proofs.result.ArchivedResultDeserializeResult.deserialize_part.Goals as goal
 
 pub returns-in_err-deserialize-in-Ok-clause-refused :

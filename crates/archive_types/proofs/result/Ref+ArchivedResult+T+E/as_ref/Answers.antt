@@ -1,10 +1,10 @@
 use Rattle.std.proofs.Common.{◌≡◌, ◌≤◌, ◌<◌, ◌*◌, ℕ, length, slice_index, refl, sym, arith, inl, inr}
 use Rattle.archive_check.specs.Definitions.{IsAlign}
-use Rattle.archive_check.specs.PartsLayout.{knows_left, knows_right}
-use Rattle.archive_check.proofs.ViewedVariants.{tag_fits, tag_known, case_viewed}
+use Rattle.archive_check.specs.Members.PartsLayout.{knows_left, knows_right}
+use Rattle.archive_check.proofs.Viewing.ViewedVariants.{tag_fits, tag_known, case_viewed}
 use Rattle.archive_enum.specs.Choices.{up_first}
 use Rattle.archive_enum.specs.ResultShapes.{result_tag}
-use Rattle.archive_types.proofs.ViewsTogether.{case_with}
+use Rattle.archive_types.proofs.Viewing.ViewsTogether.{case_with}
 use Rattle.archive_types.proofs.result.Ref+ArchivedResult+T+E.as_ref.Goals as goal
 
 pub bounds-bytes-pos : goal.bounds-bytes-pos

@@ -1,10 +1,10 @@
 use Rattle.std.proofs.Common.{refl, sym, ◌∙◌}
-use Rattle.archive_check.specs.PartsLayout.{knows_left, knows_right}
+use Rattle.archive_check.specs.Members.PartsLayout.{knows_left, knows_right}
 use Rattle.archive_enum.specs.Choices.{align_low_first, up_first}
 use Rattle.archive_enum.specs.ResultShapes.{result_layout, result_has_layout}
-use Rattle.archive_types.proofs.Causes.{err_from}
-use Rattle.archive_types.proofs.ResolvedVariants.{on_ok, resolves_case}
-use Rattle.archive_types.proofs.WrittenVariants.{case_hindered_at}
+use Rattle.archive_types.proofs.Planning.Causes.{err_from}
+use Rattle.archive_types.proofs.Writing.ResolvedVariants.{on_ok, resolves_case}
+use Rattle.archive_types.proofs.Writing.WrittenVariants.{case_hindered_at}
 use Rattle.archive_types.proofs.result.ResultArchive.resolve.Goals as goal
 use Rattle.archive_types.proofs.result.ResultArchive.resolve.Goals.{in-Ok+in-Ok-resolver, in-Err+in-Err-resolver}
 

@@ -1,7 +1,7 @@
 use Rattle.std.proofs.Common.{refl}
-use Rattle.archive_check.specs.PartsLayout.{knows_left, knows_right}
-use Rattle.archive_types.proofs.Causes.{err_by}
-use Rattle.archive_types.proofs.WrittenVariants.{serialized_case, case_refused}
+use Rattle.archive_check.specs.Members.PartsLayout.{knows_left, knows_right}
+use Rattle.archive_types.proofs.Planning.Causes.{err_by}
+use Rattle.archive_types.proofs.Writing.WrittenVariants.{serialized_case, case_refused}
 use Rattle.archive_types.proofs.result.ResultSerialize.serialize.Goals as goal
 
 pub returns-in_err-serialize-in-Ok-clause-refused :

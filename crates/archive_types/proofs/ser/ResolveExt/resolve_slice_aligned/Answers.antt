@@ -1,5 +1,5 @@
 use Rattle.std.proofs.Common.{◌∙◌, sym, arith}
-use Rattle.archive_types.proofs.RunRegions.{run_too_large, ends_above}
+use Rattle.archive_types.proofs.Writing.RunRegions.{run_too_large, ends_above}
 use Rattle.archive_types.proofs.ser.ResolveExt.resolve_slice_aligned.Goals as goal
 
 pub returns-then-not-run_fits-clause-refused : goal.returns-then-not-run_fits-clause-refused

@@ -1,6 +1,6 @@
 use Rattle.archive_types.specs.Causes.{no_memory}
-use Rattle.archive_types.proofs.Causes.{err_by}
-use Rattle.archive_types.proofs.SharedCauses.{shared_hindered, shared_pending, laid_shared, started_unknown, pending_known, finished_served}
+use Rattle.archive_types.proofs.Planning.Causes.{err_by}
+use Rattle.archive_types.proofs.SharedValues.SharedCauses.{shared_hindered, shared_pending, laid_shared, started_unknown, pending_known, finished_served}
 use Rattle.archive_types.proofs.sharing.SharingExt.serialize_shared.Goals as goal
 
 pub returns-in_err-start_sharing-clause-refused : goal.returns-in_err-start_sharing-clause-refused

@@ -1,5 +1,5 @@
 use Rattle.std.proofs.Common.{◌≡◌, ◌+◌, ◌*◌, ◌≤◌, ◌<◌, ℕ, length, min, arith, ap, refl}
-use Rattle.archive_types.proofs.PartsShown.{element_within, element_viewed, element_shows}
+use Rattle.archive_types.proofs.Viewing.PartsShown.{element_within, element_viewed, element_shows}
 use Rattle.archive_types.proofs.slice.Ref+ArchivedSlice+T.index.Goals as goal
 
 -- an element that lies in bytes has its size

@@ -1,5 +1,5 @@
-use Rattle.archive_types.proofs.Copies.{copies_too_large, unwritten_refused}
-use Rattle.archive_types.proofs.Causes.{err_by}
+use Rattle.archive_types.proofs.Copying.Copies.{copies_too_large, unwritten_refused}
+use Rattle.archive_types.proofs.Planning.Causes.{err_by}
 use Rattle.archive_types.proofs.slice.copying.copy_aligned.Goals as goal
 
 pub returns-then-not-run_fits-clause-refused : goal.returns-then-not-run_fits-clause-refused

@@ -1,4 +1,4 @@
-use Rattle.archive_types.proofs.ArrayBytes.{arrays_bytes}
+use Rattle.archive_types.proofs.Writing.ArrayBytes.{arrays_bytes}
 use Rattle.archive_types.proofs.slice.copying.copy_arrays.Goals as goal
 
 pub returns-clause-copied : goal.returns-clause-copied

@@ -1,6 +1,6 @@
 use Rattle.std.proofs.Common.{take, ap}
 use Rattle.std.proofs.lemmas.List.{take_rest}
-use Rattle.archive_types.proofs.Copies.{first_more}
+use Rattle.archive_types.proofs.Copying.Copies.{first_more}
 use Rattle.archive_types.proofs.slice.copying.copy_at_once.Goals as goal
 
 pub returns-clause-copied : goal.returns-clause-copied

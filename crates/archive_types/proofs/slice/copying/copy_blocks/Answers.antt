@@ -1,6 +1,6 @@
 use Rattle.std.proofs.Common.{◌≡◌, ◌+◌, ◌-◌, take, drop, ap, arith, true}
 use Rattle.std.proofs.lemmas.Grind.{common_steps}
-use Rattle.archive_types.proofs.Copies.{first_more}
+use Rattle.archive_types.proofs.Copying.Copies.{first_more}
 use Rattle.archive_types.proofs.slice.copying.copy_blocks.Goals as goal
 
 pub loop-done-preserved : goal.loop-done-preserved

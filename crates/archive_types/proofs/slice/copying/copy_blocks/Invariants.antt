@@ -1,5 +1,5 @@
 use Rattle.std.proofs.Common.{◌≤◌, ◌-◌, length}
-use Rattle.archive_types.proofs.Copies.{FirstCopied}
+use Rattle.archive_types.proofs.Copying.Copies.{FirstCopied}
 use Rattle.archive_types.proofs.slice.copying.copy_blocks.Given as goal
 
 abbrev pub invariant-loop-done : goal.invariant-loop-done

@@ -1,7 +1,7 @@
 use Rattle.std.proofs.Common.{◌≡◌, length, arith}
 use Rattle.std.proofs.lemmas.Grind.{common_steps}
-use Rattle.archive_types.proofs.Causes.{err_by}
-use Rattle.archive_types.proofs.Copies.{copies_step, copies_broken, cut_at, copies_written, copies_read}
+use Rattle.archive_types.proofs.Planning.Causes.{err_by}
+use Rattle.archive_types.proofs.Copying.Copies.{copies_step, copies_broken, cut_at, copies_written, copies_read}
 use Rattle.archive_types.proofs.slice.copying.copy_by.Goals as goal
 
 pub returns-in_err-write_piece-clause-refused : goal.returns-in_err-write_piece-clause-refused

@@ -1,5 +1,5 @@
 use Rattle.std.proofs.Common.{length}
-use Rattle.archive_types.proofs.Copies.{Copies}
+use Rattle.archive_types.proofs.Copying.Copies.{Copies}
 use Rattle.archive_types.proofs.slice.copying.copy_by.Given as goal
 
 abbrev pub invariant-loop-rest : goal.invariant-loop-rest

@@ -1,7 +1,7 @@
 use Rattle.std.proofs.Common.{ap, ◌∙◌, subst, length}
 use Rattle.archive_types.specs.Copies.{IsCopyRefused, copies_from, copies_to}
-use Rattle.archive_types.proofs.Causes.{err_by}
-use Rattle.archive_types.proofs.Copies.{are_copied, each_owns_nothing}
+use Rattle.archive_types.proofs.Planning.Causes.{err_by}
+use Rattle.archive_types.proofs.Copying.Copies.{are_copied, each_owns_nothing}
 use Rattle.archive_types.proofs.slice.copying.copy_groups.Goals as goal
 
 pub returns-clause-in_bulk : goal.returns-clause-in_bulk

@@ -1,5 +1,5 @@
 use Rattle.std.proofs.lemmas.List.{take_rest}
-use Rattle.archive_types.proofs.Copies.{left_behind, left_written, left_read, left_unwritten}
+use Rattle.archive_types.proofs.Copying.Copies.{left_behind, left_written, left_read, left_unwritten}
 use Rattle.archive_types.proofs.slice.copying.copy_long.Goals as goal
 
 pub returns-clause-copied : goal.returns-clause-copied

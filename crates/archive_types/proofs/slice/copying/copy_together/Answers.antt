@@ -1,6 +1,6 @@
-use Rattle.archive_types.proofs.Causes.{err_by, err_from, goes_both, goes_nowhere, goes_written, goes_refused}
-use Rattle.archive_types.proofs.Copies.{serialized_as_they_are, copies_put_if, copy_unresolved, copy_refused_later, copy_not_padded, behind_written, begins_behind, copy_succeeds, copy_fails}
-use Rattle.archive_types.proofs.RunRegions.{serialized_elements_if, run_padded, run_hindered}
+use Rattle.archive_types.proofs.Planning.Causes.{err_by, err_from, goes_both, goes_nowhere, goes_written, goes_refused}
+use Rattle.archive_types.proofs.Copying.Copies.{serialized_as_they_are, copies_put_if, copy_unresolved, copy_refused_later, copy_not_padded, behind_written, begins_behind, copy_succeeds, copy_fails}
+use Rattle.archive_types.proofs.Writing.RunRegions.{serialized_elements_if, run_padded, run_hindered}
 use Rattle.archive_types.proofs.slice.copying.copy_together.Goals as goal
 
 pub returns-in_err-align_for-clause-refused : goal.returns-in_err-align_for-clause-refused

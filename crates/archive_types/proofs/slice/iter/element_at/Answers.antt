@@ -1,5 +1,5 @@
 use Rattle.std.proofs.Common.{◌≡◌, ◌+◌, ◌*◌, ◌≤◌, ◌<◌, ℕ, length, min, arith, ap, ◌∙◌}
-use Rattle.archive_types.proofs.PartsShown.{one_within}
+use Rattle.archive_types.proofs.Viewing.PartsShown.{one_within}
 use Rattle.archive_types.proofs.slice.iter.element_at.Goals as goal
 
 -- an element that lies in bytes has its size

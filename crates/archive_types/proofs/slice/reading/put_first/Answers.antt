@@ -1,6 +1,6 @@
 use Rattle.std.proofs.Common.{◌≡◌, ◌<◌, ◌≤◌, length, arith}
 use Rattle.std.proofs.lemmas.Grind.{common_steps}
-use Rattle.archive_types.proofs.FirstRead.{step_is_size}
+use Rattle.archive_types.proofs.Reading.FirstRead.{step_is_size}
 use Rattle.archive_types.proofs.slice.reading.put_first.Goals as goal
 
 pub deserialize_first-requires-clause-viewed : goal.deserialize_first-requires-clause-viewed

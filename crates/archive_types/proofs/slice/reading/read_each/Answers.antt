@@ -1,8 +1,8 @@
 use Rattle.std.proofs.Common.{◌≡◌, ◌<◌, ◌≤◌, length, [], ◌∷◌, ◌++◌, ◌+◌, arith}
 use Rattle.std.proofs.lemmas.Grind.{common_steps}
-use Rattle.archive_types.proofs.Causes.{err_by}
-use Rattle.archive_types.proofs.FirstRead.{first_elements}
-use Rattle.archive_types.proofs.ReadElements.{all_have, elements_more, elements_all, element_refused}
+use Rattle.archive_types.proofs.Planning.Causes.{err_by}
+use Rattle.archive_types.proofs.Reading.FirstRead.{first_elements}
+use Rattle.archive_types.proofs.Reading.ReadElements.{all_have, elements_more, elements_all, element_refused}
 use Rattle.archive_types.proofs.slice.reading.read_each.Goals as goal
 
 pub returns-in_err-item-clause-refused : goal.returns-in_err-item-clause-refused

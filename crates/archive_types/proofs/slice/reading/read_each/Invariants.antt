@@ -2,7 +2,7 @@ use Rattle.std.proofs.Common.{◌≡◌, ◌≤◌, ℕ, length}
 use Rattle.std.specs.Vec.{vec_len, vec_capacity}
 use Rattle.archive_check.specs.Shape.{Pointee}
 use Rattle.archive_types.specs.ElementsRead.{AreAllOf}
-use Rattle.archive_types.proofs.ReadElements.{FirstElements}
+use Rattle.archive_types.proofs.Reading.ReadElements.{FirstElements}
 use Rattle.archive_types.proofs.slice.reading.read_each.Given as goal
 
 abbrev pub invariant-loop-index : goal.invariant-loop-index

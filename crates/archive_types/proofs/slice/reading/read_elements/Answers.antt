@@ -1,8 +1,8 @@
 use Rattle.std.proofs.Common.{refl, inl}
 use Rattle.archive_check.specs.Shape.{run}
-use Rattle.archive_types.proofs.Causes.{err_from}
-use Rattle.archive_types.proofs.PartsShown.{element_viewed}
-use Rattle.archive_types.proofs.ReadElements.{ok_from}
+use Rattle.archive_types.proofs.Planning.Causes.{err_from}
+use Rattle.archive_types.proofs.Viewing.PartsShown.{element_viewed}
+use Rattle.archive_types.proofs.Reading.ReadElements.{ok_from}
 use Rattle.archive_types.proofs.slice.reading.read_elements.Goals as goal
 
 pub read_each-requires : goal.read_each-requires

@@ -3,8 +3,8 @@ use Rattle.std.proofs.Math.ListN.{drop_of_length-le}
 use Rattle.std.proofs.lemmas.Grind.{common_steps}
 use Rattle.archive_check.specs.declared.format.error.Error.TheVariants.{OutOfMemory}
 use Rattle.archive_types.specs.Causes.{no_memory}
-use Rattle.archive_types.proofs.Causes.{err_by, goes_both}
-use Rattle.archive_types.proofs.Runs.{continues_step, continues_broken, continues_end, belongs_end}
+use Rattle.archive_types.proofs.Planning.Causes.{err_by, goes_both}
+use Rattle.archive_types.proofs.Planning.Runs.{continues_step, continues_broken, continues_end, belongs_end}
 use Rattle.archive_types.proofs.slice.sources.serialize_each.Goals as goal
 
 pub returns-in_err-resolvers-clause-refused : goal.returns-in_err-resolvers-clause-refused

@@ -1,5 +1,5 @@
 use Rattle.std.proofs.Common.{drop}
-use Rattle.archive_types.proofs.Runs.{Continues}
+use Rattle.archive_types.proofs.Planning.Runs.{Continues}
 use Rattle.archive_types.proofs.slice.sources.serialize_each.Given as goal
 
 abbrev pub invariant-loop-value : goal.invariant-loop-value

@@ -1,6 +1,6 @@
-use Rattle.archive_types.proofs.Causes.{err_by, err_from, goes_both, goes_written, goes_refused}
-use Rattle.archive_types.proofs.RunRegions.{serialized_elements_if, run_owned, run_padded, run_hindered}
-use Rattle.archive_types.proofs.ArrayRegions.{array_stored_if, array_owned, array_padded, array_not_put}
+use Rattle.archive_types.proofs.Planning.Causes.{err_by, err_from, goes_both, goes_written, goes_refused}
+use Rattle.archive_types.proofs.Writing.RunRegions.{serialized_elements_if, run_owned, run_padded, run_hindered}
+use Rattle.archive_types.proofs.Writing.ArrayRegions.{array_stored_if, array_owned, array_padded, array_not_put}
 use Rattle.archive_types.proofs.slice.sources.serialize_in_turn.Goals as goal
 
 pub returns-in_err-resolvers-clause-refused : goal.returns-in_err-resolvers-clause-refused

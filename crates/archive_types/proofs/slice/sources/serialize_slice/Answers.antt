@@ -1,5 +1,5 @@
-use Rattle.archive_types.specs.PlannedOwners.{each_planned}
-use Rattle.archive_types.proofs.RunRegions.{long_run_refused}
+use Rattle.archive_types.specs.Members.PlannedOwners.{each_planned}
+use Rattle.archive_types.proofs.Writing.RunRegions.{long_run_refused}
 use Rattle.archive_types.proofs.slice.sources.serialize_slice.Goals as goal
 
 pub returns-then-values-clause-refused : goal.returns-then-values-clause-refused

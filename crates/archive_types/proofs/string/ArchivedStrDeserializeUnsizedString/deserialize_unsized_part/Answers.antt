@@ -1,8 +1,8 @@
 use Rattle.std.proofs.Common.{◌≡◌, string_bytes, arith, refl}
 use Rattle.std.proofs.lemmas.Grind.{common_steps}
 use Rattle.archive_check.specs.Reads.{bytes_at}
-use Rattle.archive_check.proofs.ReadBack.{text_read_back}
-use Rattle.archive_check.proofs.ViewedValues.{text_says}
+use Rattle.archive_check.proofs.Reading.ReadBack.{text_read_back}
+use Rattle.archive_check.proofs.Viewing.ViewedValues.{text_says}
 use Rattle.archive_types.proofs.string.ArchivedStrDeserializeUnsizedString.deserialize_unsized_part.Goals as goal
 
 pub returns-clause-read : goal.returns-clause-read

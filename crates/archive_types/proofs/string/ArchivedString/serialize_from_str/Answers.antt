@@ -1,5 +1,5 @@
-use Rattle.archive_types.proofs.Causes.{err_by}
-use Rattle.archive_types.proofs.Planned.{string_refused}
+use Rattle.archive_types.proofs.Planning.Causes.{err_by}
+use Rattle.archive_types.proofs.Planning.Planned.{string_refused}
 use Rattle.archive_types.proofs.string.ArchivedString.serialize_from_str.Goals as goal
 
 pub returns-in_err-pos-clause-refused : goal.returns-in_err-pos-clause-refused

@@ -1,8 +1,8 @@
 use Rattle.std.proofs.Common.{◌≡◌, string_bytes, arith, refl}
 use Rattle.std.proofs.lemmas.Grind.{common_steps}
 use Rattle.archive_check.specs.Readable.{string_text}
-use Rattle.archive_check.proofs.ReadBack.{string_read_back}
-use Rattle.archive_check.proofs.ViewedValues.{string_says}
+use Rattle.archive_check.proofs.Reading.ReadBack.{string_read_back}
+use Rattle.archive_check.proofs.Viewing.ViewedValues.{string_says}
 use Rattle.archive_types.proofs.string.ArchivedStringDeserializeString.deserialize_part.Goals as goal
 
 pub returns-clause-read : goal.returns-clause-read

@@ -1,4 +1,4 @@
-use Rattle.archive_types.proofs.Planned.{string_unresolved}
+use Rattle.archive_types.proofs.Planning.Planned.{string_unresolved}
 use Rattle.archive_types.proofs.string.StringArchive.resolve.Goals as goal
 
 pub returns-clause-refused : goal.returns-clause-refused

@@ -1,5 +1,5 @@
-use Rattle.archive_types.proofs.Causes.{err_by, goes_refused}
-use Rattle.archive_types.proofs.Planned.{text_refused}
+use Rattle.archive_types.proofs.Planning.Causes.{err_by, goes_refused}
+use Rattle.archive_types.proofs.Planning.Planned.{text_refused}
 use Rattle.archive_types.proofs.string.TextSerializeUnsized.serialize_unsized.Goals as goal
 
 pub returns-in_err-write-clause-refused : goal.returns-in_err-write-clause-refused

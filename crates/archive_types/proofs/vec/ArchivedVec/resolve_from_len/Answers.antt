@@ -1,4 +1,4 @@
-use Rattle.archive_types.proofs.OwnersWritten.{vec_unresolved}
+use Rattle.archive_types.proofs.Writing.OwnersWritten.{vec_unresolved}
 use Rattle.archive_types.proofs.vec.ArchivedVec.resolve_from_len.Goals as goal
 
 pub returns-clause-refused : goal.returns-clause-refused

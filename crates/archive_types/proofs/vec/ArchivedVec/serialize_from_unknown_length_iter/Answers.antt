@@ -1,7 +1,7 @@
 use Rattle.std.proofs.Common.{[], ◌∷◌, length, length-append, refl, ◌∙◌, arith}
 use Rattle.archive_types.specs.ItemsWritten.{not_aligned, too_far, too_many, one_refused}
-use Rattle.archive_types.proofs.Causes.{err_by, goes_both, goes_written}
-use Rattle.archive_types.proofs.ItemsLaid.{items_serialized, laid_none, laid_more, yields_more, no_more}
+use Rattle.archive_types.proofs.Planning.Causes.{err_by, goes_both, goes_written}
+use Rattle.archive_types.proofs.Writing.ItemsLaid.{items_serialized, laid_none, laid_more, yields_more, no_more}
 use Rattle.archive_types.proofs.vec.ArchivedVec.serialize_from_unknown_length_iter.Goals as goal
 
 pub returns-in_err-pos-clause-refused : goal.returns-in_err-pos-clause-refused

@@ -1,5 +1,5 @@
 use Rattle.std.proofs.Common.{length, arith, ap}
-use Rattle.archive_types.proofs.PartsShown.{vec_shown, vec_shows, vec_within}
+use Rattle.archive_types.proofs.Viewing.PartsShown.{vec_shown, vec_shows, vec_within}
 use Rattle.archive_types.proofs.vec.Ref+ArchivedVec+T.as_slice.Goals as goal
 
 pub read_target-requires-clause-within : goal.read_target-requires-clause-within

@@ -1,7 +1,7 @@
 use Rattle.std.proofs.Common.{length, sym, ◌∙◌, arith}
 use Rattle.archive_types.specs.ItemsWritten.{not_serialized, item_wrote, not_resolved}
-use Rattle.archive_types.proofs.Causes.{err_by, goes_both}
-use Rattle.archive_types.proofs.ItemsLaid.{begins_silent, begins_less}
+use Rattle.archive_types.proofs.Planning.Causes.{err_by, goes_both}
+use Rattle.archive_types.proofs.Writing.ItemsLaid.{begins_silent, begins_less}
 use Rattle.archive_types.proofs.vec.iterators.write_item.Goals as goal
 
 pub returns-in_err-resolver-clause-refused : goal.returns-in_err-resolver-clause-refused

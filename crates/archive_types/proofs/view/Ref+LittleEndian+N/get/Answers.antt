@@ -1,4 +1,4 @@
-use Rattle.archive_types.proofs.Shown.{number_says}
+use Rattle.archive_types.proofs.Viewing.Shown.{number_says}
 use Rattle.archive_types.proofs.view.Ref+LittleEndian+N.get.Goals as goal
 
 pub returns-clause-says : goal.returns-clause-says

@@ -1,5 +1,5 @@
-use Rattle.archive_check.proofs.ViewedValues.{leaf_readable}
-use Rattle.archive_types.proofs.Shown.{number_shown, not_zero_shown, non_zero_says}
+use Rattle.archive_check.proofs.Viewing.ViewedValues.{leaf_readable}
+use Rattle.archive_types.proofs.Viewing.Shown.{number_shown, not_zero_shown, non_zero_says}
 use Rattle.archive_types.proofs.view.Ref+NonZero+N.get.Goals as goal
 
 pub read_leaf-requires : goal.read_leaf-requires

@@ -1,7 +1,7 @@
 use Rattle.std.proofs.Common.{◌≡◌, ◌∙◌}
-use Rattle.archive_types.proofs.MeantOrder.{views_have_order}
-use Rattle.archive_types.proofs.SaidOrder.{order_said}
-use Rattle.archive_types.specs.Seen.{shown}
+use Rattle.archive_types.proofs.Comparing.MeantOrder.{views_have_order}
+use Rattle.archive_types.proofs.Comparing.SaidOrder.{order_said}
+use Rattle.archive_types.specs.Words.Seen.{shown}
 use Rattle.archive_types.proofs.view.Ref.compare_said.Goals as goal
 
 pub returns-clause-said : goal.returns-clause-said

@@ -1,6 +1,6 @@
 use Rattle.std.proofs.Common.{◌≡◌, ◌+◌, ◌≤◌, length, arith, refl}
-use Rattle.archive_types.proofs.KnownParts.{viewed_also}
-use Rattle.archive_types.proofs.FieldsShown.{field_viewed, field_within, field_shows}
+use Rattle.archive_types.proofs.Viewing.KnownParts.{viewed_also}
+use Rattle.archive_types.proofs.Viewing.FieldsShown.{field_viewed, field_within, field_shows}
 use Rattle.archive_types.proofs.view.Ref.field.Goals as goal
 
 pub overflow_add-pos : goal.overflow_add-pos

@@ -1,7 +1,7 @@
 use Rattle.std.proofs.Common.{◌≡◌, ◌+◌, ◌≤◌, length, slice_index, arith, refl}
-use Rattle.archive_check.proofs.ViewedPayloads.{choice_tag_fits, payload_viewed, payload_within}
-use Rattle.archive_types.proofs.KnownParts.{viewed_also}
-use Rattle.archive_types.proofs.ChoicesShown.{payload_shows}
+use Rattle.archive_check.proofs.Viewing.ViewedPayloads.{choice_tag_fits, payload_viewed, payload_within}
+use Rattle.archive_types.proofs.Viewing.KnownParts.{viewed_also}
+use Rattle.archive_types.proofs.Viewing.ChoicesShown.{payload_shows}
 use Rattle.archive_types.proofs.view.Ref.payload.Goals as goal
 
 pub bounds-bytes-pos : goal.bounds-bytes-pos

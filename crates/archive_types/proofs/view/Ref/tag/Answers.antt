@@ -1,4 +1,4 @@
-use Rattle.archive_check.proofs.ViewedPayloads.{choice_tag_fits, choice_tag_known}
+use Rattle.archive_check.proofs.Viewing.ViewedPayloads.{choice_tag_fits, choice_tag_known}
 use Rattle.archive_types.proofs.view.Ref.tag.Goals as goal
 
 pub bounds-bytes-pos : goal.bounds-bytes-pos

@@ -2,7 +2,7 @@ use Rattle.std.proofs.Common.{◌≡◌, Bool, false, IsTrue, arith}
 use Rattle.archive_check.specs.Layout.{kind_size}
 use Rattle.archive_check.specs.Reads.{bytes_at}
 use Rattle.archive_check.specs.Expressions.{kind_of}
-use Rattle.archive_check.proofs.EditedBytes.{bytes_long}
+use Rattle.archive_check.proofs.Editing.EditedBytes.{bytes_long}
 use Rattle.tests_base.proofs.check.leaves.leaf_of.Goals as goal
 
 not_true : (b : Bool) → b ≡ false → IsTrue b → ⊥

@@ -3,7 +3,7 @@ use Rattle.std.specs.Int.{w128}
 use Rattle.std.specs.HashMap.{get}
 use Rattle.std.specs.Ordering.{int_eq}
 use Rattle.std.proofs.Math.Facts.{to_z-of_z}
-use Rattle.archive_check.specs.RecalledPositions.{AreRecalled}
+use Rattle.archive_check.specs.context.RecalledPositions.{AreRecalled}
 use Rattle.archive_check.proofs.context.SharedPositions.{started_new, AreKnown-grown, AreKnown-inserted, unchanged_kept, positions_in-grown, on_err}
 use Rattle.archive_check.proofs.context.RecalledPositions.{recalled_inserted}
 use Rattle.archive_check.proofs.context.positions.SharedValidator.start_new.Goals as goal

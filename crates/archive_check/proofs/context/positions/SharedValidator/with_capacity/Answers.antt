@@ -1,7 +1,7 @@
 use Rattle.std.proofs.Common.{sym, subst}
 use Rattle.std.specs.HashMap.{get}
 use Rattle.std.specs.Ordering.{int_eq}
-use Rattle.archive_check.specs.RecalledPositions.{AreRecalled}
+use Rattle.archive_check.specs.context.RecalledPositions.{AreRecalled}
 use Rattle.archive_check.proofs.context.positions.SharedValidator.with_capacity.Goals as goal
 
 pub invariant_of-result-clause-recalls : goal.invariant_of-result-clause-recalls

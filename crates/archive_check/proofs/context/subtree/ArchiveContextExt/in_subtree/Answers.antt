@@ -1,6 +1,6 @@
 use Rattle.std.specs.Int.{w128}
 use Rattle.std.proofs.Math.Facts.{to_z-of_z}
-use Rattle.archive_check.specs.InSubtree.{laid_out}
+use Rattle.archive_check.specs.context.InSubtree.{laid_out}
 use Rattle.archive_check.proofs.context.SubtreeSteps.{at_layout}
 use Rattle.archive_check.proofs.context.subtree.ArchiveContextExt.in_subtree.Goals as goal
 

@@ -1,7 +1,7 @@
 use Rattle.std.proofs.Common.{ap, ◌∙◌}
 use Rattle.std.proofs.lemmas.Int.{to_z-of_z}
 use mir.Syntax.{w128}
-use Rattle.archive_check.specs.Validators.{positions_of}
+use Rattle.archive_check.specs.context.Validators.{positions_of}
 use Rattle.archive_check.proofs.context.SharedPositions.{answer_same, started_same}
 use Rattle.archive_check.proofs.context.validator.HighValidator.start_first.Goals as goal
 

@@ -1,7 +1,7 @@
 use Rattle.std.proofs.Common.{◌∙◌, ap}
 use Rattle.archive_check.specs.Shape.{choice}
 use Rattle.archive_check.specs.Expressions.{variants_in}
-use Rattle.archive_check.specs.VariantsLayout.{joined_variants}
+use Rattle.archive_check.specs.Members.VariantsLayout.{joined_variants}
 use Rattle.archive_check.proofs.format.Views.{shape_of-Choice}
 use Rattle.archive_check.proofs.format.traits.variants.expr_of_choice.Goals as goal
 

@@ -1,11 +1,11 @@
 use Rattle.std.proofs.lemmas.Bool.{and_parts}
 use Rattle.std.proofs.Common.{◌≡◌, ◌+◌, arith, ap, sym, ◌∙◌, Some}
 use Rattle.archive_check.specs.Layout.{up}
-use Rattle.archive_check.specs.BoundedSizes.{rounded}
+use Rattle.archive_check.specs.Words.BoundedSizes.{rounded}
 use Rattle.archive_check.proofs.SelfCheck.Outcomes.{some_map, none_map}
 use Rattle.archive_check.proofs.BoundedSizes.{some_is}
 use Rattle.archive_check.proofs.SelfCheck.Parts.{part_goes, part_halts, first_halts}
-use Rattle.archive_check.proofs.PartsInside.{up_le}
+use Rattle.archive_check.proofs.Tours.PartsInside.{up_le}
 use Rattle.archive_check.specs.SelfCheck.Regions.{align_some}
 use Rattle.archive_check.proofs.self_check.parts.Tuple2CheckedParts.check_parts.Goals as goal
 

@@ -9,7 +9,7 @@ use Rattle.archive_check.specs.Walk.{walk_inline}
 use Rattle.archive_check.specs.Trail.{no_text, no_string, trips_short, trips_inline}
 use Rattle.archive_check.specs.SelfCheck.Ways.{Halts, enter_way, shape_way}
 use Rattle.archive_check.proofs.SelfCheck.Outcomes.{if_none}
-use Rattle.archive_check.proofs.TestedAnswers.{not_true, is_true}
+use Rattle.archive_check.proofs.Checks.TestedAnswers.{not_true, is_true}
 use Rattle.archive_check.proofs.SelfCheck.Ways.{goes_same, goes_by, halts_by}
 use Rattle.archive_check.proofs.SelfCheck.Steps.{string_way}
 use Rattle.archive_check.proofs.self_check.texts.StringCheckSelfCheck.check_at.Goals as goal

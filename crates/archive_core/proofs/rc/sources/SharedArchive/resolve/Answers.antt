@@ -1,5 +1,5 @@
 use Rattle.std.proofs.lemmas.Result.{IfErr-weaker}
-use Rattle.archive_types.proofs.SharedBytes.{shared_hindered_at}
+use Rattle.archive_types.proofs.SharedValues.SharedBytes.{shared_hindered_at}
 use Rattle.archive_core.proofs.rc.sources.SharedArchive.resolve.Goals as goal
 
 pub returns-clause-refused : goal.returns-clause-refused

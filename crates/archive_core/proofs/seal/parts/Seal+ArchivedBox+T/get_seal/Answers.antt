@@ -1,4 +1,4 @@
-use Rattle.archive_types.proofs.ViewsTogether.{shown_with}
+use Rattle.archive_types.proofs.Viewing.ViewsTogether.{shown_with}
 use Rattle.archive_core.proofs.seal.parts.Seal+ArchivedBox+T.get_seal.Goals as goal
 
 pub seal-requires : goal.seal-requires

@@ -1,4 +1,4 @@
-use Rattle.archive_types.proofs.StandingLeaves.{string_stands}
+use Rattle.archive_types.proofs.Viewing.StandingLeaves.{string_stands}
 use Rattle.archive_core.proofs.seal.text.Seal+ArchivedString.write_str.Goals as goal
 
 pub write_string_over-requires-clause-viewed : goal.write_string_over-requires-clause-viewed

@@ -1,7 +1,7 @@
 use Rattle.std.proofs.Common.{◌≡◌, length}
-use Rattle.archive_types.proofs.Arrays.{resolves_array, array_hindered}
-use Rattle.archive_types.proofs.Causes.{err_from}
-use Rattle.archive_types.proofs.ResolvedVariants.{on_ok}
+use Rattle.archive_types.proofs.Writing.Arrays.{resolves_array, array_hindered}
+use Rattle.archive_types.proofs.Planning.Causes.{err_from}
+use Rattle.archive_types.proofs.Writing.ResolvedVariants.{on_ok}
 use Rattle.archive_types.proofs.array.owned.OwnedArrayArchive.resolve.Goals as goal
 
 pub returns-clause-resolved : goal.returns-clause-resolved

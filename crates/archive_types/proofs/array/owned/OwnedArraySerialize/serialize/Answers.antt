@@ -1,7 +1,7 @@
 use Rattle.std.proofs.Common.{◌≡◌, length}
 use Rattle.archive_types.specs.Runs.{each_flat}
-use Rattle.archive_types.proofs.Arrays.{array_serialized_if, array_refused}
-use Rattle.archive_types.proofs.Causes.{err_from}
+use Rattle.archive_types.proofs.Writing.Arrays.{array_serialized_if, array_refused}
+use Rattle.archive_types.proofs.Planning.Causes.{err_from}
 use Rattle.archive_types.proofs.array.owned.OwnedArraySerialize.serialize.Goals as goal
 
 pub returns-clause-serialized : goal.returns-clause-serialized

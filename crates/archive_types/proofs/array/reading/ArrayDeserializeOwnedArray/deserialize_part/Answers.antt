@@ -1,8 +1,8 @@
 use Rattle.std.proofs.Common.{refl, inr}
 use Rattle.archive_check.specs.Shape.{array, one}
-use Rattle.archive_types.proofs.ArraysShown.{array_element_viewed}
-use Rattle.archive_types.proofs.Causes.{err_by}
-use Rattle.archive_types.proofs.ReadElements.{array_read}
+use Rattle.archive_types.proofs.Viewing.ArraysShown.{array_element_viewed}
+use Rattle.archive_types.proofs.Planning.Causes.{err_by}
+use Rattle.archive_types.proofs.Reading.ReadElements.{array_read}
 use Rattle.archive_types.proofs.array.reading.ArrayDeserializeOwnedArray.deserialize_part.Goals as goal
 
 pub read_each-requires : goal.read_each-requires

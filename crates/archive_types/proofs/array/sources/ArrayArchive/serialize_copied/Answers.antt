@@ -1,5 +1,5 @@
-use Rattle.archive_types.proofs.ArrayCopies.{arrays_copied_if, arrays_stored_if, arrays_uncopied, arrays_unstored}
-use Rattle.archive_types.proofs.Causes.{err_from}
+use Rattle.archive_types.proofs.Copying.ArrayCopies.{arrays_copied_if, arrays_stored_if, arrays_uncopied, arrays_unstored}
+use Rattle.archive_types.proofs.Planning.Causes.{err_from}
 use Rattle.archive_types.proofs.array.sources.ArrayArchive.serialize_copied.Goals as goal
 
 pub returns-clause-in_bulk : goal.returns-clause-in_bulk

@@ -1,5 +1,5 @@
 use Rattle.std.proofs.Common.{◌≡◌, length}
-use Rattle.archive_types.proofs.ArrayRegions.{whole_array_if, no_whole_array}
+use Rattle.archive_types.proofs.Writing.ArrayRegions.{whole_array_if, no_whole_array}
 use Rattle.archive_types.proofs.array.unsized_sources.ArraySerializeUnsized.serialize_unsized.Goals as goal
 
 pub returns-clause-serialized : goal.returns-clause-serialized

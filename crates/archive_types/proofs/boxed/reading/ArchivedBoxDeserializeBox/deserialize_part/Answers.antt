@@ -1,7 +1,7 @@
 use Rattle.std.proofs.Common.{◌≡◌, arith}
 use Rattle.std.proofs.lemmas.Grind.{common_steps}
-use Rattle.archive_types.proofs.Causes.{err_by}
-use Rattle.archive_types.proofs.OwnersRead.{box_read, box_unread}
+use Rattle.archive_types.proofs.Planning.Causes.{err_by}
+use Rattle.archive_types.proofs.Reading.OwnersRead.{box_read, box_unread}
 use Rattle.archive_types.proofs.boxed.reading.ArchivedBoxDeserializeBox.deserialize_part.Goals as goal
 
 pub returns-in_err-value-clause-refused : goal.returns-in_err-value-clause-refused

@@ -1,6 +1,6 @@
 use Rattle.archive_check.specs.Shape.{run}
-use Rattle.archive_types.proofs.Causes.{err_by}
-use Rattle.archive_types.proofs.OwnersRead.{box_read, box_unread}
+use Rattle.archive_types.proofs.Planning.Causes.{err_by}
+use Rattle.archive_types.proofs.Reading.OwnersRead.{box_read, box_unread}
 use Rattle.archive_types.proofs.boxed.slices.ArchivedBoxArchivedSliceDeserializeBoxSlice.deserialize_part.Goals as goal
 
 pub returns-in_err-items-clause-refused : goal.returns-in_err-items-clause-refused

@@ -1,6 +1,6 @@
 use Rattle.archive_check.specs.Shape.{text}
 use Rattle.archive_check.specs.Definitions.{no_definition}
-use Rattle.archive_types.proofs.OwnersRead.{box_read}
+use Rattle.archive_types.proofs.Reading.OwnersRead.{box_read}
 use Rattle.archive_types.proofs.boxed.slices.ArchivedBoxArchivedStrDeserializeBoxStr.deserialize_part.Goals as goal
 
 pub returns-clause-read : goal.returns-clause-read

@@ -1,7 +1,7 @@
 use Rattle.std.proofs.Common.{◌≡◌, ◌+◌, ◌*◌, ◌<◌, ◌≤◌, fold, arith, sym, ◌∙◌}
 use Rattle.std.specs.Hash.{le_bytes}
 use Rattle.archive_types.specs.Compared.{standing}
-use Rattle.archive_types.proofs.Compared.{fed_start, fed_step, fed_end, fed_whole}
+use Rattle.archive_types.proofs.Comparing.Compared.{fed_start, fed_step, fed_end, fed_whole}
 use Rattle.archive_types.proofs.compare.lists.ArchivedSliceOrdered.hash_part.Goals as goal
 
 pub loop-index-init : goal.loop-index-init

@@ -1,5 +1,5 @@
 use Rattle.std.proofs.Common.{◌≡◌, ◌-◌}
-use Rattle.archive_types.proofs.Compared.{fed_from}
+use Rattle.archive_types.proofs.Comparing.Compared.{fed_from}
 use Rattle.archive_types.proofs.compare.lists.ArchivedSliceOrdered.hash_part.Given as goal
 
 abbrev pub invariant-loop-index : goal.invariant-loop-index

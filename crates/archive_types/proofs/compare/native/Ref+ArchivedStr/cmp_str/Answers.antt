@@ -1,5 +1,5 @@
 use Rattle.archive_check.specs.Definitions.{no_definition}
-use Rattle.archive_types.proofs.ComparedValues.{text_compares}
+use Rattle.archive_types.proofs.Comparing.ComparedValues.{text_compares}
 use Rattle.archive_types.proofs.compare.native.Ref+ArchivedStr.cmp_str.Goals as goal
 
 pub returns-clause-by_value : goal.returns-clause-by_value

@@ -1,5 +1,5 @@
 use Rattle.archive_check.specs.Definitions.{no_definition}
-use Rattle.archive_types.proofs.ComparedValues.{string_compares}
+use Rattle.archive_types.proofs.Comparing.ComparedValues.{string_compares}
 use Rattle.archive_types.proofs.compare.native.Ref+ArchivedString.cmp_str.Goals as goal
 
 pub returns-clause-by_value : goal.returns-clause-by_value

@@ -1,4 +1,4 @@
-use Rattle.archive_types.proofs.ComparedValues.{option_compares}
+use Rattle.archive_types.proofs.Comparing.ComparedValues.{option_compares}
 use Rattle.archive_types.proofs.compare.native_lists.Ref+ArchivedOption+T.cmp_option.Goals as goal
 
 pub returns-clause-by_value : goal.returns-clause-by_value

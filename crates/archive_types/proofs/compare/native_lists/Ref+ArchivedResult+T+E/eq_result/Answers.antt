@@ -1,4 +1,4 @@
-use Rattle.archive_types.proofs.ComparedValues.{result_equals}
+use Rattle.archive_types.proofs.Comparing.ComparedValues.{result_equals}
 use Rattle.archive_types.proofs.compare.native_lists.Ref+ArchivedResult+T+E.eq_result.Goals as goal
 
 pub returns-clause-by_value : goal.returns-clause-by_value

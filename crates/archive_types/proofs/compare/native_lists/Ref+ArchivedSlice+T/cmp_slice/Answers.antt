@@ -1,4 +1,4 @@
-use Rattle.archive_types.proofs.ComparedValues.{slice_compares}
+use Rattle.archive_types.proofs.Comparing.ComparedValues.{slice_compares}
 use Rattle.archive_types.proofs.compare.native_lists.Ref+ArchivedSlice+T.cmp_slice.Goals as goal
 
 pub returns-clause-by_value : goal.returns-clause-by_value

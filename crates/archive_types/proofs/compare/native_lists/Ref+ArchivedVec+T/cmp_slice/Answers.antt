@@ -1,4 +1,4 @@
-use Rattle.archive_types.proofs.ComparedValues.{vec_compares}
+use Rattle.archive_types.proofs.Comparing.ComparedValues.{vec_compares}
 use Rattle.archive_types.proofs.compare.native_lists.Ref+ArchivedVec+T.cmp_slice.Goals as goal
 
 pub returns-clause-by_value : goal.returns-clause-by_value

@@ -1,5 +1,5 @@
-use Rattle.archive_types.proofs.Causes.{err_by, goes_both}
-use Rattle.archive_types.proofs.PlannedParts.{serialized_part, first_refused, later_refused}
+use Rattle.archive_types.proofs.Planning.Causes.{err_by, goes_both}
+use Rattle.archive_types.proofs.Planning.PlannedParts.{serialized_part, first_refused, later_refused}
 use Rattle.archive_types.proofs.parts.serializing.Tuple2SerializeParts.serialize_parts.Goals as goal
 
 pub returns-in_err-first-clause-refused : goal.returns-in_err-first-clause-refused

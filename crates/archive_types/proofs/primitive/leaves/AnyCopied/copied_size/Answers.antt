@@ -1,4 +1,4 @@
-use Rattle.archive_types.proofs.CopiedLeaves.{leaf_sized, leaf_small, leaf_owns_nothing}
+use Rattle.archive_types.proofs.Copying.CopiedLeaves.{leaf_sized, leaf_small, leaf_owns_nothing}
 use Rattle.archive_types.proofs.primitive.leaves.AnyCopied.copied_size.Goals as goal
 
 pub returns-clause-size : goal.returns-clause-size

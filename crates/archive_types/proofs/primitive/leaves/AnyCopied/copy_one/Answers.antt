@@ -1,5 +1,5 @@
 use Rattle.std.proofs.Common.{refl, sym, ◌∙◌}
-use Rattle.archive_types.proofs.CopiedLeaves.{leaf_copied}
+use Rattle.archive_types.proofs.Copying.CopiedLeaves.{leaf_copied}
 use Rattle.archive_types.proofs.primitive.leaves.AnyCopied.copy_one.Goals as goal
 
 pub write_bytes-requires : goal.write_bytes-requires

@@ -1,4 +1,4 @@
-use Rattle.archive_types.proofs.Planned.{serialized_leaf}
+use Rattle.archive_types.proofs.Planning.Planned.{serialized_leaf}
 use Rattle.archive_types.proofs.primitive.leaves.AnySerialize.serialize.Goals as goal
 
 pub returns-clause-serialized : goal.returns-clause-serialized

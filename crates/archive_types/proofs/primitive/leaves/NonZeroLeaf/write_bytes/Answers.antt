@@ -1,6 +1,6 @@
 use Rattle.std.proofs.Common.{◌∙◌}
-use Rattle.archive_types.proofs.CopiedLeaves.{non_zero_size}
-use Rattle.archive_types.proofs.Resolving.{resolves_non_zero}
+use Rattle.archive_types.proofs.Copying.CopiedLeaves.{non_zero_size}
+use Rattle.archive_types.proofs.Writing.Resolving.{resolves_non_zero}
 use Rattle.archive_types.proofs.primitive.leaves.NonZeroLeaf.write_bytes.Goals as goal
 
 pub write_leaf-requires : goal.write_leaf-requires

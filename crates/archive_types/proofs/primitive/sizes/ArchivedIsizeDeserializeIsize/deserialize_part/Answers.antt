@@ -4,8 +4,8 @@ use Rattle.std.specs.Int.{w32, cast_signed}
 use Rattle.archive_check.specs.Shape.{number, signed}
 use Rattle.archive_check.specs.LittleEndian.{little_number}
 use Rattle.archive_num.specs.NumberLaws.{signed-value}
-use Rattle.archive_check.proofs.ReadBack.{leaf_read_back}
-use Rattle.archive_types.proofs.Shown.{number_says}
+use Rattle.archive_check.proofs.Reading.ReadBack.{leaf_read_back}
+use Rattle.archive_types.proofs.Viewing.Shown.{number_says}
 use Rattle.archive_types.proofs.primitive.sizes.ArchivedIsizeDeserializeIsize.deserialize_part.Goals as goal
 
 pub returns-clause-read : goal.returns-clause-read

@@ -1,7 +1,7 @@
 use Rattle.std.proofs.Common.{arith}
-use Rattle.archive_types.proofs.Owned.{pointer_some}
-use Rattle.archive_types.proofs.SharedViews.{shared_fits, shared_shown, shared_says}
-use Rattle.archive_types.proofs.ViewsTogether.{shared_with}
+use Rattle.archive_types.proofs.Writing.Owned.{pointer_some}
+use Rattle.archive_types.proofs.SharedValues.SharedViews.{shared_fits, shared_shown, shared_says}
+use Rattle.archive_types.proofs.Viewing.ViewsTogether.{shared_with}
 use Rattle.archive_types.proofs.rc.views.Ref+ArchivedRc+T+F.get.Goals as goal
 
 pub read_target-target-requires-clause-within : goal.read_target-target-requires-clause-within

@@ -1,7 +1,7 @@
 use Rattle.std.proofs.Common.{arith, ◌∙◌}
-use Rattle.archive_types.proofs.Owned.{pointer_some}
-use Rattle.archive_types.proofs.SharedViews.{weak_fits, weak_shown, weak_says, null_says, is_one, is_not_one}
-use Rattle.archive_types.proofs.ViewsTogether.{weak_with}
+use Rattle.archive_types.proofs.Writing.Owned.{pointer_some}
+use Rattle.archive_types.proofs.SharedValues.SharedViews.{weak_fits, weak_shown, weak_says, null_says, is_one, is_not_one}
+use Rattle.archive_types.proofs.Viewing.ViewsTogether.{weak_with}
 use Rattle.archive_types.proofs.rc.views.Ref+ArchivedRcWeak+T+F.upgrade.Goals as goal
 
 pub is_null-requires : goal.is_null-requires

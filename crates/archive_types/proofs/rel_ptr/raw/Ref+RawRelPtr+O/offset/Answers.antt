@@ -1,7 +1,7 @@
 use Rattle.archive_check.specs.Shape.{leaf, raw_rel}
 use Rattle.archive_check.specs.Definitions.{no_definition}
-use Rattle.archive_check.specs.LeafLayout.{leaf_layout, leaf_has_layout}
-use Rattle.archive_types.proofs.Pointers.{view_fits}
+use Rattle.archive_check.specs.Members.LeafLayout.{leaf_layout, leaf_has_layout}
+use Rattle.archive_types.proofs.Writing.Pointers.{view_fits}
 use Rattle.archive_types.proofs.rel_ptr.raw.Ref+RawRelPtr+O.offset.Goals as goal
 
 pub read_offset-requires : goal.read_offset-requires

@@ -1,5 +1,5 @@
 use Rattle.std.proofs.Common.{◌≡◌, true, length, arith, sym, ap, ◌∙◌}
-use Rattle.archive_types.proofs.Pointers.{rel_length_inside}
+use Rattle.archive_types.proofs.Writing.Pointers.{rel_length_inside}
 use Rattle.archive_types.proofs.rel_ptr.typed.Ref+RelPtr+T+O.metadata.Goals as goal
 
 pub overflow_add-pos : goal.overflow_add-pos

@@ -1,4 +1,4 @@
-use Rattle.archive_types.proofs.Pointers.{rel_offset_inside}
+use Rattle.archive_types.proofs.Writing.Pointers.{rel_offset_inside}
 use Rattle.archive_types.proofs.rel_ptr.typed.Ref+RelPtr+T+O.offset.Goals as goal
 
 pub read_offset-requires : goal.read_offset-requires

@@ -1,6 +1,6 @@
 use Rattle.std.proofs.Common.{arith}
-use Rattle.archive_types.proofs.Compared.{count}
-use Rattle.archive_types.proofs.LastElements.{last_left}
+use Rattle.archive_types.proofs.Comparing.Compared.{count}
+use Rattle.archive_types.proofs.Viewing.LastElements.{last_left}
 use Rattle.archive_types.proofs.slice.iter.IterDoubleEndedIterator.next_back.Goals as goal
 
 pub returns-clause-steps : goal.returns-clause-steps

@@ -1,5 +1,5 @@
 use Rattle.std.proofs.Common.{◌<◌, ◌∙◌, sym}
-use Rattle.archive_types.proofs.PartsShown.{element_viewed}
+use Rattle.archive_types.proofs.Viewing.PartsShown.{element_viewed}
 use Rattle.archive_types.proofs.slice.iter.Ref+ArchivedSlice+T.iter.Goals as goal
 
 pub over-requires : goal.over-requires

@@ -1,5 +1,5 @@
-use Rattle.archive_check.proofs.ViewedValues.{text_readable, text_says}
-use Rattle.archive_types.proofs.Shown.{text_shown}
+use Rattle.archive_check.proofs.Viewing.ViewedValues.{text_readable, text_says}
+use Rattle.archive_types.proofs.Viewing.Shown.{text_shown}
 use Rattle.archive_types.proofs.string.views.Ref+ArchivedStr.as_str.Goals as goal
 
 pub read_text-requires-clause-utf8 : goal.read_text-requires-clause-utf8

@@ -1,6 +1,6 @@
 use Rattle.std.proofs.Common.{arith}
-use Rattle.archive_check.proofs.ViewedValues.{string_readable}
-use Rattle.archive_types.proofs.Shown.{string_shown}
+use Rattle.archive_check.proofs.Viewing.ViewedValues.{string_readable}
+use Rattle.archive_types.proofs.Viewing.Shown.{string_shown}
 use Rattle.archive_types.proofs.string.views.Ref+ArchivedString.long_text.Goals as goal
 
 pub is_out_of_line-requires : goal.is_out_of_line-requires

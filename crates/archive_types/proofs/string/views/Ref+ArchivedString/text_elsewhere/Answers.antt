@@ -5,8 +5,8 @@ use mir.Syntax.{w128}
 use Rattle.archive_check.specs.Reads.{bytes_at, u32_at, decoded_length, IsOutOfLine}
 use Rattle.archive_check.specs.Readable.{target_from, string_text}
 use Rattle.std.proofs.lemmas.Int.{to_z-of_z}
-use Rattle.archive_check.proofs.ViewedValues.{string_readable, out_says}
-use Rattle.archive_types.proofs.Shown.{string_shown, elsewhere_shown}
+use Rattle.archive_check.proofs.Viewing.ViewedValues.{string_readable, out_says}
+use Rattle.archive_types.proofs.Viewing.Shown.{string_shown, elsewhere_shown}
 use Rattle.archive_types.proofs.string.views.Ref+ArchivedString.text_elsewhere.Goals as goal
 
 -- the text of a string that stands elsewhere

@@ -1,5 +1,5 @@
 use Rattle.std.proofs.Common.{◌∙◌}
-use Rattle.archive_types.proofs.Copies.{copied_step, read_step}
+use Rattle.archive_types.proofs.Copying.Copies.{copied_step, read_step}
 use Rattle.archive_types.proofs.traits.copying.Copied.copy_into.Goals as goal
 
 pub loop-index-preserved : goal.loop-index-preserved

@@ -1,5 +1,5 @@
-use Rattle.archive_types.proofs.Causes.{err_by}
-use Rattle.archive_types.proofs.OwnersRead.{vec_read, vec_unread}
+use Rattle.archive_types.proofs.Planning.Causes.{err_by}
+use Rattle.archive_types.proofs.Reading.OwnersRead.{vec_read, vec_unread}
 use Rattle.archive_types.proofs.vec.reading.ArchivedVecDeserializeVec.deserialize_part.Goals as goal
 
 pub returns-in_err-items-clause-refused : goal.returns-in_err-items-clause-refused

@@ -1,0 +1,28 @@
+-- What the validators hold.
+use Rattle.std.specs.Prelude.{ℕ, Option, None, Some, Box}
+use Rattle.std.specs.HashMap.{get, spare}
+use Rattle.std.specs.Ordering.{int_eq}
+use Rattle.archive_check.specs.declared.context.positions.SharedValidator.{SharedValidator}
+use Rattle.archive_check.specs.declared.context.validator.Validator.{Validator}
+use Rattle.archive_check.specs.context.PositionStates.{Positions, nothing_met}
+use Rattle.archive_check.specs.context.SharedPositions.{positions_in}
+
+-- the positions that a validator of shared ones met
+abbrev pub positions_of : {A : Type 0} → SharedValidator A → Positions
+positions_of v = positions_in v.shared_types.items (get int_eq v.positions)
+
+-- those that were met, where the validator of shared ones is made at the first
+abbrev pub positions_met : {A B : Type 0} → Option (Box (SharedValidator A) B) → Positions
+positions_met None = nothing_met
+positions_met (Some v) = positions_of v.value
+
+-- how many more it can keep without taking memory for them
+abbrev pub room_of : {A : Type 0} → SharedValidator A → ℕ
+room_of v = spare v.positions
+
+-- the two contexts of a validator of both
+abbrev pub archive_of : {A S : Type 0} → Validator A S → A
+archive_of v = v.archive
+
+abbrev pub shared_of : {A S : Type 0} → Validator A S → S
+shared_of v = v.shared

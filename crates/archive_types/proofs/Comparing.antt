@@ -1,0 +1,9 @@
+-- Views that are compared.
+pub mod Compared
+pub mod ComparedValues
+pub mod FirstBytes
+pub mod LevelRuns
+pub mod SaidOrder
+pub mod FollowedPointers
+pub mod OneReading
+pub mod MeantOrder

@@ -1,0 +1,4 @@
+-- Values that are copied.
+pub mod Copies
+pub mod ArrayCopies
+pub mod CopiedLeaves

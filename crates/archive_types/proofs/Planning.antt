@@ -1,0 +1,9 @@
+-- How writes go as planned, and why they are refused.
+pub mod Causes
+pub mod Planned
+pub mod Unhindered
+pub mod Owners
+pub mod PlansForward
+pub mod PlannedParts
+pub mod Runs
+pub mod SilentPlans

@@ -1,0 +1,11 @@
+-- What views show and lead to.
+pub mod StandingLeaves
+pub mod ViewsTogether
+pub mod Shown
+pub mod KnownParts
+pub mod PartsShown
+pub mod ArraysShown
+pub mod FieldsShown
+pub mod LastElements
+pub mod ChoicesShown
+pub mod OneLengths

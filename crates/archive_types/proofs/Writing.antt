@@ -1,0 +1,23 @@
+-- What a write leaves.
+pub mod Appending
+pub mod Resolving
+pub mod Denoting
+pub mod StringsWritten
+pub mod RunRegions
+pub mod ResolvedParts
+pub mod Regions
+pub mod ShortTexts
+pub mod Pointers
+pub mod Records
+pub mod Owned
+pub mod OwnersWritten
+pub mod PartBytes
+pub mod PlacedParts
+pub mod Arrays
+pub mod WrittenVariants
+pub mod Inner
+pub mod Nothing
+pub mod ResolvedVariants
+pub mod ArrayBytes
+pub mod ItemsLaid
+pub mod ArrayRegions

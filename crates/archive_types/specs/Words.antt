@@ -1,0 +1,14 @@
+-- Short words that clauses use.
+pub mod PartsWritten
+pub mod PartsStored
+pub mod CopiesWritten
+pub mod Placed
+pub mod PlacedParts
+pub mod Seen
+pub mod Sources
+pub mod KindsWritten
+pub mod ArchivesOf
+pub mod SharedWriting
+pub mod OffsetsWritten
+pub mod PointersWritten
+pub mod LengthsSeen

@@ -1,0 +1,71 @@
+-- What is said of a place that was written, and of what a call did to a writer. `Both` is a parameter as a clause names it: what it was as the call began,
+-- and what it is at the return.
+use denote.Triple.Both.{Both}
+use denote.Ref.{MutBor}
+use Rattle.std.specs.Prelude.{◌≡◌, ◌<◌, ◌⊎◌, ◌+◌, ◌++◌, ℕ, Bool, List, length, Result, IsErrOf}
+use Rattle.archive_check.specs.Words.Formats.{FormatOf}
+use Rattle.archive_check.specs.Layout.{pointer_size, has_length}
+use Rattle.archive_check.specs.Shape.{Pointee}
+use Rattle.archive_check.specs.Value.{Value}
+use Rattle.archive_check.specs.declared.format.error.Error.{Error}
+use Rattle.archive_check.specs.declared.format.error.Error.TheVariants.{LengthTooLarge}
+use Rattle.archive_check.specs.declared.format.traits.ArchivePointee as ArchivePointee
+use Rattle.archive_check.specs.declared.format.traits.Keys as Keys
+use Rattle.archive_types.specs.Causes.{HindersAt}
+use Rattle.archive_num.specs.Offsets.{distance, IsTooFar}
+use Rattle.archive_num.specs.OwnerBytes.{owner_bytes, HindersPointerAt}
+use Rattle.archive_types.specs.Plans.{HasRegionPlan}
+use Rattle.archive_types.specs.Writing.{Naming, Resolves}
+use Rattle.archive_types.specs.declared.place.Place.{Place}
+use Rattle.archive_write.specs.Written.{ExplainsRefusal}
+
+-- the bytes of the place are clean and read as the value, with its pointers
+abbrev pub Resolved : {F M R : Type 0} → FormatOf M → Both (Place F) (MutBor (List ℕ) × R) → Value → Type 0
+Resolved f p w = Resolves f.definitions p.entry.pos p.exit.0.now f.shape w
+
+-- what hinders that
+abbrev pub Hindered : {F M R : Type 0} → FormatOf M → Both (Place F) (MutBor (List ℕ) × R) → Value → Error → Type 0
+Hindered f p w e = HindersAt f.definitions f.shape w p.entry.pos e
+
+-- the place is as it was: the offset from there to t doesn't fit
+abbrev pub IsTooFarFrom : {F R : Type 0} → Both (Place F) (MutBor (List ℕ) × R) → ℕ → Error → Type 0
+IsTooFarFrom p t e = (p.exit.0.now ≡ p.entry.bytes.now) × IsTooFar e (distance p.entry.pos t)
+
+-- the bytes of the place are an offset to t, and the length n behind it where there is one
+abbrev pub PointsTo : {F R : Type 0} → Both (Place F) (MutBor (List ℕ) × R) → Bool → ℕ → ℕ → Type 0
+PointsTo p is_long t n = p.exit.0.now ≡ owner_bytes is_long (distance p.entry.pos t) n
+
+-- the place is as it was: the length is above 4,294,967,295, or the offset from there to t doesn't fit
+abbrev pub IsNoPointer : {F R : Type 0} → Both (Place F) (MutBor (List ℕ) × R) → ℕ → ℕ → Error → Type 0
+IsNoPointer p t n e = (p.exit.0.now ≡ p.entry.bytes.now) × (((e ≡ LengthTooLarge) × (4294967295 < n)) ⊎ IsTooFar e (distance p.entry.pos t))
+
+-- refused so, before anything was written: the writer tells what it told before
+abbrev pub AtOnce : {T S : Type 0} → Result T Error → Error → Keys.Ghosts S → Both (MutBor S) (MutBor S) → Type 0
+AtOnce result e k w = IsErrOf result e × (k.state w.exit.now ≡ k.state w.entry.now)
+
+-- these bytes alone were appended, and stand at p
+abbrev pub Added : {S : Type 0} → List ℕ → Keys.Ghosts S → Both (MutBor S) (MutBor S) → ℕ → Type 0
+Added bytes k w p = (p ≡ length (k.state w.entry.now).bytes) × ((k.state w.exit.now).bytes ≡ (k.state w.entry.now).bytes ++ bytes)
+
+-- these bytes alone were appended; so many were
+abbrev pub BytesAdded : {S : Type 0} → List ℕ → Keys.Ghosts S → Both (MutBor S) (MutBor S) → Type 0
+BytesAdded bytes k w = (k.state w.exit.now).bytes ≡ (k.state w.entry.now).bytes ++ bytes
+
+abbrev pub GrowsBy : {S : Type 0} → ℕ → Keys.Ghosts S → Both (MutBor S) (MutBor S) → Type 0
+GrowsBy n k w = length (k.state w.exit.now).bytes ≡ length (k.state w.entry.now).bytes + n
+
+-- why a write of n bytes was refused, where the writer stood at its position
+abbrev pub WriteRefused : {S : Type 0} → ℕ → (S → ℕ) → Keys.Ghosts S → Both (MutBor S) (MutBor S) → Error → Type 0
+WriteRefused n position k w e = ExplainsRefusal n (position w.entry.now) (k.state w.entry.now).room (k.state w.entry.now).failures (k.state w.exit.now).failures e
+
+-- a pointer to such a pointee of n elements or bytes at t was appended, at the writer's position; why it wasn't
+abbrev pub Pointed : {S : Type 0} → Pointee → ℕ → ℕ → (S → ℕ) → Keys.Ghosts S → Both (MutBor S) (MutBor S) → Type 0
+Pointed P n t position k w = (k.state w.exit.now).bytes ≡ (k.state w.entry.now).bytes ++ owner_bytes (has_length P) (distance (position w.entry.now) t) n
+
+abbrev pub Unpointed : {S : Type 0} → Pointee → ℕ → ℕ → (S → ℕ) → Keys.Ghosts S → Both (MutBor S) (MutBor S) → Error → Type 0
+Unpointed P n t position k w e =
+    (HindersPointerAt n (pointer_size P) (position w.entry.now) t e × (k.state w.exit.now ≡ k.state w.entry.now)) ⊎ WriteRefused (pointer_size P) position k w e
+
+-- there is a plan of a pointee of n elements or bytes, with its region
+abbrev pub IsPlanned : {T M : Type 0} → ArchivePointee.Ghosts T M → ℕ → List Naming → Value → Type 0
+IsPlanned g n keys v = HasRegionPlan g.definitions g.pointee n keys v
