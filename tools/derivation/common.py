@@ -1,7 +1,10 @@
 """What the impls of structs and of enums have in common."""
 
 from .formats import ALIGNS
-from .layout import WIDTH, flat, implementation, lay, one_line, pair, statement
+from .layout import WIDTH, Group, flat, implementation, lay, one_line, pair, statement
+
+# Up to so many parts are a nest of pairs.
+FEW_PARTS = 8
 
 
 def chain(head, words, end):
@@ -31,6 +34,18 @@ def ok_arm(values, made, indent):
     if len(f"{pad}Ok({values}) => Ok({made.head}") <= WIDTH:
         return f"{pad}Ok({values}) => Ok({lay(made, indent, indent + len(values) + 11, 2)}),\n"
     return f"{pad}Ok({values}) => {{\n{statement(indent + 4, 'Ok(', made, ')')}{pad}}}\n"
+
+
+def parts_of(formats, archived):
+    """The type of parts that have these archived types: many come four at once, since what a call passes grows with the depth of the nest."""
+    if len(archived) <= FEW_PARTS:
+        return pair(archived)
+    formats.use("archive_core::traits", "FourParts")
+    return four_parts(archived)
+
+
+def four_parts(archived):
+    return Group("FourParts<", archived[:4] + [four_parts(archived[4:])], ">") if len(archived) >= 4 else pair(archived)
 
 
 def kept_of(count):

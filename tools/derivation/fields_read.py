@@ -16,7 +16,7 @@ class Read:
         self.definitions = chain("both", [f"{F}.definitions" for F in formats], "no_definition")
         self.parts = chain("part", [f"{F}.shape" for F in formats], "no_part")
         self.answer = Group("Result<", [pair(list(self.letters)), "Error"], ">")
-        self.bounds = [bound for T in self.letters for bound in (f"F{T}: Portable + Deserialize<{T}, S>", f"{T}: Archive + Drop")]
+        self.bounds = [bound for T in self.letters for bound in (f"F{T}: Portable + Deserialize<{T}, R>", f"{T}: Archive + Drop")]
         self.passed = [name for T in self.letters for name in (f"F{T}", T)]
 
     def meanings(self, of="{}"):
@@ -36,12 +36,12 @@ def read(n):
     f = Read(n)
     head = signature(
         f"pub fn read_{n}",
-        f.bounds + ["S: Entries"],
-        ["alloc: Global", "bytes: &[u8]", "pos: usize", "start: usize", "deserializer: &mut S"],
+        f.bounds + ["R: Entries"],
+        ["alloc: Global", "bytes: &[u8]", "pos: usize", "start: usize", "deserializer: &mut R"],
         f.answer,
     )
-    first = Generic("read_front", ["FA", "A", "S"], ["alloc", "bytes", "pos", "start", "deserializer"], "?")
-    others = Generic(f"read_{n - 1}", f.passed[2:] + ["S"], ["alloc", "bytes", "pos", "end", "deserializer"], "?")
+    first = Generic("read_front", ["FA", "A", "R"], ["alloc", "bytes", "pos", "start", "deserializer"], "?")
+    others = Generic(f"read_{n - 1}", f.passed[2:] + ["R"], ["alloc", "bytes", "pos", "end", "deserializer"], "?")
     which = "one field" if n == 1 else f"{n} fields"
     each = "" if n == 1 else ": each at the next multiple of its alignment"
     return f"""
@@ -49,8 +49,8 @@ def read(n):
 #[inline(always)]
 {head}
     requires viewed {{ PartsViewed {f.definitions} bytes.now pos start {f.parts} }}
-    ensures read {{ IfOk result (λ r. PartsReadBack bytes.now pos {f.definitions} {f.parts} start (S.entry_of deserializer.old) (S.entry_of deserializer.new) {f.meanings()} {f.keys()}) }}
-    ensures refused {{ IfErr result (RefusesParts {f.definitions} bytes.now pos {f.parts} start (S.entry_of deserializer.old)) }}
+    ensures read {{ IfOk result (λ r. PartsReadBack bytes.now pos {f.definitions} {f.parts} start (R.entry_of deserializer.old) (R.entry_of deserializer.new) {f.meanings()} {f.keys()}) }}
+    ensures refused {{ IfErr result (RefusesParts {f.definitions} bytes.now pos {f.parts} start (R.entry_of deserializer.old)) }}
 {{
 {statement(4, "let first = ", first, ";")}    let end = end_of::<FA>(bytes, pos, start);
 {statement(4, "let others = ", others, ";")}    Ok((first, others))
@@ -68,8 +68,8 @@ pub {before}-requires : goal.{before}-requires
 {before}-requires g c = record {{ viewed = rw (c.end_of-end.ensures) (rest_viewed _ _ _ {LAID} _ _ _ _ c.requires) }}
 """
     return f"""use Rattle.archive_types.specs.PartsReading.{{part_read_back}}
-use Rattle.archive_types.proofs.Causes.{{err_by}}
-use Rattle.archive_types.proofs.ReadRecords.{{first_viewed, rest_viewed, first_within, first_refuses, later_refuses}}
+use Rattle.archive_types.proofs.Planning.Causes.{{err_by}}
+use Rattle.archive_types.proofs.Reading.ReadRecords.{{first_viewed, rest_viewed, first_within, first_refuses, later_refuses}}
 use Rattle.archive_fields.proofs.{path}.Goals as goal
 
 pub read_front-requires-clause-viewed : goal.read_front-requires-clause-viewed
@@ -102,8 +102,8 @@ def read_whole(kind, n):
     record = kind == "record"
     head = signature(
         f"pub fn read_{kind}_{n}",
-        ["X: Portable"] + f.bounds + ["S: Entries"],
-        ([] if record else ["tag: u8"]) + ["alloc: Global", "part: RawView<'_>", "deserializer: &mut S"],
+        ["X: Portable"] + f.bounds + ["R: Entries"],
+        ([] if record else ["tag: u8"]) + ["alloc: Global", "part: RawView<'_>", "deserializer: &mut R"],
         f.answer,
     )
     if record:
@@ -114,15 +114,15 @@ def read_whole(kind, n):
         said = f"Reads back a variant of {f.said()}. The caller must ensure that `part` shows it."
         of = f"    requires variant {{ variant_in X.shape tag ≡ Some {f.parts} }}\n    requires tag {{ part_tag part ≡ tag }}\n"
         whole, start = "case tag", "1"
-    body = Generic(f"read_{n}", f.passed + ["S"], ["alloc", "bytes", "pos", start, "deserializer"])
+    body = Generic(f"read_{n}", f.passed + ["R"], ["alloc", "bytes", "pos", start, "deserializer"])
     return f"""
 /// {said}
 {head}
     requires nothing {{ X.definitions ≡ no_definition }}
 {of}    requires nameless {{ are_none {f.definitions} ≡ true }}
     requires viewed {{ IsPartOf X.ArchivePointee part }}
-    ensures read {{ IfOk result (λ r. ReadsPart X.ArchivePointee part S.Entries deserializer ({whole} {f.meanings()}) {f.keys()}) }}
-    ensures refused {{ IfErr result (RefusesPart X.ArchivePointee part S.Entries deserializer) }}
+    ensures read {{ IfOk result (λ r. ReadsPart X.ArchivePointee part R.Entries deserializer ({whole} {f.meanings()}) {f.keys()}) }}
+    ensures refused {{ IfErr result (RefusesPart X.ArchivePointee part R.Entries deserializer) }}
 {{
     let RawView {{ bytes, pos, .. }} = part;
 {statement(4, "", body, "")}}}
@@ -135,7 +135,7 @@ OF = {
     "record": (
         ("parts_viewed", "record_read", "record_refuses"),
         "_ _ _ _ (plain_record_of c.requires.nothing c.requires.parts _ c.requires.nameless) _ _ _",
-        "use Rattle.archive_types.proofs.ReadRecords.{parts_viewed, record_read, record_refuses}\nuse Rattle.archive_fields.proofs.Ties.{plain_record_of}\n",
+        "use Rattle.archive_types.proofs.Reading.ReadRecords.{parts_viewed, record_read, record_refuses}\nuse Rattle.archive_fields.proofs.Ties.{plain_record_of}\n",
     ),
     "case": (
         ("variant_viewed", "variant_read", "variant_refuses"),
@@ -157,7 +157,7 @@ read_{n}-requires g c = record {{ viewed = {viewed} {about} (rw g.met.X.Portable
     values = f"(λ r. {f.meanings('g.{}.Archive')}) (λ r. {f.keys('g.{}.Archive')})"
     return f"""use Rattle.std.proofs.Common.{{◌≡◌, ◌++◌, []}}
 use Rattle.archive_check.specs.Value.{{value, no_value}}
-use Rattle.archive_types.proofs.Causes.{{err_from}}
+use Rattle.archive_types.proofs.Planning.Causes.{{err_from}}
 {brought}use Rattle.archive_fields.proofs.{path}.Goals as goal
 {asked if n else ""}
 pub returns-clause-read : goal.returns-clause-read
@@ -186,7 +186,7 @@ ghost use Rattle.archive_check.specs.Definitions.{both, no_definition};
 ghost use Rattle.archive_check.specs.Shape.{part, no_part, parts};
 ghost use Rattle.archive_check.specs.Value.{value, no_value, product};
 ghost use Rattle.archive_fields.specs.Plain.{are_none};
-ghost use Rattle.archive_types.specs.Seen.{IsPartOf, ReadsPart, RefusesPart};
+ghost use Rattle.archive_types.specs.Words.Seen.{IsPartOf, ReadsPart, RefusesPart};
 
 use archive_check::format::error::Error;
 use archive_types::traits::{Archive, Deserialize, Entries, Portable};
@@ -199,7 +199,7 @@ ghost use Rattle.archive_check.specs.Definitions.{both, no_definition};
 ghost use Rattle.archive_check.specs.Shape.{part, no_part};
 ghost use Rattle.archive_check.specs.Value.{value, no_value, case};
 ghost use Rattle.archive_fields.specs.Plain.{are_none, variant_in};
-ghost use Rattle.archive_types.specs.Seen.{IsPartOf, ReadsPart, RefusesPart, part_tag};
+ghost use Rattle.archive_types.specs.Words.Seen.{IsPartOf, ReadsPart, RefusesPart, part_tag};
 
 use archive_check::format::error::Error;
 use archive_types::traits::{Archive, Deserialize, Entries, Portable};

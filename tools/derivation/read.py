@@ -3,13 +3,13 @@
 from typing import Dict, List, Optional, Sequence
 
 from .circles import check_circles
-from .formats import snake
+from .formats import snake, substituted
 from .model import Declaration, Field, Module, Refused, Type
 from .names import ALIASES, FLOATS, LIBRARY, PRIMITIVES, STD, STD_MODULES, Found, Source, World
 from .parse import Declared
 from .items import number_of
 
-MOST_FIELDS = 8
+MOST_FIELDS = 16
 MOST_PARTS = 13
 MOST_VARIANTS = 256
 MOST_ITEMS = 2**32 - 1
@@ -112,10 +112,7 @@ class Reader:
         if it.name == "tuple":
             if len(it.args) > MOST_PARTS:
                 raise self.no_format(it, scope, f"a tuple of {len(it.args)} has no format, only up to {MOST_PARTS}; write a struct")
-            args = [self.type(x, scope) for x in it.args]
-            if any(has_tuple(x) for x in args):
-                raise self.no_format(it, scope, "a tuple in a tuple is too deep for the toolchain; write a struct in place of the inner one")
-            return shown(Type("tuple", args, it.line))
+            return shown(Type("tuple", [self.type(x, scope) for x in it.args], it.line))
         if it.name == "array":
             length = self.length(it, it.length, scope)
             return shown(Type("array", [self.type(it.args[0], scope)], it.line, length=length))
@@ -229,11 +226,6 @@ class Reader:
         return str(number)
 
 
-def has_tuple(it: Type) -> bool:
-    """Whether a tuple is in a type, other than in a type that the user declared."""
-    return it.own is None and (it.name == "tuple" or any(has_tuple(x) for x in it.args))
-
-
 def shown(it: Type) -> Type:
     """The type with its text."""
     inner = ", ".join(x.text for x in it.args)
@@ -342,8 +334,34 @@ def module(reader: Reader, source: Source) -> Module:
     if not out.declarations:
         raise Refused(source.path, 1, "no struct and no enum is declared here; declare one above the marker")
     check_circles(out.declarations)
+    check_nests(out)
     check_own_names(out)
     return out
+
+
+def check_nests(module: Module):
+    """Refuses tuples in tuples. A struct with parameters is a tuple, too: what a call passes of a nest of them grows beyond what the toolchain takes."""
+    for it in module.declarations:
+        for field in it.all_fields():
+            inner = nested(field.type, bool(it.parameters))
+            if inner:
+                what = "a tuple" if inner.name == "tuple" else f"`{inner.text or inner.name}`"
+                where = "a struct with type parameters" if it.parameters else "a tuple" if inner.name == "tuple" else "a tuple or a struct with type parameters"
+                raise Refused(module.path, field.type.line, f"{what} in {where} is too deep for the toolchain; write a struct without parameters in place of the inner one")
+
+
+def nested(it: Type, inside: bool) -> Optional[Type]:
+    """The first tuple, or struct with parameters, that is in another one."""
+    if it.parameter or it.own is None and it.name == "PhantomData":
+        return None
+    is_tuple = it.name == "tuple" and it.own is None or it.own is not None and bool(it.args)
+    if is_tuple and inside:
+        return it
+    held = it.args
+    if it.own is not None:
+        by = {p.name: x for p, x in zip(it.own.parameters, it.args)}
+        held = [substituted(field.type, by) for field in it.own.all_fields()] if by else []
+    return next((found for x in held if (found := nested(x, inside or is_tuple))), None)
 
 
 def check_own_names(module: Module):

@@ -10,6 +10,7 @@ from .common import (
     kept_of,
     ok_arm,
     own_check,
+    parts_of,
     portable,
     region,
     resolve_head,
@@ -55,7 +56,7 @@ class Record(Source):
 
 def text(formats, declaration):
     record = Record(formats, declaration)
-    formats.use("archive_core::fields", f"serialize_record_{record.count}", f"resolve_record_{record.count}")
+    formats.use("archive_core::fields", *(f"{call}_record_{record.count}" for call in ("serialize", "resolve", "read")))
     pieces = [
         struct(record),
         archive_pointee(record),
@@ -75,13 +76,12 @@ def text(formats, declaration):
 
 def struct(record):
     archived = record.archived
-    parts = statement(0, f"type {record.name}Parts = ", pair(record.formats_of), ";")
-    owned = statement(0, f"type {record.name}Owned = ", pair(record.rust), ";")
+    parts = statement(0, f"type {record.name}Parts = ", parts_of(record.formats, record.formats_of), ";")
+    owned = "\n" + statement(0, f"type {record.name}Owned = ", pair(record.rust), ";") if is_long(record) else ""
     return f"""/// An archived `{record.name}`: {record.size} bytes at a multiple of {record.align}.
 {record.visibility}struct {archived};
 
-{parts}
-{owned}"""
+{parts}{owned}"""
 
 
 def check_of(record):
@@ -183,8 +183,8 @@ def is_long(record):
 
 
 def read(record):
-    record.formats.use("archive_core::record", "deserialize_record")
-    call = Generic("deserialize_record", ["Self", f"{record.name}Owned", "D"], ["alloc", "part", "deserializer"])
+    fields = [word for pair_of in zip(record.formats_of, record.rust) for word in pair_of]
+    call = Generic(f"read_record_{record.count}", ["Self"] + fields + ["D"], ["alloc", "part", "deserializer"])
     if is_long(record):
         ok = f"            Ok(values) => Ok({snake(record.name)}_of(values)),\n"
     else:

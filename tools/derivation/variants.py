@@ -10,6 +10,7 @@ from .common import (
     kept_of,
     ok_arm,
     own_check,
+    parts_of,
     portable,
     region,
     resolve_head,
@@ -92,7 +93,7 @@ class Choice(Source):
 def text(formats, declaration):
     choice = Choice(formats, declaration)
     for case in choice.cases:
-        formats.use("archive_core::fields", f"serialize_case_{case.count}", f"resolve_case_{case.count}")
+        formats.use("archive_core::fields", *(f"{call}_case_{case.count}" for call in ("serialize", "resolve", "read")))
     pieces = [
         enum(choice),
         archive_pointee(choice),
@@ -114,8 +115,7 @@ def enum(choice):
     lines = []
     for case in choice.cases:
         if case.count:
-            lines.append(statement(0, f"type {case.word}Parts = ", pair(case.archived), ";"))
-            lines.append(statement(0, f"type {case.word}Owned = ", pair(case.rust), ";"))
+            lines.append(statement(0, f"type {case.word}Parts = ", parts_of(choice.formats, case.archived), ";"))
     parts = [f"{case.word}Parts" if case.count else "()" for case in choice.cases]
     lines.append(statement(0, f"type {choice.name}Variants = ", pair(parts), ";"))
     return f"""/// An archived `{choice.name}`: {choice.size} bytes at a multiple of {choice.align}.
@@ -273,11 +273,11 @@ def serialize(choice):
 
 def read(choice):
     f = choice.formats
-    f.use("archive_core::fields", "known_tag", "read_case")
+    f.use("archive_core::fields", "known_tag")
     arms = []
     for case in choice.cases:
-        its = [f"{case.word}Parts", f"{case.word}Owned"] if case.count else ["()", "()"]
-        call = Generic("read_case", ["Self"] + its + ["D"], [str(case.tag), "alloc", "part", "deserializer"])
+        fields = [word for pair_of in zip(case.archived, case.rust) for word in pair_of]
+        call = Generic(f"read_case_{case.count}", ["Self"] + fields + ["D"], [str(case.tag), "alloc", "part", "deserializer"])
         tag = "_" if case is choice.cases[-1] else str(case.tag)
         arms.append(match_arm(tag, call, flat(pair(case.names)), case.pattern()))
     return deserialize(choice, f"        match known_tag::<Self>(part) {{\n{''.join(arms)}        }}\n")

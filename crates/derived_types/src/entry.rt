@@ -33,10 +33,9 @@ ghost use Rattle.std.specs.Prelude.{IfErr, IfOk, OnOk, [], length, refl, true, �
 
 use crate::event::ArchivedEvent;
 use archive_core::error::Error;
-use archive_core::fields::{part_in_record, resolve_record_2, serialize_record_2};
+use archive_core::fields::{part_in_record, read_record_2, resolve_record_2, serialize_record_2};
 use archive_core::place::Place;
 use archive_core::primitive::ArchivedU64;
-use archive_core::record::deserialize_record;
 use archive_core::seal::{Seal, sealed_part_in_record};
 use archive_core::self_check::{RecordCheck, SelfCheck};
 use archive_core::ser::{ResolverAlloc, Writer, serialize_one};
@@ -53,8 +52,6 @@ use std::alloc::Global;
 pub struct ArchivedEntry;
 
 type EntryParts = (ArchivedU64, (ArchivedEvent, ()));
-
-type EntryOwned = (u64, (Event, ()));
 
 impl ArchivePointee for ArchivedEntry {
     type ArchivedMetadata = ();
@@ -244,7 +241,11 @@ impl<D: Entries> Deserialize<Entry, D> for ArchivedEntry {
         ensures read { IfOk result (Read ⟦<Self as ArchivePointee>⟧ part D.Entries deserializer ⟦<Entry as Archive>⟧) }
         ensures refused { IfErr result (RefusesPart ⟦<Self as ArchivePointee>⟧ part D.Entries deserializer) }
     {
-        match deserialize_record::<Self, EntryOwned, D>(alloc, part, deserializer) {
+        match read_record_2::<Self, ArchivedU64, u64, ArchivedEvent, Event, D>(
+            alloc,
+            part,
+            deserializer,
+        ) {
             Ok((a0, (a1, ()))) => Ok(Entry {
                 seconds: a0,
                 event: a1,

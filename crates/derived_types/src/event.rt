@@ -42,8 +42,8 @@ ghost use Rattle.std.specs.Prelude.{IfErr, IfOk, OnOk, [], codes, length, refl, 
 
 use archive_core::error::Error;
 use archive_core::fields::{
-    known_tag, part_in_case, read_case, resolve_case_0, resolve_case_1, resolve_case_2,
-    serialize_case_0, serialize_case_1, serialize_case_2, tag_in,
+    known_tag, part_in_case, read_case_0, read_case_1, read_case_2, resolve_case_0, resolve_case_1,
+    resolve_case_2, serialize_case_0, serialize_case_1, serialize_case_2, tag_in,
 };
 use archive_core::place::Place;
 use archive_core::primitive::{ArchivedChar, ArchivedI32, ArchivedU32};
@@ -66,19 +66,11 @@ pub struct ArchivedEvent;
 
 type EventKeyParts = (ArchivedChar, ());
 
-type EventKeyOwned = (char, ());
-
 type EventTextParts = (ArchivedString, ());
-
-type EventTextOwned = (String, ());
 
 type EventMoveParts = (ArchivedI32, (ArchivedI32, ()));
 
-type EventMoveOwned = (i32, (i32, ()));
-
 type EventBatchParts = (ArchivedVec<ArchivedU32>, ());
-
-type EventBatchOwned = (Vec<u32>, ());
 
 type EventVariants = (
     (),
@@ -335,20 +327,15 @@ impl<D: Entries> Deserialize<Event, D> for ArchivedEvent {
         ensures refused { IfErr result (RefusesPart ⟦<Self as ArchivePointee>⟧ part D.Entries deserializer) }
     {
         match known_tag::<Self>(part) {
-            0 => match read_case::<Self, (), (), D>(0, alloc, part, deserializer) {
+            0 => match read_case_0::<Self, D>(0, alloc, part, deserializer) {
                 Ok(()) => Ok(Event::Quit),
                 Err(error) => Err(error),
             },
-            1 => match read_case::<Self, EventKeyParts, EventKeyOwned, D>(
-                1,
-                alloc,
-                part,
-                deserializer,
-            ) {
+            1 => match read_case_1::<Self, ArchivedChar, char, D>(1, alloc, part, deserializer) {
                 Ok((a0, ())) => Ok(Event::Key(a0)),
                 Err(error) => Err(error),
             },
-            2 => match read_case::<Self, EventTextParts, EventTextOwned, D>(
+            2 => match read_case_1::<Self, ArchivedString, String, D>(
                 2,
                 alloc,
                 part,
@@ -357,7 +344,7 @@ impl<D: Entries> Deserialize<Event, D> for ArchivedEvent {
                 Ok((a0, ())) => Ok(Event::Text(a0)),
                 Err(error) => Err(error),
             },
-            3 => match read_case::<Self, EventMoveParts, EventMoveOwned, D>(
+            3 => match read_case_2::<Self, ArchivedI32, i32, ArchivedI32, i32, D>(
                 3,
                 alloc,
                 part,
@@ -366,7 +353,7 @@ impl<D: Entries> Deserialize<Event, D> for ArchivedEvent {
                 Ok((a0, (a1, ()))) => Ok(Event::Move { x: a0, y: a1 }),
                 Err(error) => Err(error),
             },
-            _ => match read_case::<Self, EventBatchParts, EventBatchOwned, D>(
+            _ => match read_case_1::<Self, ArchivedVec<ArchivedU32>, Vec<u32>, D>(
                 4,
                 alloc,
                 part,

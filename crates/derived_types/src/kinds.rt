@@ -89,16 +89,16 @@ use archive_core::boxed::ArchivedBox;
 use archive_core::core_impls::ArchivedTuple2;
 use archive_core::error::Error;
 use archive_core::fields::{
-    part_in_record, resolve_record_0, resolve_record_2, resolve_record_3, resolve_record_5,
-    resolve_record_6, serialize_record_0, serialize_record_2, serialize_record_3,
-    serialize_record_5, serialize_record_6,
+    part_in_record, read_record_0, read_record_2, read_record_3, read_record_5, read_record_6,
+    resolve_record_0, resolve_record_2, resolve_record_3, resolve_record_5, resolve_record_6,
+    serialize_record_0, serialize_record_2, serialize_record_3, serialize_record_5,
+    serialize_record_6,
 };
 use archive_core::option::ArchivedOption;
 use archive_core::place::Place;
 use archive_core::primitive::{
     ArchivedI16, ArchivedI128, ArchivedIsize, ArchivedU16, ArchivedU64, ArchivedUsize,
 };
-use archive_core::record::deserialize_record;
 use archive_core::result::ArchivedResult;
 use archive_core::seal::{Seal, sealed_part_in_record};
 use archive_core::self_check::{RecordCheck, SelfCheck};
@@ -125,8 +125,6 @@ type NumbersParts = (
         (ArchivedIsize, (ArchivedI128, (bool, ((), ())))),
     ),
 );
-
-type NumbersOwned = (NonZero<u32>, (usize, (isize, (i128, (bool, ((), ()))))));
 
 impl ArchivePointee for ArchivedNumbers {
     type ArchivedMetadata = ();
@@ -331,7 +329,23 @@ impl<D: Entries> Deserialize<Numbers, D> for ArchivedNumbers {
         ensures read { IfOk result (Read ⟦<Self as ArchivePointee>⟧ part D.Entries deserializer ⟦<Numbers as Archive>⟧) }
         ensures refused { IfErr result (RefusesPart ⟦<Self as ArchivePointee>⟧ part D.Entries deserializer) }
     {
-        match deserialize_record::<Self, NumbersOwned, D>(alloc, part, deserializer) {
+        match read_record_6::<
+            Self,
+            NonZero<u32>,
+            NonZero<u32>,
+            ArchivedUsize,
+            usize,
+            ArchivedIsize,
+            isize,
+            ArchivedI128,
+            i128,
+            bool,
+            bool,
+            (),
+            (),
+            D,
+        >(alloc, part, deserializer)
+        {
             Ok((a0, (a1, (a2, (a3, (a4, (a5, ()))))))) => Ok(Numbers {
                 some: a0,
                 size: a1,
@@ -539,14 +553,6 @@ type OwnersParts = (
             ArchivedBox<ArchivedStr>,
             (ArchivedTuple2<u8, ArchivedString>, (PhantomData<u64>, ())),
         ),
-    ),
-);
-
-type OwnersOwned = (
-    Result<u8, String>,
-    (
-        BoxSlice<u16>,
-        (BoxStr, ((u8, String), (PhantomData<u64>, ()))),
     ),
 );
 
@@ -766,7 +772,21 @@ impl<D: Entries> Deserialize<Owners, D> for ArchivedOwners {
         ensures read { IfOk result (Read ⟦<Self as ArchivePointee>⟧ part D.Entries deserializer ⟦<Owners as Archive>⟧) }
         ensures refused { IfErr result (RefusesPart ⟦<Self as ArchivePointee>⟧ part D.Entries deserializer) }
     {
-        match deserialize_record::<Self, OwnersOwned, D>(alloc, part, deserializer) {
+        match read_record_5::<
+            Self,
+            ArchivedResult<u8, ArchivedString>,
+            Result<u8, String>,
+            ArchivedBox<ArchivedSlice<ArchivedU16>>,
+            BoxSlice<u16>,
+            ArchivedBox<ArchivedStr>,
+            BoxStr,
+            ArchivedTuple2<u8, ArchivedString>,
+            (u8, String),
+            PhantomData<u64>,
+            PhantomData<u64>,
+            D,
+        >(alloc, part, deserializer)
+        {
             Ok((a0, (a1, (a2, (a3, (a4, ())))))) => Ok(Owners {
                 outcome: a0,
                 numbers: a1,
@@ -945,11 +965,6 @@ type ListsParts = (
         ArchivedVec<ArchivedOption<ArchivedSpot>>,
         (ArchivedPair<ArchivedU64, ArchivedSpot>, ()),
     ),
-);
-
-type ListsOwned = (
-    OwnedArray<i16, 4>,
-    (Vec<Option<Spot>>, (Pair<u64, Spot>, ())),
 );
 
 impl ArchivePointee for ArchivedLists {
@@ -1147,7 +1162,17 @@ impl<D: Entries> Deserialize<Lists, D> for ArchivedLists {
         ensures read { IfOk result (Read ⟦<Self as ArchivePointee>⟧ part D.Entries deserializer ⟦<Lists as Archive>⟧) }
         ensures refused { IfErr result (RefusesPart ⟦<Self as ArchivePointee>⟧ part D.Entries deserializer) }
     {
-        match deserialize_record::<Self, ListsOwned, D>(alloc, part, deserializer) {
+        match read_record_3::<
+            Self,
+            [ArchivedI16; 4],
+            OwnedArray<i16, 4>,
+            ArchivedVec<ArchivedOption<ArchivedSpot>>,
+            Vec<Option<Spot>>,
+            ArchivedPair<ArchivedU64, ArchivedSpot>,
+            Pair<u64, Spot>,
+            D,
+        >(alloc, part, deserializer)
+        {
             Ok((a0, (a1, (a2, ())))) => Ok(Lists {
                 four: a0,
                 spots: a1,
@@ -1263,8 +1288,6 @@ impl<'a> ListsSeal<'a> for Seal<'a, ArchivedLists> {
 pub struct ArchivedEmpty;
 
 type EmptyParts = ();
-
-type EmptyOwned = ();
 
 impl ArchivePointee for ArchivedEmpty {
     type ArchivedMetadata = ();
@@ -1429,7 +1452,7 @@ impl<D: Entries> Deserialize<Empty, D> for ArchivedEmpty {
         ensures read { IfOk result (Read ⟦<Self as ArchivePointee>⟧ part D.Entries deserializer ⟦<Empty as Archive>⟧) }
         ensures refused { IfErr result (RefusesPart ⟦<Self as ArchivePointee>⟧ part D.Entries deserializer) }
     {
-        match deserialize_record::<Self, EmptyOwned, D>(alloc, part, deserializer) {
+        match read_record_0::<Self, D>(alloc, part, deserializer) {
             Ok(()) => Ok(Empty),
             Err(error) => Err(error),
         }
@@ -1440,8 +1463,6 @@ impl<D: Entries> Deserialize<Empty, D> for ArchivedEmpty {
 pub struct ArchivedUnnamed;
 
 type UnnamedParts = (u8, (ArchivedString, ()));
-
-type UnnamedOwned = (u8, (String, ()));
 
 impl ArchivePointee for ArchivedUnnamed {
     type ArchivedMetadata = ();
@@ -1625,7 +1646,7 @@ impl<D: Entries> Deserialize<Unnamed, D> for ArchivedUnnamed {
         ensures read { IfOk result (Read ⟦<Self as ArchivePointee>⟧ part D.Entries deserializer ⟦<Unnamed as Archive>⟧) }
         ensures refused { IfErr result (RefusesPart ⟦<Self as ArchivePointee>⟧ part D.Entries deserializer) }
     {
-        match deserialize_record::<Self, UnnamedOwned, D>(alloc, part, deserializer) {
+        match read_record_2::<Self, u8, u8, ArchivedString, String, D>(alloc, part, deserializer) {
             Ok((a0, (a1, ()))) => Ok(Unnamed(a0, a1)),
             Err(error) => Err(error),
         }

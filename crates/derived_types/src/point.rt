@@ -34,10 +34,9 @@ ghost use Rattle.std.proofs.Common.{inl, inr, lit≤};
 ghost use Rattle.std.specs.Prelude.{IfErr, IfOk, OnOk, [], length, refl, string_bytes, true, ◌++◌, ◌+◌, ◌≡◌};
 
 use archive_core::error::Error;
-use archive_core::fields::{part_in_record, resolve_record_4, serialize_record_4};
+use archive_core::fields::{part_in_record, read_record_4, resolve_record_4, serialize_record_4};
 use archive_core::place::Place;
 use archive_core::primitive::ArchivedI32;
-use archive_core::record::deserialize_record;
 use archive_core::seal::{Seal, sealed_part_in_record};
 use archive_core::self_check::{RecordCheck, SelfCheck};
 use archive_core::ser::{ResolverAlloc, Writer, serialize_one};
@@ -62,8 +61,6 @@ type PointParts = (
         (ArchivedString, (ArchivedVec<ArchivedString>, ())),
     ),
 );
-
-type PointOwned = (i32, (i32, (String, (Vec<String>, ()))));
 
 impl ArchivePointee for ArchivedPoint {
     type ArchivedMetadata = ();
@@ -257,7 +254,19 @@ impl<D: Entries> Deserialize<Point, D> for ArchivedPoint {
         ensures read { IfOk result (Read ⟦<Self as ArchivePointee>⟧ part D.Entries deserializer ⟦<Point as Archive>⟧) }
         ensures refused { IfErr result (RefusesPart ⟦<Self as ArchivePointee>⟧ part D.Entries deserializer) }
     {
-        match deserialize_record::<Self, PointOwned, D>(alloc, part, deserializer) {
+        match read_record_4::<
+            Self,
+            ArchivedI32,
+            i32,
+            ArchivedI32,
+            i32,
+            ArchivedString,
+            String,
+            ArchivedVec<ArchivedString>,
+            Vec<String>,
+            D,
+        >(alloc, part, deserializer)
+        {
             Ok((a0, (a1, (a2, (a3, ()))))) => Ok(Point {
                 x: a0,
                 y: a1,

@@ -67,12 +67,12 @@ use crate::event::ArchivedEvent;
 use archive_core::boxed::ArchivedBox;
 use archive_core::error::Error;
 use archive_core::fields::{
-    part_in_record, resolve_record_2, resolve_record_4, serialize_record_2, serialize_record_4,
+    part_in_record, read_record_2, read_record_4, resolve_record_2, resolve_record_4,
+    serialize_record_2, serialize_record_4,
 };
 use archive_core::option::ArchivedOption;
 use archive_core::place::Place;
 use archive_core::primitive::{ArchivedI16, ArchivedU16};
-use archive_core::record::deserialize_record;
 use archive_core::seal::{Seal, sealed_part_in_record};
 use archive_core::self_check::{RecordCheck, SelfCheck};
 use archive_core::ser::{ResolverAlloc, Writer, serialize_one};
@@ -90,8 +90,6 @@ use std::alloc::Global;
 pub struct ArchivedSpot;
 
 type SpotParts = (ArchivedU16, (ArchivedI16, ()));
-
-type SpotOwned = (u16, (i16, ()));
 
 impl ArchivePointee for ArchivedSpot {
     type ArchivedMetadata = ();
@@ -272,7 +270,11 @@ impl<D: Entries> Deserialize<Spot, D> for ArchivedSpot {
         ensures read { IfOk result (Read ⟦<Self as ArchivePointee>⟧ part D.Entries deserializer ⟦<Spot as Archive>⟧) }
         ensures refused { IfErr result (RefusesPart ⟦<Self as ArchivePointee>⟧ part D.Entries deserializer) }
     {
-        match deserialize_record::<Self, SpotOwned, D>(alloc, part, deserializer) {
+        match read_record_2::<Self, ArchivedU16, u16, ArchivedI16, i16, D>(
+            alloc,
+            part,
+            deserializer,
+        ) {
             Ok((a0, (a1, ()))) => Ok(Spot { right: a0, up: a1 }),
             Err(error) => Err(error),
         }
@@ -354,8 +356,6 @@ impl<'a> SpotSeal<'a> for Seal<'a, ArchivedSpot> {
 pub struct ArchivedLine;
 
 type LineParts = (ArchivedSpot, (ArchivedSpot, ()));
-
-type LineOwned = (Spot, (Spot, ()));
 
 impl ArchivePointee for ArchivedLine {
     type ArchivedMetadata = ();
@@ -541,7 +541,11 @@ impl<D: Entries> Deserialize<Line, D> for ArchivedLine {
         ensures read { IfOk result (Read ⟦<Self as ArchivePointee>⟧ part D.Entries deserializer ⟦<Line as Archive>⟧) }
         ensures refused { IfErr result (RefusesPart ⟦<Self as ArchivePointee>⟧ part D.Entries deserializer) }
     {
-        match deserialize_record::<Self, LineOwned, D>(alloc, part, deserializer) {
+        match read_record_2::<Self, ArchivedSpot, Spot, ArchivedSpot, Spot, D>(
+            alloc,
+            part,
+            deserializer,
+        ) {
             Ok((a0, (a1, ()))) => Ok(Line { from: a0, to: a1 }),
             Err(error) => Err(error),
         }
@@ -632,8 +636,6 @@ type DrawingParts = (
         ),
     ),
 );
-
-type DrawingOwned = (Line, (Vec<Line>, (Option<Box<Line>>, (Event, ()))));
 
 impl ArchivePointee for ArchivedDrawing {
     type ArchivedMetadata = ();
@@ -834,7 +836,19 @@ impl<D: Entries> Deserialize<Drawing, D> for ArchivedDrawing {
         ensures read { IfOk result (Read ⟦<Self as ArchivePointee>⟧ part D.Entries deserializer ⟦<Drawing as Archive>⟧) }
         ensures refused { IfErr result (RefusesPart ⟦<Self as ArchivePointee>⟧ part D.Entries deserializer) }
     {
-        match deserialize_record::<Self, DrawingOwned, D>(alloc, part, deserializer) {
+        match read_record_4::<
+            Self,
+            ArchivedLine,
+            Line,
+            ArchivedVec<ArchivedLine>,
+            Vec<Line>,
+            ArchivedOption<ArchivedBox<ArchivedLine>>,
+            Option<Box<Line>>,
+            ArchivedEvent,
+            Event,
+            D,
+        >(alloc, part, deserializer)
+        {
             Ok((a0, (a1, (a2, (a3, ()))))) => Ok(Drawing {
                 first: a0,
                 lines: a1,
@@ -979,8 +993,6 @@ impl<'a> DrawingSeal<'a> for Seal<'a, ArchivedDrawing> {
 pub struct ArchivedAtlas;
 
 type AtlasParts = (ArchivedVec<ArchivedDrawing>, (u8, ()));
-
-type AtlasOwned = (Vec<Drawing>, (u8, ()));
 
 impl ArchivePointee for ArchivedAtlas {
     type ArchivedMetadata = ();
@@ -1170,7 +1182,11 @@ impl<D: Entries> Deserialize<Atlas, D> for ArchivedAtlas {
         ensures read { IfOk result (Read ⟦<Self as ArchivePointee>⟧ part D.Entries deserializer ⟦<Atlas as Archive>⟧) }
         ensures refused { IfErr result (RefusesPart ⟦<Self as ArchivePointee>⟧ part D.Entries deserializer) }
     {
-        match deserialize_record::<Self, AtlasOwned, D>(alloc, part, deserializer) {
+        match read_record_2::<Self, ArchivedVec<ArchivedDrawing>, Vec<Drawing>, u8, u8, D>(
+            alloc,
+            part,
+            deserializer,
+        ) {
             Ok((a0, (a1, ()))) => Ok(Atlas {
                 drawings: a0,
                 pages: a1,

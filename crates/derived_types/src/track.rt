@@ -63,15 +63,14 @@ use crate::spot::ArchivedLine;
 use archive_core::boxed::ArchivedBox;
 use archive_core::error::Error;
 use archive_core::fields::{
-    known_tag, part_in_case, part_in_record, read_case, resolve_case_1, resolve_case_2,
-    resolve_record_2, resolve_record_3, serialize_case_1, serialize_case_2, serialize_record_2,
-    serialize_record_3, tag_in,
+    known_tag, part_in_case, part_in_record, read_case_1, read_case_2, read_record_2,
+    read_record_3, resolve_case_1, resolve_case_2, resolve_record_2, resolve_record_3,
+    serialize_case_1, serialize_case_2, serialize_record_2, serialize_record_3, tag_in,
 };
 use archive_core::option::ArchivedOption;
 use archive_core::place::Place;
 use archive_core::pooling::Pooling;
 use archive_core::rc::{ArchivedRc, ArchivedRcWeak, RcFlavor};
-use archive_core::record::deserialize_record;
 use archive_core::seal::{Seal, sealed_part_in_case, sealed_part_in_record};
 use archive_core::self_check::BySchema;
 use archive_core::ser::{ResolverAlloc, Writer, serialize_one};
@@ -93,8 +92,6 @@ type TrackParts = (
     ArchivedRc<ArchivedLine, RcFlavor>,
     (ArchivedOption<ArchivedBox<ArchivedLine>>, ()),
 );
-
-type TrackOwned = (Shared<Line>, (Option<Box<Line>>, ()));
 
 impl ArchivePointee for ArchivedTrack {
     type ArchivedMetadata = ();
@@ -255,7 +252,15 @@ impl<D: Pooling<Shared<Line>>> Deserialize<Track, D> for ArchivedTrack {
         ensures read { IfOk result (Read ⟦<Self as ArchivePointee>⟧ part D.Entries deserializer ⟦<Track as Archive>⟧) }
         ensures refused { IfErr result (RefusesPart ⟦<Self as ArchivePointee>⟧ part D.Entries deserializer) }
     {
-        match deserialize_record::<Self, TrackOwned, D>(alloc, part, deserializer) {
+        match read_record_2::<
+            Self,
+            ArchivedRc<ArchivedLine, RcFlavor>,
+            Shared<Line>,
+            ArchivedOption<ArchivedBox<ArchivedLine>>,
+            Option<Box<Line>>,
+            D,
+        >(alloc, part, deserializer)
+        {
             Ok((a0, (a1, ()))) => Ok(Track {
                 line: a0,
                 other: a1,
@@ -348,8 +353,6 @@ type RunsParts = (
         (ArchivedRcWeak<ArchivedLine, RcFlavor>, ()),
     ),
 );
-
-type RunsOwned = (SharedSlice<Line>, (SharedStr, (WeakShared<Line>, ())));
 
 impl ArchivePointee for ArchivedRuns {
     type ArchivedMetadata = ();
@@ -518,7 +521,17 @@ impl<D: Pooling<SharedSlice<Line>> + Pooling<SharedStr> + Pooling<Shared<Line>>>
         ensures read { IfOk result (Read ⟦<Self as ArchivePointee>⟧ part D.Entries deserializer ⟦<Runs as Archive>⟧) }
         ensures refused { IfErr result (RefusesPart ⟦<Self as ArchivePointee>⟧ part D.Entries deserializer) }
     {
-        match deserialize_record::<Self, RunsOwned, D>(alloc, part, deserializer) {
+        match read_record_3::<
+            Self,
+            ArchivedRc<ArchivedSlice<ArchivedLine>, RcFlavor>,
+            SharedSlice<Line>,
+            ArchivedRc<ArchivedStr, RcFlavor>,
+            SharedStr,
+            ArchivedRcWeak<ArchivedLine, RcFlavor>,
+            WeakShared<Line>,
+            D,
+        >(alloc, part, deserializer)
+        {
             Ok((a0, (a1, (a2, ())))) => Ok(Runs {
                 lines: a0,
                 text: a1,
@@ -637,11 +650,7 @@ pub struct ArchivedEither;
 
 type EitherAloneParts = (u8, ());
 
-type EitherAloneOwned = (u8, ());
-
 type EitherTogetherParts = (ArchivedRc<ArchivedLine, RcFlavor>, (u8, ()));
-
-type EitherTogetherOwned = (Shared<Line>, (u8, ()));
 
 type EitherVariants = (EitherAloneParts, (EitherTogetherParts, ()));
 
@@ -838,21 +847,19 @@ impl<D: Pooling<Shared<Line>>> Deserialize<Either, D> for ArchivedEither {
         ensures refused { IfErr result (RefusesPart ⟦<Self as ArchivePointee>⟧ part D.Entries deserializer) }
     {
         match known_tag::<Self>(part) {
-            0 => match read_case::<Self, EitherAloneParts, EitherAloneOwned, D>(
-                0,
-                alloc,
-                part,
-                deserializer,
-            ) {
+            0 => match read_case_1::<Self, u8, u8, D>(0, alloc, part, deserializer) {
                 Ok((a0, ())) => Ok(Either::Alone(a0)),
                 Err(error) => Err(error),
             },
-            _ => match read_case::<Self, EitherTogetherParts, EitherTogetherOwned, D>(
-                1,
-                alloc,
-                part,
-                deserializer,
-            ) {
+            _ => match read_case_2::<
+                Self,
+                ArchivedRc<ArchivedLine, RcFlavor>,
+                Shared<Line>,
+                u8,
+                u8,
+                D,
+            >(1, alloc, part, deserializer)
+            {
                 Ok((a0, (a1, ()))) => Ok(Either::Together(a0, a1)),
                 Err(error) => Err(error),
             },

@@ -41,12 +41,11 @@ ghost use Rattle.std.specs.Prelude.{IfErr, IfOk, OnOk, [], codes, length, refl, 
 
 use archive_core::error::Error;
 use archive_core::fields::{
-    known_tag, part_in_case, part_in_record, read_case, resolve_case_1, resolve_record_2,
-    serialize_case_1, serialize_record_2, tag_in,
+    known_tag, part_in_case, part_in_record, read_case_1, read_record_2, resolve_case_1,
+    resolve_record_2, serialize_case_1, serialize_record_2, tag_in,
 };
 use archive_core::place::Place;
 use archive_core::primitive::ArchivedU16;
-use archive_core::record::deserialize_record;
 use archive_core::seal::{Seal, sealed_part_in_case, sealed_part_in_record};
 use archive_core::self_check::{RecordCheck, SelfCheck, check_choice};
 use archive_core::ser::{ResolverAlloc, Writer, serialize_one};
@@ -64,11 +63,7 @@ pub struct ArchivedTurn;
 
 type TurnLeftParts = (ArchivedU16, ());
 
-type TurnLeftOwned = (u16, ());
-
 type TurnRightParts = (ArchivedU16, ());
-
-type TurnRightOwned = (u16, ());
 
 type TurnVariants = (TurnLeftParts, (TurnRightParts, ()));
 
@@ -274,21 +269,11 @@ impl<D: Entries> Deserialize<Turn, D> for ArchivedTurn {
         ensures refused { IfErr result (RefusesPart ⟦<Self as ArchivePointee>⟧ part D.Entries deserializer) }
     {
         match known_tag::<Self>(part) {
-            0 => match read_case::<Self, TurnLeftParts, TurnLeftOwned, D>(
-                0,
-                alloc,
-                part,
-                deserializer,
-            ) {
+            0 => match read_case_1::<Self, ArchivedU16, u16, D>(0, alloc, part, deserializer) {
                 Ok((a0, ())) => Ok(Turn::Left(a0)),
                 Err(error) => Err(error),
             },
-            _ => match read_case::<Self, TurnRightParts, TurnRightOwned, D>(
-                1,
-                alloc,
-                part,
-                deserializer,
-            ) {
+            _ => match read_case_1::<Self, ArchivedU16, u16, D>(1, alloc, part, deserializer) {
                 Ok((a0, ())) => Ok(Turn::Right(a0)),
                 Err(error) => Err(error),
             },
@@ -379,8 +364,6 @@ impl<'a> TurnSeal<'a> for Seal<'a, ArchivedTurn> {
 pub struct ArchivedSteps;
 
 type StepsParts = (ArchivedU16, (ArchivedU16, ()));
-
-type StepsOwned = (u16, (u16, ()));
 
 impl ArchivePointee for ArchivedSteps {
     type ArchivedMetadata = ();
@@ -565,7 +548,11 @@ impl<D: Entries> Deserialize<Steps, D> for ArchivedSteps {
         ensures read { IfOk result (Read ⟦<Self as ArchivePointee>⟧ part D.Entries deserializer ⟦<Steps as Archive>⟧) }
         ensures refused { IfErr result (RefusesPart ⟦<Self as ArchivePointee>⟧ part D.Entries deserializer) }
     {
-        match deserialize_record::<Self, StepsOwned, D>(alloc, part, deserializer) {
+        match read_record_2::<Self, ArchivedU16, u16, ArchivedU16, u16, D>(
+            alloc,
+            part,
+            deserializer,
+        ) {
             Ok((a0, (a1, ()))) => Ok(Steps {
                 first: a0,
                 second: a1,

@@ -47,11 +47,11 @@ ghost use Rattle.std.specs.Prelude.{IfErr, IfOk, OnOk, [], codes, length, refl, 
 
 use archive_core::error::Error;
 use archive_core::fields::{
-    known_tag, part_in_case, part_in_record, read_case, resolve_case_0, resolve_case_1,
-    resolve_record_4, serialize_case_0, serialize_case_1, serialize_record_4, tag_in,
+    known_tag, part_in_case, part_in_record, read_case_0, read_case_1, read_record_4,
+    resolve_case_0, resolve_case_1, resolve_record_4, serialize_case_0, serialize_case_1,
+    serialize_record_4, tag_in,
 };
 use archive_core::place::Place;
-use archive_core::record::deserialize_record;
 use archive_core::seal::{Seal, sealed_part_in_case, sealed_part_in_record};
 use archive_core::self_check::{RecordCheck, SelfCheck, check_choice};
 use archive_core::ser::{ResolverAlloc, Writer, serialize_one};
@@ -68,8 +68,6 @@ use std::alloc::Global;
 pub struct ArchivedWords;
 
 type WordsParts = (u8, (u8, (u8, (u8, ()))));
-
-type WordsOwned = (u8, (u8, (u8, (u8, ()))));
 
 impl ArchivePointee for ArchivedWords {
     type ArchivedMetadata = ();
@@ -264,7 +262,7 @@ impl<D: Entries> Deserialize<Words, D> for ArchivedWords {
         ensures read { IfOk result (Read ⟦<Self as ArchivePointee>⟧ part D.Entries deserializer ⟦<Words as Archive>⟧) }
         ensures refused { IfErr result (RefusesPart ⟦<Self as ArchivePointee>⟧ part D.Entries deserializer) }
     {
-        match deserialize_record::<Self, WordsOwned, D>(alloc, part, deserializer) {
+        match read_record_4::<Self, u8, u8, u8, u8, u8, u8, u8, u8, D>(alloc, part, deserializer) {
             Ok((a0, (a1, (a2, (a3, ()))))) => Ok(Words {
                 data: a0,
                 result: a1,
@@ -407,8 +405,6 @@ impl<'a> WordsSeal<'a> for Seal<'a, ArchivedWords> {
 pub struct ArchivedLevel;
 
 type LevelOkParts = (ArchivedWords, ());
-
-type LevelOkOwned = (Words, ());
 
 type LevelVariants = ((), ((), (LevelOkParts, ())));
 
@@ -616,20 +612,15 @@ impl<D: Entries> Deserialize<Level, D> for ArchivedLevel {
         ensures refused { IfErr result (RefusesPart ⟦<Self as ArchivePointee>⟧ part D.Entries deserializer) }
     {
         match known_tag::<Self>(part) {
-            0 => match read_case::<Self, (), (), D>(0, alloc, part, deserializer) {
+            0 => match read_case_0::<Self, D>(0, alloc, part, deserializer) {
                 Ok(()) => Ok(Level::None),
                 Err(error) => Err(error),
             },
-            1 => match read_case::<Self, (), (), D>(1, alloc, part, deserializer) {
+            1 => match read_case_0::<Self, D>(1, alloc, part, deserializer) {
                 Ok(()) => Ok(Level::Some),
                 Err(error) => Err(error),
             },
-            _ => match read_case::<Self, LevelOkParts, LevelOkOwned, D>(
-                2,
-                alloc,
-                part,
-                deserializer,
-            ) {
+            _ => match read_case_1::<Self, ArchivedWords, Words, D>(2, alloc, part, deserializer) {
                 Ok((a0, ())) => Ok(Level::Ok(a0)),
                 Err(error) => Err(error),
             },

@@ -41,7 +41,7 @@ FIELDS = [
     ("[u8; 5000000000]", "an array of 5000000000 items is too long; write at most 4294967295"),
     ("archive_core::primitive::NonZero<bool>", "`NonZero` is of a number of one size; write `NonZero<u32>`"),
     ("archive_core::string::ArchivedString", "`archive_core::string::ArchivedString` has no format here"),
-    ("Vec<(u8, Option<(u8, u8)>)>", "a tuple in a tuple is too deep for the toolchain; write a struct in place of the inner one"),
+    ("Vec<(u8, Option<(u8, u8)>)>", "a tuple in a tuple is too deep for the toolchain; write a struct without parameters in place of the inner one"),
     (f"({', '.join(['u8'] * 14)})", "a tuple of 14 has no format, only up to 13; write a struct"),
     (f"{'Option<' * 200}u8{'>' * 200}", "this type is nested more than 100 deep; give a part of it a name"),
 ]

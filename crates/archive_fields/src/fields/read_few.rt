@@ -14,165 +14,165 @@ use std::alloc::Global;
 
 /// Reads back one field from the offset `start` on of what begins at `pos`.
 #[inline(always)]
-pub fn read_1<FA: Portable + Deserialize<A, S>, A: Archive + Drop, S: Entries>(
+pub fn read_1<FA: Portable + Deserialize<A, R>, A: Archive + Drop, R: Entries>(
     alloc: Global,
     bytes: &[u8],
     pos: usize,
     start: usize,
-    deserializer: &mut S,
+    deserializer: &mut R,
 ) -> Result<(A, ()), Error>
     requires viewed { PartsViewed (both FA.definitions no_definition) bytes.now pos start (part FA.shape no_part) }
-    ensures read { IfOk result (λ r. PartsReadBack bytes.now pos (both FA.definitions no_definition) (part FA.shape no_part) start (S.entry_of deserializer.old) (S.entry_of deserializer.new) (value (A.meaning r.0) no_value) (A.keys r.0 ++ [])) }
-    ensures refused { IfErr result (RefusesParts (both FA.definitions no_definition) bytes.now pos (part FA.shape no_part) start (S.entry_of deserializer.old)) }
+    ensures read { IfOk result (λ r. PartsReadBack bytes.now pos (both FA.definitions no_definition) (part FA.shape no_part) start (R.entry_of deserializer.old) (R.entry_of deserializer.new) (value (A.meaning r.0) no_value) (A.keys r.0 ++ [])) }
+    ensures refused { IfErr result (RefusesParts (both FA.definitions no_definition) bytes.now pos (part FA.shape no_part) start (R.entry_of deserializer.old)) }
 {
-    let first = read_front::<FA, A, S>(alloc, bytes, pos, start, deserializer)?;
+    let first = read_front::<FA, A, R>(alloc, bytes, pos, start, deserializer)?;
     let end = end_of::<FA>(bytes, pos, start);
-    let others = read_0::<S>(alloc, bytes, pos, end, deserializer)?;
+    let others = read_0::<R>(alloc, bytes, pos, end, deserializer)?;
     Ok((first, others))
 }
 
 /// Reads back 2 fields from the offset `start` on of what begins at `pos`: each at the next multiple of its alignment.
 #[inline(always)]
 pub fn read_2<
-    FA: Portable + Deserialize<A, S>,
+    FA: Portable + Deserialize<A, R>,
     A: Archive + Drop,
-    FB: Portable + Deserialize<B, S>,
+    FB: Portable + Deserialize<B, R>,
     B: Archive + Drop,
-    S: Entries,
+    R: Entries,
 >(
     alloc: Global,
     bytes: &[u8],
     pos: usize,
     start: usize,
-    deserializer: &mut S,
+    deserializer: &mut R,
 ) -> Result<(A, (B, ())), Error>
     requires viewed { PartsViewed (both FA.definitions (both FB.definitions no_definition)) bytes.now pos start (part FA.shape (part FB.shape no_part)) }
-    ensures read { IfOk result (λ r. PartsReadBack bytes.now pos (both FA.definitions (both FB.definitions no_definition)) (part FA.shape (part FB.shape no_part)) start (S.entry_of deserializer.old) (S.entry_of deserializer.new) (value (A.meaning r.0) (value (B.meaning r.1.0) no_value)) (A.keys r.0 ++ (B.keys r.1.0 ++ []))) }
-    ensures refused { IfErr result (RefusesParts (both FA.definitions (both FB.definitions no_definition)) bytes.now pos (part FA.shape (part FB.shape no_part)) start (S.entry_of deserializer.old)) }
+    ensures read { IfOk result (λ r. PartsReadBack bytes.now pos (both FA.definitions (both FB.definitions no_definition)) (part FA.shape (part FB.shape no_part)) start (R.entry_of deserializer.old) (R.entry_of deserializer.new) (value (A.meaning r.0) (value (B.meaning r.1.0) no_value)) (A.keys r.0 ++ (B.keys r.1.0 ++ []))) }
+    ensures refused { IfErr result (RefusesParts (both FA.definitions (both FB.definitions no_definition)) bytes.now pos (part FA.shape (part FB.shape no_part)) start (R.entry_of deserializer.old)) }
 {
-    let first = read_front::<FA, A, S>(alloc, bytes, pos, start, deserializer)?;
+    let first = read_front::<FA, A, R>(alloc, bytes, pos, start, deserializer)?;
     let end = end_of::<FA>(bytes, pos, start);
-    let others = read_1::<FB, B, S>(alloc, bytes, pos, end, deserializer)?;
+    let others = read_1::<FB, B, R>(alloc, bytes, pos, end, deserializer)?;
     Ok((first, others))
 }
 
 /// Reads back 3 fields from the offset `start` on of what begins at `pos`: each at the next multiple of its alignment.
 #[inline(always)]
 pub fn read_3<
-    FA: Portable + Deserialize<A, S>,
+    FA: Portable + Deserialize<A, R>,
     A: Archive + Drop,
-    FB: Portable + Deserialize<B, S>,
+    FB: Portable + Deserialize<B, R>,
     B: Archive + Drop,
-    FC: Portable + Deserialize<C, S>,
+    FC: Portable + Deserialize<C, R>,
     C: Archive + Drop,
-    S: Entries,
+    R: Entries,
 >(
     alloc: Global,
     bytes: &[u8],
     pos: usize,
     start: usize,
-    deserializer: &mut S,
+    deserializer: &mut R,
 ) -> Result<(A, (B, (C, ()))), Error>
     requires viewed { PartsViewed (both FA.definitions (both FB.definitions (both FC.definitions no_definition))) bytes.now pos start (part FA.shape (part FB.shape (part FC.shape no_part))) }
-    ensures read { IfOk result (λ r. PartsReadBack bytes.now pos (both FA.definitions (both FB.definitions (both FC.definitions no_definition))) (part FA.shape (part FB.shape (part FC.shape no_part))) start (S.entry_of deserializer.old) (S.entry_of deserializer.new) (value (A.meaning r.0) (value (B.meaning r.1.0) (value (C.meaning r.1.1.0) no_value))) (A.keys r.0 ++ (B.keys r.1.0 ++ (C.keys r.1.1.0 ++ [])))) }
-    ensures refused { IfErr result (RefusesParts (both FA.definitions (both FB.definitions (both FC.definitions no_definition))) bytes.now pos (part FA.shape (part FB.shape (part FC.shape no_part))) start (S.entry_of deserializer.old)) }
+    ensures read { IfOk result (λ r. PartsReadBack bytes.now pos (both FA.definitions (both FB.definitions (both FC.definitions no_definition))) (part FA.shape (part FB.shape (part FC.shape no_part))) start (R.entry_of deserializer.old) (R.entry_of deserializer.new) (value (A.meaning r.0) (value (B.meaning r.1.0) (value (C.meaning r.1.1.0) no_value))) (A.keys r.0 ++ (B.keys r.1.0 ++ (C.keys r.1.1.0 ++ [])))) }
+    ensures refused { IfErr result (RefusesParts (both FA.definitions (both FB.definitions (both FC.definitions no_definition))) bytes.now pos (part FA.shape (part FB.shape (part FC.shape no_part))) start (R.entry_of deserializer.old)) }
 {
-    let first = read_front::<FA, A, S>(alloc, bytes, pos, start, deserializer)?;
+    let first = read_front::<FA, A, R>(alloc, bytes, pos, start, deserializer)?;
     let end = end_of::<FA>(bytes, pos, start);
-    let others = read_2::<FB, B, FC, C, S>(alloc, bytes, pos, end, deserializer)?;
+    let others = read_2::<FB, B, FC, C, R>(alloc, bytes, pos, end, deserializer)?;
     Ok((first, others))
 }
 
 /// Reads back 4 fields from the offset `start` on of what begins at `pos`: each at the next multiple of its alignment.
 #[inline(always)]
 pub fn read_4<
-    FA: Portable + Deserialize<A, S>,
+    FA: Portable + Deserialize<A, R>,
     A: Archive + Drop,
-    FB: Portable + Deserialize<B, S>,
+    FB: Portable + Deserialize<B, R>,
     B: Archive + Drop,
-    FC: Portable + Deserialize<C, S>,
+    FC: Portable + Deserialize<C, R>,
     C: Archive + Drop,
-    FD: Portable + Deserialize<D, S>,
+    FD: Portable + Deserialize<D, R>,
     D: Archive + Drop,
-    S: Entries,
+    R: Entries,
 >(
     alloc: Global,
     bytes: &[u8],
     pos: usize,
     start: usize,
-    deserializer: &mut S,
+    deserializer: &mut R,
 ) -> Result<(A, (B, (C, (D, ())))), Error>
     requires viewed { PartsViewed (both FA.definitions (both FB.definitions (both FC.definitions (both FD.definitions no_definition)))) bytes.now pos start (part FA.shape (part FB.shape (part FC.shape (part FD.shape no_part)))) }
-    ensures read { IfOk result (λ r. PartsReadBack bytes.now pos (both FA.definitions (both FB.definitions (both FC.definitions (both FD.definitions no_definition)))) (part FA.shape (part FB.shape (part FC.shape (part FD.shape no_part)))) start (S.entry_of deserializer.old) (S.entry_of deserializer.new) (value (A.meaning r.0) (value (B.meaning r.1.0) (value (C.meaning r.1.1.0) (value (D.meaning r.1.1.1.0) no_value)))) (A.keys r.0 ++ (B.keys r.1.0 ++ (C.keys r.1.1.0 ++ (D.keys r.1.1.1.0 ++ []))))) }
-    ensures refused { IfErr result (RefusesParts (both FA.definitions (both FB.definitions (both FC.definitions (both FD.definitions no_definition)))) bytes.now pos (part FA.shape (part FB.shape (part FC.shape (part FD.shape no_part)))) start (S.entry_of deserializer.old)) }
+    ensures read { IfOk result (λ r. PartsReadBack bytes.now pos (both FA.definitions (both FB.definitions (both FC.definitions (both FD.definitions no_definition)))) (part FA.shape (part FB.shape (part FC.shape (part FD.shape no_part)))) start (R.entry_of deserializer.old) (R.entry_of deserializer.new) (value (A.meaning r.0) (value (B.meaning r.1.0) (value (C.meaning r.1.1.0) (value (D.meaning r.1.1.1.0) no_value)))) (A.keys r.0 ++ (B.keys r.1.0 ++ (C.keys r.1.1.0 ++ (D.keys r.1.1.1.0 ++ []))))) }
+    ensures refused { IfErr result (RefusesParts (both FA.definitions (both FB.definitions (both FC.definitions (both FD.definitions no_definition)))) bytes.now pos (part FA.shape (part FB.shape (part FC.shape (part FD.shape no_part)))) start (R.entry_of deserializer.old)) }
 {
-    let first = read_front::<FA, A, S>(alloc, bytes, pos, start, deserializer)?;
+    let first = read_front::<FA, A, R>(alloc, bytes, pos, start, deserializer)?;
     let end = end_of::<FA>(bytes, pos, start);
-    let others = read_3::<FB, B, FC, C, FD, D, S>(alloc, bytes, pos, end, deserializer)?;
+    let others = read_3::<FB, B, FC, C, FD, D, R>(alloc, bytes, pos, end, deserializer)?;
     Ok((first, others))
 }
 
 /// Reads back 5 fields from the offset `start` on of what begins at `pos`: each at the next multiple of its alignment.
 #[inline(always)]
 pub fn read_5<
-    FA: Portable + Deserialize<A, S>,
+    FA: Portable + Deserialize<A, R>,
     A: Archive + Drop,
-    FB: Portable + Deserialize<B, S>,
+    FB: Portable + Deserialize<B, R>,
     B: Archive + Drop,
-    FC: Portable + Deserialize<C, S>,
+    FC: Portable + Deserialize<C, R>,
     C: Archive + Drop,
-    FD: Portable + Deserialize<D, S>,
+    FD: Portable + Deserialize<D, R>,
     D: Archive + Drop,
-    FE: Portable + Deserialize<E, S>,
+    FE: Portable + Deserialize<E, R>,
     E: Archive + Drop,
-    S: Entries,
+    R: Entries,
 >(
     alloc: Global,
     bytes: &[u8],
     pos: usize,
     start: usize,
-    deserializer: &mut S,
+    deserializer: &mut R,
 ) -> Result<(A, (B, (C, (D, (E, ()))))), Error>
     requires viewed { PartsViewed (both FA.definitions (both FB.definitions (both FC.definitions (both FD.definitions (both FE.definitions no_definition))))) bytes.now pos start (part FA.shape (part FB.shape (part FC.shape (part FD.shape (part FE.shape no_part))))) }
-    ensures read { IfOk result (λ r. PartsReadBack bytes.now pos (both FA.definitions (both FB.definitions (both FC.definitions (both FD.definitions (both FE.definitions no_definition))))) (part FA.shape (part FB.shape (part FC.shape (part FD.shape (part FE.shape no_part))))) start (S.entry_of deserializer.old) (S.entry_of deserializer.new) (value (A.meaning r.0) (value (B.meaning r.1.0) (value (C.meaning r.1.1.0) (value (D.meaning r.1.1.1.0) (value (E.meaning r.1.1.1.1.0) no_value))))) (A.keys r.0 ++ (B.keys r.1.0 ++ (C.keys r.1.1.0 ++ (D.keys r.1.1.1.0 ++ (E.keys r.1.1.1.1.0 ++ [])))))) }
-    ensures refused { IfErr result (RefusesParts (both FA.definitions (both FB.definitions (both FC.definitions (both FD.definitions (both FE.definitions no_definition))))) bytes.now pos (part FA.shape (part FB.shape (part FC.shape (part FD.shape (part FE.shape no_part))))) start (S.entry_of deserializer.old)) }
+    ensures read { IfOk result (λ r. PartsReadBack bytes.now pos (both FA.definitions (both FB.definitions (both FC.definitions (both FD.definitions (both FE.definitions no_definition))))) (part FA.shape (part FB.shape (part FC.shape (part FD.shape (part FE.shape no_part))))) start (R.entry_of deserializer.old) (R.entry_of deserializer.new) (value (A.meaning r.0) (value (B.meaning r.1.0) (value (C.meaning r.1.1.0) (value (D.meaning r.1.1.1.0) (value (E.meaning r.1.1.1.1.0) no_value))))) (A.keys r.0 ++ (B.keys r.1.0 ++ (C.keys r.1.1.0 ++ (D.keys r.1.1.1.0 ++ (E.keys r.1.1.1.1.0 ++ [])))))) }
+    ensures refused { IfErr result (RefusesParts (both FA.definitions (both FB.definitions (both FC.definitions (both FD.definitions (both FE.definitions no_definition))))) bytes.now pos (part FA.shape (part FB.shape (part FC.shape (part FD.shape (part FE.shape no_part))))) start (R.entry_of deserializer.old)) }
 {
-    let first = read_front::<FA, A, S>(alloc, bytes, pos, start, deserializer)?;
+    let first = read_front::<FA, A, R>(alloc, bytes, pos, start, deserializer)?;
     let end = end_of::<FA>(bytes, pos, start);
-    let others = read_4::<FB, B, FC, C, FD, D, FE, E, S>(alloc, bytes, pos, end, deserializer)?;
+    let others = read_4::<FB, B, FC, C, FD, D, FE, E, R>(alloc, bytes, pos, end, deserializer)?;
     Ok((first, others))
 }
 
 /// Reads back 6 fields from the offset `start` on of what begins at `pos`: each at the next multiple of its alignment.
 #[inline(always)]
 pub fn read_6<
-    FA: Portable + Deserialize<A, S>,
+    FA: Portable + Deserialize<A, R>,
     A: Archive + Drop,
-    FB: Portable + Deserialize<B, S>,
+    FB: Portable + Deserialize<B, R>,
     B: Archive + Drop,
-    FC: Portable + Deserialize<C, S>,
+    FC: Portable + Deserialize<C, R>,
     C: Archive + Drop,
-    FD: Portable + Deserialize<D, S>,
+    FD: Portable + Deserialize<D, R>,
     D: Archive + Drop,
-    FE: Portable + Deserialize<E, S>,
+    FE: Portable + Deserialize<E, R>,
     E: Archive + Drop,
-    FF: Portable + Deserialize<F, S>,
+    FF: Portable + Deserialize<F, R>,
     F: Archive + Drop,
-    S: Entries,
+    R: Entries,
 >(
     alloc: Global,
     bytes: &[u8],
     pos: usize,
     start: usize,
-    deserializer: &mut S,
+    deserializer: &mut R,
 ) -> Result<(A, (B, (C, (D, (E, (F, ())))))), Error>
     requires viewed { PartsViewed (both FA.definitions (both FB.definitions (both FC.definitions (both FD.definitions (both FE.definitions (both FF.definitions no_definition)))))) bytes.now pos start (part FA.shape (part FB.shape (part FC.shape (part FD.shape (part FE.shape (part FF.shape no_part)))))) }
-    ensures read { IfOk result (λ r. PartsReadBack bytes.now pos (both FA.definitions (both FB.definitions (both FC.definitions (both FD.definitions (both FE.definitions (both FF.definitions no_definition)))))) (part FA.shape (part FB.shape (part FC.shape (part FD.shape (part FE.shape (part FF.shape no_part)))))) start (S.entry_of deserializer.old) (S.entry_of deserializer.new) (value (A.meaning r.0) (value (B.meaning r.1.0) (value (C.meaning r.1.1.0) (value (D.meaning r.1.1.1.0) (value (E.meaning r.1.1.1.1.0) (value (F.meaning r.1.1.1.1.1.0) no_value)))))) (A.keys r.0 ++ (B.keys r.1.0 ++ (C.keys r.1.1.0 ++ (D.keys r.1.1.1.0 ++ (E.keys r.1.1.1.1.0 ++ (F.keys r.1.1.1.1.1.0 ++ []))))))) }
-    ensures refused { IfErr result (RefusesParts (both FA.definitions (both FB.definitions (both FC.definitions (both FD.definitions (both FE.definitions (both FF.definitions no_definition)))))) bytes.now pos (part FA.shape (part FB.shape (part FC.shape (part FD.shape (part FE.shape (part FF.shape no_part)))))) start (S.entry_of deserializer.old)) }
+    ensures read { IfOk result (λ r. PartsReadBack bytes.now pos (both FA.definitions (both FB.definitions (both FC.definitions (both FD.definitions (both FE.definitions (both FF.definitions no_definition)))))) (part FA.shape (part FB.shape (part FC.shape (part FD.shape (part FE.shape (part FF.shape no_part)))))) start (R.entry_of deserializer.old) (R.entry_of deserializer.new) (value (A.meaning r.0) (value (B.meaning r.1.0) (value (C.meaning r.1.1.0) (value (D.meaning r.1.1.1.0) (value (E.meaning r.1.1.1.1.0) (value (F.meaning r.1.1.1.1.1.0) no_value)))))) (A.keys r.0 ++ (B.keys r.1.0 ++ (C.keys r.1.1.0 ++ (D.keys r.1.1.1.0 ++ (E.keys r.1.1.1.1.0 ++ (F.keys r.1.1.1.1.1.0 ++ []))))))) }
+    ensures refused { IfErr result (RefusesParts (both FA.definitions (both FB.definitions (both FC.definitions (both FD.definitions (both FE.definitions (both FF.definitions no_definition)))))) bytes.now pos (part FA.shape (part FB.shape (part FC.shape (part FD.shape (part FE.shape (part FF.shape no_part)))))) start (R.entry_of deserializer.old)) }
 {
-    let first = read_front::<FA, A, S>(alloc, bytes, pos, start, deserializer)?;
+    let first = read_front::<FA, A, R>(alloc, bytes, pos, start, deserializer)?;
     let end = end_of::<FA>(bytes, pos, start);
-    let others = read_5::<FB, B, FC, C, FD, D, FE, E, FF, F, S>(
+    let others = read_5::<FB, B, FC, C, FD, D, FE, E, FF, F, R>(
         alloc,
         bytes,
         pos,
@@ -185,35 +185,35 @@ pub fn read_6<
 /// Reads back 7 fields from the offset `start` on of what begins at `pos`: each at the next multiple of its alignment.
 #[inline(always)]
 pub fn read_7<
-    FA: Portable + Deserialize<A, S>,
+    FA: Portable + Deserialize<A, R>,
     A: Archive + Drop,
-    FB: Portable + Deserialize<B, S>,
+    FB: Portable + Deserialize<B, R>,
     B: Archive + Drop,
-    FC: Portable + Deserialize<C, S>,
+    FC: Portable + Deserialize<C, R>,
     C: Archive + Drop,
-    FD: Portable + Deserialize<D, S>,
+    FD: Portable + Deserialize<D, R>,
     D: Archive + Drop,
-    FE: Portable + Deserialize<E, S>,
+    FE: Portable + Deserialize<E, R>,
     E: Archive + Drop,
-    FF: Portable + Deserialize<F, S>,
+    FF: Portable + Deserialize<F, R>,
     F: Archive + Drop,
-    FG: Portable + Deserialize<G, S>,
+    FG: Portable + Deserialize<G, R>,
     G: Archive + Drop,
-    S: Entries,
+    R: Entries,
 >(
     alloc: Global,
     bytes: &[u8],
     pos: usize,
     start: usize,
-    deserializer: &mut S,
+    deserializer: &mut R,
 ) -> Result<(A, (B, (C, (D, (E, (F, (G, ()))))))), Error>
     requires viewed { PartsViewed (both FA.definitions (both FB.definitions (both FC.definitions (both FD.definitions (both FE.definitions (both FF.definitions (both FG.definitions no_definition))))))) bytes.now pos start (part FA.shape (part FB.shape (part FC.shape (part FD.shape (part FE.shape (part FF.shape (part FG.shape no_part))))))) }
-    ensures read { IfOk result (λ r. PartsReadBack bytes.now pos (both FA.definitions (both FB.definitions (both FC.definitions (both FD.definitions (both FE.definitions (both FF.definitions (both FG.definitions no_definition))))))) (part FA.shape (part FB.shape (part FC.shape (part FD.shape (part FE.shape (part FF.shape (part FG.shape no_part))))))) start (S.entry_of deserializer.old) (S.entry_of deserializer.new) (value (A.meaning r.0) (value (B.meaning r.1.0) (value (C.meaning r.1.1.0) (value (D.meaning r.1.1.1.0) (value (E.meaning r.1.1.1.1.0) (value (F.meaning r.1.1.1.1.1.0) (value (G.meaning r.1.1.1.1.1.1.0) no_value))))))) (A.keys r.0 ++ (B.keys r.1.0 ++ (C.keys r.1.1.0 ++ (D.keys r.1.1.1.0 ++ (E.keys r.1.1.1.1.0 ++ (F.keys r.1.1.1.1.1.0 ++ (G.keys r.1.1.1.1.1.1.0 ++ [])))))))) }
-    ensures refused { IfErr result (RefusesParts (both FA.definitions (both FB.definitions (both FC.definitions (both FD.definitions (both FE.definitions (both FF.definitions (both FG.definitions no_definition))))))) bytes.now pos (part FA.shape (part FB.shape (part FC.shape (part FD.shape (part FE.shape (part FF.shape (part FG.shape no_part))))))) start (S.entry_of deserializer.old)) }
+    ensures read { IfOk result (λ r. PartsReadBack bytes.now pos (both FA.definitions (both FB.definitions (both FC.definitions (both FD.definitions (both FE.definitions (both FF.definitions (both FG.definitions no_definition))))))) (part FA.shape (part FB.shape (part FC.shape (part FD.shape (part FE.shape (part FF.shape (part FG.shape no_part))))))) start (R.entry_of deserializer.old) (R.entry_of deserializer.new) (value (A.meaning r.0) (value (B.meaning r.1.0) (value (C.meaning r.1.1.0) (value (D.meaning r.1.1.1.0) (value (E.meaning r.1.1.1.1.0) (value (F.meaning r.1.1.1.1.1.0) (value (G.meaning r.1.1.1.1.1.1.0) no_value))))))) (A.keys r.0 ++ (B.keys r.1.0 ++ (C.keys r.1.1.0 ++ (D.keys r.1.1.1.0 ++ (E.keys r.1.1.1.1.0 ++ (F.keys r.1.1.1.1.1.0 ++ (G.keys r.1.1.1.1.1.1.0 ++ [])))))))) }
+    ensures refused { IfErr result (RefusesParts (both FA.definitions (both FB.definitions (both FC.definitions (both FD.definitions (both FE.definitions (both FF.definitions (both FG.definitions no_definition))))))) bytes.now pos (part FA.shape (part FB.shape (part FC.shape (part FD.shape (part FE.shape (part FF.shape (part FG.shape no_part))))))) start (R.entry_of deserializer.old)) }
 {
-    let first = read_front::<FA, A, S>(alloc, bytes, pos, start, deserializer)?;
+    let first = read_front::<FA, A, R>(alloc, bytes, pos, start, deserializer)?;
     let end = end_of::<FA>(bytes, pos, start);
-    let others = read_6::<FB, B, FC, C, FD, D, FE, E, FF, F, FG, G, S>(
+    let others = read_6::<FB, B, FC, C, FD, D, FE, E, FF, F, FG, G, R>(
         alloc,
         bytes,
         pos,
@@ -226,37 +226,37 @@ pub fn read_7<
 /// Reads back 8 fields from the offset `start` on of what begins at `pos`: each at the next multiple of its alignment.
 #[inline(always)]
 pub fn read_8<
-    FA: Portable + Deserialize<A, S>,
+    FA: Portable + Deserialize<A, R>,
     A: Archive + Drop,
-    FB: Portable + Deserialize<B, S>,
+    FB: Portable + Deserialize<B, R>,
     B: Archive + Drop,
-    FC: Portable + Deserialize<C, S>,
+    FC: Portable + Deserialize<C, R>,
     C: Archive + Drop,
-    FD: Portable + Deserialize<D, S>,
+    FD: Portable + Deserialize<D, R>,
     D: Archive + Drop,
-    FE: Portable + Deserialize<E, S>,
+    FE: Portable + Deserialize<E, R>,
     E: Archive + Drop,
-    FF: Portable + Deserialize<F, S>,
+    FF: Portable + Deserialize<F, R>,
     F: Archive + Drop,
-    FG: Portable + Deserialize<G, S>,
+    FG: Portable + Deserialize<G, R>,
     G: Archive + Drop,
-    FH: Portable + Deserialize<H, S>,
+    FH: Portable + Deserialize<H, R>,
     H: Archive + Drop,
-    S: Entries,
+    R: Entries,
 >(
     alloc: Global,
     bytes: &[u8],
     pos: usize,
     start: usize,
-    deserializer: &mut S,
+    deserializer: &mut R,
 ) -> Result<(A, (B, (C, (D, (E, (F, (G, (H, ())))))))), Error>
     requires viewed { PartsViewed (both FA.definitions (both FB.definitions (both FC.definitions (both FD.definitions (both FE.definitions (both FF.definitions (both FG.definitions (both FH.definitions no_definition)))))))) bytes.now pos start (part FA.shape (part FB.shape (part FC.shape (part FD.shape (part FE.shape (part FF.shape (part FG.shape (part FH.shape no_part)))))))) }
-    ensures read { IfOk result (λ r. PartsReadBack bytes.now pos (both FA.definitions (both FB.definitions (both FC.definitions (both FD.definitions (both FE.definitions (both FF.definitions (both FG.definitions (both FH.definitions no_definition)))))))) (part FA.shape (part FB.shape (part FC.shape (part FD.shape (part FE.shape (part FF.shape (part FG.shape (part FH.shape no_part)))))))) start (S.entry_of deserializer.old) (S.entry_of deserializer.new) (value (A.meaning r.0) (value (B.meaning r.1.0) (value (C.meaning r.1.1.0) (value (D.meaning r.1.1.1.0) (value (E.meaning r.1.1.1.1.0) (value (F.meaning r.1.1.1.1.1.0) (value (G.meaning r.1.1.1.1.1.1.0) (value (H.meaning r.1.1.1.1.1.1.1.0) no_value)))))))) (A.keys r.0 ++ (B.keys r.1.0 ++ (C.keys r.1.1.0 ++ (D.keys r.1.1.1.0 ++ (E.keys r.1.1.1.1.0 ++ (F.keys r.1.1.1.1.1.0 ++ (G.keys r.1.1.1.1.1.1.0 ++ (H.keys r.1.1.1.1.1.1.1.0 ++ []))))))))) }
-    ensures refused { IfErr result (RefusesParts (both FA.definitions (both FB.definitions (both FC.definitions (both FD.definitions (both FE.definitions (both FF.definitions (both FG.definitions (both FH.definitions no_definition)))))))) bytes.now pos (part FA.shape (part FB.shape (part FC.shape (part FD.shape (part FE.shape (part FF.shape (part FG.shape (part FH.shape no_part)))))))) start (S.entry_of deserializer.old)) }
+    ensures read { IfOk result (λ r. PartsReadBack bytes.now pos (both FA.definitions (both FB.definitions (both FC.definitions (both FD.definitions (both FE.definitions (both FF.definitions (both FG.definitions (both FH.definitions no_definition)))))))) (part FA.shape (part FB.shape (part FC.shape (part FD.shape (part FE.shape (part FF.shape (part FG.shape (part FH.shape no_part)))))))) start (R.entry_of deserializer.old) (R.entry_of deserializer.new) (value (A.meaning r.0) (value (B.meaning r.1.0) (value (C.meaning r.1.1.0) (value (D.meaning r.1.1.1.0) (value (E.meaning r.1.1.1.1.0) (value (F.meaning r.1.1.1.1.1.0) (value (G.meaning r.1.1.1.1.1.1.0) (value (H.meaning r.1.1.1.1.1.1.1.0) no_value)))))))) (A.keys r.0 ++ (B.keys r.1.0 ++ (C.keys r.1.1.0 ++ (D.keys r.1.1.1.0 ++ (E.keys r.1.1.1.1.0 ++ (F.keys r.1.1.1.1.1.0 ++ (G.keys r.1.1.1.1.1.1.0 ++ (H.keys r.1.1.1.1.1.1.1.0 ++ []))))))))) }
+    ensures refused { IfErr result (RefusesParts (both FA.definitions (both FB.definitions (both FC.definitions (both FD.definitions (both FE.definitions (both FF.definitions (both FG.definitions (both FH.definitions no_definition)))))))) bytes.now pos (part FA.shape (part FB.shape (part FC.shape (part FD.shape (part FE.shape (part FF.shape (part FG.shape (part FH.shape no_part)))))))) start (R.entry_of deserializer.old)) }
 {
-    let first = read_front::<FA, A, S>(alloc, bytes, pos, start, deserializer)?;
+    let first = read_front::<FA, A, R>(alloc, bytes, pos, start, deserializer)?;
     let end = end_of::<FA>(bytes, pos, start);
-    let others = read_7::<FB, B, FC, C, FD, D, FE, E, FF, F, FG, G, FH, H, S>(
+    let others = read_7::<FB, B, FC, C, FD, D, FE, E, FF, F, FG, G, FH, H, R>(
         alloc,
         bytes,
         pos,

@@ -17,17 +17,17 @@ use std::alloc::Global;
 
 // Reads back the first of several fields.
 #[inline(always)]
-pub(super) fn read_front<F: Portable + Deserialize<T, S>, T: Archive, S: Entries>(
+pub(super) fn read_front<F: Portable + Deserialize<T, R>, T: Archive, R: Entries>(
     alloc: Global,
     bytes: &[u8],
     pos: usize,
     start: usize,
-    deserializer: &mut S,
+    deserializer: &mut R,
 ) -> Result<T, Error>
     requires viewed { Viewed F.definitions bytes.now (pos + up start F.layout.align) (one F.shape) 0 }
     requires within { pos + up start F.layout.align + F.layout.size ≤ length bytes.now }
-    ensures read { IfOk result (λ t. ReadsBack F.definitions bytes.now (pos + up start F.layout.align) (one F.shape) 0 (S.entry_of deserializer.old) (S.entry_of deserializer.new) (T.meaning t) (T.keys t)) }
-    ensures refused { IfErr result (RefusesReading F.definitions bytes.now (pos + up start F.layout.align) (one F.shape) 0 (S.entry_of deserializer.old)) }
+    ensures read { IfOk result (λ t. ReadsBack F.definitions bytes.now (pos + up start F.layout.align) (one F.shape) 0 (R.entry_of deserializer.old) (R.entry_of deserializer.new) (T.meaning t) (T.keys t)) }
+    ensures refused { IfErr result (RefusesReading F.definitions bytes.now (pos + up start F.layout.align) (one F.shape) 0 (R.entry_of deserializer.old)) }
 {
     prove!(bytes.len() <= usize::MAX);
     let first = begin_of::<F>(start);
@@ -51,15 +51,15 @@ pub(super) fn end_of<F: Portable>(bytes: &[u8], pos: usize, start: usize) -> usi
 
 /// Reads back no field.
 #[inline(always)]
-pub fn read_0<S: Entries>(
+pub fn read_0<R: Entries>(
     _alloc: Global,
     _bytes: &[u8],
     _pos: usize,
     _start: usize,
-    _deserializer: &mut S,
+    _deserializer: &mut R,
 ) -> Result<(), Error>
-    ensures read { IfOk result (λ r. PartsReadBack _bytes.now _pos no_definition no_part _start (S.entry_of _deserializer.old) (S.entry_of _deserializer.new) no_value []) }
-    ensures refused { IfErr result (RefusesParts no_definition _bytes.now _pos no_part _start (S.entry_of _deserializer.old)) }
+    ensures read { IfOk result (λ r. PartsReadBack _bytes.now _pos no_definition no_part _start (R.entry_of _deserializer.old) (R.entry_of _deserializer.new) no_value []) }
+    ensures refused { IfErr result (RefusesParts no_definition _bytes.now _pos no_part _start (R.entry_of _deserializer.old)) }
 {
     Ok(())
 }

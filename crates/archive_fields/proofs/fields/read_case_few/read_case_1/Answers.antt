@@ -1,6 +1,6 @@
 use Rattle.std.proofs.Common.{◌≡◌, ◌++◌, []}
 use Rattle.archive_check.specs.Value.{value, no_value}
-use Rattle.archive_types.proofs.Causes.{err_from}
+use Rattle.archive_types.proofs.Planning.Causes.{err_from}
 use Rattle.archive_fields.proofs.ReadChoices.{variant_viewed, variant_read, variant_refuses}
 use Rattle.archive_fields.proofs.Ties.{variant_of, plain_case, lone_at}
 use Rattle.archive_fields.proofs.fields.read_case_few.read_case_1.Goals as goal

@@ -1,6 +1,6 @@
 use Rattle.archive_types.specs.PartsReading.{part_read_back}
-use Rattle.archive_types.proofs.Causes.{err_by}
-use Rattle.archive_types.proofs.ReadRecords.{first_viewed, rest_viewed, first_within, first_refuses, later_refuses}
+use Rattle.archive_types.proofs.Planning.Causes.{err_by}
+use Rattle.archive_types.proofs.Reading.ReadRecords.{first_viewed, rest_viewed, first_within, first_refuses, later_refuses}
 use Rattle.archive_fields.proofs.fields.read_few.read_8.Goals as goal
 
 pub read_front-requires-clause-viewed : goal.read_front-requires-clause-viewed

@@ -1,7 +1,7 @@
 use Rattle.std.proofs.Common.{◌≡◌, ◌++◌, []}
 use Rattle.archive_check.specs.Value.{value, no_value}
-use Rattle.archive_types.proofs.Causes.{err_from}
-use Rattle.archive_types.proofs.ReadRecords.{parts_viewed, record_read, record_refuses}
+use Rattle.archive_types.proofs.Planning.Causes.{err_from}
+use Rattle.archive_types.proofs.Reading.ReadRecords.{parts_viewed, record_read, record_refuses}
 use Rattle.archive_fields.proofs.Ties.{plain_record_of}
 use Rattle.archive_fields.proofs.fields.read_record_few.read_record_5.Goals as goal
 
