@@ -141,6 +141,14 @@ class Formats:
         """The type as the declaration has it."""
         return type.text or self.spelled(type)
 
+    def read_as(self, type):
+        """The type that a field is read back as: no call returns an array of the machine."""
+        return self.spelled(replace(type, name="OwnedArray", text="")) if self.kind(type) == "array" else self.rust(type)
+
+    def read_value(self, type, name):
+        """The field's value, of what it was read back as."""
+        return f"{name}.into_array()" if self.kind(type) == "array" else name
+
     def spelled(self, type):
         """The type by its names, of which those of other modules are brought in."""
         if type.name == "()":

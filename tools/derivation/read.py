@@ -1,6 +1,6 @@
 """Reads declarations: each type of a field is looked up, and what can't be archived is refused, with the file, the line and what to write instead."""
 
-from typing import Dict, List, Optional, Sequence
+from typing import Dict, List, Optional, Sequence, Set
 
 from .circles import check_circles
 from .formats import snake, substituted
@@ -335,6 +335,7 @@ def module(reader: Reader, source: Source) -> Module:
         raise Refused(source.path, 1, "no struct and no enum is declared here; declare one above the marker")
     check_circles(out.declarations)
     check_nests(out)
+    check_arrays(out)
     check_own_names(out)
     return out
 
@@ -348,6 +349,30 @@ def check_nests(module: Module):
                 what = "a tuple" if inner.name == "tuple" else f"`{inner.text or inner.name}`"
                 where = "a struct with type parameters" if it.parameters else "a tuple" if inner.name == "tuple" else "a tuple or a struct with type parameters"
                 raise Refused(module.path, field.type.line, f"{what} in {where} is too deep for the toolchain; write a struct without parameters in place of the inner one")
+
+
+def check_arrays(module: Module):
+    """Refuses arrays that no call returns: those in other types, and of a parameter."""
+    for it in module.declarations:
+        for field in it.all_fields():
+            type = field.type
+            is_array = type.name == "array" and type.own is None
+            inner = next((found for x in (type.args if is_array else [type]) if (found := array_in(x, {"array"}))), None)
+            if inner:
+                it_is = f"OwnedArray<{inner.args[0].text}, {inner.length}>"
+                raise Refused(module.path, type.line, f"an array in another type is read back as an `OwnedArray`; write `{it_is}`, of `archive_core::core_impls`")
+            held = array_in(type, {"array", "OwnedArray"})
+            if held and it.parameters:
+                raise Refused(module.path, type.line, f"an array in a struct with type parameters isn't proved; write a `Vec` in place of `{held.text}`")
+
+
+def array_in(it: Type, names: Set[str]) -> Optional[Type]:
+    """The first array in a type, other than in a type that the user declared."""
+    if it.parameter or it.own is None and it.name == "PhantomData":
+        return None
+    if it.own is None and it.name in names:
+        return it
+    return next((found for x in it.args if (found := array_in(x, names))), None)
 
 
 def nested(it: Type, inside: bool) -> Optional[Type]:

@@ -38,6 +38,7 @@ class Record(Source):
         self.count = len(self.types)
         self.formats_of = [formats.archived(type) for type in self.types]
         self.rust = [formats.rust(type) for type in self.types]
+        self.read = [formats.read_as(type) for type in self.types]
         self.size, self.align, self.offsets, self.end = layout_of([formats.layout(type) for type in self.types])
         self.span = self.end
         self.parts = chain("part", [formats.shape(type) for type in self.types], "no_part")
@@ -47,11 +48,12 @@ class Record(Source):
         self.values = [f"v.{field.name}" for field in self.fields]
 
     def built(self):
+        values = [self.formats.read_value(type, name) for type, name in zip(self.types, self.names)]
         if self.declaration.form == "unit":
             return self.name
         if self.declaration.form == "tuple":
-            return Group(f"{self.name}(", self.names, ")")
-        return literal(self.name, [f"{field.name}: {name}" for field, name in zip(self.fields, self.names)])
+            return Group(f"{self.name}(", values, ")")
+        return literal(self.name, [f"{field.name}: {value}" for field, value in zip(self.fields, values)])
 
 
 def text(formats, declaration):
@@ -77,7 +79,7 @@ def text(formats, declaration):
 def struct(record):
     archived = record.archived
     parts = statement(0, f"type {record.name}Parts = ", parts_of(record.formats, record.formats_of), ";")
-    owned = "\n" + statement(0, f"type {record.name}Owned = ", pair(record.rust), ";") if is_long(record) else ""
+    owned = "\n" + statement(0, f"type {record.name}Owned = ", pair(record.read), ";") if is_long(record) else ""
     return f"""/// An archived `{record.name}`: {record.size} bytes at a multiple of {record.align}.
 {record.visibility}struct {archived};
 
@@ -183,7 +185,7 @@ def is_long(record):
 
 
 def read(record):
-    fields = [word for pair_of in zip(record.formats_of, record.rust) for word in pair_of]
+    fields = [word for pair_of in zip(record.formats_of, record.read) for word in pair_of]
     call = Generic(f"read_record_{record.count}", ["Self"] + fields + ["D"], ["alloc", "part", "deserializer"])
     if is_long(record):
         ok = f"            Ok(values) => Ok({snake(record.name)}_of(values)),\n"
@@ -196,7 +198,7 @@ def read(record):
 
 
 def made_of(record):
-    sources = [record.formats.source(type) for type in record.types]
+    sources = [f"⟦<{read} as Archive>⟧" for read in record.read]
     values = [f"values{'.1' * i}.0" for i in range(record.count)]
     meanings = chain("value", [f"({q}.meaning {v})" for q, v in zip(sources, values)], "no_value")
     keys = infix("++", [f"{q}.keys {v}" for q, v in zip(sources, values)], "[]")

@@ -37,6 +37,7 @@ class Case:
         self.count = len(self.types)
         self.archived = [formats.archived(type) for type in self.types]
         self.rust = [formats.rust(type) for type in self.types]
+        self.read = [formats.read_as(type) for type in self.types]
         self.sources = [formats.source(type) for type in self.types]
         sizes = layout_of([formats.layout(type) for type in self.types], 1)
         self.align, self.offsets, self.end = sizes[1:]
@@ -46,12 +47,17 @@ class Case:
         self.names = self.binders
         self.word = f"{choice.name}{self.name}"
 
-    def pattern(self, of=None):
-        """The variant with a name for each field."""
-        path = f"{of or self.choice.name}::{self.name}"
+    def pattern(self, values=()):
+        """The variant with a name for each field, or with these values."""
+        path = f"{self.choice.name}::{self.name}"
+        values = values or self.names
         if self.form == "struct":
-            return literal(path, [f"{field.name}: {name}" for field, name in zip(self.fields, self.names)])
-        return Group(f"{path}(", self.names, ")") if self.form == "tuple" else path
+            return literal(path, [f"{field.name}: {value}" for field, value in zip(self.fields, values)])
+        return Group(f"{path}(", values, ")") if self.form == "tuple" else path
+
+    def built(self):
+        """The variant of what was read back."""
+        return self.pattern([self.choice.formats.read_value(type, name) for type, name in zip(self.types, self.names)])
 
     def bound(self, end=""):
         return " ".join([self.word + end] + self.binders)
@@ -276,10 +282,10 @@ def read(choice):
     f.use("archive_core::fields", "known_tag")
     arms = []
     for case in choice.cases:
-        fields = [word for pair_of in zip(case.archived, case.rust) for word in pair_of]
+        fields = [word for pair_of in zip(case.archived, case.read) for word in pair_of]
         call = Generic(f"read_case_{case.count}", ["Self"] + fields + ["D"], [str(case.tag), "alloc", "part", "deserializer"])
         tag = "_" if case is choice.cases[-1] else str(case.tag)
-        arms.append(match_arm(tag, call, flat(pair(case.names)), case.pattern()))
+        arms.append(match_arm(tag, call, flat(pair(case.names)), case.built()))
     return deserialize(choice, f"        match known_tag::<Self>(part) {{\n{''.join(arms)}        }}\n")
 
 

@@ -42,6 +42,8 @@ FIELDS = [
     ("archive_core::primitive::NonZero<bool>", "`NonZero` is of a number of one size; write `NonZero<u32>`"),
     ("archive_core::string::ArchivedString", "`archive_core::string::ArchivedString` has no format here"),
     ("Vec<(u8, Option<(u8, u8)>)>", "a tuple in a tuple is too deep for the toolchain; write a struct without parameters in place of the inner one"),
+    ("Option<[u8; 4]>", "an array in another type is read back as an `OwnedArray`; write `OwnedArray<u8, 4>`, of `archive_core::core_impls`"),
+    ("[[u8; 4]; 2]", "an array in another type is read back as an `OwnedArray`; write `OwnedArray<u8, 4>`"),
     (f"({', '.join(['u8'] * 14)})", "a tuple of 14 has no format, only up to 13; write a struct"),
     (f"{'Option<' * 200}u8{'>' * 200}", "this type is nested more than 100 deep; give a part of it a name"),
 ]
@@ -53,6 +55,9 @@ DECLARATIONS = [
     (f"enum Many {{\n{LIST.join(f'V{i}' for i in range(257))} }}", "258: `Many` has 257 variants, and a tag of one byte counts 256; put some into an enum of their own"),
     ("struct A<'a> { x: &'a u8 }", "1: a lifetime has no place in an archived type; remove 'a and own what it borrows"),
     ("struct A<const N: usize> { x: [u8; N] }", "1: a const parameter has no archived type; in place of `N` write one type for each number"),
+    ("struct A<T> { x: u8,\ny: [T; 2] }", "2: an array in a struct with type parameters isn't proved; write a `Vec` in place of `[T; 2]`"),
+    ("struct A<T> { x: T,\ny: (u8, T) }", "2: a tuple in a struct with type parameters is too deep for the toolchain; write a struct without parameters"),
+    ("struct W<T>(T);\nstruct A { x: Vec<W<Option<W<u8>>>> }", "2: `W<u8>` in a tuple or a struct with type parameters is too deep for the toolchain; write a struct without"),
     ("struct A<T = u8>(T);", "1: `T` has a default; write the type at each use instead"),
     (f"struct A {{\n{LIST.join(f'f{i}: u8' for i in range(MOST + 1))} }}", f"{MOST + 2}: `A` has {MOST + 1} fields, and {MOST} are the most; put some into a struct of their own"),
     ("struct A { x: u8, X: u8 }", "1: the fields `X` and `x` differ only in case; give one of them another name"),
