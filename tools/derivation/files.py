@@ -6,6 +6,7 @@ from typing import Dict, List, Optional, Tuple
 
 from . import renames, write
 from .clashes import check_clashes
+from .clauses import clauses
 from .model import MARK, Module
 from .names import text_of
 from .tokens import END, tokens
@@ -19,7 +20,7 @@ def wanted(module: Module) -> Dict[str, str]:
     """The files as they should be, by their paths. One that is no longer wanted is to be empty."""
     written = renames.written(module)
     check_clashes(module, written)
-    out = {module.path: above(module) + written.replace("\n", module.newline)}
+    out = {module.path: above(module) + clauses(written).replace("\n", module.newline)}
     crate = crate_folder(module)
     out.update({path: "" for path in proofs_there(module, crate)})
     out.update({os.path.normpath(os.path.join(crate, path)): text for path, text in write.proofs(module).items()})

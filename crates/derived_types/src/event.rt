@@ -83,7 +83,12 @@ type EventVariants = (
 impl ArchivePointee for ArchivedEvent {
     type ArchivedMetadata = ();
 
-    ghost pointee = { one (choice (codes "ArchivedEvent") (variant no_part (variant (part ⟦<ArchivedChar as Portable>⟧.shape no_part) (variant (part ⟦<ArchivedString as Portable>⟧.shape no_part) (variant (part ⟦<ArchivedI32 as Portable>⟧.shape (part ⟦<ArchivedI32 as Portable>⟧.shape no_part)) (variant (part ⟦<ArchivedVec<ArchivedU32> as Portable>⟧.shape no_part) no_variant)))))) };
+    ghost pointee = { one (choice (codes "ArchivedEvent")
+        (variant no_part (variant (part ⟦<ArchivedChar as Portable>⟧.shape no_part)
+        (variant (part ⟦<ArchivedString as Portable>⟧.shape no_part)
+        (variant (part ⟦<ArchivedI32 as Portable>⟧.shape
+        (part ⟦<ArchivedI32 as Portable>⟧.shape no_part))
+        (variant (part ⟦<ArchivedVec<ArchivedU32> as Portable>⟧.shape no_part) no_variant)))))) };
 
     ghost definitions = { no_definition };
 
@@ -95,7 +100,12 @@ impl ArchivePointee for ArchivedEvent {
 }
 
 impl Portable for ArchivedEvent {
-    ghost shape = { choice (codes "ArchivedEvent") (variant no_part (variant (part ⟦<ArchivedChar as Portable>⟧.shape no_part) (variant (part ⟦<ArchivedString as Portable>⟧.shape no_part) (variant (part ⟦<ArchivedI32 as Portable>⟧.shape (part ⟦<ArchivedI32 as Portable>⟧.shape no_part)) (variant (part ⟦<ArchivedVec<ArchivedU32> as Portable>⟧.shape no_part) no_variant))))) };
+    ghost shape = { choice (codes "ArchivedEvent") (variant no_part
+        (variant (part ⟦<ArchivedChar as Portable>⟧.shape no_part)
+        (variant (part ⟦<ArchivedString as Portable>⟧.shape no_part)
+        (variant (part ⟦<ArchivedI32 as Portable>⟧.shape
+        (part ⟦<ArchivedI32 as Portable>⟧.shape no_part))
+        (variant (part ⟦<ArchivedVec<ArchivedU32> as Portable>⟧.shape no_part) no_variant))))) };
 
     ghost layout = { record { size = 12; align = 4 } };
 
@@ -107,7 +117,12 @@ impl Portable for ArchivedEvent {
 
     ghost has_layout = { record { solved = λ s k. refl } };
 
-    ghost no_others = { no_definition_reached (choice (codes "ArchivedEvent") (variant no_part (variant (part ⟦<ArchivedChar as Portable>⟧.shape no_part) (variant (part ⟦<ArchivedString as Portable>⟧.shape no_part) (variant (part ⟦<ArchivedI32 as Portable>⟧.shape (part ⟦<ArchivedI32 as Portable>⟧.shape no_part)) (variant (part ⟦<ArchivedVec<ArchivedU32> as Portable>⟧.shape no_part) no_variant)))))) };
+    ghost no_others = { no_definition_reached (choice (codes "ArchivedEvent")
+        (variant no_part (variant (part ⟦<ArchivedChar as Portable>⟧.shape no_part)
+        (variant (part ⟦<ArchivedString as Portable>⟧.shape no_part)
+        (variant (part ⟦<ArchivedI32 as Portable>⟧.shape
+        (part ⟦<ArchivedI32 as Portable>⟧.shape no_part))
+        (variant (part ⟦<ArchivedVec<ArchivedU32> as Portable>⟧.shape no_part) no_variant)))))) };
 
     ghost checks = { λ _. plain_own_check _ _ _ _ _ refl refl refl refl };
 
@@ -129,9 +144,17 @@ impl Portable for ArchivedEvent {
 }
 
 impl SelfCheck for ArchivedEvent {
-    ghost shape = { choice (codes "ArchivedEvent") (variant no_part (variant (part ⟦<ArchivedChar as Portable>⟧.shape no_part) (variant (part ⟦<ArchivedString as Portable>⟧.shape no_part) (variant (part ⟦<ArchivedI32 as Portable>⟧.shape (part ⟦<ArchivedI32 as Portable>⟧.shape no_part)) (variant (part ⟦<ArchivedVec<ArchivedU32> as Portable>⟧.shape no_part) no_variant))))) };
+    ghost shape = { choice (codes "ArchivedEvent") (variant no_part
+        (variant (part ⟦<ArchivedChar as Portable>⟧.shape no_part)
+        (variant (part ⟦<ArchivedString as Portable>⟧.shape no_part)
+        (variant (part ⟦<ArchivedI32 as Portable>⟧.shape
+        (part ⟦<ArchivedI32 as Portable>⟧.shape no_part))
+        (variant (part ⟦<ArchivedVec<ArchivedU32> as Portable>⟧.shape no_part) no_variant))))) };
 
-    ghost definitions = { (both no_definition (both (both no_definition no_definition) (both (both no_definition no_definition) (both (both no_definition (both no_definition no_definition)) (both (both no_definition no_definition) no_definition))))) };
+    ghost definitions = { (both no_definition (both (both no_definition no_definition)
+        (both (both no_definition no_definition) (both (both no_definition
+        (both no_definition no_definition)) (both (both no_definition no_definition)
+        no_definition))))) };
 
     ghost span = { 12 };
 
@@ -162,7 +185,16 @@ impl Choice for ArchivedEvent {
 
     ghost name = { codes "ArchivedEvent" };
 
-    ghost has_variants = { plain_choice (codes "ArchivedEvent") (variant no_part (variant (part ⟦<ArchivedChar as Portable>⟧.shape no_part) (variant (part ⟦<ArchivedString as Portable>⟧.shape no_part) (variant (part ⟦<ArchivedI32 as Portable>⟧.shape (part ⟦<ArchivedI32 as Portable>⟧.shape no_part)) (variant (part ⟦<ArchivedVec<ArchivedU32> as Portable>⟧.shape no_part) no_variant))))) (both no_definition (both (both no_definition no_definition) (both (both no_definition no_definition) (both (both no_definition (both no_definition no_definition)) (both (both no_definition no_definition) no_definition))))) refl };
+    ghost has_variants = { plain_choice (codes "ArchivedEvent")
+        (variant no_part (variant (part ⟦<ArchivedChar as Portable>⟧.shape no_part)
+        (variant (part ⟦<ArchivedString as Portable>⟧.shape no_part)
+        (variant (part ⟦<ArchivedI32 as Portable>⟧.shape
+        (part ⟦<ArchivedI32 as Portable>⟧.shape no_part))
+        (variant (part ⟦<ArchivedVec<ArchivedU32> as Portable>⟧.shape no_part) no_variant)))))
+        (both no_definition (both (both no_definition no_definition)
+        (both (both no_definition no_definition) (both (both no_definition
+        (both no_definition no_definition)) (both (both no_definition no_definition)
+        no_definition))))) refl };
 
     ghost holds = { lit≤ tt };
 }
@@ -190,17 +222,104 @@ impl Archive for Event {
 
     type Resolver = EventResolver;
 
-    ghost meaning = { elim [ EventQuit ↦ case 0 no_value | EventKey a0 ↦ case 1 (value (⟦<char as Archive>⟧.meaning a0) no_value) | EventText a0 ↦ case 2 (value (⟦<String as Archive>⟧.meaning a0) no_value) | EventMove a0 a1 ↦ case 3 (value (⟦<i32 as Archive>⟧.meaning a0) (value (⟦<i32 as Archive>⟧.meaning a1) no_value)) | EventBatch a0 ↦ case 4 (value (⟦<Vec<u32> as Archive>⟧.meaning a0) no_value) ] };
+    ghost meaning = { elim [
+      | EventQuit ↦ case 0 no_value
+      | EventKey a0 ↦ case 1 (value (⟦<char as Archive>⟧.meaning a0) no_value)
+      | EventText a0 ↦ case 2 (value (⟦<String as Archive>⟧.meaning a0) no_value)
+      | EventMove a0 a1 ↦ case 3 (value (⟦<i32 as Archive>⟧.meaning a0)
+          (value (⟦<i32 as Archive>⟧.meaning a1) no_value))
+      | EventBatch a0 ↦ case 4 (value (⟦<Vec<u32> as Archive>⟧.meaning a0) no_value)
+    ] };
 
-    ghost flat = { λ v r. elim v [ EventQuit ↦ case 0 no_value | EventKey a0 ↦ elim r [ EventKeyKept s ↦ case 1 (value (⟦<char as Archive>⟧.flat a0 s.0) no_value) | _ ↦ case 1 no_value ] | EventText a0 ↦ elim r [ EventTextKept s ↦ case 2 (value (⟦<String as Archive>⟧.flat a0 s.0) no_value) | _ ↦ case 2 no_value ] | EventMove a0 a1 ↦ elim r [ EventMoveKept s ↦ case 3 (value (⟦<i32 as Archive>⟧.flat a0 s.0) (value (⟦<i32 as Archive>⟧.flat a1 s.1.0) no_value)) | _ ↦ case 3 no_value ] | EventBatch a0 ↦ elim r [ EventBatchKept s ↦ case 4 (value (⟦<Vec<u32> as Archive>⟧.flat a0 s.0) no_value) | _ ↦ case 4 no_value ] ] };
+    ghost flat = { λ v r. elim v [
+      | EventQuit ↦ case 0 no_value
+      | EventKey a0 ↦ elim r [
+        | EventKeyKept s ↦ case 1 (value (⟦<char as Archive>⟧.flat a0 s.0) no_value)
+        | _ ↦ case 1 no_value
+      ]
+      | EventText a0 ↦ elim r [
+        | EventTextKept s ↦ case 2 (value (⟦<String as Archive>⟧.flat a0 s.0) no_value)
+        | _ ↦ case 2 no_value
+      ]
+      | EventMove a0 a1 ↦ elim r [
+        | EventMoveKept s ↦ case 3 (value (⟦<i32 as Archive>⟧.flat a0 s.0)
+            (value (⟦<i32 as Archive>⟧.flat a1 s.1.0) no_value))
+        | _ ↦ case 3 no_value
+      ]
+      | EventBatch a0 ↦ elim r [
+        | EventBatchKept s ↦ case 4 (value (⟦<Vec<u32> as Archive>⟧.flat a0 s.0) no_value)
+        | _ ↦ case 4 no_value
+      ]
+    ] };
 
-    ghost keys = { elim [ EventQuit ↦ [] | EventKey a0 ↦ ⟦<char as Archive>⟧.keys a0 ++ [] | EventText a0 ↦ ⟦<String as Archive>⟧.keys a0 ++ [] | EventMove a0 a1 ↦ ⟦<i32 as Archive>⟧.keys a0 ++ (⟦<i32 as Archive>⟧.keys a1 ++ []) | EventBatch a0 ↦ ⟦<Vec<u32> as Archive>⟧.keys a0 ++ [] ] };
+    ghost keys = { elim [
+      | EventQuit ↦ []
+      | EventKey a0 ↦ ⟦<char as Archive>⟧.keys a0 ++ []
+      | EventText a0 ↦ ⟦<String as Archive>⟧.keys a0 ++ []
+      | EventMove a0 a1 ↦ ⟦<i32 as Archive>⟧.keys a0 ++ (⟦<i32 as Archive>⟧.keys a1 ++ [])
+      | EventBatch a0 ↦ ⟦<Vec<u32> as Archive>⟧.keys a0 ++ []
+    ] };
 
-    ghost belongs = { λ v r. elim v [ EventQuit ↦ elim r [ EventQuitKept ↦ Unit {0} | _ ↦ ⊥ ] | EventKey a0 ↦ elim r [ EventKeyKept s ↦ ⟦<char as Archive>⟧.belongs a0 s.0 × Unit {0} | _ ↦ ⊥ ] | EventText a0 ↦ elim r [ EventTextKept s ↦ ⟦<String as Archive>⟧.belongs a0 s.0 × Unit {0} | _ ↦ ⊥ ] | EventMove a0 a1 ↦ elim r [ EventMoveKept s ↦ ⟦<i32 as Archive>⟧.belongs a0 s.0 × (⟦<i32 as Archive>⟧.belongs a1 s.1.0 × Unit {0}) | _ ↦ ⊥ ] | EventBatch a0 ↦ elim r [ EventBatchKept s ↦ ⟦<Vec<u32> as Archive>⟧.belongs a0 s.0 × Unit {0} | _ ↦ ⊥ ] ] };
+    ghost belongs = { λ v r. elim v [
+      | EventQuit ↦ elim r [ EventQuitKept ↦ Unit {0} | _ ↦ ⊥ ]
+      | EventKey a0 ↦ elim r [
+        | EventKeyKept s ↦ ⟦<char as Archive>⟧.belongs a0 s.0 × Unit {0}
+        | _ ↦ ⊥
+      ]
+      | EventText a0 ↦ elim r [
+        | EventTextKept s ↦ ⟦<String as Archive>⟧.belongs a0 s.0 × Unit {0}
+        | _ ↦ ⊥
+      ]
+      | EventMove a0 a1 ↦ elim r [
+        | EventMoveKept s ↦ ⟦<i32 as Archive>⟧.belongs a0 s.0
+            × (⟦<i32 as Archive>⟧.belongs a1 s.1.0 × Unit {0})
+        | _ ↦ ⊥
+      ]
+      | EventBatch a0 ↦ elim r [
+        | EventBatchKept s ↦ ⟦<Vec<u32> as Archive>⟧.belongs a0 s.0 × Unit {0}
+        | _ ↦ ⊥
+      ]
+    ] };
 
-    ghost keyed = { elim [ EventQuit ↦ case_keyed _ 0 _ nothing_keyed | EventKey a0 ↦ case_keyed _ 1 _ (part_keyed (number_keyed _) nothing_keyed) | EventText a0 ↦ case_keyed _ 2 _ (part_keyed (text_keyed (string_bytes a0)) nothing_keyed) | EventMove a0 a1 ↦ case_keyed _ 3 _ (part_keyed (number_keyed _) (part_keyed (number_keyed _) nothing_keyed)) | EventBatch a0 ↦ case_keyed _ 4 _ (part_keyed (each_keyed ⟦<u32 as Archive>⟧.keys ⟦<u32 as Archive>⟧.meaning (λ x. number_keyed _) a0.items) nothing_keyed) ] };
+    ghost keyed = { elim [
+      | EventQuit ↦ case_keyed _ 0 _ nothing_keyed
+      | EventKey a0 ↦ case_keyed _ 1 _ (part_keyed (number_keyed _) nothing_keyed)
+      | EventText a0 ↦ case_keyed _ 2 _ (part_keyed (text_keyed (string_bytes a0)) nothing_keyed)
+      | EventMove a0 a1 ↦ case_keyed _ 3 _ (part_keyed (number_keyed _)
+          (part_keyed (number_keyed _) nothing_keyed))
+      | EventBatch a0 ↦ case_keyed _ 4 _ (part_keyed (each_keyed ⟦<u32 as Archive>⟧.keys
+          ⟦<u32 as Archive>⟧.meaning (λ x. number_keyed _) a0.items) nothing_keyed)
+    ] };
 
-    ghost planned = { elim [ EventQuit ↦ plain_variant_planned _ _ 0 no_part refl no_definition _ _ no_part_planned refl | EventKey a0 ↦ plain_variant_planned _ _ 1 (part ⟦<ArchivedChar as Portable>⟧.shape no_part) refl (both no_definition no_definition) _ _ (part_planned no_definition ⟦<ArchivedChar as Portable>⟧.shape (⟦<char as Archive>⟧.keys a0) (⟦<char as Archive>⟧.meaning a0) (leaf_planned no_definition _ _ [] _ refl) no_part_planned) refl | EventText a0 ↦ plain_variant_planned _ _ 2 (part ⟦<ArchivedString as Portable>⟧.shape no_part) refl (both no_definition no_definition) _ _ (part_planned no_definition ⟦<ArchivedString as Portable>⟧.shape (⟦<String as Archive>⟧.keys a0) (⟦<String as Archive>⟧.meaning a0) (string_planned no_definition [] (string_bytes a0)) no_part_planned) refl | EventMove a0 a1 ↦ plain_variant_planned _ _ 3 (part ⟦<ArchivedI32 as Portable>⟧.shape (part ⟦<ArchivedI32 as Portable>⟧.shape no_part)) refl (both no_definition (both no_definition no_definition)) _ _ (part_planned no_definition ⟦<ArchivedI32 as Portable>⟧.shape (⟦<i32 as Archive>⟧.keys a0) (⟦<i32 as Archive>⟧.meaning a0) (leaf_planned no_definition _ _ [] _ refl) (part_planned no_definition ⟦<ArchivedI32 as Portable>⟧.shape (⟦<i32 as Archive>⟧.keys a1) (⟦<i32 as Archive>⟧.meaning a1) (leaf_planned no_definition _ _ [] _ refl) no_part_planned)) refl | EventBatch a0 ↦ plain_variant_planned _ _ 4 (part ⟦<ArchivedVec<ArchivedU32> as Portable>⟧.shape no_part) refl (both no_definition no_definition) _ _ (part_planned no_definition ⟦<ArchivedVec<ArchivedU32> as Portable>⟧.shape (⟦<Vec<u32> as Archive>⟧.keys a0) (⟦<Vec<u32> as Archive>⟧.meaning a0) (vec_planned no_definition ⟦<ArchivedU32 as Portable>⟧.shape _ _ _ (slice_planned no_definition ⟦<ArchivedU32 as Portable>⟧.shape ⟦<u32 as Archive>⟧.keys ⟦<u32 as Archive>⟧.meaning (λ x. leaf_planned no_definition _ _ [] _ refl) a0.items)) no_part_planned) refl ] };
+    ghost planned = { elim [
+      | EventQuit ↦ plain_variant_planned _ _ 0 no_part refl no_definition _ _ no_part_planned refl
+      | EventKey a0 ↦ plain_variant_planned _ _ 1 (part ⟦<ArchivedChar as Portable>⟧.shape no_part)
+          refl (both no_definition no_definition) _ _ (part_planned no_definition
+          ⟦<ArchivedChar as Portable>⟧.shape (⟦<char as Archive>⟧.keys a0)
+          (⟦<char as Archive>⟧.meaning a0) (leaf_planned no_definition _ _ [] _ refl)
+          no_part_planned) refl
+      | EventText a0 ↦ plain_variant_planned _ _ 2 (part ⟦<ArchivedString as Portable>⟧.shape
+          no_part) refl (both no_definition no_definition) _ _
+          (part_planned no_definition ⟦<ArchivedString as Portable>⟧.shape
+          (⟦<String as Archive>⟧.keys a0) (⟦<String as Archive>⟧.meaning a0)
+          (string_planned no_definition [] (string_bytes a0)) no_part_planned) refl
+      | EventMove a0 a1 ↦ plain_variant_planned _ _ 3 (part ⟦<ArchivedI32 as Portable>⟧.shape
+          (part ⟦<ArchivedI32 as Portable>⟧.shape no_part)) refl
+          (both no_definition (both no_definition no_definition)) _ _
+          (part_planned no_definition ⟦<ArchivedI32 as Portable>⟧.shape (⟦<i32 as Archive>⟧.keys a0)
+          (⟦<i32 as Archive>⟧.meaning a0) (leaf_planned no_definition _ _ [] _ refl)
+          (part_planned no_definition ⟦<ArchivedI32 as Portable>⟧.shape (⟦<i32 as Archive>⟧.keys a1)
+          (⟦<i32 as Archive>⟧.meaning a1) (leaf_planned no_definition _ _ [] _ refl)
+          no_part_planned)) refl
+      | EventBatch a0 ↦ plain_variant_planned _ _ 4 (part
+          ⟦<ArchivedVec<ArchivedU32> as Portable>⟧.shape no_part) refl
+          (both no_definition no_definition) _ _ (part_planned no_definition
+          ⟦<ArchivedVec<ArchivedU32> as Portable>⟧.shape (⟦<Vec<u32> as Archive>⟧.keys a0)
+          (⟦<Vec<u32> as Archive>⟧.meaning a0) (vec_planned no_definition
+          ⟦<ArchivedU32 as Portable>⟧.shape _ _ _ (slice_planned no_definition
+          ⟦<ArchivedU32 as Portable>⟧.shape ⟦<u32 as Archive>⟧.keys ⟦<u32 as Archive>⟧.meaning
+          (λ x. leaf_planned no_definition _ _ [] _ refl) a0.items)) no_part_planned) refl
+    ] };
 
     fn resolve(
         &self,
@@ -209,9 +328,11 @@ impl Archive for Event {
     ) -> Result<(), Error>
         requires zeroed { ZeroedPlace 12 place.pos place.bytes.now }
         requires same_value { ⟦<Self as Archive>⟧.belongs self.now resolver }
-        ensures resolved { OnOk result (ResolvedAs ⟦<Self as Archive>⟧ ⟦<Self::Archived as Portable>⟧ place self.now resolver) }
+        ensures resolved { OnOk result (ResolvedAs ⟦<Self as Archive>⟧
+            ⟦<Self::Archived as Portable>⟧ place self.now resolver) }
         ensures same_length { length place.exit.0.now ≡ length place.entry.bytes.now }
-        ensures refused { IfErr result (HinderedAs ⟦<Self as Archive>⟧ ⟦<Self::Archived as Portable>⟧ place self.now resolver) }
+        ensures refused { IfErr result (HinderedAs ⟦<Self as Archive>⟧
+            ⟦<Self::Archived as Portable>⟧ place self.now resolver) }
     {
         let Place { bytes, pos, .. } = place;
         match self {
@@ -303,7 +424,13 @@ impl ArchiveUnsized for Event {
 
     ghost one_length = { λ _ _. refl };
 
-    ghost planned = { λ v. one_planned no_definition (choice (codes "ArchivedEvent") (variant no_part (variant (part ⟦<ArchivedChar as Portable>⟧.shape no_part) (variant (part ⟦<ArchivedString as Portable>⟧.shape no_part) (variant (part ⟦<ArchivedI32 as Portable>⟧.shape (part ⟦<ArchivedI32 as Portable>⟧.shape no_part)) (variant (part ⟦<ArchivedVec<ArchivedU32> as Portable>⟧.shape no_part) no_variant)))))) (⟦<Event as Archive>⟧.keys v) (⟦<Event as Archive>⟧.meaning v) (planned_of_event v) };
+    ghost planned = { λ v. one_planned no_definition (choice (codes "ArchivedEvent")
+        (variant no_part (variant (part ⟦<ArchivedChar as Portable>⟧.shape no_part)
+        (variant (part ⟦<ArchivedString as Portable>⟧.shape no_part)
+        (variant (part ⟦<ArchivedI32 as Portable>⟧.shape
+        (part ⟦<ArchivedI32 as Portable>⟧.shape no_part))
+        (variant (part ⟦<ArchivedVec<ArchivedU32> as Portable>⟧.shape no_part) no_variant))))))
+        (⟦<Event as Archive>⟧.keys v) (⟦<Event as Archive>⟧.meaning v) (planned_of_event v) };
 
     fn archived_metadata(&self) -> Result<(), Error> {
         Ok(())
@@ -323,8 +450,10 @@ impl<D: Entries> Deserialize<Event, D> for ArchivedEvent {
         deserializer: &mut D,
     ) -> Result<Event, Error>
         requires { IsPartOf ⟦<Self as ArchivePointee>⟧ part }
-        ensures read { IfOk result (Read ⟦<Self as ArchivePointee>⟧ part D.Entries deserializer ⟦<Event as Archive>⟧) }
-        ensures refused { IfErr result (RefusesPart ⟦<Self as ArchivePointee>⟧ part D.Entries deserializer) }
+        ensures read { IfOk result (Read ⟦<Self as ArchivePointee>⟧ part D.Entries deserializer
+            ⟦<Event as Archive>⟧) }
+        ensures refused { IfErr result (RefusesPart ⟦<Self as ArchivePointee>⟧ part D.Entries
+            deserializer) }
     {
         match known_tag::<Self>(part) {
             0 => match read_case_0::<Self, D>(0, alloc, part, deserializer) {
@@ -396,7 +525,23 @@ impl<'a> EventView<'a> for Ref<'a, ArchivedEvent> {
     ghost use Rattle.derived_types.specs.declared.event.ViewOfEvent.TheVariants.{Batch as EventBatchShown, Key as EventKeyShown, Move as EventMoveShown, Quit as EventQuitShown, Text as EventTextShown};
 
     fn variant(self) -> ViewOfEvent<'a>
-        ensures shows { elim result [ EventQuitShown ↦ (tag_of self.entry ≡ 0) | EventKeyShown a0 ↦ (tag_of self.entry ≡ 1) × (a0.bytes.now ≡ self.entry.bytes.now) × (a0.pos ≡ self.entry.pos + 4) × (a0.len ≡ 0) × ShowsValueOf a0 self.entry (payload_in 0) | EventTextShown a0 ↦ (tag_of self.entry ≡ 2) × (a0.bytes.now ≡ self.entry.bytes.now) × (a0.pos ≡ self.entry.pos + 4) × (a0.len ≡ 0) × ShowsValueOf a0 self.entry (payload_in 0) | EventMoveShown a0 a1 ↦ (tag_of self.entry ≡ 3) × (a0.bytes.now ≡ self.entry.bytes.now) × (a0.pos ≡ self.entry.pos + 4) × (a0.len ≡ 0) × ShowsValueOf a0 self.entry (payload_in 0) × (a1.bytes.now ≡ self.entry.bytes.now) × (a1.pos ≡ self.entry.pos + 8) × (a1.len ≡ 0) × ShowsValueOf a1 self.entry (payload_in 1) | EventBatchShown a0 ↦ (tag_of self.entry ≡ 4) × (a0.bytes.now ≡ self.entry.bytes.now) × (a0.pos ≡ self.entry.pos + 4) × (a0.len ≡ 0) × ShowsValueOf a0 self.entry (payload_in 0) ] }
+        ensures shows { elim result [
+          | EventQuitShown ↦ (tag_of self.entry ≡ 0)
+          | EventKeyShown a0 ↦ (tag_of self.entry ≡ 1) × (a0.bytes.now ≡ self.entry.bytes.now)
+              × (a0.pos ≡ self.entry.pos + 4) × (a0.len ≡ 0)
+              × ShowsValueOf a0 self.entry (payload_in 0)
+          | EventTextShown a0 ↦ (tag_of self.entry ≡ 2) × (a0.bytes.now ≡ self.entry.bytes.now)
+              × (a0.pos ≡ self.entry.pos + 4) × (a0.len ≡ 0)
+              × ShowsValueOf a0 self.entry (payload_in 0)
+          | EventMoveShown a0 a1 ↦ (tag_of self.entry ≡ 3) × (a0.bytes.now ≡ self.entry.bytes.now)
+              × (a0.pos ≡ self.entry.pos + 4) × (a0.len ≡ 0)
+              × ShowsValueOf a0 self.entry (payload_in 0) × (a1.bytes.now ≡ self.entry.bytes.now)
+              × (a1.pos ≡ self.entry.pos + 8) × (a1.len ≡ 0)
+              × ShowsValueOf a1 self.entry (payload_in 1)
+          | EventBatchShown a0 ↦ (tag_of self.entry ≡ 4) × (a0.bytes.now ≡ self.entry.bytes.now)
+              × (a0.pos ≡ self.entry.pos + 4) × (a0.len ≡ 0)
+              × ShowsValueOf a0 self.entry (payload_in 0)
+        ] }
     {
         match tag_in(self) {
             0 => ViewOfEvent::Quit,
@@ -449,71 +594,87 @@ pub trait EventSeal<'a> {
 }
 
 impl<'a> EventSeal<'a> for Seal<'a, ArchivedEvent> {
-    ghost sealed = { λ s. Viewed no_definition s.bytes.now s.pos (one ⟦<ArchivedEvent as Portable>⟧.shape) s.len };
+    ghost sealed = { λ s. Viewed no_definition s.bytes.now s.pos
+        (one ⟦<ArchivedEvent as Portable>⟧.shape) s.len };
 
     ghost tag = { λ s. seal_tag s };
 
     fn key_0_mut(self) -> Seal<'a, ArchivedChar>
-        requires viewed { Viewed no_definition self.bytes.now self.pos (one ⟦<ArchivedEvent as Portable>⟧.shape) self.len }
+        requires viewed { Viewed no_definition self.bytes.now self.pos
+            (one ⟦<ArchivedEvent as Portable>⟧.shape) self.len }
         requires tag { seal_tag self ≡ 1 }
         ensures same_reference { result.bytes.ghost_name ≡ self.entry.bytes.ghost_name }
         ensures buffer { result.bytes.now ≡ self.entry.bytes.now }
         ensures position { result.pos ≡ self.entry.pos + 4 }
         ensures length { result.len ≡ 0 }
-        ensures viewed { Viewed no_definition result.bytes.now result.pos ⟦<ArchivedChar as ArchivePointee>⟧.pointee result.len }
-        ensures beside { SealsBeside no_definition (one ⟦<ArchivedEvent as Portable>⟧.shape) ⟦<ArchivedChar as ArchivePointee>⟧.pointee result self.entry }
+        ensures viewed { Viewed no_definition result.bytes.now result.pos
+            ⟦<ArchivedChar as ArchivePointee>⟧.pointee result.len }
+        ensures beside { SealsBeside no_definition (one ⟦<ArchivedEvent as Portable>⟧.shape)
+            ⟦<ArchivedChar as ArchivePointee>⟧.pointee result self.entry }
     {
         sealed_part_in_case::<ArchivedEvent, ArchivedChar>(self, 1, 0, 4)
     }
 
     fn text_0_mut(self) -> Seal<'a, ArchivedString>
-        requires viewed { Viewed no_definition self.bytes.now self.pos (one ⟦<ArchivedEvent as Portable>⟧.shape) self.len }
+        requires viewed { Viewed no_definition self.bytes.now self.pos
+            (one ⟦<ArchivedEvent as Portable>⟧.shape) self.len }
         requires tag { seal_tag self ≡ 2 }
         ensures same_reference { result.bytes.ghost_name ≡ self.entry.bytes.ghost_name }
         ensures buffer { result.bytes.now ≡ self.entry.bytes.now }
         ensures position { result.pos ≡ self.entry.pos + 4 }
         ensures length { result.len ≡ 0 }
-        ensures viewed { Viewed no_definition result.bytes.now result.pos ⟦<ArchivedString as ArchivePointee>⟧.pointee result.len }
-        ensures beside { SealsBeside no_definition (one ⟦<ArchivedEvent as Portable>⟧.shape) ⟦<ArchivedString as ArchivePointee>⟧.pointee result self.entry }
+        ensures viewed { Viewed no_definition result.bytes.now result.pos
+            ⟦<ArchivedString as ArchivePointee>⟧.pointee result.len }
+        ensures beside { SealsBeside no_definition (one ⟦<ArchivedEvent as Portable>⟧.shape)
+            ⟦<ArchivedString as ArchivePointee>⟧.pointee result self.entry }
     {
         sealed_part_in_case::<ArchivedEvent, ArchivedString>(self, 2, 0, 4)
     }
 
     fn move_x_mut(self) -> Seal<'a, ArchivedI32>
-        requires viewed { Viewed no_definition self.bytes.now self.pos (one ⟦<ArchivedEvent as Portable>⟧.shape) self.len }
+        requires viewed { Viewed no_definition self.bytes.now self.pos
+            (one ⟦<ArchivedEvent as Portable>⟧.shape) self.len }
         requires tag { seal_tag self ≡ 3 }
         ensures same_reference { result.bytes.ghost_name ≡ self.entry.bytes.ghost_name }
         ensures buffer { result.bytes.now ≡ self.entry.bytes.now }
         ensures position { result.pos ≡ self.entry.pos + 4 }
         ensures length { result.len ≡ 0 }
-        ensures viewed { Viewed no_definition result.bytes.now result.pos ⟦<ArchivedI32 as ArchivePointee>⟧.pointee result.len }
-        ensures beside { SealsBeside no_definition (one ⟦<ArchivedEvent as Portable>⟧.shape) ⟦<ArchivedI32 as ArchivePointee>⟧.pointee result self.entry }
+        ensures viewed { Viewed no_definition result.bytes.now result.pos
+            ⟦<ArchivedI32 as ArchivePointee>⟧.pointee result.len }
+        ensures beside { SealsBeside no_definition (one ⟦<ArchivedEvent as Portable>⟧.shape)
+            ⟦<ArchivedI32 as ArchivePointee>⟧.pointee result self.entry }
     {
         sealed_part_in_case::<ArchivedEvent, ArchivedI32>(self, 3, 0, 4)
     }
 
     fn move_y_mut(self) -> Seal<'a, ArchivedI32>
-        requires viewed { Viewed no_definition self.bytes.now self.pos (one ⟦<ArchivedEvent as Portable>⟧.shape) self.len }
+        requires viewed { Viewed no_definition self.bytes.now self.pos
+            (one ⟦<ArchivedEvent as Portable>⟧.shape) self.len }
         requires tag { seal_tag self ≡ 3 }
         ensures same_reference { result.bytes.ghost_name ≡ self.entry.bytes.ghost_name }
         ensures buffer { result.bytes.now ≡ self.entry.bytes.now }
         ensures position { result.pos ≡ self.entry.pos + 8 }
         ensures length { result.len ≡ 0 }
-        ensures viewed { Viewed no_definition result.bytes.now result.pos ⟦<ArchivedI32 as ArchivePointee>⟧.pointee result.len }
-        ensures beside { SealsBeside no_definition (one ⟦<ArchivedEvent as Portable>⟧.shape) ⟦<ArchivedI32 as ArchivePointee>⟧.pointee result self.entry }
+        ensures viewed { Viewed no_definition result.bytes.now result.pos
+            ⟦<ArchivedI32 as ArchivePointee>⟧.pointee result.len }
+        ensures beside { SealsBeside no_definition (one ⟦<ArchivedEvent as Portable>⟧.shape)
+            ⟦<ArchivedI32 as ArchivePointee>⟧.pointee result self.entry }
     {
         sealed_part_in_case::<ArchivedEvent, ArchivedI32>(self, 3, 1, 8)
     }
 
     fn batch_0_mut(self) -> Seal<'a, ArchivedVec<ArchivedU32>>
-        requires viewed { Viewed no_definition self.bytes.now self.pos (one ⟦<ArchivedEvent as Portable>⟧.shape) self.len }
+        requires viewed { Viewed no_definition self.bytes.now self.pos
+            (one ⟦<ArchivedEvent as Portable>⟧.shape) self.len }
         requires tag { seal_tag self ≡ 4 }
         ensures same_reference { result.bytes.ghost_name ≡ self.entry.bytes.ghost_name }
         ensures buffer { result.bytes.now ≡ self.entry.bytes.now }
         ensures position { result.pos ≡ self.entry.pos + 4 }
         ensures length { result.len ≡ 0 }
-        ensures viewed { Viewed no_definition result.bytes.now result.pos ⟦<ArchivedVec<ArchivedU32> as ArchivePointee>⟧.pointee result.len }
-        ensures beside { SealsBeside no_definition (one ⟦<ArchivedEvent as Portable>⟧.shape) ⟦<ArchivedVec<ArchivedU32> as ArchivePointee>⟧.pointee result self.entry }
+        ensures viewed { Viewed no_definition result.bytes.now result.pos
+            ⟦<ArchivedVec<ArchivedU32> as ArchivePointee>⟧.pointee result.len }
+        ensures beside { SealsBeside no_definition (one ⟦<ArchivedEvent as Portable>⟧.shape)
+            ⟦<ArchivedVec<ArchivedU32> as ArchivePointee>⟧.pointee result self.entry }
     {
         sealed_part_in_case::<ArchivedEvent, ArchivedVec<ArchivedU32>>(self, 4, 0, 4)
     }

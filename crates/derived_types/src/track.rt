@@ -96,7 +96,8 @@ type TrackParts = (
 impl ArchivePointee for ArchivedTrack {
     type ArchivedMetadata = ();
 
-    ghost pointee = { one (parts (part ⟦<ArchivedRc<ArchivedLine, RcFlavor> as Portable>⟧.shape (part ⟦<ArchivedOption<ArchivedBox<ArchivedLine>> as Portable>⟧.shape no_part))) };
+    ghost pointee = { one (parts (part ⟦<ArchivedRc<ArchivedLine, RcFlavor> as Portable>⟧.shape
+        (part ⟦<ArchivedOption<ArchivedBox<ArchivedLine>> as Portable>⟧.shape no_part))) };
 
     ghost definitions = { no_definition };
 
@@ -108,7 +109,8 @@ impl ArchivePointee for ArchivedTrack {
 }
 
 impl Portable for ArchivedTrack {
-    ghost shape = { parts (part ⟦<ArchivedRc<ArchivedLine, RcFlavor> as Portable>⟧.shape (part ⟦<ArchivedOption<ArchivedBox<ArchivedLine>> as Portable>⟧.shape no_part)) };
+    ghost shape = { parts (part ⟦<ArchivedRc<ArchivedLine, RcFlavor> as Portable>⟧.shape
+        (part ⟦<ArchivedOption<ArchivedBox<ArchivedLine>> as Portable>⟧.shape no_part)) };
 
     ghost layout = { record { size = 12; align = 4 } };
 
@@ -120,7 +122,9 @@ impl Portable for ArchivedTrack {
 
     ghost has_layout = { record { solved = λ s k. refl } };
 
-    ghost no_others = { no_definition_reached (parts (part ⟦<ArchivedRc<ArchivedLine, RcFlavor> as Portable>⟧.shape (part ⟦<ArchivedOption<ArchivedBox<ArchivedLine>> as Portable>⟧.shape no_part))) };
+    ghost no_others = { no_definition_reached (parts (part
+        ⟦<ArchivedRc<ArchivedLine, RcFlavor> as Portable>⟧.shape
+        (part ⟦<ArchivedOption<ArchivedBox<ArchivedLine>> as Portable>⟧.shape no_part))) };
 
     ghost checks = { λ direct. by_schema direct };
 
@@ -144,7 +148,9 @@ impl Portable for ArchivedTrack {
 impl Record for ArchivedTrack {
     type Parts = TrackParts;
 
-    ghost has_parts = { plain_record (part ⟦<ArchivedRc<ArchivedLine, RcFlavor> as Portable>⟧.shape (part ⟦<ArchivedOption<ArchivedBox<ArchivedLine>> as Portable>⟧.shape no_part)) (both no_definition (both no_definition no_definition)) refl };
+    ghost has_parts = { plain_record (part ⟦<ArchivedRc<ArchivedLine, RcFlavor> as Portable>⟧.shape
+        (part ⟦<ArchivedOption<ArchivedBox<ArchivedLine>> as Portable>⟧.shape no_part))
+        (both no_definition (both no_definition no_definition)) refl };
 
     ghost holds = { lit≤ tt };
 }
@@ -165,17 +171,44 @@ impl Archive for Track {
 
     type Resolver = TrackResolver;
 
-    ghost meaning = { λ v. product (value (⟦<Shared<Line> as Archive>⟧.meaning v.line) (value (⟦<Option<Box<Line>> as Archive>⟧.meaning v.other) no_value)) };
+    ghost meaning = { λ v. product (value (⟦<Shared<Line> as Archive>⟧.meaning v.line)
+        (value (⟦<Option<Box<Line>> as Archive>⟧.meaning v.other) no_value)) };
 
-    ghost flat = { λ v r. product (value (⟦<Shared<Line> as Archive>⟧.flat v.line r.kept.0) (value (⟦<Option<Box<Line>> as Archive>⟧.flat v.other r.kept.1.0) no_value)) };
+    ghost flat = { λ v r. product (value (⟦<Shared<Line> as Archive>⟧.flat v.line r.kept.0)
+        (value (⟦<Option<Box<Line>> as Archive>⟧.flat v.other r.kept.1.0) no_value)) };
 
-    ghost keys = { λ v. ⟦<Shared<Line> as Archive>⟧.keys v.line ++ (⟦<Option<Box<Line>> as Archive>⟧.keys v.other ++ []) };
+    ghost keys = { λ v. ⟦<Shared<Line> as Archive>⟧.keys v.line
+        ++ (⟦<Option<Box<Line>> as Archive>⟧.keys v.other ++ []) };
 
-    ghost belongs = { λ v r. ⟦<Shared<Line> as Archive>⟧.belongs v.line r.kept.0 × (⟦<Option<Box<Line>> as Archive>⟧.belongs v.other r.kept.1.0 × Unit {0}) };
+    ghost belongs = { λ v r. ⟦<Shared<Line> as Archive>⟧.belongs v.line r.kept.0
+        × (⟦<Option<Box<Line>> as Archive>⟧.belongs v.other r.kept.1.0 × Unit {0}) };
 
-    ghost keyed = { λ v. record_keyed (part_keyed (rc_keyed v.line.key ⟦<ArchivedLine as ArchivePointee>⟧.pointee 0 (⟦<Line as Archive>⟧.meaning v.line.value.value) (⟦<Line as Archive>⟧.keys v.line.value.value) (keyed_of_line v.line.value.value)) (part_keyed (option_keyed ⟦<Box<Line> as Archive>⟧.keys ⟦<Box<Line> as Archive>⟧.meaning (λ x. box_keyed (⟦<Line as Archive>⟧.keys x.value) (⟦<Line as Archive>⟧.meaning x.value) (keyed_of_line x.value)) v.other) nothing_keyed)) };
+    ghost keyed = { λ v. record_keyed (part_keyed (rc_keyed v.line.key
+        ⟦<ArchivedLine as ArchivePointee>⟧.pointee 0 (⟦<Line as Archive>⟧.meaning
+        v.line.value.value) (⟦<Line as Archive>⟧.keys v.line.value.value)
+        (keyed_of_line v.line.value.value)) (part_keyed
+        (option_keyed ⟦<Box<Line> as Archive>⟧.keys ⟦<Box<Line> as Archive>⟧.meaning
+        (λ x. box_keyed (⟦<Line as Archive>⟧.keys x.value) (⟦<Line as Archive>⟧.meaning x.value)
+        (keyed_of_line x.value)) v.other) nothing_keyed)) };
 
-    ghost planned = { λ v. plain_record_planned (both no_definition (both no_definition no_definition)) (part ⟦<ArchivedRc<ArchivedLine, RcFlavor> as Portable>⟧.shape (part ⟦<ArchivedOption<ArchivedBox<ArchivedLine>> as Portable>⟧.shape no_part)) _ _ (part_planned no_definition ⟦<ArchivedRc<ArchivedLine, RcFlavor> as Portable>⟧.shape (⟦<Shared<Line> as Archive>⟧.keys v.line) (⟦<Shared<Line> as Archive>⟧.meaning v.line) (rc_one_planned no_definition v.line.key ⟦<ArchivedLine as ArchivePointee>⟧.pointee ⟦<ArchivedLine as Portable>⟧.shape refl (⟦<Line as Archive>⟧.meaning v.line.value.value) (⟦<Line as Archive>⟧.keys v.line.value.value) (planned_of_line v.line.value.value)) (part_planned no_definition ⟦<ArchivedOption<ArchivedBox<ArchivedLine>> as Portable>⟧.shape (⟦<Option<Box<Line>> as Archive>⟧.keys v.other) (⟦<Option<Box<Line>> as Archive>⟧.meaning v.other) (option_planned no_definition ⟦<ArchivedBox<ArchivedLine> as Portable>⟧.shape ⟦<Box<Line> as Archive>⟧.keys ⟦<Box<Line> as Archive>⟧.meaning (λ x. boxed_one_planned no_definition (one ⟦<ArchivedLine as Portable>⟧.shape) ⟦<ArchivedLine as Portable>⟧.shape refl (⟦<Line as Archive>⟧.keys x.value) (⟦<Line as Archive>⟧.meaning x.value) (planned_of_line x.value)) v.other) no_part_planned)) refl };
+    ghost planned = { λ v. plain_record_planned (both no_definition
+        (both no_definition no_definition))
+        (part ⟦<ArchivedRc<ArchivedLine, RcFlavor> as Portable>⟧.shape
+        (part ⟦<ArchivedOption<ArchivedBox<ArchivedLine>> as Portable>⟧.shape no_part)) _ _
+        (part_planned no_definition ⟦<ArchivedRc<ArchivedLine, RcFlavor> as Portable>⟧.shape
+        (⟦<Shared<Line> as Archive>⟧.keys v.line) (⟦<Shared<Line> as Archive>⟧.meaning v.line)
+        (rc_one_planned no_definition v.line.key ⟦<ArchivedLine as ArchivePointee>⟧.pointee
+        ⟦<ArchivedLine as Portable>⟧.shape refl (⟦<Line as Archive>⟧.meaning v.line.value.value)
+        (⟦<Line as Archive>⟧.keys v.line.value.value) (planned_of_line v.line.value.value))
+        (part_planned no_definition ⟦<ArchivedOption<ArchivedBox<ArchivedLine>> as Portable>⟧.shape
+        (⟦<Option<Box<Line>> as Archive>⟧.keys v.other)
+        (⟦<Option<Box<Line>> as Archive>⟧.meaning v.other)
+        (option_planned no_definition ⟦<ArchivedBox<ArchivedLine> as Portable>⟧.shape
+        ⟦<Box<Line> as Archive>⟧.keys ⟦<Box<Line> as Archive>⟧.meaning
+        (λ x. boxed_one_planned no_definition (one ⟦<ArchivedLine as Portable>⟧.shape)
+        ⟦<ArchivedLine as Portable>⟧.shape refl (⟦<Line as Archive>⟧.keys x.value)
+        (⟦<Line as Archive>⟧.meaning x.value) (planned_of_line x.value)) v.other) no_part_planned))
+        refl };
 
     fn resolve(
         &self,
@@ -184,9 +217,11 @@ impl Archive for Track {
     ) -> Result<(), Error>
         requires zeroed { ZeroedPlace 12 place.pos place.bytes.now }
         requires same_value { ⟦<Self as Archive>⟧.belongs self.now resolver }
-        ensures resolved { OnOk result (ResolvedAs ⟦<Self as Archive>⟧ ⟦<Self::Archived as Portable>⟧ place self.now resolver) }
+        ensures resolved { OnOk result (ResolvedAs ⟦<Self as Archive>⟧
+            ⟦<Self::Archived as Portable>⟧ place self.now resolver) }
         ensures same_length { length place.exit.0.now ≡ length place.entry.bytes.now }
-        ensures refused { IfErr result (HinderedAs ⟦<Self as Archive>⟧ ⟦<Self::Archived as Portable>⟧ place self.now resolver) }
+        ensures refused { IfErr result (HinderedAs ⟦<Self as Archive>⟧
+            ⟦<Self::Archived as Portable>⟧ place self.now resolver) }
     {
         let Place { bytes, pos, .. } = place;
         let TrackResolver { kept } = resolver;
@@ -229,7 +264,10 @@ impl ArchiveUnsized for Track {
 
     ghost one_length = { λ _ _. refl };
 
-    ghost planned = { λ v. one_planned no_definition (parts (part ⟦<ArchivedRc<ArchivedLine, RcFlavor> as Portable>⟧.shape (part ⟦<ArchivedOption<ArchivedBox<ArchivedLine>> as Portable>⟧.shape no_part))) (⟦<Track as Archive>⟧.keys v) (⟦<Track as Archive>⟧.meaning v) (planned_of_track v) };
+    ghost planned = { λ v. one_planned no_definition (parts
+        (part ⟦<ArchivedRc<ArchivedLine, RcFlavor> as Portable>⟧.shape
+        (part ⟦<ArchivedOption<ArchivedBox<ArchivedLine>> as Portable>⟧.shape no_part)))
+        (⟦<Track as Archive>⟧.keys v) (⟦<Track as Archive>⟧.meaning v) (planned_of_track v) };
 
     fn archived_metadata(&self) -> Result<(), Error> {
         Ok(())
@@ -249,8 +287,10 @@ impl<D: Pooling<Shared<Line>>> Deserialize<Track, D> for ArchivedTrack {
         deserializer: &mut D,
     ) -> Result<Track, Error>
         requires { IsPartOf ⟦<Self as ArchivePointee>⟧ part }
-        ensures read { IfOk result (Read ⟦<Self as ArchivePointee>⟧ part D.Entries deserializer ⟦<Track as Archive>⟧) }
-        ensures refused { IfErr result (RefusesPart ⟦<Self as ArchivePointee>⟧ part D.Entries deserializer) }
+        ensures read { IfOk result (Read ⟦<Self as ArchivePointee>⟧ part D.Entries deserializer
+            ⟦<Track as Archive>⟧) }
+        ensures refused { IfErr result (RefusesPart ⟦<Self as ArchivePointee>⟧ part D.Entries
+            deserializer) }
     {
         match read_record_2::<
             Self,
@@ -314,28 +354,36 @@ pub trait TrackSeal<'a> {
 }
 
 impl<'a> TrackSeal<'a> for Seal<'a, ArchivedTrack> {
-    ghost sealed = { λ s. Viewed no_definition s.bytes.now s.pos (one ⟦<ArchivedTrack as Portable>⟧.shape) s.len };
+    ghost sealed = { λ s. Viewed no_definition s.bytes.now s.pos
+        (one ⟦<ArchivedTrack as Portable>⟧.shape) s.len };
 
     fn line_mut(self) -> Seal<'a, ArchivedRc<ArchivedLine, RcFlavor>>
-        requires viewed { Viewed no_definition self.bytes.now self.pos (one ⟦<ArchivedTrack as Portable>⟧.shape) self.len }
+        requires viewed { Viewed no_definition self.bytes.now self.pos
+            (one ⟦<ArchivedTrack as Portable>⟧.shape) self.len }
         ensures same_reference { result.bytes.ghost_name ≡ self.entry.bytes.ghost_name }
         ensures buffer { result.bytes.now ≡ self.entry.bytes.now }
         ensures position { result.pos ≡ self.entry.pos + 0 }
         ensures length { result.len ≡ 0 }
-        ensures viewed { Viewed no_definition result.bytes.now result.pos ⟦<ArchivedRc<ArchivedLine, RcFlavor> as ArchivePointee>⟧.pointee result.len }
-        ensures beside { SealsBeside no_definition (one ⟦<ArchivedTrack as Portable>⟧.shape) ⟦<ArchivedRc<ArchivedLine, RcFlavor> as ArchivePointee>⟧.pointee result self.entry }
+        ensures viewed { Viewed no_definition result.bytes.now result.pos
+            ⟦<ArchivedRc<ArchivedLine, RcFlavor> as ArchivePointee>⟧.pointee result.len }
+        ensures beside { SealsBeside no_definition (one ⟦<ArchivedTrack as Portable>⟧.shape)
+            ⟦<ArchivedRc<ArchivedLine, RcFlavor> as ArchivePointee>⟧.pointee result self.entry }
     {
         sealed_part_in_record::<ArchivedTrack, ArchivedRc<ArchivedLine, RcFlavor>>(self, 0, 0)
     }
 
     fn other_mut(self) -> Seal<'a, ArchivedOption<ArchivedBox<ArchivedLine>>>
-        requires viewed { Viewed no_definition self.bytes.now self.pos (one ⟦<ArchivedTrack as Portable>⟧.shape) self.len }
+        requires viewed { Viewed no_definition self.bytes.now self.pos
+            (one ⟦<ArchivedTrack as Portable>⟧.shape) self.len }
         ensures same_reference { result.bytes.ghost_name ≡ self.entry.bytes.ghost_name }
         ensures buffer { result.bytes.now ≡ self.entry.bytes.now }
         ensures position { result.pos ≡ self.entry.pos + 4 }
         ensures length { result.len ≡ 0 }
-        ensures viewed { Viewed no_definition result.bytes.now result.pos ⟦<ArchivedOption<ArchivedBox<ArchivedLine>> as ArchivePointee>⟧.pointee result.len }
-        ensures beside { SealsBeside no_definition (one ⟦<ArchivedTrack as Portable>⟧.shape) ⟦<ArchivedOption<ArchivedBox<ArchivedLine>> as ArchivePointee>⟧.pointee result self.entry }
+        ensures viewed { Viewed no_definition result.bytes.now result.pos
+            ⟦<ArchivedOption<ArchivedBox<ArchivedLine>> as ArchivePointee>⟧.pointee result.len }
+        ensures beside { SealsBeside no_definition (one ⟦<ArchivedTrack as Portable>⟧.shape)
+            ⟦<ArchivedOption<ArchivedBox<ArchivedLine>> as ArchivePointee>⟧.pointee result
+            self.entry }
     {
         sealed_part_in_record::<ArchivedTrack, ArchivedOption<ArchivedBox<ArchivedLine>>>(
             self, 1, 4,
@@ -357,7 +405,10 @@ type RunsParts = (
 impl ArchivePointee for ArchivedRuns {
     type ArchivedMetadata = ();
 
-    ghost pointee = { one (parts (part ⟦<ArchivedRc<ArchivedSlice<ArchivedLine>, RcFlavor> as Portable>⟧.shape (part ⟦<ArchivedRc<ArchivedStr, RcFlavor> as Portable>⟧.shape (part ⟦<ArchivedRcWeak<ArchivedLine, RcFlavor> as Portable>⟧.shape no_part)))) };
+    ghost pointee = { one
+        (parts (part ⟦<ArchivedRc<ArchivedSlice<ArchivedLine>, RcFlavor> as Portable>⟧.shape
+        (part ⟦<ArchivedRc<ArchivedStr, RcFlavor> as Portable>⟧.shape
+        (part ⟦<ArchivedRcWeak<ArchivedLine, RcFlavor> as Portable>⟧.shape no_part)))) };
 
     ghost definitions = { no_definition };
 
@@ -369,7 +420,10 @@ impl ArchivePointee for ArchivedRuns {
 }
 
 impl Portable for ArchivedRuns {
-    ghost shape = { parts (part ⟦<ArchivedRc<ArchivedSlice<ArchivedLine>, RcFlavor> as Portable>⟧.shape (part ⟦<ArchivedRc<ArchivedStr, RcFlavor> as Portable>⟧.shape (part ⟦<ArchivedRcWeak<ArchivedLine, RcFlavor> as Portable>⟧.shape no_part))) };
+    ghost shape = { parts
+        (part ⟦<ArchivedRc<ArchivedSlice<ArchivedLine>, RcFlavor> as Portable>⟧.shape
+        (part ⟦<ArchivedRc<ArchivedStr, RcFlavor> as Portable>⟧.shape
+        (part ⟦<ArchivedRcWeak<ArchivedLine, RcFlavor> as Portable>⟧.shape no_part))) };
 
     ghost layout = { record { size = 20; align = 4 } };
 
@@ -381,7 +435,10 @@ impl Portable for ArchivedRuns {
 
     ghost has_layout = { record { solved = λ s k. refl } };
 
-    ghost no_others = { no_definition_reached (parts (part ⟦<ArchivedRc<ArchivedSlice<ArchivedLine>, RcFlavor> as Portable>⟧.shape (part ⟦<ArchivedRc<ArchivedStr, RcFlavor> as Portable>⟧.shape (part ⟦<ArchivedRcWeak<ArchivedLine, RcFlavor> as Portable>⟧.shape no_part)))) };
+    ghost no_others = { no_definition_reached (parts (part
+        ⟦<ArchivedRc<ArchivedSlice<ArchivedLine>, RcFlavor> as Portable>⟧.shape
+        (part ⟦<ArchivedRc<ArchivedStr, RcFlavor> as Portable>⟧.shape
+        (part ⟦<ArchivedRcWeak<ArchivedLine, RcFlavor> as Portable>⟧.shape no_part)))) };
 
     ghost checks = { λ direct. by_schema direct };
 
@@ -405,7 +462,11 @@ impl Portable for ArchivedRuns {
 impl Record for ArchivedRuns {
     type Parts = RunsParts;
 
-    ghost has_parts = { plain_record (part ⟦<ArchivedRc<ArchivedSlice<ArchivedLine>, RcFlavor> as Portable>⟧.shape (part ⟦<ArchivedRc<ArchivedStr, RcFlavor> as Portable>⟧.shape (part ⟦<ArchivedRcWeak<ArchivedLine, RcFlavor> as Portable>⟧.shape no_part))) (both no_definition (both no_definition (both no_definition no_definition))) refl };
+    ghost has_parts = { plain_record
+        (part ⟦<ArchivedRc<ArchivedSlice<ArchivedLine>, RcFlavor> as Portable>⟧.shape
+        (part ⟦<ArchivedRc<ArchivedStr, RcFlavor> as Portable>⟧.shape
+        (part ⟦<ArchivedRcWeak<ArchivedLine, RcFlavor> as Portable>⟧.shape no_part)))
+        (both no_definition (both no_definition (both no_definition no_definition))) refl };
 
     ghost holds = { lit≤ tt };
 }
@@ -429,17 +490,65 @@ impl Archive for Runs {
 
     type Resolver = RunsResolver;
 
-    ghost meaning = { λ v. product (value (⟦<SharedSlice<Line> as Archive>⟧.meaning v.lines) (value (⟦<SharedStr as Archive>⟧.meaning v.text) (value (⟦<WeakShared<Line> as Archive>⟧.meaning v.weak) no_value))) };
+    ghost meaning = { λ v. product (value (⟦<SharedSlice<Line> as Archive>⟧.meaning v.lines)
+        (value (⟦<SharedStr as Archive>⟧.meaning v.text)
+        (value (⟦<WeakShared<Line> as Archive>⟧.meaning v.weak) no_value))) };
 
-    ghost flat = { λ v r. product (value (⟦<SharedSlice<Line> as Archive>⟧.flat v.lines r.kept.0) (value (⟦<SharedStr as Archive>⟧.flat v.text r.kept.1.0) (value (⟦<WeakShared<Line> as Archive>⟧.flat v.weak r.kept.1.1.0) no_value))) };
+    ghost flat = { λ v r. product (value (⟦<SharedSlice<Line> as Archive>⟧.flat v.lines r.kept.0)
+        (value (⟦<SharedStr as Archive>⟧.flat v.text r.kept.1.0)
+        (value (⟦<WeakShared<Line> as Archive>⟧.flat v.weak r.kept.1.1.0) no_value))) };
 
-    ghost keys = { λ v. ⟦<SharedSlice<Line> as Archive>⟧.keys v.lines ++ (⟦<SharedStr as Archive>⟧.keys v.text ++ (⟦<WeakShared<Line> as Archive>⟧.keys v.weak ++ [])) };
+    ghost keys = { λ v. ⟦<SharedSlice<Line> as Archive>⟧.keys v.lines
+        ++ (⟦<SharedStr as Archive>⟧.keys v.text ++ (⟦<WeakShared<Line> as Archive>⟧.keys v.weak
+        ++ [])) };
 
-    ghost belongs = { λ v r. ⟦<SharedSlice<Line> as Archive>⟧.belongs v.lines r.kept.0 × (⟦<SharedStr as Archive>⟧.belongs v.text r.kept.1.0 × (⟦<WeakShared<Line> as Archive>⟧.belongs v.weak r.kept.1.1.0 × Unit {0})) };
+    ghost belongs = { λ v r. ⟦<SharedSlice<Line> as Archive>⟧.belongs v.lines r.kept.0
+        × (⟦<SharedStr as Archive>⟧.belongs v.text r.kept.1.0
+        × (⟦<WeakShared<Line> as Archive>⟧.belongs v.weak r.kept.1.1.0 × Unit {0})) };
 
-    ghost keyed = { λ v. record_keyed (part_keyed (rc_keyed v.lines.key (run ⟦<ArchivedLine as Portable>⟧.shape) (length (rc_slice_items v.lines.value)) (list (each_meaning ⟦<Line as Archive>⟧.meaning (rc_slice_items v.lines.value))) (each_keys ⟦<Line as Archive>⟧.keys (rc_slice_items v.lines.value)) (each_keyed ⟦<Line as Archive>⟧.keys ⟦<Line as Archive>⟧.meaning keyed_of_line (rc_slice_items v.lines.value))) (part_keyed (rc_keyed v.text.key text (length (rc_str_bytes v.text.value)) (text_value (rc_str_bytes v.text.value)) [] (text_keyed (rc_str_bytes v.text.value))) (part_keyed (weak_keyed (λ s. rc_keys s.key ⟦<ArchivedLine as ArchivePointee>⟧.pointee 0 (⟦<Line as Archive>⟧.meaning s.value.value) (⟦<Line as Archive>⟧.keys s.value.value)) (λ s. shared_value s.key) (λ s. rc_keyed s.key ⟦<ArchivedLine as ArchivePointee>⟧.pointee 0 (⟦<Line as Archive>⟧.meaning s.value.value) (⟦<Line as Archive>⟧.keys s.value.value) (keyed_of_line s.value.value)) v.weak.value) nothing_keyed))) };
+    ghost keyed = { λ v. record_keyed (part_keyed (rc_keyed v.lines.key
+        (run ⟦<ArchivedLine as Portable>⟧.shape) (length (rc_slice_items v.lines.value))
+        (list (each_meaning ⟦<Line as Archive>⟧.meaning (rc_slice_items v.lines.value)))
+        (each_keys ⟦<Line as Archive>⟧.keys (rc_slice_items v.lines.value))
+        (each_keyed ⟦<Line as Archive>⟧.keys ⟦<Line as Archive>⟧.meaning keyed_of_line
+        (rc_slice_items v.lines.value))) (part_keyed (rc_keyed v.text.key text
+        (length (rc_str_bytes v.text.value)) (text_value (rc_str_bytes v.text.value)) []
+        (text_keyed (rc_str_bytes v.text.value))) (part_keyed
+        (weak_keyed (λ s. rc_keys s.key ⟦<ArchivedLine as ArchivePointee>⟧.pointee 0
+        (⟦<Line as Archive>⟧.meaning s.value.value) (⟦<Line as Archive>⟧.keys s.value.value))
+        (λ s. shared_value s.key) (λ s. rc_keyed s.key ⟦<ArchivedLine as ArchivePointee>⟧.pointee 0
+        (⟦<Line as Archive>⟧.meaning s.value.value) (⟦<Line as Archive>⟧.keys s.value.value)
+        (keyed_of_line s.value.value)) v.weak.value) nothing_keyed))) };
 
-    ghost planned = { λ v. plain_record_planned (both no_definition (both no_definition (both no_definition no_definition))) (part ⟦<ArchivedRc<ArchivedSlice<ArchivedLine>, RcFlavor> as Portable>⟧.shape (part ⟦<ArchivedRc<ArchivedStr, RcFlavor> as Portable>⟧.shape (part ⟦<ArchivedRcWeak<ArchivedLine, RcFlavor> as Portable>⟧.shape no_part))) _ _ (part_planned no_definition ⟦<ArchivedRc<ArchivedSlice<ArchivedLine>, RcFlavor> as Portable>⟧.shape (⟦<SharedSlice<Line> as Archive>⟧.keys v.lines) (⟦<SharedSlice<Line> as Archive>⟧.meaning v.lines) (rc_planned no_definition v.lines.key (run ⟦<ArchivedLine as Portable>⟧.shape) (length (rc_slice_items v.lines.value)) (list (each_meaning ⟦<Line as Archive>⟧.meaning (rc_slice_items v.lines.value))) (each_keys ⟦<Line as Archive>⟧.keys (rc_slice_items v.lines.value)) (slice_planned no_definition ⟦<ArchivedLine as Portable>⟧.shape ⟦<Line as Archive>⟧.keys ⟦<Line as Archive>⟧.meaning planned_of_line (rc_slice_items v.lines.value))) (part_planned no_definition ⟦<ArchivedRc<ArchivedStr, RcFlavor> as Portable>⟧.shape (⟦<SharedStr as Archive>⟧.keys v.text) (⟦<SharedStr as Archive>⟧.meaning v.text) (rc_planned no_definition v.text.key text (length (rc_str_bytes v.text.value)) (text_value (rc_str_bytes v.text.value)) [] (text_planned no_definition [] (rc_str_bytes v.text.value))) (part_planned no_definition ⟦<ArchivedRcWeak<ArchivedLine, RcFlavor> as Portable>⟧.shape (⟦<WeakShared<Line> as Archive>⟧.keys v.weak) (⟦<WeakShared<Line> as Archive>⟧.meaning v.weak) (weak_planned no_definition rc_flavor ⟦<ArchivedLine as ArchivePointee>⟧.pointee (λ s. rc_keys s.key ⟦<ArchivedLine as ArchivePointee>⟧.pointee 0 (⟦<Line as Archive>⟧.meaning s.value.value) (⟦<Line as Archive>⟧.keys s.value.value)) (λ s. shared_value s.key) (λ s. rc_one_planned no_definition s.key ⟦<ArchivedLine as ArchivePointee>⟧.pointee ⟦<ArchivedLine as Portable>⟧.shape refl (⟦<Line as Archive>⟧.meaning s.value.value) (⟦<Line as Archive>⟧.keys s.value.value) (planned_of_line s.value.value)) v.weak.value) no_part_planned))) refl };
+    ghost planned = { λ v. plain_record_planned (both no_definition
+        (both no_definition (both no_definition no_definition)))
+        (part ⟦<ArchivedRc<ArchivedSlice<ArchivedLine>, RcFlavor> as Portable>⟧.shape
+        (part ⟦<ArchivedRc<ArchivedStr, RcFlavor> as Portable>⟧.shape
+        (part ⟦<ArchivedRcWeak<ArchivedLine, RcFlavor> as Portable>⟧.shape no_part))) _ _
+        (part_planned no_definition
+        ⟦<ArchivedRc<ArchivedSlice<ArchivedLine>, RcFlavor> as Portable>⟧.shape
+        (⟦<SharedSlice<Line> as Archive>⟧.keys v.lines)
+        (⟦<SharedSlice<Line> as Archive>⟧.meaning v.lines)
+        (rc_planned no_definition v.lines.key (run ⟦<ArchivedLine as Portable>⟧.shape)
+        (length (rc_slice_items v.lines.value)) (list (each_meaning ⟦<Line as Archive>⟧.meaning
+        (rc_slice_items v.lines.value))) (each_keys ⟦<Line as Archive>⟧.keys
+        (rc_slice_items v.lines.value)) (slice_planned no_definition
+        ⟦<ArchivedLine as Portable>⟧.shape ⟦<Line as Archive>⟧.keys ⟦<Line as Archive>⟧.meaning
+        planned_of_line (rc_slice_items v.lines.value)))
+        (part_planned no_definition ⟦<ArchivedRc<ArchivedStr, RcFlavor> as Portable>⟧.shape
+        (⟦<SharedStr as Archive>⟧.keys v.text) (⟦<SharedStr as Archive>⟧.meaning v.text)
+        (rc_planned no_definition v.text.key text (length (rc_str_bytes v.text.value))
+        (text_value (rc_str_bytes v.text.value)) [] (text_planned no_definition []
+        (rc_str_bytes v.text.value))) (part_planned no_definition
+        ⟦<ArchivedRcWeak<ArchivedLine, RcFlavor> as Portable>⟧.shape
+        (⟦<WeakShared<Line> as Archive>⟧.keys v.weak) (⟦<WeakShared<Line> as Archive>⟧.meaning
+        v.weak) (weak_planned no_definition rc_flavor ⟦<ArchivedLine as ArchivePointee>⟧.pointee
+        (λ s. rc_keys s.key ⟦<ArchivedLine as ArchivePointee>⟧.pointee 0
+        (⟦<Line as Archive>⟧.meaning s.value.value) (⟦<Line as Archive>⟧.keys s.value.value))
+        (λ s. shared_value s.key) (λ s. rc_one_planned no_definition s.key
+        ⟦<ArchivedLine as ArchivePointee>⟧.pointee ⟦<ArchivedLine as Portable>⟧.shape refl
+        (⟦<Line as Archive>⟧.meaning s.value.value) (⟦<Line as Archive>⟧.keys s.value.value)
+        (planned_of_line s.value.value)) v.weak.value) no_part_planned))) refl };
 
     fn resolve(
         &self,
@@ -448,9 +557,11 @@ impl Archive for Runs {
     ) -> Result<(), Error>
         requires zeroed { ZeroedPlace 20 place.pos place.bytes.now }
         requires same_value { ⟦<Self as Archive>⟧.belongs self.now resolver }
-        ensures resolved { OnOk result (ResolvedAs ⟦<Self as Archive>⟧ ⟦<Self::Archived as Portable>⟧ place self.now resolver) }
+        ensures resolved { OnOk result (ResolvedAs ⟦<Self as Archive>⟧
+            ⟦<Self::Archived as Portable>⟧ place self.now resolver) }
         ensures same_length { length place.exit.0.now ≡ length place.entry.bytes.now }
-        ensures refused { IfErr result (HinderedAs ⟦<Self as Archive>⟧ ⟦<Self::Archived as Portable>⟧ place self.now resolver) }
+        ensures refused { IfErr result (HinderedAs ⟦<Self as Archive>⟧
+            ⟦<Self::Archived as Portable>⟧ place self.now resolver) }
     {
         let Place { bytes, pos, .. } = place;
         let RunsResolver { kept } = resolver;
@@ -495,7 +606,11 @@ impl ArchiveUnsized for Runs {
 
     ghost one_length = { λ _ _. refl };
 
-    ghost planned = { λ v. one_planned no_definition (parts (part ⟦<ArchivedRc<ArchivedSlice<ArchivedLine>, RcFlavor> as Portable>⟧.shape (part ⟦<ArchivedRc<ArchivedStr, RcFlavor> as Portable>⟧.shape (part ⟦<ArchivedRcWeak<ArchivedLine, RcFlavor> as Portable>⟧.shape no_part)))) (⟦<Runs as Archive>⟧.keys v) (⟦<Runs as Archive>⟧.meaning v) (planned_of_runs v) };
+    ghost planned = { λ v. one_planned no_definition (parts
+        (part ⟦<ArchivedRc<ArchivedSlice<ArchivedLine>, RcFlavor> as Portable>⟧.shape
+        (part ⟦<ArchivedRc<ArchivedStr, RcFlavor> as Portable>⟧.shape
+        (part ⟦<ArchivedRcWeak<ArchivedLine, RcFlavor> as Portable>⟧.shape no_part))))
+        (⟦<Runs as Archive>⟧.keys v) (⟦<Runs as Archive>⟧.meaning v) (planned_of_runs v) };
 
     fn archived_metadata(&self) -> Result<(), Error> {
         Ok(())
@@ -518,8 +633,10 @@ impl<D: Pooling<SharedSlice<Line>> + Pooling<SharedStr> + Pooling<Shared<Line>>>
         deserializer: &mut D,
     ) -> Result<Runs, Error>
         requires { IsPartOf ⟦<Self as ArchivePointee>⟧ part }
-        ensures read { IfOk result (Read ⟦<Self as ArchivePointee>⟧ part D.Entries deserializer ⟦<Runs as Archive>⟧) }
-        ensures refused { IfErr result (RefusesPart ⟦<Self as ArchivePointee>⟧ part D.Entries deserializer) }
+        ensures read { IfOk result (Read ⟦<Self as ArchivePointee>⟧ part D.Entries deserializer
+            ⟦<Runs as Archive>⟧) }
+        ensures refused { IfErr result (RefusesPart ⟦<Self as ArchivePointee>⟧ part D.Entries
+            deserializer) }
     {
         match read_record_3::<
             Self,
@@ -604,16 +721,22 @@ pub trait RunsSeal<'a> {
 }
 
 impl<'a> RunsSeal<'a> for Seal<'a, ArchivedRuns> {
-    ghost sealed = { λ s. Viewed no_definition s.bytes.now s.pos (one ⟦<ArchivedRuns as Portable>⟧.shape) s.len };
+    ghost sealed = { λ s. Viewed no_definition s.bytes.now s.pos
+        (one ⟦<ArchivedRuns as Portable>⟧.shape) s.len };
 
     fn lines_mut(self) -> Seal<'a, ArchivedRc<ArchivedSlice<ArchivedLine>, RcFlavor>>
-        requires viewed { Viewed no_definition self.bytes.now self.pos (one ⟦<ArchivedRuns as Portable>⟧.shape) self.len }
+        requires viewed { Viewed no_definition self.bytes.now self.pos
+            (one ⟦<ArchivedRuns as Portable>⟧.shape) self.len }
         ensures same_reference { result.bytes.ghost_name ≡ self.entry.bytes.ghost_name }
         ensures buffer { result.bytes.now ≡ self.entry.bytes.now }
         ensures position { result.pos ≡ self.entry.pos + 0 }
         ensures length { result.len ≡ 0 }
-        ensures viewed { Viewed no_definition result.bytes.now result.pos ⟦<ArchivedRc<ArchivedSlice<ArchivedLine>, RcFlavor> as ArchivePointee>⟧.pointee result.len }
-        ensures beside { SealsBeside no_definition (one ⟦<ArchivedRuns as Portable>⟧.shape) ⟦<ArchivedRc<ArchivedSlice<ArchivedLine>, RcFlavor> as ArchivePointee>⟧.pointee result self.entry }
+        ensures viewed { Viewed no_definition result.bytes.now result.pos
+            ⟦<ArchivedRc<ArchivedSlice<ArchivedLine>, RcFlavor> as ArchivePointee>⟧.pointee
+            result.len }
+        ensures beside { SealsBeside no_definition (one ⟦<ArchivedRuns as Portable>⟧.shape)
+            ⟦<ArchivedRc<ArchivedSlice<ArchivedLine>, RcFlavor> as ArchivePointee>⟧.pointee result
+            self.entry }
     {
         sealed_part_in_record::<ArchivedRuns, ArchivedRc<ArchivedSlice<ArchivedLine>, RcFlavor>>(
             self, 0, 0,
@@ -621,25 +744,31 @@ impl<'a> RunsSeal<'a> for Seal<'a, ArchivedRuns> {
     }
 
     fn text_mut(self) -> Seal<'a, ArchivedRc<ArchivedStr, RcFlavor>>
-        requires viewed { Viewed no_definition self.bytes.now self.pos (one ⟦<ArchivedRuns as Portable>⟧.shape) self.len }
+        requires viewed { Viewed no_definition self.bytes.now self.pos
+            (one ⟦<ArchivedRuns as Portable>⟧.shape) self.len }
         ensures same_reference { result.bytes.ghost_name ≡ self.entry.bytes.ghost_name }
         ensures buffer { result.bytes.now ≡ self.entry.bytes.now }
         ensures position { result.pos ≡ self.entry.pos + 8 }
         ensures length { result.len ≡ 0 }
-        ensures viewed { Viewed no_definition result.bytes.now result.pos ⟦<ArchivedRc<ArchivedStr, RcFlavor> as ArchivePointee>⟧.pointee result.len }
-        ensures beside { SealsBeside no_definition (one ⟦<ArchivedRuns as Portable>⟧.shape) ⟦<ArchivedRc<ArchivedStr, RcFlavor> as ArchivePointee>⟧.pointee result self.entry }
+        ensures viewed { Viewed no_definition result.bytes.now result.pos
+            ⟦<ArchivedRc<ArchivedStr, RcFlavor> as ArchivePointee>⟧.pointee result.len }
+        ensures beside { SealsBeside no_definition (one ⟦<ArchivedRuns as Portable>⟧.shape)
+            ⟦<ArchivedRc<ArchivedStr, RcFlavor> as ArchivePointee>⟧.pointee result self.entry }
     {
         sealed_part_in_record::<ArchivedRuns, ArchivedRc<ArchivedStr, RcFlavor>>(self, 1, 8)
     }
 
     fn weak_mut(self) -> Seal<'a, ArchivedRcWeak<ArchivedLine, RcFlavor>>
-        requires viewed { Viewed no_definition self.bytes.now self.pos (one ⟦<ArchivedRuns as Portable>⟧.shape) self.len }
+        requires viewed { Viewed no_definition self.bytes.now self.pos
+            (one ⟦<ArchivedRuns as Portable>⟧.shape) self.len }
         ensures same_reference { result.bytes.ghost_name ≡ self.entry.bytes.ghost_name }
         ensures buffer { result.bytes.now ≡ self.entry.bytes.now }
         ensures position { result.pos ≡ self.entry.pos + 16 }
         ensures length { result.len ≡ 0 }
-        ensures viewed { Viewed no_definition result.bytes.now result.pos ⟦<ArchivedRcWeak<ArchivedLine, RcFlavor> as ArchivePointee>⟧.pointee result.len }
-        ensures beside { SealsBeside no_definition (one ⟦<ArchivedRuns as Portable>⟧.shape) ⟦<ArchivedRcWeak<ArchivedLine, RcFlavor> as ArchivePointee>⟧.pointee result self.entry }
+        ensures viewed { Viewed no_definition result.bytes.now result.pos
+            ⟦<ArchivedRcWeak<ArchivedLine, RcFlavor> as ArchivePointee>⟧.pointee result.len }
+        ensures beside { SealsBeside no_definition (one ⟦<ArchivedRuns as Portable>⟧.shape)
+            ⟦<ArchivedRcWeak<ArchivedLine, RcFlavor> as ArchivePointee>⟧.pointee result self.entry }
     {
         sealed_part_in_record::<ArchivedRuns, ArchivedRcWeak<ArchivedLine, RcFlavor>>(self, 2, 16)
     }
@@ -657,7 +786,10 @@ type EitherVariants = (EitherAloneParts, (EitherTogetherParts, ()));
 impl ArchivePointee for ArchivedEither {
     type ArchivedMetadata = ();
 
-    ghost pointee = { one (choice (codes "ArchivedEither") (variant (part ⟦<u8 as Portable>⟧.shape no_part) (variant (part ⟦<ArchivedRc<ArchivedLine, RcFlavor> as Portable>⟧.shape (part ⟦<u8 as Portable>⟧.shape no_part)) no_variant))) };
+    ghost pointee = { one (choice (codes "ArchivedEither")
+        (variant (part ⟦<u8 as Portable>⟧.shape no_part)
+        (variant (part ⟦<ArchivedRc<ArchivedLine, RcFlavor> as Portable>⟧.shape
+        (part ⟦<u8 as Portable>⟧.shape no_part)) no_variant))) };
 
     ghost definitions = { no_definition };
 
@@ -669,7 +801,9 @@ impl ArchivePointee for ArchivedEither {
 }
 
 impl Portable for ArchivedEither {
-    ghost shape = { choice (codes "ArchivedEither") (variant (part ⟦<u8 as Portable>⟧.shape no_part) (variant (part ⟦<ArchivedRc<ArchivedLine, RcFlavor> as Portable>⟧.shape (part ⟦<u8 as Portable>⟧.shape no_part)) no_variant)) };
+    ghost shape = { choice (codes "ArchivedEither") (variant (part ⟦<u8 as Portable>⟧.shape no_part)
+        (variant (part ⟦<ArchivedRc<ArchivedLine, RcFlavor> as Portable>⟧.shape
+        (part ⟦<u8 as Portable>⟧.shape no_part)) no_variant)) };
 
     ghost layout = { record { size = 12; align = 4 } };
 
@@ -681,7 +815,10 @@ impl Portable for ArchivedEither {
 
     ghost has_layout = { record { solved = λ s k. refl } };
 
-    ghost no_others = { no_definition_reached (choice (codes "ArchivedEither") (variant (part ⟦<u8 as Portable>⟧.shape no_part) (variant (part ⟦<ArchivedRc<ArchivedLine, RcFlavor> as Portable>⟧.shape (part ⟦<u8 as Portable>⟧.shape no_part)) no_variant))) };
+    ghost no_others = { no_definition_reached (choice (codes "ArchivedEither")
+        (variant (part ⟦<u8 as Portable>⟧.shape no_part)
+        (variant (part ⟦<ArchivedRc<ArchivedLine, RcFlavor> as Portable>⟧.shape
+        (part ⟦<u8 as Portable>⟧.shape no_part)) no_variant))) };
 
     ghost checks = { λ direct. by_schema direct };
 
@@ -707,7 +844,12 @@ impl Choice for ArchivedEither {
 
     ghost name = { codes "ArchivedEither" };
 
-    ghost has_variants = { plain_choice (codes "ArchivedEither") (variant (part ⟦<u8 as Portable>⟧.shape no_part) (variant (part ⟦<ArchivedRc<ArchivedLine, RcFlavor> as Portable>⟧.shape (part ⟦<u8 as Portable>⟧.shape no_part)) no_variant)) (both (both no_definition no_definition) (both (both no_definition (both no_definition no_definition)) no_definition)) refl };
+    ghost has_variants = { plain_choice (codes "ArchivedEither")
+        (variant (part ⟦<u8 as Portable>⟧.shape no_part)
+        (variant (part ⟦<ArchivedRc<ArchivedLine, RcFlavor> as Portable>⟧.shape
+        (part ⟦<u8 as Portable>⟧.shape no_part)) no_variant))
+        (both (both no_definition no_definition) (both (both no_definition
+        (both no_definition no_definition)) no_definition)) refl };
 
     ghost holds = { lit≤ tt };
 }
@@ -735,17 +877,68 @@ impl Archive for Either {
 
     type Resolver = EitherResolver;
 
-    ghost meaning = { elim [ EitherAlone a0 ↦ case 0 (value (⟦<u8 as Archive>⟧.meaning a0) no_value) | EitherTogether a0 a1 ↦ case 1 (value (⟦<Shared<Line> as Archive>⟧.meaning a0) (value (⟦<u8 as Archive>⟧.meaning a1) no_value)) ] };
+    ghost meaning = { elim [
+      | EitherAlone a0 ↦ case 0 (value (⟦<u8 as Archive>⟧.meaning a0) no_value)
+      | EitherTogether a0 a1 ↦ case 1 (value (⟦<Shared<Line> as Archive>⟧.meaning a0)
+          (value (⟦<u8 as Archive>⟧.meaning a1) no_value))
+    ] };
 
-    ghost flat = { λ v r. elim v [ EitherAlone a0 ↦ elim r [ EitherAloneKept s ↦ case 0 (value (⟦<u8 as Archive>⟧.flat a0 s.0) no_value) | _ ↦ case 0 no_value ] | EitherTogether a0 a1 ↦ elim r [ EitherTogetherKept s ↦ case 1 (value (⟦<Shared<Line> as Archive>⟧.flat a0 s.0) (value (⟦<u8 as Archive>⟧.flat a1 s.1.0) no_value)) | _ ↦ case 1 no_value ] ] };
+    ghost flat = { λ v r. elim v [
+      | EitherAlone a0 ↦ elim r [
+        | EitherAloneKept s ↦ case 0 (value (⟦<u8 as Archive>⟧.flat a0 s.0) no_value)
+        | _ ↦ case 0 no_value
+      ]
+      | EitherTogether a0 a1 ↦ elim r [
+        | EitherTogetherKept s ↦ case 1 (value (⟦<Shared<Line> as Archive>⟧.flat a0 s.0)
+            (value (⟦<u8 as Archive>⟧.flat a1 s.1.0) no_value))
+        | _ ↦ case 1 no_value
+      ]
+    ] };
 
-    ghost keys = { elim [ EitherAlone a0 ↦ ⟦<u8 as Archive>⟧.keys a0 ++ [] | EitherTogether a0 a1 ↦ ⟦<Shared<Line> as Archive>⟧.keys a0 ++ (⟦<u8 as Archive>⟧.keys a1 ++ []) ] };
+    ghost keys = { elim [
+      | EitherAlone a0 ↦ ⟦<u8 as Archive>⟧.keys a0 ++ []
+      | EitherTogether a0 a1 ↦ ⟦<Shared<Line> as Archive>⟧.keys a0
+          ++ (⟦<u8 as Archive>⟧.keys a1 ++ [])
+    ] };
 
-    ghost belongs = { λ v r. elim v [ EitherAlone a0 ↦ elim r [ EitherAloneKept s ↦ ⟦<u8 as Archive>⟧.belongs a0 s.0 × Unit {0} | _ ↦ ⊥ ] | EitherTogether a0 a1 ↦ elim r [ EitherTogetherKept s ↦ ⟦<Shared<Line> as Archive>⟧.belongs a0 s.0 × (⟦<u8 as Archive>⟧.belongs a1 s.1.0 × Unit {0}) | _ ↦ ⊥ ] ] };
+    ghost belongs = { λ v r. elim v [
+      | EitherAlone a0 ↦ elim r [
+        | EitherAloneKept s ↦ ⟦<u8 as Archive>⟧.belongs a0 s.0 × Unit {0}
+        | _ ↦ ⊥
+      ]
+      | EitherTogether a0 a1 ↦ elim r [
+        | EitherTogetherKept s ↦ ⟦<Shared<Line> as Archive>⟧.belongs a0 s.0
+            × (⟦<u8 as Archive>⟧.belongs a1 s.1.0 × Unit {0})
+        | _ ↦ ⊥
+      ]
+    ] };
 
-    ghost keyed = { elim [ EitherAlone a0 ↦ case_keyed _ 0 _ (part_keyed (number_keyed _) nothing_keyed) | EitherTogether a0 a1 ↦ case_keyed _ 1 _ (part_keyed (rc_keyed a0.key ⟦<ArchivedLine as ArchivePointee>⟧.pointee 0 (⟦<Line as Archive>⟧.meaning a0.value.value) (⟦<Line as Archive>⟧.keys a0.value.value) (keyed_of_line a0.value.value)) (part_keyed (number_keyed _) nothing_keyed)) ] };
+    ghost keyed = { elim [
+      | EitherAlone a0 ↦ case_keyed _ 0 _ (part_keyed (number_keyed _) nothing_keyed)
+      | EitherTogether a0 a1 ↦ case_keyed _ 1 _ (part_keyed
+          (rc_keyed a0.key ⟦<ArchivedLine as ArchivePointee>⟧.pointee 0
+          (⟦<Line as Archive>⟧.meaning a0.value.value) (⟦<Line as Archive>⟧.keys a0.value.value)
+          (keyed_of_line a0.value.value)) (part_keyed (number_keyed _) nothing_keyed))
+    ] };
 
-    ghost planned = { elim [ EitherAlone a0 ↦ plain_variant_planned _ _ 0 (part ⟦<u8 as Portable>⟧.shape no_part) refl (both no_definition no_definition) _ _ (part_planned no_definition ⟦<u8 as Portable>⟧.shape (⟦<u8 as Archive>⟧.keys a0) (⟦<u8 as Archive>⟧.meaning a0) (leaf_planned no_definition _ _ [] _ refl) no_part_planned) refl | EitherTogether a0 a1 ↦ plain_variant_planned _ _ 1 (part ⟦<ArchivedRc<ArchivedLine, RcFlavor> as Portable>⟧.shape (part ⟦<u8 as Portable>⟧.shape no_part)) refl (both no_definition (both no_definition no_definition)) _ _ (part_planned no_definition ⟦<ArchivedRc<ArchivedLine, RcFlavor> as Portable>⟧.shape (⟦<Shared<Line> as Archive>⟧.keys a0) (⟦<Shared<Line> as Archive>⟧.meaning a0) (rc_one_planned no_definition a0.key ⟦<ArchivedLine as ArchivePointee>⟧.pointee ⟦<ArchivedLine as Portable>⟧.shape refl (⟦<Line as Archive>⟧.meaning a0.value.value) (⟦<Line as Archive>⟧.keys a0.value.value) (planned_of_line a0.value.value)) (part_planned no_definition ⟦<u8 as Portable>⟧.shape (⟦<u8 as Archive>⟧.keys a1) (⟦<u8 as Archive>⟧.meaning a1) (leaf_planned no_definition _ _ [] _ refl) no_part_planned)) refl ] };
+    ghost planned = { elim [
+      | EitherAlone a0 ↦ plain_variant_planned _ _ 0 (part ⟦<u8 as Portable>⟧.shape no_part) refl
+          (both no_definition no_definition) _ _ (part_planned no_definition
+          ⟦<u8 as Portable>⟧.shape (⟦<u8 as Archive>⟧.keys a0) (⟦<u8 as Archive>⟧.meaning a0)
+          (leaf_planned no_definition _ _ [] _ refl) no_part_planned) refl
+      | EitherTogether a0 a1 ↦ plain_variant_planned _ _ 1
+          (part ⟦<ArchivedRc<ArchivedLine, RcFlavor> as Portable>⟧.shape
+          (part ⟦<u8 as Portable>⟧.shape no_part)) refl (both no_definition
+          (both no_definition no_definition)) _ _ (part_planned no_definition
+          ⟦<ArchivedRc<ArchivedLine, RcFlavor> as Portable>⟧.shape
+          (⟦<Shared<Line> as Archive>⟧.keys a0) (⟦<Shared<Line> as Archive>⟧.meaning a0)
+          (rc_one_planned no_definition a0.key ⟦<ArchivedLine as ArchivePointee>⟧.pointee
+          ⟦<ArchivedLine as Portable>⟧.shape refl (⟦<Line as Archive>⟧.meaning a0.value.value)
+          (⟦<Line as Archive>⟧.keys a0.value.value) (planned_of_line a0.value.value))
+          (part_planned no_definition ⟦<u8 as Portable>⟧.shape (⟦<u8 as Archive>⟧.keys a1)
+          (⟦<u8 as Archive>⟧.meaning a1) (leaf_planned no_definition _ _ [] _ refl)
+          no_part_planned)) refl
+    ] };
 
     fn resolve(
         &self,
@@ -754,9 +947,11 @@ impl Archive for Either {
     ) -> Result<(), Error>
         requires zeroed { ZeroedPlace 12 place.pos place.bytes.now }
         requires same_value { ⟦<Self as Archive>⟧.belongs self.now resolver }
-        ensures resolved { OnOk result (ResolvedAs ⟦<Self as Archive>⟧ ⟦<Self::Archived as Portable>⟧ place self.now resolver) }
+        ensures resolved { OnOk result (ResolvedAs ⟦<Self as Archive>⟧
+            ⟦<Self::Archived as Portable>⟧ place self.now resolver) }
         ensures same_length { length place.exit.0.now ≡ length place.entry.bytes.now }
-        ensures refused { IfErr result (HinderedAs ⟦<Self as Archive>⟧ ⟦<Self::Archived as Portable>⟧ place self.now resolver) }
+        ensures refused { IfErr result (HinderedAs ⟦<Self as Archive>⟧
+            ⟦<Self::Archived as Portable>⟧ place self.now resolver) }
     {
         let Place { bytes, pos, .. } = place;
         match self {
@@ -823,7 +1018,11 @@ impl ArchiveUnsized for Either {
 
     ghost one_length = { λ _ _. refl };
 
-    ghost planned = { λ v. one_planned no_definition (choice (codes "ArchivedEither") (variant (part ⟦<u8 as Portable>⟧.shape no_part) (variant (part ⟦<ArchivedRc<ArchivedLine, RcFlavor> as Portable>⟧.shape (part ⟦<u8 as Portable>⟧.shape no_part)) no_variant))) (⟦<Either as Archive>⟧.keys v) (⟦<Either as Archive>⟧.meaning v) (planned_of_either v) };
+    ghost planned = { λ v. one_planned no_definition (choice (codes "ArchivedEither")
+        (variant (part ⟦<u8 as Portable>⟧.shape no_part)
+        (variant (part ⟦<ArchivedRc<ArchivedLine, RcFlavor> as Portable>⟧.shape
+        (part ⟦<u8 as Portable>⟧.shape no_part)) no_variant))) (⟦<Either as Archive>⟧.keys v)
+        (⟦<Either as Archive>⟧.meaning v) (planned_of_either v) };
 
     fn archived_metadata(&self) -> Result<(), Error> {
         Ok(())
@@ -843,8 +1042,10 @@ impl<D: Pooling<Shared<Line>>> Deserialize<Either, D> for ArchivedEither {
         deserializer: &mut D,
     ) -> Result<Either, Error>
         requires { IsPartOf ⟦<Self as ArchivePointee>⟧ part }
-        ensures read { IfOk result (Read ⟦<Self as ArchivePointee>⟧ part D.Entries deserializer ⟦<Either as Archive>⟧) }
-        ensures refused { IfErr result (RefusesPart ⟦<Self as ArchivePointee>⟧ part D.Entries deserializer) }
+        ensures read { IfOk result (Read ⟦<Self as ArchivePointee>⟧ part D.Entries deserializer
+            ⟦<Either as Archive>⟧) }
+        ensures refused { IfErr result (RefusesPart ⟦<Self as ArchivePointee>⟧ part D.Entries
+            deserializer) }
     {
         match known_tag::<Self>(part) {
             0 => match read_case_1::<Self, u8, u8, D>(0, alloc, part, deserializer) {
@@ -886,7 +1087,16 @@ impl<'a> EitherView<'a> for Ref<'a, ArchivedEither> {
     ghost use Rattle.derived_types.specs.declared.track.ViewOfEither.TheVariants.{Alone as EitherAloneShown, Together as EitherTogetherShown};
 
     fn variant(self) -> ViewOfEither<'a>
-        ensures shows { elim result [ EitherAloneShown a0 ↦ (tag_of self.entry ≡ 0) × (a0.bytes.now ≡ self.entry.bytes.now) × (a0.pos ≡ self.entry.pos + 1) × (a0.len ≡ 0) × ShowsValueOf a0 self.entry (payload_in 0) | EitherTogetherShown a0 a1 ↦ (tag_of self.entry ≡ 1) × (a0.bytes.now ≡ self.entry.bytes.now) × (a0.pos ≡ self.entry.pos + 4) × (a0.len ≡ 0) × ShowsValueOf a0 self.entry (payload_in 0) × (a1.bytes.now ≡ self.entry.bytes.now) × (a1.pos ≡ self.entry.pos + 8) × (a1.len ≡ 0) × ShowsValueOf a1 self.entry (payload_in 1) ] }
+        ensures shows { elim result [
+          | EitherAloneShown a0 ↦ (tag_of self.entry ≡ 0) × (a0.bytes.now ≡ self.entry.bytes.now)
+              × (a0.pos ≡ self.entry.pos + 1) × (a0.len ≡ 0)
+              × ShowsValueOf a0 self.entry (payload_in 0)
+          | EitherTogetherShown a0 a1 ↦ (tag_of self.entry ≡ 1)
+              × (a0.bytes.now ≡ self.entry.bytes.now) × (a0.pos ≡ self.entry.pos + 4) × (a0.len ≡ 0)
+              × ShowsValueOf a0 self.entry (payload_in 0) × (a1.bytes.now ≡ self.entry.bytes.now)
+              × (a1.pos ≡ self.entry.pos + 8) × (a1.len ≡ 0)
+              × ShowsValueOf a1 self.entry (payload_in 1)
+        ] }
     {
         match tag_in(self) {
             0 => ViewOfEither::Alone(part_in_case::<ArchivedEither, u8>(self, 0, 0, 1)),
@@ -926,45 +1136,55 @@ pub trait EitherSeal<'a> {
 }
 
 impl<'a> EitherSeal<'a> for Seal<'a, ArchivedEither> {
-    ghost sealed = { λ s. Viewed no_definition s.bytes.now s.pos (one ⟦<ArchivedEither as Portable>⟧.shape) s.len };
+    ghost sealed = { λ s. Viewed no_definition s.bytes.now s.pos
+        (one ⟦<ArchivedEither as Portable>⟧.shape) s.len };
 
     ghost tag = { λ s. seal_tag s };
 
     fn alone_0_mut(self) -> Seal<'a, u8>
-        requires viewed { Viewed no_definition self.bytes.now self.pos (one ⟦<ArchivedEither as Portable>⟧.shape) self.len }
+        requires viewed { Viewed no_definition self.bytes.now self.pos
+            (one ⟦<ArchivedEither as Portable>⟧.shape) self.len }
         requires tag { seal_tag self ≡ 0 }
         ensures same_reference { result.bytes.ghost_name ≡ self.entry.bytes.ghost_name }
         ensures buffer { result.bytes.now ≡ self.entry.bytes.now }
         ensures position { result.pos ≡ self.entry.pos + 1 }
         ensures length { result.len ≡ 0 }
-        ensures viewed { Viewed no_definition result.bytes.now result.pos ⟦<u8 as ArchivePointee>⟧.pointee result.len }
-        ensures beside { SealsBeside no_definition (one ⟦<ArchivedEither as Portable>⟧.shape) ⟦<u8 as ArchivePointee>⟧.pointee result self.entry }
+        ensures viewed { Viewed no_definition result.bytes.now result.pos
+            ⟦<u8 as ArchivePointee>⟧.pointee result.len }
+        ensures beside { SealsBeside no_definition (one ⟦<ArchivedEither as Portable>⟧.shape)
+            ⟦<u8 as ArchivePointee>⟧.pointee result self.entry }
     {
         sealed_part_in_case::<ArchivedEither, u8>(self, 0, 0, 1)
     }
 
     fn together_0_mut(self) -> Seal<'a, ArchivedRc<ArchivedLine, RcFlavor>>
-        requires viewed { Viewed no_definition self.bytes.now self.pos (one ⟦<ArchivedEither as Portable>⟧.shape) self.len }
+        requires viewed { Viewed no_definition self.bytes.now self.pos
+            (one ⟦<ArchivedEither as Portable>⟧.shape) self.len }
         requires tag { seal_tag self ≡ 1 }
         ensures same_reference { result.bytes.ghost_name ≡ self.entry.bytes.ghost_name }
         ensures buffer { result.bytes.now ≡ self.entry.bytes.now }
         ensures position { result.pos ≡ self.entry.pos + 4 }
         ensures length { result.len ≡ 0 }
-        ensures viewed { Viewed no_definition result.bytes.now result.pos ⟦<ArchivedRc<ArchivedLine, RcFlavor> as ArchivePointee>⟧.pointee result.len }
-        ensures beside { SealsBeside no_definition (one ⟦<ArchivedEither as Portable>⟧.shape) ⟦<ArchivedRc<ArchivedLine, RcFlavor> as ArchivePointee>⟧.pointee result self.entry }
+        ensures viewed { Viewed no_definition result.bytes.now result.pos
+            ⟦<ArchivedRc<ArchivedLine, RcFlavor> as ArchivePointee>⟧.pointee result.len }
+        ensures beside { SealsBeside no_definition (one ⟦<ArchivedEither as Portable>⟧.shape)
+            ⟦<ArchivedRc<ArchivedLine, RcFlavor> as ArchivePointee>⟧.pointee result self.entry }
     {
         sealed_part_in_case::<ArchivedEither, ArchivedRc<ArchivedLine, RcFlavor>>(self, 1, 0, 4)
     }
 
     fn together_1_mut(self) -> Seal<'a, u8>
-        requires viewed { Viewed no_definition self.bytes.now self.pos (one ⟦<ArchivedEither as Portable>⟧.shape) self.len }
+        requires viewed { Viewed no_definition self.bytes.now self.pos
+            (one ⟦<ArchivedEither as Portable>⟧.shape) self.len }
         requires tag { seal_tag self ≡ 1 }
         ensures same_reference { result.bytes.ghost_name ≡ self.entry.bytes.ghost_name }
         ensures buffer { result.bytes.now ≡ self.entry.bytes.now }
         ensures position { result.pos ≡ self.entry.pos + 8 }
         ensures length { result.len ≡ 0 }
-        ensures viewed { Viewed no_definition result.bytes.now result.pos ⟦<u8 as ArchivePointee>⟧.pointee result.len }
-        ensures beside { SealsBeside no_definition (one ⟦<ArchivedEither as Portable>⟧.shape) ⟦<u8 as ArchivePointee>⟧.pointee result self.entry }
+        ensures viewed { Viewed no_definition result.bytes.now result.pos
+            ⟦<u8 as ArchivePointee>⟧.pointee result.len }
+        ensures beside { SealsBeside no_definition (one ⟦<ArchivedEither as Portable>⟧.shape)
+            ⟦<u8 as ArchivePointee>⟧.pointee result self.entry }
     {
         sealed_part_in_case::<ArchivedEither, u8>(self, 1, 1, 8)
     }

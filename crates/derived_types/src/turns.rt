@@ -70,7 +70,9 @@ type TurnVariants = (TurnLeftParts, (TurnRightParts, ()));
 impl ArchivePointee for ArchivedTurn {
     type ArchivedMetadata = ();
 
-    ghost pointee = { one (choice (codes "ArchivedTurn") (variant (part ⟦<ArchivedU16 as Portable>⟧.shape no_part) (variant (part ⟦<ArchivedU16 as Portable>⟧.shape no_part) no_variant))) };
+    ghost pointee = { one (choice (codes "ArchivedTurn")
+        (variant (part ⟦<ArchivedU16 as Portable>⟧.shape no_part)
+        (variant (part ⟦<ArchivedU16 as Portable>⟧.shape no_part) no_variant))) };
 
     ghost definitions = { no_definition };
 
@@ -82,7 +84,9 @@ impl ArchivePointee for ArchivedTurn {
 }
 
 impl Portable for ArchivedTurn {
-    ghost shape = { choice (codes "ArchivedTurn") (variant (part ⟦<ArchivedU16 as Portable>⟧.shape no_part) (variant (part ⟦<ArchivedU16 as Portable>⟧.shape no_part) no_variant)) };
+    ghost shape = { choice (codes "ArchivedTurn") (variant
+        (part ⟦<ArchivedU16 as Portable>⟧.shape no_part)
+        (variant (part ⟦<ArchivedU16 as Portable>⟧.shape no_part) no_variant)) };
 
     ghost layout = { record { size = 4; align = 2 } };
 
@@ -94,7 +98,9 @@ impl Portable for ArchivedTurn {
 
     ghost has_layout = { record { solved = λ s k. refl } };
 
-    ghost no_others = { no_definition_reached (choice (codes "ArchivedTurn") (variant (part ⟦<ArchivedU16 as Portable>⟧.shape no_part) (variant (part ⟦<ArchivedU16 as Portable>⟧.shape no_part) no_variant))) };
+    ghost no_others = { no_definition_reached (choice (codes "ArchivedTurn")
+        (variant (part ⟦<ArchivedU16 as Portable>⟧.shape no_part)
+        (variant (part ⟦<ArchivedU16 as Portable>⟧.shape no_part) no_variant))) };
 
     ghost checks = { λ _. plain_own_check _ _ _ _ _ refl refl refl refl };
 
@@ -116,9 +122,12 @@ impl Portable for ArchivedTurn {
 }
 
 impl SelfCheck for ArchivedTurn {
-    ghost shape = { choice (codes "ArchivedTurn") (variant (part ⟦<ArchivedU16 as Portable>⟧.shape no_part) (variant (part ⟦<ArchivedU16 as Portable>⟧.shape no_part) no_variant)) };
+    ghost shape = { choice (codes "ArchivedTurn") (variant
+        (part ⟦<ArchivedU16 as Portable>⟧.shape no_part)
+        (variant (part ⟦<ArchivedU16 as Portable>⟧.shape no_part) no_variant)) };
 
-    ghost definitions = { (both (both no_definition no_definition) (both (both no_definition no_definition) no_definition)) };
+    ghost definitions = { (both (both no_definition no_definition)
+        (both (both no_definition no_definition) no_definition)) };
 
     ghost span = { 4 };
 
@@ -149,7 +158,11 @@ impl Choice for ArchivedTurn {
 
     ghost name = { codes "ArchivedTurn" };
 
-    ghost has_variants = { plain_choice (codes "ArchivedTurn") (variant (part ⟦<ArchivedU16 as Portable>⟧.shape no_part) (variant (part ⟦<ArchivedU16 as Portable>⟧.shape no_part) no_variant)) (both (both no_definition no_definition) (both (both no_definition no_definition) no_definition)) refl };
+    ghost has_variants = { plain_choice (codes "ArchivedTurn")
+        (variant (part ⟦<ArchivedU16 as Portable>⟧.shape no_part)
+        (variant (part ⟦<ArchivedU16 as Portable>⟧.shape no_part) no_variant))
+        (both (both no_definition no_definition) (both (both no_definition no_definition)
+        no_definition)) refl };
 
     ghost holds = { lit≤ tt };
 }
@@ -171,17 +184,55 @@ impl Archive for Turn {
 
     type Resolver = TurnResolver;
 
-    ghost meaning = { elim [ TurnLeft a0 ↦ case 0 (value (⟦<u16 as Archive>⟧.meaning a0) no_value) | TurnRight a0 ↦ case 1 (value (⟦<u16 as Archive>⟧.meaning a0) no_value) ] };
+    ghost meaning = { elim [
+      | TurnLeft a0 ↦ case 0 (value (⟦<u16 as Archive>⟧.meaning a0) no_value)
+      | TurnRight a0 ↦ case 1 (value (⟦<u16 as Archive>⟧.meaning a0) no_value)
+    ] };
 
-    ghost flat = { λ v r. elim v [ TurnLeft a0 ↦ elim r [ TurnLeftKept s ↦ case 0 (value (⟦<u16 as Archive>⟧.flat a0 s.0) no_value) | _ ↦ case 0 no_value ] | TurnRight a0 ↦ elim r [ TurnRightKept s ↦ case 1 (value (⟦<u16 as Archive>⟧.flat a0 s.0) no_value) | _ ↦ case 1 no_value ] ] };
+    ghost flat = { λ v r. elim v [
+      | TurnLeft a0 ↦ elim r [
+        | TurnLeftKept s ↦ case 0 (value (⟦<u16 as Archive>⟧.flat a0 s.0) no_value)
+        | _ ↦ case 0 no_value
+      ]
+      | TurnRight a0 ↦ elim r [
+        | TurnRightKept s ↦ case 1 (value (⟦<u16 as Archive>⟧.flat a0 s.0) no_value)
+        | _ ↦ case 1 no_value
+      ]
+    ] };
 
-    ghost keys = { elim [ TurnLeft a0 ↦ ⟦<u16 as Archive>⟧.keys a0 ++ [] | TurnRight a0 ↦ ⟦<u16 as Archive>⟧.keys a0 ++ [] ] };
+    ghost keys = { elim [
+      | TurnLeft a0 ↦ ⟦<u16 as Archive>⟧.keys a0 ++ []
+      | TurnRight a0 ↦ ⟦<u16 as Archive>⟧.keys a0 ++ []
+    ] };
 
-    ghost belongs = { λ v r. elim v [ TurnLeft a0 ↦ elim r [ TurnLeftKept s ↦ ⟦<u16 as Archive>⟧.belongs a0 s.0 × Unit {0} | _ ↦ ⊥ ] | TurnRight a0 ↦ elim r [ TurnRightKept s ↦ ⟦<u16 as Archive>⟧.belongs a0 s.0 × Unit {0} | _ ↦ ⊥ ] ] };
+    ghost belongs = { λ v r. elim v [
+      | TurnLeft a0 ↦ elim r [
+        | TurnLeftKept s ↦ ⟦<u16 as Archive>⟧.belongs a0 s.0 × Unit {0}
+        | _ ↦ ⊥
+      ]
+      | TurnRight a0 ↦ elim r [
+        | TurnRightKept s ↦ ⟦<u16 as Archive>⟧.belongs a0 s.0 × Unit {0}
+        | _ ↦ ⊥
+      ]
+    ] };
 
-    ghost keyed = { elim [ TurnLeft a0 ↦ case_keyed _ 0 _ (part_keyed (number_keyed _) nothing_keyed) | TurnRight a0 ↦ case_keyed _ 1 _ (part_keyed (number_keyed _) nothing_keyed) ] };
+    ghost keyed = { elim [
+      | TurnLeft a0 ↦ case_keyed _ 0 _ (part_keyed (number_keyed _) nothing_keyed)
+      | TurnRight a0 ↦ case_keyed _ 1 _ (part_keyed (number_keyed _) nothing_keyed)
+    ] };
 
-    ghost planned = { elim [ TurnLeft a0 ↦ plain_variant_planned _ _ 0 (part ⟦<ArchivedU16 as Portable>⟧.shape no_part) refl (both no_definition no_definition) _ _ (part_planned no_definition ⟦<ArchivedU16 as Portable>⟧.shape (⟦<u16 as Archive>⟧.keys a0) (⟦<u16 as Archive>⟧.meaning a0) (leaf_planned no_definition _ _ [] _ refl) no_part_planned) refl | TurnRight a0 ↦ plain_variant_planned _ _ 1 (part ⟦<ArchivedU16 as Portable>⟧.shape no_part) refl (both no_definition no_definition) _ _ (part_planned no_definition ⟦<ArchivedU16 as Portable>⟧.shape (⟦<u16 as Archive>⟧.keys a0) (⟦<u16 as Archive>⟧.meaning a0) (leaf_planned no_definition _ _ [] _ refl) no_part_planned) refl ] };
+    ghost planned = { elim [
+      | TurnLeft a0 ↦ plain_variant_planned _ _ 0 (part ⟦<ArchivedU16 as Portable>⟧.shape no_part)
+          refl (both no_definition no_definition) _ _ (part_planned no_definition
+          ⟦<ArchivedU16 as Portable>⟧.shape (⟦<u16 as Archive>⟧.keys a0)
+          (⟦<u16 as Archive>⟧.meaning a0) (leaf_planned no_definition _ _ [] _ refl)
+          no_part_planned) refl
+      | TurnRight a0 ↦ plain_variant_planned _ _ 1 (part ⟦<ArchivedU16 as Portable>⟧.shape no_part)
+          refl (both no_definition no_definition) _ _ (part_planned no_definition
+          ⟦<ArchivedU16 as Portable>⟧.shape (⟦<u16 as Archive>⟧.keys a0)
+          (⟦<u16 as Archive>⟧.meaning a0) (leaf_planned no_definition _ _ [] _ refl)
+          no_part_planned) refl
+    ] };
 
     fn resolve(
         &self,
@@ -190,9 +241,11 @@ impl Archive for Turn {
     ) -> Result<(), Error>
         requires zeroed { ZeroedPlace 4 place.pos place.bytes.now }
         requires same_value { ⟦<Self as Archive>⟧.belongs self.now resolver }
-        ensures resolved { OnOk result (ResolvedAs ⟦<Self as Archive>⟧ ⟦<Self::Archived as Portable>⟧ place self.now resolver) }
+        ensures resolved { OnOk result (ResolvedAs ⟦<Self as Archive>⟧
+            ⟦<Self::Archived as Portable>⟧ place self.now resolver) }
         ensures same_length { length place.exit.0.now ≡ length place.entry.bytes.now }
-        ensures refused { IfErr result (HinderedAs ⟦<Self as Archive>⟧ ⟦<Self::Archived as Portable>⟧ place self.now resolver) }
+        ensures refused { IfErr result (HinderedAs ⟦<Self as Archive>⟧
+            ⟦<Self::Archived as Portable>⟧ place self.now resolver) }
     {
         let Place { bytes, pos, .. } = place;
         match self {
@@ -245,7 +298,10 @@ impl ArchiveUnsized for Turn {
 
     ghost one_length = { λ _ _. refl };
 
-    ghost planned = { λ v. one_planned no_definition (choice (codes "ArchivedTurn") (variant (part ⟦<ArchivedU16 as Portable>⟧.shape no_part) (variant (part ⟦<ArchivedU16 as Portable>⟧.shape no_part) no_variant))) (⟦<Turn as Archive>⟧.keys v) (⟦<Turn as Archive>⟧.meaning v) (planned_of_turn v) };
+    ghost planned = { λ v. one_planned no_definition (choice (codes "ArchivedTurn")
+        (variant (part ⟦<ArchivedU16 as Portable>⟧.shape no_part)
+        (variant (part ⟦<ArchivedU16 as Portable>⟧.shape no_part) no_variant)))
+        (⟦<Turn as Archive>⟧.keys v) (⟦<Turn as Archive>⟧.meaning v) (planned_of_turn v) };
 
     fn archived_metadata(&self) -> Result<(), Error> {
         Ok(())
@@ -265,8 +321,10 @@ impl<D: Entries> Deserialize<Turn, D> for ArchivedTurn {
         deserializer: &mut D,
     ) -> Result<Turn, Error>
         requires { IsPartOf ⟦<Self as ArchivePointee>⟧ part }
-        ensures read { IfOk result (Read ⟦<Self as ArchivePointee>⟧ part D.Entries deserializer ⟦<Turn as Archive>⟧) }
-        ensures refused { IfErr result (RefusesPart ⟦<Self as ArchivePointee>⟧ part D.Entries deserializer) }
+        ensures read { IfOk result (Read ⟦<Self as ArchivePointee>⟧ part D.Entries deserializer
+            ⟦<Turn as Archive>⟧) }
+        ensures refused { IfErr result (RefusesPart ⟦<Self as ArchivePointee>⟧ part D.Entries
+            deserializer) }
     {
         match known_tag::<Self>(part) {
             0 => match read_case_1::<Self, ArchivedU16, u16, D>(0, alloc, part, deserializer) {
@@ -300,7 +358,14 @@ impl<'a> TurnView<'a> for Ref<'a, ArchivedTurn> {
     ghost use Rattle.derived_types.specs.declared.turns.ViewOfTurn.TheVariants.{Left as TurnLeftShown, Right as TurnRightShown};
 
     fn variant(self) -> ViewOfTurn<'a>
-        ensures shows { elim result [ TurnLeftShown a0 ↦ (tag_of self.entry ≡ 0) × (a0.bytes.now ≡ self.entry.bytes.now) × (a0.pos ≡ self.entry.pos + 2) × (a0.len ≡ 0) × ShowsValueOf a0 self.entry (payload_in 0) | TurnRightShown a0 ↦ (tag_of self.entry ≡ 1) × (a0.bytes.now ≡ self.entry.bytes.now) × (a0.pos ≡ self.entry.pos + 2) × (a0.len ≡ 0) × ShowsValueOf a0 self.entry (payload_in 0) ] }
+        ensures shows { elim result [
+          | TurnLeftShown a0 ↦ (tag_of self.entry ≡ 0) × (a0.bytes.now ≡ self.entry.bytes.now)
+              × (a0.pos ≡ self.entry.pos + 2) × (a0.len ≡ 0)
+              × ShowsValueOf a0 self.entry (payload_in 0)
+          | TurnRightShown a0 ↦ (tag_of self.entry ≡ 1) × (a0.bytes.now ≡ self.entry.bytes.now)
+              × (a0.pos ≡ self.entry.pos + 2) × (a0.len ≡ 0)
+              × ShowsValueOf a0 self.entry (payload_in 0)
+        ] }
     {
         match tag_in(self) {
             0 => ViewOfTurn::Left(part_in_case::<ArchivedTurn, ArchivedU16>(self, 0, 0, 2)),
@@ -329,32 +394,39 @@ pub trait TurnSeal<'a> {
 }
 
 impl<'a> TurnSeal<'a> for Seal<'a, ArchivedTurn> {
-    ghost sealed = { λ s. Viewed no_definition s.bytes.now s.pos (one ⟦<ArchivedTurn as Portable>⟧.shape) s.len };
+    ghost sealed = { λ s. Viewed no_definition s.bytes.now s.pos
+        (one ⟦<ArchivedTurn as Portable>⟧.shape) s.len };
 
     ghost tag = { λ s. seal_tag s };
 
     fn left_0_mut(self) -> Seal<'a, ArchivedU16>
-        requires viewed { Viewed no_definition self.bytes.now self.pos (one ⟦<ArchivedTurn as Portable>⟧.shape) self.len }
+        requires viewed { Viewed no_definition self.bytes.now self.pos
+            (one ⟦<ArchivedTurn as Portable>⟧.shape) self.len }
         requires tag { seal_tag self ≡ 0 }
         ensures same_reference { result.bytes.ghost_name ≡ self.entry.bytes.ghost_name }
         ensures buffer { result.bytes.now ≡ self.entry.bytes.now }
         ensures position { result.pos ≡ self.entry.pos + 2 }
         ensures length { result.len ≡ 0 }
-        ensures viewed { Viewed no_definition result.bytes.now result.pos ⟦<ArchivedU16 as ArchivePointee>⟧.pointee result.len }
-        ensures beside { SealsBeside no_definition (one ⟦<ArchivedTurn as Portable>⟧.shape) ⟦<ArchivedU16 as ArchivePointee>⟧.pointee result self.entry }
+        ensures viewed { Viewed no_definition result.bytes.now result.pos
+            ⟦<ArchivedU16 as ArchivePointee>⟧.pointee result.len }
+        ensures beside { SealsBeside no_definition (one ⟦<ArchivedTurn as Portable>⟧.shape)
+            ⟦<ArchivedU16 as ArchivePointee>⟧.pointee result self.entry }
     {
         sealed_part_in_case::<ArchivedTurn, ArchivedU16>(self, 0, 0, 2)
     }
 
     fn right_0_mut(self) -> Seal<'a, ArchivedU16>
-        requires viewed { Viewed no_definition self.bytes.now self.pos (one ⟦<ArchivedTurn as Portable>⟧.shape) self.len }
+        requires viewed { Viewed no_definition self.bytes.now self.pos
+            (one ⟦<ArchivedTurn as Portable>⟧.shape) self.len }
         requires tag { seal_tag self ≡ 1 }
         ensures same_reference { result.bytes.ghost_name ≡ self.entry.bytes.ghost_name }
         ensures buffer { result.bytes.now ≡ self.entry.bytes.now }
         ensures position { result.pos ≡ self.entry.pos + 2 }
         ensures length { result.len ≡ 0 }
-        ensures viewed { Viewed no_definition result.bytes.now result.pos ⟦<ArchivedU16 as ArchivePointee>⟧.pointee result.len }
-        ensures beside { SealsBeside no_definition (one ⟦<ArchivedTurn as Portable>⟧.shape) ⟦<ArchivedU16 as ArchivePointee>⟧.pointee result self.entry }
+        ensures viewed { Viewed no_definition result.bytes.now result.pos
+            ⟦<ArchivedU16 as ArchivePointee>⟧.pointee result.len }
+        ensures beside { SealsBeside no_definition (one ⟦<ArchivedTurn as Portable>⟧.shape)
+            ⟦<ArchivedU16 as ArchivePointee>⟧.pointee result self.entry }
     {
         sealed_part_in_case::<ArchivedTurn, ArchivedU16>(self, 1, 0, 2)
     }
@@ -368,7 +440,8 @@ type StepsParts = (ArchivedU16, (ArchivedU16, ()));
 impl ArchivePointee for ArchivedSteps {
     type ArchivedMetadata = ();
 
-    ghost pointee = { one (parts (part ⟦<ArchivedU16 as Portable>⟧.shape (part ⟦<ArchivedU16 as Portable>⟧.shape no_part))) };
+    ghost pointee = { one (parts (part ⟦<ArchivedU16 as Portable>⟧.shape
+        (part ⟦<ArchivedU16 as Portable>⟧.shape no_part))) };
 
     ghost definitions = { no_definition };
 
@@ -380,7 +453,8 @@ impl ArchivePointee for ArchivedSteps {
 }
 
 impl Portable for ArchivedSteps {
-    ghost shape = { parts (part ⟦<ArchivedU16 as Portable>⟧.shape (part ⟦<ArchivedU16 as Portable>⟧.shape no_part)) };
+    ghost shape = { parts (part ⟦<ArchivedU16 as Portable>⟧.shape
+        (part ⟦<ArchivedU16 as Portable>⟧.shape no_part)) };
 
     ghost layout = { record { size = 4; align = 2 } };
 
@@ -392,7 +466,8 @@ impl Portable for ArchivedSteps {
 
     ghost has_layout = { record { solved = λ s k. refl } };
 
-    ghost no_others = { no_definition_reached (parts (part ⟦<ArchivedU16 as Portable>⟧.shape (part ⟦<ArchivedU16 as Portable>⟧.shape no_part))) };
+    ghost no_others = { no_definition_reached (parts (part ⟦<ArchivedU16 as Portable>⟧.shape
+        (part ⟦<ArchivedU16 as Portable>⟧.shape no_part))) };
 
     ghost checks = { λ _. plain_own_check _ _ _ _ _ refl refl refl refl };
 
@@ -414,7 +489,8 @@ impl Portable for ArchivedSteps {
 }
 
 impl SelfCheck for ArchivedSteps {
-    ghost shape = { parts (part ⟦<ArchivedU16 as Portable>⟧.shape (part ⟦<ArchivedU16 as Portable>⟧.shape no_part)) };
+    ghost shape = { parts (part ⟦<ArchivedU16 as Portable>⟧.shape
+        (part ⟦<ArchivedU16 as Portable>⟧.shape no_part)) };
 
     ghost definitions = { (both no_definition (both no_definition no_definition)) };
 
@@ -445,7 +521,9 @@ impl SelfCheck for ArchivedSteps {
 impl Record for ArchivedSteps {
     type Parts = StepsParts;
 
-    ghost has_parts = { plain_record (part ⟦<ArchivedU16 as Portable>⟧.shape (part ⟦<ArchivedU16 as Portable>⟧.shape no_part)) (both no_definition (both no_definition no_definition)) refl };
+    ghost has_parts = { plain_record (part ⟦<ArchivedU16 as Portable>⟧.shape
+        (part ⟦<ArchivedU16 as Portable>⟧.shape no_part))
+        (both no_definition (both no_definition no_definition)) refl };
 
     ghost holds = { lit≤ tt };
 }
@@ -461,17 +539,30 @@ impl Archive for Steps {
 
     type Resolver = StepsResolver;
 
-    ghost meaning = { λ v. product (value (⟦<u16 as Archive>⟧.meaning v.first) (value (⟦<u16 as Archive>⟧.meaning v.second) no_value)) };
+    ghost meaning = { λ v. product (value (⟦<u16 as Archive>⟧.meaning v.first)
+        (value (⟦<u16 as Archive>⟧.meaning v.second) no_value)) };
 
-    ghost flat = { λ v r. product (value (⟦<u16 as Archive>⟧.flat v.first r.kept.0) (value (⟦<u16 as Archive>⟧.flat v.second r.kept.1.0) no_value)) };
+    ghost flat = { λ v r. product (value (⟦<u16 as Archive>⟧.flat v.first r.kept.0)
+        (value (⟦<u16 as Archive>⟧.flat v.second r.kept.1.0) no_value)) };
 
-    ghost keys = { λ v. ⟦<u16 as Archive>⟧.keys v.first ++ (⟦<u16 as Archive>⟧.keys v.second ++ []) };
+    ghost keys = { λ v. ⟦<u16 as Archive>⟧.keys v.first
+        ++ (⟦<u16 as Archive>⟧.keys v.second ++ []) };
 
-    ghost belongs = { λ v r. ⟦<u16 as Archive>⟧.belongs v.first r.kept.0 × (⟦<u16 as Archive>⟧.belongs v.second r.kept.1.0 × Unit {0}) };
+    ghost belongs = { λ v r. ⟦<u16 as Archive>⟧.belongs v.first r.kept.0
+        × (⟦<u16 as Archive>⟧.belongs v.second r.kept.1.0 × Unit {0}) };
 
-    ghost keyed = { λ v. record_keyed (part_keyed (number_keyed _) (part_keyed (number_keyed _) nothing_keyed)) };
+    ghost keyed = { λ v. record_keyed (part_keyed (number_keyed _)
+        (part_keyed (number_keyed _) nothing_keyed)) };
 
-    ghost planned = { λ v. plain_record_planned (both no_definition (both no_definition no_definition)) (part ⟦<ArchivedU16 as Portable>⟧.shape (part ⟦<ArchivedU16 as Portable>⟧.shape no_part)) _ _ (part_planned no_definition ⟦<ArchivedU16 as Portable>⟧.shape (⟦<u16 as Archive>⟧.keys v.first) (⟦<u16 as Archive>⟧.meaning v.first) (leaf_planned no_definition _ _ [] _ refl) (part_planned no_definition ⟦<ArchivedU16 as Portable>⟧.shape (⟦<u16 as Archive>⟧.keys v.second) (⟦<u16 as Archive>⟧.meaning v.second) (leaf_planned no_definition _ _ [] _ refl) no_part_planned)) refl };
+    ghost planned = { λ v. plain_record_planned (both no_definition
+        (both no_definition no_definition)) (part ⟦<ArchivedU16 as Portable>⟧.shape
+        (part ⟦<ArchivedU16 as Portable>⟧.shape no_part)) _ _
+        (part_planned no_definition ⟦<ArchivedU16 as Portable>⟧.shape
+        (⟦<u16 as Archive>⟧.keys v.first) (⟦<u16 as Archive>⟧.meaning v.first)
+        (leaf_planned no_definition _ _ [] _ refl) (part_planned no_definition
+        ⟦<ArchivedU16 as Portable>⟧.shape (⟦<u16 as Archive>⟧.keys v.second)
+        (⟦<u16 as Archive>⟧.meaning v.second) (leaf_planned no_definition _ _ [] _ refl)
+        no_part_planned)) refl };
 
     fn resolve(
         &self,
@@ -480,9 +571,11 @@ impl Archive for Steps {
     ) -> Result<(), Error>
         requires zeroed { ZeroedPlace 4 place.pos place.bytes.now }
         requires same_value { ⟦<Self as Archive>⟧.belongs self.now resolver }
-        ensures resolved { OnOk result (ResolvedAs ⟦<Self as Archive>⟧ ⟦<Self::Archived as Portable>⟧ place self.now resolver) }
+        ensures resolved { OnOk result (ResolvedAs ⟦<Self as Archive>⟧
+            ⟦<Self::Archived as Portable>⟧ place self.now resolver) }
         ensures same_length { length place.exit.0.now ≡ length place.entry.bytes.now }
-        ensures refused { IfErr result (HinderedAs ⟦<Self as Archive>⟧ ⟦<Self::Archived as Portable>⟧ place self.now resolver) }
+        ensures refused { IfErr result (HinderedAs ⟦<Self as Archive>⟧
+            ⟦<Self::Archived as Portable>⟧ place self.now resolver) }
     {
         let Place { bytes, pos, .. } = place;
         let StepsResolver { kept } = resolver;
@@ -525,7 +618,9 @@ impl ArchiveUnsized for Steps {
 
     ghost one_length = { λ _ _. refl };
 
-    ghost planned = { λ v. one_planned no_definition (parts (part ⟦<ArchivedU16 as Portable>⟧.shape (part ⟦<ArchivedU16 as Portable>⟧.shape no_part))) (⟦<Steps as Archive>⟧.keys v) (⟦<Steps as Archive>⟧.meaning v) (planned_of_steps v) };
+    ghost planned = { λ v. one_planned no_definition (parts
+        (part ⟦<ArchivedU16 as Portable>⟧.shape (part ⟦<ArchivedU16 as Portable>⟧.shape no_part)))
+        (⟦<Steps as Archive>⟧.keys v) (⟦<Steps as Archive>⟧.meaning v) (planned_of_steps v) };
 
     fn archived_metadata(&self) -> Result<(), Error> {
         Ok(())
@@ -545,8 +640,10 @@ impl<D: Entries> Deserialize<Steps, D> for ArchivedSteps {
         deserializer: &mut D,
     ) -> Result<Steps, Error>
         requires { IsPartOf ⟦<Self as ArchivePointee>⟧ part }
-        ensures read { IfOk result (Read ⟦<Self as ArchivePointee>⟧ part D.Entries deserializer ⟦<Steps as Archive>⟧) }
-        ensures refused { IfErr result (RefusesPart ⟦<Self as ArchivePointee>⟧ part D.Entries deserializer) }
+        ensures read { IfOk result (Read ⟦<Self as ArchivePointee>⟧ part D.Entries deserializer
+            ⟦<Steps as Archive>⟧) }
+        ensures refused { IfErr result (RefusesPart ⟦<Self as ArchivePointee>⟧ part D.Entries
+            deserializer) }
     {
         match read_record_2::<Self, ArchivedU16, u16, ArchivedU16, u16, D>(
             alloc,
@@ -606,28 +703,35 @@ pub trait StepsSeal<'a> {
 }
 
 impl<'a> StepsSeal<'a> for Seal<'a, ArchivedSteps> {
-    ghost sealed = { λ s. Viewed no_definition s.bytes.now s.pos (one ⟦<ArchivedSteps as Portable>⟧.shape) s.len };
+    ghost sealed = { λ s. Viewed no_definition s.bytes.now s.pos
+        (one ⟦<ArchivedSteps as Portable>⟧.shape) s.len };
 
     fn first_mut(self) -> Seal<'a, ArchivedU16>
-        requires viewed { Viewed no_definition self.bytes.now self.pos (one ⟦<ArchivedSteps as Portable>⟧.shape) self.len }
+        requires viewed { Viewed no_definition self.bytes.now self.pos
+            (one ⟦<ArchivedSteps as Portable>⟧.shape) self.len }
         ensures same_reference { result.bytes.ghost_name ≡ self.entry.bytes.ghost_name }
         ensures buffer { result.bytes.now ≡ self.entry.bytes.now }
         ensures position { result.pos ≡ self.entry.pos + 0 }
         ensures length { result.len ≡ 0 }
-        ensures viewed { Viewed no_definition result.bytes.now result.pos ⟦<ArchivedU16 as ArchivePointee>⟧.pointee result.len }
-        ensures beside { SealsBeside no_definition (one ⟦<ArchivedSteps as Portable>⟧.shape) ⟦<ArchivedU16 as ArchivePointee>⟧.pointee result self.entry }
+        ensures viewed { Viewed no_definition result.bytes.now result.pos
+            ⟦<ArchivedU16 as ArchivePointee>⟧.pointee result.len }
+        ensures beside { SealsBeside no_definition (one ⟦<ArchivedSteps as Portable>⟧.shape)
+            ⟦<ArchivedU16 as ArchivePointee>⟧.pointee result self.entry }
     {
         sealed_part_in_record::<ArchivedSteps, ArchivedU16>(self, 0, 0)
     }
 
     fn second_mut(self) -> Seal<'a, ArchivedU16>
-        requires viewed { Viewed no_definition self.bytes.now self.pos (one ⟦<ArchivedSteps as Portable>⟧.shape) self.len }
+        requires viewed { Viewed no_definition self.bytes.now self.pos
+            (one ⟦<ArchivedSteps as Portable>⟧.shape) self.len }
         ensures same_reference { result.bytes.ghost_name ≡ self.entry.bytes.ghost_name }
         ensures buffer { result.bytes.now ≡ self.entry.bytes.now }
         ensures position { result.pos ≡ self.entry.pos + 2 }
         ensures length { result.len ≡ 0 }
-        ensures viewed { Viewed no_definition result.bytes.now result.pos ⟦<ArchivedU16 as ArchivePointee>⟧.pointee result.len }
-        ensures beside { SealsBeside no_definition (one ⟦<ArchivedSteps as Portable>⟧.shape) ⟦<ArchivedU16 as ArchivePointee>⟧.pointee result self.entry }
+        ensures viewed { Viewed no_definition result.bytes.now result.pos
+            ⟦<ArchivedU16 as ArchivePointee>⟧.pointee result.len }
+        ensures beside { SealsBeside no_definition (one ⟦<ArchivedSteps as Portable>⟧.shape)
+            ⟦<ArchivedU16 as ArchivePointee>⟧.pointee result self.entry }
     {
         sealed_part_in_record::<ArchivedSteps, ArchivedU16>(self, 1, 2)
     }

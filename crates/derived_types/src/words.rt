@@ -72,7 +72,9 @@ type WordsParts = (u8, (u8, (u8, (u8, ()))));
 impl ArchivePointee for ArchivedWords {
     type ArchivedMetadata = ();
 
-    ghost pointee = { one (parts (part ⟦<u8 as Portable>⟧.shape (part ⟦<u8 as Portable>⟧.shape (part ⟦<u8 as Portable>⟧.shape (part ⟦<u8 as Portable>⟧.shape no_part))))) };
+    ghost pointee = { one (parts (part ⟦<u8 as Portable>⟧.shape
+        (part ⟦<u8 as Portable>⟧.shape (part ⟦<u8 as Portable>⟧.shape
+        (part ⟦<u8 as Portable>⟧.shape no_part))))) };
 
     ghost definitions = { no_definition };
 
@@ -84,7 +86,9 @@ impl ArchivePointee for ArchivedWords {
 }
 
 impl Portable for ArchivedWords {
-    ghost shape = { parts (part ⟦<u8 as Portable>⟧.shape (part ⟦<u8 as Portable>⟧.shape (part ⟦<u8 as Portable>⟧.shape (part ⟦<u8 as Portable>⟧.shape no_part)))) };
+    ghost shape = { parts (part ⟦<u8 as Portable>⟧.shape
+        (part ⟦<u8 as Portable>⟧.shape (part ⟦<u8 as Portable>⟧.shape
+        (part ⟦<u8 as Portable>⟧.shape no_part)))) };
 
     ghost layout = { record { size = 4; align = 1 } };
 
@@ -96,7 +100,9 @@ impl Portable for ArchivedWords {
 
     ghost has_layout = { record { solved = λ s k. refl } };
 
-    ghost no_others = { no_definition_reached (parts (part ⟦<u8 as Portable>⟧.shape (part ⟦<u8 as Portable>⟧.shape (part ⟦<u8 as Portable>⟧.shape (part ⟦<u8 as Portable>⟧.shape no_part))))) };
+    ghost no_others = { no_definition_reached (parts (part ⟦<u8 as Portable>⟧.shape
+        (part ⟦<u8 as Portable>⟧.shape (part ⟦<u8 as Portable>⟧.shape
+        (part ⟦<u8 as Portable>⟧.shape no_part))))) };
 
     ghost checks = { λ _. plain_own_check _ _ _ _ _ refl refl refl refl };
 
@@ -118,9 +124,12 @@ impl Portable for ArchivedWords {
 }
 
 impl SelfCheck for ArchivedWords {
-    ghost shape = { parts (part ⟦<u8 as Portable>⟧.shape (part ⟦<u8 as Portable>⟧.shape (part ⟦<u8 as Portable>⟧.shape (part ⟦<u8 as Portable>⟧.shape no_part)))) };
+    ghost shape = { parts (part ⟦<u8 as Portable>⟧.shape
+        (part ⟦<u8 as Portable>⟧.shape (part ⟦<u8 as Portable>⟧.shape
+        (part ⟦<u8 as Portable>⟧.shape no_part)))) };
 
-    ghost definitions = { (both no_definition (both no_definition (both no_definition (both no_definition no_definition)))) };
+    ghost definitions = { (both no_definition (both no_definition
+        (both no_definition (both no_definition no_definition)))) };
 
     ghost span = { 4 };
 
@@ -149,7 +158,10 @@ impl SelfCheck for ArchivedWords {
 impl Record for ArchivedWords {
     type Parts = WordsParts;
 
-    ghost has_parts = { plain_record (part ⟦<u8 as Portable>⟧.shape (part ⟦<u8 as Portable>⟧.shape (part ⟦<u8 as Portable>⟧.shape (part ⟦<u8 as Portable>⟧.shape no_part)))) (both no_definition (both no_definition (both no_definition (both no_definition no_definition)))) refl };
+    ghost has_parts = { plain_record (part ⟦<u8 as Portable>⟧.shape
+        (part ⟦<u8 as Portable>⟧.shape (part ⟦<u8 as Portable>⟧.shape
+        (part ⟦<u8 as Portable>⟧.shape no_part)))) (both no_definition
+        (both no_definition (both no_definition (both no_definition no_definition)))) refl };
 
     ghost holds = { lit≤ tt };
 }
@@ -171,17 +183,41 @@ impl Archive for Words {
 
     type Resolver = WordsResolver;
 
-    ghost meaning = { λ v. product (value (⟦<u8 as Archive>⟧.meaning v.data) (value (⟦<u8 as Archive>⟧.meaning v.result) (value (⟦<u8 as Archive>⟧.meaning v.pos) (value (⟦<u8 as Archive>⟧.meaning v.len) no_value)))) };
+    ghost meaning = { λ v. product (value (⟦<u8 as Archive>⟧.meaning v.data)
+        (value (⟦<u8 as Archive>⟧.meaning v.result) (value (⟦<u8 as Archive>⟧.meaning v.pos)
+        (value (⟦<u8 as Archive>⟧.meaning v.len) no_value)))) };
 
-    ghost flat = { λ v r. product (value (⟦<u8 as Archive>⟧.flat v.data r.kept.0) (value (⟦<u8 as Archive>⟧.flat v.result r.kept.1.0) (value (⟦<u8 as Archive>⟧.flat v.pos r.kept.1.1.0) (value (⟦<u8 as Archive>⟧.flat v.len r.kept.1.1.1.0) no_value)))) };
+    ghost flat = { λ v r. product (value (⟦<u8 as Archive>⟧.flat v.data r.kept.0)
+        (value (⟦<u8 as Archive>⟧.flat v.result r.kept.1.0)
+        (value (⟦<u8 as Archive>⟧.flat v.pos r.kept.1.1.0)
+        (value (⟦<u8 as Archive>⟧.flat v.len r.kept.1.1.1.0) no_value)))) };
 
-    ghost keys = { λ v. ⟦<u8 as Archive>⟧.keys v.data ++ (⟦<u8 as Archive>⟧.keys v.result ++ (⟦<u8 as Archive>⟧.keys v.pos ++ (⟦<u8 as Archive>⟧.keys v.len ++ []))) };
+    ghost keys = { λ v. ⟦<u8 as Archive>⟧.keys v.data
+        ++ (⟦<u8 as Archive>⟧.keys v.result ++ (⟦<u8 as Archive>⟧.keys v.pos
+        ++ (⟦<u8 as Archive>⟧.keys v.len ++ []))) };
 
-    ghost belongs = { λ v r. ⟦<u8 as Archive>⟧.belongs v.data r.kept.0 × (⟦<u8 as Archive>⟧.belongs v.result r.kept.1.0 × (⟦<u8 as Archive>⟧.belongs v.pos r.kept.1.1.0 × (⟦<u8 as Archive>⟧.belongs v.len r.kept.1.1.1.0 × Unit {0}))) };
+    ghost belongs = { λ v r. ⟦<u8 as Archive>⟧.belongs v.data r.kept.0
+        × (⟦<u8 as Archive>⟧.belongs v.result r.kept.1.0
+        × (⟦<u8 as Archive>⟧.belongs v.pos r.kept.1.1.0
+        × (⟦<u8 as Archive>⟧.belongs v.len r.kept.1.1.1.0 × Unit {0}))) };
 
-    ghost keyed = { λ v. record_keyed (part_keyed (number_keyed _) (part_keyed (number_keyed _) (part_keyed (number_keyed _) (part_keyed (number_keyed _) nothing_keyed)))) };
+    ghost keyed = { λ v. record_keyed (part_keyed (number_keyed _)
+        (part_keyed (number_keyed _) (part_keyed (number_keyed _)
+        (part_keyed (number_keyed _) nothing_keyed)))) };
 
-    ghost planned = { λ v. plain_record_planned (both no_definition (both no_definition (both no_definition (both no_definition no_definition)))) (part ⟦<u8 as Portable>⟧.shape (part ⟦<u8 as Portable>⟧.shape (part ⟦<u8 as Portable>⟧.shape (part ⟦<u8 as Portable>⟧.shape no_part)))) _ _ (part_planned no_definition ⟦<u8 as Portable>⟧.shape (⟦<u8 as Archive>⟧.keys v.data) (⟦<u8 as Archive>⟧.meaning v.data) (leaf_planned no_definition _ _ [] _ refl) (part_planned no_definition ⟦<u8 as Portable>⟧.shape (⟦<u8 as Archive>⟧.keys v.result) (⟦<u8 as Archive>⟧.meaning v.result) (leaf_planned no_definition _ _ [] _ refl) (part_planned no_definition ⟦<u8 as Portable>⟧.shape (⟦<u8 as Archive>⟧.keys v.pos) (⟦<u8 as Archive>⟧.meaning v.pos) (leaf_planned no_definition _ _ [] _ refl) (part_planned no_definition ⟦<u8 as Portable>⟧.shape (⟦<u8 as Archive>⟧.keys v.len) (⟦<u8 as Archive>⟧.meaning v.len) (leaf_planned no_definition _ _ [] _ refl) no_part_planned)))) refl };
+    ghost planned = { λ v. plain_record_planned (both no_definition
+        (both no_definition (both no_definition (both no_definition no_definition))))
+        (part ⟦<u8 as Portable>⟧.shape (part ⟦<u8 as Portable>⟧.shape
+        (part ⟦<u8 as Portable>⟧.shape (part ⟦<u8 as Portable>⟧.shape no_part)))) _ _
+        (part_planned no_definition ⟦<u8 as Portable>⟧.shape (⟦<u8 as Archive>⟧.keys v.data)
+        (⟦<u8 as Archive>⟧.meaning v.data) (leaf_planned no_definition _ _ [] _ refl)
+        (part_planned no_definition ⟦<u8 as Portable>⟧.shape (⟦<u8 as Archive>⟧.keys v.result)
+        (⟦<u8 as Archive>⟧.meaning v.result) (leaf_planned no_definition _ _ [] _ refl)
+        (part_planned no_definition ⟦<u8 as Portable>⟧.shape (⟦<u8 as Archive>⟧.keys v.pos)
+        (⟦<u8 as Archive>⟧.meaning v.pos) (leaf_planned no_definition _ _ [] _ refl)
+        (part_planned no_definition ⟦<u8 as Portable>⟧.shape (⟦<u8 as Archive>⟧.keys v.len)
+        (⟦<u8 as Archive>⟧.meaning v.len) (leaf_planned no_definition _ _ [] _ refl)
+        no_part_planned)))) refl };
 
     fn resolve(
         &self,
@@ -190,9 +226,11 @@ impl Archive for Words {
     ) -> Result<(), Error>
         requires zeroed { ZeroedPlace 4 place.pos place.bytes.now }
         requires same_value { ⟦<Self as Archive>⟧.belongs self.now resolver }
-        ensures resolved { OnOk result (ResolvedAs ⟦<Self as Archive>⟧ ⟦<Self::Archived as Portable>⟧ place self.now resolver) }
+        ensures resolved { OnOk result (ResolvedAs ⟦<Self as Archive>⟧
+            ⟦<Self::Archived as Portable>⟧ place self.now resolver) }
         ensures same_length { length place.exit.0.now ≡ length place.entry.bytes.now }
-        ensures refused { IfErr result (HinderedAs ⟦<Self as Archive>⟧ ⟦<Self::Archived as Portable>⟧ place self.now resolver) }
+        ensures refused { IfErr result (HinderedAs ⟦<Self as Archive>⟧
+            ⟦<Self::Archived as Portable>⟧ place self.now resolver) }
     {
         let Place { bytes, pos, .. } = place;
         let WordsResolver { kept } = resolver;
@@ -239,7 +277,10 @@ impl ArchiveUnsized for Words {
 
     ghost one_length = { λ _ _. refl };
 
-    ghost planned = { λ v. one_planned no_definition (parts (part ⟦<u8 as Portable>⟧.shape (part ⟦<u8 as Portable>⟧.shape (part ⟦<u8 as Portable>⟧.shape (part ⟦<u8 as Portable>⟧.shape no_part))))) (⟦<Words as Archive>⟧.keys v) (⟦<Words as Archive>⟧.meaning v) (planned_of_words v) };
+    ghost planned = { λ v. one_planned no_definition (parts
+        (part ⟦<u8 as Portable>⟧.shape (part ⟦<u8 as Portable>⟧.shape
+        (part ⟦<u8 as Portable>⟧.shape (part ⟦<u8 as Portable>⟧.shape no_part)))))
+        (⟦<Words as Archive>⟧.keys v) (⟦<Words as Archive>⟧.meaning v) (planned_of_words v) };
 
     fn archived_metadata(&self) -> Result<(), Error> {
         Ok(())
@@ -259,8 +300,10 @@ impl<D: Entries> Deserialize<Words, D> for ArchivedWords {
         deserializer: &mut D,
     ) -> Result<Words, Error>
         requires { IsPartOf ⟦<Self as ArchivePointee>⟧ part }
-        ensures read { IfOk result (Read ⟦<Self as ArchivePointee>⟧ part D.Entries deserializer ⟦<Words as Archive>⟧) }
-        ensures refused { IfErr result (RefusesPart ⟦<Self as ArchivePointee>⟧ part D.Entries deserializer) }
+        ensures read { IfOk result (Read ⟦<Self as ArchivePointee>⟧ part D.Entries deserializer
+            ⟦<Words as Archive>⟧) }
+        ensures refused { IfErr result (RefusesPart ⟦<Self as ArchivePointee>⟧ part D.Entries
+            deserializer) }
     {
         match read_record_4::<Self, u8, u8, u8, u8, u8, u8, u8, u8, D>(alloc, part, deserializer) {
             Ok((a0, (a1, (a2, (a3, ()))))) => Ok(Words {
@@ -350,52 +393,65 @@ pub trait WordsSeal<'a> {
 }
 
 impl<'a> WordsSeal<'a> for Seal<'a, ArchivedWords> {
-    ghost sealed = { λ s. Viewed no_definition s.bytes.now s.pos (one ⟦<ArchivedWords as Portable>⟧.shape) s.len };
+    ghost sealed = { λ s. Viewed no_definition s.bytes.now s.pos
+        (one ⟦<ArchivedWords as Portable>⟧.shape) s.len };
 
     fn data_mut(self) -> Seal<'a, u8>
-        requires viewed { Viewed no_definition self.bytes.now self.pos (one ⟦<ArchivedWords as Portable>⟧.shape) self.len }
+        requires viewed { Viewed no_definition self.bytes.now self.pos
+            (one ⟦<ArchivedWords as Portable>⟧.shape) self.len }
         ensures same_reference { result.bytes.ghost_name ≡ self.entry.bytes.ghost_name }
         ensures buffer { result.bytes.now ≡ self.entry.bytes.now }
         ensures position { result.pos ≡ self.entry.pos + 0 }
         ensures length { result.len ≡ 0 }
-        ensures viewed { Viewed no_definition result.bytes.now result.pos ⟦<u8 as ArchivePointee>⟧.pointee result.len }
-        ensures beside { SealsBeside no_definition (one ⟦<ArchivedWords as Portable>⟧.shape) ⟦<u8 as ArchivePointee>⟧.pointee result self.entry }
+        ensures viewed { Viewed no_definition result.bytes.now result.pos
+            ⟦<u8 as ArchivePointee>⟧.pointee result.len }
+        ensures beside { SealsBeside no_definition (one ⟦<ArchivedWords as Portable>⟧.shape)
+            ⟦<u8 as ArchivePointee>⟧.pointee result self.entry }
     {
         sealed_part_in_record::<ArchivedWords, u8>(self, 0, 0)
     }
 
     fn result_mut(self) -> Seal<'a, u8>
-        requires viewed { Viewed no_definition self.bytes.now self.pos (one ⟦<ArchivedWords as Portable>⟧.shape) self.len }
+        requires viewed { Viewed no_definition self.bytes.now self.pos
+            (one ⟦<ArchivedWords as Portable>⟧.shape) self.len }
         ensures same_reference { result.bytes.ghost_name ≡ self.entry.bytes.ghost_name }
         ensures buffer { result.bytes.now ≡ self.entry.bytes.now }
         ensures position { result.pos ≡ self.entry.pos + 1 }
         ensures length { result.len ≡ 0 }
-        ensures viewed { Viewed no_definition result.bytes.now result.pos ⟦<u8 as ArchivePointee>⟧.pointee result.len }
-        ensures beside { SealsBeside no_definition (one ⟦<ArchivedWords as Portable>⟧.shape) ⟦<u8 as ArchivePointee>⟧.pointee result self.entry }
+        ensures viewed { Viewed no_definition result.bytes.now result.pos
+            ⟦<u8 as ArchivePointee>⟧.pointee result.len }
+        ensures beside { SealsBeside no_definition (one ⟦<ArchivedWords as Portable>⟧.shape)
+            ⟦<u8 as ArchivePointee>⟧.pointee result self.entry }
     {
         sealed_part_in_record::<ArchivedWords, u8>(self, 1, 1)
     }
 
     fn pos_field_mut(self) -> Seal<'a, u8>
-        requires viewed { Viewed no_definition self.bytes.now self.pos (one ⟦<ArchivedWords as Portable>⟧.shape) self.len }
+        requires viewed { Viewed no_definition self.bytes.now self.pos
+            (one ⟦<ArchivedWords as Portable>⟧.shape) self.len }
         ensures same_reference { result.bytes.ghost_name ≡ self.entry.bytes.ghost_name }
         ensures buffer { result.bytes.now ≡ self.entry.bytes.now }
         ensures position { result.pos ≡ self.entry.pos + 2 }
         ensures length { result.len ≡ 0 }
-        ensures viewed { Viewed no_definition result.bytes.now result.pos ⟦<u8 as ArchivePointee>⟧.pointee result.len }
-        ensures beside { SealsBeside no_definition (one ⟦<ArchivedWords as Portable>⟧.shape) ⟦<u8 as ArchivePointee>⟧.pointee result self.entry }
+        ensures viewed { Viewed no_definition result.bytes.now result.pos
+            ⟦<u8 as ArchivePointee>⟧.pointee result.len }
+        ensures beside { SealsBeside no_definition (one ⟦<ArchivedWords as Portable>⟧.shape)
+            ⟦<u8 as ArchivePointee>⟧.pointee result self.entry }
     {
         sealed_part_in_record::<ArchivedWords, u8>(self, 2, 2)
     }
 
     fn len_mut(self) -> Seal<'a, u8>
-        requires viewed { Viewed no_definition self.bytes.now self.pos (one ⟦<ArchivedWords as Portable>⟧.shape) self.len }
+        requires viewed { Viewed no_definition self.bytes.now self.pos
+            (one ⟦<ArchivedWords as Portable>⟧.shape) self.len }
         ensures same_reference { result.bytes.ghost_name ≡ self.entry.bytes.ghost_name }
         ensures buffer { result.bytes.now ≡ self.entry.bytes.now }
         ensures position { result.pos ≡ self.entry.pos + 3 }
         ensures length { result.len ≡ 0 }
-        ensures viewed { Viewed no_definition result.bytes.now result.pos ⟦<u8 as ArchivePointee>⟧.pointee result.len }
-        ensures beside { SealsBeside no_definition (one ⟦<ArchivedWords as Portable>⟧.shape) ⟦<u8 as ArchivePointee>⟧.pointee result self.entry }
+        ensures viewed { Viewed no_definition result.bytes.now result.pos
+            ⟦<u8 as ArchivePointee>⟧.pointee result.len }
+        ensures beside { SealsBeside no_definition (one ⟦<ArchivedWords as Portable>⟧.shape)
+            ⟦<u8 as ArchivePointee>⟧.pointee result self.entry }
     {
         sealed_part_in_record::<ArchivedWords, u8>(self, 3, 3)
     }
@@ -411,7 +467,9 @@ type LevelVariants = ((), ((), (LevelOkParts, ())));
 impl ArchivePointee for ArchivedLevel {
     type ArchivedMetadata = ();
 
-    ghost pointee = { one (choice (codes "ArchivedLevel") (variant no_part (variant no_part (variant (part ⟦<ArchivedWords as Portable>⟧.shape no_part) no_variant)))) };
+    ghost pointee = { one (choice (codes "ArchivedLevel")
+        (variant no_part (variant no_part (variant (part ⟦<ArchivedWords as Portable>⟧.shape
+        no_part) no_variant)))) };
 
     ghost definitions = { no_definition };
 
@@ -423,7 +481,9 @@ impl ArchivePointee for ArchivedLevel {
 }
 
 impl Portable for ArchivedLevel {
-    ghost shape = { choice (codes "ArchivedLevel") (variant no_part (variant no_part (variant (part ⟦<ArchivedWords as Portable>⟧.shape no_part) no_variant))) };
+    ghost shape = { choice (codes "ArchivedLevel") (variant no_part
+        (variant no_part (variant (part ⟦<ArchivedWords as Portable>⟧.shape no_part)
+        no_variant))) };
 
     ghost layout = { record { size = 5; align = 1 } };
 
@@ -435,7 +495,9 @@ impl Portable for ArchivedLevel {
 
     ghost has_layout = { record { solved = λ s k. refl } };
 
-    ghost no_others = { no_definition_reached (choice (codes "ArchivedLevel") (variant no_part (variant no_part (variant (part ⟦<ArchivedWords as Portable>⟧.shape no_part) no_variant)))) };
+    ghost no_others = { no_definition_reached (choice (codes "ArchivedLevel")
+        (variant no_part (variant no_part (variant (part ⟦<ArchivedWords as Portable>⟧.shape
+        no_part) no_variant)))) };
 
     ghost checks = { λ _. plain_own_check _ _ _ _ _ refl refl refl refl };
 
@@ -457,9 +519,12 @@ impl Portable for ArchivedLevel {
 }
 
 impl SelfCheck for ArchivedLevel {
-    ghost shape = { choice (codes "ArchivedLevel") (variant no_part (variant no_part (variant (part ⟦<ArchivedWords as Portable>⟧.shape no_part) no_variant))) };
+    ghost shape = { choice (codes "ArchivedLevel") (variant no_part
+        (variant no_part (variant (part ⟦<ArchivedWords as Portable>⟧.shape no_part)
+        no_variant))) };
 
-    ghost definitions = { (both no_definition (both no_definition (both (both no_definition no_definition) no_definition))) };
+    ghost definitions = { (both no_definition (both no_definition
+        (both (both no_definition no_definition) no_definition))) };
 
     ghost span = { 5 };
 
@@ -490,7 +555,10 @@ impl Choice for ArchivedLevel {
 
     ghost name = { codes "ArchivedLevel" };
 
-    ghost has_variants = { plain_choice (codes "ArchivedLevel") (variant no_part (variant no_part (variant (part ⟦<ArchivedWords as Portable>⟧.shape no_part) no_variant))) (both no_definition (both no_definition (both (both no_definition no_definition) no_definition))) refl };
+    ghost has_variants = { plain_choice (codes "ArchivedLevel")
+        (variant no_part (variant no_part (variant (part ⟦<ArchivedWords as Portable>⟧.shape
+        no_part) no_variant))) (both no_definition (both no_definition
+        (both (both no_definition no_definition) no_definition))) refl };
 
     ghost holds = { lit≤ tt };
 }
@@ -515,17 +583,50 @@ impl Archive for Level {
 
     type Resolver = LevelResolver;
 
-    ghost meaning = { elim [ LevelNone ↦ case 0 no_value | LevelSome ↦ case 1 no_value | LevelOk a0 ↦ case 2 (value (⟦<Words as Archive>⟧.meaning a0) no_value) ] };
+    ghost meaning = { elim [
+      | LevelNone ↦ case 0 no_value
+      | LevelSome ↦ case 1 no_value
+      | LevelOk a0 ↦ case 2 (value (⟦<Words as Archive>⟧.meaning a0) no_value)
+    ] };
 
-    ghost flat = { λ v r. elim v [ LevelNone ↦ case 0 no_value | LevelSome ↦ case 1 no_value | LevelOk a0 ↦ elim r [ LevelOkKept s ↦ case 2 (value (⟦<Words as Archive>⟧.flat a0 s.0) no_value) | _ ↦ case 2 no_value ] ] };
+    ghost flat = { λ v r. elim v [
+      | LevelNone ↦ case 0 no_value
+      | LevelSome ↦ case 1 no_value
+      | LevelOk a0 ↦ elim r [
+        | LevelOkKept s ↦ case 2 (value (⟦<Words as Archive>⟧.flat a0 s.0) no_value)
+        | _ ↦ case 2 no_value
+      ]
+    ] };
 
-    ghost keys = { elim [ LevelNone ↦ [] | LevelSome ↦ [] | LevelOk a0 ↦ ⟦<Words as Archive>⟧.keys a0 ++ [] ] };
+    ghost keys = { elim [
+      | LevelNone ↦ []
+      | LevelSome ↦ []
+      | LevelOk a0 ↦ ⟦<Words as Archive>⟧.keys a0 ++ []
+    ] };
 
-    ghost belongs = { λ v r. elim v [ LevelNone ↦ elim r [ LevelNoneKept ↦ Unit {0} | _ ↦ ⊥ ] | LevelSome ↦ elim r [ LevelSomeKept ↦ Unit {0} | _ ↦ ⊥ ] | LevelOk a0 ↦ elim r [ LevelOkKept s ↦ ⟦<Words as Archive>⟧.belongs a0 s.0 × Unit {0} | _ ↦ ⊥ ] ] };
+    ghost belongs = { λ v r. elim v [
+      | LevelNone ↦ elim r [ LevelNoneKept ↦ Unit {0} | _ ↦ ⊥ ]
+      | LevelSome ↦ elim r [ LevelSomeKept ↦ Unit {0} | _ ↦ ⊥ ]
+      | LevelOk a0 ↦ elim r [
+        | LevelOkKept s ↦ ⟦<Words as Archive>⟧.belongs a0 s.0 × Unit {0}
+        | _ ↦ ⊥
+      ]
+    ] };
 
-    ghost keyed = { elim [ LevelNone ↦ case_keyed _ 0 _ nothing_keyed | LevelSome ↦ case_keyed _ 1 _ nothing_keyed | LevelOk a0 ↦ case_keyed _ 2 _ (part_keyed (keyed_of_words a0) nothing_keyed) ] };
+    ghost keyed = { elim [
+      | LevelNone ↦ case_keyed _ 0 _ nothing_keyed
+      | LevelSome ↦ case_keyed _ 1 _ nothing_keyed
+      | LevelOk a0 ↦ case_keyed _ 2 _ (part_keyed (keyed_of_words a0) nothing_keyed)
+    ] };
 
-    ghost planned = { elim [ LevelNone ↦ plain_variant_planned _ _ 0 no_part refl no_definition _ _ no_part_planned refl | LevelSome ↦ plain_variant_planned _ _ 1 no_part refl no_definition _ _ no_part_planned refl | LevelOk a0 ↦ plain_variant_planned _ _ 2 (part ⟦<ArchivedWords as Portable>⟧.shape no_part) refl (both no_definition no_definition) _ _ (part_planned no_definition ⟦<ArchivedWords as Portable>⟧.shape (⟦<Words as Archive>⟧.keys a0) (⟦<Words as Archive>⟧.meaning a0) (planned_of_words a0) no_part_planned) refl ] };
+    ghost planned = { elim [
+      | LevelNone ↦ plain_variant_planned _ _ 0 no_part refl no_definition _ _ no_part_planned refl
+      | LevelSome ↦ plain_variant_planned _ _ 1 no_part refl no_definition _ _ no_part_planned refl
+      | LevelOk a0 ↦ plain_variant_planned _ _ 2 (part ⟦<ArchivedWords as Portable>⟧.shape no_part)
+          refl (both no_definition no_definition) _ _ (part_planned no_definition
+          ⟦<ArchivedWords as Portable>⟧.shape (⟦<Words as Archive>⟧.keys a0)
+          (⟦<Words as Archive>⟧.meaning a0) (planned_of_words a0) no_part_planned) refl
+    ] };
 
     fn resolve(
         &self,
@@ -534,9 +635,11 @@ impl Archive for Level {
     ) -> Result<(), Error>
         requires zeroed { ZeroedPlace 5 place.pos place.bytes.now }
         requires same_value { ⟦<Self as Archive>⟧.belongs self.now resolver }
-        ensures resolved { OnOk result (ResolvedAs ⟦<Self as Archive>⟧ ⟦<Self::Archived as Portable>⟧ place self.now resolver) }
+        ensures resolved { OnOk result (ResolvedAs ⟦<Self as Archive>⟧
+            ⟦<Self::Archived as Portable>⟧ place self.now resolver) }
         ensures same_length { length place.exit.0.now ≡ length place.entry.bytes.now }
-        ensures refused { IfErr result (HinderedAs ⟦<Self as Archive>⟧ ⟦<Self::Archived as Portable>⟧ place self.now resolver) }
+        ensures refused { IfErr result (HinderedAs ⟦<Self as Archive>⟧
+            ⟦<Self::Archived as Portable>⟧ place self.now resolver) }
     {
         let Place { bytes, pos, .. } = place;
         match self {
@@ -588,7 +691,10 @@ impl ArchiveUnsized for Level {
 
     ghost one_length = { λ _ _. refl };
 
-    ghost planned = { λ v. one_planned no_definition (choice (codes "ArchivedLevel") (variant no_part (variant no_part (variant (part ⟦<ArchivedWords as Portable>⟧.shape no_part) no_variant)))) (⟦<Level as Archive>⟧.keys v) (⟦<Level as Archive>⟧.meaning v) (planned_of_level v) };
+    ghost planned = { λ v. one_planned no_definition (choice (codes "ArchivedLevel")
+        (variant no_part (variant no_part (variant (part ⟦<ArchivedWords as Portable>⟧.shape
+        no_part) no_variant)))) (⟦<Level as Archive>⟧.keys v) (⟦<Level as Archive>⟧.meaning v)
+        (planned_of_level v) };
 
     fn archived_metadata(&self) -> Result<(), Error> {
         Ok(())
@@ -608,8 +714,10 @@ impl<D: Entries> Deserialize<Level, D> for ArchivedLevel {
         deserializer: &mut D,
     ) -> Result<Level, Error>
         requires { IsPartOf ⟦<Self as ArchivePointee>⟧ part }
-        ensures read { IfOk result (Read ⟦<Self as ArchivePointee>⟧ part D.Entries deserializer ⟦<Level as Archive>⟧) }
-        ensures refused { IfErr result (RefusesPart ⟦<Self as ArchivePointee>⟧ part D.Entries deserializer) }
+        ensures read { IfOk result (Read ⟦<Self as ArchivePointee>⟧ part D.Entries deserializer
+            ⟦<Level as Archive>⟧) }
+        ensures refused { IfErr result (RefusesPart ⟦<Self as ArchivePointee>⟧ part D.Entries
+            deserializer) }
     {
         match known_tag::<Self>(part) {
             0 => match read_case_0::<Self, D>(0, alloc, part, deserializer) {
@@ -649,7 +757,13 @@ impl<'a> LevelView<'a> for Ref<'a, ArchivedLevel> {
     ghost use Rattle.derived_types.specs.declared.words.ViewOfLevel.TheVariants.{None as LevelNoneShown, Ok as LevelOkShown, Some as LevelSomeShown};
 
     fn variant(self) -> ViewOfLevel<'a>
-        ensures shows { elim result [ LevelNoneShown ↦ (tag_of self.entry ≡ 0) | LevelSomeShown ↦ (tag_of self.entry ≡ 1) | LevelOkShown a0 ↦ (tag_of self.entry ≡ 2) × (a0.bytes.now ≡ self.entry.bytes.now) × (a0.pos ≡ self.entry.pos + 1) × (a0.len ≡ 0) × ShowsValueOf a0 self.entry (payload_in 0) ] }
+        ensures shows { elim result [
+          | LevelNoneShown ↦ (tag_of self.entry ≡ 0)
+          | LevelSomeShown ↦ (tag_of self.entry ≡ 1)
+          | LevelOkShown a0 ↦ (tag_of self.entry ≡ 2) × (a0.bytes.now ≡ self.entry.bytes.now)
+              × (a0.pos ≡ self.entry.pos + 1) × (a0.len ≡ 0)
+              × ShowsValueOf a0 self.entry (payload_in 0)
+        ] }
     {
         match tag_in(self) {
             0 => ViewOfLevel::None,
@@ -674,19 +788,23 @@ pub trait LevelSeal<'a> {
 }
 
 impl<'a> LevelSeal<'a> for Seal<'a, ArchivedLevel> {
-    ghost sealed = { λ s. Viewed no_definition s.bytes.now s.pos (one ⟦<ArchivedLevel as Portable>⟧.shape) s.len };
+    ghost sealed = { λ s. Viewed no_definition s.bytes.now s.pos
+        (one ⟦<ArchivedLevel as Portable>⟧.shape) s.len };
 
     ghost tag = { λ s. seal_tag s };
 
     fn ok_0_mut(self) -> Seal<'a, ArchivedWords>
-        requires viewed { Viewed no_definition self.bytes.now self.pos (one ⟦<ArchivedLevel as Portable>⟧.shape) self.len }
+        requires viewed { Viewed no_definition self.bytes.now self.pos
+            (one ⟦<ArchivedLevel as Portable>⟧.shape) self.len }
         requires tag { seal_tag self ≡ 2 }
         ensures same_reference { result.bytes.ghost_name ≡ self.entry.bytes.ghost_name }
         ensures buffer { result.bytes.now ≡ self.entry.bytes.now }
         ensures position { result.pos ≡ self.entry.pos + 1 }
         ensures length { result.len ≡ 0 }
-        ensures viewed { Viewed no_definition result.bytes.now result.pos ⟦<ArchivedWords as ArchivePointee>⟧.pointee result.len }
-        ensures beside { SealsBeside no_definition (one ⟦<ArchivedLevel as Portable>⟧.shape) ⟦<ArchivedWords as ArchivePointee>⟧.pointee result self.entry }
+        ensures viewed { Viewed no_definition result.bytes.now result.pos
+            ⟦<ArchivedWords as ArchivePointee>⟧.pointee result.len }
+        ensures beside { SealsBeside no_definition (one ⟦<ArchivedLevel as Portable>⟧.shape)
+            ⟦<ArchivedWords as ArchivePointee>⟧.pointee result self.entry }
     {
         sealed_part_in_case::<ArchivedLevel, ArchivedWords>(self, 2, 0, 1)
     }

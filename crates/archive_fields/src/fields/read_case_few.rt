@@ -27,7 +27,8 @@ pub fn read_case_0<X: Portable, R: Entries>(
     requires tag { part_tag part ≡ tag }
     requires nameless { are_none no_definition ≡ true }
     requires viewed { IsPartOf X.ArchivePointee part }
-    ensures read { IfOk result (λ r. ReadsPart X.ArchivePointee part R.Entries deserializer (case tag no_value) []) }
+    ensures read { IfOk result (λ r. ReadsPart X.ArchivePointee part R.Entries deserializer
+        (case tag no_value) []) }
     ensures refused { IfErr result (RefusesPart X.ArchivePointee part R.Entries deserializer) }
 {
     let RawView { bytes, pos, .. } = part;
@@ -46,7 +47,8 @@ pub fn read_case_1<X: Portable, FA: Portable + Deserialize<A, R>, A: Archive + D
     requires tag { part_tag part ≡ tag }
     requires nameless { are_none (both FA.definitions no_definition) ≡ true }
     requires viewed { IsPartOf X.ArchivePointee part }
-    ensures read { IfOk result (λ r. ReadsPart X.ArchivePointee part R.Entries deserializer (case tag (value (A.meaning r.0) no_value)) (A.keys r.0 ++ [])) }
+    ensures read { IfOk result (λ r. ReadsPart X.ArchivePointee part R.Entries deserializer
+        (case tag (value (A.meaning r.0) no_value)) (A.keys r.0 ++ [])) }
     ensures refused { IfErr result (RefusesPart X.ArchivePointee part R.Entries deserializer) }
 {
     let RawView { bytes, pos, .. } = part;
@@ -67,7 +69,9 @@ pub fn read_case_2<
     requires tag { part_tag part ≡ tag }
     requires nameless { are_none (both FA.definitions (both FB.definitions no_definition)) ≡ true }
     requires viewed { IsPartOf X.ArchivePointee part }
-    ensures read { IfOk result (λ r. ReadsPart X.ArchivePointee part R.Entries deserializer (case tag (value (A.meaning r.0) (value (B.meaning r.1.0) no_value))) (A.keys r.0 ++ (B.keys r.1.0 ++ []))) }
+    ensures read { IfOk result (λ r. ReadsPart X.ArchivePointee part R.Entries deserializer
+        (case tag (value (A.meaning r.0) (value (B.meaning r.1.0) no_value)))
+        (A.keys r.0 ++ (B.keys r.1.0 ++ []))) }
     ensures refused { IfErr result (RefusesPart X.ArchivePointee part R.Entries deserializer) }
 {
     let RawView { bytes, pos, .. } = part;
@@ -91,11 +95,16 @@ pub fn read_case_3<
     deserializer: &mut R,
 ) -> Result<(A, (B, (C, ()))), Error>
     requires nothing { X.definitions ≡ no_definition }
-    requires variant { variant_in X.shape tag ≡ Some (part FA.shape (part FB.shape (part FC.shape no_part))) }
+    requires variant { variant_in X.shape tag ≡ Some (part FA.shape
+        (part FB.shape (part FC.shape no_part))) }
     requires tag { part_tag part ≡ tag }
-    requires nameless { are_none (both FA.definitions (both FB.definitions (both FC.definitions no_definition))) ≡ true }
+    requires nameless { are_none (both FA.definitions
+        (both FB.definitions (both FC.definitions no_definition))) ≡ true }
     requires viewed { IsPartOf X.ArchivePointee part }
-    ensures read { IfOk result (λ r. ReadsPart X.ArchivePointee part R.Entries deserializer (case tag (value (A.meaning r.0) (value (B.meaning r.1.0) (value (C.meaning r.1.1.0) no_value)))) (A.keys r.0 ++ (B.keys r.1.0 ++ (C.keys r.1.1.0 ++ [])))) }
+    ensures read { IfOk result (λ r. ReadsPart X.ArchivePointee part R.Entries deserializer
+        (case tag (value (A.meaning r.0) (value (B.meaning r.1.0)
+        (value (C.meaning r.1.1.0) no_value)))) (A.keys r.0
+        ++ (B.keys r.1.0 ++ (C.keys r.1.1.0 ++ [])))) }
     ensures refused { IfErr result (RefusesPart X.ArchivePointee part R.Entries deserializer) }
 {
     let RawView { bytes, pos, .. } = part;
@@ -121,11 +130,16 @@ pub fn read_case_4<
     deserializer: &mut R,
 ) -> Result<(A, (B, (C, (D, ())))), Error>
     requires nothing { X.definitions ≡ no_definition }
-    requires variant { variant_in X.shape tag ≡ Some (part FA.shape (part FB.shape (part FC.shape (part FD.shape no_part)))) }
+    requires variant { variant_in X.shape tag ≡ Some (part FA.shape
+        (part FB.shape (part FC.shape (part FD.shape no_part)))) }
     requires tag { part_tag part ≡ tag }
-    requires nameless { are_none (both FA.definitions (both FB.definitions (both FC.definitions (both FD.definitions no_definition)))) ≡ true }
+    requires nameless { are_none (both FA.definitions
+        (both FB.definitions (both FC.definitions (both FD.definitions no_definition)))) ≡ true }
     requires viewed { IsPartOf X.ArchivePointee part }
-    ensures read { IfOk result (λ r. ReadsPart X.ArchivePointee part R.Entries deserializer (case tag (value (A.meaning r.0) (value (B.meaning r.1.0) (value (C.meaning r.1.1.0) (value (D.meaning r.1.1.1.0) no_value))))) (A.keys r.0 ++ (B.keys r.1.0 ++ (C.keys r.1.1.0 ++ (D.keys r.1.1.1.0 ++ []))))) }
+    ensures read { IfOk result (λ r. ReadsPart X.ArchivePointee part R.Entries deserializer
+        (case tag (value (A.meaning r.0) (value (B.meaning r.1.0)
+        (value (C.meaning r.1.1.0) (value (D.meaning r.1.1.1.0) no_value)))))
+        (A.keys r.0 ++ (B.keys r.1.0 ++ (C.keys r.1.1.0 ++ (D.keys r.1.1.1.0 ++ []))))) }
     ensures refused { IfErr result (RefusesPart X.ArchivePointee part R.Entries deserializer) }
 {
     let RawView { bytes, pos, .. } = part;
@@ -153,11 +167,19 @@ pub fn read_case_5<
     deserializer: &mut R,
 ) -> Result<(A, (B, (C, (D, (E, ()))))), Error>
     requires nothing { X.definitions ≡ no_definition }
-    requires variant { variant_in X.shape tag ≡ Some (part FA.shape (part FB.shape (part FC.shape (part FD.shape (part FE.shape no_part))))) }
+    requires variant { variant_in X.shape tag ≡ Some (part FA.shape
+        (part FB.shape (part FC.shape (part FD.shape (part FE.shape no_part))))) }
     requires tag { part_tag part ≡ tag }
-    requires nameless { are_none (both FA.definitions (both FB.definitions (both FC.definitions (both FD.definitions (both FE.definitions no_definition))))) ≡ true }
+    requires nameless { are_none (both FA.definitions
+        (both FB.definitions (both FC.definitions (both FD.definitions
+        (both FE.definitions no_definition))))) ≡ true }
     requires viewed { IsPartOf X.ArchivePointee part }
-    ensures read { IfOk result (λ r. ReadsPart X.ArchivePointee part R.Entries deserializer (case tag (value (A.meaning r.0) (value (B.meaning r.1.0) (value (C.meaning r.1.1.0) (value (D.meaning r.1.1.1.0) (value (E.meaning r.1.1.1.1.0) no_value)))))) (A.keys r.0 ++ (B.keys r.1.0 ++ (C.keys r.1.1.0 ++ (D.keys r.1.1.1.0 ++ (E.keys r.1.1.1.1.0 ++ [])))))) }
+    ensures read { IfOk result (λ r. ReadsPart X.ArchivePointee part R.Entries deserializer
+        (case tag (value (A.meaning r.0) (value (B.meaning r.1.0)
+        (value (C.meaning r.1.1.0) (value (D.meaning r.1.1.1.0)
+        (value (E.meaning r.1.1.1.1.0) no_value)))))) (A.keys r.0
+        ++ (B.keys r.1.0 ++ (C.keys r.1.1.0 ++ (D.keys r.1.1.1.0
+        ++ (E.keys r.1.1.1.1.0 ++ [])))))) }
     ensures refused { IfErr result (RefusesPart X.ArchivePointee part R.Entries deserializer) }
 {
     let RawView { bytes, pos, .. } = part;
@@ -187,11 +209,19 @@ pub fn read_case_6<
     deserializer: &mut R,
 ) -> Result<(A, (B, (C, (D, (E, (F, ())))))), Error>
     requires nothing { X.definitions ≡ no_definition }
-    requires variant { variant_in X.shape tag ≡ Some (part FA.shape (part FB.shape (part FC.shape (part FD.shape (part FE.shape (part FF.shape no_part)))))) }
+    requires variant { variant_in X.shape tag ≡ Some (part FA.shape
+        (part FB.shape (part FC.shape (part FD.shape (part FE.shape (part FF.shape no_part)))))) }
     requires tag { part_tag part ≡ tag }
-    requires nameless { are_none (both FA.definitions (both FB.definitions (both FC.definitions (both FD.definitions (both FE.definitions (both FF.definitions no_definition)))))) ≡ true }
+    requires nameless { are_none (both FA.definitions
+        (both FB.definitions (both FC.definitions (both FD.definitions
+        (both FE.definitions (both FF.definitions no_definition)))))) ≡ true }
     requires viewed { IsPartOf X.ArchivePointee part }
-    ensures read { IfOk result (λ r. ReadsPart X.ArchivePointee part R.Entries deserializer (case tag (value (A.meaning r.0) (value (B.meaning r.1.0) (value (C.meaning r.1.1.0) (value (D.meaning r.1.1.1.0) (value (E.meaning r.1.1.1.1.0) (value (F.meaning r.1.1.1.1.1.0) no_value))))))) (A.keys r.0 ++ (B.keys r.1.0 ++ (C.keys r.1.1.0 ++ (D.keys r.1.1.1.0 ++ (E.keys r.1.1.1.1.0 ++ (F.keys r.1.1.1.1.1.0 ++ []))))))) }
+    ensures read { IfOk result (λ r. ReadsPart X.ArchivePointee part R.Entries deserializer
+        (case tag (value (A.meaning r.0) (value (B.meaning r.1.0)
+        (value (C.meaning r.1.1.0) (value (D.meaning r.1.1.1.0)
+        (value (E.meaning r.1.1.1.1.0) (value (F.meaning r.1.1.1.1.1.0) no_value)))))))
+        (A.keys r.0 ++ (B.keys r.1.0 ++ (C.keys r.1.1.0
+        ++ (D.keys r.1.1.1.0 ++ (E.keys r.1.1.1.1.0 ++ (F.keys r.1.1.1.1.1.0 ++ []))))))) }
     ensures refused { IfErr result (RefusesPart X.ArchivePointee part R.Entries deserializer) }
 {
     let RawView { bytes, pos, .. } = part;
@@ -223,11 +253,22 @@ pub fn read_case_7<
     deserializer: &mut R,
 ) -> Result<(A, (B, (C, (D, (E, (F, (G, ()))))))), Error>
     requires nothing { X.definitions ≡ no_definition }
-    requires variant { variant_in X.shape tag ≡ Some (part FA.shape (part FB.shape (part FC.shape (part FD.shape (part FE.shape (part FF.shape (part FG.shape no_part))))))) }
+    requires variant { variant_in X.shape tag ≡ Some (part FA.shape
+        (part FB.shape (part FC.shape (part FD.shape (part FE.shape
+        (part FF.shape (part FG.shape no_part))))))) }
     requires tag { part_tag part ≡ tag }
-    requires nameless { are_none (both FA.definitions (both FB.definitions (both FC.definitions (both FD.definitions (both FE.definitions (both FF.definitions (both FG.definitions no_definition))))))) ≡ true }
+    requires nameless { are_none (both FA.definitions
+        (both FB.definitions (both FC.definitions (both FD.definitions
+        (both FE.definitions (both FF.definitions (both FG.definitions no_definition))))))) ≡ true }
     requires viewed { IsPartOf X.ArchivePointee part }
-    ensures read { IfOk result (λ r. ReadsPart X.ArchivePointee part R.Entries deserializer (case tag (value (A.meaning r.0) (value (B.meaning r.1.0) (value (C.meaning r.1.1.0) (value (D.meaning r.1.1.1.0) (value (E.meaning r.1.1.1.1.0) (value (F.meaning r.1.1.1.1.1.0) (value (G.meaning r.1.1.1.1.1.1.0) no_value)))))))) (A.keys r.0 ++ (B.keys r.1.0 ++ (C.keys r.1.1.0 ++ (D.keys r.1.1.1.0 ++ (E.keys r.1.1.1.1.0 ++ (F.keys r.1.1.1.1.1.0 ++ (G.keys r.1.1.1.1.1.1.0 ++ [])))))))) }
+    ensures read { IfOk result (λ r. ReadsPart X.ArchivePointee part R.Entries deserializer
+        (case tag (value (A.meaning r.0) (value (B.meaning r.1.0)
+        (value (C.meaning r.1.1.0) (value (D.meaning r.1.1.1.0)
+        (value (E.meaning r.1.1.1.1.0) (value (F.meaning r.1.1.1.1.1.0)
+        (value (G.meaning r.1.1.1.1.1.1.0) no_value))))))))
+        (A.keys r.0 ++ (B.keys r.1.0 ++ (C.keys r.1.1.0
+        ++ (D.keys r.1.1.1.0 ++ (E.keys r.1.1.1.1.0 ++ (F.keys r.1.1.1.1.1.0
+        ++ (G.keys r.1.1.1.1.1.1.0 ++ [])))))))) }
     ensures refused { IfErr result (RefusesPart X.ArchivePointee part R.Entries deserializer) }
 {
     let RawView { bytes, pos, .. } = part;
@@ -261,11 +302,23 @@ pub fn read_case_8<
     deserializer: &mut R,
 ) -> Result<(A, (B, (C, (D, (E, (F, (G, (H, ())))))))), Error>
     requires nothing { X.definitions ≡ no_definition }
-    requires variant { variant_in X.shape tag ≡ Some (part FA.shape (part FB.shape (part FC.shape (part FD.shape (part FE.shape (part FF.shape (part FG.shape (part FH.shape no_part)))))))) }
+    requires variant { variant_in X.shape tag ≡ Some (part FA.shape
+        (part FB.shape (part FC.shape (part FD.shape (part FE.shape
+        (part FF.shape (part FG.shape (part FH.shape no_part)))))))) }
     requires tag { part_tag part ≡ tag }
-    requires nameless { are_none (both FA.definitions (both FB.definitions (both FC.definitions (both FD.definitions (both FE.definitions (both FF.definitions (both FG.definitions (both FH.definitions no_definition)))))))) ≡ true }
+    requires nameless { are_none (both FA.definitions
+        (both FB.definitions (both FC.definitions (both FD.definitions
+        (both FE.definitions (both FF.definitions (both FG.definitions
+        (both FH.definitions no_definition)))))))) ≡ true }
     requires viewed { IsPartOf X.ArchivePointee part }
-    ensures read { IfOk result (λ r. ReadsPart X.ArchivePointee part R.Entries deserializer (case tag (value (A.meaning r.0) (value (B.meaning r.1.0) (value (C.meaning r.1.1.0) (value (D.meaning r.1.1.1.0) (value (E.meaning r.1.1.1.1.0) (value (F.meaning r.1.1.1.1.1.0) (value (G.meaning r.1.1.1.1.1.1.0) (value (H.meaning r.1.1.1.1.1.1.1.0) no_value))))))))) (A.keys r.0 ++ (B.keys r.1.0 ++ (C.keys r.1.1.0 ++ (D.keys r.1.1.1.0 ++ (E.keys r.1.1.1.1.0 ++ (F.keys r.1.1.1.1.1.0 ++ (G.keys r.1.1.1.1.1.1.0 ++ (H.keys r.1.1.1.1.1.1.1.0 ++ []))))))))) }
+    ensures read { IfOk result (λ r. ReadsPart X.ArchivePointee part R.Entries deserializer
+        (case tag (value (A.meaning r.0) (value (B.meaning r.1.0)
+        (value (C.meaning r.1.1.0) (value (D.meaning r.1.1.1.0)
+        (value (E.meaning r.1.1.1.1.0) (value (F.meaning r.1.1.1.1.1.0)
+        (value (G.meaning r.1.1.1.1.1.1.0) (value (H.meaning r.1.1.1.1.1.1.1.0) no_value)))))))))
+        (A.keys r.0 ++ (B.keys r.1.0 ++ (C.keys r.1.1.0
+        ++ (D.keys r.1.1.1.0 ++ (E.keys r.1.1.1.1.0 ++ (F.keys r.1.1.1.1.1.0
+        ++ (G.keys r.1.1.1.1.1.1.0 ++ (H.keys r.1.1.1.1.1.1.1.0 ++ []))))))))) }
     ensures refused { IfErr result (RefusesPart X.ArchivePointee part R.Entries deserializer) }
 {
     let RawView { bytes, pos, .. } = part;

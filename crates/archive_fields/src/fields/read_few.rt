@@ -21,9 +21,13 @@ pub fn read_1<FA: Portable + Deserialize<A, R>, A: Archive + Drop, R: Entries>(
     start: usize,
     deserializer: &mut R,
 ) -> Result<(A, ()), Error>
-    requires viewed { PartsViewed (both FA.definitions no_definition) bytes.now pos start (part FA.shape no_part) }
-    ensures read { IfOk result (λ r. PartsReadBack bytes.now pos (both FA.definitions no_definition) (part FA.shape no_part) start (R.entry_of deserializer.old) (R.entry_of deserializer.new) (value (A.meaning r.0) no_value) (A.keys r.0 ++ [])) }
-    ensures refused { IfErr result (RefusesParts (both FA.definitions no_definition) bytes.now pos (part FA.shape no_part) start (R.entry_of deserializer.old)) }
+    requires viewed { PartsViewed (both FA.definitions no_definition) bytes.now pos start
+        (part FA.shape no_part) }
+    ensures read { IfOk result (λ r. PartsReadBack bytes.now pos (both FA.definitions no_definition)
+        (part FA.shape no_part) start (R.entry_of deserializer.old) (R.entry_of deserializer.new)
+        (value (A.meaning r.0) no_value) (A.keys r.0 ++ [])) }
+    ensures refused { IfErr result (RefusesParts (both FA.definitions no_definition) bytes.now pos
+        (part FA.shape no_part) start (R.entry_of deserializer.old)) }
 {
     let first = read_front::<FA, A, R>(alloc, bytes, pos, start, deserializer)?;
     let end = end_of::<FA>(bytes, pos, start);
@@ -46,9 +50,16 @@ pub fn read_2<
     start: usize,
     deserializer: &mut R,
 ) -> Result<(A, (B, ())), Error>
-    requires viewed { PartsViewed (both FA.definitions (both FB.definitions no_definition)) bytes.now pos start (part FA.shape (part FB.shape no_part)) }
-    ensures read { IfOk result (λ r. PartsReadBack bytes.now pos (both FA.definitions (both FB.definitions no_definition)) (part FA.shape (part FB.shape no_part)) start (R.entry_of deserializer.old) (R.entry_of deserializer.new) (value (A.meaning r.0) (value (B.meaning r.1.0) no_value)) (A.keys r.0 ++ (B.keys r.1.0 ++ []))) }
-    ensures refused { IfErr result (RefusesParts (both FA.definitions (both FB.definitions no_definition)) bytes.now pos (part FA.shape (part FB.shape no_part)) start (R.entry_of deserializer.old)) }
+    requires viewed { PartsViewed (both FA.definitions (both FB.definitions no_definition))
+        bytes.now pos start (part FA.shape (part FB.shape no_part)) }
+    ensures read { IfOk result (λ r. PartsReadBack bytes.now pos
+        (both FA.definitions (both FB.definitions no_definition))
+        (part FA.shape (part FB.shape no_part)) start (R.entry_of deserializer.old)
+        (R.entry_of deserializer.new) (value (A.meaning r.0) (value (B.meaning r.1.0) no_value))
+        (A.keys r.0 ++ (B.keys r.1.0 ++ []))) }
+    ensures refused { IfErr result (RefusesParts (both FA.definitions
+        (both FB.definitions no_definition)) bytes.now pos (part FA.shape (part FB.shape no_part))
+        start (R.entry_of deserializer.old)) }
 {
     let first = read_front::<FA, A, R>(alloc, bytes, pos, start, deserializer)?;
     let end = end_of::<FA>(bytes, pos, start);
@@ -73,9 +84,19 @@ pub fn read_3<
     start: usize,
     deserializer: &mut R,
 ) -> Result<(A, (B, (C, ()))), Error>
-    requires viewed { PartsViewed (both FA.definitions (both FB.definitions (both FC.definitions no_definition))) bytes.now pos start (part FA.shape (part FB.shape (part FC.shape no_part))) }
-    ensures read { IfOk result (λ r. PartsReadBack bytes.now pos (both FA.definitions (both FB.definitions (both FC.definitions no_definition))) (part FA.shape (part FB.shape (part FC.shape no_part))) start (R.entry_of deserializer.old) (R.entry_of deserializer.new) (value (A.meaning r.0) (value (B.meaning r.1.0) (value (C.meaning r.1.1.0) no_value))) (A.keys r.0 ++ (B.keys r.1.0 ++ (C.keys r.1.1.0 ++ [])))) }
-    ensures refused { IfErr result (RefusesParts (both FA.definitions (both FB.definitions (both FC.definitions no_definition))) bytes.now pos (part FA.shape (part FB.shape (part FC.shape no_part))) start (R.entry_of deserializer.old)) }
+    requires viewed { PartsViewed (both FA.definitions
+        (both FB.definitions (both FC.definitions no_definition))) bytes.now pos start
+        (part FA.shape (part FB.shape (part FC.shape no_part))) }
+    ensures read { IfOk result (λ r. PartsReadBack bytes.now pos
+        (both FA.definitions (both FB.definitions (both FC.definitions no_definition)))
+        (part FA.shape (part FB.shape (part FC.shape no_part))) start (R.entry_of deserializer.old)
+        (R.entry_of deserializer.new) (value (A.meaning r.0)
+        (value (B.meaning r.1.0) (value (C.meaning r.1.1.0) no_value)))
+        (A.keys r.0 ++ (B.keys r.1.0 ++ (C.keys r.1.1.0 ++ [])))) }
+    ensures refused { IfErr result (RefusesParts (both FA.definitions
+        (both FB.definitions (both FC.definitions no_definition))) bytes.now pos
+        (part FA.shape (part FB.shape (part FC.shape no_part))) start
+        (R.entry_of deserializer.old)) }
 {
     let first = read_front::<FA, A, R>(alloc, bytes, pos, start, deserializer)?;
     let end = end_of::<FA>(bytes, pos, start);
@@ -102,9 +123,21 @@ pub fn read_4<
     start: usize,
     deserializer: &mut R,
 ) -> Result<(A, (B, (C, (D, ())))), Error>
-    requires viewed { PartsViewed (both FA.definitions (both FB.definitions (both FC.definitions (both FD.definitions no_definition)))) bytes.now pos start (part FA.shape (part FB.shape (part FC.shape (part FD.shape no_part)))) }
-    ensures read { IfOk result (λ r. PartsReadBack bytes.now pos (both FA.definitions (both FB.definitions (both FC.definitions (both FD.definitions no_definition)))) (part FA.shape (part FB.shape (part FC.shape (part FD.shape no_part)))) start (R.entry_of deserializer.old) (R.entry_of deserializer.new) (value (A.meaning r.0) (value (B.meaning r.1.0) (value (C.meaning r.1.1.0) (value (D.meaning r.1.1.1.0) no_value)))) (A.keys r.0 ++ (B.keys r.1.0 ++ (C.keys r.1.1.0 ++ (D.keys r.1.1.1.0 ++ []))))) }
-    ensures refused { IfErr result (RefusesParts (both FA.definitions (both FB.definitions (both FC.definitions (both FD.definitions no_definition)))) bytes.now pos (part FA.shape (part FB.shape (part FC.shape (part FD.shape no_part)))) start (R.entry_of deserializer.old)) }
+    requires viewed { PartsViewed (both FA.definitions
+        (both FB.definitions (both FC.definitions (both FD.definitions no_definition)))) bytes.now
+        pos start (part FA.shape (part FB.shape (part FC.shape (part FD.shape no_part)))) }
+    ensures read { IfOk result (λ r. PartsReadBack bytes.now pos
+        (both FA.definitions (both FB.definitions (both FC.definitions
+        (both FD.definitions no_definition)))) (part FA.shape
+        (part FB.shape (part FC.shape (part FD.shape no_part)))) start (R.entry_of deserializer.old)
+        (R.entry_of deserializer.new) (value (A.meaning r.0)
+        (value (B.meaning r.1.0) (value (C.meaning r.1.1.0)
+        (value (D.meaning r.1.1.1.0) no_value)))) (A.keys r.0
+        ++ (B.keys r.1.0 ++ (C.keys r.1.1.0 ++ (D.keys r.1.1.1.0 ++ []))))) }
+    ensures refused { IfErr result (RefusesParts (both FA.definitions
+        (both FB.definitions (both FC.definitions (both FD.definitions no_definition)))) bytes.now
+        pos (part FA.shape (part FB.shape (part FC.shape (part FD.shape no_part)))) start
+        (R.entry_of deserializer.old)) }
 {
     let first = read_front::<FA, A, R>(alloc, bytes, pos, start, deserializer)?;
     let end = end_of::<FA>(bytes, pos, start);
@@ -133,9 +166,25 @@ pub fn read_5<
     start: usize,
     deserializer: &mut R,
 ) -> Result<(A, (B, (C, (D, (E, ()))))), Error>
-    requires viewed { PartsViewed (both FA.definitions (both FB.definitions (both FC.definitions (both FD.definitions (both FE.definitions no_definition))))) bytes.now pos start (part FA.shape (part FB.shape (part FC.shape (part FD.shape (part FE.shape no_part))))) }
-    ensures read { IfOk result (λ r. PartsReadBack bytes.now pos (both FA.definitions (both FB.definitions (both FC.definitions (both FD.definitions (both FE.definitions no_definition))))) (part FA.shape (part FB.shape (part FC.shape (part FD.shape (part FE.shape no_part))))) start (R.entry_of deserializer.old) (R.entry_of deserializer.new) (value (A.meaning r.0) (value (B.meaning r.1.0) (value (C.meaning r.1.1.0) (value (D.meaning r.1.1.1.0) (value (E.meaning r.1.1.1.1.0) no_value))))) (A.keys r.0 ++ (B.keys r.1.0 ++ (C.keys r.1.1.0 ++ (D.keys r.1.1.1.0 ++ (E.keys r.1.1.1.1.0 ++ [])))))) }
-    ensures refused { IfErr result (RefusesParts (both FA.definitions (both FB.definitions (both FC.definitions (both FD.definitions (both FE.definitions no_definition))))) bytes.now pos (part FA.shape (part FB.shape (part FC.shape (part FD.shape (part FE.shape no_part))))) start (R.entry_of deserializer.old)) }
+    requires viewed { PartsViewed (both FA.definitions
+        (both FB.definitions (both FC.definitions (both FD.definitions
+        (both FE.definitions no_definition))))) bytes.now pos start
+        (part FA.shape (part FB.shape (part FC.shape (part FD.shape (part FE.shape no_part))))) }
+    ensures read { IfOk result (λ r. PartsReadBack bytes.now pos
+        (both FA.definitions (both FB.definitions (both FC.definitions
+        (both FD.definitions (both FE.definitions no_definition)))))
+        (part FA.shape (part FB.shape (part FC.shape (part FD.shape (part FE.shape no_part)))))
+        start (R.entry_of deserializer.old) (R.entry_of deserializer.new)
+        (value (A.meaning r.0) (value (B.meaning r.1.0)
+        (value (C.meaning r.1.1.0) (value (D.meaning r.1.1.1.0)
+        (value (E.meaning r.1.1.1.1.0) no_value))))) (A.keys r.0
+        ++ (B.keys r.1.0 ++ (C.keys r.1.1.0 ++ (D.keys r.1.1.1.0
+        ++ (E.keys r.1.1.1.1.0 ++ [])))))) }
+    ensures refused { IfErr result (RefusesParts (both FA.definitions
+        (both FB.definitions (both FC.definitions (both FD.definitions
+        (both FE.definitions no_definition))))) bytes.now pos
+        (part FA.shape (part FB.shape (part FC.shape (part FD.shape (part FE.shape no_part)))))
+        start (R.entry_of deserializer.old)) }
 {
     let first = read_front::<FA, A, R>(alloc, bytes, pos, start, deserializer)?;
     let end = end_of::<FA>(bytes, pos, start);
@@ -166,9 +215,27 @@ pub fn read_6<
     start: usize,
     deserializer: &mut R,
 ) -> Result<(A, (B, (C, (D, (E, (F, ())))))), Error>
-    requires viewed { PartsViewed (both FA.definitions (both FB.definitions (both FC.definitions (both FD.definitions (both FE.definitions (both FF.definitions no_definition)))))) bytes.now pos start (part FA.shape (part FB.shape (part FC.shape (part FD.shape (part FE.shape (part FF.shape no_part)))))) }
-    ensures read { IfOk result (λ r. PartsReadBack bytes.now pos (both FA.definitions (both FB.definitions (both FC.definitions (both FD.definitions (both FE.definitions (both FF.definitions no_definition)))))) (part FA.shape (part FB.shape (part FC.shape (part FD.shape (part FE.shape (part FF.shape no_part)))))) start (R.entry_of deserializer.old) (R.entry_of deserializer.new) (value (A.meaning r.0) (value (B.meaning r.1.0) (value (C.meaning r.1.1.0) (value (D.meaning r.1.1.1.0) (value (E.meaning r.1.1.1.1.0) (value (F.meaning r.1.1.1.1.1.0) no_value)))))) (A.keys r.0 ++ (B.keys r.1.0 ++ (C.keys r.1.1.0 ++ (D.keys r.1.1.1.0 ++ (E.keys r.1.1.1.1.0 ++ (F.keys r.1.1.1.1.1.0 ++ []))))))) }
-    ensures refused { IfErr result (RefusesParts (both FA.definitions (both FB.definitions (both FC.definitions (both FD.definitions (both FE.definitions (both FF.definitions no_definition)))))) bytes.now pos (part FA.shape (part FB.shape (part FC.shape (part FD.shape (part FE.shape (part FF.shape no_part)))))) start (R.entry_of deserializer.old)) }
+    requires viewed { PartsViewed (both FA.definitions
+        (both FB.definitions (both FC.definitions (both FD.definitions
+        (both FE.definitions (both FF.definitions no_definition)))))) bytes.now pos start
+        (part FA.shape (part FB.shape (part FC.shape (part FD.shape
+        (part FE.shape (part FF.shape no_part)))))) }
+    ensures read { IfOk result (λ r. PartsReadBack bytes.now pos
+        (both FA.definitions (both FB.definitions (both FC.definitions
+        (both FD.definitions (both FE.definitions (both FF.definitions no_definition))))))
+        (part FA.shape (part FB.shape (part FC.shape (part FD.shape
+        (part FE.shape (part FF.shape no_part)))))) start (R.entry_of deserializer.old)
+        (R.entry_of deserializer.new) (value (A.meaning r.0)
+        (value (B.meaning r.1.0) (value (C.meaning r.1.1.0)
+        (value (D.meaning r.1.1.1.0) (value (E.meaning r.1.1.1.1.0)
+        (value (F.meaning r.1.1.1.1.1.0) no_value))))))
+        (A.keys r.0 ++ (B.keys r.1.0 ++ (C.keys r.1.1.0
+        ++ (D.keys r.1.1.1.0 ++ (E.keys r.1.1.1.1.0 ++ (F.keys r.1.1.1.1.1.0 ++ []))))))) }
+    ensures refused { IfErr result (RefusesParts (both FA.definitions
+        (both FB.definitions (both FC.definitions (both FD.definitions
+        (both FE.definitions (both FF.definitions no_definition)))))) bytes.now pos
+        (part FA.shape (part FB.shape (part FC.shape (part FD.shape
+        (part FE.shape (part FF.shape no_part)))))) start (R.entry_of deserializer.old)) }
 {
     let first = read_front::<FA, A, R>(alloc, bytes, pos, start, deserializer)?;
     let end = end_of::<FA>(bytes, pos, start);
@@ -207,9 +274,30 @@ pub fn read_7<
     start: usize,
     deserializer: &mut R,
 ) -> Result<(A, (B, (C, (D, (E, (F, (G, ()))))))), Error>
-    requires viewed { PartsViewed (both FA.definitions (both FB.definitions (both FC.definitions (both FD.definitions (both FE.definitions (both FF.definitions (both FG.definitions no_definition))))))) bytes.now pos start (part FA.shape (part FB.shape (part FC.shape (part FD.shape (part FE.shape (part FF.shape (part FG.shape no_part))))))) }
-    ensures read { IfOk result (λ r. PartsReadBack bytes.now pos (both FA.definitions (both FB.definitions (both FC.definitions (both FD.definitions (both FE.definitions (both FF.definitions (both FG.definitions no_definition))))))) (part FA.shape (part FB.shape (part FC.shape (part FD.shape (part FE.shape (part FF.shape (part FG.shape no_part))))))) start (R.entry_of deserializer.old) (R.entry_of deserializer.new) (value (A.meaning r.0) (value (B.meaning r.1.0) (value (C.meaning r.1.1.0) (value (D.meaning r.1.1.1.0) (value (E.meaning r.1.1.1.1.0) (value (F.meaning r.1.1.1.1.1.0) (value (G.meaning r.1.1.1.1.1.1.0) no_value))))))) (A.keys r.0 ++ (B.keys r.1.0 ++ (C.keys r.1.1.0 ++ (D.keys r.1.1.1.0 ++ (E.keys r.1.1.1.1.0 ++ (F.keys r.1.1.1.1.1.0 ++ (G.keys r.1.1.1.1.1.1.0 ++ [])))))))) }
-    ensures refused { IfErr result (RefusesParts (both FA.definitions (both FB.definitions (both FC.definitions (both FD.definitions (both FE.definitions (both FF.definitions (both FG.definitions no_definition))))))) bytes.now pos (part FA.shape (part FB.shape (part FC.shape (part FD.shape (part FE.shape (part FF.shape (part FG.shape no_part))))))) start (R.entry_of deserializer.old)) }
+    requires viewed { PartsViewed (both FA.definitions
+        (both FB.definitions (both FC.definitions (both FD.definitions
+        (both FE.definitions (both FF.definitions (both FG.definitions no_definition)))))))
+        bytes.now pos start (part FA.shape (part FB.shape
+        (part FC.shape (part FD.shape (part FE.shape (part FF.shape (part FG.shape no_part))))))) }
+    ensures read { IfOk result (λ r. PartsReadBack bytes.now pos
+        (both FA.definitions (both FB.definitions (both FC.definitions
+        (both FD.definitions (both FE.definitions (both FF.definitions
+        (both FG.definitions no_definition))))))) (part FA.shape
+        (part FB.shape (part FC.shape (part FD.shape (part FE.shape
+        (part FF.shape (part FG.shape no_part))))))) start (R.entry_of deserializer.old)
+        (R.entry_of deserializer.new) (value (A.meaning r.0)
+        (value (B.meaning r.1.0) (value (C.meaning r.1.1.0)
+        (value (D.meaning r.1.1.1.0) (value (E.meaning r.1.1.1.1.0)
+        (value (F.meaning r.1.1.1.1.1.0) (value (G.meaning r.1.1.1.1.1.1.0) no_value)))))))
+        (A.keys r.0 ++ (B.keys r.1.0 ++ (C.keys r.1.1.0
+        ++ (D.keys r.1.1.1.0 ++ (E.keys r.1.1.1.1.0 ++ (F.keys r.1.1.1.1.1.0
+        ++ (G.keys r.1.1.1.1.1.1.0 ++ [])))))))) }
+    ensures refused { IfErr result (RefusesParts (both FA.definitions
+        (both FB.definitions (both FC.definitions (both FD.definitions
+        (both FE.definitions (both FF.definitions (both FG.definitions no_definition)))))))
+        bytes.now pos (part FA.shape (part FB.shape (part FC.shape
+        (part FD.shape (part FE.shape (part FF.shape (part FG.shape no_part))))))) start
+        (R.entry_of deserializer.old)) }
 {
     let first = read_front::<FA, A, R>(alloc, bytes, pos, start, deserializer)?;
     let end = end_of::<FA>(bytes, pos, start);
@@ -250,9 +338,33 @@ pub fn read_8<
     start: usize,
     deserializer: &mut R,
 ) -> Result<(A, (B, (C, (D, (E, (F, (G, (H, ())))))))), Error>
-    requires viewed { PartsViewed (both FA.definitions (both FB.definitions (both FC.definitions (both FD.definitions (both FE.definitions (both FF.definitions (both FG.definitions (both FH.definitions no_definition)))))))) bytes.now pos start (part FA.shape (part FB.shape (part FC.shape (part FD.shape (part FE.shape (part FF.shape (part FG.shape (part FH.shape no_part)))))))) }
-    ensures read { IfOk result (λ r. PartsReadBack bytes.now pos (both FA.definitions (both FB.definitions (both FC.definitions (both FD.definitions (both FE.definitions (both FF.definitions (both FG.definitions (both FH.definitions no_definition)))))))) (part FA.shape (part FB.shape (part FC.shape (part FD.shape (part FE.shape (part FF.shape (part FG.shape (part FH.shape no_part)))))))) start (R.entry_of deserializer.old) (R.entry_of deserializer.new) (value (A.meaning r.0) (value (B.meaning r.1.0) (value (C.meaning r.1.1.0) (value (D.meaning r.1.1.1.0) (value (E.meaning r.1.1.1.1.0) (value (F.meaning r.1.1.1.1.1.0) (value (G.meaning r.1.1.1.1.1.1.0) (value (H.meaning r.1.1.1.1.1.1.1.0) no_value)))))))) (A.keys r.0 ++ (B.keys r.1.0 ++ (C.keys r.1.1.0 ++ (D.keys r.1.1.1.0 ++ (E.keys r.1.1.1.1.0 ++ (F.keys r.1.1.1.1.1.0 ++ (G.keys r.1.1.1.1.1.1.0 ++ (H.keys r.1.1.1.1.1.1.1.0 ++ []))))))))) }
-    ensures refused { IfErr result (RefusesParts (both FA.definitions (both FB.definitions (both FC.definitions (both FD.definitions (both FE.definitions (both FF.definitions (both FG.definitions (both FH.definitions no_definition)))))))) bytes.now pos (part FA.shape (part FB.shape (part FC.shape (part FD.shape (part FE.shape (part FF.shape (part FG.shape (part FH.shape no_part)))))))) start (R.entry_of deserializer.old)) }
+    requires viewed { PartsViewed (both FA.definitions
+        (both FB.definitions (both FC.definitions (both FD.definitions
+        (both FE.definitions (both FF.definitions (both FG.definitions
+        (both FH.definitions no_definition)))))))) bytes.now pos start
+        (part FA.shape (part FB.shape (part FC.shape (part FD.shape
+        (part FE.shape (part FF.shape (part FG.shape (part FH.shape no_part)))))))) }
+    ensures read { IfOk result (λ r. PartsReadBack bytes.now pos
+        (both FA.definitions (both FB.definitions (both FC.definitions
+        (both FD.definitions (both FE.definitions (both FF.definitions
+        (both FG.definitions (both FH.definitions no_definition))))))))
+        (part FA.shape (part FB.shape (part FC.shape (part FD.shape
+        (part FE.shape (part FF.shape (part FG.shape (part FH.shape no_part)))))))) start
+        (R.entry_of deserializer.old) (R.entry_of deserializer.new)
+        (value (A.meaning r.0) (value (B.meaning r.1.0)
+        (value (C.meaning r.1.1.0) (value (D.meaning r.1.1.1.0)
+        (value (E.meaning r.1.1.1.1.0) (value (F.meaning r.1.1.1.1.1.0)
+        (value (G.meaning r.1.1.1.1.1.1.0) (value (H.meaning r.1.1.1.1.1.1.1.0) no_value))))))))
+        (A.keys r.0 ++ (B.keys r.1.0 ++ (C.keys r.1.1.0
+        ++ (D.keys r.1.1.1.0 ++ (E.keys r.1.1.1.1.0 ++ (F.keys r.1.1.1.1.1.0
+        ++ (G.keys r.1.1.1.1.1.1.0 ++ (H.keys r.1.1.1.1.1.1.1.0 ++ []))))))))) }
+    ensures refused { IfErr result (RefusesParts (both FA.definitions
+        (both FB.definitions (both FC.definitions (both FD.definitions
+        (both FE.definitions (both FF.definitions (both FG.definitions
+        (both FH.definitions no_definition)))))))) bytes.now pos
+        (part FA.shape (part FB.shape (part FC.shape (part FD.shape
+        (part FE.shape (part FF.shape (part FG.shape (part FH.shape no_part)))))))) start
+        (R.entry_of deserializer.old)) }
 {
     let first = read_front::<FA, A, R>(alloc, bytes, pos, start, deserializer)?;
     let end = end_of::<FA>(bytes, pos, start);

@@ -25,7 +25,8 @@ pub fn read_record_0<X: Portable, R: Entries>(
     requires parts { X.shape ≡ parts no_part }
     requires nameless { are_none no_definition ≡ true }
     requires viewed { IsPartOf X.ArchivePointee part }
-    ensures read { IfOk result (λ r. ReadsPart X.ArchivePointee part R.Entries deserializer (product no_value) []) }
+    ensures read { IfOk result (λ r. ReadsPart X.ArchivePointee part R.Entries deserializer
+        (product no_value) []) }
     ensures refused { IfErr result (RefusesPart X.ArchivePointee part R.Entries deserializer) }
 {
     let RawView { bytes, pos, .. } = part;
@@ -42,7 +43,8 @@ pub fn read_record_1<X: Portable, FA: Portable + Deserialize<A, R>, A: Archive +
     requires parts { X.shape ≡ parts (part FA.shape no_part) }
     requires nameless { are_none (both FA.definitions no_definition) ≡ true }
     requires viewed { IsPartOf X.ArchivePointee part }
-    ensures read { IfOk result (λ r. ReadsPart X.ArchivePointee part R.Entries deserializer (product (value (A.meaning r.0) no_value)) (A.keys r.0 ++ [])) }
+    ensures read { IfOk result (λ r. ReadsPart X.ArchivePointee part R.Entries deserializer
+        (product (value (A.meaning r.0) no_value)) (A.keys r.0 ++ [])) }
     ensures refused { IfErr result (RefusesPart X.ArchivePointee part R.Entries deserializer) }
 {
     let RawView { bytes, pos, .. } = part;
@@ -62,7 +64,9 @@ pub fn read_record_2<
     requires parts { X.shape ≡ parts (part FA.shape (part FB.shape no_part)) }
     requires nameless { are_none (both FA.definitions (both FB.definitions no_definition)) ≡ true }
     requires viewed { IsPartOf X.ArchivePointee part }
-    ensures read { IfOk result (λ r. ReadsPart X.ArchivePointee part R.Entries deserializer (product (value (A.meaning r.0) (value (B.meaning r.1.0) no_value))) (A.keys r.0 ++ (B.keys r.1.0 ++ []))) }
+    ensures read { IfOk result (λ r. ReadsPart X.ArchivePointee part R.Entries deserializer
+        (product (value (A.meaning r.0) (value (B.meaning r.1.0) no_value)))
+        (A.keys r.0 ++ (B.keys r.1.0 ++ []))) }
     ensures refused { IfErr result (RefusesPart X.ArchivePointee part R.Entries deserializer) }
 {
     let RawView { bytes, pos, .. } = part;
@@ -82,9 +86,13 @@ pub fn read_record_3<
 >(alloc: Global, part: RawView<'_>, deserializer: &mut R) -> Result<(A, (B, (C, ()))), Error>
     requires nothing { X.definitions ≡ no_definition }
     requires parts { X.shape ≡ parts (part FA.shape (part FB.shape (part FC.shape no_part))) }
-    requires nameless { are_none (both FA.definitions (both FB.definitions (both FC.definitions no_definition))) ≡ true }
+    requires nameless { are_none (both FA.definitions
+        (both FB.definitions (both FC.definitions no_definition))) ≡ true }
     requires viewed { IsPartOf X.ArchivePointee part }
-    ensures read { IfOk result (λ r. ReadsPart X.ArchivePointee part R.Entries deserializer (product (value (A.meaning r.0) (value (B.meaning r.1.0) (value (C.meaning r.1.1.0) no_value)))) (A.keys r.0 ++ (B.keys r.1.0 ++ (C.keys r.1.1.0 ++ [])))) }
+    ensures read { IfOk result (λ r. ReadsPart X.ArchivePointee part R.Entries deserializer
+        (product (value (A.meaning r.0) (value (B.meaning r.1.0)
+        (value (C.meaning r.1.1.0) no_value)))) (A.keys r.0
+        ++ (B.keys r.1.0 ++ (C.keys r.1.1.0 ++ [])))) }
     ensures refused { IfErr result (RefusesPart X.ArchivePointee part R.Entries deserializer) }
 {
     let RawView { bytes, pos, .. } = part;
@@ -105,10 +113,15 @@ pub fn read_record_4<
     R: Entries,
 >(alloc: Global, part: RawView<'_>, deserializer: &mut R) -> Result<(A, (B, (C, (D, ())))), Error>
     requires nothing { X.definitions ≡ no_definition }
-    requires parts { X.shape ≡ parts (part FA.shape (part FB.shape (part FC.shape (part FD.shape no_part)))) }
-    requires nameless { are_none (both FA.definitions (both FB.definitions (both FC.definitions (both FD.definitions no_definition)))) ≡ true }
+    requires parts { X.shape ≡ parts (part FA.shape (part FB.shape
+        (part FC.shape (part FD.shape no_part)))) }
+    requires nameless { are_none (both FA.definitions
+        (both FB.definitions (both FC.definitions (both FD.definitions no_definition)))) ≡ true }
     requires viewed { IsPartOf X.ArchivePointee part }
-    ensures read { IfOk result (λ r. ReadsPart X.ArchivePointee part R.Entries deserializer (product (value (A.meaning r.0) (value (B.meaning r.1.0) (value (C.meaning r.1.1.0) (value (D.meaning r.1.1.1.0) no_value))))) (A.keys r.0 ++ (B.keys r.1.0 ++ (C.keys r.1.1.0 ++ (D.keys r.1.1.1.0 ++ []))))) }
+    ensures read { IfOk result (λ r. ReadsPart X.ArchivePointee part R.Entries deserializer
+        (product (value (A.meaning r.0) (value (B.meaning r.1.0)
+        (value (C.meaning r.1.1.0) (value (D.meaning r.1.1.1.0) no_value)))))
+        (A.keys r.0 ++ (B.keys r.1.0 ++ (C.keys r.1.1.0 ++ (D.keys r.1.1.1.0 ++ []))))) }
     ensures refused { IfErr result (RefusesPart X.ArchivePointee part R.Entries deserializer) }
 {
     let RawView { bytes, pos, .. } = part;
@@ -135,10 +148,18 @@ pub fn read_record_5<
     deserializer: &mut R,
 ) -> Result<(A, (B, (C, (D, (E, ()))))), Error>
     requires nothing { X.definitions ≡ no_definition }
-    requires parts { X.shape ≡ parts (part FA.shape (part FB.shape (part FC.shape (part FD.shape (part FE.shape no_part))))) }
-    requires nameless { are_none (both FA.definitions (both FB.definitions (both FC.definitions (both FD.definitions (both FE.definitions no_definition))))) ≡ true }
+    requires parts { X.shape ≡ parts (part FA.shape (part FB.shape
+        (part FC.shape (part FD.shape (part FE.shape no_part))))) }
+    requires nameless { are_none (both FA.definitions
+        (both FB.definitions (both FC.definitions (both FD.definitions
+        (both FE.definitions no_definition))))) ≡ true }
     requires viewed { IsPartOf X.ArchivePointee part }
-    ensures read { IfOk result (λ r. ReadsPart X.ArchivePointee part R.Entries deserializer (product (value (A.meaning r.0) (value (B.meaning r.1.0) (value (C.meaning r.1.1.0) (value (D.meaning r.1.1.1.0) (value (E.meaning r.1.1.1.1.0) no_value)))))) (A.keys r.0 ++ (B.keys r.1.0 ++ (C.keys r.1.1.0 ++ (D.keys r.1.1.1.0 ++ (E.keys r.1.1.1.1.0 ++ [])))))) }
+    ensures read { IfOk result (λ r. ReadsPart X.ArchivePointee part R.Entries deserializer
+        (product (value (A.meaning r.0) (value (B.meaning r.1.0)
+        (value (C.meaning r.1.1.0) (value (D.meaning r.1.1.1.0)
+        (value (E.meaning r.1.1.1.1.0) no_value)))))) (A.keys r.0
+        ++ (B.keys r.1.0 ++ (C.keys r.1.1.0 ++ (D.keys r.1.1.1.0
+        ++ (E.keys r.1.1.1.1.0 ++ [])))))) }
     ensures refused { IfErr result (RefusesPart X.ArchivePointee part R.Entries deserializer) }
 {
     let RawView { bytes, pos, .. } = part;
@@ -167,10 +188,18 @@ pub fn read_record_6<
     deserializer: &mut R,
 ) -> Result<(A, (B, (C, (D, (E, (F, ())))))), Error>
     requires nothing { X.definitions ≡ no_definition }
-    requires parts { X.shape ≡ parts (part FA.shape (part FB.shape (part FC.shape (part FD.shape (part FE.shape (part FF.shape no_part)))))) }
-    requires nameless { are_none (both FA.definitions (both FB.definitions (both FC.definitions (both FD.definitions (both FE.definitions (both FF.definitions no_definition)))))) ≡ true }
+    requires parts { X.shape ≡ parts (part FA.shape (part FB.shape
+        (part FC.shape (part FD.shape (part FE.shape (part FF.shape no_part)))))) }
+    requires nameless { are_none (both FA.definitions
+        (both FB.definitions (both FC.definitions (both FD.definitions
+        (both FE.definitions (both FF.definitions no_definition)))))) ≡ true }
     requires viewed { IsPartOf X.ArchivePointee part }
-    ensures read { IfOk result (λ r. ReadsPart X.ArchivePointee part R.Entries deserializer (product (value (A.meaning r.0) (value (B.meaning r.1.0) (value (C.meaning r.1.1.0) (value (D.meaning r.1.1.1.0) (value (E.meaning r.1.1.1.1.0) (value (F.meaning r.1.1.1.1.1.0) no_value))))))) (A.keys r.0 ++ (B.keys r.1.0 ++ (C.keys r.1.1.0 ++ (D.keys r.1.1.1.0 ++ (E.keys r.1.1.1.1.0 ++ (F.keys r.1.1.1.1.1.0 ++ []))))))) }
+    ensures read { IfOk result (λ r. ReadsPart X.ArchivePointee part R.Entries deserializer
+        (product (value (A.meaning r.0) (value (B.meaning r.1.0)
+        (value (C.meaning r.1.1.0) (value (D.meaning r.1.1.1.0)
+        (value (E.meaning r.1.1.1.1.0) (value (F.meaning r.1.1.1.1.1.0) no_value)))))))
+        (A.keys r.0 ++ (B.keys r.1.0 ++ (C.keys r.1.1.0
+        ++ (D.keys r.1.1.1.0 ++ (E.keys r.1.1.1.1.0 ++ (F.keys r.1.1.1.1.1.0 ++ []))))))) }
     ensures refused { IfErr result (RefusesPart X.ArchivePointee part R.Entries deserializer) }
 {
     let RawView { bytes, pos, .. } = part;
@@ -201,10 +230,20 @@ pub fn read_record_7<
     deserializer: &mut R,
 ) -> Result<(A, (B, (C, (D, (E, (F, (G, ()))))))), Error>
     requires nothing { X.definitions ≡ no_definition }
-    requires parts { X.shape ≡ parts (part FA.shape (part FB.shape (part FC.shape (part FD.shape (part FE.shape (part FF.shape (part FG.shape no_part))))))) }
-    requires nameless { are_none (both FA.definitions (both FB.definitions (both FC.definitions (both FD.definitions (both FE.definitions (both FF.definitions (both FG.definitions no_definition))))))) ≡ true }
+    requires parts { X.shape ≡ parts (part FA.shape (part FB.shape
+        (part FC.shape (part FD.shape (part FE.shape (part FF.shape (part FG.shape no_part))))))) }
+    requires nameless { are_none (both FA.definitions
+        (both FB.definitions (both FC.definitions (both FD.definitions
+        (both FE.definitions (both FF.definitions (both FG.definitions no_definition))))))) ≡ true }
     requires viewed { IsPartOf X.ArchivePointee part }
-    ensures read { IfOk result (λ r. ReadsPart X.ArchivePointee part R.Entries deserializer (product (value (A.meaning r.0) (value (B.meaning r.1.0) (value (C.meaning r.1.1.0) (value (D.meaning r.1.1.1.0) (value (E.meaning r.1.1.1.1.0) (value (F.meaning r.1.1.1.1.1.0) (value (G.meaning r.1.1.1.1.1.1.0) no_value)))))))) (A.keys r.0 ++ (B.keys r.1.0 ++ (C.keys r.1.1.0 ++ (D.keys r.1.1.1.0 ++ (E.keys r.1.1.1.1.0 ++ (F.keys r.1.1.1.1.1.0 ++ (G.keys r.1.1.1.1.1.1.0 ++ [])))))))) }
+    ensures read { IfOk result (λ r. ReadsPart X.ArchivePointee part R.Entries deserializer
+        (product (value (A.meaning r.0) (value (B.meaning r.1.0)
+        (value (C.meaning r.1.1.0) (value (D.meaning r.1.1.1.0)
+        (value (E.meaning r.1.1.1.1.0) (value (F.meaning r.1.1.1.1.1.0)
+        (value (G.meaning r.1.1.1.1.1.1.0) no_value))))))))
+        (A.keys r.0 ++ (B.keys r.1.0 ++ (C.keys r.1.1.0
+        ++ (D.keys r.1.1.1.0 ++ (E.keys r.1.1.1.1.0 ++ (F.keys r.1.1.1.1.1.0
+        ++ (G.keys r.1.1.1.1.1.1.0 ++ [])))))))) }
     ensures refused { IfErr result (RefusesPart X.ArchivePointee part R.Entries deserializer) }
 {
     let RawView { bytes, pos, .. } = part;
@@ -237,10 +276,22 @@ pub fn read_record_8<
     deserializer: &mut R,
 ) -> Result<(A, (B, (C, (D, (E, (F, (G, (H, ())))))))), Error>
     requires nothing { X.definitions ≡ no_definition }
-    requires parts { X.shape ≡ parts (part FA.shape (part FB.shape (part FC.shape (part FD.shape (part FE.shape (part FF.shape (part FG.shape (part FH.shape no_part)))))))) }
-    requires nameless { are_none (both FA.definitions (both FB.definitions (both FC.definitions (both FD.definitions (both FE.definitions (both FF.definitions (both FG.definitions (both FH.definitions no_definition)))))))) ≡ true }
+    requires parts { X.shape ≡ parts (part FA.shape (part FB.shape
+        (part FC.shape (part FD.shape (part FE.shape (part FF.shape
+        (part FG.shape (part FH.shape no_part)))))))) }
+    requires nameless { are_none (both FA.definitions
+        (both FB.definitions (both FC.definitions (both FD.definitions
+        (both FE.definitions (both FF.definitions (both FG.definitions
+        (both FH.definitions no_definition)))))))) ≡ true }
     requires viewed { IsPartOf X.ArchivePointee part }
-    ensures read { IfOk result (λ r. ReadsPart X.ArchivePointee part R.Entries deserializer (product (value (A.meaning r.0) (value (B.meaning r.1.0) (value (C.meaning r.1.1.0) (value (D.meaning r.1.1.1.0) (value (E.meaning r.1.1.1.1.0) (value (F.meaning r.1.1.1.1.1.0) (value (G.meaning r.1.1.1.1.1.1.0) (value (H.meaning r.1.1.1.1.1.1.1.0) no_value))))))))) (A.keys r.0 ++ (B.keys r.1.0 ++ (C.keys r.1.1.0 ++ (D.keys r.1.1.1.0 ++ (E.keys r.1.1.1.1.0 ++ (F.keys r.1.1.1.1.1.0 ++ (G.keys r.1.1.1.1.1.1.0 ++ (H.keys r.1.1.1.1.1.1.1.0 ++ []))))))))) }
+    ensures read { IfOk result (λ r. ReadsPart X.ArchivePointee part R.Entries deserializer
+        (product (value (A.meaning r.0) (value (B.meaning r.1.0)
+        (value (C.meaning r.1.1.0) (value (D.meaning r.1.1.1.0)
+        (value (E.meaning r.1.1.1.1.0) (value (F.meaning r.1.1.1.1.1.0)
+        (value (G.meaning r.1.1.1.1.1.1.0) (value (H.meaning r.1.1.1.1.1.1.1.0) no_value)))))))))
+        (A.keys r.0 ++ (B.keys r.1.0 ++ (C.keys r.1.1.0
+        ++ (D.keys r.1.1.1.0 ++ (E.keys r.1.1.1.1.0 ++ (F.keys r.1.1.1.1.1.0
+        ++ (G.keys r.1.1.1.1.1.1.0 ++ (H.keys r.1.1.1.1.1.1.1.0 ++ []))))))))) }
     ensures refused { IfErr result (RefusesPart X.ArchivePointee part R.Entries deserializer) }
 {
     let RawView { bytes, pos, .. } = part;

@@ -46,13 +46,16 @@ pub fn resolve_case_1<A: Archive, X: Portable>(
     requires nothing { X.definitions ≡ no_definition }
     requires variant { variant_in X.shape tag ≡ Some (part A.Archived.shape no_part) }
     requires nameless { are_none (both A.Archived.definitions no_definition) ≡ true }
-    requires inside { Unit {0} → (up 1 A.Archived.layout.align + A.Archived.layout.size) ≤ X.layout.size }
+    requires inside { Unit {0} → (up 1 A.Archived.layout.align + A.Archived.layout.size)
+        ≤ X.layout.size }
     requires some { 0 < X.layout.size }
     requires zeroed { ZeroedPlace X.layout.size place.pos place.bytes.now }
     requires same_values { A.belongs a.now resolvers.0 × Unit {0} }
-    ensures resolved { OnOk result (Resolved X.Portable place (case tag (value (A.flat a.now resolvers.0) no_value))) }
+    ensures resolved { OnOk result (Resolved X.Portable place
+        (case tag (value (A.flat a.now resolvers.0) no_value))) }
     ensures same_length { length place.exit.0.now ≡ length place.entry.bytes.now }
-    ensures refused { IfErr result (Hindered X.Portable place (case tag (value (A.flat a.now resolvers.0) no_value))) }
+    ensures refused { IfErr result (Hindered X.Portable place
+        (case tag (value (A.flat a.now resolvers.0) no_value))) }
 {
     let Place { bytes, pos, .. } = place;
     bytes[0] = tag;
@@ -68,15 +71,23 @@ pub fn resolve_case_2<A: Archive, B: Archive, X: Portable>(
     place: Place<'_, X>,
 ) -> Result<(), Error>
     requires nothing { X.definitions ≡ no_definition }
-    requires variant { variant_in X.shape tag ≡ Some (part A.Archived.shape (part B.Archived.shape no_part)) }
-    requires nameless { are_none (both A.Archived.definitions (both B.Archived.definitions no_definition)) ≡ true }
-    requires inside { Unit {0} → (up (up 1 A.Archived.layout.align + A.Archived.layout.size) B.Archived.layout.align + B.Archived.layout.size) ≤ X.layout.size }
+    requires variant { variant_in X.shape tag ≡ Some (part A.Archived.shape
+        (part B.Archived.shape no_part)) }
+    requires nameless { are_none (both A.Archived.definitions
+        (both B.Archived.definitions no_definition)) ≡ true }
+    requires inside { Unit {0} → (up (up 1 A.Archived.layout.align + A.Archived.layout.size)
+        B.Archived.layout.align + B.Archived.layout.size) ≤ X.layout.size }
     requires some { 0 < X.layout.size }
     requires zeroed { ZeroedPlace X.layout.size place.pos place.bytes.now }
-    requires same_values { A.belongs a.now resolvers.0 × (B.belongs b.now resolvers.1.0 × Unit {0}) }
-    ensures resolved { OnOk result (Resolved X.Portable place (case tag (value (A.flat a.now resolvers.0) (value (B.flat b.now resolvers.1.0) no_value)))) }
+    requires same_values { A.belongs a.now resolvers.0
+        × (B.belongs b.now resolvers.1.0 × Unit {0}) }
+    ensures resolved { OnOk result (Resolved X.Portable place
+        (case tag (value (A.flat a.now resolvers.0) (value (B.flat b.now resolvers.1.0)
+        no_value)))) }
     ensures same_length { length place.exit.0.now ≡ length place.entry.bytes.now }
-    ensures refused { IfErr result (Hindered X.Portable place (case tag (value (A.flat a.now resolvers.0) (value (B.flat b.now resolvers.1.0) no_value)))) }
+    ensures refused { IfErr result (Hindered X.Portable place
+        (case tag (value (A.flat a.now resolvers.0) (value (B.flat b.now resolvers.1.0)
+        no_value)))) }
 {
     let Place { bytes, pos, .. } = place;
     bytes[0] = tag;
@@ -93,15 +104,24 @@ pub fn resolve_case_3<A: Archive, B: Archive, C: Archive, X: Portable>(
     place: Place<'_, X>,
 ) -> Result<(), Error>
     requires nothing { X.definitions ≡ no_definition }
-    requires variant { variant_in X.shape tag ≡ Some (part A.Archived.shape (part B.Archived.shape (part C.Archived.shape no_part))) }
-    requires nameless { are_none (both A.Archived.definitions (both B.Archived.definitions (both C.Archived.definitions no_definition))) ≡ true }
-    requires inside { Unit {0} → (up (up (up 1 A.Archived.layout.align + A.Archived.layout.size) B.Archived.layout.align + B.Archived.layout.size) C.Archived.layout.align + C.Archived.layout.size) ≤ X.layout.size }
+    requires variant { variant_in X.shape tag ≡ Some (part A.Archived.shape
+        (part B.Archived.shape (part C.Archived.shape no_part))) }
+    requires nameless { are_none (both A.Archived.definitions
+        (both B.Archived.definitions (both C.Archived.definitions no_definition))) ≡ true }
+    requires inside { Unit {0} → (up (up (up 1 A.Archived.layout.align + A.Archived.layout.size)
+        B.Archived.layout.align + B.Archived.layout.size) C.Archived.layout.align
+        + C.Archived.layout.size) ≤ X.layout.size }
     requires some { 0 < X.layout.size }
     requires zeroed { ZeroedPlace X.layout.size place.pos place.bytes.now }
-    requires same_values { A.belongs a.now resolvers.0 × (B.belongs b.now resolvers.1.0 × (C.belongs c.now resolvers.1.1.0 × Unit {0})) }
-    ensures resolved { OnOk result (Resolved X.Portable place (case tag (value (A.flat a.now resolvers.0) (value (B.flat b.now resolvers.1.0) (value (C.flat c.now resolvers.1.1.0) no_value))))) }
+    requires same_values { A.belongs a.now resolvers.0
+        × (B.belongs b.now resolvers.1.0 × (C.belongs c.now resolvers.1.1.0 × Unit {0})) }
+    ensures resolved { OnOk result (Resolved X.Portable place
+        (case tag (value (A.flat a.now resolvers.0) (value (B.flat b.now resolvers.1.0)
+        (value (C.flat c.now resolvers.1.1.0) no_value))))) }
     ensures same_length { length place.exit.0.now ≡ length place.entry.bytes.now }
-    ensures refused { IfErr result (Hindered X.Portable place (case tag (value (A.flat a.now resolvers.0) (value (B.flat b.now resolvers.1.0) (value (C.flat c.now resolvers.1.1.0) no_value))))) }
+    ensures refused { IfErr result (Hindered X.Portable place
+        (case tag (value (A.flat a.now resolvers.0) (value (B.flat b.now resolvers.1.0)
+        (value (C.flat c.now resolvers.1.1.0) no_value))))) }
 {
     let Place { bytes, pos, .. } = place;
     bytes[0] = tag;
@@ -119,15 +139,29 @@ pub fn resolve_case_4<A: Archive, B: Archive, C: Archive, D: Archive, X: Portabl
     place: Place<'_, X>,
 ) -> Result<(), Error>
     requires nothing { X.definitions ≡ no_definition }
-    requires variant { variant_in X.shape tag ≡ Some (part A.Archived.shape (part B.Archived.shape (part C.Archived.shape (part D.Archived.shape no_part)))) }
-    requires nameless { are_none (both A.Archived.definitions (both B.Archived.definitions (both C.Archived.definitions (both D.Archived.definitions no_definition)))) ≡ true }
-    requires inside { Unit {0} → (up (up (up (up 1 A.Archived.layout.align + A.Archived.layout.size) B.Archived.layout.align + B.Archived.layout.size) C.Archived.layout.align + C.Archived.layout.size) D.Archived.layout.align + D.Archived.layout.size) ≤ X.layout.size }
+    requires variant { variant_in X.shape tag ≡ Some (part A.Archived.shape
+        (part B.Archived.shape (part C.Archived.shape (part D.Archived.shape no_part)))) }
+    requires nameless { are_none (both A.Archived.definitions
+        (both B.Archived.definitions (both C.Archived.definitions
+        (both D.Archived.definitions no_definition)))) ≡ true }
+    requires inside { Unit {0} → (up (up (up (up 1 A.Archived.layout.align + A.Archived.layout.size)
+        B.Archived.layout.align + B.Archived.layout.size) C.Archived.layout.align
+        + C.Archived.layout.size) D.Archived.layout.align + D.Archived.layout.size)
+        ≤ X.layout.size }
     requires some { 0 < X.layout.size }
     requires zeroed { ZeroedPlace X.layout.size place.pos place.bytes.now }
-    requires same_values { A.belongs a.now resolvers.0 × (B.belongs b.now resolvers.1.0 × (C.belongs c.now resolvers.1.1.0 × (D.belongs d.now resolvers.1.1.1.0 × Unit {0}))) }
-    ensures resolved { OnOk result (Resolved X.Portable place (case tag (value (A.flat a.now resolvers.0) (value (B.flat b.now resolvers.1.0) (value (C.flat c.now resolvers.1.1.0) (value (D.flat d.now resolvers.1.1.1.0) no_value)))))) }
+    requires same_values { A.belongs a.now resolvers.0
+        × (B.belongs b.now resolvers.1.0 × (C.belongs c.now resolvers.1.1.0
+        × (D.belongs d.now resolvers.1.1.1.0 × Unit {0}))) }
+    ensures resolved { OnOk result (Resolved X.Portable place
+        (case tag (value (A.flat a.now resolvers.0) (value (B.flat b.now resolvers.1.0)
+        (value (C.flat c.now resolvers.1.1.0) (value (D.flat d.now resolvers.1.1.1.0)
+        no_value)))))) }
     ensures same_length { length place.exit.0.now ≡ length place.entry.bytes.now }
-    ensures refused { IfErr result (Hindered X.Portable place (case tag (value (A.flat a.now resolvers.0) (value (B.flat b.now resolvers.1.0) (value (C.flat c.now resolvers.1.1.0) (value (D.flat d.now resolvers.1.1.1.0) no_value)))))) }
+    ensures refused { IfErr result (Hindered X.Portable place
+        (case tag (value (A.flat a.now resolvers.0) (value (B.flat b.now resolvers.1.0)
+        (value (C.flat c.now resolvers.1.1.0) (value (D.flat d.now resolvers.1.1.1.0)
+        no_value)))))) }
 {
     let Place { bytes, pos, .. } = place;
     bytes[0] = tag;
@@ -149,15 +183,31 @@ pub fn resolve_case_5<A: Archive, B: Archive, C: Archive, D: Archive, E: Archive
     place: Place<'_, X>,
 ) -> Result<(), Error>
     requires nothing { X.definitions ≡ no_definition }
-    requires variant { variant_in X.shape tag ≡ Some (part A.Archived.shape (part B.Archived.shape (part C.Archived.shape (part D.Archived.shape (part E.Archived.shape no_part))))) }
-    requires nameless { are_none (both A.Archived.definitions (both B.Archived.definitions (both C.Archived.definitions (both D.Archived.definitions (both E.Archived.definitions no_definition))))) ≡ true }
-    requires inside { Unit {0} → (up (up (up (up (up 1 A.Archived.layout.align + A.Archived.layout.size) B.Archived.layout.align + B.Archived.layout.size) C.Archived.layout.align + C.Archived.layout.size) D.Archived.layout.align + D.Archived.layout.size) E.Archived.layout.align + E.Archived.layout.size) ≤ X.layout.size }
+    requires variant { variant_in X.shape tag ≡ Some (part A.Archived.shape
+        (part B.Archived.shape (part C.Archived.shape (part D.Archived.shape
+        (part E.Archived.shape no_part))))) }
+    requires nameless { are_none (both A.Archived.definitions
+        (both B.Archived.definitions (both C.Archived.definitions
+        (both D.Archived.definitions (both E.Archived.definitions no_definition))))) ≡ true }
+    requires inside { Unit {0} → (up (up (up (up (up 1 A.Archived.layout.align
+        + A.Archived.layout.size) B.Archived.layout.align + B.Archived.layout.size)
+        C.Archived.layout.align + C.Archived.layout.size) D.Archived.layout.align
+        + D.Archived.layout.size) E.Archived.layout.align + E.Archived.layout.size)
+        ≤ X.layout.size }
     requires some { 0 < X.layout.size }
     requires zeroed { ZeroedPlace X.layout.size place.pos place.bytes.now }
-    requires same_values { A.belongs a.now resolvers.0 × (B.belongs b.now resolvers.1.0 × (C.belongs c.now resolvers.1.1.0 × (D.belongs d.now resolvers.1.1.1.0 × (E.belongs e.now resolvers.1.1.1.1.0 × Unit {0})))) }
-    ensures resolved { OnOk result (Resolved X.Portable place (case tag (value (A.flat a.now resolvers.0) (value (B.flat b.now resolvers.1.0) (value (C.flat c.now resolvers.1.1.0) (value (D.flat d.now resolvers.1.1.1.0) (value (E.flat e.now resolvers.1.1.1.1.0) no_value))))))) }
+    requires same_values { A.belongs a.now resolvers.0
+        × (B.belongs b.now resolvers.1.0 × (C.belongs c.now resolvers.1.1.0
+        × (D.belongs d.now resolvers.1.1.1.0 × (E.belongs e.now resolvers.1.1.1.1.0 × Unit {0})))) }
+    ensures resolved { OnOk result (Resolved X.Portable place
+        (case tag (value (A.flat a.now resolvers.0) (value (B.flat b.now resolvers.1.0)
+        (value (C.flat c.now resolvers.1.1.0) (value (D.flat d.now resolvers.1.1.1.0)
+        (value (E.flat e.now resolvers.1.1.1.1.0) no_value))))))) }
     ensures same_length { length place.exit.0.now ≡ length place.entry.bytes.now }
-    ensures refused { IfErr result (Hindered X.Portable place (case tag (value (A.flat a.now resolvers.0) (value (B.flat b.now resolvers.1.0) (value (C.flat c.now resolvers.1.1.0) (value (D.flat d.now resolvers.1.1.1.0) (value (E.flat e.now resolvers.1.1.1.1.0) no_value))))))) }
+    ensures refused { IfErr result (Hindered X.Portable place
+        (case tag (value (A.flat a.now resolvers.0) (value (B.flat b.now resolvers.1.0)
+        (value (C.flat c.now resolvers.1.1.0) (value (D.flat d.now resolvers.1.1.1.0)
+        (value (E.flat e.now resolvers.1.1.1.1.0) no_value))))))) }
 {
     let Place { bytes, pos, .. } = place;
     bytes[0] = tag;
@@ -191,15 +241,35 @@ pub fn resolve_case_6<
     place: Place<'_, X>,
 ) -> Result<(), Error>
     requires nothing { X.definitions ≡ no_definition }
-    requires variant { variant_in X.shape tag ≡ Some (part A.Archived.shape (part B.Archived.shape (part C.Archived.shape (part D.Archived.shape (part E.Archived.shape (part F.Archived.shape no_part)))))) }
-    requires nameless { are_none (both A.Archived.definitions (both B.Archived.definitions (both C.Archived.definitions (both D.Archived.definitions (both E.Archived.definitions (both F.Archived.definitions no_definition)))))) ≡ true }
-    requires inside { Unit {0} → (up (up (up (up (up (up 1 A.Archived.layout.align + A.Archived.layout.size) B.Archived.layout.align + B.Archived.layout.size) C.Archived.layout.align + C.Archived.layout.size) D.Archived.layout.align + D.Archived.layout.size) E.Archived.layout.align + E.Archived.layout.size) F.Archived.layout.align + F.Archived.layout.size) ≤ X.layout.size }
+    requires variant { variant_in X.shape tag ≡ Some (part A.Archived.shape
+        (part B.Archived.shape (part C.Archived.shape (part D.Archived.shape
+        (part E.Archived.shape (part F.Archived.shape no_part)))))) }
+    requires nameless { are_none (both A.Archived.definitions
+        (both B.Archived.definitions (both C.Archived.definitions
+        (both D.Archived.definitions (both E.Archived.definitions
+        (both F.Archived.definitions no_definition)))))) ≡ true }
+    requires inside { Unit {0} → (up (up (up (up (up (up 1 A.Archived.layout.align
+        + A.Archived.layout.size) B.Archived.layout.align + B.Archived.layout.size)
+        C.Archived.layout.align + C.Archived.layout.size) D.Archived.layout.align
+        + D.Archived.layout.size) E.Archived.layout.align + E.Archived.layout.size)
+        F.Archived.layout.align + F.Archived.layout.size) ≤ X.layout.size }
     requires some { 0 < X.layout.size }
     requires zeroed { ZeroedPlace X.layout.size place.pos place.bytes.now }
-    requires same_values { A.belongs a.now resolvers.0 × (B.belongs b.now resolvers.1.0 × (C.belongs c.now resolvers.1.1.0 × (D.belongs d.now resolvers.1.1.1.0 × (E.belongs e.now resolvers.1.1.1.1.0 × (F.belongs f.now resolvers.1.1.1.1.1.0 × Unit {0}))))) }
-    ensures resolved { OnOk result (Resolved X.Portable place (case tag (value (A.flat a.now resolvers.0) (value (B.flat b.now resolvers.1.0) (value (C.flat c.now resolvers.1.1.0) (value (D.flat d.now resolvers.1.1.1.0) (value (E.flat e.now resolvers.1.1.1.1.0) (value (F.flat f.now resolvers.1.1.1.1.1.0) no_value)))))))) }
+    requires same_values { A.belongs a.now resolvers.0
+        × (B.belongs b.now resolvers.1.0 × (C.belongs c.now resolvers.1.1.0
+        × (D.belongs d.now resolvers.1.1.1.0 × (E.belongs e.now resolvers.1.1.1.1.0
+        × (F.belongs f.now resolvers.1.1.1.1.1.0 × Unit {0}))))) }
+    ensures resolved { OnOk result (Resolved X.Portable place
+        (case tag (value (A.flat a.now resolvers.0) (value (B.flat b.now resolvers.1.0)
+        (value (C.flat c.now resolvers.1.1.0) (value (D.flat d.now resolvers.1.1.1.0)
+        (value (E.flat e.now resolvers.1.1.1.1.0) (value (F.flat f.now resolvers.1.1.1.1.1.0)
+        no_value)))))))) }
     ensures same_length { length place.exit.0.now ≡ length place.entry.bytes.now }
-    ensures refused { IfErr result (Hindered X.Portable place (case tag (value (A.flat a.now resolvers.0) (value (B.flat b.now resolvers.1.0) (value (C.flat c.now resolvers.1.1.0) (value (D.flat d.now resolvers.1.1.1.0) (value (E.flat e.now resolvers.1.1.1.1.0) (value (F.flat f.now resolvers.1.1.1.1.1.0) no_value)))))))) }
+    ensures refused { IfErr result (Hindered X.Portable place
+        (case tag (value (A.flat a.now resolvers.0) (value (B.flat b.now resolvers.1.0)
+        (value (C.flat c.now resolvers.1.1.0) (value (D.flat d.now resolvers.1.1.1.0)
+        (value (E.flat e.now resolvers.1.1.1.1.0) (value (F.flat f.now resolvers.1.1.1.1.1.0)
+        no_value)))))))) }
 {
     let Place { bytes, pos, .. } = place;
     bytes[0] = tag;
@@ -238,15 +308,37 @@ pub fn resolve_case_7<
     place: Place<'_, X>,
 ) -> Result<(), Error>
     requires nothing { X.definitions ≡ no_definition }
-    requires variant { variant_in X.shape tag ≡ Some (part A.Archived.shape (part B.Archived.shape (part C.Archived.shape (part D.Archived.shape (part E.Archived.shape (part F.Archived.shape (part G.Archived.shape no_part))))))) }
-    requires nameless { are_none (both A.Archived.definitions (both B.Archived.definitions (both C.Archived.definitions (both D.Archived.definitions (both E.Archived.definitions (both F.Archived.definitions (both G.Archived.definitions no_definition))))))) ≡ true }
-    requires inside { Unit {0} → (up (up (up (up (up (up (up 1 A.Archived.layout.align + A.Archived.layout.size) B.Archived.layout.align + B.Archived.layout.size) C.Archived.layout.align + C.Archived.layout.size) D.Archived.layout.align + D.Archived.layout.size) E.Archived.layout.align + E.Archived.layout.size) F.Archived.layout.align + F.Archived.layout.size) G.Archived.layout.align + G.Archived.layout.size) ≤ X.layout.size }
+    requires variant { variant_in X.shape tag ≡ Some (part A.Archived.shape
+        (part B.Archived.shape (part C.Archived.shape (part D.Archived.shape
+        (part E.Archived.shape (part F.Archived.shape (part G.Archived.shape no_part))))))) }
+    requires nameless { are_none (both A.Archived.definitions
+        (both B.Archived.definitions (both C.Archived.definitions
+        (both D.Archived.definitions (both E.Archived.definitions
+        (both F.Archived.definitions (both G.Archived.definitions no_definition))))))) ≡ true }
+    requires inside { Unit {0} → (up (up (up (up (up (up
+        (up 1 A.Archived.layout.align + A.Archived.layout.size) B.Archived.layout.align
+        + B.Archived.layout.size) C.Archived.layout.align + C.Archived.layout.size)
+        D.Archived.layout.align + D.Archived.layout.size) E.Archived.layout.align
+        + E.Archived.layout.size) F.Archived.layout.align + F.Archived.layout.size)
+        G.Archived.layout.align + G.Archived.layout.size) ≤ X.layout.size }
     requires some { 0 < X.layout.size }
     requires zeroed { ZeroedPlace X.layout.size place.pos place.bytes.now }
-    requires same_values { A.belongs a.now resolvers.0 × (B.belongs b.now resolvers.1.0 × (C.belongs c.now resolvers.1.1.0 × (D.belongs d.now resolvers.1.1.1.0 × (E.belongs e.now resolvers.1.1.1.1.0 × (F.belongs f.now resolvers.1.1.1.1.1.0 × (G.belongs g.now resolvers.1.1.1.1.1.1.0 × Unit {0})))))) }
-    ensures resolved { OnOk result (Resolved X.Portable place (case tag (value (A.flat a.now resolvers.0) (value (B.flat b.now resolvers.1.0) (value (C.flat c.now resolvers.1.1.0) (value (D.flat d.now resolvers.1.1.1.0) (value (E.flat e.now resolvers.1.1.1.1.0) (value (F.flat f.now resolvers.1.1.1.1.1.0) (value (G.flat g.now resolvers.1.1.1.1.1.1.0) no_value))))))))) }
+    requires same_values { A.belongs a.now resolvers.0
+        × (B.belongs b.now resolvers.1.0 × (C.belongs c.now resolvers.1.1.0
+        × (D.belongs d.now resolvers.1.1.1.0 × (E.belongs e.now resolvers.1.1.1.1.0
+        × (F.belongs f.now resolvers.1.1.1.1.1.0 × (G.belongs g.now resolvers.1.1.1.1.1.1.0
+        × Unit {0})))))) }
+    ensures resolved { OnOk result (Resolved X.Portable place
+        (case tag (value (A.flat a.now resolvers.0) (value (B.flat b.now resolvers.1.0)
+        (value (C.flat c.now resolvers.1.1.0) (value (D.flat d.now resolvers.1.1.1.0)
+        (value (E.flat e.now resolvers.1.1.1.1.0) (value (F.flat f.now resolvers.1.1.1.1.1.0)
+        (value (G.flat g.now resolvers.1.1.1.1.1.1.0) no_value))))))))) }
     ensures same_length { length place.exit.0.now ≡ length place.entry.bytes.now }
-    ensures refused { IfErr result (Hindered X.Portable place (case tag (value (A.flat a.now resolvers.0) (value (B.flat b.now resolvers.1.0) (value (C.flat c.now resolvers.1.1.0) (value (D.flat d.now resolvers.1.1.1.0) (value (E.flat e.now resolvers.1.1.1.1.0) (value (F.flat f.now resolvers.1.1.1.1.1.0) (value (G.flat g.now resolvers.1.1.1.1.1.1.0) no_value))))))))) }
+    ensures refused { IfErr result (Hindered X.Portable place
+        (case tag (value (A.flat a.now resolvers.0) (value (B.flat b.now resolvers.1.0)
+        (value (C.flat c.now resolvers.1.1.0) (value (D.flat d.now resolvers.1.1.1.0)
+        (value (E.flat e.now resolvers.1.1.1.1.0) (value (F.flat f.now resolvers.1.1.1.1.1.0)
+        (value (G.flat g.now resolvers.1.1.1.1.1.1.0) no_value))))))))) }
 {
     let Place { bytes, pos, .. } = place;
     bytes[0] = tag;
@@ -290,15 +382,42 @@ pub fn resolve_case_8<
     place: Place<'_, X>,
 ) -> Result<(), Error>
     requires nothing { X.definitions ≡ no_definition }
-    requires variant { variant_in X.shape tag ≡ Some (part A.Archived.shape (part B.Archived.shape (part C.Archived.shape (part D.Archived.shape (part E.Archived.shape (part F.Archived.shape (part G.Archived.shape (part H.Archived.shape no_part)))))))) }
-    requires nameless { are_none (both A.Archived.definitions (both B.Archived.definitions (both C.Archived.definitions (both D.Archived.definitions (both E.Archived.definitions (both F.Archived.definitions (both G.Archived.definitions (both H.Archived.definitions no_definition)))))))) ≡ true }
-    requires inside { Unit {0} → (up (up (up (up (up (up (up (up 1 A.Archived.layout.align + A.Archived.layout.size) B.Archived.layout.align + B.Archived.layout.size) C.Archived.layout.align + C.Archived.layout.size) D.Archived.layout.align + D.Archived.layout.size) E.Archived.layout.align + E.Archived.layout.size) F.Archived.layout.align + F.Archived.layout.size) G.Archived.layout.align + G.Archived.layout.size) H.Archived.layout.align + H.Archived.layout.size) ≤ X.layout.size }
+    requires variant { variant_in X.shape tag ≡ Some (part A.Archived.shape
+        (part B.Archived.shape (part C.Archived.shape (part D.Archived.shape
+        (part E.Archived.shape (part F.Archived.shape (part G.Archived.shape
+        (part H.Archived.shape no_part)))))))) }
+    requires nameless { are_none (both A.Archived.definitions
+        (both B.Archived.definitions (both C.Archived.definitions
+        (both D.Archived.definitions (both E.Archived.definitions
+        (both F.Archived.definitions (both G.Archived.definitions
+        (both H.Archived.definitions no_definition)))))))) ≡ true }
+    requires inside { Unit {0} → (up (up (up (up (up (up
+        (up (up 1 A.Archived.layout.align + A.Archived.layout.size) B.Archived.layout.align
+        + B.Archived.layout.size) C.Archived.layout.align + C.Archived.layout.size)
+        D.Archived.layout.align + D.Archived.layout.size) E.Archived.layout.align
+        + E.Archived.layout.size) F.Archived.layout.align + F.Archived.layout.size)
+        G.Archived.layout.align + G.Archived.layout.size) H.Archived.layout.align
+        + H.Archived.layout.size) ≤ X.layout.size }
     requires some { 0 < X.layout.size }
     requires zeroed { ZeroedPlace X.layout.size place.pos place.bytes.now }
-    requires same_values { A.belongs a.now resolvers.0 × (B.belongs b.now resolvers.1.0 × (C.belongs c.now resolvers.1.1.0 × (D.belongs d.now resolvers.1.1.1.0 × (E.belongs e.now resolvers.1.1.1.1.0 × (F.belongs f.now resolvers.1.1.1.1.1.0 × (G.belongs g.now resolvers.1.1.1.1.1.1.0 × (H.belongs h.now resolvers.1.1.1.1.1.1.1.0 × Unit {0}))))))) }
-    ensures resolved { OnOk result (Resolved X.Portable place (case tag (value (A.flat a.now resolvers.0) (value (B.flat b.now resolvers.1.0) (value (C.flat c.now resolvers.1.1.0) (value (D.flat d.now resolvers.1.1.1.0) (value (E.flat e.now resolvers.1.1.1.1.0) (value (F.flat f.now resolvers.1.1.1.1.1.0) (value (G.flat g.now resolvers.1.1.1.1.1.1.0) (value (H.flat h.now resolvers.1.1.1.1.1.1.1.0) no_value)))))))))) }
+    requires same_values { A.belongs a.now resolvers.0
+        × (B.belongs b.now resolvers.1.0 × (C.belongs c.now resolvers.1.1.0
+        × (D.belongs d.now resolvers.1.1.1.0 × (E.belongs e.now resolvers.1.1.1.1.0
+        × (F.belongs f.now resolvers.1.1.1.1.1.0 × (G.belongs g.now resolvers.1.1.1.1.1.1.0
+        × (H.belongs h.now resolvers.1.1.1.1.1.1.1.0 × Unit {0}))))))) }
+    ensures resolved { OnOk result (Resolved X.Portable place
+        (case tag (value (A.flat a.now resolvers.0) (value (B.flat b.now resolvers.1.0)
+        (value (C.flat c.now resolvers.1.1.0) (value (D.flat d.now resolvers.1.1.1.0)
+        (value (E.flat e.now resolvers.1.1.1.1.0) (value (F.flat f.now resolvers.1.1.1.1.1.0)
+        (value (G.flat g.now resolvers.1.1.1.1.1.1.0) (value
+        (H.flat h.now resolvers.1.1.1.1.1.1.1.0) no_value)))))))))) }
     ensures same_length { length place.exit.0.now ≡ length place.entry.bytes.now }
-    ensures refused { IfErr result (Hindered X.Portable place (case tag (value (A.flat a.now resolvers.0) (value (B.flat b.now resolvers.1.0) (value (C.flat c.now resolvers.1.1.0) (value (D.flat d.now resolvers.1.1.1.0) (value (E.flat e.now resolvers.1.1.1.1.0) (value (F.flat f.now resolvers.1.1.1.1.1.0) (value (G.flat g.now resolvers.1.1.1.1.1.1.0) (value (H.flat h.now resolvers.1.1.1.1.1.1.1.0) no_value)))))))))) }
+    ensures refused { IfErr result (Hindered X.Portable place
+        (case tag (value (A.flat a.now resolvers.0) (value (B.flat b.now resolvers.1.0)
+        (value (C.flat c.now resolvers.1.1.0) (value (D.flat d.now resolvers.1.1.1.0)
+        (value (E.flat e.now resolvers.1.1.1.1.0) (value (F.flat f.now resolvers.1.1.1.1.1.0)
+        (value (G.flat g.now resolvers.1.1.1.1.1.1.0) (value
+        (H.flat h.now resolvers.1.1.1.1.1.1.1.0) no_value)))))))))) }
 {
     let Place { bytes, pos, .. } = place;
     bytes[0] = tag;

@@ -20,11 +20,16 @@ pub fn resolve_1<A: Archive>(
     start: usize,
     bytes: &mut [u8],
 ) -> Result<(), Error>
-    requires zeroed { ZeroedParts (up start A.Archived.layout.align + A.Archived.layout.size) start pos bytes.old }
+    requires zeroed { ZeroedParts (up start A.Archived.layout.align + A.Archived.layout.size) start
+        pos bytes.old }
     requires same_values { A.belongs a.now resolvers.0 × Unit {0} }
-    ensures resolved { OnOk result (ResolvesParts (both A.Archived.definitions no_definition) pos start bytes.new (part A.Archived.shape no_part) (value (A.flat a.now resolvers.0) no_value)) }
+    ensures resolved { OnOk result (ResolvesParts (both A.Archived.definitions no_definition) pos
+        start bytes.new (part A.Archived.shape no_part)
+        (value (A.flat a.now resolvers.0) no_value)) }
     ensures same_length { length bytes.new ≡ length bytes.old }
-    ensures refused { IfErr result (λ refusal. HindersPartsAt (both A.Archived.definitions no_definition) (part A.Archived.shape no_part) (value (A.flat a.now resolvers.0) no_value) pos start refusal) }
+    ensures refused { IfErr result (λ refusal. HindersPartsAt
+        (both A.Archived.definitions no_definition) (part A.Archived.shape no_part)
+        (value (A.flat a.now resolvers.0) no_value) pos start refusal) }
 {
     let (resolver, others) = resolvers;
     let end = resolve_front(a, resolver, pos, start, bytes)?;
@@ -40,11 +45,20 @@ pub fn resolve_2<A: Archive, B: Archive>(
     start: usize,
     bytes: &mut [u8],
 ) -> Result<(), Error>
-    requires zeroed { ZeroedParts (up (up start A.Archived.layout.align + A.Archived.layout.size) B.Archived.layout.align + B.Archived.layout.size) start pos bytes.old }
-    requires same_values { A.belongs a.now resolvers.0 × (B.belongs b.now resolvers.1.0 × Unit {0}) }
-    ensures resolved { OnOk result (ResolvesParts (both A.Archived.definitions (both B.Archived.definitions no_definition)) pos start bytes.new (part A.Archived.shape (part B.Archived.shape no_part)) (value (A.flat a.now resolvers.0) (value (B.flat b.now resolvers.1.0) no_value))) }
+    requires zeroed { ZeroedParts (up (up start A.Archived.layout.align + A.Archived.layout.size)
+        B.Archived.layout.align + B.Archived.layout.size) start pos bytes.old }
+    requires same_values { A.belongs a.now resolvers.0
+        × (B.belongs b.now resolvers.1.0 × Unit {0}) }
+    ensures resolved { OnOk result (ResolvesParts (both A.Archived.definitions
+        (both B.Archived.definitions no_definition)) pos start bytes.new
+        (part A.Archived.shape (part B.Archived.shape no_part))
+        (value (A.flat a.now resolvers.0) (value (B.flat b.now resolvers.1.0) no_value))) }
     ensures same_length { length bytes.new ≡ length bytes.old }
-    ensures refused { IfErr result (λ refusal. HindersPartsAt (both A.Archived.definitions (both B.Archived.definitions no_definition)) (part A.Archived.shape (part B.Archived.shape no_part)) (value (A.flat a.now resolvers.0) (value (B.flat b.now resolvers.1.0) no_value)) pos start refusal) }
+    ensures refused { IfErr result (λ refusal. HindersPartsAt
+        (both A.Archived.definitions (both B.Archived.definitions no_definition))
+        (part A.Archived.shape (part B.Archived.shape no_part))
+        (value (A.flat a.now resolvers.0) (value (B.flat b.now resolvers.1.0) no_value)) pos start
+        refusal) }
 {
     let (resolver, others) = resolvers;
     let end = resolve_front(a, resolver, pos, start, bytes)?;
@@ -61,11 +75,23 @@ pub fn resolve_3<A: Archive, B: Archive, C: Archive>(
     start: usize,
     bytes: &mut [u8],
 ) -> Result<(), Error>
-    requires zeroed { ZeroedParts (up (up (up start A.Archived.layout.align + A.Archived.layout.size) B.Archived.layout.align + B.Archived.layout.size) C.Archived.layout.align + C.Archived.layout.size) start pos bytes.old }
-    requires same_values { A.belongs a.now resolvers.0 × (B.belongs b.now resolvers.1.0 × (C.belongs c.now resolvers.1.1.0 × Unit {0})) }
-    ensures resolved { OnOk result (ResolvesParts (both A.Archived.definitions (both B.Archived.definitions (both C.Archived.definitions no_definition))) pos start bytes.new (part A.Archived.shape (part B.Archived.shape (part C.Archived.shape no_part))) (value (A.flat a.now resolvers.0) (value (B.flat b.now resolvers.1.0) (value (C.flat c.now resolvers.1.1.0) no_value)))) }
+    requires zeroed { ZeroedParts (up (up (up start A.Archived.layout.align
+        + A.Archived.layout.size) B.Archived.layout.align + B.Archived.layout.size)
+        C.Archived.layout.align + C.Archived.layout.size) start pos bytes.old }
+    requires same_values { A.belongs a.now resolvers.0
+        × (B.belongs b.now resolvers.1.0 × (C.belongs c.now resolvers.1.1.0 × Unit {0})) }
+    ensures resolved { OnOk result (ResolvesParts (both A.Archived.definitions
+        (both B.Archived.definitions (both C.Archived.definitions no_definition))) pos start
+        bytes.new (part A.Archived.shape (part B.Archived.shape (part C.Archived.shape no_part)))
+        (value (A.flat a.now resolvers.0) (value (B.flat b.now resolvers.1.0)
+        (value (C.flat c.now resolvers.1.1.0) no_value)))) }
     ensures same_length { length bytes.new ≡ length bytes.old }
-    ensures refused { IfErr result (λ refusal. HindersPartsAt (both A.Archived.definitions (both B.Archived.definitions (both C.Archived.definitions no_definition))) (part A.Archived.shape (part B.Archived.shape (part C.Archived.shape no_part))) (value (A.flat a.now resolvers.0) (value (B.flat b.now resolvers.1.0) (value (C.flat c.now resolvers.1.1.0) no_value))) pos start refusal) }
+    ensures refused { IfErr result (λ refusal. HindersPartsAt
+        (both A.Archived.definitions (both B.Archived.definitions
+        (both C.Archived.definitions no_definition))) (part A.Archived.shape
+        (part B.Archived.shape (part C.Archived.shape no_part)))
+        (value (A.flat a.now resolvers.0) (value (B.flat b.now resolvers.1.0)
+        (value (C.flat c.now resolvers.1.1.0) no_value))) pos start refusal) }
 {
     let (resolver, others) = resolvers;
     let end = resolve_front(a, resolver, pos, start, bytes)?;
@@ -83,11 +109,28 @@ pub fn resolve_4<A: Archive, B: Archive, C: Archive, D: Archive>(
     start: usize,
     bytes: &mut [u8],
 ) -> Result<(), Error>
-    requires zeroed { ZeroedParts (up (up (up (up start A.Archived.layout.align + A.Archived.layout.size) B.Archived.layout.align + B.Archived.layout.size) C.Archived.layout.align + C.Archived.layout.size) D.Archived.layout.align + D.Archived.layout.size) start pos bytes.old }
-    requires same_values { A.belongs a.now resolvers.0 × (B.belongs b.now resolvers.1.0 × (C.belongs c.now resolvers.1.1.0 × (D.belongs d.now resolvers.1.1.1.0 × Unit {0}))) }
-    ensures resolved { OnOk result (ResolvesParts (both A.Archived.definitions (both B.Archived.definitions (both C.Archived.definitions (both D.Archived.definitions no_definition)))) pos start bytes.new (part A.Archived.shape (part B.Archived.shape (part C.Archived.shape (part D.Archived.shape no_part)))) (value (A.flat a.now resolvers.0) (value (B.flat b.now resolvers.1.0) (value (C.flat c.now resolvers.1.1.0) (value (D.flat d.now resolvers.1.1.1.0) no_value))))) }
+    requires zeroed { ZeroedParts (up (up (up (up start A.Archived.layout.align
+        + A.Archived.layout.size) B.Archived.layout.align + B.Archived.layout.size)
+        C.Archived.layout.align + C.Archived.layout.size) D.Archived.layout.align
+        + D.Archived.layout.size) start pos bytes.old }
+    requires same_values { A.belongs a.now resolvers.0
+        × (B.belongs b.now resolvers.1.0 × (C.belongs c.now resolvers.1.1.0
+        × (D.belongs d.now resolvers.1.1.1.0 × Unit {0}))) }
+    ensures resolved { OnOk result (ResolvesParts (both A.Archived.definitions
+        (both B.Archived.definitions (both C.Archived.definitions
+        (both D.Archived.definitions no_definition)))) pos start bytes.new
+        (part A.Archived.shape (part B.Archived.shape (part C.Archived.shape
+        (part D.Archived.shape no_part)))) (value (A.flat a.now resolvers.0)
+        (value (B.flat b.now resolvers.1.0) (value (C.flat c.now resolvers.1.1.0)
+        (value (D.flat d.now resolvers.1.1.1.0) no_value))))) }
     ensures same_length { length bytes.new ≡ length bytes.old }
-    ensures refused { IfErr result (λ refusal. HindersPartsAt (both A.Archived.definitions (both B.Archived.definitions (both C.Archived.definitions (both D.Archived.definitions no_definition)))) (part A.Archived.shape (part B.Archived.shape (part C.Archived.shape (part D.Archived.shape no_part)))) (value (A.flat a.now resolvers.0) (value (B.flat b.now resolvers.1.0) (value (C.flat c.now resolvers.1.1.0) (value (D.flat d.now resolvers.1.1.1.0) no_value)))) pos start refusal) }
+    ensures refused { IfErr result (λ refusal. HindersPartsAt
+        (both A.Archived.definitions (both B.Archived.definitions
+        (both C.Archived.definitions (both D.Archived.definitions no_definition))))
+        (part A.Archived.shape (part B.Archived.shape (part C.Archived.shape
+        (part D.Archived.shape no_part)))) (value (A.flat a.now resolvers.0)
+        (value (B.flat b.now resolvers.1.0) (value (C.flat c.now resolvers.1.1.0)
+        (value (D.flat d.now resolvers.1.1.1.0) no_value)))) pos start refusal) }
 {
     let (resolver, others) = resolvers;
     let end = resolve_front(a, resolver, pos, start, bytes)?;
@@ -109,11 +152,32 @@ pub fn resolve_5<A: Archive, B: Archive, C: Archive, D: Archive, E: Archive>(
     start: usize,
     bytes: &mut [u8],
 ) -> Result<(), Error>
-    requires zeroed { ZeroedParts (up (up (up (up (up start A.Archived.layout.align + A.Archived.layout.size) B.Archived.layout.align + B.Archived.layout.size) C.Archived.layout.align + C.Archived.layout.size) D.Archived.layout.align + D.Archived.layout.size) E.Archived.layout.align + E.Archived.layout.size) start pos bytes.old }
-    requires same_values { A.belongs a.now resolvers.0 × (B.belongs b.now resolvers.1.0 × (C.belongs c.now resolvers.1.1.0 × (D.belongs d.now resolvers.1.1.1.0 × (E.belongs e.now resolvers.1.1.1.1.0 × Unit {0})))) }
-    ensures resolved { OnOk result (ResolvesParts (both A.Archived.definitions (both B.Archived.definitions (both C.Archived.definitions (both D.Archived.definitions (both E.Archived.definitions no_definition))))) pos start bytes.new (part A.Archived.shape (part B.Archived.shape (part C.Archived.shape (part D.Archived.shape (part E.Archived.shape no_part))))) (value (A.flat a.now resolvers.0) (value (B.flat b.now resolvers.1.0) (value (C.flat c.now resolvers.1.1.0) (value (D.flat d.now resolvers.1.1.1.0) (value (E.flat e.now resolvers.1.1.1.1.0) no_value)))))) }
+    requires zeroed { ZeroedParts (up (up (up (up (up start A.Archived.layout.align
+        + A.Archived.layout.size) B.Archived.layout.align + B.Archived.layout.size)
+        C.Archived.layout.align + C.Archived.layout.size) D.Archived.layout.align
+        + D.Archived.layout.size) E.Archived.layout.align + E.Archived.layout.size) start pos
+        bytes.old }
+    requires same_values { A.belongs a.now resolvers.0
+        × (B.belongs b.now resolvers.1.0 × (C.belongs c.now resolvers.1.1.0
+        × (D.belongs d.now resolvers.1.1.1.0 × (E.belongs e.now resolvers.1.1.1.1.0 × Unit {0})))) }
+    ensures resolved { OnOk result (ResolvesParts (both A.Archived.definitions
+        (both B.Archived.definitions (both C.Archived.definitions
+        (both D.Archived.definitions (both E.Archived.definitions no_definition))))) pos start
+        bytes.new (part A.Archived.shape (part B.Archived.shape
+        (part C.Archived.shape (part D.Archived.shape (part E.Archived.shape no_part)))))
+        (value (A.flat a.now resolvers.0) (value (B.flat b.now resolvers.1.0)
+        (value (C.flat c.now resolvers.1.1.0) (value (D.flat d.now resolvers.1.1.1.0)
+        (value (E.flat e.now resolvers.1.1.1.1.0) no_value)))))) }
     ensures same_length { length bytes.new ≡ length bytes.old }
-    ensures refused { IfErr result (λ refusal. HindersPartsAt (both A.Archived.definitions (both B.Archived.definitions (both C.Archived.definitions (both D.Archived.definitions (both E.Archived.definitions no_definition))))) (part A.Archived.shape (part B.Archived.shape (part C.Archived.shape (part D.Archived.shape (part E.Archived.shape no_part))))) (value (A.flat a.now resolvers.0) (value (B.flat b.now resolvers.1.0) (value (C.flat c.now resolvers.1.1.0) (value (D.flat d.now resolvers.1.1.1.0) (value (E.flat e.now resolvers.1.1.1.1.0) no_value))))) pos start refusal) }
+    ensures refused { IfErr result (λ refusal. HindersPartsAt
+        (both A.Archived.definitions (both B.Archived.definitions
+        (both C.Archived.definitions (both D.Archived.definitions
+        (both E.Archived.definitions no_definition)))))
+        (part A.Archived.shape (part B.Archived.shape (part C.Archived.shape
+        (part D.Archived.shape (part E.Archived.shape no_part)))))
+        (value (A.flat a.now resolvers.0) (value (B.flat b.now resolvers.1.0)
+        (value (C.flat c.now resolvers.1.1.0) (value (D.flat d.now resolvers.1.1.1.0)
+        (value (E.flat e.now resolvers.1.1.1.1.0) no_value))))) pos start refusal) }
 {
     let (resolver, others) = resolvers;
     let end = resolve_front(a, resolver, pos, start, bytes)?;
@@ -139,11 +203,37 @@ pub fn resolve_6<A: Archive, B: Archive, C: Archive, D: Archive, E: Archive, F: 
     start: usize,
     bytes: &mut [u8],
 ) -> Result<(), Error>
-    requires zeroed { ZeroedParts (up (up (up (up (up (up start A.Archived.layout.align + A.Archived.layout.size) B.Archived.layout.align + B.Archived.layout.size) C.Archived.layout.align + C.Archived.layout.size) D.Archived.layout.align + D.Archived.layout.size) E.Archived.layout.align + E.Archived.layout.size) F.Archived.layout.align + F.Archived.layout.size) start pos bytes.old }
-    requires same_values { A.belongs a.now resolvers.0 × (B.belongs b.now resolvers.1.0 × (C.belongs c.now resolvers.1.1.0 × (D.belongs d.now resolvers.1.1.1.0 × (E.belongs e.now resolvers.1.1.1.1.0 × (F.belongs f.now resolvers.1.1.1.1.1.0 × Unit {0}))))) }
-    ensures resolved { OnOk result (ResolvesParts (both A.Archived.definitions (both B.Archived.definitions (both C.Archived.definitions (both D.Archived.definitions (both E.Archived.definitions (both F.Archived.definitions no_definition)))))) pos start bytes.new (part A.Archived.shape (part B.Archived.shape (part C.Archived.shape (part D.Archived.shape (part E.Archived.shape (part F.Archived.shape no_part)))))) (value (A.flat a.now resolvers.0) (value (B.flat b.now resolvers.1.0) (value (C.flat c.now resolvers.1.1.0) (value (D.flat d.now resolvers.1.1.1.0) (value (E.flat e.now resolvers.1.1.1.1.0) (value (F.flat f.now resolvers.1.1.1.1.1.0) no_value))))))) }
+    requires zeroed { ZeroedParts (up (up (up (up (up
+        (up start A.Archived.layout.align + A.Archived.layout.size) B.Archived.layout.align
+        + B.Archived.layout.size) C.Archived.layout.align + C.Archived.layout.size)
+        D.Archived.layout.align + D.Archived.layout.size) E.Archived.layout.align
+        + E.Archived.layout.size) F.Archived.layout.align + F.Archived.layout.size) start pos
+        bytes.old }
+    requires same_values { A.belongs a.now resolvers.0
+        × (B.belongs b.now resolvers.1.0 × (C.belongs c.now resolvers.1.1.0
+        × (D.belongs d.now resolvers.1.1.1.0 × (E.belongs e.now resolvers.1.1.1.1.0
+        × (F.belongs f.now resolvers.1.1.1.1.1.0 × Unit {0}))))) }
+    ensures resolved { OnOk result (ResolvesParts (both A.Archived.definitions
+        (both B.Archived.definitions (both C.Archived.definitions
+        (both D.Archived.definitions (both E.Archived.definitions
+        (both F.Archived.definitions no_definition)))))) pos start bytes.new
+        (part A.Archived.shape (part B.Archived.shape (part C.Archived.shape
+        (part D.Archived.shape (part E.Archived.shape (part F.Archived.shape no_part))))))
+        (value (A.flat a.now resolvers.0) (value (B.flat b.now resolvers.1.0)
+        (value (C.flat c.now resolvers.1.1.0) (value (D.flat d.now resolvers.1.1.1.0)
+        (value (E.flat e.now resolvers.1.1.1.1.0) (value (F.flat f.now resolvers.1.1.1.1.1.0)
+        no_value))))))) }
     ensures same_length { length bytes.new ≡ length bytes.old }
-    ensures refused { IfErr result (λ refusal. HindersPartsAt (both A.Archived.definitions (both B.Archived.definitions (both C.Archived.definitions (both D.Archived.definitions (both E.Archived.definitions (both F.Archived.definitions no_definition)))))) (part A.Archived.shape (part B.Archived.shape (part C.Archived.shape (part D.Archived.shape (part E.Archived.shape (part F.Archived.shape no_part)))))) (value (A.flat a.now resolvers.0) (value (B.flat b.now resolvers.1.0) (value (C.flat c.now resolvers.1.1.0) (value (D.flat d.now resolvers.1.1.1.0) (value (E.flat e.now resolvers.1.1.1.1.0) (value (F.flat f.now resolvers.1.1.1.1.1.0) no_value)))))) pos start refusal) }
+    ensures refused { IfErr result (λ refusal. HindersPartsAt
+        (both A.Archived.definitions (both B.Archived.definitions
+        (both C.Archived.definitions (both D.Archived.definitions
+        (both E.Archived.definitions (both F.Archived.definitions no_definition))))))
+        (part A.Archived.shape (part B.Archived.shape (part C.Archived.shape
+        (part D.Archived.shape (part E.Archived.shape (part F.Archived.shape no_part))))))
+        (value (A.flat a.now resolvers.0) (value (B.flat b.now resolvers.1.0)
+        (value (C.flat c.now resolvers.1.1.0) (value (D.flat d.now resolvers.1.1.1.0)
+        (value (E.flat e.now resolvers.1.1.1.1.0) (value (F.flat f.now resolvers.1.1.1.1.1.0)
+        no_value)))))) pos start refusal) }
 {
     let (resolver, others) = resolvers;
     let end = resolve_front(a, resolver, pos, start, bytes)?;
@@ -181,11 +271,41 @@ pub fn resolve_7<
     start: usize,
     bytes: &mut [u8],
 ) -> Result<(), Error>
-    requires zeroed { ZeroedParts (up (up (up (up (up (up (up start A.Archived.layout.align + A.Archived.layout.size) B.Archived.layout.align + B.Archived.layout.size) C.Archived.layout.align + C.Archived.layout.size) D.Archived.layout.align + D.Archived.layout.size) E.Archived.layout.align + E.Archived.layout.size) F.Archived.layout.align + F.Archived.layout.size) G.Archived.layout.align + G.Archived.layout.size) start pos bytes.old }
-    requires same_values { A.belongs a.now resolvers.0 × (B.belongs b.now resolvers.1.0 × (C.belongs c.now resolvers.1.1.0 × (D.belongs d.now resolvers.1.1.1.0 × (E.belongs e.now resolvers.1.1.1.1.0 × (F.belongs f.now resolvers.1.1.1.1.1.0 × (G.belongs g.now resolvers.1.1.1.1.1.1.0 × Unit {0})))))) }
-    ensures resolved { OnOk result (ResolvesParts (both A.Archived.definitions (both B.Archived.definitions (both C.Archived.definitions (both D.Archived.definitions (both E.Archived.definitions (both F.Archived.definitions (both G.Archived.definitions no_definition))))))) pos start bytes.new (part A.Archived.shape (part B.Archived.shape (part C.Archived.shape (part D.Archived.shape (part E.Archived.shape (part F.Archived.shape (part G.Archived.shape no_part))))))) (value (A.flat a.now resolvers.0) (value (B.flat b.now resolvers.1.0) (value (C.flat c.now resolvers.1.1.0) (value (D.flat d.now resolvers.1.1.1.0) (value (E.flat e.now resolvers.1.1.1.1.0) (value (F.flat f.now resolvers.1.1.1.1.1.0) (value (G.flat g.now resolvers.1.1.1.1.1.1.0) no_value)))))))) }
+    requires zeroed { ZeroedParts (up (up (up (up (up
+        (up (up start A.Archived.layout.align + A.Archived.layout.size) B.Archived.layout.align
+        + B.Archived.layout.size) C.Archived.layout.align + C.Archived.layout.size)
+        D.Archived.layout.align + D.Archived.layout.size) E.Archived.layout.align
+        + E.Archived.layout.size) F.Archived.layout.align + F.Archived.layout.size)
+        G.Archived.layout.align + G.Archived.layout.size) start pos bytes.old }
+    requires same_values { A.belongs a.now resolvers.0
+        × (B.belongs b.now resolvers.1.0 × (C.belongs c.now resolvers.1.1.0
+        × (D.belongs d.now resolvers.1.1.1.0 × (E.belongs e.now resolvers.1.1.1.1.0
+        × (F.belongs f.now resolvers.1.1.1.1.1.0 × (G.belongs g.now resolvers.1.1.1.1.1.1.0
+        × Unit {0})))))) }
+    ensures resolved { OnOk result (ResolvesParts (both A.Archived.definitions
+        (both B.Archived.definitions (both C.Archived.definitions
+        (both D.Archived.definitions (both E.Archived.definitions
+        (both F.Archived.definitions (both G.Archived.definitions no_definition))))))) pos start
+        bytes.new (part A.Archived.shape (part B.Archived.shape
+        (part C.Archived.shape (part D.Archived.shape (part E.Archived.shape
+        (part F.Archived.shape (part G.Archived.shape no_part)))))))
+        (value (A.flat a.now resolvers.0) (value (B.flat b.now resolvers.1.0)
+        (value (C.flat c.now resolvers.1.1.0) (value (D.flat d.now resolvers.1.1.1.0)
+        (value (E.flat e.now resolvers.1.1.1.1.0) (value (F.flat f.now resolvers.1.1.1.1.1.0)
+        (value (G.flat g.now resolvers.1.1.1.1.1.1.0) no_value)))))))) }
     ensures same_length { length bytes.new ≡ length bytes.old }
-    ensures refused { IfErr result (λ refusal. HindersPartsAt (both A.Archived.definitions (both B.Archived.definitions (both C.Archived.definitions (both D.Archived.definitions (both E.Archived.definitions (both F.Archived.definitions (both G.Archived.definitions no_definition))))))) (part A.Archived.shape (part B.Archived.shape (part C.Archived.shape (part D.Archived.shape (part E.Archived.shape (part F.Archived.shape (part G.Archived.shape no_part))))))) (value (A.flat a.now resolvers.0) (value (B.flat b.now resolvers.1.0) (value (C.flat c.now resolvers.1.1.0) (value (D.flat d.now resolvers.1.1.1.0) (value (E.flat e.now resolvers.1.1.1.1.0) (value (F.flat f.now resolvers.1.1.1.1.1.0) (value (G.flat g.now resolvers.1.1.1.1.1.1.0) no_value))))))) pos start refusal) }
+    ensures refused { IfErr result (λ refusal. HindersPartsAt
+        (both A.Archived.definitions (both B.Archived.definitions
+        (both C.Archived.definitions (both D.Archived.definitions
+        (both E.Archived.definitions (both F.Archived.definitions
+        (both G.Archived.definitions no_definition)))))))
+        (part A.Archived.shape (part B.Archived.shape (part C.Archived.shape
+        (part D.Archived.shape (part E.Archived.shape (part F.Archived.shape
+        (part G.Archived.shape no_part))))))) (value (A.flat a.now resolvers.0)
+        (value (B.flat b.now resolvers.1.0) (value (C.flat c.now resolvers.1.1.0)
+        (value (D.flat d.now resolvers.1.1.1.0) (value (E.flat e.now resolvers.1.1.1.1.0)
+        (value (F.flat f.now resolvers.1.1.1.1.1.0) (value (G.flat g.now resolvers.1.1.1.1.1.1.0)
+        no_value))))))) pos start refusal) }
 {
     let (resolver, others) = resolvers;
     let end = resolve_front(a, resolver, pos, start, bytes)?;
@@ -239,11 +359,45 @@ pub fn resolve_8<
     start: usize,
     bytes: &mut [u8],
 ) -> Result<(), Error>
-    requires zeroed { ZeroedParts (up (up (up (up (up (up (up (up start A.Archived.layout.align + A.Archived.layout.size) B.Archived.layout.align + B.Archived.layout.size) C.Archived.layout.align + C.Archived.layout.size) D.Archived.layout.align + D.Archived.layout.size) E.Archived.layout.align + E.Archived.layout.size) F.Archived.layout.align + F.Archived.layout.size) G.Archived.layout.align + G.Archived.layout.size) H.Archived.layout.align + H.Archived.layout.size) start pos bytes.old }
-    requires same_values { A.belongs a.now resolvers.0 × (B.belongs b.now resolvers.1.0 × (C.belongs c.now resolvers.1.1.0 × (D.belongs d.now resolvers.1.1.1.0 × (E.belongs e.now resolvers.1.1.1.1.0 × (F.belongs f.now resolvers.1.1.1.1.1.0 × (G.belongs g.now resolvers.1.1.1.1.1.1.0 × (H.belongs h.now resolvers.1.1.1.1.1.1.1.0 × Unit {0}))))))) }
-    ensures resolved { OnOk result (ResolvesParts (both A.Archived.definitions (both B.Archived.definitions (both C.Archived.definitions (both D.Archived.definitions (both E.Archived.definitions (both F.Archived.definitions (both G.Archived.definitions (both H.Archived.definitions no_definition)))))))) pos start bytes.new (part A.Archived.shape (part B.Archived.shape (part C.Archived.shape (part D.Archived.shape (part E.Archived.shape (part F.Archived.shape (part G.Archived.shape (part H.Archived.shape no_part)))))))) (value (A.flat a.now resolvers.0) (value (B.flat b.now resolvers.1.0) (value (C.flat c.now resolvers.1.1.0) (value (D.flat d.now resolvers.1.1.1.0) (value (E.flat e.now resolvers.1.1.1.1.0) (value (F.flat f.now resolvers.1.1.1.1.1.0) (value (G.flat g.now resolvers.1.1.1.1.1.1.0) (value (H.flat h.now resolvers.1.1.1.1.1.1.1.0) no_value))))))))) }
+    requires zeroed { ZeroedParts (up (up (up (up (up
+        (up (up (up start A.Archived.layout.align + A.Archived.layout.size) B.Archived.layout.align
+        + B.Archived.layout.size) C.Archived.layout.align + C.Archived.layout.size)
+        D.Archived.layout.align + D.Archived.layout.size) E.Archived.layout.align
+        + E.Archived.layout.size) F.Archived.layout.align + F.Archived.layout.size)
+        G.Archived.layout.align + G.Archived.layout.size) H.Archived.layout.align
+        + H.Archived.layout.size) start pos bytes.old }
+    requires same_values { A.belongs a.now resolvers.0
+        × (B.belongs b.now resolvers.1.0 × (C.belongs c.now resolvers.1.1.0
+        × (D.belongs d.now resolvers.1.1.1.0 × (E.belongs e.now resolvers.1.1.1.1.0
+        × (F.belongs f.now resolvers.1.1.1.1.1.0 × (G.belongs g.now resolvers.1.1.1.1.1.1.0
+        × (H.belongs h.now resolvers.1.1.1.1.1.1.1.0 × Unit {0}))))))) }
+    ensures resolved { OnOk result (ResolvesParts (both A.Archived.definitions
+        (both B.Archived.definitions (both C.Archived.definitions
+        (both D.Archived.definitions (both E.Archived.definitions
+        (both F.Archived.definitions (both G.Archived.definitions
+        (both H.Archived.definitions no_definition)))))))) pos start bytes.new
+        (part A.Archived.shape (part B.Archived.shape (part C.Archived.shape
+        (part D.Archived.shape (part E.Archived.shape (part F.Archived.shape
+        (part G.Archived.shape (part H.Archived.shape no_part))))))))
+        (value (A.flat a.now resolvers.0) (value (B.flat b.now resolvers.1.0)
+        (value (C.flat c.now resolvers.1.1.0) (value (D.flat d.now resolvers.1.1.1.0)
+        (value (E.flat e.now resolvers.1.1.1.1.0) (value (F.flat f.now resolvers.1.1.1.1.1.0)
+        (value (G.flat g.now resolvers.1.1.1.1.1.1.0) (value
+        (H.flat h.now resolvers.1.1.1.1.1.1.1.0) no_value))))))))) }
     ensures same_length { length bytes.new ≡ length bytes.old }
-    ensures refused { IfErr result (λ refusal. HindersPartsAt (both A.Archived.definitions (both B.Archived.definitions (both C.Archived.definitions (both D.Archived.definitions (both E.Archived.definitions (both F.Archived.definitions (both G.Archived.definitions (both H.Archived.definitions no_definition)))))))) (part A.Archived.shape (part B.Archived.shape (part C.Archived.shape (part D.Archived.shape (part E.Archived.shape (part F.Archived.shape (part G.Archived.shape (part H.Archived.shape no_part)))))))) (value (A.flat a.now resolvers.0) (value (B.flat b.now resolvers.1.0) (value (C.flat c.now resolvers.1.1.0) (value (D.flat d.now resolvers.1.1.1.0) (value (E.flat e.now resolvers.1.1.1.1.0) (value (F.flat f.now resolvers.1.1.1.1.1.0) (value (G.flat g.now resolvers.1.1.1.1.1.1.0) (value (H.flat h.now resolvers.1.1.1.1.1.1.1.0) no_value)))))))) pos start refusal) }
+    ensures refused { IfErr result (λ refusal. HindersPartsAt
+        (both A.Archived.definitions (both B.Archived.definitions
+        (both C.Archived.definitions (both D.Archived.definitions
+        (both E.Archived.definitions (both F.Archived.definitions
+        (both G.Archived.definitions (both H.Archived.definitions no_definition))))))))
+        (part A.Archived.shape (part B.Archived.shape (part C.Archived.shape
+        (part D.Archived.shape (part E.Archived.shape (part F.Archived.shape
+        (part G.Archived.shape (part H.Archived.shape no_part))))))))
+        (value (A.flat a.now resolvers.0) (value (B.flat b.now resolvers.1.0)
+        (value (C.flat c.now resolvers.1.1.0) (value (D.flat d.now resolvers.1.1.1.0)
+        (value (E.flat e.now resolvers.1.1.1.1.0) (value (F.flat f.now resolvers.1.1.1.1.1.0)
+        (value (G.flat g.now resolvers.1.1.1.1.1.1.0) (value
+        (H.flat h.now resolvers.1.1.1.1.1.1.1.0) no_value)))))))) pos start refusal) }
 {
     let (resolver, others) = resolvers;
     let end = resolve_front(a, resolver, pos, start, bytes)?;

@@ -46,9 +46,11 @@ pub fn resolve_record_1<A: Archive, X: Portable>(
     requires inside { (up 0 A.Archived.layout.align + A.Archived.layout.size) ≤ X.layout.size }
     requires zeroed { ZeroedPlace X.layout.size place.pos place.bytes.now }
     requires same_values { A.belongs a.now resolvers.0 × Unit {0} }
-    ensures resolved { OnOk result (Resolved X.Portable place (product (value (A.flat a.now resolvers.0) no_value))) }
+    ensures resolved { OnOk result (Resolved X.Portable place
+        (product (value (A.flat a.now resolvers.0) no_value))) }
     ensures same_length { length place.exit.0.now ≡ length place.entry.bytes.now }
-    ensures refused { IfErr result (Hindered X.Portable place (product (value (A.flat a.now resolvers.0) no_value))) }
+    ensures refused { IfErr result (Hindered X.Portable place
+        (product (value (A.flat a.now resolvers.0) no_value))) }
 {
     let Place { bytes, pos, .. } = place;
     resolve_1(a, resolvers, pos, 0, bytes)
@@ -63,13 +65,20 @@ pub fn resolve_record_2<A: Archive, B: Archive, X: Portable>(
 ) -> Result<(), Error>
     requires nothing { X.definitions ≡ no_definition }
     requires parts { X.shape ≡ parts (part A.Archived.shape (part B.Archived.shape no_part)) }
-    requires nameless { are_none (both A.Archived.definitions (both B.Archived.definitions no_definition)) ≡ true }
-    requires inside { (up (up 0 A.Archived.layout.align + A.Archived.layout.size) B.Archived.layout.align + B.Archived.layout.size) ≤ X.layout.size }
+    requires nameless { are_none (both A.Archived.definitions
+        (both B.Archived.definitions no_definition)) ≡ true }
+    requires inside { (up (up 0 A.Archived.layout.align + A.Archived.layout.size)
+        B.Archived.layout.align + B.Archived.layout.size) ≤ X.layout.size }
     requires zeroed { ZeroedPlace X.layout.size place.pos place.bytes.now }
-    requires same_values { A.belongs a.now resolvers.0 × (B.belongs b.now resolvers.1.0 × Unit {0}) }
-    ensures resolved { OnOk result (Resolved X.Portable place (product (value (A.flat a.now resolvers.0) (value (B.flat b.now resolvers.1.0) no_value)))) }
+    requires same_values { A.belongs a.now resolvers.0
+        × (B.belongs b.now resolvers.1.0 × Unit {0}) }
+    ensures resolved { OnOk result (Resolved X.Portable place
+        (product (value (A.flat a.now resolvers.0) (value (B.flat b.now resolvers.1.0)
+        no_value)))) }
     ensures same_length { length place.exit.0.now ≡ length place.entry.bytes.now }
-    ensures refused { IfErr result (Hindered X.Portable place (product (value (A.flat a.now resolvers.0) (value (B.flat b.now resolvers.1.0) no_value)))) }
+    ensures refused { IfErr result (Hindered X.Portable place
+        (product (value (A.flat a.now resolvers.0) (value (B.flat b.now resolvers.1.0)
+        no_value)))) }
 {
     let Place { bytes, pos, .. } = place;
     resolve_2(a, b, resolvers, pos, 0, bytes)
@@ -84,14 +93,23 @@ pub fn resolve_record_3<A: Archive, B: Archive, C: Archive, X: Portable>(
     place: Place<'_, X>,
 ) -> Result<(), Error>
     requires nothing { X.definitions ≡ no_definition }
-    requires parts { X.shape ≡ parts (part A.Archived.shape (part B.Archived.shape (part C.Archived.shape no_part))) }
-    requires nameless { are_none (both A.Archived.definitions (both B.Archived.definitions (both C.Archived.definitions no_definition))) ≡ true }
-    requires inside { (up (up (up 0 A.Archived.layout.align + A.Archived.layout.size) B.Archived.layout.align + B.Archived.layout.size) C.Archived.layout.align + C.Archived.layout.size) ≤ X.layout.size }
+    requires parts { X.shape ≡ parts (part A.Archived.shape
+        (part B.Archived.shape (part C.Archived.shape no_part))) }
+    requires nameless { are_none (both A.Archived.definitions
+        (both B.Archived.definitions (both C.Archived.definitions no_definition))) ≡ true }
+    requires inside { (up (up (up 0 A.Archived.layout.align + A.Archived.layout.size)
+        B.Archived.layout.align + B.Archived.layout.size) C.Archived.layout.align
+        + C.Archived.layout.size) ≤ X.layout.size }
     requires zeroed { ZeroedPlace X.layout.size place.pos place.bytes.now }
-    requires same_values { A.belongs a.now resolvers.0 × (B.belongs b.now resolvers.1.0 × (C.belongs c.now resolvers.1.1.0 × Unit {0})) }
-    ensures resolved { OnOk result (Resolved X.Portable place (product (value (A.flat a.now resolvers.0) (value (B.flat b.now resolvers.1.0) (value (C.flat c.now resolvers.1.1.0) no_value))))) }
+    requires same_values { A.belongs a.now resolvers.0
+        × (B.belongs b.now resolvers.1.0 × (C.belongs c.now resolvers.1.1.0 × Unit {0})) }
+    ensures resolved { OnOk result (Resolved X.Portable place
+        (product (value (A.flat a.now resolvers.0) (value (B.flat b.now resolvers.1.0)
+        (value (C.flat c.now resolvers.1.1.0) no_value))))) }
     ensures same_length { length place.exit.0.now ≡ length place.entry.bytes.now }
-    ensures refused { IfErr result (Hindered X.Portable place (product (value (A.flat a.now resolvers.0) (value (B.flat b.now resolvers.1.0) (value (C.flat c.now resolvers.1.1.0) no_value))))) }
+    ensures refused { IfErr result (Hindered X.Portable place
+        (product (value (A.flat a.now resolvers.0) (value (B.flat b.now resolvers.1.0)
+        (value (C.flat c.now resolvers.1.1.0) no_value))))) }
 {
     let Place { bytes, pos, .. } = place;
     resolve_3(a, b, c, resolvers, pos, 0, bytes)
@@ -107,14 +125,28 @@ pub fn resolve_record_4<A: Archive, B: Archive, C: Archive, D: Archive, X: Porta
     place: Place<'_, X>,
 ) -> Result<(), Error>
     requires nothing { X.definitions ≡ no_definition }
-    requires parts { X.shape ≡ parts (part A.Archived.shape (part B.Archived.shape (part C.Archived.shape (part D.Archived.shape no_part)))) }
-    requires nameless { are_none (both A.Archived.definitions (both B.Archived.definitions (both C.Archived.definitions (both D.Archived.definitions no_definition)))) ≡ true }
-    requires inside { (up (up (up (up 0 A.Archived.layout.align + A.Archived.layout.size) B.Archived.layout.align + B.Archived.layout.size) C.Archived.layout.align + C.Archived.layout.size) D.Archived.layout.align + D.Archived.layout.size) ≤ X.layout.size }
+    requires parts { X.shape ≡ parts (part A.Archived.shape
+        (part B.Archived.shape (part C.Archived.shape (part D.Archived.shape no_part)))) }
+    requires nameless { are_none (both A.Archived.definitions
+        (both B.Archived.definitions (both C.Archived.definitions
+        (both D.Archived.definitions no_definition)))) ≡ true }
+    requires inside { (up (up (up (up 0 A.Archived.layout.align + A.Archived.layout.size)
+        B.Archived.layout.align + B.Archived.layout.size) C.Archived.layout.align
+        + C.Archived.layout.size) D.Archived.layout.align + D.Archived.layout.size)
+        ≤ X.layout.size }
     requires zeroed { ZeroedPlace X.layout.size place.pos place.bytes.now }
-    requires same_values { A.belongs a.now resolvers.0 × (B.belongs b.now resolvers.1.0 × (C.belongs c.now resolvers.1.1.0 × (D.belongs d.now resolvers.1.1.1.0 × Unit {0}))) }
-    ensures resolved { OnOk result (Resolved X.Portable place (product (value (A.flat a.now resolvers.0) (value (B.flat b.now resolvers.1.0) (value (C.flat c.now resolvers.1.1.0) (value (D.flat d.now resolvers.1.1.1.0) no_value)))))) }
+    requires same_values { A.belongs a.now resolvers.0
+        × (B.belongs b.now resolvers.1.0 × (C.belongs c.now resolvers.1.1.0
+        × (D.belongs d.now resolvers.1.1.1.0 × Unit {0}))) }
+    ensures resolved { OnOk result (Resolved X.Portable place
+        (product (value (A.flat a.now resolvers.0) (value (B.flat b.now resolvers.1.0)
+        (value (C.flat c.now resolvers.1.1.0) (value (D.flat d.now resolvers.1.1.1.0)
+        no_value)))))) }
     ensures same_length { length place.exit.0.now ≡ length place.entry.bytes.now }
-    ensures refused { IfErr result (Hindered X.Portable place (product (value (A.flat a.now resolvers.0) (value (B.flat b.now resolvers.1.0) (value (C.flat c.now resolvers.1.1.0) (value (D.flat d.now resolvers.1.1.1.0) no_value)))))) }
+    ensures refused { IfErr result (Hindered X.Portable place
+        (product (value (A.flat a.now resolvers.0) (value (B.flat b.now resolvers.1.0)
+        (value (C.flat c.now resolvers.1.1.0) (value (D.flat d.now resolvers.1.1.1.0)
+        no_value)))))) }
 {
     let Place { bytes, pos, .. } = place;
     resolve_4(a, b, c, d, resolvers, pos, 0, bytes)
@@ -134,14 +166,29 @@ pub fn resolve_record_5<A: Archive, B: Archive, C: Archive, D: Archive, E: Archi
     place: Place<'_, X>,
 ) -> Result<(), Error>
     requires nothing { X.definitions ≡ no_definition }
-    requires parts { X.shape ≡ parts (part A.Archived.shape (part B.Archived.shape (part C.Archived.shape (part D.Archived.shape (part E.Archived.shape no_part))))) }
-    requires nameless { are_none (both A.Archived.definitions (both B.Archived.definitions (both C.Archived.definitions (both D.Archived.definitions (both E.Archived.definitions no_definition))))) ≡ true }
-    requires inside { (up (up (up (up (up 0 A.Archived.layout.align + A.Archived.layout.size) B.Archived.layout.align + B.Archived.layout.size) C.Archived.layout.align + C.Archived.layout.size) D.Archived.layout.align + D.Archived.layout.size) E.Archived.layout.align + E.Archived.layout.size) ≤ X.layout.size }
+    requires parts { X.shape ≡ parts (part A.Archived.shape
+        (part B.Archived.shape (part C.Archived.shape (part D.Archived.shape
+        (part E.Archived.shape no_part))))) }
+    requires nameless { are_none (both A.Archived.definitions
+        (both B.Archived.definitions (both C.Archived.definitions
+        (both D.Archived.definitions (both E.Archived.definitions no_definition))))) ≡ true }
+    requires inside { (up (up (up (up (up 0 A.Archived.layout.align + A.Archived.layout.size)
+        B.Archived.layout.align + B.Archived.layout.size) C.Archived.layout.align
+        + C.Archived.layout.size) D.Archived.layout.align + D.Archived.layout.size)
+        E.Archived.layout.align + E.Archived.layout.size) ≤ X.layout.size }
     requires zeroed { ZeroedPlace X.layout.size place.pos place.bytes.now }
-    requires same_values { A.belongs a.now resolvers.0 × (B.belongs b.now resolvers.1.0 × (C.belongs c.now resolvers.1.1.0 × (D.belongs d.now resolvers.1.1.1.0 × (E.belongs e.now resolvers.1.1.1.1.0 × Unit {0})))) }
-    ensures resolved { OnOk result (Resolved X.Portable place (product (value (A.flat a.now resolvers.0) (value (B.flat b.now resolvers.1.0) (value (C.flat c.now resolvers.1.1.0) (value (D.flat d.now resolvers.1.1.1.0) (value (E.flat e.now resolvers.1.1.1.1.0) no_value))))))) }
+    requires same_values { A.belongs a.now resolvers.0
+        × (B.belongs b.now resolvers.1.0 × (C.belongs c.now resolvers.1.1.0
+        × (D.belongs d.now resolvers.1.1.1.0 × (E.belongs e.now resolvers.1.1.1.1.0 × Unit {0})))) }
+    ensures resolved { OnOk result (Resolved X.Portable place
+        (product (value (A.flat a.now resolvers.0) (value (B.flat b.now resolvers.1.0)
+        (value (C.flat c.now resolvers.1.1.0) (value (D.flat d.now resolvers.1.1.1.0)
+        (value (E.flat e.now resolvers.1.1.1.1.0) no_value))))))) }
     ensures same_length { length place.exit.0.now ≡ length place.entry.bytes.now }
-    ensures refused { IfErr result (Hindered X.Portable place (product (value (A.flat a.now resolvers.0) (value (B.flat b.now resolvers.1.0) (value (C.flat c.now resolvers.1.1.0) (value (D.flat d.now resolvers.1.1.1.0) (value (E.flat e.now resolvers.1.1.1.1.0) no_value))))))) }
+    ensures refused { IfErr result (Hindered X.Portable place
+        (product (value (A.flat a.now resolvers.0) (value (B.flat b.now resolvers.1.0)
+        (value (C.flat c.now resolvers.1.1.0) (value (D.flat d.now resolvers.1.1.1.0)
+        (value (E.flat e.now resolvers.1.1.1.1.0) no_value))))))) }
 {
     let Place { bytes, pos, .. } = place;
     resolve_5(a, b, c, d, e, resolvers, pos, 0, bytes)
@@ -173,14 +220,34 @@ pub fn resolve_record_6<
     place: Place<'_, X>,
 ) -> Result<(), Error>
     requires nothing { X.definitions ≡ no_definition }
-    requires parts { X.shape ≡ parts (part A.Archived.shape (part B.Archived.shape (part C.Archived.shape (part D.Archived.shape (part E.Archived.shape (part F.Archived.shape no_part)))))) }
-    requires nameless { are_none (both A.Archived.definitions (both B.Archived.definitions (both C.Archived.definitions (both D.Archived.definitions (both E.Archived.definitions (both F.Archived.definitions no_definition)))))) ≡ true }
-    requires inside { (up (up (up (up (up (up 0 A.Archived.layout.align + A.Archived.layout.size) B.Archived.layout.align + B.Archived.layout.size) C.Archived.layout.align + C.Archived.layout.size) D.Archived.layout.align + D.Archived.layout.size) E.Archived.layout.align + E.Archived.layout.size) F.Archived.layout.align + F.Archived.layout.size) ≤ X.layout.size }
+    requires parts { X.shape ≡ parts (part A.Archived.shape
+        (part B.Archived.shape (part C.Archived.shape (part D.Archived.shape
+        (part E.Archived.shape (part F.Archived.shape no_part)))))) }
+    requires nameless { are_none (both A.Archived.definitions
+        (both B.Archived.definitions (both C.Archived.definitions
+        (both D.Archived.definitions (both E.Archived.definitions
+        (both F.Archived.definitions no_definition)))))) ≡ true }
+    requires inside { (up (up (up (up (up (up 0 A.Archived.layout.align + A.Archived.layout.size)
+        B.Archived.layout.align + B.Archived.layout.size) C.Archived.layout.align
+        + C.Archived.layout.size) D.Archived.layout.align + D.Archived.layout.size)
+        E.Archived.layout.align + E.Archived.layout.size) F.Archived.layout.align
+        + F.Archived.layout.size) ≤ X.layout.size }
     requires zeroed { ZeroedPlace X.layout.size place.pos place.bytes.now }
-    requires same_values { A.belongs a.now resolvers.0 × (B.belongs b.now resolvers.1.0 × (C.belongs c.now resolvers.1.1.0 × (D.belongs d.now resolvers.1.1.1.0 × (E.belongs e.now resolvers.1.1.1.1.0 × (F.belongs f.now resolvers.1.1.1.1.1.0 × Unit {0}))))) }
-    ensures resolved { OnOk result (Resolved X.Portable place (product (value (A.flat a.now resolvers.0) (value (B.flat b.now resolvers.1.0) (value (C.flat c.now resolvers.1.1.0) (value (D.flat d.now resolvers.1.1.1.0) (value (E.flat e.now resolvers.1.1.1.1.0) (value (F.flat f.now resolvers.1.1.1.1.1.0) no_value)))))))) }
+    requires same_values { A.belongs a.now resolvers.0
+        × (B.belongs b.now resolvers.1.0 × (C.belongs c.now resolvers.1.1.0
+        × (D.belongs d.now resolvers.1.1.1.0 × (E.belongs e.now resolvers.1.1.1.1.0
+        × (F.belongs f.now resolvers.1.1.1.1.1.0 × Unit {0}))))) }
+    ensures resolved { OnOk result (Resolved X.Portable place
+        (product (value (A.flat a.now resolvers.0) (value (B.flat b.now resolvers.1.0)
+        (value (C.flat c.now resolvers.1.1.0) (value (D.flat d.now resolvers.1.1.1.0)
+        (value (E.flat e.now resolvers.1.1.1.1.0) (value (F.flat f.now resolvers.1.1.1.1.1.0)
+        no_value)))))))) }
     ensures same_length { length place.exit.0.now ≡ length place.entry.bytes.now }
-    ensures refused { IfErr result (Hindered X.Portable place (product (value (A.flat a.now resolvers.0) (value (B.flat b.now resolvers.1.0) (value (C.flat c.now resolvers.1.1.0) (value (D.flat d.now resolvers.1.1.1.0) (value (E.flat e.now resolvers.1.1.1.1.0) (value (F.flat f.now resolvers.1.1.1.1.1.0) no_value)))))))) }
+    ensures refused { IfErr result (Hindered X.Portable place
+        (product (value (A.flat a.now resolvers.0) (value (B.flat b.now resolvers.1.0)
+        (value (C.flat c.now resolvers.1.1.0) (value (D.flat d.now resolvers.1.1.1.0)
+        (value (E.flat e.now resolvers.1.1.1.1.0) (value (F.flat f.now resolvers.1.1.1.1.1.0)
+        no_value)))))))) }
 {
     let Place { bytes, pos, .. } = place;
     resolve_6(a, b, c, d, e, f, resolvers, pos, 0, bytes)
@@ -217,14 +284,36 @@ pub fn resolve_record_7<
     place: Place<'_, X>,
 ) -> Result<(), Error>
     requires nothing { X.definitions ≡ no_definition }
-    requires parts { X.shape ≡ parts (part A.Archived.shape (part B.Archived.shape (part C.Archived.shape (part D.Archived.shape (part E.Archived.shape (part F.Archived.shape (part G.Archived.shape no_part))))))) }
-    requires nameless { are_none (both A.Archived.definitions (both B.Archived.definitions (both C.Archived.definitions (both D.Archived.definitions (both E.Archived.definitions (both F.Archived.definitions (both G.Archived.definitions no_definition))))))) ≡ true }
-    requires inside { (up (up (up (up (up (up (up 0 A.Archived.layout.align + A.Archived.layout.size) B.Archived.layout.align + B.Archived.layout.size) C.Archived.layout.align + C.Archived.layout.size) D.Archived.layout.align + D.Archived.layout.size) E.Archived.layout.align + E.Archived.layout.size) F.Archived.layout.align + F.Archived.layout.size) G.Archived.layout.align + G.Archived.layout.size) ≤ X.layout.size }
+    requires parts { X.shape ≡ parts (part A.Archived.shape
+        (part B.Archived.shape (part C.Archived.shape (part D.Archived.shape
+        (part E.Archived.shape (part F.Archived.shape (part G.Archived.shape no_part))))))) }
+    requires nameless { are_none (both A.Archived.definitions
+        (both B.Archived.definitions (both C.Archived.definitions
+        (both D.Archived.definitions (both E.Archived.definitions
+        (both F.Archived.definitions (both G.Archived.definitions no_definition))))))) ≡ true }
+    requires inside { (up (up (up (up (up (up (up 0 A.Archived.layout.align
+        + A.Archived.layout.size) B.Archived.layout.align + B.Archived.layout.size)
+        C.Archived.layout.align + C.Archived.layout.size) D.Archived.layout.align
+        + D.Archived.layout.size) E.Archived.layout.align + E.Archived.layout.size)
+        F.Archived.layout.align + F.Archived.layout.size) G.Archived.layout.align
+        + G.Archived.layout.size) ≤ X.layout.size }
     requires zeroed { ZeroedPlace X.layout.size place.pos place.bytes.now }
-    requires same_values { A.belongs a.now resolvers.0 × (B.belongs b.now resolvers.1.0 × (C.belongs c.now resolvers.1.1.0 × (D.belongs d.now resolvers.1.1.1.0 × (E.belongs e.now resolvers.1.1.1.1.0 × (F.belongs f.now resolvers.1.1.1.1.1.0 × (G.belongs g.now resolvers.1.1.1.1.1.1.0 × Unit {0})))))) }
-    ensures resolved { OnOk result (Resolved X.Portable place (product (value (A.flat a.now resolvers.0) (value (B.flat b.now resolvers.1.0) (value (C.flat c.now resolvers.1.1.0) (value (D.flat d.now resolvers.1.1.1.0) (value (E.flat e.now resolvers.1.1.1.1.0) (value (F.flat f.now resolvers.1.1.1.1.1.0) (value (G.flat g.now resolvers.1.1.1.1.1.1.0) no_value))))))))) }
+    requires same_values { A.belongs a.now resolvers.0
+        × (B.belongs b.now resolvers.1.0 × (C.belongs c.now resolvers.1.1.0
+        × (D.belongs d.now resolvers.1.1.1.0 × (E.belongs e.now resolvers.1.1.1.1.0
+        × (F.belongs f.now resolvers.1.1.1.1.1.0 × (G.belongs g.now resolvers.1.1.1.1.1.1.0
+        × Unit {0})))))) }
+    ensures resolved { OnOk result (Resolved X.Portable place
+        (product (value (A.flat a.now resolvers.0) (value (B.flat b.now resolvers.1.0)
+        (value (C.flat c.now resolvers.1.1.0) (value (D.flat d.now resolvers.1.1.1.0)
+        (value (E.flat e.now resolvers.1.1.1.1.0) (value (F.flat f.now resolvers.1.1.1.1.1.0)
+        (value (G.flat g.now resolvers.1.1.1.1.1.1.0) no_value))))))))) }
     ensures same_length { length place.exit.0.now ≡ length place.entry.bytes.now }
-    ensures refused { IfErr result (Hindered X.Portable place (product (value (A.flat a.now resolvers.0) (value (B.flat b.now resolvers.1.0) (value (C.flat c.now resolvers.1.1.0) (value (D.flat d.now resolvers.1.1.1.0) (value (E.flat e.now resolvers.1.1.1.1.0) (value (F.flat f.now resolvers.1.1.1.1.1.0) (value (G.flat g.now resolvers.1.1.1.1.1.1.0) no_value))))))))) }
+    ensures refused { IfErr result (Hindered X.Portable place
+        (product (value (A.flat a.now resolvers.0) (value (B.flat b.now resolvers.1.0)
+        (value (C.flat c.now resolvers.1.1.0) (value (D.flat d.now resolvers.1.1.1.0)
+        (value (E.flat e.now resolvers.1.1.1.1.0) (value (F.flat f.now resolvers.1.1.1.1.1.0)
+        (value (G.flat g.now resolvers.1.1.1.1.1.1.0) no_value))))))))) }
 {
     let Place { bytes, pos, .. } = place;
     resolve_7(a, b, c, d, e, f, g, resolvers, pos, 0, bytes)
@@ -266,14 +355,41 @@ pub fn resolve_record_8<
     place: Place<'_, X>,
 ) -> Result<(), Error>
     requires nothing { X.definitions ≡ no_definition }
-    requires parts { X.shape ≡ parts (part A.Archived.shape (part B.Archived.shape (part C.Archived.shape (part D.Archived.shape (part E.Archived.shape (part F.Archived.shape (part G.Archived.shape (part H.Archived.shape no_part)))))))) }
-    requires nameless { are_none (both A.Archived.definitions (both B.Archived.definitions (both C.Archived.definitions (both D.Archived.definitions (both E.Archived.definitions (both F.Archived.definitions (both G.Archived.definitions (both H.Archived.definitions no_definition)))))))) ≡ true }
-    requires inside { (up (up (up (up (up (up (up (up 0 A.Archived.layout.align + A.Archived.layout.size) B.Archived.layout.align + B.Archived.layout.size) C.Archived.layout.align + C.Archived.layout.size) D.Archived.layout.align + D.Archived.layout.size) E.Archived.layout.align + E.Archived.layout.size) F.Archived.layout.align + F.Archived.layout.size) G.Archived.layout.align + G.Archived.layout.size) H.Archived.layout.align + H.Archived.layout.size) ≤ X.layout.size }
+    requires parts { X.shape ≡ parts (part A.Archived.shape
+        (part B.Archived.shape (part C.Archived.shape (part D.Archived.shape
+        (part E.Archived.shape (part F.Archived.shape (part G.Archived.shape
+        (part H.Archived.shape no_part)))))))) }
+    requires nameless { are_none (both A.Archived.definitions
+        (both B.Archived.definitions (both C.Archived.definitions
+        (both D.Archived.definitions (both E.Archived.definitions
+        (both F.Archived.definitions (both G.Archived.definitions
+        (both H.Archived.definitions no_definition)))))))) ≡ true }
+    requires inside { (up (up (up (up (up (up (up (up 0 A.Archived.layout.align
+        + A.Archived.layout.size) B.Archived.layout.align + B.Archived.layout.size)
+        C.Archived.layout.align + C.Archived.layout.size) D.Archived.layout.align
+        + D.Archived.layout.size) E.Archived.layout.align + E.Archived.layout.size)
+        F.Archived.layout.align + F.Archived.layout.size) G.Archived.layout.align
+        + G.Archived.layout.size) H.Archived.layout.align + H.Archived.layout.size)
+        ≤ X.layout.size }
     requires zeroed { ZeroedPlace X.layout.size place.pos place.bytes.now }
-    requires same_values { A.belongs a.now resolvers.0 × (B.belongs b.now resolvers.1.0 × (C.belongs c.now resolvers.1.1.0 × (D.belongs d.now resolvers.1.1.1.0 × (E.belongs e.now resolvers.1.1.1.1.0 × (F.belongs f.now resolvers.1.1.1.1.1.0 × (G.belongs g.now resolvers.1.1.1.1.1.1.0 × (H.belongs h.now resolvers.1.1.1.1.1.1.1.0 × Unit {0}))))))) }
-    ensures resolved { OnOk result (Resolved X.Portable place (product (value (A.flat a.now resolvers.0) (value (B.flat b.now resolvers.1.0) (value (C.flat c.now resolvers.1.1.0) (value (D.flat d.now resolvers.1.1.1.0) (value (E.flat e.now resolvers.1.1.1.1.0) (value (F.flat f.now resolvers.1.1.1.1.1.0) (value (G.flat g.now resolvers.1.1.1.1.1.1.0) (value (H.flat h.now resolvers.1.1.1.1.1.1.1.0) no_value)))))))))) }
+    requires same_values { A.belongs a.now resolvers.0
+        × (B.belongs b.now resolvers.1.0 × (C.belongs c.now resolvers.1.1.0
+        × (D.belongs d.now resolvers.1.1.1.0 × (E.belongs e.now resolvers.1.1.1.1.0
+        × (F.belongs f.now resolvers.1.1.1.1.1.0 × (G.belongs g.now resolvers.1.1.1.1.1.1.0
+        × (H.belongs h.now resolvers.1.1.1.1.1.1.1.0 × Unit {0}))))))) }
+    ensures resolved { OnOk result (Resolved X.Portable place
+        (product (value (A.flat a.now resolvers.0) (value (B.flat b.now resolvers.1.0)
+        (value (C.flat c.now resolvers.1.1.0) (value (D.flat d.now resolvers.1.1.1.0)
+        (value (E.flat e.now resolvers.1.1.1.1.0) (value (F.flat f.now resolvers.1.1.1.1.1.0)
+        (value (G.flat g.now resolvers.1.1.1.1.1.1.0) (value
+        (H.flat h.now resolvers.1.1.1.1.1.1.1.0) no_value)))))))))) }
     ensures same_length { length place.exit.0.now ≡ length place.entry.bytes.now }
-    ensures refused { IfErr result (Hindered X.Portable place (product (value (A.flat a.now resolvers.0) (value (B.flat b.now resolvers.1.0) (value (C.flat c.now resolvers.1.1.0) (value (D.flat d.now resolvers.1.1.1.0) (value (E.flat e.now resolvers.1.1.1.1.0) (value (F.flat f.now resolvers.1.1.1.1.1.0) (value (G.flat g.now resolvers.1.1.1.1.1.1.0) (value (H.flat h.now resolvers.1.1.1.1.1.1.1.0) no_value)))))))))) }
+    ensures refused { IfErr result (Hindered X.Portable place
+        (product (value (A.flat a.now resolvers.0) (value (B.flat b.now resolvers.1.0)
+        (value (C.flat c.now resolvers.1.1.0) (value (D.flat d.now resolvers.1.1.1.0)
+        (value (E.flat e.now resolvers.1.1.1.1.0) (value (F.flat f.now resolvers.1.1.1.1.1.0)
+        (value (G.flat g.now resolvers.1.1.1.1.1.1.0) (value
+        (H.flat h.now resolvers.1.1.1.1.1.1.1.0) no_value)))))))))) }
 {
     let Place { bytes, pos, .. } = place;
     resolve_8(a, b, c, d, e, f, g, h, resolvers, pos, 0, bytes)

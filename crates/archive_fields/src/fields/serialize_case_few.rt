@@ -27,10 +27,12 @@ pub fn serialize_case_0<X: Portable, S: Writer + Keys>(
     requires nothing { X.definitions ≡ no_definition }
     requires variant { variant_in X.shape tag ≡ Some no_part }
     requires nameless { are_none no_definition ≡ true }
-    ensures serialized { IfOk result (λ r. Serialized X.definitions X.shape [] (case tag no_value) (case tag no_value) (S.state serializer.old) (S.state serializer.new)) }
+    ensures serialized { IfOk result (λ r. Serialized X.definitions X.shape [] (case tag no_value)
+        (case tag no_value) (S.state serializer.old) (S.state serializer.new)) }
     ensures same_values { IfOk result (λ r. Unit {0}) }
     ensures goes_on { GoesOn (S.state serializer.old) (S.state serializer.new) }
-    ensures refused { IfErr result (IsRefused X.definitions X.shape [] (case tag no_value) (S.state serializer.old) (S.state serializer.new)) }
+    ensures refused { IfErr result (IsRefused X.definitions X.shape [] (case tag no_value)
+        (S.state serializer.old) (S.state serializer.new)) }
 {
     serialize_0(serializer)
 }
@@ -44,10 +46,14 @@ pub fn serialize_case_1<A: Serialize<S>, X: Portable, S: Writer + Keys>(
     requires nothing { X.definitions ≡ no_definition }
     requires variant { variant_in X.shape tag ≡ Some (part A.Archived.shape no_part) }
     requires nameless { are_none (both A.Archived.definitions no_definition) ≡ true }
-    ensures serialized { IfOk result (λ r. Serialized X.definitions X.shape (A.keys a.now ++ []) (case tag (value (A.meaning a.now) no_value)) (case tag (value (A.flat a.now r.0) no_value)) (S.state serializer.old) (S.state serializer.new)) }
+    ensures serialized { IfOk result (λ r. Serialized X.definitions X.shape (A.keys a.now ++ [])
+        (case tag (value (A.meaning a.now) no_value)) (case tag (value (A.flat a.now r.0) no_value))
+        (S.state serializer.old) (S.state serializer.new)) }
     ensures same_values { IfOk result (λ r. A.belongs a.now r.0 × Unit {0}) }
     ensures goes_on { GoesOn (S.state serializer.old) (S.state serializer.new) }
-    ensures refused { IfErr result (IsRefused X.definitions X.shape (A.keys a.now ++ []) (case tag (value (A.meaning a.now) no_value)) (S.state serializer.old) (S.state serializer.new)) }
+    ensures refused { IfErr result (IsRefused X.definitions X.shape (A.keys a.now ++ [])
+        (case tag (value (A.meaning a.now) no_value)) (S.state serializer.old)
+        (S.state serializer.new)) }
 {
     serialize_1(a, serializer)
 }
@@ -60,12 +66,22 @@ pub fn serialize_case_2<A: Serialize<S>, B: Serialize<S>, X: Portable, S: Writer
     serializer: &mut S,
 ) -> Result<(A::Resolver, (B::Resolver, ())), Error>
     requires nothing { X.definitions ≡ no_definition }
-    requires variant { variant_in X.shape tag ≡ Some (part A.Archived.shape (part B.Archived.shape no_part)) }
-    requires nameless { are_none (both A.Archived.definitions (both B.Archived.definitions no_definition)) ≡ true }
-    ensures serialized { IfOk result (λ r. Serialized X.definitions X.shape (A.keys a.now ++ (B.keys b.now ++ [])) (case tag (value (A.meaning a.now) (value (B.meaning b.now) no_value))) (case tag (value (A.flat a.now r.0) (value (B.flat b.now r.1.0) no_value))) (S.state serializer.old) (S.state serializer.new)) }
-    ensures same_values { IfOk result (λ r. A.belongs a.now r.0 × (B.belongs b.now r.1.0 × Unit {0})) }
+    requires variant { variant_in X.shape tag ≡ Some (part A.Archived.shape
+        (part B.Archived.shape no_part)) }
+    requires nameless { are_none (both A.Archived.definitions
+        (both B.Archived.definitions no_definition)) ≡ true }
+    ensures serialized { IfOk result (λ r. Serialized X.definitions X.shape
+        (A.keys a.now ++ (B.keys b.now ++ [])) (case tag
+        (value (A.meaning a.now) (value (B.meaning b.now) no_value)))
+        (case tag (value (A.flat a.now r.0) (value (B.flat b.now r.1.0) no_value)))
+        (S.state serializer.old) (S.state serializer.new)) }
+    ensures same_values { IfOk result (λ r. A.belongs a.now r.0
+        × (B.belongs b.now r.1.0 × Unit {0})) }
     ensures goes_on { GoesOn (S.state serializer.old) (S.state serializer.new) }
-    ensures refused { IfErr result (IsRefused X.definitions X.shape (A.keys a.now ++ (B.keys b.now ++ [])) (case tag (value (A.meaning a.now) (value (B.meaning b.now) no_value))) (S.state serializer.old) (S.state serializer.new)) }
+    ensures refused { IfErr result (IsRefused X.definitions X.shape
+        (A.keys a.now ++ (B.keys b.now ++ [])) (case tag
+        (value (A.meaning a.now) (value (B.meaning b.now) no_value))) (S.state serializer.old)
+        (S.state serializer.new)) }
 {
     serialize_2(a, b, serializer)
 }
@@ -85,12 +101,24 @@ pub fn serialize_case_3<
     serializer: &mut S,
 ) -> Result<(A::Resolver, (B::Resolver, (C::Resolver, ()))), Error>
     requires nothing { X.definitions ≡ no_definition }
-    requires variant { variant_in X.shape tag ≡ Some (part A.Archived.shape (part B.Archived.shape (part C.Archived.shape no_part))) }
-    requires nameless { are_none (both A.Archived.definitions (both B.Archived.definitions (both C.Archived.definitions no_definition))) ≡ true }
-    ensures serialized { IfOk result (λ r. Serialized X.definitions X.shape (A.keys a.now ++ (B.keys b.now ++ (C.keys c.now ++ []))) (case tag (value (A.meaning a.now) (value (B.meaning b.now) (value (C.meaning c.now) no_value)))) (case tag (value (A.flat a.now r.0) (value (B.flat b.now r.1.0) (value (C.flat c.now r.1.1.0) no_value)))) (S.state serializer.old) (S.state serializer.new)) }
-    ensures same_values { IfOk result (λ r. A.belongs a.now r.0 × (B.belongs b.now r.1.0 × (C.belongs c.now r.1.1.0 × Unit {0}))) }
+    requires variant { variant_in X.shape tag ≡ Some (part A.Archived.shape
+        (part B.Archived.shape (part C.Archived.shape no_part))) }
+    requires nameless { are_none (both A.Archived.definitions
+        (both B.Archived.definitions (both C.Archived.definitions no_definition))) ≡ true }
+    ensures serialized { IfOk result (λ r. Serialized X.definitions X.shape
+        (A.keys a.now ++ (B.keys b.now ++ (C.keys c.now ++ [])))
+        (case tag (value (A.meaning a.now) (value (B.meaning b.now)
+        (value (C.meaning c.now) no_value)))) (case tag
+        (value (A.flat a.now r.0) (value (B.flat b.now r.1.0)
+        (value (C.flat c.now r.1.1.0) no_value)))) (S.state serializer.old)
+        (S.state serializer.new)) }
+    ensures same_values { IfOk result (λ r. A.belongs a.now r.0
+        × (B.belongs b.now r.1.0 × (C.belongs c.now r.1.1.0 × Unit {0}))) }
     ensures goes_on { GoesOn (S.state serializer.old) (S.state serializer.new) }
-    ensures refused { IfErr result (IsRefused X.definitions X.shape (A.keys a.now ++ (B.keys b.now ++ (C.keys c.now ++ []))) (case tag (value (A.meaning a.now) (value (B.meaning b.now) (value (C.meaning c.now) no_value)))) (S.state serializer.old) (S.state serializer.new)) }
+    ensures refused { IfErr result (IsRefused X.definitions X.shape
+        (A.keys a.now ++ (B.keys b.now ++ (C.keys c.now ++ [])))
+        (case tag (value (A.meaning a.now) (value (B.meaning b.now)
+        (value (C.meaning c.now) no_value)))) (S.state serializer.old) (S.state serializer.new)) }
 {
     serialize_3(a, b, c, serializer)
 }
@@ -112,12 +140,27 @@ pub fn serialize_case_4<
     serializer: &mut S,
 ) -> Result<(A::Resolver, (B::Resolver, (C::Resolver, (D::Resolver, ())))), Error>
     requires nothing { X.definitions ≡ no_definition }
-    requires variant { variant_in X.shape tag ≡ Some (part A.Archived.shape (part B.Archived.shape (part C.Archived.shape (part D.Archived.shape no_part)))) }
-    requires nameless { are_none (both A.Archived.definitions (both B.Archived.definitions (both C.Archived.definitions (both D.Archived.definitions no_definition)))) ≡ true }
-    ensures serialized { IfOk result (λ r. Serialized X.definitions X.shape (A.keys a.now ++ (B.keys b.now ++ (C.keys c.now ++ (D.keys d.now ++ [])))) (case tag (value (A.meaning a.now) (value (B.meaning b.now) (value (C.meaning c.now) (value (D.meaning d.now) no_value))))) (case tag (value (A.flat a.now r.0) (value (B.flat b.now r.1.0) (value (C.flat c.now r.1.1.0) (value (D.flat d.now r.1.1.1.0) no_value))))) (S.state serializer.old) (S.state serializer.new)) }
-    ensures same_values { IfOk result (λ r. A.belongs a.now r.0 × (B.belongs b.now r.1.0 × (C.belongs c.now r.1.1.0 × (D.belongs d.now r.1.1.1.0 × Unit {0})))) }
+    requires variant { variant_in X.shape tag ≡ Some (part A.Archived.shape
+        (part B.Archived.shape (part C.Archived.shape (part D.Archived.shape no_part)))) }
+    requires nameless { are_none (both A.Archived.definitions
+        (both B.Archived.definitions (both C.Archived.definitions
+        (both D.Archived.definitions no_definition)))) ≡ true }
+    ensures serialized { IfOk result (λ r. Serialized X.definitions X.shape
+        (A.keys a.now ++ (B.keys b.now ++ (C.keys c.now ++ (D.keys d.now ++ []))))
+        (case tag (value (A.meaning a.now) (value (B.meaning b.now)
+        (value (C.meaning c.now) (value (D.meaning d.now) no_value)))))
+        (case tag (value (A.flat a.now r.0) (value (B.flat b.now r.1.0)
+        (value (C.flat c.now r.1.1.0) (value (D.flat d.now r.1.1.1.0) no_value)))))
+        (S.state serializer.old) (S.state serializer.new)) }
+    ensures same_values { IfOk result (λ r. A.belongs a.now r.0
+        × (B.belongs b.now r.1.0 × (C.belongs c.now r.1.1.0
+        × (D.belongs d.now r.1.1.1.0 × Unit {0})))) }
     ensures goes_on { GoesOn (S.state serializer.old) (S.state serializer.new) }
-    ensures refused { IfErr result (IsRefused X.definitions X.shape (A.keys a.now ++ (B.keys b.now ++ (C.keys c.now ++ (D.keys d.now ++ [])))) (case tag (value (A.meaning a.now) (value (B.meaning b.now) (value (C.meaning c.now) (value (D.meaning d.now) no_value))))) (S.state serializer.old) (S.state serializer.new)) }
+    ensures refused { IfErr result (IsRefused X.definitions X.shape
+        (A.keys a.now ++ (B.keys b.now ++ (C.keys c.now ++ (D.keys d.now ++ []))))
+        (case tag (value (A.meaning a.now) (value (B.meaning b.now)
+        (value (C.meaning c.now) (value (D.meaning d.now) no_value))))) (S.state serializer.old)
+        (S.state serializer.new)) }
 {
     serialize_4(a, b, c, d, serializer)
 }
@@ -147,12 +190,29 @@ pub fn serialize_case_5<
     Error,
 >
     requires nothing { X.definitions ≡ no_definition }
-    requires variant { variant_in X.shape tag ≡ Some (part A.Archived.shape (part B.Archived.shape (part C.Archived.shape (part D.Archived.shape (part E.Archived.shape no_part))))) }
-    requires nameless { are_none (both A.Archived.definitions (both B.Archived.definitions (both C.Archived.definitions (both D.Archived.definitions (both E.Archived.definitions no_definition))))) ≡ true }
-    ensures serialized { IfOk result (λ r. Serialized X.definitions X.shape (A.keys a.now ++ (B.keys b.now ++ (C.keys c.now ++ (D.keys d.now ++ (E.keys e.now ++ []))))) (case tag (value (A.meaning a.now) (value (B.meaning b.now) (value (C.meaning c.now) (value (D.meaning d.now) (value (E.meaning e.now) no_value)))))) (case tag (value (A.flat a.now r.0) (value (B.flat b.now r.1.0) (value (C.flat c.now r.1.1.0) (value (D.flat d.now r.1.1.1.0) (value (E.flat e.now r.1.1.1.1.0) no_value)))))) (S.state serializer.old) (S.state serializer.new)) }
-    ensures same_values { IfOk result (λ r. A.belongs a.now r.0 × (B.belongs b.now r.1.0 × (C.belongs c.now r.1.1.0 × (D.belongs d.now r.1.1.1.0 × (E.belongs e.now r.1.1.1.1.0 × Unit {0}))))) }
+    requires variant { variant_in X.shape tag ≡ Some (part A.Archived.shape
+        (part B.Archived.shape (part C.Archived.shape (part D.Archived.shape
+        (part E.Archived.shape no_part))))) }
+    requires nameless { are_none (both A.Archived.definitions
+        (both B.Archived.definitions (both C.Archived.definitions
+        (both D.Archived.definitions (both E.Archived.definitions no_definition))))) ≡ true }
+    ensures serialized { IfOk result (λ r. Serialized X.definitions X.shape
+        (A.keys a.now ++ (B.keys b.now ++ (C.keys c.now ++ (D.keys d.now ++ (E.keys e.now ++ [])))))
+        (case tag (value (A.meaning a.now) (value (B.meaning b.now)
+        (value (C.meaning c.now) (value (D.meaning d.now) (value (E.meaning e.now) no_value))))))
+        (case tag (value (A.flat a.now r.0) (value (B.flat b.now r.1.0)
+        (value (C.flat c.now r.1.1.0) (value (D.flat d.now r.1.1.1.0)
+        (value (E.flat e.now r.1.1.1.1.0) no_value)))))) (S.state serializer.old)
+        (S.state serializer.new)) }
+    ensures same_values { IfOk result (λ r. A.belongs a.now r.0
+        × (B.belongs b.now r.1.0 × (C.belongs c.now r.1.1.0
+        × (D.belongs d.now r.1.1.1.0 × (E.belongs e.now r.1.1.1.1.0 × Unit {0}))))) }
     ensures goes_on { GoesOn (S.state serializer.old) (S.state serializer.new) }
-    ensures refused { IfErr result (IsRefused X.definitions X.shape (A.keys a.now ++ (B.keys b.now ++ (C.keys c.now ++ (D.keys d.now ++ (E.keys e.now ++ []))))) (case tag (value (A.meaning a.now) (value (B.meaning b.now) (value (C.meaning c.now) (value (D.meaning d.now) (value (E.meaning e.now) no_value)))))) (S.state serializer.old) (S.state serializer.new)) }
+    ensures refused { IfErr result (IsRefused X.definitions X.shape
+        (A.keys a.now ++ (B.keys b.now ++ (C.keys c.now ++ (D.keys d.now ++ (E.keys e.now ++ [])))))
+        (case tag (value (A.meaning a.now) (value (B.meaning b.now)
+        (value (C.meaning c.now) (value (D.meaning d.now) (value (E.meaning e.now) no_value))))))
+        (S.state serializer.old) (S.state serializer.new)) }
 {
     serialize_5(a, b, c, d, e, serializer)
 }
@@ -187,12 +247,35 @@ pub fn serialize_case_6<
     Error,
 >
     requires nothing { X.definitions ≡ no_definition }
-    requires variant { variant_in X.shape tag ≡ Some (part A.Archived.shape (part B.Archived.shape (part C.Archived.shape (part D.Archived.shape (part E.Archived.shape (part F.Archived.shape no_part)))))) }
-    requires nameless { are_none (both A.Archived.definitions (both B.Archived.definitions (both C.Archived.definitions (both D.Archived.definitions (both E.Archived.definitions (both F.Archived.definitions no_definition)))))) ≡ true }
-    ensures serialized { IfOk result (λ r. Serialized X.definitions X.shape (A.keys a.now ++ (B.keys b.now ++ (C.keys c.now ++ (D.keys d.now ++ (E.keys e.now ++ (F.keys f.now ++ [])))))) (case tag (value (A.meaning a.now) (value (B.meaning b.now) (value (C.meaning c.now) (value (D.meaning d.now) (value (E.meaning e.now) (value (F.meaning f.now) no_value))))))) (case tag (value (A.flat a.now r.0) (value (B.flat b.now r.1.0) (value (C.flat c.now r.1.1.0) (value (D.flat d.now r.1.1.1.0) (value (E.flat e.now r.1.1.1.1.0) (value (F.flat f.now r.1.1.1.1.1.0) no_value))))))) (S.state serializer.old) (S.state serializer.new)) }
-    ensures same_values { IfOk result (λ r. A.belongs a.now r.0 × (B.belongs b.now r.1.0 × (C.belongs c.now r.1.1.0 × (D.belongs d.now r.1.1.1.0 × (E.belongs e.now r.1.1.1.1.0 × (F.belongs f.now r.1.1.1.1.1.0 × Unit {0})))))) }
+    requires variant { variant_in X.shape tag ≡ Some (part A.Archived.shape
+        (part B.Archived.shape (part C.Archived.shape (part D.Archived.shape
+        (part E.Archived.shape (part F.Archived.shape no_part)))))) }
+    requires nameless { are_none (both A.Archived.definitions
+        (both B.Archived.definitions (both C.Archived.definitions
+        (both D.Archived.definitions (both E.Archived.definitions
+        (both F.Archived.definitions no_definition)))))) ≡ true }
+    ensures serialized { IfOk result (λ r. Serialized X.definitions X.shape
+        (A.keys a.now ++ (B.keys b.now ++ (C.keys c.now
+        ++ (D.keys d.now ++ (E.keys e.now ++ (F.keys f.now ++ []))))))
+        (case tag (value (A.meaning a.now) (value (B.meaning b.now)
+        (value (C.meaning c.now) (value (D.meaning d.now)
+        (value (E.meaning e.now) (value (F.meaning f.now) no_value)))))))
+        (case tag (value (A.flat a.now r.0) (value (B.flat b.now r.1.0)
+        (value (C.flat c.now r.1.1.0) (value (D.flat d.now r.1.1.1.0)
+        (value (E.flat e.now r.1.1.1.1.0) (value (F.flat f.now r.1.1.1.1.1.0) no_value)))))))
+        (S.state serializer.old) (S.state serializer.new)) }
+    ensures same_values { IfOk result (λ r. A.belongs a.now r.0
+        × (B.belongs b.now r.1.0 × (C.belongs c.now r.1.1.0
+        × (D.belongs d.now r.1.1.1.0 × (E.belongs e.now r.1.1.1.1.0
+        × (F.belongs f.now r.1.1.1.1.1.0 × Unit {0})))))) }
     ensures goes_on { GoesOn (S.state serializer.old) (S.state serializer.new) }
-    ensures refused { IfErr result (IsRefused X.definitions X.shape (A.keys a.now ++ (B.keys b.now ++ (C.keys c.now ++ (D.keys d.now ++ (E.keys e.now ++ (F.keys f.now ++ [])))))) (case tag (value (A.meaning a.now) (value (B.meaning b.now) (value (C.meaning c.now) (value (D.meaning d.now) (value (E.meaning e.now) (value (F.meaning f.now) no_value))))))) (S.state serializer.old) (S.state serializer.new)) }
+    ensures refused { IfErr result (IsRefused X.definitions X.shape
+        (A.keys a.now ++ (B.keys b.now ++ (C.keys c.now
+        ++ (D.keys d.now ++ (E.keys e.now ++ (F.keys f.now ++ []))))))
+        (case tag (value (A.meaning a.now) (value (B.meaning b.now)
+        (value (C.meaning c.now) (value (D.meaning d.now)
+        (value (E.meaning e.now) (value (F.meaning f.now) no_value))))))) (S.state serializer.old)
+        (S.state serializer.new)) }
 {
     serialize_6(a, b, c, d, e, f, serializer)
 }
@@ -232,12 +315,36 @@ pub fn serialize_case_7<
     Error,
 >
     requires nothing { X.definitions ≡ no_definition }
-    requires variant { variant_in X.shape tag ≡ Some (part A.Archived.shape (part B.Archived.shape (part C.Archived.shape (part D.Archived.shape (part E.Archived.shape (part F.Archived.shape (part G.Archived.shape no_part))))))) }
-    requires nameless { are_none (both A.Archived.definitions (both B.Archived.definitions (both C.Archived.definitions (both D.Archived.definitions (both E.Archived.definitions (both F.Archived.definitions (both G.Archived.definitions no_definition))))))) ≡ true }
-    ensures serialized { IfOk result (λ r. Serialized X.definitions X.shape (A.keys a.now ++ (B.keys b.now ++ (C.keys c.now ++ (D.keys d.now ++ (E.keys e.now ++ (F.keys f.now ++ (G.keys g.now ++ []))))))) (case tag (value (A.meaning a.now) (value (B.meaning b.now) (value (C.meaning c.now) (value (D.meaning d.now) (value (E.meaning e.now) (value (F.meaning f.now) (value (G.meaning g.now) no_value)))))))) (case tag (value (A.flat a.now r.0) (value (B.flat b.now r.1.0) (value (C.flat c.now r.1.1.0) (value (D.flat d.now r.1.1.1.0) (value (E.flat e.now r.1.1.1.1.0) (value (F.flat f.now r.1.1.1.1.1.0) (value (G.flat g.now r.1.1.1.1.1.1.0) no_value)))))))) (S.state serializer.old) (S.state serializer.new)) }
-    ensures same_values { IfOk result (λ r. A.belongs a.now r.0 × (B.belongs b.now r.1.0 × (C.belongs c.now r.1.1.0 × (D.belongs d.now r.1.1.1.0 × (E.belongs e.now r.1.1.1.1.0 × (F.belongs f.now r.1.1.1.1.1.0 × (G.belongs g.now r.1.1.1.1.1.1.0 × Unit {0}))))))) }
+    requires variant { variant_in X.shape tag ≡ Some (part A.Archived.shape
+        (part B.Archived.shape (part C.Archived.shape (part D.Archived.shape
+        (part E.Archived.shape (part F.Archived.shape (part G.Archived.shape no_part))))))) }
+    requires nameless { are_none (both A.Archived.definitions
+        (both B.Archived.definitions (both C.Archived.definitions
+        (both D.Archived.definitions (both E.Archived.definitions
+        (both F.Archived.definitions (both G.Archived.definitions no_definition))))))) ≡ true }
+    ensures serialized { IfOk result (λ r. Serialized X.definitions X.shape
+        (A.keys a.now ++ (B.keys b.now ++ (C.keys c.now
+        ++ (D.keys d.now ++ (E.keys e.now ++ (F.keys f.now ++ (G.keys g.now ++ [])))))))
+        (case tag (value (A.meaning a.now) (value (B.meaning b.now)
+        (value (C.meaning c.now) (value (D.meaning d.now)
+        (value (E.meaning e.now) (value (F.meaning f.now) (value (G.meaning g.now) no_value))))))))
+        (case tag (value (A.flat a.now r.0) (value (B.flat b.now r.1.0)
+        (value (C.flat c.now r.1.1.0) (value (D.flat d.now r.1.1.1.0)
+        (value (E.flat e.now r.1.1.1.1.0) (value (F.flat f.now r.1.1.1.1.1.0)
+        (value (G.flat g.now r.1.1.1.1.1.1.0) no_value)))))))) (S.state serializer.old)
+        (S.state serializer.new)) }
+    ensures same_values { IfOk result (λ r. A.belongs a.now r.0
+        × (B.belongs b.now r.1.0 × (C.belongs c.now r.1.1.0
+        × (D.belongs d.now r.1.1.1.0 × (E.belongs e.now r.1.1.1.1.0
+        × (F.belongs f.now r.1.1.1.1.1.0 × (G.belongs g.now r.1.1.1.1.1.1.0 × Unit {0}))))))) }
     ensures goes_on { GoesOn (S.state serializer.old) (S.state serializer.new) }
-    ensures refused { IfErr result (IsRefused X.definitions X.shape (A.keys a.now ++ (B.keys b.now ++ (C.keys c.now ++ (D.keys d.now ++ (E.keys e.now ++ (F.keys f.now ++ (G.keys g.now ++ []))))))) (case tag (value (A.meaning a.now) (value (B.meaning b.now) (value (C.meaning c.now) (value (D.meaning d.now) (value (E.meaning e.now) (value (F.meaning f.now) (value (G.meaning g.now) no_value)))))))) (S.state serializer.old) (S.state serializer.new)) }
+    ensures refused { IfErr result (IsRefused X.definitions X.shape
+        (A.keys a.now ++ (B.keys b.now ++ (C.keys c.now
+        ++ (D.keys d.now ++ (E.keys e.now ++ (F.keys f.now ++ (G.keys g.now ++ [])))))))
+        (case tag (value (A.meaning a.now) (value (B.meaning b.now)
+        (value (C.meaning c.now) (value (D.meaning d.now)
+        (value (E.meaning e.now) (value (F.meaning f.now) (value (G.meaning g.now) no_value))))))))
+        (S.state serializer.old) (S.state serializer.new)) }
 {
     serialize_7(a, b, c, d, e, f, g, serializer)
 }
@@ -282,12 +389,43 @@ pub fn serialize_case_8<
     Error,
 >
     requires nothing { X.definitions ≡ no_definition }
-    requires variant { variant_in X.shape tag ≡ Some (part A.Archived.shape (part B.Archived.shape (part C.Archived.shape (part D.Archived.shape (part E.Archived.shape (part F.Archived.shape (part G.Archived.shape (part H.Archived.shape no_part)))))))) }
-    requires nameless { are_none (both A.Archived.definitions (both B.Archived.definitions (both C.Archived.definitions (both D.Archived.definitions (both E.Archived.definitions (both F.Archived.definitions (both G.Archived.definitions (both H.Archived.definitions no_definition)))))))) ≡ true }
-    ensures serialized { IfOk result (λ r. Serialized X.definitions X.shape (A.keys a.now ++ (B.keys b.now ++ (C.keys c.now ++ (D.keys d.now ++ (E.keys e.now ++ (F.keys f.now ++ (G.keys g.now ++ (H.keys h.now ++ [])))))))) (case tag (value (A.meaning a.now) (value (B.meaning b.now) (value (C.meaning c.now) (value (D.meaning d.now) (value (E.meaning e.now) (value (F.meaning f.now) (value (G.meaning g.now) (value (H.meaning h.now) no_value))))))))) (case tag (value (A.flat a.now r.0) (value (B.flat b.now r.1.0) (value (C.flat c.now r.1.1.0) (value (D.flat d.now r.1.1.1.0) (value (E.flat e.now r.1.1.1.1.0) (value (F.flat f.now r.1.1.1.1.1.0) (value (G.flat g.now r.1.1.1.1.1.1.0) (value (H.flat h.now r.1.1.1.1.1.1.1.0) no_value))))))))) (S.state serializer.old) (S.state serializer.new)) }
-    ensures same_values { IfOk result (λ r. A.belongs a.now r.0 × (B.belongs b.now r.1.0 × (C.belongs c.now r.1.1.0 × (D.belongs d.now r.1.1.1.0 × (E.belongs e.now r.1.1.1.1.0 × (F.belongs f.now r.1.1.1.1.1.0 × (G.belongs g.now r.1.1.1.1.1.1.0 × (H.belongs h.now r.1.1.1.1.1.1.1.0 × Unit {0})))))))) }
+    requires variant { variant_in X.shape tag ≡ Some (part A.Archived.shape
+        (part B.Archived.shape (part C.Archived.shape (part D.Archived.shape
+        (part E.Archived.shape (part F.Archived.shape (part G.Archived.shape
+        (part H.Archived.shape no_part)))))))) }
+    requires nameless { are_none (both A.Archived.definitions
+        (both B.Archived.definitions (both C.Archived.definitions
+        (both D.Archived.definitions (both E.Archived.definitions
+        (both F.Archived.definitions (both G.Archived.definitions
+        (both H.Archived.definitions no_definition)))))))) ≡ true }
+    ensures serialized { IfOk result (λ r. Serialized X.definitions X.shape
+        (A.keys a.now ++ (B.keys b.now ++ (C.keys c.now
+        ++ (D.keys d.now ++ (E.keys e.now ++ (F.keys f.now
+        ++ (G.keys g.now ++ (H.keys h.now ++ []))))))))
+        (case tag (value (A.meaning a.now) (value (B.meaning b.now)
+        (value (C.meaning c.now) (value (D.meaning d.now)
+        (value (E.meaning e.now) (value (F.meaning f.now)
+        (value (G.meaning g.now) (value (H.meaning h.now) no_value)))))))))
+        (case tag (value (A.flat a.now r.0) (value (B.flat b.now r.1.0)
+        (value (C.flat c.now r.1.1.0) (value (D.flat d.now r.1.1.1.0)
+        (value (E.flat e.now r.1.1.1.1.0) (value (F.flat f.now r.1.1.1.1.1.0)
+        (value (G.flat g.now r.1.1.1.1.1.1.0) (value (H.flat h.now r.1.1.1.1.1.1.1.0)
+        no_value))))))))) (S.state serializer.old) (S.state serializer.new)) }
+    ensures same_values { IfOk result (λ r. A.belongs a.now r.0
+        × (B.belongs b.now r.1.0 × (C.belongs c.now r.1.1.0
+        × (D.belongs d.now r.1.1.1.0 × (E.belongs e.now r.1.1.1.1.0
+        × (F.belongs f.now r.1.1.1.1.1.0 × (G.belongs g.now r.1.1.1.1.1.1.0
+        × (H.belongs h.now r.1.1.1.1.1.1.1.0 × Unit {0})))))))) }
     ensures goes_on { GoesOn (S.state serializer.old) (S.state serializer.new) }
-    ensures refused { IfErr result (IsRefused X.definitions X.shape (A.keys a.now ++ (B.keys b.now ++ (C.keys c.now ++ (D.keys d.now ++ (E.keys e.now ++ (F.keys f.now ++ (G.keys g.now ++ (H.keys h.now ++ [])))))))) (case tag (value (A.meaning a.now) (value (B.meaning b.now) (value (C.meaning c.now) (value (D.meaning d.now) (value (E.meaning e.now) (value (F.meaning f.now) (value (G.meaning g.now) (value (H.meaning h.now) no_value))))))))) (S.state serializer.old) (S.state serializer.new)) }
+    ensures refused { IfErr result (IsRefused X.definitions X.shape
+        (A.keys a.now ++ (B.keys b.now ++ (C.keys c.now
+        ++ (D.keys d.now ++ (E.keys e.now ++ (F.keys f.now
+        ++ (G.keys g.now ++ (H.keys h.now ++ []))))))))
+        (case tag (value (A.meaning a.now) (value (B.meaning b.now)
+        (value (C.meaning c.now) (value (D.meaning d.now)
+        (value (E.meaning e.now) (value (F.meaning f.now)
+        (value (G.meaning g.now) (value (H.meaning h.now) no_value))))))))) (S.state serializer.old)
+        (S.state serializer.new)) }
 {
     serialize_8(a, b, c, d, e, f, g, h, serializer)
 }

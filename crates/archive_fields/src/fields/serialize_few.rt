@@ -18,10 +18,16 @@ pub fn serialize_1<A: Serialize<S>, S: Writer + Keys>(
     a: &A,
     serializer: &mut S,
 ) -> Result<(A::Resolver, ()), Error>
-    ensures serialized { IfOk result (λ r. SerializedParts (both A.Archived.definitions no_definition) (part A.Archived.shape no_part) (A.keys a.now ++ []) (value (A.meaning a.now) no_value) (value (A.flat a.now r.0) no_value) (S.state serializer.old) (S.state serializer.new)) }
+    ensures serialized { IfOk result (λ r. SerializedParts
+        (both A.Archived.definitions no_definition) (part A.Archived.shape no_part)
+        (A.keys a.now ++ []) (value (A.meaning a.now) no_value) (value (A.flat a.now r.0) no_value)
+        (S.state serializer.old) (S.state serializer.new)) }
     ensures same_values { IfOk result (λ r. A.belongs a.now r.0 × Unit {0}) }
     ensures goes_on { GoesOn (S.state serializer.old) (S.state serializer.new) }
-    ensures refused { IfErr result (λ refusal. ArePartsRefused (both A.Archived.definitions no_definition) (part A.Archived.shape no_part) (A.keys a.now ++ []) (value (A.meaning a.now) no_value) (S.state serializer.old) (S.state serializer.new) refusal) }
+    ensures refused { IfErr result (λ refusal. ArePartsRefused
+        (both A.Archived.definitions no_definition) (part A.Archived.shape no_part)
+        (A.keys a.now ++ []) (value (A.meaning a.now) no_value) (S.state serializer.old)
+        (S.state serializer.new) refusal) }
 {
     let first = a.serialize(serializer)?;
     let others = serialize_0(serializer)?;
@@ -34,10 +40,21 @@ pub fn serialize_2<A: Serialize<S>, B: Serialize<S>, S: Writer + Keys>(
     b: &B,
     serializer: &mut S,
 ) -> Result<(A::Resolver, (B::Resolver, ())), Error>
-    ensures serialized { IfOk result (λ r. SerializedParts (both A.Archived.definitions (both B.Archived.definitions no_definition)) (part A.Archived.shape (part B.Archived.shape no_part)) (A.keys a.now ++ (B.keys b.now ++ [])) (value (A.meaning a.now) (value (B.meaning b.now) no_value)) (value (A.flat a.now r.0) (value (B.flat b.now r.1.0) no_value)) (S.state serializer.old) (S.state serializer.new)) }
-    ensures same_values { IfOk result (λ r. A.belongs a.now r.0 × (B.belongs b.now r.1.0 × Unit {0})) }
+    ensures serialized { IfOk result (λ r. SerializedParts
+        (both A.Archived.definitions (both B.Archived.definitions no_definition))
+        (part A.Archived.shape (part B.Archived.shape no_part))
+        (A.keys a.now ++ (B.keys b.now ++ [])) (value (A.meaning a.now)
+        (value (B.meaning b.now) no_value)) (value (A.flat a.now r.0)
+        (value (B.flat b.now r.1.0) no_value)) (S.state serializer.old) (S.state serializer.new)) }
+    ensures same_values { IfOk result (λ r. A.belongs a.now r.0
+        × (B.belongs b.now r.1.0 × Unit {0})) }
     ensures goes_on { GoesOn (S.state serializer.old) (S.state serializer.new) }
-    ensures refused { IfErr result (λ refusal. ArePartsRefused (both A.Archived.definitions (both B.Archived.definitions no_definition)) (part A.Archived.shape (part B.Archived.shape no_part)) (A.keys a.now ++ (B.keys b.now ++ [])) (value (A.meaning a.now) (value (B.meaning b.now) no_value)) (S.state serializer.old) (S.state serializer.new) refusal) }
+    ensures refused { IfErr result (λ refusal. ArePartsRefused
+        (both A.Archived.definitions (both B.Archived.definitions no_definition))
+        (part A.Archived.shape (part B.Archived.shape no_part))
+        (A.keys a.now ++ (B.keys b.now ++ [])) (value (A.meaning a.now)
+        (value (B.meaning b.now) no_value)) (S.state serializer.old) (S.state serializer.new)
+        refusal) }
 {
     let first = a.serialize(serializer)?;
     let others = serialize_1(b, serializer)?;
@@ -51,10 +68,25 @@ pub fn serialize_3<A: Serialize<S>, B: Serialize<S>, C: Serialize<S>, S: Writer 
     c: &C,
     serializer: &mut S,
 ) -> Result<(A::Resolver, (B::Resolver, (C::Resolver, ()))), Error>
-    ensures serialized { IfOk result (λ r. SerializedParts (both A.Archived.definitions (both B.Archived.definitions (both C.Archived.definitions no_definition))) (part A.Archived.shape (part B.Archived.shape (part C.Archived.shape no_part))) (A.keys a.now ++ (B.keys b.now ++ (C.keys c.now ++ []))) (value (A.meaning a.now) (value (B.meaning b.now) (value (C.meaning c.now) no_value))) (value (A.flat a.now r.0) (value (B.flat b.now r.1.0) (value (C.flat c.now r.1.1.0) no_value))) (S.state serializer.old) (S.state serializer.new)) }
-    ensures same_values { IfOk result (λ r. A.belongs a.now r.0 × (B.belongs b.now r.1.0 × (C.belongs c.now r.1.1.0 × Unit {0}))) }
+    ensures serialized { IfOk result (λ r. SerializedParts
+        (both A.Archived.definitions (both B.Archived.definitions
+        (both C.Archived.definitions no_definition))) (part A.Archived.shape
+        (part B.Archived.shape (part C.Archived.shape no_part)))
+        (A.keys a.now ++ (B.keys b.now ++ (C.keys c.now ++ [])))
+        (value (A.meaning a.now) (value (B.meaning b.now) (value (C.meaning c.now) no_value)))
+        (value (A.flat a.now r.0) (value (B.flat b.now r.1.0)
+        (value (C.flat c.now r.1.1.0) no_value))) (S.state serializer.old)
+        (S.state serializer.new)) }
+    ensures same_values { IfOk result (λ r. A.belongs a.now r.0
+        × (B.belongs b.now r.1.0 × (C.belongs c.now r.1.1.0 × Unit {0}))) }
     ensures goes_on { GoesOn (S.state serializer.old) (S.state serializer.new) }
-    ensures refused { IfErr result (λ refusal. ArePartsRefused (both A.Archived.definitions (both B.Archived.definitions (both C.Archived.definitions no_definition))) (part A.Archived.shape (part B.Archived.shape (part C.Archived.shape no_part))) (A.keys a.now ++ (B.keys b.now ++ (C.keys c.now ++ []))) (value (A.meaning a.now) (value (B.meaning b.now) (value (C.meaning c.now) no_value))) (S.state serializer.old) (S.state serializer.new) refusal) }
+    ensures refused { IfErr result (λ refusal. ArePartsRefused
+        (both A.Archived.definitions (both B.Archived.definitions
+        (both C.Archived.definitions no_definition))) (part A.Archived.shape
+        (part B.Archived.shape (part C.Archived.shape no_part)))
+        (A.keys a.now ++ (B.keys b.now ++ (C.keys c.now ++ [])))
+        (value (A.meaning a.now) (value (B.meaning b.now) (value (C.meaning c.now) no_value)))
+        (S.state serializer.old) (S.state serializer.new) refusal) }
 {
     let first = a.serialize(serializer)?;
     let others = serialize_2(b, c, serializer)?;
@@ -75,10 +107,30 @@ pub fn serialize_4<
     d: &D,
     serializer: &mut S,
 ) -> Result<(A::Resolver, (B::Resolver, (C::Resolver, (D::Resolver, ())))), Error>
-    ensures serialized { IfOk result (λ r. SerializedParts (both A.Archived.definitions (both B.Archived.definitions (both C.Archived.definitions (both D.Archived.definitions no_definition)))) (part A.Archived.shape (part B.Archived.shape (part C.Archived.shape (part D.Archived.shape no_part)))) (A.keys a.now ++ (B.keys b.now ++ (C.keys c.now ++ (D.keys d.now ++ [])))) (value (A.meaning a.now) (value (B.meaning b.now) (value (C.meaning c.now) (value (D.meaning d.now) no_value)))) (value (A.flat a.now r.0) (value (B.flat b.now r.1.0) (value (C.flat c.now r.1.1.0) (value (D.flat d.now r.1.1.1.0) no_value)))) (S.state serializer.old) (S.state serializer.new)) }
-    ensures same_values { IfOk result (λ r. A.belongs a.now r.0 × (B.belongs b.now r.1.0 × (C.belongs c.now r.1.1.0 × (D.belongs d.now r.1.1.1.0 × Unit {0})))) }
+    ensures serialized { IfOk result (λ r. SerializedParts
+        (both A.Archived.definitions (both B.Archived.definitions
+        (both C.Archived.definitions (both D.Archived.definitions no_definition))))
+        (part A.Archived.shape (part B.Archived.shape (part C.Archived.shape
+        (part D.Archived.shape no_part)))) (A.keys a.now
+        ++ (B.keys b.now ++ (C.keys c.now ++ (D.keys d.now ++ []))))
+        (value (A.meaning a.now) (value (B.meaning b.now)
+        (value (C.meaning c.now) (value (D.meaning d.now) no_value))))
+        (value (A.flat a.now r.0) (value (B.flat b.now r.1.0)
+        (value (C.flat c.now r.1.1.0) (value (D.flat d.now r.1.1.1.0) no_value))))
+        (S.state serializer.old) (S.state serializer.new)) }
+    ensures same_values { IfOk result (λ r. A.belongs a.now r.0
+        × (B.belongs b.now r.1.0 × (C.belongs c.now r.1.1.0
+        × (D.belongs d.now r.1.1.1.0 × Unit {0})))) }
     ensures goes_on { GoesOn (S.state serializer.old) (S.state serializer.new) }
-    ensures refused { IfErr result (λ refusal. ArePartsRefused (both A.Archived.definitions (both B.Archived.definitions (both C.Archived.definitions (both D.Archived.definitions no_definition)))) (part A.Archived.shape (part B.Archived.shape (part C.Archived.shape (part D.Archived.shape no_part)))) (A.keys a.now ++ (B.keys b.now ++ (C.keys c.now ++ (D.keys d.now ++ [])))) (value (A.meaning a.now) (value (B.meaning b.now) (value (C.meaning c.now) (value (D.meaning d.now) no_value)))) (S.state serializer.old) (S.state serializer.new) refusal) }
+    ensures refused { IfErr result (λ refusal. ArePartsRefused
+        (both A.Archived.definitions (both B.Archived.definitions
+        (both C.Archived.definitions (both D.Archived.definitions no_definition))))
+        (part A.Archived.shape (part B.Archived.shape (part C.Archived.shape
+        (part D.Archived.shape no_part)))) (A.keys a.now
+        ++ (B.keys b.now ++ (C.keys c.now ++ (D.keys d.now ++ []))))
+        (value (A.meaning a.now) (value (B.meaning b.now)
+        (value (C.meaning c.now) (value (D.meaning d.now) no_value)))) (S.state serializer.old)
+        (S.state serializer.new) refusal) }
 {
     let first = a.serialize(serializer)?;
     let others = serialize_3(b, c, d, serializer)?;
@@ -107,10 +159,33 @@ pub fn serialize_5<
     ),
     Error,
 >
-    ensures serialized { IfOk result (λ r. SerializedParts (both A.Archived.definitions (both B.Archived.definitions (both C.Archived.definitions (both D.Archived.definitions (both E.Archived.definitions no_definition))))) (part A.Archived.shape (part B.Archived.shape (part C.Archived.shape (part D.Archived.shape (part E.Archived.shape no_part))))) (A.keys a.now ++ (B.keys b.now ++ (C.keys c.now ++ (D.keys d.now ++ (E.keys e.now ++ []))))) (value (A.meaning a.now) (value (B.meaning b.now) (value (C.meaning c.now) (value (D.meaning d.now) (value (E.meaning e.now) no_value))))) (value (A.flat a.now r.0) (value (B.flat b.now r.1.0) (value (C.flat c.now r.1.1.0) (value (D.flat d.now r.1.1.1.0) (value (E.flat e.now r.1.1.1.1.0) no_value))))) (S.state serializer.old) (S.state serializer.new)) }
-    ensures same_values { IfOk result (λ r. A.belongs a.now r.0 × (B.belongs b.now r.1.0 × (C.belongs c.now r.1.1.0 × (D.belongs d.now r.1.1.1.0 × (E.belongs e.now r.1.1.1.1.0 × Unit {0}))))) }
+    ensures serialized { IfOk result (λ r. SerializedParts
+        (both A.Archived.definitions (both B.Archived.definitions
+        (both C.Archived.definitions (both D.Archived.definitions
+        (both E.Archived.definitions no_definition)))))
+        (part A.Archived.shape (part B.Archived.shape (part C.Archived.shape
+        (part D.Archived.shape (part E.Archived.shape no_part)))))
+        (A.keys a.now ++ (B.keys b.now ++ (C.keys c.now ++ (D.keys d.now ++ (E.keys e.now ++ [])))))
+        (value (A.meaning a.now) (value (B.meaning b.now)
+        (value (C.meaning c.now) (value (D.meaning d.now) (value (E.meaning e.now) no_value)))))
+        (value (A.flat a.now r.0) (value (B.flat b.now r.1.0)
+        (value (C.flat c.now r.1.1.0) (value (D.flat d.now r.1.1.1.0)
+        (value (E.flat e.now r.1.1.1.1.0) no_value))))) (S.state serializer.old)
+        (S.state serializer.new)) }
+    ensures same_values { IfOk result (λ r. A.belongs a.now r.0
+        × (B.belongs b.now r.1.0 × (C.belongs c.now r.1.1.0
+        × (D.belongs d.now r.1.1.1.0 × (E.belongs e.now r.1.1.1.1.0 × Unit {0}))))) }
     ensures goes_on { GoesOn (S.state serializer.old) (S.state serializer.new) }
-    ensures refused { IfErr result (λ refusal. ArePartsRefused (both A.Archived.definitions (both B.Archived.definitions (both C.Archived.definitions (both D.Archived.definitions (both E.Archived.definitions no_definition))))) (part A.Archived.shape (part B.Archived.shape (part C.Archived.shape (part D.Archived.shape (part E.Archived.shape no_part))))) (A.keys a.now ++ (B.keys b.now ++ (C.keys c.now ++ (D.keys d.now ++ (E.keys e.now ++ []))))) (value (A.meaning a.now) (value (B.meaning b.now) (value (C.meaning c.now) (value (D.meaning d.now) (value (E.meaning e.now) no_value))))) (S.state serializer.old) (S.state serializer.new) refusal) }
+    ensures refused { IfErr result (λ refusal. ArePartsRefused
+        (both A.Archived.definitions (both B.Archived.definitions
+        (both C.Archived.definitions (both D.Archived.definitions
+        (both E.Archived.definitions no_definition)))))
+        (part A.Archived.shape (part B.Archived.shape (part C.Archived.shape
+        (part D.Archived.shape (part E.Archived.shape no_part)))))
+        (A.keys a.now ++ (B.keys b.now ++ (C.keys c.now ++ (D.keys d.now ++ (E.keys e.now ++ [])))))
+        (value (A.meaning a.now) (value (B.meaning b.now)
+        (value (C.meaning c.now) (value (D.meaning d.now) (value (E.meaning e.now) no_value)))))
+        (S.state serializer.old) (S.state serializer.new) refusal) }
 {
     let first = a.serialize(serializer)?;
     let others = serialize_4(b, c, d, e, serializer)?;
@@ -144,10 +219,38 @@ pub fn serialize_6<
     ),
     Error,
 >
-    ensures serialized { IfOk result (λ r. SerializedParts (both A.Archived.definitions (both B.Archived.definitions (both C.Archived.definitions (both D.Archived.definitions (both E.Archived.definitions (both F.Archived.definitions no_definition)))))) (part A.Archived.shape (part B.Archived.shape (part C.Archived.shape (part D.Archived.shape (part E.Archived.shape (part F.Archived.shape no_part)))))) (A.keys a.now ++ (B.keys b.now ++ (C.keys c.now ++ (D.keys d.now ++ (E.keys e.now ++ (F.keys f.now ++ [])))))) (value (A.meaning a.now) (value (B.meaning b.now) (value (C.meaning c.now) (value (D.meaning d.now) (value (E.meaning e.now) (value (F.meaning f.now) no_value)))))) (value (A.flat a.now r.0) (value (B.flat b.now r.1.0) (value (C.flat c.now r.1.1.0) (value (D.flat d.now r.1.1.1.0) (value (E.flat e.now r.1.1.1.1.0) (value (F.flat f.now r.1.1.1.1.1.0) no_value)))))) (S.state serializer.old) (S.state serializer.new)) }
-    ensures same_values { IfOk result (λ r. A.belongs a.now r.0 × (B.belongs b.now r.1.0 × (C.belongs c.now r.1.1.0 × (D.belongs d.now r.1.1.1.0 × (E.belongs e.now r.1.1.1.1.0 × (F.belongs f.now r.1.1.1.1.1.0 × Unit {0})))))) }
+    ensures serialized { IfOk result (λ r. SerializedParts
+        (both A.Archived.definitions (both B.Archived.definitions
+        (both C.Archived.definitions (both D.Archived.definitions
+        (both E.Archived.definitions (both F.Archived.definitions no_definition))))))
+        (part A.Archived.shape (part B.Archived.shape (part C.Archived.shape
+        (part D.Archived.shape (part E.Archived.shape (part F.Archived.shape no_part))))))
+        (A.keys a.now ++ (B.keys b.now ++ (C.keys c.now
+        ++ (D.keys d.now ++ (E.keys e.now ++ (F.keys f.now ++ []))))))
+        (value (A.meaning a.now) (value (B.meaning b.now)
+        (value (C.meaning c.now) (value (D.meaning d.now)
+        (value (E.meaning e.now) (value (F.meaning f.now) no_value))))))
+        (value (A.flat a.now r.0) (value (B.flat b.now r.1.0)
+        (value (C.flat c.now r.1.1.0) (value (D.flat d.now r.1.1.1.0)
+        (value (E.flat e.now r.1.1.1.1.0) (value (F.flat f.now r.1.1.1.1.1.0) no_value))))))
+        (S.state serializer.old) (S.state serializer.new)) }
+    ensures same_values { IfOk result (λ r. A.belongs a.now r.0
+        × (B.belongs b.now r.1.0 × (C.belongs c.now r.1.1.0
+        × (D.belongs d.now r.1.1.1.0 × (E.belongs e.now r.1.1.1.1.0
+        × (F.belongs f.now r.1.1.1.1.1.0 × Unit {0})))))) }
     ensures goes_on { GoesOn (S.state serializer.old) (S.state serializer.new) }
-    ensures refused { IfErr result (λ refusal. ArePartsRefused (both A.Archived.definitions (both B.Archived.definitions (both C.Archived.definitions (both D.Archived.definitions (both E.Archived.definitions (both F.Archived.definitions no_definition)))))) (part A.Archived.shape (part B.Archived.shape (part C.Archived.shape (part D.Archived.shape (part E.Archived.shape (part F.Archived.shape no_part)))))) (A.keys a.now ++ (B.keys b.now ++ (C.keys c.now ++ (D.keys d.now ++ (E.keys e.now ++ (F.keys f.now ++ [])))))) (value (A.meaning a.now) (value (B.meaning b.now) (value (C.meaning c.now) (value (D.meaning d.now) (value (E.meaning e.now) (value (F.meaning f.now) no_value)))))) (S.state serializer.old) (S.state serializer.new) refusal) }
+    ensures refused { IfErr result (λ refusal. ArePartsRefused
+        (both A.Archived.definitions (both B.Archived.definitions
+        (both C.Archived.definitions (both D.Archived.definitions
+        (both E.Archived.definitions (both F.Archived.definitions no_definition))))))
+        (part A.Archived.shape (part B.Archived.shape (part C.Archived.shape
+        (part D.Archived.shape (part E.Archived.shape (part F.Archived.shape no_part))))))
+        (A.keys a.now ++ (B.keys b.now ++ (C.keys c.now
+        ++ (D.keys d.now ++ (E.keys e.now ++ (F.keys f.now ++ []))))))
+        (value (A.meaning a.now) (value (B.meaning b.now)
+        (value (C.meaning c.now) (value (D.meaning d.now)
+        (value (E.meaning e.now) (value (F.meaning f.now) no_value)))))) (S.state serializer.old)
+        (S.state serializer.new) refusal) }
 {
     let first = a.serialize(serializer)?;
     let others = serialize_5(b, c, d, e, f, serializer)?;
@@ -186,10 +289,43 @@ pub fn serialize_7<
     ),
     Error,
 >
-    ensures serialized { IfOk result (λ r. SerializedParts (both A.Archived.definitions (both B.Archived.definitions (both C.Archived.definitions (both D.Archived.definitions (both E.Archived.definitions (both F.Archived.definitions (both G.Archived.definitions no_definition))))))) (part A.Archived.shape (part B.Archived.shape (part C.Archived.shape (part D.Archived.shape (part E.Archived.shape (part F.Archived.shape (part G.Archived.shape no_part))))))) (A.keys a.now ++ (B.keys b.now ++ (C.keys c.now ++ (D.keys d.now ++ (E.keys e.now ++ (F.keys f.now ++ (G.keys g.now ++ []))))))) (value (A.meaning a.now) (value (B.meaning b.now) (value (C.meaning c.now) (value (D.meaning d.now) (value (E.meaning e.now) (value (F.meaning f.now) (value (G.meaning g.now) no_value))))))) (value (A.flat a.now r.0) (value (B.flat b.now r.1.0) (value (C.flat c.now r.1.1.0) (value (D.flat d.now r.1.1.1.0) (value (E.flat e.now r.1.1.1.1.0) (value (F.flat f.now r.1.1.1.1.1.0) (value (G.flat g.now r.1.1.1.1.1.1.0) no_value))))))) (S.state serializer.old) (S.state serializer.new)) }
-    ensures same_values { IfOk result (λ r. A.belongs a.now r.0 × (B.belongs b.now r.1.0 × (C.belongs c.now r.1.1.0 × (D.belongs d.now r.1.1.1.0 × (E.belongs e.now r.1.1.1.1.0 × (F.belongs f.now r.1.1.1.1.1.0 × (G.belongs g.now r.1.1.1.1.1.1.0 × Unit {0}))))))) }
+    ensures serialized { IfOk result (λ r. SerializedParts
+        (both A.Archived.definitions (both B.Archived.definitions
+        (both C.Archived.definitions (both D.Archived.definitions
+        (both E.Archived.definitions (both F.Archived.definitions
+        (both G.Archived.definitions no_definition)))))))
+        (part A.Archived.shape (part B.Archived.shape (part C.Archived.shape
+        (part D.Archived.shape (part E.Archived.shape (part F.Archived.shape
+        (part G.Archived.shape no_part))))))) (A.keys a.now
+        ++ (B.keys b.now ++ (C.keys c.now ++ (D.keys d.now
+        ++ (E.keys e.now ++ (F.keys f.now ++ (G.keys g.now ++ [])))))))
+        (value (A.meaning a.now) (value (B.meaning b.now)
+        (value (C.meaning c.now) (value (D.meaning d.now)
+        (value (E.meaning e.now) (value (F.meaning f.now) (value (G.meaning g.now) no_value)))))))
+        (value (A.flat a.now r.0) (value (B.flat b.now r.1.0)
+        (value (C.flat c.now r.1.1.0) (value (D.flat d.now r.1.1.1.0)
+        (value (E.flat e.now r.1.1.1.1.0) (value (F.flat f.now r.1.1.1.1.1.0)
+        (value (G.flat g.now r.1.1.1.1.1.1.0) no_value))))))) (S.state serializer.old)
+        (S.state serializer.new)) }
+    ensures same_values { IfOk result (λ r. A.belongs a.now r.0
+        × (B.belongs b.now r.1.0 × (C.belongs c.now r.1.1.0
+        × (D.belongs d.now r.1.1.1.0 × (E.belongs e.now r.1.1.1.1.0
+        × (F.belongs f.now r.1.1.1.1.1.0 × (G.belongs g.now r.1.1.1.1.1.1.0 × Unit {0}))))))) }
     ensures goes_on { GoesOn (S.state serializer.old) (S.state serializer.new) }
-    ensures refused { IfErr result (λ refusal. ArePartsRefused (both A.Archived.definitions (both B.Archived.definitions (both C.Archived.definitions (both D.Archived.definitions (both E.Archived.definitions (both F.Archived.definitions (both G.Archived.definitions no_definition))))))) (part A.Archived.shape (part B.Archived.shape (part C.Archived.shape (part D.Archived.shape (part E.Archived.shape (part F.Archived.shape (part G.Archived.shape no_part))))))) (A.keys a.now ++ (B.keys b.now ++ (C.keys c.now ++ (D.keys d.now ++ (E.keys e.now ++ (F.keys f.now ++ (G.keys g.now ++ []))))))) (value (A.meaning a.now) (value (B.meaning b.now) (value (C.meaning c.now) (value (D.meaning d.now) (value (E.meaning e.now) (value (F.meaning f.now) (value (G.meaning g.now) no_value))))))) (S.state serializer.old) (S.state serializer.new) refusal) }
+    ensures refused { IfErr result (λ refusal. ArePartsRefused
+        (both A.Archived.definitions (both B.Archived.definitions
+        (both C.Archived.definitions (both D.Archived.definitions
+        (both E.Archived.definitions (both F.Archived.definitions
+        (both G.Archived.definitions no_definition)))))))
+        (part A.Archived.shape (part B.Archived.shape (part C.Archived.shape
+        (part D.Archived.shape (part E.Archived.shape (part F.Archived.shape
+        (part G.Archived.shape no_part))))))) (A.keys a.now
+        ++ (B.keys b.now ++ (C.keys c.now ++ (D.keys d.now
+        ++ (E.keys e.now ++ (F.keys f.now ++ (G.keys g.now ++ [])))))))
+        (value (A.meaning a.now) (value (B.meaning b.now)
+        (value (C.meaning c.now) (value (D.meaning d.now)
+        (value (E.meaning e.now) (value (F.meaning f.now) (value (G.meaning g.now) no_value)))))))
+        (S.state serializer.old) (S.state serializer.new) refusal) }
 {
     let first = a.serialize(serializer)?;
     let others = serialize_6(b, c, d, e, f, g, serializer)?;
@@ -233,10 +369,48 @@ pub fn serialize_8<
     ),
     Error,
 >
-    ensures serialized { IfOk result (λ r. SerializedParts (both A.Archived.definitions (both B.Archived.definitions (both C.Archived.definitions (both D.Archived.definitions (both E.Archived.definitions (both F.Archived.definitions (both G.Archived.definitions (both H.Archived.definitions no_definition)))))))) (part A.Archived.shape (part B.Archived.shape (part C.Archived.shape (part D.Archived.shape (part E.Archived.shape (part F.Archived.shape (part G.Archived.shape (part H.Archived.shape no_part)))))))) (A.keys a.now ++ (B.keys b.now ++ (C.keys c.now ++ (D.keys d.now ++ (E.keys e.now ++ (F.keys f.now ++ (G.keys g.now ++ (H.keys h.now ++ [])))))))) (value (A.meaning a.now) (value (B.meaning b.now) (value (C.meaning c.now) (value (D.meaning d.now) (value (E.meaning e.now) (value (F.meaning f.now) (value (G.meaning g.now) (value (H.meaning h.now) no_value)))))))) (value (A.flat a.now r.0) (value (B.flat b.now r.1.0) (value (C.flat c.now r.1.1.0) (value (D.flat d.now r.1.1.1.0) (value (E.flat e.now r.1.1.1.1.0) (value (F.flat f.now r.1.1.1.1.1.0) (value (G.flat g.now r.1.1.1.1.1.1.0) (value (H.flat h.now r.1.1.1.1.1.1.1.0) no_value)))))))) (S.state serializer.old) (S.state serializer.new)) }
-    ensures same_values { IfOk result (λ r. A.belongs a.now r.0 × (B.belongs b.now r.1.0 × (C.belongs c.now r.1.1.0 × (D.belongs d.now r.1.1.1.0 × (E.belongs e.now r.1.1.1.1.0 × (F.belongs f.now r.1.1.1.1.1.0 × (G.belongs g.now r.1.1.1.1.1.1.0 × (H.belongs h.now r.1.1.1.1.1.1.1.0 × Unit {0})))))))) }
+    ensures serialized { IfOk result (λ r. SerializedParts
+        (both A.Archived.definitions (both B.Archived.definitions
+        (both C.Archived.definitions (both D.Archived.definitions
+        (both E.Archived.definitions (both F.Archived.definitions
+        (both G.Archived.definitions (both H.Archived.definitions no_definition))))))))
+        (part A.Archived.shape (part B.Archived.shape (part C.Archived.shape
+        (part D.Archived.shape (part E.Archived.shape (part F.Archived.shape
+        (part G.Archived.shape (part H.Archived.shape no_part))))))))
+        (A.keys a.now ++ (B.keys b.now ++ (C.keys c.now
+        ++ (D.keys d.now ++ (E.keys e.now ++ (F.keys f.now
+        ++ (G.keys g.now ++ (H.keys h.now ++ []))))))))
+        (value (A.meaning a.now) (value (B.meaning b.now)
+        (value (C.meaning c.now) (value (D.meaning d.now)
+        (value (E.meaning e.now) (value (F.meaning f.now)
+        (value (G.meaning g.now) (value (H.meaning h.now) no_value))))))))
+        (value (A.flat a.now r.0) (value (B.flat b.now r.1.0)
+        (value (C.flat c.now r.1.1.0) (value (D.flat d.now r.1.1.1.0)
+        (value (E.flat e.now r.1.1.1.1.0) (value (F.flat f.now r.1.1.1.1.1.0)
+        (value (G.flat g.now r.1.1.1.1.1.1.0) (value (H.flat h.now r.1.1.1.1.1.1.1.0)
+        no_value)))))))) (S.state serializer.old) (S.state serializer.new)) }
+    ensures same_values { IfOk result (λ r. A.belongs a.now r.0
+        × (B.belongs b.now r.1.0 × (C.belongs c.now r.1.1.0
+        × (D.belongs d.now r.1.1.1.0 × (E.belongs e.now r.1.1.1.1.0
+        × (F.belongs f.now r.1.1.1.1.1.0 × (G.belongs g.now r.1.1.1.1.1.1.0
+        × (H.belongs h.now r.1.1.1.1.1.1.1.0 × Unit {0})))))))) }
     ensures goes_on { GoesOn (S.state serializer.old) (S.state serializer.new) }
-    ensures refused { IfErr result (λ refusal. ArePartsRefused (both A.Archived.definitions (both B.Archived.definitions (both C.Archived.definitions (both D.Archived.definitions (both E.Archived.definitions (both F.Archived.definitions (both G.Archived.definitions (both H.Archived.definitions no_definition)))))))) (part A.Archived.shape (part B.Archived.shape (part C.Archived.shape (part D.Archived.shape (part E.Archived.shape (part F.Archived.shape (part G.Archived.shape (part H.Archived.shape no_part)))))))) (A.keys a.now ++ (B.keys b.now ++ (C.keys c.now ++ (D.keys d.now ++ (E.keys e.now ++ (F.keys f.now ++ (G.keys g.now ++ (H.keys h.now ++ [])))))))) (value (A.meaning a.now) (value (B.meaning b.now) (value (C.meaning c.now) (value (D.meaning d.now) (value (E.meaning e.now) (value (F.meaning f.now) (value (G.meaning g.now) (value (H.meaning h.now) no_value)))))))) (S.state serializer.old) (S.state serializer.new) refusal) }
+    ensures refused { IfErr result (λ refusal. ArePartsRefused
+        (both A.Archived.definitions (both B.Archived.definitions
+        (both C.Archived.definitions (both D.Archived.definitions
+        (both E.Archived.definitions (both F.Archived.definitions
+        (both G.Archived.definitions (both H.Archived.definitions no_definition))))))))
+        (part A.Archived.shape (part B.Archived.shape (part C.Archived.shape
+        (part D.Archived.shape (part E.Archived.shape (part F.Archived.shape
+        (part G.Archived.shape (part H.Archived.shape no_part))))))))
+        (A.keys a.now ++ (B.keys b.now ++ (C.keys c.now
+        ++ (D.keys d.now ++ (E.keys e.now ++ (F.keys f.now
+        ++ (G.keys g.now ++ (H.keys h.now ++ []))))))))
+        (value (A.meaning a.now) (value (B.meaning b.now)
+        (value (C.meaning c.now) (value (D.meaning d.now)
+        (value (E.meaning e.now) (value (F.meaning f.now)
+        (value (G.meaning g.now) (value (H.meaning h.now) no_value)))))))) (S.state serializer.old)
+        (S.state serializer.new) refusal) }
 {
     let first = a.serialize(serializer)?;
     let others = serialize_7(b, c, d, e, f, g, h, serializer)?;

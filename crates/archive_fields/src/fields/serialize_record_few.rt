@@ -24,10 +24,12 @@ pub fn serialize_record_0<X: Portable, S: Writer + Keys>(serializer: &mut S) -> 
     requires nothing { X.definitions ≡ no_definition }
     requires parts { X.shape ≡ parts no_part }
     requires nameless { are_none no_definition ≡ true }
-    ensures serialized { IfOk result (λ r. Serialized X.definitions X.shape [] (product no_value) (product no_value) (S.state serializer.old) (S.state serializer.new)) }
+    ensures serialized { IfOk result (λ r. Serialized X.definitions X.shape [] (product no_value)
+        (product no_value) (S.state serializer.old) (S.state serializer.new)) }
     ensures same_values { IfOk result (λ r. Unit {0}) }
     ensures goes_on { GoesOn (S.state serializer.old) (S.state serializer.new) }
-    ensures refused { IfErr result (IsRefused X.definitions X.shape [] (product no_value) (S.state serializer.old) (S.state serializer.new)) }
+    ensures refused { IfErr result (IsRefused X.definitions X.shape [] (product no_value)
+        (S.state serializer.old) (S.state serializer.new)) }
 {
     serialize_0(serializer)
 }
@@ -40,10 +42,14 @@ pub fn serialize_record_1<A: Serialize<S>, X: Portable, S: Writer + Keys>(
     requires nothing { X.definitions ≡ no_definition }
     requires parts { X.shape ≡ parts (part A.Archived.shape no_part) }
     requires nameless { are_none (both A.Archived.definitions no_definition) ≡ true }
-    ensures serialized { IfOk result (λ r. Serialized X.definitions X.shape (A.keys a.now ++ []) (product (value (A.meaning a.now) no_value)) (product (value (A.flat a.now r.0) no_value)) (S.state serializer.old) (S.state serializer.new)) }
+    ensures serialized { IfOk result (λ r. Serialized X.definitions X.shape (A.keys a.now ++ [])
+        (product (value (A.meaning a.now) no_value)) (product (value (A.flat a.now r.0) no_value))
+        (S.state serializer.old) (S.state serializer.new)) }
     ensures same_values { IfOk result (λ r. A.belongs a.now r.0 × Unit {0}) }
     ensures goes_on { GoesOn (S.state serializer.old) (S.state serializer.new) }
-    ensures refused { IfErr result (IsRefused X.definitions X.shape (A.keys a.now ++ []) (product (value (A.meaning a.now) no_value)) (S.state serializer.old) (S.state serializer.new)) }
+    ensures refused { IfErr result (IsRefused X.definitions X.shape (A.keys a.now ++ [])
+        (product (value (A.meaning a.now) no_value)) (S.state serializer.old)
+        (S.state serializer.new)) }
 {
     serialize_1(a, serializer)
 }
@@ -56,11 +62,20 @@ pub fn serialize_record_2<A: Serialize<S>, B: Serialize<S>, X: Portable, S: Writ
 ) -> Result<(A::Resolver, (B::Resolver, ())), Error>
     requires nothing { X.definitions ≡ no_definition }
     requires parts { X.shape ≡ parts (part A.Archived.shape (part B.Archived.shape no_part)) }
-    requires nameless { are_none (both A.Archived.definitions (both B.Archived.definitions no_definition)) ≡ true }
-    ensures serialized { IfOk result (λ r. Serialized X.definitions X.shape (A.keys a.now ++ (B.keys b.now ++ [])) (product (value (A.meaning a.now) (value (B.meaning b.now) no_value))) (product (value (A.flat a.now r.0) (value (B.flat b.now r.1.0) no_value))) (S.state serializer.old) (S.state serializer.new)) }
-    ensures same_values { IfOk result (λ r. A.belongs a.now r.0 × (B.belongs b.now r.1.0 × Unit {0})) }
+    requires nameless { are_none (both A.Archived.definitions
+        (both B.Archived.definitions no_definition)) ≡ true }
+    ensures serialized { IfOk result (λ r. Serialized X.definitions X.shape
+        (A.keys a.now ++ (B.keys b.now ++ [])) (product
+        (value (A.meaning a.now) (value (B.meaning b.now) no_value)))
+        (product (value (A.flat a.now r.0) (value (B.flat b.now r.1.0) no_value)))
+        (S.state serializer.old) (S.state serializer.new)) }
+    ensures same_values { IfOk result (λ r. A.belongs a.now r.0
+        × (B.belongs b.now r.1.0 × Unit {0})) }
     ensures goes_on { GoesOn (S.state serializer.old) (S.state serializer.new) }
-    ensures refused { IfErr result (IsRefused X.definitions X.shape (A.keys a.now ++ (B.keys b.now ++ [])) (product (value (A.meaning a.now) (value (B.meaning b.now) no_value))) (S.state serializer.old) (S.state serializer.new)) }
+    ensures refused { IfErr result (IsRefused X.definitions X.shape
+        (A.keys a.now ++ (B.keys b.now ++ [])) (product
+        (value (A.meaning a.now) (value (B.meaning b.now) no_value))) (S.state serializer.old)
+        (S.state serializer.new)) }
 {
     serialize_2(a, b, serializer)
 }
@@ -79,12 +94,23 @@ pub fn serialize_record_3<
     serializer: &mut S,
 ) -> Result<(A::Resolver, (B::Resolver, (C::Resolver, ()))), Error>
     requires nothing { X.definitions ≡ no_definition }
-    requires parts { X.shape ≡ parts (part A.Archived.shape (part B.Archived.shape (part C.Archived.shape no_part))) }
-    requires nameless { are_none (both A.Archived.definitions (both B.Archived.definitions (both C.Archived.definitions no_definition))) ≡ true }
-    ensures serialized { IfOk result (λ r. Serialized X.definitions X.shape (A.keys a.now ++ (B.keys b.now ++ (C.keys c.now ++ []))) (product (value (A.meaning a.now) (value (B.meaning b.now) (value (C.meaning c.now) no_value)))) (product (value (A.flat a.now r.0) (value (B.flat b.now r.1.0) (value (C.flat c.now r.1.1.0) no_value)))) (S.state serializer.old) (S.state serializer.new)) }
-    ensures same_values { IfOk result (λ r. A.belongs a.now r.0 × (B.belongs b.now r.1.0 × (C.belongs c.now r.1.1.0 × Unit {0}))) }
+    requires parts { X.shape ≡ parts (part A.Archived.shape
+        (part B.Archived.shape (part C.Archived.shape no_part))) }
+    requires nameless { are_none (both A.Archived.definitions
+        (both B.Archived.definitions (both C.Archived.definitions no_definition))) ≡ true }
+    ensures serialized { IfOk result (λ r. Serialized X.definitions X.shape
+        (A.keys a.now ++ (B.keys b.now ++ (C.keys c.now ++ [])))
+        (product (value (A.meaning a.now) (value (B.meaning b.now)
+        (value (C.meaning c.now) no_value)))) (product (value (A.flat a.now r.0)
+        (value (B.flat b.now r.1.0) (value (C.flat c.now r.1.1.0) no_value))))
+        (S.state serializer.old) (S.state serializer.new)) }
+    ensures same_values { IfOk result (λ r. A.belongs a.now r.0
+        × (B.belongs b.now r.1.0 × (C.belongs c.now r.1.1.0 × Unit {0}))) }
     ensures goes_on { GoesOn (S.state serializer.old) (S.state serializer.new) }
-    ensures refused { IfErr result (IsRefused X.definitions X.shape (A.keys a.now ++ (B.keys b.now ++ (C.keys c.now ++ []))) (product (value (A.meaning a.now) (value (B.meaning b.now) (value (C.meaning c.now) no_value)))) (S.state serializer.old) (S.state serializer.new)) }
+    ensures refused { IfErr result (IsRefused X.definitions X.shape
+        (A.keys a.now ++ (B.keys b.now ++ (C.keys c.now ++ [])))
+        (product (value (A.meaning a.now) (value (B.meaning b.now)
+        (value (C.meaning c.now) no_value)))) (S.state serializer.old) (S.state serializer.new)) }
 {
     serialize_3(a, b, c, serializer)
 }
@@ -105,12 +131,27 @@ pub fn serialize_record_4<
     serializer: &mut S,
 ) -> Result<(A::Resolver, (B::Resolver, (C::Resolver, (D::Resolver, ())))), Error>
     requires nothing { X.definitions ≡ no_definition }
-    requires parts { X.shape ≡ parts (part A.Archived.shape (part B.Archived.shape (part C.Archived.shape (part D.Archived.shape no_part)))) }
-    requires nameless { are_none (both A.Archived.definitions (both B.Archived.definitions (both C.Archived.definitions (both D.Archived.definitions no_definition)))) ≡ true }
-    ensures serialized { IfOk result (λ r. Serialized X.definitions X.shape (A.keys a.now ++ (B.keys b.now ++ (C.keys c.now ++ (D.keys d.now ++ [])))) (product (value (A.meaning a.now) (value (B.meaning b.now) (value (C.meaning c.now) (value (D.meaning d.now) no_value))))) (product (value (A.flat a.now r.0) (value (B.flat b.now r.1.0) (value (C.flat c.now r.1.1.0) (value (D.flat d.now r.1.1.1.0) no_value))))) (S.state serializer.old) (S.state serializer.new)) }
-    ensures same_values { IfOk result (λ r. A.belongs a.now r.0 × (B.belongs b.now r.1.0 × (C.belongs c.now r.1.1.0 × (D.belongs d.now r.1.1.1.0 × Unit {0})))) }
+    requires parts { X.shape ≡ parts (part A.Archived.shape
+        (part B.Archived.shape (part C.Archived.shape (part D.Archived.shape no_part)))) }
+    requires nameless { are_none (both A.Archived.definitions
+        (both B.Archived.definitions (both C.Archived.definitions
+        (both D.Archived.definitions no_definition)))) ≡ true }
+    ensures serialized { IfOk result (λ r. Serialized X.definitions X.shape
+        (A.keys a.now ++ (B.keys b.now ++ (C.keys c.now ++ (D.keys d.now ++ []))))
+        (product (value (A.meaning a.now) (value (B.meaning b.now)
+        (value (C.meaning c.now) (value (D.meaning d.now) no_value)))))
+        (product (value (A.flat a.now r.0) (value (B.flat b.now r.1.0)
+        (value (C.flat c.now r.1.1.0) (value (D.flat d.now r.1.1.1.0) no_value)))))
+        (S.state serializer.old) (S.state serializer.new)) }
+    ensures same_values { IfOk result (λ r. A.belongs a.now r.0
+        × (B.belongs b.now r.1.0 × (C.belongs c.now r.1.1.0
+        × (D.belongs d.now r.1.1.1.0 × Unit {0})))) }
     ensures goes_on { GoesOn (S.state serializer.old) (S.state serializer.new) }
-    ensures refused { IfErr result (IsRefused X.definitions X.shape (A.keys a.now ++ (B.keys b.now ++ (C.keys c.now ++ (D.keys d.now ++ [])))) (product (value (A.meaning a.now) (value (B.meaning b.now) (value (C.meaning c.now) (value (D.meaning d.now) no_value))))) (S.state serializer.old) (S.state serializer.new)) }
+    ensures refused { IfErr result (IsRefused X.definitions X.shape
+        (A.keys a.now ++ (B.keys b.now ++ (C.keys c.now ++ (D.keys d.now ++ []))))
+        (product (value (A.meaning a.now) (value (B.meaning b.now)
+        (value (C.meaning c.now) (value (D.meaning d.now) no_value))))) (S.state serializer.old)
+        (S.state serializer.new)) }
 {
     serialize_4(a, b, c, d, serializer)
 }
@@ -139,12 +180,29 @@ pub fn serialize_record_5<
     Error,
 >
     requires nothing { X.definitions ≡ no_definition }
-    requires parts { X.shape ≡ parts (part A.Archived.shape (part B.Archived.shape (part C.Archived.shape (part D.Archived.shape (part E.Archived.shape no_part))))) }
-    requires nameless { are_none (both A.Archived.definitions (both B.Archived.definitions (both C.Archived.definitions (both D.Archived.definitions (both E.Archived.definitions no_definition))))) ≡ true }
-    ensures serialized { IfOk result (λ r. Serialized X.definitions X.shape (A.keys a.now ++ (B.keys b.now ++ (C.keys c.now ++ (D.keys d.now ++ (E.keys e.now ++ []))))) (product (value (A.meaning a.now) (value (B.meaning b.now) (value (C.meaning c.now) (value (D.meaning d.now) (value (E.meaning e.now) no_value)))))) (product (value (A.flat a.now r.0) (value (B.flat b.now r.1.0) (value (C.flat c.now r.1.1.0) (value (D.flat d.now r.1.1.1.0) (value (E.flat e.now r.1.1.1.1.0) no_value)))))) (S.state serializer.old) (S.state serializer.new)) }
-    ensures same_values { IfOk result (λ r. A.belongs a.now r.0 × (B.belongs b.now r.1.0 × (C.belongs c.now r.1.1.0 × (D.belongs d.now r.1.1.1.0 × (E.belongs e.now r.1.1.1.1.0 × Unit {0}))))) }
+    requires parts { X.shape ≡ parts (part A.Archived.shape
+        (part B.Archived.shape (part C.Archived.shape (part D.Archived.shape
+        (part E.Archived.shape no_part))))) }
+    requires nameless { are_none (both A.Archived.definitions
+        (both B.Archived.definitions (both C.Archived.definitions
+        (both D.Archived.definitions (both E.Archived.definitions no_definition))))) ≡ true }
+    ensures serialized { IfOk result (λ r. Serialized X.definitions X.shape
+        (A.keys a.now ++ (B.keys b.now ++ (C.keys c.now ++ (D.keys d.now ++ (E.keys e.now ++ [])))))
+        (product (value (A.meaning a.now) (value (B.meaning b.now)
+        (value (C.meaning c.now) (value (D.meaning d.now) (value (E.meaning e.now) no_value))))))
+        (product (value (A.flat a.now r.0) (value (B.flat b.now r.1.0)
+        (value (C.flat c.now r.1.1.0) (value (D.flat d.now r.1.1.1.0)
+        (value (E.flat e.now r.1.1.1.1.0) no_value)))))) (S.state serializer.old)
+        (S.state serializer.new)) }
+    ensures same_values { IfOk result (λ r. A.belongs a.now r.0
+        × (B.belongs b.now r.1.0 × (C.belongs c.now r.1.1.0
+        × (D.belongs d.now r.1.1.1.0 × (E.belongs e.now r.1.1.1.1.0 × Unit {0}))))) }
     ensures goes_on { GoesOn (S.state serializer.old) (S.state serializer.new) }
-    ensures refused { IfErr result (IsRefused X.definitions X.shape (A.keys a.now ++ (B.keys b.now ++ (C.keys c.now ++ (D.keys d.now ++ (E.keys e.now ++ []))))) (product (value (A.meaning a.now) (value (B.meaning b.now) (value (C.meaning c.now) (value (D.meaning d.now) (value (E.meaning e.now) no_value)))))) (S.state serializer.old) (S.state serializer.new)) }
+    ensures refused { IfErr result (IsRefused X.definitions X.shape
+        (A.keys a.now ++ (B.keys b.now ++ (C.keys c.now ++ (D.keys d.now ++ (E.keys e.now ++ [])))))
+        (product (value (A.meaning a.now) (value (B.meaning b.now)
+        (value (C.meaning c.now) (value (D.meaning d.now) (value (E.meaning e.now) no_value))))))
+        (S.state serializer.old) (S.state serializer.new)) }
 {
     serialize_5(a, b, c, d, e, serializer)
 }
@@ -178,12 +236,35 @@ pub fn serialize_record_6<
     Error,
 >
     requires nothing { X.definitions ≡ no_definition }
-    requires parts { X.shape ≡ parts (part A.Archived.shape (part B.Archived.shape (part C.Archived.shape (part D.Archived.shape (part E.Archived.shape (part F.Archived.shape no_part)))))) }
-    requires nameless { are_none (both A.Archived.definitions (both B.Archived.definitions (both C.Archived.definitions (both D.Archived.definitions (both E.Archived.definitions (both F.Archived.definitions no_definition)))))) ≡ true }
-    ensures serialized { IfOk result (λ r. Serialized X.definitions X.shape (A.keys a.now ++ (B.keys b.now ++ (C.keys c.now ++ (D.keys d.now ++ (E.keys e.now ++ (F.keys f.now ++ [])))))) (product (value (A.meaning a.now) (value (B.meaning b.now) (value (C.meaning c.now) (value (D.meaning d.now) (value (E.meaning e.now) (value (F.meaning f.now) no_value))))))) (product (value (A.flat a.now r.0) (value (B.flat b.now r.1.0) (value (C.flat c.now r.1.1.0) (value (D.flat d.now r.1.1.1.0) (value (E.flat e.now r.1.1.1.1.0) (value (F.flat f.now r.1.1.1.1.1.0) no_value))))))) (S.state serializer.old) (S.state serializer.new)) }
-    ensures same_values { IfOk result (λ r. A.belongs a.now r.0 × (B.belongs b.now r.1.0 × (C.belongs c.now r.1.1.0 × (D.belongs d.now r.1.1.1.0 × (E.belongs e.now r.1.1.1.1.0 × (F.belongs f.now r.1.1.1.1.1.0 × Unit {0})))))) }
+    requires parts { X.shape ≡ parts (part A.Archived.shape
+        (part B.Archived.shape (part C.Archived.shape (part D.Archived.shape
+        (part E.Archived.shape (part F.Archived.shape no_part)))))) }
+    requires nameless { are_none (both A.Archived.definitions
+        (both B.Archived.definitions (both C.Archived.definitions
+        (both D.Archived.definitions (both E.Archived.definitions
+        (both F.Archived.definitions no_definition)))))) ≡ true }
+    ensures serialized { IfOk result (λ r. Serialized X.definitions X.shape
+        (A.keys a.now ++ (B.keys b.now ++ (C.keys c.now
+        ++ (D.keys d.now ++ (E.keys e.now ++ (F.keys f.now ++ []))))))
+        (product (value (A.meaning a.now) (value (B.meaning b.now)
+        (value (C.meaning c.now) (value (D.meaning d.now)
+        (value (E.meaning e.now) (value (F.meaning f.now) no_value)))))))
+        (product (value (A.flat a.now r.0) (value (B.flat b.now r.1.0)
+        (value (C.flat c.now r.1.1.0) (value (D.flat d.now r.1.1.1.0)
+        (value (E.flat e.now r.1.1.1.1.0) (value (F.flat f.now r.1.1.1.1.1.0) no_value)))))))
+        (S.state serializer.old) (S.state serializer.new)) }
+    ensures same_values { IfOk result (λ r. A.belongs a.now r.0
+        × (B.belongs b.now r.1.0 × (C.belongs c.now r.1.1.0
+        × (D.belongs d.now r.1.1.1.0 × (E.belongs e.now r.1.1.1.1.0
+        × (F.belongs f.now r.1.1.1.1.1.0 × Unit {0})))))) }
     ensures goes_on { GoesOn (S.state serializer.old) (S.state serializer.new) }
-    ensures refused { IfErr result (IsRefused X.definitions X.shape (A.keys a.now ++ (B.keys b.now ++ (C.keys c.now ++ (D.keys d.now ++ (E.keys e.now ++ (F.keys f.now ++ [])))))) (product (value (A.meaning a.now) (value (B.meaning b.now) (value (C.meaning c.now) (value (D.meaning d.now) (value (E.meaning e.now) (value (F.meaning f.now) no_value))))))) (S.state serializer.old) (S.state serializer.new)) }
+    ensures refused { IfErr result (IsRefused X.definitions X.shape
+        (A.keys a.now ++ (B.keys b.now ++ (C.keys c.now
+        ++ (D.keys d.now ++ (E.keys e.now ++ (F.keys f.now ++ []))))))
+        (product (value (A.meaning a.now) (value (B.meaning b.now)
+        (value (C.meaning c.now) (value (D.meaning d.now)
+        (value (E.meaning e.now) (value (F.meaning f.now) no_value))))))) (S.state serializer.old)
+        (S.state serializer.new)) }
 {
     serialize_6(a, b, c, d, e, f, serializer)
 }
@@ -222,12 +303,36 @@ pub fn serialize_record_7<
     Error,
 >
     requires nothing { X.definitions ≡ no_definition }
-    requires parts { X.shape ≡ parts (part A.Archived.shape (part B.Archived.shape (part C.Archived.shape (part D.Archived.shape (part E.Archived.shape (part F.Archived.shape (part G.Archived.shape no_part))))))) }
-    requires nameless { are_none (both A.Archived.definitions (both B.Archived.definitions (both C.Archived.definitions (both D.Archived.definitions (both E.Archived.definitions (both F.Archived.definitions (both G.Archived.definitions no_definition))))))) ≡ true }
-    ensures serialized { IfOk result (λ r. Serialized X.definitions X.shape (A.keys a.now ++ (B.keys b.now ++ (C.keys c.now ++ (D.keys d.now ++ (E.keys e.now ++ (F.keys f.now ++ (G.keys g.now ++ []))))))) (product (value (A.meaning a.now) (value (B.meaning b.now) (value (C.meaning c.now) (value (D.meaning d.now) (value (E.meaning e.now) (value (F.meaning f.now) (value (G.meaning g.now) no_value)))))))) (product (value (A.flat a.now r.0) (value (B.flat b.now r.1.0) (value (C.flat c.now r.1.1.0) (value (D.flat d.now r.1.1.1.0) (value (E.flat e.now r.1.1.1.1.0) (value (F.flat f.now r.1.1.1.1.1.0) (value (G.flat g.now r.1.1.1.1.1.1.0) no_value)))))))) (S.state serializer.old) (S.state serializer.new)) }
-    ensures same_values { IfOk result (λ r. A.belongs a.now r.0 × (B.belongs b.now r.1.0 × (C.belongs c.now r.1.1.0 × (D.belongs d.now r.1.1.1.0 × (E.belongs e.now r.1.1.1.1.0 × (F.belongs f.now r.1.1.1.1.1.0 × (G.belongs g.now r.1.1.1.1.1.1.0 × Unit {0}))))))) }
+    requires parts { X.shape ≡ parts (part A.Archived.shape
+        (part B.Archived.shape (part C.Archived.shape (part D.Archived.shape
+        (part E.Archived.shape (part F.Archived.shape (part G.Archived.shape no_part))))))) }
+    requires nameless { are_none (both A.Archived.definitions
+        (both B.Archived.definitions (both C.Archived.definitions
+        (both D.Archived.definitions (both E.Archived.definitions
+        (both F.Archived.definitions (both G.Archived.definitions no_definition))))))) ≡ true }
+    ensures serialized { IfOk result (λ r. Serialized X.definitions X.shape
+        (A.keys a.now ++ (B.keys b.now ++ (C.keys c.now
+        ++ (D.keys d.now ++ (E.keys e.now ++ (F.keys f.now ++ (G.keys g.now ++ [])))))))
+        (product (value (A.meaning a.now) (value (B.meaning b.now)
+        (value (C.meaning c.now) (value (D.meaning d.now)
+        (value (E.meaning e.now) (value (F.meaning f.now) (value (G.meaning g.now) no_value))))))))
+        (product (value (A.flat a.now r.0) (value (B.flat b.now r.1.0)
+        (value (C.flat c.now r.1.1.0) (value (D.flat d.now r.1.1.1.0)
+        (value (E.flat e.now r.1.1.1.1.0) (value (F.flat f.now r.1.1.1.1.1.0)
+        (value (G.flat g.now r.1.1.1.1.1.1.0) no_value)))))))) (S.state serializer.old)
+        (S.state serializer.new)) }
+    ensures same_values { IfOk result (λ r. A.belongs a.now r.0
+        × (B.belongs b.now r.1.0 × (C.belongs c.now r.1.1.0
+        × (D.belongs d.now r.1.1.1.0 × (E.belongs e.now r.1.1.1.1.0
+        × (F.belongs f.now r.1.1.1.1.1.0 × (G.belongs g.now r.1.1.1.1.1.1.0 × Unit {0}))))))) }
     ensures goes_on { GoesOn (S.state serializer.old) (S.state serializer.new) }
-    ensures refused { IfErr result (IsRefused X.definitions X.shape (A.keys a.now ++ (B.keys b.now ++ (C.keys c.now ++ (D.keys d.now ++ (E.keys e.now ++ (F.keys f.now ++ (G.keys g.now ++ []))))))) (product (value (A.meaning a.now) (value (B.meaning b.now) (value (C.meaning c.now) (value (D.meaning d.now) (value (E.meaning e.now) (value (F.meaning f.now) (value (G.meaning g.now) no_value)))))))) (S.state serializer.old) (S.state serializer.new)) }
+    ensures refused { IfErr result (IsRefused X.definitions X.shape
+        (A.keys a.now ++ (B.keys b.now ++ (C.keys c.now
+        ++ (D.keys d.now ++ (E.keys e.now ++ (F.keys f.now ++ (G.keys g.now ++ [])))))))
+        (product (value (A.meaning a.now) (value (B.meaning b.now)
+        (value (C.meaning c.now) (value (D.meaning d.now)
+        (value (E.meaning e.now) (value (F.meaning f.now) (value (G.meaning g.now) no_value))))))))
+        (S.state serializer.old) (S.state serializer.new)) }
 {
     serialize_7(a, b, c, d, e, f, g, serializer)
 }
@@ -271,12 +376,43 @@ pub fn serialize_record_8<
     Error,
 >
     requires nothing { X.definitions ≡ no_definition }
-    requires parts { X.shape ≡ parts (part A.Archived.shape (part B.Archived.shape (part C.Archived.shape (part D.Archived.shape (part E.Archived.shape (part F.Archived.shape (part G.Archived.shape (part H.Archived.shape no_part)))))))) }
-    requires nameless { are_none (both A.Archived.definitions (both B.Archived.definitions (both C.Archived.definitions (both D.Archived.definitions (both E.Archived.definitions (both F.Archived.definitions (both G.Archived.definitions (both H.Archived.definitions no_definition)))))))) ≡ true }
-    ensures serialized { IfOk result (λ r. Serialized X.definitions X.shape (A.keys a.now ++ (B.keys b.now ++ (C.keys c.now ++ (D.keys d.now ++ (E.keys e.now ++ (F.keys f.now ++ (G.keys g.now ++ (H.keys h.now ++ [])))))))) (product (value (A.meaning a.now) (value (B.meaning b.now) (value (C.meaning c.now) (value (D.meaning d.now) (value (E.meaning e.now) (value (F.meaning f.now) (value (G.meaning g.now) (value (H.meaning h.now) no_value))))))))) (product (value (A.flat a.now r.0) (value (B.flat b.now r.1.0) (value (C.flat c.now r.1.1.0) (value (D.flat d.now r.1.1.1.0) (value (E.flat e.now r.1.1.1.1.0) (value (F.flat f.now r.1.1.1.1.1.0) (value (G.flat g.now r.1.1.1.1.1.1.0) (value (H.flat h.now r.1.1.1.1.1.1.1.0) no_value))))))))) (S.state serializer.old) (S.state serializer.new)) }
-    ensures same_values { IfOk result (λ r. A.belongs a.now r.0 × (B.belongs b.now r.1.0 × (C.belongs c.now r.1.1.0 × (D.belongs d.now r.1.1.1.0 × (E.belongs e.now r.1.1.1.1.0 × (F.belongs f.now r.1.1.1.1.1.0 × (G.belongs g.now r.1.1.1.1.1.1.0 × (H.belongs h.now r.1.1.1.1.1.1.1.0 × Unit {0})))))))) }
+    requires parts { X.shape ≡ parts (part A.Archived.shape
+        (part B.Archived.shape (part C.Archived.shape (part D.Archived.shape
+        (part E.Archived.shape (part F.Archived.shape (part G.Archived.shape
+        (part H.Archived.shape no_part)))))))) }
+    requires nameless { are_none (both A.Archived.definitions
+        (both B.Archived.definitions (both C.Archived.definitions
+        (both D.Archived.definitions (both E.Archived.definitions
+        (both F.Archived.definitions (both G.Archived.definitions
+        (both H.Archived.definitions no_definition)))))))) ≡ true }
+    ensures serialized { IfOk result (λ r. Serialized X.definitions X.shape
+        (A.keys a.now ++ (B.keys b.now ++ (C.keys c.now
+        ++ (D.keys d.now ++ (E.keys e.now ++ (F.keys f.now
+        ++ (G.keys g.now ++ (H.keys h.now ++ []))))))))
+        (product (value (A.meaning a.now) (value (B.meaning b.now)
+        (value (C.meaning c.now) (value (D.meaning d.now)
+        (value (E.meaning e.now) (value (F.meaning f.now)
+        (value (G.meaning g.now) (value (H.meaning h.now) no_value)))))))))
+        (product (value (A.flat a.now r.0) (value (B.flat b.now r.1.0)
+        (value (C.flat c.now r.1.1.0) (value (D.flat d.now r.1.1.1.0)
+        (value (E.flat e.now r.1.1.1.1.0) (value (F.flat f.now r.1.1.1.1.1.0)
+        (value (G.flat g.now r.1.1.1.1.1.1.0) (value (H.flat h.now r.1.1.1.1.1.1.1.0)
+        no_value))))))))) (S.state serializer.old) (S.state serializer.new)) }
+    ensures same_values { IfOk result (λ r. A.belongs a.now r.0
+        × (B.belongs b.now r.1.0 × (C.belongs c.now r.1.1.0
+        × (D.belongs d.now r.1.1.1.0 × (E.belongs e.now r.1.1.1.1.0
+        × (F.belongs f.now r.1.1.1.1.1.0 × (G.belongs g.now r.1.1.1.1.1.1.0
+        × (H.belongs h.now r.1.1.1.1.1.1.1.0 × Unit {0})))))))) }
     ensures goes_on { GoesOn (S.state serializer.old) (S.state serializer.new) }
-    ensures refused { IfErr result (IsRefused X.definitions X.shape (A.keys a.now ++ (B.keys b.now ++ (C.keys c.now ++ (D.keys d.now ++ (E.keys e.now ++ (F.keys f.now ++ (G.keys g.now ++ (H.keys h.now ++ [])))))))) (product (value (A.meaning a.now) (value (B.meaning b.now) (value (C.meaning c.now) (value (D.meaning d.now) (value (E.meaning e.now) (value (F.meaning f.now) (value (G.meaning g.now) (value (H.meaning h.now) no_value))))))))) (S.state serializer.old) (S.state serializer.new)) }
+    ensures refused { IfErr result (IsRefused X.definitions X.shape
+        (A.keys a.now ++ (B.keys b.now ++ (C.keys c.now
+        ++ (D.keys d.now ++ (E.keys e.now ++ (F.keys f.now
+        ++ (G.keys g.now ++ (H.keys h.now ++ []))))))))
+        (product (value (A.meaning a.now) (value (B.meaning b.now)
+        (value (C.meaning c.now) (value (D.meaning d.now)
+        (value (E.meaning e.now) (value (F.meaning f.now)
+        (value (G.meaning g.now) (value (H.meaning h.now) no_value))))))))) (S.state serializer.old)
+        (S.state serializer.new)) }
 {
     serialize_8(a, b, c, d, e, f, g, h, serializer)
 }
