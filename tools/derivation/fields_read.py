@@ -83,8 +83,8 @@ pub returns-in_err-first-clause-refused : goal.returns-in_err-first-clause-refus
 returns-in_err-first-clause-refused g c = err_by c.from_residual.result c.in_err-first.field-0.0 _ c.from_residual.ensures.1
     (first_refuses _ _ _ {LAID} _ _ _ _ _ _ c.in_err-first.ensures.refused)
 
-pub end_of-requires : goal.end_of-requires
-end_of-requires g c = record {{ within = first_within _ _ _ {LAID} _ _ _ _ c.requires.viewed }}
+pub end_of-end-requires : goal.end_of-end-requires
+end_of-end-requires g c = record {{ within = first_within _ _ _ {LAID} _ _ _ _ c.requires.viewed }}
 {asked}
 pub returns-in_err-others-clause-refused : goal.returns-in_err-others-clause-refused
 returns-in_err-others-clause-refused g c = err_by c.from_residual-in_err-others.result c.in_err-others.field-0.0 _ c.from_residual-in_err-others.ensures.1
@@ -104,7 +104,7 @@ def read_whole(kind, n):
     head = signature(
         f"pub fn read_{kind}_{n}",
         ["X: Portable"] + f.bounds + ["R: Entries"],
-        ([] if record else ["tag: u8"]) + ["alloc: Global", "part: RawView<'_>", "deserializer: &mut R"],
+        ([] if record else ["tag: u8"]) + ["alloc: Global", "shown: RawView<'_>", "deserializer: &mut R"],
         f.answer,
     )
     if record:
@@ -112,8 +112,8 @@ def read_whole(kind, n):
         of = f"    requires parts {{ X.shape ≡ parts {f.parts} }}\n"
         whole, start = "product", "0"
     else:
-        said = f"Reads back a variant of {f.said()}. The caller must ensure that `part` shows it."
-        of = f"    requires variant {{ variant_in X.shape tag ≡ Some {f.parts} }}\n    requires tag {{ part_tag part ≡ tag }}\n"
+        said = f"Reads back a variant of {f.said()}. The caller must ensure that `shown` shows it."
+        of = f"    requires variant {{ variant_in X.shape tag ≡ Some {f.parts} }}\n    requires tag {{ part_tag shown ≡ tag }}\n"
         whole, start = "case tag", "1"
     body = Generic(f"read_{n}", f.passed + ["R"], ["alloc", "bytes", "pos", start, "deserializer"])
     return f"""
@@ -121,11 +121,11 @@ def read_whole(kind, n):
 {head}
     requires nothing {{ X.definitions ≡ no_definition }}
 {of}    requires nameless {{ are_none {f.definitions} ≡ true }}
-    requires viewed {{ IsPartOf X.ArchivePointee part }}
-    ensures read {{ IfOk result (λ r. ReadsPart X.ArchivePointee part R.Entries deserializer ({whole} {f.meanings()}) {f.keys()}) }}
-    ensures refused {{ IfErr result (RefusesPart X.ArchivePointee part R.Entries deserializer) }}
+    requires viewed {{ IsPartOf X.ArchivePointee shown }}
+    ensures read {{ IfOk result (λ r. ReadsPart X.ArchivePointee shown R.Entries deserializer ({whole} {f.meanings()}) {f.keys()}) }}
+    ensures refused {{ IfErr result (RefusesPart X.ArchivePointee shown R.Entries deserializer) }}
 {{
-    let RawView {{ bytes, pos, .. }} = part;
+    let RawView {{ bytes, pos, .. }} = shown;
 {statement(4, "", body, "")}}}
 """
 

@@ -9,7 +9,7 @@ from .names import ALIASES, FLOATS, LIBRARY, PRIMITIVES, STD, STD_MODULES, Found
 from .parse import Declared
 from .items import number_of
 
-MOST_FIELDS = 16
+MOST_FIELDS = 8
 MOST_PARTS = 13
 MOST_VARIANTS = 256
 MOST_ITEMS = 2**32 - 1

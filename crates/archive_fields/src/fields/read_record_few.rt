@@ -1,4 +1,4 @@
-// Records are read back, by the number of their fields: 0 to 8.
+// Records are read back, by the number of their fields: 0 to 4.
 // Written by tools/fields: change that, and run it again.
 
 ghost use Rattle.std.specs.Prelude.{◌≡◌, ◌++◌, [], true, IfOk, IfErr};
@@ -8,7 +8,7 @@ ghost use Rattle.archive_check.specs.Value.{value, no_value, product};
 ghost use Rattle.archive_fields.specs.Plain.{are_none};
 ghost use Rattle.archive_types.specs.Words.Seen.{IsPartOf, ReadsPart, RefusesPart};
 
-use super::read_few::{read_1, read_2, read_3, read_4, read_5, read_6, read_7, read_8};
+use super::read_few::{read_1, read_2, read_3, read_4};
 use super::reading::read_0;
 use archive_check::format::error::Error;
 use archive_types::traits::{Archive, Deserialize, Entries, Portable};
@@ -18,36 +18,36 @@ use std::alloc::Global;
 /// Reads back a record of no field.
 pub fn read_record_0<X: Portable, R: Entries>(
     alloc: Global,
-    part: RawView<'_>,
+    shown: RawView<'_>,
     deserializer: &mut R,
 ) -> Result<(), Error>
     requires nothing { X.definitions ≡ no_definition }
     requires parts { X.shape ≡ parts no_part }
     requires nameless { are_none no_definition ≡ true }
-    requires viewed { IsPartOf X.ArchivePointee part }
-    ensures read { IfOk result (λ r. ReadsPart X.ArchivePointee part R.Entries deserializer
+    requires viewed { IsPartOf X.ArchivePointee shown }
+    ensures read { IfOk result (λ r. ReadsPart X.ArchivePointee shown R.Entries deserializer
         (product no_value) []) }
-    ensures refused { IfErr result (RefusesPart X.ArchivePointee part R.Entries deserializer) }
+    ensures refused { IfErr result (RefusesPart X.ArchivePointee shown R.Entries deserializer) }
 {
-    let RawView { bytes, pos, .. } = part;
+    let RawView { bytes, pos, .. } = shown;
     read_0::<R>(alloc, bytes, pos, 0, deserializer)
 }
 
 /// Reads back a record of one field.
 pub fn read_record_1<X: Portable, FA: Portable + Deserialize<A, R>, A: Archive + Drop, R: Entries>(
     alloc: Global,
-    part: RawView<'_>,
+    shown: RawView<'_>,
     deserializer: &mut R,
 ) -> Result<(A, ()), Error>
     requires nothing { X.definitions ≡ no_definition }
     requires parts { X.shape ≡ parts (part FA.shape no_part) }
     requires nameless { are_none (both FA.definitions no_definition) ≡ true }
-    requires viewed { IsPartOf X.ArchivePointee part }
-    ensures read { IfOk result (λ r. ReadsPart X.ArchivePointee part R.Entries deserializer
+    requires viewed { IsPartOf X.ArchivePointee shown }
+    ensures read { IfOk result (λ r. ReadsPart X.ArchivePointee shown R.Entries deserializer
         (product (value (A.meaning r.0) no_value)) (A.keys r.0 ++ [])) }
-    ensures refused { IfErr result (RefusesPart X.ArchivePointee part R.Entries deserializer) }
+    ensures refused { IfErr result (RefusesPart X.ArchivePointee shown R.Entries deserializer) }
 {
-    let RawView { bytes, pos, .. } = part;
+    let RawView { bytes, pos, .. } = shown;
     read_1::<FA, A, R>(alloc, bytes, pos, 0, deserializer)
 }
 
@@ -59,17 +59,17 @@ pub fn read_record_2<
     FB: Portable + Deserialize<B, R>,
     B: Archive + Drop,
     R: Entries,
->(alloc: Global, part: RawView<'_>, deserializer: &mut R) -> Result<(A, (B, ())), Error>
+>(alloc: Global, shown: RawView<'_>, deserializer: &mut R) -> Result<(A, (B, ())), Error>
     requires nothing { X.definitions ≡ no_definition }
     requires parts { X.shape ≡ parts (part FA.shape (part FB.shape no_part)) }
     requires nameless { are_none (both FA.definitions (both FB.definitions no_definition)) ≡ true }
-    requires viewed { IsPartOf X.ArchivePointee part }
-    ensures read { IfOk result (λ r. ReadsPart X.ArchivePointee part R.Entries deserializer
+    requires viewed { IsPartOf X.ArchivePointee shown }
+    ensures read { IfOk result (λ r. ReadsPart X.ArchivePointee shown R.Entries deserializer
         (product (value (A.meaning r.0) (value (B.meaning r.1.0) no_value)))
         (A.keys r.0 ++ (B.keys r.1.0 ++ []))) }
-    ensures refused { IfErr result (RefusesPart X.ArchivePointee part R.Entries deserializer) }
+    ensures refused { IfErr result (RefusesPart X.ArchivePointee shown R.Entries deserializer) }
 {
-    let RawView { bytes, pos, .. } = part;
+    let RawView { bytes, pos, .. } = shown;
     read_2::<FA, A, FB, B, R>(alloc, bytes, pos, 0, deserializer)
 }
 
@@ -83,19 +83,19 @@ pub fn read_record_3<
     FC: Portable + Deserialize<C, R>,
     C: Archive + Drop,
     R: Entries,
->(alloc: Global, part: RawView<'_>, deserializer: &mut R) -> Result<(A, (B, (C, ()))), Error>
+>(alloc: Global, shown: RawView<'_>, deserializer: &mut R) -> Result<(A, (B, (C, ()))), Error>
     requires nothing { X.definitions ≡ no_definition }
     requires parts { X.shape ≡ parts (part FA.shape (part FB.shape (part FC.shape no_part))) }
     requires nameless { are_none (both FA.definitions
         (both FB.definitions (both FC.definitions no_definition))) ≡ true }
-    requires viewed { IsPartOf X.ArchivePointee part }
-    ensures read { IfOk result (λ r. ReadsPart X.ArchivePointee part R.Entries deserializer
+    requires viewed { IsPartOf X.ArchivePointee shown }
+    ensures read { IfOk result (λ r. ReadsPart X.ArchivePointee shown R.Entries deserializer
         (product (value (A.meaning r.0) (value (B.meaning r.1.0)
         (value (C.meaning r.1.1.0) no_value)))) (A.keys r.0
         ++ (B.keys r.1.0 ++ (C.keys r.1.1.0 ++ [])))) }
-    ensures refused { IfErr result (RefusesPart X.ArchivePointee part R.Entries deserializer) }
+    ensures refused { IfErr result (RefusesPart X.ArchivePointee shown R.Entries deserializer) }
 {
-    let RawView { bytes, pos, .. } = part;
+    let RawView { bytes, pos, .. } = shown;
     read_3::<FA, A, FB, B, FC, C, R>(alloc, bytes, pos, 0, deserializer)
 }
 
@@ -111,195 +111,19 @@ pub fn read_record_4<
     FD: Portable + Deserialize<D, R>,
     D: Archive + Drop,
     R: Entries,
->(alloc: Global, part: RawView<'_>, deserializer: &mut R) -> Result<(A, (B, (C, (D, ())))), Error>
+>(alloc: Global, shown: RawView<'_>, deserializer: &mut R) -> Result<(A, (B, (C, (D, ())))), Error>
     requires nothing { X.definitions ≡ no_definition }
     requires parts { X.shape ≡ parts (part FA.shape (part FB.shape
         (part FC.shape (part FD.shape no_part)))) }
     requires nameless { are_none (both FA.definitions
         (both FB.definitions (both FC.definitions (both FD.definitions no_definition)))) ≡ true }
-    requires viewed { IsPartOf X.ArchivePointee part }
-    ensures read { IfOk result (λ r. ReadsPart X.ArchivePointee part R.Entries deserializer
+    requires viewed { IsPartOf X.ArchivePointee shown }
+    ensures read { IfOk result (λ r. ReadsPart X.ArchivePointee shown R.Entries deserializer
         (product (value (A.meaning r.0) (value (B.meaning r.1.0)
         (value (C.meaning r.1.1.0) (value (D.meaning r.1.1.1.0) no_value)))))
         (A.keys r.0 ++ (B.keys r.1.0 ++ (C.keys r.1.1.0 ++ (D.keys r.1.1.1.0 ++ []))))) }
-    ensures refused { IfErr result (RefusesPart X.ArchivePointee part R.Entries deserializer) }
+    ensures refused { IfErr result (RefusesPart X.ArchivePointee shown R.Entries deserializer) }
 {
-    let RawView { bytes, pos, .. } = part;
+    let RawView { bytes, pos, .. } = shown;
     read_4::<FA, A, FB, B, FC, C, FD, D, R>(alloc, bytes, pos, 0, deserializer)
-}
-
-/// Reads back a record of 5 fields.
-pub fn read_record_5<
-    X: Portable,
-    FA: Portable + Deserialize<A, R>,
-    A: Archive + Drop,
-    FB: Portable + Deserialize<B, R>,
-    B: Archive + Drop,
-    FC: Portable + Deserialize<C, R>,
-    C: Archive + Drop,
-    FD: Portable + Deserialize<D, R>,
-    D: Archive + Drop,
-    FE: Portable + Deserialize<E, R>,
-    E: Archive + Drop,
-    R: Entries,
->(
-    alloc: Global,
-    part: RawView<'_>,
-    deserializer: &mut R,
-) -> Result<(A, (B, (C, (D, (E, ()))))), Error>
-    requires nothing { X.definitions ≡ no_definition }
-    requires parts { X.shape ≡ parts (part FA.shape (part FB.shape
-        (part FC.shape (part FD.shape (part FE.shape no_part))))) }
-    requires nameless { are_none (both FA.definitions
-        (both FB.definitions (both FC.definitions (both FD.definitions
-        (both FE.definitions no_definition))))) ≡ true }
-    requires viewed { IsPartOf X.ArchivePointee part }
-    ensures read { IfOk result (λ r. ReadsPart X.ArchivePointee part R.Entries deserializer
-        (product (value (A.meaning r.0) (value (B.meaning r.1.0)
-        (value (C.meaning r.1.1.0) (value (D.meaning r.1.1.1.0)
-        (value (E.meaning r.1.1.1.1.0) no_value)))))) (A.keys r.0
-        ++ (B.keys r.1.0 ++ (C.keys r.1.1.0 ++ (D.keys r.1.1.1.0
-        ++ (E.keys r.1.1.1.1.0 ++ [])))))) }
-    ensures refused { IfErr result (RefusesPart X.ArchivePointee part R.Entries deserializer) }
-{
-    let RawView { bytes, pos, .. } = part;
-    read_5::<FA, A, FB, B, FC, C, FD, D, FE, E, R>(alloc, bytes, pos, 0, deserializer)
-}
-
-/// Reads back a record of 6 fields.
-pub fn read_record_6<
-    X: Portable,
-    FA: Portable + Deserialize<A, R>,
-    A: Archive + Drop,
-    FB: Portable + Deserialize<B, R>,
-    B: Archive + Drop,
-    FC: Portable + Deserialize<C, R>,
-    C: Archive + Drop,
-    FD: Portable + Deserialize<D, R>,
-    D: Archive + Drop,
-    FE: Portable + Deserialize<E, R>,
-    E: Archive + Drop,
-    FF: Portable + Deserialize<F, R>,
-    F: Archive + Drop,
-    R: Entries,
->(
-    alloc: Global,
-    part: RawView<'_>,
-    deserializer: &mut R,
-) -> Result<(A, (B, (C, (D, (E, (F, ())))))), Error>
-    requires nothing { X.definitions ≡ no_definition }
-    requires parts { X.shape ≡ parts (part FA.shape (part FB.shape
-        (part FC.shape (part FD.shape (part FE.shape (part FF.shape no_part)))))) }
-    requires nameless { are_none (both FA.definitions
-        (both FB.definitions (both FC.definitions (both FD.definitions
-        (both FE.definitions (both FF.definitions no_definition)))))) ≡ true }
-    requires viewed { IsPartOf X.ArchivePointee part }
-    ensures read { IfOk result (λ r. ReadsPart X.ArchivePointee part R.Entries deserializer
-        (product (value (A.meaning r.0) (value (B.meaning r.1.0)
-        (value (C.meaning r.1.1.0) (value (D.meaning r.1.1.1.0)
-        (value (E.meaning r.1.1.1.1.0) (value (F.meaning r.1.1.1.1.1.0) no_value)))))))
-        (A.keys r.0 ++ (B.keys r.1.0 ++ (C.keys r.1.1.0
-        ++ (D.keys r.1.1.1.0 ++ (E.keys r.1.1.1.1.0 ++ (F.keys r.1.1.1.1.1.0 ++ []))))))) }
-    ensures refused { IfErr result (RefusesPart X.ArchivePointee part R.Entries deserializer) }
-{
-    let RawView { bytes, pos, .. } = part;
-    read_6::<FA, A, FB, B, FC, C, FD, D, FE, E, FF, F, R>(alloc, bytes, pos, 0, deserializer)
-}
-
-/// Reads back a record of 7 fields.
-pub fn read_record_7<
-    X: Portable,
-    FA: Portable + Deserialize<A, R>,
-    A: Archive + Drop,
-    FB: Portable + Deserialize<B, R>,
-    B: Archive + Drop,
-    FC: Portable + Deserialize<C, R>,
-    C: Archive + Drop,
-    FD: Portable + Deserialize<D, R>,
-    D: Archive + Drop,
-    FE: Portable + Deserialize<E, R>,
-    E: Archive + Drop,
-    FF: Portable + Deserialize<F, R>,
-    F: Archive + Drop,
-    FG: Portable + Deserialize<G, R>,
-    G: Archive + Drop,
-    R: Entries,
->(
-    alloc: Global,
-    part: RawView<'_>,
-    deserializer: &mut R,
-) -> Result<(A, (B, (C, (D, (E, (F, (G, ()))))))), Error>
-    requires nothing { X.definitions ≡ no_definition }
-    requires parts { X.shape ≡ parts (part FA.shape (part FB.shape
-        (part FC.shape (part FD.shape (part FE.shape (part FF.shape (part FG.shape no_part))))))) }
-    requires nameless { are_none (both FA.definitions
-        (both FB.definitions (both FC.definitions (both FD.definitions
-        (both FE.definitions (both FF.definitions (both FG.definitions no_definition))))))) ≡ true }
-    requires viewed { IsPartOf X.ArchivePointee part }
-    ensures read { IfOk result (λ r. ReadsPart X.ArchivePointee part R.Entries deserializer
-        (product (value (A.meaning r.0) (value (B.meaning r.1.0)
-        (value (C.meaning r.1.1.0) (value (D.meaning r.1.1.1.0)
-        (value (E.meaning r.1.1.1.1.0) (value (F.meaning r.1.1.1.1.1.0)
-        (value (G.meaning r.1.1.1.1.1.1.0) no_value))))))))
-        (A.keys r.0 ++ (B.keys r.1.0 ++ (C.keys r.1.1.0
-        ++ (D.keys r.1.1.1.0 ++ (E.keys r.1.1.1.1.0 ++ (F.keys r.1.1.1.1.1.0
-        ++ (G.keys r.1.1.1.1.1.1.0 ++ [])))))))) }
-    ensures refused { IfErr result (RefusesPart X.ArchivePointee part R.Entries deserializer) }
-{
-    let RawView { bytes, pos, .. } = part;
-    read_7::<FA, A, FB, B, FC, C, FD, D, FE, E, FF, F, FG, G, R>(alloc, bytes, pos, 0, deserializer)
-}
-
-/// Reads back a record of 8 fields.
-pub fn read_record_8<
-    X: Portable,
-    FA: Portable + Deserialize<A, R>,
-    A: Archive + Drop,
-    FB: Portable + Deserialize<B, R>,
-    B: Archive + Drop,
-    FC: Portable + Deserialize<C, R>,
-    C: Archive + Drop,
-    FD: Portable + Deserialize<D, R>,
-    D: Archive + Drop,
-    FE: Portable + Deserialize<E, R>,
-    E: Archive + Drop,
-    FF: Portable + Deserialize<F, R>,
-    F: Archive + Drop,
-    FG: Portable + Deserialize<G, R>,
-    G: Archive + Drop,
-    FH: Portable + Deserialize<H, R>,
-    H: Archive + Drop,
-    R: Entries,
->(
-    alloc: Global,
-    part: RawView<'_>,
-    deserializer: &mut R,
-) -> Result<(A, (B, (C, (D, (E, (F, (G, (H, ())))))))), Error>
-    requires nothing { X.definitions ≡ no_definition }
-    requires parts { X.shape ≡ parts (part FA.shape (part FB.shape
-        (part FC.shape (part FD.shape (part FE.shape (part FF.shape
-        (part FG.shape (part FH.shape no_part)))))))) }
-    requires nameless { are_none (both FA.definitions
-        (both FB.definitions (both FC.definitions (both FD.definitions
-        (both FE.definitions (both FF.definitions (both FG.definitions
-        (both FH.definitions no_definition)))))))) ≡ true }
-    requires viewed { IsPartOf X.ArchivePointee part }
-    ensures read { IfOk result (λ r. ReadsPart X.ArchivePointee part R.Entries deserializer
-        (product (value (A.meaning r.0) (value (B.meaning r.1.0)
-        (value (C.meaning r.1.1.0) (value (D.meaning r.1.1.1.0)
-        (value (E.meaning r.1.1.1.1.0) (value (F.meaning r.1.1.1.1.1.0)
-        (value (G.meaning r.1.1.1.1.1.1.0) (value (H.meaning r.1.1.1.1.1.1.1.0) no_value)))))))))
-        (A.keys r.0 ++ (B.keys r.1.0 ++ (C.keys r.1.1.0
-        ++ (D.keys r.1.1.1.0 ++ (E.keys r.1.1.1.1.0 ++ (F.keys r.1.1.1.1.1.0
-        ++ (G.keys r.1.1.1.1.1.1.0 ++ (H.keys r.1.1.1.1.1.1.1.0 ++ []))))))))) }
-    ensures refused { IfErr result (RefusesPart X.ArchivePointee part R.Entries deserializer) }
-{
-    let RawView { bytes, pos, .. } = part;
-    read_8::<FA, A, FB, B, FC, C, FD, D, FE, E, FF, F, FG, G, FH, H, R>(
-        alloc,
-        bytes,
-        pos,
-        0,
-        deserializer,
-    )
 }

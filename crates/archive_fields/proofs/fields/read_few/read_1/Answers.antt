@@ -14,8 +14,8 @@ pub returns-in_err-first-clause-refused : goal.returns-in_err-first-clause-refus
 returns-in_err-first-clause-refused g c = err_by c.from_residual.result c.in_err-first.field-0.0 _ c.from_residual.ensures.1
     (first_refuses _ _ _ g.FA.Portable.layout g.met.FA.Portable.has_layout _ _ _ _ _ _ c.in_err-first.ensures.refused)
 
-pub end_of-requires : goal.end_of-requires
-end_of-requires g c = record { within = first_within _ _ _ g.FA.Portable.layout g.met.FA.Portable.has_layout _ _ _ _ c.requires.viewed }
+pub end_of-end-requires : goal.end_of-end-requires
+end_of-end-requires g c = record { within = first_within _ _ _ g.FA.Portable.layout g.met.FA.Portable.has_layout _ _ _ _ c.requires.viewed }
 
 pub returns-in_err-others-clause-refused : goal.returns-in_err-others-clause-refused
 returns-in_err-others-clause-refused g c = err_by c.from_residual-in_err-others.result c.in_err-others.field-0.0 _ c.from_residual-in_err-others.ensures.1

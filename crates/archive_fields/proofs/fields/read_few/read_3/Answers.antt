@@ -14,8 +14,8 @@ pub returns-in_err-first-clause-refused : goal.returns-in_err-first-clause-refus
 returns-in_err-first-clause-refused g c = err_by c.from_residual.result c.in_err-first.field-0.0 _ c.from_residual.ensures.1
     (first_refuses _ _ _ g.FA.Portable.layout g.met.FA.Portable.has_layout _ _ _ _ _ _ c.in_err-first.ensures.refused)
 
-pub end_of-requires : goal.end_of-requires
-end_of-requires g c = record { within = first_within _ _ _ g.FA.Portable.layout g.met.FA.Portable.has_layout _ _ _ _ c.requires.viewed }
+pub end_of-end-requires : goal.end_of-end-requires
+end_of-end-requires g c = record { within = first_within _ _ _ g.FA.Portable.layout g.met.FA.Portable.has_layout _ _ _ _ c.requires.viewed }
 
 pub read_2-requires : goal.read_2-requires
 read_2-requires g c = record { viewed = rw (c.end_of-end.ensures.end) (rest_viewed _ _ _ g.FA.Portable.layout g.met.FA.Portable.has_layout _ _ _ _ c.requires.viewed) }
