@@ -12,12 +12,11 @@ class Read:
     def __init__(self, count):
         self.count = count
         self.letters = LETTERS[:count]
-        formats = [f"F{T}" for T in self.letters]
-        self.definitions = chain("both", [f"{F}.definitions" for F in formats], "no_definition")
-        self.parts = chain("part", [f"{F}.shape" for F in formats], "no_part")
-        self.answer = Group("Result<", [pair(list(self.letters)), "Error"], ">")
-        self.bounds = [bound for T in self.letters for bound in (f"F{T}: Portable + Deserialize<{T}, R>", f"{T}: Archive + Drop")]
-        self.passed = [name for T in self.letters for name in (f"F{T}", T)]
+        self.definitions = chain("both", [f"{T}.definitions" for T in self.letters], "no_definition")
+        self.parts = chain("part", [f"{T}.shape" for T in self.letters], "no_part")
+        self.answer = Group("Result<", [pair([f"{T}::Value" for T in self.letters]), "Error"], ">")
+        self.bounds = [f"{T}: ReadField<R>" for T in self.letters]
+        self.passed = list(self.letters)
 
     def meanings(self, of="{}"):
         return chain("value", [f"({of.format(T)}.meaning r{'.1' * i}.0)" for i, T in enumerate(self.letters)], "no_value")
@@ -40,8 +39,8 @@ def read(n):
         ["alloc: Global", "bytes: &[u8]", "pos: usize", "start: usize", "deserializer: &mut R"],
         f.answer,
     )
-    first = Generic("read_front", ["FA", "A", "R"], ["alloc", "bytes", "pos", "start", "deserializer"], "?")
-    others = Generic(f"read_{n - 1}", f.passed[2:] + ["R"], ["alloc", "bytes", "pos", "end", "deserializer"], "?")
+    first = "A::read_at(alloc, bytes, pos, start, deserializer)?"
+    others = Generic(f"read_{n - 1}", f.passed[1:] + ["R"], ["alloc", "bytes", "pos", "end", "deserializer"], "?")
     which = "one field" if n == 1 else f"{n} fields"
     each = "" if n == 1 else ": each at the next multiple of its alignment"
     return f"""
@@ -52,20 +51,20 @@ def read(n):
     ensures read {{ IfOk result (λ r. PartsReadBack bytes.now pos {f.definitions} {f.parts} start (R.entry_of deserializer.old) (R.entry_of deserializer.new) {f.meanings()} {f.keys()}) }}
     ensures refused {{ IfErr result (RefusesParts {f.definitions} bytes.now pos {f.parts} start (R.entry_of deserializer.old)) }}
 {{
-{statement(4, "let first = ", first, ";")}    let end = end_of::<FA>(bytes, pos, start);
+{statement(4, "let first = ", first, ";")}    let end = A::end_at(bytes, pos, start);
 {statement(4, "let others = ", others, ";")}    Ok((first, others))
 }}
 """
 
 
-LAID = "g.FA.Portable.layout g.met.FA.Portable.has_layout"
+LAID = "g.A.ReadField.layout g.met.A.ReadField.has_layout"
 
 
 def read_answers(n, path):
     before = f"read_{n - 1}"
     asked = "" if n == 1 else f"""
 pub {before}-requires : goal.{before}-requires
-{before}-requires g c = record {{ viewed = rw (c.end_of-end.ensures.end) (rest_viewed _ _ _ {LAID} _ _ _ _ c.requires.viewed) }}
+{before}-requires g c = record {{ viewed = rw (c.end_at-end.ensures.end) (rest_viewed _ _ _ {LAID} _ _ _ _ c.requires.viewed) }}
 """
     return f"""use Rattle.std.proofs.Common.{{◌≡◌, ◌+◌}}
 use Rattle.archive_types.specs.PartsReading.{{part_read_back}}
@@ -73,25 +72,25 @@ use Rattle.archive_types.proofs.Planning.Causes.{{err_by}}
 use Rattle.archive_types.proofs.Reading.ReadRecords.{{first_viewed, rest_viewed, first_within, first_refuses, later_refuses}}
 use Rattle.archive_fields.proofs.{path}.Goals as goal
 
-pub read_front-requires-clause-viewed : goal.read_front-requires-clause-viewed
-read_front-requires-clause-viewed g c = first_viewed _ _ _ {LAID} _ _ _ _ c.requires.viewed
+pub read_at-requires-clause-viewed : goal.read_at-requires-clause-viewed
+read_at-requires-clause-viewed g c = first_viewed _ _ _ {LAID} _ _ _ _ c.requires.viewed
 
-pub read_front-requires-clause-within : goal.read_front-requires-clause-within
-read_front-requires-clause-within g c = first_within _ _ _ {LAID} _ _ _ _ c.requires.viewed
+pub read_at-requires-clause-within : goal.read_at-requires-clause-within
+read_at-requires-clause-within g c = first_within _ _ _ {LAID} _ _ _ _ c.requires.viewed
 
 pub returns-in_err-first-clause-refused : goal.returns-in_err-first-clause-refused
 returns-in_err-first-clause-refused g c = err_by c.from_residual.result c.in_err-first.field-0.0 _ c.from_residual.ensures.1
     (first_refuses _ _ _ {LAID} _ _ _ _ _ _ c.in_err-first.ensures.refused)
 
-pub end_of-end-requires : goal.end_of-end-requires
-end_of-end-requires g c = record {{ within = first_within _ _ _ {LAID} _ _ _ _ c.requires.viewed }}
+pub end_at-end-requires : goal.end_at-end-requires
+end_at-end-requires g c = record {{ within = first_within _ _ _ {LAID} _ _ _ _ c.requires.viewed }}
 {asked}
 pub returns-in_err-others-clause-refused : goal.returns-in_err-others-clause-refused
 returns-in_err-others-clause-refused g c = err_by c.from_residual-in_err-others.result c.in_err-others.field-0.0 _ c.from_residual-in_err-others.ensures.1
-    (later_refuses _ _ _ {LAID} _ _ _ _ _ _ _ c.in_ok-first.ensures.read.kept (rw (c.end_of-end.ensures.end) at c.in_err-others.ensures.refused))
+    (later_refuses _ _ _ {LAID} _ _ _ _ _ _ _ c.in_ok-first.ensures.read.kept (rw (c.end_at-end.ensures.end) at c.in_err-others.ensures.refused))
 
 pub returns-clause-read : goal.returns-clause-read
-returns-clause-read g c = part_read_back g.met.FA.Portable.has_layout c.in_ok-first.ensures.read (rw (c.end_of-end.ensures.end) at c.in_ok-others.ensures.read)
+returns-clause-read g c = part_read_back g.met.A.ReadField.has_layout c.in_ok-first.ensures.read (rw (c.end_at-end.ensures.end) at c.in_ok-others.ensures.read)
 """
 
 
@@ -155,7 +154,7 @@ def read_whole_answers(kind, n, path):
 pub read_{n}-requires : goal.read_{n}-requires
 read_{n}-requires g c = record {{ viewed = {viewed} {about} (rw g.met.X.Portable.is_one at c.requires.viewed) }}
 """
-    values = f"(λ r. {f.meanings('g.{}.Archive')}) (λ r. {f.keys('g.{}.Archive')})"
+    values = f"(λ r. {f.meanings('g.{}.ReadField')}) (λ r. {f.keys('g.{}.ReadField')})"
     return f"""use Rattle.std.proofs.Common.{{◌≡◌, ◌++◌, []}}
 use Rattle.archive_check.specs.Value.{{value, no_value}}
 use Rattle.archive_types.proofs.Planning.Causes.{{err_from}}
@@ -178,7 +177,7 @@ ghost use Rattle.archive_check.specs.Value.{value, no_value};
 ghost use Rattle.archive_types.specs.PartsReading.{PartsReadBack, PartsViewed, RefusesParts};
 
 use archive_check::format::error::Error;
-use archive_types::traits::{Archive, Deserialize, Entries, Portable};
+use archive_types::traits::{Entries, Portable};
 use std::alloc::Global;
 """,
     "read_record": """
@@ -190,7 +189,7 @@ ghost use Rattle.archive_fields.specs.Plain.{are_none};
 ghost use Rattle.archive_types.specs.Words.Seen.{IsPartOf, ReadsPart, RefusesPart};
 
 use archive_check::format::error::Error;
-use archive_types::traits::{Archive, Deserialize, Entries, Portable};
+use archive_types::traits::{Entries, Portable};
 use archive_types::view::RawView;
 use std::alloc::Global;
 """,
@@ -203,7 +202,7 @@ ghost use Rattle.archive_fields.specs.Plain.{are_none, variant_in};
 ghost use Rattle.archive_types.specs.Words.Seen.{IsPartOf, ReadsPart, RefusesPart, part_tag};
 
 use archive_check::format::error::Error;
-use archive_types::traits::{Archive, Deserialize, Entries, Portable};
+use archive_types::traits::{Entries, Portable};
 use archive_types::view::RawView;
 use std::alloc::Global;
 """,

@@ -1,4 +1,4 @@
-// Records are read back, by the number of their fields: 0 to 4.
+// Records are read back, by the number of their fields: 0 to 5.
 // Written by tools/fields: change that, and run it again.
 
 ghost use Rattle.std.specs.Prelude.{◌≡◌, ◌++◌, [], true, IfOk, IfErr};
@@ -8,10 +8,10 @@ ghost use Rattle.archive_check.specs.Value.{value, no_value, product};
 ghost use Rattle.archive_fields.specs.Plain.{are_none};
 ghost use Rattle.archive_types.specs.Words.Seen.{IsPartOf, ReadsPart, RefusesPart};
 
-use super::read_few::{read_1, read_2, read_3, read_4};
+use super::read_few::{read_1, read_2, read_3, read_4, read_5};
 use super::reading::read_0;
 use archive_check::format::error::Error;
-use archive_types::traits::{Archive, Deserialize, Entries, Portable};
+use archive_types::traits::{Entries, Portable};
 use archive_types::view::RawView;
 use std::alloc::Global;
 
@@ -34,35 +34,32 @@ pub fn read_record_0<X: Portable, R: Entries>(
 }
 
 /// Reads back a record of one field.
-pub fn read_record_1<X: Portable, FA: Portable + Deserialize<A, R>, A: Archive + Drop, R: Entries>(
+pub fn read_record_1<X: Portable, A: ReadField<R>, R: Entries>(
     alloc: Global,
     shown: RawView<'_>,
     deserializer: &mut R,
-) -> Result<(A, ()), Error>
+) -> Result<(A::Value, ()), Error>
     requires nothing { X.definitions ≡ no_definition }
-    requires parts { X.shape ≡ parts (part FA.shape no_part) }
-    requires nameless { are_none (both FA.definitions no_definition) ≡ true }
+    requires parts { X.shape ≡ parts (part A.shape no_part) }
+    requires nameless { are_none (both A.definitions no_definition) ≡ true }
     requires viewed { IsPartOf X.ArchivePointee shown }
     ensures read { IfOk result (λ r. ReadsPart X.ArchivePointee shown R.Entries deserializer
         (product (value (A.meaning r.0) no_value)) (A.keys r.0 ++ [])) }
     ensures refused { IfErr result (RefusesPart X.ArchivePointee shown R.Entries deserializer) }
 {
     let RawView { bytes, pos, .. } = shown;
-    read_1::<FA, A, R>(alloc, bytes, pos, 0, deserializer)
+    read_1::<A, R>(alloc, bytes, pos, 0, deserializer)
 }
 
 /// Reads back a record of 2 fields.
-pub fn read_record_2<
-    X: Portable,
-    FA: Portable + Deserialize<A, R>,
-    A: Archive + Drop,
-    FB: Portable + Deserialize<B, R>,
-    B: Archive + Drop,
-    R: Entries,
->(alloc: Global, shown: RawView<'_>, deserializer: &mut R) -> Result<(A, (B, ())), Error>
+pub fn read_record_2<X: Portable, A: ReadField<R>, B: ReadField<R>, R: Entries>(
+    alloc: Global,
+    shown: RawView<'_>,
+    deserializer: &mut R,
+) -> Result<(A::Value, (B::Value, ())), Error>
     requires nothing { X.definitions ≡ no_definition }
-    requires parts { X.shape ≡ parts (part FA.shape (part FB.shape no_part)) }
-    requires nameless { are_none (both FA.definitions (both FB.definitions no_definition)) ≡ true }
+    requires parts { X.shape ≡ parts (part A.shape (part B.shape no_part)) }
+    requires nameless { are_none (both A.definitions (both B.definitions no_definition)) ≡ true }
     requires viewed { IsPartOf X.ArchivePointee shown }
     ensures read { IfOk result (λ r. ReadsPart X.ArchivePointee shown R.Entries deserializer
         (product (value (A.meaning r.0) (value (B.meaning r.1.0) no_value)))
@@ -70,24 +67,19 @@ pub fn read_record_2<
     ensures refused { IfErr result (RefusesPart X.ArchivePointee shown R.Entries deserializer) }
 {
     let RawView { bytes, pos, .. } = shown;
-    read_2::<FA, A, FB, B, R>(alloc, bytes, pos, 0, deserializer)
+    read_2::<A, B, R>(alloc, bytes, pos, 0, deserializer)
 }
 
 /// Reads back a record of 3 fields.
-pub fn read_record_3<
-    X: Portable,
-    FA: Portable + Deserialize<A, R>,
-    A: Archive + Drop,
-    FB: Portable + Deserialize<B, R>,
-    B: Archive + Drop,
-    FC: Portable + Deserialize<C, R>,
-    C: Archive + Drop,
-    R: Entries,
->(alloc: Global, shown: RawView<'_>, deserializer: &mut R) -> Result<(A, (B, (C, ()))), Error>
+pub fn read_record_3<X: Portable, A: ReadField<R>, B: ReadField<R>, C: ReadField<R>, R: Entries>(
+    alloc: Global,
+    shown: RawView<'_>,
+    deserializer: &mut R,
+) -> Result<(A::Value, (B::Value, (C::Value, ()))), Error>
     requires nothing { X.definitions ≡ no_definition }
-    requires parts { X.shape ≡ parts (part FA.shape (part FB.shape (part FC.shape no_part))) }
-    requires nameless { are_none (both FA.definitions
-        (both FB.definitions (both FC.definitions no_definition))) ≡ true }
+    requires parts { X.shape ≡ parts (part A.shape (part B.shape (part C.shape no_part))) }
+    requires nameless { are_none (both A.definitions (both B.definitions
+        (both C.definitions no_definition))) ≡ true }
     requires viewed { IsPartOf X.ArchivePointee shown }
     ensures read { IfOk result (λ r. ReadsPart X.ArchivePointee shown R.Entries deserializer
         (product (value (A.meaning r.0) (value (B.meaning r.1.0)
@@ -96,27 +88,27 @@ pub fn read_record_3<
     ensures refused { IfErr result (RefusesPart X.ArchivePointee shown R.Entries deserializer) }
 {
     let RawView { bytes, pos, .. } = shown;
-    read_3::<FA, A, FB, B, FC, C, R>(alloc, bytes, pos, 0, deserializer)
+    read_3::<A, B, C, R>(alloc, bytes, pos, 0, deserializer)
 }
 
 /// Reads back a record of 4 fields.
 pub fn read_record_4<
     X: Portable,
-    FA: Portable + Deserialize<A, R>,
-    A: Archive + Drop,
-    FB: Portable + Deserialize<B, R>,
-    B: Archive + Drop,
-    FC: Portable + Deserialize<C, R>,
-    C: Archive + Drop,
-    FD: Portable + Deserialize<D, R>,
-    D: Archive + Drop,
+    A: ReadField<R>,
+    B: ReadField<R>,
+    C: ReadField<R>,
+    D: ReadField<R>,
     R: Entries,
->(alloc: Global, shown: RawView<'_>, deserializer: &mut R) -> Result<(A, (B, (C, (D, ())))), Error>
+>(
+    alloc: Global,
+    shown: RawView<'_>,
+    deserializer: &mut R,
+) -> Result<(A::Value, (B::Value, (C::Value, (D::Value, ())))), Error>
     requires nothing { X.definitions ≡ no_definition }
-    requires parts { X.shape ≡ parts (part FA.shape (part FB.shape
-        (part FC.shape (part FD.shape no_part)))) }
-    requires nameless { are_none (both FA.definitions
-        (both FB.definitions (both FC.definitions (both FD.definitions no_definition)))) ≡ true }
+    requires parts { X.shape ≡ parts (part A.shape (part B.shape
+        (part C.shape (part D.shape no_part)))) }
+    requires nameless { are_none (both A.definitions (both B.definitions
+        (both C.definitions (both D.definitions no_definition)))) ≡ true }
     requires viewed { IsPartOf X.ArchivePointee shown }
     ensures read { IfOk result (λ r. ReadsPart X.ArchivePointee shown R.Entries deserializer
         (product (value (A.meaning r.0) (value (B.meaning r.1.0)
@@ -125,5 +117,37 @@ pub fn read_record_4<
     ensures refused { IfErr result (RefusesPart X.ArchivePointee shown R.Entries deserializer) }
 {
     let RawView { bytes, pos, .. } = shown;
-    read_4::<FA, A, FB, B, FC, C, FD, D, R>(alloc, bytes, pos, 0, deserializer)
+    read_4::<A, B, C, D, R>(alloc, bytes, pos, 0, deserializer)
+}
+
+/// Reads back a record of 5 fields.
+pub fn read_record_5<
+    X: Portable,
+    A: ReadField<R>,
+    B: ReadField<R>,
+    C: ReadField<R>,
+    D: ReadField<R>,
+    E: ReadField<R>,
+    R: Entries,
+>(
+    alloc: Global,
+    shown: RawView<'_>,
+    deserializer: &mut R,
+) -> Result<(A::Value, (B::Value, (C::Value, (D::Value, (E::Value, ()))))), Error>
+    requires nothing { X.definitions ≡ no_definition }
+    requires parts { X.shape ≡ parts (part A.shape (part B.shape
+        (part C.shape (part D.shape (part E.shape no_part))))) }
+    requires nameless { are_none (both A.definitions (both B.definitions
+        (both C.definitions (both D.definitions (both E.definitions no_definition))))) ≡ true }
+    requires viewed { IsPartOf X.ArchivePointee shown }
+    ensures read { IfOk result (λ r. ReadsPart X.ArchivePointee shown R.Entries deserializer
+        (product (value (A.meaning r.0) (value (B.meaning r.1.0)
+        (value (C.meaning r.1.1.0) (value (D.meaning r.1.1.1.0)
+        (value (E.meaning r.1.1.1.1.0) no_value)))))) (A.keys r.0
+        ++ (B.keys r.1.0 ++ (C.keys r.1.1.0 ++ (D.keys r.1.1.1.0
+        ++ (E.keys r.1.1.1.1.0 ++ [])))))) }
+    ensures refused { IfErr result (RefusesPart X.ArchivePointee shown R.Entries deserializer) }
+{
+    let RawView { bytes, pos, .. } = shown;
+    read_5::<A, B, C, D, E, R>(alloc, bytes, pos, 0, deserializer)
 }

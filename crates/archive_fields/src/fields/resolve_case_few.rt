@@ -1,4 +1,4 @@
-// Variants are written over zeros, by the number of their fields: 0 to 4.
+// Variants are written over zeros, by the number of their fields: 0 to 5.
 // Written by tools/fields: change that, and run it again.
 
 ghost use Rattle.std.specs.Prelude.{◌≡◌, ◌+◌, ◌<◌, ◌≤◌, Some, true, length, OnOk, IfErr};
@@ -11,7 +11,7 @@ ghost use Rattle.archive_types.specs.Words.Placed.{Resolved, Hindered};
 ghost use Rattle.archive_types.specs.Writing.{ZeroedPlace};
 
 use super::front::resolve_0;
-use super::resolve_few::{resolve_1, resolve_2, resolve_3, resolve_4};
+use super::resolve_few::{resolve_1, resolve_2, resolve_3, resolve_4, resolve_5};
 use archive_check::format::error::Error;
 use archive_types::place::Place;
 use archive_types::traits::{Archive, Portable};
@@ -164,4 +164,50 @@ pub fn resolve_case_4<A: Archive, B: Archive, C: Archive, D: Archive, X: Portabl
     let Place { bytes, pos, .. } = place;
     bytes[0] = tag;
     resolve_4(a, b, c, d, resolvers, pos, 1, &mut bytes[1..])
+}
+
+/// Writes a variant of 5 fields over zeros: its tag, and behind it the fields.
+pub fn resolve_case_5<A: Archive, B: Archive, C: Archive, D: Archive, E: Archive, X: Portable>(
+    tag: u8,
+    a: &A,
+    b: &B,
+    c: &C,
+    d: &D,
+    e: &E,
+    resolvers: (
+        A::Resolver,
+        (B::Resolver, (C::Resolver, (D::Resolver, (E::Resolver, ())))),
+    ),
+    place: Place<'_, X>,
+) -> Result<(), Error>
+    requires nothing { X.definitions ≡ no_definition }
+    requires variant { variant_in X.shape tag ≡ Some (part A.Archived.shape
+        (part B.Archived.shape (part C.Archived.shape (part D.Archived.shape
+        (part E.Archived.shape no_part))))) }
+    requires nameless { are_none (both A.Archived.definitions
+        (both B.Archived.definitions (both C.Archived.definitions
+        (both D.Archived.definitions (both E.Archived.definitions no_definition))))) ≡ true }
+    requires inside { Unit {0} → (up (up (up (up (up 1 A.Archived.layout.align
+        + A.Archived.layout.size) B.Archived.layout.align + B.Archived.layout.size)
+        C.Archived.layout.align + C.Archived.layout.size) D.Archived.layout.align
+        + D.Archived.layout.size) E.Archived.layout.align + E.Archived.layout.size)
+        ≤ X.layout.size }
+    requires some { 0 < X.layout.size }
+    requires zeroed { ZeroedPlace X.layout.size place.pos place.bytes.now }
+    requires same_values { A.belongs a.now resolvers.0
+        × (B.belongs b.now resolvers.1.0 × (C.belongs c.now resolvers.1.1.0
+        × (D.belongs d.now resolvers.1.1.1.0 × (E.belongs e.now resolvers.1.1.1.1.0 × Unit {0})))) }
+    ensures resolved { OnOk result (Resolved X.Portable place
+        (case tag (value (A.flat a.now resolvers.0) (value (B.flat b.now resolvers.1.0)
+        (value (C.flat c.now resolvers.1.1.0) (value (D.flat d.now resolvers.1.1.1.0)
+        (value (E.flat e.now resolvers.1.1.1.1.0) no_value))))))) }
+    ensures same_length { length place.exit.0.now ≡ length place.entry.bytes.now }
+    ensures refused { IfErr result (Hindered X.Portable place
+        (case tag (value (A.flat a.now resolvers.0) (value (B.flat b.now resolvers.1.0)
+        (value (C.flat c.now resolvers.1.1.0) (value (D.flat d.now resolvers.1.1.1.0)
+        (value (E.flat e.now resolvers.1.1.1.1.0) no_value))))))) }
+{
+    let Place { bytes, pos, .. } = place;
+    bytes[0] = tag;
+    resolve_5(a, b, c, d, e, resolvers, pos, 1, &mut bytes[1..])
 }

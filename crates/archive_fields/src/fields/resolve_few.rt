@@ -1,4 +1,4 @@
-// Fields are written over zeros, by their number: 1 to 4.
+// Fields are written over zeros, by their number: 1 to 5.
 // Written by tools/fields: change that, and run it again.
 
 ghost use Rattle.std.specs.Prelude.{◌≡◌, ◌+◌, length, OnOk, IfErr};
@@ -135,4 +135,51 @@ pub fn resolve_4<A: Archive, B: Archive, C: Archive, D: Archive>(
     let (resolver, others) = resolvers;
     let end = resolve_front(a, resolver, pos, start, bytes)?;
     resolve_3(b, c, d, others, pos, end, &mut bytes[end - start..])
+}
+
+/// Writes 5 fields over zeros, which are at the offset `start` of what begins at `pos`: each at the next multiple of its alignment.
+pub fn resolve_5<A: Archive, B: Archive, C: Archive, D: Archive, E: Archive>(
+    a: &A,
+    b: &B,
+    c: &C,
+    d: &D,
+    e: &E,
+    resolvers: (
+        A::Resolver,
+        (B::Resolver, (C::Resolver, (D::Resolver, (E::Resolver, ())))),
+    ),
+    pos: usize,
+    start: usize,
+    bytes: &mut [u8],
+) -> Result<(), Error>
+    requires zeroed { ZeroedParts (up (up (up (up (up start A.Archived.layout.align
+        + A.Archived.layout.size) B.Archived.layout.align + B.Archived.layout.size)
+        C.Archived.layout.align + C.Archived.layout.size) D.Archived.layout.align
+        + D.Archived.layout.size) E.Archived.layout.align + E.Archived.layout.size) start pos
+        bytes.old }
+    requires same_values { A.belongs a.now resolvers.0
+        × (B.belongs b.now resolvers.1.0 × (C.belongs c.now resolvers.1.1.0
+        × (D.belongs d.now resolvers.1.1.1.0 × (E.belongs e.now resolvers.1.1.1.1.0 × Unit {0})))) }
+    ensures resolved { OnOk result (ResolvesParts (both A.Archived.definitions
+        (both B.Archived.definitions (both C.Archived.definitions
+        (both D.Archived.definitions (both E.Archived.definitions no_definition))))) pos start
+        bytes.new (part A.Archived.shape (part B.Archived.shape
+        (part C.Archived.shape (part D.Archived.shape (part E.Archived.shape no_part)))))
+        (value (A.flat a.now resolvers.0) (value (B.flat b.now resolvers.1.0)
+        (value (C.flat c.now resolvers.1.1.0) (value (D.flat d.now resolvers.1.1.1.0)
+        (value (E.flat e.now resolvers.1.1.1.1.0) no_value)))))) }
+    ensures same_length { length bytes.new ≡ length bytes.old }
+    ensures refused { IfErr result (λ refusal. HindersPartsAt
+        (both A.Archived.definitions (both B.Archived.definitions
+        (both C.Archived.definitions (both D.Archived.definitions
+        (both E.Archived.definitions no_definition)))))
+        (part A.Archived.shape (part B.Archived.shape (part C.Archived.shape
+        (part D.Archived.shape (part E.Archived.shape no_part)))))
+        (value (A.flat a.now resolvers.0) (value (B.flat b.now resolvers.1.0)
+        (value (C.flat c.now resolvers.1.1.0) (value (D.flat d.now resolvers.1.1.1.0)
+        (value (E.flat e.now resolvers.1.1.1.1.0) no_value))))) pos start refusal) }
+{
+    let (resolver, others) = resolvers;
+    let end = resolve_front(a, resolver, pos, start, bytes)?;
+    resolve_4(b, c, d, e, others, pos, end, &mut bytes[end - start..])
 }

@@ -1,4 +1,4 @@
-// Records are written over zeros, by the number of their fields: 0 to 4.
+// Records are written over zeros, by the number of their fields: 0 to 5.
 // Written by tools/fields: change that, and run it again.
 
 ghost use Rattle.std.specs.Prelude.{◌≡◌, ◌+◌, ◌≤◌, true, length, OnOk, IfErr};
@@ -11,7 +11,7 @@ ghost use Rattle.archive_types.specs.Words.Placed.{Resolved, Hindered};
 ghost use Rattle.archive_types.specs.Writing.{ZeroedPlace};
 
 use super::front::resolve_0;
-use super::resolve_few::{resolve_1, resolve_2, resolve_3, resolve_4};
+use super::resolve_few::{resolve_1, resolve_2, resolve_3, resolve_4, resolve_5};
 use archive_check::format::error::Error;
 use archive_types::place::Place;
 use archive_types::traits::{Archive, Portable};
@@ -148,4 +148,46 @@ pub fn resolve_record_4<A: Archive, B: Archive, C: Archive, D: Archive, X: Porta
 {
     let Place { bytes, pos, .. } = place;
     resolve_4(a, b, c, d, resolvers, pos, 0, bytes)
+}
+
+/// Writes a record of 5 fields over zeros.
+pub fn resolve_record_5<A: Archive, B: Archive, C: Archive, D: Archive, E: Archive, X: Portable>(
+    a: &A,
+    b: &B,
+    c: &C,
+    d: &D,
+    e: &E,
+    resolvers: (
+        A::Resolver,
+        (B::Resolver, (C::Resolver, (D::Resolver, (E::Resolver, ())))),
+    ),
+    place: Place<'_, X>,
+) -> Result<(), Error>
+    requires nothing { X.definitions ≡ no_definition }
+    requires parts { X.shape ≡ parts (part A.Archived.shape
+        (part B.Archived.shape (part C.Archived.shape (part D.Archived.shape
+        (part E.Archived.shape no_part))))) }
+    requires nameless { are_none (both A.Archived.definitions
+        (both B.Archived.definitions (both C.Archived.definitions
+        (both D.Archived.definitions (both E.Archived.definitions no_definition))))) ≡ true }
+    requires inside { (up (up (up (up (up 0 A.Archived.layout.align + A.Archived.layout.size)
+        B.Archived.layout.align + B.Archived.layout.size) C.Archived.layout.align
+        + C.Archived.layout.size) D.Archived.layout.align + D.Archived.layout.size)
+        E.Archived.layout.align + E.Archived.layout.size) ≤ X.layout.size }
+    requires zeroed { ZeroedPlace X.layout.size place.pos place.bytes.now }
+    requires same_values { A.belongs a.now resolvers.0
+        × (B.belongs b.now resolvers.1.0 × (C.belongs c.now resolvers.1.1.0
+        × (D.belongs d.now resolvers.1.1.1.0 × (E.belongs e.now resolvers.1.1.1.1.0 × Unit {0})))) }
+    ensures resolved { OnOk result (Resolved X.Portable place
+        (product (value (A.flat a.now resolvers.0) (value (B.flat b.now resolvers.1.0)
+        (value (C.flat c.now resolvers.1.1.0) (value (D.flat d.now resolvers.1.1.1.0)
+        (value (E.flat e.now resolvers.1.1.1.1.0) no_value))))))) }
+    ensures same_length { length place.exit.0.now ≡ length place.entry.bytes.now }
+    ensures refused { IfErr result (Hindered X.Portable place
+        (product (value (A.flat a.now resolvers.0) (value (B.flat b.now resolvers.1.0)
+        (value (C.flat c.now resolvers.1.1.0) (value (D.flat d.now resolvers.1.1.1.0)
+        (value (E.flat e.now resolvers.1.1.1.1.0) no_value))))))) }
+{
+    let Place { bytes, pos, .. } = place;
+    resolve_5(a, b, c, d, e, resolvers, pos, 0, bytes)
 }

@@ -1,4 +1,4 @@
-// What the fields of a variant own is written, by their number: 0 to 4.
+// What the fields of a variant own is written, by their number: 0 to 5.
 // Written by tools/fields: change that, and run it again.
 
 ghost use Rattle.std.specs.Prelude.{◌≡◌, ◌++◌, [], Some, true, IfOk, IfErr};
@@ -11,7 +11,7 @@ ghost use Rattle.archive_types.specs.Plans.{Serialized};
 ghost use Rattle.archive_write.specs.Written.{GoesOn};
 
 use super::front::serialize_0;
-use super::serialize_few::{serialize_1, serialize_2, serialize_3, serialize_4};
+use super::serialize_few::{serialize_1, serialize_2, serialize_3, serialize_4, serialize_5};
 use archive_check::format::error::Error;
 use archive_types::traits::{Keys, Portable, Serialize};
 use archive_write::ser::Writer;
@@ -160,4 +160,56 @@ pub fn serialize_case_4<
         (S.state serializer.new)) }
 {
     serialize_4(a, b, c, d, serializer)
+}
+
+/// Writes what a variant of 5 fields owns, one after another, and answers the resolvers.
+pub fn serialize_case_5<
+    A: Serialize<S>,
+    B: Serialize<S>,
+    C: Serialize<S>,
+    D: Serialize<S>,
+    E: Serialize<S>,
+    X: Portable,
+    S: Writer + Keys,
+>(
+    tag: u8,
+    a: &A,
+    b: &B,
+    c: &C,
+    d: &D,
+    e: &E,
+    serializer: &mut S,
+) -> Result<
+    (
+        A::Resolver,
+        (B::Resolver, (C::Resolver, (D::Resolver, (E::Resolver, ())))),
+    ),
+    Error,
+>
+    requires nothing { X.definitions ≡ no_definition }
+    requires variant { variant_in X.shape tag ≡ Some (part A.Archived.shape
+        (part B.Archived.shape (part C.Archived.shape (part D.Archived.shape
+        (part E.Archived.shape no_part))))) }
+    requires nameless { are_none (both A.Archived.definitions
+        (both B.Archived.definitions (both C.Archived.definitions
+        (both D.Archived.definitions (both E.Archived.definitions no_definition))))) ≡ true }
+    ensures serialized { IfOk result (λ r. Serialized X.definitions X.shape
+        (A.keys a.now ++ (B.keys b.now ++ (C.keys c.now ++ (D.keys d.now ++ (E.keys e.now ++ [])))))
+        (case tag (value (A.meaning a.now) (value (B.meaning b.now)
+        (value (C.meaning c.now) (value (D.meaning d.now) (value (E.meaning e.now) no_value))))))
+        (case tag (value (A.flat a.now r.0) (value (B.flat b.now r.1.0)
+        (value (C.flat c.now r.1.1.0) (value (D.flat d.now r.1.1.1.0)
+        (value (E.flat e.now r.1.1.1.1.0) no_value)))))) (S.state serializer.old)
+        (S.state serializer.new)) }
+    ensures same_values { IfOk result (λ r. A.belongs a.now r.0
+        × (B.belongs b.now r.1.0 × (C.belongs c.now r.1.1.0
+        × (D.belongs d.now r.1.1.1.0 × (E.belongs e.now r.1.1.1.1.0 × Unit {0}))))) }
+    ensures goes_on { GoesOn (S.state serializer.old) (S.state serializer.new) }
+    ensures refused { IfErr result (IsRefused X.definitions X.shape
+        (A.keys a.now ++ (B.keys b.now ++ (C.keys c.now ++ (D.keys d.now ++ (E.keys e.now ++ [])))))
+        (case tag (value (A.meaning a.now) (value (B.meaning b.now)
+        (value (C.meaning c.now) (value (D.meaning d.now) (value (E.meaning e.now) no_value))))))
+        (S.state serializer.old) (S.state serializer.new)) }
+{
+    serialize_5(a, b, c, d, e, serializer)
 }

@@ -1,4 +1,4 @@
-// What fields own is written, by their number: 1 to 4.
+// What fields own is written, by their number: 1 to 5.
 // Written by tools/fields: change that, and run it again.
 
 ghost use Rattle.std.specs.Prelude.{◌≡◌, ◌++◌, [], IfOk, IfErr};
@@ -134,5 +134,60 @@ pub fn serialize_4<
 {
     let first = a.serialize(serializer)?;
     let others = serialize_3(b, c, d, serializer)?;
+    Ok((first, others))
+}
+
+/// Writes what 5 fields own, one after another, and answers their resolvers.
+pub fn serialize_5<
+    A: Serialize<S>,
+    B: Serialize<S>,
+    C: Serialize<S>,
+    D: Serialize<S>,
+    E: Serialize<S>,
+    S: Writer + Keys,
+>(
+    a: &A,
+    b: &B,
+    c: &C,
+    d: &D,
+    e: &E,
+    serializer: &mut S,
+) -> Result<
+    (
+        A::Resolver,
+        (B::Resolver, (C::Resolver, (D::Resolver, (E::Resolver, ())))),
+    ),
+    Error,
+>
+    ensures serialized { IfOk result (λ r. SerializedParts
+        (both A.Archived.definitions (both B.Archived.definitions
+        (both C.Archived.definitions (both D.Archived.definitions
+        (both E.Archived.definitions no_definition)))))
+        (part A.Archived.shape (part B.Archived.shape (part C.Archived.shape
+        (part D.Archived.shape (part E.Archived.shape no_part)))))
+        (A.keys a.now ++ (B.keys b.now ++ (C.keys c.now ++ (D.keys d.now ++ (E.keys e.now ++ [])))))
+        (value (A.meaning a.now) (value (B.meaning b.now)
+        (value (C.meaning c.now) (value (D.meaning d.now) (value (E.meaning e.now) no_value)))))
+        (value (A.flat a.now r.0) (value (B.flat b.now r.1.0)
+        (value (C.flat c.now r.1.1.0) (value (D.flat d.now r.1.1.1.0)
+        (value (E.flat e.now r.1.1.1.1.0) no_value))))) (S.state serializer.old)
+        (S.state serializer.new)) }
+    ensures same_values { IfOk result (λ r. A.belongs a.now r.0
+        × (B.belongs b.now r.1.0 × (C.belongs c.now r.1.1.0
+        × (D.belongs d.now r.1.1.1.0 × (E.belongs e.now r.1.1.1.1.0 × Unit {0}))))) }
+    ensures goes_on { GoesOn (S.state serializer.old) (S.state serializer.new) }
+    ensures refused { IfErr result (λ refusal. ArePartsRefused
+        (both A.Archived.definitions (both B.Archived.definitions
+        (both C.Archived.definitions (both D.Archived.definitions
+        (both E.Archived.definitions no_definition)))))
+        (part A.Archived.shape (part B.Archived.shape (part C.Archived.shape
+        (part D.Archived.shape (part E.Archived.shape no_part)))))
+        (A.keys a.now ++ (B.keys b.now ++ (C.keys c.now ++ (D.keys d.now ++ (E.keys e.now ++ [])))))
+        (value (A.meaning a.now) (value (B.meaning b.now)
+        (value (C.meaning c.now) (value (D.meaning d.now) (value (E.meaning e.now) no_value)))))
+        (S.state serializer.old) (S.state serializer.new) refusal) }
+{
+    let first = a.serialize(serializer)?;
+    let others = serialize_4(b, c, d, e, serializer)?;
     Ok((first, others))
 }

@@ -9,7 +9,7 @@ pub read_1-requires : goal.read_1-requires
 read_1-requires g c = record { viewed = variant_viewed _ _ _ _ _ (plain_case c.requires.nothing (variant_of _ _ _ c.requires.variant) _ c.requires.nameless) c.args.tag _ (variant_of _ _ _ c.requires.variant).at _ (lone_at c.args.tag _) _ _ _ c.requires.tag (rw g.met.X.Portable.is_one at c.requires.viewed) }
 
 pub returns-clause-read : goal.returns-clause-read
-returns-clause-read g c = rw g.met.X.Portable.is_one (variant_read _ _ _ _ _ (plain_case c.requires.nothing (variant_of _ _ _ c.requires.variant) _ c.requires.nameless) c.args.tag _ (variant_of _ _ _ c.requires.variant).at _ (lone_at c.args.tag _) _ _ _ c.requires.tag _ _ (λ r. (value (g.A.Archive.meaning r.0) no_value)) (λ r. (g.A.Archive.keys r.0 ++ [])) c.read_1.result c.read_1.ensures.read)
+returns-clause-read g c = rw g.met.X.Portable.is_one (variant_read _ _ _ _ _ (plain_case c.requires.nothing (variant_of _ _ _ c.requires.variant) _ c.requires.nameless) c.args.tag _ (variant_of _ _ _ c.requires.variant).at _ (lone_at c.args.tag _) _ _ _ c.requires.tag _ _ (λ r. (value (g.A.ReadField.meaning r.0) no_value)) (λ r. (g.A.ReadField.keys r.0 ++ [])) c.read_1.result c.read_1.ensures.read)
 
 pub returns-clause-refused : goal.returns-clause-refused
 returns-clause-refused g c = rw g.met.X.Portable.is_one (err_from c.read_1.result c.read_1.ensures.refused (λ e h. variant_refuses _ _ _ _ _ (plain_case c.requires.nothing (variant_of _ _ _ c.requires.variant) _ c.requires.nameless) c.args.tag _ (variant_of _ _ _ c.requires.variant).at _ (lone_at c.args.tag _) _ _ _ c.requires.tag _ e h))

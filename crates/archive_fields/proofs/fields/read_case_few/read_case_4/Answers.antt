@@ -9,7 +9,7 @@ pub read_4-requires : goal.read_4-requires
 read_4-requires g c = record { viewed = variant_viewed _ _ _ _ _ (plain_case c.requires.nothing (variant_of _ _ _ c.requires.variant) _ c.requires.nameless) c.args.tag _ (variant_of _ _ _ c.requires.variant).at _ (lone_at c.args.tag _) _ _ _ c.requires.tag (rw g.met.X.Portable.is_one at c.requires.viewed) }
 
 pub returns-clause-read : goal.returns-clause-read
-returns-clause-read g c = rw g.met.X.Portable.is_one (variant_read _ _ _ _ _ (plain_case c.requires.nothing (variant_of _ _ _ c.requires.variant) _ c.requires.nameless) c.args.tag _ (variant_of _ _ _ c.requires.variant).at _ (lone_at c.args.tag _) _ _ _ c.requires.tag _ _ (λ r. (value (g.A.Archive.meaning r.0) (value (g.B.Archive.meaning r.1.0) (value (g.C.Archive.meaning r.1.1.0) (value (g.D.Archive.meaning r.1.1.1.0) no_value))))) (λ r. (g.A.Archive.keys r.0 ++ (g.B.Archive.keys r.1.0 ++ (g.C.Archive.keys r.1.1.0 ++ (g.D.Archive.keys r.1.1.1.0 ++ []))))) c.read_4.result c.read_4.ensures.read)
+returns-clause-read g c = rw g.met.X.Portable.is_one (variant_read _ _ _ _ _ (plain_case c.requires.nothing (variant_of _ _ _ c.requires.variant) _ c.requires.nameless) c.args.tag _ (variant_of _ _ _ c.requires.variant).at _ (lone_at c.args.tag _) _ _ _ c.requires.tag _ _ (λ r. (value (g.A.ReadField.meaning r.0) (value (g.B.ReadField.meaning r.1.0) (value (g.C.ReadField.meaning r.1.1.0) (value (g.D.ReadField.meaning r.1.1.1.0) no_value))))) (λ r. (g.A.ReadField.keys r.0 ++ (g.B.ReadField.keys r.1.0 ++ (g.C.ReadField.keys r.1.1.0 ++ (g.D.ReadField.keys r.1.1.1.0 ++ []))))) c.read_4.result c.read_4.ensures.read)
 
 pub returns-clause-refused : goal.returns-clause-refused
 returns-clause-refused g c = rw g.met.X.Portable.is_one (err_from c.read_4.result c.read_4.ensures.refused (λ e h. variant_refuses _ _ _ _ _ (plain_case c.requires.nothing (variant_of _ _ _ c.requires.variant) _ c.requires.nameless) c.args.tag _ (variant_of _ _ _ c.requires.variant).at _ (lone_at c.args.tag _) _ _ _ c.requires.tag _ e h))

@@ -1,6 +1,6 @@
 use Rattle.std.proofs.Common.{◌≡◌, ◌+◌, ◌<◌, ◌≤◌, ◌^◌, ℕ, length, min, arith}
 use Rattle.archive_check.specs.Layout.{up}
-use Rattle.archive_fields.proofs.fields.reading.read_front.Goals as goal
+use Rattle.archive_fields.proofs.fields.reading.FieldOfReadField.read_at.Goals as goal
 
 pub deserialize_part-requires : goal.deserialize_part-requires
 deserialize_part-requires g c =
