@@ -4,6 +4,7 @@
 pub mod entry;
 pub mod event;
 pub mod kinds;
+pub mod nests;
 pub mod pair;
 pub mod point;
 pub mod spot;
