@@ -21,6 +21,8 @@ class Definition:
         self.key, self.kind, self.path = key, kind, path
         self.lines = []
         self.above = []
+        # The first definition of the `mutual` block that it stands in, or itself.
+        self.head = self
 
     @property
     def comment(self):
@@ -64,7 +66,7 @@ def definitions(crate, path, found):
         blocks = [block for block in blocks if block[0] < indent]
         block = BLOCK.match(line)
         if block:
-            blocks.append((indent, "abbrev" in block[2]))
+            blocks.append((indent, "abbrev" in block[2], [] if "mutual" in block[2] else None))
             current = None
             if not re.match(r" *(abbrev )?mutual", line):
                 above = []
@@ -82,13 +84,16 @@ def definitions(crate, path, found):
         elif DEFINED.match(line):
             started = (DEFINED.match(line)[2], "definition", None)
         elif STATED.match(line):
-            kind = "definition" if any(short for _, short in blocks) else "lemma"
+            kind = "definition" if any(short for _, short, _ in blocks) else "lemma"
             started = (STATED.match(line)[2], kind, None)
         if started:
             name, kind, made = started
             current = Definition((crate, module, name), kind, path)
             current.indent, current.made, current.above = indent, made, above
             found[current.key] = current
+            for together in [block[2] for block in blocks if block[2] is not None][-1:]:
+                together.append(current)
+                current.head = together[0]
         if current:
             current.lines.append(line)
         above = []
