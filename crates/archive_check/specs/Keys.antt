@@ -4,7 +4,7 @@ use Rattle.std.specs.declared.cmp.Ordering.{Ordering}
 use Rattle.std.specs.declared.cmp.Ordering.TheVariants.{Less}
 use Rattle.std.specs.Ordering.{int_cmp, nat_cmp}
 use Rattle.std.specs.Cmp.Lexicographic.{slice_cmp}
-use Rattle.archive_check.specs.Shape.{Kind, Key, leaf_key, str_key, Shape, Pointee, run, entry_of}
+use Rattle.archive_check.specs.Shape.{Key, leaf_key, str_key, Shape, Pointee, run, entry_of}
 use Rattle.archive_check.specs.Layout.{kind_size, size_of}
 use Rattle.archive_check.specs.Value.{Pointer}
 use Rattle.archive_check.specs.Reads.{Schema, bytes_at, kind_value}

@@ -141,12 +141,15 @@ module _ (D E : Definitions) (K : Key) (V : Shape) (b : List ℕ) (R : Way) (bef
     pub value_refused : (e : Error) → Halts (both E no_definition) (parts_way b p size (part V no_part)) s2 e → Halts (entry_definitions D E) R s e
     value_refused e halts some =
         let inner : HasLevels s1.depth = rw (toward.depth some) some in
-        let f = halts (within inner) in
-        (f.0, f.1, λ t k pending seen.
-            let w = rw (toward.depth some, toward.end) at (key.runs inner t (knows_left t D (both E no_definition) k) pending seen) in
-            let here = subst (λ x. TripsParts t b pending x s2.end p size (part V no_part) s2.start seen (f.0)) (key.depth inner ∙ toward.depth some) (f.2 t (knows_right t D (both E no_definition) k) pending seen) in
-            let v = subst (λ x. TripsParts t b pending s.depth x p size (part V no_part) s2.start seen (f.0)) (key.end ∙ toward.end) here in
-            toward.leads some t k pending seen (refused f.0) (value_stop b t pending s.depth s.end s1.start seen before p (p + up size (align_of t.layouts V)) n m s2.start K V f.0 count (ap (λ x. p + up x (align_of t.layouts V)) ((sized t k).0)) behind w (only_part v)))
+        let f = halts (within inner) in (
+          f.0,
+          f.1,
+          λ t k pending seen.
+              let w = rw (toward.depth some, toward.end) at (key.runs inner t (knows_left t D (both E no_definition) k) pending seen) in
+              let here = subst (λ x. TripsParts t b pending x s2.end p size (part V no_part) s2.start seen (f.0)) (key.depth inner ∙ toward.depth some) (f.2 t (knows_right t D (both E no_definition) k) pending seen) in
+              let v = subst (λ x. TripsParts t b pending s.depth x p size (part V no_part) s2.start seen (f.0)) (key.end ∙ toward.end) here in
+              toward.leads some t k pending seen (refused f.0) (value_stop b t pending s.depth s.end s1.start seen before p (p + up size (align_of t.layouts V)) n m s2.start K V f.0 count (ap (λ x. p + up x (align_of t.layouts V)) ((sized t k).0)) behind w (only_part v)),
+        )
 
     entry_goes : (s3 : RangeState) → Goes (both E no_definition) (parts_way b p size (part V no_part)) s2 s3 → Goes (entry_definitions D E) (shape_way b p (entry_of K V)) s1 s3
     entry_goes s3 g = record {
@@ -159,7 +162,7 @@ module _ (D E : Definitions) (K : Key) (V : Shape) (b : List ℕ) (R : Way) (bef
           let is = (sized t k).0 in
           let next : up 0 (align_of t.layouts (key_shape K)) + size_of t.layouts (key_shape K) ≡ size = ap (λ m. m + size_of t.layouts (key_shape K)) (key_first t.layouts K) ∙ omega (arith, is) in
           walk_parts (walk_part {mid = s2.start} {known = seen} (subst (λ q. Walk t b pending s1.depth s1.end q (key_shape K) s1.start seen s2.start seen) (sym here) w)
-              (subst (λ m. WalkParts t b pending s1.depth s1.end p m (part V no_part) s2.start seen s3.start seen) (sym next) v));
+          (subst (λ m. WalkParts t b pending s1.depth s1.end p m (part V no_part) s2.start seen s3.start seen) (sym next) v));
     }
 
     -- it is gone through, and the next one stands behind it

@@ -8,7 +8,7 @@ use Rattle.archive_check.specs.Value.{Pointer}
 use Rattle.archive_check.specs.Reads.{Schema}
 use Rattle.archive_check.specs.Tour.{Seen}
 use Rattle.archive_check.specs.Keys.{order_of, Ordered, in_any_order}
-use Rattle.archive_check.specs.Walk.{Walk, walk_parts, WalkParts, walk_no_part, walk_part}
+use Rattle.archive_check.specs.Walk.{Walk, walk_parts, walk_no_part, walk_part}
 
 -- a key begins where its entry does
 pub kind_first : (kind : Kind) → up 0 (kind_align kind) ≡ 0

@@ -1,19 +1,19 @@
 -- What is read in a region that no key leads to leads to such regions, but for keys, which lead to texts of their own.
-use Rattle.std.proofs.Common.{◌≡◌, ℕ, ◌+◌, ◌*◌, ◌<◌, ◌≤◌, pos, List, [], ◌∷◌, ◌++◌, length, Option, Some, None, is_some, Bool, true, false, cond, nat_cmp, Contains, All, refl, sym, ap, ◌∙◌, subst, arith, ⊎_elim, append_assoc}
+use Rattle.std.proofs.Common.{◌≡◌, ℕ, ◌+◌, ◌≤◌, List, [], ◌∷◌, ◌++◌, length, Option, Some, None, is_some, Bool, true, false, cond, nat_cmp, Contains, refl, sym, ap, ◌∙◌, subst, ⊎_elim, append_assoc}
 use Rattle.std.proofs.lemmas.List.{append-nil}
-use Rattle.std.proofs.lemmas.List.Elements.{All-contains, Contains-append_left, Contains-append_right, Contains-append_cases, Contains-push}
+use Rattle.std.proofs.lemmas.List.Elements.{Contains-append_left, Contains-append_right, Contains-append_cases}
 use Rattle.std.specs.FinMap.{get, insert, get-insert, get-empty}
 use Rattle.std.specs.Cmp.{nat_cmp_total}
 use Rattle.std.specs.Ordering.{eq_by_cmp}
-use Rattle.archive_check.specs.Shape.{Flavor, Kind, Key, leaf_key, str_key, Shape, leaf, str, parts, Pointee, one, run, text, Parts, part, no_part, key_shape, entry_of}
-use Rattle.archive_check.specs.Value.{Pointer, Value, Values, list, product, no_value, value, hole, pointers, all_pointers}
-use Rattle.archive_check.specs.Reads.{Schema, string_at, Reads, reads_leaf, reads_parts, reads_inline, reads_out_of_line, ReadsParts, reads_no_part, reads_part, ReadsRun, reads_none, reads_element}
+use Rattle.archive_check.specs.Shape.{Flavor, Kind, Key, leaf_key, str_key, Shape, leaf, str, Pointee, text, key_shape, entry_of}
+use Rattle.archive_check.specs.Value.{Pointer, Value, Values, pointers, all_pointers}
+use Rattle.archive_check.specs.Reads.{Schema, string_at, Reads, reads_leaf, reads_parts, reads_inline, reads_out_of_line, reads_no_part, reads_part, ReadsRun, reads_none, reads_element}
 use Rattle.archive_check.specs.Keys.{order_of, Ordered, in_any_order, in_key_order}
 use Rattle.archive_check.specs.Tour.{Region, region_at, region_of, root_region, pointee_size, Contents, contents_one, contents_run, contents_text, Leads, Entry, Seen, entry, Tour, tour_end, tour_unique, tour_new, tour_again, Accepted}
 use Rattle.archive_check.proofs.Elements.{contains_first, contains_later, contains_cases}
 use Rattle.archive_check.proofs.Tours.Seen.{same_key}
 use Rattle.archive_check.proofs.Maps.Entries.{shared_ordered}
-use Rattle.archive_check.proofs.Maps.FreeRegions.{marks, first_mark, later_marks, each_marked, entry_marks, marks_of_entries, AllMarked, Free, free_of, keys_of, none_in}
+use Rattle.archive_check.proofs.Maps.FreeRegions.{marks, first_mark, later_marks, each_marked, marks_of_entries, AllMarked, Free, free_of, keys_of, none_in}
 
 -- a key's pointer leads to a text of its own, in any order
 abbrev pub IsText : Pointer → Type 0
@@ -52,7 +52,7 @@ module _ (s : Schema) (bytes : List ℕ) where
     entries_texts reads_none = tt
     entries_texts (reads_element {vs = vs} (reads_parts (reads_part {v = u} r (reads_part {v = w} r' reads_no_part))) rs) =
         let same : (pointers u ++ (pointers w ++ [])) ++ all_pointers vs ≡ pointers u ++ (pointers w ++ all_pointers vs)
-            = append_assoc (pointers u) (pointers w ++ []) (all_pointers vs) ∙ ap (λ x. pointers u ++ (x ++ all_pointers vs)) (append-nil (pointers w)) in
+        = append_assoc (pointers u) (pointers w ++ []) (all_pointers vs) ∙ ap (λ x. pointers u ++ (x ++ all_pointers vs)) (append-nil (pointers w)) in
         subst (λ O. AllMarked IsText Any (each_marked true (pointers u) ++ (each_marked false (pointers w) ++ marks_of_entries vs)) O) (sym same)
         (marked_keys IsText Any (pointers u) (each_marked false (pointers w) ++ marks_of_entries vs) (pointers w ++ all_pointers vs) (key_texts K r)
         (marked_values IsText Any (pointers w) (marks_of_entries vs) (all_pointers vs) (λ p. tt) (entries_texts rs)))
@@ -128,8 +128,8 @@ module _ (s : Schema) (bytes : List ℕ) where
     tour_seen M tour_end texts sub h = h
     tour_seen {seen = seen} M (tour_unique {mid = mid} {p = p} {t = t} {v = v} e l i j) texts sub h =
         let known = seen_by mid seen (first_mark M) (free_of (marks (order_of p) v) i) (free_of (later_marks M) j) (region_of s p t, order_of p) sub
-            (λ is z. let none : mid ≡ seen = no_tour (text_leads ((texts.0 is).1) l.contents) i in subst (λ x. SeenFree x) (sym none) z)
-            (λ left z. tour_seen (marks (order_of p) v) i (marks_texts l.contents l.ordered) left z) h in
+        (λ is z. let none : mid ≡ seen = no_tour (text_leads ((texts.0 is).1) l.contents) i in subst (λ x. SeenFree x) (sym none) z)
+        (λ left z. tour_seen (marks (order_of p) v) i (marks_texts l.contents l.ordered) left z) h in
         tour_seen (later_marks M) j (texts.2) (known.0) (known.1)
     tour_seen M (tour_new {seen = seen} {p = p} {t = t} {v = v} {flavor = flavor} e none l i j) texts sub h =
         let own = free_of (marks (order_of p) v) i in
@@ -154,9 +154,10 @@ module _ (s : Schema) (bytes : List ℕ) where
         ((λ z f. (t, v, l, ksub (region_of s p t) (contains_first krest (region_of s p t))), λ z. (let never : true ≡ false = sym is ∙ z in cc), o.0), o.1)
     unique_by O {p = p} {t = t} {v = v} M false is own rest kown krest e l sub ksub inner outer =
         let n = inner (left_free own ((region_of s p t, order_of p) ∷ rest) sub) (λ r c. ksub r (Contains-append_left kown krest r c)) in
-        let o = outer (rest_free own rest (region_of s p t, order_of p) sub) (λ r c. ksub r (Contains-append_right kown krest r c)) in
-        ((λ z. (let never : true ≡ false = sym z ∙ is in cc), λ z. (t, v, l, this_free own rest (region_of s p t, order_of p) sub), o.0),
-         closed_join own rest (region_of s p t, order_of p) (n.1) (v, l.contents, l.ordered, n.0, refl) (o.1))
+        let o = outer (rest_free own rest (region_of s p t, order_of p) sub) (λ r c. ksub r (Contains-append_right kown krest r c)) in (
+          (λ z. (let never : true ≡ false = sym z ∙ is in cc), λ z. (t, v, l, this_free own rest (region_of s p t, order_of p) sub), o.0),
+          closed_join own rest (region_of s p t, order_of p) (n.1) (v, l.contents, l.ordered, n.0, refl) (o.1),
+        )
 
     pub tour_closed : {pending : List ℕ} {seen last : Seen} {O : List Pointer} {C : List Region} (M : List Bool) (i : Tour s bytes pending seen O C last) → AllMarked IsText Any M O → FreeAmong (free_of M i) → KeysAmong (keys_of M i) → SeenFree seen
         → AllMarked LeadsKey LeadsFree M O × AreClosed (free_of M i)
@@ -165,8 +166,8 @@ module _ (s : Schema) (bytes : List ℕ) where
         let own = free_of (marks (order_of p) v) i in
         let rest = free_of (later_marks M) j in
         let known = seen_by mid seen (first_mark M) own rest (region_of s p t, order_of p) sub
-            (λ is z. let none : mid ≡ seen = no_tour (text_leads ((texts.0 is).1) l.contents) i in subst (λ x. SeenFree x) (sym none) z)
-            (λ left z. tour_seen (marks (order_of p) v) i (marks_texts l.contents l.ordered) left z) h in
+        (λ is z. let none : mid ≡ seen = no_tour (text_leads ((texts.0 is).1) l.contents) i in subst (λ x. SeenFree x) (sym none) z)
+        (λ left z. tour_seen (marks (order_of p) v) i (marks_texts l.contents l.ordered) left z) h in
         unique_by O M (first_mark M) refl own rest (keys_of (marks (order_of p) v) i) (keys_of (later_marks M) j) e l sub ksub
         (λ left kleft. tour_closed (marks (order_of p) v) i (marks_texts l.contents l.ordered) left kleft h)
         (λ right kright. tour_closed (later_marks M) j (texts.2) right kright (known.1))
@@ -180,7 +181,7 @@ module _ (s : Schema) (bytes : List ℕ) where
         let met = inserted seen t (entry flavor p) v l.fits l.contents (rw (shared_free p t e) at here) h in
         let inner = tour_closed (marks (order_of p) v) i (marks_texts l.contents l.ordered) left (λ r c. ksub r (Contains-append_left kown krest r c)) met in
         let outer = tour_closed (later_marks M) j (texts.2) (rest_free own rest (region_of s p t, order_of p) sub) (λ r c. ksub r (Contains-append_right kown krest r c))
-            (tour_seen (marks (order_of p) v) i (marks_texts l.contents l.ordered) left met) in
+        (tour_seen (marks (order_of p) v) i (marks_texts l.contents l.ordered) left met) in
         ((λ z f. (let never : Some flavor ≡ None = sym e ∙ f in cc), λ z. (t, v, l, here), outer.0), closed_join own rest (region_of s p t, order_of p) (inner.1) (v, l.contents, l.ordered, inner.0, refl) (outer.1))
     tour_closed M (tour_again {p = p} {ps = O} {t = t} {flavor = flavor} e g known free j) texts sub ksub h =
         let (v, fits, c, here) = h t (entry flavor p) known in

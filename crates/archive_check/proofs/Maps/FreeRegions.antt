@@ -1,21 +1,17 @@
 -- The regions of an archive that are come to through no key, and those of keys' texts. The first lie apart from one another and from the others, and lead
 -- to one another; what keys lead to are the others.
-use Rattle.std.proofs.Common.{◌≡◌, ◌⊎◌, inl, inr, ⊎_elim, ℕ, zero, suc, ◌+◌, ◌*◌, ◌<◌, ◌≤◌, pos, List, [], ◌∷◌, ◌++◌, length, Option, Some, None, is_some, Bool, true, false, cond, nat_cmp, Contains, All, refl, sym, ap, ◌∙◌, subst, arith, append_assoc}
+use Rattle.std.proofs.Common.{◌≡◌, ◌⊎◌, inl, inr, ⊎_elim, ℕ, zero, suc, ◌+◌, ◌*◌, ◌<◌, ◌≤◌, List, [], ◌∷◌, ◌++◌, Option, Some, Bool, true, false, cond, Contains, All, refl, sym, ap, ◌∙◌, subst, arith, append_assoc}
 use Rattle.std.proofs.lemmas.List.{append-nil}
-use Rattle.std.proofs.lemmas.List.Elements.{All-nil, All-cons, All-contains, Contains-append_left, Contains-append_right, Contains-append_cases, Contains-push}
-use Rattle.std.specs.FinMap.{get, insert, get-insert, get-empty}
-use Rattle.std.specs.Cmp.{nat_cmp_total}
-use Rattle.std.specs.Ordering.{eq_by_cmp}
-use Rattle.archive_check.specs.Shape.{Key, Shape, Pointee, run, key_shape, entry_of}
+use Rattle.std.proofs.lemmas.List.Elements.{All-nil, All-cons, Contains-append_cases}
+use Rattle.archive_check.specs.Shape.{Key, Shape, key_shape, entry_of}
 use Rattle.archive_check.specs.Layout.{up, size_of, align_of}
 use Rattle.archive_check.specs.Value.{Pointer, Value, Values, product, list, no_value, value, pointers, all_pointers}
 use Rattle.archive_check.specs.Reads.{Schema, Reads, reads_parts, reads_no_part, reads_part, ReadsRun, reads_none, reads_element}
-use Rattle.archive_check.specs.Keys.{order_of, Ordered}
-use Rattle.archive_check.specs.Tour.{Region, region_at, region_of, root_region, pointee_size, Rising, Contents, contents_one, Leads, Entry, Seen, entry, Tour, tour_end, tour_unique, tour_new, tour_again, Accepted}
-use Rattle.archive_check.proofs.Elements.{contains_first, contains_later, contains_cases}
+use Rattle.archive_check.specs.Keys.{order_of}
+use Rattle.archive_check.specs.Tour.{Region, region_of, Rising, Seen, Tour, tour_end, tour_unique, tour_new, tour_again}
+use Rattle.archive_check.proofs.Elements.{contains_cases}
 use Rattle.archive_check.proofs.Tours.JoinedTours.{rising_le, rising_front, rising_back}
-use Rattle.archive_check.proofs.Tours.Seen.{same_key}
-use Rattle.archive_check.proofs.Maps.Entries.{key_at, value_at, shared_ordered}
+use Rattle.archive_check.proofs.Maps.Entries.{key_at, value_at}
 
 -- Which of the pointers in a value are keys': of the entries of a map those in their first parts, else none. Where the marks end, none is.
 
@@ -75,7 +71,7 @@ module _ (s : Schema) (bytes : List ℕ) (Q P : Pointer → Type 0) (K : Key) (V
   entries_marked reads_none h k q e below = absurd (omega arith)
   entries_marked {p = p} (reads_element {vs = vs} (reads_parts (reads_part {v = u} r (reads_part {v = w} r' reads_no_part))) rs) h k q e below =
       let same : (pointers u ++ (pointers w ++ [])) ++ all_pointers vs ≡ pointers u ++ (pointers w ++ all_pointers vs)
-          = append_assoc (pointers u) (pointers w ++ []) (all_pointers vs) ∙ ap (λ x. pointers u ++ (x ++ all_pointers vs)) (append-nil (pointers w)) in
+      = append_assoc (pointers u) (pointers w ++ []) (all_pointers vs) ∙ ap (λ x. pointers u ++ (x ++ all_pointers vs)) (append-nil (pointers w)) in
       let marked = subst (λ O. AllMarked Q P (each_marked true (pointers u) ++ (each_marked false (pointers w) ++ marks_of_entries vs)) O) same h in
       let first = keys_first Q P (pointers u) (each_marked false (pointers w) ++ marks_of_entries vs) (pointers w ++ all_pointers vs) marked in
       let second = values_first Q P (pointers w) (marks_of_entries vs) (all_pointers vs) (first.1) in

@@ -1,26 +1,26 @@
 -- What seals come to has no byte of a key.
-use Rattle.std.proofs.Common.{◌≡◌, ◌⊎◌, inl, inr, ⊎_elim, ℕ, zero, suc, ◌+◌, ◌*◌, ◌<◌, ◌≤◌, pos, List, [], ◌∷◌, ◌++◌, length, max, Option, Some, None, Bool, true, false, cond, Contains, All, refl, sym, ap, ◌∙◌, subst, arith}
+use Rattle.std.proofs.Common.{◌≡◌, inl, inr, ⊎_elim, ℕ, zero, suc, ◌+◌, ◌*◌, ◌<◌, ◌≤◌, List, [], ◌∷◌, ◌++◌, length, max, Option, Some, None, Bool, true, false, cond, Contains, refl, sym, ap, ◌∙◌, subst, arith}
 use Rattle.std.proofs.Math.Nat.{mul-le-mul_right}
 use Rattle.std.proofs.lemmas.Bool.{cases_lt}
 use Rattle.std.proofs.lemmas.List.{append-nil}
-use Rattle.std.proofs.lemmas.List.Elements.{All-contains, Contains-append_left, Contains-append_right, Contains-append_cases, Contains-push}
-use Rattle.archive_check.specs.Shape.{Kind, Key, leaf_key, str_key, Shape, leaf, sorted_map, str, Pointee, one, run, text, key_shape, entry_of}
-use Rattle.archive_check.specs.Layout.{up, kind_size, size_of, align_of}
+use Rattle.std.proofs.lemmas.List.Elements.{All-contains, Contains-append_left, Contains-append_right, Contains-push}
+use Rattle.archive_check.specs.Shape.{Key, leaf_key, str_key, Shape, sorted_map, str, Pointee, one, run, text, key_shape, entry_of}
+use Rattle.archive_check.specs.Layout.{up, size_of, align_of}
 use Rattle.archive_check.specs.Value.{Pointer, Value, hole, pointers}
 use Rattle.archive_check.specs.Reads.{Schema, LaidOut, bytes_at, u32_at, before_end, decoded_length, IsOutOfLine, map_at, string_at, Reads, reads_map, reads_inline, reads_out_of_line}
 use Rattle.archive_check.specs.Readable.{position, target_from}
 use Rattle.archive_check.specs.Keys.{order_of, Ordered, in_any_order, in_key_order}
-use Rattle.archive_check.specs.Tour.{Region, region_at, region_of, root_region, pointee_size, Rising, Contents, contents_one, contents_run, contents_text, Leads, Seen, Tour, tour_end, tour_unique, tour_new, tour_again, Accepted}
-use Rattle.archive_check.specs.Within.{Within, whole, PartOf, whole_region, in_one, in_run, in_string}
+use Rattle.archive_check.specs.Tour.{Region, region_at, region_of, root_region, pointee_size, Contents, contents_one, contents_run, Seen, Tour, tour_end, tour_unique, tour_new, tour_again, Accepted}
+use Rattle.archive_check.specs.Within.{Within, PartOf, whole_region, in_one, in_run, in_string}
 use Rattle.archive_check.specs.Leaves.{Leaf, leaf_begin, leaf_size, Beside, IsBesideKey, AreBesideKeys, IsBesideKeysOf, IsFreeOn, IsFree}
 use Rattle.archive_check.specs.ComesTo.{ComesTo, to_root, to_part, to_element, to_text, to_target, to_value}
-use Rattle.archive_check.proofs.Elements.{contains_first, contains_later, contains_cases}
+use Rattle.archive_check.proofs.Elements.{contains_first, contains_later}
 use Rattle.archive_check.proofs.Tours.ReadingUnique.{contents_one_value, pos_one}
-use Rattle.archive_check.proofs.Tours.JoinedTours.{rising_front, rising_back, rising_le}
+use Rattle.archive_check.proofs.Tours.JoinedTours.{rising_front, rising_back}
 use Rattle.archive_check.proofs.Tours.PartsInside.{within_inside, up_le, positive}
 use Rattle.archive_check.proofs.Tours.RegionsApart.{before_end_le, bytes_few}
 use Rattle.archive_check.proofs.Meanings.ReachedParts.{part_of_reads, part_within, part_element}
-use Rattle.archive_check.proofs.Maps.Entries.{value_at, key_first}
+use Rattle.archive_check.proofs.Maps.Entries.{value_at}
 use Rattle.archive_check.proofs.Maps.FreeRegions.{marks, first_mark, later_marks, AllMarked, none_marked, EntryMarked, entries_marked, Free, free_of, keys_of, Parted, parted_none, region_parted, tour_parted}
 use Rattle.archive_check.proofs.Maps.FreeClosed.{IsText, Any, marks_texts, marked_none, text_leads, LeadsFree, LeadsKey, free_regions, key_regions, accepted_closed}
 
@@ -245,9 +245,9 @@ module _ (s : Schema) (laid : LaidOut s) (bytes : List ℕ) where
           plain : (Y : Pointee) → IsBesideKeysOf s bytes t p.length None Y x
           plain Y = tt
       free_by false p t own rest key value later all = (
-          all (region_of s p t, order_of p) (Contains-append_right own ((region_of s p t, order_of p) ∷ rest) (region_of s p t, order_of p) (contains_first rest (region_of s p t, order_of p))),
-          value (λ g m. all g (Contains-append_left own ((region_of s p t, order_of p) ∷ rest) g m)),
-          later (λ g m. all g (Contains-append_right own ((region_of s p t, order_of p) ∷ rest) g (contains_later (region_of s p t, order_of p) rest g m))),
+        all (region_of s p t, order_of p) (Contains-append_right own ((region_of s p t, order_of p) ∷ rest) (region_of s p t, order_of p) (contains_first rest (region_of s p t, order_of p))),
+        value (λ g m. all g (Contains-append_left own ((region_of s p t, order_of p) ∷ rest) g m)),
+        later (λ g m. all g (Contains-append_right own ((region_of s p t, order_of p) ∷ rest) g (contains_later (region_of s p t, order_of p) rest g m))),
       )
 
       tour_free : {pending : List ℕ} {seen last : Seen} {O : List Pointer} {C : List Region} (M : List Bool) (i : Tour s bytes pending seen O C last) → AllMarked IsText Any M O

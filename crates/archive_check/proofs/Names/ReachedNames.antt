@@ -1,12 +1,12 @@
 -- Whether a buffer is accepted is told by the definitions of the names that the expression reaches, and by no other ones.
 use Rattle.std.proofs.Common.{◌≡◌, ◌≢◌, ◌↔◌, ℕ, zero, suc, refl, sym, ap, ◌∙◌, subst, ◌+◌, ◌*◌, ◌%◌, ◌^◌, ◌<◌, ◌≤◌, pos, List, Option, Some, None}
-use Rattle.archive_check.specs.Shape.{Name, Shape, Key, leaf_key, str_key, key_shape, entry_of, Pointee, one, run, text, Parts, part, Variants, variant, no_variant, variant_at, definition, vec, sorted_map}
+use Rattle.archive_check.specs.Shape.{Name, Shape, Key, key_shape, entry_of, Pointee, one, run, text, Parts, part, Variants, variant, no_variant, variant_at, definition, vec, sorted_map}
 use Rattle.archive_check.specs.Layout.{up, size_of, align_of}
 use Rattle.archive_check.specs.Value.{Pointer}
 use Rattle.archive_check.specs.Reads.{Schema}
 use Rattle.archive_check.specs.Tour.{Seen, pointee_size, pointee_align}
 use Rattle.archive_check.specs.Keys.{order_of, ComesBehind, Ascend}
-use Rattle.archive_check.proofs.Maps.Entries.{entry_mentions, value_at}
+use Rattle.archive_check.proofs.Maps.Entries.{entry_mentions}
 use Rattle.archive_check.specs.Depth.{Allows, inside, AcceptedWithin}
 use Rattle.archive_check.specs.Defined.{holds_name, Mentions, mentions_held, mentions_array, mentions_parts, mentions_choice, mentions_boxed, mentions_vec, mentions_map, mentions_shared, mentions_weak, PointeeMentions, mentions_one, mentions_run, PartsMention, mentions_first, mentions_later, VariantsMention, mentions_variant, mentions_other, Reaches, reaches, reaches_through}
 use Rattle.archive_check.specs.Walk.{Walk, walk_leaf, walk_parts, walk_choice, walk_array, walk_boxed, walk_vec, walk_map, walk_inline, walk_out_of_line, walk_shared, walk_null, walk_weak, walk_named, WalkParts, walk_no_part, walk_part, WalkRun, walk_none, walk_element, Follow, follow_unique, follow_new, follow_again, Enter, enter, WalkContents, walk_one, walk_run, walk_entries, walk_text, RootWalk}
@@ -164,7 +164,9 @@ module _ (s s' : Schema) (X : Shape) where
         → ComesBehind K bytes before p
         → TripsEntries s' bytes pending depth stop (Some p) (p + size_of s.layouts (entry_of K V)) n K V mid known e
         → TripsEntries s' bytes pending depth stop before p (suc n) K V start seen e
-    later_entry_trips before p n K V k w h t = let z = same_size (entry_of K V) k in trips_later_entry w h (subst (λ m. TripsEntries s' bytes _ _ _ (Some p) (p + m) n K V _ _ _) z t)
+    later_entry_trips {pending = pending} {depth = depth} {stop = stop} {mid = mid} {known = known} {e = e} before p n K V k w h t =
+        let z = same_size (entry_of K V) k in
+        trips_later_entry w h (subst (λ m. TripsEntries s' bytes pending depth stop (Some p) (p + m) n K V mid known e) z t)
 
     large_trips : {pending : List ℕ} {depth : Option ℕ} {stop start : ℕ} {seen : Seen} (p : Pointer) → KnownPointee p.pointee → 2 ^ 64 ≤ pointee_size s p.pointee p.length → TripsEnter s' bytes pending depth stop p start seen too_large
     large_trips p k h = trips_size (rw (same_pointee_size p.pointee p.length k) at h)

@@ -1,5 +1,5 @@
 -- What the calls on a range say of a region that is entered, or isn't.
-use Rattle.std.proofs.Common.{◌≡◌, ℕ, ℤ, pos, negsuc, refl, sym, ap, ◌∙◌, ◌+◌, ◌%◌, ◌≤◌, nat_le, nat_eq, Bool, true, false, arith, Some, Ok, Err}
+use Rattle.std.proofs.Common.{◌≡◌, ℕ, ℤ, pos, negsuc, refl, ap, ◌∙◌, ◌+◌, ◌%◌, nat_le, nat_eq, Bool, true, false, arith, Some, Ok, Err}
 use Rattle.std.proofs.lemmas.Bool.Decides.{nat_tests}
 use Rattle.archive_check.specs.declared.format.error.Error.{Error}
 use Rattle.archive_check.specs.declared.format.error.Error.TheVariants.{ExceededMaximumSubtreeDepth}

@@ -2,15 +2,14 @@
 use Rattle.std.specs.Prelude.{◌≡◌, ℕ, ℤ, ◌+◌, max, Bool, true, ◌&&◌, ◌||◌, Option, Some, None, IsTrue, nat_lt, List}
 use Rattle.std.proofs.Common.{refl, sym, ap, ◌∙◌}
 use Rattle.std.proofs.lemmas.Bool.{and_parts}
-use Rattle.archive_check.specs.Shape.{Name, Kind, Key, leaf_key, str_key, Shape, leaf, str, parts, sorted_map, Pointee, run, Parts, no_part, part, Table, key_shape, entry_of}
+use Rattle.archive_check.specs.Shape.{Name, Key, leaf_key, str_key, Shape, parts, sorted_map, run, Parts, Table, key_shape, entry_of}
 use Rattle.archive_check.specs.Layout.{Layout, up}
 use Rattle.archive_check.specs.Value.{Pointer}
-use Rattle.archive_check.specs.Defined.{Holds, holds_parts, PartsHold, holds_first, holds_later, Mentions, mentions_held, mentions_map, mentions_parts, mentions_first, mentions_later, PartsMention}
+use Rattle.archive_check.specs.Defined.{Holds, holds_parts, holds_first, holds_later, Mentions, mentions_held, mentions_map, mentions_parts, mentions_first, mentions_later}
 use Rattle.archive_check.specs.Definitions.{Definitions, no_definition, both, listed, NoOthers}
-use Rattle.archive_check.specs.MissingNames.{or_else, missing, parts_missing}
+use Rattle.archive_check.specs.MissingNames.{or_else, missing}
 use Rattle.archive_check.specs.Members.NoOthers.{around_reached}
 use Rattle.archive_check.specs.SelfCheck.Ways.{Way, enter_way}
-use Rattle.archive_check.specs.SelfCheck.Orders.{IsOrder}
 use Rattle.archive_check.specs.SelfCheck.Laws.{IsCheckOf, own_check}
 use Rattle.archive_check.specs.SelfCheck.Lone.{AreOrdered, tuple_direct, none_listed}
 use Rattle.archive_check.specs.SelfCheck.Owners.{owned_order}

@@ -1,5 +1,5 @@
 -- What the lemmas of a check that follows a type alone call ways, and where parts end.
-use Rattle.std.specs.Prelude.{◌≡◌, ℕ, ◌+◌, ◌≤◌, List, Option}
+use Rattle.std.specs.Prelude.{ℕ, ◌+◌, ◌≤◌, List, Option}
 use Rattle.std.proofs.Common.{inl, inr, arith}
 use Rattle.archive_check.specs.Shape.{Key, Shape, Pointee, entry_of}
 use Rattle.archive_check.specs.Value.{Pointer}

@@ -130,8 +130,9 @@ fn leaves_ascend(kind: Kind, bytes: &[u8], first: usize, second: usize) -> bool
         Kind::Unit => false,
         Kind::Bool => read_u8(bytes, first) < read_u8(bytes, second),
         Kind::Char => read_u32(bytes, first) < read_u32(bytes, second),
-        Kind::Number(integer) | Kind::NonZero(integer) | Kind::RawRel(integer) =>
-            numbers_ascend(integer, bytes, first, second),
+        Kind::Number(integer) | Kind::NonZero(integer) | Kind::RawRel(integer) => numbers_ascend(
+            integer, bytes, first, second,
+        ),
     }
 }
 

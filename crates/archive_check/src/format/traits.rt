@@ -18,17 +18,17 @@ use std::alloc::{Allocator, Global};
 
 mod arrays;
 mod four_parts;
-mod map_keys;
 mod layouts;
 mod leaves;
+mod map_keys;
 mod parts;
 mod phantom;
 mod pointees;
 mod variants;
 
 pub use four_parts::FourParts;
-pub use map_keys::MapKey;
 pub use layouts::{LayoutRaw, layout_of_run};
+pub use map_keys::MapKey;
 pub use parts::{PortableParts, Record, define_record, expr_of_record, size_of_record};
 pub use pointees::PortablePointee;
 pub use variants::{

@@ -1,6 +1,5 @@
-use Rattle.std.proofs.Common.{◌≡◌, ◌+◌, ◌-◌, ◌*◌, ◌≤◌, ◌&&◌, ℕ, suc, min, true, refl, ◌∙◌, arith, length, None, Some}
+use Rattle.std.proofs.Common.{◌≡◌, ◌+◌, ◌-◌, ◌*◌, ◌&&◌, ℕ, suc, min, true, refl, ◌∙◌, arith, length, None}
 use Rattle.std.proofs.lemmas.Bool.{and_parts}
-use Rattle.archive_check.specs.Layout.{Layout, up}
 use Rattle.archive_check.specs.SelfCheck.Regions.{entries_way, align_some}
 use Rattle.archive_check.specs.SelfCheck.Maps.{entry_definitions}
 use Rattle.archive_check.proofs.SelfCheck.Spent.{next_spends}
@@ -51,13 +50,12 @@ loop-index-preserved g c =
     let laid = rw g.met.K.MapKey.is_key at g.met.K.Portable.has_layout in
     let one = room g.K.ArchivePointee.definitions g.V.ArchivePointee.definitions g.K.MapKey.key g.K.Portable.layout g.met.K.MapKey.key_laid laid g.V.Portable.shape g.V.Portable.layout g.met.V.Portable.has_layout c.size.result c.args.size c.size.ensures c.requires.sized (align_some _ g.met.V.Portable.is_align) in
     let same = size_same g.K.ArchivePointee.definitions g.V.ArchivePointee.definitions g.K.MapKey.key g.K.Portable.layout g.met.K.MapKey.key_laid laid g.V.Portable.shape g.V.Portable.layout g.met.V.Portable.has_layout c.size.result c.args.size c.size.ensures c.requires.sized in
-    let there : c.args.at + (c.loop-index.index + 1) * c.args.size ≡ c.args.at + c.loop-index.index * c.args.size + c.args.size = omega arith in
-    (
+    let there : c.args.at + (c.loop-index.index + 1) * c.args.size ≡ c.args.at + c.loop-index.index * c.args.size + c.args.size = omega arith in (
       c.in_ok-check_parts.ensures.positions ∙ c.in_ok-check_key.ensures.positions ∙ c.loop-index.invariant.0,
       rw there (next_entry g.K.ArchivePointee.definitions g.V.ArchivePointee.definitions g.K.MapKey.key g.V.Portable.shape c.args.bytes.now (entries_way c.args.bytes.now None c.args.at c.args.count g.K.MapKey.key g.V.Portable.shape)
-      c.loop-index.before (c.args.at + c.loop-index.index * c.args.size) (c.args.count - c.loop-index.index) n count (g.C.Context.state c.args.context.now) (g.C.Context.state c.loop-index.context) c.loop-index.invariant.1
-      c.size.result c.args.size (sizes g.K.ArchivePointee.definitions g.V.ArchivePointee.definitions g.K.MapKey.key g.K.Portable.layout g.met.K.MapKey.key_laid laid g.V.Portable.shape g.V.Portable.layout g.met.V.Portable.has_layout c.size.result c.args.size c.size.ensures c.requires.sized)
-      (g.C.Context.state c.check_key.new.context) (rw g.met.K.MapKey.is_key at c.in_ok-check_key.ensures.through) c.in_ok-check_key.ensures.behind (g.C.Context.state c.check_parts.new.context) c.in_ok-check_parts.ensures.through),
+          c.loop-index.before (c.args.at + c.loop-index.index * c.args.size) (c.args.count - c.loop-index.index) n count (g.C.Context.state c.args.context.now) (g.C.Context.state c.loop-index.context) c.loop-index.invariant.1
+          c.size.result c.args.size (sizes g.K.ArchivePointee.definitions g.V.ArchivePointee.definitions g.K.MapKey.key g.K.Portable.layout g.met.K.MapKey.key_laid laid g.V.Portable.shape g.V.Portable.layout g.met.V.Portable.has_layout c.size.result c.args.size c.size.ensures c.requires.sized)
+          (g.C.Context.state c.check_key.new.context) (rw g.met.K.MapKey.is_key at c.in_ok-check_key.ensures.through) c.in_ok-check_key.ensures.behind (g.C.Context.state c.check_parts.new.context) c.in_ok-check_parts.ensures.through),
       omega (arith, one.0, one.1, next_room c.args.size c.args.count c.loop-index.index c.args.at (length c.args.bytes.now) c.loop-index-test.true c.requires.fits),
       omega (arith, c.in_ok-check_parts.ensures.spends, c.in_ok-check_key.ensures.spends, c.loop-index.invariant.3, next_spends c.args.size c.args.count c.loop-index.index c.loop-index-test.true, one.0, one.1, same),
     )

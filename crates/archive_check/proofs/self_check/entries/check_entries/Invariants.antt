@@ -9,6 +9,6 @@ abbrev pub invariant-loop-index : goal.invariant-loop-index
 invariant-loop-index g l =
     (g.C.Context.positions l.context ≡ g.C.Context.positions l.fn.context)
     × Toward (entry_definitions g.K.ArchivePointee.definitions g.V.ArchivePointee.definitions) (entries_way l.bytes None l.at l.count g.K.MapKey.key g.V.Portable.shape)
-        (entries_way l.bytes l.before (l.at + l.index * l.size) (l.count - l.index) g.K.MapKey.key g.V.Portable.shape) (g.C.Context.state l.fn.context) (g.C.Context.state l.context)
+    (entries_way l.bytes l.before (l.at + l.index * l.size) (l.count - l.index) g.K.MapKey.key g.V.Portable.shape) (g.C.Context.state l.fn.context) (g.C.Context.state l.context)
     × IfSome l.before (λ p. p + g.K.Portable.layout.size ≤ length l.bytes)
     × (worth (g.C.Context.state l.context) + (l.count - l.index) * l.size ≤ worth (g.C.Context.state l.fn.context) + l.count * l.size)

@@ -1,8 +1,7 @@
-use Rattle.std.proofs.Common.{◌≡◌, ◌+◌, ◌≤◌, suc, sym, ap, ◌∙◌, length, IfSome}
+use Rattle.std.proofs.Common.{◌≡◌, suc, sym, ap, ◌∙◌}
 use Rattle.archive_check.specs.Expressions.{key_of}
 use Rattle.archive_check.specs.declared.format.error.Error.TheVariants.{UnsortedKeys}
 use Rattle.archive_check.specs.Layout.{key_size}
-use Rattle.archive_check.specs.Keys.{ComesBehind}
 use Rattle.archive_check.specs.SelfCheck.Ways.{Halts}
 use Rattle.archive_check.specs.SelfCheck.Regions.{entries_way}
 use Rattle.archive_check.proofs.SelfCheck.Outcomes.{if_none}

@@ -1,13 +1,10 @@
-use Rattle.std.proofs.Common.{◌≡◌, ◌+◌, ◌*◌, ◌&&◌, ℕ, min, nat_lt, arith, ap, sym, ◌∙◌, Some, None, IsTrue}
+use Rattle.std.proofs.Common.{◌*◌, ◌&&◌, nat_lt, arith, ap, sym, ◌∙◌, Some, None}
 use Rattle.std.proofs.lemmas.Bool.{and_parts}
 use Rattle.std.proofs.lemmas.Int.{to_z-of_z}
 use mir.Syntax.{w128}
 use Rattle.archive_check.specs.Shape.{run, entry_of}
-use Rattle.archive_check.specs.Layout.{Layout}
-use Rattle.archive_check.specs.Words.BoundedSizes.{fits}
-use Rattle.archive_check.specs.SelfCheck.Regions.{contents_way, entries_way, align_some}
-use Rattle.archive_check.specs.SelfCheck.Lone.{tuple_direct, small_fits}
-use Rattle.archive_check.specs.SelfCheck.Maps.{entry_definitions, entry_size, entry_align, entry_direct, entry_lone, to_entries}
+use Rattle.archive_check.specs.SelfCheck.Regions.{contents_way, entries_way}
+use Rattle.archive_check.specs.SelfCheck.Maps.{entry_definitions, entry_size, entry_direct, entry_lone, to_entries}
 use Rattle.archive_check.proofs.SelfCheck.Outcomes.{some_map, none_map}
 use Rattle.archive_check.proofs.SelfCheck.Ways.{goes_from, halts_from}
 use Rattle.archive_check.proofs.SelfCheck.Regions.{enters_not, region_goes, region_left, region_halts}
