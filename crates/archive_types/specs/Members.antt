@@ -16,3 +16,4 @@ pub mod SharedLaws
 pub mod SharedSources
 pub mod Arrays
 pub mod Maps
+pub mod OrderedPairs
