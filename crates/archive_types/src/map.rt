@@ -21,8 +21,15 @@ pub use sorted_keys::SortedKey;
 use std::alloc::Global;
 use std::marker::PhantomData;
 
-/// An archived sorted map: eight bytes at a multiple of four, an offset to the entries and their number. An entry is a key and its value; the keys ascend
-/// strictly. Our own, in place of rkyv 0.8.18's maps, whose format is another one.
+/// An archived sorted map: eight bytes at a multiple of four, an offset to the entries and their
+/// number. An entry is a key and its value; the keys ascend strictly.
+///
+/// ```
+/// let view = access::<ArchivedSortedMap<ArchivedString, ArchivedU32>>(alloc, bytes.as_slice())?;
+/// let count = view.get(&name);          // name: String
+/// ```
+///
+/// Our own: rkyv 0.8.18's maps have another format.
 #[derive(Debug)]
 pub struct ArchivedSortedMap<K, V> {
     of: PhantomData<(K, V)>,
@@ -55,7 +62,8 @@ impl<K: MapKey, V: Portable> Portable for ArchivedSortedMap<K, V> {
 
     ghost has_layout = { record { solved = λ s k. refl } };
 
-    ghost no_others = { entries_reached K.definitions K.shape V.definitions V.shape K.key K.is_key K.no_others V.no_others };
+    ghost no_others = { entries_reached K.definitions K.shape V.definitions V.shape K.key K.is_key
+        K.no_others V.no_others };
 
     ghost checks = { entries_checked K.definitions K.shape V.definitions V.shape K.key K.is_key
         K.layout.size K.Check.definitions K.Check.shape K.Check.span K.Check.nameless K.Check.direct

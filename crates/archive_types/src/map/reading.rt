@@ -44,9 +44,12 @@ fn read_map<
     D: Entries,
 >(alloc: Global, part: RawView<'_>, deserializer: &mut D) -> Result<BTreeMap<A, B>, Error>
     requires { IsPartOf ⟦<ArchivedSortedMap<K, V> as ArchivePointee>⟧ part }
-    ensures read { IfOk result (λ map. ReadsPart ⟦<ArchivedSortedMap<K, V> as ArchivePointee>⟧ part D.Entries deserializer
-        (list (each_meaning (pair_meaning A.meaning B.meaning) map.entries)) (each_keys (pair_keys A.keys B.keys) map.entries)) }
-    ensures refused { IfErr result (RefusesPart ⟦<ArchivedSortedMap<K, V> as ArchivePointee>⟧ part D.Entries deserializer) }
+    ensures read { IfOk result (λ m.
+        ReadsPart ⟦<ArchivedSortedMap<K, V> as ArchivePointee>⟧ part D.Entries deserializer
+        (list (each_meaning (pair_meaning A.meaning B.meaning) m.entries))
+        (each_keys (pair_keys A.keys B.keys) m.entries)) }
+    ensures refused { IfErr result
+        (RefusesPart ⟦<ArchivedSortedMap<K, V> as ArchivePointee>⟧ part D.Entries deserializer) }
 {
     let view: Ref<'_, ArchivedSortedMap<K, V>> = Ref::at(part);
     let entries = view.entries().part();
