@@ -7,9 +7,12 @@ ghost use Rattle.archive_check.specs.SelfCheck.Maps.{entry_size, entry_definitio
 ghost use Rattle.archive_types.specs.Members.Maps.{entries_checked, entries_reached};
 
 mod iter;
+mod owned;
 mod reading;
 mod search;
+mod slices;
 mod sorted_keys;
+mod sources;
 mod views;
 
 use crate::traits::{ArchivePointee, MapKey, Portable, PortableParts};
@@ -17,7 +20,9 @@ use archive_check::format::error::Error;
 use archive_check::format::expr::{Defs, Expr};
 use archive_check::self_check::MapCheck;
 pub use iter::Iter;
+pub use slices::SortedEntries;
 pub use sorted_keys::SortedKey;
+pub use sources::SortedMapResolver;
 use std::alloc::Global;
 use std::marker::PhantomData;
 

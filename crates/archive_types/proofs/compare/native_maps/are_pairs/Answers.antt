@@ -13,8 +13,8 @@ returns-then-len g c =
     let N = pair_native k v g.K.CompareNative.native_order g.V.CompareNative.native_order in
     let told = c.entries-entries.ensures in
     let other = other_lengths N s.bytes.now s.pos (entry_size k v) s.len c.args.map.now.entries (λ e. (
-        let same : c.len.result ≡ c.len-2.result = c.len.ensures ∙ e ∙ sym c.len-2.ensures.len in
-        grind (arith, nat_tests, same, c.if-len.true))) in
+    let same : c.len.result ≡ c.len-2.result = c.len.ensures ∙ e ∙ sym c.len-2.ensures.len in
+    grind (arith, nat_tests, same, c.if-len.true))) in
     sym (rw (told.buffer, told.position, told.length) at other)
 
 pub returns-then-not-is_pair : goal.returns-then-not-is_pair
