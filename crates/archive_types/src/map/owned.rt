@@ -24,7 +24,9 @@ use crate::parts::{PartOf, SourceParts};
 use crate::place::Place;
 use crate::record::{resolve_record, serialize_record};
 use crate::ser::serialize_one;
-use crate::traits::{Archive, ArchiveUnsized, Keys, MapKey, Portable, Serialize, SerializeUnsized};
+use crate::traits::{
+    Archive, ArchiveUnsized, Keys, MapKey, Portable, Serialize, SerializeUnsized,
+};
 use crate::tuples::{Part0, Part1};
 use archive_check::format::error::Error;
 use archive_tuple::ArchivedTuple2;
@@ -109,9 +111,7 @@ fn entries_of<'a, M: Allocator + Drop, A: Ord, B>(
 {
     let mut entries = Vec::with_capacity(alloc, map.len())?;
     for (key, value) in map {
-        entries
-            .push(Entry { key, value })
-            .map_err(AllocError::from)?;
+        entries.push(Entry { key, value }).map_err(AllocError::from)?;
     }
     Ok(entries)
 }

@@ -69,10 +69,12 @@ pub(super) fn are_sorted<A: SortedKey, B: Archive>(entries: &[(A, B)]) -> bool
 // Writes what the entries of a map own, in order, and then all of them as one region. Their keys ascend, and a pointer can say how many there are.
 #[tactic(auto, using(crate::proofs::Planning::PlannedMaps::serialized_map, crate::proofs::Planning::PlannedMaps::map_refused, crate::proofs::Planning::PlannedMaps::far_map_refused))]
 #[inline(always)]
-pub(super) fn serialize_ordered<K: MapKey, V: Portable, T: Serialize<S>, S: Writer + ResolverAlloc>(
-    entries: &[T],
-    serializer: &mut S,
-) -> Result<SortedMapResolver, Error>
+pub(super) fn serialize_ordered<
+    K: MapKey,
+    V: Portable,
+    T: Serialize<S>,
+    S: Writer + ResolverAlloc,
+>(entries: &[T], serializer: &mut S) -> Result<SortedMapResolver, Error>
     requires few { length entries.now ≤ 4294967295 }
     requires ordered { keys_ascend (each_meaning T.meaning entries.now) ≡ true }
     requires pairs { T.Archived.shape ≡ entry_of K.key V.shape }
