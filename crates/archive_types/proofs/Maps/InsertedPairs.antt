@@ -35,7 +35,8 @@ module _ {A B : Type 0} (cmp : A → A → Ordering) (total : IsTotalOrder cmp) 
   one_more [] e k h last = (last, tt)
   one_more (x ∷ es) e k h last = (h.0, one_more es e k h.1 last)
 
-  inserted_behind : (es : List (A × B)) (k : A) (v : B) (xs : List (A × B)) → AllBelow es k → ascending_from cmp k xs ≡ true → inserted cmp (es ++ (k, v) ∷ []) xs ≡ es ++ (k, v) ∷ xs
+  inserted_behind : (es : List (A × B)) (k : A) (v : B) (xs : List (A × B)) → AllBelow es k
+      → ascending_from cmp k xs ≡ true → inserted cmp (es ++ (k, v) ∷ []) xs ≡ es ++ (k, v) ∷ xs
   inserted_behind es k v [] h a = refl
   inserted_behind es k v (x ∷ xs) h a =
       let parts = and_parts (is_lt (cmp k x.0)) (ascending_from cmp x.0 xs) a in

@@ -35,7 +35,8 @@ module _ {U : Type 0} (N : Standing → U → Ordering) where
 
   module _ (b : List ℕ) (p z : ℕ) where
     -- n elements and other values than n aren't level
-    pub other_lengths : (n : ℕ) (us : List U) → (n ≡ length us → ⊥) → is_eq (slice_cmp N (elements_from b p z 0 n) us) ≡ false
+    pub other_lengths : (n : ℕ) (us : List U) → (n ≡ length us → ⊥)
+        → is_eq (slice_cmp N (elements_from b p z 0 n) us) ≡ false
     other_lengths n us other = not_true _ (λ h. other (sym (count b p z 0 n) ∙ level_lengths (elements_from b p z 0 n) us h))
 
     -- whether what is left from the element i on, of n, is level with these
@@ -45,7 +46,8 @@ module _ {U : Type 0} (N : Standing → U → Ordering) where
     pub level_start : (n : ℕ) (us : List U) → is_eq (slice_cmp N (elements_from b p z 0 n) us) ≡ is_level 0 n us
     level_start n us = let all : n - 0 ≡ n = omega arith in rw all refl
 
-    pub level_next : (i n : ℕ) (u : U) (us : List U) → i < n → is_level i n (u ∷ us) ≡ is_eq (N (standing b (p + i * z) 0) u) && is_level (i + 1) n us
+    pub level_next : (i n : ℕ) (u : U) (us : List U) → i < n
+        → is_level i n (u ∷ us) ≡ is_eq (N (standing b (p + i * z) 0) u) && is_level (i + 1) n us
     level_next i n u us h =
         let some : n - i ≡ suc (n - (i + 1)) = omega arith in
         rw some (both_level (N (standing b (p + i * z) 0) u) (slice_cmp N (elements_from b p z (i + 1) (n - (i + 1))) us))
