@@ -53,12 +53,12 @@ module _ {A B : Type 0} (R : A → A → Ordering) (m : A → Value) (n : B → 
       let less : R x.0 y.0 ≡ Less = (sorted_head R x.0 (keys_of (y ∷ es)) h).0 in
       two_first x y es ∙ ap (λ r. is_lt r && pairs_ascend (y ∷ es)) less ∙ map_ascends (y ∷ es) (sorted_tail R x.0 (keys_of (y ∷ es)) h)
 
--- what stands for pairs
-module _ {E P : Type 0} (pair : E → P) (k : P → List Naming) (m : P → Value) where
-  pub meaning_of_pairs : (es : List E) → each_meaning (λ e. m (pair e)) es ≡ each_meaning m (map pair es)
-  meaning_of_pairs [] = refl
-  meaning_of_pairs (e ∷ es) = ap (λ vs. value (m (pair e)) vs) (meaning_of_pairs es)
+-- what stands for pairs means what they do, and holds their keys
 
-  pub keys_of_pairs : (es : List E) → each_keys (λ e. k (pair e)) es ≡ each_keys k (map pair es)
-  keys_of_pairs [] = refl
-  keys_of_pairs (e ∷ es) = ap (λ ks. k (pair e) ++ ks) (keys_of_pairs es)
+pub meaning_of_pairs : {E P : Type 0} (pair : E → P) (m : P → Value) (es : List E) → each_meaning (λ e. m (pair e)) es ≡ each_meaning m (map pair es)
+meaning_of_pairs pair m [] = refl
+meaning_of_pairs pair m (e ∷ es) = ap (λ vs. value (m (pair e)) vs) (meaning_of_pairs pair m es)
+
+pub keys_of_pairs : {E P : Type 0} (pair : E → P) (k : P → List Naming) (es : List E) → each_keys (λ e. k (pair e)) es ≡ each_keys k (map pair es)
+keys_of_pairs pair k [] = refl
+keys_of_pairs pair k (e ∷ es) = ap (λ ks. k (pair e) ++ ks) (keys_of_pairs pair k es)
