@@ -1,7 +1,7 @@
 //! What values take, as docs/FORMAT.md says it. Sizes are whole numbers: one that is past the greatest here is that greatest, which no buffer has.
 
 use crate::form::Shapeless;
-use archive_check::format::expr::{Def, Expr, Key, Kind, Pointee};
+use archive_check::format::expr::{Def, Expr, Kind, Pointee};
 use std::alloc::Global;
 
 /// A size and an alignment, in bytes.
@@ -43,25 +43,6 @@ pub fn layout_of_leaf(kind: Kind) -> Layout {
         size,
         align: size.max(1),
     }
-}
-
-/// What a key takes.
-pub fn layout_of_key(key: Key) -> Layout {
-    match key {
-        Key::Leaf(kind) => layout_of_leaf(kind),
-        Key::Str => Layout { size: 8, align: 4 },
-    }
-}
-
-/// What an entry takes, a key and then its value; and where the value begins in it.
-pub fn layout_of_entry(key: Key, value: Layout) -> (Layout, i128) {
-    let first = layout_of_key(key);
-    let offset = up(first.size, value.align);
-    let entry = Layout {
-        size: offset.saturating_add(value.size),
-        align: first.align.max(value.align),
-    };
-    (rounded(entry), offset)
 }
 
 // What a pointer takes: its offset, and a length where it leads to elements or to a text.
@@ -116,7 +97,7 @@ fn solved(expr: &Expr, known: &[KnownLayout]) -> Option<Layout> {
         Expr::Box(pointee) | Expr::Shared(_, pointee) | Expr::Weak(_, pointee) => {
             Some(layout_of_pointer(pointee))
         }
-        Expr::Vec(_) | Expr::Map(_, _) | Expr::Str => Some(Layout { size: 8, align: 4 }),
+        Expr::Vec(_) | Expr::Str => Some(Layout { size: 8, align: 4 }),
         Expr::Named(name) => found(known, name),
     }
 }
@@ -167,9 +148,7 @@ fn is_defined(expr: &Expr, definitions: &[Def]) -> bool {
         Expr::Leaf(_) | Expr::Str => true,
         Expr::Record(parts) => are_defined(parts, definitions),
         Expr::Choice(_, variants) => are_variants_defined(variants, definitions),
-        Expr::Array(_, element) | Expr::Vec(element) | Expr::Map(_, element) => {
-            is_defined(element, definitions)
-        }
+        Expr::Array(_, element) | Expr::Vec(element) => is_defined(element, definitions),
         Expr::Box(pointee) | Expr::Shared(_, pointee) | Expr::Weak(_, pointee) => {
             is_pointee_defined(pointee, definitions)
         }

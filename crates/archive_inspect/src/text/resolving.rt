@@ -34,9 +34,7 @@ fn mention(expr: &Expr, declared: &[Declared], found: &mut Vec<usize>) -> Result
         }
         Expr::Record(parts) => mention_parts(parts, declared, found),
         Expr::Choice(_, variants) => mention_variants(variants, declared, found),
-        Expr::Array(_, element) | Expr::Vec(element) | Expr::Map(_, element) => {
-            mention(element, declared, found)
-        }
+        Expr::Array(_, element) | Expr::Vec(element) => mention(element, declared, found),
         Expr::Box(pointee) | Expr::Shared(_, pointee) | Expr::Weak(_, pointee) => {
             mention_pointee(pointee, declared, found)
         }
@@ -173,7 +171,6 @@ impl Writer<'_> {
                 Ok(Expr::Array(*count, self.write_boxed(element, levels)?))
             }
             Expr::Vec(element) => Ok(Expr::Vec(self.write_boxed(element, levels)?)),
-            Expr::Map(key, value) => Ok(Expr::Map(*key, self.write_boxed(value, levels)?)),
             Expr::Box(pointee) => Ok(Expr::Box(self.write_pointee(pointee, levels)?)),
             Expr::Shared(flavor, pointee) => {
                 Ok(Expr::Shared(*flavor, self.write_pointee(pointee, levels)?))

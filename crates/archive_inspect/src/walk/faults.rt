@@ -55,8 +55,6 @@ pub enum Reason {
     OtherLength(i128),
     /// One is being checked still.
     Cycle(i128),
-    /// A key of a sorted map is no greater than the one before it.
-    Unsorted,
 }
 
 // A number that a refusal tells: those of ranges and alignments fit.
@@ -88,7 +86,6 @@ impl Reason {
             Reason::OtherType(_) => Error::TypeMismatch,
             Reason::OtherLength(_) => Error::MetadataMismatch,
             Reason::Cycle(_) => Error::CyclicValidate,
-            Reason::Unsorted => Error::UnsortedKeys,
         }
     }
 }
@@ -158,7 +155,6 @@ impl fmt::Display for Reason {
                 write!(f, "what lies at {position} was met with another length")
             }
             Reason::Cycle(position) => write!(f, "what lies at {position} contains itself"),
-            Reason::Unsorted => f.write_str("the key is no greater than the one before it"),
         }
     }
 }

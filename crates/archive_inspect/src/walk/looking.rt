@@ -101,16 +101,11 @@ impl<'a> Walker<'a> {
                 self.look_at_shared(pointer, *flavor, pointee)
             }
             Expr::Vec(element) => self.look_at_vector(place, element),
-            Expr::Map(key, value) => self.look_at_map(place, *key, value),
             Expr::Named(_) => Err(nowhere(place)),
         }
     }
 
-    pub(super) fn look_at_leaf(
-        &mut self,
-        place: Place<'a>,
-        kind: Kind,
-    ) -> Result<Option<Event<'a>>, Stop> {
+    fn look_at_leaf(&mut self, place: Place<'a>, kind: Kind) -> Result<Option<Event<'a>>, Stop> {
         let Some(bytes) = leaf_bytes(self.bytes, kind, place.at) else {
             return Err(nowhere(place));
         };
@@ -200,7 +195,7 @@ impl<'a> Walker<'a> {
     }
 
     // An element or a pointee, at the same position.
-    pub(super) fn within(&self, place: Place<'a>, expr: &'a Expr) -> Place<'a> {
+    fn within(&self, place: Place<'a>, expr: &'a Expr) -> Place<'a> {
         let labels = match place.labels {
             Some(labels) => labels.inner(),
             None => None,
@@ -212,7 +207,7 @@ impl<'a> Walker<'a> {
         }
     }
 
-    pub(super) fn look_at_string(&mut self, place: Place<'a>) -> Result<Option<Event<'a>>, Stop> {
+    fn look_at_string(&mut self, place: Place<'a>) -> Result<Option<Event<'a>>, Stop> {
         let bytes = self.bytes;
         let Some(string) = bytes_at(bytes, place.at, 8) else {
             return Err(nowhere(place));
@@ -257,8 +252,8 @@ impl<'a> Walker<'a> {
         }
     }
 
-    // Where the elements or entries lie that a pointer leads to, and how many there are.
-    pub(super) fn run_at(&self, place: Place<'a>) -> Result<(i128, usize), Stop> {
+    // Where the elements lie that a pointer leads to, and how many there are.
+    fn run_at(&self, place: Place<'a>) -> Result<(i128, usize), Stop> {
         let length = number_at(self.bytes, place.at.saturating_add(4));
         match (target_at(self.bytes, place.at, place.at), length) {
             (Some(target), Some(length)) => Ok((target, length as usize)),
