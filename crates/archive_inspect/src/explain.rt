@@ -1,5 +1,9 @@
 //! Why bytes are no archive of a form, and where.
 
+ghost use Rattle.std.specs.Prelude.{◌≡◌, ◌≢◌, IfOk};
+ghost use Rattle.archive_check.specs.declared.format.error.Error.TheVariants.{OutOfMemory};
+ghost use Rattle.archive_inspect.specs.Explained.{ExplainsWhole};
+
 use crate::form::Form;
 use crate::route::{Route, route_of};
 use crate::walk::Walker;
@@ -11,36 +15,72 @@ use std::fmt;
 /// Why bytes are no archive of a form, and where: the first test of the check that is false.
 #[derive(Drop)]
 pub struct Explanation {
-    /// The way to what was looked at.
+    /// The refusal, as the check tells it.
+    pub refusal: Error,
+    /// Where the fault is: none if the search for it ended elsewhere than the check.
+    pub place: Option<FaultPlace>,
+}
+
+/// A fault, and the way to it.
+#[derive(Drop)]
+pub struct FaultPlace {
+    /// The way from the root to what was looked at.
     pub way: Route,
-    /// The fault, with its position.
+    /// What was found, with its position.
     pub fault: FirstFault,
 }
 
-impl Explanation {
-    /// The refusal, as the check tells it.
-    pub fn refusal(&self) -> Error {
-        self.fault.reason.refusal()
-    }
-}
-
-/// One line: `at .events[17].Text, byte 412: the text isn't UTF-8 (byte 3 of 11 is 0xc0)`. Bytes are counted from 0.
+/// One line: `at .events[17].Text, byte 412: the text isn't UTF-8 (byte 3 of 11 is 0xc0)`. Bytes are
+/// counted from 0.
 impl fmt::Display for Explanation {
     fn fmt<W: fmt::Write>(&self, f: &mut fmt::Formatter<W>) -> fmt::Result {
-        let way = &self.way;
-        let position = self.fault.position;
-        let reason = self.fault.reason;
+        let Some(place) = &self.place else {
+            let refusal = self.refusal;
+            return write!(f, "{refusal}");
+        };
+        let way = &place.way;
+        let position = place.fault.position;
+        let reason = place.fault.reason;
         write!(f, "at {way}, byte {position}: {reason}")
     }
 }
 
-/// Why the bytes are no archive of the form whose root lies at their end: none if they are one. Takes memory for each level, and for each
-/// shared position. Fails if memory from `alloc` is refused.
-pub fn explain(
+/// Why the bytes are no archive of the form whose root lies at their end: none if they are one. The
+/// refusal is that of the check. Takes memory for each level, and for each shared position. Fails if
+/// memory from `alloc` is refused.
+pub fn explain(alloc: Global, form: &Form, bytes: &[u8]) -> Result<Option<Explanation>, AllocError>
+    ensures { IfOk result (ExplainsWhole form.now bytes.now) }
+{
+    match form.schema().check_archive(alloc, bytes) {
+        Ok(()) => Ok(None),
+        Err(refusal) => Ok(Some(explained(alloc, form, bytes, refusal)?)),
+    }
+}
+
+// A refusal with its place. Fails if memory is refused, as the refusal may say.
+fn explained(
     alloc: Global,
     form: &Form,
     bytes: &[u8],
-) -> Result<Option<Explanation>, AllocError> {
+    refusal: Error,
+) -> Result<Explanation, AllocError>
+    ensures same { IfOk result (λ x. x.refusal ≡ refusal) }
+    ensures other { IfOk result (λ _. refusal ≢ OutOfMemory) }
+{
+    if refusal == Error::OutOfMemory {
+        return Err(AllocError);
+    }
+    let place = place_of(alloc, form, bytes, refusal)?;
+    Ok(Explanation { refusal, place })
+}
+
+// The place of the first fault, if it is the one that the check told.
+fn place_of(
+    alloc: Global,
+    form: &Form,
+    bytes: &[u8],
+    refusal: Error,
+) -> Result<Option<FaultPlace>, AllocError> {
     let mut walk = Walker::quick(alloc, form, bytes);
     for _ in 0..u64::MAX {
         match walk.step() {
@@ -48,8 +88,11 @@ pub fn explain(
             Ok(None) => break,
             Err(Stop::OutOfMemory) => return Err(AllocError),
             Err(Stop::Fault(fault)) => {
+                if fault.reason.refusal() != refusal {
+                    break;
+                }
                 let way = route_of(alloc, walk.frames(), usize::MAX)?;
-                return Ok(Some(Explanation { way, fault }));
+                return Ok(Some(FaultPlace { way, fault }));
             }
         }
     }

@@ -39,12 +39,15 @@ pub fn print_refused<W: io::Write>(
     bytes: &[u8],
     explanation: &Explanation,
 ) -> io::Result<()> {
-    let refusal = explanation.refusal();
+    let refusal = explanation.refusal;
     let number = refusal.number();
     let name = refusal.name();
     writeln!(out, "refused: {number} {name}")?;
     writeln!(out, "{explanation}")?;
-    let faulty = usize::try_from(explanation.fault.faulty).unwrap_or(usize::MAX);
-    let count = usize::try_from(explanation.fault.count).unwrap_or(0);
+    let Some(place) = &explanation.place else {
+        return Ok(());
+    };
+    let faulty = usize::try_from(place.fault.faulty).unwrap_or(usize::MAX);
+    let count = usize::try_from(place.fault.count).unwrap_or(0);
     print_around(out, bytes, faulty.min(bytes.len()), count)
 }

@@ -137,5 +137,5 @@ fn a_declaration_is_read_as_it_stands(rt: HostRuntime) {
         "//! Events.\n\nuse crate::spot::Spot;\n\n/// What happens.\n#[derive(Debug, PartialEq, Drop)]\npub enum Event {\n    /// The end.\n    Quit,\n    Key(char),\n}\n\n// Below this line all is written by tools/derive: change what is above it, and run it again.\n\nimpl &!?\n";
     let form = form_of(&rt, rt.alloc(), text);
     let same = form_of(&rt, rt.alloc(), "enum Event { Quit, Key(char) }");
-    assert!(&rt; form.root() == same.root());
+    assert!(&rt; form.schema().root() == same.schema().root());
 }

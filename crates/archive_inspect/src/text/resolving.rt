@@ -1,10 +1,11 @@
 //! Defined types in place of their names: those that contain themselves keep a name, and all others are written out, as `tools/derive` has them.
 
+use crate::form::Form;
 use crate::form::labels::TypeLabels;
-use crate::form::{Form, Shapeless};
 use crate::text::declarations::Declared;
 use crate::text::mistakes::{Mistake, Wrong};
 use crate::text::parser::{LEVELS, Read};
+use archive_check::format::error::Error;
 use archive_check::format::expr::{Def, Expr, Pointee};
 use std::alloc::Global;
 
@@ -21,10 +22,16 @@ fn number_of(declared: &[Declared], name: &str) -> Option<usize> {
     None
 }
 
-// Adds the numbers of the defined types that an expression names to a list.
+// Adds the numbers of the defined types that an expression names to a list; of those behind pointers
+// too, where `far` says so.
 #[cycle(mentions)]
 #[tactic(auto, using(archive_check::proofs::format::Views::views))]
-fn mention(expr: &Expr, declared: &[Declared], found: &mut Vec<usize>) -> Result<(), Wrong> {
+fn mention(
+    expr: &Expr,
+    declared: &[Declared],
+    far: bool,
+    found: &mut Vec<usize>,
+) -> Result<(), Wrong> {
     match expr {
         Expr::Named(name) => {
             if let Some(number) = number_of(declared, name) {
@@ -32,13 +39,14 @@ fn mention(expr: &Expr, declared: &[Declared], found: &mut Vec<usize>) -> Result
             }
             Ok(())
         }
-        Expr::Record(parts) => mention_parts(parts, declared, found),
-        Expr::Choice(_, variants) => mention_variants(variants, declared, found),
-        Expr::Array(_, element) | Expr::Vec(element) => mention(element, declared, found),
-        Expr::Box(pointee) | Expr::Shared(_, pointee) | Expr::Weak(_, pointee) => {
-            mention_pointee(pointee, declared, found)
+        Expr::Record(parts) => mention_parts(parts, declared, far, found),
+        Expr::Choice(_, variants) => mention_variants(variants, declared, far, found),
+        Expr::Array(_, element) => mention(element, declared, far, found),
+        Expr::Vec(element) if far => mention(element, declared, far, found),
+        Expr::Box(pointee) | Expr::Shared(_, pointee) | Expr::Weak(_, pointee) if far => {
+            mention_pointee(pointee, declared, far, found)
         }
-        Expr::Leaf(_) | Expr::Str => Ok(()),
+        _ => Ok(()),
     }
 }
 
@@ -47,10 +55,11 @@ fn mention(expr: &Expr, declared: &[Declared], found: &mut Vec<usize>) -> Result
 fn mention_parts(
     parts: &[Expr],
     declared: &[Declared],
+    far: bool,
     found: &mut Vec<usize>,
 ) -> Result<(), Wrong> {
     for i in 0..parts.len() {
-        mention(&parts[i], declared, found)?;
+        mention(&parts[i], declared, far, found)?;
     }
     Ok(())
 }
@@ -60,10 +69,11 @@ fn mention_parts(
 fn mention_variants(
     variants: &[Vec<Expr>],
     declared: &[Declared],
+    far: bool,
     found: &mut Vec<usize>,
 ) -> Result<(), Wrong> {
     for i in 0..variants.len() {
-        mention_parts(&variants[i], declared, found)?;
+        mention_parts(&variants[i], declared, far, found)?;
     }
     Ok(())
 }
@@ -73,10 +83,11 @@ fn mention_variants(
 fn mention_pointee(
     pointee: &Pointee,
     declared: &[Declared],
+    far: bool,
     found: &mut Vec<usize>,
 ) -> Result<(), Wrong> {
     match pointee {
-        Pointee::One(expr) | Pointee::Run(expr) => mention(expr, declared, found),
+        Pointee::One(expr) | Pointee::Run(expr) => mention(expr, declared, far, found),
         Pointee::Text => Ok(()),
     }
 }
@@ -85,10 +96,11 @@ fn mention_pointee(
 fn mention_declared(
     declared: &[Declared],
     number: usize,
+    far: bool,
     found: &mut Vec<usize>,
 ) -> Result<(), Wrong> {
     match declared.get(number) {
-        Some(it) => mention(&it.read.expr, declared, found),
+        Some(it) => mention(&it.read.expr, declared, far, found),
         None => Ok(()),
     }
 }
@@ -105,11 +117,16 @@ fn meets_first(seen: &mut [bool], number: usize) -> bool {
     }
 }
 
-// Whether a defined type reaches itself.
-fn is_recursive(alloc: Global, declared: &[Declared], number: usize) -> Result<bool, Wrong> {
+// Whether a defined type contains itself; behind pointers too, where `far` says so.
+fn contains_itself(
+    alloc: Global,
+    declared: &[Declared],
+    number: usize,
+    far: bool,
+) -> Result<bool, Wrong> {
     let mut found = Vec::new(alloc);
     let mut seen = vec![in alloc; false; declared.len()]?;
-    mention_declared(declared, number, &mut found)?;
+    mention_declared(declared, number, far, &mut found)?;
     for _ in 0..u64::MAX {
         let Some(met) = found.pop() else {
             break;
@@ -118,7 +135,7 @@ fn is_recursive(alloc: Global, declared: &[Declared], number: usize) -> Result<b
             return Ok(true);
         }
         if meets_first(&mut seen, met) {
-            mention_declared(declared, met, &mut found)?;
+            mention_declared(declared, met, far, &mut found)?;
         }
     }
     Ok(false)
@@ -236,11 +253,17 @@ impl Writer<'_> {
     }
 }
 
-// Which defined types reach themselves.
+// Which defined types are recursive. One that contains itself without a pointer between is a mistake.
 fn recursive_ones(alloc: Global, declared: &[Declared]) -> Result<Vec<bool>, Wrong> {
     let mut recursive = Vec::new(alloc);
-    for number in 0..declared.len() {
-        recursive.push(is_recursive(alloc, declared, number)?)?;
+    for (number, it) in declared.iter().enumerate() {
+        if contains_itself(alloc, declared, number, false)? {
+            return Err(Wrong {
+                at: it.at,
+                mistake: Mistake::Recursive,
+            });
+        }
+        recursive.push(contains_itself(alloc, declared, number, true)?)?;
     }
     Ok(recursive)
 }
@@ -284,25 +307,14 @@ fn names_of(alloc: Global, declared: Vec<Declared>) -> Result<Vec<TypeLabels>, W
     Ok(types)
 }
 
-// Where a defined type stands in the text.
-fn place_of(declared: &[Declared], name: &str) -> usize {
-    match number_of(declared, name) {
-        Some(number) => match declared.get(number) {
-            Some(it) => it.at,
-            None => 0,
-        },
-        None => 0,
-    }
-}
-
-// Where a name stands, by a list.
-fn place_in(places: &[(&'static str, usize)], wanted: &str) -> usize {
-    for (name, place) in places {
-        if *name == wanted {
-            return *place;
-        }
-    }
-    0
+// Why an expression has no form; the others that `Form::new` names don't come, by what was read.
+fn wrong_of(error: Error) -> Wrong {
+    let mistake = match error {
+        Error::OutOfMemory => Mistake::OutOfMemory,
+        Error::RecursiveLayout => Mistake::Recursive,
+        _ => Mistake::UnknownType,
+    };
+    Wrong { at: 0, mistake }
 }
 
 // The form of a root.
@@ -318,24 +330,9 @@ pub(super) fn form_of(alloc: Global, declared: Vec<Declared>, root: Read) -> Res
     };
     let Read { expr, labels } = root;
     let expr = writer.write(&expr, LEVELS)?;
-    let mut places = Vec::new(alloc);
-    for def in &definitions {
-        places.push((def.name, place_of(&declared, def.name)))?;
-    }
     let types = names_of(alloc, declared)?;
     match Form::new(alloc, expr, definitions) {
         Ok(form) => Ok(form.with_labels(labels, types)),
-        Err(Shapeless::OutOfMemory) => Err(Wrong {
-            at: 0,
-            mistake: Mistake::OutOfMemory,
-        }),
-        Err(Shapeless::Undefined(_)) => Err(Wrong {
-            at: 0,
-            mistake: Mistake::UnknownType,
-        }),
-        Err(Shapeless::Recursive(name)) => Err(Wrong {
-            at: place_in(&places, name),
-            mistake: Mistake::Recursive,
-        }),
+        Err(error) => Err(wrong_of(error)),
     }
 }

@@ -33,7 +33,7 @@ impl<'a> Walker<'a> {
     pub(super) fn enter_root(&mut self) -> Result<(), Stop> {
         let form = self.form;
         let place = Place {
-            expr: form.root(),
+            expr: form.schema().root(),
             labels: Some(form.labels()),
             at: 0,
         };

@@ -2,7 +2,7 @@
 
 use crate::form::labels::PartLabels;
 use crate::walk::bytes::{
-    byte_at, bytes_at, decoded_length, inline_text, is_out_of_line, number_at, target_at,
+    byte_at, coded_length, inline_text, is_out_of_line, number_at, target_at, text_target_at,
 };
 use crate::walk::entering::text_in;
 use crate::walk::faults::{FirstFault, Reason, Stop};
@@ -209,21 +209,19 @@ impl<'a> Walker<'a> {
 
     fn look_at_string(&mut self, place: Place<'a>) -> Result<Option<Event<'a>>, Stop> {
         let bytes = self.bytes;
-        let Some(string) = bytes_at(bytes, place.at, 8) else {
-            return Err(nowhere(place));
-        };
-        let first = string.first().copied().unwrap_or(0);
-        if !is_out_of_line(first) {
-            let text = text_in(inline_text(string), place.at)?;
+        if is_out_of_line(bytes, place.at) == Some(false) {
+            let text = text_in(inline_text(bytes, place.at).unwrap_or(&[]), place.at)?;
             return Walker::found(place, 8, What::Text(text));
         }
-        let length = decoded_length(number_at(string, 0).unwrap_or(0));
+        let (Some(target), Some(length)) = (
+            text_target_at(bytes, place.at),
+            coded_length(bytes, place.at),
+        ) else {
+            return Err(nowhere(place));
+        };
         if length <= 8 {
             return Err(fault_at(place.at, 4, Reason::Coded(length)));
         }
-        let Some(target) = target_at(string, 4, place.at) else {
-            return Err(nowhere(place));
-        };
         let pointer = Pointer {
             place,
             size: 8,
@@ -241,7 +239,7 @@ impl<'a> Walker<'a> {
         } else {
             number_at(self.bytes, place.at.saturating_add(4))
         };
-        match (target_at(self.bytes, place.at, place.at), length) {
+        match (target_at(self.bytes, place.at), length) {
             (Some(target), Some(length)) => Ok(Pointer {
                 place,
                 size,
@@ -255,7 +253,7 @@ impl<'a> Walker<'a> {
     // Where the elements lie that a pointer leads to, and how many there are.
     fn run_at(&self, place: Place<'a>) -> Result<(i128, usize), Stop> {
         let length = number_at(self.bytes, place.at.saturating_add(4));
-        match (target_at(self.bytes, place.at, place.at), length) {
+        match (target_at(self.bytes, place.at), length) {
             (Some(target), Some(length)) => Ok((target, length as usize)),
             _ => Err(nowhere(place)),
         }
