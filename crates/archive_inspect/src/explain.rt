@@ -53,7 +53,10 @@ pub fn explain(alloc: Global, form: &Form, bytes: &[u8]) -> Result<Option<Explan
 {
     match form.schema().check_archive(alloc, bytes) {
         Ok(()) => Ok(None),
-        Err(refusal) => Ok(Some(explained(alloc, form, bytes, refusal)?)),
+        Err(refusal) => {
+            let explanation = explained(alloc, form, bytes, refusal)?;
+            Ok(Some(explanation))
+        }
     }
 }
 
@@ -67,11 +70,13 @@ fn explained(
     ensures same { IfOk result (λ x. x.refusal ≡ refusal) }
     ensures other { IfOk result (λ _. refusal ≢ OutOfMemory) }
 {
-    if refusal == Error::OutOfMemory {
-        return Err(AllocError);
+    match refusal {
+        Error::OutOfMemory => Err(AllocError),
+        _ => {
+            let place = place_of(alloc, form, bytes, refusal)?;
+            Ok(Explanation { refusal, place })
+        }
     }
-    let place = place_of(alloc, form, bytes, refusal)?;
-    Ok(Explanation { refusal, place })
 }
 
 // The place of the first fault, if it is the one that the check told.

@@ -116,8 +116,8 @@ pub fn print_summary<W: io::Write>(out: &mut W, summary: &Summary) -> io::Result
     } = *summary;
     let unused = summary.unused();
     writeln!(out, "bytes:    {bytes}")?;
-    writeln!(out, "regions:  {regions}, at most {depth} in one another")?;
-    writeln!(out, "shared:   {shared}, led to {again} times more")?;
+    writeln!(out, "regions:  {regions}, nested at most {depth} deep")?;
+    writeln!(out, "shared:   {shared}, pointed to {again} more times")?;
     writeln!(out, "numbers:  {leaves} bytes")?;
     writeln!(out, "tags:     {tags} bytes")?;
     writeln!(out, "texts:    {texts} bytes")?;

@@ -93,11 +93,19 @@ impl<W: io::Write + Drop> Tree<'_, W> {
                 if shown {
                     self.begin(self.line(found, step))?;
                     self.value(found)?;
-                    writeln!(self.out)?;
+                    self.end_line(found)?;
                 }
             }
         }
         self.open(found, step, shown)
+    }
+
+    // Ends the line of a value, with a mark where what it holds is too deep to be printed.
+    fn end_line(&mut self, found: Visited<'_>) -> io::Result<()> {
+        if self.open.len() >= self.depth && holds_more(found) {
+            self.out.write_all(b" ..")?;
+        }
+        writeln!(self.out)
     }
 
     // Whether a pointer to a text was opened last.
@@ -218,6 +226,18 @@ fn own_name(found: Visited<'_>) -> &'static str {
     match found.labels {
         Some(labels) => labels.own(),
         None => "",
+    }
+}
+
+// Whether a value holds others.
+fn holds_more(found: Visited<'_>) -> bool {
+    match found.what {
+        What::Record(count) | What::Variant(_, _, count) | What::Array(count) => count > 0,
+        What::Pointer(region) => match region.count {
+            Count::Elements(count) => count > 0,
+            Count::Root | Count::One | Count::Text(_) => true,
+        },
+        What::Leaf(_) | What::Text(_) | What::Again(_) | What::Null => false,
     }
 }
 

@@ -103,7 +103,7 @@ fn trees_are_cut(rt: HostRuntime) -> Result<(), Fail> {
     given.elements = 1;
     given.depth = 1;
     let wanted = "      56  3 elements at 20
-      20    [0]: Event::Text
+      20    [0]: Event::Text ..
             .. 2 more
 ";
     assert_printed(&rt, rt.alloc(), &given, (EVENTS, THREE_EVENTS), (0, wanted))
@@ -188,8 +188,8 @@ fn summaries(rt: HostRuntime) -> Result<(), Fail> {
         (
             0,
             "bytes:    48
-regions:  4, at most 3 in one another
-shared:   1, led to 1 times more
+regions:  4, nested at most 3 deep
+shared:   1, pointed to 1 more times
 numbers:  16 bytes
 tags:     2 bytes
 texts:    0 bytes

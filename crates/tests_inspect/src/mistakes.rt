@@ -16,7 +16,7 @@ fn told(alloc: Global, text: &str) -> Result<String, AllocError> {
 // In each row a text, and what is told of it.
 const ROWS: [(&str, &str); 24] = [
     ("", "line 1, column 1: expected a type"),
-    ("u33", "line 1, column 1: no type of this name is known"),
+    ("u33", "line 1, column 1: unknown type"),
     ("Vec<u8", "line 1, column 7: expected `,` or `>`"),
     (
         "Vec<Vec<u8>>,",
@@ -33,29 +33,26 @@ const ROWS: [(&str, &str); 24] = [
     ),
     (
         "[u8]",
-        "line 1, column 1: a text or a slice lies behind a pointer alone",
+        "line 1, column 1: `str` and slices must be behind a pointer, as in `Box<str>`",
     ),
     (
         "str",
-        "line 1, column 1: a text or a slice lies behind a pointer alone",
+        "line 1, column 1: `str` and slices must be behind a pointer, as in `Box<str>`",
     ),
     (
         "Option<str>",
-        "line 1, column 1: a text or a slice lies behind a pointer alone",
+        "line 1, column 1: `str` and slices must be behind a pointer, as in `Box<str>`",
     ),
     ("Option<u8 u8>", "line 1, column 11: expected `,` or `>`"),
     (
         "Result<u8>",
-        "line 1, column 1: expected two arguments in `<` and `>` behind this",
+        "line 1, column 1: expected two arguments between `<` and `>`",
     ),
-    ("f32", "line 1, column 1: no type of this name is known"),
-    (
-        "&str",
-        "line 1, column 1: no type is written with this sign",
-    ),
+    ("f32", "line 1, column 1: unknown type"),
+    ("&str", "line 1, column 1: unexpected character"),
     (
         "struct A<T> { a: T } u8",
-        "line 1, column 9: types with parameters of their own can't be archived by this text",
+        "line 1, column 9: generic types aren't supported: define one for each use",
     ),
     ("struct A { a u8 }", "line 1, column 14: expected `:`"),
     (
@@ -66,26 +63,23 @@ const ROWS: [(&str, &str); 24] = [
         "struct A { a: u8, }\n\nstruct A;\nA",
         "line 3, column 8: a type of this name is defined above",
     ),
-    (
-        "struct A { a: B }\nA",
-        "line 1, column 15: no type of this name is known",
-    ),
+    ("struct A { a: B }\nA", "line 1, column 15: unknown type"),
     (
         "enum E {}",
-        "line 1, column 6: an enum has 1 to 256 variants",
+        "line 1, column 6: an enum must have 1 to 256 variants",
     ),
     ("enum E { A B }", "line 1, column 12: expected `,` or `}`"),
     (
         "enum \u{e9} { A }",
-        "line 1, column 6: no type is written with this sign",
+        "line 1, column 6: unexpected character",
     ),
     (
         "struct A { b: B }\nstruct B { a: A }\nVec<A>",
-        "line 1, column 8: the type contains itself without a pointer between",
+        "line 1, column 8: the type contains itself without a `Box` or `Vec` between",
     ),
     (
         "// \u{e9}\u{e9}\n/* \u{e9} */ struct A { a: Optio<u8> }",
-        "line 2, column 23: no type of this name is known",
+        "line 2, column 23: unknown type",
     ),
 ];
 

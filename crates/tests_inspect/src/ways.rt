@@ -46,7 +46,7 @@ fn ways_through_vectors_and_variants(rt: HostRuntime) -> Result<(), Fail> {
         (
             24,
             0x80,
-            "at [0].Text, byte 24: the string lies out of line, and has a length of only 0",
+            "at [0].Text, byte 24: the string is out of line, but its length is only 0",
         ),
         (
             25,
@@ -151,7 +151,7 @@ fn ways_through_shared_pointers(rt: HostRuntime) -> Result<(), Fail> {
         (
             28,
             0xe4,
-            "at .text, byte 28: what lies at 0 was met with another type",
+            "at .text, byte 28: the value at 0 is also pointed to as another type",
         ),
     ];
     assert_lines(&rt, rt.alloc(), RUNS, THREE_RUNS, &rows)
@@ -160,11 +160,11 @@ fn ways_through_shared_pointers(rt: HostRuntime) -> Result<(), Fail> {
 #[test]
 fn ways_to_leaves_of_tuples(rt: HostRuntime) -> Result<(), Fail> {
     let rows = [
-        (0, 2, "at .0, byte 0: the bool is 0x02, and neither 0 nor 1"),
+        (0, 2, "at .0, byte 0: the bool is 0x02, neither 0 nor 1"),
         (
             2,
             0,
-            "at .1[0], byte 2: the number is 0, which it must not be",
+            "at .1[0], byte 2: the number is 0, which its type excludes",
         ),
         (
             9,

@@ -153,7 +153,7 @@ fn only(mut arguments: Vec<Argument>, at: usize) -> Result<Target, Wrong> {
         Some(Argument::Target(target)) if arguments.is_empty() => Ok(target),
         _ => Err(Wrong {
             at,
-            mistake: Mistake::Expected("one type in `<` and `>` behind this"),
+            mistake: Mistake::Expected("one type between `<` and `>`"),
         }),
     }
 }
@@ -165,7 +165,7 @@ fn pair(mut arguments: Vec<Argument>, at: usize) -> Result<(Read, Argument), Wro
         (Ok(first), Some(last)) => Ok((first.sized(at)?, last)),
         _ => Err(Wrong {
             at,
-            mistake: Mistake::Expected("two arguments in `<` and `>` behind this"),
+            mistake: Mistake::Expected("two arguments between `<` and `>`"),
         }),
     }
 }
@@ -183,7 +183,7 @@ fn built_of_pair(
         ("OwnedArray", Argument::Count(count)) => first.array(alloc, count),
         _ => Err(Wrong {
             at,
-            mistake: Mistake::Expected("a type and a type, or a type and a number, in `<` and `>`"),
+            mistake: Mistake::Expected("two types, or a type and a number, between `<` and `>`"),
         }),
     }
 }

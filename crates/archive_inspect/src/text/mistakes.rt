@@ -9,41 +9,41 @@ pub enum Mistake {
     /// Memory was refused.
     #[error("out of memory")]
     OutOfMemory,
-    /// A sign that no type is written with.
-    #[error("no type is written with this sign")]
+    /// A character that no type is written with.
+    #[error("unexpected character")]
     Sign,
     /// Something else is expected there.
     #[error("expected {0}")]
     Expected(&'static str),
-    /// A type of this name isn't known.
-    #[error("no type of this name is known")]
+    /// A type is neither defined nor one of the library's.
+    #[error("unknown type")]
     UnknownType,
     /// A type has the name of one above.
     #[error("a type of this name is defined above")]
     DefinedTwice,
-    /// A type of its own parameters.
-    #[error("types with parameters of their own can't be archived by this text")]
+    /// A defined type has parameters.
+    #[error("generic types aren't supported: define one for each use")]
     Parameters,
-    /// A `str`, or a slice, that no pointer leads to.
-    #[error("a text or a slice lies behind a pointer alone")]
+    /// A `str` or a slice is not behind a pointer.
+    #[error("`str` and slices must be behind a pointer, as in `Box<str>`")]
     Unsized,
     /// A number is too large.
     #[error("the number is too large")]
     LargeNumber,
     /// An enum has no variant, or more than 256.
-    #[error("an enum has 1 to 256 variants")]
+    #[error("an enum must have 1 to 256 variants")]
     Variants,
-    /// Types lie too deep in one another.
+    /// Types are nested too deep.
     #[error("types are nested more than 100 deep")]
     TooDeep,
     /// The text has too many definitions.
     #[error("more than 500 types are defined")]
     TooMany,
-    /// The root has too many parts.
-    #[error("written out, the type has more than 100000 parts")]
+    /// The root has too many parts, those of its parts included.
+    #[error("the type has more than 100000 parts")]
     TooLarge,
     /// A type contains itself other than behind a pointer.
-    #[error("the type contains itself without a pointer between")]
+    #[error("the type contains itself without a `Box` or `Vec` between")]
     Recursive,
 }
 

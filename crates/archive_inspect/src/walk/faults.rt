@@ -129,12 +129,12 @@ impl fmt::Display for Reason {
                 let align = region.align;
                 write!(f, "{region} {lies} at a multiple of {align}")
             }
-            Reason::Bool(byte) => write!(f, "the bool is 0x{byte:02x}, and neither 0 nor 1"),
+            Reason::Bool(byte) => write!(f, "the bool is 0x{byte:02x}, neither 0 nor 1"),
             Reason::Char(code) => write!(
                 f,
                 "the char is 0x{code:x}, which is no Unicode scalar value"
             ),
-            Reason::Zero(_) => f.write_str("the number is 0, which it must not be"),
+            Reason::Zero(_) => f.write_str("the number is 0, which its type excludes"),
             Reason::Tag(tag, count, _, shown) => show_tag(f, *tag, *count, shown),
             Reason::Text(length, index, byte) => {
                 write!(
@@ -145,16 +145,22 @@ impl fmt::Display for Reason {
             Reason::Coded(length) => {
                 write!(
                     f,
-                    "the string lies out of line, and has a length of only {length}"
+                    "the string is out of line, but its length is only {length}"
                 )
             }
             Reason::OtherType(position) => {
-                write!(f, "what lies at {position} was met with another type")
+                write!(
+                    f,
+                    "the value at {position} is also pointed to as another type"
+                )
             }
             Reason::OtherLength(position) => {
-                write!(f, "what lies at {position} was met with another length")
+                write!(
+                    f,
+                    "the value at {position} is also pointed to with another length"
+                )
             }
-            Reason::Cycle(position) => write!(f, "what lies at {position} contains itself"),
+            Reason::Cycle(position) => write!(f, "the shared value at {position} contains itself"),
         }
     }
 }

@@ -1,6 +1,6 @@
 //! Schemas of expressions that are given with their definitions, as those of a text, and what a schema says of itself.
 
-ghost use Rattle.std.specs.Prelude.{◌≡◌, ◌↔◌, None, false, IsTrue, IfOk, IfErr};
+ghost use Rattle.std.specs.Prelude.{◌≡◌, None, false, IsTrue, IfOk, IfErr};
 ghost use Rattle.archive_check.specs.Definitions.{listed};
 ghost use Rattle.archive_check.specs.Expressions.{shape_of, entries_of};
 ghost use Rattle.archive_check.specs.MissingNames.{missing as missing_in};
@@ -75,9 +75,13 @@ impl Schema {
     /// Whether each name that `expr` holds, other than behind a pointer, is defined here, as
     /// `layout` requires.
     pub fn defines(&self, expr: &Expr) -> bool
-        ensures { IsTrue result ↔ missing_in false (listed (definitions_in self.now)) (shape_of expr.now) ≡ None }
+        ensures held { IsTrue result → missing_in false (listed (definitions_in self.now)) (shape_of expr.now) ≡ None }
+        ensures others { missing_in false (listed (definitions_in self.now)) (shape_of expr.now) ≡ None → IsTrue result }
     {
-        missing(expr, &self.definitions, false).is_none()
+        match missing(expr, &self.definitions, false) {
+            None => true,
+            Some(_) => false,
+        }
     }
 
     /// The position of the root of an archive of `len` bytes: `len` less the root's size, or 0 if
