@@ -9,7 +9,7 @@ use Rattle.archive_check.specs.Shape.{Shape}
 use Rattle.archive_schema.specs.Schemas.{root_of, definitions_in}
 
 -- Nothing is explained of an archive alone; of all else the first fault of the check is.
-pub record Explains (D : Definitions) (bytes : List ℕ) (root : ℕ) (X : Shape) (answer : Option Explanation) : Type 0 where
+pub record ExplainsBuffer (D : Definitions) (bytes : List ℕ) (root : ℕ) (X : Shape) (answer : Option Explanation) : Type 0 where
   pub accepted : IfNone answer (IsArchive D bytes root X)
   pub refused : IfSome answer (λ x. IsFaulty D bytes None root X x.refusal)
   pub exact : IfSome answer (λ x. IsArchive D bytes root X → ⊥)
@@ -18,4 +18,4 @@ pub record Explains (D : Definitions) (bytes : List ℕ) (root : ℕ) (X : Shape
 abbrev pub ExplainsWhole : Form → List ℕ → Option Explanation → Type 0
 ExplainsWhole f bytes answer =
     (L : Layout) → HasLayout (definitions_in f.schema) (root_of f.schema) L
-    → Explains (definitions_in f.schema) bytes (root_in bytes L) (root_of f.schema) answer
+    → ExplainsBuffer (definitions_in f.schema) bytes (root_in bytes L) (root_of f.schema) answer

@@ -6,6 +6,8 @@ mod assertions;
 #[cfg(test)]
 mod commands;
 #[cfg(test)]
+mod declared;
+#[cfg(test)]
 mod mistakes;
 #[cfg(test)]
 mod places;

@@ -28,7 +28,7 @@ impl Layout {
 }
 
 /// The least multiple of an alignment that is at least a number.
-pub fn up(number: i128, align: i128) -> i128 {
+pub fn rounded_up(number: i128, align: i128) -> i128 {
     match number.checked_rem(align) {
         None | Some(0) => number,
         Some(past) => number.saturating_add(align.saturating_sub(past)),

@@ -2,7 +2,7 @@
 
 use crate::form::Form;
 use crate::form::labels::{Labels, PartLabels};
-use crate::form::layouts::up;
+use crate::form::layouts::rounded_up;
 use archive_check::format::expr::Expr;
 
 /// A value that is to be looked at.
@@ -96,7 +96,7 @@ impl<'a> OpenParts<'a> {
             None => None,
         };
         let layout = form.layout(expr);
-        let offset = up(self.end, layout.align);
+        let offset = rounded_up(self.end, layout.align);
         self.end = offset.saturating_add(layout.size);
         self.begun = self.begun.saturating_add(1);
         Some(Place {

@@ -1,0 +1,59 @@
+// Declarations from which tools/derive writes types: as texts they have the schemas of those types.
+
+use crate::assertions::form_of;
+use archive_core::traits::Portable;
+use archive_inspect::form::Form;
+use derived_types::event::ArchivedEvent;
+use derived_types::track::ArchivedRuns;
+use recursive_types::expr::ArchivedExpr;
+use std::alloc::Global;
+use std::process::Abort;
+
+// The text has the root and the definitions of the type.
+fn assert_declared<T: Portable>(rt: &impl Abort, alloc: Global, text: &str) {
+    let written = form_of(rt, alloc, text);
+    let derived = Form::of::<T>(alloc).expect(rt, "a form");
+    let (written, derived) = (written.schema(), derived.schema());
+    assert!(rt; written.root() == derived.root());
+    assert!(rt; written.definitions() == derived.definitions());
+}
+
+const EVENT: &str = "/// What happens.
+#[derive(Debug, PartialEq, Drop)]
+pub enum Event {
+    /// The end.
+    Quit,
+    /// A key.
+    Key(char),
+    /// A text.
+    Text(String),
+    /// A step.
+    Move {
+        /// To the right.
+        x: i32,
+        /// Up.
+        y: i32,
+    },
+    /// Numbers.
+    Batch(Vec<u32>),
+}";
+
+#[test]
+fn an_enum(rt: HostRuntime) {
+    assert_declared::<ArchivedEvent>(&rt, rt.alloc(), EVENT);
+}
+
+const RUNS: &str = "pub struct Spot { pub right: u16, pub up: i16 }
+pub struct Line { pub from: Spot, pub to: Spot }
+pub struct Runs { pub lines: SharedSlice<Line>, pub text: SharedStr, pub weak: WeakShared<Line> }";
+
+#[test]
+fn a_struct_that_shares(rt: HostRuntime) {
+    assert_declared::<ArchivedRuns>(&rt, rt.alloc(), RUNS);
+}
+
+#[test]
+fn a_recursive_enum(rt: HostRuntime) {
+    let text = "pub enum Expr { Num(i64), Negated(Box<Expr>), Call(String, Vec<Expr>) }";
+    assert_declared::<ArchivedExpr>(&rt, rt.alloc(), text);
+}
