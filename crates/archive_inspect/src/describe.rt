@@ -7,7 +7,8 @@ use crate::walk::leaves::Leaf;
 use crate::walk::{Event, Region, Visited, Walker, What};
 use std::alloc::{AllocError, Global};
 
-// How many records, variants, lists and regions a way tells of, so that those of a deep archive don't take the square of its depth.
+// How many records, variants, lists and regions a way tells of, so that those of a deep archive
+// don't take the square of its depth.
 const STEPS: usize = 64;
 
 /// What lies in some bytes.
@@ -19,7 +20,8 @@ pub struct Piece<'a> {
     pub size: i128,
     /// What they are.
     pub content: Content<'a>,
-    /// The way there from the root: of a choice's tag that to the choice, of a text that to its pointer.
+    /// The way there from the root: of a choice's tag that to the choice, of a text that to its
+    /// pointer.
     pub way: Route,
 }
 
@@ -58,8 +60,8 @@ fn content_of<'a>(found: Visited<'a>) -> Option<Content<'a>> {
     }
 }
 
-/// What lies in the bytes of an archive of the form, in the order of the walk: a pointer before what it leads to. None if the bytes are none.
-/// Fails if memory from `alloc` is refused.
+/// What lies in the bytes of an archive of the form, in the order of the walk: a pointer before
+/// what it leads to. None if the bytes are none. Fails if memory from `alloc` is refused.
 pub fn entries<'a>(
     alloc: Global,
     form: &'a Form,
@@ -111,8 +113,8 @@ fn push_unused(
     Ok(())
 }
 
-/// What lies in the bytes of an archive of the form, in order of position, with what is unused between. None if the bytes are none. Fails if
-/// memory from `alloc` is refused.
+/// What lies in the bytes of an archive of the form, in order of position, with what is unused
+/// between. None if the bytes are none. Fails if memory from `alloc` is refused.
 pub fn describe<'a>(
     alloc: Global,
     form: &'a Form,

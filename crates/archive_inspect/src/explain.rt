@@ -30,8 +30,8 @@ pub struct FaultPlace {
     pub fault: FirstFault,
 }
 
-/// One line: `at .events[17].Text, byte 412: the text isn't UTF-8 (byte 3 of 11 is 0xc0)`. Bytes are
-/// counted from 0.
+/// One line: `at .events[17].Text, byte 412: the text isn't UTF-8 (byte 3 of 11 is 0xc0)`. Bytes
+/// are counted from 0.
 impl fmt::Display for Explanation {
     fn fmt<W: fmt::Write>(&self, f: &mut fmt::Formatter<W>) -> fmt::Result {
         let Some(place) = &self.place else {
@@ -46,8 +46,8 @@ impl fmt::Display for Explanation {
 }
 
 /// Why the bytes are no archive of the form whose root lies at their end: none if they are one. The
-/// refusal is that of the check. Takes memory for each level, and for each shared position. Fails if
-/// memory from `alloc` is refused.
+/// refusal is that of the check. Takes memory for each level, and for each shared position. Fails
+/// if memory from `alloc` is refused.
 pub fn explain(alloc: Global, form: &Form, bytes: &[u8]) -> Result<Option<Explanation>, AllocError>
     ensures { IfOk result (ExplainsWhole form.now bytes.now) }
 {

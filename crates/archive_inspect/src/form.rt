@@ -35,8 +35,10 @@ impl Form {
     /// - `ShapeConflict`: a name that is reached has no definition.
     /// - `RecursiveLayout`: a name contains itself other than behind a pointer.
     pub fn new(alloc: Global, root: Expr, definitions: Vec<Def>) -> Result<Form, Error>
-        ensures made { IfOk result (λ f. IsSchemaAmong f.schema (entries_of definitions.items) (shape_of root)) }
-        ensures refused { IfErr result (ExplainsNoMeaning (entries_of definitions.items) (shape_of root)) }
+        ensures made { IfOk result (λ f. IsSchemaAmong f.schema (entries_of definitions.items)
+            (shape_of root)) }
+        ensures refused { IfErr result (ExplainsNoMeaning (entries_of definitions.items)
+            (shape_of root)) }
     {
         let schema = Schema::new(alloc, root, definitions)?;
         Ok(Form::without_names(alloc, schema))

@@ -1,4 +1,5 @@
-//! See what is in an archive, and where it is broken: schemas in Rust's own way of writing types, the way to the first fault, and what lies where.
+//! See what is in an archive, and where it is broken: schemas in Rust's own way of writing types,
+//! the way to the first fault, and what lies where.
 #![tactic(auto)]
 
 pub mod describe;

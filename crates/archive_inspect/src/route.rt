@@ -8,7 +8,8 @@ use std::fmt;
 /// A step from a value to one within it.
 #[derive(Clone, Copy)]
 pub enum RouteStep {
-    /// To a part of a record or a variant, by its number and its name, which is empty if none is known.
+    /// To a part of a record or a variant, by its number and its name, which is empty if none is
+    /// known.
     Part(usize, &'static str),
     /// To the parts of the variant, by its tag and its name, which is empty if none is known.
     Variant(u8, &'static str),
@@ -56,7 +57,8 @@ impl fmt::Display for Route {
     }
 }
 
-// Whether a part's name says nothing more than that of its variant: it is its only one, and has no name.
+// Whether a part's name says nothing more than that of its variant: it is its only one, and has no
+// name.
 fn is_only(parts: &OpenParts<'_>) -> bool {
     parts.variant.is_some() && parts.exprs.len() == 1 && name_of(parts.labels, 0) == ""
 }
@@ -83,7 +85,8 @@ fn element_of(elements: &OpenElements<'_>) -> Option<RouteStep> {
     Some(RouteStep::Element(elements.begun.checked_sub(1)?))
 }
 
-/// The step from a frame to what was begun in it last: none for a text, for the root, and for the only part of a variant.
+/// The step from a frame to what was begun in it last: none for a text, for the root, and for the
+/// only part of a variant.
 pub fn step_in(frame: &Frame<'_>) -> Option<RouteStep> {
     match frame {
         Frame::Parts(parts) => part_of(parts),

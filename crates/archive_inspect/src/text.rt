@@ -1,4 +1,5 @@
-//! Schema texts: types as Rust writes them, `struct Point { x: i32, y: i32 }  Vec<Point>`, the root last.
+//! Schema texts: types as Rust writes them, `struct Point { x: i32, y: i32 }  Vec<Point>`, the root
+//! last.
 
 mod building;
 mod declarations;
@@ -17,9 +18,10 @@ use resolving::form_of;
 use std::alloc::Global;
 use tokens::tokens_of;
 
-/// The form that a text writes: the definitions of structs and enums in any order, and then the root; without one the last definition is the
-/// root. Attributes, comments, `pub` and lines of `use` are skipped, and so is what `tools/derive` wrote. Memory comes from `alloc`; the
-/// names of types, fields and variants are kept until the program ends.
+/// The form that a text writes: the definitions of structs and enums in any order, and then the
+/// root; without one the last definition is the root. Attributes, comments, `pub` and lines of
+/// `use` are skipped, and so is what `tools/derive` wrote. Memory comes from `alloc`; the names of
+/// types, fields and variants are kept until the program ends.
 pub fn parse(alloc: Global, text: &str) -> Result<Form, SchemaError> {
     match read(alloc, text.as_bytes()) {
         Ok(form) => Ok(form),

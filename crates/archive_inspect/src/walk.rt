@@ -1,4 +1,5 @@
-//! The way over the bytes of an archive: value by value, in the order of the check (docs/FORMAT.md), up to the first fault.
+//! The way over the bytes of an archive: value by value, in the order of the check
+//! (docs/FORMAT.md), up to the first fault.
 
 mod bytes;
 mod entering;
@@ -20,7 +21,8 @@ use std::collections::BTreeMap;
 /// What is met on the way.
 #[derive(Clone, Copy)]
 pub enum Event<'a> {
-    /// A value, or the text that a pointer leads to. If it opens, what it holds follows, and then an `Ended`.
+    /// A value, or the text that a pointer leads to. If it opens, what it holds follows, and then
+    /// an `Ended`.
     Found(Visited<'a>),
     /// What was opened last has ended.
     Ended,
@@ -31,7 +33,8 @@ pub enum Event<'a> {
 pub struct Visited<'a> {
     /// Where it lies.
     pub position: i128,
-    /// How many bytes of its own it has: of a record none, of a choice its tag, of a pointer those before what it leads to.
+    /// How many bytes of its own it has: of a record none, of a choice its tag, of a pointer those
+    /// before what it leads to.
     pub size: i128,
     /// Its expression; of a text that of the pointer to it.
     pub expr: &'a Expr,
@@ -201,7 +204,8 @@ impl<'a> Walker<'a> {
         }
     }
 
-    // What is innermost has ended: a region is left, so that the range begins where it ends, and ends where it did before.
+    // What is innermost has ended: a region is left, so that the range begins where it ends, and
+    // ends where it did before.
     fn end(&mut self) -> Option<Event<'a>> {
         if let Some(Frame::Region(inside)) = self.frames.pop() {
             self.depth = self.depth.saturating_sub(1);

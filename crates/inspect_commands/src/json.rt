@@ -243,9 +243,10 @@ fn name_of(step: Option<RouteStep>) -> &'static str {
     }
 }
 
-/// The value as JSON: records by the names of their parts, variants as serde has them, `null` for `None`, for units and for weak pointers to
-/// nothing; what a shared pointer leads to where it is met first, and its position elsewhere. So many levels, and so many elements of each list.
-/// None if the bytes are no archive of the form.
+/// The value as JSON: records by the names of their parts, variants as serde has them, `null` for
+/// `None`, for units and for weak pointers to nothing; what a shared pointer leads to where it is
+/// met first, and its position elsewhere. So many levels, and so many elements of each list. None
+/// if the bytes are no archive of the form.
 pub fn json_of(
     alloc: Global,
     form: &Form,

@@ -37,7 +37,8 @@ const ABOUT: &str = "Shows what is in an archive, and where it is broken.
 
 SCHEMA is written as Rust writes types, the root last:
   struct Point { x: i32, y: i32 }  enum Event { Quit, Key(char), Move(Point) }  Vec<Event>
-or it is in a file: @types.txt. Ends with status 0 if the archive is accepted, 1 if it is refused, and 2 if it can't be read.";
+or it is in a file: @types.txt. The status is 0 for an archive of these types, 1 for other bytes,
+and 2 if something can't be read.";
 
 // An argument that is on or off.
 fn flag<'a>(alloc: Global, name: &'a str, help: &'a str) -> Arg<'a> {

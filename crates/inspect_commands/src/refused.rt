@@ -1,4 +1,5 @@
-//! What is printed of bytes that are no archive: the refusal, the way to the fault, and the bytes around it.
+//! What is printed of bytes that are no archive: the refusal, the way to the fault, and the bytes
+//! around it.
 
 use archive_inspect::explain::Explanation;
 use std::io;

@@ -40,7 +40,8 @@ struct Tree<'a, W> {
 }
 
 impl<W: io::Write + Drop> Tree<'_, W> {
-    // Whether a value is printed: the one that holds it is, and it is none of the elements left out.
+    // Whether a value is printed: the one that holds it is, and it is none of the elements left
+    // out.
     fn is_shown(&self, step: Option<RouteStep>) -> bool {
         let within = match self.open.last() {
             Some(open) => open.shown,
@@ -262,8 +263,9 @@ pub(crate) fn last_step(holders: &[Frame<'_>]) -> Option<RouteStep> {
     step_in(holders.last()?)
 }
 
-/// Prints the value, a line for each part with its position, so many levels deep, and so many elements of each list. Whether the bytes are an
-/// archive of the form: else the tree ends at the fault.
+/// Prints the value, a line for each part with its position, so many levels deep, and so many
+/// elements of each list. Whether the bytes are an archive of the form: else the tree ends at the
+/// fault.
 pub fn print_tree<W: io::Write + Drop>(
     alloc: Global,
     out: &mut W,

@@ -1,4 +1,5 @@
-// What is asserted, proved once: `assert_eq!` stands in one function, since it takes the check seconds.
+// What is asserted, proved once: `assert_eq!` stands in one function, since it takes the check
+// seconds.
 
 use archive_inspect::explain::explain;
 use archive_inspect::form::Form;

@@ -21,7 +21,8 @@ pub(crate) const TREE: &str = "struct Tree { value: u32, children: Vec<Tree> }";
 
 pub(crate) const LIST: &str = "enum List { Nil, Cons(u32, Box<List>) }";
 
-// A text and a zero, two numbers, and at 20 three events: the text, the numbers, and the char A. At 56 the vector that points back at them.
+// A text and a zero, two numbers, and at 20 three events: the text, the numbers, and the char A. At
+// 56 the vector that points back at them.
 pub(crate) const THREE_EVENTS: &[u8] =
     b"hello world\0\x01\0\0\0\x02\0\0\0\x02\0\0\0\x8b\0\0\0\xe8\xff\xff\xff\x04\0\0\0\xe8\xff\xff\xff\x02\0\0\0\x01\0\0\0A\0\0\0\0\0\0\0\xdc\xff\xff\xff\x03\0\0\0";
 
@@ -29,11 +30,13 @@ pub(crate) const THREE_EVENTS: &[u8] =
 pub(crate) const TWO_ENTRIES: &[u8] =
     b"hello world\0\0\0\0\0\x09\0\0\0\0\0\0\0\x03\0\0\0\xfe\xff\xff\xff\x07\0\0\0\0\0\0\0\x0a\0\0\0\0\0\0\0\x02\0\0\0\x8b\0\0\0\xcc\xff\xff\xff\0\0\0\0\xd0\xff\xff\xff\x02\0\0\0";
 
-// Two lines, and at 16 and at 28 two tracks with pointers to the first one, the second also with a box of the second line. At 40 the vector of both.
+// Two lines, and at 16 and at 28 two tracks with pointers to the first one, the second also with a
+// box of the second line. At 40 the vector of both.
 pub(crate) const TWO_TRACKS: &[u8] =
     b"\x01\0\xfe\xff\x03\0\x04\0\x05\0\x06\0\x07\0\x08\0\xf0\xff\xff\xff\0\0\0\0\0\0\0\0\xe4\xff\xff\xff\x01\0\0\0\xe4\xff\xff\xff\xe8\xff\xff\xff\x02\0\0\0";
 
-// A line, a text and a zero, and a line; and at 20 a shared slice of the first one, the shared text, and a weak pointer to the second one.
+// A line, a text and a zero, and a line; and at 20 a shared slice of the first one, the shared
+// text, and a weak pointer to the second one.
 pub(crate) const THREE_RUNS: &[u8] =
     b"\x05\0\x06\0\x07\0\x08\0h\xc3\xa9\0\x01\0\xfe\xff\x03\0\x04\0\xec\xff\xff\xff\x01\0\0\0\xec\xff\xff\xff\x03\0\0\0\xe8\xff\xff\xff";
 

@@ -1,4 +1,5 @@
-//! Defined types in place of their names: those that contain themselves keep a name, and all others are written out, as `tools/derive` has them.
+//! Defined types in place of their names: those that contain themselves keep a name, and all others
+//! are written out, as `tools/derive` has them.
 
 use crate::form::Form;
 use crate::form::labels::TypeLabels;
@@ -22,8 +23,8 @@ fn number_of(declared: &[Declared], name: &str) -> Option<usize> {
     None
 }
 
-// Adds the numbers of the defined types that an expression names to a list; of those behind pointers
-// too, where `far` says so.
+// Adds the numbers of the defined types that an expression names to a list; of those behind
+// pointers too, where `far` says so.
 #[cycle(mentions)]
 #[tactic(auto, using(archive_check::proofs::format::Views::views))]
 fn mention(
@@ -253,7 +254,8 @@ impl Writer<'_> {
     }
 }
 
-// Which defined types are recursive. One that contains itself without a pointer between is a mistake.
+// Which defined types are recursive. One that contains itself without a pointer between is a
+// mistake.
 fn recursive_ones(alloc: Global, declared: &[Declared]) -> Result<Vec<bool>, Wrong> {
     let mut recursive = Vec::new(alloc);
     for (number, it) in declared.iter().enumerate() {

@@ -57,7 +57,8 @@ impl<'a> Walker<'a> {
         Ok(())
     }
 
-    // A region is entered: the range ends where it begins. The pointer's bytes are faulty where it may not be: their position and number.
+    // A region is entered: the range ends where it begins. The pointer's bytes are faulty where it
+    // may not be: their position and number.
     pub(super) fn enter(
         &mut self,
         region: Region,
@@ -85,7 +86,8 @@ impl<'a> Walker<'a> {
         Ok(())
     }
 
-    // Elements that lie one behind another. Those that need not be looked at one by one are passed at once.
+    // Elements that lie one behind another. Those that need not be looked at one by one are passed
+    // at once.
     pub(super) fn elements(&self, place: Place<'a>, count: usize, size: i128) -> OpenElements<'a> {
         let passed = size == 0 || (self.quick && is_free(place.expr));
         OpenElements {

@@ -45,7 +45,8 @@ pub enum Reason {
     Zero(Kind),
     /// A tag, the number of variants, the choice's name in archives, and that for people.
     Tag(u8, usize, &'static str, &'static str),
-    /// A text isn't UTF-8: its length, the index of the first byte that is in no character, and that byte.
+    /// A text isn't UTF-8: its length, the index of the first byte that is in no character, and
+    /// that byte.
     Text(usize, usize, u8),
     /// The length that an out-of-line string codes.
     Coded(usize),

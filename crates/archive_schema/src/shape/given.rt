@@ -1,4 +1,5 @@
-//! Schemas of expressions that are given with their definitions, as those of a text, and what a schema says of itself.
+//! Schemas of expressions that are given with their definitions, as those of a text, and what a
+//! schema says of itself.
 
 ghost use Rattle.std.specs.Prelude.{◌≡◌, None, false, IsTrue, IfOk, IfErr};
 ghost use Rattle.archive_check.specs.Definitions.{listed};
@@ -18,8 +19,10 @@ use std::alloc::Global;
 
 // Those of the definitions that the root reaches, in order.
 fn taken(alloc: Global, root: &Expr, definitions: Vec<Def>) -> Result<Vec<Def>, Error>
-    ensures ok { IfOk result (λ ds. IsTaken (entries_of definitions.items) (shape_of root.now) (entries_of ds.items)) }
-    ensures err { IfErr result (ExplainsNoMeaning (entries_of definitions.items) (shape_of root.now)) }
+    ensures ok { IfOk result (λ ds. IsTaken (entries_of definitions.items) (shape_of root.now)
+        (entries_of ds.items)) }
+    ensures err { IfErr result (ExplainsNoMeaning (entries_of definitions.items)
+        (shape_of root.now)) }
 {
     let mut given = definitions;
     let mut found = match collect(alloc, root, &mut given) {
@@ -42,8 +45,10 @@ impl Schema {
     /// - `ShapeConflict`: a name that is reached has no definition.
     /// - `RecursiveLayout`: a name contains itself other than behind a pointer.
     pub fn new(alloc: Global, root: Expr, definitions: Vec<Def>) -> Result<Schema, Error>
-        ensures made { IfOk result (λ s. IsSchemaAmong s (entries_of definitions.items) (shape_of root)) }
-        ensures refused { IfErr result (ExplainsNoMeaning (entries_of definitions.items) (shape_of root)) }
+        ensures made { IfOk result (λ s. IsSchemaAmong s (entries_of definitions.items)
+            (shape_of root)) }
+        ensures refused { IfErr result (ExplainsNoMeaning (entries_of definitions.items)
+            (shape_of root)) }
     {
         let definitions = taken(alloc, &root, definitions)?;
         let (plan, node, names) = Plan::of(alloc, &definitions, &root)?;
@@ -75,8 +80,10 @@ impl Schema {
     /// Whether each name that `expr` holds, other than behind a pointer, is defined here, as
     /// `layout` requires.
     pub fn defines(&self, expr: &Expr) -> bool
-        ensures held { IsTrue result → missing_in false (listed (definitions_in self.now)) (shape_of expr.now) ≡ None }
-        ensures others { missing_in false (listed (definitions_in self.now)) (shape_of expr.now) ≡ None → IsTrue result }
+        ensures held { IsTrue result → missing_in false (listed (definitions_in self.now))
+            (shape_of expr.now) ≡ None }
+        ensures others { missing_in false (listed (definitions_in self.now)) (shape_of expr.now)
+            ≡ None → IsTrue result }
     {
         match missing(expr, &self.definitions, false) {
             None => true,
