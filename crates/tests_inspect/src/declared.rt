@@ -1,13 +1,15 @@
 // Declarations from which tools/derive writes types: as texts they have the schemas of those types.
 
-use crate::assertions::form_of;
+use crate::assertions::{assert_same, form_of};
 use archive_core::traits::Portable;
+use archive_inspect::explain::explain_as;
 use archive_inspect::form::Form;
 use derived_types::event::ArchivedEvent;
 use derived_types::track::ArchivedRuns;
 use recursive_types::expr::ArchivedExpr;
 use std::alloc::Global;
 use std::process::Abort;
+use std::test::Fail;
 
 // The text has the root and the definitions of the type.
 fn assert_declared<T: Portable>(rt: &impl Abort, alloc: Global, text: &str) {
@@ -41,6 +43,20 @@ pub enum Event {
 #[test]
 fn an_enum(rt: HostRuntime) {
     assert_declared::<ArchivedEvent>(&rt, rt.alloc(), EVENT);
+}
+
+#[test]
+fn a_type_is_explained(rt: HostRuntime) -> Result<(), Fail> {
+    let alloc = rt.alloc();
+    let explanation = explain_as::<ArchivedEvent>(alloc, b"\x09\0\0\0\0\0\0\0\0\0\0\0")?;
+    let line = match explanation {
+        Some(explanation) => format!(in alloc; "{explanation}")?,
+        None => String::new(alloc),
+    };
+    let wanted = "at the root, byte 0: the tag is 9, and ArchivedEvent has 5 variants";
+    assert_same(&rt, "a tag", line.as_str(), wanted);
+    assert!(&rt; explain_as::<ArchivedEvent>(alloc, &[0; 12])?.is_none());
+    Ok(())
 }
 
 const RUNS: &str = "pub struct Spot { pub right: u16, pub up: i16 }

@@ -1,6 +1,6 @@
 //! How a value is looked at.
 
-use crate::form::labels::PartLabels;
+use crate::form::labels::{Labels, PartLabels};
 use crate::walk::bytes::{
     byte_at, coded_length, inline_text, is_out_of_line, number_at, target_at, text_target_at,
 };
@@ -61,6 +61,15 @@ fn variant_name(choice: &str, tag: u8) -> &'static str {
         ("ArchivedResult", 1) => "Err",
         _ => "",
     }
+}
+
+// A choice's name for people, if it is known, else that in archives.
+fn own_name(labels: Option<&Labels>, name: &'static str) -> &'static str {
+    let own = match labels {
+        Some(labels) => labels.own(),
+        None => "",
+    };
+    if own.is_empty() { name } else { own }
 }
 
 impl<'a> Walker<'a> {
@@ -158,11 +167,7 @@ impl<'a> Walker<'a> {
             return Err(nowhere(place));
         };
         let Some(parts) = variants.get(tag as usize) else {
-            let shown = match place.labels {
-                Some(labels) => labels.own(),
-                None => name,
-            };
-            let reason = Reason::Tag(tag, variants.len(), name, shown);
+            let reason = Reason::Tag(tag, variants.len(), name, own_name(place.labels, name));
             return Err(fault_at(place.at, 1, reason));
         };
         let (shown, labels) = self.variant(place, name, tag);

@@ -1,9 +1,12 @@
-use Rattle.archive_inspect.proofs.Explained.{none_explained, refusal_explained}
+use Rattle.std.proofs.Common.{Some, None, IfOk}
+use Rattle.std.proofs.lemmas.Result.{IfOk-weaker}
+use Rattle.archive_schema.proofs.SchemaDefinitions.{schema_meaning}
+use Rattle.archive_inspect.specs.Explained.{ExplainsWhole}
+use Rattle.archive_inspect.proofs.Explained.{explains}
 use Rattle.archive_inspect.proofs.explain.explain.Goals as goal
 
-pub returns-in-Ok : goal.returns-in-Ok
-returns-in-Ok c = none_explained c.args.form.now _ c.args.bytes.now c.schema.ensures c.in-Ok.ensures
-
-pub returns-in_ok-explanation : goal.returns-in_ok-explanation
-returns-in_ok-explanation c =
-    refusal_explained c.args.form.now _ c.args.bytes.now c.schema.ensures _ c.in-Err.refusal c.in-Err.ensures c.in_ok-explanation.ensures.same c.in_ok-explanation.ensures.other
+pub returns : goal.returns
+returns c = IfOk-weaker c.explained.result _ _
+    (λ explanation h L known. explains _ c.args.bytes.now _ _ (schema_meaning c.args.form.now.schema).well_formed c.check_archive-answer.result explanation
+    ((rw c.schema.ensures at c.check_archive-answer.ensures) L known) h)
+    c.explained.ensures
