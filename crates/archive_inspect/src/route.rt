@@ -1,7 +1,7 @@
 //! Ways from the root of an archive to a value in it.
 
 use crate::form::labels::PartLabels;
-use crate::walk::frames::{Frame, Held, OpenElements, OpenParts};
+use crate::walk::frames::{Frame, Held, OpenElements, OpenEntries, OpenParts};
 use std::alloc::{AllocError, Global};
 use std::fmt;
 
@@ -15,6 +15,10 @@ pub enum RouteStep {
     Variant(u8, &'static str),
     /// To an element, by its number.
     Element(usize),
+    /// To the key of an entry, by its number.
+    Key(usize),
+    /// To the value of one.
+    Value(usize),
     /// To the one value that a pointer leads to.
     Target,
 }
@@ -28,6 +32,8 @@ impl fmt::Display for RouteStep {
             RouteStep::Variant(tag, "") => write!(f, ".#{tag}"),
             RouteStep::Variant(_, name) => write!(f, ".{name}"),
             RouteStep::Element(number) => write!(f, "[{number}]"),
+            RouteStep::Key(number) => write!(f, ".key({number})"),
+            RouteStep::Value(number) => write!(f, ".value({number})"),
             RouteStep::Target => f.write_str(".*"),
         }
     }
@@ -85,6 +91,16 @@ fn element_of(elements: &OpenElements<'_>) -> Option<RouteStep> {
     Some(RouteStep::Element(elements.begun.checked_sub(1)?))
 }
 
+// The step to the key or the value that was begun last.
+fn entry_of(entries: &OpenEntries<'_>) -> Option<RouteStep> {
+    let number = entries.begun.checked_sub(1)?;
+    if entries.in_value {
+        Some(RouteStep::Value(number))
+    } else {
+        Some(RouteStep::Key(number))
+    }
+}
+
 /// The step from a frame to what was begun in it last: none for a text, for the root, and for the
 /// only part of a variant.
 pub fn step_in(frame: &Frame<'_>) -> Option<RouteStep> {
@@ -93,6 +109,7 @@ pub fn step_in(frame: &Frame<'_>) -> Option<RouteStep> {
         Frame::Array(elements) => element_of(elements),
         Frame::Region(inside) => match &inside.held {
             Held::Elements(elements) => element_of(elements),
+            Held::Entries(entries) => entry_of(entries),
             Held::One => Some(RouteStep::Target),
             Held::Root | Held::Text => None,
         },

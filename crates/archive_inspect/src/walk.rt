@@ -5,6 +5,7 @@ mod bytes;
 mod entering;
 pub mod faults;
 pub mod frames;
+mod keys;
 pub mod leaves;
 mod looking;
 mod met;
@@ -12,7 +13,7 @@ mod met;
 use crate::form::Form;
 use crate::form::labels::Labels;
 use crate::walk::faults::Stop;
-use crate::walk::frames::{Frame, Place};
+use crate::walk::frames::{Begun, Frame, Place};
 use crate::walk::met::Met;
 use archive_check::format::expr::Expr;
 use std::alloc::Global;
@@ -36,7 +37,7 @@ pub struct Visited<'a> {
     /// How many bytes of its own it has: of a record none, of a choice its tag, of a pointer those
     /// before what it leads to.
     pub size: i128,
-    /// Its expression; of a text that of the pointer to it.
+    /// Its expression; of a text that of the pointer to it, and of a key that of its map.
     pub expr: &'a Expr,
     /// The names of what it has.
     pub labels: Option<&'a Labels>,
@@ -199,7 +200,13 @@ impl<'a> Walker<'a> {
             return Ok(None);
         };
         match frame.advance(form) {
-            Some(place) => self.look_at(place),
+            Some(Begun::Value(place)) => self.look_at(place),
+            Some(Begun::Key(place, key)) => self.look_at_key(place, key),
+            Some(Begun::Behind(place, key, before, at)) => {
+                self.look_at_order(key, before, at)?;
+                self.begin_value();
+                self.look_at(place)
+            }
             None => Ok(self.end()),
         }
     }

@@ -1,6 +1,7 @@
 //! The value of an archive as JSON.
 
 use crate::tree::last_step;
+use archive_check::format::expr::Expr;
 use archive_inspect::form::Form;
 use archive_inspect::route::RouteStep;
 use archive_inspect::walk::faults::Stop;
@@ -21,6 +22,8 @@ enum Kind {
     Something,
     // Elements.
     List,
+    // The entries of a sorted map: a key and its value in turn.
+    Map,
     // What a pointer leads to.
     Target,
 }
@@ -105,7 +108,10 @@ fn opens(found: Visited<'_>) -> Option<Kind> {
         What::Variant(_, name, _) => Some(kind_of(name, found)),
         What::Array(_) => Some(Kind::List),
         What::Pointer(region) => match region.count {
-            Count::Elements(_) => Some(Kind::List),
+            Count::Elements(_) => match found.expr {
+                Expr::Map(_, _) => Some(Kind::Map),
+                _ => Some(Kind::List),
+            },
             Count::Root | Count::One | Count::Text(_) => Some(Kind::Target),
         },
         What::Leaf(_) | What::Text(_) | What::Again(_) | What::Null => None,
@@ -154,6 +160,34 @@ fn variant_of(
     member(alloc, name, held)
 }
 
+// The text of a key.
+fn key_of(alloc: Global, key: Value) -> Result<String, AllocError> {
+    match key {
+        Value::String(text) => Ok(text),
+        key => key.to_string(alloc),
+    }
+}
+
+// Keys and values in turn as an object, which tells how many entries are left out.
+fn entries_of(alloc: Global, values: Vec<Value>, left_out: usize) -> Result<Value, AllocError> {
+    let mut members = Map::new(alloc);
+    let mut key = None;
+    for value in values {
+        key = match key {
+            None => Some(value),
+            Some(key) => {
+                let _ = members.insert(key_of(alloc, key)?, value)?;
+                None
+            }
+        };
+    }
+    if left_out > 0 {
+        let more = Value::String(format!(in alloc; "{left_out} more")?);
+        let _ = members.insert(String::from_str(alloc, "..")?, more)?;
+    }
+    Ok(Value::Object(members))
+}
+
 // The value of what was opened.
 fn closed(alloc: Global, open: Open) -> Result<Value, AllocError> {
     let Open {
@@ -163,7 +197,7 @@ fn closed(alloc: Global, open: Open) -> Result<Value, AllocError> {
         mut values,
         left_out,
     } = open;
-    if kind != Kind::List && left_out > 0 {
+    if kind != Kind::List && kind != Kind::Map && left_out > 0 {
         return text_of(alloc, "..");
     }
     match kind {
@@ -171,6 +205,7 @@ fn closed(alloc: Global, open: Open) -> Result<Value, AllocError> {
         Kind::Variant(name) => variant_of(alloc, name, labels, values),
         Kind::Nothing => Ok(Value::Null),
         Kind::Something | Kind::Target => Ok(only_of(values)),
+        Kind::Map => entries_of(alloc, values, left_out / 2),
         Kind::List => {
             if left_out > 0 {
                 values.push(Value::String(format!(in alloc; ".. {left_out} more")?))?;
@@ -189,7 +224,11 @@ impl Builder {
             self.root = value;
             return Ok(());
         };
-        let is_full = open.kind == Kind::List && open.values.len() >= most;
+        let is_full = match open.kind {
+            Kind::List => open.values.len() >= most,
+            Kind::Map => open.values.len() >= most.saturating_mul(2),
+            _ => false,
+        };
         if is_full || level > self.depth {
             open.left_out = open.left_out.saturating_add(1);
             return Ok(());

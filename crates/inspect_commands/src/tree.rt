@@ -48,7 +48,9 @@ impl<W: io::Write + Drop> Tree<'_, W> {
             None => true,
         };
         match step {
-            Some(RouteStep::Element(number)) => within && number < self.elements,
+            Some(RouteStep::Element(number))
+            | Some(RouteStep::Key(number))
+            | Some(RouteStep::Value(number)) => within && number < self.elements,
             _ => within,
         }
     }
@@ -73,6 +75,8 @@ impl<W: io::Write + Drop> Tree<'_, W> {
             Some(RouteStep::Part(_, name)) => write!(self.out, "{name}: "),
             Some(RouteStep::Variant(_, name)) => write!(self.out, "{name}: "),
             Some(RouteStep::Element(number)) => write!(self.out, "[{number}]: "),
+            Some(RouteStep::Key(number)) => write!(self.out, "key {number}: "),
+            Some(RouteStep::Value(number)) => write!(self.out, "value {number}: "),
             Some(RouteStep::Target) => self.out.write_all(b"*: "),
         }
     }
@@ -211,6 +215,7 @@ impl<W: io::Write + Drop> Tree<'_, W> {
             Expr::Shared(_, _) => "shared ",
             Expr::Weak(_, _) => "weak ",
             Expr::Box(_) => "box ",
+            Expr::Map(_, _) => "map of ",
             _ => "",
         };
         self.out.write_all(owner.as_bytes())?;

@@ -3,7 +3,7 @@
 use crate::assertions::{assert_same, form_of};
 use crate::schemas::{
     ENTRIES, EVENTS, LIST, ONE_IN_A_LIST, RUNS, THREE_EVENTS, THREE_RUNS, TRACKS, TREE,
-    TWO_ENTRIES, TWO_TRACKS, TWO_TREES,
+    TWO_ENTRIES, TWO_IN_A_MAP, TWO_TRACKS, TWO_TREES,
 };
 use inspect_commands::options::{Options, Shown};
 use inspect_commands::report::report;
@@ -213,4 +213,22 @@ at [1], byte 32: the tag is 9, and Event has 5 variants
                                   ^^
 ";
     assert_printed(&rt, rt.alloc(), &given, (EVENTS, &bytes), (1, wanted))
+}
+
+#[test]
+fn maps_of_entries(rt: HostRuntime) -> Result<(), Fail> {
+    let archive = ("BTreeMap<u32, u32>", TWO_IN_A_MAP);
+    let wanted = "      16  map of 2 elements at 0
+       0    key 0: 1
+       4    value 0: 10
+       8    key 1: 2
+      12    value 1: 20
+";
+    assert_printed(&rt, rt.alloc(), &options(Shown::Tree), archive, (0, wanted))?;
+    let wanted = "{
+  \"1\": 10,
+  \"2\": 20
+}
+";
+    assert_printed(&rt, rt.alloc(), &options(Shown::Json), archive, (0, wanted))
 }

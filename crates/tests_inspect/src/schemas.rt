@@ -40,6 +40,10 @@ pub(crate) const TWO_TRACKS: &[u8] =
 pub(crate) const THREE_RUNS: &[u8] =
     b"\x05\0\x06\0\x07\0\x08\0h\xc3\xa9\0\x01\0\xfe\xff\x03\0\x04\0\xec\xff\xff\xff\x01\0\0\0\xec\xff\xff\xff\x03\0\0\0\xe8\xff\xff\xff";
 
+// Two entries, 1 to 10 and 2 to 20, and at 16 the map of both.
+pub(crate) const TWO_IN_A_MAP: &[u8] =
+    b"\x01\0\0\0\x0a\0\0\0\x02\0\0\0\x14\0\0\0\xf0\xff\xff\xff\x02\0\0\0";
+
 // A tree of 5, and at 12 one of 6 that has it as its child.
 pub(crate) const TWO_TREES: &[u8] =
     b"\x05\0\0\0\xfc\xff\xff\xff\0\0\0\0\x06\0\0\0\xf0\xff\xff\xff\x01\0\0\0";

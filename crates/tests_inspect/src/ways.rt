@@ -2,8 +2,8 @@
 
 use crate::assertions::{assert_same, form_of, line_of};
 use crate::schemas::{
-    EVENTS, LIST, ONE_IN_A_LIST, RUNS, THREE_EVENTS, THREE_RUNS, TRACKS, TREE, TWO_TRACKS,
-    TWO_TREES,
+    EVENTS, LIST, ONE_IN_A_LIST, RUNS, THREE_EVENTS, THREE_RUNS, TRACKS, TREE, TWO_IN_A_MAP,
+    TWO_TRACKS, TWO_TREES,
 };
 use std::alloc::Global;
 use std::process::Abort;
@@ -175,4 +175,22 @@ fn ways_to_leaves_of_tuples(rt: HostRuntime) -> Result<(), Fail> {
     let text = "(bool, [NonZeroU16; 2])";
     assert_lines(&rt, rt.alloc(), text, b"\x01\0\x01\0\x02\0", &rows[..2])?;
     assert_lines(&rt, rt.alloc(), text, b"\x01\0\x01\0\x02", &rows[2..])
+}
+
+#[test]
+fn ways_through_maps(rt: HostRuntime) -> Result<(), Fail> {
+    let rows = [
+        (0, 0, ""),
+        (
+            8,
+            1,
+            "at .key(1), byte 8: the key is no greater than the one before it",
+        ),
+        (
+            20,
+            3,
+            "at the root, byte 16: 3 elements of 8 bytes at 0 don't lie within 0..16",
+        ),
+    ];
+    assert_lines(&rt, rt.alloc(), "BTreeMap<u32, u32>", TWO_IN_A_MAP, &rows)
 }

@@ -1,5 +1,6 @@
 //! Sizes and alignments as whole numbers, in which no sum is too large for a position.
 
+use archive_check::format::expr::Key;
 use archive_check::format::layout::Layout as LibraryLayout;
 
 /// A size and an alignment, in bytes.
@@ -25,6 +26,14 @@ impl Layout {
             align: layout.align as i128,
         }
     }
+}
+
+/// What an entry of a sorted map takes, a key and then its value; and where the value begins in it.
+pub fn layout_of_entry(key: Key, value: Layout) -> (Layout, i128) {
+    let offset = rounded_up(key.size() as i128, value.align);
+    let align = (key.align() as i128).max(value.align);
+    let size = rounded_up(offset.saturating_add(value.size), align);
+    (Layout { size, align }, offset)
 }
 
 /// The least multiple of an alignment that is at least a number.

@@ -4,7 +4,7 @@ use crate::form::labels::{Labels, VariantLabels};
 use crate::text::known::SHARED;
 use crate::text::mistakes::{Mistake, Wrong};
 use crate::text::parser::{Read, ReadParts};
-use archive_check::format::expr::{Expr, Pointee};
+use archive_check::format::expr::{Expr, Key, Pointee};
 use std::alloc::Global;
 
 // What a pointer leads to.
@@ -170,6 +170,25 @@ fn pair(mut arguments: Vec<Argument>, at: usize) -> Result<(Read, Argument), Wro
     }
 }
 
+// A sorted map, whose keys are leaves or strings.
+fn map(alloc: Global, at: usize, key: Read, value: Read) -> Result<Read, Wrong> {
+    let key = match key.expr {
+        Expr::Leaf(kind) => Key::Leaf(kind),
+        Expr::Str => Key::Str,
+        _ => {
+            return Err(Wrong {
+                at,
+                mistake: Mistake::Expected("keys that are leaves or a `String`"),
+            });
+        }
+    };
+    let Read { expr, labels } = value;
+    Ok(Read {
+        expr: Expr::Map(key, Box::new(alloc, expr)?),
+        labels: Labels::Inner(Box::new(alloc, labels)?),
+    })
+}
+
 // The type of a word with two arguments.
 fn built_of_pair(
     alloc: Global,
@@ -180,6 +199,7 @@ fn built_of_pair(
     let (first, second) = pair(arguments, at)?;
     match (word, second) {
         ("Result", Argument::Target(error)) => result(alloc, first, error.sized(at)?),
+        ("BTreeMap", Argument::Target(value)) => map(alloc, at, first, value.sized(at)?),
         ("OwnedArray", Argument::Count(count)) => first.array(alloc, count),
         _ => Err(Wrong {
             at,
@@ -209,7 +229,7 @@ pub(super) fn built_of(
         "Shared" => only(arguments, at)?.shared(alloc),
         "SharedSlice" => Target::Run(only(arguments, at)?.sized(at)?).shared(alloc),
         "Weak" | "WeakShared" => only(arguments, at)?.weak(alloc),
-        "Result" | "OwnedArray" => built_of_pair(alloc, word, at, arguments),
+        "Result" | "OwnedArray" | "BTreeMap" => built_of_pair(alloc, word, at, arguments),
         "PhantomData" => {
             let _ = only(arguments, at)?;
             Ok(ReadParts::new(alloc).record(""))

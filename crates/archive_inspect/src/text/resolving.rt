@@ -43,7 +43,7 @@ fn mention(
         Expr::Record(parts) => mention_parts(parts, declared, far, found),
         Expr::Choice(_, variants) => mention_variants(variants, declared, far, found),
         Expr::Array(_, element) => mention(element, declared, far, found),
-        Expr::Vec(element) if far => mention(element, declared, far, found),
+        Expr::Vec(element) | Expr::Map(_, element) if far => mention(element, declared, far, found),
         Expr::Box(pointee) | Expr::Shared(_, pointee) | Expr::Weak(_, pointee) if far => {
             mention_pointee(pointee, declared, far, found)
         }
@@ -189,6 +189,7 @@ impl Writer<'_> {
                 Ok(Expr::Array(*count, self.write_boxed(element, levels)?))
             }
             Expr::Vec(element) => Ok(Expr::Vec(self.write_boxed(element, levels)?)),
+            Expr::Map(key, value) => Ok(Expr::Map(*key, self.write_boxed(value, levels)?)),
             Expr::Box(pointee) => Ok(Expr::Box(self.write_pointee(pointee, levels)?)),
             Expr::Shared(flavor, pointee) => {
                 Ok(Expr::Shared(*flavor, self.write_pointee(pointee, levels)?))

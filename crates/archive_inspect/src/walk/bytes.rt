@@ -8,7 +8,7 @@ use archive_check::format::bytes::{
 };
 
 // Where so many bytes begin, if they lie in the buffer.
-fn start_of(bytes: &[u8], at: i128, size: usize) -> Option<usize>
+pub(super) fn start_of(bytes: &[u8], at: i128, size: usize) -> Option<usize>
     ensures { IfSome result (λ start. start + size ≤ length bytes.now) }
 {
     let start = usize::try_from(at).ok()?;

@@ -56,6 +56,8 @@ pub enum Reason {
     OtherLength(i128),
     /// One is being checked still.
     Cycle(i128),
+    /// A key of a sorted map is no greater than the one before it.
+    Unsorted,
 }
 
 // A number that a refusal tells: those of ranges and alignments fit.
@@ -87,6 +89,7 @@ impl Reason {
             Reason::OtherType(_) => Error::TypeMismatch,
             Reason::OtherLength(_) => Error::MetadataMismatch,
             Reason::Cycle(_) => Error::CyclicValidate,
+            Reason::Unsorted => Error::UnsortedKeys,
         }
     }
 }
@@ -162,6 +165,7 @@ impl fmt::Display for Reason {
                 )
             }
             Reason::Cycle(position) => write!(f, "the shared value at {position} contains itself"),
+            Reason::Unsorted => f.write_str("the key is no greater than the one before it"),
         }
     }
 }

@@ -3,7 +3,7 @@
 use crate::form::Form;
 use crate::form::labels::{Labels, PartLabels};
 use crate::form::layouts::rounded_up;
-use archive_check::format::expr::Expr;
+use archive_check::format::expr::{Expr, Key};
 
 /// A value that is to be looked at.
 #[derive(Clone, Copy)]
@@ -61,6 +61,42 @@ pub struct OpenElements<'a> {
     pub size: i128,
 }
 
+/// The entries of a sorted map.
+#[derive(Clone, Copy)]
+pub struct OpenEntries<'a> {
+    /// The map's expression.
+    pub expr: &'a Expr,
+    /// What the keys are.
+    pub key: Key,
+    /// The expression of each value.
+    pub value: &'a Expr,
+    /// The names of what each value has.
+    pub labels: Option<&'a Labels>,
+    /// How many there are.
+    pub count: usize,
+    /// How many were begun.
+    pub begun: usize,
+    /// Whether the value of the last one of these was begun.
+    pub in_value: bool,
+    /// Where the first one lies.
+    pub at: i128,
+    /// The size of each.
+    pub size: i128,
+    /// Where the value begins in each.
+    pub offset: i128,
+}
+
+// What is looked at next.
+#[derive(Clone, Copy)]
+pub(super) enum Begun<'a> {
+    // A value.
+    Value(Place<'a>),
+    // A key, in the place of its map.
+    Key(Place<'a>, Key),
+    // The value of an entry, once its key is behind that of the entry before it: where both lie.
+    Behind(Place<'a>, Key, i128, i128),
+}
+
 /// What lies in a region.
 #[derive(Clone, Copy)]
 pub enum Held<'a> {
@@ -70,6 +106,8 @@ pub enum Held<'a> {
     One,
     /// Elements.
     Elements(OpenElements<'a>),
+    /// Entries of a sorted map.
+    Entries(OpenEntries<'a>),
     /// A text.
     Text,
 }
@@ -123,14 +161,65 @@ impl<'a> OpenElements<'a> {
     }
 }
 
+impl<'a> OpenEntries<'a> {
+    // The position of a key.
+    fn key_at(&self, number: usize) -> i128 {
+        self.at
+            .saturating_add(self.size.saturating_mul(number as i128))
+    }
+
+    // The next key or value.
+    fn advance(&mut self) -> Option<Begun<'a>> {
+        if self.begun == 0 || self.in_value {
+            return self.advance_key();
+        }
+        let number = self.begun.saturating_sub(1);
+        let at = self.key_at(number);
+        let place = Place {
+            expr: self.value,
+            labels: self.labels,
+            at: at.saturating_add(self.offset),
+        };
+        match number.checked_sub(1) {
+            Some(before) => Some(Begun::Behind(place, self.key, self.key_at(before), at)),
+            None => {
+                self.in_value = true;
+                Some(Begun::Value(place))
+            }
+        }
+    }
+
+    // The next key.
+    fn advance_key(&mut self) -> Option<Begun<'a>> {
+        if self.begun >= self.count {
+            return None;
+        }
+        let at = self.key_at(self.begun);
+        self.begun = self.begun.saturating_add(1);
+        self.in_value = false;
+        let place = Place {
+            expr: self.expr,
+            labels: None,
+            at,
+        };
+        Some(Begun::Key(place, self.key))
+    }
+}
+
+// A value to be looked at, if there is one.
+fn value(place: Option<Place<'_>>) -> Option<Begun<'_>> {
+    Some(Begun::Value(place?))
+}
+
 impl<'a> Frame<'a> {
-    // The next part or element.
-    pub(super) fn advance(&mut self, form: &'a Form) -> Option<Place<'a>> {
+    // The next part, element, key or value.
+    pub(super) fn advance(&mut self, form: &'a Form) -> Option<Begun<'a>> {
         match self {
-            Frame::Parts(parts) => parts.advance(form),
-            Frame::Array(elements) => elements.advance(),
+            Frame::Parts(parts) => value(parts.advance(form)),
+            Frame::Array(elements) => value(elements.advance()),
             Frame::Region(inside) => match &mut inside.held {
-                Held::Elements(elements) => elements.advance(),
+                Held::Elements(elements) => value(elements.advance()),
+                Held::Entries(entries) => entries.advance(),
                 Held::Root | Held::One | Held::Text => None,
             },
         }

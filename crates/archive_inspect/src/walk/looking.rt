@@ -110,11 +110,16 @@ impl<'a> Walker<'a> {
                 self.look_at_shared(pointer, *flavor, pointee)
             }
             Expr::Vec(element) => self.look_at_vector(place, element),
+            Expr::Map(key, value) => self.look_at_map(place, *key, value),
             Expr::Named(_) => Err(nowhere(place)),
         }
     }
 
-    fn look_at_leaf(&mut self, place: Place<'a>, kind: Kind) -> Result<Option<Event<'a>>, Stop> {
+    pub(super) fn look_at_leaf(
+        &mut self,
+        place: Place<'a>,
+        kind: Kind,
+    ) -> Result<Option<Event<'a>>, Stop> {
         let Some(bytes) = leaf_bytes(self.bytes, kind, place.at) else {
             return Err(nowhere(place));
         };
@@ -200,7 +205,7 @@ impl<'a> Walker<'a> {
     }
 
     // An element or a pointee, at the same position.
-    fn within(&self, place: Place<'a>, expr: &'a Expr) -> Place<'a> {
+    pub(super) fn within(&self, place: Place<'a>, expr: &'a Expr) -> Place<'a> {
         let labels = match place.labels {
             Some(labels) => labels.inner(),
             None => None,
@@ -212,7 +217,7 @@ impl<'a> Walker<'a> {
         }
     }
 
-    fn look_at_string(&mut self, place: Place<'a>) -> Result<Option<Event<'a>>, Stop> {
+    pub(super) fn look_at_string(&mut self, place: Place<'a>) -> Result<Option<Event<'a>>, Stop> {
         let bytes = self.bytes;
         if is_out_of_line(bytes, place.at) == Some(false) {
             let text = text_in(inline_text(bytes, place.at).unwrap_or(&[]), place.at)?;
@@ -255,8 +260,8 @@ impl<'a> Walker<'a> {
         }
     }
 
-    // Where the elements lie that a pointer leads to, and how many there are.
-    fn run_at(&self, place: Place<'a>) -> Result<(i128, usize), Stop> {
+    // Where the elements or entries lie that a pointer leads to, and how many there are.
+    pub(super) fn run_at(&self, place: Place<'a>) -> Result<(i128, usize), Stop> {
         let length = number_at(self.bytes, place.at.saturating_add(4));
         match (target_at(self.bytes, place.at), length) {
             (Some(target), Some(length)) => Ok((target, length as usize)),
