@@ -8,6 +8,7 @@ pub mod Planned
 pub mod RelativeLayout
 pub mod Sides
 pub mod PlannedOwners
+pub mod PlannedMaps
 pub mod Variants
 pub mod Options
 pub mod Results
@@ -15,3 +16,4 @@ pub mod Nothing
 pub mod SharedLaws
 pub mod SharedSources
 pub mod Arrays
+pub mod Maps

@@ -1,20 +1,20 @@
 // Iterating over the seal of an option.
 
-ghost use Rattle.archive_core.specs.SealedOptions.{ShowsOption, LeavesItsValue};
+ghost use Rattle.archive_core.specs.SealedOptions.{IsSealOfOption, SealsValue};
 
 use super::Seal;
 use archive_types::option::{ArchivedOption, Iter};
 use archive_types::traits::Portable;
 use std::marker::PhantomData;
 
-/// Iterates as `iter_seal` does, where the seal shows a part of a validated buffer, as it does when
-/// it is made. No byte changes. As in rkyv 0.8.18.
+/// Iterates as `iter_seal` does, where seals come to what the seal shows, as they do when it is
+/// made. No byte changes. As in rkyv 0.8.18.
 impl<'a, T: Portable> IntoIterator for Seal<'a, ArchivedOption<T>> {
     type Item = Seal<'a, T>;
 
     type IntoIter = Iter<Seal<'a, T>>;
 
-    ghost into_iter_gives = { λ s it. ShowsOption T.Portable s → LeavesItsValue T.Portable s it };
+    ghost into_iter_gives = { λ s it. IsSealOfOption T.Portable s → SealsValue T.Portable s it };
 
     // `iter_seal` asks what a call of this trait can't: so this call looks itself whether the tag lies in the buffer.
     fn into_iter(self) -> Iter<Seal<'a, T>> {
