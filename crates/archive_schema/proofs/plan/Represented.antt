@@ -1,7 +1,6 @@
 -- A run over a plan goes as a walk of the shapes that its nodes stand for, or comes to the same fault.
-use Rattle.std.proofs.Common.{◌≡◌, ◌≢◌, ◌⊎◌, inl, inr, ℕ, ℤ, pos, ◌+ℤ◌, refl, sym, ap, ap₂, ◌∙◌, ◌+◌, ◌-◌, ◌*◌, ◌%◌, ◌<◌, ◌≤◌, ◌^◌, max, arith, List, ◌∷◌, length, length-take-le, drop, slice_index, Option, Some, None, cond, is_some, suc, zero, false, Bor, IsUtf8, IsTrue, Contains}
+use Rattle.std.proofs.Common.{◌≡◌, ◌≢◌, ◌⊎◌, inl, inr, ℕ, ℤ, pos, ◌+ℤ◌, refl, sym, ap, ◌∙◌, ◌+◌, ◌-◌, ◌*◌, ◌%◌, ◌<◌, ◌≤◌, ◌^◌, arith, List, ◌∷◌, length, slice_index, Option, Some, None, cond, is_some, suc, zero, false, Bor, IsTrue, Contains}
 use Rattle.std.specs.FinMap.{get, insert}
-use Rattle.std.proofs.lemmas.Str.{IsUtf8-nil}
 use Rattle.archive_check.specs.declared.format.expr.Kind.{Kind as KindExpr}
 use Rattle.archive_check.specs.declared.format.expr.Key.{Key as KeyExpr}
 use Rattle.archive_schema.specs.declared.plan.Node.{Node}
@@ -12,33 +11,29 @@ use Rattle.archive_schema.specs.declared.plan.NodeKind.TheVariants.{Free, Leaf, 
 use Rattle.archive_schema.specs.declared.plan.Span.{Span}
 use Rattle.archive_check.specs.declared.context.positions.SharedType.{SharedType}
 use Rattle.archive_schema.specs.declared.check.Checker.{Checker}
-use Rattle.archive_check.specs.Shape.{Kind, unit, bool, char, number, non_zero, raw_rel, Key, leaf_key, str_key, key_shape, entry_of, str, Flavor, Shape, Pointee, one, run, text, Parts, part, variant_at}
-use Rattle.archive_check.specs.Layout.{kind_size, key_size, key_align, Layouts, up, size_of, align_of}
+use Rattle.archive_check.specs.Shape.{Key, key_shape, entry_of, str, Flavor, Shape, Pointee, one, run, text, Parts, part, variant_at}
+use Rattle.archive_check.specs.Layout.{kind_size, key_size, up, size_of, align_of}
 use Rattle.archive_check.specs.Keys.{ComesBehind, Ascend}
 use Rattle.archive_check.specs.Value.{Pointer}
-use Rattle.archive_check.specs.Reads.{Schema, bytes_at, u32_at, i32_at, IsLegal, IsLegalNumber, kind_number, kind_value, IsOutOfLine, decoded_length, length_at, string_at}
+use Rattle.archive_check.specs.Reads.{Schema, bytes_at, u32_at, i32_at, IsLegal, kind_number, IsOutOfLine, decoded_length, length_at, string_at}
 use Rattle.archive_check.specs.Depth.{Allows, inside}
 use Rattle.archive_check.specs.Tour.{Seen, Entry, pointee_size, pointee_align}
 use Rattle.archive_check.specs.Trail.{Fault, too_large, outside, unaligned, too_deep, cyclic, other_type, other_length, illegal, no_such_variant, unsorted, Trips, trips_leaf, trips_parts, trips_tag, trips_choice, trips_array, trips_boxed, trips_vec, trips_map, trips_inline, trips_short, trips_out_of_line, trips_shared, trips_weak, trips_named, TripsParts, trips_first, trips_later, TripsRun, trips_element, trips_later_element, TripsEntries, trips_key, trips_order, trips_value, trips_later_entry, TripsFollow, trips_unique, trips_before, trips_new, trips_type, trips_length, trips_cycle, TripsEnter, trips_size, trips_range, trips_align, trips_depth, trips_within, TripsContents, trips_one, trips_run, trips_entries, trips_text}
 use Rattle.archive_check.specs.Walk.{Walk, walk_leaf, walk_parts, walk_choice, walk_array, walk_boxed, walk_vec, walk_map, walk_inline, walk_out_of_line, walk_shared, walk_null, walk_weak, walk_named, WalkParts, walk_no_part, walk_part, WalkRun, walk_none, walk_element, Follow, follow_unique, follow_new, follow_again, Enter, enter, WalkContents, walk_one, walk_run, walk_entries, walk_text}
 use Rattle.archive_check.specs.Expressions.{kind_of, key_of, flavor_of, pointee_of}
 use Rattle.archive_check.specs.context.PositionStates.{SameType}
-use Rattle.archive_schema.specs.check.Runs.{pointer_bytes, pointee_count, pointee_length, entry_for, IsNode, Takes, EntryTakes, unit_size, unit_align, RegionIs, NodeRuns, run_free, run_leaf, run_illegal, run_record, run_choice, run_tag, run_array, run_pointer, run_str, run_shared, run_null, run_weak, FollowRuns, follow_before, follow_new as runs_new, follow_again as runs_again, follow_type, follow_length, follow_cycle, PartsRun, parts_end, parts_next, parts_stop, ElementsRun, elements_end, elements_next, elements_free, elements_stop, StringRuns, string_inline, string_no_text, string_short, string_out_of_line, KeyRuns, key_leaf, key_illegal, key_string, OrderRuns, order_key, order_wrong, order_kept, EntriesRun, entries_end, entries_key, entries_value, entries_next, EnterRuns, enter_too_large, enter_outside, enter_unaligned, enter_too_deep, enter_within, enter_stop, ContentsRun, contents_empty, contents_one, contents_run, contents_entries, contents_lone, contents_equal, contents_text, contents_no_text}
+use Rattle.archive_schema.specs.check.Runs.{pointee_count, pointee_length, entry_for, IsNode, Takes, EntryTakes, unit_size, unit_align, RegionIs, NodeRuns, run_free, run_leaf, run_illegal, run_record, run_choice, run_tag, run_array, run_pointer, run_str, run_shared, run_null, run_weak, FollowRuns, follow_before, follow_new as runs_new, follow_again as runs_again, follow_type, follow_length, follow_cycle, PartsRun, parts_end, parts_next, parts_stop, ElementsRun, elements_end, elements_next, elements_free, elements_stop, StringRuns, string_inline, string_no_text, string_short, string_out_of_line, KeyRuns, key_leaf, key_illegal, key_string, OrderRuns, order_key, order_wrong, order_kept, EntriesRun, entries_end, entries_key, entries_value, entries_next, EnterRuns, enter_too_large, enter_outside, enter_unaligned, enter_too_deep, enter_within, enter_stop, ContentsRun, contents_empty, contents_one, contents_run, contents_entries, contents_lone, contents_equal, contents_text, contents_no_text}
 use Rattle.archive_check.specs.Words.Elements.{IsAt}
 use Rattle.archive_check.specs.Outcomes.{Outcome, done, refused}
-use Rattle.archive_schema.specs.plan.SoundPlans.{NodeKindFits, IsSound}
+use Rattle.archive_schema.specs.plan.SoundPlans.{IsSound}
 use Rattle.archive_schema.specs.plan.Represents.{StandsFor, stands, stands_named, PartsStand, parts_over, parts_more, Sized, Points, points_one, points_run, points_entries, points_text, Made, made_free, made_leaf, made_record, made_choice, made_array, made_boxed, made_vec, made_map, made_str, made_shared, made_weak, Represents, OutcomeSays}
 use Rattle.archive_check.proofs.Tours.ReadingUnique.{pos_one}
 use Rattle.archive_schema.proofs.plan.EmptyNodes.{Nothing, empty_number, empty_length, empty_kind, empty_text, empty_key, empty_order}
-use Rattle.archive_schema.proofs.plan.EntryLayouts.{key_takes, entry_layout, value_sized, walk_entry, entry_fits, empty_parts}
-use Rattle.archive_check.specs.Words.BoundedSizes.{fits, rounded}
-use Rattle.archive_schema.specs.plan.BoundedSizes.{sum_of}
-use Rattle.archive_check.proofs.BoundedSizes.{some_is, rounded_fits}
-use Rattle.archive_schema.proofs.plan.BoundedSizes.{sum_fits}
+use Rattle.archive_schema.proofs.plan.EntryLayouts.{key_takes, value_sized, walk_entry, entry_fits, empty_parts}
+use Rattle.archive_check.specs.Words.BoundedSizes.{fits}
+use Rattle.archive_check.proofs.BoundedSizes.{some_is}
 use Rattle.archive_schema.proofs.plan.PlanSizes.{take_same, times_some, times_many, sized_takes, element_few}
 use Rattle.archive_check.proofs.Elements.{same_at}
-use Rattle.archive_check.proofs.LittleEndian.{some_byte}
-use Rattle.archive_check.proofs.Tours.PartsInside.{up_le}
 use Rattle.std.proofs.Math.Nat.{eq_of_mul-eq-mul_left, mul-zero}
 
 pub says_map : {W V : ℕ → Seen → Type 0} {T F : Fault → Type 0} (o : Outcome) → ((a : ℕ) (k : Seen) → W a k → V a k) → ((e : Fault) → T e → F e) → OutcomeSays W T o → OutcomeSays V F o
