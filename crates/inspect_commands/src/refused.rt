@@ -23,6 +23,9 @@ fn print_around<W: io::Write>(
     let start = first_around(bytes.len(), faulty);
     let end = start.saturating_add(AROUND).min(bytes.len());
     let around = bytes.get(start..end).unwrap_or(&[]);
+    if around.is_empty() {
+        return Ok(());
+    }
     write!(out, "{start:>8} ")?;
     for byte in around {
         write!(out, " {byte:02x}")?;

@@ -200,9 +200,19 @@ unused:   10 bytes
     )
 }
 
+// What is printed of bytes that are no three events.
+fn assert_refused(rt: &impl Abort, alloc: Global, bytes: &[u8], wanted: &str) -> Result<(), Fail> {
+    assert_printed(
+        rt,
+        alloc,
+        &options(Shown::Tree),
+        (EVENTS, bytes),
+        (1, wanted),
+    )
+}
+
 #[test]
 fn refused_bytes(rt: HostRuntime) -> Result<(), Fail> {
-    let given = options(Shown::Tree);
     let mut bytes = THREE_EVENTS.to_vec(rt.alloc())?;
     if let Some(byte) = bytes.get_mut(32) {
         *byte = 9;
@@ -212,7 +222,18 @@ at [1], byte 32: the tag is 9, and Event has 5 variants
       24  8b 00 00 00 e8 ff ff ff 09 00 00 00 e8 ff ff ff
                                   ^^
 ";
-    assert_printed(&rt, rt.alloc(), &given, (EVENTS, &bytes), (1, wanted))
+    assert_refused(&rt, rt.alloc(), &bytes, wanted)?;
+    let wanted = "refused: 16 InvalidSubtreePointer
+at the root, byte 0: the root's 8 bytes at 0 don't lie within 0..0
+";
+    assert_refused(&rt, rt.alloc(), b"", wanted)?;
+    let wanted = "refused: 16 InvalidSubtreePointer
+at the root, byte 4: 3 elements of 12 bytes at -32 don't lie within 0..4
+       0  00 00 00 00 dc ff ff ff 03 00 00 00
+                      ^^ ^^ ^^ ^^ ^^ ^^ ^^ ^^
+";
+    let end = THREE_EVENTS.get(52..).unwrap_or(&[]);
+    assert_refused(&rt, rt.alloc(), end, wanted)
 }
 
 #[test]
