@@ -6,8 +6,6 @@ mod assertions;
 #[cfg(test)]
 mod commands;
 #[cfg(test)]
-mod declared;
-#[cfg(test)]
 mod mistakes;
 #[cfg(test)]
 mod places;

@@ -1,9 +1,10 @@
 // Declarations from which tools/derive writes types: as texts they have the schemas of those types.
 
-use crate::assertions::{assert_same, form_of};
+use crate::assertions::assert_same;
 use archive_core::traits::Portable;
 use archive_inspect::explain::explain_as;
 use archive_inspect::form::Form;
+use archive_inspect::text::parse;
 use derived_types::event::ArchivedEvent;
 use derived_types::track::ArchivedRuns;
 use recursive_types::expr::ArchivedExpr;
@@ -13,7 +14,7 @@ use std::test::Fail;
 
 // The text has the root and the definitions of the type.
 fn assert_declared<T: Portable>(rt: &impl Abort, alloc: Global, text: &str) {
-    let written = form_of(rt, alloc, text);
+    let written = parse(alloc, text).expect(rt, "a schema");
     let derived = Form::of::<T>(alloc).expect(rt, "a form");
     let (written, derived) = (written.schema(), derived.schema());
     assert!(rt; written.root() == derived.root());
