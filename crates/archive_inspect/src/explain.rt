@@ -1,6 +1,7 @@
 //! Why bytes are no archive of a form, and where.
 
-ghost use Rattle.std.specs.Prelude.{◌≡◌, ◌-◌, None, IfOk, IfErr};
+ghost use Rattle.std.specs.Prelude.{◌≡◌, ◌≢◌, ◌-◌, None, IfOk, IfErr};
+ghost use Rattle.archive_check.specs.declared.format.error.Error.TheVariants.{OutOfMemory};
 ghost use Rattle.archive_check.specs.Archives.{Answers, ExplainsNoSchema, root_in};
 ghost use Rattle.archive_inspect.specs.Explained.{IsExplained, ExplainsBuffer, ExplainsWhole};
 ghost use Rattle.archive_schema.specs.Schemas.{IsSchemaOf};
@@ -105,10 +106,28 @@ fn explained(
 {
     match answer {
         Ok(()) => Ok(None),
-        Err(Error::OutOfMemory) => Err(AllocError),
         Err(refusal) => {
+            let explanation = located(alloc, form, bytes, refusal)?;
+            Ok(Some(explanation))
+        }
+    }
+}
+
+// A refusal with its place. Fails if memory is refused, also where the refusal says so.
+fn located(
+    alloc: Global,
+    form: &Form,
+    bytes: &[u8],
+    refusal: Error,
+) -> Result<Explanation, AllocError>
+    ensures same { IfOk result (λ x. x.refusal ≡ refusal) }
+    ensures other { IfOk result (λ _. refusal ≢ OutOfMemory) }
+{
+    match refusal {
+        Error::OutOfMemory => Err(AllocError),
+        _ => {
             let place = place_of(alloc, form, bytes, refusal)?;
-            Ok(Some(Explanation { refusal, place }))
+            Ok(Explanation { refusal, place })
         }
     }
 }
