@@ -8,5 +8,4 @@ pub mod pair;
 pub mod point;
 pub mod spot;
 pub mod track;
-pub mod turns;
 pub mod words;

@@ -1,4 +1,4 @@
-//! Tests of the types of derived_types, as a user's own, through public calls. The bytes of each archive were worked out by hand, from docs/FORMAT.md.
+//! Tests of the types of derived_types and derived_turns, as a user's own, through public calls. The bytes of each archive were worked out by hand, from docs/FORMAT.md.
 #![tactic(auto)]
 
 #[cfg(test)]

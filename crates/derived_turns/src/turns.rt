@@ -183,8 +183,8 @@ pub enum TurnResolver {
 }
 
 impl Archive for Turn {
-    ghost use Rattle.derived_types.specs.declared.turns.Turn.TheVariants.{Left as TurnLeft, Right as TurnRight};
-    ghost use Rattle.derived_types.specs.declared.turns.TurnResolver.TheVariants.{Left as TurnLeftKept, Right as TurnRightKept};
+    ghost use Rattle.derived_turns.specs.declared.turns.Turn.TheVariants.{Left as TurnLeft, Right as TurnRight};
+    ghost use Rattle.derived_turns.specs.declared.turns.TurnResolver.TheVariants.{Left as TurnLeftKept, Right as TurnRightKept};
 
     type Archived = ArchivedTurn;
 
@@ -247,8 +247,10 @@ impl Archive for Turn {
     ) -> Result<(), Error>
         requires zeroed { ZeroedPlace 4 place.pos place.bytes.now }
         requires same_value { ⟦<Self as Archive>⟧.belongs self.now resolver }
-        ensures { ResolvesAs ⟦<Self::Archived as Portable>⟧ place
-            (⟦<Self as Archive>⟧.flat self.now resolver) result }
+        ensures {
+            ResolvesAs ⟦<Self::Archived as Portable>⟧ place
+                (⟦<Self as Archive>⟧.flat self.now resolver) result
+        }
     {
         let Place { bytes, pos, .. } = place;
         match self {
@@ -285,7 +287,7 @@ impl<S: Writer + ResolverAlloc> Serialize<S> for Turn {
 
 /// As a region of its own: the value itself.
 impl ArchiveUnsized for Turn {
-    ghost use Rattle.derived_types.specs.contracts.turns.TurnArchive.TheImpl.Laws.{keyed-law as keyed_of_turn, planned-law as planned_of_turn};
+    ghost use Rattle.derived_turns.specs.contracts.turns.TurnArchive.TheImpl.Laws.{keyed-law as keyed_of_turn, planned-law as planned_of_turn};
 
     type Archived = ArchivedTurn;
 
@@ -366,7 +368,7 @@ pub trait TurnView<'a> {
 }
 
 impl<'a> TurnView<'a> for Ref<'a, ArchivedTurn> {
-    ghost use Rattle.derived_types.specs.declared.turns.ViewOfTurn.TheVariants.{Left as TurnLeftShown, Right as TurnRightShown};
+    ghost use Rattle.derived_turns.specs.declared.turns.ViewOfTurn.TheVariants.{Left as TurnLeftShown, Right as TurnRightShown};
 
     fn variant(self) -> ViewOfTurn<'a>
         ensures shows { elim result [
@@ -584,8 +586,10 @@ impl Archive for Steps {
     ) -> Result<(), Error>
         requires zeroed { ZeroedPlace 4 place.pos place.bytes.now }
         requires same_value { ⟦<Self as Archive>⟧.belongs self.now resolver }
-        ensures { ResolvesAs ⟦<Self::Archived as Portable>⟧ place
-            (⟦<Self as Archive>⟧.flat self.now resolver) result }
+        ensures {
+            ResolvesAs ⟦<Self::Archived as Portable>⟧ place
+                (⟦<Self as Archive>⟧.flat self.now resolver) result
+        }
     {
         let Place { bytes, pos, .. } = place;
         let StepsResolver { kept } = resolver;
@@ -613,7 +617,7 @@ impl<S: Writer + ResolverAlloc> Serialize<S> for Steps {
 
 /// As a region of its own: the value itself.
 impl ArchiveUnsized for Steps {
-    ghost use Rattle.derived_types.specs.contracts.turns.StepsArchive.TheImpl.Laws.{keyed-law as keyed_of_steps, planned-law as planned_of_steps};
+    ghost use Rattle.derived_turns.specs.contracts.turns.StepsArchive.TheImpl.Laws.{keyed-law as keyed_of_steps, planned-law as planned_of_steps};
 
     type Archived = ArchivedSteps;
 
