@@ -15,3 +15,4 @@ pub mod Nothing
 pub mod SharedLaws
 pub mod SharedSources
 pub mod Arrays
+pub mod Maps

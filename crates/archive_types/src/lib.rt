@@ -6,6 +6,7 @@ pub mod boxed;
 pub mod choice;
 pub mod compare;
 mod fields;
+pub mod map;
 pub mod option;
 mod owner_pointers;
 pub mod parts;

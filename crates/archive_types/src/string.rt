@@ -3,7 +3,7 @@
 ghost use Rattle.std.specs.Prelude.{◌≡◌, ◌++◌, ◌+◌, ◌<◌, ◌≤◌, ℕ, [], OnOk, IfOk, IfErr, IsOk, IsErrOf, FitsSigned, length, refl, string_bytes};
 ghost use Rattle.std.specs.Int.{w32};
 ghost use Rattle.std.proofs.Common.{inl, inr};
-ghost use Rattle.archive_check.specs.Shape.{str as str_shape, boxed, one, text};
+ghost use Rattle.archive_check.specs.Shape.{str as str_shape, str_key, boxed, one, text};
 ghost use Rattle.archive_check.specs.Definitions.{no_definition};
 ghost use Rattle.archive_check.specs.Members.LeafLayout.{no_definition_reached};
 ghost use Rattle.archive_check.specs.SelfCheck.Laws.{plain_check};
@@ -40,11 +40,11 @@ use crate::primitive::ArchivedUsize;
 use crate::ser::serialize_one;
 use crate::traits::{
     Archive, ArchivePointee, ArchiveUnsized, Deserialize, DeserializeUnsized, Entries, Keys,
-    LayoutRaw, Portable, PortablePointee, Serialize, SerializeUnsized,
+    LayoutRaw, MapKey, Portable, PortablePointee, Serialize, SerializeUnsized,
 };
 use crate::view::{RawView, Ref};
 use archive_check::format::error::Error;
-use archive_check::format::expr::{Defs, Expr, Pointee};
+use archive_check::format::expr::{Defs, Expr, Key, Pointee};
 use archive_check::format::layout::Layout;
 use archive_check::self_check::{BoxStrCheck, StringCheck};
 pub use archive_num::repr;
@@ -131,6 +131,18 @@ impl Portable for ArchivedString {
 
     fn define(_alloc: Global, _defs: &mut Defs) -> Result<(), Error> {
         Ok(())
+    }
+}
+
+impl MapKey for ArchivedString {
+    ghost key = { str_key };
+
+    ghost is_key = { refl };
+
+    ghost key_laid = { refl };
+
+    fn key() -> Key {
+        Key::Str
     }
 }
 
