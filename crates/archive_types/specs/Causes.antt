@@ -1,7 +1,7 @@
 -- Why the writing of a value is refused.
 use Rattle.std.specs.Prelude.{◌≡◌, ◌⊎◌, ℕ, ℤ, pos, suc, ◌+◌, ◌*◌, ◌-◌, ◌^◌, ◌<◌, ◌≤◌, List, ◌∷◌, length, None, Some, IsSomeAnd, Contains, FitsSigned}
 use Rattle.std.specs.Int.{Width, byte_len}
-use Rattle.archive_check.specs.Shape.{Name, Sign, signed, unsigned, Kind, unit, bool, char, number as number_kind, non_zero, raw_rel, Flavor, Shape, leaf, parts, choice, array, boxed, vec, str, shared, weak, named, Pointee, one, run, text, Parts, part, Variants, definition, variant_at}
+use Rattle.archive_check.specs.Shape.{Name, Sign, signed, unsigned, Kind, unit, bool, char, number as number_kind, non_zero, raw_rel, Key, Flavor, Shape, leaf, parts, choice, array, boxed, vec, sorted_map, str, shared, weak, named, Pointee, one, run, text, Parts, part, Variants, definition, variant_at}
 use Rattle.archive_check.specs.Layout.{Layout, up, size_of, align_of}
 use Rattle.archive_check.specs.Definitions.{Definitions, Knows}
 use Rattle.archive_check.specs.Value.{Pointer, Value, number, product, case, list, box, hole, Values, value, pointers}
@@ -9,9 +9,9 @@ use Rattle.archive_check.specs.Reads.{Schema}
 use Rattle.archive_check.specs.Tour.{Region}
 use Rattle.archive_check.specs.WriterState.{KeyState, WriterState}
 use Rattle.archive_check.specs.declared.format.error.Error.{Error}
-use Rattle.archive_check.specs.declared.format.error.Error.TheVariants.{OutOfMemory, IsizeOverflow, OffsetOverflow, PositionTooLarge, LengthTooLarge, NumberTooLarge, StringTooLong, BufferOverflow, WriterFailed, CyclicSerialize, LayoutTooLarge}
+use Rattle.archive_check.specs.declared.format.error.Error.TheVariants.{OutOfMemory, IsizeOverflow, OffsetOverflow, PositionTooLarge, LengthTooLarge, NumberTooLarge, StringTooLong, BufferOverflow, WriterFailed, CyclicSerialize, LayoutTooLarge, UnsortedKeys}
 use Rattle.archive_num.specs.Offsets.{distance, IsTooFar}
-use Rattle.archive_types.specs.Plans.{Cursor, Step, lays, meets, Foreseen, PlanOf, RegionPlan, cursor}
+use Rattle.archive_types.specs.Plans.{Cursor, Step, lays, meets, disorder, Foreseen, PlanOf, RegionPlan, cursor}
 use Rattle.archive_types.specs.Writing.{Naming}
 
 -- Of the planned bytes the writer, which holds those up to a position and ends at `cap`, was to take `count` more: fewer are free.
@@ -31,7 +31,7 @@ pub data Explains (own : Error → Type 0) (reaches : ℕ → Type 0) (old new :
   own_cause : {e : Error} → own e → Explains own reaches old new e
 
 -- The refusals that a value may cause: of an owner's offset; of a position, a length, a number, a string's text; of a key that is pending; of a
--- region's end.
+-- region's end; of a map's keys that don't ascend.
 pub data IsOwnCause : Error → Type 0 where
   of_isize : IsOwnCause IsizeOverflow
   of_offset : IsOwnCause OffsetOverflow
@@ -41,6 +41,7 @@ pub data IsOwnCause : Error → Type 0 where
   of_string : IsOwnCause StringTooLong
   of_key : IsOwnCause CyclicSerialize
   of_layout : IsOwnCause LayoutTooLarge
+  of_order : IsOwnCause UnsortedKeys
 
 -- The refusals that a write may meet: of memory, of the writer's room and device, and those that the value causes.
 pub data IsOfWriting : Error → Type 0 where
@@ -95,6 +96,7 @@ pub data PartOfPointee (s : Schema) : Pointee → ℕ → Value → ℕ → Shap
 pub data IsOwner : Shape → Value → Pointer → Type 0 where
   owner_box : {P : Pointee} {h : Pointer} → IsOwner (boxed P) (box (hole h)) h
   owner_vec : {X : Shape} {h : Pointer} → IsOwner (vec X) (hole h) h
+  owner_map : {K : Key} {V : Shape} {h : Pointer} → IsOwner (sorted_map K V) (hole h) h
   owner_string : {h : Pointer} → IsOwner str (hole h) h
   owner_shared : {flavor : Flavor} {P : Pointee} {h : Pointer} → IsOwner (shared flavor P) (hole h) h
   owner_weak : {flavor : Flavor} {P : Pointee} {h : Pointer} → IsOwner (weak flavor P) (hole h) h
@@ -129,8 +131,8 @@ pub data HindersPartAt : Shape → ℕ → Value → Error → Type 0 where
   too_far_from_here : {Y : Shape} {q : ℕ} {w : Value} {e : Error} {h : Pointer} {t : ℕ} → IsOwner Y w h → h.target ≡ pos t → IsTooFar e (distance q t) → HindersPartAt Y q w e
   looks_null : {flavor : Flavor} {P : Pointee} {q : ℕ} {h : Pointer} → h.target ≡ pos (suc q) → HindersPartAt (weak flavor P) q (hole h) OffsetOverflow
 
--- What hinders a step of a plan: a part of what is read in the region; its length is above 4,294,967,295, its end above `usize::MAX`; or
--- the key is pending.
+-- What hinders a step of a plan: a part of what is read in the region; its length is above 4,294,967,295, its end above `usize::MAX`; the key is pending;
+-- or a map's keys don't ascend.
 pub data HindersStep (s : Schema) : Step → Error → Type 0 where
   part_hinders : {r : Region} {v : Value} {o : ℕ} {Y : Shape} {w : Value} {e : Error}
       → PartOfPointee s r.pointee r.length v o Y w
@@ -139,6 +141,7 @@ pub data HindersStep (s : Schema) : Step → Error → Type 0 where
   length_hinders : {r : Region} {v : Value} → 4294967295 < r.length → HindersStep s (lays r v) LengthTooLarge
   end_hinders : {r : Region} {v : Value} → 2 ^ 64 ≤ r.begin + r.size → HindersStep s (lays r v) LayoutTooLarge
   key_hinders : {key : ℕ} → HindersStep s (meets key) CyclicSerialize
+  order_hinders : HindersStep s disorder UnsortedKeys
 
 -- one of them is hindered
 abbrev pub HindersSome : Schema → List Step → Error → Type 0

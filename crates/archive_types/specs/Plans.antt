@@ -1,8 +1,8 @@
 -- What the writing of a value is planned to come to, whatever the bytes: its regions, one close behind another.
-use Rattle.std.specs.Prelude.{◌≡◌, ℕ, ℤ, zero, suc, ◌<◌, ◌≤◌, Bool, true, false, List, [], ◌∷◌, ◌++◌, length, Option, Some, None, nat_eq}
+use Rattle.std.specs.Prelude.{◌≡◌, ℕ, ℤ, zero, suc, ◌<◌, ◌≤◌, Bool, true, false, cond, List, [], ◌∷◌, ◌++◌, length, Option, Some, None, nat_eq}
 use Rattle.std.specs.Map.{update}
 use Rattle.std.specs.FinMap.{get}
-use Rattle.archive_check.specs.Shape.{Name, Kind, Flavor, Shape, leaf, parts, choice, array, boxed, vec, str, shared, weak, named, Pointee, one, run, text, Parts, no_part, part, Variants, definition, variant_at}
+use Rattle.archive_check.specs.Shape.{Name, Kind, Key, Flavor, Shape, leaf, parts, choice, array, boxed, vec, sorted_map, str, shared, weak, named, Pointee, one, run, text, entry_of, Parts, no_part, part, Variants, definition, variant_at}
 use Rattle.archive_check.specs.Layout.{up}
 use Rattle.archive_check.specs.Definitions.{Definitions, Knows}
 use Rattle.archive_check.specs.Value.{Value, number, product, case, list, text_value, box, null, shared_value, hole, Values, no_value, value}
@@ -10,7 +10,8 @@ use Rattle.archive_check.specs.Reads.{Schema}
 use Rattle.archive_check.specs.Tour.{Region, pointee_align, region_at}
 use Rattle.archive_check.specs.Tightness.{after}
 use Rattle.archive_check.specs.WriterState.{KeyStates, WriterState, no_keys}
-use Rattle.archive_types.specs.Writing.{NameMap, Naming, AreNamed, to_pointee, to_shared, Writes, LaysOut, LaysOutShared}
+use Rattle.archive_types.specs.Writing.{NameMap, Naming, AreNamed, to_pointee, to_entries, to_shared, Writes, LaysOut, LaysOutShared}
+use Rattle.archive_types.specs.ValueOrder.{keys_ascend}
 
 -- where a writer stands: how many bytes it holds, and the states of the shared keys
 pub record Cursor : Type 0 where
@@ -42,10 +43,16 @@ begun c key = record { position = c.position; states = update nat_eq c.states ke
 abbrev pub ended : Cursor → ℕ → ℕ → Cursor
 ended c key p = record { position = c.position; states = update nat_eq c.states key (Some (Some p)) }
 
--- a step of a plan: a region is written, in which this will be read; or a key is met that is pending
+-- a step of a plan: a region is written, in which this will be read; a shared value's key is met that is pending; or a map's keys are met that don't ascend
 pub data Step : Type 0 where
   lays : Region → Value → Step
   meets : ℕ → Step
+  disorder : Step
+
+-- what is met before the entries of a map are written: nothing, where their keys ascend
+abbrev pub disorders : Value → List Step
+disorders (list vs) = cond (keys_ascend vs) [] (disorder ∷ [])
+disorders v = []
 
 -- `Plans s names X v a flat C b`: from a on, what v owns, as an X, comes to the steps C and ends at b; then `flat` is read in v's place, with a hole for
 -- each pointer. A rule for each format. Parts and elements come one after another, what a pointee owns before its region; a shared value comes once, and
@@ -69,6 +76,9 @@ mutual
     plans_vec : {X : Shape} {n t : ℕ} {v : Value} {a b : Cursor} {C : List Step}
         → PlansRegion s names false (run X) n v a t C b
         → Plans s names (vec X) v a (hole (to_pointee t (run X) n)) C b
+    plans_map : {K : Key} {V : Shape} {n t : ℕ} {v : Value} {a b : Cursor} {C : List Step}
+        → PlansRegion s names false (run (entry_of K V)) n v a t C b
+        → Plans s names (sorted_map K V) v a (hole (to_entries t K V n)) (disorders v ++ C) b
     plans_inline : {bytes : List ℕ} {a : Cursor}
         → length bytes ≤ 8
         → Plans s names str (text_value bytes) a (text_value bytes) [] a

@@ -1,7 +1,7 @@
 -- The order of what archives say: numbers by value, texts by their bytes, lists by the first elements that differ and else by length, variants by
 -- their tags, so that `None` is less than `Some` and `Ok` less than `Err`, and pointers by what they lead to.
-use Rattle.std.specs.Prelude.{◌≡◌, ℕ, ℤ, List, Bool}
-use Rattle.std.specs.Ordering.{nat_cmp, int_cmp, ordering_then, is_eq}
+use Rattle.std.specs.Prelude.{◌≡◌, ℕ, ℤ, List, Bool, true, ◌&&◌}
+use Rattle.std.specs.Ordering.{nat_cmp, int_cmp, ordering_then, is_eq, is_lt}
 use Rattle.std.specs.Cmp.Lexicographic.{slice_cmp}
 use Rattle.std.specs.declared.cmp.Ordering.{Ordering}
 use Rattle.std.specs.declared.cmp.Ordering.TheVariants.{Less, Equal, Greater}
@@ -29,6 +29,17 @@ abbrev mutual
   values_cmp no_value (value w ws) = Less
   values_cmp (value v vs) no_value = Greater
   values_cmp (value v vs) (value w ws) = ordering_then (value_cmp v w) (values_cmp vs ws)
+
+-- the key of an entry: the first part of a pair
+abbrev pub key_of_pair : Value → Value
+key_of_pair (product (value k vs)) = k
+key_of_pair v = v
+
+-- whether the keys of entries ascend strictly, each behind the one before it
+abbrev pub keys_ascend : Values → Bool
+keys_ascend no_value = true
+keys_ascend (value v no_value) = true
+keys_ascend (value v (value w vs)) = is_lt (value_cmp (key_of_pair v) (key_of_pair w)) && keys_ascend (value w vs)
 
 -- The second value is the first one, with what it leads to in place of each pointer, shared or not.
 mutual

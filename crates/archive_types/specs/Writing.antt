@@ -2,7 +2,7 @@
 use Rattle.std.specs.Prelude.{◌≡◌, ◌⊎◌, ℕ, ◌+◌, ◌<◌, ◌≤◌, ◌^◌, pos, List, [], ◌∷◌, ◌++◌, length, Option, Some, None, Contains}
 use Rattle.std.specs.Ordering.{nat_cmp}
 use Rattle.std.specs.FinMap.{FinMap, get}
-use Rattle.archive_check.specs.Shape.{Flavor, Shape, Pointee, run}
+use Rattle.archive_check.specs.Shape.{Key, Flavor, Shape, Pointee, run, entry_of}
 use Rattle.archive_check.specs.Layout.{Layout, up}
 use Rattle.archive_check.specs.Definitions.{Definitions, Knows, HasLayout}
 use Rattle.archive_check.specs.Value.{Pointer, Value, Values, box, hole, pointers, all_pointers}
@@ -181,6 +181,13 @@ box_flat P n t = box (hole (to_pointee t P n))
 
 abbrev pub vec_flat : Shape → ℕ → ℕ → Value
 vec_flat X n t = hole (to_pointee t (run X) n)
+
+-- the pointer to a map's entries, which lie in the order of their keys; and what a map of n entries at t reads as
+abbrev pub to_entries : ℕ → Key → Shape → ℕ → Pointer
+to_entries t K V n = record { target = pos t; sharing = None; order = Some K; pointee = run (entry_of K V); length = n }
+
+abbrev pub map_flat : Key → Shape → ℕ → ℕ → Value
+map_flat K V n t = hole (to_entries t K V n)
 
 -- What a pointee owns was appended, and then its own region, which stands at p.
 pub record LaysOut (definitions : Definitions) (old new : WriterState) (keys : List Naming) (p : ℕ) (P : Pointee) (n : ℕ) (value : Value) : Type 0 where

@@ -8,7 +8,7 @@ use Rattle.archive_check.specs.declared.format.error.Error.{Error}
 use Rattle.archive_check.specs.declared.format.error.Error.TheVariants.{OutOfMemory, IsizeOverflow, OffsetOverflow, PositionTooLarge, LengthTooLarge, NumberTooLarge, StringTooLong, BufferOverflow, WriterFailed, ItemWrote, CyclicSerialize, CyclicValidate, CyclicDeserialize, NotStarted, AlreadyFinished, InvalidSubtreePointer, UnalignedPointer, ExceededMaximumSubtreeDepth, RangePoppedTooManyTimes, RangePoppedOutOfOrder, TypeMismatch, MetadataMismatch, LayoutTooLarge, InvalidDiscriminant, InvalidBool, InvalidChar, ZeroNumber, InvalidUtf8, InvalidStringRepr, ShapeConflict, RecursiveLayout, UnsortedKeys}
 use Rattle.archive_write.specs.Written.{IsBeginning, RoomFalls, GoesOn, ExplainsRefusal}
 use Rattle.archive_write.specs.Sharing.{KeepsKnown, IsNoMisuse}
-use Rattle.archive_types.specs.Causes.{Overflows, Explains, no_memory, no_room, device_failed, own_cause, IsOwnCause, of_isize, of_offset, of_position, of_length, of_number, of_string, of_key, of_layout, IsOfWriting, of_memory, of_room, of_device, of_value}
+use Rattle.archive_types.specs.Causes.{Overflows, Explains, no_memory, no_room, device_failed, own_cause, IsOwnCause, of_isize, of_offset, of_position, of_length, of_number, of_string, of_key, of_layout, of_order, IsOfWriting, of_memory, of_room, of_device, of_value}
 
 -- how a writer goes on
 
@@ -200,3 +200,4 @@ writing_no_misuse e (of_value of_number) = ((λ h. cc), (λ h. cc))
 writing_no_misuse e (of_value of_string) = ((λ h. cc), (λ h. cc))
 writing_no_misuse e (of_value of_key) = ((λ h. cc), (λ h. cc))
 writing_no_misuse e (of_value of_layout) = ((λ h. cc), (λ h. cc))
+writing_no_misuse e (of_value of_order) = ((λ h. cc), (λ h. cc))

@@ -9,7 +9,7 @@ use Rattle.archive_check.specs.Tour.{pointee_size, pointee_align}
 use Rattle.archive_check.proofs.Tours.PartsInside.{up_le}
 use Rattle.archive_check.proofs.Names.PositiveAlignments.{align_pos}
 use Rattle.archive_types.specs.Writing.{NameMap}
-use Rattle.archive_types.specs.Plans.{Cursor, AreBelow, begun, ended, Step, Plans, plans_leaf, plans_parts, plans_choice, plans_array, plans_boxed, plans_vec, plans_inline, plans_out_of_line, plans_shared, plans_null, plans_weak, plans_named, PlansParts, plans_no_part, plans_part, PlansRun, plans_none, plans_element, PlansPointee, plans_one, plans_run, plans_text, PlansRegion, plans_region, PlansShared, plans_new, plans_finished, plans_pending}
+use Rattle.archive_types.specs.Plans.{Cursor, AreBelow, begun, ended, Step, Plans, plans_leaf, plans_parts, plans_choice, plans_array, plans_boxed, plans_vec, plans_map, plans_inline, plans_out_of_line, plans_shared, plans_null, plans_weak, plans_named, PlansParts, plans_no_part, plans_part, PlansRun, plans_none, plans_element, PlansPointee, plans_one, plans_run, plans_text, PlansRegion, plans_region, PlansShared, plans_new, plans_finished, plans_pending}
 
 pub pointee_align_low : (s : Schema) → LaidOut s → (P : Pointee) → 1 ≤ pointee_align s P
 pointee_align_low s l (one X) = align_pos s.layouts l.aligned X
@@ -25,6 +25,7 @@ mutual
   plans_forward s l names (plans_array h) = run_forward s l names h
   plans_forward s l names (plans_boxed h) = region_forward s l names h
   plans_forward s l names (plans_vec h) = region_forward s l names h
+  plans_forward s l names (plans_map h) = region_forward s l names h
   plans_forward s l names (plans_inline few) = omega arith
   plans_forward s l names (plans_out_of_line long h) = region_forward s l names h
   plans_forward s l names (plans_shared h) = shared_forward s l names h
@@ -83,6 +84,7 @@ mutual
   plans_below s l names (plans_array h) = run_below s l names h
   plans_below s l names (plans_boxed h) = region_below s l names h
   plans_below s l names (plans_vec h) = region_below s l names h
+  plans_below s l names (plans_map h) = region_below s l names h
   plans_below s l names (plans_inline few) = λ below. below
   plans_below s l names (plans_out_of_line long h) = region_below s l names h
   plans_below s l names (plans_shared h) = shared_below s l names h

@@ -16,7 +16,7 @@ use Rattle.archive_check.proofs.Tours.PartsInside.{up_le}
 use Rattle.archive_check.proofs.Tours.Tightness.{ArePositive, tour_positive, tight_rises}
 use Rattle.archive_types.specs.Writing.{NameMap, AreFinished, AllFinished, to_pointee}
 use Rattle.archive_types.specs.ItemsWritten.{AllShared}
-use Rattle.archive_types.specs.Plans.{Cursor, begun, Step, Plans, plans_leaf, plans_parts, plans_choice, plans_array, plans_boxed, plans_vec, plans_inline, plans_out_of_line, plans_shared, plans_null, plans_weak, plans_named, PlansParts, plans_no_part, plans_part, PlansRun, plans_none, plans_element, PlansRegion, plans_region, PlansShared, plans_new, plans_finished, plans_pending}
+use Rattle.archive_types.specs.Plans.{Cursor, begun, Step, Plans, plans_leaf, plans_parts, plans_choice, plans_array, plans_boxed, plans_vec, plans_map, plans_inline, plans_out_of_line, plans_shared, plans_null, plans_weak, plans_named, PlansParts, plans_no_part, plans_part, PlansRun, plans_none, plans_element, PlansRegion, plans_region, PlansShared, plans_new, plans_finished, plans_pending}
 use Rattle.archive_types.proofs.Planning.PlansForward.{plans_forward, parts_forward, run_forward, pointee_forward, region_forward, region_ends, ends_behind, pointee_align_low}
 
 -- pointers of parts
@@ -94,6 +94,7 @@ mutual
   plans_anywhere s l names (plans_array i) le f h = (let r = run_anywhere s l names i le (λ k n. f k (names_list n)) h in (r.0, λ q. plans_array (r.1 q)))
   plans_anywhere s l names (plans_boxed i) le f h = absurd (not_shared _ [] refl h)
   plans_anywhere s l names (plans_vec i) le f h = absurd (not_shared _ [] refl h)
+  plans_anywhere s l names (plans_map i) le f h = absurd (not_shared _ [] refl h)
   plans_anywhere s l names (plans_inline few) le f h = (refl, λ q. plans_inline few)
   plans_anywhere s l names (plans_out_of_line long i) le f h = absurd (not_shared _ [] refl h)
   plans_anywhere s l names (plans_shared i) le f h = (let r = key_anywhere s l names i le f in (r.0, λ q. plans_shared (r.1 q)))

@@ -2,13 +2,13 @@
 use Rattle.std.proofs.Common.{◌≡◌, inl, inr, ℕ, ℤ, ◌+◌, ◌<◌, ◌≤◌, List, [], ◌∷◌, ◌++◌, length, refl, sym, ap, ◌∙◌, append_assoc, length-append, arith, Option, Some, None}
 use Rattle.std.proofs.lemmas.List.{append-nil}
 use Rattle.std.specs.FinMap.{get}
-use Rattle.archive_check.specs.Shape.{Shape, Pointee, one}
+use Rattle.archive_check.specs.Shape.{Key, Shape, Pointee, one}
 use Rattle.archive_check.specs.Layout.{Layout, up, size_of, align_of}
 use Rattle.archive_check.specs.Definitions.{Definitions, both, Knows, HasLayout}
 use Rattle.archive_check.specs.Value.{Pointer, Value, number, Values, value, no_value, product, case, box, hole, pointers}
 use Rattle.archive_check.specs.Reads.{Schema}
-use Rattle.archive_check.specs.Keys.{in_any_order}
-use Rattle.archive_check.specs.Tour.{Region, contents_one, Leads, Entry, Seen, tour_end, tour_unique, pointee_size, pointee_align, region_of}
+use Rattle.archive_check.specs.Keys.{Ordered, in_any_order}
+use Rattle.archive_check.specs.Tour.{Region, Contents, contents_one, Leads, Entry, Seen, tour_end, tour_unique, pointee_size, pointee_align, region_of}
 use Rattle.archive_check.specs.Denotes.{Fills, rename, fills_number, fills_box, fills_unique, fills_product, fills_case, fills_no_value, fills_value}
 use Rattle.archive_check.specs.Reached.{Names, names_product, names_case, names_box, names_first, names_later}
 use Rattle.archive_check.specs.Tightness.{after}
@@ -213,9 +213,15 @@ writes_cons D E old mid new ks ls v x vs xs h i =
 pub writes_product : (D : Definitions) (old new : WriterState) (ks : List Naming) (vs xs : Values) → WritesAll D old new ks vs xs → Writes D old new ks (product vs) (product xs)
 writes_product D old new ks vs xs h = record { added = h.added; grown = h.grown; states = h.states; finished = finished_product new.states xs h.finished; appends = h.appends; fills = λ w n. fills_product (h.fills w n) }
 
--- the region of a pointee, and what it owns before it
-pub writes_laid : (D : Definitions) (old new : WriterState) (ks : List Naming) (p : ℕ) (P : Pointee) (n : ℕ) (x : Value) → LaysOut D old new ks p P n x → Writes D old new ks (hole (to_pointee p P n)) x
-writes_laid D old new ks p P n x h =
+-- the pointer to a region of its own, which is in an order
+abbrev pub to_ordered : ℕ → Option Key → Pointee → ℕ → Pointer
+to_ordered t o P n = record { target = pos t; sharing = None; order = o; pointee = P; length = n }
+
+-- the region of a pointee, and what it owns before it; it has to be in the order that its pointer asks for
+pub writes_ordered : (D : Definitions) (old new : WriterState) (ks : List Naming) (p : ℕ) (o : Option Key) (P : Pointee) (n : ℕ) (x : Value) → (h : LaysOut D old new ks p P n x)
+    → ((w : World) → Contents w.schema w.bytes p P n h.flat → Fills w.schema w.bytes h.flat (rename w.position x) → Ordered w.schema w.bytes p n o P)
+    → Writes D old new ks (hole (to_ordered p o P n)) x
+writes_ordered D old new ks p o P n x h ordered =
     let m = h.owned in
     let le : length old.bytes ≤ length h.mid.bytes = longer _ _ _ m.grown in
     let ge : length h.mid.bytes ≤ length new.bytes = longer _ _ _ h.grown in
@@ -226,8 +232,10 @@ writes_laid D old new ks p P n x h =
     = λ w k. k.begins ∙ ap (λ z. z ++ k.rest) (h.grown ∙ sym (append_assoc h.mid.bytes h.zeros h.region)) ∙ append_assoc (h.mid.bytes ++ h.zeros) h.region k.rest in
     let stands : (w : World) → Covers w D new.bytes new.states ks → Occurs w.bytes p h.region
     = λ w k. record { before = h.mid.bytes ++ h.zeros; behind = k.rest; is = begins w k; at = length-append h.mid.bytes h.zeros ∙ sym h.at } in
-    let leads : (w : World) → Covers w D new.bytes new.states ks → Leads w.schema w.bytes (to_pointee p P n) p h.flat
-    = λ w k. record { target = refl; fits = omega (arith, h.sized w.schema k.knows, stands_fits _ _ _ (stands w k)); contents = h.contents w.schema w.bytes k.knows (stands w k); ordered = in_any_order } in
+    let leads : (w : World) → Covers w D new.bytes new.states ks → Leads w.schema w.bytes (to_ordered p o P n) p h.flat
+    = λ w k. (
+        let contents = h.contents w.schema w.bytes k.knows (stands w k) in
+        record { target = refl; fits = omega (arith, h.sized w.schema k.knows, stands_fits _ _ _ (stands w k)); contents = contents; ordered = ordered w contents (m.fills w (early w k)) }) in
     record {
       added = m.added ++ (h.zeros ++ h.region);
       grown = h.grown ∙ ap (λ z. z ++ (h.zeros ++ h.region)) m.grown ∙ append_assoc old.bytes m.added (h.zeros ++ h.region);
@@ -236,7 +244,7 @@ writes_laid D old new ks p P n x h =
       appends = λ w pending seen k known unseen. (
           let first = m.appends w pending seen (early w k) known (unseen_before _ _ _ seen ge unseen) in
           let size = h.sized w.schema k.knows in
-          rw h.states (appends_region w _ _ _ _ pending seen (to_pointee p P n) p h.flat le refl (leads w k)
+          rw h.states (appends_region w _ _ _ _ pending seen (to_ordered p o P n) p h.flat le refl (leads w k)
           (h.aligned w.schema k.knows)
           (stands_zero w.bytes _ p h.zeros h.zeroed h.at (stands_begun w.bytes h.mid.bytes h.zeros (h.region ++ k.rest) _ (begins w k) refl))
           (h.clean w.schema w.bytes k.knows (stands w k))
@@ -244,6 +252,10 @@ writes_laid D old new ks p P n x h =
           first));
       fills = λ w k. fills_unique refl (leads w k) (m.fills w (early w k));
     }
+
+-- where no order is asked for
+pub writes_laid : (D : Definitions) (old new : WriterState) (ks : List Naming) (p : ℕ) (P : Pointee) (n : ℕ) (x : Value) → LaysOut D old new ks p P n x → Writes D old new ks (hole (to_pointee p P n)) x
+writes_laid D old new ks p P n x h = writes_ordered D old new ks p None P n x h (λ w c f. in_any_order)
 
 -- one value
 pub lays_one : (D : Definitions) (old mid low new : WriterState) (ks : List Naming) (v x : Value) (X : Shape) (L : Layout) (t : ℕ)
