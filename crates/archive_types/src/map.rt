@@ -6,10 +6,15 @@ ghost use Rattle.archive_check.specs.Shape.{one, sorted_map};
 ghost use Rattle.archive_check.specs.SelfCheck.Maps.{entry_size, entry_definitions};
 ghost use Rattle.archive_types.specs.Members.Maps.{entries_checked, entries_reached};
 
+mod iter;
+mod search;
+mod views;
+
 use crate::traits::{ArchivePointee, MapKey, Portable, PortableParts};
 use archive_check::format::error::Error;
 use archive_check::format::expr::{Defs, Expr};
 use archive_check::self_check::MapCheck;
+pub use iter::Iter;
 use std::alloc::Global;
 use std::marker::PhantomData;
 

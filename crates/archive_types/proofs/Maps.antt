@@ -1,0 +1,5 @@
+-- Sorted maps: what their views show, and how their keys are found.
+pub mod EntriesShown
+pub mod AscendingKeys
+pub mod Halving
+pub mod PairsLeft
