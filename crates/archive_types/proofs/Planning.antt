@@ -3,6 +3,7 @@ pub mod Causes
 pub mod Planned
 pub mod Unhindered
 pub mod Owners
+pub mod PlannedMaps
 pub mod PlansForward
 pub mod PlannedParts
 pub mod Runs

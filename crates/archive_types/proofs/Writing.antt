@@ -11,6 +11,7 @@ pub mod Pointers
 pub mod Records
 pub mod Owned
 pub mod OwnersWritten
+pub mod EntriesWritten
 pub mod PartBytes
 pub mod PlacedParts
 pub mod Arrays

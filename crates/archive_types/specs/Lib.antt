@@ -8,6 +8,7 @@ pub mod Members
 pub mod Causes
 pub mod Compared
 pub mod ValueOrder
+pub mod MapPairs
 pub mod Fields
 pub mod Parts
 pub mod PartsReading

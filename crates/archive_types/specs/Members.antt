@@ -8,6 +8,7 @@ pub mod Planned
 pub mod RelativeLayout
 pub mod Sides
 pub mod PlannedOwners
+pub mod PlannedMaps
 pub mod Variants
 pub mod Options
 pub mod Results

@@ -10,7 +10,7 @@ use Rattle.archive_check.specs.Reads.{Schema}
 use Rattle.archive_check.specs.Tour.{Region, pointee_align, region_at}
 use Rattle.archive_check.specs.Tightness.{after}
 use Rattle.archive_check.specs.WriterState.{KeyStates, WriterState, no_keys}
-use Rattle.archive_types.specs.Writing.{NameMap, Naming, AreNamed, to_pointee, to_entries, to_shared, Writes, LaysOut, LaysOutShared}
+use Rattle.archive_types.specs.Writing.{NameMap, Naming, AreNamed, to_pointee, to_map, to_shared, Writes, LaysOut, LaysOutShared}
 use Rattle.archive_types.specs.ValueOrder.{keys_ascend}
 
 -- where a writer stands: how many bytes it holds, and the states of the shared keys
@@ -78,7 +78,7 @@ mutual
         → Plans s names (vec X) v a (hole (to_pointee t (run X) n)) C b
     plans_map : {K : Key} {V : Shape} {n t : ℕ} {v : Value} {a b : Cursor} {C : List Step}
         → PlansRegion s names false (run (entry_of K V)) n v a t C b
-        → Plans s names (sorted_map K V) v a (hole (to_entries t K V n)) (disorders v ++ C) b
+        → Plans s names (sorted_map K V) v a (hole (to_map t K V n)) (disorders v ++ C) b
     plans_inline : {bytes : List ℕ} {a : Cursor}
         → length bytes ≤ 8
         → Plans s names str (text_value bytes) a (text_value bytes) [] a

@@ -183,11 +183,11 @@ abbrev pub vec_flat : Shape → ℕ → ℕ → Value
 vec_flat X n t = hole (to_pointee t (run X) n)
 
 -- the pointer to a map's entries, which lie in the order of their keys; and what a map of n entries at t reads as
-abbrev pub to_entries : ℕ → Key → Shape → ℕ → Pointer
-to_entries t K V n = record { target = pos t; sharing = None; order = Some K; pointee = run (entry_of K V); length = n }
+abbrev pub to_map : ℕ → Key → Shape → ℕ → Pointer
+to_map t K V n = record { target = pos t; sharing = None; order = Some K; pointee = run (entry_of K V); length = n }
 
 abbrev pub map_flat : Key → Shape → ℕ → ℕ → Value
-map_flat K V n t = hole (to_entries t K V n)
+map_flat K V n t = hole (to_map t K V n)
 
 -- What a pointee owns was appended, and then its own region, which stands at p.
 pub record LaysOut (definitions : Definitions) (old new : WriterState) (keys : List Naming) (p : ℕ) (P : Pointee) (n : ℕ) (value : Value) : Type 0 where

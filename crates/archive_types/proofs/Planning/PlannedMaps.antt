@@ -8,7 +8,7 @@ use Rattle.archive_check.specs.WriterState.{WriterState}
 use Rattle.archive_check.specs.declared.format.error.Error.{Error}
 use Rattle.archive_check.specs.declared.format.error.Error.TheVariants.{PositionTooLarge, LengthTooLarge, UnsortedKeys}
 use Rattle.archive_check.proofs.Elements.{contains_first}
-use Rattle.archive_types.specs.Writing.{Naming, to_entries}
+use Rattle.archive_types.specs.Writing.{Naming, to_map}
 use Rattle.archive_types.specs.ValueOrder.{keys_ascend}
 use Rattle.archive_types.specs.Plans.{cursor, Step, disorder, disorders, Serialized, serialized, SerializedRegion, serialized_region, HasRegionPlan}
 use Rattle.archive_types.specs.Members.PlannedMaps.{map_plan}
@@ -23,12 +23,12 @@ module _ (D : Definitions) (K : Key) (V X : Shape) (is : X ≡ entry_of K V) (n 
   as_entries old new t h = rw is at h
 
   serialized_entries : (t : ℕ) (old new : WriterState) → SerializedRegion D (run (entry_of K V)) n ks (list vs) t old new → keys_ascend vs ≡ true
-      → Serialized D (sorted_map K V) ks (list vs) (hole (to_entries t K V n)) old new
+      → Serialized D (sorted_map K V) ks (list vs) (hole (to_map t K V n)) old new
   serialized_entries t old new (serialized_region region planned) ordered = serialized (writes_map D old new ks t K V n vs ordered region)
-      (λ below s names k m. map_plan D K V n ks (list vs) s names (cursor old) _ _ (λ q C b x. (ap (λ p. hole (to_entries p K V n)) x.0, x.1)) (planned below s names k m))
+      (λ below s names k m. map_plan D K V n ks (list vs) s names (cursor old) _ _ (λ q C b x. (ap (λ p. hole (to_map p K V n)) x.0, x.1)) (planned below s names k m))
 
   pub serialized_map : (t : ℕ) (old new : WriterState) → SerializedRegion D (run X) n ks (list vs) t old new → keys_ascend vs ≡ true
-      → Serialized D (sorted_map K V) ks (list vs) (hole (to_entries t K V n)) old new
+      → Serialized D (sorted_map K V) ks (list vs) (hole (to_map t K V n)) old new
   serialized_map t old new h ordered = serialized_entries t old new (as_entries old new t h) ordered
 
   later_hinders : (s : _) (C : List Step) (e : Error) → HindersSome s C e → HindersSome s (disorders (list vs) ++ C) e
@@ -50,7 +50,7 @@ module _ (D : Definitions) (K : Key) (V X : Shape) (is : X ≡ entry_of K V) (n 
   far_entries_refused t old new far (serialized_region region planned) = own_cause (record {
     named = of_position;
     cause = λ below s names k m. map_plan D K V n ks (list vs) s names (cursor old) _ _
-        (λ q C b x. inr (0, sorted_map K V, hole (to_entries q K V n), part_itself, stands_too_far owner_map refl (omega (arith, x.0, far)))) (planned below s names k m);
+        (λ q C b x. inr (0, sorted_map K V, hole (to_map q K V n), part_itself, stands_too_far owner_map refl (omega (arith, x.0, far)))) (planned below s names k m);
   })
 
   -- its region stands above 4,294,967,295

@@ -20,7 +20,7 @@ use Rattle.archive_types.proofs.Planning.Planned.{own_if_too_far}
 use Rattle.archive_types.proofs.Writing.StringsWritten.{below_32, distance_there}
 
 -- an offset that fits, read where it stands
-offset_there : (bytes : List ℕ) (p t : ℕ) → FitsSigned w32 (distance p t) → Occurs bytes p (to_le_bytes w32 (cast_unsigned w32 (distance p t))) → pos p +ℤ i32_at bytes p ≡ pos t
+pub offset_there : (bytes : List ℕ) (p t : ℕ) → FitsSigned w32 (distance p t) → Occurs bytes p (to_le_bytes w32 (cast_unsigned w32 (distance p t))) → pos p +ℤ i32_at bytes p ≡ pos t
 unfolding i32_at u32_at
 offset_there bytes p t small stands =
     let z : ℤ = distance p t in
@@ -29,7 +29,7 @@ offset_there bytes p t small stands =
     ∙ ap (λ y. pos p +ℤ y) (to_z-of_z w32 z small) ∙ distance_there p t
 
 -- and a length behind it
-length_there : (bytes : List ℕ) (p n : ℕ) → n < 2 ^ 32 → Occurs bytes (p + 4) (to_le_bytes w32 n) → u32_at bytes (p + 4) ≡ n
+pub length_there : (bytes : List ℕ) (p n : ℕ) → n < 2 ^ 32 → Occurs bytes (p + 4) (to_le_bytes w32 n) → u32_at bytes (p + 4) ≡ n
 unfolding u32_at
 length_there bytes p n small stands = ap (from_le_bytes w32) (stands_bytes bytes (p + 4) 4 (to_le_bytes w32 n) refl stands) ∙ from_le_bytes-to_le_bytes_4 n small
 
