@@ -1,0 +1,9 @@
+//! Tests of sorted maps, through public calls.
+#![tactic(auto)]
+
+#[cfg(test)]
+mod archives;
+#[cfg(test)]
+mod assertions;
+#[cfg(test)]
+mod views;
