@@ -3,3 +3,5 @@ pub mod EntriesShown
 pub mod AscendingKeys
 pub mod Halving
 pub mod PairsLeft
+pub mod InsertedPairs
+pub mod MapsRead

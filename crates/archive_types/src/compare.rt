@@ -18,6 +18,7 @@ mod native_lists;
 mod native_owners;
 mod options;
 mod owners;
+mod pairs;
 mod results;
 mod runs;
 mod said;

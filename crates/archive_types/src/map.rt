@@ -7,6 +7,7 @@ ghost use Rattle.archive_check.specs.SelfCheck.Maps.{entry_size, entry_definitio
 ghost use Rattle.archive_types.specs.Members.Maps.{entries_checked, entries_reached};
 
 mod iter;
+mod reading;
 mod search;
 mod views;
 

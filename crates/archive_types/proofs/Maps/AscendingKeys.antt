@@ -44,11 +44,11 @@ ordered_ascend : {s : Schema} {bytes : List ℕ} {t n : ℕ} {K : Key} {V : Shap
 ordered_ascend (in_key_order h) = h
 
 -- what a key means
-abbrev key_value : Key → List ℕ → ℕ → Value
+abbrev pub key_value : Key → List ℕ → ℕ → Value
 key_value (leaf_key kind) bytes p = number (kind_value kind (bytes_at bytes p (kind_size kind)))
 key_value str_key bytes p = text_value (string_text bytes p)
 
-key_compared : (K : Key) (bytes : List ℕ) (p q : ℕ) → value_cmp (key_value K bytes p) (key_value K bytes q) ≡ key_cmp K bytes p q
+pub key_compared : (K : Key) (bytes : List ℕ) (p q : ℕ) → value_cmp (key_value K bytes p) (key_value K bytes q) ≡ key_cmp K bytes p q
 key_compared (leaf_key kind) bytes p q = refl
 key_compared str_key bytes p q = refl
 
@@ -96,6 +96,16 @@ module _ (V : Shape) (K : Key) (s : Schema) (bytes : List ℕ) (q n : ℕ) (l : 
       let (w, y) = within_reached s bytes x (in_parts whole first_part) in
       let z = reached_lies s bytes y in
       rw there at (rw (key_at s.layouts K (t + i * size_of s.layouts (entry_of K V))) at z)
+
+  -- the entries, whose keys ascend
+  pub map_followed : (u : Value) × Lies s bytes first (run (entry_of K V)) count × Ascend K bytes None first (size_of s.layouts (entry_of K V)) count × Contents s bytes first (run (entry_of K V)) count u
+  map_followed =
+      let (v, c) = lies_reads s bytes l in
+      let (t, e, j) = lies_leads s bytes l c (map_at bytes q K V) (map_has bytes q n K V s v c) in
+      let (z, u, leads) = lies_followed s bytes l c (map_at bytes q K V) (map_has bytes q n K V s v c) in
+      let here : t ≡ first = sym (ap position e) in
+      let there : z ≡ first = sym (ap position leads.target) in
+      (u, rw here at j, rw there at (ordered_ascend leads.ordered), rw there at leads.contents)
 
   -- and comes behind the one before it
   next_key : (i : ℕ) → i + 1 < count → key_cmp K bytes (first + i * size_of s.layouts (entry_of K V)) (first + (i + 1) * size_of s.layouts (entry_of K V)) ≡ Less

@@ -1,18 +1,18 @@
 -- What views of maps lead to: their entries, and the keys and values of these.
-use Rattle.std.proofs.Common.{◌≡◌, ℕ, ◌+◌, max, List, Option, Some, refl, sym, ap, ◌∙◌, subst}
+use Rattle.std.proofs.Common.{◌≡◌, ℕ, ◌+◌, List, Option, Some, refl, sym, ap, ◌∙◌, subst}
 use Rattle.archive_check.specs.Shape.{Key, Shape, parts, sorted_map, Pointee, one, run, no_part, part, key_shape, entry_of}
 use Rattle.archive_check.specs.Layout.{Layout, up, key_size, key_align}
 use Rattle.archive_check.specs.Value.{Value}
 use Rattle.archive_check.specs.Reads.{u32_at}
 use Rattle.archive_check.specs.Readable.{target_from}
-use Rattle.archive_check.specs.Definitions.{Definitions, no_definition, both, HasLayout}
-use Rattle.archive_check.specs.Members.PartsLayout.{no_part_laid_out, part_laid_out, record_has_layout}
+use Rattle.archive_check.specs.Definitions.{Definitions, HasLayout}
 use Rattle.archive_check.specs.SelfCheck.Maps.{entry_definitions, entry_size, entry_align}
 use Rattle.archive_check.specs.Viewed.{Viewed}
 use Rattle.archive_check.proofs.Maps.CheckedEntries.{key_first_aligned}
 use Rattle.archive_types.specs.Fields.{field_in}
 use Rattle.archive_types.specs.Maps.{part_in}
 use Rattle.archive_types.specs.Members.Maps.{entry_is}
+use Rattle.archive_types.specs.Members.OrderedPairs.{entry_laid}
 use Rattle.archive_types.specs.Views.{itself, element_in, ShowsPart, AreViewed}
 use Rattle.archive_types.proofs.Viewing.PartsShown.{OwnerShown, map_shown, map_shows, element_viewed}
 
@@ -26,13 +26,13 @@ module _ (D : Definitions) (X V : Shape) (K : Key) (is : X ≡ key_shape K) (byt
 
 -- a part of a part is a part
 module _ (D : Definitions) (bytes : List ℕ) (q : ℕ) (P : Pointee) (n r : ℕ) (Q : Pointee) (m t : ℕ) (O : Pointee) (o : ℕ) where
-  shows_through : (first then both : Value → Option Value) → ((w u x : Value) → first w ≡ Some u → then u ≡ Some x → both w ≡ Some x)
-      → ShowsPart D bytes q P n r Q m first → ShowsPart D bytes r Q m t O o then → ShowsPart D bytes q P n t O o both
-  shows_through first then both joined a b = record {
+  shows_through : (first next joined : Value → Option Value) → ((w u x : Value) → first w ≡ Some u → next u ≡ Some x → joined w ≡ Some x)
+      → ShowsPart D bytes q P n r Q m first → ShowsPart D bytes r Q m t O o next → ShowsPart D bytes q P n t O o joined
+  shows_through first next joined along a b = record {
     shown = λ s root X w k i.
         let (u, e, j) = a.shown s root X w k i in
         let (x, f, l) = b.shown s root X u k j in
-        (x, joined w u x e f, l);
+        (x, along w u x e f, l);
   }
 
 -- the part j of the entry i of the map
@@ -42,14 +42,7 @@ entry_part_shows i j {D} {bytes} {q} {P} {n} {r} {Q} {m} {t} {O} {o} {p} {Z} {z}
     let element = shows_through D bytes q P n r Q m t O o itself (element_in i) (element_in i) (λ w u x e f. let same : w ≡ u = cc in rw same f) a b in
     shows_through D bytes q P n t O o p Z z (element_in i) (field_in j) (λ w. part_in j (element_in i w)) (λ w u x e f. rw e f) element c
 
--- how an entry lies
-pub entry_laid : (D F : Definitions) (X V : Shape) (L M : Layout) → HasLayout D X L → HasLayout F V M → HasLayout (entry_definitions D F) (parts (part X (part V no_part))) (record { size = entry_size L M; align = entry_align L M })
-entry_laid D F X V L M laid valued =
-    let value = part_laid_out F no_definition V M valued no_part 1 (λ n. n) (λ n i. n) no_part_laid_out in
-    let key = part_laid_out D (both F no_definition) X L laid (part V no_part) (max M.align 1) _ _ value in
-    record_has_layout (entry_definitions D F) (part X (part V no_part)) (entry_align L M) _ _ key
-
--- so each of them is viewed
+-- each entry is viewed
 pub entries_viewed : (D F : Definitions) (X V : Shape) (L M : Layout) → HasLayout D X L → HasLayout F V M → (b : List ℕ) (p n : ℕ)
     → Viewed (entry_definitions D F) b p (run (parts (part X (part V no_part)))) n → AreViewed (entry_definitions D F) b p (entry_size L M) (one (parts (part X (part V no_part)))) n
 entries_viewed D F X V L M laid valued b p n v k below =

@@ -26,8 +26,8 @@ loop-low-preserved-in-Less g c =
     let some : low < high = c.loop-low-test.true in
     let here : N (key middle) c.args.key.now ≡ Less = rw (c.entries-entries.ensures.buffer, c.entries-entries.ensures.position) at (sym c.compare_key.ensures ∙ c.in-Less.is) in
     let ascend = map_ascends g.K.ArchivePointee.definitions g.V.ArchivePointee.definitions g.K.Portable.shape g.V.Portable.shape g.K.MapKey.key g.met.K.MapKey.is_key g.K.ArchivePointee.pointee g.met.K.Portable.is_one
-        g.K.Portable.layout g.V.Portable.layout g.met.K.Portable.has_layout g.met.V.Portable.has_layout g.K.Ordered.order g.met.K.Ordered.total g.met.K.Ordered.by_value
-        c.args.map.bytes.now c.args.map.pos c.args.map.len c.args.map.valid in (
+    g.K.Portable.layout g.V.Portable.layout g.met.K.Portable.has_layout g.met.V.Portable.has_layout g.K.Ordered.order g.met.K.Ordered.total g.met.K.Ordered.by_value
+    c.args.map.bytes.now c.args.map.pos c.args.map.len c.args.map.valid in (
       omega (arith, some),
       within,
       later_half g.K.Ordered.order N g.met.K.CompareNative.agrees g.met.K.Ordered.total key (entry_count c.args.map) ascend c.args.key.now low high middle (omega (arith, some, within)) here between,
@@ -46,8 +46,8 @@ loop-low-preserved g c =
     let some : low < high = c.loop-low-test.true in
     let here : N (key middle) c.args.key.now ≡ Greater = rw (c.entries-entries.ensures.buffer, c.entries-entries.ensures.position) at (sym c.compare_key.ensures ∙ c.in-Greater.is) in
     let ascend = map_ascends g.K.ArchivePointee.definitions g.V.ArchivePointee.definitions g.K.Portable.shape g.V.Portable.shape g.K.MapKey.key g.met.K.MapKey.is_key g.K.ArchivePointee.pointee g.met.K.Portable.is_one
-        g.K.Portable.layout g.V.Portable.layout g.met.K.Portable.has_layout g.met.V.Portable.has_layout g.K.Ordered.order g.met.K.Ordered.total g.met.K.Ordered.by_value
-        c.args.map.bytes.now c.args.map.pos c.args.map.len c.args.map.valid in (
+    g.K.Portable.layout g.V.Portable.layout g.met.K.Portable.has_layout g.met.V.Portable.has_layout g.K.Ordered.order g.met.K.Ordered.total g.met.K.Ordered.by_value
+    c.args.map.bytes.now c.args.map.pos c.args.map.len c.args.map.valid in (
       omega (arith, some),
       omega (arith, some, within),
       earlier_half g.K.Ordered.order N g.met.K.CompareNative.agrees g.met.K.Ordered.total key (entry_count c.args.map) ascend c.args.key.now low high middle here between,
