@@ -1,8 +1,11 @@
-// Archives of maps that several tests look at.
+// Maps that several tests write or look at, and their archives.
 
 use archive_core::map::ArchivedSortedMap;
 use archive_core::primitive::ArchivedU32;
 use archive_core::string::ArchivedString;
+use std::alloc::{AllocError, Global};
+use std::collections::BTreeMap;
+use std::process::Abort;
 
 // Numbers to numbers.
 pub(crate) type Numbers = ArchivedSortedMap<ArchivedU32, ArchivedU32>;
@@ -20,3 +23,45 @@ pub(crate) const TEXTS: &[u8] =
 
 // A map without entries.
 pub(crate) const EMPTY: &[u8] = b"\0\0\0\0\0\0\0\0";
+
+// The map of these entries.
+fn made<K: Ord + Copy + Drop, V: Copy + Drop>(
+    alloc: Global,
+    entries: &[(K, V)],
+) -> Result<BTreeMap<K, V>, AllocError> {
+    let mut map = BTreeMap::new(alloc);
+    for (key, value) in entries {
+        map.insert(*key, *value)?;
+    }
+    Ok(map)
+}
+
+// The map of these texts to numbers.
+fn made_of_texts(
+    alloc: Global,
+    entries: &[(&str, u32)],
+) -> Result<BTreeMap<String, u32>, AllocError> {
+    let mut map = BTreeMap::new(alloc);
+    for (text, value) in entries {
+        map.insert(String::from_str(alloc, text)?, *value)?;
+    }
+    Ok(map)
+}
+
+// The map of these entries, for which there is memory.
+pub(crate) fn map_of<K: Ord + Copy + Drop, V: Copy + Drop>(
+    rt: &impl Abort,
+    alloc: Global,
+    entries: &[(K, V)],
+) -> BTreeMap<K, V> {
+    made(alloc, entries).expect(rt, "memory for a map")
+}
+
+// And that of these texts to numbers.
+pub(crate) fn texts_of(
+    rt: &impl Abort,
+    alloc: Global,
+    entries: &[(&str, u32)],
+) -> BTreeMap<String, u32> {
+    made_of_texts(alloc, entries).expect(rt, "memory for a map")
+}

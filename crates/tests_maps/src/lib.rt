@@ -6,4 +6,6 @@ mod archives;
 #[cfg(test)]
 mod assertions;
 #[cfg(test)]
+mod comparisons;
+#[cfg(test)]
 mod views;
