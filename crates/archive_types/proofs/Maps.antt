@@ -5,3 +5,4 @@ pub mod Halving
 pub mod PairsLeft
 pub mod InsertedPairs
 pub mod MapsRead
+pub mod NativePairs

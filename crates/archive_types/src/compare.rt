@@ -15,6 +15,7 @@ mod leaves;
 mod lists;
 mod native;
 mod native_lists;
+mod native_maps;
 mod native_owners;
 mod options;
 mod owners;

@@ -11,7 +11,7 @@ use Rattle.archive_check.specs.Layout.{Layout, kind_size, size_of}
 use Rattle.archive_check.specs.Value.{Value, number, text_value}
 use Rattle.archive_check.specs.Reads.{Schema, bytes_at, u32_at, kind_value, string_at, map_at, reads_leaf, reads_inline, reads_out_of_line}
 use Rattle.archive_check.specs.Readable.{position, target_from, string_text}
-use Rattle.archive_check.specs.Keys.{key_cmp, Ascend, Ordered, in_key_order}
+use Rattle.archive_check.specs.Keys.{key_cmp, Ascend, Ordered, in_any_order, in_key_order}
 use Rattle.archive_check.specs.Tour.{Contents, contents_one, contents_text, Leads}
 use Rattle.archive_check.specs.Within.{first_part, whole, in_parts}
 use Rattle.archive_check.specs.Definitions.{Definitions, no_definition, both, Knows, HasLayout}
@@ -40,7 +40,13 @@ ascend_next K bytes before q z (suc (suc n)) (suc i) a below =
     let there : q + (suc i + 1) * z ≡ q + z + (i + 1) * z = omega arith in
     rw (here, there) (ascend_next K bytes (Some q) (q + z) z (suc n) i a.1 (omega arith))
 
-ordered_ascend : {s : Schema} {bytes : List ℕ} {t n : ℕ} {K : Key} {V : Shape} → Ordered s bytes t n (Some K) (run (entry_of K V)) → Ascend K bytes None t (size_of s.layouts (entry_of K V)) n
+-- those of elements with an order do
+abbrev AscendOf : Schema → List ℕ → ℕ → ℕ → Option Key → Pointee → Type 0
+AscendOf s bytes t n (Some K) (run X) = Ascend K bytes None t (size_of s.layouts X) n
+AscendOf s bytes t n o P = Unit {0}
+
+ordered_ascend : {s : Schema} {bytes : List ℕ} {t n : ℕ} {o : Option Key} {P : Pointee} → Ordered s bytes t n o P → AscendOf s bytes t n o P
+ordered_ascend in_any_order = tt
 ordered_ascend (in_key_order h) = h
 
 -- what a key means

@@ -1,23 +1,26 @@
 -- Pairs and sorted maps: how they are ordered, by keys and then by values, and that this is the order of what they mean.
 use Rattle.std.proofs.Common.{◌≡◌, ℕ, ◌+◌, max, true, IsTrue, List, ◌++◌, Option, Some, refl, sym, ap, ap₂, ◌∙◌, subst}
 use mathlib.Core.Bool.{true≢false}
+use Rattle.std.specs.Cmp.Lexicographic.{slice_cmp}
 use Rattle.std.specs.Cmp.{IsTotalOrder, on_total, then_total}
 use Rattle.std.specs.Ordering.{on, then_cmp, ordering_then, eq_by_cmp, is_eq}
 use Rattle.std.specs.declared.cmp.Ordering.{Ordering}
 use Rattle.std.specs.declared.cmp.Ordering.TheVariants.{Less, Equal, Greater}
 use Rattle.archive_check.specs.Shape.{Key, Shape, parts, sorted_map, one, run, no_part, part, key_shape, entry_of}
 use Rattle.archive_check.specs.Layout.{Layout, up, size_of, align_of}
-use Rattle.archive_check.specs.Value.{Pointer, Value, product, hole, Values, no_value, value}
+use Rattle.archive_check.specs.Value.{Pointer, Value, product, list, hole, Values, no_value, value}
 use Rattle.archive_check.specs.Reads.{Schema, Reads, u32_at, map_at, reads_parts, reads_part, reads_no_part, reads_map}
 use Rattle.archive_check.specs.Readable.{position, target_from}
 use Rattle.archive_check.specs.Tour.{Contents, contents_one, Leads}
 use Rattle.archive_check.specs.Definitions.{Definitions, no_definition, both, Knows, HasLayout}
 use Rattle.archive_check.specs.Members.PartsLayout.{knows_left, knows_right, no_part_laid_out, part_laid_out, record_has_layout}
 use Rattle.archive_check.specs.SelfCheck.Maps.{entry_definitions, entry_size, entry_align}
-use Rattle.archive_types.specs.Compared.{Standing, standing, slice_of, slices}
+use Rattle.archive_types.specs.Compared.{Standing, standing, elements, slice_of, slices}
 use Rattle.archive_types.specs.Maps.{value_begin}
 use Rattle.archive_types.specs.Members.Maps.{entry_is}
-use Rattle.archive_types.specs.Members.OrderedParts.{slices_ordered, then_Equal}
+use Rattle.archive_types.specs.Members.OrderedParts.{slices_ordered, slice_native, then_Equal}
+use Rattle.archive_types.specs.MapPairs.{pair_meaning}
+use Rattle.archive_types.specs.Runs.{each_meaning}
 use Rattle.archive_types.specs.ValueOrder.{value_cmp, values_cmp, Follows, follows_product, follows_pointer, follows_no_value, follows_value, Means, OrdersValues, OrdersNative}
 
 -- the first part of a pair, and the second one, of parts with these layouts
@@ -30,6 +33,10 @@ second_of k l v = standing v.bytes (v.pos + value_begin k l) 0
 -- the order of two pairs: by their first parts, and then by their second ones
 abbrev pub pair_order : Layout → Layout → (Standing → Standing → Ordering) → (Standing → Standing → Ordering) → Standing → Standing → Ordering
 pair_order k l R S = then_cmp (on (first_of k) R) (on (second_of k l) S)
+
+-- that of a pair and one of the machine
+abbrev pub pair_native : {A B : Type 0} → Layout → Layout → (Standing → A → Ordering) → (Standing → B → Ordering) → Standing → A × B → Ordering
+pair_native k l P Q v e = ordering_then (P (first_of k v) e.0) (Q (second_of k l v) e.1)
 
 -- what a pair feeds a hasher
 abbrev pub pair_fed : Layout → Layout → (Standing → List (List ℕ)) → (Standing → List (List ℕ)) → Standing → List (List ℕ)
@@ -93,6 +100,14 @@ module _ (D E : Definitions) (X Y : Shape) (k l : Layout) (laid : HasLayout D X 
       rw (x.is, y.is, by_first _ _ x.first y.first x.first_means y.first_means, by_second _ _ x.second y.second x.second_means y.second_means)
       (ap (ordering_then (value_cmp x.first y.first)) (sym (then_Equal (value_cmp x.second y.second))))
 
+  -- a pair and one of the machine
+  pub pairs_native : {A B : Type 0} (m : A → Value) (n : B → Value) (P : Standing → A → Ordering) (Q : Standing → B → Ordering) → OrdersNative D (one X) m P → OrdersNative E (one Y) n Q
+      → OrdersNative (both D (both E no_definition)) (one (parts (part X (part Y no_part)))) (pair_meaning m n) (pair_native k l P Q)
+  pairs_native m n P Q by_first by_second a v e h =
+      let x = pair_means a v h in
+      rw (x.is, by_first _ x.first e.0 x.first_means, by_second _ x.second e.1 x.second_means)
+      (ap (ordering_then (value_cmp x.first (m e.0))) (sym (then_Equal (value_cmp x.second (n e.1)))))
+
 -- maps: by their pairs
 
 map_led : (D : Definitions) (K : Key) (V : Shape) (s : Schema) (bytes : List ℕ) (q : ℕ) (w : Value) → Knows s D → Follows s bytes (hole (map_at bytes q K V)) w → Means D (run (entry_of K V)) (standing bytes (target_from bytes q q) (u32_at bytes (q + 4))) w
@@ -125,3 +140,11 @@ module _ (D E : Definitions) (X V : Shape) (k l : Layout) (laid : HasLayout D X 
   maps_in_order K is R S by_key by_value =
       let entries = slices_ordered (entry_definitions D E) (parts (part X (part V no_part))) (record { size = entry_size k l; align = entry_align k l }) entry_laid (pair_order k l R S) (pairs_ordered D E X V k l laid other R S by_key by_value) in
       maps_ordered (entry_definitions D E) X V K is (slices (entry_size k l) (pair_order k l R S)) entries
+
+  -- and compared so to pairs of the machine
+  pub maps_native : (K : Key) → X ≡ key_shape K → {A B : Type 0} (m : A → Value) (n : B → Value) (P : Standing → A → Ordering) (Q : Standing → B → Ordering) → OrdersNative D (one X) m P → OrdersNative E (one V) n Q
+      → OrdersNative (entry_definitions D E) (one (sorted_map K V)) (λ es. list (each_meaning (pair_meaning m n) es)) (λ v es. slice_cmp (pair_native k l P Q) (elements (entry_size k l) (slice_of v)) es)
+  maps_native K is m n P Q by_key by_value a v es h =
+      let entries = map_means (entry_definitions D E) X V K is a v h in
+      slice_native (entry_definitions D E) (parts (part X (part V no_part))) (record { size = entry_size k l; align = entry_align k l }) entry_laid (pair_meaning m n) (pair_native k l P Q)
+      (pairs_native D E X V k l laid other m n P Q by_key by_value) (slice_of a) v es entries

@@ -1,7 +1,7 @@
 use Rattle.std.proofs.Common.{◌≡◌, ◌+◌, ◌-◌, ◌*◌, ◌/◌, ◌<◌, ◌≤◌, ℕ, arith, sym, ◌∙◌}
 use Rattle.std.specs.declared.cmp.Ordering.TheVariants.{Less, Greater}
 use Rattle.archive_check.specs.SelfCheck.Maps.{entry_size}
-use Rattle.archive_types.specs.Compared.{standing}
+use Rattle.archive_types.specs.Compared.{Standing, standing}
 use Rattle.archive_types.specs.Words.SeenEntries.{entry_count, first_entry, key_shown}
 use Rattle.archive_types.proofs.Maps.AscendingKeys.{map_ascends}
 use Rattle.archive_types.proofs.Maps.Halving.{later_half, earlier_half, left_half, left_more}
@@ -21,7 +21,7 @@ loop-low-preserved-in-Less g c =
     let high = c.loop-low.high in
     let middle = low + (high - low) / 2 in
     let z = entry_size g.K.Portable.layout g.V.Portable.layout in
-    let key = λ i. standing c.args.map.bytes.now (first_entry c.args.map + i * z) 0 in
+    let key : ℕ → Standing = λ i. standing c.args.map.bytes.now (first_entry c.args.map + i * z) 0 in
     let N = g.K.CompareNative.native_order in
     let some : low < high = c.loop-low-test.true in
     let here : N (key middle) c.args.key.now ≡ Less = rw (c.entries-entries.ensures.buffer, c.entries-entries.ensures.position) at (sym c.compare_key.ensures ∙ c.in-Less.is) in
@@ -41,7 +41,7 @@ loop-low-preserved g c =
     let high = c.loop-low.high in
     let middle = low + (high - low) / 2 in
     let z = entry_size g.K.Portable.layout g.V.Portable.layout in
-    let key = λ i. standing c.args.map.bytes.now (first_entry c.args.map + i * z) 0 in
+    let key : ℕ → Standing = λ i. standing c.args.map.bytes.now (first_entry c.args.map + i * z) 0 in
     let N = g.K.CompareNative.native_order in
     let some : low < high = c.loop-low-test.true in
     let here : N (key middle) c.args.key.now ≡ Greater = rw (c.entries-entries.ensures.buffer, c.entries-entries.ensures.position) at (sym c.compare_key.ensures ∙ c.in-Greater.is) in
