@@ -264,17 +264,8 @@ def view_clauses(whole, part, offset, path):
 """
 
 
-def viewed(seal, pointee, definitions="no_definition"):
-    return f"Viewed {definitions} {seal}.bytes.now {seal}.pos {pointee} {seal}.len"
-
-
 def sealed_clauses(pointee, format, offset, definitions):
     part = f"⟦<{format} as ArchivePointee>⟧.pointee"
-    return f"""        requires viewed {{ {viewed('self', pointee)} }}
-        ensures same_reference {{ result.bytes.ghost_name ≡ self.entry.bytes.ghost_name }}
-        ensures buffer {{ result.bytes.now ≡ self.entry.bytes.now }}
-        ensures position {{ result.pos ≡ self.entry.pos + {offset} }}
-        ensures length {{ result.len ≡ 0 }}
-        ensures viewed {{ {viewed('result', part, definitions)} }}
-        ensures beside {{ SealsBeside no_definition {pointee} {part} result self.entry }}
+    return f"""        requires come_to {{ IsSealOf no_definition {pointee} self }}
+        ensures {{ SealsPart no_definition {pointee} {definitions} {part} (self.entry.pos + {offset}) 0 self.entry result }}
 """

@@ -229,8 +229,7 @@ def views(made):
 def seals(made):
     f = made.formats
     f.use("archive_core::seal", "Seal")
-    f.ghost("Viewed", "Viewed")
-    f.ghost("SealsWritten", "SealsBeside")
+    f.ghost("SealsWritten", "IsSealOf", "SealsPart")
     format_of_all = f"{made.archived}<{', '.join(made.parameters)}>"
     whole = f"⟦<{format_of_all} as ArchivePointee>⟧"
     f.use("archive_core::traits", "ArchivePointee")
@@ -243,16 +242,11 @@ def seals(made):
         f"    type {camel(field.accessor)} = Seal<'a, {format}>;\n" for field, format in zip(made.fields, made.formats_bare)
     )
     parts = f"⟦<{flat(pair(made.formats_bare))} as PortableParts>⟧"
-    viewed = f"Viewed {whole}.definitions {{0}}.bytes.now {{0}}.pos {whole}.pointee {{0}}.len"
+    sealed = f"IsSealOf {whole}.definitions {whole}.pointee {{0}}"
     bodies = "\n".join(
         f"""{signature(f"fn {field.accessor}_mut", [], ["self"], f"Seal<'a, {format}>", 4)}
-        requires viewed {{ {viewed.format("self")} }}
-        ensures same_reference {{ result.bytes.ghost_name ≡ self.entry.bytes.ghost_name }}
-        ensures buffer {{ result.bytes.now ≡ self.entry.bytes.now }}
-        ensures position {{ result.pos ≡ self.entry.pos + {parts}.begin 0 {i} }}
-        ensures length {{ result.len ≡ 0 }}
-        ensures viewed {{ Viewed ⟦<{format} as ArchivePointee>⟧.definitions result.bytes.now result.pos ⟦<{format} as ArchivePointee>⟧.pointee result.len }}
-        ensures beside {{ SealsBeside {whole}.definitions {whole}.pointee ⟦<{format} as ArchivePointee>⟧.pointee result self.entry }}
+        requires come_to {{ {sealed.format("self")} }}
+        ensures {{ SealsPart {whole}.definitions {whole}.pointee ⟦<{format} as ArchivePointee>⟧.definitions ⟦<{format} as ArchivePointee>⟧.pointee (self.entry.pos + {parts}.begin 0 {i}) 0 self.entry result }}
     {{
         self.field({i})
     }}
@@ -269,7 +263,7 @@ def seals(made):
 {heads}}}
 
 {implementation(bound, f"{made.name}Seal", [], f"Seal<'a, {format_of_all}>")}
-    ghost sealed = {{ λ s. {viewed.format("s")} }};
+    ghost sealed = {{ λ s. {sealed.format("s")} }};
 
 {types}
 {bodies}}}

@@ -279,8 +279,7 @@ def seals(record):
         return ""
     f = record.formats
     f.use("archive_core::seal", "Seal", "sealed_part_in_record")
-    f.ghost("Viewed", "Viewed")
-    f.ghost("SealsWritten", "SealsBeside")
+    f.ghost("SealsWritten", "IsSealOf", "SealsPart")
     pointee = f"(one ⟦<{record.archived} as Portable>⟧.shape)"
     heads, bodies = [], []
     for i, (field, format, offset) in enumerate(zip(record.fields, record.formats_of, record.offsets)):
@@ -297,7 +296,7 @@ def seals(record):
 {chr(10).join(heads)}}}
 
 {implementation(["'a"], f"{record.name}Seal", ["'a"], f"Seal<'a, {record.archived}>")}
-    ghost sealed = {{ λ s. Viewed no_definition s.bytes.now s.pos {pointee} s.len }};
+    ghost sealed = {{ λ s. IsSealOf no_definition {pointee} s }};
 
 {chr(10).join(bodies)}}}
 """

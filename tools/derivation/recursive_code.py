@@ -656,5 +656,4 @@ def accessors(it, of_record, of_choice):
     text_ = of_record(whole) if it.is_record else of_choice(whole)
     for name, other in CALLS.items():
         text_ = re.sub(rf"(?<!\w){re.escape(name)}", other, text_)
-    text_ = re.sub(r"Viewed no_definition (self|s)\.", rf"Viewed {it.n}_definitions \1.", text_)
-    return text_.replace("SealsBeside no_definition", f"SealsBeside {it.n}_definitions")
+    return re.sub(r"\b(IsSealOf|SealsPart) no_definition", rf"\1 {it.n}_definitions", text_)

@@ -15,7 +15,6 @@ from .common import (
     resolve_head,
     sealed_clauses,
     taken_apart,
-    viewed,
 )
 from .formats import layout_of, snake
 from .layout import Generic, Group, WIDTH, ended, flat, implementation, lay, literal, pair, signature, statement
@@ -367,8 +366,7 @@ def seals(choice):
     if not any(case.count for case in choice.cases):
         return ""
     f.use("archive_core::seal", "Seal", "sealed_part_in_case")
-    f.ghost("Viewed", "Viewed")
-    f.ghost("SealsWritten", "SealsBeside", "seal_tag")
+    f.ghost("SealsWritten", "IsSealOf", "SealsPart", "seal_tag")
     f.ghost("std.specs.Prelude", "ℕ")
     pointee = f"(one ⟦<{choice.archived} as Portable>⟧.shape)"
     heads, bodies, names = [], [], {}
@@ -380,7 +378,7 @@ def seals(choice):
             names[name] = case.name
             head = signature(f"fn {name}", [], ["self"], f"Seal<'a, {format}>", 4)
             doc = doc_lines(field.docs, f"The field `{field.name}` of `{case.name}`.", 4)
-            heads.append(f"{doc}{head}\n        requires viewed {{ sealed self }}\n        requires tag {{ tag self ≡ {case.tag} }};\n")
+            heads.append(f"{doc}{head}\n        requires come_to {{ sealed self }}\n        requires tag {{ tag self ≡ {case.tag} }};\n")
             call = Generic("sealed_part_in_case", [choice.archived, format], ["self", str(case.tag), str(i), str(offset)])
             clauses = sealed_clauses(pointee, format, offset, f.definitions(field.type)).replace("        ensures", f"        requires tag {{ seal_tag self ≡ {case.tag} }}\n        ensures", 1)
             bodies.append(f"{head}\n{clauses}    {{\n{statement(8, '', call, '')}    }}\n")
@@ -395,7 +393,7 @@ def seals(choice):
 {chr(10).join(heads)}}}
 
 {implementation(["'a"], f"{choice.name}Seal", ["'a"], f"Seal<'a, {choice.archived}>")}
-    ghost sealed = {{ λ s. {viewed("s", pointee)} }};
+    ghost sealed = {{ λ s. IsSealOf no_definition {pointee} s }};
 
     ghost tag = {{ λ s. seal_tag s }};
 

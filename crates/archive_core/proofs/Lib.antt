@@ -1,7 +1,10 @@
 pub mod NamedVariants
 pub mod Nests
+pub mod ComePart
+pub mod SealedParts
 pub mod StandingParts
 pub mod SealedLeaves
+pub mod SealsTogether
 pub mod SharedOnes
 pub mod PooledReading
 pub mod PooledPointers

@@ -1,13 +1,13 @@
--- The parts of an archive stay its parts where a leaf is written over.
-use Rattle.std.proofs.Common.{◌≡◌, ℕ, zero, suc, ◌+◌, ◌-◌, ◌*◌, ◌<◌, ◌≤◌, List, [], ◌∷◌, ◌++◌, length, slice_index, Some, Contains, All, IsUtf8, arith, refl, sym, ap, subst, ◌∙◌}
+-- The parts of an archive stay its parts where a leaf is written over, and what seals come to stays come to.
+use Rattle.std.proofs.Common.{◌≡◌, ℕ, zero, suc, ◌+◌, ◌-◌, ◌*◌, ◌<◌, ◌≤◌, pos, List, [], ◌∷◌, ◌++◌, length, slice_index, Some, Contains, All, IsUtf8, arith, refl, sym, ap, subst, ◌∙◌}
 use Rattle.std.proofs.Math.Logic.{∥∥₁_map}
 use Rattle.std.proofs.lemmas.List.Elements.{All-nil, All-cons, All-append, All-contains}
 use Rattle.archive_check.specs.Shape.{Name, Shape, parts, choice, array, str, named, Pointee, one, run, text, Parts, Variants, definition, variant_at}
 use Rattle.archive_check.specs.Layout.{size_of}
-use Rattle.archive_check.specs.Value.{Pointer, Value, Values, number, product, case, list, text_value, box, hole, no_value, value, pointers}
-use Rattle.archive_check.specs.Reads.{Schema, LaidOut, bytes_at, before_end, IsOutOfLine, Reads, reads_parts, reads_choice, reads_array, reads_inline, reads_out_of_line, reads_named, ReadsParts, reads_part, ReadsRun, reads_none, reads_element}
+use Rattle.archive_check.specs.Value.{Pointer, Value, Values, number, product, case, list, text_value, box, hole, no_value, value, pointers, all_pointers}
+use Rattle.archive_check.specs.Reads.{Schema, LaidOut, bytes_at, u32_at, map_at, before_end, IsOutOfLine, Reads, reads_parts, reads_choice, reads_array, reads_inline, reads_out_of_line, reads_named, ReadsParts, reads_part, ReadsRun, reads_none, reads_element}
 use Rattle.archive_check.specs.Tour.{Region, region_of, root_region, pointee_size, Rising, Contents, contents_one, contents_run, contents_text, Leads, Seen, Tour, tour_end, tour_unique, tour_new, tour_again, Accepted}
-use Rattle.archive_check.specs.Leaves.{Leaf, number_leaf, text_leaf, leaf_begin, leaf_size, leaf_value, leaves, leaves_of_contents, leaves_of_tour, leaves_of, regions_of, edit, Overwrites, overwrites_number, overwrites_text, Replaced, Altered, altered_here, altered_product, altered_case, altered_list, altered_box, AlteredAmong, altered_first, altered_later, StillAccepted}
+use Rattle.archive_check.specs.Leaves.{Leaf, number_leaf, text_leaf, leaf_begin, leaf_size, leaf_value, leaves, leaves_of_contents, leaves_of_tour, leaves_of, regions_of, IsFree, edit, Overwrites, overwrites_number, overwrites_text, Replaced, Altered, altered_here, altered_product, altered_case, altered_list, altered_box, AlteredAmong, altered_first, altered_later, StillAccepted}
 use Rattle.archive_check.specs.Within.{IsPart, first_part, later_part, Within, whole, in_parts, in_choice, in_array, in_named, PartOf, whole_region, in_one, in_run, in_string, PartOfSome}
 use Rattle.archive_check.proofs.Editing.EditedArchives.{replaced_has, Split, in_first, in_later, split, overwrites_size, renewed, contents_renewed, accepted_renewed, leaf_fits, replaced_one}
 use Rattle.archive_check.proofs.Editing.EditedBytes.{Edits, edit_edits}
@@ -17,10 +17,14 @@ use Rattle.archive_check.proofs.Tours.JoinedTours.{rising_le, rising_front, risi
 use Rattle.archive_check.proofs.Meanings.MeaningUnique.{tours_one}
 use Rattle.archive_check.proofs.Tours.RegionsApart.{Between, leaves_between, contents_between, tour_between}
 use Rattle.archive_check.proofs.Editing.Texts.{inline_bytes}
-use Rattle.archive_check.specs.Definitions.{Definitions, Knows}
+use Rattle.archive_check.proofs.Tours.ReadingUnique.{contents_one_value}
+use Rattle.archive_check.specs.ComesTo.{ComesTo, to_root, to_part, to_element, to_text, to_target, to_value}
 use Rattle.archive_check.specs.Revised.{WritesLeaf}
 use Rattle.archive_types.specs.Sealed.{StandsIn}
-use Rattle.archive_types.specs.Standing.{KeepsParts, View, view, LieTogether, KeepsViews}
+use Rattle.archive_types.specs.Standing.{View, view}
+use Rattle.archive_core.specs.SealsKept.{IsFreeIn, KeepsParts, LieTogether, KeepsSeals}
+use Rattle.archive_core.specs.SealsWritten.{WritesOver}
+use Rattle.archive_core.proofs.ComePart.{map_hole, come_part}
 
 -- the second value is the first one, or that with the leaf y in place of x
 data Kin (x y : Leaf) : Value → Value → Type 0 where
@@ -118,6 +122,37 @@ hole_altered (altered_box a) e f = cc
 hole_kin : {x y : Leaf} {v w : Value} {t : List ℕ} {p : Pointer} → Kin x y v w → v ≡ text_value t → w ≡ hole p → ⊥
 hole_kin kin_same e f = cc
 hole_kin (kin_altered a) e f = hole_altered a e f
+
+-- what is altered has the pointers that it had
+
+leaf_pointers : (x : Leaf) → pointers (leaf_value x) ≡ []
+leaf_pointers (number_leaf p kind z) = refl
+leaf_pointers (text_leaf p t) = refl
+
+mutual
+  altered_pointers : {x y : Leaf} {v w : Value} → Altered x y v w → pointers w ≡ pointers v
+  altered_pointers {x} {y} altered_here = leaf_pointers y ∙ sym (leaf_pointers x)
+  altered_pointers (altered_product a) = among_pointers a
+  altered_pointers (altered_case a) = among_pointers a
+  altered_pointers (altered_list a) = among_pointers a
+  altered_pointers (altered_box a) = altered_pointers a
+
+  among_pointers : {x y : Leaf} {vs ws : Values} → AlteredAmong x y vs ws → all_pointers ws ≡ all_pointers vs
+  among_pointers (altered_first {vs = vs} a) = ap (λ O. O ++ all_pointers vs) (altered_pointers a)
+  among_pointers (altered_later {v = v} a) = ap (λ O. pointers v ++ O) (among_pointers a)
+
+kin_pointers : {x y : Leaf} {v w : Value} → Kin x y v w → pointers w ≡ pointers v
+kin_pointers kin_same = refl
+kin_pointers (kin_altered a) = altered_pointers a
+
+-- and what is a pointer alone stays that pointer
+holes_kin : {x y : Leaf} {v w : Value} {p q : Pointer} → Kin x y v w → v ≡ hole p → w ≡ hole q → q ≡ p
+holes_kin kin_same e f = cc
+holes_kin {x} (kin_altered altered_here) e f = absurd (not_hole x e)
+holes_kin (kin_altered (altered_product a)) e f = cc
+holes_kin (kin_altered (altered_case a)) e f = cc
+holes_kin (kin_altered (altered_list a)) e f = cc
+holes_kin (kin_altered (altered_box a)) e f = cc
 
 module _ (s : Schema) (laid : LaidOut s) (bytes new b : List ℕ) (x y : Leaf) (o : Overwrites b x y) (d : Edits bytes new (leaf_begin x) b) where
   -- what the region says before and after
@@ -296,37 +331,78 @@ module _ (s : Schema) (laid : LaidOut s) (bytes new b : List ℕ) (x y : Leaf) (
       let (now, size, both) = string_step inline a f g in
       (subst (λ m. PartOf s new r q text m) size (in_string j now), both)
 
-  parts_stay : {root : ℕ} {X : Shape} (a : Accepted s bytes root X) {ms : List Leaf} → Replaced x y (leaves_of a) ms → (c : Accepted s new root X) → (q : ℕ) (P : Pointee) (n : ℕ)
+  parts_stay : {root : ℕ} {X : Shape} (a : Accepted s bytes root X) {ms : List Leaf} → IsFree a x → Replaced x y (leaves_of a) ms → (c : Accepted s new root X) → (q : ℕ) (P : Pointee) (n : ℕ)
       → PartOfSome s bytes (regions_of a) q P n → PartOfSome s new (regions_of c) q P n
-  parts_stay {root = root} {X = X} a {ms} k c q P n (r, i, j) =
-      let still : StillAccepted s bytes new root X a ms = accepted_renewed s laid bytes new b a k o d in
+  parts_stay {root = root} {X = X} a {ms} free k c q P n (r, i, j) =
+      let still : StillAccepted s bytes new root X a ms = accepted_renewed s laid bytes new b a free k o d in
       let same : c.regions ≡ a.regions = (tours_one s new still.after c).0 ∙ still.regions in
       let (v, w, f, g, h) = All-contains Kept (regions_of a) r (accepted_kept a k) i in
       (r, rw same i, (part_kept j f g h).0)
 
--- where legal bytes are written over a leaf
-pub leaf_keeps : (bytes new b : List ℕ) (x y : Leaf) → Overwrites b x y → new ≡ edit bytes (leaf_begin x) b → KeepsParts x bytes new
-leaf_keeps bytes new b x y o e = record {
-  parts = λ s root X laid a has c q P n i.
-      let (ms, k) = replaced_one x y (leaves_of a) has in
-      let edits : Edits bytes (edit bytes (leaf_begin x) b) (leaf_begin x) b = edit_edits bytes (leaf_begin x) b (omega (arith, leaf_fits s laid bytes a k, overwrites_size o)) in
-      let d : Edits bytes new (leaf_begin x) b = rw e edits in
-      parts_stay s laid bytes new b x y o d a k c q P n i;
-}
+  -- what a seal comes to says the same as before, but for the leaf
+  module _ {root : ℕ} {X : Shape} (a : Accepted s bytes root X) {ms : List Leaf} (k : Replaced x y (leaves_of a) ms) where
+    there_both : {q n : ℕ} {P : Pointee} → ComesTo s bytes root X q P n → BothContents q P n
+    there_both h =
+        let (r, i, j) = come_part s bytes a h in
+        let (v, w, f, g, kin) = All-contains Kept (regions_of a) r (accepted_kept a k) i in
+        (part_kept j f g kin).1
 
--- so views of one archive, of which one shows the leaf, stay such
-pub views_kept : (old new : List ℕ) (x y : Leaf) (q : ℕ) (P : Pointee) (n : ℕ) → WritesLeaf x y old new → KeepsParts x old new → StandsIn old q P n x → KeepsViews old new (view q P n)
-views_kept old new x y q P n w keeps stands = record { views = λ D views c h. ∥∥₁_map h (λ (s, k, l). (s, k, together D views c s k l)) }
-  where
-    together : (D : Definitions) (views : List View) → Contains views (view q P n) → (s : Schema) → Knows s D → LieTogether s old views → LieTogether s new views
-    together D views c s k l =
-        let here : PartOfSome s old (regions_of l.accepted) q P n = All-contains (λ v. PartOfSome s old (regions_of l.accepted) v.begin v.pointee v.length) views (view q P n) l.parts c in
-        let has : Contains (leaves_of l.accepted) x = stands s l.root l.shape l.accepted here in
-        let (xs, replaced) = w.stands s l.root l.shape l.accepted has in
-        let still = w.accepted s l.root l.shape k.laid_out l.accepted xs replaced in
+    come_kept : {q n : ℕ} {P : Pointee} → ComesTo s bytes root X q P n → ComesTo s new root X q P n
+    come_kept to_root = to_root
+    come_kept (to_part h i) =
+        let (v, w, f, g, kin) = there_both h in
+        to_part (come_kept h) (one_step i f g kin).0
+    come_kept (to_element h below) = to_element (come_kept h) below
+    come_kept (to_text {q = q} h inline) =
+        let (v, w, f, g, kin) = there_both h in
+        let (now, size, both) = string_step inline f g kin in
+        subst (λ m. ComesTo s new root X q text m) size (to_text (come_kept h) now)
+    come_kept (to_target {v = u} {p = p} h c m free there) =
+        let (v, w, f, g, kin) = there_both h in
+        let same : u ≡ v = contents_one_value c f in
+        let has : Contains (pointers w) p = rw (kin_pointers kin, ← same) m in
+        to_target (come_kept h) g has free there
+    come_kept (to_value {q = q} {t = t} {k = i} {K = K} {V = V} h there below) =
+        let (v, w, f, g, kin) = there_both h in
+        let same : map_at new q K V ≡ map_at bytes q K V = holes_kin kin (map_hole f) (map_hole g) in
+        let target : (map_at new q K V).target ≡ pos t = ap (λ (p : Pointer). p.target) same ∙ there in
+        let count : u32_at new (q + 4) ≡ u32_at bytes (q + 4) = ap (λ (p : Pointer). p.length) same in
+        to_value (come_kept h) target (rw count below)
+
+-- where legal bytes are written over a leaf
+module _ (bytes new b : List ℕ) (x y : Leaf) (o : Overwrites b x y) (e : new ≡ edit bytes (leaf_begin x) b) where
+  edits_at : (s : Schema) → LaidOut s → {root : ℕ} {X : Shape} (a : Accepted s bytes root X) {ms : List Leaf} → Replaced x y (leaves_of a) ms → Edits bytes new (leaf_begin x) b
+  edits_at s laid a k =
+      let edits : Edits bytes (edit bytes (leaf_begin x) b) (leaf_begin x) b = edit_edits bytes (leaf_begin x) b (omega (arith, leaf_fits s laid bytes a k, overwrites_size o)) in
+      rw e edits
+
+  pub leaf_keeps : KeepsParts x bytes new
+  leaf_keeps = record {
+    parts = λ s root X laid a has free c q P n i.
+        let (ms, k) = replaced_one x y (leaves_of a) has in
+        parts_stay s laid bytes new b x y o (edits_at s laid a k) a free k c q P n i;
+  }
+
+  -- so seals and views of one archive, of which a seal shows the leaf, stay such
+  module _ (q : ℕ) (P : Pointee) (n : ℕ) (stands : StandsIn bytes q P n x) (free : IsFreeIn bytes q P n x) where
+    together : {s : Schema} {seals views : List View} → LaidOut s → Contains seals (view q P n) → LieTogether s bytes seals views → LieTogether s new seals views
+    together {s = s} {seals = seals} laid c l =
+        let here : ComesTo s bytes l.root l.shape q P n = All-contains (λ v. ComesTo s bytes l.root l.shape v.begin v.pointee v.length) seals (view q P n) l.come_to c in
+        let has : Contains (leaves_of l.accepted) x = stands s l.root l.shape l.accepted (come_part s bytes l.accepted here) in
+        let no_key : IsFree l.accepted x = free s l.root l.shape laid l.accepted here in
+        let (ms, k) = replaced_one x y (leaves_of l.accepted) has in
+        let d = edits_at s laid l.accepted k in
+        let still = accepted_renewed s laid bytes new b l.accepted no_key k o d in
         record {
           root = l.root;
           shape = l.shape;
           accepted = still.after;
-          parts = λ i v m. keeps.parts s l.root l.shape k.laid_out l.accepted has still.after _ _ _ (l.parts i v m);
+          come_to = λ i v m. come_kept s laid bytes new b x y o d l.accepted k (l.come_to i v m);
+          parts = λ i v m. parts_stay s laid bytes new b x y o d l.accepted no_key k still.after _ _ _ (l.parts i v m);
         }
+
+    pub seals_kept : KeepsSeals bytes new (view q P n)
+    seals_kept = record { seals = λ D seals views c h. ∥∥₁_map h (λ (s, k, l). (s, k, together k.laid_out c l)) }
+
+    pub writes_over : WritesLeaf x y bytes new → WritesOver x y q P n bytes new
+    writes_over leaf = record { stands = stands; free = free; leaf = leaf; parts = leaf_keeps; seals = seals_kept }

@@ -1,35 +1,26 @@
 -- What is said of seals of a result, and of what it holds: of the value or of the error, whichever there is.
-use Rattle.std.specs.Prelude.{◌≡◌, ◌+◌, ℕ, Result, MatchResult}
+use Rattle.std.specs.Prelude.{◌≡◌, ◌+◌, Option, IfSome, MatchOption, Result, MatchResult}
 use Rattle.archive_check.specs.Shape.{Pointee, one}
 use Rattle.archive_check.specs.Definitions.{Definitions, both}
-use Rattle.archive_check.specs.Viewed.{Viewed}
 use Rattle.archive_check.specs.Words.Formats.{FormatOf}
-use Rattle.archive_core.specs.SealsWritten.{SealsBeside}
+use Rattle.archive_core.specs.SealsWritten.{IsSealOf, SealsPart, seal_tag}
 use Rattle.archive_core.specs.declared.seal.Seal.{Seal}
 use Rattle.archive_enum.specs.ResultShapes.{result_shape}
 
--- the seal shows a part of a buffer that was checked: a P; and a result, of these formats
-abbrev pub ShowsA : {U : Type 0} → Definitions → Pointee → Seal U → Type 0
-ShowsA D P u = Viewed D u.bytes.now u.pos P u.len
+-- the seal shows a result, of a value and an error of these formats
+abbrev pub IsSealOfResult : {T M N : Type 0} → FormatOf M → FormatOf N → Seal T → Type 0
+IsSealOfResult f g v = IsSealOf (both f.definitions g.definitions) (one (result_shape f.shape g.shape)) v
 
-abbrev pub ShowsResult : {T M N : Type 0} → FormatOf M → FormatOf N → Seal T → Type 0
-ShowsResult f g v = ShowsA (both f.definitions g.definitions) (one (result_shape f.shape g.shape)) v
+-- what the second seal shows stands behind the tag of the result that the first one shows: of the third of these formats
+abbrev pub SealsBehindTag : {T U M N W : Type 0} → FormatOf M → FormatOf N → FormatOf W → Seal T → Seal U → Type 0
+SealsBehindTag f g h v u = SealsPart (both f.definitions g.definitions) (one (result_shape f.shape g.shape)) h.definitions h.pointee (v.pos + h.layout.align) 0 v u
 
--- the second seal borrows the buffer that the first one did, with the same bytes
-abbrev pub BorrowsSame : {T U : Type 0} → Seal T → Seal U → Type 0
-BorrowsSame v u = u.bytes.ghost_name ≡ v.bytes.ghost_name
+-- what is left is the seal of the value or of the error, as the tag says
+pub record SealsHeld {T U V M N : Type 0} (f : FormatOf M) (g : FormatOf N) (v : Seal T) (r : Result (Seal U) (Seal V)) : Type 0 where
+  pub tag : MatchResult r (λ s. seal_tag v ≡ 0) (λ e. seal_tag v ≡ 1)
+  pub held : MatchResult r (SealsBehindTag f g f v) (SealsBehindTag f g g v)
 
-abbrev pub HasSameBytes : {T U : Type 0} → Seal T → Seal U → Type 0
-HasSameBytes v u = u.bytes.now ≡ v.bytes.now
-
--- it begins so many bytes after the first one
-abbrev pub BeginsAfter : {T U : Type 0} → Seal T → ℕ → Seal U → Type 0
-BeginsAfter v o u = u.pos ≡ v.pos + o
-
--- wherever the result that the seal shows is a part of an archive, so is this part of it, a P
-abbrev pub IsBesideResult : {T U M N : Type 0} → FormatOf M → FormatOf N → Pointee → Seal T → Seal U → Type 0
-IsBesideResult f g P v u = SealsBeside (both f.definitions g.definitions) (one (result_shape f.shape g.shape)) P u v
-
--- and so is what it holds: the value or the error
-abbrev pub HeldBesideResult : {T U V M N : Type 0} → FormatOf M → FormatOf N → Seal T → Result (Seal U) (Seal V) → Type 0
-HeldBesideResult f g v r = MatchResult r (IsBesideResult f g f.pointee v) (IsBesideResult f g g.pointee v)
+-- what is left is the seal of the value, if there is one
+pub record SealsOk {T U M N : Type 0} (f : FormatOf M) (g : FormatOf N) (v : Seal T) (o : Option (Seal U)) : Type 0 where
+  pub tag : MatchOption o (seal_tag v ≡ 1) (λ u. seal_tag v ≡ 0)
+  pub value : IfSome o (SealsBehindTag f g f v)

@@ -1,40 +1,52 @@
--- What is said of seals: what is beside what a seal shows, and what a write over a leaf or a text does.
-use Rattle.std.specs.Prelude.{ℕ, ℤ, List, slice_index}
+-- What is said of seals: of what they come to, of a seal of a part, and of a write over a leaf or a text.
+use Rattle.std.specs.Prelude.{◌≡◌, ℕ, ℤ, List, slice_index}
 use Rattle.archive_check.specs.Shape.{Kind, Pointee, one, str, text}
+use Rattle.archive_check.specs.ComesTo.{IsComeTo}
 use Rattle.archive_check.specs.Reads.{bytes_at}
-use Rattle.archive_check.specs.Leaves.{edit, number_leaf, text_leaf}
+use Rattle.archive_check.specs.Leaves.{Leaf, edit, number_leaf, text_leaf}
 use Rattle.archive_check.specs.Definitions.{Definitions}
 use Rattle.archive_check.specs.Revised.{WritesLeaf}
 use Rattle.archive_types.specs.Sealed.{StandsIn, leaf_at, string_leaf, text_begin}
-use Rattle.archive_types.specs.Standing.{KeepsParts, StandsWith, view}
+use Rattle.archive_types.specs.Standing.{view}
+use Rattle.archive_core.specs.SealsKept.{IsFreeIn, KeepsParts, KeepsSeals, ComesWith}
 use Rattle.archive_core.specs.declared.seal.Seal.{Seal}
 
--- wherever what the second seal shows, a P, is a part of an archive, so is what the first one does, a Q
+-- the seal shows a P, to which seals come from the root of an archive: so it shows no key of a map
+abbrev pub IsSealOf : {T : Type 0} → Definitions → Pointee → Seal T → Type 0
+IsSealOf D P v = IsComeTo D v.bytes.now v.pos P v.len
+
+-- wherever seals come to what the second one shows, a P, they come to what the first one does, a Q
 abbrev pub SealsBeside : {T U : Type 0} → Definitions → Pointee → Pointee → Seal U → Seal T → Type 0
-SealsBeside D P Q u v = StandsWith D v.bytes.now (view v.pos P v.len) (view u.pos Q u.len)
+SealsBeside D P Q u v = ComesWith D v.bytes.now (view v.pos P v.len) (view u.pos Q u.len)
 
--- the number at p was written over: in every archive in which it stands, as a P of n elements, it alone changes
-abbrev pub LeafStands : Kind → List ℕ → ℕ → Pointee → ℕ → Type 0
-LeafStands kind bytes p P n = StandsIn bytes p P n (leaf_at kind bytes p)
+-- of a P that the first seal shows, the second one shows a part, a Q at this position and with this length, in the same bytes
+pub record SealsPart {T U : Type 0} (D : Definitions) (P : Pointee) (E : Definitions) (Q : Pointee) (p n : ℕ) (v : Seal T) (u : Seal U) : Type 0 where
+  pub same_reference : u.bytes.ghost_name ≡ v.bytes.ghost_name
+  pub buffer : u.bytes.now ≡ v.bytes.now
+  pub position : u.pos ≡ p
+  pub length : u.len ≡ n
+  pub come_to : IsSealOf E Q u
+  pub beside : SealsBeside D P Q u v
 
-abbrev pub LeafEdited : Kind → ℕ → ℤ → List ℕ → List ℕ → Type 0
-LeafEdited kind p z old new = WritesLeaf (leaf_at kind old p) (number_leaf p kind z) old new
+-- Over the leaf x, which stands in the P at q, y was written: in every archive in which x stands, no key's, it alone changes, and the parts stay parts.
+-- Where seals come to that P, x is no key's, and what they come to else, they come to as before.
+pub record WritesOver (x y : Leaf) (q : ℕ) (P : Pointee) (n : ℕ) (old new : List ℕ) : Type 0 where
+  pub stands : StandsIn old q P n x
+  pub free : IsFreeIn old q P n x
+  pub leaf : WritesLeaf x y old new
+  pub parts : KeepsParts x old new
+  pub seals : KeepsSeals old new (view q P n)
 
--- the same of the text of n bytes at p, and of the text of the string at p
-abbrev pub TextStands : List ℕ → ℕ → ℕ → Type 0
-TextStands bytes p n = StandsIn bytes p text n (text_leaf p (bytes_at bytes p n))
+-- the number at q was written over, as that of a P
+abbrev pub WritesNumber : Kind → ℕ → Pointee → ℕ → ℤ → List ℕ → List ℕ → Type 0
+WritesNumber kind q P n z old new = WritesOver (leaf_at kind old q) (number_leaf q kind z) q P n old new
 
-abbrev pub TextWritten : ℕ → ℕ → List ℕ → List ℕ → List ℕ → Type 0
-TextWritten p n value old new = WritesLeaf (text_leaf p (bytes_at old p n)) (text_leaf p value) old new
+-- the same of the text of n bytes at q, and of the text of the string at q
+abbrev pub WritesText : ℕ → ℕ → List ℕ → List ℕ → List ℕ → Type 0
+WritesText q n value old new = WritesOver (text_leaf q (bytes_at old q n)) (text_leaf q value) q text n old new
 
-abbrev pub TextKeepsParts : ℕ → ℕ → List ℕ → List ℕ → Type 0
-TextKeepsParts p n old new = KeepsParts (text_leaf p (bytes_at old p n)) old new
-
-abbrev pub StringStands : List ℕ → ℕ → ℕ → Type 0
-StringStands bytes p n = StandsIn bytes p (one str) n (string_leaf bytes p)
-
-abbrev pub StringWritten : ℕ → List ℕ → List ℕ → List ℕ → Type 0
-StringWritten p value old new = WritesLeaf (string_leaf old p) (text_leaf (text_begin old p) value) old new
+abbrev pub WritesString : ℕ → ℕ → List ℕ → List ℕ → List ℕ → Type 0
+WritesString q n value old new = WritesOver (string_leaf old q) (text_leaf (text_begin old q) value) q (one str) n old new
 
 abbrev pub string_edit : List ℕ → ℕ → List ℕ → List ℕ
 string_edit bytes p value = edit bytes (text_begin bytes p) value

@@ -1,7 +1,9 @@
 //! Views that may change what they show, and not its shape.
 
 ghost use Rattle.std.specs.Prelude.{◌≡◌, ⊤};
+ghost use Rattle.archive_check.specs.ComesTo.{IsComeTo};
 ghost use Rattle.archive_check.specs.Viewed.{Viewed};
+ghost use Rattle.archive_core.specs.SealsWritten.{IsSealOf};
 
 mod cases;
 mod choices;
@@ -20,7 +22,8 @@ use std::alloc::AllocError;
 use std::marker::PhantomData;
 
 /// Where a validated part lies, without its bytes: a position and a length. It is copied freely and
-/// borrows nothing. A view returns it (`spot`), and with the bytes it gives a view or a seal again.
+/// borrows nothing. A view returns it (`spot`), and with the bytes it gives a view again, or a seal
+/// if seals come to it: so not where it is a key of a map.
 ///
 /// ```
 /// let spot = access::<ArchivedU32>(alloc, bytes.as_slice())?.spot();
@@ -51,7 +54,7 @@ impl<T> Copy for Spot<T> {}
 /// in rkyv 0.8.18, over the whole buffer.
 ///
 /// `access_mut` returns the root's seal, and its calls those of parts. They never fail and take no
-/// memory.
+/// memory. Each part can be sealed but the keys of maps, so that these stay in their order.
 ///
 /// ```
 /// let seal = access_mut::<ArchivedVec<ArchivedU32>>(alloc, bytes.as_mut_slice())?;
@@ -112,16 +115,16 @@ impl<T: ArchivePointee> Spot<T> {
         })
     }
 
-    /// The seal of what lies there. The caller must ensure that the part is one of a validated
-    /// buffer, as in that from which the spot came. No byte changes; calls on the seal change these
-    /// very bytes. Our own.
+    /// The seal of what lies there. The caller must ensure that seals come to it from the root of a
+    /// validated buffer, as of that from which the spot came: that it is no key of a map. No byte
+    /// changes; calls on the seal change these very bytes. Our own.
     pub fn seal<'a>(self, bytes: &'a mut [u8]) -> Seal<'a, T>
-        requires { Viewed T.definitions bytes.old self.pos T.pointee self.len }
+        requires { IsComeTo T.definitions bytes.old self.pos T.pointee self.len }
         ensures same_reference { result.bytes.ghost_name ≡ bytes.entry.ghost_name }
         ensures buffer { result.bytes.now ≡ bytes.old }
         ensures position { result.pos ≡ self.pos }
         ensures length { result.len ≡ self.len }
-        ensures viewed { Viewed T.definitions result.bytes.now result.pos T.pointee result.len }
+        ensures come_to { IsSealOf T.definitions T.pointee result }
     {
         Seal {
             bytes,
@@ -160,7 +163,7 @@ impl<'a, T: ArchivePointee> Seal<'a, T> {
     /// A view of what it shows. The caller must ensure that this is a part of a validated buffer,
     /// as when the seal was made. Our own, for `Deref` of rkyv 0.8.18.
     pub fn as_ref(&self) -> Ref<'_, T>
-        requires { Viewed T.definitions self.now.bytes.now self.now.pos T.pointee self.now.len }
+        requires { IsSealOf T.definitions T.pointee self.now }
         ensures buffer { result.bytes.now ≡ self.now.bytes.now }
         ensures position { result.pos ≡ self.now.pos }
         ensures length { result.len ≡ self.now.len }

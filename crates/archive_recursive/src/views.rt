@@ -3,8 +3,7 @@
 ghost use Rattle.std.specs.Prelude.{◌≡◌, ◌+◌, ◌<◌, Some};
 ghost use Rattle.archive_check.specs.Members.PartsLayout.{definitions_at, part_at};
 ghost use Rattle.archive_check.specs.Members.VariantsLayout.{payload_at, payload_definitions};
-ghost use Rattle.archive_check.specs.Viewed.{Viewed};
-ghost use Rattle.archive_core.specs.SealsWritten.{SealsBeside, seal_tag};
+ghost use Rattle.archive_core.specs.SealsWritten.{IsSealOf, SealsPart, seal_tag};
 ghost use Rattle.archive_fields.specs.Plain.{variant_count};
 ghost use Rattle.archive_types.specs.Fields.{field_in};
 ghost use Rattle.archive_types.specs.Members.KnownParts.{KnowsAlso};
@@ -66,7 +65,7 @@ pub fn view_of_field<'a, X: Record, U: Portable>(
     view.field(i)
 }
 
-/// The seal of a part of a variant, which begins at `offset`. The caller must ensure that the seal shows this tag, and a part of a validated buffer.
+/// The seal of a part of a variant, which begins at `offset`. The caller must ensure that the seal shows this tag, and that seals come to what it shows.
 #[inline(always)]
 pub fn seal_of_payload<'a, X: Choice, U: Portable>(
     seal: Seal<'a, X>,
@@ -74,40 +73,30 @@ pub fn seal_of_payload<'a, X: Choice, U: Portable>(
     i: usize,
     offset: usize,
 ) -> Seal<'a, U>
-    requires viewed { Viewed X.definitions seal.bytes.now seal.pos X.pointee seal.len }
+    requires come_to { IsSealOf X.definitions X.pointee seal }
     requires tag { seal_tag seal ≡ tag }
     requires part { payload_at X.Variants.variants tag i ≡ Some U.shape }
     requires definitions { KnowsAlso (payload_definitions X.Variants.definitions tag i) U.definitions }
     requires begins { X.Variants.begin tag i ≡ offset }
-    ensures same_reference { result.bytes.ghost_name ≡ seal.entry.bytes.ghost_name }
-    ensures buffer { result.bytes.now ≡ seal.entry.bytes.now }
-    ensures position { result.pos ≡ seal.entry.pos + offset }
-    ensures length { result.len ≡ 0 }
-    ensures viewed { Viewed U.definitions result.bytes.now result.pos U.pointee result.len }
-    ensures beside { SealsBeside X.definitions X.pointee U.pointee result seal.entry }
+    ensures { SealsPart X.definitions X.pointee U.definitions U.pointee (seal.entry.pos + offset) 0 seal.entry result }
 {
     let _tag = tag;
     let _offset = offset;
     seal.payload(i)
 }
 
-/// The seal of a field of a record, which begins at `offset`. The caller must ensure that the seal shows a part of a validated buffer.
+/// The seal of a field of a record, which begins at `offset`. The caller must ensure that seals come to what the seal shows.
 #[inline(always)]
 pub fn seal_of_field<'a, X: Record, U: Portable>(
     seal: Seal<'a, X>,
     i: usize,
     offset: usize,
 ) -> Seal<'a, U>
-    requires viewed { Viewed X.definitions seal.bytes.now seal.pos X.pointee seal.len }
+    requires come_to { IsSealOf X.definitions X.pointee seal }
     requires part { part_at X.Parts.parts i ≡ Some U.shape }
     requires definitions { KnowsAlso (definitions_at X.Parts.definitions i) U.definitions }
     requires begins { X.Parts.begin 0 i ≡ offset }
-    ensures same_reference { result.bytes.ghost_name ≡ seal.entry.bytes.ghost_name }
-    ensures buffer { result.bytes.now ≡ seal.entry.bytes.now }
-    ensures position { result.pos ≡ seal.entry.pos + offset }
-    ensures length { result.len ≡ 0 }
-    ensures viewed { Viewed U.definitions result.bytes.now result.pos U.pointee result.len }
-    ensures beside { SealsBeside X.definitions X.pointee U.pointee result seal.entry }
+    ensures { SealsPart X.definitions X.pointee U.definitions U.pointee (seal.entry.pos + offset) 0 seal.entry result }
 {
     let _offset = offset;
     seal.field(i)

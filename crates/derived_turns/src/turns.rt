@@ -30,12 +30,11 @@ ghost use Rattle.archive_core.specs.Payloads.{payload_in};
 ghost use Rattle.archive_core.specs.Plain.{plain_choice, plain_own_check, plain_record, plain_record_planned, plain_variant_planned};
 ghost use Rattle.archive_core.specs.Planned.{leaf_planned};
 ghost use Rattle.archive_core.specs.PlannedOwners.{one_planned};
-ghost use Rattle.archive_core.specs.SealsWritten.{SealsBeside, seal_tag};
+ghost use Rattle.archive_core.specs.SealsWritten.{IsSealOf, SealsPart, seal_tag};
 ghost use Rattle.archive_core.specs.Seen.{IsPartOf, RefusesPart, ShowsValueOf, tag_of};
 ghost use Rattle.archive_core.specs.Shape.{choice, no_part, no_variant, one, part, parts, variant};
 ghost use Rattle.archive_core.specs.Sources.{Read};
 ghost use Rattle.archive_core.specs.Value.{case, no_value, product, value};
-ghost use Rattle.archive_core.specs.Viewed.{Viewed};
 ghost use Rattle.archive_core.specs.Writing.{ZeroedPlace};
 ghost use Rattle.std.proofs.Common.{inl, inr, lit≤};
 ghost use Rattle.std.specs.Prelude.{IfErr, IfOk, [], codes, length, refl, true, ℕ, ◌++◌, ◌+◌, ◌≡◌};
@@ -397,49 +396,34 @@ pub trait TurnSeal<'a> {
 
     /// The field `0` of `Left`.
     fn left_0_mut(self) -> Seal<'a, ArchivedU16>
-        requires viewed { sealed self }
+        requires come_to { sealed self }
         requires tag { tag self ≡ 0 };
 
     /// The field `0` of `Right`.
     fn right_0_mut(self) -> Seal<'a, ArchivedU16>
-        requires viewed { sealed self }
+        requires come_to { sealed self }
         requires tag { tag self ≡ 1 };
 }
 
 impl<'a> TurnSeal<'a> for Seal<'a, ArchivedTurn> {
-    ghost sealed = { λ s. Viewed no_definition s.bytes.now s.pos
-        (one ⟦<ArchivedTurn as Portable>⟧.shape) s.len };
+    ghost sealed = { λ s. IsSealOf no_definition (one ⟦<ArchivedTurn as Portable>⟧.shape) s };
 
     ghost tag = { λ s. seal_tag s };
 
     fn left_0_mut(self) -> Seal<'a, ArchivedU16>
-        requires viewed { Viewed no_definition self.bytes.now self.pos
-            (one ⟦<ArchivedTurn as Portable>⟧.shape) self.len }
+        requires come_to { IsSealOf no_definition (one ⟦<ArchivedTurn as Portable>⟧.shape) self }
         requires tag { seal_tag self ≡ 0 }
-        ensures same_reference { result.bytes.ghost_name ≡ self.entry.bytes.ghost_name }
-        ensures buffer { result.bytes.now ≡ self.entry.bytes.now }
-        ensures position { result.pos ≡ self.entry.pos + 2 }
-        ensures length { result.len ≡ 0 }
-        ensures viewed { Viewed no_definition result.bytes.now result.pos
-            ⟦<ArchivedU16 as ArchivePointee>⟧.pointee result.len }
-        ensures beside { SealsBeside no_definition (one ⟦<ArchivedTurn as Portable>⟧.shape)
-            ⟦<ArchivedU16 as ArchivePointee>⟧.pointee result self.entry }
+        ensures { SealsPart no_definition (one ⟦<ArchivedTurn as Portable>⟧.shape) no_definition
+            ⟦<ArchivedU16 as ArchivePointee>⟧.pointee (self.entry.pos + 2) 0 self.entry result }
     {
         sealed_part_in_case::<ArchivedTurn, ArchivedU16>(self, 0, 0, 2)
     }
 
     fn right_0_mut(self) -> Seal<'a, ArchivedU16>
-        requires viewed { Viewed no_definition self.bytes.now self.pos
-            (one ⟦<ArchivedTurn as Portable>⟧.shape) self.len }
+        requires come_to { IsSealOf no_definition (one ⟦<ArchivedTurn as Portable>⟧.shape) self }
         requires tag { seal_tag self ≡ 1 }
-        ensures same_reference { result.bytes.ghost_name ≡ self.entry.bytes.ghost_name }
-        ensures buffer { result.bytes.now ≡ self.entry.bytes.now }
-        ensures position { result.pos ≡ self.entry.pos + 2 }
-        ensures length { result.len ≡ 0 }
-        ensures viewed { Viewed no_definition result.bytes.now result.pos
-            ⟦<ArchivedU16 as ArchivePointee>⟧.pointee result.len }
-        ensures beside { SealsBeside no_definition (one ⟦<ArchivedTurn as Portable>⟧.shape)
-            ⟦<ArchivedU16 as ArchivePointee>⟧.pointee result self.entry }
+        ensures { SealsPart no_definition (one ⟦<ArchivedTurn as Portable>⟧.shape) no_definition
+            ⟦<ArchivedU16 as ArchivePointee>⟧.pointee (self.entry.pos + 2) 0 self.entry result }
     {
         sealed_part_in_case::<ArchivedTurn, ArchivedU16>(self, 1, 0, 2)
     }
@@ -712,35 +696,20 @@ pub trait StepsSeal<'a> {
 }
 
 impl<'a> StepsSeal<'a> for Seal<'a, ArchivedSteps> {
-    ghost sealed = { λ s. Viewed no_definition s.bytes.now s.pos
-        (one ⟦<ArchivedSteps as Portable>⟧.shape) s.len };
+    ghost sealed = { λ s. IsSealOf no_definition (one ⟦<ArchivedSteps as Portable>⟧.shape) s };
 
     fn first_mut(self) -> Seal<'a, ArchivedU16>
-        requires viewed { Viewed no_definition self.bytes.now self.pos
-            (one ⟦<ArchivedSteps as Portable>⟧.shape) self.len }
-        ensures same_reference { result.bytes.ghost_name ≡ self.entry.bytes.ghost_name }
-        ensures buffer { result.bytes.now ≡ self.entry.bytes.now }
-        ensures position { result.pos ≡ self.entry.pos + 0 }
-        ensures length { result.len ≡ 0 }
-        ensures viewed { Viewed no_definition result.bytes.now result.pos
-            ⟦<ArchivedU16 as ArchivePointee>⟧.pointee result.len }
-        ensures beside { SealsBeside no_definition (one ⟦<ArchivedSteps as Portable>⟧.shape)
-            ⟦<ArchivedU16 as ArchivePointee>⟧.pointee result self.entry }
+        requires come_to { IsSealOf no_definition (one ⟦<ArchivedSteps as Portable>⟧.shape) self }
+        ensures { SealsPart no_definition (one ⟦<ArchivedSteps as Portable>⟧.shape) no_definition
+            ⟦<ArchivedU16 as ArchivePointee>⟧.pointee (self.entry.pos + 0) 0 self.entry result }
     {
         sealed_part_in_record::<ArchivedSteps, ArchivedU16>(self, 0, 0)
     }
 
     fn second_mut(self) -> Seal<'a, ArchivedU16>
-        requires viewed { Viewed no_definition self.bytes.now self.pos
-            (one ⟦<ArchivedSteps as Portable>⟧.shape) self.len }
-        ensures same_reference { result.bytes.ghost_name ≡ self.entry.bytes.ghost_name }
-        ensures buffer { result.bytes.now ≡ self.entry.bytes.now }
-        ensures position { result.pos ≡ self.entry.pos + 2 }
-        ensures length { result.len ≡ 0 }
-        ensures viewed { Viewed no_definition result.bytes.now result.pos
-            ⟦<ArchivedU16 as ArchivePointee>⟧.pointee result.len }
-        ensures beside { SealsBeside no_definition (one ⟦<ArchivedSteps as Portable>⟧.shape)
-            ⟦<ArchivedU16 as ArchivePointee>⟧.pointee result self.entry }
+        requires come_to { IsSealOf no_definition (one ⟦<ArchivedSteps as Portable>⟧.shape) self }
+        ensures { SealsPart no_definition (one ⟦<ArchivedSteps as Portable>⟧.shape) no_definition
+            ⟦<ArchivedU16 as ArchivePointee>⟧.pointee (self.entry.pos + 2) 0 self.entry result }
     {
         sealed_part_in_record::<ArchivedSteps, ArchivedU16>(self, 1, 2)
     }

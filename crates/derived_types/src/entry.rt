@@ -22,12 +22,11 @@ ghost use Rattle.archive_core.specs.PartsPlanned.{no_part_planned, part_planned}
 ghost use Rattle.archive_core.specs.Plain.{plain_own_check, plain_record, plain_record_planned};
 ghost use Rattle.archive_core.specs.Planned.{leaf_planned};
 ghost use Rattle.archive_core.specs.PlannedOwners.{one_planned};
-ghost use Rattle.archive_core.specs.SealsWritten.{SealsBeside};
+ghost use Rattle.archive_core.specs.SealsWritten.{IsSealOf, SealsPart};
 ghost use Rattle.archive_core.specs.Seen.{IsPartOf, RefusesPart, ShowsValueOf};
 ghost use Rattle.archive_core.specs.Shape.{no_part, one, part, parts};
 ghost use Rattle.archive_core.specs.Sources.{Read};
 ghost use Rattle.archive_core.specs.Value.{no_value, product, value};
-ghost use Rattle.archive_core.specs.Viewed.{Viewed};
 ghost use Rattle.archive_core.specs.Writing.{ZeroedPlace};
 ghost use Rattle.std.proofs.Common.{inl, inr, lit≤};
 ghost use Rattle.std.specs.Prelude.{IfErr, IfOk, [], length, refl, true, ◌++◌, ◌+◌, ◌≡◌};
@@ -319,35 +318,20 @@ pub trait EntrySeal<'a> {
 }
 
 impl<'a> EntrySeal<'a> for Seal<'a, ArchivedEntry> {
-    ghost sealed = { λ s. Viewed no_definition s.bytes.now s.pos
-        (one ⟦<ArchivedEntry as Portable>⟧.shape) s.len };
+    ghost sealed = { λ s. IsSealOf no_definition (one ⟦<ArchivedEntry as Portable>⟧.shape) s };
 
     fn seconds_mut(self) -> Seal<'a, ArchivedU64>
-        requires viewed { Viewed no_definition self.bytes.now self.pos
-            (one ⟦<ArchivedEntry as Portable>⟧.shape) self.len }
-        ensures same_reference { result.bytes.ghost_name ≡ self.entry.bytes.ghost_name }
-        ensures buffer { result.bytes.now ≡ self.entry.bytes.now }
-        ensures position { result.pos ≡ self.entry.pos + 0 }
-        ensures length { result.len ≡ 0 }
-        ensures viewed { Viewed no_definition result.bytes.now result.pos
-            ⟦<ArchivedU64 as ArchivePointee>⟧.pointee result.len }
-        ensures beside { SealsBeside no_definition (one ⟦<ArchivedEntry as Portable>⟧.shape)
-            ⟦<ArchivedU64 as ArchivePointee>⟧.pointee result self.entry }
+        requires come_to { IsSealOf no_definition (one ⟦<ArchivedEntry as Portable>⟧.shape) self }
+        ensures { SealsPart no_definition (one ⟦<ArchivedEntry as Portable>⟧.shape) no_definition
+            ⟦<ArchivedU64 as ArchivePointee>⟧.pointee (self.entry.pos + 0) 0 self.entry result }
     {
         sealed_part_in_record::<ArchivedEntry, ArchivedU64>(self, 0, 0)
     }
 
     fn event_mut(self) -> Seal<'a, ArchivedEvent>
-        requires viewed { Viewed no_definition self.bytes.now self.pos
-            (one ⟦<ArchivedEntry as Portable>⟧.shape) self.len }
-        ensures same_reference { result.bytes.ghost_name ≡ self.entry.bytes.ghost_name }
-        ensures buffer { result.bytes.now ≡ self.entry.bytes.now }
-        ensures position { result.pos ≡ self.entry.pos + 8 }
-        ensures length { result.len ≡ 0 }
-        ensures viewed { Viewed no_definition result.bytes.now result.pos
-            ⟦<ArchivedEvent as ArchivePointee>⟧.pointee result.len }
-        ensures beside { SealsBeside no_definition (one ⟦<ArchivedEntry as Portable>⟧.shape)
-            ⟦<ArchivedEvent as ArchivePointee>⟧.pointee result self.entry }
+        requires come_to { IsSealOf no_definition (one ⟦<ArchivedEntry as Portable>⟧.shape) self }
+        ensures { SealsPart no_definition (one ⟦<ArchivedEntry as Portable>⟧.shape) no_definition
+            ⟦<ArchivedEvent as ArchivePointee>⟧.pointee (self.entry.pos + 8) 0 self.entry result }
     {
         sealed_part_in_record::<ArchivedEntry, ArchivedEvent>(self, 1, 8)
     }

@@ -31,15 +31,14 @@ ghost use Rattle.archive_core.specs.Payloads.{payload_in};
 ghost use Rattle.archive_core.specs.Plain.{plain_choice, plain_own_check, plain_variant_planned};
 ghost use Rattle.archive_core.specs.Planned.{leaf_planned, string_planned};
 ghost use Rattle.archive_core.specs.PlannedOwners.{one_planned, slice_planned, vec_planned};
-ghost use Rattle.archive_core.specs.SealsWritten.{SealsBeside, seal_tag};
+ghost use Rattle.archive_core.specs.SealsWritten.{IsSealOf, SealsPart, seal_tag};
 ghost use Rattle.archive_core.specs.Seen.{IsPartOf, RefusesPart, ShowsValueOf, tag_of};
 ghost use Rattle.archive_core.specs.Shape.{choice, no_part, no_variant, one, part, variant};
 ghost use Rattle.archive_core.specs.Sources.{Read};
 ghost use Rattle.archive_core.specs.Value.{case, no_value, value};
-ghost use Rattle.archive_core.specs.Viewed.{Viewed};
 ghost use Rattle.archive_core.specs.Writing.{ZeroedPlace};
 ghost use Rattle.std.proofs.Common.{inl, inr, lit≤};
-ghost use Rattle.std.specs.Prelude.{IfErr, IfOk, [], codes, length, refl, string_bytes, true, ℕ, ◌++◌, ◌+◌, ◌≡◌};
+ghost use Rattle.std.specs.Prelude.{IfErr, IfOk, [], codes, refl, string_bytes, true, ℕ, ◌++◌, ◌+◌, ◌≡◌};
 
 use archive_core::error::Error;
 use archive_core::fields::{
@@ -570,112 +569,77 @@ pub trait EventSeal<'a> {
 
     /// The field `0` of `Key`.
     fn key_0_mut(self) -> Seal<'a, ArchivedChar>
-        requires viewed { sealed self }
+        requires come_to { sealed self }
         requires tag { tag self ≡ 1 };
 
     /// The field `0` of `Text`.
     fn text_0_mut(self) -> Seal<'a, ArchivedString>
-        requires viewed { sealed self }
+        requires come_to { sealed self }
         requires tag { tag self ≡ 2 };
 
     /// To the right.
     fn move_x_mut(self) -> Seal<'a, ArchivedI32>
-        requires viewed { sealed self }
+        requires come_to { sealed self }
         requires tag { tag self ≡ 3 };
 
     /// Up.
     fn move_y_mut(self) -> Seal<'a, ArchivedI32>
-        requires viewed { sealed self }
+        requires come_to { sealed self }
         requires tag { tag self ≡ 3 };
 
     /// The field `0` of `Batch`.
     fn batch_0_mut(self) -> Seal<'a, ArchivedVec<ArchivedU32>>
-        requires viewed { sealed self }
+        requires come_to { sealed self }
         requires tag { tag self ≡ 4 };
 }
 
 impl<'a> EventSeal<'a> for Seal<'a, ArchivedEvent> {
-    ghost sealed = { λ s. Viewed no_definition s.bytes.now s.pos
-        (one ⟦<ArchivedEvent as Portable>⟧.shape) s.len };
+    ghost sealed = { λ s. IsSealOf no_definition (one ⟦<ArchivedEvent as Portable>⟧.shape) s };
 
     ghost tag = { λ s. seal_tag s };
 
     fn key_0_mut(self) -> Seal<'a, ArchivedChar>
-        requires viewed { Viewed no_definition self.bytes.now self.pos
-            (one ⟦<ArchivedEvent as Portable>⟧.shape) self.len }
+        requires come_to { IsSealOf no_definition (one ⟦<ArchivedEvent as Portable>⟧.shape) self }
         requires tag { seal_tag self ≡ 1 }
-        ensures same_reference { result.bytes.ghost_name ≡ self.entry.bytes.ghost_name }
-        ensures buffer { result.bytes.now ≡ self.entry.bytes.now }
-        ensures position { result.pos ≡ self.entry.pos + 4 }
-        ensures length { result.len ≡ 0 }
-        ensures viewed { Viewed no_definition result.bytes.now result.pos
-            ⟦<ArchivedChar as ArchivePointee>⟧.pointee result.len }
-        ensures beside { SealsBeside no_definition (one ⟦<ArchivedEvent as Portable>⟧.shape)
-            ⟦<ArchivedChar as ArchivePointee>⟧.pointee result self.entry }
+        ensures { SealsPart no_definition (one ⟦<ArchivedEvent as Portable>⟧.shape) no_definition
+            ⟦<ArchivedChar as ArchivePointee>⟧.pointee (self.entry.pos + 4) 0 self.entry result }
     {
         sealed_part_in_case::<ArchivedEvent, ArchivedChar>(self, 1, 0, 4)
     }
 
     fn text_0_mut(self) -> Seal<'a, ArchivedString>
-        requires viewed { Viewed no_definition self.bytes.now self.pos
-            (one ⟦<ArchivedEvent as Portable>⟧.shape) self.len }
+        requires come_to { IsSealOf no_definition (one ⟦<ArchivedEvent as Portable>⟧.shape) self }
         requires tag { seal_tag self ≡ 2 }
-        ensures same_reference { result.bytes.ghost_name ≡ self.entry.bytes.ghost_name }
-        ensures buffer { result.bytes.now ≡ self.entry.bytes.now }
-        ensures position { result.pos ≡ self.entry.pos + 4 }
-        ensures length { result.len ≡ 0 }
-        ensures viewed { Viewed no_definition result.bytes.now result.pos
-            ⟦<ArchivedString as ArchivePointee>⟧.pointee result.len }
-        ensures beside { SealsBeside no_definition (one ⟦<ArchivedEvent as Portable>⟧.shape)
-            ⟦<ArchivedString as ArchivePointee>⟧.pointee result self.entry }
+        ensures { SealsPart no_definition (one ⟦<ArchivedEvent as Portable>⟧.shape) no_definition
+            ⟦<ArchivedString as ArchivePointee>⟧.pointee (self.entry.pos + 4) 0 self.entry result }
     {
         sealed_part_in_case::<ArchivedEvent, ArchivedString>(self, 2, 0, 4)
     }
 
     fn move_x_mut(self) -> Seal<'a, ArchivedI32>
-        requires viewed { Viewed no_definition self.bytes.now self.pos
-            (one ⟦<ArchivedEvent as Portable>⟧.shape) self.len }
+        requires come_to { IsSealOf no_definition (one ⟦<ArchivedEvent as Portable>⟧.shape) self }
         requires tag { seal_tag self ≡ 3 }
-        ensures same_reference { result.bytes.ghost_name ≡ self.entry.bytes.ghost_name }
-        ensures buffer { result.bytes.now ≡ self.entry.bytes.now }
-        ensures position { result.pos ≡ self.entry.pos + 4 }
-        ensures length { result.len ≡ 0 }
-        ensures viewed { Viewed no_definition result.bytes.now result.pos
-            ⟦<ArchivedI32 as ArchivePointee>⟧.pointee result.len }
-        ensures beside { SealsBeside no_definition (one ⟦<ArchivedEvent as Portable>⟧.shape)
-            ⟦<ArchivedI32 as ArchivePointee>⟧.pointee result self.entry }
+        ensures { SealsPart no_definition (one ⟦<ArchivedEvent as Portable>⟧.shape) no_definition
+            ⟦<ArchivedI32 as ArchivePointee>⟧.pointee (self.entry.pos + 4) 0 self.entry result }
     {
         sealed_part_in_case::<ArchivedEvent, ArchivedI32>(self, 3, 0, 4)
     }
 
     fn move_y_mut(self) -> Seal<'a, ArchivedI32>
-        requires viewed { Viewed no_definition self.bytes.now self.pos
-            (one ⟦<ArchivedEvent as Portable>⟧.shape) self.len }
+        requires come_to { IsSealOf no_definition (one ⟦<ArchivedEvent as Portable>⟧.shape) self }
         requires tag { seal_tag self ≡ 3 }
-        ensures same_reference { result.bytes.ghost_name ≡ self.entry.bytes.ghost_name }
-        ensures buffer { result.bytes.now ≡ self.entry.bytes.now }
-        ensures position { result.pos ≡ self.entry.pos + 8 }
-        ensures length { result.len ≡ 0 }
-        ensures viewed { Viewed no_definition result.bytes.now result.pos
-            ⟦<ArchivedI32 as ArchivePointee>⟧.pointee result.len }
-        ensures beside { SealsBeside no_definition (one ⟦<ArchivedEvent as Portable>⟧.shape)
-            ⟦<ArchivedI32 as ArchivePointee>⟧.pointee result self.entry }
+        ensures { SealsPart no_definition (one ⟦<ArchivedEvent as Portable>⟧.shape) no_definition
+            ⟦<ArchivedI32 as ArchivePointee>⟧.pointee (self.entry.pos + 8) 0 self.entry result }
     {
         sealed_part_in_case::<ArchivedEvent, ArchivedI32>(self, 3, 1, 8)
     }
 
     fn batch_0_mut(self) -> Seal<'a, ArchivedVec<ArchivedU32>>
-        requires viewed { Viewed no_definition self.bytes.now self.pos
-            (one ⟦<ArchivedEvent as Portable>⟧.shape) self.len }
+        requires come_to { IsSealOf no_definition (one ⟦<ArchivedEvent as Portable>⟧.shape) self }
         requires tag { seal_tag self ≡ 4 }
-        ensures same_reference { result.bytes.ghost_name ≡ self.entry.bytes.ghost_name }
-        ensures buffer { result.bytes.now ≡ self.entry.bytes.now }
-        ensures position { result.pos ≡ self.entry.pos + 4 }
-        ensures length { result.len ≡ 0 }
-        ensures viewed { Viewed no_definition result.bytes.now result.pos
-            ⟦<ArchivedVec<ArchivedU32> as ArchivePointee>⟧.pointee result.len }
-        ensures beside { SealsBeside no_definition (one ⟦<ArchivedEvent as Portable>⟧.shape)
-            ⟦<ArchivedVec<ArchivedU32> as ArchivePointee>⟧.pointee result self.entry }
+        ensures { SealsPart no_definition (one ⟦<ArchivedEvent as Portable>⟧.shape) no_definition
+            ⟦<ArchivedVec<ArchivedU32> as ArchivePointee>⟧.pointee (self.entry.pos + 4) 0 self.entry
+            result }
     {
         sealed_part_in_case::<ArchivedEvent, ArchivedVec<ArchivedU32>>(self, 4, 0, 4)
     }

@@ -74,12 +74,11 @@ ghost use Rattle.archive_core.specs.Planned.{leaf_planned, string_planned, text_
 ghost use Rattle.archive_core.specs.PlannedOwners.{box_planned, one_planned, slice_planned, vec_planned};
 ghost use Rattle.archive_core.specs.Results.{result_keyed, result_planned};
 ghost use Rattle.archive_core.specs.Runs.{each_keys, each_meaning};
-ghost use Rattle.archive_core.specs.SealsWritten.{SealsBeside};
+ghost use Rattle.archive_core.specs.SealsWritten.{IsSealOf, SealsPart};
 ghost use Rattle.archive_core.specs.Seen.{IsPartOf, RefusesPart, ShowsValueOf};
 ghost use Rattle.archive_core.specs.Shape.{no_part, one, part, parts, run, text};
 ghost use Rattle.archive_core.specs.Sources.{Read};
 ghost use Rattle.archive_core.specs.Value.{list, no_value, product, text_value, value};
-ghost use Rattle.archive_core.specs.Viewed.{Viewed};
 ghost use Rattle.archive_core.specs.Writing.{ZeroedPlace};
 ghost use Rattle.std.proofs.Common.{inl, inr, lit≤};
 ghost use Rattle.std.specs.Prelude.{IfErr, IfOk, [], length, refl, string_bytes, true, ◌++◌, ◌+◌, ◌≡◌};
@@ -517,95 +516,52 @@ pub trait NumbersSeal<'a> {
 }
 
 impl<'a> NumbersSeal<'a> for Seal<'a, ArchivedNumbers> {
-    ghost sealed = { λ s. Viewed no_definition s.bytes.now s.pos
-        (one ⟦<ArchivedNumbers as Portable>⟧.shape) s.len };
+    ghost sealed = { λ s. IsSealOf no_definition (one ⟦<ArchivedNumbers as Portable>⟧.shape) s };
 
     fn some_mut(self) -> Seal<'a, NonZero<u32>>
-        requires viewed { Viewed no_definition self.bytes.now self.pos
-            (one ⟦<ArchivedNumbers as Portable>⟧.shape) self.len }
-        ensures same_reference { result.bytes.ghost_name ≡ self.entry.bytes.ghost_name }
-        ensures buffer { result.bytes.now ≡ self.entry.bytes.now }
-        ensures position { result.pos ≡ self.entry.pos + 0 }
-        ensures length { result.len ≡ 0 }
-        ensures viewed { Viewed no_definition result.bytes.now result.pos
-            ⟦<NonZero<u32> as ArchivePointee>⟧.pointee result.len }
-        ensures beside { SealsBeside no_definition (one ⟦<ArchivedNumbers as Portable>⟧.shape)
-            ⟦<NonZero<u32> as ArchivePointee>⟧.pointee result self.entry }
+        requires come_to { IsSealOf no_definition (one ⟦<ArchivedNumbers as Portable>⟧.shape) self }
+        ensures { SealsPart no_definition (one ⟦<ArchivedNumbers as Portable>⟧.shape) no_definition
+            ⟦<NonZero<u32> as ArchivePointee>⟧.pointee (self.entry.pos + 0) 0 self.entry result }
     {
         sealed_part_in_record::<ArchivedNumbers, NonZero<u32>>(self, 0, 0)
     }
 
     fn size_mut(self) -> Seal<'a, ArchivedUsize>
-        requires viewed { Viewed no_definition self.bytes.now self.pos
-            (one ⟦<ArchivedNumbers as Portable>⟧.shape) self.len }
-        ensures same_reference { result.bytes.ghost_name ≡ self.entry.bytes.ghost_name }
-        ensures buffer { result.bytes.now ≡ self.entry.bytes.now }
-        ensures position { result.pos ≡ self.entry.pos + 4 }
-        ensures length { result.len ≡ 0 }
-        ensures viewed { Viewed no_definition result.bytes.now result.pos
-            ⟦<ArchivedUsize as ArchivePointee>⟧.pointee result.len }
-        ensures beside { SealsBeside no_definition (one ⟦<ArchivedNumbers as Portable>⟧.shape)
-            ⟦<ArchivedUsize as ArchivePointee>⟧.pointee result self.entry }
+        requires come_to { IsSealOf no_definition (one ⟦<ArchivedNumbers as Portable>⟧.shape) self }
+        ensures { SealsPart no_definition (one ⟦<ArchivedNumbers as Portable>⟧.shape) no_definition
+            ⟦<ArchivedUsize as ArchivePointee>⟧.pointee (self.entry.pos + 4) 0 self.entry result }
     {
         sealed_part_in_record::<ArchivedNumbers, ArchivedUsize>(self, 1, 4)
     }
 
     fn distance_mut(self) -> Seal<'a, ArchivedIsize>
-        requires viewed { Viewed no_definition self.bytes.now self.pos
-            (one ⟦<ArchivedNumbers as Portable>⟧.shape) self.len }
-        ensures same_reference { result.bytes.ghost_name ≡ self.entry.bytes.ghost_name }
-        ensures buffer { result.bytes.now ≡ self.entry.bytes.now }
-        ensures position { result.pos ≡ self.entry.pos + 8 }
-        ensures length { result.len ≡ 0 }
-        ensures viewed { Viewed no_definition result.bytes.now result.pos
-            ⟦<ArchivedIsize as ArchivePointee>⟧.pointee result.len }
-        ensures beside { SealsBeside no_definition (one ⟦<ArchivedNumbers as Portable>⟧.shape)
-            ⟦<ArchivedIsize as ArchivePointee>⟧.pointee result self.entry }
+        requires come_to { IsSealOf no_definition (one ⟦<ArchivedNumbers as Portable>⟧.shape) self }
+        ensures { SealsPart no_definition (one ⟦<ArchivedNumbers as Portable>⟧.shape) no_definition
+            ⟦<ArchivedIsize as ArchivePointee>⟧.pointee (self.entry.pos + 8) 0 self.entry result }
     {
         sealed_part_in_record::<ArchivedNumbers, ArchivedIsize>(self, 2, 8)
     }
 
     fn wide_mut(self) -> Seal<'a, ArchivedI128>
-        requires viewed { Viewed no_definition self.bytes.now self.pos
-            (one ⟦<ArchivedNumbers as Portable>⟧.shape) self.len }
-        ensures same_reference { result.bytes.ghost_name ≡ self.entry.bytes.ghost_name }
-        ensures buffer { result.bytes.now ≡ self.entry.bytes.now }
-        ensures position { result.pos ≡ self.entry.pos + 16 }
-        ensures length { result.len ≡ 0 }
-        ensures viewed { Viewed no_definition result.bytes.now result.pos
-            ⟦<ArchivedI128 as ArchivePointee>⟧.pointee result.len }
-        ensures beside { SealsBeside no_definition (one ⟦<ArchivedNumbers as Portable>⟧.shape)
-            ⟦<ArchivedI128 as ArchivePointee>⟧.pointee result self.entry }
+        requires come_to { IsSealOf no_definition (one ⟦<ArchivedNumbers as Portable>⟧.shape) self }
+        ensures { SealsPart no_definition (one ⟦<ArchivedNumbers as Portable>⟧.shape) no_definition
+            ⟦<ArchivedI128 as ArchivePointee>⟧.pointee (self.entry.pos + 16) 0 self.entry result }
     {
         sealed_part_in_record::<ArchivedNumbers, ArchivedI128>(self, 3, 16)
     }
 
     fn so_mut(self) -> Seal<'a, bool>
-        requires viewed { Viewed no_definition self.bytes.now self.pos
-            (one ⟦<ArchivedNumbers as Portable>⟧.shape) self.len }
-        ensures same_reference { result.bytes.ghost_name ≡ self.entry.bytes.ghost_name }
-        ensures buffer { result.bytes.now ≡ self.entry.bytes.now }
-        ensures position { result.pos ≡ self.entry.pos + 32 }
-        ensures length { result.len ≡ 0 }
-        ensures viewed { Viewed no_definition result.bytes.now result.pos
-            ⟦<bool as ArchivePointee>⟧.pointee result.len }
-        ensures beside { SealsBeside no_definition (one ⟦<ArchivedNumbers as Portable>⟧.shape)
-            ⟦<bool as ArchivePointee>⟧.pointee result self.entry }
+        requires come_to { IsSealOf no_definition (one ⟦<ArchivedNumbers as Portable>⟧.shape) self }
+        ensures { SealsPart no_definition (one ⟦<ArchivedNumbers as Portable>⟧.shape) no_definition
+            ⟦<bool as ArchivePointee>⟧.pointee (self.entry.pos + 32) 0 self.entry result }
     {
         sealed_part_in_record::<ArchivedNumbers, bool>(self, 4, 32)
     }
 
     fn nothing_mut(self) -> Seal<'a, ()>
-        requires viewed { Viewed no_definition self.bytes.now self.pos
-            (one ⟦<ArchivedNumbers as Portable>⟧.shape) self.len }
-        ensures same_reference { result.bytes.ghost_name ≡ self.entry.bytes.ghost_name }
-        ensures buffer { result.bytes.now ≡ self.entry.bytes.now }
-        ensures position { result.pos ≡ self.entry.pos + 33 }
-        ensures length { result.len ≡ 0 }
-        ensures viewed { Viewed no_definition result.bytes.now result.pos
-            ⟦<() as ArchivePointee>⟧.pointee result.len }
-        ensures beside { SealsBeside no_definition (one ⟦<ArchivedNumbers as Portable>⟧.shape)
-            ⟦<() as ArchivePointee>⟧.pointee result self.entry }
+        requires come_to { IsSealOf no_definition (one ⟦<ArchivedNumbers as Portable>⟧.shape) self }
+        ensures { SealsPart no_definition (one ⟦<ArchivedNumbers as Portable>⟧.shape) no_definition
+            ⟦<() as ArchivePointee>⟧.pointee (self.entry.pos + 33) 0 self.entry result }
     {
         sealed_part_in_record::<ArchivedNumbers, ()>(self, 5, 33)
     }
@@ -1051,36 +1007,23 @@ pub trait OwnersSeal<'a> {
 }
 
 impl<'a> OwnersSeal<'a> for Seal<'a, ArchivedOwners> {
-    ghost sealed = { λ s. Viewed no_definition s.bytes.now s.pos
-        (one ⟦<ArchivedOwners as Portable>⟧.shape) s.len };
+    ghost sealed = { λ s. IsSealOf no_definition (one ⟦<ArchivedOwners as Portable>⟧.shape) s };
 
     fn outcome_mut(self) -> Seal<'a, ArchivedResult<u8, ArchivedString>>
-        requires viewed { Viewed no_definition self.bytes.now self.pos
-            (one ⟦<ArchivedOwners as Portable>⟧.shape) self.len }
-        ensures same_reference { result.bytes.ghost_name ≡ self.entry.bytes.ghost_name }
-        ensures buffer { result.bytes.now ≡ self.entry.bytes.now }
-        ensures position { result.pos ≡ self.entry.pos + 0 }
-        ensures length { result.len ≡ 0 }
-        ensures viewed { Viewed (both no_definition no_definition) result.bytes.now result.pos
-            ⟦<ArchivedResult<u8, ArchivedString> as ArchivePointee>⟧.pointee result.len }
-        ensures beside { SealsBeside no_definition (one ⟦<ArchivedOwners as Portable>⟧.shape)
-            ⟦<ArchivedResult<u8, ArchivedString> as ArchivePointee>⟧.pointee result self.entry }
+        requires come_to { IsSealOf no_definition (one ⟦<ArchivedOwners as Portable>⟧.shape) self }
+        ensures { SealsPart no_definition (one ⟦<ArchivedOwners as Portable>⟧.shape)
+            (both no_definition no_definition)
+            ⟦<ArchivedResult<u8, ArchivedString> as ArchivePointee>⟧.pointee (self.entry.pos + 0) 0
+            self.entry result }
     {
         sealed_part_in_record::<ArchivedOwners, ArchivedResult<u8, ArchivedString>>(self, 0, 0)
     }
 
     fn numbers_mut(self) -> Seal<'a, ArchivedBox<ArchivedSlice<ArchivedU16>>>
-        requires viewed { Viewed no_definition self.bytes.now self.pos
-            (one ⟦<ArchivedOwners as Portable>⟧.shape) self.len }
-        ensures same_reference { result.bytes.ghost_name ≡ self.entry.bytes.ghost_name }
-        ensures buffer { result.bytes.now ≡ self.entry.bytes.now }
-        ensures position { result.pos ≡ self.entry.pos + 12 }
-        ensures length { result.len ≡ 0 }
-        ensures viewed { Viewed no_definition result.bytes.now result.pos
-            ⟦<ArchivedBox<ArchivedSlice<ArchivedU16>> as ArchivePointee>⟧.pointee result.len }
-        ensures beside { SealsBeside no_definition (one ⟦<ArchivedOwners as Portable>⟧.shape)
-            ⟦<ArchivedBox<ArchivedSlice<ArchivedU16>> as ArchivePointee>⟧.pointee result
-            self.entry }
+        requires come_to { IsSealOf no_definition (one ⟦<ArchivedOwners as Portable>⟧.shape) self }
+        ensures { SealsPart no_definition (one ⟦<ArchivedOwners as Portable>⟧.shape) no_definition
+            ⟦<ArchivedBox<ArchivedSlice<ArchivedU16>> as ArchivePointee>⟧.pointee
+            (self.entry.pos + 12) 0 self.entry result }
     {
         sealed_part_in_record::<ArchivedOwners, ArchivedBox<ArchivedSlice<ArchivedU16>>>(
             self, 1, 12,
@@ -1088,47 +1031,29 @@ impl<'a> OwnersSeal<'a> for Seal<'a, ArchivedOwners> {
     }
 
     fn text_mut(self) -> Seal<'a, ArchivedBox<ArchivedStr>>
-        requires viewed { Viewed no_definition self.bytes.now self.pos
-            (one ⟦<ArchivedOwners as Portable>⟧.shape) self.len }
-        ensures same_reference { result.bytes.ghost_name ≡ self.entry.bytes.ghost_name }
-        ensures buffer { result.bytes.now ≡ self.entry.bytes.now }
-        ensures position { result.pos ≡ self.entry.pos + 20 }
-        ensures length { result.len ≡ 0 }
-        ensures viewed { Viewed no_definition result.bytes.now result.pos
-            ⟦<ArchivedBox<ArchivedStr> as ArchivePointee>⟧.pointee result.len }
-        ensures beside { SealsBeside no_definition (one ⟦<ArchivedOwners as Portable>⟧.shape)
-            ⟦<ArchivedBox<ArchivedStr> as ArchivePointee>⟧.pointee result self.entry }
+        requires come_to { IsSealOf no_definition (one ⟦<ArchivedOwners as Portable>⟧.shape) self }
+        ensures { SealsPart no_definition (one ⟦<ArchivedOwners as Portable>⟧.shape) no_definition
+            ⟦<ArchivedBox<ArchivedStr> as ArchivePointee>⟧.pointee (self.entry.pos + 20) 0
+            self.entry result }
     {
         sealed_part_in_record::<ArchivedOwners, ArchivedBox<ArchivedStr>>(self, 2, 20)
     }
 
     fn both_mut(self) -> Seal<'a, ArchivedTuple2<u8, ArchivedString>>
-        requires viewed { Viewed no_definition self.bytes.now self.pos
-            (one ⟦<ArchivedOwners as Portable>⟧.shape) self.len }
-        ensures same_reference { result.bytes.ghost_name ≡ self.entry.bytes.ghost_name }
-        ensures buffer { result.bytes.now ≡ self.entry.bytes.now }
-        ensures position { result.pos ≡ self.entry.pos + 28 }
-        ensures length { result.len ≡ 0 }
-        ensures viewed { Viewed (both no_definition (both no_definition no_definition))
-            result.bytes.now result.pos
-            ⟦<ArchivedTuple2<u8, ArchivedString> as ArchivePointee>⟧.pointee result.len }
-        ensures beside { SealsBeside no_definition (one ⟦<ArchivedOwners as Portable>⟧.shape)
-            ⟦<ArchivedTuple2<u8, ArchivedString> as ArchivePointee>⟧.pointee result self.entry }
+        requires come_to { IsSealOf no_definition (one ⟦<ArchivedOwners as Portable>⟧.shape) self }
+        ensures { SealsPart no_definition (one ⟦<ArchivedOwners as Portable>⟧.shape)
+            (both no_definition (both no_definition no_definition))
+            ⟦<ArchivedTuple2<u8, ArchivedString> as ArchivePointee>⟧.pointee (self.entry.pos + 28) 0
+            self.entry result }
     {
         sealed_part_in_record::<ArchivedOwners, ArchivedTuple2<u8, ArchivedString>>(self, 3, 28)
     }
 
     fn of_mut(self) -> Seal<'a, PhantomData<u64>>
-        requires viewed { Viewed no_definition self.bytes.now self.pos
-            (one ⟦<ArchivedOwners as Portable>⟧.shape) self.len }
-        ensures same_reference { result.bytes.ghost_name ≡ self.entry.bytes.ghost_name }
-        ensures buffer { result.bytes.now ≡ self.entry.bytes.now }
-        ensures position { result.pos ≡ self.entry.pos + 40 }
-        ensures length { result.len ≡ 0 }
-        ensures viewed { Viewed no_definition result.bytes.now result.pos
-            ⟦<PhantomData<u64> as ArchivePointee>⟧.pointee result.len }
-        ensures beside { SealsBeside no_definition (one ⟦<ArchivedOwners as Portable>⟧.shape)
-            ⟦<PhantomData<u64> as ArchivePointee>⟧.pointee result self.entry }
+        requires come_to { IsSealOf no_definition (one ⟦<ArchivedOwners as Portable>⟧.shape) self }
+        ensures { SealsPart no_definition (one ⟦<ArchivedOwners as Portable>⟧.shape) no_definition
+            ⟦<PhantomData<u64> as ArchivePointee>⟧.pointee (self.entry.pos + 40) 0 self.entry
+            result }
     {
         sealed_part_in_record::<ArchivedOwners, PhantomData<u64>>(self, 4, 40)
     }
@@ -1477,36 +1402,22 @@ pub trait ListsSeal<'a> {
 }
 
 impl<'a> ListsSeal<'a> for Seal<'a, ArchivedLists> {
-    ghost sealed = { λ s. Viewed no_definition s.bytes.now s.pos
-        (one ⟦<ArchivedLists as Portable>⟧.shape) s.len };
+    ghost sealed = { λ s. IsSealOf no_definition (one ⟦<ArchivedLists as Portable>⟧.shape) s };
 
     fn four_mut(self) -> Seal<'a, [ArchivedI16; 4]>
-        requires viewed { Viewed no_definition self.bytes.now self.pos
-            (one ⟦<ArchivedLists as Portable>⟧.shape) self.len }
-        ensures same_reference { result.bytes.ghost_name ≡ self.entry.bytes.ghost_name }
-        ensures buffer { result.bytes.now ≡ self.entry.bytes.now }
-        ensures position { result.pos ≡ self.entry.pos + 0 }
-        ensures length { result.len ≡ 0 }
-        ensures viewed { Viewed no_definition result.bytes.now result.pos
-            ⟦<[ArchivedI16; 4] as ArchivePointee>⟧.pointee result.len }
-        ensures beside { SealsBeside no_definition (one ⟦<ArchivedLists as Portable>⟧.shape)
-            ⟦<[ArchivedI16; 4] as ArchivePointee>⟧.pointee result self.entry }
+        requires come_to { IsSealOf no_definition (one ⟦<ArchivedLists as Portable>⟧.shape) self }
+        ensures { SealsPart no_definition (one ⟦<ArchivedLists as Portable>⟧.shape) no_definition
+            ⟦<[ArchivedI16; 4] as ArchivePointee>⟧.pointee (self.entry.pos + 0) 0 self.entry
+            result }
     {
         sealed_part_in_record::<ArchivedLists, [ArchivedI16; 4]>(self, 0, 0)
     }
 
     fn spots_mut(self) -> Seal<'a, ArchivedVec<ArchivedOption<ArchivedSpot>>>
-        requires viewed { Viewed no_definition self.bytes.now self.pos
-            (one ⟦<ArchivedLists as Portable>⟧.shape) self.len }
-        ensures same_reference { result.bytes.ghost_name ≡ self.entry.bytes.ghost_name }
-        ensures buffer { result.bytes.now ≡ self.entry.bytes.now }
-        ensures position { result.pos ≡ self.entry.pos + 8 }
-        ensures length { result.len ≡ 0 }
-        ensures viewed { Viewed no_definition result.bytes.now result.pos
-            ⟦<ArchivedVec<ArchivedOption<ArchivedSpot>> as ArchivePointee>⟧.pointee result.len }
-        ensures beside { SealsBeside no_definition (one ⟦<ArchivedLists as Portable>⟧.shape)
-            ⟦<ArchivedVec<ArchivedOption<ArchivedSpot>> as ArchivePointee>⟧.pointee result
-            self.entry }
+        requires come_to { IsSealOf no_definition (one ⟦<ArchivedLists as Portable>⟧.shape) self }
+        ensures { SealsPart no_definition (one ⟦<ArchivedLists as Portable>⟧.shape) no_definition
+            ⟦<ArchivedVec<ArchivedOption<ArchivedSpot>> as ArchivePointee>⟧.pointee
+            (self.entry.pos + 8) 0 self.entry result }
     {
         sealed_part_in_record::<ArchivedLists, ArchivedVec<ArchivedOption<ArchivedSpot>>>(
             self, 1, 8,
@@ -1514,18 +1425,11 @@ impl<'a> ListsSeal<'a> for Seal<'a, ArchivedLists> {
     }
 
     fn pair_mut(self) -> Seal<'a, ArchivedPair<ArchivedU64, ArchivedSpot>>
-        requires viewed { Viewed no_definition self.bytes.now self.pos
-            (one ⟦<ArchivedLists as Portable>⟧.shape) self.len }
-        ensures same_reference { result.bytes.ghost_name ≡ self.entry.bytes.ghost_name }
-        ensures buffer { result.bytes.now ≡ self.entry.bytes.now }
-        ensures position { result.pos ≡ self.entry.pos + 16 }
-        ensures length { result.len ≡ 0 }
-        ensures viewed { Viewed (both no_definition (both no_definition no_definition))
-            result.bytes.now result.pos
-            ⟦<ArchivedPair<ArchivedU64, ArchivedSpot> as ArchivePointee>⟧.pointee result.len }
-        ensures beside { SealsBeside no_definition (one ⟦<ArchivedLists as Portable>⟧.shape)
-            ⟦<ArchivedPair<ArchivedU64, ArchivedSpot> as ArchivePointee>⟧.pointee result
-            self.entry }
+        requires come_to { IsSealOf no_definition (one ⟦<ArchivedLists as Portable>⟧.shape) self }
+        ensures { SealsPart no_definition (one ⟦<ArchivedLists as Portable>⟧.shape)
+            (both no_definition (both no_definition no_definition))
+            ⟦<ArchivedPair<ArchivedU64, ArchivedSpot> as ArchivePointee>⟧.pointee
+            (self.entry.pos + 16) 0 self.entry result }
     {
         sealed_part_in_record::<ArchivedLists, ArchivedPair<ArchivedU64, ArchivedSpot>>(self, 2, 16)
     }
@@ -1969,35 +1873,20 @@ pub trait UnnamedSeal<'a> {
 }
 
 impl<'a> UnnamedSeal<'a> for Seal<'a, ArchivedUnnamed> {
-    ghost sealed = { λ s. Viewed no_definition s.bytes.now s.pos
-        (one ⟦<ArchivedUnnamed as Portable>⟧.shape) s.len };
+    ghost sealed = { λ s. IsSealOf no_definition (one ⟦<ArchivedUnnamed as Portable>⟧.shape) s };
 
     fn field_0_mut(self) -> Seal<'a, u8>
-        requires viewed { Viewed no_definition self.bytes.now self.pos
-            (one ⟦<ArchivedUnnamed as Portable>⟧.shape) self.len }
-        ensures same_reference { result.bytes.ghost_name ≡ self.entry.bytes.ghost_name }
-        ensures buffer { result.bytes.now ≡ self.entry.bytes.now }
-        ensures position { result.pos ≡ self.entry.pos + 0 }
-        ensures length { result.len ≡ 0 }
-        ensures viewed { Viewed no_definition result.bytes.now result.pos
-            ⟦<u8 as ArchivePointee>⟧.pointee result.len }
-        ensures beside { SealsBeside no_definition (one ⟦<ArchivedUnnamed as Portable>⟧.shape)
-            ⟦<u8 as ArchivePointee>⟧.pointee result self.entry }
+        requires come_to { IsSealOf no_definition (one ⟦<ArchivedUnnamed as Portable>⟧.shape) self }
+        ensures { SealsPart no_definition (one ⟦<ArchivedUnnamed as Portable>⟧.shape) no_definition
+            ⟦<u8 as ArchivePointee>⟧.pointee (self.entry.pos + 0) 0 self.entry result }
     {
         sealed_part_in_record::<ArchivedUnnamed, u8>(self, 0, 0)
     }
 
     fn field_1_mut(self) -> Seal<'a, ArchivedString>
-        requires viewed { Viewed no_definition self.bytes.now self.pos
-            (one ⟦<ArchivedUnnamed as Portable>⟧.shape) self.len }
-        ensures same_reference { result.bytes.ghost_name ≡ self.entry.bytes.ghost_name }
-        ensures buffer { result.bytes.now ≡ self.entry.bytes.now }
-        ensures position { result.pos ≡ self.entry.pos + 4 }
-        ensures length { result.len ≡ 0 }
-        ensures viewed { Viewed no_definition result.bytes.now result.pos
-            ⟦<ArchivedString as ArchivePointee>⟧.pointee result.len }
-        ensures beside { SealsBeside no_definition (one ⟦<ArchivedUnnamed as Portable>⟧.shape)
-            ⟦<ArchivedString as ArchivePointee>⟧.pointee result self.entry }
+        requires come_to { IsSealOf no_definition (one ⟦<ArchivedUnnamed as Portable>⟧.shape) self }
+        ensures { SealsPart no_definition (one ⟦<ArchivedUnnamed as Portable>⟧.shape) no_definition
+            ⟦<ArchivedString as ArchivePointee>⟧.pointee (self.entry.pos + 4) 0 self.entry result }
     {
         sealed_part_in_record::<ArchivedUnnamed, ArchivedString>(self, 1, 4)
     }

@@ -17,11 +17,10 @@ ghost use Rattle.archive_core.specs.Fields.{field_in};
 ghost use Rattle.archive_core.specs.Keyed.{nothing_keyed, part_keyed, record_keyed};
 ghost use Rattle.archive_core.specs.PartsPlanned.{no_part_planned, part_planned, product_planned};
 ghost use Rattle.archive_core.specs.PlannedOwners.{one_planned};
-ghost use Rattle.archive_core.specs.SealsWritten.{SealsBeside};
+ghost use Rattle.archive_core.specs.SealsWritten.{IsSealOf, SealsPart};
 ghost use Rattle.archive_core.specs.Seen.{ShowsValueOf};
 ghost use Rattle.archive_core.specs.Shape.{no_part, part};
 ghost use Rattle.archive_core.specs.Value.{no_value, product, value};
-ghost use Rattle.archive_core.specs.Viewed.{Viewed};
 ghost use Rattle.archive_core.specs.Writing.{ZeroedPlace};
 ghost use Rattle.std.specs.Prelude.{[], length, refl, ◌++◌, ◌+◌, ◌≡◌};
 
@@ -219,43 +218,31 @@ pub trait PairSeal {
 }
 
 impl<'a, A: Portable, B: Portable> PairSeal for Seal<'a, ArchivedPair<A, B>> {
-    ghost sealed = { λ s. Viewed ⟦<ArchivedPair<A, B> as ArchivePointee>⟧.definitions s.bytes.now
-        s.pos ⟦<ArchivedPair<A, B> as ArchivePointee>⟧.pointee s.len };
+    ghost sealed = { λ s. IsSealOf ⟦<ArchivedPair<A, B> as ArchivePointee>⟧.definitions
+        ⟦<ArchivedPair<A, B> as ArchivePointee>⟧.pointee s };
 
     type Left = Seal<'a, A>;
 
     type Right = Seal<'a, B>;
 
     fn left_mut(self) -> Seal<'a, A>
-        requires viewed { Viewed ⟦<ArchivedPair<A, B> as ArchivePointee>⟧.definitions self.bytes.now
-            self.pos ⟦<ArchivedPair<A, B> as ArchivePointee>⟧.pointee self.len }
-        ensures same_reference { result.bytes.ghost_name ≡ self.entry.bytes.ghost_name }
-        ensures buffer { result.bytes.now ≡ self.entry.bytes.now }
-        ensures position { result.pos ≡ self.entry.pos + ⟦<(A, (B, ())) as PortableParts>⟧.begin 0
-            0 }
-        ensures length { result.len ≡ 0 }
-        ensures viewed { Viewed ⟦<A as ArchivePointee>⟧.definitions result.bytes.now result.pos
-            ⟦<A as ArchivePointee>⟧.pointee result.len }
-        ensures beside { SealsBeside ⟦<ArchivedPair<A, B> as ArchivePointee>⟧.definitions
-            ⟦<ArchivedPair<A, B> as ArchivePointee>⟧.pointee ⟦<A as ArchivePointee>⟧.pointee result
-            self.entry }
+        requires come_to { IsSealOf ⟦<ArchivedPair<A, B> as ArchivePointee>⟧.definitions
+            ⟦<ArchivedPair<A, B> as ArchivePointee>⟧.pointee self }
+        ensures { SealsPart ⟦<ArchivedPair<A, B> as ArchivePointee>⟧.definitions
+            ⟦<ArchivedPair<A, B> as ArchivePointee>⟧.pointee ⟦<A as ArchivePointee>⟧.definitions
+            ⟦<A as ArchivePointee>⟧.pointee (self.entry.pos
+            + ⟦<(A, (B, ())) as PortableParts>⟧.begin 0 0) 0 self.entry result }
     {
         self.field(0)
     }
 
     fn right_mut(self) -> Seal<'a, B>
-        requires viewed { Viewed ⟦<ArchivedPair<A, B> as ArchivePointee>⟧.definitions self.bytes.now
-            self.pos ⟦<ArchivedPair<A, B> as ArchivePointee>⟧.pointee self.len }
-        ensures same_reference { result.bytes.ghost_name ≡ self.entry.bytes.ghost_name }
-        ensures buffer { result.bytes.now ≡ self.entry.bytes.now }
-        ensures position { result.pos ≡ self.entry.pos + ⟦<(A, (B, ())) as PortableParts>⟧.begin 0
-            1 }
-        ensures length { result.len ≡ 0 }
-        ensures viewed { Viewed ⟦<B as ArchivePointee>⟧.definitions result.bytes.now result.pos
-            ⟦<B as ArchivePointee>⟧.pointee result.len }
-        ensures beside { SealsBeside ⟦<ArchivedPair<A, B> as ArchivePointee>⟧.definitions
-            ⟦<ArchivedPair<A, B> as ArchivePointee>⟧.pointee ⟦<B as ArchivePointee>⟧.pointee result
-            self.entry }
+        requires come_to { IsSealOf ⟦<ArchivedPair<A, B> as ArchivePointee>⟧.definitions
+            ⟦<ArchivedPair<A, B> as ArchivePointee>⟧.pointee self }
+        ensures { SealsPart ⟦<ArchivedPair<A, B> as ArchivePointee>⟧.definitions
+            ⟦<ArchivedPair<A, B> as ArchivePointee>⟧.pointee ⟦<B as ArchivePointee>⟧.definitions
+            ⟦<B as ArchivePointee>⟧.pointee (self.entry.pos
+            + ⟦<(A, (B, ())) as PortableParts>⟧.begin 0 1) 0 self.entry result }
     {
         self.field(1)
     }

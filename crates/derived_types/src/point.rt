@@ -24,12 +24,11 @@ ghost use Rattle.archive_core.specs.PartsPlanned.{no_part_planned, part_planned}
 ghost use Rattle.archive_core.specs.Plain.{plain_own_check, plain_record, plain_record_planned};
 ghost use Rattle.archive_core.specs.Planned.{leaf_planned, string_planned};
 ghost use Rattle.archive_core.specs.PlannedOwners.{one_planned, slice_planned, vec_planned};
-ghost use Rattle.archive_core.specs.SealsWritten.{SealsBeside};
+ghost use Rattle.archive_core.specs.SealsWritten.{IsSealOf, SealsPart};
 ghost use Rattle.archive_core.specs.Seen.{IsPartOf, RefusesPart, ShowsValueOf};
 ghost use Rattle.archive_core.specs.Shape.{no_part, one, part, parts};
 ghost use Rattle.archive_core.specs.Sources.{Read};
 ghost use Rattle.archive_core.specs.Value.{no_value, product, value};
-ghost use Rattle.archive_core.specs.Viewed.{Viewed};
 ghost use Rattle.archive_core.specs.Writing.{ZeroedPlace};
 ghost use Rattle.std.proofs.Common.{inl, inr, lit≤};
 ghost use Rattle.std.specs.Prelude.{IfErr, IfOk, [], length, refl, string_bytes, true, ◌++◌, ◌+◌, ◌≡◌};
@@ -391,65 +390,37 @@ pub trait PointSeal<'a> {
 }
 
 impl<'a> PointSeal<'a> for Seal<'a, ArchivedPoint> {
-    ghost sealed = { λ s. Viewed no_definition s.bytes.now s.pos
-        (one ⟦<ArchivedPoint as Portable>⟧.shape) s.len };
+    ghost sealed = { λ s. IsSealOf no_definition (one ⟦<ArchivedPoint as Portable>⟧.shape) s };
 
     fn x_mut(self) -> Seal<'a, ArchivedI32>
-        requires viewed { Viewed no_definition self.bytes.now self.pos
-            (one ⟦<ArchivedPoint as Portable>⟧.shape) self.len }
-        ensures same_reference { result.bytes.ghost_name ≡ self.entry.bytes.ghost_name }
-        ensures buffer { result.bytes.now ≡ self.entry.bytes.now }
-        ensures position { result.pos ≡ self.entry.pos + 0 }
-        ensures length { result.len ≡ 0 }
-        ensures viewed { Viewed no_definition result.bytes.now result.pos
-            ⟦<ArchivedI32 as ArchivePointee>⟧.pointee result.len }
-        ensures beside { SealsBeside no_definition (one ⟦<ArchivedPoint as Portable>⟧.shape)
-            ⟦<ArchivedI32 as ArchivePointee>⟧.pointee result self.entry }
+        requires come_to { IsSealOf no_definition (one ⟦<ArchivedPoint as Portable>⟧.shape) self }
+        ensures { SealsPart no_definition (one ⟦<ArchivedPoint as Portable>⟧.shape) no_definition
+            ⟦<ArchivedI32 as ArchivePointee>⟧.pointee (self.entry.pos + 0) 0 self.entry result }
     {
         sealed_part_in_record::<ArchivedPoint, ArchivedI32>(self, 0, 0)
     }
 
     fn y_mut(self) -> Seal<'a, ArchivedI32>
-        requires viewed { Viewed no_definition self.bytes.now self.pos
-            (one ⟦<ArchivedPoint as Portable>⟧.shape) self.len }
-        ensures same_reference { result.bytes.ghost_name ≡ self.entry.bytes.ghost_name }
-        ensures buffer { result.bytes.now ≡ self.entry.bytes.now }
-        ensures position { result.pos ≡ self.entry.pos + 4 }
-        ensures length { result.len ≡ 0 }
-        ensures viewed { Viewed no_definition result.bytes.now result.pos
-            ⟦<ArchivedI32 as ArchivePointee>⟧.pointee result.len }
-        ensures beside { SealsBeside no_definition (one ⟦<ArchivedPoint as Portable>⟧.shape)
-            ⟦<ArchivedI32 as ArchivePointee>⟧.pointee result self.entry }
+        requires come_to { IsSealOf no_definition (one ⟦<ArchivedPoint as Portable>⟧.shape) self }
+        ensures { SealsPart no_definition (one ⟦<ArchivedPoint as Portable>⟧.shape) no_definition
+            ⟦<ArchivedI32 as ArchivePointee>⟧.pointee (self.entry.pos + 4) 0 self.entry result }
     {
         sealed_part_in_record::<ArchivedPoint, ArchivedI32>(self, 1, 4)
     }
 
     fn name_mut(self) -> Seal<'a, ArchivedString>
-        requires viewed { Viewed no_definition self.bytes.now self.pos
-            (one ⟦<ArchivedPoint as Portable>⟧.shape) self.len }
-        ensures same_reference { result.bytes.ghost_name ≡ self.entry.bytes.ghost_name }
-        ensures buffer { result.bytes.now ≡ self.entry.bytes.now }
-        ensures position { result.pos ≡ self.entry.pos + 8 }
-        ensures length { result.len ≡ 0 }
-        ensures viewed { Viewed no_definition result.bytes.now result.pos
-            ⟦<ArchivedString as ArchivePointee>⟧.pointee result.len }
-        ensures beside { SealsBeside no_definition (one ⟦<ArchivedPoint as Portable>⟧.shape)
-            ⟦<ArchivedString as ArchivePointee>⟧.pointee result self.entry }
+        requires come_to { IsSealOf no_definition (one ⟦<ArchivedPoint as Portable>⟧.shape) self }
+        ensures { SealsPart no_definition (one ⟦<ArchivedPoint as Portable>⟧.shape) no_definition
+            ⟦<ArchivedString as ArchivePointee>⟧.pointee (self.entry.pos + 8) 0 self.entry result }
     {
         sealed_part_in_record::<ArchivedPoint, ArchivedString>(self, 2, 8)
     }
 
     fn tags_mut(self) -> Seal<'a, ArchivedVec<ArchivedString>>
-        requires viewed { Viewed no_definition self.bytes.now self.pos
-            (one ⟦<ArchivedPoint as Portable>⟧.shape) self.len }
-        ensures same_reference { result.bytes.ghost_name ≡ self.entry.bytes.ghost_name }
-        ensures buffer { result.bytes.now ≡ self.entry.bytes.now }
-        ensures position { result.pos ≡ self.entry.pos + 16 }
-        ensures length { result.len ≡ 0 }
-        ensures viewed { Viewed no_definition result.bytes.now result.pos
-            ⟦<ArchivedVec<ArchivedString> as ArchivePointee>⟧.pointee result.len }
-        ensures beside { SealsBeside no_definition (one ⟦<ArchivedPoint as Portable>⟧.shape)
-            ⟦<ArchivedVec<ArchivedString> as ArchivePointee>⟧.pointee result self.entry }
+        requires come_to { IsSealOf no_definition (one ⟦<ArchivedPoint as Portable>⟧.shape) self }
+        ensures { SealsPart no_definition (one ⟦<ArchivedPoint as Portable>⟧.shape) no_definition
+            ⟦<ArchivedVec<ArchivedString> as ArchivePointee>⟧.pointee (self.entry.pos + 16) 0
+            self.entry result }
     {
         sealed_part_in_record::<ArchivedPoint, ArchivedVec<ArchivedString>>(self, 3, 16)
     }

@@ -54,12 +54,11 @@ ghost use Rattle.archive_core.specs.PartsPlanned.{no_part_planned, part_planned}
 ghost use Rattle.archive_core.specs.Plain.{plain_own_check, plain_record, plain_record_planned};
 ghost use Rattle.archive_core.specs.Planned.{leaf_planned};
 ghost use Rattle.archive_core.specs.PlannedOwners.{boxed_one_planned, one_planned, slice_planned, vec_planned};
-ghost use Rattle.archive_core.specs.SealsWritten.{SealsBeside};
+ghost use Rattle.archive_core.specs.SealsWritten.{IsSealOf, SealsPart};
 ghost use Rattle.archive_core.specs.Seen.{IsPartOf, RefusesPart, ShowsValueOf};
 ghost use Rattle.archive_core.specs.Shape.{no_part, one, part, parts};
 ghost use Rattle.archive_core.specs.Sources.{Read};
 ghost use Rattle.archive_core.specs.Value.{no_value, product, value};
-ghost use Rattle.archive_core.specs.Viewed.{Viewed};
 ghost use Rattle.archive_core.specs.Writing.{ZeroedPlace};
 ghost use Rattle.std.proofs.Common.{inl, inr, lit≤};
 ghost use Rattle.std.specs.Prelude.{IfErr, IfOk, [], length, refl, true, ◌++◌, ◌+◌, ◌≡◌};
@@ -344,35 +343,20 @@ pub trait SpotSeal<'a> {
 }
 
 impl<'a> SpotSeal<'a> for Seal<'a, ArchivedSpot> {
-    ghost sealed = { λ s. Viewed no_definition s.bytes.now s.pos
-        (one ⟦<ArchivedSpot as Portable>⟧.shape) s.len };
+    ghost sealed = { λ s. IsSealOf no_definition (one ⟦<ArchivedSpot as Portable>⟧.shape) s };
 
     fn right_mut(self) -> Seal<'a, ArchivedU16>
-        requires viewed { Viewed no_definition self.bytes.now self.pos
-            (one ⟦<ArchivedSpot as Portable>⟧.shape) self.len }
-        ensures same_reference { result.bytes.ghost_name ≡ self.entry.bytes.ghost_name }
-        ensures buffer { result.bytes.now ≡ self.entry.bytes.now }
-        ensures position { result.pos ≡ self.entry.pos + 0 }
-        ensures length { result.len ≡ 0 }
-        ensures viewed { Viewed no_definition result.bytes.now result.pos
-            ⟦<ArchivedU16 as ArchivePointee>⟧.pointee result.len }
-        ensures beside { SealsBeside no_definition (one ⟦<ArchivedSpot as Portable>⟧.shape)
-            ⟦<ArchivedU16 as ArchivePointee>⟧.pointee result self.entry }
+        requires come_to { IsSealOf no_definition (one ⟦<ArchivedSpot as Portable>⟧.shape) self }
+        ensures { SealsPart no_definition (one ⟦<ArchivedSpot as Portable>⟧.shape) no_definition
+            ⟦<ArchivedU16 as ArchivePointee>⟧.pointee (self.entry.pos + 0) 0 self.entry result }
     {
         sealed_part_in_record::<ArchivedSpot, ArchivedU16>(self, 0, 0)
     }
 
     fn up_mut(self) -> Seal<'a, ArchivedI16>
-        requires viewed { Viewed no_definition self.bytes.now self.pos
-            (one ⟦<ArchivedSpot as Portable>⟧.shape) self.len }
-        ensures same_reference { result.bytes.ghost_name ≡ self.entry.bytes.ghost_name }
-        ensures buffer { result.bytes.now ≡ self.entry.bytes.now }
-        ensures position { result.pos ≡ self.entry.pos + 2 }
-        ensures length { result.len ≡ 0 }
-        ensures viewed { Viewed no_definition result.bytes.now result.pos
-            ⟦<ArchivedI16 as ArchivePointee>⟧.pointee result.len }
-        ensures beside { SealsBeside no_definition (one ⟦<ArchivedSpot as Portable>⟧.shape)
-            ⟦<ArchivedI16 as ArchivePointee>⟧.pointee result self.entry }
+        requires come_to { IsSealOf no_definition (one ⟦<ArchivedSpot as Portable>⟧.shape) self }
+        ensures { SealsPart no_definition (one ⟦<ArchivedSpot as Portable>⟧.shape) no_definition
+            ⟦<ArchivedI16 as ArchivePointee>⟧.pointee (self.entry.pos + 2) 0 self.entry result }
     {
         sealed_part_in_record::<ArchivedSpot, ArchivedI16>(self, 1, 2)
     }
@@ -639,35 +623,20 @@ pub trait LineSeal<'a> {
 }
 
 impl<'a> LineSeal<'a> for Seal<'a, ArchivedLine> {
-    ghost sealed = { λ s. Viewed no_definition s.bytes.now s.pos
-        (one ⟦<ArchivedLine as Portable>⟧.shape) s.len };
+    ghost sealed = { λ s. IsSealOf no_definition (one ⟦<ArchivedLine as Portable>⟧.shape) s };
 
     fn from_mut(self) -> Seal<'a, ArchivedSpot>
-        requires viewed { Viewed no_definition self.bytes.now self.pos
-            (one ⟦<ArchivedLine as Portable>⟧.shape) self.len }
-        ensures same_reference { result.bytes.ghost_name ≡ self.entry.bytes.ghost_name }
-        ensures buffer { result.bytes.now ≡ self.entry.bytes.now }
-        ensures position { result.pos ≡ self.entry.pos + 0 }
-        ensures length { result.len ≡ 0 }
-        ensures viewed { Viewed no_definition result.bytes.now result.pos
-            ⟦<ArchivedSpot as ArchivePointee>⟧.pointee result.len }
-        ensures beside { SealsBeside no_definition (one ⟦<ArchivedLine as Portable>⟧.shape)
-            ⟦<ArchivedSpot as ArchivePointee>⟧.pointee result self.entry }
+        requires come_to { IsSealOf no_definition (one ⟦<ArchivedLine as Portable>⟧.shape) self }
+        ensures { SealsPart no_definition (one ⟦<ArchivedLine as Portable>⟧.shape) no_definition
+            ⟦<ArchivedSpot as ArchivePointee>⟧.pointee (self.entry.pos + 0) 0 self.entry result }
     {
         sealed_part_in_record::<ArchivedLine, ArchivedSpot>(self, 0, 0)
     }
 
     fn to_mut(self) -> Seal<'a, ArchivedSpot>
-        requires viewed { Viewed no_definition self.bytes.now self.pos
-            (one ⟦<ArchivedLine as Portable>⟧.shape) self.len }
-        ensures same_reference { result.bytes.ghost_name ≡ self.entry.bytes.ghost_name }
-        ensures buffer { result.bytes.now ≡ self.entry.bytes.now }
-        ensures position { result.pos ≡ self.entry.pos + 4 }
-        ensures length { result.len ≡ 0 }
-        ensures viewed { Viewed no_definition result.bytes.now result.pos
-            ⟦<ArchivedSpot as ArchivePointee>⟧.pointee result.len }
-        ensures beside { SealsBeside no_definition (one ⟦<ArchivedLine as Portable>⟧.shape)
-            ⟦<ArchivedSpot as ArchivePointee>⟧.pointee result self.entry }
+        requires come_to { IsSealOf no_definition (one ⟦<ArchivedLine as Portable>⟧.shape) self }
+        ensures { SealsPart no_definition (one ⟦<ArchivedLine as Portable>⟧.shape) no_definition
+            ⟦<ArchivedSpot as ArchivePointee>⟧.pointee (self.entry.pos + 4) 0 self.entry result }
     {
         sealed_part_in_record::<ArchivedLine, ArchivedSpot>(self, 1, 4)
     }
@@ -1038,51 +1007,30 @@ pub trait DrawingSeal<'a> {
 }
 
 impl<'a> DrawingSeal<'a> for Seal<'a, ArchivedDrawing> {
-    ghost sealed = { λ s. Viewed no_definition s.bytes.now s.pos
-        (one ⟦<ArchivedDrawing as Portable>⟧.shape) s.len };
+    ghost sealed = { λ s. IsSealOf no_definition (one ⟦<ArchivedDrawing as Portable>⟧.shape) s };
 
     fn first_mut(self) -> Seal<'a, ArchivedLine>
-        requires viewed { Viewed no_definition self.bytes.now self.pos
-            (one ⟦<ArchivedDrawing as Portable>⟧.shape) self.len }
-        ensures same_reference { result.bytes.ghost_name ≡ self.entry.bytes.ghost_name }
-        ensures buffer { result.bytes.now ≡ self.entry.bytes.now }
-        ensures position { result.pos ≡ self.entry.pos + 0 }
-        ensures length { result.len ≡ 0 }
-        ensures viewed { Viewed no_definition result.bytes.now result.pos
-            ⟦<ArchivedLine as ArchivePointee>⟧.pointee result.len }
-        ensures beside { SealsBeside no_definition (one ⟦<ArchivedDrawing as Portable>⟧.shape)
-            ⟦<ArchivedLine as ArchivePointee>⟧.pointee result self.entry }
+        requires come_to { IsSealOf no_definition (one ⟦<ArchivedDrawing as Portable>⟧.shape) self }
+        ensures { SealsPart no_definition (one ⟦<ArchivedDrawing as Portable>⟧.shape) no_definition
+            ⟦<ArchivedLine as ArchivePointee>⟧.pointee (self.entry.pos + 0) 0 self.entry result }
     {
         sealed_part_in_record::<ArchivedDrawing, ArchivedLine>(self, 0, 0)
     }
 
     fn lines_mut(self) -> Seal<'a, ArchivedVec<ArchivedLine>>
-        requires viewed { Viewed no_definition self.bytes.now self.pos
-            (one ⟦<ArchivedDrawing as Portable>⟧.shape) self.len }
-        ensures same_reference { result.bytes.ghost_name ≡ self.entry.bytes.ghost_name }
-        ensures buffer { result.bytes.now ≡ self.entry.bytes.now }
-        ensures position { result.pos ≡ self.entry.pos + 8 }
-        ensures length { result.len ≡ 0 }
-        ensures viewed { Viewed no_definition result.bytes.now result.pos
-            ⟦<ArchivedVec<ArchivedLine> as ArchivePointee>⟧.pointee result.len }
-        ensures beside { SealsBeside no_definition (one ⟦<ArchivedDrawing as Portable>⟧.shape)
-            ⟦<ArchivedVec<ArchivedLine> as ArchivePointee>⟧.pointee result self.entry }
+        requires come_to { IsSealOf no_definition (one ⟦<ArchivedDrawing as Portable>⟧.shape) self }
+        ensures { SealsPart no_definition (one ⟦<ArchivedDrawing as Portable>⟧.shape) no_definition
+            ⟦<ArchivedVec<ArchivedLine> as ArchivePointee>⟧.pointee (self.entry.pos + 8) 0
+            self.entry result }
     {
         sealed_part_in_record::<ArchivedDrawing, ArchivedVec<ArchivedLine>>(self, 1, 8)
     }
 
     fn last_mut(self) -> Seal<'a, ArchivedOption<ArchivedBox<ArchivedLine>>>
-        requires viewed { Viewed no_definition self.bytes.now self.pos
-            (one ⟦<ArchivedDrawing as Portable>⟧.shape) self.len }
-        ensures same_reference { result.bytes.ghost_name ≡ self.entry.bytes.ghost_name }
-        ensures buffer { result.bytes.now ≡ self.entry.bytes.now }
-        ensures position { result.pos ≡ self.entry.pos + 16 }
-        ensures length { result.len ≡ 0 }
-        ensures viewed { Viewed no_definition result.bytes.now result.pos
-            ⟦<ArchivedOption<ArchivedBox<ArchivedLine>> as ArchivePointee>⟧.pointee result.len }
-        ensures beside { SealsBeside no_definition (one ⟦<ArchivedDrawing as Portable>⟧.shape)
-            ⟦<ArchivedOption<ArchivedBox<ArchivedLine>> as ArchivePointee>⟧.pointee result
-            self.entry }
+        requires come_to { IsSealOf no_definition (one ⟦<ArchivedDrawing as Portable>⟧.shape) self }
+        ensures { SealsPart no_definition (one ⟦<ArchivedDrawing as Portable>⟧.shape) no_definition
+            ⟦<ArchivedOption<ArchivedBox<ArchivedLine>> as ArchivePointee>⟧.pointee
+            (self.entry.pos + 16) 0 self.entry result }
     {
         sealed_part_in_record::<ArchivedDrawing, ArchivedOption<ArchivedBox<ArchivedLine>>>(
             self, 2, 16,
@@ -1090,16 +1038,9 @@ impl<'a> DrawingSeal<'a> for Seal<'a, ArchivedDrawing> {
     }
 
     fn event_mut(self) -> Seal<'a, ArchivedEvent>
-        requires viewed { Viewed no_definition self.bytes.now self.pos
-            (one ⟦<ArchivedDrawing as Portable>⟧.shape) self.len }
-        ensures same_reference { result.bytes.ghost_name ≡ self.entry.bytes.ghost_name }
-        ensures buffer { result.bytes.now ≡ self.entry.bytes.now }
-        ensures position { result.pos ≡ self.entry.pos + 24 }
-        ensures length { result.len ≡ 0 }
-        ensures viewed { Viewed no_definition result.bytes.now result.pos
-            ⟦<ArchivedEvent as ArchivePointee>⟧.pointee result.len }
-        ensures beside { SealsBeside no_definition (one ⟦<ArchivedDrawing as Portable>⟧.shape)
-            ⟦<ArchivedEvent as ArchivePointee>⟧.pointee result self.entry }
+        requires come_to { IsSealOf no_definition (one ⟦<ArchivedDrawing as Portable>⟧.shape) self }
+        ensures { SealsPart no_definition (one ⟦<ArchivedDrawing as Portable>⟧.shape) no_definition
+            ⟦<ArchivedEvent as ArchivePointee>⟧.pointee (self.entry.pos + 24) 0 self.entry result }
     {
         sealed_part_in_record::<ArchivedDrawing, ArchivedEvent>(self, 3, 24)
     }
@@ -1380,35 +1321,21 @@ pub trait AtlasSeal<'a> {
 }
 
 impl<'a> AtlasSeal<'a> for Seal<'a, ArchivedAtlas> {
-    ghost sealed = { λ s. Viewed no_definition s.bytes.now s.pos
-        (one ⟦<ArchivedAtlas as Portable>⟧.shape) s.len };
+    ghost sealed = { λ s. IsSealOf no_definition (one ⟦<ArchivedAtlas as Portable>⟧.shape) s };
 
     fn drawings_mut(self) -> Seal<'a, ArchivedVec<ArchivedDrawing>>
-        requires viewed { Viewed no_definition self.bytes.now self.pos
-            (one ⟦<ArchivedAtlas as Portable>⟧.shape) self.len }
-        ensures same_reference { result.bytes.ghost_name ≡ self.entry.bytes.ghost_name }
-        ensures buffer { result.bytes.now ≡ self.entry.bytes.now }
-        ensures position { result.pos ≡ self.entry.pos + 0 }
-        ensures length { result.len ≡ 0 }
-        ensures viewed { Viewed no_definition result.bytes.now result.pos
-            ⟦<ArchivedVec<ArchivedDrawing> as ArchivePointee>⟧.pointee result.len }
-        ensures beside { SealsBeside no_definition (one ⟦<ArchivedAtlas as Portable>⟧.shape)
-            ⟦<ArchivedVec<ArchivedDrawing> as ArchivePointee>⟧.pointee result self.entry }
+        requires come_to { IsSealOf no_definition (one ⟦<ArchivedAtlas as Portable>⟧.shape) self }
+        ensures { SealsPart no_definition (one ⟦<ArchivedAtlas as Portable>⟧.shape) no_definition
+            ⟦<ArchivedVec<ArchivedDrawing> as ArchivePointee>⟧.pointee (self.entry.pos + 0) 0
+            self.entry result }
     {
         sealed_part_in_record::<ArchivedAtlas, ArchivedVec<ArchivedDrawing>>(self, 0, 0)
     }
 
     fn pages_mut(self) -> Seal<'a, u8>
-        requires viewed { Viewed no_definition self.bytes.now self.pos
-            (one ⟦<ArchivedAtlas as Portable>⟧.shape) self.len }
-        ensures same_reference { result.bytes.ghost_name ≡ self.entry.bytes.ghost_name }
-        ensures buffer { result.bytes.now ≡ self.entry.bytes.now }
-        ensures position { result.pos ≡ self.entry.pos + 8 }
-        ensures length { result.len ≡ 0 }
-        ensures viewed { Viewed no_definition result.bytes.now result.pos
-            ⟦<u8 as ArchivePointee>⟧.pointee result.len }
-        ensures beside { SealsBeside no_definition (one ⟦<ArchivedAtlas as Portable>⟧.shape)
-            ⟦<u8 as ArchivePointee>⟧.pointee result self.entry }
+        requires come_to { IsSealOf no_definition (one ⟦<ArchivedAtlas as Portable>⟧.shape) self }
+        ensures { SealsPart no_definition (one ⟦<ArchivedAtlas as Portable>⟧.shape) no_definition
+            ⟦<u8 as ArchivePointee>⟧.pointee (self.entry.pos + 8) 0 self.entry result }
     {
         sealed_part_in_record::<ArchivedAtlas, u8>(self, 1, 8)
     }

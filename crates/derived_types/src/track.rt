@@ -46,7 +46,7 @@ ghost use Rattle.archive_core.specs.Plain.{plain_choice, plain_record, plain_rec
 ghost use Rattle.archive_core.specs.Planned.{leaf_planned, text_planned};
 ghost use Rattle.archive_core.specs.PlannedOwners.{boxed_one_planned, one_planned, slice_planned};
 ghost use Rattle.archive_core.specs.Runs.{each_keys, each_meaning};
-ghost use Rattle.archive_core.specs.SealsWritten.{SealsBeside, seal_tag};
+ghost use Rattle.archive_core.specs.SealsWritten.{IsSealOf, SealsPart, seal_tag};
 ghost use Rattle.archive_core.specs.Seen.{IsPartOf, RefusesPart, ShowsValueOf, tag_of};
 ghost use Rattle.archive_core.specs.SelfCheck.Laws.{by_schema};
 ghost use Rattle.archive_core.specs.Shape.{choice, no_part, no_variant, one, part, parts, run, text, variant};
@@ -54,7 +54,6 @@ ghost use Rattle.archive_core.specs.SharedLaws.{weak_keyed, weak_planned};
 ghost use Rattle.archive_core.specs.SharedSources.{rc_flavor, rc_keyed, rc_keys, rc_one_planned, rc_planned};
 ghost use Rattle.archive_core.specs.Sources.{Read};
 ghost use Rattle.archive_core.specs.Value.{case, list, no_value, product, shared_value, text_value, value};
-ghost use Rattle.archive_core.specs.Viewed.{Viewed};
 ghost use Rattle.archive_core.specs.Writing.{ZeroedPlace};
 ghost use Rattle.std.proofs.Common.{inl, inr, lit≤};
 ghost use Rattle.std.specs.Prelude.{IfErr, IfOk, [], codes, length, refl, ℕ, ◌++◌, ◌+◌, ◌≡◌};
@@ -346,36 +345,22 @@ pub trait TrackSeal<'a> {
 }
 
 impl<'a> TrackSeal<'a> for Seal<'a, ArchivedTrack> {
-    ghost sealed = { λ s. Viewed no_definition s.bytes.now s.pos
-        (one ⟦<ArchivedTrack as Portable>⟧.shape) s.len };
+    ghost sealed = { λ s. IsSealOf no_definition (one ⟦<ArchivedTrack as Portable>⟧.shape) s };
 
     fn line_mut(self) -> Seal<'a, ArchivedRc<ArchivedLine, RcFlavor>>
-        requires viewed { Viewed no_definition self.bytes.now self.pos
-            (one ⟦<ArchivedTrack as Portable>⟧.shape) self.len }
-        ensures same_reference { result.bytes.ghost_name ≡ self.entry.bytes.ghost_name }
-        ensures buffer { result.bytes.now ≡ self.entry.bytes.now }
-        ensures position { result.pos ≡ self.entry.pos + 0 }
-        ensures length { result.len ≡ 0 }
-        ensures viewed { Viewed no_definition result.bytes.now result.pos
-            ⟦<ArchivedRc<ArchivedLine, RcFlavor> as ArchivePointee>⟧.pointee result.len }
-        ensures beside { SealsBeside no_definition (one ⟦<ArchivedTrack as Portable>⟧.shape)
-            ⟦<ArchivedRc<ArchivedLine, RcFlavor> as ArchivePointee>⟧.pointee result self.entry }
+        requires come_to { IsSealOf no_definition (one ⟦<ArchivedTrack as Portable>⟧.shape) self }
+        ensures { SealsPart no_definition (one ⟦<ArchivedTrack as Portable>⟧.shape) no_definition
+            ⟦<ArchivedRc<ArchivedLine, RcFlavor> as ArchivePointee>⟧.pointee (self.entry.pos + 0) 0
+            self.entry result }
     {
         sealed_part_in_record::<ArchivedTrack, ArchivedRc<ArchivedLine, RcFlavor>>(self, 0, 0)
     }
 
     fn other_mut(self) -> Seal<'a, ArchivedOption<ArchivedBox<ArchivedLine>>>
-        requires viewed { Viewed no_definition self.bytes.now self.pos
-            (one ⟦<ArchivedTrack as Portable>⟧.shape) self.len }
-        ensures same_reference { result.bytes.ghost_name ≡ self.entry.bytes.ghost_name }
-        ensures buffer { result.bytes.now ≡ self.entry.bytes.now }
-        ensures position { result.pos ≡ self.entry.pos + 4 }
-        ensures length { result.len ≡ 0 }
-        ensures viewed { Viewed no_definition result.bytes.now result.pos
-            ⟦<ArchivedOption<ArchivedBox<ArchivedLine>> as ArchivePointee>⟧.pointee result.len }
-        ensures beside { SealsBeside no_definition (one ⟦<ArchivedTrack as Portable>⟧.shape)
-            ⟦<ArchivedOption<ArchivedBox<ArchivedLine>> as ArchivePointee>⟧.pointee result
-            self.entry }
+        requires come_to { IsSealOf no_definition (one ⟦<ArchivedTrack as Portable>⟧.shape) self }
+        ensures { SealsPart no_definition (one ⟦<ArchivedTrack as Portable>⟧.shape) no_definition
+            ⟦<ArchivedOption<ArchivedBox<ArchivedLine>> as ArchivePointee>⟧.pointee
+            (self.entry.pos + 4) 0 self.entry result }
     {
         sealed_part_in_record::<ArchivedTrack, ArchivedOption<ArchivedBox<ArchivedLine>>>(
             self, 1, 4,
@@ -701,22 +686,13 @@ pub trait RunsSeal<'a> {
 }
 
 impl<'a> RunsSeal<'a> for Seal<'a, ArchivedRuns> {
-    ghost sealed = { λ s. Viewed no_definition s.bytes.now s.pos
-        (one ⟦<ArchivedRuns as Portable>⟧.shape) s.len };
+    ghost sealed = { λ s. IsSealOf no_definition (one ⟦<ArchivedRuns as Portable>⟧.shape) s };
 
     fn lines_mut(self) -> Seal<'a, ArchivedRc<ArchivedSlice<ArchivedLine>, RcFlavor>>
-        requires viewed { Viewed no_definition self.bytes.now self.pos
-            (one ⟦<ArchivedRuns as Portable>⟧.shape) self.len }
-        ensures same_reference { result.bytes.ghost_name ≡ self.entry.bytes.ghost_name }
-        ensures buffer { result.bytes.now ≡ self.entry.bytes.now }
-        ensures position { result.pos ≡ self.entry.pos + 0 }
-        ensures length { result.len ≡ 0 }
-        ensures viewed { Viewed no_definition result.bytes.now result.pos
+        requires come_to { IsSealOf no_definition (one ⟦<ArchivedRuns as Portable>⟧.shape) self }
+        ensures { SealsPart no_definition (one ⟦<ArchivedRuns as Portable>⟧.shape) no_definition
             ⟦<ArchivedRc<ArchivedSlice<ArchivedLine>, RcFlavor> as ArchivePointee>⟧.pointee
-            result.len }
-        ensures beside { SealsBeside no_definition (one ⟦<ArchivedRuns as Portable>⟧.shape)
-            ⟦<ArchivedRc<ArchivedSlice<ArchivedLine>, RcFlavor> as ArchivePointee>⟧.pointee result
-            self.entry }
+            (self.entry.pos + 0) 0 self.entry result }
     {
         sealed_part_in_record::<ArchivedRuns, ArchivedRc<ArchivedSlice<ArchivedLine>, RcFlavor>>(
             self, 0, 0,
@@ -724,31 +700,19 @@ impl<'a> RunsSeal<'a> for Seal<'a, ArchivedRuns> {
     }
 
     fn text_mut(self) -> Seal<'a, ArchivedRc<ArchivedStr, RcFlavor>>
-        requires viewed { Viewed no_definition self.bytes.now self.pos
-            (one ⟦<ArchivedRuns as Portable>⟧.shape) self.len }
-        ensures same_reference { result.bytes.ghost_name ≡ self.entry.bytes.ghost_name }
-        ensures buffer { result.bytes.now ≡ self.entry.bytes.now }
-        ensures position { result.pos ≡ self.entry.pos + 8 }
-        ensures length { result.len ≡ 0 }
-        ensures viewed { Viewed no_definition result.bytes.now result.pos
-            ⟦<ArchivedRc<ArchivedStr, RcFlavor> as ArchivePointee>⟧.pointee result.len }
-        ensures beside { SealsBeside no_definition (one ⟦<ArchivedRuns as Portable>⟧.shape)
-            ⟦<ArchivedRc<ArchivedStr, RcFlavor> as ArchivePointee>⟧.pointee result self.entry }
+        requires come_to { IsSealOf no_definition (one ⟦<ArchivedRuns as Portable>⟧.shape) self }
+        ensures { SealsPart no_definition (one ⟦<ArchivedRuns as Portable>⟧.shape) no_definition
+            ⟦<ArchivedRc<ArchivedStr, RcFlavor> as ArchivePointee>⟧.pointee (self.entry.pos + 8) 0
+            self.entry result }
     {
         sealed_part_in_record::<ArchivedRuns, ArchivedRc<ArchivedStr, RcFlavor>>(self, 1, 8)
     }
 
     fn weak_mut(self) -> Seal<'a, ArchivedRcWeak<ArchivedLine, RcFlavor>>
-        requires viewed { Viewed no_definition self.bytes.now self.pos
-            (one ⟦<ArchivedRuns as Portable>⟧.shape) self.len }
-        ensures same_reference { result.bytes.ghost_name ≡ self.entry.bytes.ghost_name }
-        ensures buffer { result.bytes.now ≡ self.entry.bytes.now }
-        ensures position { result.pos ≡ self.entry.pos + 16 }
-        ensures length { result.len ≡ 0 }
-        ensures viewed { Viewed no_definition result.bytes.now result.pos
-            ⟦<ArchivedRcWeak<ArchivedLine, RcFlavor> as ArchivePointee>⟧.pointee result.len }
-        ensures beside { SealsBeside no_definition (one ⟦<ArchivedRuns as Portable>⟧.shape)
-            ⟦<ArchivedRcWeak<ArchivedLine, RcFlavor> as ArchivePointee>⟧.pointee result self.entry }
+        requires come_to { IsSealOf no_definition (one ⟦<ArchivedRuns as Portable>⟧.shape) self }
+        ensures { SealsPart no_definition (one ⟦<ArchivedRuns as Portable>⟧.shape) no_definition
+            ⟦<ArchivedRcWeak<ArchivedLine, RcFlavor> as ArchivePointee>⟧.pointee
+            (self.entry.pos + 16) 0 self.entry result }
     {
         sealed_part_in_record::<ArchivedRuns, ArchivedRcWeak<ArchivedLine, RcFlavor>>(self, 2, 16)
     }
@@ -1102,70 +1066,49 @@ pub trait EitherSeal<'a> {
 
     /// The field `0` of `Alone`.
     fn alone_0_mut(self) -> Seal<'a, u8>
-        requires viewed { sealed self }
+        requires come_to { sealed self }
         requires tag { tag self ≡ 0 };
 
     /// The field `0` of `Together`.
     fn together_0_mut(self) -> Seal<'a, ArchivedRc<ArchivedLine, RcFlavor>>
-        requires viewed { sealed self }
+        requires come_to { sealed self }
         requires tag { tag self ≡ 1 };
 
     /// The field `1` of `Together`.
     fn together_1_mut(self) -> Seal<'a, u8>
-        requires viewed { sealed self }
+        requires come_to { sealed self }
         requires tag { tag self ≡ 1 };
 }
 
 impl<'a> EitherSeal<'a> for Seal<'a, ArchivedEither> {
-    ghost sealed = { λ s. Viewed no_definition s.bytes.now s.pos
-        (one ⟦<ArchivedEither as Portable>⟧.shape) s.len };
+    ghost sealed = { λ s. IsSealOf no_definition (one ⟦<ArchivedEither as Portable>⟧.shape) s };
 
     ghost tag = { λ s. seal_tag s };
 
     fn alone_0_mut(self) -> Seal<'a, u8>
-        requires viewed { Viewed no_definition self.bytes.now self.pos
-            (one ⟦<ArchivedEither as Portable>⟧.shape) self.len }
+        requires come_to { IsSealOf no_definition (one ⟦<ArchivedEither as Portable>⟧.shape) self }
         requires tag { seal_tag self ≡ 0 }
-        ensures same_reference { result.bytes.ghost_name ≡ self.entry.bytes.ghost_name }
-        ensures buffer { result.bytes.now ≡ self.entry.bytes.now }
-        ensures position { result.pos ≡ self.entry.pos + 1 }
-        ensures length { result.len ≡ 0 }
-        ensures viewed { Viewed no_definition result.bytes.now result.pos
-            ⟦<u8 as ArchivePointee>⟧.pointee result.len }
-        ensures beside { SealsBeside no_definition (one ⟦<ArchivedEither as Portable>⟧.shape)
-            ⟦<u8 as ArchivePointee>⟧.pointee result self.entry }
+        ensures { SealsPart no_definition (one ⟦<ArchivedEither as Portable>⟧.shape) no_definition
+            ⟦<u8 as ArchivePointee>⟧.pointee (self.entry.pos + 1) 0 self.entry result }
     {
         sealed_part_in_case::<ArchivedEither, u8>(self, 0, 0, 1)
     }
 
     fn together_0_mut(self) -> Seal<'a, ArchivedRc<ArchivedLine, RcFlavor>>
-        requires viewed { Viewed no_definition self.bytes.now self.pos
-            (one ⟦<ArchivedEither as Portable>⟧.shape) self.len }
+        requires come_to { IsSealOf no_definition (one ⟦<ArchivedEither as Portable>⟧.shape) self }
         requires tag { seal_tag self ≡ 1 }
-        ensures same_reference { result.bytes.ghost_name ≡ self.entry.bytes.ghost_name }
-        ensures buffer { result.bytes.now ≡ self.entry.bytes.now }
-        ensures position { result.pos ≡ self.entry.pos + 4 }
-        ensures length { result.len ≡ 0 }
-        ensures viewed { Viewed no_definition result.bytes.now result.pos
-            ⟦<ArchivedRc<ArchivedLine, RcFlavor> as ArchivePointee>⟧.pointee result.len }
-        ensures beside { SealsBeside no_definition (one ⟦<ArchivedEither as Portable>⟧.shape)
-            ⟦<ArchivedRc<ArchivedLine, RcFlavor> as ArchivePointee>⟧.pointee result self.entry }
+        ensures { SealsPart no_definition (one ⟦<ArchivedEither as Portable>⟧.shape) no_definition
+            ⟦<ArchivedRc<ArchivedLine, RcFlavor> as ArchivePointee>⟧.pointee (self.entry.pos + 4) 0
+            self.entry result }
     {
         sealed_part_in_case::<ArchivedEither, ArchivedRc<ArchivedLine, RcFlavor>>(self, 1, 0, 4)
     }
 
     fn together_1_mut(self) -> Seal<'a, u8>
-        requires viewed { Viewed no_definition self.bytes.now self.pos
-            (one ⟦<ArchivedEither as Portable>⟧.shape) self.len }
+        requires come_to { IsSealOf no_definition (one ⟦<ArchivedEither as Portable>⟧.shape) self }
         requires tag { seal_tag self ≡ 1 }
-        ensures same_reference { result.bytes.ghost_name ≡ self.entry.bytes.ghost_name }
-        ensures buffer { result.bytes.now ≡ self.entry.bytes.now }
-        ensures position { result.pos ≡ self.entry.pos + 8 }
-        ensures length { result.len ≡ 0 }
-        ensures viewed { Viewed no_definition result.bytes.now result.pos
-            ⟦<u8 as ArchivePointee>⟧.pointee result.len }
-        ensures beside { SealsBeside no_definition (one ⟦<ArchivedEither as Portable>⟧.shape)
-            ⟦<u8 as ArchivePointee>⟧.pointee result self.entry }
+        ensures { SealsPart no_definition (one ⟦<ArchivedEither as Portable>⟧.shape) no_definition
+            ⟦<u8 as ArchivePointee>⟧.pointee (self.entry.pos + 8) 0 self.entry result }
     {
         sealed_part_in_case::<ArchivedEither, u8>(self, 1, 1, 8)
     }

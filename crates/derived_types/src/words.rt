@@ -36,12 +36,11 @@ ghost use Rattle.archive_core.specs.Payloads.{payload_in};
 ghost use Rattle.archive_core.specs.Plain.{plain_choice, plain_own_check, plain_record, plain_record_planned, plain_variant_planned};
 ghost use Rattle.archive_core.specs.Planned.{leaf_planned};
 ghost use Rattle.archive_core.specs.PlannedOwners.{one_planned};
-ghost use Rattle.archive_core.specs.SealsWritten.{SealsBeside, seal_tag};
+ghost use Rattle.archive_core.specs.SealsWritten.{IsSealOf, SealsPart, seal_tag};
 ghost use Rattle.archive_core.specs.Seen.{IsPartOf, RefusesPart, ShowsValueOf, tag_of};
 ghost use Rattle.archive_core.specs.Shape.{choice, no_part, no_variant, one, part, parts, variant};
 ghost use Rattle.archive_core.specs.Sources.{Read};
 ghost use Rattle.archive_core.specs.Value.{case, no_value, product, value};
-ghost use Rattle.archive_core.specs.Viewed.{Viewed};
 ghost use Rattle.archive_core.specs.Writing.{ZeroedPlace};
 ghost use Rattle.std.proofs.Common.{inl, lit≤};
 ghost use Rattle.std.specs.Prelude.{IfErr, IfOk, [], codes, length, refl, true, ℕ, ◌++◌, ◌+◌, ◌≡◌};
@@ -392,65 +391,36 @@ pub trait WordsSeal<'a> {
 }
 
 impl<'a> WordsSeal<'a> for Seal<'a, ArchivedWords> {
-    ghost sealed = { λ s. Viewed no_definition s.bytes.now s.pos
-        (one ⟦<ArchivedWords as Portable>⟧.shape) s.len };
+    ghost sealed = { λ s. IsSealOf no_definition (one ⟦<ArchivedWords as Portable>⟧.shape) s };
 
     fn data_mut(self) -> Seal<'a, u8>
-        requires viewed { Viewed no_definition self.bytes.now self.pos
-            (one ⟦<ArchivedWords as Portable>⟧.shape) self.len }
-        ensures same_reference { result.bytes.ghost_name ≡ self.entry.bytes.ghost_name }
-        ensures buffer { result.bytes.now ≡ self.entry.bytes.now }
-        ensures position { result.pos ≡ self.entry.pos + 0 }
-        ensures length { result.len ≡ 0 }
-        ensures viewed { Viewed no_definition result.bytes.now result.pos
-            ⟦<u8 as ArchivePointee>⟧.pointee result.len }
-        ensures beside { SealsBeside no_definition (one ⟦<ArchivedWords as Portable>⟧.shape)
-            ⟦<u8 as ArchivePointee>⟧.pointee result self.entry }
+        requires come_to { IsSealOf no_definition (one ⟦<ArchivedWords as Portable>⟧.shape) self }
+        ensures { SealsPart no_definition (one ⟦<ArchivedWords as Portable>⟧.shape) no_definition
+            ⟦<u8 as ArchivePointee>⟧.pointee (self.entry.pos + 0) 0 self.entry result }
     {
         sealed_part_in_record::<ArchivedWords, u8>(self, 0, 0)
     }
 
     fn result_mut(self) -> Seal<'a, u8>
-        requires viewed { Viewed no_definition self.bytes.now self.pos
-            (one ⟦<ArchivedWords as Portable>⟧.shape) self.len }
-        ensures same_reference { result.bytes.ghost_name ≡ self.entry.bytes.ghost_name }
-        ensures buffer { result.bytes.now ≡ self.entry.bytes.now }
-        ensures position { result.pos ≡ self.entry.pos + 1 }
-        ensures length { result.len ≡ 0 }
-        ensures viewed { Viewed no_definition result.bytes.now result.pos
-            ⟦<u8 as ArchivePointee>⟧.pointee result.len }
-        ensures beside { SealsBeside no_definition (one ⟦<ArchivedWords as Portable>⟧.shape)
-            ⟦<u8 as ArchivePointee>⟧.pointee result self.entry }
+        requires come_to { IsSealOf no_definition (one ⟦<ArchivedWords as Portable>⟧.shape) self }
+        ensures { SealsPart no_definition (one ⟦<ArchivedWords as Portable>⟧.shape) no_definition
+            ⟦<u8 as ArchivePointee>⟧.pointee (self.entry.pos + 1) 0 self.entry result }
     {
         sealed_part_in_record::<ArchivedWords, u8>(self, 1, 1)
     }
 
     fn pos_field_mut(self) -> Seal<'a, u8>
-        requires viewed { Viewed no_definition self.bytes.now self.pos
-            (one ⟦<ArchivedWords as Portable>⟧.shape) self.len }
-        ensures same_reference { result.bytes.ghost_name ≡ self.entry.bytes.ghost_name }
-        ensures buffer { result.bytes.now ≡ self.entry.bytes.now }
-        ensures position { result.pos ≡ self.entry.pos + 2 }
-        ensures length { result.len ≡ 0 }
-        ensures viewed { Viewed no_definition result.bytes.now result.pos
-            ⟦<u8 as ArchivePointee>⟧.pointee result.len }
-        ensures beside { SealsBeside no_definition (one ⟦<ArchivedWords as Portable>⟧.shape)
-            ⟦<u8 as ArchivePointee>⟧.pointee result self.entry }
+        requires come_to { IsSealOf no_definition (one ⟦<ArchivedWords as Portable>⟧.shape) self }
+        ensures { SealsPart no_definition (one ⟦<ArchivedWords as Portable>⟧.shape) no_definition
+            ⟦<u8 as ArchivePointee>⟧.pointee (self.entry.pos + 2) 0 self.entry result }
     {
         sealed_part_in_record::<ArchivedWords, u8>(self, 2, 2)
     }
 
     fn len_mut(self) -> Seal<'a, u8>
-        requires viewed { Viewed no_definition self.bytes.now self.pos
-            (one ⟦<ArchivedWords as Portable>⟧.shape) self.len }
-        ensures same_reference { result.bytes.ghost_name ≡ self.entry.bytes.ghost_name }
-        ensures buffer { result.bytes.now ≡ self.entry.bytes.now }
-        ensures position { result.pos ≡ self.entry.pos + 3 }
-        ensures length { result.len ≡ 0 }
-        ensures viewed { Viewed no_definition result.bytes.now result.pos
-            ⟦<u8 as ArchivePointee>⟧.pointee result.len }
-        ensures beside { SealsBeside no_definition (one ⟦<ArchivedWords as Portable>⟧.shape)
-            ⟦<u8 as ArchivePointee>⟧.pointee result self.entry }
+        requires come_to { IsSealOf no_definition (one ⟦<ArchivedWords as Portable>⟧.shape) self }
+        ensures { SealsPart no_definition (one ⟦<ArchivedWords as Portable>⟧.shape) no_definition
+            ⟦<u8 as ArchivePointee>⟧.pointee (self.entry.pos + 3) 0 self.entry result }
     {
         sealed_part_in_record::<ArchivedWords, u8>(self, 3, 3)
     }
@@ -785,28 +755,20 @@ pub trait LevelSeal<'a> {
 
     /// The field `0` of `Ok`.
     fn ok_0_mut(self) -> Seal<'a, ArchivedWords>
-        requires viewed { sealed self }
+        requires come_to { sealed self }
         requires tag { tag self ≡ 2 };
 }
 
 impl<'a> LevelSeal<'a> for Seal<'a, ArchivedLevel> {
-    ghost sealed = { λ s. Viewed no_definition s.bytes.now s.pos
-        (one ⟦<ArchivedLevel as Portable>⟧.shape) s.len };
+    ghost sealed = { λ s. IsSealOf no_definition (one ⟦<ArchivedLevel as Portable>⟧.shape) s };
 
     ghost tag = { λ s. seal_tag s };
 
     fn ok_0_mut(self) -> Seal<'a, ArchivedWords>
-        requires viewed { Viewed no_definition self.bytes.now self.pos
-            (one ⟦<ArchivedLevel as Portable>⟧.shape) self.len }
+        requires come_to { IsSealOf no_definition (one ⟦<ArchivedLevel as Portable>⟧.shape) self }
         requires tag { seal_tag self ≡ 2 }
-        ensures same_reference { result.bytes.ghost_name ≡ self.entry.bytes.ghost_name }
-        ensures buffer { result.bytes.now ≡ self.entry.bytes.now }
-        ensures position { result.pos ≡ self.entry.pos + 1 }
-        ensures length { result.len ≡ 0 }
-        ensures viewed { Viewed no_definition result.bytes.now result.pos
-            ⟦<ArchivedWords as ArchivePointee>⟧.pointee result.len }
-        ensures beside { SealsBeside no_definition (one ⟦<ArchivedLevel as Portable>⟧.shape)
-            ⟦<ArchivedWords as ArchivePointee>⟧.pointee result self.entry }
+        ensures { SealsPart no_definition (one ⟦<ArchivedLevel as Portable>⟧.shape) no_definition
+            ⟦<ArchivedWords as ArchivePointee>⟧.pointee (self.entry.pos + 1) 0 self.entry result }
     {
         sealed_part_in_case::<ArchivedLevel, ArchivedWords>(self, 2, 0, 1)
     }

@@ -19,18 +19,17 @@ ghost use Rattle.archive_core.specs.Expressions.{shape_of, shapes_in};
 ghost use Rattle.archive_core.specs.Payloads.{payload_in};
 ghost use Rattle.archive_core.specs.PlannedOwners.{one_planned};
 ghost use Rattle.archive_core.specs.Plans.{Serialized};
-ghost use Rattle.archive_core.specs.SealsWritten.{SealsBeside, seal_tag};
+ghost use Rattle.archive_core.specs.SealsWritten.{IsSealOf, SealsPart, seal_tag};
 ghost use Rattle.archive_core.specs.Seen.{IsPartOf, RefusesPart, ShowsValueOf, part_tag, tag_of};
 ghost use Rattle.archive_core.specs.SelfCheck.Laws.{by_schema};
 ghost use Rattle.archive_core.specs.Shape.{boxed, one, part, parts, variant, vec};
 ghost use Rattle.archive_core.specs.Sources.{Read};
 ghost use Rattle.archive_core.specs.Value.{case, no_value, value};
-ghost use Rattle.archive_core.specs.Viewed.{Viewed};
 ghost use Rattle.archive_core.specs.Writing.{ZeroedPlace};
 ghost use Rattle.archive_core.specs.Written.{GoesOn};
 ghost use Rattle.recursive_types.specs.ListShape.{list_cons_parts, list_definitions, list_has_layout, list_has_variants, list_is_align, list_layout, list_name, list_no_others, list_shape, list_stands_for};
 ghost use Rattle.std.proofs.Common.{lit≤};
-ghost use Rattle.std.specs.Prelude.{IfErr, IfOk, [], length, refl, ℕ, ◌++◌, ◌+◌, ◌≡◌, ◌≤◌};
+ghost use Rattle.std.specs.Prelude.{IfErr, IfOk, [], refl, ℕ, ◌++◌, ◌+◌, ◌≡◌, ◌≤◌};
 
 use archive_core::boxed::{ArchivedBox, BoxResolver, serialize_inner};
 use archive_core::error::Error;
@@ -461,49 +460,36 @@ pub trait ListSeal<'a> {
 
     /// The field `0` of `Cons`.
     fn cons_0_mut(self) -> Seal<'a, ArchivedU32>
-        requires viewed { sealed self }
+        requires come_to { sealed self }
         requires tag { tag self ≡ 1 };
 
     /// The field `1` of `Cons`.
     fn cons_1_mut(self) -> Seal<'a, ArchivedBox<ArchivedList>>
-        requires viewed { sealed self }
+        requires come_to { sealed self }
         requires tag { tag self ≡ 1 };
 }
 
 impl<'a> ListSeal<'a> for Seal<'a, ArchivedList> {
-    ghost sealed = { λ s. Viewed list_definitions s.bytes.now s.pos
-        (one ⟦<ArchivedList as Portable>⟧.shape) s.len };
+    ghost sealed = { λ s. IsSealOf list_definitions (one ⟦<ArchivedList as Portable>⟧.shape) s };
 
     ghost tag = { λ s. seal_tag s };
 
     fn cons_0_mut(self) -> Seal<'a, ArchivedU32>
-        requires viewed { Viewed list_definitions self.bytes.now self.pos
-            (one ⟦<ArchivedList as Portable>⟧.shape) self.len }
+        requires come_to { IsSealOf list_definitions (one ⟦<ArchivedList as Portable>⟧.shape) self }
         requires tag { seal_tag self ≡ 1 }
-        ensures same_reference { result.bytes.ghost_name ≡ self.entry.bytes.ghost_name }
-        ensures buffer { result.bytes.now ≡ self.entry.bytes.now }
-        ensures position { result.pos ≡ self.entry.pos + 4 }
-        ensures length { result.len ≡ 0 }
-        ensures viewed { Viewed no_definition result.bytes.now result.pos
-            ⟦<ArchivedU32 as ArchivePointee>⟧.pointee result.len }
-        ensures beside { SealsBeside list_definitions (one ⟦<ArchivedList as Portable>⟧.shape)
-            ⟦<ArchivedU32 as ArchivePointee>⟧.pointee result self.entry }
+        ensures { SealsPart list_definitions (one ⟦<ArchivedList as Portable>⟧.shape) no_definition
+            ⟦<ArchivedU32 as ArchivePointee>⟧.pointee (self.entry.pos + 4) 0 self.entry result }
     {
         seal_of_payload::<ArchivedList, ArchivedU32>(self, 1, 0, 4)
     }
 
     fn cons_1_mut(self) -> Seal<'a, ArchivedBox<ArchivedList>>
-        requires viewed { Viewed list_definitions self.bytes.now self.pos
-            (one ⟦<ArchivedList as Portable>⟧.shape) self.len }
+        requires come_to { IsSealOf list_definitions (one ⟦<ArchivedList as Portable>⟧.shape) self }
         requires tag { seal_tag self ≡ 1 }
-        ensures same_reference { result.bytes.ghost_name ≡ self.entry.bytes.ghost_name }
-        ensures buffer { result.bytes.now ≡ self.entry.bytes.now }
-        ensures position { result.pos ≡ self.entry.pos + 8 }
-        ensures length { result.len ≡ 0 }
-        ensures viewed { Viewed ⟦<ArchivedList as ArchivePointee>⟧.definitions result.bytes.now
-            result.pos ⟦<ArchivedBox<ArchivedList> as ArchivePointee>⟧.pointee result.len }
-        ensures beside { SealsBeside list_definitions (one ⟦<ArchivedList as Portable>⟧.shape)
-            ⟦<ArchivedBox<ArchivedList> as ArchivePointee>⟧.pointee result self.entry }
+        ensures { SealsPart list_definitions (one ⟦<ArchivedList as Portable>⟧.shape)
+            ⟦<ArchivedList as ArchivePointee>⟧.definitions
+            ⟦<ArchivedBox<ArchivedList> as ArchivePointee>⟧.pointee (self.entry.pos + 8) 0
+            self.entry result }
     {
         seal_of_payload::<ArchivedList, ArchivedBox<ArchivedList>>(self, 1, 1, 8)
     }

@@ -20,13 +20,12 @@ ghost use Rattle.archive_core.specs.Fields.{field_in};
 ghost use Rattle.archive_core.specs.PlannedOwners.{one_planned};
 ghost use Rattle.archive_core.specs.Plans.{Serialized};
 ghost use Rattle.archive_core.specs.Runs.{EachBelongs, IsRunRefused, SerializedRun, each_flat, each_keys, each_meaning};
-ghost use Rattle.archive_core.specs.SealsWritten.{SealsBeside};
+ghost use Rattle.archive_core.specs.SealsWritten.{IsSealOf, SealsPart};
 ghost use Rattle.archive_core.specs.Seen.{IsPartOf, RefusesPart, ShowsValueOf};
 ghost use Rattle.archive_core.specs.SelfCheck.Laws.{by_schema};
 ghost use Rattle.archive_core.specs.Shape.{one, part, parts, vec};
 ghost use Rattle.archive_core.specs.Sources.{Read};
 ghost use Rattle.archive_core.specs.Value.{value};
-ghost use Rattle.archive_core.specs.Viewed.{Viewed};
 ghost use Rattle.archive_core.specs.Writing.{ZeroedPlace};
 ghost use Rattle.archive_core.specs.Written.{GoesOn};
 ghost use Rattle.recursive_types.specs.TreeShape.{tree_definitions, tree_has_layout, tree_has_parts, tree_is_align, tree_layout, tree_no_others, tree_parts, tree_shape, tree_stands_for};
@@ -414,35 +413,22 @@ pub trait TreeSeal<'a> {
 }
 
 impl<'a> TreeSeal<'a> for Seal<'a, ArchivedTree> {
-    ghost sealed = { λ s. Viewed tree_definitions s.bytes.now s.pos
-        (one ⟦<ArchivedTree as Portable>⟧.shape) s.len };
+    ghost sealed = { λ s. IsSealOf tree_definitions (one ⟦<ArchivedTree as Portable>⟧.shape) s };
 
     fn value_mut(self) -> Seal<'a, ArchivedU32>
-        requires viewed { Viewed tree_definitions self.bytes.now self.pos
-            (one ⟦<ArchivedTree as Portable>⟧.shape) self.len }
-        ensures same_reference { result.bytes.ghost_name ≡ self.entry.bytes.ghost_name }
-        ensures buffer { result.bytes.now ≡ self.entry.bytes.now }
-        ensures position { result.pos ≡ self.entry.pos + 0 }
-        ensures length { result.len ≡ 0 }
-        ensures viewed { Viewed no_definition result.bytes.now result.pos
-            ⟦<ArchivedU32 as ArchivePointee>⟧.pointee result.len }
-        ensures beside { SealsBeside tree_definitions (one ⟦<ArchivedTree as Portable>⟧.shape)
-            ⟦<ArchivedU32 as ArchivePointee>⟧.pointee result self.entry }
+        requires come_to { IsSealOf tree_definitions (one ⟦<ArchivedTree as Portable>⟧.shape) self }
+        ensures { SealsPart tree_definitions (one ⟦<ArchivedTree as Portable>⟧.shape) no_definition
+            ⟦<ArchivedU32 as ArchivePointee>⟧.pointee (self.entry.pos + 0) 0 self.entry result }
     {
         seal_of_field::<ArchivedTree, ArchivedU32>(self, 0, 0)
     }
 
     fn children_mut(self) -> Seal<'a, ArchivedVec<ArchivedTree>>
-        requires viewed { Viewed tree_definitions self.bytes.now self.pos
-            (one ⟦<ArchivedTree as Portable>⟧.shape) self.len }
-        ensures same_reference { result.bytes.ghost_name ≡ self.entry.bytes.ghost_name }
-        ensures buffer { result.bytes.now ≡ self.entry.bytes.now }
-        ensures position { result.pos ≡ self.entry.pos + 4 }
-        ensures length { result.len ≡ 0 }
-        ensures viewed { Viewed ⟦<ArchivedTree as ArchivePointee>⟧.definitions result.bytes.now
-            result.pos ⟦<ArchivedVec<ArchivedTree> as ArchivePointee>⟧.pointee result.len }
-        ensures beside { SealsBeside tree_definitions (one ⟦<ArchivedTree as Portable>⟧.shape)
-            ⟦<ArchivedVec<ArchivedTree> as ArchivePointee>⟧.pointee result self.entry }
+        requires come_to { IsSealOf tree_definitions (one ⟦<ArchivedTree as Portable>⟧.shape) self }
+        ensures { SealsPart tree_definitions (one ⟦<ArchivedTree as Portable>⟧.shape)
+            ⟦<ArchivedTree as ArchivePointee>⟧.definitions
+            ⟦<ArchivedVec<ArchivedTree> as ArchivePointee>⟧.pointee (self.entry.pos + 4) 0
+            self.entry result }
     {
         seal_of_field::<ArchivedTree, ArchivedVec<ArchivedTree>>(self, 1, 4)
     }

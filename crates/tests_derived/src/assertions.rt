@@ -4,7 +4,7 @@
 
 ghost use Rattle.archive_core.specs.Definitions.{no_definition};
 ghost use Rattle.archive_core.specs.Shape.{one, run, str as str_shape};
-ghost use Rattle.archive_core.specs.Viewed.{Viewed};
+ghost use Rattle.archive_core.specs.SealsWritten.{IsSealOf};
 
 use crate::judgements::assert_checked;
 use archive_core::api::{
@@ -135,14 +135,14 @@ pub(crate) fn sealed<'a, T: Portable>(
     alloc: Global,
     bytes: &'a mut [u8],
 ) -> Seal<'a, T>
-    ensures viewed { Viewed T.definitions result.bytes.now result.pos T.pointee result.len }
+    ensures come_to { IsSealOf T.definitions T.pointee result }
 {
     access_mut::<T>(alloc, bytes).expect(rt, "an archive")
 }
 
 // Writes a text over that of a string, where both have the same number of bytes.
 pub(crate) fn write_text(string: Seal<'_, ArchivedString>, text: &str)
-    requires viewed { Viewed no_definition string.bytes.now string.pos (one str_shape) string.len }
+    requires come_to { IsSealOf no_definition (one str_shape) string }
 {
     if string.as_ref().len() == text.len() {
         string.write_str(text);
@@ -154,7 +154,7 @@ pub(crate) fn write_second<T: Portable + SealedLeaf>(
     list: Seal<'_, ArchivedSlice<T>>,
     value: T::Written,
 )
-    requires viewed { Viewed T.definitions list.bytes.now list.pos (run T.shape) list.len }
+    requires come_to { IsSealOf T.definitions (run T.shape) list }
     requires can_hold { T.can_hold value }
 {
     if list.len() > 1 {

@@ -2,7 +2,7 @@
 
 ghost use Rattle.archive_core.specs.Definitions.{no_definition};
 ghost use Rattle.archive_core.specs.Shape.{one};
-ghost use Rattle.archive_core.specs.Viewed.{Viewed};
+ghost use Rattle.archive_core.specs.SealsWritten.{IsSealOf};
 
 use crate::assertions::{
     assert_archived, assert_bytes, assert_holds, assert_same, sealed, viewed, write_second,
@@ -127,7 +127,7 @@ fn an_atlas_is_viewed(rt: HostRuntime) {
 
 // Writes over the end of a line.
 fn write_end(line: Seal<'_, ArchivedLine>, up: i16)
-    requires { Viewed no_definition line.bytes.now line.pos (one ⟦<ArchivedLine as Portable>⟧.shape) line.len }
+    requires { IsSealOf no_definition (one ⟦<ArchivedLine as Portable>⟧.shape) line }
 {
     line.to_mut().up_mut().write(up);
 }

@@ -2,7 +2,7 @@
 
 ghost use Rattle.archive_core.specs.Definitions.{no_definition};
 ghost use Rattle.archive_core.specs.Shape.{one};
-ghost use Rattle.archive_core.specs.Viewed.{Viewed};
+ghost use Rattle.archive_core.specs.SealsWritten.{IsSealOf};
 
 use crate::assertions::{assert_archived, assert_bytes, assert_same, sealed, text, viewed};
 use crate::events::variant_of;
@@ -51,7 +51,7 @@ fn entries_are_viewed(rt: HostRuntime) {
 
 // Moves a step.
 fn move_step(event: Seal<'_, ArchivedEvent>, x: i32)
-    requires { Viewed no_definition event.bytes.now event.pos (one ⟦<ArchivedEvent as Portable>⟧.shape) event.len }
+    requires { IsSealOf no_definition (one ⟦<ArchivedEvent as Portable>⟧.shape) event }
 {
     if event.as_ref().tag() == 3 {
         event.move_x_mut().write(x);

@@ -2,7 +2,7 @@
 
 ghost use Rattle.archive_core.specs.Definitions.{no_definition};
 ghost use Rattle.archive_core.specs.Shape.{one};
-ghost use Rattle.archive_core.specs.Viewed.{Viewed};
+ghost use Rattle.archive_core.specs.SealsWritten.{IsSealOf};
 
 use crate::assertions::{
     assert_archived, assert_bytes, assert_holds, assert_same, sealed, text, viewed, write_second,
@@ -98,7 +98,7 @@ fn events_are_viewed(rt: HostRuntime) {
 
 // Edits an event in place: a key or a number becomes another one.
 fn edit_number(event: Seal<'_, ArchivedEvent>)
-    requires { Viewed no_definition event.bytes.now event.pos (one ⟦<ArchivedEvent as Portable>⟧.shape) event.len }
+    requires { IsSealOf no_definition (one ⟦<ArchivedEvent as Portable>⟧.shape) event }
 {
     match event.as_ref().tag() {
         1 => event.key_0_mut().write('A'),
@@ -110,7 +110,7 @@ fn edit_number(event: Seal<'_, ArchivedEvent>)
 
 // The number of a step up, or a text, becomes another one.
 fn edit_other(event: Seal<'_, ArchivedEvent>)
-    requires { Viewed no_definition event.bytes.now event.pos (one ⟦<ArchivedEvent as Portable>⟧.shape) event.len }
+    requires { IsSealOf no_definition (one ⟦<ArchivedEvent as Portable>⟧.shape) event }
 {
     match event.as_ref().tag() {
         2 => write_text(event.text_0_mut(), "good-bye..."),

@@ -2,7 +2,7 @@
 
 ghost use Rattle.archive_core.specs.Definitions.{no_definition};
 ghost use Rattle.archive_core.specs.Shape.{text as text_pointee};
-ghost use Rattle.archive_core.specs.Viewed.{Viewed};
+ghost use Rattle.archive_core.specs.SealsWritten.{IsSealOf};
 
 use crate::assertions::{
     assert_bytes, assert_holds, assert_same, assert_written, sealed, text, value_of, viewed,
@@ -162,7 +162,7 @@ fn write_texts(rt: &impl Abort, alloc: Global, bytes: &mut [u8], reason: &str, p
 
 // Writes over a boxed text with as many bytes.
 fn write_boxed(seal: Seal<'_, ArchivedStr>, text: &str)
-    requires { Viewed no_definition seal.bytes.now seal.pos text_pointee seal.len }
+    requires { IsSealOf no_definition text_pointee seal }
 {
     if seal.as_ref().len() == text.len() {
         seal.write_str(text);

@@ -2,7 +2,7 @@
 
 ghost use Rattle.archive_core.specs.Definitions.{no_definition};
 ghost use Rattle.archive_core.specs.Shape.{one};
-ghost use Rattle.archive_core.specs.Viewed.{Viewed};
+ghost use Rattle.archive_core.specs.SealsWritten.{IsSealOf};
 
 use crate::assertions::{assert_archived, assert_bytes, assert_same, sealed, viewed};
 use crate::judgements::{assert_refused, unknown_tag};
@@ -49,7 +49,7 @@ fn turns_are_viewed(rt: HostRuntime) {
 
 // Writes another distance, whichever way it is.
 fn write_distance(turn: Seal<'_, ArchivedTurn>, far: u16)
-    requires { Viewed no_definition turn.bytes.now turn.pos (one ⟦<ArchivedTurn as Portable>⟧.shape) turn.len }
+    requires { IsSealOf no_definition (one ⟦<ArchivedTurn as Portable>⟧.shape) turn }
 {
     match turn.as_ref().tag() {
         0 => turn.left_0_mut().write(far),

@@ -1,7 +1,7 @@
 // Assertions that are proved once. A call of one takes the check a fifth of a second, and `assert_eq!` written out in a test's body seconds. Calls that
 // answer a `Result` are made in here, too: the check writes out all locals of a body at each of its steps, and an `Error` among them in a hundred lines.
 
-ghost use Rattle.archive_core.specs.Viewed.{Viewed};
+ghost use Rattle.archive_core.specs.SealsWritten.{IsSealOf};
 
 use archive_core::api::{HighSerializer, access, access_mut, from_bytes, to_bytes};
 use archive_core::error::Error;
@@ -85,7 +85,7 @@ pub(crate) fn sealed<'a, T: Portable>(
     alloc: Global,
     bytes: &'a mut [u8],
 ) -> Seal<'a, T>
-    ensures viewed { Viewed T.definitions result.bytes.now result.pos T.pointee result.len }
+    ensures come_to { IsSealOf T.definitions T.pointee result }
 {
     access_mut::<T>(alloc, bytes).expect(rt, "an archive")
 }

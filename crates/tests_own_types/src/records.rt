@@ -5,7 +5,7 @@ ghost use Rattle.std.specs.Prelude.{◌≡◌, ◌≤◌, Some};
 ghost use Rattle.archive_core.specs.KnownParts.{KnowsAlso};
 ghost use Rattle.archive_core.specs.PartsLayout.{part_at, definitions_at};
 ghost use Rattle.archive_core.specs.Shape.{one, vec as vec_shape};
-ghost use Rattle.archive_core.specs.Viewed.{Viewed};
+ghost use Rattle.archive_core.specs.SealsWritten.{IsSealOf};
 
 use crate::assertions::{
     assert_bytes, assert_holds, assert_refused, assert_same, made, sealed, viewed,
@@ -158,7 +158,7 @@ fn assert_number_written_over<R: Record>(rt: &impl Abort, alloc: Global)
 
 // Writes over the third element of a list, if there is one.
 fn write_third<T: Portable + SealedLeaf>(list: Seal<'_, ArchivedVec<T>>, value: T::Written)
-    requires viewed { Viewed T.definitions list.bytes.now list.pos (one (vec_shape T.shape)) list.len }
+    requires come_to { IsSealOf T.definitions (one (vec_shape T.shape)) list }
     requires can_hold { T.can_hold value }
 {
     if list.as_ref().len() > 2 {

@@ -3,7 +3,7 @@
 // body at each of its steps, with their types in full, and `Error` is the longest of them. What isn't as it should be ends the process.
 
 ghost use Rattle.std.specs.Prelude.{◌≡◌};
-ghost use Rattle.archive_core.specs.Viewed.{Viewed};
+ghost use Rattle.archive_core.specs.SealsWritten.{IsSealOf};
 
 use archive_core::api::{HighSerializer, access, access_mut, access_pos_mut, from_bytes, to_bytes};
 use archive_core::error::Error;
@@ -152,7 +152,7 @@ pub(crate) fn sealed<'a, T: Portable>(
 ) -> Seal<'a, T>
     ensures same_reference { result.bytes.ghost_name ≡ bytes.entry.ghost_name }
     ensures buffer { result.bytes.now ≡ bytes.old }
-    ensures viewed { Viewed T.definitions result.bytes.now result.pos T.pointee result.len }
+    ensures come_to { IsSealOf T.definitions T.pointee result }
 {
     access_mut::<T>(alloc, bytes).expect(rt, "an archive")
 }
@@ -166,7 +166,7 @@ pub(crate) fn sealed_at<'a, T: Portable>(
 ) -> Seal<'a, T>
     ensures same_reference { result.bytes.ghost_name ≡ bytes.entry.ghost_name }
     ensures buffer { result.bytes.now ≡ bytes.old }
-    ensures viewed { Viewed T.definitions result.bytes.now result.pos T.pointee result.len }
+    ensures come_to { IsSealOf T.definitions T.pointee result }
 {
     access_pos_mut::<T>(alloc, bytes, pos).expect(rt, "an archive")
 }

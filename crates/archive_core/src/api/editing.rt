@@ -2,7 +2,7 @@
 
 ghost use Rattle.std.specs.Prelude.{◌≡◌, None, IfOk};
 ghost use Rattle.archive_check.specs.Archives.{Answers, root_in};
-ghost use Rattle.archive_check.specs.Viewed.{Viewed};
+ghost use Rattle.archive_core.specs.SealsWritten.{IsSealOf};
 
 use super::{access_pos, root_position};
 use crate::seal::{Seal, SpotExt};
@@ -22,7 +22,7 @@ pub fn access_pos_mut<'a, T: Portable>(
     ensures buffer { IfOk result (λ s. s.bytes.now ≡ bytes.old) }
     ensures position { IfOk result (λ s. s.pos ≡ pos) }
     ensures whole { IfOk result (λ s. s.len ≡ 0) }
-    ensures viewed { IfOk result (λ s. Viewed T.definitions s.bytes.now s.pos T.pointee s.len) }
+    ensures come_to { IfOk result (IsSealOf T.definitions T.pointee) }
 {
     let spot = match access_pos::<T>(alloc, bytes, pos) {
         Ok(root) => root.spot(),
@@ -39,7 +39,7 @@ pub fn access_mut<'a, T: Portable>(alloc: Global, bytes: &'a mut [u8]) -> Result
     ensures buffer { IfOk result (λ s. s.bytes.now ≡ bytes.old) }
     ensures position { IfOk result (λ s. s.pos ≡ root_in bytes.old T.layout) }
     ensures whole { IfOk result (λ s. s.len ≡ 0) }
-    ensures viewed { IfOk result (λ s. Viewed T.definitions s.bytes.now s.pos T.pointee s.len) }
+    ensures come_to { IfOk result (IsSealOf T.definitions T.pointee) }
 {
     let pos = root_position::<T>(bytes.len());
     access_pos_mut(alloc, bytes, pos)

@@ -2,8 +2,7 @@
 
 ghost use Rattle.std.specs.Prelude.{◌≡◌, ◌+◌, Some, true};
 ghost use Rattle.archive_check.specs.Definitions.{no_definition};
-ghost use Rattle.archive_check.specs.Viewed.{Viewed};
-ghost use Rattle.archive_core.specs.SealsWritten.{SealsBeside, seal_tag};
+ghost use Rattle.archive_core.specs.SealsWritten.{IsSealOf, SealsPart, seal_tag};
 ghost use Rattle.archive_fields.specs.FieldsAt.{FieldBegins, field_at};
 ghost use Rattle.archive_fields.specs.Plain.{BeginsAt, are_none, part_in};
 
@@ -19,18 +18,13 @@ pub fn sealed_part_in_case<'a, X: Portable, U: Portable>(
     i: usize,
     offset: usize,
 ) -> Seal<'a, U>
-    requires viewed { Viewed X.definitions seal.bytes.now seal.pos X.pointee seal.len }
+    requires come_to { IsSealOf X.definitions X.pointee seal }
     requires tag { seal_tag seal ≡ tag }
     requires nothing { X.definitions ≡ no_definition }
     requires part { part_in X.shape tag i ≡ Some U.shape }
     requires begins { BeginsAt X.shape tag i offset }
     requires nameless { are_none U.definitions ≡ true }
-    ensures same_reference { result.bytes.ghost_name ≡ seal.entry.bytes.ghost_name }
-    ensures buffer { result.bytes.now ≡ seal.entry.bytes.now }
-    ensures position { result.pos ≡ seal.entry.pos + offset }
-    ensures length { result.len ≡ 0 }
-    ensures viewed { Viewed U.definitions result.bytes.now result.pos U.pointee result.len }
-    ensures beside { SealsBeside X.definitions X.pointee U.pointee result seal.entry }
+    ensures { SealsPart X.definitions X.pointee U.definitions U.pointee (seal.entry.pos + offset) 0 seal.entry result }
 {
     let spot = Spot::of(part_in_case::<X, U>(seal.as_ref(), tag, i, offset));
     let Seal { bytes, .. } = seal;
@@ -43,17 +37,12 @@ pub fn sealed_part_in_record<'a, X: Portable, U: Portable>(
     i: usize,
     offset: usize,
 ) -> Seal<'a, U>
-    requires viewed { Viewed X.definitions seal.bytes.now seal.pos X.pointee seal.len }
+    requires come_to { IsSealOf X.definitions X.pointee seal }
     requires nothing { X.definitions ≡ no_definition }
     requires part { field_at X.shape i ≡ Some U.shape }
     requires begins { FieldBegins X.shape i offset }
     requires nameless { are_none U.definitions ≡ true }
-    ensures same_reference { result.bytes.ghost_name ≡ seal.entry.bytes.ghost_name }
-    ensures buffer { result.bytes.now ≡ seal.entry.bytes.now }
-    ensures position { result.pos ≡ seal.entry.pos + offset }
-    ensures length { result.len ≡ 0 }
-    ensures viewed { Viewed U.definitions result.bytes.now result.pos U.pointee result.len }
-    ensures beside { SealsBeside X.definitions X.pointee U.pointee result seal.entry }
+    ensures { SealsPart X.definitions X.pointee U.definitions U.pointee (seal.entry.pos + offset) 0 seal.entry result }
 {
     let spot = Spot::of(part_in_record::<X, U>(seal.as_ref(), i, offset));
     let Seal { bytes, .. } = seal;

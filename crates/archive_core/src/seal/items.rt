@@ -1,6 +1,6 @@
 // Iterating over the seal of an option.
 
-ghost use Rattle.archive_core.specs.SealedOptions.{ShowsOption, LeavesItsValue};
+ghost use Rattle.archive_core.specs.SealedOptions.{IsSealOfOption, SealsValue};
 
 use super::Seal;
 use archive_types::option::{ArchivedOption, Iter};
@@ -14,7 +14,7 @@ impl<'a, T: Portable> IntoIterator for Seal<'a, ArchivedOption<T>> {
 
     type IntoIter = Iter<Seal<'a, T>>;
 
-    ghost into_iter_gives = { λ s it. ShowsOption T.Portable s → LeavesItsValue T.Portable s it };
+    ghost into_iter_gives = { λ s it. IsSealOfOption T.Portable s → SealsValue T.Portable s it };
 
     // `iter_seal` asks what a call of this trait can't: so this call looks itself whether the tag lies in the buffer.
     fn into_iter(self) -> Iter<Seal<'a, T>> {

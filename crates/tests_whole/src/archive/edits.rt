@@ -2,7 +2,7 @@
 
 ghost use Rattle.std.specs.Prelude.{◌≡◌, Some};
 ghost use Rattle.archive_core.specs.PartsLayout.{part_at, definitions_at};
-ghost use Rattle.archive_core.specs.Viewed.{Viewed};
+ghost use Rattle.archive_core.specs.SealsWritten.{IsSealOf};
 
 use crate::assertions::{assert_holds, assert_same};
 use archive_core::api::access_mut;
@@ -17,11 +17,11 @@ type Names = ArchivedTuple2<ArchivedString, ArchivedString>;
 
 // Writes a text over that of part `i` of a record, where both have the same number of bytes. The seal shows the record as before.
 fn write_part<R: Record>(seal: &mut Seal<'_, R>, i: usize, value: &str) -> bool
-    requires viewed { Viewed R.definitions seal.old.bytes.now seal.old.pos R.pointee seal.old.len }
+    requires come_to { IsSealOf R.definitions R.pointee seal.old }
     requires part { part_at R.Parts.parts i ≡ Some ⟦<ArchivedString as Portable>⟧.shape }
     requires definitions { definitions_at R.Parts.definitions i ≡ ⟦<ArchivedString as ArchivePointee>⟧.definitions }
     ensures same_reference { seal.new.bytes.ghost_name ≡ seal.old.bytes.ghost_name }
-    ensures viewed { Viewed R.definitions seal.new.bytes.now seal.new.pos R.pointee seal.new.len }
+    ensures come_to { IsSealOf R.definitions R.pointee seal.new }
 {
     let part = seal.as_ref().field::<ArchivedString>(i);
     if part.len() != value.len() {

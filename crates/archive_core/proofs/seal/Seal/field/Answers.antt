@@ -1,8 +1,15 @@
-use Rattle.archive_types.proofs.Viewing.ViewsTogether.{shown_with}
+use Rattle.std.proofs.Common.{rules, refl}
+use Rattle.archive_check.specs.Members.PartsLayout.{knows_at}
+use Rattle.archive_core.proofs.SealedParts.{comes_on, field_comes, sealed_part}
 use Rattle.archive_core.proofs.seal.Seal.field.Goals as goal
 
 pub seal-requires : goal.seal-requires
-seal-requires g c = rw (c.field.ensures.buffer, c.as_ref.ensures.buffer) at c.of-spot.ensures.viewed
+seal-requires g c =
+    rw (c.of-spot.ensures.position, c.of-spot.ensures.length, c.field.ensures.position, c.field.ensures.length, c.as_ref.ensures.position) (comes_on (λ s k. c.requires.definitions s (knows_at s _ c.args.i (g.met.T.Record.has_parts.known s k))) _ _ _ _ _ _ _ (field_comes _ _ _ _ g.met.T.Record.has_parts _ _ _ _ g.met.T.Portable.is_one _ _ _ g.met.T.Parts.PortableParts.laid_out c.args.i _ c.requires.part _ g.met.U.Portable.is_one) c.requires.come_to)
 
-pub returns-clause-beside : goal.returns-clause-beside
-returns-clause-beside g c = rw (c.seal.ensures.position, c.seal.ensures.length, c.of-spot.ensures.position, c.of-spot.ensures.length, c.field.ensures.length) (shown_with _ _ _ _ _ _ _ _ _ (rw (c.as_ref.ensures.buffer, c.as_ref.ensures.position, c.as_ref.ensures.length) at c.field.ensures.shows))
+pub returns : goal.returns
+returns g c =
+    sealed_part (search rules) (search rules)
+    (rw (c.seal.ensures.position, c.of-spot.ensures.position, c.field.ensures.position, c.as_ref.ensures.position) refl)
+    (rw (c.seal.ensures.length, c.of-spot.ensures.length, c.field.ensures.length) refl)
+    (search rules) (field_comes _ _ _ _ g.met.T.Record.has_parts _ _ _ _ g.met.T.Portable.is_one _ _ _ g.met.T.Parts.PortableParts.laid_out c.args.i _ c.requires.part _ g.met.U.Portable.is_one)

@@ -1,14 +1,7 @@
-use Rattle.archive_core.proofs.SealedLeaves.{leaf_lies}
-use Rattle.archive_types.proofs.Viewing.StandingLeaves.{leaf_stands}
-use Rattle.archive_core.proofs.StandingParts.{views_kept}
 use Rattle.archive_core.proofs.seal.Seal.write.Goals as goal
 
-pub write_over-requires-clause-fits : goal.write_over-requires-clause-fits
-write_over-requires-clause-fits g c = leaf_lies _ _ _ _ _ _ g.T.SealedLeaf.kind g.met.T.SealedLeaf.same_pointee g.met.T.SealedLeaf.same_size c.requires.viewed
+pub write_over-requires-clause-come_to : goal.write_over-requires-clause-come_to
+write_over-requires-clause-come_to g c = rw (c.at.ensures.position, c.at.ensures.length) c.requires.come_to
 
-pub returns-clause-stands : goal.returns-clause-stands
-returns-clause-stands g c = λ s root X a i. leaf_stands s _ a _ _ g.T.SealedLeaf.kind (rw g.met.T.SealedLeaf.same_pointee at i)
-
-pub returns-clause-views : goal.returns-clause-views
-returns-clause-views g c =
-    views_kept _ _ _ _ _ _ _ c.write_over.ensures.leaf c.write_over.ensures.parts (λ s root X a i. leaf_stands s _ a _ _ g.T.SealedLeaf.kind (rw g.met.T.SealedLeaf.same_pointee at i))
+pub returns-clause-written : goal.returns-clause-written
+returns-clause-written g c = rw (c.at.ensures.position, c.at.ensures.length) at c.write_over.ensures.written

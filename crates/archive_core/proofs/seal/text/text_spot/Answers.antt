@@ -2,7 +2,7 @@ use Rattle.std.proofs.Common.{arith}
 use Rattle.archive_check.proofs.Viewing.ViewedValues.{string_readable, out_viewed}
 use Rattle.archive_types.proofs.Viewing.Shown.{string_shown, elsewhere_shown}
 use Rattle.archive_core.proofs.SealedLeaves.{inline_viewed, inline_long}
-use Rattle.archive_types.proofs.Viewing.ViewsTogether.{text_with, inline_with}
+use Rattle.archive_core.proofs.SealedParts.{text_comes, inline_comes}
 use Rattle.archive_core.proofs.seal.text.text_spot.Goals as goal
 
 pub is_out_of_line-requires : goal.is_out_of_line-requires
@@ -36,9 +36,9 @@ returns-clause-viewed c =
 pub returns-then-is_out_of_line-clause-beside : goal.returns-then-is_out_of_line-clause-beside
 returns-then-is_out_of_line-clause-beside c =
     rw (c.at.ensures.position, c.at.ensures.length, c.read_target.ensures, c.read_coded_length.ensures, ← c.part-pos.ensures.buffer, ← c.part-pos.ensures.position)
-    (text_with _ _ _ _ (c.is_out_of_line.ensures.0 c.if-is_out_of_line.true))
+    (text_comes _ _ _ _ (c.is_out_of_line.ensures.0 c.if-is_out_of_line.true))
 
 pub returns-clause-beside : goal.returns-clause-beside
 returns-clause-beside c =
     rw (c.at-2.ensures.position, c.at-2.ensures.length, ← c.part-pos.ensures.buffer, ← c.part-pos.ensures.position)
-    (inline_with _ _ _ _ _ (λ o. let t = c.is_out_of_line.ensures.1 o in cc) (inline_long _ _ _ _ _ c.inline_length.ensures.text c.inline_length.ensures.short c.part-pos.ensures.viewed))
+    (inline_comes _ _ _ _ _ (λ o. let t = c.is_out_of_line.ensures.1 o in cc) (inline_long _ _ _ _ _ c.inline_length.ensures.text c.inline_length.ensures.short c.part-pos.ensures.viewed))

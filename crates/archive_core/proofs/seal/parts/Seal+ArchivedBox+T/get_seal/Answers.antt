@@ -1,8 +1,12 @@
-use Rattle.archive_types.proofs.Viewing.ViewsTogether.{shown_with}
+use Rattle.std.proofs.Common.{rules, refl}
+use Rattle.archive_core.proofs.SealedParts.{comes_on, box_comes, sealed_part}
 use Rattle.archive_core.proofs.seal.parts.Seal+ArchivedBox+T.get_seal.Goals as goal
 
 pub seal-requires : goal.seal-requires
-seal-requires g c = rw (c.get.ensures.buffer, c.as_ref.ensures.buffer) at c.of-spot.ensures.viewed
+seal-requires g c = rw (c.of-spot.ensures.position, c.of-spot.ensures.length, c.get.ensures.position, c.get.ensures.length, c.as_ref.ensures.buffer, c.as_ref.ensures.position) (comes_on (λ s k. k) _ _ _ _ _ _ _ (box_comes _ _ _ _ _) c.requires)
 
-pub returns-clause-beside : goal.returns-clause-beside
-returns-clause-beside g c = rw (c.seal.ensures.position, c.seal.ensures.length, c.of-spot.ensures.position, c.of-spot.ensures.length) (shown_with _ _ _ _ _ _ _ _ _ (rw (c.as_ref.ensures.buffer, c.as_ref.ensures.position, c.as_ref.ensures.length) at c.get.ensures.shows))
+pub returns : goal.returns
+returns g c = sealed_part (search rules) (search rules)
+    (rw (c.seal.ensures.position, c.of-spot.ensures.position, c.get.ensures.position, c.as_ref.ensures.buffer, c.as_ref.ensures.position) refl)
+    (rw (c.seal.ensures.length, c.of-spot.ensures.length, c.get.ensures.length, c.as_ref.ensures.buffer, c.as_ref.ensures.position) refl)
+    (search rules) (box_comes _ _ _ _ _)

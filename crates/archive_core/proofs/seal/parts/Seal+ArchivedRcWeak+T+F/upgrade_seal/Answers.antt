@@ -1,7 +1,17 @@
+use Rattle.std.proofs.Common.{rules, refl}
+use Rattle.archive_core.proofs.SealedParts.{comes_on, weak_comes, sealed_part}
 use Rattle.archive_core.proofs.seal.parts.Seal+ArchivedRcWeak+T+F.upgrade_seal.Goals as goal
 
 pub seal-requires : goal.seal-requires
-seal-requires g c = rw (c.in-Some.ensures.some.0, c.as_ref.ensures.buffer) at c.of-spot.ensures.viewed
+seal-requires g c =
+    let far = rw (c.as_ref.ensures.buffer, c.as_ref.ensures.position) at c.in-Some.ensures.offset in
+    rw (c.of-spot.ensures.position, c.of-spot.ensures.length, c.in-Some.ensures.some.1.0, c.in-Some.ensures.some.1.1.0, c.as_ref.ensures.buffer, c.as_ref.ensures.position)
+    (comes_on (λ s k. k) _ _ _ _ _ _ _ (weak_comes _ _ _ _ _ _ far) c.requires)
 
-pub returns-clause-beside : goal.returns-clause-beside
-returns-clause-beside g c = rw (c.seal.ensures.position, c.seal.ensures.length, c.of-spot.ensures.position, c.of-spot.ensures.length) (rw (c.as_ref.ensures.buffer, c.as_ref.ensures.position, c.as_ref.ensures.length) at c.in-Some.ensures.beside)
+pub returns-clause-sealed : goal.returns-clause-sealed
+returns-clause-sealed g c =
+    let far = rw (c.as_ref.ensures.buffer, c.as_ref.ensures.position) at c.in-Some.ensures.offset in
+    sealed_part (search rules) (search rules)
+    (rw (c.seal.ensures.position, c.of-spot.ensures.position, c.in-Some.ensures.some.1.0, c.as_ref.ensures.buffer, c.as_ref.ensures.position) refl)
+    (rw (c.seal.ensures.length, c.of-spot.ensures.length, c.in-Some.ensures.some.1.1.0, c.as_ref.ensures.buffer, c.as_ref.ensures.position) refl)
+    (search rules) (weak_comes _ _ _ _ _ _ far)

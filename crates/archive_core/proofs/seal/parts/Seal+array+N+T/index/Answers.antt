@@ -1,8 +1,14 @@
-use Rattle.archive_types.proofs.Viewing.ViewsTogether.{shown_with}
+use Rattle.std.proofs.Common.{rules, refl}
+use Rattle.archive_core.proofs.SealedParts.{comes_on, item_comes, sealed_part}
 use Rattle.archive_core.proofs.seal.parts.Seal+array+N+T.index.Goals as goal
 
 pub seal-requires : goal.seal-requires
-seal-requires g c = rw (c.index.ensures.buffer, c.as_ref.ensures.buffer) at c.of-element.ensures.viewed
+seal-requires g c =
+    rw (c.of-element.ensures.position, c.of-element.ensures.length, c.index.ensures.position, c.index.ensures.length, c.as_ref.ensures.position) (comes_on (λ s k. k) _ _ _ _ _ _ _ (item_comes _ _ _ _ _ _ g.met.T.Portable.has_layout _ _ g.met.T.Portable.is_one _ c.requires.below) c.requires.come_to)
 
-pub returns-clause-beside : goal.returns-clause-beside
-returns-clause-beside g c = rw (c.seal.ensures.position, c.seal.ensures.length, c.of-element.ensures.position, c.of-element.ensures.length) (shown_with _ _ _ _ _ _ _ _ _ (rw (c.as_ref.ensures.buffer, c.as_ref.ensures.position, c.as_ref.ensures.length) at c.index.ensures.shows))
+pub returns : goal.returns
+returns g c =
+    sealed_part (search rules) (search rules)
+    (rw (c.seal.ensures.position, c.of-element.ensures.position, c.index.ensures.position, c.as_ref.ensures.position) refl)
+    (rw (c.seal.ensures.length, c.of-element.ensures.length, c.index.ensures.length) refl)
+    (search rules) (item_comes _ _ _ _ _ _ g.met.T.Portable.has_layout _ _ g.met.T.Portable.is_one _ c.requires.below)

@@ -1,8 +1,7 @@
-use Rattle.archive_types.proofs.Viewing.StandingLeaves.{string_stands}
 use Rattle.archive_core.proofs.seal.text.Seal+ArchivedString.write_str.Goals as goal
 
-pub write_string_over-requires-clause-viewed : goal.write_string_over-requires-clause-viewed
-write_string_over-requires-clause-viewed c = rw (c.at.ensures.position, c.at.ensures.length) c.requires.viewed
+pub write_string_over-requires-clause-come_to : goal.write_string_over-requires-clause-come_to
+write_string_over-requires-clause-come_to c = rw (c.at.ensures.position, c.at.ensures.length) c.requires.come_to
 
-pub returns-clause-stands : goal.returns-clause-stands
-returns-clause-stands c = λ s root X a i. string_stands s _ a _ _ i
+pub returns-clause-written : goal.returns-clause-written
+returns-clause-written c = rw (c.at.ensures.position, c.at.ensures.length) at c.write_string_over.ensures.written
