@@ -3,7 +3,10 @@ pub mod AtOnce
 pub mod ContextAgrees
 pub mod EnteredRegions
 pub mod Entries
+pub mod EntryPlaces
+pub mod EntryTurns
 pub mod FollowedPointers
+pub mod KeysAtOnce
 pub mod LegalElements
 pub mod LegalParts
 pub mod OrderlyContexts

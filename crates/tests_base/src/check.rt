@@ -7,6 +7,7 @@ mod expressions;
 mod forms;
 mod layouts;
 mod leaves;
+mod maps;
 mod marks;
 mod memory;
 mod names;

@@ -19,7 +19,7 @@ use Rattle.archive_check.specs.Outcomes.{Outcome, done, refused}
 use Rattle.archive_check.specs.Words.Elements.{IsAt, span}
 use Rattle.archive_schema.specs.check.Runs.{IsNode, IsVariant, IsNoVariant, Takes, run_tag, run_choice, RegionIs, ElementsRun, parts_end, parts_next, parts_stop, elements_end, elements_next, elements_stop, list_part, list_part_stop}
 use Rattle.archive_schema.specs.plan.SoundPlans.{SpanFits, ArrayFits, IsSound}
-use Rattle.archive_schema.specs.plan.Shallow.{marked, free_at, parts_shallow, variants_shallow, IsShallow}
+use Rattle.archive_schema.specs.plan.Shallow.{marked, free_at, target_shallow, parts_shallow, variants_shallow, IsShallow}
 use Rattle.archive_schema.specs.check.LoopInvariant.{IsLegalHere, PartFits, PartsFit, ElementsFit, EntriesFit, Stage, stage, pending_in, Ready, Listing, cost, rank}
 use Rattle.archive_check.specs.context.FreshContexts.{HasLevels}
 use Rattle.archive_schema.specs.check.Through.{Rule, Stops, Passed, PassesFrom, TestsFrom, node_rule, parts_rule, span_rule, elements_rule}
@@ -63,10 +63,20 @@ each_below (y ∷ ys) zero x at = rw at.is (omega arith)
 each_below (y ∷ ys) (suc k) x at = omega (arith, each_below ys k x (record { below = omega (arith, at.below); is = at.is }))
 
 -- what a shallow pointer leads to is a text, or may be any bytes
-pub pointer_shallow : {m : Checker} {i j : ℕ} {target : PointeeKind} → IsShallow m i → IsNode m i (PointerNode target j) → target ≢ Text → IsTrue (free_at m.nodes.now j)
-pointer_shallow {target = One} shallow is other = let h = shallow is.node is.at in rw is.kind_is at h
-pointer_shallow {target = Run} shallow is other = let h = shallow is.node is.at in rw is.kind_is at h
-pointer_shallow {target = Text} shallow is other = absurd (other refl)
+pub pointer_shallow : {m : Checker} {i j : ℕ} {target : PointeeKind} → IsShallow m i → IsNode m i (PointerNode target j) → IsTrue (target_shallow m.nodes.now target j)
+pointer_shallow shallow is = let h = shallow is.node is.at in rw is.kind_is at h
+
+pub target_free : (nodes : List Node) (j : ℕ) (target : PointeeKind) → IsTrue (target_shallow nodes target j) → target ≢ Text → IsTrue (free_at nodes j)
+target_free nodes j One h other = h
+target_free nodes j Run h other = h
+target_free nodes j Text h other = absurd (other refl)
+target_free nodes j (EntriesOf key) h other = absurd (let no : IsTrue false = h in cc)
+
+pub target_plain : (nodes : List Node) (j : ℕ) (target : PointeeKind) → IsTrue (target_shallow nodes target j) → (key : KeyExpr) → target ≢ EntriesOf key
+target_plain nodes j One h key e = cc
+target_plain nodes j Run h key e = cc
+target_plain nodes j Text h key e = cc
+target_plain nodes j (EntriesOf other) h key e = let no : IsTrue false = h in cc
 
 -- the same of a span
 pub part_marked : (marks : List Bool) (parts : List Part) (b : ℕ) (n a k : ℕ) (x : Part) → k ≡ a + n → k < b → b ≤ length parts → IsTrue (parts_shallow marks (span parts a b)) → IsAt parts k x → IsTrue (marked marks x.node)
@@ -177,7 +187,7 @@ pub record Towards (R Q : Rule) (x y : Stage) : Type 0 where
 pub towards_same : {R : Rule} {x : Stage} → Towards R R x x
 towards_same = record { end = refl; depth = λ some. refl; leads = λ some pending seen o q. q; list = refl; positions = refl }
 
-towards_then : {R Q N Q2 : Rule} {x y z : Stage} → Towards R Q x y → Passed N y z → ((pending : List ℕ) (seen : Seen) (o : Outcome) → N pending x.range.depth x.range.end y.range.start seen (done z.range.start seen) → Q2 pending x.range.depth x.range.end z.range.start seen o → Q pending x.range.depth x.range.end y.range.start seen o) → Towards R Q2 x z
+pub towards_then : {R Q N Q2 : Rule} {x y z : Stage} → Towards R Q x y → Passed N y z → ((pending : List ℕ) (seen : Seen) (o : Outcome) → N pending x.range.depth x.range.end y.range.start seen (done z.range.start seen) → Q2 pending x.range.depth x.range.end z.range.start seen o → Q pending x.range.depth x.range.end y.range.start seen o) → Towards R Q2 x z
 towards_then {x = x} {y = y} towards passed to =
     let within : HasLevels x.range.depth → HasLevels y.range.depth = λ some. rw (towards.depth some) some in
     record {
@@ -188,13 +198,13 @@ towards_then {x = x} {y = y} towards passed to =
       positions = passed.positions ∙ towards.positions;
     }
 
-towards_stops : {R Q : Rule} {x y : Stage} (N : Rule) (e : Error) → Towards R Q x y → Stops N y.range e → ((pending : List ℕ) (seen : Seen) (f : Fault) → N pending x.range.depth x.range.end y.range.start seen (refused f) → Q pending x.range.depth x.range.end y.range.start seen (refused f)) → Stops R x.range e
+pub towards_stops : {R Q : Rule} {x y : Stage} (N : Rule) (e : Error) → Towards R Q x y → Stops N y.range e → ((pending : List ℕ) (seen : Seen) (f : Fault) → N pending x.range.depth x.range.end y.range.start seen (refused f) → Q pending x.range.depth x.range.end y.range.start seen (refused f)) → Stops R x.range e
 towards_stops N e towards stops to some =
     let f = stops (rw (towards.depth some) some) in
     (f.0, f.1, λ pending seen. towards.leads some pending seen (refused f.0) (to pending seen f.0 (rw (towards.depth some, towards.end) at (f.2 pending seen))))
 
 -- nothing is left of the other one
-towards_end : {R Q : Rule} {x y : Stage} → Towards R Q x y → ((pending : List ℕ) (seen : Seen) → Q pending x.range.depth x.range.end y.range.start seen (done y.range.start seen)) → Passed R x y
+pub towards_end : {R Q : Rule} {x y : Stage} → Towards R Q x y → ((pending : List ℕ) (seen : Seen) → Q pending x.range.depth x.range.end y.range.start seen (done y.range.start seen)) → Passed R x y
 towards_end {y = y} towards over = record {
   through = record { end = towards.end; depth = towards.depth; runs = λ some pending seen. towards.leads some pending seen (done y.range.start seen) (over pending seen) };
   list = towards.list;
@@ -296,7 +306,7 @@ module _ (m : Checker) {target : PointeeKind} (j n z p align : ℕ) (is : is_nod
       let k = node_takes is region lt in
       record { size = k.0; few = few; takes = k.1; fits = omega (arith, k.2) }
 
-pub region_entries : (m : Checker) {key : KeyExpr} (j n z p align : ℕ) → RegionIs m (EntriesOf key) j n (Some z) align → 0 < n → p + z ≤ length m.bytes.now → n < 18446744073709551616 → EntriesFit m key j n p None
+pub region_entries : (m : Checker) {key : KeyExpr} (j n z p align : ℕ) → RegionIs m (EntriesOf key) j n (Some z) align → 0 < z → p + z ≤ length m.bytes.now → n < 18446744073709551616 → EntriesFit m key j n p None
 region_entries m j n z p align region lt room few =
     let (offset, size, takes, is) = entry_takes region lt in
     record { offset = offset; size = size; few = few; takes = takes; fits = omega (arith, is, room); first = tt }

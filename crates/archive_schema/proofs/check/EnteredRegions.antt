@@ -35,7 +35,7 @@ times_size None n z e lt = absurd (grind (arith, nat_tests))
 times_size (Some y) n z e lt = (y, refl, grind (arith, nat_tests))
 
 -- whether each that a pointer leads to is its node
-abbrev is_node_itself : PointeeKind → Bool
+abbrev pub is_node_itself : PointeeKind → Bool
 is_node_itself One = true
 is_node_itself Run = true
 is_node_itself Text = false
@@ -52,15 +52,10 @@ node_takes {target = Run} {n = n} {z = z} is region lt =
 node_takes {target = Text} is region lt = cc
 node_takes {target = EntriesOf key} is region lt = cc
 
--- so many that take a size, where there are any
-times_some : (size : Option ℕ) (n z : ℕ) → times size n ≡ Some z → 0 < n → (y : ℕ) × (size ≡ Some y) × (n * y ≡ z)
-times_some None n z e lt = absurd (grind (arith, nat_tests))
-times_some (Some y) n z e lt = (y, refl, grind (arith, nat_tests))
-
--- an entry takes its size, where there are any
-pub entry_takes : {m : Checker} {key : KeyExpr} {j n z align : ℕ} → RegionIs m (EntriesOf key) j n (Some z) align → 0 < n → (offset size : ℕ) × EntryTakes m key j offset size × (n * size ≡ z)
+-- an entry takes its size, where there are any; and then there are some
+pub entry_takes : {m : Checker} {key : KeyExpr} {j n z align : ℕ} → RegionIs m (EntriesOf key) j n (Some z) align → 0 < z → (offset size : ℕ) × EntryTakes m key j offset size × (n * size ≡ z)
 entry_takes {key = key} {n = n} {z = z} region lt =
-    let k = times_some (unit_size (EntriesOf key) region.node) n z region.size_is lt in
+    let k = times_size (unit_size (EntriesOf key) region.node) n z region.size_is lt in
     let o = begins (value_begin key region.node.align) region.node.size (unit_align (EntriesOf key) region.node) k.1 in
     (o.0, k.0, record { node = region.node; at = region.at; offset_is = o.1; size_is = k.1 }, k.2)
   where
@@ -170,9 +165,9 @@ module _ (m : Checker) {target : PointeeKind} (j n : ℕ) (z : ℤ) (s s' : Rang
   ordered : (new : List Work) → pending_in new ≡ pending_in old → regions_in new ≡ 1 + regions_in old → IsOrderly (stage s met old) → IsOrderly (stage s' met' new)
   ordered new e f k = rw (h.depth, same, e, f) (orderly_inside h.deep k)
 
-  module _ (new : List Work) where
-    pub entered_one : target ≡ One → 0 < r.size → new ≡ PartWork j r.begin ∷ mid → TurnLeads m (Entering m target j n z) (stage s met old) (stage s' met' new)
-    entered_one is lt e =
+  module _ (new : List Work) (lt : 0 < r.size) where
+    pub entered_one : target ≡ One → new ≡ PartWork j r.begin ∷ mid → TurnLeads m (Entering m target j n z) (stage s met old) (stage s' met' new)
+    entered_one is e =
         let whole : new ≡ PartWork j r.begin ∷ Leave (r.begin + r.size) s.end ∷ old = e ∙ ap (λ w. PartWork j r.begin ∷ w) listed in
         record {
           keeps = ordered new (ap pending_in whole) (ap regions_in whole);
@@ -183,8 +178,8 @@ module _ (m : Checker) {target : PointeeKind} (j n : ℕ) (z : ℤ) (s s' : Rang
           );
         }
 
-    pub entered_run : target ≡ Run → 0 < r.size → new ≡ Elements j n r.begin ∷ mid → TurnLeads m (Entering m target j n z) (stage s met old) (stage s' met' new)
-    entered_run is lt e =
+    pub entered_run : target ≡ Run → new ≡ Elements j n r.begin ∷ mid → TurnLeads m (Entering m target j n z) (stage s met old) (stage s' met' new)
+    entered_run is e =
         let whole : new ≡ Elements j n r.begin ∷ Leave (r.begin + r.size) s.end ∷ old = e ∙ ap (λ w. Elements j n r.begin ∷ w) listed in
         record {
           keeps = ordered new (ap pending_in whole) (ap regions_in whole);
@@ -195,8 +190,8 @@ module _ (m : Checker) {target : PointeeKind} (j n : ℕ) (z : ℤ) (s s' : Rang
           );
         }
 
-    pub entered_one_ready : target ≡ One → 0 < r.size → Ready m s old → n ≡ 1 → new ≡ PartWork j r.begin ∷ mid → Ready m s' new
-    entered_one_ready is lt q one e =
+    pub entered_one_ready : target ≡ One → Ready m s old → n ≡ 1 → new ≡ PartWork j r.begin ∷ mid → Ready m s' new
+    entered_one_ready is q one e =
         let k = node_takes (ap is_node_itself is) h.region lt in
         let all = entered_ready q in
         record {
@@ -204,8 +199,8 @@ module _ (m : Checker) {target : PointeeKind} (j n : ℕ) (z : ℤ) (s s' : Rang
           fits = rw e (record { size = k.0; takes = k.1; fits = let f : n * k.0 ≡ k.0 = (ap (λ x. x * k.0) one ∙ omega arith) in omega (arith, k.2, h.lands.below, q.below, f) }, all.fits);
         }
 
-    pub entered_run_ready : target ≡ Run → 0 < r.size → Ready m s old → n < 18446744073709551616 → new ≡ Elements j n r.begin ∷ mid → Ready m s' new
-    entered_run_ready is lt q few e =
+    pub entered_run_ready : target ≡ Run → Ready m s old → n < 18446744073709551616 → new ≡ Elements j n r.begin ∷ mid → Ready m s' new
+    entered_run_ready is q few e =
         let k = node_takes (ap is_node_itself is) h.region lt in
         let all = entered_ready q in
         record {
@@ -232,12 +227,12 @@ module _ (m : Checker) {target : PointeeKind} (j n : ℕ) (z : ℤ) (s s' : Rang
             leads = λ seen a. (
               seen,
               agreed new (ap pending_in whole) (ap regions_in whole) a,
-              λ o q. entering (rw is (enter_entries m (rw is at h.region) h.lands.above h.lands.below h.lands.aligned (allows a h.deep) (moved whole q))),
+              λ o q. entering (rw is (enter_entries m (rw is at h.region) h.lands.above h.lands.below h.lands.aligned (allows a h.deep) lt (moved whole q))),
             );
           }
 
-      pub entered_entries_ready : Ready m s old → 0 < n → n < 18446744073709551616 → Ready m s' new
-      entered_entries_ready q lt few =
+      pub entered_entries_ready : Ready m s old → n < 18446744073709551616 → Ready m s' new
+      entered_entries_ready q few =
           let k = entry_takes (rw is at h.region) lt in
           let all = entered_ready q in
           record {

@@ -147,9 +147,9 @@ module _ {m : Checker} {target : PointeeKind} {j n : ℕ} {z : ℤ} {x x1 x2 : S
   pub comes_into_one : {result : Option (Unit {0})} {fault : Error} → target ≡ One → 0 < r.size → PointeeFits m target j n → OnSome result (new ≡ PartWork j r.begin ∷ mid) → IfNone result (fault ≡ OutOfMemory) → ComesInto m target j n z x (stage x2.range x2.met new) result fault
   comes_into_one {result = Some u} is lt fits some none = record {
     some = record {
-      ready = entered_one_ready m j n z x.range x2.range x.met x2.met x.work mid r within unmet behind new is lt ready (fits.one is) some;
-      leads = entered_one m j n z x.range x2.range x.met x2.met x.work mid r within unmet behind new is lt some;
-      ends = omega (arith, entered_one_ends m j n z x.range x2.range x.met x2.met x.work mid r within unmet behind new fits.known some);
+      ready = entered_one_ready m j n z x.range x2.range x.met x2.met x.work mid r within unmet behind new lt is ready (fits.one is) some;
+      leads = entered_one m j n z x.range x2.range x.met x2.met x.work mid r within unmet behind new lt is some;
+      ends = omega (arith, entered_one_ends m j n z x.range x2.range x.met x2.met x.work mid r within unmet behind new lt fits.known some);
     };
     inside = (r.begin, within.lands.target, small);
     none = tt;
@@ -159,21 +159,21 @@ module _ {m : Checker} {target : PointeeKind} {j n : ℕ} {z : ℤ} {x x1 x2 : S
   pub comes_into_run : {result : Option (Unit {0})} {fault : Error} → target ≡ Run → 0 < r.size → PointeeFits m target j n → OnSome result (new ≡ Elements j n r.begin ∷ mid) → IfNone result (fault ≡ OutOfMemory) → ComesInto m target j n z x (stage x2.range x2.met new) result fault
   comes_into_run {result = Some u} is lt fits some none = record {
     some = record {
-      ready = entered_run_ready m j n z x.range x2.range x.met x2.met x.work mid r within unmet behind new is lt ready fits.few some;
-      leads = entered_run m j n z x.range x2.range x.met x2.met x.work mid r within unmet behind new is lt some;
-      ends = omega (arith, entered_run_ends m j n z x.range x2.range x.met x2.met x.work mid r within unmet behind new fits.known fits.few some);
+      ready = entered_run_ready m j n z x.range x2.range x.met x2.met x.work mid r within unmet behind new lt is ready fits.few some;
+      leads = entered_run m j n z x.range x2.range x.met x2.met x.work mid r within unmet behind new lt is some;
+      ends = omega (arith, entered_run_ends m j n z x.range x2.range x.met x2.met x.work mid r within unmet behind new lt fits.known fits.few some);
     };
     inside = (r.begin, within.lands.target, small);
     none = tt;
   }
   comes_into_run {result = None} is lt fits some none = no_room_there none
 
-  pub comes_into_entries : {result : Option (Unit {0})} {fault : Error} {key : KeyExpr} → target ≡ EntriesOf key → 0 < n → PointeeFits m target j n → OnSome result (new ≡ Entries key j n r.begin None ∷ mid) → IfNone result (fault ≡ OutOfMemory) → ComesInto m target j n z x (stage x2.range x2.met new) result fault
+  pub comes_into_entries : {result : Option (Unit {0})} {fault : Error} {key : KeyExpr} → target ≡ EntriesOf key → 0 < r.size → PointeeFits m target j n → OnSome result (new ≡ Entries key j n r.begin None ∷ mid) → IfNone result (fault ≡ OutOfMemory) → ComesInto m target j n z x (stage x2.range x2.met new) result fault
   comes_into_entries {result = Some u} is lt fits some none = record {
     some = record {
-      ready = entered_entries_ready m j n z x.range x2.range x.met x2.met x.work mid r within unmet behind new is some ready lt fits.few;
-      leads = entered_entries m j n z x.range x2.range x.met x2.met x.work mid r within unmet behind new is some;
-      ends = omega (arith, entered_entries_ends m j n z x.range x2.range x.met x2.met x.work mid r within unmet behind new is some fits.known fits.few);
+      ready = entered_entries_ready m j n z x.range x2.range x.met x2.met x.work mid r within unmet behind new lt is some ready fits.few;
+      leads = entered_entries m j n z x.range x2.range x.met x2.met x.work mid r within unmet behind new lt is some;
+      ends = omega (arith, entered_entries_ends m j n z x.range x2.range x.met x2.met x.work mid r within unmet behind new lt is some fits.known fits.few);
     };
     inside = (r.begin, within.lands.target, small);
     none = tt;

@@ -4,11 +4,7 @@ use Rattle.std.proofs.Math.Nat.{mul-le-mul_right, mul-le-mul_left}
 use Rattle.std.specs.Prelude.{true}
 use Rattle.archive_check.specs.declared.format.expr.Key.{Key as KeyExpr}
 use Rattle.archive_check.specs.Expressions.{key_of}
-use Rattle.archive_check.specs.Layout.{key_size, key_align}
-use Rattle.archive_check.specs.Words.BoundedSizes.{rounded}
-use Rattle.archive_schema.specs.plan.BoundedSizes.{sum_of}
-use Rattle.archive_check.proofs.BoundedSizes.{rounded_some}
-use Rattle.archive_schema.proofs.plan.BoundedSizes.{sum_some}
+use Rattle.archive_check.specs.Layout.{key_size}
 use Rattle.archive_schema.specs.declared.plan.PointeeKind.{PointeeKind}
 use Rattle.archive_schema.specs.declared.plan.PointeeKind.TheVariants.{One, Run, Text, Entries as EntriesOf}
 use Rattle.archive_schema.specs.declared.plan.NodeKind.TheVariants.{Record, Choice, Array}
@@ -22,7 +18,7 @@ use Rattle.archive_check.specs.context.Ranges.{RangeState}
 use Rattle.archive_check.specs.Words.Elements.{span, IsAt}
 use Rattle.archive_schema.specs.plan.SoundPlans.{IsSound}
 use Rattle.archive_schema.specs.plan.PackedPlans.{size_at, parts_size, variants_size, ArePacked}
-use Rattle.archive_schema.specs.check.Runs.{IsNode, IsVariant, RegionIs, pointer_bytes, value_begin}
+use Rattle.archive_schema.specs.check.Runs.{IsNode, IsVariant, RegionIs, pointer_bytes}
 use Rattle.archive_schema.specs.check.Lists.{IsMore}
 use Rattle.archive_schema.specs.check.LoopInvariant.{PartFits}
 use Rattle.archive_schema.specs.check.Entered.{Entered}
@@ -30,6 +26,7 @@ use Rattle.archive_schema.specs.check.Paid.{bytes_of, bytes_in, bytes_of_parts, 
 use Rattle.archive_check.proofs.Elements.{same_at, at_default, span_next}
 use Rattle.archive_schema.proofs.check.TurnInvariants.{node_fits}
 use Rattle.archive_schema.proofs.check.EnteredRegions.{is_node_itself, node_takes, entry_takes}
+use Rattle.archive_schema.proofs.check.EntryPlaces.{entry_parts}
 use Rattle.archive_schema.proofs.plan.PackedPlans.{size_is, taken, variant_least}
 
 -- an entry is left, or there is no room for it
@@ -94,23 +91,18 @@ module _ {m : Checker} {target : PointeeKind} {j n z align : ℕ} (is : is_node_
       let same = ap (λ q. q * size_at m.nodes.now j) one in
       omega (arith, region_few, same)
 
--- an entry is at least as large as its key and its value
-entry_least : (key : KeyExpr) (size : Option ℕ) (align : ℕ) {y : ℕ} → 0 < align → rounded (sum_of (value_begin key align) size) (max (key_align (key_of key)) align) ≡ Some y → key_size (key_of key) + unwrap_or size 0 ≤ y
-entry_least key size align {y} lt e =
-    let (end, summed, less, is) = rounded_some (sum_of (value_begin key align) size) (max (key_align (key_of key)) align) y (omega (arith, lt)) e in
-    let (o, x, begins, sized, total) = sum_some (value_begin key align) size end summed in
-    let (k, same, below, at) = rounded_some (Some (key_size (key_of key))) align o lt begins in
-    let here : key_size (key_of key) ≡ k = cc in
-    let taken = ap (λ (q : Option ℕ). unwrap_or q 0) sized in
-    omega (arith, less, total, below, here, taken)
-
-pub region_entries_few : {m : Checker} {key : KeyExpr} {j n z align : ℕ} → RegionIs m (EntriesOf key) j n (Some z) align → 0 < n → bytes_of_entries m key j n ≤ z
+-- what the region of some entries holds takes no more than it
+pub region_entries_few : {m : Checker} {key : KeyExpr} {j n z align : ℕ} → RegionIs m (EntriesOf key) j n (Some z) align → 0 < z → bytes_of_entries m key j n ≤ z
 region_entries_few {m = m} {key = key} {j = j} {n = n} region lt =
     let (offset, size, takes, is) = entry_takes region lt in
-    let least = entry_least key takes.node.size takes.node.align takes.node.positive takes.size_is in
-    let here = ap (λ q. key_size (key_of key) + q) (size_is m.nodes.now j takes.node takes.at) in
-    let more : n * (key_size (key_of key) + size_at m.nodes.now j) ≤ n * size = mul-le-mul_left n (omega (arith, least, here)) in
+    let (x, sized, first, last) = entry_parts key takes.node.size takes.node.align takes.node.positive takes.offset_is takes.size_is in
+    let here : size_at m.nodes.now j ≡ x = size_is m.nodes.now j takes.node takes.at ∙ ap (λ (o : Option ℕ). unwrap_or o 0) sized in
+    let more : n * (key_size (key_of key) + size_at m.nodes.now j) ≤ n * size = mul-le-mul_left n (omega (arith, here, first, last)) in
     omega (arith, is, more)
+
+-- the next of some entries
+pub entries_next_is : (m : Checker) (key : KeyExpr) (j n k : ℕ) → k < n → bytes_of_entries m key j (n - k) ≡ key_size (key_of key) + size_at m.nodes.now j + bytes_of_entries m key j (n - (k + 1))
+entries_next_is m key j n k lt = let one : n - k ≡ 1 + (n - (k + 1)) = omega arith in rw one (omega arith)
 
 -- the next of some parts, and of some elements
 pub parts_next_is : (m : Checker) (a b : ℕ) (x : Part) → a < b → b ≤ length m.parts.now → IsAt m.parts.now a x → bytes_of_parts m a b ≡ size_at m.nodes.now x.node + bytes_of_parts m (a + 1) b

@@ -101,9 +101,9 @@ module _ (m : Checker) where
   enter_run reg above below aligned deep lt (list_elements v (list_leave same r)) = and_then (enter_within reg refl above below aligned deep (contents_run lt v)) (outer_same deep same r)
   enter_run reg above below aligned deep lt (list_elements_stop v) = stops (enter_stop reg refl above below aligned deep (contents_run lt v))
 
-  pub enter_entries : {pd : List ℕ} {d : Option ℕ} {e j n z align t s : ℕ} {k : Seen} {o : Outcome} {w : List Work} {key : KeyExpr} → RegionIs m (EntriesOf key) j n (Some z) align → s ≤ t → t + z ≤ e → t % align ≡ 0 → Allows d 1 → ListRuns m pd (inside d) t (Entries key j n t None ∷ Leave (t + z) e ∷ w) s k o → Then m pd d e (EnterRuns m pd d e (EntriesOf key) j n (pos t) s k) w o
-  enter_entries reg above below aligned deep (list_entries v (list_leave same r)) = and_then (enter_within reg refl above below aligned deep (contents_entries v)) (outer_same deep same r)
-  enter_entries reg above below aligned deep (list_entries_stop v) = stops (enter_stop reg refl above below aligned deep (contents_entries v))
+  pub enter_entries : {pd : List ℕ} {d : Option ℕ} {e j n z align t s : ℕ} {k : Seen} {o : Outcome} {w : List Work} {key : KeyExpr} → RegionIs m (EntriesOf key) j n (Some z) align → s ≤ t → t + z ≤ e → t % align ≡ 0 → Allows d 1 → 0 < z → ListRuns m pd (inside d) t (Entries key j n t None ∷ Leave (t + z) e ∷ w) s k o → Then m pd d e (EnterRuns m pd d e (EntriesOf key) j n (pos t) s k) w o
+  enter_entries reg above below aligned deep lt (list_entries v (list_leave same r)) = and_then (enter_within reg refl above below aligned deep (contents_entries lt v)) (outer_same deep same r)
+  enter_entries reg above below aligned deep lt (list_entries_stop v) = stops (enter_stop reg refl above below aligned deep (contents_entries lt v))
 
   -- a list that begins with the end of a shared position runs within it
   record Finishing (pd : List ℕ) (d : Option ℕ) (e t : ℕ) (w : List Work) (s : ℕ) (k : Seen) (o : Outcome) : Type 0 where

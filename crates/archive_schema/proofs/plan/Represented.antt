@@ -13,18 +13,18 @@ use Rattle.archive_schema.specs.declared.plan.NodeKind.TheVariants.{Free, Leaf, 
 use Rattle.archive_schema.specs.declared.plan.Span.{Span}
 use Rattle.archive_check.specs.declared.context.positions.SharedType.{SharedType}
 use Rattle.archive_schema.specs.declared.check.Checker.{Checker}
-use Rattle.archive_check.specs.Shape.{Kind, unit, bool, char, number, non_zero, raw_rel, Key, key_shape, entry_of, str, Flavor, Shape, Pointee, one, run, text, Parts, part, variant_at}
+use Rattle.archive_check.specs.Shape.{Kind, unit, bool, char, number, non_zero, raw_rel, Key, leaf_key, str_key, key_shape, entry_of, str, Flavor, Shape, Pointee, one, run, text, Parts, part, variant_at}
 use Rattle.archive_check.specs.Layout.{kind_size, key_size, key_align, Layouts, up, size_of, align_of}
 use Rattle.archive_check.specs.Keys.{ComesBehind, Ascend, order_of}
 use Rattle.archive_check.specs.Value.{Pointer}
-use Rattle.archive_check.specs.Reads.{Schema, bytes_at, u32_at, i32_at, IsLegal, IsLegalNumber, kind_number, IsOutOfLine, before_end, decoded_length, length_at, pointer_at, map_at, string_at}
+use Rattle.archive_check.specs.Reads.{Schema, bytes_at, u32_at, i32_at, IsLegal, IsLegalNumber, kind_number, kind_value, IsOutOfLine, before_end, decoded_length, length_at, pointer_at, map_at, string_at}
 use Rattle.archive_check.specs.Depth.{Allows, inside}
 use Rattle.archive_check.specs.Tour.{Seen, Entry, pointee_size, pointee_align}
 use Rattle.archive_check.specs.Trail.{Fault, too_large, outside, unaligned, too_deep, cyclic, other_type, other_length, illegal, no_such_variant, no_text, no_string, unsorted, Trips, trips_leaf, trips_parts, trips_tag, trips_choice, trips_array, trips_boxed, trips_vec, trips_map, trips_inline, trips_short, trips_out_of_line, trips_shared, trips_weak, trips_named, TripsParts, trips_first, trips_later, TripsRun, trips_element, trips_later_element, TripsEntries, trips_key, trips_order, trips_value, trips_later_entry, TripsFollow, trips_unique, trips_before, trips_new, trips_type, trips_length, trips_cycle, TripsEnter, trips_size, trips_range, trips_align, trips_depth, trips_within, TripsContents, trips_one, trips_run, trips_entries, trips_text}
 use Rattle.archive_check.specs.Walk.{Walk, walk_leaf, walk_parts, walk_choice, walk_array, walk_boxed, walk_vec, walk_map, walk_inline, walk_out_of_line, walk_shared, walk_null, walk_weak, walk_named, WalkParts, walk_no_part, walk_part, WalkRun, walk_none, walk_element, Follow, follow_unique, follow_new, follow_again, Enter, enter, WalkContents, walk_one, walk_run, walk_entries, walk_text}
 use Rattle.archive_check.specs.Expressions.{kind_of, key_of, flavor_of, pointee_of}
 use Rattle.archive_check.specs.context.PositionStates.{SameType}
-use Rattle.archive_schema.specs.check.Runs.{pointer_bytes, pointee_count, pointee_length, entry_for, IsNode, Takes, EntryTakes, unit_size, unit_align, RegionIs, NodeRuns, run_free, run_leaf, run_illegal, run_record, run_choice, run_tag, run_array, run_pointer, run_str, run_shared, run_null, run_weak, FollowRuns, follow_before, follow_new as runs_new, follow_again as runs_again, follow_type, follow_length, follow_cycle, PartsRun, parts_end, parts_next, parts_stop, ElementsRun, elements_end, elements_next, elements_free, elements_stop, StringRuns, string_inline, string_no_text, string_short, string_out_of_line, KeyRuns, key_leaf, key_illegal, key_string, OrderRuns, order_key, order_wrong, order_kept, EntriesRun, entries_end, entries_key, entries_value, entries_next, EnterRuns, enter_too_large, enter_outside, enter_unaligned, enter_too_deep, enter_within, enter_stop, ContentsRun, contents_empty, contents_one, contents_run, contents_entries, contents_text, contents_no_text}
+use Rattle.archive_schema.specs.check.Runs.{pointer_bytes, pointee_count, pointee_length, entry_for, IsNode, Takes, EntryTakes, unit_size, unit_align, RegionIs, NodeRuns, run_free, run_leaf, run_illegal, run_record, run_choice, run_tag, run_array, run_pointer, run_str, run_shared, run_null, run_weak, FollowRuns, follow_before, follow_new as runs_new, follow_again as runs_again, follow_type, follow_length, follow_cycle, PartsRun, parts_end, parts_next, parts_stop, ElementsRun, elements_end, elements_next, elements_free, elements_stop, StringRuns, string_inline, string_no_text, string_short, string_out_of_line, KeyRuns, key_leaf, key_illegal, key_string, OrderRuns, order_key, order_wrong, order_kept, EntriesRun, entries_end, entries_key, entries_value, entries_next, EnterRuns, enter_too_large, enter_outside, enter_unaligned, enter_too_deep, enter_within, enter_stop, ContentsRun, contents_empty, contents_one, contents_run, contents_entries, contents_lone, contents_equal, contents_text, contents_no_text}
 use Rattle.archive_check.specs.Words.Elements.{IsAt}
 use Rattle.archive_check.specs.Outcomes.{Outcome, done, refused}
 use Rattle.archive_schema.specs.plan.SoundPlans.{NodeKindFits, IsSound}
@@ -38,6 +38,7 @@ use Rattle.archive_schema.proofs.plan.BoundedSizes.{sum_fits}
 use Rattle.archive_schema.proofs.plan.PlanSizes.{take_same, times_some, times_many, sized_takes, element_few}
 use Rattle.archive_check.proofs.Elements.{same_at}
 use Rattle.archive_check.proofs.LittleEndian.{some_byte}
+use Rattle.archive_check.proofs.Tours.PartsInside.{up_le}
 use Rattle.std.proofs.Math.Nat.{eq_of_mul-eq-mul_left, mul-zero}
 
 pub says_map : {W V : ℕ → Seen → Type 0} {T F : Fault → Type 0} (o : Outcome) → ((a : ℕ) (k : Seen) → W a k → V a k) → ((e : Fault) → T e → F e) → OutcomeSays W T o → OutcomeSays V F o
@@ -115,6 +116,15 @@ entry_fits names key V node size align =
           ∙ ap fits (sym laid.0),
       high ∙ sym laid.1,
     )
+
+-- an entry that takes nothing has a key and a value that take nothing, and the value begins where the key does
+empty_parts : (names : Layouts) (K : Key) (V : Shape) → 0 < align_of names V → size_of names (entry_of K V) ≡ 0 → (key_size K ≡ 0) × (size_of names V ≡ 0) × (up (size_of names (key_shape K)) (align_of names V) ≡ 0)
+empty_parts names K V lt e =
+    let whole = sym (entry_layout names K V lt).0 ∙ e in
+    let begin = up_le (key_size K) (align_of names V) lt in
+    let end = up_le (up (key_size K) (align_of names V) + size_of names V) (max (key_align K) (align_of names V)) (omega (arith, lt)) in
+    let there = ap (λ n. up n (align_of names V)) (key_takes names K) in
+    (omega (arith, whole, begin, end), omega (arith, whole, begin, end), omega (arith, whole, there, end))
 
 module _ (s : Schema) (shapes : ℕ → Shape) (m : Checker) where
   pub stands_walk : {X : Shape} {j : ℕ} {pending : List ℕ} {depth : Option ℕ} {stop p start later : ℕ} {seen last : Seen} → StandsFor s shapes X j → Walk s m.bytes.now pending depth stop p (shapes j) start seen later last → Walk s m.bytes.now pending depth stop p X start seen later last
@@ -374,6 +384,21 @@ module _ (s : Schema) (shapes : ℕ → Shape) (m : Checker) where
   empty_node {p = p} kind (inr (leaf_kind, is, none)) made room =
       leaf_case (rw is at made) (record { size = empty_length m.bytes.now p (kind_size (kind_of leaf_kind)) none; number = empty_number (kind_of leaf_kind) (kind_number (kind_of leaf_kind) (bytes_at m.bytes.now p (kind_size (kind_of leaf_kind)))) none })
 
+  -- a key that takes nothing is a unit, and comes behind no other
+  empty_key : {pending : List ℕ} {depth : Option ℕ} {stop p start : ℕ} {seen : Seen} (K : Key) → key_size K ≡ 0 → Walk s m.bytes.now pending depth stop p (key_shape K) start seen start seen
+  empty_key {p = p} (leaf_key kind) none = walk_leaf (record { size = empty_length m.bytes.now p (kind_size kind) none; number = empty_number kind (kind_number kind (bytes_at m.bytes.now p (kind_size kind))) none })
+  empty_key str_key none = absurd (omega arith)
+
+  empty_order : {p q : ℕ} (K : Key) → key_size K ≡ 0 → ComesBehind K m.bytes.now (Some p) q → ⊥
+  unfolding kind_value
+  empty_order (leaf_key unit) none less = cc
+  empty_order (leaf_key bool) none less = omega arith
+  empty_order (leaf_key char) none less = omega arith
+  empty_order (leaf_key (number sign width)) none less = omega (arith, none, some_byte width)
+  empty_order (leaf_key (non_zero sign width)) none less = omega (arith, none, some_byte width)
+  empty_order (leaf_key (raw_rel sign width)) none less = omega (arith, none, some_byte width)
+  empty_order str_key none less = omega arith
+
   module _ (r : Represents s shapes m) (sound : IsSound m) where
     empty_walk : {X : Shape} {j align : ℕ} {pending : List ℕ} {depth : Option ℕ} {stop p start : ℕ} {seen : Seen} → StandsFor s shapes X j → Sized m j (size_of s.layouts X) align → size_of s.layouts X ≡ 0 → p ≤ length m.bytes.now → Walk s m.bytes.now pending depth stop p X start seen start seen
     empty_walk {j = j} st k e room =
@@ -395,6 +420,29 @@ module _ (s : Schema) (shapes : ℕ → Shape) (m : Checker) where
     empty_case l plain (points_run k st) e room = walk_run (empty_some l _ st k e room)
     empty_case l plain (points_entries {key = key} k st) e room = absurd (plain key refl)
     empty_case {t = t} l plain points_text e room = walk_text (empty_text m.bytes.now t l e)
+
+    -- entries without a byte: a key and a value that are there, and a second key that isn't behind the first
+    empty_entry : {V : Shape} {j align : ℕ} {pending : List ℕ} {depth : Option ℕ} {stop p start : ℕ} {seen : Seen} (K : Key) → (key_size K ≡ 0) × (size_of s.layouts V ≡ 0) × (up (size_of s.layouts (key_shape K)) (align_of s.layouts V) ≡ 0) → StandsFor s shapes V j → Sized m j (size_of s.layouts V) align → p ≤ length m.bytes.now
+        → Walk s m.bytes.now pending depth stop p (entry_of K V) start seen start seen
+    empty_entry {V = V} K none st k room = walk_entry s m.bytes.now K V (empty_key K none.0) (rw none.2 (empty_walk st k none.1 (omega (arith, room))))
+
+    lone_case : {V : Shape} {j : ℕ} {pending : List ℕ} {depth : Option ℕ} {t start : ℕ} {seen : Seen} (K : Key) (l : ℕ) → l ≤ 1 → l * size_of s.layouts (entry_of K V) ≡ 0 → StandsFor s shapes V j → Sized m j (size_of s.layouts V) (align_of s.layouts V) → t ≤ length m.bytes.now
+        → WalkContents s m.bytes.now pending depth t t (Some K) (run (entry_of K V)) l start seen start seen
+    lone_case K zero few e st k room = walk_entries walk_none tt
+    lone_case K (suc zero) few e st k room =
+        let none = empty_parts s.layouts K _ (rw k.align_is k.node.positive) (omega (arith, e)) in
+        walk_entries (walk_element (empty_entry K none st k room) walk_none) (tt, tt)
+    lone_case K (suc (suc l)) few e st k room = absurd (omega arith)
+
+    equal_case : {V : Shape} {j : ℕ} {pending : List ℕ} {depth : Option ℕ} {t start : ℕ} {seen : Seen} (K : Key) (l : ℕ) → 1 < l → l * size_of s.layouts (entry_of K V) ≡ 0 → StandsFor s shapes V j → Sized m j (size_of s.layouts V) (align_of s.layouts V) → t ≤ length m.bytes.now
+        → TripsContents s m.bytes.now pending depth t t (Some K) (run (entry_of K V)) l start seen unsorted
+    equal_case K zero many e st k room = absurd (omega arith)
+    equal_case K (suc zero) many e st k room = absurd (omega arith)
+    equal_case {V = V} K (suc (suc l)) many e st k room =
+        let lt : 0 < align_of s.layouts V = rw k.align_is k.node.positive in
+        let whole : size_of s.layouts (entry_of K V) ≡ 0 = eq_of_mul-eq-mul_left (suc (suc l)) (omega arith) (size_of s.layouts (entry_of K V)) 0 (e ∙ sym (mul-zero (suc (suc l)))) in
+        let none = empty_parts s.layouts K V lt whole in
+        trips_entries (trips_later_entry (empty_entry K none st k room) tt (trips_order (empty_key K none.0) (empty_order K none.0)))
 
     mutual
       pub node_says : {pending : List ℕ} {depth : Option ℕ} {stop i p start z : ℕ} {seen : Seen} {o : Outcome} → NodeRuns m pending depth stop i p start seen o → Takes m i z → stop ≤ length m.bytes.now → NodeSays pending depth stop i p start seen o
@@ -485,6 +533,8 @@ module _ (s : Schema) (shapes : ℕ → Shape) (m : Checker) where
       contents_say l (contents_one {o = o} lt v) (points_one sized st) c k le = one_case _ _ _ _ _ l o st (node_says v (sized_takes sized (omega (arith, k.0, k.1))) le)
       contents_say l (contents_run {n = n} {o = o} lt v) (points_run sized st) c k le =
           run_case _ _ _ _ _ _ l o (rw c at (elements_say v st (sized_takes sized (element_few n l _ _ c k.0 k.1 lt)) le))
-      contents_say l (contents_entries {n = n} {o = o} v) (points_entries sized st) c k le = entries_case _ _ _ _ _ _ _ l o (rw c at (entries_say v st sized le))
+      contents_say l (contents_lone {n = n} e few) (points_entries {key = key} sized st) c k le = lone_case (key_of key) l (rw c at few) (sym k.0 ∙ e) st sized le
+      contents_say l (contents_equal {n = n} e many) (points_entries {key = key} sized st) c k le = equal_case (key_of key) l (rw c at many) (sym k.0 ∙ e) st sized le
+      contents_say l (contents_entries {n = n} {o = o} lt v) (points_entries sized st) c k le = entries_case _ _ _ _ _ _ _ l o (rw c at (entries_say v st sized le))
       contents_say l (contents_text utf) points_text c k le = walk_text (rw k.0 at utf)
       contents_say l (contents_no_text wrong) points_text c k le = trips_text (rw k.0 at wrong)

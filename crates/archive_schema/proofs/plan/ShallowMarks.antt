@@ -4,7 +4,6 @@ use Rattle.std.proofs.lemmas.Bool.{cases_lt, and_parts}
 use Rattle.std.proofs.lemmas.List.{take-append-le}
 use Rattle.std.proofs.Math.Seq.{take-append_seam}
 use Rattle.std.specs.Cmp.Derive.{both_true}
-use Rattle.archive_schema.specs.declared.plan.PointeeKind.TheVariants.{One, Run, Text}
 use Rattle.archive_schema.specs.declared.plan.NodeKind.{NodeKind}
 use Rattle.archive_schema.specs.declared.plan.NodeKind.TheVariants.{Free, Leaf, Record, Choice, Array, Pointer as PointerNode, Str, Shared, Weak}
 use Rattle.archive_schema.specs.declared.plan.Node.{Node}
@@ -60,9 +59,7 @@ module _ (b : Bool) where
   kind_more nodes parts variants marks (Record x y) h = parts_more marks (span parts x y) h
   kind_more nodes parts variants marks (Choice name x y) h = variants_more marks parts (span variants x y) h
   kind_more nodes parts variants marks (Array n j) h = marked_more marks j h
-  kind_more nodes parts variants marks (PointerNode One j) h = h
-  kind_more nodes parts variants marks (PointerNode Run j) h = h
-  kind_more nodes parts variants marks (PointerNode Text j) h = refl
+  kind_more nodes parts variants marks (PointerNode target j) h = h
   kind_more nodes parts variants marks (Str j) h = refl
   kind_more nodes parts variants marks (Shared k target j) h = h
   kind_more nodes parts variants marks (Weak k target j) h = h

@@ -79,6 +79,7 @@ no_name (expr.Choice' n v rows) h name e = cc e
 no_name (expr.Array' n p x) h name e = cc e
 no_name (expr.Box' p x) h name e = cc e
 no_name (expr.Vec' p x) h name e = cc e
+no_name (expr.Map' k p x) h name e = cc e
 no_name expr.Str h name e = cc e
 no_name (expr.Shared' f p x) h name e = cc e
 no_name (expr.Weak' f p x) h name e = cc e

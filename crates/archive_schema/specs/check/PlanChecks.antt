@@ -1,5 +1,5 @@
 -- What a check against a plan says of a whole buffer.
-use Rattle.std.specs.Prelude.{◌⊎◌, ◌↔◌, ℕ, Option, Result, IsOk, IsErrOf, ◌≡◌}
+use Rattle.std.specs.Prelude.{◌⊎◌, ◌↔◌, ℕ, Option, Result, IsOk, IsErrOf, ◌≡◌, None}
 use Rattle.archive_check.specs.declared.format.error.Error.{Error}
 use Rattle.archive_check.specs.declared.format.error.Error.TheVariants.{OutOfMemory}
 use Rattle.archive_schema.specs.declared.plan.PointeeKind.TheVariants.{One}

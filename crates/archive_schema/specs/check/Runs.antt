@@ -355,7 +355,6 @@ mutual
 
   -- a region at t of n, of z bytes
   pub data ContentsRun (m : Checker) : List ℕ → Option ℕ → PointeeKind → ℕ → ℕ → ℕ → ℕ → ℕ → Seen → Outcome → Type 0 where
-    -- entries without a byte have an order, too
     contents_empty : {pending : List ℕ} {depth : Option ℕ} {target : PointeeKind} {j n z t start : ℕ} {seen : Seen}
         → z ≡ 0
         → ((key : KeyExpr) → target ≢ EntriesOf key)
@@ -369,8 +368,18 @@ mutual
         → ElementsRun m pending depth t j n t start seen o
         → ContentsRun m pending depth Run j n z t start seen o
     contents_entries : {pending : List ℕ} {depth : Option ℕ} {j n z t start : ℕ} {seen : Seen} {key : KeyExpr} {o : Outcome}
+        → 0 < z
         → EntriesRun m pending depth t key j None n t start seen o
         → ContentsRun m pending depth (EntriesOf key) j n z t start seen o
+    -- entries without a byte have equal keys, so there may be one at most
+    contents_lone : {pending : List ℕ} {depth : Option ℕ} {j n z t start : ℕ} {seen : Seen} {key : KeyExpr}
+        → z ≡ 0
+        → n ≤ 1
+        → ContentsRun m pending depth (EntriesOf key) j n z t start seen (done start seen)
+    contents_equal : {pending : List ℕ} {depth : Option ℕ} {j n z t start : ℕ} {seen : Seen} {key : KeyExpr}
+        → z ≡ 0
+        → 1 < n
+        → ContentsRun m pending depth (EntriesOf key) j n z t start seen (refused unsorted)
     contents_text : {pending : List ℕ} {depth : Option ℕ} {j n z t start : ℕ} {seen : Seen}
         → IsUtf8 (bytes_at m.bytes.now t z)
         → ContentsRun m pending depth Text j n z t start seen (done start seen)

@@ -1,12 +1,12 @@
 -- What is checked at once, with nothing listed: what comes of it, whatever is seen and pending.
 use denote.Triple.Both.{Both}
 use denote.Ref.{MutBor}
-use Rattle.std.specs.Prelude.{◌≡◌, ℕ, ◌<◌, ℤ, List, Option, None, OnSome, IfSome, IfNone, Bool, IsTrue, false}
+use Rattle.std.specs.Prelude.{◌≡◌, ◌≢◌, ℕ, ◌<◌, ℤ, List, Option, None, OnSome, IfSome, IfNone, Bool, IsTrue, false}
 use Rattle.archive_check.specs.declared.context.Context as Context
 use Rattle.archive_check.specs.declared.format.error.Error.{Error}
 use Rattle.archive_schema.specs.declared.plan.PointeeKind.{PointeeKind}
 use Rattle.archive_schema.specs.declared.plan.Span.{Span}
-use Rattle.archive_schema.specs.declared.plan.PointeeKind.TheVariants.{One, Run, Text, Entries}
+use Rattle.archive_schema.specs.declared.plan.PointeeKind.TheVariants.{Text}
 use Rattle.archive_schema.specs.declared.check.Checker.{Checker}
 use Rattle.archive_schema.specs.declared.check.worklist.Worklist.{Worklist}
 use Rattle.archive_check.specs.context.Ranges.{RangeState}
@@ -16,7 +16,7 @@ use Rattle.archive_check.specs.Trail.{Fault}
 use Rattle.archive_check.specs.Words.Faults.{IsFor}
 use Rattle.archive_check.specs.Outcomes.{Outcome, done, refused}
 use Rattle.archive_check.specs.declared.format.expr.Key.{Key as KeyExpr}
-use Rattle.archive_schema.specs.check.Runs.{NodeRuns, PartsRun, ElementsRun, StringRuns, OrderRuns, EntriesRun, EnterRuns, ContentsRun}
+use Rattle.archive_schema.specs.check.Runs.{NodeRuns, PartsRun, ElementsRun, StringRuns, KeyRuns, OrderRuns, EntriesRun, EnterRuns, ContentsRun}
 use Rattle.archive_schema.specs.check.Lists.{list_of}
 use Rattle.archive_schema.specs.check.LoopInvariant.{Stage, stage}
 use Rattle.archive_check.specs.context.FreshContexts.{HasLevels}
@@ -45,13 +45,17 @@ elements_rule m j n p pending depth stop start seen o = ElementsRun m pending de
 abbrev pub string_rule : Checker → ℕ → ℕ → Rule
 string_rule m j p pending depth stop start seen o = StringRuns m pending depth stop j p start seen o
 
--- the key at p, and that it comes behind the one before
-abbrev pub key_rule : Checker → KeyExpr → ℕ → Option ℕ → ℕ → Rule
-key_rule m key j before p pending depth stop start seen o = OrderRuns m pending depth stop key j before p start seen o
+-- the key at p, in an entry whose value's node is j
+abbrev pub key_rule : Checker → KeyExpr → ℕ → ℕ → Rule
+key_rule m key j p pending depth stop start seen o = KeyRuns m pending depth stop key j p start seen o
 
--- n entries of a key and of the node j, the first at p
-abbrev pub entries_rule : Checker → KeyExpr → ℕ → ℕ → ℕ → Rule
-entries_rule m key j n p pending depth stop start seen o = EntriesRun m pending depth stop key j None n p start seen o
+-- that key, and that it comes behind the one before
+abbrev pub order_rule : Checker → KeyExpr → ℕ → Option ℕ → ℕ → Rule
+order_rule m key j before p pending depth stop start seen o = OrderRuns m pending depth stop key j before p start seen o
+
+-- n entries of a key and of the node j, the first at p, and the key before them
+abbrev pub entries_rule : Checker → KeyExpr → ℕ → Option ℕ → ℕ → ℕ → Rule
+entries_rule m key j before n p pending depth stop start seen o = EntriesRun m pending depth stop key j before n p start seen o
 
 -- the region that a pointer leads to
 abbrev pub region_rule : Checker → PointeeKind → ℕ → ℕ → ℤ → Rule
@@ -111,14 +115,7 @@ PassesIf k R c w result = TestsFrom R (Unit {0}) (stage_before k c w) (stage_beh
 abbrev pub PassesRegion : {A : Type 0} → Context.Ghosts A → Checker → PointeeKind → ℕ → ℕ → ℤ → Both (MutBor A) (MutBor A) → Both (MutBor Worklist) (MutBor Worklist) → Option (Unit {0}) → Type 0
 PassesRegion k m target j n where_to c w result = Passes k (region_rule m target j n where_to) c w result
 
--- what the list is for: bytes that are no text, or entries
-abbrev pub IsListed : PointeeKind → ℕ → ℕ → Type 0
-IsListed One n z = 0 < z
-IsListed Run n z = 0 < z
-IsListed Text n z = ⊥
-IsListed (Entries key) n z = 0 < n
-
--- a call goes through what a region holds, z bytes at t, where that is shallow; else it is for the list
+-- a call goes through what a region holds, z bytes at t, where that is shallow or has no byte; else there are bytes, and they are no text
 abbrev pub PassesHeld : {A : Type 0} → Context.Ghosts A → Checker → PointeeKind → ℕ → ℕ → ℕ → ℕ → Both (MutBor A) (MutBor A) → Both (MutBor Worklist) (MutBor Worklist) → Option Bool → Type 0
 PassesHeld k m target j n t z c w result =
-    TestsFrom (contents_rule m target j n z t) (IsListed target n z) (stage_before k c w) (stage_behind k c w) result w.exit.now.fault
+    TestsFrom (contents_rule m target j n z t) ((0 < z) × (target ≢ Text)) (stage_before k c w) (stage_behind k c w) result w.exit.now.fault

@@ -1,5 +1,6 @@
 -- Which nodes are shallow: they lead to nothing but bytes that are legal whatever they are, and texts. A shallow node is checked at once.
 use Rattle.std.specs.Prelude.{◌≡◌, ℕ, suc, zero, length, Bool, true, false, ◌&&◌, List, [], ◌∷◌, take, drop, ◌-◌, ◌<◌, ◌≤◌, slice_index_or, IsTrue}
+use Rattle.archive_schema.specs.declared.plan.PointeeKind.{PointeeKind}
 use Rattle.archive_schema.specs.declared.plan.PointeeKind.TheVariants.{One, Run, Text, Entries}
 use Rattle.archive_schema.specs.declared.plan.NodeKind.{NodeKind}
 use Rattle.archive_schema.specs.declared.plan.NodeKind.TheVariants.{Free, Leaf, Record, Choice, Array, Pointer as PointerNode, Str, Shared, Weak}
@@ -31,6 +32,13 @@ free_at [] i = false
 free_at (x ∷ xs) zero = is_free x.kind
 free_at (x ∷ xs) (suc i) = free_at xs i
 
+-- whether what such a pointer leads to is a text or may be any bytes
+abbrev pub target_shallow : List Node → PointeeKind → ℕ → Bool
+target_shallow nodes One j = free_at nodes j
+target_shallow nodes Run j = free_at nodes j
+target_shallow nodes Text j = true
+target_shallow nodes (Entries key) j = false
+
 abbrev pub parts_shallow : List Bool → List Part → Bool
 parts_shallow marks [] = true
 parts_shallow marks (x ∷ xs) = marked marks x.node && parts_shallow marks xs
@@ -53,10 +61,7 @@ kind_shallow nodes parts variants marks (Leaf kind) = true
 kind_shallow nodes parts variants marks (Record a b) = parts_shallow marks (span parts a b)
 kind_shallow nodes parts variants marks (Choice name a b) = variants_shallow marks parts (span variants a b)
 kind_shallow nodes parts variants marks (Array n j) = marked marks j
-kind_shallow nodes parts variants marks (PointerNode One j) = free_at nodes j
-kind_shallow nodes parts variants marks (PointerNode Run j) = free_at nodes j
-kind_shallow nodes parts variants marks (PointerNode Text j) = true
-kind_shallow nodes parts variants marks (PointerNode (Entries key) j) = false
+kind_shallow nodes parts variants marks (PointerNode target j) = target_shallow nodes target j
 kind_shallow nodes parts variants marks (Str j) = true
 kind_shallow nodes parts variants marks (Shared k target j) = false
 kind_shallow nodes parts variants marks (Weak k target j) = false

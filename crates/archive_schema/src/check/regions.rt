@@ -1,6 +1,7 @@
 //! Regions are entered and left.
 
 ghost use Rattle.std.specs.Prelude.{◌≡◌, ◌+◌, ◌<◌, ◌≤◌, ℕ, length, Some, OnSome, IfNone};
+ghost use Rattle.archive_schema.specs.declared.plan.PointeeKind.TheVariants.{Entries};
 ghost use Rattle.archive_schema.specs.check.Lists.{list_of};
 ghost use Rattle.archive_schema.specs.check.Runs.{RegionIs};
 ghost use Rattle.archive_schema.specs.check.LoopInvariant.{PointeeFits, Ready};
@@ -18,6 +19,7 @@ use archive_check::context::range::Region;
 use archive_check::context::regions::{enter, leave};
 use archive_check::format::bytes::is_text;
 use archive_check::format::error::Error;
+use archive_check::format::expr::Key;
 use archive_check::format::extents::times;
 
 /// Leaves a region: the range is the one from `start` to `end` again. Fails as `pop_subtree_range`
@@ -60,8 +62,42 @@ impl Checker<'_> {
         enter(size, unit.align, position, &mut work.fault, context)
     }
 
-    /// Checks what a region of so many of the pointee holds, where that is shallow. Returns whether
-    /// it is.
+    /// Checks so many entries of a key and a value, which are a region, where the values are shallow
+    /// or there is no byte. Returns whether it is so. Entries without a byte have equal keys.
+    #[inline(always)]
+    fn entries_held<C: ArchiveContext>(
+        &self,
+        key: Key,
+        value: usize,
+        count: usize,
+        begin: usize,
+        size: usize,
+        work: &mut Worklist,
+        context: &mut C,
+    ) -> Option<bool>
+        requires plan { IsCheckable self.now }
+        requires region { (align : ℕ) × RegionIs self.now (Entries key) value count (Some size) align }
+        requires value { PointeeFits self.now (Entries key) value count }
+        requires within { begin + size ≤ length self.now.bytes.now }
+        requires ends { (C.state context.old).end ≡ begin }
+        ensures passes { PassesHeld C.Context self.now (Entries key) value count begin size context work result }
+        ensures pays { Pays C.Context self.now size context work }
+    {
+        if size == 0 {
+            if count > 1 {
+                return work.refuse(Error::UnsortedKeys);
+            }
+            return Some(true);
+        }
+        if !self.shallow[value] {
+            return Some(false);
+        }
+        self.check_shallow_entries(key, value, count, begin, work, context)?;
+        Some(true)
+    }
+
+    /// Checks what a region of so many of the pointee holds, where that is shallow or has no byte.
+    /// Returns whether it is.
     #[inline(always)]
     fn contents<C: ArchiveContext>(
         &self,
@@ -88,14 +124,7 @@ impl Checker<'_> {
             return Some(true);
         }
         if let PointeeKind::Entries(key) = target {
-            if count == 0 {
-                return Some(true);
-            }
-            if !self.shallow[pointee] {
-                return Some(false);
-            }
-            self.check_shallow_entries(key, pointee, count, begin, work, context)?;
-            return Some(true);
+            return self.entries_held(key, pointee, count, begin, size, work, context);
         }
         let here = self.nodes[pointee];
         if let NodeKind::Free = here.kind {

@@ -1,14 +1,13 @@
 //! The check of shallow nodes. They lead to nothing that has to be listed, so the calls nest as deep as the shape does, and no deeper.
 
-ghost use Rattle.std.specs.Prelude.{◌≡◌, ◌≢◌, ◌+◌, ◌≤◌, ℕ, length, IsTrue, None};
+ghost use Rattle.std.specs.Prelude.{◌≡◌, ◌+◌, ◌<◌, ◌≤◌, ℕ, length, IsTrue, None};
 ghost use Rattle.archive_schema.specs.declared.plan.NodeKind.TheVariants.{Str, Leaf as LeafNode, Pointer as PointerNode};
-ghost use Rattle.archive_schema.specs.declared.plan.PointeeKind.TheVariants.{Text};
 ghost use Rattle.archive_schema.specs.check.Runs.{IsNode};
 ghost use Rattle.archive_schema.specs.plan.SoundPlans.{IsSound};
 ghost use Rattle.archive_check.specs.Words.Elements.{span};
-ghost use Rattle.archive_schema.specs.plan.Shallow.{marked, free_at, parts_shallow, IsShallow};
+ghost use Rattle.archive_schema.specs.plan.Shallow.{marked, target_shallow, parts_shallow, IsShallow};
 ghost use Rattle.archive_schema.specs.check.LoopInvariant.{PointeeFits, PartFits, PartsFit, ElementsFit, EntriesFit, KeyFits};
-ghost use Rattle.archive_schema.specs.check.Through.{Passes, PassesIf, PassesRegion, node_rule, parts_rule, span_rule, elements_rule, string_rule, key_rule, entries_rule};
+ghost use Rattle.archive_schema.specs.check.Through.{Passes, PassesIf, PassesRegion, node_rule, parts_rule, span_rule, elements_rule, string_rule, key_rule, order_rule, entries_rule};
 ghost use Rattle.archive_schema.specs.check.Turns.{IsCheckable};
 ghost use Rattle.archive_schema.specs.plan.PackedPlans.{size_at};
 ghost use Rattle.archive_schema.specs.check.Paid.{Pays, bytes_of_parts, bytes_of_elements, bytes_of_entries};
@@ -41,7 +40,7 @@ impl Checker<'_> {
         context: &mut C,
     ) -> Option<()>
         requires pointee { PointeeFits self.now target pointee count }
-        requires shallow { target ≢ Text → IsTrue (free_at self.now.nodes.now pointee) }
+        requires shallow { IsTrue (target_shallow self.now.nodes.now target pointee) }
         requires below { (C.state context.old).end ≤ length self.now.bytes.now }
         ensures passes { PassesRegion C.Context self.now target pointee count position context work result }
         ensures pays { Pays C.Context self.now 4 context work }
@@ -90,7 +89,7 @@ impl Checker<'_> {
     ) -> Option<()>
         requires sound { IsSound self.now }
         requires kind { IsNode self.now node (PointerNode target pointee) }
-        requires shallow { target ≢ Text → IsTrue (free_at self.now.nodes.now pointee) }
+        requires shallow { IsTrue (target_shallow self.now.nodes.now target pointee) }
         requires fits { PartFits self.now node at }
         requires below { (C.state context.old).end ≤ length self.now.bytes.now }
         ensures passes { Passes C.Context (node_rule self.now node at) context work result }
@@ -158,9 +157,37 @@ impl Checker<'_> {
         Some(())
     }
 
-    /// Checks the key at `at`, and that it comes behind the one at `before`, if there is one. The entry's value is this node.
+    /// Checks the key at `at`. The value's node, which any node serves as, is that of a text.
     #[inline(always)]
-    pub fn check_key<C: ArchiveContext>(
+    fn check_key<C: ArchiveContext>(
+        &self,
+        key: Key,
+        value: usize,
+        at: usize,
+        work: &mut Worklist,
+        context: &mut C,
+    ) -> Option<()>
+        requires known { value < length self.now.nodes.now }
+        requires fits { at + key_size (key_of key) ≤ length self.now.bytes.now }
+        requires below { (C.state context.old).end ≤ length self.now.bytes.now }
+        ensures passes { Passes C.Context (key_rule self.now key value at) context work result }
+        ensures pays { Pays C.Context self.now (key_size (key_of key)) context work }
+    {
+        match key {
+            Key::Leaf(kind) => {
+                if !is_legal(kind, self.bytes, at) {
+                    return work.refuse(illegal(kind));
+                }
+                Some(())
+            }
+            Key::Str => self.check_string(at, value, work, context),
+        }
+    }
+
+    /// Checks the key at `at`, and that it comes behind the one at `before`, if there is one. The
+    /// entry's value is of this node.
+    #[inline(always)]
+    pub fn check_next_key<C: ArchiveContext>(
         &self,
         key: Key,
         value: usize,
@@ -172,15 +199,10 @@ impl Checker<'_> {
         requires known { value < length self.now.nodes.now }
         requires fits { KeyFits self.now key before at }
         requires below { (C.state context.old).end ≤ length self.now.bytes.now }
-        ensures passes { Passes C.Context (key_rule self.now key value before at) context work result }
+        ensures passes { Passes C.Context (order_rule self.now key value before at) context work result }
         ensures pays { Pays C.Context self.now (key_size (key_of key)) context work }
     {
-        match key {
-            Key::Leaf(kind) => if !is_legal(kind, self.bytes, at) {
-                return work.refuse(illegal(kind));
-            },
-            Key::Str => self.check_string(at, value, work, context)?,
-        }
+        self.check_key(key, value, at, work, context)?;
         if !key.comes_behind(self.bytes, before, at) {
             return work.refuse(Error::UnsortedKeys);
         }
@@ -348,7 +370,7 @@ impl Checker<'_> {
         requires shallow { IsTrue (marked self.now.shallow.now value) }
         requires fits { EntriesFit self.now key value count at None }
         requires below { (C.state context.old).end ≤ length self.now.bytes.now }
-        ensures passes { Passes C.Context (entries_rule self.now key value count at) context work result }
+        ensures passes { Passes C.Context (entries_rule self.now key value None count at) context work result }
         ensures pays { Pays C.Context self.now (bytes_of_entries self.now key value count) context work }
     {
         let node = self.nodes[value];
@@ -357,7 +379,7 @@ impl Checker<'_> {
         let mut before = None;
         for index in 0..count {
             let next = at + index * size;
-            self.check_key(key, value, before, next, work, context)?;
+            self.check_next_key(key, value, before, next, work, context)?;
             self.check_shallow(value, next + offset, work, context)?;
             before = Some(next);
         }

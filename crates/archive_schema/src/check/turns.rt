@@ -176,7 +176,7 @@ impl Checker<'_> {
                 if left == 0 {
                     return Some(());
                 }
-                self.check_key(key, value, before, at, work, context)?;
+                self.check_next_key(key, value, before, at, work, context)?;
                 let node = self.nodes[value];
                 let entry = unit_of(PointeeKind::Entries(key), node);
                 let offset = value_offset(key, node.align).unwrap_or(0);

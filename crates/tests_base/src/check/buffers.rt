@@ -65,6 +65,7 @@ pub(super) enum Fault {
     TypeMismatch,
     MetadataMismatch,
     CyclicValidate,
+    UnsortedKeys,
 }
 
 // The same, as a check answers it.
@@ -96,6 +97,7 @@ fn error_of(fault: Fault) -> Error {
         Fault::TypeMismatch => Error::TypeMismatch,
         Fault::MetadataMismatch => Error::MetadataMismatch,
         Fault::CyclicValidate => Error::CyclicValidate,
+        Fault::UnsortedKeys => Error::UnsortedKeys,
     }
 }
 

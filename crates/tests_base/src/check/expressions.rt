@@ -3,7 +3,7 @@
 use crate::assertions::assert_same;
 use crate::check::RC;
 use archive_check::format::error::Error;
-use archive_check::format::expr::{Defs, Expr, FlavorInfo, IntegerKind, Kind, Pointee};
+use archive_check::format::expr::{Defs, Expr, FlavorInfo, IntegerKind, Key, Kind, Pointee};
 use std::alloc::Global;
 use std::fmt::Debug;
 use std::process::Abort;
@@ -57,6 +57,10 @@ fn shared_of(rt: &impl Abort, alloc: Global, flavor: FlavorInfo, pointee: Pointe
     Expr::Shared(flavor, boxed(rt, alloc, pointee))
 }
 
+fn map_of(rt: &impl Abort, alloc: Global, key: Key, value: Expr) -> Expr {
+    Expr::Map(key, boxed(rt, alloc, value))
+}
+
 // Nothing, or a number.
 fn option_of_number(rt: &impl Abort, alloc: Global) -> Expr {
     let some = list_of_one(rt, alloc, number());
@@ -78,6 +82,7 @@ fn every_form(rt: &impl Abort, alloc: Global) -> Expr {
 
 fn push_other_forms(rt: &impl Abort, alloc: Global, list: &mut Vec<Expr>) {
     push(rt, list, Expr::Vec(boxed(rt, alloc, number())));
+    push(rt, list, map_of(rt, alloc, Key::Str, number()));
     push(rt, list, Expr::Str);
     push(rt, list, shared_of(rt, alloc, RC, Pointee::One(number())));
     let run = boxed(rt, alloc, Pointee::Run(number()));
@@ -133,6 +138,18 @@ fn push_owners(rt: &impl Abort, alloc: Global, list: &mut Vec<Expr>) {
     push(rt, list, Expr::Vec(boxed(rt, alloc, number())));
 }
 
+fn push_maps(rt: &impl Abort, alloc: Global, list: &mut Vec<Expr>) {
+    let keys = [
+        Key::Leaf(Kind::Number(IntegerKind::I32)),
+        Key::Leaf(Kind::Number(IntegerKind::U32)),
+        Key::Str,
+    ];
+    for key in keys {
+        push(rt, list, map_of(rt, alloc, key, number()));
+    }
+    push(rt, list, map_of(rt, alloc, Key::Str, Expr::Str));
+}
+
 fn push_pointers(rt: &impl Abort, alloc: Global, list: &mut Vec<Expr>) {
     push(rt, list, shared_of(rt, alloc, RC, Pointee::Text));
     push(rt, list, shared_of(rt, alloc, CYCLIC, Pointee::Text));
@@ -148,6 +165,7 @@ fn all_different(rt: &impl Abort, alloc: Global) -> Vec<Expr> {
     push_records(rt, alloc, &mut list);
     push_choices(rt, alloc, &mut list);
     push_owners(rt, alloc, &mut list);
+    push_maps(rt, alloc, &mut list);
     push_pointers(rt, alloc, &mut list);
     list
 }
@@ -159,7 +177,7 @@ fn assert_every_form(rt: &impl Abort, alloc: Global, expr: &Expr) {
 
 // Two of them are equal where they stand at one place.
 fn assert_all_different<T: PartialEq>(rt: &impl Abort, left: &[T], right: &[T]) {
-    assert_same(rt, "how many", (left.len(), right.len()), (28, 28));
+    assert_same(rt, "how many", (left.len(), right.len()), (32, 32));
     for (i, a) in left.iter().enumerate() {
         for (j, b) in right.iter().enumerate() {
             let found = (i, j, a == b);

@@ -12,8 +12,8 @@ use super::forms::{
     Titled, Undefined, Unmarked, WeakText, Wide,
 };
 use super::marks::{
-    ArchivedBox, ArchivedBoxedSlice, ArchivedRc, ArchivedRcSlice, ArchivedRcWeak, ArchivedVec,
-    Array, Named, Plain,
+    ArchivedBox, ArchivedBoxedSlice, ArchivedMap, ArchivedRc, ArchivedRcSlice, ArchivedRcWeak,
+    ArchivedVec, Array, Named, Plain, UnitKeys,
 };
 use super::names::{Endless, Tagged};
 use crate::assertions::{assert_refusal, assert_same};
@@ -93,6 +93,7 @@ fn pointers_take_four_bytes_or_eight(rt: HostRuntime) {
     assert_layout::<ArchivedRcWeak<ArchivedU64>>(&rt, alloc, 4, 4);
     assert_layout::<Plain<WeakText>>(&rt, alloc, 8, 4);
     assert_layout::<ArchivedVec<ArchivedU64>>(&rt, alloc, 8, 4);
+    assert_layout::<ArchivedMap<UnitKeys, ArchivedU64>>(&rt, alloc, 8, 4);
     assert_layout::<Plain<Text>>(&rt, alloc, 8, 4);
 }
 

@@ -2,10 +2,10 @@
 
 ghost use Rattle.std.specs.Prelude.{◌≡◌, ℕ, min, IfOk, refl};
 ghost use Rattle.std.proofs.Common.{ap, inl, inr};
-ghost use Rattle.archive_check.specs.Shape.{Name, Shape, one, run, array, boxed, vec, shared, weak, named};
+ghost use Rattle.archive_check.specs.Shape.{Name, Key as KeyOf, Shape, leaf_key, str_key, number, unit, one, run, array, boxed, vec, sorted_map, shared, weak, named};
 ghost use Rattle.archive_check.specs.Layout.{Layout as LayoutOf, Layouts, layout as layout_of};
-ghost use Rattle.archive_check.specs.Expressions.{pointee_of, shape_of};
-ghost use Rattle.archive_check.specs.Defined.{Mentions, mentions_array, mentions_boxed, mentions_vec, mentions_shared, mentions_weak, mentions_one, mentions_run};
+ghost use Rattle.archive_check.specs.Expressions.{integer_of, key_of, pointee_of, shape_of};
+ghost use Rattle.archive_check.specs.Defined.{Mentions, mentions_array, mentions_boxed, mentions_vec, mentions_map, mentions_shared, mentions_weak, mentions_one, mentions_run};
 ghost use Rattle.archive_check.specs.Definitions.{no_definition, defines, IsAlign};
 ghost use Rattle.archive_check.specs.Members.LeafLayout.{no_definition_reached};
 ghost use Rattle.archive_check.specs.Members.NamedLayout.{name_has_layout, name_reached};
@@ -15,7 +15,7 @@ ghost use Rattle.archive_check.specs.SelfCheck.Laws.{by_schema};
 
 use crate::check::RC;
 use archive_check::format::error::Error;
-use archive_check::format::expr::{Defs, Expr, Pointee};
+use archive_check::format::expr::{Defs, Expr, IntegerKind, Key, Kind, Pointee};
 use archive_check::format::layout::Layout;
 use archive_check::format::traits::{ArchivePointee, Portable};
 use archive_check::self_check::BySchema;
@@ -314,6 +314,81 @@ impl Around for InVec {
     ghost mentions = { λ X name m. mentions_vec m };
 }
 
+/// What a map's keys are.
+pub(crate) trait MapKeys {
+    // The key.
+    ghost key: { KeyOf };
+
+    fn key() -> Key
+        ensures { key_of result ≡ key };
+}
+
+pub(crate) struct InMap<K> {
+    of: PhantomData<K>,
+}
+
+impl<K: MapKeys> Around for InMap<K> {
+    ghost around = { sorted_map K.key };
+
+    ghost size = { 8 };
+
+    fn size() -> usize {
+        8
+    }
+
+    fn around(alloc: Global, inner: Expr) -> Result<Expr, AllocError> {
+        Ok(Expr::Map(K::key(), Box::new(alloc, inner)?))
+    }
+
+    ghost laid_out = { λ names X. refl };
+
+    ghost mentions = { λ X name m. mentions_map m };
+}
+
+/// Keys that are a number with a sign.
+pub(crate) struct I32Keys;
+
+impl MapKeys for I32Keys {
+    ghost key = { leaf_key (number (integer_of IntegerKind.I32).0 (integer_of IntegerKind.I32).1) };
+
+    fn key() -> Key {
+        Key::Leaf(Kind::Number(IntegerKind::I32))
+    }
+}
+
+/// Keys that are a number without a sign.
+pub(crate) struct U32Keys;
+
+impl MapKeys for U32Keys {
+    ghost key = { leaf_key (number (integer_of IntegerKind.U32).0 (integer_of IntegerKind.U32).1) };
+
+    fn key() -> Key {
+        Key::Leaf(Kind::Number(IntegerKind::U32))
+    }
+}
+
+/// Keys without a byte.
+pub(crate) struct UnitKeys;
+
+impl MapKeys for UnitKeys {
+    ghost key = { leaf_key unit };
+
+    fn key() -> Key {
+        Key::Leaf(Kind::Unit)
+    }
+}
+
+/// Keys that are strings.
+pub(crate) struct TextKeys;
+
+impl MapKeys for TextKeys {
+    ghost key = { str_key };
+
+    fn key() -> Key {
+        Key::Str
+    }
+}
+
 pub(crate) struct InShared;
 
 impl Around for InShared {
@@ -379,6 +454,8 @@ pub(crate) type ArchivedBox<T> = Behind<InBox, T>;
 pub(crate) type ArchivedBoxedSlice<T> = Behind<InBoxedSlice, T>;
 
 pub(crate) type ArchivedVec<T> = Behind<InVec, T>;
+
+pub(crate) type ArchivedMap<K, V> = Behind<InMap<K>, V>;
 
 pub(crate) type ArchivedRc<T> = Behind<InShared, T>;
 

@@ -36,11 +36,15 @@ extent_of-returns t c = λ s knows. elim c.match-expr.branch [
   | extent_of-in-Named w ↦ let h = w.extent_of_name.ensures s knows in arm s.layouts c.match-expr.result w.result-is (ap shape_of w.in-Named.is) h.end_is h.align_is
   | extent_of-in-Vec w ↦ ⊎_elim
       (λ e. arm s.layouts c.match-expr.result w.result-is (ap shape_of e.1) (sym (fits_some 8 (omega arith))) refl)
-      (λ e. arm s.layouts c.match-expr.result w.result-is (ap shape_of e) (sym (fits_some 8 (omega arith))) refl)
+      (⊎_elim
+      (λ e. arm s.layouts c.match-expr.result w.result-is (ap shape_of e.2) (sym (fits_some 8 (omega arith))) refl)
+      (λ e. arm s.layouts c.match-expr.result w.result-is (ap shape_of e) (sym (fits_some 8 (omega arith))) refl))
       w.in-Vec.is
   | extent_of-in-Vec-2 w ↦ ⊎_elim
       (λ e. arm s.layouts c.match-expr.result w.result-is (ap shape_of e.1) (sym (fits_some 8 (omega arith))) refl)
-      (λ e. arm s.layouts c.match-expr.result w.result-is (ap shape_of e) (sym (fits_some 8 (omega arith))) refl)
+      (⊎_elim
+      (λ e. arm s.layouts c.match-expr.result w.result-is (ap shape_of e.2) (sym (fits_some 8 (omega arith))) refl)
+      (λ e. arm s.layouts c.match-expr.result w.result-is (ap shape_of e) (sym (fits_some 8 (omega arith))) refl))
       w.in-Vec.is
   | extent_of-in-Box2 w ↦
       let size = w.extent_of_pointer.ensures.end ∙ sym (pointer_fits (pointee_of w.deref-in-Box.result.now)) in
