@@ -1,7 +1,6 @@
 // Assertions that are proved once. A call of one takes the check a fifth of a second, and `assert_eq!` written out in a test's body seconds. Calls of `api` at
 // a type stand in here, too, since they are as dear.
 
-
 use archive_core::api::{HighSerializer, access, from_bytes, to_bytes};
 use archive_core::traits::{Archive, Deserialize, Portable, Serialize};
 use archive_core::view::Ref;

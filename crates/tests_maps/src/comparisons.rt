@@ -51,8 +51,7 @@ fn maps_are_ordered_as_lists_of_entries(rt: HostRuntime) {
 const ONE: &[u8] = b"\x01\0\0\0\x0a\0\0\0\xf8\xff\xff\xff\x01\0\0\0";
 
 // 1 to 10 and 2 to 21.
-const GREATER: &[u8] =
-    b"\x01\0\0\0\x0a\0\0\0\x02\0\0\0\x15\0\0\0\xf0\xff\xff\xff\x02\0\0\0";
+const GREATER: &[u8] = b"\x01\0\0\0\x0a\0\0\0\x02\0\0\0\x15\0\0\0\xf0\xff\xff\xff\x02\0\0\0";
 
 // 1 to 10 and 3 to 0.
 const BEHIND: &[u8] = b"\x01\0\0\0\x0a\0\0\0\x03\0\0\0\0\0\0\0\xf0\xff\xff\xff\x02\0\0\0";

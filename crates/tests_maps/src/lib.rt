@@ -8,4 +8,8 @@ mod assertions;
 #[cfg(test)]
 mod comparisons;
 #[cfg(test)]
+mod reading;
+#[cfg(test)]
 mod views;
+#[cfg(test)]
+mod written;
