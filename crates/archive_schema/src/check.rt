@@ -47,8 +47,10 @@ impl Checker<'_> {
     {
         match target {
             PointeeKind::One => 1,
-            PointeeKind::Run | PointeeKind::Text | PointeeKind::Entries(_) =>
-                read_u32(self.bytes, at + 4) as usize,
+            PointeeKind::Run | PointeeKind::Text | PointeeKind::Entries(_) => read_u32(
+                self.bytes,
+                at + 4,
+            ) as usize,
         }
     }
 
@@ -59,8 +61,10 @@ impl Checker<'_> {
     {
         match target {
             PointeeKind::One => 0,
-            PointeeKind::Run | PointeeKind::Text | PointeeKind::Entries(_) =>
-                read_u32(self.bytes, at + 4) as usize,
+            PointeeKind::Run | PointeeKind::Text | PointeeKind::Entries(_) => read_u32(
+                self.bytes,
+                at + 4,
+            ) as usize,
         }
     }
 

@@ -16,7 +16,7 @@ use Rattle.archive_check.specs.Reads.{bytes_at}
 use Rattle.archive_check.specs.Tour.{Seen}
 use Rattle.archive_check.specs.Words.BoundedSizes.{times, rounded}
 use Rattle.archive_schema.specs.plan.BoundedSizes.{sum_of}
-use Rattle.archive_check.specs.Outcomes.{Outcome, done, refused}
+use Rattle.archive_check.specs.Outcomes.{Outcome, done}
 use Rattle.archive_schema.specs.check.Runs.{Takes, EntryTakes, RegionIs, unit_size, unit_align, value_begin, enter_stop, contents_text, contents_empty, contents_one, contents_run, run_free, elements_free, IsNode, enter_within, ListRuns}
 use Rattle.archive_check.specs.declared.context.range.Region.{Region}
 use Rattle.archive_schema.specs.check.Entered.{Entered}

@@ -1,5 +1,5 @@
 -- What the calls that enter a region answer, one lemma an exit.
-use Rattle.std.proofs.Common.{◌≡◌, ◌≢◌, inl, inr, ℕ, ℤ, refl, sym, ap, ◌∙◌, ◌+◌, ◌<◌, ◌≤◌, arith, List, ◌∷◌, length, slice_index_or, Option, Some, None, Err, OnSome, IfSome, IfNone, to_z, of_z, SFits}
+use Rattle.std.proofs.Common.{◌≡◌, ◌≢◌, inl, inr, ℕ, ℤ, ap, ◌∙◌, ◌+◌, ◌<◌, ◌≤◌, arith, List, ◌∷◌, length, slice_index_or, Option, Some, None, Err, OnSome, IfSome, IfNone, to_z, of_z, SFits}
 use mir.Syntax.{w128}
 use Rattle.std.proofs.lemmas.Int.{to_z-of_z}
 use Rattle.archive_check.specs.declared.format.error.Error.{Error}

@@ -13,7 +13,7 @@ use Rattle.archive_schema.specs.declared.plan.Node.{Node}
 use Rattle.archive_schema.specs.declared.check.Checker.{Checker}
 use Rattle.archive_schema.specs.plan.BoundedSizes.{sum_of}
 use Rattle.archive_schema.specs.check.Runs.{EntryTakes, unit_size, value_begin}
-use Rattle.archive_schema.specs.check.LoopInvariant.{KeyFits, PartFits, EntriesFit}
+use Rattle.archive_schema.specs.check.LoopInvariant.{PartFits, EntriesFit}
 use Rattle.archive_schema.proofs.plan.BoundedSizes.{sum_some}
 
 -- a value begins behind its key, and an entry ends behind its value

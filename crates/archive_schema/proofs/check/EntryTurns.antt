@@ -1,5 +1,5 @@
 -- The turns of a check that take the next entry of a map: its key at once, and then its value.
-use Rattle.std.proofs.Common.{◌≡◌, inl, inr, ℕ, zero, suc, ap, ◌∙◌, ◌+◌, ◌-◌, ◌*◌, ◌<◌, ◌≤◌, arith, List, ◌∷◌, length, Option, Some, None}
+use Rattle.std.proofs.Common.{◌≡◌, inl, inr, ℕ, ◌+◌, ◌-◌, ◌*◌, ◌<◌, arith, List, ◌∷◌, length, Option, Some, None}
 use Rattle.archive_check.specs.declared.format.error.Error.{Error}
 use Rattle.archive_check.specs.declared.format.expr.Key.{Key as KeyExpr}
 use Rattle.archive_check.specs.Expressions.{key_of}
@@ -21,29 +21,19 @@ use Rattle.archive_schema.proofs.check.TurnExits.{turn_taken, turn_then}
 use Rattle.archive_schema.proofs.check.TurnRules.{turn_entries, turn_entry_last, turn_entries_end, turn_entries_key}
 use Rattle.archive_schema.proofs.check.TurnsEnd.{level_node, level_same, falls_one, falls_two, falls_none}
 
-module _ {m : Checker} {s : RangeState} {met : Positions} {old : List Work} {key : KeyExpr} {j n p : ℕ} {before : Option ℕ} (ready : Ready m s (Entries key j n p before ∷ old)) where
-  -- a turn of these entries
-  abbrev TakesEntry : Stage → Option (Unit {0}) → Error → Type 0
-  TakesEntry y r fault = TurnsFrom m (Listing m) (cost m s.end (Entries key j n p before ∷ old)) (stage s met (Entries key j n p before ∷ old)) y r fault
+-- a turn of these entries
+abbrev TakesEntry : Checker → RangeState → Positions → List Work → KeyExpr → ℕ → ℕ → ℕ → Option ℕ → Stage → Option (Unit {0}) → Error → Type 0
+TakesEntry m s met old key j n p before y r fault = TurnsFrom m (Listing m) (cost m s.end (Entries key j n p before ∷ old)) (stage s met (Entries key j n p before ∷ old)) y r fault
 
-  pub opens_no_entry : {u : Unit {0}} {fault : Error} → n ≡ 0 → TakesEntry (stage s met old) (Some u) fault
-  opens_no_entry none = turn_taken (record {
-    ready = record { below = ready.below; fits = ready.fits.1 };
-    leads = record { keeps = λ k. k; leads = λ seen a. (seen, a, λ o r. turn_entries_end m none r) };
-    ends = falls_none _ _;
-  })
-
+module _ {m : Checker} {s : RangeState} {old : List Work} {key : KeyExpr} {j n p : ℕ} {before : Option ℕ} (ready : Ready m s (Entries key j n p before ∷ old)) where
   pub first_key_fits : 0 < n → KeyFits m key before p
   first_key_fits lt =
       let f = ready.fits.0 in
       let here : p + 0 * f.size ≡ p = omega arith in
       record { first = f.first; here = rw here at (key_room f f.takes 0 lt) }
 
-  pub key_refused : {y : Stage} {fault : Error} → 0 < n → PassesFrom (order_rule m key j before p) (stage s met old) y None fault → TakesEntry y None fault
-  key_refused lt h = record { some = tt; none = inr (λ k. let f = h.none (orderly_levels k) in (f.0, f.1, λ seen a. turn_entries_key m lt (f.2 (pending_in old) seen))) }
-
-  module _ {w : Stage} {rest : List Work} {offset size : ℕ} (lt : 0 < n) (takes : EntryTakes m key j offset size) (passed : Passed (order_rule m key j before p) (stage s met old) w) where
-    -- the value lies in the bytes, and so do the entries behind it
+  -- the value lies in the bytes, and so do the entries behind it
+  module _ {offset size : ℕ} (lt : 0 < n) (takes : EntryTakes m key j offset size) where
     value_there : PartFits m j (p + offset)
     value_there = let here : p + 0 * size + offset ≡ p + offset = omega arith in rw here at (value_fits ready.fits.0 takes 0 lt)
 
@@ -59,46 +49,58 @@ module _ {m : Checker} {s : RangeState} {met : Positions} {old : List Work} {key
           first = rw here at (key_room ready.fits.0 takes 0 lt);
         }
 
-    pub entry_opened : IsMore (Entries key j (n - 1) (p + size) (Some p)) (n - 1 ≡ 0) rest w.work → Ready m w.range (PartWork j (p + offset) ∷ rest)
-    entry_opened (inl (some, e)) = record { below = rw passed.through.end ready.below; fits = rw (e, passed.list, passed.through.end) (value_there, (others_there, ready.fits.1)) }
-    entry_opened (inr (none, e)) = record { below = rw passed.through.end ready.below; fits = rw (e, passed.list, passed.through.end) (value_there, ready.fits.1) }
+  module _ {met : Positions} where
+    pub opens_no_entry : {u : Unit {0}} {fault : Error} → n ≡ 0 → TakesEntry m s met old key j n p before (stage s met old) (Some u) fault
+    opens_no_entry none = turn_taken (record {
+      ready = record { below = ready.below; fits = ready.fits.1 };
+      leads = record { keeps = λ k. k; leads = λ seen a. (seen, a, λ o r. turn_entries_end m none r) };
+      ends = falls_none _ _;
+    })
 
-    entry_leads : IsMore (Entries key j (n - 1) (p + size) (Some p)) (n - 1 ≡ 0) rest w.work → TurnLeads m (Listing m) (stage s met (Entries key j n p before ∷ old)) (stage w.range w.met (PartWork j (p + offset) ∷ rest))
-    entry_leads (inl (some, e)) = record {
-      keeps = λ k. let back = passed.through.depth (orderly_levels k) in rw (e, passed.list, back, passed.positions) k;
-      leads = λ seen a.
-          let levels = levels_of a in
-          let back = passed.through.depth levels in (
-            seen,
-            rw (e, passed.list, back, passed.positions) a,
-            λ o q. turn_entries m lt (passed.through.runs levels (pending_in old) seen) takes (rw (e, passed.list, back, passed.through.end) at q),
-          );
-    }
-    entry_leads (inr (none, e)) = record {
-      keeps = λ k. let back = passed.through.depth (orderly_levels k) in rw (e, passed.list, back, passed.positions) k;
-      leads = λ seen a.
-          let levels = levels_of a in
-          let back = passed.through.depth levels in (
-            seen,
-            rw (e, passed.list, back, passed.positions) a,
-            λ o q. turn_entry_last m lt none (passed.through.runs levels (pending_in old) seen) takes (rw (e, passed.list, back, passed.through.end) at q),
-          );
-    }
+    pub key_refused : {y : Stage} {fault : Error} → 0 < n → PassesFrom (order_rule m key j before p) (stage s met old) y None fault → TakesEntry m s met old key j n p before y None fault
+    key_refused lt h = record { some = tt; none = inr (λ k. let f = h.none (orderly_levels k) in (f.0, f.1, λ seen a. turn_entries_key m lt (f.2 (pending_in old) seen))) }
 
-    entry_ends : IsMore (Entries key j (n - 1) (p + size) (Some p)) (n - 1 ≡ 0) rest w.work → cost m w.range.end (PartWork j (p + offset) ∷ rest) < cost m s.end (Entries key j n p before ∷ old)
-    entry_ends (inl (some, e)) =
-        let k = length m.nodes.now in
-        let few = ready.fits.0.few in
-        rw (e, passed.list, passed.through.end)
-        (falls_two (level k s.end j 18446744073709551616) (level k s.end (j + 1) (n - 1)) (level k s.end (j + 1) n) (cost m s.end old)
-        (level_node k s.end (j + 1) n j 18446744073709551616 (omega arith) (omega arith))
-        (level_same k s.end (j + 1) (j + 1) n (n - 1) (omega arith) (omega arith)))
-    entry_ends (inr (none, e)) =
-        let k = length m.nodes.now in
-        rw (e, passed.list, passed.through.end)
-        (falls_one (level k s.end j 18446744073709551616) (level k s.end (j + 1) n) (cost m s.end old) (level_node k s.end (j + 1) n j 18446744073709551616 (omega arith) (omega arith)))
+    module _ {w : Stage} {rest : List Work} {offset size : ℕ} (lt : 0 < n) (takes : EntryTakes m key j offset size) (passed : Passed (order_rule m key j before p) (stage s met old) w) where
+      pub entry_opened : IsMore (Entries key j (n - 1) (p + size) (Some p)) (n - 1 ≡ 0) rest w.work → Ready m w.range (PartWork j (p + offset) ∷ rest)
+      entry_opened (inl (some, e)) = record { below = rw passed.through.end ready.below; fits = rw (e, passed.list, passed.through.end) (value_there lt takes, (others_there lt takes, ready.fits.1)) }
+      entry_opened (inr (none, e)) = record { below = rw passed.through.end ready.below; fits = rw (e, passed.list, passed.through.end) (value_there lt takes, ready.fits.1) }
 
-    -- the key is gone through, and the value is opened
-    pub opens_entry : {y : Stage} {r : Option (Unit {0})} {fault : Error} → IsMore (Entries key j (n - 1) (p + size) (Some p)) (n - 1 ≡ 0) rest w.work
-        → TurnsFrom m (Listing m) (cost m w.range.end (PartWork j (p + offset) ∷ rest)) (stage w.range w.met (PartWork j (p + offset) ∷ rest)) y r fault → TakesEntry y r fault
-    opens_entry more h = turn_then h (omega (arith, entry_ends more)) (entry_leads more)
+      entry_leads : IsMore (Entries key j (n - 1) (p + size) (Some p)) (n - 1 ≡ 0) rest w.work → TurnLeads m (Listing m) (stage s met (Entries key j n p before ∷ old)) (stage w.range w.met (PartWork j (p + offset) ∷ rest))
+      entry_leads (inl (some, e)) = record {
+        keeps = λ k. let back = passed.through.depth (orderly_levels k) in rw (e, passed.list, back, passed.positions) k;
+        leads = λ seen a.
+            let levels = levels_of a in
+            let back = passed.through.depth levels in (
+              seen,
+              rw (e, passed.list, back, passed.positions) a,
+              λ o q. turn_entries m lt (passed.through.runs levels (pending_in old) seen) takes (rw (e, passed.list, back, passed.through.end) at q),
+            );
+      }
+      entry_leads (inr (none, e)) = record {
+        keeps = λ k. let back = passed.through.depth (orderly_levels k) in rw (e, passed.list, back, passed.positions) k;
+        leads = λ seen a.
+            let levels = levels_of a in
+            let back = passed.through.depth levels in (
+              seen,
+              rw (e, passed.list, back, passed.positions) a,
+              λ o q. turn_entry_last m lt none (passed.through.runs levels (pending_in old) seen) takes (rw (e, passed.list, back, passed.through.end) at q),
+            );
+      }
+
+      entry_ends : IsMore (Entries key j (n - 1) (p + size) (Some p)) (n - 1 ≡ 0) rest w.work → cost m w.range.end (PartWork j (p + offset) ∷ rest) < cost m s.end (Entries key j n p before ∷ old)
+      entry_ends (inl (some, e)) =
+          let k = length m.nodes.now in
+          let few = ready.fits.0.few in
+          rw (e, passed.list, passed.through.end)
+          (falls_two (level k s.end j 18446744073709551616) (level k s.end (j + 1) (n - 1)) (level k s.end (j + 1) n) (cost m s.end old)
+          (level_node k s.end (j + 1) n j 18446744073709551616 (omega arith) (omega arith))
+          (level_same k s.end (j + 1) (j + 1) n (n - 1) (omega arith) (omega arith)))
+      entry_ends (inr (none, e)) =
+          let k = length m.nodes.now in
+          rw (e, passed.list, passed.through.end)
+          (falls_one (level k s.end j 18446744073709551616) (level k s.end (j + 1) n) (cost m s.end old) (level_node k s.end (j + 1) n j 18446744073709551616 (omega arith) (omega arith)))
+
+      -- the key is gone through, and the value is opened
+      pub opens_entry : {y : Stage} {r : Option (Unit {0})} {fault : Error} → IsMore (Entries key j (n - 1) (p + size) (Some p)) (n - 1 ≡ 0) rest w.work
+          → TurnsFrom m (Listing m) (cost m w.range.end (PartWork j (p + offset) ∷ rest)) (stage w.range w.met (PartWork j (p + offset) ∷ rest)) y r fault → TakesEntry m s met old key j n p before y r fault
+      opens_entry more h = turn_then h (omega (arith, entry_ends more)) (entry_leads more)

@@ -1,5 +1,5 @@
 -- Keys that are checked at once, and entries whose values are: what comes of each, one lemma an exit.
-use Rattle.std.proofs.Common.{◌≡◌, ℕ, refl, ◌+◌, ◌-◌, ◌*◌, ◌<◌, ◌≤◌, arith, List, Option, Some, None}
+use Rattle.std.proofs.Common.{◌≡◌, ℕ, refl, ◌+◌, ◌-◌, ◌<◌, List, Option, Some, None}
 use Rattle.archive_check.specs.declared.format.error.Error.{Error}
 use Rattle.archive_check.specs.declared.format.error.Error.TheVariants.{UnsortedKeys}
 use Rattle.archive_check.specs.declared.format.expr.Key.{Key as KeyExpr}

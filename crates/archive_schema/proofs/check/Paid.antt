@@ -1,5 +1,5 @@
 -- What is paid for the regions that a check enters.
-use Rattle.std.proofs.Common.{◌≡◌, ℤ, inl, inr, ℕ, zero, suc, ap, ◌∙◌, ◌+◌, ◌-◌, ◌*◌, ◌<◌, ◌≤◌, arith, max, List, ◌∷◌, length, Option, Some, None, OnSome, IfNone, unwrap_or, slice_index, Bor}
+use Rattle.std.proofs.Common.{◌≡◌, ℤ, inl, inr, ℕ, zero, suc, ap, ◌∙◌, ◌+◌, ◌-◌, ◌*◌, ◌<◌, ◌≤◌, arith, List, ◌∷◌, length, Option, Some, None, OnSome, IfNone, unwrap_or, slice_index, Bor}
 use Rattle.std.proofs.Math.Nat.{mul-le-mul_right, mul-le-mul_left}
 use Rattle.std.specs.Prelude.{true}
 use Rattle.archive_check.specs.declared.format.expr.Key.{Key as KeyExpr}

@@ -52,11 +52,11 @@ module _ (m : Checker) (j root : ℕ) (r : RangeState) (met : Positions) (sound 
   pub run_accepts : RunDone → IsWhole r met m.bytes.now → PlanAccepts m j r.depth root
   run_accepts runs whole s X plan =
       let v = runs whole.fresh in
-      let here = enter_says s plan.shapes m plan.represents sound None 0 (rw (whole.start, whole.end) at v.2) plan.points refl (omega arith) in
+      let here = enter_says s plan.shapes m plan.represents sound None refl 0 (rw (whole.start, whole.end) at v.2) plan.points refl (omega arith) in
       walked s m.bytes.now r.depth root X (entered_root s m.bytes.now r.depth root X here.1)
 
   refused_trips : (f : Fault) → RootRuns (refused f) → IsWhole r met m.bytes.now → (s : Schema) (X : Shape) → PlanOf m j s X → RootTrips s m.bytes.now r.depth root X f
-  refused_trips f run whole s X plan = enter_says s plan.shapes m plan.represents sound None 0 (rw (whole.start, whole.end) at run) plan.points refl (omega arith)
+  refused_trips f run whole s X plan = enter_says s plan.shapes m plan.represents sound None refl 0 (rw (whole.start, whole.end) at run) plan.points refl (omega arith)
 
   fresh_refuses : (error : Error) → (HasLevels r.depth → (f : Fault) × IsFor f error × (IsFresh r met → RootRuns (refused f))) → IsWhole r met m.bytes.now → PlanRefuses m j r.depth root error
   fresh_refuses error runs whole =

@@ -64,7 +64,7 @@ refuses_then m Before x y e first (inr stopped) = inr (λ h.
     (f.0, f.1, λ seen a. let b = first.leads seen a in b.2 (refused f.0) (f.2 b.0 b.1)))
 
 -- it is one step, and then another turn
-turn_then : {m : Checker} {Before : Stage → Seen → Outcome → Type 0} {most less : ℕ} {x y z : Stage} {r : Option (Unit {0})} {fault : Error} → TurnsFrom m (Listing m) less y z r fault → less ≤ most → TurnLeads m Before x y → TurnsFrom m Before most x z r fault
+pub turn_then : {m : Checker} {Before : Stage → Seen → Outcome → Type 0} {most less : ℕ} {x y z : Stage} {r : Option (Unit {0})} {fault : Error} → TurnsFrom m (Listing m) less y z r fault → less ≤ most → TurnLeads m Before x y → TurnsFrom m Before most x z r fault
 turn_then {m = m} {Before = Before} {x = x} {y = y} {z = z} {r = Some u} next le first =
     record { some = record { ready = next.some.ready; leads = leads_then m Before x y z first next.some.leads; ends = omega (arith, next.some.ends, le) }; none = tt }
 turn_then {m = m} {Before = Before} {x = x} {y = y} {r = None} {fault = fault} next le first = record { some = tt; none = refuses_then m Before x y fault first next.none }

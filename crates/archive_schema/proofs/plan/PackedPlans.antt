@@ -51,7 +51,7 @@ module _ (s : Schema) (laid : LaidOut s) (shapes : ℕ → Shape) (m : Checker) 
   -- parts that are laid out one behind another
   parts_few : {a b at : ℕ} {ps : Parts} → b ≤ length m.parts.now → PartsStand s shapes m a b at ps → parts_size m.nodes.now (span m.parts.now a b) + at ≤ parts_end s.layouts at ps
   parts_few {a = a} {b = b} le (parts_over ge) = rw (span_none m.parts.now a b ge) (omega arith)
-  parts_few {a = a} {b = b} {at = at} le (parts_more {x = x} {X = X} lt is offset stands takes more) =
+  parts_few {a = a} {b = b} {at = at} le (parts_more {x = x} {X = X} lt is offset element takes more) =
       let rest = parts_few le more in
       let here = taken takes in
       rw (span_next m.parts.now a b x lt le is) (omega (arith, rest, here, up_le at (align_of s.layouts X) (positive s laid X)))
@@ -73,7 +73,7 @@ module _ (s : Schema) (laid : LaidOut s) (shapes : ℕ → Shape) (m : Checker) 
       let lt : a + k < b = omega (arith, in_rest.0) in
       let h = some k x lt here in
       omega (arith, e, parts_few (fits.fits (a + k) x (omega arith) lt here).last h.2, variant_end_le s laid vs k h.0 h.1, up_le (variants_end s.layouts vs) (variants_align s.layouts vs) (variants_align_pos s.layouts vs)))
-  holds_few i z e fits (made_array stands takes) = omega arith
+  holds_few i z e fits (made_array element takes) = omega arith
   holds_few i z e fits (made_boxed p) = omega arith
   holds_few i z e fits (made_vec p) = omega arith
   holds_few i z e fits (made_map p) = omega arith

@@ -4,7 +4,6 @@ use Rattle.std.specs.FinMap.{get, insert}
 use Rattle.std.proofs.lemmas.Str.{IsUtf8-nil}
 use Rattle.archive_check.specs.declared.format.expr.Kind.{Kind as KindExpr}
 use Rattle.archive_check.specs.declared.format.expr.Key.{Key as KeyExpr}
-use Rattle.archive_check.specs.declared.format.expr.Key.TheVariants.{Leaf as LeafKey, Str as StrKey}
 use Rattle.archive_schema.specs.declared.plan.Node.{Node}
 use Rattle.archive_schema.specs.declared.plan.PointeeKind.{PointeeKind}
 use Rattle.archive_schema.specs.declared.plan.PointeeKind.TheVariants.{One, Run, Text, Entries as EntriesOf}
@@ -15,12 +14,12 @@ use Rattle.archive_check.specs.declared.context.positions.SharedType.{SharedType
 use Rattle.archive_schema.specs.declared.check.Checker.{Checker}
 use Rattle.archive_check.specs.Shape.{Kind, unit, bool, char, number, non_zero, raw_rel, Key, leaf_key, str_key, key_shape, entry_of, str, Flavor, Shape, Pointee, one, run, text, Parts, part, variant_at}
 use Rattle.archive_check.specs.Layout.{kind_size, key_size, key_align, Layouts, up, size_of, align_of}
-use Rattle.archive_check.specs.Keys.{ComesBehind, Ascend, order_of}
+use Rattle.archive_check.specs.Keys.{ComesBehind, Ascend}
 use Rattle.archive_check.specs.Value.{Pointer}
-use Rattle.archive_check.specs.Reads.{Schema, bytes_at, u32_at, i32_at, IsLegal, IsLegalNumber, kind_number, kind_value, IsOutOfLine, before_end, decoded_length, length_at, pointer_at, map_at, string_at}
+use Rattle.archive_check.specs.Reads.{Schema, bytes_at, u32_at, i32_at, IsLegal, IsLegalNumber, kind_number, kind_value, IsOutOfLine, decoded_length, length_at, string_at}
 use Rattle.archive_check.specs.Depth.{Allows, inside}
 use Rattle.archive_check.specs.Tour.{Seen, Entry, pointee_size, pointee_align}
-use Rattle.archive_check.specs.Trail.{Fault, too_large, outside, unaligned, too_deep, cyclic, other_type, other_length, illegal, no_such_variant, no_text, no_string, unsorted, Trips, trips_leaf, trips_parts, trips_tag, trips_choice, trips_array, trips_boxed, trips_vec, trips_map, trips_inline, trips_short, trips_out_of_line, trips_shared, trips_weak, trips_named, TripsParts, trips_first, trips_later, TripsRun, trips_element, trips_later_element, TripsEntries, trips_key, trips_order, trips_value, trips_later_entry, TripsFollow, trips_unique, trips_before, trips_new, trips_type, trips_length, trips_cycle, TripsEnter, trips_size, trips_range, trips_align, trips_depth, trips_within, TripsContents, trips_one, trips_run, trips_entries, trips_text}
+use Rattle.archive_check.specs.Trail.{Fault, too_large, outside, unaligned, too_deep, cyclic, other_type, other_length, illegal, no_such_variant, unsorted, Trips, trips_leaf, trips_parts, trips_tag, trips_choice, trips_array, trips_boxed, trips_vec, trips_map, trips_inline, trips_short, trips_out_of_line, trips_shared, trips_weak, trips_named, TripsParts, trips_first, trips_later, TripsRun, trips_element, trips_later_element, TripsEntries, trips_key, trips_order, trips_value, trips_later_entry, TripsFollow, trips_unique, trips_before, trips_new, trips_type, trips_length, trips_cycle, TripsEnter, trips_size, trips_range, trips_align, trips_depth, trips_within, TripsContents, trips_one, trips_run, trips_entries, trips_text}
 use Rattle.archive_check.specs.Walk.{Walk, walk_leaf, walk_parts, walk_choice, walk_array, walk_boxed, walk_vec, walk_map, walk_inline, walk_out_of_line, walk_shared, walk_null, walk_weak, walk_named, WalkParts, walk_no_part, walk_part, WalkRun, walk_none, walk_element, Follow, follow_unique, follow_new, follow_again, Enter, enter, WalkContents, walk_one, walk_run, walk_entries, walk_text}
 use Rattle.archive_check.specs.Expressions.{kind_of, key_of, flavor_of, pointee_of}
 use Rattle.archive_check.specs.context.PositionStates.{SameType}
@@ -109,8 +108,7 @@ entry_fits names key V node size align =
     let K = key_of key in
     let positive : 0 < align_of names V = rw (← align) node.positive in
     let laid = entry_layout names K V positive in
-    let high = ap (λ a. max (key_align K) a) align in
-    (
+    let high = ap (λ a. max (key_align K) a) align in (
       ap₂ (λ o a. rounded o a) (ap₂ sum_of (ap (λ a. fits (up (key_size K) a)) align) size ∙ sum_fits (up (key_size K) (align_of names V)) (size_of names V)) high
           ∙ rounded_fits (up (key_size K) (align_of names V) + size_of names V) (max (key_align K) (align_of names V)) (omega (arith, positive))
           ∙ ap fits (sym laid.0),
@@ -207,8 +205,8 @@ module _ (s : Schema) (shapes : ℕ → Shape) (m : Checker) where
   free_run {X = X} (suc n) p st made e room = walk_element (stands_walk st (free_case made (omega (arith, e)))) (free_run n (p + size_of s.layouts X) st made e (omega arith))
 
   -- a pointer of its own is followed by entering its region
-  unique_case : {order : Option Key} (pending : List ℕ) (depth : Option ℕ) (stop start : ℕ) (seen : Seen) (where_to : ℤ) (P : Pointee) (l : ℕ) (o : Outcome) → EnterSays (leading None order where_to P l) pending depth stop start seen o → FollowSays (leading None order where_to P l) pending depth stop start seen o
-  unique_case pending depth stop start seen where_to P l o says = says_map o (λ a k w. follow_unique refl w.1) (λ e t. trips_unique refl t) says
+  unique_case : (order : Option Key) (pending : List ℕ) (depth : Option ℕ) (stop start : ℕ) (seen : Seen) (where_to : ℤ) (P : Pointee) (l : ℕ) (o : Outcome) → EnterSays (leading None order where_to P l) pending depth stop start seen o → FollowSays (leading None order where_to P l) pending depth stop start seen o
+  unique_case order pending depth stop start seen where_to P l o says = says_map o (λ a k w. follow_unique refl w.1) (λ e t. trips_unique refl t) says
 
   -- the plan and the shapes read the same length
   length_is : {target : PointeeKind} {order : Option Key} {j : ℕ} {P : Pointee} (p : ℕ) → Points s shapes m target order j P → pointee_length m.bytes.now p target ≡ length_at m.bytes.now p P
@@ -218,13 +216,12 @@ module _ (s : Schema) (shapes : ℕ → Shape) (m : Checker) where
   length_is p points_text = refl
 
   pointer_case : {X : Shape} {target : PointeeKind} {j : ℕ} (pending : List ℕ) (depth : Option ℕ) (stop p start : ℕ) (seen : Seen) (o : Outcome) → Made s shapes m (PointerNode target j) X → ((order : Option Key) (P : Pointee) → Points s shapes m target order j P → EnterSays (leading None order (pos p +ℤ i32_at m.bytes.now p) P (length_at m.bytes.now p P)) pending depth stop start seen o) → ShapeSays X pending depth stop p start seen o
-  pointer_case pending depth stop p start seen o (made_boxed h) says = says_map o (λ a k w. walk_boxed w) (λ e t. trips_boxed t) (unique_case pending depth stop start seen _ _ _ o (says _ _ h))
-  pointer_case pending depth stop p start seen o (made_vec h) says = says_map o (λ a k w. walk_vec w) (λ e t. trips_vec t) (unique_case pending depth stop start seen _ _ _ o (says _ _ h))
-
-  pointer_case pending depth stop p start seen o (made_map h) says = says_map o (λ a k w. walk_map w) (λ e t. trips_map t) (unique_case pending depth stop start seen _ _ _ o (says _ _ h))
+  pointer_case pending depth stop p start seen o (made_boxed h) says = says_map o (λ a k w. walk_boxed w) (λ e t. trips_boxed t) (unique_case None pending depth stop start seen _ _ _ o (says _ _ h))
+  pointer_case pending depth stop p start seen o (made_vec h) says = says_map o (λ a k w. walk_vec w) (λ e t. trips_vec t) (unique_case None pending depth stop start seen _ _ _ o (says _ _ h))
+  pointer_case pending depth stop p start seen o (made_map {key = key} h) says = says_map o (λ a k w. walk_map w) (λ e t. trips_map t) (unique_case (Some (key_of key)) pending depth stop start seen _ _ _ o (says _ _ h))
 
   string_case : (pending : List ℕ) (depth : Option ℕ) (stop p start : ℕ) (seen : Seen) (o : Outcome) → IsOutOfLine m.bytes.now p → 8 < decoded_length (u32_at m.bytes.now p) → EnterSays (string_at m.bytes.now p) pending depth stop start seen o → ShapeSays str pending depth stop p start seen o
-  string_case pending depth stop p start seen o out long says = says_map o (λ a k w. walk_out_of_line out long w) (λ e t. trips_out_of_line out long t) (unique_case pending depth stop start seen _ _ _ o says)
+  string_case pending depth stop p start seen o out long says = says_map o (λ a k w. walk_out_of_line out long w) (λ e t. trips_out_of_line out long t) (unique_case None pending depth stop start seen _ _ _ o says)
 
   str_case : {X : Shape} {j : ℕ} (pending : List ℕ) (depth : Option ℕ) (stop p start : ℕ) (seen : Seen) (o : Outcome) → Made s shapes m (Str j) X → ShapeSays str pending depth stop p start seen o → ShapeSays X pending depth stop p start seen o
   str_case pending depth stop p start seen o (made_str k) says = says
@@ -343,9 +340,9 @@ module _ (s : Schema) (shapes : ℕ → Shape) (m : Checker) where
   entries_case : (K : Key) (V : Shape) (pending : List ℕ) (depth : Option ℕ) (t start : ℕ) (seen : Seen) (l : ℕ) (o : Outcome) → EntriesSay l K V None pending depth t t start seen o → ContentsSay (Some K) (run (entry_of K V)) l t pending depth start seen o
   entries_case K V pending depth t start seen l o h = says_map o (λ a k w. walk_entries w.0 w.1) (λ e t. trips_entries t) h
 
-  entries_none : {K : Key} {V : Shape} {before : Option ℕ} {pending : List ℕ} {depth : Option ℕ} {stop p start : ℕ} {seen : Seen} (n : ℕ) → n ≡ 0 → EntriesSay n K V before pending depth stop p start seen (done start seen)
-  entries_none zero e = (walk_none, tt)
-  entries_none (suc n) e = absurd (omega arith)
+  entries_none : (K : Key) (before : Option ℕ) {V : Shape} {pending : List ℕ} {depth : Option ℕ} {stop p start : ℕ} {seen : Seen} (n : ℕ) → n ≡ 0 → EntriesSay n K V before pending depth stop p start seen (done start seen)
+  entries_none K before zero e = (walk_none, tt)
+  entries_none K before (suc n) e = absurd (omega arith)
 
   entries_key_case : {K : Key} {V : Shape} {before : Option ℕ} {pending : List ℕ} {depth : Option ℕ} {stop p start : ℕ} {seen : Seen} {e : Fault} (n : ℕ) → 0 < n → ((n : ℕ) → TripsEntries s m.bytes.now pending depth stop before p (suc n) K V start seen e) → TripsEntries s m.bytes.now pending depth stop before p n K V start seen e
   entries_key_case zero lt t = absurd (omega arith)
@@ -356,23 +353,22 @@ module _ (s : Schema) (shapes : ℕ → Shape) (m : Checker) where
   entries_value_case zero lt w b is t = absurd (omega arith)
   entries_value_case (suc n) lt w b is t = trips_value w b (rw is at t)
 
-  entries_next_case : {K : Key} {V : Shape} {before : Option ℕ} {pending : List ℕ} {depth : Option ℕ} {stop p start mid later offset size : ℕ} {seen known more : Seen} (n : ℕ) (o : Outcome) → 0 < n → Walk s m.bytes.now pending depth stop p (key_shape K) start seen mid known → ComesBehind K m.bytes.now before p → offset ≡ up (size_of s.layouts (key_shape K)) (align_of s.layouts V) → size ≡ size_of s.layouts (entry_of K V)
+  entries_next_case : (K : Key) (before : Option ℕ) {V : Shape} {pending : List ℕ} {depth : Option ℕ} {stop p start mid later offset size : ℕ} {seen known more : Seen} (n : ℕ) (o : Outcome) → 0 < n → Walk s m.bytes.now pending depth stop p (key_shape K) start seen mid known → ComesBehind K m.bytes.now before p → offset ≡ up (size_of s.layouts (key_shape K)) (align_of s.layouts V) → size ≡ size_of s.layouts (entry_of K V)
       → Walk s m.bytes.now pending depth stop (p + offset) V mid known later more → EntriesSay (n - 1) K V (Some p) pending depth stop (p + size) later more o → EntriesSay n K V before pending depth stop p start seen o
-  entries_next_case zero o lt w b is all v rest = absurd (omega arith)
-  entries_next_case {K = K} {V = V} (suc n) o lt w b is all v rest =
+  entries_next_case K before zero o lt w b is all v rest = absurd (omega arith)
+  entries_next_case K before {V = V} (suc n) o lt w b is all v rest =
       let less : suc n - 1 ≡ n = omega arith in
       let entry = walk_entry s m.bytes.now K V w (rw is at v) in
       says_map o (λ a k ws. let q = rw (less, all) at ws in (walk_element entry q.0, (b, q.1))) (λ f t. trips_later_entry entry b (rw (less, all) at t)) rest
 
-  entry_is : {key : KeyExpr} {V : Shape} {j offset size : ℕ} → Sized m j (size_of s.layouts V) (align_of s.layouts V) → EntryTakes m key j offset size → (offset ≡ up (size_of s.layouts (key_shape (key_of key))) (align_of s.layouts V)) × (size ≡ size_of s.layouts (entry_of (key_of key) V)) × Takes m j (size_of s.layouts V)
-  entry_is {key = key} {V = V} {offset = offset} k takes =
+  entry_is : {key : KeyExpr} (V : Shape) {j offset size : ℕ} → Sized m j (size_of s.layouts V) (align_of s.layouts V) → EntryTakes m key j offset size → (offset ≡ up (size_of s.layouts (key_shape (key_of key))) (align_of s.layouts V)) × (size ≡ size_of s.layouts (entry_of (key_of key) V)) × Takes m j (size_of s.layouts V)
+  entry_is {key = key} V {offset = offset} k takes =
       let same = same_at takes.at k.at in
       let sized = ap (λ q. q.size) same ∙ k.size_is in
       let aligned = ap (λ q. q.align) same ∙ k.align_is in
       let begin : fits (up (key_size (key_of key)) (align_of s.layouts V)) ≡ Some offset = ap (λ a. fits (up (key_size (key_of key)) a)) (sym aligned) ∙ takes.offset_is in
       let all = entry_fits s.layouts key V takes.node sized aligned in
-      let (value, value_is) = value_sized key takes.node takes.size_is in
-      (
+      let (value, value_is) = value_sized key takes.node takes.size_is in (
         sym (some_is begin) ∙ ap (λ n. up n (align_of s.layouts V)) (sym (key_takes s.layouts (key_of key))),
         sym (some_is (sym all.0 ∙ takes.size_is)),
         record { node = takes.node; at = takes.at; size_is = value_is ∙ ap Some (sym (some_is (sym sized ∙ value_is))) },
@@ -389,15 +385,15 @@ module _ (s : Schema) (shapes : ℕ → Shape) (m : Checker) where
   empty_key {p = p} (leaf_key kind) none = walk_leaf (record { size = empty_length m.bytes.now p (kind_size kind) none; number = empty_number kind (kind_number kind (bytes_at m.bytes.now p (kind_size kind))) none })
   empty_key str_key none = absurd (omega arith)
 
-  empty_order : {p q : ℕ} (K : Key) → key_size K ≡ 0 → ComesBehind K m.bytes.now (Some p) q → ⊥
+  empty_order : (p q : ℕ) (K : Key) → key_size K ≡ 0 → ComesBehind K m.bytes.now (Some p) q → ⊥
   unfolding kind_value
-  empty_order (leaf_key unit) none less = cc
-  empty_order (leaf_key bool) none less = omega arith
-  empty_order (leaf_key char) none less = omega arith
-  empty_order (leaf_key (number sign width)) none less = omega (arith, none, some_byte width)
-  empty_order (leaf_key (non_zero sign width)) none less = omega (arith, none, some_byte width)
-  empty_order (leaf_key (raw_rel sign width)) none less = omega (arith, none, some_byte width)
-  empty_order str_key none less = omega arith
+  empty_order p q (leaf_key unit) none less = cc
+  empty_order p q (leaf_key bool) none less = omega arith
+  empty_order p q (leaf_key char) none less = omega arith
+  empty_order p q (leaf_key (number sign width)) none less = omega (arith, none, some_byte width)
+  empty_order p q (leaf_key (non_zero sign width)) none less = omega (arith, none, some_byte width)
+  empty_order p q (leaf_key (raw_rel sign width)) none less = omega (arith, none, some_byte width)
+  empty_order p q str_key none less = omega arith
 
   module _ (r : Represents s shapes m) (sound : IsSound m) where
     empty_walk : {X : Shape} {j align : ℕ} {pending : List ℕ} {depth : Option ℕ} {stop p start : ℕ} {seen : Seen} → StandsFor s shapes X j → Sized m j (size_of s.layouts X) align → size_of s.layouts X ≡ 0 → p ≤ length m.bytes.now → Walk s m.bytes.now pending depth stop p X start seen start seen
@@ -429,8 +425,8 @@ module _ (s : Schema) (shapes : ℕ → Shape) (m : Checker) where
     lone_case : {V : Shape} {j : ℕ} {pending : List ℕ} {depth : Option ℕ} {t start : ℕ} {seen : Seen} (K : Key) (l : ℕ) → l ≤ 1 → l * size_of s.layouts (entry_of K V) ≡ 0 → StandsFor s shapes V j → Sized m j (size_of s.layouts V) (align_of s.layouts V) → t ≤ length m.bytes.now
         → WalkContents s m.bytes.now pending depth t t (Some K) (run (entry_of K V)) l start seen start seen
     lone_case K zero few e st k room = walk_entries walk_none tt
-    lone_case K (suc zero) few e st k room =
-        let none = empty_parts s.layouts K _ (rw k.align_is k.node.positive) (omega (arith, e)) in
+    lone_case {V = V} K (suc zero) few e st k room =
+        let none = empty_parts s.layouts K V (rw (← k.align_is) k.node.positive) (omega (arith, e)) in
         walk_entries (walk_element (empty_entry K none st k room) walk_none) (tt, tt)
     lone_case K (suc (suc l)) few e st k room = absurd (omega arith)
 
@@ -439,10 +435,10 @@ module _ (s : Schema) (shapes : ℕ → Shape) (m : Checker) where
     equal_case K zero many e st k room = absurd (omega arith)
     equal_case K (suc zero) many e st k room = absurd (omega arith)
     equal_case {V = V} K (suc (suc l)) many e st k room =
-        let lt : 0 < align_of s.layouts V = rw k.align_is k.node.positive in
+        let lt : 0 < align_of s.layouts V = rw (← k.align_is) k.node.positive in
         let whole : size_of s.layouts (entry_of K V) ≡ 0 = eq_of_mul-eq-mul_left (suc (suc l)) (omega arith) (size_of s.layouts (entry_of K V)) 0 (e ∙ sym (mul-zero (suc (suc l)))) in
         let none = empty_parts s.layouts K V lt whole in
-        trips_entries (trips_later_entry (empty_entry K none st k room) tt (trips_order (empty_key K none.0) (empty_order K none.0)))
+        trips_entries (trips_later_entry (empty_entry K none st k room) tt (trips_order (empty_key K none.0) (empty_order _ _ K none.0)))
 
     mutual
       pub node_says : {pending : List ℕ} {depth : Option ℕ} {stop i p start z : ℕ} {seen : Seen} {o : Outcome} → NodeRuns m pending depth stop i p start seen o → Takes m i z → stop ≤ length m.bytes.now → NodeSays pending depth stop i p start seen o
@@ -475,18 +471,18 @@ module _ (s : Schema) (shapes : ℕ → Shape) (m : Checker) where
       pub order_says : {pending : List ℕ} {depth : Option ℕ} {stop j p start : ℕ} {before : Option ℕ} {seen : Seen} {key : KeyExpr} {o : Outcome} (V : Shape) → OrderRuns m pending depth stop key j before p start seen o → stop ≤ length m.bytes.now
           → OutcomeSays (λ later last. Walk s m.bytes.now pending depth stop p (key_shape (key_of key)) start seen later last × ComesBehind (key_of key) m.bytes.now before p) (λ e. (n : ℕ) → TripsEntries s m.bytes.now pending depth stop before p (suc n) (key_of key) V start seen e) o
       order_says V (order_key v) le = λ n. trips_key (key_says v le)
-      order_says V (order_wrong v no) le = λ n. trips_order (key_says v le) no
-      order_says V (order_kept v yes) le = (key_says v le, yes)
+      order_says V (order_wrong v wrong) le = λ n. trips_order (key_says v le) wrong
+      order_says V (order_kept v behind) le = (key_says v le, behind)
 
       pub entries_say : {pending : List ℕ} {depth : Option ℕ} {stop j n p start : ℕ} {before : Option ℕ} {seen : Seen} {key : KeyExpr} {V : Shape} {o : Outcome} → EntriesRun m pending depth stop key j before n p start seen o → StandsFor s shapes V j → Sized m j (size_of s.layouts V) (align_of s.layouts V) → stop ≤ length m.bytes.now → EntriesSay n (key_of key) V before pending depth stop p start seen o
-      entries_say (entries_end {n = n} e) st k le = entries_none n e
+      entries_say (entries_end {n = n} {before = before} {key = key} e) st k le = entries_none (key_of key) before n e
       entries_say {V = V} (entries_key {n = n} lt v) st k le = entries_key_case n lt (order_says V v le)
       entries_say {V = V} (entries_value {n = n} lt v takes w) st k le =
-          let q = order_says V v le in let at = entry_is k takes in
+          let q = order_says V v le in let at = entry_is V k takes in
           entries_value_case n lt q.0 q.1 at.0 (stands_trips st (node_says w at.2 le))
-      entries_say {V = V} (entries_next {n = n} {o = o} lt v takes w vs) st k le =
-          let q = order_says V v le in let at = entry_is k takes in
-          entries_next_case n o lt q.0 q.1 at.0 at.1 (stands_walk st (node_says w at.2 le)) (entries_say vs st k le)
+      entries_say {V = V} (entries_next {n = n} {before = before} {key = key} {o = o} lt v takes w vs) st k le =
+          let q = order_says V v le in let at = entry_is V k takes in
+          entries_next_case (key_of key) before n o lt q.0 q.1 at.0 at.1 (stands_walk st (node_says w at.2 le)) (entries_say vs st k le)
 
       pub follow_says : {pending : List ℕ} {depth : Option ℕ} {stop k j n l start : ℕ} {target : PointeeKind} {where_to : ℤ} {seen : Seen} {o : Outcome} (shared_type : SharedType) → FollowRuns m pending depth stop k target j n l where_to start seen o → IsAt m.shared_types.now k shared_type → Points s shapes m target None j (pointee_of shared_type.pointee) → Counts target n l → stop ≤ length m.bytes.now → FollowSays (sorted shared_type where_to l) pending depth stop start seen o
       follow_says shared_type (follow_before {l = l} {o = o} {where_to = where_to} nowhere v) at h c le = before_case _ _ _ _ _ shared_type where_to l o nowhere (enter_says (Some (flavor_of shared_type.flavor)) refl l v h c le)

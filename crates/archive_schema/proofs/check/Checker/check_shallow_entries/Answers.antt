@@ -1,4 +1,4 @@
-use Rattle.std.proofs.Common.{rules, ◌≡◌, ◌+◌, ◌-◌, ◌*◌, ◌<◌, ◌≤◌, arith, length}
+use Rattle.std.proofs.Common.{rules, ◌≡◌, ◌+◌, ◌-◌, ◌*◌, ◌≤◌, arith, length}
 use Rattle.archive_schema.proofs.check.AtOnce.{towards_same}
 use Rattle.archive_schema.proofs.check.EntryPlaces.{entry_node, key_room, value_fits}
 use Rattle.archive_schema.proofs.check.KeysAtOnce.{towards_entry, value_stops, key_stops, entries_over}

@@ -1,4 +1,4 @@
-use Rattle.std.proofs.Common.{arith, refl, ap, ◌≡◌, ◌<◌, length, true}
+use Rattle.std.proofs.Common.{arith, refl, ap, ◌<◌, length}
 use Rattle.archive_check.specs.Trail.{no_text}
 use Rattle.archive_schema.specs.check.Runs.{contents_one, contents_run, contents_no_text}
 use Rattle.archive_check.proofs.Checks.TestedAnswers.{not_true, is_true}

@@ -1,4 +1,4 @@
-use Rattle.std.proofs.Common.{rules, refl, ◌≡◌, ap, true, None, ◌∙◌, ◌∷◌}
+use Rattle.std.proofs.Common.{rules, refl, ap, None, ◌∙◌, ◌∷◌}
 use Rattle.std.proofs.lemmas.Int.{to_z-of_z}
 use mir.Syntax.{w128}
 use Rattle.archive_schema.proofs.check.EnteredRegions.{is_node_itself, run_left}

@@ -1,13 +1,10 @@
-use Rattle.std.proofs.Common.{◌+◌, ◌-◌, ◌<◌, ◌≤◌, Some, arith, length}
+use Rattle.std.proofs.Common.{rules, ◌+◌, ◌<◌, ◌≤◌, arith, length}
 use Rattle.std.proofs.lemmas.Int.{to_z_pos}
 use mir.Syntax.{w128}
 use Rattle.archive_schema.proofs.check.LegalElements.{node_takes}
 use Rattle.archive_schema.proofs.check.TurnExits.{no_room, opens_free, opens_no_element, opens_element, element_opened, element_node, leaves, finishes, not_finished}
-use Rattle.archive_schema.specs.declared.check.worklist.Work.TheVariants.{Entries}
-use Rattle.archive_schema.specs.check.Lists.{list_of}
-use Rattle.archive_schema.proofs.check.EntryPlaces.{entry_node}
+use Rattle.archive_schema.proofs.check.EntryPlaces.{entry_node, value_fits}
 use Rattle.archive_schema.proofs.check.EntryTurns.{opens_no_entry, first_key_fits, key_refused, entry_opened, opens_entry}
-use Rattle.archive_schema.proofs.check.Paid.{entries_next_is, pays_more}
 use Rattle.archive_schema.proofs.check.Checker.step.Goals as goal
 
 pub returns-in-Part-clause-turn : goal.returns-in-Part-clause-turn
@@ -64,25 +61,33 @@ check_next_key-requires g c =
     let ready = rw c.in-Entries.is at c.requires.ready in
     record { known = ready.fits.0.takes.at.below; fits = first_key_fits ready (omega (arith, c.if-left-eq0.false)); below = ready.below }
 
-pub returns-in_err-check_next_key-clause-turn : goal.returns-in_err-check_next_key-clause-turn
-returns-in_err-check_next_key-clause-turn g c =
+pub returns-in_err-check_next_key-in-Entries-clause-turn : goal.returns-in_err-check_next_key-in-Entries-clause-turn
+returns-in_err-check_next_key-in-Entries-clause-turn g c =
     let ready = rw c.in-Entries.is at c.requires.ready in
-    rw (c.in-Entries.is, c.from_residual-in_err-check_next_key.ensures) (key_refused ready (omega (arith, c.if-left-eq0.false)) c.in_err-check_next_key.ensures.passes)
+    rw (c.in-Entries.is, c.from_residual-in_err-check_next_key-in-Entries.ensures) (key_refused ready (omega (arith, c.if-left-eq0.false)) c.in_err-check_next_key-in-Entries.ensures.passes)
 
-pub returns-in_err-more_entries-clause-turn : goal.returns-in_err-more_entries-clause-turn
-returns-in_err-more_entries-clause-turn g c = rw c.from_residual-in_err-more_entries.ensures (no_room c.in_err-more_entries.ensures.none)
+pub overflow_add-at : goal.overflow_add-at
+overflow_add-at g c =
+    let ready = rw c.in-Entries.is at c.requires.ready in
+    let takes = entry_node ready.fits.0 c.index-self-value.is c.value_offset.ensures c.unwrap_or-offset.ensures c.unit_of-entry.ensures.end c.unwrap_or.ensures in
+    let lt : 0 < c.in-Entries.left = omega (arith, c.if-left-eq0.false) in
+    let f = value_fits ready.fits.0 takes 0 lt in
+    let h : c.in-Entries.at + c.unwrap_or-offset.result ≤ length c.args.self.now.bytes.now = omega (arith, f.fits) in search rules
+
+pub returns-in_err-more_entries-in-Entries-clause-turn : goal.returns-in_err-more_entries-in-Entries-clause-turn
+returns-in_err-more_entries-in-Entries-clause-turn g c = rw c.from_residual-in_err-more_entries-in-Entries.ensures (no_room c.in_err-more_entries-in-Entries.ensures.none)
 
 pub open-requires-in-Entries-clause-ready : goal.open-requires-in-Entries-clause-ready
 open-requires-in-Entries-clause-ready g c =
     let ready = rw c.in-Entries.is at c.requires.ready in
     let takes = entry_node ready.fits.0 c.index-self-value.is c.value_offset.ensures c.unwrap_or-offset.ensures c.unit_of-entry.ensures.end c.unwrap_or.ensures in
-    entry_opened ready (omega (arith, c.if-left-eq0.false)) takes c.in_ok-check_next_key.ensures.passes.some c.in_ok-more_entries.ensures.some
+    entry_opened ready (omega (arith, c.if-left-eq0.false)) takes c.in_ok-check_next_key-in-Entries.ensures.passes.some c.in_ok-more_entries-in-Entries.ensures.some
 
-pub returns-in_ok-more_entries-clause-turn : goal.returns-in_ok-more_entries-clause-turn
-returns-in_ok-more_entries-clause-turn g c =
+pub returns-in_ok-more_entries-in-Entries-clause-turn : goal.returns-in_ok-more_entries-in-Entries-clause-turn
+returns-in_ok-more_entries-in-Entries-clause-turn g c =
     let ready = rw c.in-Entries.is at c.requires.ready in
     let takes = entry_node ready.fits.0 c.index-self-value.is c.value_offset.ensures c.unwrap_or-offset.ensures c.unit_of-entry.ensures.end c.unwrap_or.ensures in
-    rw c.in-Entries.is (opens_entry ready (omega (arith, c.if-left-eq0.false)) takes c.in_ok-check_next_key.ensures.passes.some c.in_ok-more_entries.ensures.some c.open-in-Entries.ensures.turn)
+    rw c.in-Entries.is (opens_entry ready (omega (arith, c.if-left-eq0.false)) takes c.in_ok-check_next_key-in-Entries.ensures.passes.some c.in_ok-more_entries-in-Entries.ensures.some c.open-in-Entries.ensures.turn)
 
 pub returns-in-Leave-clause-turn : goal.returns-in-Leave-clause-turn
 returns-in-Leave-clause-turn g c =

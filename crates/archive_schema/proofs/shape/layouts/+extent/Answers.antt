@@ -10,7 +10,7 @@ use Rattle.archive_check.proofs.BoundedSizes.{fits_some, times_fits}
 use Rattle.archive_schema.proofs.plan.FreeWalks.{kind_few}
 use Rattle.archive_schema.proofs.plan.ExtentsOf.{pointer_fits, arm, whole_ends, parts_start, parts_left, parts_next, parts_done, variants_start, variants_left, variants_next, variants_done}
 use Rattle.archive_schema.proofs.shape.layouts.+extent.Goals as goal
-use Rattle.archive_schema.proofs.shape.layouts.+extent.Goals.{extent_of-in-Leaf, extent_of-in-Record, extent_of-in-Choice, extent_of-in-Array, extent_of-in-Named, extent_of-in-Vec, extent_of-in-Vec-2, extent_of-in-Box2}
+use Rattle.archive_schema.proofs.shape.layouts.+extent.Goals.{extent_of-in-Leaf, extent_of-in-Record, extent_of-in-Choice, extent_of-in-Array, extent_of-in-Named, extent_of-in-Vec, extent_of-in-Vec-2, extent_of-in-Vec-3, extent_of-in-Box2}
 
 pub extent_of-extent_of_variants-requires : goal.extent_of-extent_of_variants-requires
 extent_of-extent_of_variants-requires t c = (
@@ -41,6 +41,12 @@ extent_of-returns t c = λ s knows. elim c.match-expr.branch [
       (λ e. arm s.layouts c.match-expr.result w.result-is (ap shape_of e) (sym (fits_some 8 (omega arith))) refl))
       w.in-Vec.is
   | extent_of-in-Vec-2 w ↦ ⊎_elim
+      (λ e. arm s.layouts c.match-expr.result w.result-is (ap shape_of e.1) (sym (fits_some 8 (omega arith))) refl)
+      (⊎_elim
+      (λ e. arm s.layouts c.match-expr.result w.result-is (ap shape_of e.2) (sym (fits_some 8 (omega arith))) refl)
+      (λ e. arm s.layouts c.match-expr.result w.result-is (ap shape_of e) (sym (fits_some 8 (omega arith))) refl))
+      w.in-Vec.is
+  | extent_of-in-Vec-3 w ↦ ⊎_elim
       (λ e. arm s.layouts c.match-expr.result w.result-is (ap shape_of e.1) (sym (fits_some 8 (omega arith))) refl)
       (⊎_elim
       (λ e. arm s.layouts c.match-expr.result w.result-is (ap shape_of e.2) (sym (fits_some 8 (omega arith))) refl)
