@@ -9,6 +9,7 @@ ghost use Rattle.archive_types.specs.Members.Maps.{entries_checked, entries_reac
 mod iter;
 mod reading;
 mod search;
+mod sorted_keys;
 mod views;
 
 use crate::traits::{ArchivePointee, MapKey, Portable, PortableParts};
@@ -16,6 +17,7 @@ use archive_check::format::error::Error;
 use archive_check::format::expr::{Defs, Expr};
 use archive_check::self_check::MapCheck;
 pub use iter::Iter;
+pub use sorted_keys::SortedKey;
 use std::alloc::Global;
 use std::marker::PhantomData;
 

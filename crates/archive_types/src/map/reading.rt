@@ -1,10 +1,20 @@
 // Maps are read back: their pairs, which are then inserted one after another.
 
 ghost use Rattle.std.specs.Prelude.{◌≡◌, [], IfOk, IfErr};
+ghost use Rattle.archive_check.specs.Value.{list};
 ghost use Rattle.archive_check.specs.declared.format.error.Error.TheVariants.{OutOfMemory};
+ghost use Rattle.archive_types.specs.MapPairs.{pair_meaning, pair_keys};
 ghost use Rattle.archive_types.specs.Maps.{inserted};
+ghost use Rattle.archive_types.specs.Runs.{each_meaning, each_keys};
+ghost use Rattle.archive_types.specs.Words.Seen.{IsPartOf, ReadsPart, RefusesPart};
 
+use super::ArchivedSortedMap;
+use super::sorted_keys::SortedKey;
+use crate::slice::read_elements;
+use crate::traits::{Archive, ArchivePointee, Deserialize, Entries, MapKey, Portable};
+use crate::view::{RawView, Ref};
 use archive_check::format::error::Error;
+use archive_tuple::ArchivedTuple2;
 use std::alloc::Global;
 use std::collections::BTreeMap;
 
@@ -23,4 +33,23 @@ fn collect<A: Ord + Drop, B: Drop>(
         }
     }
     Ok(map)
+}
+
+// The map that the part shows.
+fn read_map<
+    K: MapKey + Deserialize<A, D>,
+    V: Portable + Deserialize<B, D>,
+    A: SortedKey + Drop,
+    B: Archive + Drop,
+    D: Entries,
+>(alloc: Global, part: RawView<'_>, deserializer: &mut D) -> Result<BTreeMap<A, B>, Error>
+    requires { IsPartOf ⟦<ArchivedSortedMap<K, V> as ArchivePointee>⟧ part }
+    ensures read { IfOk result (λ map. ReadsPart ⟦<ArchivedSortedMap<K, V> as ArchivePointee>⟧ part D.Entries deserializer
+        (list (each_meaning (pair_meaning A.meaning B.meaning) map.entries)) (each_keys (pair_keys A.keys B.keys) map.entries)) }
+    ensures refused { IfErr result (RefusesPart ⟦<ArchivedSortedMap<K, V> as ArchivePointee>⟧ part D.Entries deserializer) }
+{
+    let view: Ref<'_, ArchivedSortedMap<K, V>> = Ref::at(part);
+    let entries = view.entries().part();
+    let pairs = read_elements::<ArchivedTuple2<K, V>, (A, B), D>(alloc, entries, deserializer)?;
+    collect(alloc, pairs)
 }
