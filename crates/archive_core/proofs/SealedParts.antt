@@ -105,9 +105,9 @@ pub case_comes : (D E : Definitions) (known : (s : Schema) → Knows s D → Kno
 case_comes D E known name vs tag X is L layout bytes q n offset there first =
     let e : variant_at vs (slice_index bytes q) ≡ Some (part X no_part) = rw first is in
     within_comes D bytes q n (q + offset) (choice name vs) X (λ s k.
-        let begins = case_begins D E known name vs tag X is L layout bytes q n offset there first s k in
-        let i : IsPart s q 1 (part X no_part) (q + offset) X = subst (λ o. IsPart s q 1 (part X no_part) (q + o) X) begins first_part in
-        in_choice whole e i)
+    let begins = case_begins D E known name vs tag X is L layout bytes q n offset there first s k in
+    let i : IsPart s q 1 (part X no_part) (q + offset) X = subst (λ o. IsPart s q 1 (part X no_part) (q + o) X) begins first_part in
+    in_choice whole e i)
 
 -- the field of a record with an index, wherever it begins
 module _ (D : Definitions) (X : Shape) (E : Definitions) (ps : Parts) (is : IsRecord D X E ps) (bytes : List ℕ) (q n : ℕ) (P : Pointee) (one_is : P ≡ one X)

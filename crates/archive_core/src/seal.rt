@@ -160,8 +160,8 @@ impl<'a, T: ArchivePointee> Seal<'a, T> {
         self.pos
     }
 
-    /// A view of what it shows. The caller must ensure that this is a part of a validated buffer,
-    /// as when the seal was made. Our own, for `Deref` of rkyv 0.8.18.
+    /// A view of what it shows. The caller must ensure that seals come to it, as when the seal was
+    /// made. Our own, for `Deref` of rkyv 0.8.18.
     pub fn as_ref(&self) -> Ref<'_, T>
         requires { IsSealOf T.definitions T.pointee self.now }
         ensures buffer { result.bytes.now ≡ self.now.bytes.now }

@@ -34,7 +34,8 @@ pub fn view_of_payload<'a, X: Choice, U: Portable>(
 ) -> Ref<'a, U>
     requires tag { tag_of view ≡ tag }
     requires part { payload_at X.Variants.variants tag i ≡ Some U.shape }
-    requires definitions { KnowsAlso (payload_definitions X.Variants.definitions tag i) U.definitions }
+    requires definitions { KnowsAlso (payload_definitions X.Variants.definitions tag i)
+        U.definitions }
     requires begins { X.Variants.begin tag i ≡ offset }
     ensures buffer { result.bytes.now ≡ view.entry.bytes.now }
     ensures position { result.pos ≡ view.entry.pos + offset }
@@ -76,9 +77,11 @@ pub fn seal_of_payload<'a, X: Choice, U: Portable>(
     requires come_to { IsSealOf X.definitions X.pointee seal }
     requires tag { seal_tag seal ≡ tag }
     requires part { payload_at X.Variants.variants tag i ≡ Some U.shape }
-    requires definitions { KnowsAlso (payload_definitions X.Variants.definitions tag i) U.definitions }
+    requires definitions { KnowsAlso (payload_definitions X.Variants.definitions tag i)
+        U.definitions }
     requires begins { X.Variants.begin tag i ≡ offset }
-    ensures { SealsPart X.definitions X.pointee U.definitions U.pointee (seal.entry.pos + offset) 0 seal.entry result }
+    ensures { SealsPart X.definitions X.pointee U.definitions U.pointee (seal.entry.pos + offset) 0
+        seal.entry result }
 {
     let _tag = tag;
     let _offset = offset;
@@ -96,7 +99,8 @@ pub fn seal_of_field<'a, X: Record, U: Portable>(
     requires part { part_at X.Parts.parts i ≡ Some U.shape }
     requires definitions { KnowsAlso (definitions_at X.Parts.definitions i) U.definitions }
     requires begins { X.Parts.begin 0 i ≡ offset }
-    ensures { SealsPart X.definitions X.pointee U.definitions U.pointee (seal.entry.pos + offset) 0 seal.entry result }
+    ensures { SealsPart X.definitions X.pointee U.definitions U.pointee (seal.entry.pos + offset) 0
+        seal.entry result }
 {
     let _offset = offset;
     seal.field(i)

@@ -34,7 +34,8 @@ pub fn access_pos_mut<'a, T: Portable>(
 /// Checks that `bytes` are an archive whose root, a `T`, lies at the end, and returns the root's
 /// seal. No byte changes. Memory comes from `alloc`. Fails as `access_pos` does.
 pub fn access_mut<'a, T: Portable>(alloc: Global, bytes: &'a mut [u8]) -> Result<Seal<'a, T>, Error>
-    ensures answer { Answers T.definitions bytes.old None (root_in bytes.old T.layout) T.shape result }
+    ensures answer { Answers T.definitions bytes.old None (root_in bytes.old T.layout) T.shape
+        result }
     ensures same_reference { IfOk result (λ s. s.bytes.ghost_name ≡ bytes.entry.ghost_name) }
     ensures buffer { IfOk result (λ s. s.bytes.now ≡ bytes.old) }
     ensures position { IfOk result (λ s. s.pos ≡ root_in bytes.old T.layout) }

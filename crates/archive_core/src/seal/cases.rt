@@ -10,8 +10,8 @@ use super::{Seal, Spot};
 use archive_fields::fields::{part_in_case, part_in_record};
 use archive_types::traits::Portable;
 
-/// A seal of a field of a variant, which begins at `offset`. The caller must ensure that the
-/// seal shows this tag.
+/// A seal of a field of a variant, which begins at `offset`. The caller must ensure that the seal
+/// shows this tag, and that seals come to what it shows.
 pub fn sealed_part_in_case<'a, X: Portable, U: Portable>(
     seal: Seal<'a, X>,
     tag: u8,
@@ -24,14 +24,16 @@ pub fn sealed_part_in_case<'a, X: Portable, U: Portable>(
     requires part { part_in X.shape tag i ≡ Some U.shape }
     requires begins { BeginsAt X.shape tag i offset }
     requires nameless { are_none U.definitions ≡ true }
-    ensures { SealsPart X.definitions X.pointee U.definitions U.pointee (seal.entry.pos + offset) 0 seal.entry result }
+    ensures { SealsPart X.definitions X.pointee U.definitions U.pointee (seal.entry.pos + offset) 0
+        seal.entry result }
 {
     let spot = Spot::of(part_in_case::<X, U>(seal.as_ref(), tag, i, offset));
     let Seal { bytes, .. } = seal;
     spot.seal(bytes)
 }
 
-/// A seal of a field of a record, which begins at `offset`.
+/// A seal of a field of a record, which begins at `offset`. The caller must ensure that seals come
+/// to what the seal shows.
 pub fn sealed_part_in_record<'a, X: Portable, U: Portable>(
     seal: Seal<'a, X>,
     i: usize,
@@ -42,7 +44,8 @@ pub fn sealed_part_in_record<'a, X: Portable, U: Portable>(
     requires part { field_at X.shape i ≡ Some U.shape }
     requires begins { FieldBegins X.shape i offset }
     requires nameless { are_none U.definitions ≡ true }
-    ensures { SealsPart X.definitions X.pointee U.definitions U.pointee (seal.entry.pos + offset) 0 seal.entry result }
+    ensures { SealsPart X.definitions X.pointee U.definitions U.pointee (seal.entry.pos + offset) 0
+        seal.entry result }
 {
     let spot = Spot::of(part_in_record::<X, U>(seal.as_ref(), i, offset));
     let Seal { bytes, .. } = seal;

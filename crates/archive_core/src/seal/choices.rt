@@ -10,13 +10,17 @@ use archive_types::traits::{Choice, Portable};
 
 impl<'a, T: Choice> Seal<'a, T> {
     /// A seal of part `i` of the variant that the tag names. The caller must ensure what `payload`
-    /// of a view requires, and that the seal shows a part of a validated buffer, as it does when it
-    /// is made. No byte changes. Our own.
+    /// of a view requires, and that seals come to what the seal shows, as they do when it is made.
+    /// No byte changes. Our own.
     pub fn payload<U: Portable>(self, i: usize) -> Seal<'a, U>
         requires come_to { IsSealOf T.definitions T.pointee self }
-        requires part { payload_at T.Variants.variants (slice_index self.bytes.now self.pos) i ≡ Some U.shape }
-        requires definitions { KnowsAlso (payload_definitions T.Variants.definitions (seal_tag self) i) U.definitions }
-        ensures { SealsPart T.definitions T.pointee U.definitions U.pointee (self.entry.pos + T.Variants.begin (slice_index self.entry.bytes.now self.entry.pos) i) 0 self.entry result }
+        requires part { payload_at T.Variants.variants (slice_index self.bytes.now self.pos) i
+            ≡ Some U.shape }
+        requires definitions { KnowsAlso (payload_definitions T.Variants.definitions (seal_tag self)
+            i) U.definitions }
+        ensures { SealsPart T.definitions T.pointee U.definitions U.pointee
+            (self.entry.pos + T.Variants.begin (slice_index self.entry.bytes.now self.entry.pos) i)
+            0 self.entry result }
     {
         let spot = Spot::of(self.as_ref().payload::<U>(i));
         let Seal { bytes, .. } = self;

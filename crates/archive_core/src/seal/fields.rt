@@ -9,14 +9,15 @@ use super::{Seal, Spot};
 use archive_types::traits::{Portable, Record};
 
 impl<'a, T: Record> Seal<'a, T> {
-    /// A seal of part `i`. The caller must ensure what `field` of a view requires, and that the
-    /// seal shows a part of a validated buffer, as it does when it is made. No byte changes. Our
-    /// own, where rkyv 0.8.18 has a macro that goes to the type's fields.
+    /// A seal of part `i`. The caller must ensure what `field` of a view requires, and that seals
+    /// come to what the seal shows, as they do when it is made. No byte changes. Our own, where
+    /// rkyv 0.8.18 has a macro that goes to the type's fields.
     pub fn field<U: Portable>(self, i: usize) -> Seal<'a, U>
         requires come_to { IsSealOf T.definitions T.pointee self }
         requires part { part_at T.Parts.parts i ≡ Some U.shape }
         requires definitions { KnowsAlso (definitions_at T.Parts.definitions i) U.definitions }
-        ensures { SealsPart T.definitions T.pointee U.definitions U.pointee (self.entry.pos + T.Parts.begin 0 i) 0 self.entry result }
+        ensures { SealsPart T.definitions T.pointee U.definitions U.pointee
+            (self.entry.pos + T.Parts.begin 0 i) 0 self.entry result }
     {
         let spot = Spot::of(self.as_ref().field::<U>(i));
         let Seal { bytes, .. } = self;

@@ -26,7 +26,8 @@ fn write_over<T: SealedLeaf>(bytes: &mut [u8], spot: Spot<T>, value: T::Written)
     requires come_to { IsComeTo T.definitions bytes.old spot.pos T.pointee spot.len }
     requires can_hold { T.can_hold value }
     ensures edited { bytes.new ≡ edit bytes.old spot.pos (T.Written.bytes_of value) }
-    ensures written { WritesNumber T.kind spot.pos T.pointee spot.len (T.Written.value_of value) bytes.old bytes.new }
+    ensures written { WritesNumber T.kind spot.pos T.pointee spot.len (T.Written.value_of value)
+        bytes.old bytes.new }
 {
     write_value(value, bytes, spot.pos);
     leaf_written();
@@ -40,7 +41,8 @@ impl<'a, T: SealedLeaf> Seal<'a, T> {
     pub fn write(self, value: T::Written)
         requires come_to { IsSealOf T.definitions T.pointee self }
         requires can_hold { T.can_hold value }
-        ensures edited { self.exit.0.now ≡ edit self.entry.bytes.now self.entry.pos (T.Written.bytes_of value) }
+        ensures edited { self.exit.0.now ≡ edit self.entry.bytes.now self.entry.pos
+            (T.Written.bytes_of value) }
         ensures written { WritesNumber T.kind self.entry.pos T.pointee self.entry.len
             (T.Written.value_of value) self.entry.bytes.now self.exit.0.now }
     {
@@ -64,7 +66,8 @@ impl<'a, T: ArchivePointee> Seal<'a, T> {
         ensures same_reference { self.new.bytes.ghost_name ≡ self.old.bytes.ghost_name }
         ensures position { self.new.pos ≡ self.old.pos }
         ensures length { self.new.len ≡ self.old.len }
-        ensures edited { self.new.bytes.now ≡ edit self.old.bytes.now spot.pos (U.Written.bytes_of value) }
+        ensures edited { self.new.bytes.now ≡ edit self.old.bytes.now spot.pos
+            (U.Written.bytes_of value) }
         ensures written { WritesNumber U.kind spot.pos U.pointee spot.len (U.Written.value_of value)
             self.old.bytes.now self.new.bytes.now }
     {

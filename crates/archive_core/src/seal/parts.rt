@@ -20,12 +20,13 @@ use archive_types::traits::{Portable, PortablePointee};
 use archive_types::vec::ArchivedVec;
 
 impl<'a, T: PortablePointee> Seal<'a, ArchivedBox<T>> {
-    /// A seal of what the box holds: a value, a slice or a text. The caller must ensure that the
-    /// seal shows a part of a validated buffer, as it does when it is made. No byte changes. As in
-    /// rkyv 0.8.18.
+    /// A seal of what the box holds: a value, a slice or a text. The caller must ensure that seals
+    /// come to what it shows, as they do when it is made. No byte changes. As in rkyv 0.8.18.
     pub fn get_seal(self) -> Seal<'a, T>
         requires { IsSealOf T.definitions (one (boxed T.pointee)) self }
-        ensures { SealsPart T.definitions (one (boxed T.pointee)) T.definitions T.pointee (target_from self.entry.bytes.now self.entry.pos self.entry.pos) (length_at self.entry.bytes.now self.entry.pos T.pointee) self.entry result }
+        ensures { SealsPart T.definitions (one (boxed T.pointee)) T.definitions T.pointee
+            (target_from self.entry.bytes.now self.entry.pos self.entry.pos)
+            (length_at self.entry.bytes.now self.entry.pos T.pointee) self.entry result }
     {
         let spot = Spot::of(self.as_ref().get());
         let Seal { bytes, .. } = self;
@@ -34,12 +35,14 @@ impl<'a, T: PortablePointee> Seal<'a, ArchivedBox<T>> {
 }
 
 impl<'a> Seal<'a, ArchivedBox<ArchivedStr>> {
-    /// A seal of the text that the box holds. The caller must ensure that the seal shows a part of
-    /// a validated buffer, as it does when it is made. No byte changes. In rkyv 0.8.18 it is the
-    /// box's `get_seal`.
+    /// A seal of the text that the box holds. The caller must ensure that seals come to what it
+    /// shows, as they do when it is made. No byte changes. In rkyv 0.8.18 it is the box's
+    /// `get_seal`.
     pub fn as_str_seal(self) -> Seal<'a, ArchivedStr>
         requires { IsSealOf no_definition (one (boxed text)) self }
-        ensures { SealsPart no_definition (one (boxed text)) no_definition text (target_from self.entry.bytes.now self.entry.pos self.entry.pos) (u32_at self.entry.bytes.now (self.entry.pos + 4)) self.entry result }
+        ensures { SealsPart no_definition (one (boxed text)) no_definition text
+            (target_from self.entry.bytes.now self.entry.pos self.entry.pos)
+            (u32_at self.entry.bytes.now (self.entry.pos + 4)) self.entry result }
     {
         let spot = Spot::of(self.as_ref().get());
         let Seal { bytes, .. } = self;
@@ -48,13 +51,15 @@ impl<'a> Seal<'a, ArchivedBox<ArchivedStr>> {
 }
 
 impl<'a, T: PortablePointee, F: Flavor> Seal<'a, ArchivedRc<T, F>> {
-    /// A seal of what the pointer leads to. The caller must ensure that the seal shows a part of a
-    /// validated buffer, as it does when it is made. No byte changes. In rkyv 0.8.18 it is unsafe
+    /// A seal of what the pointer leads to. The caller must ensure that seals come to what it
+    /// shows, as they do when it is made. No byte changes. In rkyv 0.8.18 it is unsafe
     /// (`get_seal_unchecked`); here the whole buffer is borrowed for writing, so no other pointer
     /// to the value can be used meanwhile.
     pub fn get_seal(self) -> Seal<'a, T>
         requires { IsSealOf T.definitions (one (shared (flavor_of F.Flavor) T.pointee)) self }
-        ensures { SealsPart T.definitions (one (shared (flavor_of F.Flavor) T.pointee)) T.definitions T.pointee (target_from self.entry.bytes.now self.entry.pos self.entry.pos) (length_at self.entry.bytes.now self.entry.pos T.pointee) self.entry result }
+        ensures { SealsPart T.definitions (one (shared (flavor_of F.Flavor) T.pointee))
+            T.definitions T.pointee (target_from self.entry.bytes.now self.entry.pos self.entry.pos)
+            (length_at self.entry.bytes.now self.entry.pos T.pointee) self.entry result }
     {
         let spot = Spot::of(self.as_ref().get());
         let Seal { bytes, .. } = self;
@@ -64,13 +69,16 @@ impl<'a, T: PortablePointee, F: Flavor> Seal<'a, ArchivedRc<T, F>> {
 
 impl<'a, T: PortablePointee, F: Flavor> Seal<'a, ArchivedRcWeak<T, F>> {
     /// A seal of what the pointer leads to; none exactly if it is null, whose offset is 1. The
-    /// caller must ensure that the seal shows a part of a validated buffer, as it does when it is
-    /// made. No byte changes. As in rkyv 0.8.18.
+    /// caller must ensure that seals come to what it shows, as they do when it is made. No byte
+    /// changes. As in rkyv 0.8.18.
     pub fn upgrade_seal(self) -> Option<Seal<'a, T>>
         requires { IsSealOf T.definitions (weak_to F.Flavor T.pointee) self }
-        ensures offset { IfSome result (λ _. i32_at self.entry.bytes.now self.entry.pos ≡ whole 1 → ⊥) }
+        ensures offset { IfSome result (λ _. i32_at self.entry.bytes.now self.entry.pos ≡ whole 1
+            → ⊥) }
         ensures null { IfNone result (i32_at self.entry.bytes.now self.entry.pos ≡ whole 1) }
-        ensures sealed { IfSome result (SealsPart T.definitions (weak_to F.Flavor T.pointee) T.definitions T.pointee (target_from self.entry.bytes.now self.entry.pos self.entry.pos) (length_at self.entry.bytes.now self.entry.pos T.pointee) self.entry) }
+        ensures sealed { IfSome result (SealsPart T.definitions (weak_to F.Flavor T.pointee)
+            T.definitions T.pointee (target_from self.entry.bytes.now self.entry.pos self.entry.pos)
+            (length_at self.entry.bytes.now self.entry.pos T.pointee) self.entry) }
     {
         let spot = match self.as_ref().upgrade() {
             None => return None,
@@ -82,11 +90,13 @@ impl<'a, T: PortablePointee, F: Flavor> Seal<'a, ArchivedRcWeak<T, F>> {
 }
 
 impl<'a, T: Portable> Seal<'a, ArchivedVec<T>> {
-    /// A seal of the elements. The caller must ensure that the seal shows a part of a validated
-    /// buffer, as it does when it is made. No byte changes. As in rkyv 0.8.18.
+    /// A seal of the elements. The caller must ensure that seals come to what it shows, as they do
+    /// when it is made. No byte changes. As in rkyv 0.8.18.
     pub fn as_slice_seal(self) -> Seal<'a, ArchivedSlice<T>>
         requires { IsSealOf T.definitions (one (vec_shape T.shape)) self }
-        ensures { SealsPart T.definitions (one (vec_shape T.shape)) T.definitions (run T.shape) (target_from self.entry.bytes.now self.entry.pos self.entry.pos) (u32_at self.entry.bytes.now (self.entry.pos + 4)) self.entry result }
+        ensures { SealsPart T.definitions (one (vec_shape T.shape)) T.definitions (run T.shape)
+            (target_from self.entry.bytes.now self.entry.pos self.entry.pos)
+            (u32_at self.entry.bytes.now (self.entry.pos + 4)) self.entry result }
     {
         let spot = Spot::of(self.as_ref().as_slice());
         let Seal { bytes, .. } = self;
@@ -96,13 +106,15 @@ impl<'a, T: Portable> Seal<'a, ArchivedVec<T>> {
 
 impl<'a, T: Portable> Seal<'a, ArchivedVec<T>> {
     /// A seal of the element `index`, of which 0 is the first. The caller must ensure that there is
-    /// one, and that the seal shows a part of a validated buffer, as it does when it is made. No
-    /// byte changes. In rkyv 0.8.18 it is `index` of the vector's slice, which panics where there
-    /// is none.
+    /// one, and that seals come to what the seal shows, as they do when it is made. No byte
+    /// changes. In rkyv 0.8.18 it is `index` of the vector's slice, which panics where there is
+    /// none.
     pub fn index(self, index: usize) -> Seal<'a, T>
         requires come_to { IsSealOf T.definitions (one (vec_shape T.shape)) self }
         requires below { index < u32_at self.bytes.now (self.pos + 4) }
-        ensures { SealsPart T.definitions (one (vec_shape T.shape)) T.definitions T.pointee (target_from self.entry.bytes.now self.entry.pos self.entry.pos + index * T.layout.size) 0 self.entry result }
+        ensures { SealsPart T.definitions (one (vec_shape T.shape)) T.definitions T.pointee
+            (target_from self.entry.bytes.now self.entry.pos self.entry.pos + index * T.layout.size)
+            0 self.entry result }
     {
         let spot = Spot::of(self.as_ref().as_slice().index(index));
         let Seal { bytes, .. } = self;
@@ -119,12 +131,13 @@ impl<'a, T: Portable> Seal<'a, ArchivedSlice<T>> {
     }
 
     /// A seal of the element `index`, of which 0 is the first. The caller must ensure that there is
-    /// one, and that the seal shows a part of a validated buffer, as it does when it is made. No
-    /// byte changes. As in rkyv 0.8.18, which panics where there is none.
+    /// one, and that seals come to what the seal shows, as they do when it is made. No byte
+    /// changes. As in rkyv 0.8.18, which panics where there is none.
     pub fn index(self, index: usize) -> Seal<'a, T>
         requires come_to { IsSealOf T.definitions (run T.shape) self }
         requires below { index < self.len }
-        ensures { SealsPart T.definitions (run T.shape) T.definitions T.pointee (self.entry.pos + index * T.layout.size) 0 self.entry result }
+        ensures { SealsPart T.definitions (run T.shape) T.definitions T.pointee
+            (self.entry.pos + index * T.layout.size) 0 self.entry result }
     {
         let spot = Spot::of(self.as_ref().index(index));
         let Seal { bytes, .. } = self;
@@ -134,12 +147,13 @@ impl<'a, T: Portable> Seal<'a, ArchivedSlice<T>> {
 
 impl<'a, T: Portable, const N: usize> Seal<'a, [T; N]> {
     /// A seal of the element `index`, of which 0 is the first. The caller must ensure that there is
-    /// one, and that the seal shows a part of a validated buffer, as it does when it is made. No
-    /// byte changes. As in rkyv 0.8.18, which panics where there is none.
+    /// one, and that seals come to what the seal shows, as they do when it is made. No byte
+    /// changes. As in rkyv 0.8.18, which panics where there is none.
     pub fn index(self, index: usize) -> Seal<'a, T>
         requires come_to { IsSealOf T.definitions (one (array N T.shape)) self }
         requires below { index < N }
-        ensures { SealsPart T.definitions (one (array N T.shape)) T.definitions T.pointee (self.entry.pos + index * T.layout.size) 0 self.entry result }
+        ensures { SealsPart T.definitions (one (array N T.shape)) T.definitions T.pointee
+            (self.entry.pos + index * T.layout.size) 0 self.entry result }
     {
         let element = Spot::of(self.as_ref().index(index));
         let Seal { bytes, .. } = self;
@@ -148,9 +162,9 @@ impl<'a, T: Portable, const N: usize> Seal<'a, [T; N]> {
 }
 
 impl<'a, T: Portable> Seal<'a, ArchivedOption<T>> {
-    /// A seal of the value, if there is one. The caller must ensure that the seal shows a part of a
-    /// validated buffer, as it does when it is made. No byte changes, and what is behind a `None`
-    /// isn't looked at. As in rkyv 0.8.18.
+    /// A seal of the value, if there is one. The caller must ensure that seals come to what it
+    /// shows, as they do when it is made. No byte changes, and what is behind a `None` isn't looked
+    /// at. As in rkyv 0.8.18.
     pub fn as_seal(self) -> Option<Seal<'a, T>>
         requires { IsSealOfOption T.Portable self }
         ensures { SealsValue T.Portable self.entry result }
@@ -164,8 +178,8 @@ impl<'a, T: Portable> Seal<'a, ArchivedOption<T>> {
     }
 
     /// An iterator over the seal of the value: it comes once, from either end, and then none. The
-    /// caller must ensure that the seal shows a part of a validated buffer, as it does when it is
-    /// made. No byte changes. As in rkyv 0.8.18.
+    /// caller must ensure that seals come to what it shows, as they do when it is made. No byte
+    /// changes. As in rkyv 0.8.18.
     pub fn iter_seal(self) -> Iter<Seal<'a, T>>
         requires { IsSealOfOption T.Portable self }
         ensures { SealsValue T.Portable self.entry result }

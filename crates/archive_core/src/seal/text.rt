@@ -45,7 +45,8 @@ fn text_spot(string: Ref<'_, ArchivedString>) -> Spot<ArchivedStr>
     ensures position { result.pos ≡ text_begin string.entry.bytes.now string.entry.pos }
     ensures text { IsTextAt string.entry result.pos result.len }
     ensures viewed { Viewed no_definition string.entry.bytes.now result.pos text result.len }
-    ensures beside { ComesWith no_definition string.entry.bytes.now (view string.entry.pos (one str_shape) string.entry.len) (view result.pos text result.len) }
+    ensures beside { ComesWith no_definition string.entry.bytes.now
+        (view string.entry.pos (one str_shape) string.entry.len) (view result.pos text result.len) }
 {
     let RawView { bytes, pos, .. } = string.part();
     if is_out_of_line(bytes, pos) {
@@ -70,15 +71,16 @@ fn write_string_over(value: &str, bytes: &mut [u8], string: Spot<ArchivedString>
 }
 
 impl<'a> Seal<'a, ArchivedStr> {
-    /// Writes a text over the one that it shows. The caller must ensure that the seal shows a part
-    /// of a validated buffer, as it does when it is made, and that both texts have the same number
-    /// of bytes. Every other byte stays, and in every archive that has the text, it alone changes.
-    /// Our own: in rkyv 0.8.18 unsafe code alone writes a sealed `str`.
+    /// Writes a text over the one that it shows. The caller must ensure that seals come to what it
+    /// shows, as they do when it is made, and that both texts have the same number of bytes. Every
+    /// other byte stays, and in every archive that has the text, it alone changes. Our own: in rkyv
+    /// 0.8.18 unsafe code alone writes a sealed `str`.
     pub fn write_str(self, value: &str)
         requires come_to { IsSealOf no_definition text self }
         requires same_length { length value.now ≡ self.len }
         ensures edited { self.exit.0.now ≡ edit self.entry.bytes.now self.entry.pos value.now }
-        ensures written { WritesText self.entry.pos self.entry.len value.now self.entry.bytes.now self.exit.0.now }
+        ensures written { WritesText self.entry.pos self.entry.len value.now self.entry.bytes.now
+            self.exit.0.now }
     {
         let Seal {
             bytes,
@@ -91,26 +93,30 @@ impl<'a> Seal<'a, ArchivedStr> {
 }
 
 impl<'a> Seal<'a, ArchivedString> {
-    /// A seal of its text, wherever it lies. The caller must ensure that the seal shows a part of a
-    /// validated buffer, as it does when it is made. No byte changes. As in rkyv 0.8.18.
+    /// A seal of its text, wherever it lies. The caller must ensure that seals come to what it
+    /// shows, as they do when it is made. No byte changes. As in rkyv 0.8.18.
     pub fn as_str_seal(self) -> Seal<'a, ArchivedStr>
         requires { IsSealOf no_definition (one str_shape) self }
-        ensures { SealsPart no_definition (one str_shape) no_definition text (text_begin self.entry.bytes.now self.entry.pos) (length (string_text self.entry.bytes.now self.entry.pos)) self.entry result }
+        ensures { SealsPart no_definition (one str_shape) no_definition text
+            (text_begin self.entry.bytes.now self.entry.pos)
+            (length (string_text self.entry.bytes.now self.entry.pos)) self.entry result }
     {
         let spot = text_spot(self.as_ref());
         let Seal { bytes, .. } = self;
         spot.seal(bytes)
     }
 
-    /// Writes a text over that of the string, wherever it lies. The caller must ensure that the
-    /// seal shows a part of a validated buffer, as it does when it is made, and that both texts
-    /// have the same number of bytes. Every other byte stays, and in every archive that has the
-    /// text, it alone changes. Our own.
+    /// Writes a text over that of the string, wherever it lies. The caller must ensure that seals
+    /// come to what it shows, as they do when it is made, and that both texts have the same number
+    /// of bytes. Every other byte stays, and in every archive that has the text, it alone changes.
+    /// Our own.
     pub fn write_str(self, value: &str)
         requires come_to { IsSealOf no_definition (one str_shape) self }
         requires same_length { length value.now ≡ length (string_text self.bytes.now self.pos) }
-        ensures edited { self.exit.0.now ≡ string_edit self.entry.bytes.now self.entry.pos value.now }
-        ensures written { WritesString self.entry.pos self.entry.len value.now self.entry.bytes.now self.exit.0.now }
+        ensures edited { self.exit.0.now ≡ string_edit self.entry.bytes.now self.entry.pos
+            value.now }
+        ensures written { WritesString self.entry.pos self.entry.len value.now self.entry.bytes.now
+            self.exit.0.now }
     {
         let Seal {
             bytes,
@@ -124,9 +130,9 @@ impl<'a> Seal<'a, ArchivedString> {
 
 impl<'a, T: ArchivePointee> Seal<'a, T> {
     /// Writes a text over a boxed or shared one elsewhere in the same buffer. The caller must
-    /// ensure that the spot is of a text that was checked, and that both texts have the same number
-    /// of bytes. Every other byte stays, in every archive that has the text, it alone changes, and
-    /// the seal shows what it showed. Our own.
+    /// ensure that seals come to the text at the spot, and that both texts have the same number of
+    /// bytes. Every other byte stays, in every archive that has the text, it alone changes, and the
+    /// seal shows what it showed. Our own.
     pub fn write_str_at(&mut self, spot: Spot<ArchivedStr>, value: &str)
         requires come_to { IsComeTo no_definition self.old.bytes.now spot.pos text spot.len }
         requires same_length { length value.now ≡ spot.len }
@@ -134,21 +140,25 @@ impl<'a, T: ArchivePointee> Seal<'a, T> {
         ensures position { self.new.pos ≡ self.old.pos }
         ensures length { self.new.len ≡ self.old.len }
         ensures edited { self.new.bytes.now ≡ edit self.old.bytes.now spot.pos value.now }
-        ensures written { WritesText spot.pos spot.len value.now self.old.bytes.now self.new.bytes.now }
+        ensures written { WritesText spot.pos spot.len value.now self.old.bytes.now
+            self.new.bytes.now }
     {
         write_text_over(value, self.bytes, spot);
     }
 
-    /// Writes a text over that of a string elsewhere in the same buffer, as `write_str_at` does. The caller must ensure that the spot is of a string
-    /// that was checked, and that both texts have the same number of bytes. Our own.
+    /// Writes a text over that of a string elsewhere in the same buffer, as `write_str_at` does.
+    /// The caller must ensure that seals come to the string at the spot, and that both texts have
+    /// the same number of bytes. Our own.
     pub fn write_string_at(&mut self, spot: Spot<ArchivedString>, value: &str)
-        requires come_to { IsComeTo no_definition self.old.bytes.now spot.pos (one str_shape) spot.len }
+        requires come_to { IsComeTo no_definition self.old.bytes.now spot.pos (one str_shape)
+            spot.len }
         requires same_length { length value.now ≡ length (string_text self.old.bytes.now spot.pos) }
         ensures same_reference { self.new.bytes.ghost_name ≡ self.old.bytes.ghost_name }
         ensures position { self.new.pos ≡ self.old.pos }
         ensures length { self.new.len ≡ self.old.len }
         ensures edited { self.new.bytes.now ≡ string_edit self.old.bytes.now spot.pos value.now }
-        ensures written { WritesString spot.pos spot.len value.now self.old.bytes.now self.new.bytes.now }
+        ensures written { WritesString spot.pos spot.len value.now self.old.bytes.now
+            self.new.bytes.now }
     {
         write_string_over(value, self.bytes, spot);
     }
