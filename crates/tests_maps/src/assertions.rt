@@ -1,7 +1,10 @@
 // Assertions that are proved once. A call of one takes the check a fifth of a second, and `assert_eq!` written out in a test's body seconds. Calls of `api` at
 // a type stand in here, too, since they are as dear.
 
-use archive_core::api::{HighSerializer, access, from_bytes, to_bytes};
+ghost use Rattle.archive_core.specs.SealsWritten.{IsSealOf};
+
+use archive_core::api::{HighSerializer, access, access_mut, from_bytes, to_bytes};
+use archive_core::seal::Seal;
 use archive_core::traits::{Archive, Deserialize, Portable, Serialize};
 use archive_core::view::Ref;
 use std::alloc::Global;
@@ -57,4 +60,13 @@ where
 {
     let back: T = from_bytes(alloc, archive, &mut ()).expect(rt, "a value is read back");
     assert_same(rt, what, &back, value);
+}
+
+// The seal of the `T` that lies at the end of the bytes.
+pub(crate) fn sealed<'a, T: Portable>(
+    rt: &impl Abort,
+    alloc: Global,
+    bytes: &'a mut [u8],
+) -> Seal<'a, T> {
+    access_mut::<T>(alloc, bytes).expect(rt, "an archive")
 }

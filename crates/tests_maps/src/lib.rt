@@ -10,6 +10,8 @@ mod comparisons;
 #[cfg(test)]
 mod reading;
 #[cfg(test)]
+mod seals;
+#[cfg(test)]
 mod views;
 #[cfg(test)]
 mod written;
