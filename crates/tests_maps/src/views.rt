@@ -102,7 +102,7 @@ fn half_of(key: u32, count: u32) -> Option<u32> {
 
 // Each key of such a map is found, and no other, with no more comparisons than the number of entries has binary digits.
 fn assert_halved(rt: &impl Abort, map: Ref<'_, Numbers>, count: u32) {
-    let most = (u32::BITS - count.leading_zeros()) as usize;
+    let most = u32::BITS.saturating_sub(count.leading_zeros()) as usize;
     for key in 0..count.saturating_mul(2).saturating_add(2) {
         let (value, compared) = map.get_counted(&key);
         let found = (count, key, number_of(value));
