@@ -8,6 +8,7 @@ pub mod Compiled
 pub mod CompiledChain
 pub mod CompiledParts
 pub mod CompiledPointers
+pub mod EmptyNodes
 pub mod EntryLayouts
 pub mod ExtentsOf
 pub mod FreeWalks

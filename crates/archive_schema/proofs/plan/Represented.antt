@@ -1,7 +1,6 @@
 -- A run over a plan goes as a walk of the shapes that its nodes stand for, or comes to the same fault.
-use Rattle.std.proofs.Common.{◌≡◌, ◌≢◌, ◌⊎◌, inl, inr, ℕ, ℤ, pos, ◌+ℤ◌, refl, sym, ap, ap₂, ◌∙◌, ◌+◌, ◌-◌, ◌*◌, ◌%◌, ◌<◌, ◌≤◌, ◌^◌, max, arith, List, ◌∷◌, length, length-take-le, drop, slice_index, Option, Some, None, cond, is_some, suc, zero, false, Bor, IsUtf8, IsTrue, Contains}
+use Rattle.std.proofs.Common.{◌≡◌, ◌≢◌, ◌⊎◌, inl, inr, ℕ, ℤ, pos, ◌+ℤ◌, refl, sym, ap, ◌∙◌, ◌+◌, ◌-◌, ◌*◌, ◌%◌, ◌<◌, ◌≤◌, ◌^◌, arith, List, ◌∷◌, length, slice_index, Option, Some, None, cond, is_some, suc, zero, false, Bor, IsTrue, Contains}
 use Rattle.std.specs.FinMap.{get, insert}
-use Rattle.std.proofs.lemmas.Str.{IsUtf8-nil}
 use Rattle.archive_check.specs.declared.format.expr.Kind.{Kind as KindExpr}
 use Rattle.archive_check.specs.declared.format.expr.Key.{Key as KeyExpr}
 use Rattle.archive_schema.specs.declared.plan.Node.{Node}
@@ -12,74 +11,34 @@ use Rattle.archive_schema.specs.declared.plan.NodeKind.TheVariants.{Free, Leaf, 
 use Rattle.archive_schema.specs.declared.plan.Span.{Span}
 use Rattle.archive_check.specs.declared.context.positions.SharedType.{SharedType}
 use Rattle.archive_schema.specs.declared.check.Checker.{Checker}
-use Rattle.archive_check.specs.Shape.{Kind, unit, bool, char, number, non_zero, raw_rel, Key, leaf_key, str_key, key_shape, entry_of, str, Flavor, Shape, Pointee, one, run, text, Parts, part, variant_at}
-use Rattle.archive_check.specs.Layout.{kind_size, key_size, key_align, Layouts, up, size_of, align_of}
+use Rattle.archive_check.specs.Shape.{Key, key_shape, entry_of, str, Flavor, Shape, Pointee, one, run, text, Parts, part, variant_at}
+use Rattle.archive_check.specs.Layout.{kind_size, key_size, up, size_of, align_of}
 use Rattle.archive_check.specs.Keys.{ComesBehind, Ascend}
 use Rattle.archive_check.specs.Value.{Pointer}
-use Rattle.archive_check.specs.Reads.{Schema, bytes_at, u32_at, i32_at, IsLegal, IsLegalNumber, kind_number, kind_value, IsOutOfLine, decoded_length, length_at, string_at}
+use Rattle.archive_check.specs.Reads.{Schema, bytes_at, u32_at, i32_at, IsLegal, kind_number, IsOutOfLine, decoded_length, length_at, string_at}
 use Rattle.archive_check.specs.Depth.{Allows, inside}
 use Rattle.archive_check.specs.Tour.{Seen, Entry, pointee_size, pointee_align}
 use Rattle.archive_check.specs.Trail.{Fault, too_large, outside, unaligned, too_deep, cyclic, other_type, other_length, illegal, no_such_variant, unsorted, Trips, trips_leaf, trips_parts, trips_tag, trips_choice, trips_array, trips_boxed, trips_vec, trips_map, trips_inline, trips_short, trips_out_of_line, trips_shared, trips_weak, trips_named, TripsParts, trips_first, trips_later, TripsRun, trips_element, trips_later_element, TripsEntries, trips_key, trips_order, trips_value, trips_later_entry, TripsFollow, trips_unique, trips_before, trips_new, trips_type, trips_length, trips_cycle, TripsEnter, trips_size, trips_range, trips_align, trips_depth, trips_within, TripsContents, trips_one, trips_run, trips_entries, trips_text}
 use Rattle.archive_check.specs.Walk.{Walk, walk_leaf, walk_parts, walk_choice, walk_array, walk_boxed, walk_vec, walk_map, walk_inline, walk_out_of_line, walk_shared, walk_null, walk_weak, walk_named, WalkParts, walk_no_part, walk_part, WalkRun, walk_none, walk_element, Follow, follow_unique, follow_new, follow_again, Enter, enter, WalkContents, walk_one, walk_run, walk_entries, walk_text}
 use Rattle.archive_check.specs.Expressions.{kind_of, key_of, flavor_of, pointee_of}
 use Rattle.archive_check.specs.context.PositionStates.{SameType}
-use Rattle.archive_schema.specs.check.Runs.{pointer_bytes, pointee_count, pointee_length, entry_for, IsNode, Takes, EntryTakes, unit_size, unit_align, RegionIs, NodeRuns, run_free, run_leaf, run_illegal, run_record, run_choice, run_tag, run_array, run_pointer, run_str, run_shared, run_null, run_weak, FollowRuns, follow_before, follow_new as runs_new, follow_again as runs_again, follow_type, follow_length, follow_cycle, PartsRun, parts_end, parts_next, parts_stop, ElementsRun, elements_end, elements_next, elements_free, elements_stop, StringRuns, string_inline, string_no_text, string_short, string_out_of_line, KeyRuns, key_leaf, key_illegal, key_string, OrderRuns, order_key, order_wrong, order_kept, EntriesRun, entries_end, entries_key, entries_value, entries_next, EnterRuns, enter_too_large, enter_outside, enter_unaligned, enter_too_deep, enter_within, enter_stop, ContentsRun, contents_empty, contents_one, contents_run, contents_entries, contents_lone, contents_equal, contents_text, contents_no_text}
+use Rattle.archive_schema.specs.check.Runs.{pointee_count, pointee_length, entry_for, IsNode, Takes, EntryTakes, unit_size, unit_align, RegionIs, NodeRuns, run_free, run_leaf, run_illegal, run_record, run_choice, run_tag, run_array, run_pointer, run_str, run_shared, run_null, run_weak, FollowRuns, follow_before, follow_new as runs_new, follow_again as runs_again, follow_type, follow_length, follow_cycle, PartsRun, parts_end, parts_next, parts_stop, ElementsRun, elements_end, elements_next, elements_free, elements_stop, StringRuns, string_inline, string_no_text, string_short, string_out_of_line, KeyRuns, key_leaf, key_illegal, key_string, OrderRuns, order_key, order_wrong, order_kept, EntriesRun, entries_end, entries_key, entries_value, entries_next, EnterRuns, enter_too_large, enter_outside, enter_unaligned, enter_too_deep, enter_within, enter_stop, ContentsRun, contents_empty, contents_one, contents_run, contents_entries, contents_lone, contents_equal, contents_text, contents_no_text}
 use Rattle.archive_check.specs.Words.Elements.{IsAt}
 use Rattle.archive_check.specs.Outcomes.{Outcome, done, refused}
-use Rattle.archive_schema.specs.plan.SoundPlans.{NodeKindFits, IsSound}
+use Rattle.archive_schema.specs.plan.SoundPlans.{IsSound}
 use Rattle.archive_schema.specs.plan.Represents.{StandsFor, stands, stands_named, PartsStand, parts_over, parts_more, Sized, Points, points_one, points_run, points_entries, points_text, Made, made_free, made_leaf, made_record, made_choice, made_array, made_boxed, made_vec, made_map, made_str, made_shared, made_weak, Represents, OutcomeSays}
 use Rattle.archive_check.proofs.Tours.ReadingUnique.{pos_one}
-use Rattle.archive_schema.proofs.plan.EntryLayouts.{key_takes, entry_layout, value_sized, walk_entry}
-use Rattle.archive_check.specs.Words.BoundedSizes.{fits, rounded}
-use Rattle.archive_schema.specs.plan.BoundedSizes.{sum_of}
-use Rattle.archive_check.proofs.BoundedSizes.{some_is, rounded_fits}
-use Rattle.archive_schema.proofs.plan.BoundedSizes.{sum_fits}
+use Rattle.archive_schema.proofs.plan.EmptyNodes.{Nothing, empty_number, empty_length, empty_kind, empty_text, empty_key, empty_order}
+use Rattle.archive_schema.proofs.plan.EntryLayouts.{key_takes, value_sized, walk_entry, entry_fits, empty_parts}
+use Rattle.archive_check.specs.Words.BoundedSizes.{fits}
+use Rattle.archive_check.proofs.BoundedSizes.{some_is}
 use Rattle.archive_schema.proofs.plan.PlanSizes.{take_same, times_some, times_many, sized_takes, element_few}
 use Rattle.archive_check.proofs.Elements.{same_at}
-use Rattle.archive_check.proofs.LittleEndian.{some_byte}
-use Rattle.archive_check.proofs.Tours.PartsInside.{up_le}
 use Rattle.std.proofs.Math.Nat.{eq_of_mul-eq-mul_left, mul-zero}
 
 pub says_map : {W V : ℕ → Seen → Type 0} {T F : Fault → Type 0} (o : Outcome) → ((a : ℕ) (k : Seen) → W a k → V a k) → ((e : Fault) → T e → F e) → OutcomeSays W T o → OutcomeSays V F o
 says_map (done a k) f g h = f a k h
 says_map (refused e) f g h = g e h
-
-empty_number : (kind : Kind) (n : ℕ) → kind_size kind ≡ 0 → IsLegalNumber kind n
-empty_number unit n e = tt
-empty_number bool n e = absurd (omega arith)
-empty_number char n e = absurd (omega arith)
-empty_number (number sign width) n e = tt
-empty_number (non_zero sign width) n e = absurd (omega (arith, e, some_byte width))
-empty_number (raw_rel sign width) n e = tt
-
-empty_length : (bytes : List ℕ) (p n : ℕ) → n ≡ 0 → length (bytes_at bytes p n) ≡ n
-unfolding bytes_at
-empty_length bytes p n e = length-take-le n (drop p bytes) (omega (arith, e))
-
--- what takes nothing and isn't free is such a leaf
-abbrev pub Nothing : NodeKind → Type 0
-Nothing kind = (kind ≡ Free) ⊎ ((leaf_kind : KindExpr) × (kind ≡ Leaf leaf_kind) × (kind_size (kind_of leaf_kind) ≡ 0))
-
-empty_target : (target : PointeeKind) → pointer_bytes target ≤ 0 → ⊥
-empty_target One h = omega arith
-empty_target Run h = omega arith
-empty_target Text h = omega arith
-empty_target (EntriesOf key) h = omega arith
-
-empty_kind : (m : Checker) (i : ℕ) (kind : NodeKind) → NodeKindFits m i 0 kind → Nothing kind
-empty_kind m i Free h = inl refl
-empty_kind m i (Leaf kind) h = inr (kind, refl, omega (arith, h))
-empty_kind m i (Record a b) h = absurd (omega (arith, h.0))
-empty_kind m i (Choice name a b) h = absurd (omega (arith, h.tag))
-empty_kind m i (Array n j) h = absurd (omega (arith, h.0))
-empty_kind m i (PointerNode target j) h = absurd (empty_target target h.0)
-empty_kind m i (Str j) h = absurd (omega (arith, h.0))
-empty_kind m i (Shared k target j) h = absurd (empty_target target h.0)
-empty_kind m i (Weak k target j) h = absurd (empty_target target h.0)
-
-empty_text : (bytes : List ℕ) (t n : ℕ) → n ≡ 0 → IsUtf8 (bytes_at bytes t n)
-unfolding bytes_at
-empty_text bytes t n e = rw e IsUtf8-nil
 
 -- a pointer to one value leads to one, and says no length
 abbrev pub Counts : PointeeKind → ℕ → ℕ → Type 0
@@ -100,29 +59,6 @@ leading sharing order where_to P l = record { target = where_to; sharing = shari
 -- a shared pointer, as its shared_type says
 abbrev pub sorted : SharedType → ℤ → ℕ → Pointer
 sorted shared_type where_to l = leading (Some (flavor_of shared_type.flavor)) None where_to (pointee_of shared_type.pointee) l
-
--- what an entry takes, by what its value's node does
-entry_fits : (names : Layouts) (key : KeyExpr) (V : Shape) (node : Node) → node.size ≡ fits (size_of names V) → node.align ≡ align_of names V
-    → (unit_size (EntriesOf key) node ≡ fits (size_of names (entry_of (key_of key) V))) × (unit_align (EntriesOf key) node ≡ align_of names (entry_of (key_of key) V))
-entry_fits names key V node size align =
-    let K = key_of key in
-    let positive : 0 < align_of names V = rw (← align) node.positive in
-    let laid = entry_layout names K V positive in
-    let high = ap (λ a. max (key_align K) a) align in (
-      ap₂ (λ o a. rounded o a) (ap₂ sum_of (ap (λ a. fits (up (key_size K) a)) align) size ∙ sum_fits (up (key_size K) (align_of names V)) (size_of names V)) high
-          ∙ rounded_fits (up (key_size K) (align_of names V) + size_of names V) (max (key_align K) (align_of names V)) (omega (arith, positive))
-          ∙ ap fits (sym laid.0),
-      high ∙ sym laid.1,
-    )
-
--- an entry that takes nothing has a key and a value that take nothing, and the value begins where the key does
-empty_parts : (names : Layouts) (K : Key) (V : Shape) → 0 < align_of names V → size_of names (entry_of K V) ≡ 0 → (key_size K ≡ 0) × (size_of names V ≡ 0) × (up (size_of names (key_shape K)) (align_of names V) ≡ 0)
-empty_parts names K V lt e =
-    let whole = sym (entry_layout names K V lt).0 ∙ e in
-    let begin = up_le (key_size K) (align_of names V) lt in
-    let end = up_le (up (key_size K) (align_of names V) + size_of names V) (max (key_align K) (align_of names V)) (omega (arith, lt)) in
-    let there = ap (λ n. up n (align_of names V)) (key_takes names K) in
-    (omega (arith, whole, begin, end), omega (arith, whole, begin, end), omega (arith, whole, there, end))
 
 module _ (s : Schema) (shapes : ℕ → Shape) (m : Checker) where
   pub stands_walk : {X : Shape} {j : ℕ} {pending : List ℕ} {depth : Option ℕ} {stop p start later : ℕ} {seen last : Seen} → StandsFor s shapes X j → Walk s m.bytes.now pending depth stop p (shapes j) start seen later last → Walk s m.bytes.now pending depth stop p X start seen later last
@@ -380,21 +316,6 @@ module _ (s : Schema) (shapes : ℕ → Shape) (m : Checker) where
   empty_node {p = p} kind (inr (leaf_kind, is, none)) made room =
       leaf_case (rw is at made) (record { size = empty_length m.bytes.now p (kind_size (kind_of leaf_kind)) none; number = empty_number (kind_of leaf_kind) (kind_number (kind_of leaf_kind) (bytes_at m.bytes.now p (kind_size (kind_of leaf_kind)))) none })
 
-  -- a key that takes nothing is a unit, and comes behind no other
-  empty_key : {pending : List ℕ} {depth : Option ℕ} {stop p start : ℕ} {seen : Seen} (K : Key) → key_size K ≡ 0 → Walk s m.bytes.now pending depth stop p (key_shape K) start seen start seen
-  empty_key {p = p} (leaf_key kind) none = walk_leaf (record { size = empty_length m.bytes.now p (kind_size kind) none; number = empty_number kind (kind_number kind (bytes_at m.bytes.now p (kind_size kind))) none })
-  empty_key str_key none = absurd (omega arith)
-
-  empty_order : (p q : ℕ) (K : Key) → key_size K ≡ 0 → ComesBehind K m.bytes.now (Some p) q → ⊥
-  unfolding kind_value
-  empty_order p q (leaf_key unit) none less = cc
-  empty_order p q (leaf_key bool) none less = omega arith
-  empty_order p q (leaf_key char) none less = omega arith
-  empty_order p q (leaf_key (number sign width)) none less = omega (arith, none, some_byte width)
-  empty_order p q (leaf_key (non_zero sign width)) none less = omega (arith, none, some_byte width)
-  empty_order p q (leaf_key (raw_rel sign width)) none less = omega (arith, none, some_byte width)
-  empty_order p q str_key none less = omega arith
-
   module _ (r : Represents s shapes m) (sound : IsSound m) where
     empty_walk : {X : Shape} {j align : ℕ} {pending : List ℕ} {depth : Option ℕ} {stop p start : ℕ} {seen : Seen} → StandsFor s shapes X j → Sized m j (size_of s.layouts X) align → size_of s.layouts X ≡ 0 → p ≤ length m.bytes.now → Walk s m.bytes.now pending depth stop p X start seen start seen
     empty_walk {j = j} st k e room =
@@ -420,7 +341,7 @@ module _ (s : Schema) (shapes : ℕ → Shape) (m : Checker) where
     -- entries without a byte: a key and a value that are there, and a second key that isn't behind the first
     empty_entry : {V : Shape} {j align : ℕ} {pending : List ℕ} {depth : Option ℕ} {stop p start : ℕ} {seen : Seen} (K : Key) → (key_size K ≡ 0) × (size_of s.layouts V ≡ 0) × (up (size_of s.layouts (key_shape K)) (align_of s.layouts V) ≡ 0) → StandsFor s shapes V j → Sized m j (size_of s.layouts V) align → p ≤ length m.bytes.now
         → Walk s m.bytes.now pending depth stop p (entry_of K V) start seen start seen
-    empty_entry {V = V} K none st k room = walk_entry s m.bytes.now K V (empty_key K none.0) (rw none.2 (empty_walk st k none.1 (omega (arith, room))))
+    empty_entry {V = V} K none st k room = walk_entry s m.bytes.now K V (empty_key s m.bytes.now K none.0) (rw none.2 (empty_walk st k none.1 (omega (arith, room))))
 
     lone_case : {V : Shape} {j : ℕ} {pending : List ℕ} {depth : Option ℕ} {t start : ℕ} {seen : Seen} (K : Key) (l : ℕ) → l ≤ 1 → l * size_of s.layouts (entry_of K V) ≡ 0 → StandsFor s shapes V j → Sized m j (size_of s.layouts V) (align_of s.layouts V) → t ≤ length m.bytes.now
         → WalkContents s m.bytes.now pending depth t t (Some K) (run (entry_of K V)) l start seen start seen
@@ -438,7 +359,7 @@ module _ (s : Schema) (shapes : ℕ → Shape) (m : Checker) where
         let lt : 0 < align_of s.layouts V = rw (← k.align_is) k.node.positive in
         let whole : size_of s.layouts (entry_of K V) ≡ 0 = eq_of_mul-eq-mul_left (suc (suc l)) (omega arith) (size_of s.layouts (entry_of K V)) 0 (e ∙ sym (mul-zero (suc (suc l)))) in
         let none = empty_parts s.layouts K V lt whole in
-        trips_entries (trips_later_entry (empty_entry K none st k room) tt (trips_order (empty_key K none.0) (empty_order _ _ K none.0)))
+        trips_entries (trips_later_entry (empty_entry K none st k room) tt (trips_order (empty_key s m.bytes.now K none.0) (empty_order m.bytes.now _ _ K none.0)))
 
     mutual
       pub node_says : {pending : List ℕ} {depth : Option ℕ} {stop i p start z : ℕ} {seen : Seen} {o : Outcome} → NodeRuns m pending depth stop i p start seen o → Takes m i z → stop ≤ length m.bytes.now → NodeSays pending depth stop i p start seen o

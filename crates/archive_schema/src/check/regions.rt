@@ -52,8 +52,10 @@ impl Checker<'_> {
         context: &mut C,
     ) -> Option<Region>
         requires known { pointee < length self.now.nodes.now }
-        ensures enters { EntersRegion C.Context self.now target pointee count position context work result }
-        ensures pushes { OnSome result ((C.state context.new).pushes ≤ (C.state context.old).pushes + 1) }
+        ensures enters { EntersRegion C.Context self.now target pointee count position context work
+            result }
+        ensures pushes { OnSome result ((C.state context.new).pushes ≤ (C.state context.old).pushes
+            + 1) }
         ensures unchanged { IfNone result (C.state context.new ≡ C.state context.old) }
         ensures list { list_of work.new ≡ list_of work.old }
     {
@@ -76,11 +78,13 @@ impl Checker<'_> {
         context: &mut C,
     ) -> Option<bool>
         requires plan { IsCheckable self.now }
-        requires region { (align : ℕ) × RegionIs self.now (Entries key) value count (Some size) align }
+        requires region { (align : ℕ) × RegionIs self.now (Entries key) value count (Some size)
+            align }
         requires value { PointeeFits self.now (Entries key) value count }
         requires within { begin + size ≤ length self.now.bytes.now }
         requires ends { (C.state context.old).end ≡ begin }
-        ensures passes { PassesHeld C.Context self.now (Entries key) value count begin size context work result }
+        ensures passes { PassesHeld C.Context self.now (Entries key) value count begin size context
+            work result }
         ensures pays { Pays C.Context self.now size context work }
     {
         if size == 0 {
@@ -114,7 +118,8 @@ impl Checker<'_> {
         requires pointee { PointeeFits self.now target pointee count }
         requires within { begin + size ≤ length self.now.bytes.now }
         requires ends { (C.state context.old).end ≡ begin }
-        ensures passes { PassesHeld C.Context self.now target pointee count begin size context work result }
+        ensures passes { PassesHeld C.Context self.now target pointee count begin size context work
+            result }
         ensures pays { Pays C.Context self.now size context work }
     {
         if let PointeeKind::Text = target {
@@ -157,7 +162,8 @@ impl Checker<'_> {
         requires plan { IsCheckable self.now }
         requires ready { Ready self.now (C.state context.old) (list_of work.old) }
         requires pointee { PointeeFits self.now target pointee count }
-        ensures enters { Enters C.Context self.now target pointee count position context work result }
+        ensures enters { Enters C.Context self.now target pointee count position context work
+            result }
         ensures pays { Pays C.Context self.now 4 context work }
     {
         let region = self.enter_region(target, pointee, count, position, work, context)?;
@@ -191,7 +197,8 @@ impl Checker<'_> {
         requires plan { IsCheckable self.now }
         requires ready { Ready self.now (C.state context.old) (list_of work.old) }
         requires pointee { PointeeFits self.now target pointee count }
-        ensures enters { Enters C.Context self.now target pointee count position context work result }
+        ensures enters { Enters C.Context self.now target pointee count position context work
+            result }
         ensures pays { Pays C.Context self.now 4 context work }
     {
         self.enter_here(target, pointee, count, position, work, context)

@@ -42,7 +42,8 @@ impl Checker<'_> {
         requires pointee { PointeeFits self.now target pointee count }
         requires shallow { IsTrue (target_shallow self.now.nodes.now target pointee) }
         requires below { (C.state context.old).end ≤ length self.now.bytes.now }
-        ensures passes { PassesRegion C.Context self.now target pointee count position context work result }
+        ensures passes { PassesRegion C.Context self.now target pointee count position context work
+            result }
         ensures pays { Pays C.Context self.now 4 context work }
     {
         let region = self.enter_region(target, pointee, count, position, work, context)?;
@@ -157,7 +158,7 @@ impl Checker<'_> {
         Some(())
     }
 
-    /// Checks the key at `at`. The value's node, which any node serves as, is that of a text.
+    /// Checks the key at `at`. Any node serves for a string's text, and here it is the value's.
     #[inline(always)]
     fn check_key<C: ArchiveContext>(
         &self,
@@ -184,8 +185,8 @@ impl Checker<'_> {
         }
     }
 
-    /// Checks the key at `at`, and that it comes behind the one at `before`, if there is one. The
-    /// entry's value is of this node.
+    /// Checks the key at `at`, and that it comes behind the one at `before`, if there is one. `value`
+    /// is the node of the entry's value.
     #[inline(always)]
     pub fn check_next_key<C: ArchiveContext>(
         &self,
@@ -199,7 +200,8 @@ impl Checker<'_> {
         requires known { value < length self.now.nodes.now }
         requires fits { KeyFits self.now key before at }
         requires below { (C.state context.old).end ≤ length self.now.bytes.now }
-        ensures passes { Passes C.Context (order_rule self.now key value before at) context work result }
+        ensures passes { Passes C.Context (order_rule self.now key value before at) context work
+            result }
         ensures pays { Pays C.Context self.now (key_size (key_of key)) context work }
     {
         self.check_key(key, value, at, work, context)?;
@@ -251,11 +253,13 @@ impl Checker<'_> {
         context: &mut C,
     ) -> Option<bool>
         requires plan { IsCheckable self.now }
-        requires shallow { IsTrue (parts_shallow self.now.shallow.now (span self.now.parts.now variant.first variant.last)) }
+        requires shallow { IsTrue (parts_shallow self.now.shallow.now
+            (span self.now.parts.now variant.first variant.last)) }
         requires fits { PartsFit self.now variant.first variant.last at }
         requires below { (C.state context.old).end ≤ length self.now.bytes.now }
         ensures passes { PassesIf C.Context (span_rule self.now variant at) context work result }
-        ensures pays { Pays C.Context self.now (bytes_of_parts self.now variant.first variant.last) context work }
+        ensures pays { Pays C.Context self.now (bytes_of_parts self.now variant.first variant.last)
+            context work }
     {
         if variant.last.saturating_sub(variant.first) == 1 {
             let part = self.parts[variant.first];
@@ -317,10 +321,12 @@ impl Checker<'_> {
         context: &mut C,
     ) -> Option<()>
         requires plan { IsCheckable self.now }
-        requires shallow { IsTrue (parts_shallow self.now.shallow.now (span self.now.parts.now first last)) }
+        requires shallow { IsTrue (parts_shallow self.now.shallow.now
+            (span self.now.parts.now first last)) }
         requires fits { PartsFit self.now first last base }
         requires below { (C.state context.old).end ≤ length self.now.bytes.now }
-        ensures passes { Passes C.Context (parts_rule self.now first last base) context work result }
+        ensures passes { Passes C.Context (parts_rule self.now first last base) context work
+            result }
         ensures pays { Pays C.Context self.now (bytes_of_parts self.now first last) context work }
     {
         for index in first..last {
@@ -345,8 +351,10 @@ impl Checker<'_> {
         requires shallow { IsTrue (marked self.now.shallow.now node) }
         requires fits { ElementsFit self.now node count at }
         requires below { (C.state context.old).end ≤ length self.now.bytes.now }
-        ensures passes { Passes C.Context (elements_rule self.now node count at) context work result }
-        ensures pays { Pays C.Context self.now (bytes_of_elements self.now node count) context work }
+        ensures passes { Passes C.Context (elements_rule self.now node count at) context work
+            result }
+        ensures pays { Pays C.Context self.now (bytes_of_elements self.now node count) context
+            work }
     {
         let size = self.nodes[node].size.unwrap_or(0);
         let passed = self.count_legal(node, count, at, size);
@@ -370,8 +378,10 @@ impl Checker<'_> {
         requires shallow { IsTrue (marked self.now.shallow.now value) }
         requires fits { EntriesFit self.now key value count at None }
         requires below { (C.state context.old).end ≤ length self.now.bytes.now }
-        ensures passes { Passes C.Context (entries_rule self.now key value None count at) context work result }
-        ensures pays { Pays C.Context self.now (bytes_of_entries self.now key value count) context work }
+        ensures passes { Passes C.Context (entries_rule self.now key value None count at) context
+            work result }
+        ensures pays { Pays C.Context self.now (bytes_of_entries self.now key value count) context
+            work }
     {
         let node = self.nodes[value];
         let size = unit_of(PointeeKind::Entries(key), node).end.unwrap_or(0);
