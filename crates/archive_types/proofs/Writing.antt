@@ -12,6 +12,7 @@ pub mod Records
 pub mod Owned
 pub mod OwnersWritten
 pub mod EntriesWritten
+pub mod SortedPairs
 pub mod PartBytes
 pub mod PlacedParts
 pub mod Arrays

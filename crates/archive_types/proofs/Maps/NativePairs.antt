@@ -52,3 +52,11 @@ module _ {U : Type 0} (N : Standing → U → Ordering) where
 
     pub level_end : (i n : ℕ) → n ≤ i → is_level i n [] ≡ true
     level_end i n h = let none : n - i ≡ 0 = omega arith in rw none refl
+
+    -- where the element i isn't level with the first of these, nothing is, and else what is behind them decides
+    module _ (i n : ℕ) (u : U) (us items : List U) (below : i < n) (is : items ≡ u ∷ us) where
+      pub level_broken : is_eq (N (standing b (p + i * z) 0) u) ≡ false → is_level i n items ≡ false
+      level_broken h = ap (is_level i n) is ∙ level_next i n u us below ∙ ap (λ x. x && is_level (i + 1) n us) h
+
+      pub level_goes : is_eq (N (standing b (p + i * z) 0) u) ≡ true → is_level i n items ≡ is_level (i + 1) n us
+      level_goes h = ap (is_level i n) is ∙ level_next i n u us below ∙ ap (λ x. x && is_level (i + 1) n us) h

@@ -3,6 +3,7 @@ use Rattle.std.proofs.Common.{◌≡◌, ℕ, ◌+◌, max, true, IsTrue, List, 
 use mathlib.Core.Bool.{true≢false}
 use Rattle.std.specs.Cmp.Lexicographic.{slice_cmp}
 use Rattle.std.specs.Cmp.{IsTotalOrder, on_total, then_total}
+use Rattle.std.specs.Hash as fed
 use Rattle.std.specs.Ordering.{on, then_cmp, ordering_then, eq_by_cmp, is_eq}
 use Rattle.std.specs.declared.cmp.Ordering.{Ordering}
 use Rattle.std.specs.declared.cmp.Ordering.TheVariants.{Less, Equal, Greater}
@@ -15,7 +16,7 @@ use Rattle.archive_check.specs.Tour.{Contents, contents_one, Leads}
 use Rattle.archive_check.specs.Definitions.{Definitions, no_definition, both, Knows, HasLayout}
 use Rattle.archive_check.specs.Members.PartsLayout.{knows_left, knows_right, no_part_laid_out, part_laid_out, record_has_layout}
 use Rattle.archive_check.specs.SelfCheck.Maps.{entry_definitions, entry_size, entry_align}
-use Rattle.archive_types.specs.Compared.{Standing, standing, elements, slice_of, slices}
+use Rattle.archive_types.specs.Compared.{Standing, standing, elements, slice_of, slices, slices_total, slices_fed}
 use Rattle.archive_types.specs.Maps.{value_begin}
 use Rattle.archive_types.specs.Members.Maps.{entry_is}
 use Rattle.archive_types.specs.Members.OrderedParts.{slices_ordered, slice_native, then_Equal}
@@ -62,6 +63,21 @@ pairs_fed k l R S feed other alike also x y h =
     let r = R (first_of k x) (first_of k y) in
     let s = S (second_of k l x) (second_of k l y) in
     ap₂ (λ us ws. us ++ ws) (alike (first_of k x) (first_of k y) (first_tied r s h)) (also (second_of k l x) (second_of k l y) (second_tied r s h))
+
+-- maps are ordered as the lists of their pairs, and feed a hasher so
+abbrev pub map_order : Layout → Layout → (Standing → Standing → Ordering) → (Standing → Standing → Ordering) → Standing → Standing → Ordering
+map_order k l R S = on slice_of (slices (entry_size k l) (pair_order k l R S))
+
+abbrev pub map_fed : Layout → Layout → (Standing → List (List ℕ)) → (Standing → List (List ℕ)) → Standing → List (List ℕ)
+map_fed k l feed other v = fed.slice (pair_fed k l feed other) (elements (entry_size k l) (slice_of v))
+
+pub maps_total : (k l : Layout) {R S : Standing → Standing → Ordering} → IsTotalOrder R → IsTotalOrder S → IsTotalOrder (map_order k l R S)
+maps_total k l r s = on_total slice_of (slices_total (entry_size k l) (pairs_total k l r s))
+
+pub maps_fed : (k l : Layout) (R S : Standing → Standing → Ordering) (feed other : Standing → List (List ℕ)) → ((x y : Standing) → IsTrue (eq_by_cmp R x y) → feed x ≡ feed y) → ((x y : Standing) → IsTrue (eq_by_cmp S x y) → other x ≡ other y)
+    → (x y : Standing) → IsTrue (eq_by_cmp (map_order k l R S) x y) → map_fed k l feed other x ≡ map_fed k l feed other y
+maps_fed k l R S feed other alike also x y =
+    slices_fed (entry_size k l) (pair_order k l R S) (pair_fed k l feed other) (pairs_fed k l R S feed other alike also) (slice_of x) (slice_of y)
 
 -- what a pair means
 record PairMeans (D E : Definitions) (X Y : Shape) (k l : Layout) (a : Standing) (w : Value) : Type 0 where
@@ -136,7 +152,7 @@ module _ (D E : Definitions) (X V : Shape) (k l : Layout) (laid : HasLayout D X 
 
   -- a map of them is ordered as the list of its pairs
   pub maps_in_order : (K : Key) → X ≡ key_shape K → (R S : Standing → Standing → Ordering) → OrdersValues D (one X) R → OrdersValues E (one V) S
-      → OrdersValues (entry_definitions D E) (one (sorted_map K V)) (on slice_of (slices (entry_size k l) (pair_order k l R S)))
+      → OrdersValues (entry_definitions D E) (one (sorted_map K V)) (map_order k l R S)
   maps_in_order K is R S by_key by_value =
       let entries = slices_ordered (entry_definitions D E) (parts (part X (part V no_part))) (record { size = entry_size k l; align = entry_align k l }) entry_laid (pair_order k l R S) (pairs_ordered D E X V k l laid other R S by_key by_value) in
       maps_ordered (entry_definitions D E) X V K is (slices (entry_size k l) (pair_order k l R S)) entries

@@ -8,7 +8,7 @@ ghost use Rattle.archive_check.specs.Value.{list};
 ghost use Rattle.archive_types.specs.MapPairs.{pair_meaning};
 ghost use Rattle.archive_types.specs.Members.OrderedPairs.{pair_native};
 ghost use Rattle.archive_types.specs.Runs.{each_meaning};
-ghost use Rattle.archive_types.specs.Words.Seen.{element_shown, elements_in, elements_shown, ViewEquals};
+ghost use Rattle.archive_types.specs.Words.Seen.{element_shown, elements_in, ViewEquals};
 
 use super::CompareNative;
 use crate::map::ArchivedSortedMap;
@@ -26,9 +26,10 @@ impl<'a, K: MapKey, V: Portable> Ref<'a, ArchivedSortedMap<K, V>> {
         V: CompareNative<B>,
         ensures order { result ≡ is_eq (slice_cmp (pair_native K.layout V.layout K.native_order V.native_order)
             (elements_in (entry_size K.layout V.layout) self.entry) map.now.entries) }
-        ensures by_value { ViewEquals self.entry (list (each_meaning (pair_meaning A.meaning B.meaning) map.now.entries)) result }
+        ensures by_value { ViewEquals self.entry
+            (list (each_meaning (pair_meaning A.meaning B.meaning) map.now.entries)) result }
     {
-        are_pairs(self.entries(), map)
+        are_pairs(self, map)
     }
 }
 
@@ -48,16 +49,17 @@ fn is_pair<K: MapKey + CompareNative<A>, V: Portable + CompareNative<B>, A: Arch
         && V::compare_native(entry.field::<V>(1).part(), value).is_eq()
 }
 
-// Whether the pairs equal those of a native map, and are as many.
+// Whether the entries equal those of a native map, and are as many.
 fn are_pairs<
     K: MapKey + CompareNative<A>,
     V: Portable + CompareNative<B>,
     A: Archive + Ord,
     B: Archive,
->(entries: Ref<'_, ArchivedSlice<ArchivedTuple2<K, V>>>, map: &BTreeMap<A, B>) -> bool
+>(view: Ref<'_, ArchivedSortedMap<K, V>>, map: &BTreeMap<A, B>) -> bool
     ensures { result ≡ is_eq (slice_cmp (pair_native K.layout V.layout K.native_order V.native_order)
-        (elements_shown (entry_size K.layout V.layout) entries.entry) map.now.entries) }
+        (elements_in (entry_size K.layout V.layout) view.entry) map.now.entries) }
 {
+    let entries = view.entries();
     if entries.len() != map.len() {
         return false;
     }

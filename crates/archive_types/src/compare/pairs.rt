@@ -1,14 +1,11 @@
-// Pairs are compared by their first parts, and then by their second ones; maps as lists of pairs of a key and its value.
+// Pairs are compared by their first parts, and then by their second ones; maps as lists of pairs.
 
 ghost use Rattle.std.specs.Prelude.{◌≡◌};
-ghost use Rattle.std.specs.Cmp.{on_total};
-ghost use Rattle.std.specs.Hash as fed;
-ghost use Rattle.std.specs.Ordering.{on};
-ghost use Rattle.archive_check.specs.SelfCheck.Maps.{entry_size, entry_definitions, entry_align};
-ghost use Rattle.archive_check.specs.Shape.{one, parts, part, no_part};
-ghost use Rattle.archive_types.specs.Compared.{elements, slice_of, slices, slices_total, slices_fed};
-ghost use Rattle.archive_types.specs.Members.OrderedPairs.{pair_order, pair_fed, pairs_fed, pairs_ordered, pairs_total, maps_in_order};
-ghost use Rattle.archive_types.specs.Members.OrderedParts.{as_pointee, slices_ordered};
+ghost use Rattle.archive_check.specs.Shape.{one};
+ghost use Rattle.archive_types.specs.Members.OrderedPairs.{pair_order, pair_fed, pairs_fed, pairs_ordered};
+ghost use Rattle.archive_types.specs.Members.OrderedPairs.{map_order, map_fed, maps_fed, maps_in_order};
+ghost use Rattle.archive_types.specs.Members.OrderedPairs.{pairs_total, maps_total};
+ghost use Rattle.archive_types.specs.Members.OrderedParts.{as_pointee};
 
 use super::Ordered;
 use crate::map::ArchivedSortedMap;
@@ -32,7 +29,8 @@ impl<A: Portable + Ordered, B: Portable + Ordered> Ordered for ArchivedTuple2<A,
 
     ghost level = { tt };
 
-    ghost by_value = { pairs_ordered A.definitions B.definitions A.shape B.shape A.layout B.layout A.has_layout B.has_layout A.order B.order
+    ghost by_value = { pairs_ordered A.definitions B.definitions A.shape B.shape
+        A.layout B.layout A.has_layout B.has_layout A.order B.order
         (as_pointee A.definitions A.pointee (one A.shape) A.order A.is_one A.by_value)
         (as_pointee B.definitions B.pointee (one B.shape) B.order B.is_one B.by_value) };
 
@@ -58,20 +56,20 @@ impl<A: Portable + Ordered, B: Portable + Ordered> Ordered for ArchivedTuple2<A,
 }
 
 impl<K: MapKey + Ordered, V: Portable + Ordered> Ordered for ArchivedSortedMap<K, V> {
-    ghost order = { on slice_of (slices (entry_size K.layout V.layout) (pair_order K.layout V.layout K.order V.order)) };
+    ghost order = { map_order K.layout V.layout K.order V.order };
 
-    ghost hash_input = { λ v. fed.slice (pair_fed K.layout V.layout K.hash_input V.hash_input) (elements (entry_size K.layout V.layout) (slice_of v)) };
+    ghost hash_input = { map_fed K.layout V.layout K.hash_input V.hash_input };
 
     ghost settling = { 0 };
 
-    ghost total = { on_total slice_of (slices_total (entry_size K.layout V.layout) (pairs_total K.layout V.layout K.total V.total)) };
+    ghost total = { maps_total K.layout V.layout K.total V.total };
 
-    ghost respects = { λ v w. slices_fed (entry_size K.layout V.layout) (pair_order K.layout V.layout K.order V.order) (pair_fed K.layout V.layout K.hash_input V.hash_input)
-        (pairs_fed K.layout V.layout K.order V.order K.hash_input V.hash_input K.respects V.respects) (slice_of v) (slice_of w) };
+    ghost respects = { maps_fed K.layout V.layout K.order V.order K.hash_input V.hash_input K.respects V.respects };
 
     ghost level = { tt };
 
-    ghost by_value = { maps_in_order K.definitions V.definitions K.shape V.shape K.layout V.layout K.has_layout V.has_layout K.key K.is_key K.order V.order
+    ghost by_value = { maps_in_order K.definitions V.definitions K.shape V.shape
+        K.layout V.layout K.has_layout V.has_layout K.key K.is_key K.order V.order
         (as_pointee K.definitions K.pointee (one K.shape) K.order K.is_one K.by_value)
         (as_pointee V.definitions V.pointee (one V.shape) V.order V.is_one V.by_value) };
 

@@ -22,8 +22,8 @@ pub struct Iter<'a, K: MapKey, V: Portable> {
     front: usize,
     back: usize,
     of: PhantomData<(K, V)>,
-    ghost valid: { AreViewed (entry_definitions K.definitions V.definitions) entries.bytes.now entries.pos (entry_size K.layout V.layout)
-        (one (parts (part K.shape (part V.shape no_part)))) back },
+    ghost valid: { AreViewed (entry_definitions K.definitions V.definitions) entries.bytes.now entries.pos
+        (entry_size K.layout V.layout) (one (parts (part K.shape (part V.shape no_part)))) back },
     ghost order: { front ≤ back },
 }
 
@@ -31,7 +31,8 @@ impl<'a, K: MapKey, V: Portable> Iter<'a, K, V> {
     // The key and the value of the entry `index`, counted from the first of all.
     fn pair(&self, index: usize) -> (Ref<'a, K>, Ref<'a, V>)
         requires { index < self.now.back }
-        ensures { shown_pair result ≡ pair_at K.layout V.layout self.now.entries.bytes.now self.now.entries.pos index }
+        ensures { shown_pair result
+            ≡ pair_at K.layout V.layout self.now.entries.bytes.now self.now.entries.pos index }
     {
         let entry: Ref<'a, ArchivedTuple2<K, V>> = element_at(self.entries, index);
         (entry.field::<K>(0), entry.field::<V>(1))
@@ -41,7 +42,8 @@ impl<'a, K: MapKey, V: Portable> Iter<'a, K, V> {
 impl<'a, K: MapKey, V: Portable> Ref<'a, ArchivedSortedMap<K, V>> {
     /// Views of the keys and values, in the order of the keys and from either end.
     pub fn iter(self) -> Iter<'a, K, V>
-        ensures { pairs_between K.layout V.layout result.entries result.front result.back ≡ pairs_shown K.layout V.layout self.entry }
+        ensures { pairs_between K.layout V.layout result.entries result.front result.back
+            ≡ pairs_shown K.layout V.layout self.entry }
     {
         let entries = self.entries();
         Iter {
@@ -56,7 +58,8 @@ impl<'a, K: MapKey, V: Portable> Ref<'a, ArchivedSortedMap<K, V>> {
 impl<'a, K: MapKey, V: Portable> Iterator for Iter<'a, K, V> {
     type Item = (Ref<'a, K>, Ref<'a, V>);
 
-    ghost next_gives = { YieldsFirstBy (λ pair. shown_pair pair) (λ s. pairs_between K.layout V.layout s.entries s.front s.back) };
+    ghost next_gives = { YieldsFirstBy (λ pair. shown_pair pair)
+        (λ s. pairs_between K.layout V.layout s.entries s.front s.back) };
 
     ghost remaining = { item_count (λ s. pairs_between K.layout V.layout s.entries s.front s.back) };
 
@@ -77,7 +80,8 @@ impl<'a, K: MapKey, V: Portable> Iterator for Iter<'a, K, V> {
 }
 
 impl<'a, K: MapKey, V: Portable> DoubleEndedIterator for Iter<'a, K, V> {
-    ghost next_back_gives = { YieldsLastBy (λ pair. shown_pair pair) (λ s. pairs_between K.layout V.layout s.entries s.front s.back) };
+    ghost next_back_gives = { YieldsLastBy (λ pair. shown_pair pair)
+        (λ s. pairs_between K.layout V.layout s.entries s.front s.back) };
 
     fn next_back(&mut self) -> Option<(Ref<'a, K>, Ref<'a, V>)> {
         if self.front >= self.back {

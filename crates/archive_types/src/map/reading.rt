@@ -7,6 +7,7 @@ ghost use Rattle.archive_types.specs.MapPairs.{pair_meaning, pair_keys};
 ghost use Rattle.archive_types.specs.Maps.{inserted};
 ghost use Rattle.archive_types.specs.Runs.{each_meaning, each_keys};
 ghost use Rattle.archive_types.specs.Words.Seen.{IsPartOf, ReadsPart, RefusesPart};
+ghost use Rattle.archive_types.specs.Words.Sources.{Read};
 
 use super::ArchivedSortedMap;
 use super::sorted_keys::SortedKey;
@@ -44,12 +45,39 @@ fn read_map<
     D: Entries,
 >(alloc: Global, part: RawView<'_>, deserializer: &mut D) -> Result<BTreeMap<A, B>, Error>
     requires { IsPartOf ⟦<ArchivedSortedMap<K, V> as ArchivePointee>⟧ part }
-    ensures read { IfOk result (λ map. ReadsPart ⟦<ArchivedSortedMap<K, V> as ArchivePointee>⟧ part D.Entries deserializer
-        (list (each_meaning (pair_meaning A.meaning B.meaning) map.entries)) (each_keys (pair_keys A.keys B.keys) map.entries)) }
-    ensures refused { IfErr result (RefusesPart ⟦<ArchivedSortedMap<K, V> as ArchivePointee>⟧ part D.Entries deserializer) }
+    ensures read { IfOk result (λ m.
+        ReadsPart ⟦<ArchivedSortedMap<K, V> as ArchivePointee>⟧ part D.Entries deserializer
+        (list (each_meaning (pair_meaning A.meaning B.meaning) m.entries))
+        (each_keys (pair_keys A.keys B.keys) m.entries)) }
+    ensures refused { IfErr result
+        (RefusesPart ⟦<ArchivedSortedMap<K, V> as ArchivePointee>⟧ part D.Entries deserializer) }
 {
     let view: Ref<'_, ArchivedSortedMap<K, V>> = Ref::at(part);
     let entries = view.entries().part();
     let pairs = read_elements::<ArchivedTuple2<K, V>, (A, B), D>(alloc, entries, deserializer)?;
     collect(alloc, pairs)
+}
+
+impl<
+    K: MapKey + Deserialize<A, D>,
+    V: Portable + Deserialize<B, D>,
+    A: SortedKey + Drop,
+    B: Archive + Drop,
+    D: Entries,
+> Deserialize<BTreeMap<A, B>, D> for ArchivedSortedMap<K, V>
+where
+    A::Archived: MapKey,
+{
+    fn deserialize_part(
+        alloc: Global,
+        part: RawView<'_>,
+        deserializer: &mut D,
+    ) -> Result<BTreeMap<A, B>, Error>
+        requires { IsPartOf ⟦<Self as ArchivePointee>⟧ part }
+        ensures read { IfOk result (Read ⟦<Self as ArchivePointee>⟧ part D.Entries deserializer
+            ⟦<BTreeMap<A, B> as Archive>⟧) }
+        ensures refused { IfErr result (RefusesPart ⟦<Self as ArchivePointee>⟧ part D.Entries deserializer) }
+    {
+        read_map::<K, V, A, B, D>(alloc, part, deserializer)
+    }
 }

@@ -3,7 +3,7 @@
 ghost use Rattle.std.specs.Prelude.{◌≡◌, ◌<◌, ◌≤◌, ◌^◌, ◌↔◌, ℕ, IfSome, IfNone, IsTrue};
 ghost use Rattle.archive_check.specs.SelfCheck.Maps.{entry_size};
 ghost use Rattle.archive_types.specs.Words.Seen.{element_shown};
-ghost use Rattle.archive_types.specs.Words.SeenEntries.{entry_count, AreFewFor, HasKey, HasKeyAt, HasNoKey, IsValueAtKey};
+ghost use Rattle.archive_types.specs.Words.SeenEntries.{AreFewFor, HasKey, HasKeyAt, HasNoKey, IsValueAtKey};
 
 use super::ArchivedSortedMap;
 use crate::compare::CompareNative;
@@ -30,7 +30,7 @@ fn find<K: MapKey + CompareNative<U>, V: Portable, U: Archive>(
     map: Ref<'_, ArchivedSortedMap<K, V>>,
     key: &U,
 ) -> (Option<usize>, usize)
-    ensures found { IfSome result.0 (λ i. HasKeyAt K.native_order (entry_size K.layout V.layout) map.entry key.now i) }
+    ensures found { IfSome result.0 (HasKeyAt K.native_order (entry_size K.layout V.layout) map.entry key.now) }
     ensures none { IfNone result.0 (HasNoKey K.native_order (entry_size K.layout V.layout) map.entry key.now) }
     ensures few { AreFewFor map.entry result.1 }
 {
@@ -51,12 +51,12 @@ fn find<K: MapKey + CompareNative<U>, V: Portable, U: Archive>(
 }
 
 impl<'a, K: MapKey, V: Portable> Ref<'a, ArchivedSortedMap<K, V>> {
-    /// The value of the entry whose key equals a native one, if there is one, and how many keys were compared: at most as many as the map's length has
-    /// binary digits.
+    /// The value of the entry whose key equals a native one, if there is one, and how many keys were
+    /// compared: at most as many as the map's length has binary digits.
     pub fn get_counted<U: Archive>(self, key: &U) -> (Option<Ref<'a, V>>, usize)
     where
         K: CompareNative<U>,
-        ensures found { IfSome result.0 (λ value. IsValueAtKey K.native_order K.layout V.layout value self.entry key.now) }
+        ensures found { IfSome result.0 (λ v. IsValueAtKey K.native_order K.layout V.layout v self.entry key.now) }
         ensures none { IfNone result.0 (HasNoKey K.native_order (entry_size K.layout V.layout) self.entry key.now) }
         ensures few { AreFewFor self.entry result.1 }
     {
@@ -70,7 +70,7 @@ impl<'a, K: MapKey, V: Portable> Ref<'a, ArchivedSortedMap<K, V>> {
     pub fn get<U: Archive>(self, key: &U) -> Option<Ref<'a, V>>
     where
         K: CompareNative<U>,
-        ensures found { IfSome result (λ value. IsValueAtKey K.native_order K.layout V.layout value self.entry key.now) }
+        ensures found { IfSome result (λ v. IsValueAtKey K.native_order K.layout V.layout v self.entry key.now) }
         ensures none { IfNone result (HasNoKey K.native_order (entry_size K.layout V.layout) self.entry key.now) }
     {
         let (value, _) = self.get_counted(key);

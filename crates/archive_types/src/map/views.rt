@@ -59,7 +59,8 @@ impl<'a, K: MapKey, V: Portable> Ref<'a, ArchivedSortedMap<K, V>> {
         self.len() == 0
     }
 
-    /// The key and the value of the entry `index`, of which 0 is the first; `None` where there are no more than so many.
+    /// The key and the value of the entry `index`, of which 0 is the first; `None` if there are no
+    /// more than `index` entries.
     pub fn get_at(self, index: usize) -> Option<(Ref<'a, K>, Ref<'a, V>)>
         ensures some { IsSome result ↔ (index < entry_count self.entry) }
         ensures key { IfSome result (λ pair. IsKeyOf K.layout V.layout pair.0 self.entry index) }

@@ -12,9 +12,9 @@ invariant-loop-key g l =
     let k = g.K.Portable.layout in
     let v = g.V.Portable.layout in
     let N = pair_native k v g.K.CompareNative.native_order g.V.CompareNative.native_order in
-    let s = l.fn.entries in record {
+    let s = l.entries in record {
       can_next : (goal.iterator-loop-key g).can_next l.key-iterator;
       finite : (goal.iterator-loop-key g).is_finite l.key-iterator;
       counted : l.index + length l.key-iterator ≡ s.len;
-      level : is_eq (slice_cmp N (elements_from s.bytes.now s.pos (entry_size k v) 0 s.len) l.fn.map.now.entries) ≡ is_level N s.bytes.now s.pos (entry_size k v) l.index s.len l.key-iterator;
+      level : is_eq (slice_cmp N (elements_from s.bytes.now s.pos (entry_size k v) 0 s.len) l.fn.map.entries) ≡ is_level N s.bytes.now s.pos (entry_size k v) l.index s.len l.key-iterator;
     }
