@@ -2,7 +2,8 @@
 use Rattle.archive_core.specs.Shape.{Shape, Pointee, vec}
 use Rattle.archive_core.specs.ArchivePointee as ArchivePointee
 use Rattle.archive_core.specs.Choices.{option_shape}
-use Rattle.archive_core.specs.Standing.{StandsWith, view}
+use Rattle.archive_core.specs.SealsKept.{ComesWith}
+use Rattle.archive_core.specs.Standing.{view}
 use Rattle.archive_core.specs.declared.seal.Spot.{Spot}
 use Rattle.archive_core.specs.Ref.{Ref}
 
@@ -10,6 +11,6 @@ use Rattle.archive_core.specs.Ref.{Ref}
 abbrev pub optional_list : Shape → Shape
 optional_list X = option_shape (vec X)
 
--- wherever what the view shows is a part of an archive, so is the P at the spot
+-- wherever seals come to what the view shows, they come to the P at the spot
 abbrev pub SpotBeside : {T M U : Type 0} {g : ArchivePointee.Ghosts T M} → Pointee → Spot U → Ref T M g → Type 0
-SpotBeside {g = g} P s v = StandsWith g.definitions v.bytes.now (view v.pos g.pointee v.len) (view s.pos P s.len)
+SpotBeside {g = g} P s v = ComesWith g.definitions v.bytes.now (view v.pos g.pointee v.len) (view s.pos P s.len)

@@ -3,8 +3,9 @@
 ghost use Rattle.std.specs.Prelude.{◌≡◌, ◌≤◌, Some, IfSome};
 ghost use Rattle.archive_core.specs.PartsLayout.{part_at, definitions_at};
 ghost use Rattle.archive_core.specs.KnownParts.{KnowsAlso};
-ghost use Rattle.archive_core.specs.Viewed.{Viewed};
-ghost use Rattle.archive_core.specs.Standing.{KeepsViews, view};
+ghost use Rattle.archive_core.specs.ComesTo.{IsComeTo};
+ghost use Rattle.archive_core.specs.SealsKept.{KeepsSeals};
+ghost use Rattle.archive_core.specs.Standing.{view};
 ghost use Rattle.archive_bench.specs.Lists.{optional_list, SpotBeside};
 
 use crate::sets::ArchivedSmall;
@@ -21,34 +22,33 @@ use std::alloc::Global;
 fn third<R: Record, T: Portable>(root: Ref<'_, R>) -> Option<Spot<T>>
     requires shape { part_at R.Parts.parts 2 ≡ Some (optional_list T.shape) }
     requires definitions { KnowsAlso (definitions_at R.Parts.definitions 2) T.definitions }
-    ensures viewed { IfSome result (λ s. Viewed T.definitions root.entry.bytes.now s.pos T.pointee s.len) }
-    ensures beside { IfSome result (λ s. SpotBeside T.pointee s root.entry) }
+    ensures { IfSome result (λ s. SpotBeside T.pointee s root.entry) }
 {
     let list = root.field::<ArchivedOption<ArchivedVec<T>>>(2).as_ref()?;
     let item = list.as_slice().get(2)?;
     Some(item.spot())
 }
 
-// Writes a value over the leaf at a spot. Views of what stands beside it stay views.
+// Writes a value over the leaf at a spot. What seals come to beside it, they come to as before.
 fn write_leaf<T: SealedLeaf>(bytes: &mut [u8], spot: Spot<T>, value: T::Written)
-    requires viewed { Viewed T.definitions bytes.old spot.pos T.pointee spot.len }
+    requires come_to { IsComeTo T.definitions bytes.old spot.pos T.pointee spot.len }
     requires can_hold { T.can_hold value }
-    ensures { KeepsViews bytes.old bytes.new (view spot.pos T.pointee spot.len) }
+    ensures { KeepsSeals bytes.old bytes.new (view spot.pos T.pointee spot.len) }
 {
     spot.seal(bytes).write(value);
 }
 
-// Writes a value over that element, and answers whether there is one. The root is a view as before.
+// Writes a value over that element, and answers whether there is one. Seals come to the root as before.
 fn write_third<R: Record, T: Portable + SealedLeaf>(
     bytes: &mut [u8],
     root: Spot<R>,
     value: T::Written,
 ) -> bool
-    requires viewed { Viewed R.definitions bytes.old root.pos R.pointee root.len }
+    requires come_to { IsComeTo R.definitions bytes.old root.pos R.pointee root.len }
     requires shape { part_at R.Parts.parts 2 ≡ Some (optional_list T.shape) }
     requires definitions { KnowsAlso (definitions_at R.Parts.definitions 2) T.definitions }
     requires can_hold { T.can_hold value }
-    ensures viewed { Viewed R.definitions bytes.new root.pos R.pointee root.len }
+    ensures come_to { IsComeTo R.definitions bytes.new root.pos R.pointee root.len }
 {
     let spot = match third::<R, T>(root.view(bytes)) {
         None => return false,
@@ -60,7 +60,7 @@ fn write_third<R: Record, T: Portable + SealedLeaf>(
 
 // How many of `count` writes over that number found one.
 fn written_over<R: Record>(bytes: &mut [u8], root: Spot<R>, count: usize) -> usize
-    requires viewed { Viewed R.definitions bytes.old root.pos R.pointee root.len }
+    requires come_to { IsComeTo R.definitions bytes.old root.pos R.pointee root.len }
     requires shape { part_at R.Parts.parts 2 ≡ Some (optional_list ⟦<ArchivedI32 as Portable>⟧.shape) }
     requires definitions { KnowsAlso (definitions_at R.Parts.definitions 2) ⟦<ArchivedI32 as ArchivePointee>⟧.definitions }
     ensures { result ≤ count }

@@ -5,10 +5,10 @@ use Rattle.std.proofs.lemmas.List.Elements.{Contains-push}
 use Rattle.archive_check.specs.Shape.{Name, Flavor, Shape, choice, array, boxed, vec, str, shared, weak, text, Pointee, one, run, Parts, part, no_part, Variants, variant_at}
 use Rattle.archive_check.specs.Layout.{Layout, up, size_of}
 use Rattle.archive_check.specs.Value.{Pointer, Value, hole, pointers}
-use Rattle.archive_check.specs.Reads.{Schema, bytes_at, i32_at, u32_at, length_at, pointer_at, string_at, decoded_length, before_end, IsOutOfLine}
+use Rattle.archive_check.specs.Reads.{Schema, bytes_at, i32_at, u32_at, length_at, pointer_at, string_at, decoded_length, before_end, IsOutOfLine, reads_vec}
 use Rattle.archive_check.specs.Readable.{position, target_from}
 use Rattle.archive_check.specs.Keys.{order_of}
-use Rattle.archive_check.specs.Tour.{Contents}
+use Rattle.archive_check.specs.Tour.{Contents, contents_one}
 use Rattle.archive_check.specs.Within.{IsPart, first_part, Within, whole, in_choice, in_array}
 use Rattle.archive_check.specs.ComesTo.{to_root, to_part, to_element, to_text, to_target, IsComeTo}
 use Rattle.archive_check.specs.Definitions.{Definitions, Knows, HasLayout}
@@ -20,7 +20,7 @@ use Rattle.archive_check.proofs.Viewing.ViewedPayloads.{is_payload, offset_is, p
 use Rattle.archive_check.proofs.Viewing.ViewedVariants.{case_begins}
 use Rattle.archive_types.proofs.Reading.ReadRecords.{record_within}
 use Rattle.archive_types.proofs.SharedValues.SharedViews.{shared_hole, weak_hole}
-use Rattle.archive_types.proofs.Viewing.PartsShown.{box_has, vec_has}
+use Rattle.archive_types.proofs.Viewing.PartsShown.{box_has}
 use Rattle.archive_types.proofs.Viewing.StandingLeaves.{out_is}
 use Rattle.archive_types.specs.Members.KnownParts.{KnowsAlso}
 use Rattle.archive_types.specs.Standing.{View, view}
@@ -60,6 +60,9 @@ target_comes D bytes q n W p r free there has = record {
       rw here at (to_target c reached.reads m free e);
 }
 
+vec_hole : {s : Schema} {bytes : List ℕ} {q n : ℕ} {X : Shape} {v : Value} → Contents s bytes q (one (vec X)) n v → v ≡ hole (pointer_at bytes q None (run X))
+vec_hole (contents_one reads_vec) = refl
+
 hole_has : {v : Value} (p : Pointer) → v ≡ hole p → Contains (pointers v) p
 hole_has p e = rw e (Contains-push [] p)
 
@@ -68,7 +71,7 @@ module _ (D : Definitions) (bytes : List ℕ) (q n : ℕ) where
   box_comes P = target_comes D bytes q n (boxed P) (pointer_at bytes q None P) (target_from bytes q q) refl (λ t e. ap position (sym e)) (box_has bytes q n P)
 
   pub vec_comes : (X : Shape) → ComesWith D bytes (view q (one (vec X)) n) (view (target_from bytes q q) (run X) (u32_at bytes (q + 4)))
-  vec_comes X = target_comes D bytes q n (vec X) (pointer_at bytes q None (run X)) (target_from bytes q q) refl (λ t e. ap position (sym e)) (vec_has bytes q n X)
+  vec_comes X = target_comes D bytes q n (vec X) (pointer_at bytes q None (run X)) (target_from bytes q q) refl (λ t e. ap position (sym e)) (λ s v c. hole_has (pointer_at bytes q None (run X)) (vec_hole c))
 
   pub shared_comes : (flavor : Flavor) (P : Pointee) → ComesWith D bytes (view q (one (shared flavor P)) n) (view (target_from bytes q q) P (length_at bytes q P))
   shared_comes flavor P =

@@ -1,6 +1,6 @@
 use Rattle.std.proofs.Common.{◌≤◌}
-use Rattle.archive_core.specs.Viewed.{Viewed}
+use Rattle.archive_core.specs.ComesTo.{IsComeTo}
 use Rattle.archive_bench.proofs.seals.written_over.Given as goal
 
 abbrev pub invariant-loop-round : goal.invariant-loop-round
-invariant-loop-round g l = (l.written ≤ l.round) × Viewed g.R.ArchivePointee.definitions l.bytes l.root.pos g.R.ArchivePointee.pointee l.root.len
+invariant-loop-round g l = (l.written ≤ l.round) × IsComeTo g.R.ArchivePointee.definitions l.bytes l.root.pos g.R.ArchivePointee.pointee l.root.len
