@@ -1,6 +1,6 @@
 // Maps are compared, with each other and with those of the machine.
 
-use crate::archives::{EMPTY, NUMBERS, Numbers};
+use crate::archives::{EMPTY, NUMBERS, Numbers, map_of};
 use crate::assertions::{assert_same, viewed};
 use archive_core::view::Ref;
 use std::alloc::Global;
@@ -59,3 +59,21 @@ const BEHIND: &[u8] = b"\x01\0\0\0\x0a\0\0\0\x03\0\0\0\0\0\0\0\xf0\xff\xff\xff\x
 // 1 to 10, 2 to 20 and 3 to 0.
 const THREE: &[u8] =
     b"\x01\0\0\0\x0a\0\0\0\x02\0\0\0\x14\0\0\0\x03\0\0\0\0\0\0\0\xe8\xff\xff\xff\x03\0\0\0";
+
+// Whether an archive equals the map of these entries.
+fn assert_equals(rt: &impl Abort, what: &str, alloc: Global, entries: &[(u32, u32)], equals: bool) {
+    let map = map_of(rt, alloc, entries);
+    let view = viewed::<Numbers>(rt, alloc, NUMBERS);
+    assert_same(rt, what, view.eq_map(&map), equals);
+}
+
+#[test]
+fn a_map_is_compared_with_one_of_the_machine(rt: HostRuntime) {
+    let alloc = rt.alloc();
+    assert_equals(&rt, "the same", alloc, &[(2, 20), (1, 10)], true);
+    assert_equals(&rt, "one entry", alloc, &[(1, 10)], false);
+    assert_equals(&rt, "another value", alloc, &[(1, 10), (2, 21)], false);
+    assert_equals(&rt, "another key", alloc, &[(1, 10), (3, 20)], false);
+    let three = [(1, 10), (2, 20), (3, 0)];
+    assert_equals(&rt, "one entry more", alloc, &three, false);
+}
