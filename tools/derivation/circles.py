@@ -5,7 +5,7 @@ from typing import Dict, Iterator, List, Optional, Tuple
 from . import recursive_refusals as refusals
 from .model import Declaration, Refused, Type
 
-POINTERS = {"Box", "BoxSlice", "Vec", "Shared", "SharedSlice", "WeakShared"}
+POINTERS = {"Box", "BoxSlice", "Vec", "BTreeMap", "Shared", "SharedSlice", "WeakShared"}
 # For each parameter of a declaration that a value of it holds: whether only behind a pointer.
 Reach = Dict[str, bool]
 # A declaration that a field holds, whether behind a pointer, and the field's line.

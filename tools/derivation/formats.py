@@ -16,6 +16,7 @@ GENERIC = {
     "Box": (1, "boxed", "ArchivedBox"),
     "BoxSlice": (1, "boxed", "ArchivedBox"),
     "Vec": (1, "vec", "ArchivedVec"),
+    "BTreeMap": (2, "map", "ArchivedSortedMap"),
     "Shared": (1, "rc", "ArchivedRc"),
     "SharedSlice": (1, "rc", "ArchivedRc"),
     "WeakShared": (1, "rc", "ArchivedRcWeak"),
@@ -44,9 +45,10 @@ HOMES = {
     "BoxStr": "archive_core::boxed",
     "NonZero": "archive_core::primitive",
     "OwnedArray": "archive_core::core_impls",
+    "BTreeMap": "std::collections",
     "PhantomData": "std::marker",
 }
-POINTERS = {"Box", "BoxSlice", "Vec", "Shared", "SharedSlice", "WeakShared"}
+POINTERS = {"Box", "BoxSlice", "Vec", "BTreeMap", "Shared", "SharedSlice", "WeakShared"}
 SHARING = {"Shared", "SharedSlice", "SharedStr", "WeakShared"}
 NUMBERS = set(INTEGERS) | {"bool", "char", "()", "usize", "isize", "NonZero"}
 ALIGNS = {
@@ -220,7 +222,7 @@ class Formats:
             return PLAIN[kind][0]
         if kind in ("Box", "Shared", "WeakShared"):
             return 4, 4
-        if kind in ("BoxSlice", "Vec", "SharedSlice"):
+        if kind in ("BoxSlice", "Vec", "BTreeMap", "SharedSlice"):
             return 8, 4
         if kind == "PhantomData":
             return 0, 1
@@ -272,7 +274,7 @@ class Formats:
             return f"⟦<{self.archived(type)} as ArchivePointee>⟧.definitions"
         if kind == "Result":
             return f"(both {self.definitions(type.args[0])} {self.definitions(type.args[1])})"
-        if kind == "tuple" or kind == "own" and type.args:
+        if kind in ("tuple", "BTreeMap") or kind == "own" and type.args:
             out = "no_definition"
             for arg in reversed(self.fields(type) if kind == "own" else type.args):
                 out = f"(both {self.definitions(arg)} {out})"
@@ -393,6 +395,11 @@ class Formats:
             a, b = type.args
             p, q = self.source(a), self.source(b)
             return f"(result_keyed {p}.keys {q}.keys {p}.meaning {q}.meaning {self.function('keyed', a)} {self.function('keyed', b)} {x})"
+        if kind == "BTreeMap":
+            self.ghost("PlannedMaps", "pairs_keyed")
+            a, b = type.args
+            p, q = self.source(a), self.source(b)
+            return f"(pairs_keyed {p}.keys {q}.keys {p}.meaning {q}.meaning {self.function('keyed', a)} {self.function('keyed', b)} {x}.entries)"
         item = type.args[0]
         q = self.source(item)
         each = self.function("keyed", item)
@@ -529,6 +536,15 @@ class Formats:
             return (
                 f"(result_planned {p}.keys {q}.keys {p}.meaning {q}.meaning {self.definitions(a)} {self.definitions(b)}"
                 f" {self.shape(a)} {self.shape(b)} {self.function('planned', a)} {self.function('planned', b)} {x})"
+            )
+        if kind == "BTreeMap":
+            self.ghost("PlannedMaps", "map_of_pairs_planned")
+            self.use("archive_core::traits", "MapKey")
+            a, b = type.args
+            p, q, key = self.source(a), self.source(b), f"⟦<{self.archived(a)} as MapKey>⟧"
+            return (
+                f"(map_of_pairs_planned {p}.keys {q}.keys {p}.meaning {q}.meaning {self.definitions(a)} {self.definitions(b)}"
+                f" {self.shape(a)} {self.shape(b)} {self.function('planned', a)} {self.function('planned', b)} {key}.key {key}.is_key {x}.entries)"
             )
         item = type.args[0]
         q, X = self.source(item), self.shape(item)

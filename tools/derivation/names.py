@@ -10,9 +10,17 @@ from .parse import Alias, Declared, File, parsed
 PRIMITIVES = {f"{sign}{bits}" for sign in "ui" for bits in (8, 16, 32, 64, 128)} | {"bool", "char", "usize", "isize"}
 FLOATS = {"f32", "f64"}
 # Types of std that have a format, with the number of their arguments, and those that a file has without a `use`.
-STD = {"String": 0, "Vec": 1, "Option": 1, "Result": 2, "Box": 1, "PhantomData": 1}
+STD = {"String": 0, "Vec": 1, "Option": 1, "Result": 2, "Box": 1, "BTreeMap": 2, "PhantomData": 1}
 PRELUDE = {"String", "Vec", "Option", "Result", "Box"}
-STD_MODULES = {"String": "string", "Vec": "vec", "Option": "option", "Result": "result", "Box": "boxed", "PhantomData": "marker"}
+STD_MODULES = {
+    "String": "string",
+    "Vec": "vec",
+    "Option": "option",
+    "Result": "result",
+    "Box": "boxed",
+    "BTreeMap": "collections",
+    "PhantomData": "marker",
+}
 # Those of the library: the module of `archive_core` that has them, and the number of their arguments.
 LIBRARY: Dict[str, Tuple[str, int]] = {
     "BoxSlice": ("boxed", 1),

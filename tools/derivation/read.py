@@ -47,8 +47,8 @@ INSTEAD = {
     "Ordering": "an enum",
     "Infallible": "`()`",
 }
-for it in ("HashMap", "BTreeMap", "IndexMap"):
-    INSTEAD[it] = "a `Vec` of pairs, as `Vec<(K, V)>`"
+for it in ("HashMap", "IndexMap"):
+    INSTEAD[it] = "a `BTreeMap`, or a `Vec` of pairs, as `Vec<(K, V)>`"
 for it in ("HashSet", "BTreeSet", "IndexSet"):
     INSTEAD[it] = "a `Vec`"
 for it in ("Cell", "RefCell", "UnsafeCell", "OnceCell", "OnceLock", "Mutex", "RwLock", "ManuallyDrop", "MaybeUninit", "Pin"):
@@ -56,6 +56,10 @@ for it in ("Cell", "RefCell", "UnsafeCell", "OnceCell", "OnceLock", "Mutex", "Rw
 for it in ("Bool", "U8", "U16", "U32", "U64", "Usize", "I8", "I16", "I32", "I64", "Isize"):
     INSTEAD[f"Atomic{it}"] = f"a `{it.lower()}`"
     INSTEAD[f"NonZero{it}"] = f"an `ArchivedNonZero{it}`, of `archive_core::primitive`"
+
+
+# The keys of a map.
+KEYS = (PRIMITIVES - {"bool"}) | {"String"}
 
 
 class Scope:
@@ -168,6 +172,10 @@ class Reader:
                 raise self.no_format(it, scope, "a boxed slice is a type of the library; write `BoxSlice`, of `archive_core::boxed`")
             if inner.path == ("str",):
                 raise self.no_format(it, scope, "a boxed text is a type of the library; write `BoxStr`, of `archive_core::boxed`")
+        if found.name == "BTreeMap":
+            key = self.type(it.args[0], scope)
+            if key.own is not None or key.parameter or key.name not in KEYS:
+                raise self.no_format(it, scope, f"`{key.text or key.name}` is no key of a map in an archive; write a whole number, a `char` or a `String`")
         return shown(Type(found.name, [self.type(x, scope) for x in it.args], it.line, it.path))
 
     def unread(self, it: Type, scope: Scope) -> Type:
@@ -341,13 +349,14 @@ def module(reader: Reader, source: Source) -> Module:
 
 
 def check_nests(module: Module):
-    """Refuses tuples in tuples. A struct with parameters is a tuple, too: what a call passes of a nest of them grows beyond what the toolchain takes."""
+    """Refuses tuples in tuples. A struct with parameters is a tuple, too, and so is an entry of a map: what a call passes of a nest of them grows beyond what
+    the toolchain takes."""
     for it in module.declarations:
         for field in it.all_fields():
             inner = nested(field.type, bool(it.parameters))
             if inner:
-                what = "a tuple" if inner.name == "tuple" else f"`{inner.text or inner.name}`"
-                where = "a struct with type parameters" if it.parameters else "a tuple" if inner.name == "tuple" else "a tuple or a struct with type parameters"
+                what = "a tuple" if inner.name == "tuple" else "a map" if is_map(inner) else f"`{inner.text or inner.name}`"
+                where = "a struct with type parameters" if it.parameters else "a tuple or a map" if inner.own is None else "a tuple or a struct with type parameters"
                 raise Refused(module.path, field.type.line, f"{what} in {where} is too deep for the toolchain; write a struct without parameters in place of the inner one")
 
 
@@ -375,11 +384,15 @@ def array_in(it: Type, names: Set[str]) -> Optional[Type]:
     return next((found for x in it.args if (found := array_in(x, names))), None)
 
 
+def is_map(it: Type) -> bool:
+    return it.name == "BTreeMap" and it.own is None
+
+
 def nested(it: Type, inside: bool) -> Optional[Type]:
-    """The first tuple, or struct with parameters, that is in another one."""
+    """The first tuple, map, or struct with parameters, that is in another one."""
     if it.parameter or it.own is None and it.name == "PhantomData":
         return None
-    is_tuple = it.name == "tuple" and it.own is None or it.own is not None and bool(it.args)
+    is_tuple = it.name == "tuple" and it.own is None or is_map(it) or it.own is not None and bool(it.args)
     if is_tuple and inside:
         return it
     held = it.args

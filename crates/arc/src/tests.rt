@@ -8,6 +8,7 @@ use std::process::Abort;
 use std::test::Fail;
 
 mod all_values;
+mod maps;
 mod nodes;
 mod shared;
 

@@ -4,14 +4,15 @@ use crate::all_values::ArchivedAllValues;
 use crate::shared::{
     ArchivedRcWeakPair, ArchivedTwoRc, ArchivedTwoRcBytes, ArchivedTwoRcUnit, TwoRc, two_rc,
 };
-use archive_core::api::{access, to_bytes};
+use archive_core::api::{HighSerializer, access, to_bytes};
 use archive_core::boxed::{ArchivedBox, BoxSlice};
 use archive_core::error::Error;
+use archive_core::map::{ArchivedSortedMap, SortedEntries, SortedKey};
 use archive_core::option::ArchivedOption;
 use archive_core::primitive::ArchivedU32;
 use archive_core::slice::ArchivedSlice;
 use archive_core::string::ArchivedString;
-use archive_core::traits::{Portable, PortablePointee};
+use archive_core::traits::{MapKey, Portable, PortablePointee, Serialize};
 use archive_core::vec::ArchivedVec;
 use hex::FromHexError;
 use own_types::node::{ArchivedNode, Node, node_of};
@@ -35,6 +36,10 @@ pub enum Format {
     TwoBoxBytes,
     /// `vec-u32`, written as digits between commas; no word at all is an empty list.
     VecU32,
+    /// `map-u32`, a sorted map of numbers to numbers, written as pairs between commas, each a key, `=` and its value; no word at all is an empty map.
+    MapU32,
+    /// `map-string`, a sorted map of texts to numbers, written likewise; a pair is split at its last `=`.
+    MapString,
     /// `two-rc`, two shared numbers, written as `a`, two pointers to one, or as `a,b`, a pointer to each.
     TwoRc,
     /// `two-rc-unit`, two shared units, which is checked alone.
@@ -62,6 +67,10 @@ pub enum Value<'a> {
     OptBoxBytes(Option<Vec<u8>>),
     /// Numbers.
     VecU32(Vec<u32>),
+    /// Numbers with their values, in the order in which they are given.
+    MapU32(Vec<(u32, u32)>),
+    /// Texts with their values, likewise.
+    MapString(Vec<(String, u32)>),
     /// Two shared numbers.
     TwoRc(TwoRc),
     /// A list of boxes in boxes.
@@ -80,6 +89,8 @@ impl Format {
             "opt-box-bytes" => Some(Format::OptBoxBytes),
             "two-box-bytes" => Some(Format::TwoBoxBytes),
             "vec-u32" => Some(Format::VecU32),
+            "map-u32" => Some(Format::MapU32),
+            "map-string" => Some(Format::MapString),
             "two-rc" => Some(Format::TwoRc),
             "two-rc-unit" => Some(Format::TwoRcUnit),
             "two-rc-bytes" => Some(Format::TwoRcBytes),
@@ -114,6 +125,14 @@ impl Format {
                 Some(numbers) => Ok(Some(Value::VecU32(numbers))),
                 None => Ok(None),
             },
+            Format::MapU32 => match entries(alloc, word.as_str())? {
+                Some(entries) => Ok(Some(Value::MapU32(entries))),
+                None => Ok(None),
+            },
+            Format::MapString => match entries(alloc, word.as_str())? {
+                Some(entries) => Ok(Some(Value::MapString(entries))),
+                None => Ok(None),
+            },
             Format::TwoRc => match one_or_two(word.as_str()) {
                 Some((first, second)) => Ok(Some(Value::TwoRc(two_rc(alloc, first, second)?))),
                 None => Ok(None),
@@ -140,6 +159,8 @@ impl Format {
             Format::OptBoxBytes => check_option::<ArchivedBox<ArchivedSlice<u8>>>(alloc, bytes),
             Format::TwoBoxBytes => check_two_boxes::<ArchivedSlice<u8>>(alloc, bytes),
             Format::VecU32 => check_as::<ArchivedVec<ArchivedU32>>(alloc, bytes),
+            Format::MapU32 => check_map::<ArchivedU32>(alloc, bytes),
+            Format::MapString => check_map::<ArchivedString>(alloc, bytes),
             Format::TwoRc => check_as::<ArchivedTwoRc>(alloc, bytes),
             Format::TwoRcUnit => check_as::<ArchivedTwoRcUnit>(alloc, bytes),
             Format::TwoRcBytes => check_as::<ArchivedTwoRcBytes>(alloc, bytes),
@@ -165,6 +186,8 @@ impl Value<'_> {
                 to_bytes(alloc, &value)
             }
             Value::VecU32(numbers) => to_bytes(alloc, &numbers),
+            Value::MapU32(entries) => write_entries(alloc, entries.as_slice()),
+            Value::MapString(entries) => write_entries(alloc, entries.as_slice()),
             Value::TwoRc(pair) => to_bytes(alloc, &pair),
             Value::Node(node) => to_bytes(alloc, &node),
             Value::Test(record) => to_bytes(alloc, &record),
@@ -188,6 +211,23 @@ fn check_option<T: Portable>(alloc: Global, bytes: &[u8]) -> Result<(), Error> {
 fn check_two_boxes<T: PortablePointee>(alloc: Global, bytes: &[u8]) -> Result<(), Error> {
     access::<[ArchivedBox<T>; 2]>(alloc, bytes)?;
     Ok(())
+}
+
+// Whether they are an archive of a map of such keys to numbers.
+fn check_map<K: MapKey>(alloc: Global, bytes: &[u8]) -> Result<(), Error> {
+    access::<ArchivedSortedMap<K, ArchivedU32>>(alloc, bytes)?;
+    Ok(())
+}
+
+// The archive of a map of these entries.
+fn write_entries<K: SortedKey + Serialize<HighSerializer<Vec<u8>, Global>>>(
+    alloc: Global,
+    entries: &[(K, u32)],
+) -> Result<Vec<u8>, Error>
+where
+    K::Archived: MapKey,
+{
+    to_bytes(alloc, &SortedEntries { entries })
 }
 
 // A number that a word may stand for.
@@ -255,6 +295,52 @@ fn numbers<N: Digits + Drop>(alloc: Global, word: &str) -> Result<Option<Vec<N>>
             return Ok(None);
         };
         all.push(number)?;
+    }
+    Ok(Some(all))
+}
+
+// What a word may stand for as a map's key.
+trait KeyWord: Drop {
+    fn key(alloc: Global, word: &str) -> Result<Option<Self>, Error>;
+}
+
+impl KeyWord for u32 {
+    fn key(_alloc: Global, word: &str) -> Result<Option<Self>, Error> {
+        Ok(u32::read(word))
+    }
+}
+
+impl KeyWord for String {
+    fn key(alloc: Global, word: &str) -> Result<Option<Self>, Error> {
+        Ok(Some(String::from_str(alloc, word)?))
+    }
+}
+
+// A key and its value, with the last `=` of the word between them.
+fn entry<K: KeyWord>(alloc: Global, word: &str) -> Result<Option<(K, u32)>, Error> {
+    let Some((key, value)) = word.rsplit_once('=') else {
+        return Ok(None);
+    };
+    let Some(value) = u32::read(value) else {
+        return Ok(None);
+    };
+    match K::key(alloc, key)? {
+        Some(key) => Ok(Some((key, value))),
+        None => Ok(None),
+    }
+}
+
+// The entries that stand between commas, in their order.
+fn entries<K: KeyWord>(alloc: Global, word: &str) -> Result<Option<Vec<(K, u32)>>, Error> {
+    let mut all = Vec::new(alloc);
+    if word.is_empty() {
+        return Ok(Some(all));
+    }
+    for pair in word.split(',') {
+        let Some(entry) = entry(alloc, pair)? else {
+            return Ok(None);
+        };
+        all.push(entry)?;
     }
     Ok(Some(all))
 }

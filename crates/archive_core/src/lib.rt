@@ -14,8 +14,8 @@ pub use archive_check::{context as validation, laws, self_check};
 pub use archive_fields::fields;
 pub use archive_schema::shape;
 pub use archive_types::{
-    array, boxed, choice, compare, option, parts, place, primitive, record, rel_ptr, result, ser,
-    sharing, slice, string, traits, tuples, vec,
+    array, boxed, choice, compare, map, option, parts, place, primitive, record, rel_ptr, result,
+    ser, sharing, slice, string, traits, tuples, vec,
 };
 
 /// A relative pointer to a `T` whose offset is of 32 bits. As in rkyv 0.8.18.

@@ -7,5 +7,6 @@ pub mod kinds;
 pub mod pair;
 pub mod point;
 pub mod spot;
+pub mod stock;
 pub mod track;
 pub mod words;

@@ -12,6 +12,8 @@ mod faults;
 #[cfg(test)]
 mod keeping;
 #[cfg(test)]
+mod prices;
+#[cfg(test)]
 mod sharing;
 #[cfg(test)]
 mod words;

@@ -3,19 +3,23 @@
 use archive_core::api::{HighSerializer, access, from_bytes, to_bytes_in};
 use archive_core::core_impls::ArchivedTuple2;
 use archive_core::error::Error;
+use archive_core::map::{ArchivedSortedMap, SortedEntries};
 use archive_core::pooling::Pool;
 use archive_core::primitive::ArchivedU32;
 use archive_core::rc::{ArchivedRc, RcFlavor, Shared, SharedSlice};
 use archive_core::slice::ArchivedSlice;
 use archive_core::string::ArchivedString;
-use archive_core::traits::{Archive, Deserialize, Entries, Portable, PortablePointee, Serialize};
+use archive_core::traits::{
+    Archive, Deserialize, Entries, MapKey, Portable, PortablePointee, Serialize,
+};
 use own_types::test_record::{ArchivedTest, Test, TestOf};
 use std::alloc::Global;
+use std::collections::BTreeMap;
 use std::fmt;
 use std::rc::{Rc, RcSlice};
 
 /// The names of the calls.
-pub const CALLS: [&str; 12] = [
+pub const CALLS: [&str; 16] = [
     "a record is written",
     "a record is viewed",
     "a record is read",
@@ -28,6 +32,10 @@ pub const CALLS: [&str; 12] = [
     "a text is written",
     "a text is viewed",
     "a text is read",
+    "a map is written",
+    "entries are written",
+    "a map is viewed",
+    "a map is read",
 ];
 
 /// How a call ended.
@@ -81,6 +89,10 @@ pub fn end_of(alloc: Global, call: &str, requests: usize) -> End {
         "a text is written" => text_written(alloc, requests),
         "a text is viewed" => viewed::<ArchivedString>(alloc, requests, BYTES_AND_TEXT, 16),
         "a text is read" => text_read(alloc, requests),
+        "a map is written" => map_written(alloc, requests),
+        "entries are written" => entries_written(alloc, requests),
+        "a map is viewed" => map_viewed::<u8, ArchivedRc<ArchivedU32, RcFlavor>>(alloc, requests),
+        "a map is read" => map_read(alloc, requests),
         _ => End::Wrong,
     }
 }
@@ -100,6 +112,14 @@ const TWO_SLICES: &[u8] = b"\0\0\0\0\x64\0\0\0\xf8\xff\xff\xff\0\0\0\0\xf4\xff\x
 
 // Three bytes, a text behind them, and at 16 the string that points back at it.
 const BYTES_AND_TEXT: &[u8] = b"\xaa\xbb\xcchello world\0\0\x8b\0\0\0\xf3\xff\xff\xff";
+
+// A text and a zero, the entries "a" to 1 and "hello world" to 2, and at 36 the map that points back at them.
+const MAP: &[u8] =
+    b"hello world\0a\xff\xff\xff\xff\xff\xff\xff\x01\0\0\0\x8b\0\0\0\xe8\xff\xff\xff\x02\0\0\0\xe8\xff\xff\xff\x02\0\0\0";
+
+// A 10, the entries of 1 and 2 with pointers to that, and at 20 the map that points back at them.
+const SHARED_VALUES: &[u8] =
+    b"\x0a\0\0\0\x01\0\0\0\xf8\xff\xff\xff\x02\0\0\0\xf0\xff\xff\xff\xf0\xff\xff\xff\x02\0\0\0";
 
 // What is archived of these is the same behind a multiple of four bytes, and that of the text behind three.
 const BEFORE_A_TEXT: &[u8] = b"\xaa\xbb\xcc";
@@ -130,6 +150,20 @@ fn two_slices(alloc: Global) -> Result<(SharedSlice<u32>, SharedSlice<u32>), Err
 
 fn a_text(alloc: Global) -> Result<String, Error> {
     Ok(String::from_str(alloc, "hello world")?)
+}
+
+fn two_entries(alloc: Global) -> Result<Vec<(String, u32)>, Error> {
+    let first = (String::from_str(alloc, "a")?, 1);
+    let second = (a_text(alloc)?, 2);
+    Ok(vec![in alloc; first, second]?)
+}
+
+fn a_map(alloc: Global) -> Result<BTreeMap<String, u32>, Error> {
+    let mut map = BTreeMap::new(alloc);
+    for (key, value) in two_entries(alloc)? {
+        map.insert(key, value)?;
+    }
+    Ok(map)
 }
 
 // A value and a vector that holds these bytes, once so many requests were made.
@@ -216,6 +250,23 @@ fn text_written(alloc: Global, requests: usize) -> End {
     end_of_write(refusal, &bytes, BEFORE_A_TEXT, TEXT)
 }
 
+fn map_written(alloc: Global, requests: usize) -> End {
+    let Some((map, mut bytes)) = prepared(alloc, requests, a_map(alloc), BEFORE) else {
+        return End::TooEarly;
+    };
+    let refusal = append(alloc, &map, &mut bytes);
+    end_of_write(refusal, &bytes, BEFORE, MAP)
+}
+
+fn entries_written(alloc: Global, requests: usize) -> End {
+    let Some((entries, mut bytes)) = prepared(alloc, requests, two_entries(alloc), BEFORE) else {
+        return End::TooEarly;
+    };
+    let entries = entries.as_slice();
+    let refusal = append(alloc, &SortedEntries { entries }, &mut bytes);
+    end_of_write(refusal, &bytes, BEFORE, MAP)
+}
+
 // How a view of an archive ended, whose root is here.
 fn viewed<T: Portable>(alloc: Global, requests: usize, archive: &[u8], root: usize) -> End {
     if !request(alloc, requests) {
@@ -238,6 +289,11 @@ fn pair_viewed<T: PortablePointee>(
     viewed::<ArchivedTuple2<ArchivedRc<T, RcFlavor>, ArchivedRc<T, RcFlavor>>>(
         alloc, requests, archive, root,
     )
+}
+
+// And one of a map, by its schema.
+fn map_viewed<K: MapKey, V: Portable>(alloc: Global, requests: usize) -> End {
+    viewed::<ArchivedSortedMap<K, V>>(alloc, requests, SHARED_VALUES, 20)
 }
 
 // What is read back of an archive.
@@ -326,6 +382,19 @@ fn text_read(alloc: Global, requests: usize) -> End {
     let read: Result<String, End> = read(alloc, requests, BYTES_AND_TEXT, &mut ());
     match read {
         Ok(text) => right_if(text.as_str() == "hello world"),
+        Err(end) => end,
+    }
+}
+
+// Whether a map has two entries, those of the archive.
+fn is_map(map: &BTreeMap<String, u32>) -> bool {
+    map.len() == 2 && map.get("a") == Some(&1) && map.get("hello world") == Some(&2)
+}
+
+fn map_read(alloc: Global, requests: usize) -> End {
+    let read: Result<BTreeMap<String, u32>, End> = read(alloc, requests, MAP, &mut ());
+    match read {
+        Ok(map) => right_if(is_map(&map)),
         Err(end) => end,
     }
 }

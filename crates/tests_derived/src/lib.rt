@@ -24,6 +24,8 @@ mod runs;
 #[cfg(test)]
 mod spots;
 #[cfg(test)]
+mod stock;
+#[cfg(test)]
 mod tracks;
 #[cfg(test)]
 mod turns;

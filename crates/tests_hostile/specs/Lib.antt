@@ -1,1 +1,2 @@
 pub mod InnerShape
+pub mod MarkedMaps

@@ -17,6 +17,10 @@ mod faults;
 #[cfg(test)]
 mod inner;
 #[cfg(test)]
+mod maps;
+#[cfg(test)]
+mod marked;
+#[cfg(test)]
 mod oracle;
 #[cfg(test)]
 mod rows;

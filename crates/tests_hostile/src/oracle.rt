@@ -2,6 +2,7 @@
 // to the first fault of what they hold, and then it asks of each region in turn whether it lies where it may.
 
 mod bytes;
+mod keys;
 mod layout;
 mod regions;
 mod shared;
@@ -34,6 +35,7 @@ fn refusal_of(fault: Fault) -> Error {
         Fault::Type => Error::TypeMismatch,
         Fault::Length => Error::MetadataMismatch,
         Fault::Cycle => Error::CyclicValidate,
+        Fault::Order => Error::UnsortedKeys,
     }
 }
 

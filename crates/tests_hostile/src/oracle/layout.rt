@@ -1,6 +1,6 @@
 // What values take, as docs/FORMAT.md says it of expressions. Sizes are whole numbers: one that is past the greatest here is that greatest, which no buffer has.
 
-use archive_core::shape::{Def, Expr, IntegerKind, Kind, Pointee};
+use archive_core::shape::{Def, Expr, IntegerKind, Key, Kind, Pointee};
 
 // How deep expressions may lie in one another. A name that held itself behind no pointer would have no end.
 const LEVELS: usize = 100;
@@ -77,6 +77,14 @@ fn layout_of_pointer(pointee: &Pointee) -> Layout {
     Layout { size, align: 4 }
 }
 
+// What a key takes.
+pub(super) fn layout_of_key(key: Key) -> Layout {
+    match key {
+        Key::Leaf(kind) => layout_of_leaf(kind),
+        Key::Str => Layout { size: 8, align: 4 },
+    }
+}
+
 // What so many take, one behind another.
 pub(super) fn times(element: Layout, count: usize) -> Layout {
     Layout {
@@ -91,6 +99,15 @@ fn rounded(parts: Layout) -> Layout {
         size: up(parts.size, parts.align),
         align: parts.align,
     }
+}
+
+// What an entry of a map takes: a key, and behind it a value that takes so much.
+pub(super) fn layout_of_entry(key: Key, value: Layout) -> Layout {
+    let key = layout_of_key(key);
+    rounded(Layout {
+        size: up(key.size, value.align).saturating_add(value.size),
+        align: key.align.max(value.align),
+    })
 }
 
 // What a value takes.
@@ -112,7 +129,7 @@ fn layout_within(definitions: &[Def], expr: &Expr, levels: usize) -> Layout {
         Expr::Box(pointee) | Expr::Shared(_, pointee) | Expr::Weak(_, pointee) => {
             layout_of_pointer(pointee)
         }
-        Expr::Vec(_) | Expr::Str => Layout { size: 8, align: 4 },
+        Expr::Vec(_) | Expr::Map(_, _) | Expr::Str => Layout { size: 8, align: 4 },
         Expr::Named(name) => match definition(definitions, name) {
             Some(expr) => layout_within(definitions, expr, levels),
             None => ENDLESS,

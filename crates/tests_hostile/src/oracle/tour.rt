@@ -6,10 +6,13 @@ use crate::oracle::bytes::{
     byte_at, bytes_at, decoded_length, inline_length, is_legal, is_out_of_line, is_text, number_at,
     target_at,
 };
-use crate::oracle::layout::{Layout, definition, layout_of, size_of_leaf, times, up};
+use crate::oracle::keys::comes_behind;
+use crate::oracle::layout::{
+    Layout, definition, layout_of, layout_of_entry, layout_of_key, size_of_leaf, times, up,
+};
 use crate::oracle::regions::Region;
 use crate::oracle::shared::{Meeting, Met, look_up};
-use archive_core::shape::{Def, Expr, FlavorInfo, Kind, Pointee};
+use archive_core::shape::{Def, Expr, FlavorInfo, Key, Kind, Pointee};
 use std::alloc::Global;
 
 // How deep values and regions may lie in one another. A type that holds itself may lead round and round, but each round enters a region that is refused.
@@ -25,6 +28,7 @@ pub(super) enum Fault {
     Type,
     Length,
     Cycle,
+    Order,
 }
 
 // What is gone over.
@@ -39,6 +43,7 @@ struct Archive<'a> {
 enum Contents<'a> {
     Value(&'a Expr),
     Elements(&'a Expr, usize),
+    Entries(Key, &'a Expr, usize),
     Text(usize),
 }
 
@@ -142,7 +147,7 @@ fn contents_of(pointee: &Pointee, length: usize) -> Contents<'_> {
     }
 }
 
-// What a box or a vector owns, and where.
+// What a box, a vector or a map owns, and where.
 fn owned_at<'a>(bytes: &[u8], expr: &'a Expr, at: i128) -> Option<(Contents<'a>, i128)> {
     let target = target_at(bytes, at, at)?;
     match expr {
@@ -150,6 +155,10 @@ fn owned_at<'a>(bytes: &[u8], expr: &'a Expr, at: i128) -> Option<(Contents<'a>,
         Expr::Vec(element) => {
             let count = number_at(bytes, at.saturating_add(4))? as usize;
             Some((Contents::Elements(element, count), target))
+        }
+        Expr::Map(key, value) => {
+            let count = number_at(bytes, at.saturating_add(4))? as usize;
+            Some((Contents::Entries(*key, value, count), target))
         }
         _ => None,
     }
@@ -160,6 +169,9 @@ fn layout_of_contents(definitions: &[Def], contents: Contents<'_>) -> Layout {
     match contents {
         Contents::Value(expr) => layout_of(definitions, expr),
         Contents::Elements(element, count) => times(layout_of(definitions, element), count),
+        Contents::Entries(key, value, count) => {
+            times(layout_of_entry(key, layout_of(definitions, value)), count)
+        }
         Contents::Text(length) => Layout {
             size: length as i128,
             align: 1,
@@ -193,6 +205,9 @@ fn go_over_region(
         Contents::Value(expr) => go_over_value(archive, listing, expr, position, levels)?,
         Contents::Elements(element, count) => {
             go_over_elements(archive, listing, element, count, position, levels)?
+        }
+        Contents::Entries(key, value, count) => {
+            go_over_entries(archive, listing, key, value, count, position, levels)?
         }
         Contents::Text(length) => go_over_text(archive, listing, position, length)?,
     }
@@ -242,7 +257,7 @@ fn go_over_value(
         Expr::Array(count, element) => {
             go_over_elements(archive, listing, element, *count, at, levels)
         }
-        Expr::Box(_) | Expr::Vec(_) => {
+        Expr::Box(_) | Expr::Vec(_) | Expr::Map(_, _) => {
             let (contents, target) = owned_at(archive.bytes, expr, at)?;
             go_over_region(archive, listing, contents, target, levels)
         }
@@ -314,6 +329,52 @@ fn go_over_elements(
         go_over_value(archive, listing, element, at.saturating_add(offset), levels)?;
     }
     Some(())
+}
+
+// Entries, one behind another: the key, from the second entry on its order, and then the value.
+#[cycle(tour)]
+fn go_over_entries(
+    archive: Archive<'_>,
+    listing: &mut Listing,
+    key: Key,
+    value: &Expr,
+    count: usize,
+    at: i128,
+    levels: usize,
+) -> Option<()> {
+    let layout = layout_of(archive.definitions, value);
+    let entry = layout_of_entry(key, layout);
+    let offset = up(layout_of_key(key).size, layout.align);
+    for number in 0..count {
+        let place = at.saturating_add(times(entry, number).size);
+        go_over_key(archive, listing, key, place, levels)?;
+        let before = place.saturating_sub(entry.size);
+        if number > 0 && !comes_behind(archive.bytes, key, before, place)? {
+            return listing.ends_with(Fault::Order);
+        }
+        go_over_value(
+            archive,
+            listing,
+            value,
+            place.saturating_add(offset),
+            levels,
+        )?;
+    }
+    Some(())
+}
+
+#[cycle(tour)]
+fn go_over_key(
+    archive: Archive<'_>,
+    listing: &mut Listing,
+    key: Key,
+    at: i128,
+    levels: usize,
+) -> Option<()> {
+    match key {
+        Key::Leaf(kind) => go_over_leaf(archive, listing, kind, at),
+        Key::Str => go_over_string(archive, listing, at, levels),
+    }
 }
 
 // A string: its text stands in it, or is a region.

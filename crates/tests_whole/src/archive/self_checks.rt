@@ -10,16 +10,17 @@ use archive_core::api::{Access, HighValidator, check_pos_with_context};
 use archive_core::boxed::ArchivedBox;
 use archive_core::core_impls::{ArchivedTuple1, ArchivedTuple2, ArchivedTuple3};
 use archive_core::error::Error;
+use archive_core::map::ArchivedSortedMap;
 use archive_core::own::{ArchivedRecord, NamedRecord};
 use archive_core::primitive::{
-    ArchivedChar, ArchivedNonZeroU16, ArchivedU16, ArchivedU32, ArchivedU128,
+    ArchivedChar, ArchivedI32, ArchivedNonZeroU16, ArchivedU16, ArchivedU32, ArchivedU128,
 };
 use archive_core::result::ArchivedResult;
 use archive_core::self_check::{BySchema, RecordCheck, SelfCheck};
 use archive_core::shape::Schema;
 use archive_core::slice::ArchivedSlice;
 use archive_core::string::{ArchivedStr, ArchivedString};
-use archive_core::traits::Portable;
+use archive_core::traits::{MapKey, Portable};
 use archive_core::vec::ArchivedVec;
 use archive_core::view::Ref;
 use std::alloc::{AllocError, Global};
@@ -179,6 +180,35 @@ fn vectors_check_themselves_as_their_schemas_do(rt: HostRuntime) {
     assert_agrees::<ArchivedVec<()>>(&rt, alloc, true, units);
     let inner = b"\x01\0\0\0\xfc\xff\xff\xff\x02\0\0\0\xf8\xff\xff\xff\x01\0\0\0";
     assert_agrees::<ArchivedVec<ArchivedVec<bool>>>(&rt, alloc, true, inner);
+}
+
+// The same of a map.
+fn assert_map_agrees<K: MapKey, V: Portable>(
+    rt: &impl Abort,
+    alloc: Global,
+    checks_itself: bool,
+    archive: &[u8],
+) {
+    assert_agrees::<ArchivedSortedMap<K, V>>(rt, alloc, checks_itself, archive);
+}
+
+#[test]
+fn maps_check_themselves_as_their_schemas_do(rt: HostRuntime) {
+    let alloc = rt.alloc();
+    let signed = b"\xff\xff\xff\xff\x01\0\0\0\x01\0\0\0\0\0\0\0\xf0\xff\xff\xff\x02\0\0\0";
+    assert_map_agrees::<ArchivedI32, bool>(&rt, alloc, true, signed);
+    let texts =
+        b"hello world\0a\xff\xff\xff\xff\xff\xff\xff\x8b\0\0\0\xec\xff\xff\xff\xf0\xff\xff\xff\x02\0\0\0";
+    assert_map_agrees::<ArchivedString, ()>(&rt, alloc, true, texts);
+    let nested =
+        b"\x03\x04\x05\x06\x01\0\0\0\xf8\xff\xff\xff\x01\0\0\0\x02\0\0\0\xee\xff\xff\xff\x01\0\0\0\xe8\xff\xff\xff\x02\0\0\0";
+    assert_map_agrees::<u8, ArchivedSortedMap<u8, i8>>(&rt, alloc, true, nested);
+}
+
+#[test]
+fn maps_to_values_with_a_schema_go_by_their_schema(rt: HostRuntime) {
+    let named = b"\x01\0\0\0\x05\0\0\0\x06\0\0\0\xf4\xff\xff\xff\x01\0\0\0";
+    assert_map_agrees::<u8, ArchivedTwo>(&rt, rt.alloc(), false, named);
 }
 
 #[test]
