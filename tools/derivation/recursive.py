@@ -2,6 +2,7 @@
 
 from . import recursive_code, recursive_proofs, recursive_specs
 from .formats import Formats, layout_of, snake
+from .model import Type
 from .recursive_terms import Terms
 
 WRITTEN = "Written by tools/derive: change the declaration, and run it again."
@@ -36,6 +37,7 @@ class Recursive:
         self.n = self.terms.n
         self.source = f"{declaration.name}-Source"  # the type as antt has it, under a name that nothing else has
         self.written = WRITTEN
+        self.itself = Type(declaration.name, own=declaration)
         self.is_record = declaration.kind == "struct"
         self.tag = None
         if self.is_record:

@@ -8,9 +8,9 @@ from .formats import snake
 from .layout import Generic, Group, call, flat, implementation, literal, pair, signature, statement
 
 SERIALIZED = """    ensures serialized {{ IfOk result (λ r. Serialized {D} {X} (⟦<{T} as Archive>⟧.keys {v}.now)
-        (⟦<{T} as Archive>⟧.meaning {v}.now) (⟦<{T} as Archive>⟧.flat {v}.now r)
+        (⟦<{T} as Archive>⟧.meaning {v}.now) ({flat})
         (S.state serializer.old) (S.state serializer.new)) }}
-    ensures same_value {{ IfOk result (λ r. ⟦<{T} as Archive>⟧.belongs {v}.now r) }}
+    ensures same_value {{ IfOk result (λ r. {belongs}) }}
     ensures goes_on {{ GoesOn (S.state serializer.old) (S.state serializer.new) }}
     ensures refused {{ IfErr result (IsRefused {D} {X} (⟦<{T} as Archive>⟧.keys {v}.now)
         (⟦<{T} as Archive>⟧.meaning {v}.now) (S.state serializer.old) (S.state serializer.new)) }}
@@ -38,7 +38,7 @@ def bring(it):
     f.use("archive_core::ser", "ResolverAlloc", "Writer", "serialize_one")
     f.use("archive_core::boxed", "BoxResolver", "serialize_inner")
     f.use("archive_core::vec", "VecResolver")
-    f.use("archive_recursive", "BoxAt", "VecAt", "before_box", "before_vec", "choice_of", "define_name", "part_of_record", "part_of_variant", "read_part", "record_of")
+    f.use("archive_recursive", "BoxAt", "OptionAt", "VecAt", "before_box", "before_vec", "choice_of", "define_name", "option_of", "part_of_record", "part_of_variant", "read_part", "record_of")
     f.use("archive_recursive", "serialize_inner_slice", "serialize_part", "tag_of_choice")
     f.use("archive_core::traits", "Archive", "ArchivePointee", "ArchiveUnsized", "Choice", "Deserialize", "Entries", "Keys", "Portable", "Record", "Serialize", "SerializeUnsized")
     f.use("archive_core::view", "RawView", "Ref")
@@ -48,6 +48,8 @@ def bring(it):
     f.ghost("SelfCheck.Laws", "by_schema")
     f.ghost("Expressions", "shape_of", "shapes_in")
     f.ghost("Shape", "one", "boxed", "vec")
+    f.ghost("Choices", "option_shape")
+    f.ghosts.setdefault("archive_recursive.specs.Hollow", set()).add("option_at")
     f.ghost("Value", "case", "product", "value", "no_value")
     f.ghost("Error.TheVariants", "OutOfMemory")
     f.ghost("Seen", "IsPartOf", "RefusesPart", "ReadsPart", "part_tag")
@@ -111,6 +113,8 @@ def expression(it, type):
     item = expression(it, type.args[0])
     if type.name == "Box":
         return f"Expr::Box(Box::new(alloc, Pointee::One({item}))?)"
+    if type.name == "Option":
+        return f"option_of(alloc, {item})?"
     return f"Expr::Vec(Box::new(alloc, {item})?)"
 
 
@@ -218,7 +222,7 @@ def kept(it, type):
     """The resolver of a part."""
     if not it.terms.leads_back(type):
         return f"<{it.formats.rust(type)} as Archive>::Resolver"
-    return "BoxResolver" if type.name == "Box" else "VecResolver"
+    return {"Box": "BoxResolver", "Option": "Option<BoxResolver>", "Vec": "VecResolver"}[type.name]
 
 
 def kept_of(it, case):
@@ -245,8 +249,7 @@ pub enum {it.resolver} {{
 
 def hollow(it, type):
     """What stands for a part that was written: its type."""
-    item = it.formats.archived(type.args[0])
-    return f"{'BoxAt' if type.name == 'Box' else 'VecAt'}<{item}>"
+    return f"{type.name}At<{it.archived}>"
 
 
 def hollows(it, case):
@@ -258,7 +261,7 @@ def hollows(it, case):
             rust.append(mine)
             values.append(f"&{at}" if it.is_record else at)
             continue
-        made = "BoxAt::new()" if type.name == "Box" else f"VecAt::of({at}.len())"
+        made = f"VecAt::of({at}.len())" if type.name == "Vec" else f"{type.name}At::new()"
         rust.append(hollow(it, type))
         values.append(f"&h{name[1:]}")
         lines.append((f"let h{name[1:]}: {hollow(it, type)} = ", made))
@@ -341,13 +344,29 @@ def writing(it):
     if it.is_record:
         out.append(record_writing(it))
     else:
-        out += [case_writing(it, case) for case in it.cases if case.count]
+        out += [case_writing(it, case) for case in it.cases if case.count and not is_inline(case)]
         out.append(choice_writing(it))
     return "\n".join(out)
 
 
 def contract(it, type, v):
-    return SERIALIZED.format(T=it.formats.rust(type), D=it.terms.definitions(type), X=it.terms.shape(type), v=v)
+    """What a function that writes what a value owns promises."""
+    return SERIALIZED.format(
+        T=it.formats.rust(type), D=it.terms.definitions(type), X=it.terms.shape(type), v=v, flat=flat_of(it, type, f"{v}.now", "r"), belongs=belongs_of(it, type, f"{v}.now", "r")
+    )
+
+
+def flat_of(it, type, v, r):
+    """What is read in a value's place, by what is kept of it: of an option by that alone."""
+    if it.terms.leads_back(type) and type.name == "Option":
+        return it.terms.flat(type, v, r)[1:-1]
+    return f"⟦<{it.formats.rust(type)} as Archive>⟧.flat {v} {r}"
+
+
+def belongs_of(it, type, v, r):
+    if it.terms.leads_back(type) and type.name == "Option":
+        return "⊤"
+    return f"⟦<{it.formats.rust(type)} as Archive>⟧.belongs {v} {r}"
 
 
 def owner_writing(it, type):
@@ -367,6 +386,20 @@ fn serialize_{name}<{WRITER}>(value: &{T}, serializer: &mut S) -> Result<BoxReso
     match serialize_inner(inner, kept, serializer) {{
         Ok(at) => Ok(at),
         Err(error) => Err(error),
+    }}
+}}
+"""
+    if type.name == "Option":
+        return f"""// Writes what an option owns.
+#[cycle(serialize_{it.n})]
+fn serialize_{name}<{WRITER}>(value: &{T}, serializer: &mut S) -> Result<{kept(it, type)}, Error>
+{contract(it, type, "value")}{{
+    match value {{
+        None => Ok(None),
+        Some(inner) => match serialize_{it.word(item)}(inner, serializer) {{
+            Ok(kept) => Ok(Some(kept)),
+            Err(error) => Err(error),
+        }},
     }}
 }}
 """
@@ -415,11 +448,11 @@ fn serialize_{name}<{WRITER}>(value: &{T}, serializer: &mut S) -> Result<VecReso
 """
 
 
-def parts_written(it, case, values):
-    lines = ""
+def parts_written(it, case, values, indent=4):
+    lines, pad = "", " " * indent
     for name, type, back, value in zip(case.names, case.types, case.leads_back, values):
         function = f"serialize_{it.word(type)}" if back else "serialize_part"
-        lines += f"    let {name} = match {function}({value}, serializer) {{\n        Ok({name}) => {name},\n        Err(error) => return Err(error),\n    }};\n"
+        lines += f"{pad}let {name} = match {function}({value}, serializer) {{\n{pad}    Ok({name}) => {name},\n{pad}    Err(error) => return Err(error),\n{pad}}};\n"
     return lines
 
 
@@ -428,8 +461,9 @@ def said_of_parts(it, case, kept_):
     sources = [f"⟦<{rust} as Archive>⟧" for rust in case.rust]
     keys = infix("++", [f"{q}.keys {a}.now" for q, a in zip(sources, case.names)], "[]")
     meanings = chain("value", [f"({q}.meaning {a}.now)" for q, a in zip(sources, case.names)], "no_value")
-    flats = chain("value", [f"({q}.flat {a}.now {kept_}{'.1' * i}.0)" for i, (q, a) in enumerate(zip(sources, case.names))], "no_value")
-    belongs = infix("×", [f"{q}.belongs {a}.now {kept_}{'.1' * i}.0" for i, (q, a) in enumerate(zip(sources, case.names))], "Unit {0}")
+    kepts = [f"{kept_}{'.1' * i}.0" for i in range(case.count)]
+    flats = chain("value", [f"({flat_of(it, type, f'{a}.now', r)})" for type, a, r in zip(case.types, case.names, kepts)], "no_value")
+    belongs = infix("×", [belongs_of(it, type, f"{a}.now", r) for type, a, r in zip(case.types, case.names, kepts)], "Unit {0}")
     return keys, meanings, flats, belongs
 
 
@@ -453,12 +487,23 @@ def case_writing(it, case):
 """
 
 
+def is_inline(case):
+    """Whether a variant is written where the value is matched: the toolchain doesn't see that a function ends that is passed several parts which lead back."""
+    return sum(case.leads_back) > 1
+
+
 def choice_writing(it):
     arms = ""
     for case in it.cases:
         made = f"{it.resolver}::{case.name}"
         if not case.count:
             arms += f"        {flat(pattern(it, case, []))} => Ok({made}),\n"
+            continue
+        if is_inline(case):
+            arms += f"""        {flat(pattern(it, case, case.names))} => {{
+{parts_written(it, case, case.names, 12)}            Ok({made}({flat(pair(case.names))}))
+        }}
+"""
             continue
         arms += f"""        {flat(pattern(it, case, case.names))} => match serialize_{case.n}({', '.join(case.names)}, serializer) {{
             Ok(kept) => Ok({made}(kept)),
@@ -468,7 +513,7 @@ def choice_writing(it):
     return f"""// Writes what a value owns.
 #[cycle(serialize_{it.n})]
 fn serialize_{it.n}<{WRITER}>(value: &{it.name}, serializer: &mut S) -> Result<{it.resolver}, Error>
-{SERIALIZED.format(T=it.name, D=f"{it.n}_definitions", X=f"{it.n}_shape", v="value")}{{
+{contract(it, it.itself, "value")}{{
     match value {{
 {arms}    }}
 }}
@@ -481,7 +526,7 @@ def record_writing(it):
     return f"""// Writes what a value owns, part by part.
 #[cycle(serialize_{it.n})]
 fn serialize_{it.n}<{WRITER}>(value: &{it.name}, serializer: &mut S) -> Result<{it.resolver}, Error>
-{SERIALIZED.format(T=it.name, D=f"{it.n}_definitions", X=f"{it.n}_shape", v="value")}{{
+{contract(it, it.itself, "value")}{{
 {parts_written(it, case, values)}    Ok({it.resolver} {{ kept: {flat(pair(case.names))} }})
 }}
 """
@@ -563,6 +608,16 @@ def owner_reading(it, type):
     let whole = Box::new(alloc, value)?;
     Ok(whole)
 """
+    elif type.name == "Option":
+        body = f"""    let view: Ref<'_, ArchivedOption<{inner}>> = Ref::at(part);
+    match view.as_ref() {{
+        None => Ok(None),
+        Some(inner) => {{
+            let value = read_{it.word(item)}(alloc, inner.part(), deserializer)?;
+            Ok(Some(value))
+        }}
+    }}
+"""
     else:
         body = f"""    let view: Ref<'_, ArchivedVec<{inner}>> = Ref::at(part);
     let list = before_vec(view);
@@ -573,7 +628,7 @@ def owner_reading(it, type):
     }}
     Ok(items)
 """
-    return reader(it, it.word(type), T, READ.format(T=T, X=X), body, "Reads a box back." if type.name == "Box" else "Reads a vector back.")
+    return reader(it, it.word(type), T, READ.format(T=T, X=X), body, {"Box": "Reads a box back.", "Option": "Reads an option back.", "Vec": "Reads a vector back."}[type.name])
 
 
 def parts_read(it, case):

@@ -1,5 +1,6 @@
 """The proofs of the functions that write and read a recursive type: answers to the goals that the check leaves, which are named after the code."""
 
+from . import recursive_code
 from .formats import snake
 from .recursive_terms import brought, brought_owns
 
@@ -26,7 +27,9 @@ CITED = {
     "archive_recursive.proofs.ReadElements": "FirstElements all_have elements_more elements_all element_refused",
     "archive_recursive.proofs.ReadRecords": "record_read_back record_refuses first_refuses later_refuses",
     "archive_recursive.proofs.Runs": "Continues continues_step continues_broken continues_end belongs_end",
+    "archive_recursive.proofs.ReadVariants": "case_read_back case_refuses empty_case_read_back",
     "archive_recursive.proofs.RunRegions": "run_owned long_run_refused",
+    "archive_recursive.proofs.WrittenVariants": "serialized_case serialized_empty_case case_refused",
 }
 
 
@@ -74,10 +77,6 @@ def head(it, body):
     ]
     fits = "use mir.Val.{SFits}\n" if "SFits" in body else ""
     return brought(body, more) + brought_owns(it.terms, body) + fits
-
-
-def under(count):
-    return " ".join(["_"] * count)
 
 
 # ---- parts ----
@@ -189,7 +188,7 @@ def writing(it):
     out = {}
     answers = Answers(it, f"+serialize_{it.n}")
     for type in it.owners:
-        (box_written if type.name == "Box" else vec_written)(it, type, answers)
+        {"Box": box_written, "Option": option_written, "Vec": vec_written}[type.name](it, type, answers)
     if it.is_record:
         case = it.cases[0]
         values = [f"(out-{it.name} c.args.value.now).{field.name}" for field in case.fields]
@@ -201,7 +200,7 @@ def writing(it):
         parts_written(it, case, answers, f"serialize_{it.n}", values, as_)
         return answers.files()
     for case in it.cases:
-        if not case.count:
+        if not case.count or recursive_code.is_inline(case):
             continue
         values = [f"c.args.{name}.now" for name in case.names]
         if any(case.leads_back):
@@ -228,6 +227,14 @@ def box_written(it, type, answers):
     answers.answer(function, "returns-in-Ok-serialize_inner-clause-goes_on", goes)
     answers.answer(function, "returns-in-Err-serialize_inner-clause-goes_on", goes)
     answers.answer(function, "returns-in-Err-serialize_inner-clause-refused", f"({same} (c.in-Err-serialize_inner.ensures.refused.since _ c.{inner}.ensures.goes_on c.in-Ok.ensures.serialized))")
+
+
+def option_written(it, type, answers):
+    function, D, X = f"serialize_{it.word(type)}", it.terms.definitions(type), it.terms.shape(type.args[0])
+    case = f"{D} {D} (λ s k. k) _ _ 1 {X} refl _ _"
+    answers.answer(function, "returns-in-None-clause-serialized", f"rw c.in-None.is (serialized_empty_case {D} _ _ 0 refl _)")
+    answers.answer(function, "returns-in-Ok-clause-serialized", f"rw c.in-Some.is (serialized_case {case} _ _ _ c.in-Ok.ensures.serialized)")
+    answers.answer(function, "returns-in-Err-clause-refused", f"rw c.in-Some.is (case_refused {case} _ _ _ c.in-Err.ensures.refused)")
 
 
 def vec_written(it, type, answers):
@@ -307,7 +314,7 @@ def reading(it):
     answers = Answers(it, f"+read_{it.n}")
     measures(it, answers)
     for type in it.owners:
-        (box_read if type.name == "Box" else vec_read)(it, type, answers)
+        {"Box": box_read, "Option": option_read, "Vec": vec_read}[type.name](it, type, answers)
     for case in it.cases:
         alone = not it.is_record and not any(case.leads_back)
         here = Answers(it, f"read_{case.n}") if alone else answers
@@ -320,14 +327,23 @@ def reading(it):
 
 def measures(it, answers):
     """Each function ends before its caller does: by the end of what it reads, and by which of them it is."""
+    deepest = max(depth(it, type) for type in it.owners)
+
+    def measure(size, rank):
+        return f"(l.part.pos + {size}) * {deepest + 3} + {rank}"
+
     for type in it.owners:
-        size = 4 if type.name == "Box" else 8
-        answers.invariant("", f"decreases-read_{it.word(type)}", f"(l.part.pos + {size}) * 4 + 1")
+        answers.invariant("", f"decreases-read_{it.word(type)}", measure(it.formats.layout(type)[0], depth(it, type)))
     if not it.is_record:
         for case in it.cases:
             if any(case.leads_back):
-                answers.invariant("", f"decreases-read_{case.n}", f"(l.part.pos + {it.size}) * 4 + 2")
-    answers.invariant("", f"decreases-read_{it.n}", f"(l.part.pos + {it.size}) * 4 + 3")
+                answers.invariant("", f"decreases-read_{case.n}", measure(it.size, deepest + 1))
+    answers.invariant("", f"decreases-read_{it.n}", measure(it.size, deepest + 2))
+
+
+def depth(it, type):
+    """How many owners a type has around the recursive one."""
+    return 0 if it.terms.is_self(type) else 1 + depth(it, type.args[0])
 
 
 ARGS = "c.args.part.bytes.now c.args.part.pos c.args.part.len"
@@ -349,6 +365,24 @@ def box_read(it, type, answers):
         "(let same : c.in_ok-whole.whole.value ≡ c.in_ok-value.value = grind (arith, common_steps) in"
         f" rw same (box_read {D} {ARGS} (one {X}) _ _ _ _ c.requires (rw ({steps}) at c.in_ok-value.ensures.read)))",
     )
+
+
+def option_read(it, type, answers):
+    inner = type.args[0]
+    function = f"read_{it.word(type)}"
+    D, X = it.terms.definitions(inner), it.terms.shape(inner)
+    size, align = it.formats.layout(inner)
+    here = f"c.args.part.bytes.now c.args.part.pos c.args.part.len"
+    shown = "(rw (c.at-view.ensures.buffer, c.at-view.ensures.position) at c.in-{}.ensures.tag)"
+    case = f"{D} {D} (λ s k. k) _ _ 1 {X} refl (record {{ size = {size}; align = {align} }}) (record {{ solved = λ s k. refl }}) {here} {align} refl {shown.format('Some')}"
+    steps = [f"c.part.ensures.{clause}" for clause in ("buffer", "position", "length")] + [f"c.in-Some.ensures.{clause}" for clause in ("buffer", "position", "length")]
+    told = f"rw ({', '.join(steps + ['c.at-view.ensures.buffer', 'c.at-view.ensures.position'])}) at"
+    answers.answer(function, "returns-in-None-clause-read", f"empty_case_read_back {D} _ _ 0 refl {here} {shown.format('None')} _ _ refl")
+    answers.answer(
+        function, "returns-in_err-value-in-Some-clause-refused",
+        f"err_by c.from_residual.result c.in_err-value-in-Some.field-0.0 _ c.from_residual.ensures.1 (case_refuses {case} _ _ ({told} c.in_err-value-in-Some.ensures.refused))",
+    )
+    answers.answer(function, "returns-in_ok-value-in-Some-clause-read", f"case_read_back {case} _ _ _ _ ({told} c.in_ok-value-in-Some.ensures.read)")
 
 
 def vec_read(it, type, answers):

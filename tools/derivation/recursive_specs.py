@@ -74,14 +74,14 @@ def meaning(it):
     """What values mean, layer by layer, and the laws of it."""
     n, N, t = it.n, it.name, it.terms
     said = [
-        ("meaning", "Value", layer_meaning, "each_mapped", "means"),
-        ("keys", "(List Naming)", layer_keys, "each_mapped_keys", "has_keys"),
+        ("meaning", "Value", layer_meaning, "means"),
+        ("keys", "(List Naming)", layer_keys, "has_keys"),
     ]
     lines = []
-    for which, type, layer, mapped, word in said:
+    for which, type, layer, word in said:
         lines.append(f"abbrev pub {n}_{which}_layer : {{A : Type 0}} → (A → {type}) → {N}-F A → {type}\n" + "".join(f"{n}_{which}_layer m {p} = {layer(it, c)}\n" for p, c in layers(it)))
         lines.append(f"pub {n}_{which} : {it.source} → {type}\n{n}_{which} = fold-{N} {type} ({n}_{which}_layer (λ v. v))\n")
-        lines.append(rolled(it, which, type, layer, mapped, word))
+        lines.append(rolled(it, which, type, layer, word))
         lines.append(opened(it, which, type, word))
     lines += flats(it)
     lines += laws(it)
@@ -107,35 +107,47 @@ def layers(it):
     return [(f"(Layer.{case.name}{''.join(' ' + b for b in case.binders)})" if case.binders else f"Layer.{case.name}", case) for case in it.cases]
 
 
-def layer_meaning(it, case, m="m"):
-    its = it.terms.parts_meaning(case.types, case.binders, m)
+def layer_meaning(it, case, m="m", terms=None):
+    """What a layer means; `terms` are of some parts by their index, in place of what they mean."""
+    its = it.terms.parts_meaning(case.types, case.binders, m, terms)
     return f"product {its}" if it.is_record else f"case {case.tag} {its}"
 
 
-def layer_keys(it, case, m="m"):
-    return it.terms.parts_keys(case.types, case.binders, m)
+def layer_keys(it, case, m="m", terms=None):
+    return it.terms.parts_keys(case.types, case.binders, m, terms)
 
 
-def rolled(it, which, type, layer, mapped, word):
+def rolled(it, which, type, layer, word):
     """What is said of a value that is made of a layer."""
     n, N = it.n, it.name
     out = f"pub {n}_{word}_roll : (x : {N}-F {it.source}) → {n}_{which} (roll-{N} x) ≡ {n}_{which}_layer {n}_{which} x\nunfolding {n}_{which}\n"
     for pattern, case in layers(it):
-        lists = [i for i, type_ in enumerate(case.types) if it.terms.leads_back(type_) and type_.name == "Vec"]
+        mapped_parts = [i for i, type_ in enumerate(case.types) if it.terms.leads_back(type_) and type_.name in ("Vec", "Option")]
         step = f"fold-roll-{N} {type} ({n}_{which}_layer (λ v. v)) {pattern}"
-        for j in lists:
-            hole = layer(it, case, f"{n}_{which}")
+        for j in mapped_parts:
             # those before it are the value's own already, those behind it are still mapped
-            for i in lists:
-                its = it.terms.function(which, case.types[i].args[0], f"{n}_{which}")
-                own = f"(each_{which} {its} {case.binders[i]}.items)"
-                if i == j:
-                    hole = hole.replace(own, "vs", 1)
-                elif i > j:
-                    hole = hole.replace(own, f"(each_{which} (λ v. v) (map {n}_{which} {case.binders[i]}.items))", 1)
-            step += f" ∙ ap (λ vs. {hole}) ({mapped} {n}_{which} {case.binders[j]}.items)"
+            terms = {i: "vs" if i == j else mapped_part(it, which, case.types[i], case.binders[i]) for i in mapped_parts if i >= j}
+            hole = layer(it, case, f"{n}_{which}", terms)
+            step += f" ∙ ap (λ vs. {hole}) ({equation(it, which, case.types[j], case.binders[j])})"
         out += f"{n}_{word}_roll {pattern} = {step}\n"
     return out
+
+
+def mapped_part(it, which, type, x):
+    """What is said of a vector or an option in a layer whose values were mapped."""
+    said = f"{it.n}_{which}"
+    if type.name == "Vec":
+        return f"(each_{which} (λ v. v) (map {said} {x}.items))"
+    inner = it.terms.function(which, type.args[0], "(λ v. v)")
+    return f"(option_{which} {inner} (map_option_box {said} {x}))"
+
+
+def equation(it, which, type, x):
+    """That this is what is said of its own values."""
+    keys = "_keys" if which == "keys" else ""
+    if type.name == "Vec":
+        return f"each_mapped{keys} {it.n}_{which} {x}.items"
+    return f"option_mapped{keys} {it.n}_{which} {x}"
 
 
 def opened(it, which, type, word):
@@ -243,6 +255,8 @@ def held_keys(it, type, x):
         return f"({it.n}_keys {x}.0)"
     if t.leads_back(type) and type.name == "Box":
         return held_keys(it, type.args[0], f"{x}.value")
+    if t.leads_back(type) and type.name == "Option":
+        return f"(option_keys {t.function('keys', type.args[0], f'{it.n}_keys')} (map_option_box (λ e. e.0) {x}))"
     if t.leads_back(type):
         return f"(each_keys {it.n}_keys (map (λ e. e.0) {x}.items))"
     return t.keys(type, x, f"{it.n}_keys")
@@ -254,6 +268,8 @@ def held_meaning(it, type, x):
         return f"({it.n}_meaning {x}.0)"
     if t.leads_back(type) and type.name == "Box":
         return f"(box {held_meaning(it, type.args[0], f'{x}.value')})"
+    if t.leads_back(type) and type.name == "Option":
+        return f"(option_meaning {t.function('meaning', type.args[0], f'{it.n}_meaning')} (map_option_box (λ e. e.0) {x}))"
     if t.leads_back(type):
         return f"(list (each_meaning {it.n}_meaning (map (λ e. e.0) {x}.items)))"
     return t.meaning(type, x, f"{it.n}_meaning")

@@ -1,7 +1,7 @@
 """Terms of antt on the parts of recursive types: what a part looks like, what it means, and the laws of it.
 
-A part is plain (a number, a text, another type that `tools/derive` wrote), the type itself, or an owner of it: a box or a vector. A term is one at a value,
-which is a term itself: `meaning(type, "a0", m)`, where `m` is the meaning of the type itself.
+A part is plain (a number, a text, another type that `tools/derive` wrote), the type itself, or an owner of it: a box, an option of a box, or a vector. A term
+is one at a value, which is a term itself: `meaning(type, "a0", m)`, where `m` is the meaning of the type itself.
 """
 
 from .formats import INTEGERS, snake
@@ -12,14 +12,6 @@ LEAVES = {
     **{f"i{n}": (f"leaf (number_kind signed w{n})", "number {x}") for n in (8, 16, 32, 64, 128)},
     "char": ("leaf char", "number (pos {x})"),
 }
-OWNERS = ("Box", "Vec")
-
-
-def is_taken(type):
-    """Whether a part that doesn't lead back may be of this type."""
-    return type.own is not None and not type.args and not type.own.recursive or type.name in LEAVES or type.name == "String"
-
-
 class Terms:
     """The terms of a recursive type. It gathers what a file has to bring in."""
 
@@ -54,7 +46,7 @@ class Terms:
         if type.name == "String":
             return "str"
         item = self.shape(type.args[0])
-        return f"(boxed (one {item}))" if type.name == "Box" else f"(vec {item})"
+        return {"Box": f"(boxed (one {item}))", "Option": f"(option_shape {item})", "Vec": f"(vec {item})"}[type.name]
 
     def definitions(self, type):
         return f"{self.n}_definitions" if self.leads_back(type) else "no_definition"
@@ -77,6 +69,8 @@ class Terms:
         item = type.args[0]
         if type.name == "Box":
             return f"(box {self.meaning(item, f'{x}.value', m)})"
+        if type.name == "Option":
+            return f"(option_meaning {self.function('meaning', item, m)} {x})"
         return f"(list (each_meaning {self.function('meaning', item, m)} {x}.items))"
 
     def keys(self, type, x, k):
@@ -89,6 +83,8 @@ class Terms:
         item = type.args[0]
         if type.name == "Box":
             return self.keys(item, f"{x}.value", k)
+        if type.name == "Option":
+            return f"(option_keys {self.function('keys', item, k)} {x})"
         return f"(each_keys {self.function('keys', item, k)} {x}.items)"
 
     def flat(self, type, x, r):
@@ -101,12 +97,14 @@ class Terms:
         item = self.shape(type.args[0])
         if type.name == "Box":
             return f"(box (hole (to_pointee {r} (one {item}) 0)))"
+        if type.name == "Option":
+            return f"(option_at (one {self.shape(type.args[0].args[0])}) {r})"
         return f"(hole (to_pointee {r} (run {item}) (length {x}.items)))"
 
     def belongs(self, type, x, r):
         if type.own is not None:
             return f"({self.source_of(type)}.belongs {x} {r})"
-        if type.name in LEAVES or type.name == "Box":
+        if type.name in LEAVES or type.name in ("Box", "Option"):
             return "⊤"
         if type.name == "String":
             return f"(length (string_bytes {x}) ≤ 1073741823)"
@@ -128,6 +126,8 @@ class Terms:
         item = type.args[0]
         if type.name == "Box":
             return f"(box_keyed _ _ {self.keyed(item, f'{x}.value')})"
+        if type.name == "Option":
+            return f"(held_option_keyed {n}_keys {n}_meaning {x})"
         return f"(held_keyed {n}_keys {n}_meaning {x}.items)"
 
     def planned(self, type, x, held):
@@ -145,6 +145,11 @@ class Terms:
         D, X = f"{n}_definitions", self.shape(item)
         if type.name == "Box":
             return f"(boxed_one_planned {D} (one {X}) {X} refl _ _ {self.planned(item, f'{x}.value', held)})"
+        if type.name == "Option" and held:
+            return f"(held_option_planned {n}_keys {n}_meaning {D} {n}_shape {x})"
+        if type.name == "Option":
+            k, m = (self.function(which, item, f"{n}_{which}") for which in ("keys", "meaning"))
+            return f"(option_planned {D} {X} {k} {m} (λ y. {self.planned(item, 'y', False)}) {x})"
         if held:
             return f"(vec_planned {D} {X} _ _ _ (run_region_planned {D} {X} _ _ _ (held_planned {n}_keys {n}_meaning {D} {X} {x}.items)))"
         return f"(vec_planned {D} {X} _ _ _ (slice_planned {D} {X} {n}_keys {n}_meaning {n}_planned {x}.items))"
@@ -163,16 +168,19 @@ class Terms:
             out = f"(both {self.definitions(type)} {out})"
         return out
 
-    def parts_meaning(self, types, values, m):
+    def parts_meaning(self, types, values, m, terms=None):
         out = "no_value"
-        for type, x in reversed(list(zip(types, values))):
-            out = f"(value {self.meaning(type, x, m)} {out})"
+        for i, (type, x) in reversed(list(enumerate(zip(types, values)))):
+            its = self.meaning(type, x, m)
+            if terms and i in terms:
+                its = f"(list {terms[i]})" if type.name == "Vec" else terms[i]
+            out = f"(value {its} {out})"
         return out
 
-    def parts_keys(self, types, values, k):
+    def parts_keys(self, types, values, k, terms=None):
         out = "[]"
-        for type, x in reversed(list(zip(types, values))):
-            out = f"({self.keys(type, x, k)} ++ {out})"
+        for i, (type, x) in reversed(list(enumerate(zip(types, values)))):
+            out = f"({terms[i] if terms and i in terms else self.keys(type, x, k)} ++ {out})"
         return out
 
     def parts_flat(self, types, values, r):
@@ -217,6 +225,8 @@ PRELUDE = {
     "archive_core.specs.Shape": "Name Shape Parts Variants named choice parts boxed vec str one run leaf char unsigned signed part no_part variant no_variant",
     "archive_core.specs.Value": "Value Values case product list box hole number value no_value text_value",
     "archive_core.specs.Keyed": "case_keyed record_keyed nothing_keyed part_keyed number_keyed text_keyed box_keyed",
+    "archive_core.specs.Choices": "option_shape",
+    "archive_core.specs.Options": "option_keys option_meaning option_planned",
     "archive_core.specs.Planned": "leaf_planned string_planned",
     "archive_core.specs.PlannedOwners": "boxed_one_planned vec_planned run_region_planned slice_planned",
     "archive_core.specs.PartsPlanned": "part_planned no_part_planned record_planned",
@@ -225,6 +235,8 @@ PRELUDE = {
     "archive_core.specs.Strings": "string_flat",
     "archive_core.specs.Writing": "Naming IsKeyed to_pointee",
     "archive_recursive.specs.Held": "knows_both each_mapped each_mapped_keys held_keyed held_planned variant_planned keyed_as planned_as",
+    "archive_recursive.specs.HeldOptions": "map_option_box option_mapped option_mapped_keys held_option_keyed held_option_planned",
+    "archive_recursive.specs.Hollow": "option_at",
 }
 RENAMED = {"number_kind": ("archive_core.specs.Shape", "number")}
 

@@ -3,4 +3,6 @@
 
 pub mod expr;
 pub mod list;
+pub mod rose;
+pub mod search;
 pub mod tree;
