@@ -43,7 +43,7 @@ class Recursive:
         if self.is_record:
             self.cases = [Case(self, self.name, self.n, None, declaration.form, declaration.fields, declaration.docs)]
             whole = self.cases[0]
-            self.types, self.fields = whole.types, declaration.fields
+            self.types, self.fields, self.names = whole.types, declaration.fields, whole.names
             self.binders = [f"t.{field.name}" for field in declaration.fields]
         else:
             self.cases = [
@@ -73,8 +73,10 @@ class Recursive:
         """What functions of an owner are called by: `box_expr`."""
         return self.n if self.terms.is_self(type) else f"{snake(type.name)}_{self.word(type.args[0])}"
 
-    def antt(self, type):
-        """A type as antt has it."""
+    def antt(self, type, held=None):
+        """A type as antt has it, with `held` in place of the type itself."""
+        if held and self.terms.is_self(type):
+            return held
         if type.own is not None:
             return f"{type.name}-Source"
         if type.name[0] == "u" and type.name[1:].isdigit() or type.name == "char":
@@ -83,7 +85,9 @@ class Recursive:
             return "ℤ"
         if type.name == "String":
             return "(String Global)"
-        return f"({type.name} {self.antt(type.args[0])} Global)"
+        if type.name == "Option":
+            return f"(Option {self.antt(type.args[0], held)})"
+        return f"({type.name} {self.antt(type.args[0], held)} Global)"
 
     def plain_types(self, body):
         """The lines that bring in the types of plain parts that `tools/derive` wrote."""

@@ -1,7 +1,7 @@
 """The definitions of a recursive type that stand beside its module: what it looks like, and what its values mean."""
 
 from .formats import ALIGNS
-from .recursive_terms import brought, brought_owns
+from .recursive_terms import brought, brought_owns, something
 
 
 def shape(it):
@@ -92,8 +92,7 @@ def meaning(it):
     aliases = f"use Rattle.{declared}.{N}.{{{N} as {it.source}}}\n" + it.plain_types(body)
     aliases += "" if it.is_record else f"use Rattle.{declared}.{N}.TheOpen as Layer\nuse Rattle.{declared}.{N}.TheVariants as Its\nuse Rattle.{declared}.{it.resolver}.TheVariants as Kept\n"
     shape = f"use Rattle.{it.declaration.crate}.specs.{N}Shape.{{{', '.join(w for w in it.shape_names() if w in body)}}}\n"
-    if not it.is_record:
-        more.append(("std.proofs.Common", PRELUDE_COMMON))
+    more.append(("std.proofs.Common", PRELUDE_COMMON))
     return f"-- What {N} means. {it.written}\n{brought(body, more)}{shape}{aliases}{brought_owns(t, body)}\n{body}"
 
 
@@ -107,47 +106,63 @@ def layers(it):
     return [(f"(Layer.{case.name}{''.join(' ' + b for b in case.binders)})" if case.binders else f"Layer.{case.name}", case) for case in it.cases]
 
 
-def layer_meaning(it, case, m="m", terms=None):
+def layer_meaning(it, case, m="m", terms=None, values=None):
     """What a layer means; `terms` are of some parts by their index, in place of what they mean."""
-    its = it.terms.parts_meaning(case.types, case.binders, m, terms)
+    its = it.terms.parts_meaning(case.types, values or case.binders, m, terms)
     return f"product {its}" if it.is_record else f"case {case.tag} {its}"
 
 
-def layer_keys(it, case, m="m", terms=None):
-    return it.terms.parts_keys(case.types, case.binders, m, terms)
+def layer_keys(it, case, m="m", terms=None, values=None):
+    return it.terms.parts_keys(case.types, values or case.binders, m, terms)
+
+
+def splits(it, case):
+    """The values of the parts, each option as nothing and as something: a layer that is mapped computes at these alone."""
+    out = [[]]
+    for type, name in zip(case.types, case.names):
+        each = ["None", f"(Some {name})"] if it.terms.is_option(type) else [name]
+        out = [values + [one] for values in out for one in each]
+    return out
+
+
+def layer_of(it, case, values):
+    """The layer of these parts."""
+    if it.is_record:
+        return "(record { " + "; ".join(f"{field.name} = {value}" for field, value in zip(case.fields, values)) + " })"
+    return f"(Layer.{case.name}{''.join(' ' + value for value in values)})" if values else f"Layer.{case.name}"
+
+
+def arguments_of(it, case, held=None):
+    """The parts as arguments."""
+    return "".join(f" ({name} : {it.antt(type, held)})" for name, type in zip(case.names, case.types))
 
 
 def rolled(it, which, type, layer, word):
     """What is said of a value that is made of a layer."""
     n, N = it.n, it.name
-    out = f"pub {n}_{word}_roll : (x : {N}-F {it.source}) → {n}_{which} (roll-{N} x) ≡ {n}_{which}_layer {n}_{which} x\nunfolding {n}_{which}\n"
-    for pattern, case in layers(it):
-        mapped_parts = [i for i, type_ in enumerate(case.types) if it.terms.leads_back(type_) and type_.name in ("Vec", "Option")]
-        step = f"fold-roll-{N} {type} ({n}_{which}_layer (λ v. v)) {pattern}"
-        for j in mapped_parts:
+
+    def step(case, pattern, values):
+        lists = [i for i, type_ in enumerate(case.types) if it.terms.leads_back(type_) and type_.name == "Vec"]
+        out = f"fold-roll-{N} {type} ({n}_{which}_layer (λ v. v)) {pattern}"
+        for j in lists:
             # those before it are the value's own already, those behind it are still mapped
-            terms = {i: "vs" if i == j else mapped_part(it, which, case.types[i], case.binders[i]) for i in mapped_parts if i >= j}
-            hole = layer(it, case, f"{n}_{which}", terms)
-            step += f" ∙ ap (λ vs. {hole}) ({equation(it, which, case.types[j], case.binders[j])})"
-        out += f"{n}_{word}_roll {pattern} = {step}\n"
-    return out
+            terms = {i: "vs" if i == j else f"(each_{which} (λ v. v) (map {n}_{which} {values[i]}.items))" for i in lists if i >= j}
+            equation = f"{'each_mapped' if which == 'meaning' else 'each_mapped_keys'} {n}_{which} {values[j]}.items"
+            out += f" ∙ ap (λ vs. {layer(it, case, f'{n}_{which}', terms, values)}) ({equation})"
+        return out
 
-
-def mapped_part(it, which, type, x):
-    """What is said of a vector or an option in a layer whose values were mapped."""
-    said = f"{it.n}_{which}"
-    if type.name == "Vec":
-        return f"(each_{which} (λ v. v) (map {said} {x}.items))"
-    inner = it.terms.function(which, type.args[0], "(λ v. v)")
-    return f"(option_{which} {inner} (map_option_box {said} {x}))"
-
-
-def equation(it, which, type, x):
-    """That this is what is said of its own values."""
-    keys = "_keys" if which == "keys" else ""
-    if type.name == "Vec":
-        return f"each_mapped{keys} {it.n}_{which} {x}.items"
-    return f"option_mapped{keys} {it.n}_{which} {x}"
+    claim = f"{n}_{which} (roll-{N} {{0}}) ≡ {n}_{which}_layer {n}_{which} {{0}}"
+    said = f"pub {n}_{word}_roll : (x : {N}-F {it.source}) → {claim.format('x')}\n"
+    opened = f"unfolding {n}_{which}\n"
+    if not it.is_record:
+        lines = "".join(f"{n}_{word}_roll {layer_of(it, case, values)} = {step(case, layer_of(it, case, values), values)}\n" for case in it.cases for values in splits(it, case))
+        return said + opened + lines
+    if not any(map(it.terms.is_option, it.types)):
+        return f"{said}{opened}{n}_{word}_roll t = {step(it, 't', it.binders)}\n"
+    whole = layer_of(it, it, it.names)
+    lines = "".join(f"{n}_{word}_at {' '.join(values)} = {step(it, layer_of(it, it, values), values)}\n" for values in splits(it, it))
+    at = f"{n}_{word}_at :{arguments_of(it, it)} → {claim.format(whole)}\n{opened}{lines}\n"
+    return f"{at}{said}{n}_{word}_roll x = {n}_{word}_at {' '.join(f'x.{field.name}' for field in it.fields)}\n"
 
 
 def opened(it, which, type, word):
@@ -224,11 +239,17 @@ def laws(it):
     for law, claim, proof in (("keyed", f"IsKeyed ({n}_keys t) ({n}_meaning t)", keyed), ("planned", f"HasPlan {D} {X} ({n}_keys t) ({n}_meaning t)", planned)):
         held = f"((t : {it.source}) × {claim})"
         rolled_claim = claim.replace(" t)", f" (roll-{N} z))")
-        arms = [("y", proof(it, [f"y.{b.split('.')[-1]}" for b in it.binders]))] if it.is_record else [(pattern, proof(case, case.binders)) for pattern, case in layers(it)]
-        out.append(
-            f"{n}_{law}_layer : (y : {N}-F {held}) → {claim.replace(' t)', f' (roll-{N} (map-{N} {held} {it.source} (λ e. e.0) y)))')}\n"
-            + "".join(f"{n}_{law}_layer {pattern} = {body}\n" for pattern, body in arms)
-        )
+        layer_claim = claim.replace(" t)", f" (roll-{N} (map-{N} {held} {it.source} (λ e. e.0) {{0}})))")
+        said = f"{n}_{law}_layer : (y : {N}-F {held}) → {layer_claim.format('y')}\n"
+        if not it.is_record:
+            lines = "".join(f"{n}_{law}_layer {layer_of(it, case, values)} = {proof(case, values)}\n" for case in it.cases for values in splits(it, case))
+            out.append(said + lines)
+        elif not any(map(it.terms.is_option, it.types)):
+            out.append(f"{said}{n}_{law}_layer y = {proof(it, [f'y.{field.name}' for field in it.fields])}\n")
+        else:
+            lines = "".join(f"{n}_{law}_at {' '.join(values)} = {proof(it, values)}\n" for values in splits(it, it))
+            out.append(f"{n}_{law}_at :{arguments_of(it, it, held)} → {layer_claim.format(layer_of(it, it, it.names))}\n{lines}")
+            out.append(f"{said}{n}_{law}_layer y = {n}_{law}_at {' '.join(f'y.{field.name}' for field in it.fields)}\n")
         out.append(f"pub {n}_{law} : (t : {it.source}) → {claim}\n{n}_{law} = ind-{N} (λ t. {claim}) (λ x y is. subst (λ z. {rolled_claim}) is ({n}_{law}_layer y))\n")
     return out
 
@@ -255,8 +276,8 @@ def held_keys(it, type, x):
         return f"({it.n}_keys {x}.0)"
     if t.leads_back(type) and type.name == "Box":
         return held_keys(it, type.args[0], f"{x}.value")
-    if t.leads_back(type) and type.name == "Option":
-        return f"(option_keys {t.function('keys', type.args[0], f'{it.n}_keys')} (map_option_box (λ e. e.0) {x}))"
+    if t.is_option(type):
+        return "[]" if x == "None" else held_keys(it, type.args[0], something(x))
     if t.leads_back(type):
         return f"(each_keys {it.n}_keys (map (λ e. e.0) {x}.items))"
     return t.keys(type, x, f"{it.n}_keys")
@@ -268,8 +289,8 @@ def held_meaning(it, type, x):
         return f"({it.n}_meaning {x}.0)"
     if t.leads_back(type) and type.name == "Box":
         return f"(box {held_meaning(it, type.args[0], f'{x}.value')})"
-    if t.leads_back(type) and type.name == "Option":
-        return f"(option_meaning {t.function('meaning', type.args[0], f'{it.n}_meaning')} (map_option_box (λ e. e.0) {x}))"
+    if t.is_option(type):
+        return "(case 0 no_value)" if x == "None" else f"(case_of 1 {held_meaning(it, type.args[0], something(x))})"
     if t.leads_back(type):
         return f"(list (each_meaning {it.n}_meaning (map (λ e. e.0) {x}.items)))"
     return t.meaning(type, x, f"{it.n}_meaning")

@@ -26,6 +26,10 @@ class Terms:
     def leads_back(self, type):
         return self.is_self(type) or any(self.leads_back(arg) for arg in type.args)
 
+    def is_option(self, type):
+        """Whether it is an option of a box that leads back."""
+        return type.name == "Option" and self.leads_back(type)
+
     def format_of(self, type):
         self.owns[type.name] = type.own
         return f"(format_of_{snake(type.name)}.ghosts)"
@@ -127,7 +131,7 @@ class Terms:
         if type.name == "Box":
             return f"(box_keyed _ _ {self.keyed(item, f'{x}.value')})"
         if type.name == "Option":
-            return f"(held_option_keyed {n}_keys {n}_meaning {x})"
+            return "none_keyed" if x == "None" else f"(some_keyed _ _ {self.keyed(item, something(x))})"
         return f"(held_keyed {n}_keys {n}_meaning {x}.items)"
 
     def planned(self, type, x, held):
@@ -146,7 +150,7 @@ class Terms:
         if type.name == "Box":
             return f"(boxed_one_planned {D} (one {X}) {X} refl _ _ {self.planned(item, f'{x}.value', held)})"
         if type.name == "Option" and held:
-            return f"(held_option_planned {n}_keys {n}_meaning {D} {n}_shape {x})"
+            return f"(none_planned {D} {X})" if x == "None" else f"(some_planned {D} {X} _ _ {self.planned(item, something(x), held)})"
         if type.name == "Option":
             k, m = (self.function(which, item, f"{n}_{which}") for which in ("keys", "meaning"))
             return f"(option_planned {D} {X} {k} {m} (λ y. {self.planned(item, 'y', False)}) {x})"
@@ -213,14 +217,20 @@ class Terms:
         return out
 
 
+def something(x):
+    """What `(Some x)` holds."""
+    return x[len("(Some "):-1]
+
+
 PRELUDE = {
-    "std.specs.Prelude": "ℕ List [] ◌++◌ ◌≡◌ ◌≤◌ refl pos length map string_bytes codes ⊤ Some",
+    "std.specs.Prelude": "ℕ List [] ◌++◌ ◌≡◌ ◌≤◌ refl pos length map string_bytes codes ⊤ Option None Some",
     "std.specs.Int": "w8 w16 w32 w64 w128",
     "std.proofs.Common": "ap subst sym ◌∙◌ inl inr",
     "archive_core.specs.Definitions": "Definitions defines both no_definition HasLayout IsAlign NoOthers",
     "archive_core.specs.Layout": "Layout",
     "archive_core.specs.NamedLayout": "name_has_layout name_reached",
     "archive_core.specs.PartsLayout": "IsRecord by_name knows_none",
+    "archive_core.specs.Variants": "case_of",
     "archive_core.specs.VariantsLayout": "IsChoice is_recursive_choice",
     "archive_core.specs.Shape": "Name Shape Parts Variants named choice parts boxed vec str one run leaf char unsigned signed part no_part variant no_variant",
     "archive_core.specs.Value": "Value Values case product list box hole number value no_value text_value",
@@ -235,7 +245,7 @@ PRELUDE = {
     "archive_core.specs.Strings": "string_flat",
     "archive_core.specs.Writing": "Naming IsKeyed to_pointee",
     "archive_recursive.specs.Held": "knows_both each_mapped each_mapped_keys held_keyed held_planned variant_planned keyed_as planned_as",
-    "archive_recursive.specs.HeldOptions": "map_option_box option_mapped option_mapped_keys held_option_keyed held_option_planned",
+    "archive_recursive.specs.HeldOptions": "none_keyed some_keyed none_planned some_planned",
     "archive_recursive.specs.Hollow": "option_at",
 }
 RENAMED = {"number_kind": ("archive_core.specs.Shape", "number")}
