@@ -89,6 +89,7 @@ class Declaration:
     archived: str = ""  # the name of the archived type: `ArchivedPoint`, or another on demand
     named: bool = False  # `// name: ArchivedTest` stands above it
     recursive: bool = False  # holds itself behind a pointer
+    family: List["Declaration"] = field(default_factory=list, compare=False, repr=False)  # of a recursive one: those that it holds and that hold it, itself among them
     path: str = ""  # the file that it stands in
     line: int = 0
     crate: str = ""

@@ -43,10 +43,11 @@ def bring(it):
     f.use("archive_core::traits", "Archive", "ArchivePointee", "ArchiveUnsized", "Choice", "Deserialize", "Entries", "Keys", "Portable", "Record", "Serialize", "SerializeUnsized")
     f.use("archive_core::view", "RawView", "Ref")
     f.use("std::alloc", "AllocError", "Global")
-    f.ghost("std.specs.Prelude", "◌≡◌", "◌++◌", "◌+◌", "◌≤◌", "[]", "refl", "length", "Some", "IfOk", "IfErr", "codes")
+    f.ghost("std.specs.Prelude", "◌≡◌", "◌++◌", "◌+◌", "◌≤◌", "[]", "refl", "length", "Some", "IfOk", "IfErr", "OnOk", "codes")
     f.ghost("std.proofs.Common", "lit≤")
     f.ghost("SelfCheck.Laws", "by_schema")
-    f.ghost("Expressions", "shape_of", "shapes_in")
+    f.ghost("Expressions", "shape_of", "shapes_in", "table_of")
+    f.ghost("Definitions", "Extended", "ExplainsConflict", "defines")
     f.ghost("Shape", "one", "boxed", "vec")
     f.ghost("Choices", "option_shape")
     f.ghosts.setdefault("archive_recursive.specs.Hollow", set()).add("option_at")
@@ -64,7 +65,8 @@ def bring(it):
     n = it.n
     names = [f"{n}_{w}" for w in ("name", "shape", "stands_for", "definitions", "layout", "is_align", "has_layout", "no_others")]
     names += [f"{n}_has_parts", f"{n}_parts"] if it.is_record else [f"{n}_has_variants"] + [f"{case.n}_parts" for case in it.cases]
-    f.ghosts.setdefault(f"{it.declaration.crate}.specs.{it.name}Shape", set()).update(names)
+    names += [f"{other.n}_{w}" for other in it.family.members for w in ("shape", "definitions")]
+    f.ghosts.setdefault(f"{it.declaration.crate}.specs.{it.family.name}Shape", set()).update(names)
 
 
 # ---- the format ----
@@ -106,8 +108,8 @@ def pointee(it):
 
 def expression(it, type):
     """The expression of a part."""
-    if it.terms.is_self(type):
-        return f'Expr::Named("{it.archived}")'
+    if it.terms.is_member(type):
+        return f'Expr::Named("{type.own.archived}")'
     if not it.terms.leads_back(type):
         return f"<{it.formats.archived(type)} as Portable>::expr(alloc)?"
     item = expression(it, type.args[0])
@@ -146,11 +148,50 @@ fn {n}_expression(alloc: Global) -> Result<Expr, Error>
 {{
 {body}}}
 """)
-    return "\n".join(out)
+    if it.is_alone:
+        return "\n".join(out)
+    return "\n".join(out + [defining(it)] + ([defining_all(it.family)] if it is it.family.members[-1] else []))
+
+
+DEFINING = """
+    let stands_for = match {n}_expression(alloc) {{
+        Ok(stands_for) => stands_for,
+        Err(error) => return Err(error),
+    }};
+    define_name("{archived}", stands_for, defs)
+"""
+
+
+def defining(it):
+    """What adds the definition of one name of a family."""
+    definition = f"(defines {it.n}_name {it.n}_stands_for)"
+    return f"""// Adds what the name stands for.
+{added(f"define_{it.n}", definition)}{{{DEFINING.format(n=it.n, archived=it.archived)}}}
+"""
+
+
+def defining_all(family):
+    calls = [f"    define_{it.n}(alloc, defs)" for it in family.members]
+    return f"""// Adds what the names stand for.
+#[tactic(auto, using(archive_check::proofs::format::AddedDefinitions::joining))]
+{added(f"define_{family.n}_family", f"{family.n}_definitions")}{{
+{"?;".join(f"{call_}{chr(10)}" if i == len(calls) - 1 else call_ for i, call_ in enumerate(calls)).replace("?;    ", f"?;{chr(10)}    ")}}}
+"""
+
+
+def added(name, definitions):
+    return f"""fn {name}(alloc: Global, defs: &mut Defs) -> Result<(), Error>
+    ensures added {{ OnOk result (Extended (table_of defs.old) {definitions} (table_of defs.new)) }}
+    ensures refused {{ IfErr result (ExplainsConflict (table_of defs.old) {definitions}) }}
+"""
 
 
 def portable(it):
     n = it.n
+    if it.is_alone:
+        define = DEFINING.format(n=n, archived=it.archived).replace("\n    ", "\n        ")
+    else:
+        define = f"\n        define_{it.family.n}_family(alloc, defs)\n"
     return f"""impl Portable for {it.archived} {{
     ghost shape = {{ {n}_shape }};
 
@@ -180,13 +221,7 @@ def portable(it):
         Ok(Expr::Named("{it.archived}"))
     }}
 
-    fn define(alloc: Global, defs: &mut Defs) -> Result<(), Error> {{
-        let stands_for = match {n}_expression(alloc) {{
-            Ok(stands_for) => stands_for,
-            Err(error) => return Err(error),
-        }};
-        define_name("{it.archived}", stands_for, defs)
-    }}
+    fn define(alloc: Global, defs: &mut Defs) -> Result<(), Error> {{{define}    }}
 }}
 """
 
@@ -249,7 +284,8 @@ pub enum {it.resolver} {{
 
 def hollow(it, type):
     """What stands for a part that was written: its type."""
-    return f"{type.name}At<{it.archived}>"
+    item = type.args[0].args[0] if type.name == "Option" else type.args[0]
+    return f"{type.name}At<{it.formats.archived(item)}>"
 
 
 def hollows(it, case):
@@ -287,7 +323,7 @@ def archive(it):
     else:
         body = "        match self {\n" + "".join(resolve_arm(it, case) for case in it.cases) + "        }\n"
     return f"""impl Archive for {it.name} {{
-    ghost use Rattle.{it.declaration.crate}.specs.{it.name}Meaning.{{{', '.join(names)}}};
+    ghost use Rattle.{it.declaration.crate}.specs.{it.family.name}Meaning.{{{', '.join(names)}}};
 
     type Archived = {it.archived};
 
@@ -340,7 +376,7 @@ def resolve_arm(it, case):
 
 
 def writing(it):
-    out = [owner_writing(it, type) for type in it.owners]
+    out = [owner_writing(it, type) for type in it.owners if it.is_written(type)]
     if it.is_record:
         out.append(record_writing(it))
     else:
@@ -375,7 +411,7 @@ def owner_writing(it, type):
     T = it.formats.rust(type)
     if type.name == "Box":
         return f"""// Writes what a box owns.
-#[cycle(serialize_{it.n})]
+#[cycle(serialize_{it.family.n})]
 fn serialize_{name}<{WRITER}>(value: &{T}, serializer: &mut S) -> Result<BoxResolver, Error>
 {contract(it, type, "value")}{{
     let inner = &**value;
@@ -391,22 +427,29 @@ fn serialize_{name}<{WRITER}>(value: &{T}, serializer: &mut S) -> Result<BoxReso
 """
     if type.name == "Option":
         return f"""// Writes what an option owns.
-#[cycle(serialize_{it.n})]
+#[cycle(serialize_{it.family.n})]
 fn serialize_{name}<{WRITER}>(value: &{T}, serializer: &mut S) -> Result<{kept(it, type)}, Error>
 {contract(it, type, "value")}{{
     match value {{
         None => Ok(None),
-        Some(inner) => match serialize_{it.word(item)}(inner, serializer) {{
-            Ok(kept) => Ok(Some(kept)),
-            Err(error) => Err(error),
-        }},
+        Some(whole) => {{
+            let inner = &**whole;
+            let kept = match serialize_{it.word(item.args[0])}(inner, serializer) {{
+                Ok(kept) => kept,
+                Err(error) => return Err(error),
+            }};
+            match serialize_inner(inner, kept, serializer) {{
+                Ok(at) => Ok(Some(at)),
+                Err(error) => Err(error),
+            }}
+        }}
     }}
 }}
 """
     its, D, X = it.formats.rust(item), it.terms.definitions(item), it.terms.shape(item)
     run = f"{D} {X} (length values.now) (each_keys ⟦<{its} as Archive>⟧.keys values.now)\n        (each_meaning ⟦<{its} as Archive>⟧.meaning values.now)"
     return f"""// Writes what each of the values owns, in order.
-#[cycle(serialize_{it.n})]
+#[cycle(serialize_{it.family.n})]
 fn serialize_each_{it.word(item)}<{WRITER}>(values: &[{its}], serializer: &mut S) -> Result<Vec<<{its} as Archive>::Resolver, S::Alloc>, Error>
     ensures serialized {{ IfOk result (λ rs. SerializedRun {run}
         (each_flat ⟦<{its} as Archive>⟧.flat values.now rs.items) (S.state serializer.old)
@@ -429,7 +472,7 @@ fn serialize_each_{it.word(item)}<{WRITER}>(values: &[{its}], serializer: &mut S
 }}
 
 // Writes what a vector owns.
-#[cycle(serialize_{it.n})]
+#[cycle(serialize_{it.family.n})]
 fn serialize_{name}<{WRITER}>(value: &{T}, serializer: &mut S) -> Result<VecResolver, Error>
 {contract(it, type, "value")}{{
     if value.len() > u32::MAX as usize {{
@@ -474,7 +517,7 @@ def case_writing(it, case):
     head = signature(
         f"fn serialize_{case.n}", [WRITER], [f"{name}: &{rust}" for name, rust in zip(case.names, case.rust)] + ["serializer: &mut S"], Group("Result<", [kept_of(it, case), "Error"], ">")
     )
-    cycle = f"#[cycle(serialize_{it.n})]\n" if any(case.leads_back) else ""
+    cycle = f"#[cycle(serialize_{it.family.n})]\n" if any(case.leads_back) else ""
     return f"""// Writes what the parts of `{case.name}` own, in order.
 {cycle}{head}
     ensures serialized {{ IfOk result (λ r. Serialized {D} {X} ({keys}) (case {case.tag} {meanings}) (case {case.tag} {flats}) {states}) }}
@@ -511,7 +554,7 @@ def choice_writing(it):
         }},
 """
     return f"""// Writes what a value owns.
-#[cycle(serialize_{it.n})]
+#[cycle(serialize_{it.family.n})]
 fn serialize_{it.n}<{WRITER}>(value: &{it.name}, serializer: &mut S) -> Result<{it.resolver}, Error>
 {contract(it, it.itself, "value")}{{
     match value {{
@@ -524,7 +567,7 @@ def record_writing(it):
     case = it.cases[0]
     values = [f"&value.{field.name}" for field in case.fields]
     return f"""// Writes what a value owns, part by part.
-#[cycle(serialize_{it.n})]
+#[cycle(serialize_{it.family.n})]
 fn serialize_{it.n}<{WRITER}>(value: &{it.name}, serializer: &mut S) -> Result<{it.resolver}, Error>
 {contract(it, it.itself, "value")}{{
 {parts_written(it, case, values)}    Ok({it.resolver} {{ kept: {flat(pair(case.names))} }})
@@ -589,7 +632,7 @@ def reading(it):
 
 
 def reader(it, name, T, contract_, body, said, cycle=True):
-    mark = f"#[cycle(read_{it.n})]\n" if cycle else ""
+    mark = f"#[cycle(read_{it.family.n})]\n" if cycle else ""
     return f"""// {said}
 {mark}fn read_{name}<D: Entries>(alloc: Global, part: RawView<'_>, deserializer: &mut D) -> Result<{T}, Error>
 {contract_}{{

@@ -11,12 +11,18 @@ def check_recursive(it: Declaration, line: int, names: str):
     """Refuses a recursive declaration that has no templates."""
     if it.parameters:
         raise Refused(it.path, line, f"`{it.name}` is recursive ({names}) and has type parameters; name its arguments, one type for each")
-    if names != f"{it.name} > {it.name}":
-        raise Refused(it.path, line, f"`{it.name}` leads back to itself through another type ({names}), which tools/derive doesn't write yet; put both into one enum")
+    check_family(it, names)
     for fields in [it.fields] if it.kind == "struct" else [variant.fields for variant in it.variants]:
         check_parts(it, fields)
         for field in fields:
             check_part(it, field.type, field.line)
+
+
+def check_family(it: Declaration, names: str):
+    """Types that hold each other are written together."""
+    elsewhere = [other for other in it.family if other.path != it.path]
+    if elsewhere:
+        raise Refused(it.path, it.line, f"`{it.name}` and `{elsewhere[0].name}` hold each other ({names}) and are written together; move both to one file")
 
 
 def check_parts(it: Declaration, fields):
@@ -28,6 +34,8 @@ def check_parts(it: Declaration, fields):
 def check_part(it: Declaration, type: Type, line: int):
     if type.own is it:
         return
+    if any(type.own is other for other in it.family):
+        raise Refused(it.path, line, f"`{type.own.name}` leads back to `{it.name}`, and isn't written yet without a pointer between; put it into a `Box`")
     if any(leads_back(it, x) for x in type.args):
         check_owner(it, type, line)
         return
@@ -46,12 +54,12 @@ def check_owner(it: Declaration, type: Type, line: int):
     item = type.args[0]
     if type.name == "Option" and item.name == "Box" and item.own is None:
         item = item.args[0]
-    if item.own is not it:
+    if not any(item.own is other for other in it.family):
         raise Refused(it.path, line, f"this {'option' if type.name == 'Option' else f'`{type.name}` of pointers'} to `{it.name}` isn't written yet; a `Box<{it.name}>`, an `Option<Box<{it.name}>>` or a `Vec<{it.name}>` is")
 
 
 def leads_back(it: Declaration, type: Type) -> bool:
-    return type.own is it or any(leads_back(it, x) for x in type.args)
+    return any(type.own is other for other in it.family) or any(leads_back(it, x) for x in type.args)
 
 
 def check_held(it: Declaration):

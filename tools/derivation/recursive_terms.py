@@ -20,11 +20,20 @@ class Terms:
         self.n = snake(declaration.name)
         self.owns = {}  # a plain part's declaration, by its name
 
-    def is_self(self, type):
-        return type.own is self.declaration
+    def is_member(self, type):
+        """Whether it is the type itself, or another of its family."""
+        return any(type.own is it for it in self.declaration.family)
+
+    def n_of(self, type):
+        """What names of a type of the family begin with."""
+        return snake(type.own.name)
 
     def leads_back(self, type):
-        return self.is_self(type) or any(self.leads_back(arg) for arg in type.args)
+        return self.is_member(type) or any(self.leads_back(arg) for arg in type.args)
+
+    def own(self, which):
+        """What is said of values of each type of the family, by its name."""
+        return {it.name: f"{snake(it.name)}_{which}" for it in self.declaration.family}
 
     def is_option(self, type):
         """Whether it is an option of a box that leads back."""
@@ -41,8 +50,8 @@ class Terms:
     # ---- formats ----
 
     def shape(self, type):
-        if self.is_self(type):
-            return f"{self.n}_shape"
+        if self.is_member(type):
+            return f"{self.n_of(type)}_shape"
         if type.own is not None:
             return f"{self.format_of(type)}.shape"
         if type.name in LEAVES:
@@ -59,11 +68,11 @@ class Terms:
 
     def function(self, which, type, m):
         """What a value means, or its keys, as a function."""
-        return m if self.is_self(type) else f"(λ y. {getattr(self, which)(type, 'y', m)})"
+        return said(m, type) if self.is_member(type) else f"(λ y. {getattr(self, which)(type, 'y', m)})"
 
     def meaning(self, type, x, m):
-        if self.is_self(type):
-            return f"({m} {x})"
+        if self.is_member(type):
+            return f"({said(m, type)} {x})"
         if type.own is not None:
             return f"({self.source_of(type)}.meaning {x})"
         if type.name in LEAVES:
@@ -78,8 +87,8 @@ class Terms:
         return f"(list (each_meaning {self.function('meaning', item, m)} {x}.items))"
 
     def keys(self, type, x, k):
-        if self.is_self(type):
-            return f"({k} {x})"
+        if self.is_member(type):
+            return f"({said(k, type)} {x})"
         if type.own is not None:
             return f"({self.source_of(type)}.keys {x})"
         if type.name in LEAVES or type.name == "String":
@@ -118,8 +127,7 @@ class Terms:
 
     def keyed(self, type, x):
         """A proof that the keys of a part are those that its meaning leads to, where each value of the type itself has the law beside it."""
-        n = self.n
-        if self.is_self(type):
+        if self.is_member(type):
             return f"{x}.1"
         if type.own is not None:
             return f"(keyed_of_{snake(type.name)} {x})" if self.source_of(type) else ""
@@ -132,13 +140,13 @@ class Terms:
             return f"(box_keyed _ _ {self.keyed(item, f'{x}.value')})"
         if type.name == "Option":
             return "none_keyed" if x == "None" else f"(some_keyed _ _ {self.keyed(item, something(x))})"
+        n = self.n_of(item)
         return f"(held_keyed {n}_keys {n}_meaning {x}.items)"
 
     def planned(self, type, x, held):
         """A proof that there is a plan of a part; `held` where each value of the type itself has the law beside it."""
-        n = self.n
-        if self.is_self(type):
-            return f"{x}.1" if held else f"({n}_planned {x})"
+        if self.is_member(type):
+            return f"{x}.1" if held else f"({self.n_of(type)}_planned {x})"
         if type.own is not None:
             return f"(planned_of_{snake(type.name)} {x})" if self.source_of(type) else ""
         if type.name in LEAVES:
@@ -146,14 +154,15 @@ class Terms:
         if type.name == "String":
             return f"(string_planned no_definition [] (string_bytes {x}))"
         item = type.args[0]
-        D, X = f"{n}_definitions", self.shape(item)
+        D, X = f"{self.n}_definitions", self.shape(item)
         if type.name == "Box":
             return f"(boxed_one_planned {D} (one {X}) {X} refl _ _ {self.planned(item, f'{x}.value', held)})"
         if type.name == "Option" and held:
             return f"(none_planned {D} {X})" if x == "None" else f"(some_planned {D} {X} _ _ {self.planned(item, something(x), held)})"
         if type.name == "Option":
-            k, m = (self.function(which, item, f"{n}_{which}") for which in ("keys", "meaning"))
+            k, m = (self.function(which, item, self.own(which)) for which in ("keys", "meaning"))
             return f"(option_planned {D} {X} {k} {m} (λ y. {self.planned(item, 'y', False)}) {x})"
+        n = self.n_of(item)
         if held:
             return f"(vec_planned {D} {X} _ _ _ (run_region_planned {D} {X} _ _ _ (held_planned {n}_keys {n}_meaning {D} {X} {x}.items)))"
         return f"(vec_planned {D} {X} _ _ _ (slice_planned {D} {X} {n}_keys {n}_meaning {n}_planned {x}.items))"
@@ -207,7 +216,7 @@ class Terms:
 
     def parts_planned(self, types, values, shown, held):
         """`values` are those that have the law beside them where `held`, `shown` the values themselves."""
-        k, m = f"{self.n}_keys", f"{self.n}_meaning"
+        k, m = self.own("keys"), self.own("meaning")
         out = "no_part_planned"
         for type, x, y in reversed(list(zip(types, values, shown))):
             out = (
@@ -215,6 +224,11 @@ class Terms:
                 f" {self.planned(type, x, held)} {out})"
             )
         return out
+
+
+def said(m, type):
+    """What is said of values of a type of the family: the same of all, or by its name."""
+    return m if isinstance(m, str) else m[type.own.name]
 
 
 def something(x):
@@ -244,7 +258,7 @@ PRELUDE = {
     "archive_core.specs.Runs": "each_keys each_meaning HasRunPlan",
     "archive_core.specs.Strings": "string_flat",
     "archive_core.specs.Writing": "Naming IsKeyed to_pointee",
-    "archive_recursive.specs.Held": "knows_both each_mapped each_mapped_keys held_keyed held_planned variant_planned keyed_as planned_as",
+    "archive_recursive.specs.Held": "member_has_layout knows_both each_mapped each_mapped_keys held_keyed held_planned variant_planned keyed_as planned_as",
     "archive_recursive.specs.HeldOptions": "none_keyed some_keyed none_planned some_planned",
     "archive_recursive.specs.Hollow": "option_at",
 }

@@ -8,3 +8,5 @@ pub mod SearchMeaning
 pub mod SearchShape
 pub mod RoseMeaning
 pub mod RoseShape
+pub mod DirMeaning
+pub mod DirShape

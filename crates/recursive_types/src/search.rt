@@ -204,33 +204,6 @@ impl Archive for Search {
     }
 }
 
-// Writes what a box owns.
-#[cycle(serialize_search)]
-fn serialize_box_search<S: Writer + Keys + ResolverAlloc>(
-    value: &Box<Search>,
-    serializer: &mut S,
-) -> Result<BoxResolver, Error>
-    ensures serialized { IfOk result (λ r. Serialized search_definitions (boxed (one search_shape))
-        (⟦<Box<Search> as Archive>⟧.keys value.now) (⟦<Box<Search> as Archive>⟧.meaning value.now)
-        (⟦<Box<Search> as Archive>⟧.flat value.now r) (S.state serializer.old)
-        (S.state serializer.new)) }
-    ensures same_value { IfOk result (λ r. ⟦<Box<Search> as Archive>⟧.belongs value.now r) }
-    ensures goes_on { GoesOn (S.state serializer.old) (S.state serializer.new) }
-    ensures refused { IfErr result (IsRefused search_definitions (boxed (one search_shape))
-        (⟦<Box<Search> as Archive>⟧.keys value.now) (⟦<Box<Search> as Archive>⟧.meaning value.now)
-        (S.state serializer.old) (S.state serializer.new)) }
-{
-    let inner = &**value;
-    let kept = match serialize_search(inner, serializer) {
-        Ok(kept) => kept,
-        Err(error) => return Err(error),
-    };
-    match serialize_inner(inner, kept, serializer) {
-        Ok(at) => Ok(at),
-        Err(error) => Err(error),
-    }
-}
-
 // Writes what an option owns.
 #[cycle(serialize_search)]
 fn serialize_option_box_search<S: Writer + Keys + ResolverAlloc>(
@@ -250,10 +223,17 @@ fn serialize_option_box_search<S: Writer + Keys + ResolverAlloc>(
 {
     match value {
         None => Ok(None),
-        Some(inner) => match serialize_box_search(inner, serializer) {
-            Ok(kept) => Ok(Some(kept)),
-            Err(error) => Err(error),
-        },
+        Some(whole) => {
+            let inner = &**whole;
+            let kept = match serialize_search(inner, serializer) {
+                Ok(kept) => kept,
+                Err(error) => return Err(error),
+            };
+            match serialize_inner(inner, kept, serializer) {
+                Ok(at) => Ok(Some(at)),
+                Err(error) => Err(error),
+            }
+        }
     }
 }
 

@@ -1,6 +1,7 @@
 // Recursive values byte for byte, as docs/FORMAT.md has them: written, validated and read back.
 
 use crate::assertions::{assert_read, assert_written};
+use recursive_types::dir::{Dir, Entry};
 use recursive_types::expr::Expr;
 use recursive_types::list::List;
 use recursive_types::rose::Rose;
@@ -119,4 +120,27 @@ fn rose(rt: HostRuntime) {
     let bytes = b"\x04\0\0\0\xfc\xff\xff\xff\0\0\0\0\x03\0\0\0\xf0\xff\xff\xff\x01\0\0\0";
     assert_written(&rt, rt.alloc(), &rose, bytes);
     assert_read(&rt, rt.alloc(), bytes, &rose);
+}
+
+fn folder(alloc: Global) -> Result<Dir, AllocError> {
+    let inner = Dir {
+        name: String::from_str(alloc, "e")?,
+        entries: Vec::new(alloc),
+    };
+    let sub = Entry::Sub(Box::new(alloc, inner)?);
+    Ok(Dir {
+        name: String::from_str(alloc, "d")?,
+        entries: vec![in alloc; Entry::File(7), sub]?,
+    })
+}
+
+// The folder e at 0, with no entry and its name in place; the two entries of d at 16, a file of seven bytes and a box that leads back to 0; and d at 48.
+const FOLDER: &[u8] =
+    b"e\xff\xff\xff\xff\xff\xff\xff\xf8\xff\xff\xff\0\0\0\0\0\0\0\0\0\0\0\0\x07\0\0\0\0\0\0\0\x01\0\0\0\xdc\xff\xff\xff\0\0\0\0\0\0\0\0d\xff\xff\xff\xff\xff\xff\xff\xd8\xff\xff\xff\x02\0\0\0";
+
+#[test]
+fn folders(rt: HostRuntime) {
+    let folder = folder(rt.alloc()).expect(&rt, "a folder");
+    assert_written(&rt, rt.alloc(), &folder, FOLDER);
+    assert_read(&rt, rt.alloc(), FOLDER, &folder);
 }

@@ -146,7 +146,7 @@ class Circles(RepositoryTest):
 
     def test_behind_a_pointer(self):
         for text, said in [
-            ("struct A { b: B }\nstruct B { a: Vec<A> }", "1: `A` leads back to itself through another type (A > B > A), which tools/derive doesn't write yet"),
+            ("struct A { b: B }\nstruct B { a: Vec<A> }", "1: `B` leads back to `A`, and isn't written yet without a pointer between; put it into a `Box`"),
             ("struct W<T>(Box<T>);\nstruct A { x: W<A> }", "2: `W` around `A` isn't written yet; a `Box<A>`, an `Option<Box<A>>` or a `Vec<A>` is"),
             ("struct A<T> { x: T, a: Vec<A<T>> }", "1: `A` is recursive (A > A) and has type parameters; name its arguments, one type for each"),
             ("struct A { a: Option<Vec<A>> }", "1: this option to `A` isn't written yet; a `Box<A>`, an `Option<Box<A>>` or a `Vec<A>` is"),
