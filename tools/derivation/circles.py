@@ -115,6 +115,7 @@ def check_circles(declarations: List[Declaration]):
         it.recursive = way is not None
     reached = {id(it): reached_from(it, edges) for it in every}
     for it in every:
+        it.holds_recursive = not it.recursive and any(x.recursive for x in reached[id(it)])
         if it.recursive:
             it.family = sorted((x for x in reached[id(it)] if any(y is it for y in reached[id(x)])), key=lambda x: (x.path, x.line))
     for it in every:

@@ -39,6 +39,9 @@ def check_part(it: Declaration, type: Type, line: int):
     if any(leads_back(it, x) for x in type.args):
         check_owner(it, type, line)
         return
+    held = recursive_in(type)
+    if held:
+        raise Refused(it.path, line, f"`{held}` is recursive or holds a type that is, and isn't written yet in the recursive `{it.name}`; archive the two beside each other")
     if type.own is not None and not type.args:
         if type.own.path == it.path:
             raise Refused(it.path, line, f"`{type.own.name}` is held by the recursive `{it.name}`; move it to another file")
@@ -63,14 +66,16 @@ def leads_back(it: Declaration, type: Type) -> bool:
 
 
 def check_held(it: Declaration):
-    """Refuses a type that isn't recursive itself and holds one that is."""
+    """Refuses an enum that isn't recursive itself and holds a type that is."""
+    if not it.holds_recursive or it.kind == "struct":
+        return
     for field in it.all_fields():
         held = recursive_in(field.type)
         if held:
-            raise Refused(it.path, field.line, f"`{held}` is recursive, and only it is archived by itself yet; archive it as the root")
+            raise Refused(it.path, field.line, f"`{held}` is recursive or holds a type that is, and an enum around it isn't written yet; put it into a struct")
 
 
 def recursive_in(type: Type) -> str:
-    if type.own is not None and type.own.recursive:
+    if type.own is not None and (type.own.recursive or type.own.holds_recursive):
         return type.own.name
     return next((held for held in map(recursive_in, type.args) if held), "")

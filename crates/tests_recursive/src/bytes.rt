@@ -4,6 +4,7 @@ use crate::assertions::{assert_read, assert_written};
 use recursive_types::dir::{Dir, Entry};
 use recursive_types::expr::Expr;
 use recursive_types::list::List;
+use recursive_types::outline::Outline;
 use recursive_types::rose::Rose;
 use recursive_types::search::Search;
 use recursive_types::tree::Tree;
@@ -143,4 +144,23 @@ fn folders(rt: HostRuntime) {
     let folder = folder(rt.alloc()).expect(&rt, "a folder");
     assert_written(&rt, rt.alloc(), &folder, FOLDER);
     assert_read(&rt, rt.alloc(), FOLDER, &folder);
+}
+
+fn outline(alloc: Global) -> Result<Outline, AllocError> {
+    Ok(Outline {
+        title: String::from_str(alloc, "t")?,
+        chapters: leaf(alloc, 1),
+        others: vec![in alloc; leaf(alloc, 2)]?,
+    })
+}
+
+// The tree 2 at 0, which is the one of the others; and at 12 the outline: its title in place, the tree 1 at 20, and the vector of the others at 32.
+const OUTLINE: &[u8] =
+    b"\x02\0\0\0\xfc\xff\xff\xff\0\0\0\0t\xff\xff\xff\xff\xff\xff\xff\x01\0\0\0\xe8\xff\xff\xff\0\0\0\0\xe0\xff\xff\xff\x01\0\0\0";
+
+#[test]
+fn struct_of_trees(rt: HostRuntime) {
+    let outline = outline(rt.alloc()).expect(&rt, "an outline");
+    assert_written(&rt, rt.alloc(), &outline, OUTLINE);
+    assert_read(&rt, rt.alloc(), OUTLINE, &outline);
 }

@@ -54,6 +54,14 @@ class Recursive(RepositoryTest):
         self.assertNotIn("fn serialize_sum_add", self.text(path))
         self.assertIn("fn read_sum_add", self.text(path))
 
+    def test_a_struct_around_a_recursive_type_is_a_tuple_with_names(self):
+        path = self.put(TREE + "#[derive(Drop)]\npub struct Forest { pub name: String, pub trees: Vec<Tree> }\n")
+        self.assertEqual(self.run_command(path), (0, ""))
+        text = self.text(path)
+        self.assertIn("pub type ArchivedForest = ArchivedTuple<(ArchivedString, (ArchivedVec<ArchivedTree>, ()))>;", text)
+        self.assertIn("both no_definition (both ⟦<ArchivedTree as ArchivePointee>⟧.definitions no_definition)", " ".join(text.split()))
+        self.assertEqual(self.run_command("--check", path), (0, ""))
+
     def test_names_that_are_there_stay(self):
         self.assertEqual(naming("pub mod Other\n", ["ListShape", "Other"]), "pub mod Other\npub mod ListShape\n")
 
