@@ -38,7 +38,7 @@ def bring(it):
     f.use("archive_core::ser", "ResolverAlloc", "Writer", "serialize_one")
     f.use("archive_core::boxed", "BoxResolver", "serialize_inner")
     f.use("archive_core::vec", "VecResolver")
-    f.use("archive_recursive", "BoxAt", "OptionAt", "VecAt", "before_box", "before_vec", "choice_of", "define_name", "option_of", "part_of_record", "part_of_variant", "read_part", "record_of")
+    f.use("archive_recursive", "BoxAt", "OptionAt", "VecAt", "before_box", "before_vec", "choice_of", "define_name", "option_expression", "part_of_record", "part_of_variant", "read_part", "record_of")
     f.use("archive_recursive", "serialize_inner_slice", "serialize_part", "tag_of_choice")
     f.use("archive_core::traits", "Archive", "ArchivePointee", "ArchiveUnsized", "Choice", "Deserialize", "Entries", "Keys", "Portable", "Record", "Serialize", "SerializeUnsized")
     f.use("archive_core::view", "RawView", "Ref")
@@ -116,7 +116,7 @@ def expression(it, type):
     if type.name == "Box":
         return f"Expr::Box(Box::new(alloc, Pointee::One({item}))?)"
     if type.name == "Option":
-        return f"option_of(alloc, {item})?"
+        return f"option_expression(alloc, {item})?"
     return f"Expr::Vec(Box::new(alloc, {item})?)"
 
 

@@ -11,6 +11,7 @@ pub use Rattle.archive_check.specs.Reads
 pub use Rattle.archive_check.specs.Shape
 pub use Rattle.archive_check.specs.Value
 pub use Rattle.archive_check.specs.Words.AddedDefinitions
+pub use Rattle.archive_check.specs.declared.format.error.Error
 pub use Rattle.archive_enum.specs.Choices
 pub use Rattle.archive_fields.specs.OwnChoices
 pub use Rattle.archive_fields.specs.Plain

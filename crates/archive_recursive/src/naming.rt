@@ -30,7 +30,7 @@ pub fn record_of(list: Vec<Expr>) -> Expr
 }
 
 /// The expression of an option of values with this one.
-pub fn option_of(alloc: Global, item: Expr) -> Result<Expr, Error>
+pub fn option_expression(alloc: Global, item: Expr) -> Result<Expr, Error>
     ensures shape { IfOk result (λ e. shape_of e ≡ option_shape (shape_of item)) }
     ensures refused { IfErr result (λ e. e ≡ OutOfMemory) }
 {

@@ -51,7 +51,7 @@ use archive_core::traits::{
 };
 use archive_core::view::{RawView, Ref};
 use archive_recursive::{
-    OptionAt, before_box, define_name, option_of, part_of_record, read_part, record_of,
+    OptionAt, before_box, define_name, option_expression, part_of_record, read_part, record_of,
     resolve_named_record_3, seal_of_field, serialize_part, view_of_field,
 };
 use std::alloc::Global;
@@ -86,12 +86,12 @@ fn search_expressions(alloc: Global) -> Result<Vec<Expr>, Error>
     ensures shapes { IfOk result (λ list. shapes_in list.items ≡ search_parts) }
     ensures refused { IfErr result (λ e. e ≡ OutOfMemory) }
 {
-    let a0 = option_of(
+    let a0 = option_expression(
         alloc,
         Expr::Box(Box::new(alloc, Pointee::One(Expr::Named("ArchivedSearch")))?),
     )?;
     let a1 = <ArchivedU32 as Portable>::expr(alloc)?;
-    let a2 = option_of(
+    let a2 = option_expression(
         alloc,
         Expr::Box(Box::new(alloc, Pointee::One(Expr::Named("ArchivedSearch")))?),
     )?;
