@@ -32,13 +32,12 @@ ghost use Rattle.archive_core.specs.Payloads.{payload_in};
 ghost use Rattle.archive_core.specs.PlannedOwners.{one_planned};
 ghost use Rattle.archive_core.specs.Plans.{Serialized};
 ghost use Rattle.archive_core.specs.Runs.{EachBelongs, IsRunRefused, SerializedRun, each_flat, each_keys, each_meaning};
-ghost use Rattle.archive_core.specs.SealsWritten.{SealsBeside, seal_tag};
+ghost use Rattle.archive_core.specs.SealsWritten.{IsSealOf, SealsPart, seal_tag};
 ghost use Rattle.archive_core.specs.Seen.{IsPartOf, RefusesPart, ShowsValueOf, part_tag, tag_of};
 ghost use Rattle.archive_core.specs.SelfCheck.Laws.{by_schema};
 ghost use Rattle.archive_core.specs.Shape.{boxed, one, part, parts, variant, vec};
 ghost use Rattle.archive_core.specs.Sources.{Read};
 ghost use Rattle.archive_core.specs.Value.{case, no_value, value};
-ghost use Rattle.archive_core.specs.Viewed.{Viewed};
 ghost use Rattle.archive_core.specs.Writing.{ZeroedPlace};
 ghost use Rattle.archive_core.specs.Written.{GoesOn};
 ghost use Rattle.recursive_types.specs.DirShape.{dir_definitions, dir_has_layout, dir_has_parts, dir_is_align, dir_layout, dir_name, dir_no_others, dir_parts, dir_shape, dir_stands_for, entry_definitions, entry_file_parts, entry_has_layout, entry_has_variants, entry_is_align, entry_layout, entry_name, entry_no_others, entry_shape, entry_stands_for, entry_sub_parts};
@@ -440,35 +439,22 @@ pub trait DirSeal<'a> {
 }
 
 impl<'a> DirSeal<'a> for Seal<'a, ArchivedDir> {
-    ghost sealed = { λ s. Viewed dir_definitions s.bytes.now s.pos
-        (one ⟦<ArchivedDir as Portable>⟧.shape) s.len };
+    ghost sealed = { λ s. IsSealOf dir_definitions (one ⟦<ArchivedDir as Portable>⟧.shape) s };
 
     fn name_mut(self) -> Seal<'a, ArchivedString>
-        requires viewed { Viewed dir_definitions self.bytes.now self.pos
-            (one ⟦<ArchivedDir as Portable>⟧.shape) self.len }
-        ensures same_reference { result.bytes.ghost_name ≡ self.entry.bytes.ghost_name }
-        ensures buffer { result.bytes.now ≡ self.entry.bytes.now }
-        ensures position { result.pos ≡ self.entry.pos + 0 }
-        ensures length { result.len ≡ 0 }
-        ensures viewed { Viewed no_definition result.bytes.now result.pos
-            ⟦<ArchivedString as ArchivePointee>⟧.pointee result.len }
-        ensures beside { SealsBeside dir_definitions (one ⟦<ArchivedDir as Portable>⟧.shape)
-            ⟦<ArchivedString as ArchivePointee>⟧.pointee result self.entry }
+        requires come_to { IsSealOf dir_definitions (one ⟦<ArchivedDir as Portable>⟧.shape) self }
+        ensures { SealsPart dir_definitions (one ⟦<ArchivedDir as Portable>⟧.shape) no_definition
+            ⟦<ArchivedString as ArchivePointee>⟧.pointee (self.entry.pos + 0) 0 self.entry result }
     {
         seal_of_field::<ArchivedDir, ArchivedString>(self, 0, 0)
     }
 
     fn entries_mut(self) -> Seal<'a, ArchivedVec<ArchivedEntry>>
-        requires viewed { Viewed dir_definitions self.bytes.now self.pos
-            (one ⟦<ArchivedDir as Portable>⟧.shape) self.len }
-        ensures same_reference { result.bytes.ghost_name ≡ self.entry.bytes.ghost_name }
-        ensures buffer { result.bytes.now ≡ self.entry.bytes.now }
-        ensures position { result.pos ≡ self.entry.pos + 8 }
-        ensures length { result.len ≡ 0 }
-        ensures viewed { Viewed ⟦<ArchivedEntry as ArchivePointee>⟧.definitions result.bytes.now
-            result.pos ⟦<ArchivedVec<ArchivedEntry> as ArchivePointee>⟧.pointee result.len }
-        ensures beside { SealsBeside dir_definitions (one ⟦<ArchivedDir as Portable>⟧.shape)
-            ⟦<ArchivedVec<ArchivedEntry> as ArchivePointee>⟧.pointee result self.entry }
+        requires come_to { IsSealOf dir_definitions (one ⟦<ArchivedDir as Portable>⟧.shape) self }
+        ensures { SealsPart dir_definitions (one ⟦<ArchivedDir as Portable>⟧.shape)
+            ⟦<ArchivedEntry as ArchivePointee>⟧.definitions
+            ⟦<ArchivedVec<ArchivedEntry> as ArchivePointee>⟧.pointee (self.entry.pos + 8) 0
+            self.entry result }
     {
         seal_of_field::<ArchivedDir, ArchivedVec<ArchivedEntry>>(self, 1, 8)
     }
@@ -932,49 +918,39 @@ pub trait EntrySeal<'a> {
 
     /// The field `0` of `File`.
     fn file_0_mut(self) -> Seal<'a, ArchivedU64>
-        requires viewed { sealed self }
+        requires come_to { sealed self }
         requires tag { tag self ≡ 0 };
 
     /// The field `0` of `Sub`.
     fn sub_0_mut(self) -> Seal<'a, ArchivedBox<ArchivedDir>>
-        requires viewed { sealed self }
+        requires come_to { sealed self }
         requires tag { tag self ≡ 1 };
 }
 
 impl<'a> EntrySeal<'a> for Seal<'a, ArchivedEntry> {
-    ghost sealed = { λ s. Viewed entry_definitions s.bytes.now s.pos
-        (one ⟦<ArchivedEntry as Portable>⟧.shape) s.len };
+    ghost sealed = { λ s. IsSealOf entry_definitions (one ⟦<ArchivedEntry as Portable>⟧.shape) s };
 
     ghost tag = { λ s. seal_tag s };
 
     fn file_0_mut(self) -> Seal<'a, ArchivedU64>
-        requires viewed { Viewed entry_definitions self.bytes.now self.pos
-            (one ⟦<ArchivedEntry as Portable>⟧.shape) self.len }
+        requires come_to { IsSealOf entry_definitions (one ⟦<ArchivedEntry as Portable>⟧.shape)
+            self }
         requires tag { seal_tag self ≡ 0 }
-        ensures same_reference { result.bytes.ghost_name ≡ self.entry.bytes.ghost_name }
-        ensures buffer { result.bytes.now ≡ self.entry.bytes.now }
-        ensures position { result.pos ≡ self.entry.pos + 8 }
-        ensures length { result.len ≡ 0 }
-        ensures viewed { Viewed no_definition result.bytes.now result.pos
-            ⟦<ArchivedU64 as ArchivePointee>⟧.pointee result.len }
-        ensures beside { SealsBeside entry_definitions (one ⟦<ArchivedEntry as Portable>⟧.shape)
-            ⟦<ArchivedU64 as ArchivePointee>⟧.pointee result self.entry }
+        ensures { SealsPart entry_definitions (one ⟦<ArchivedEntry as Portable>⟧.shape)
+            no_definition ⟦<ArchivedU64 as ArchivePointee>⟧.pointee (self.entry.pos + 8) 0
+            self.entry result }
     {
         seal_of_payload::<ArchivedEntry, ArchivedU64>(self, 0, 0, 8)
     }
 
     fn sub_0_mut(self) -> Seal<'a, ArchivedBox<ArchivedDir>>
-        requires viewed { Viewed entry_definitions self.bytes.now self.pos
-            (one ⟦<ArchivedEntry as Portable>⟧.shape) self.len }
+        requires come_to { IsSealOf entry_definitions (one ⟦<ArchivedEntry as Portable>⟧.shape)
+            self }
         requires tag { seal_tag self ≡ 1 }
-        ensures same_reference { result.bytes.ghost_name ≡ self.entry.bytes.ghost_name }
-        ensures buffer { result.bytes.now ≡ self.entry.bytes.now }
-        ensures position { result.pos ≡ self.entry.pos + 4 }
-        ensures length { result.len ≡ 0 }
-        ensures viewed { Viewed ⟦<ArchivedDir as ArchivePointee>⟧.definitions result.bytes.now
-            result.pos ⟦<ArchivedBox<ArchivedDir> as ArchivePointee>⟧.pointee result.len }
-        ensures beside { SealsBeside entry_definitions (one ⟦<ArchivedEntry as Portable>⟧.shape)
-            ⟦<ArchivedBox<ArchivedDir> as ArchivePointee>⟧.pointee result self.entry }
+        ensures { SealsPart entry_definitions (one ⟦<ArchivedEntry as Portable>⟧.shape)
+            ⟦<ArchivedDir as ArchivePointee>⟧.definitions
+            ⟦<ArchivedBox<ArchivedDir> as ArchivePointee>⟧.pointee (self.entry.pos + 4) 0 self.entry
+            result }
     {
         seal_of_payload::<ArchivedEntry, ArchivedBox<ArchivedDir>>(self, 1, 0, 4)
     }

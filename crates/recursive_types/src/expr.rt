@@ -22,13 +22,12 @@ ghost use Rattle.archive_core.specs.Payloads.{payload_in};
 ghost use Rattle.archive_core.specs.PlannedOwners.{one_planned};
 ghost use Rattle.archive_core.specs.Plans.{Serialized};
 ghost use Rattle.archive_core.specs.Runs.{EachBelongs, IsRunRefused, SerializedRun, each_flat, each_keys, each_meaning};
-ghost use Rattle.archive_core.specs.SealsWritten.{SealsBeside, seal_tag};
+ghost use Rattle.archive_core.specs.SealsWritten.{IsSealOf, SealsPart, seal_tag};
 ghost use Rattle.archive_core.specs.Seen.{IsPartOf, RefusesPart, ShowsValueOf, part_tag, tag_of};
 ghost use Rattle.archive_core.specs.SelfCheck.Laws.{by_schema};
 ghost use Rattle.archive_core.specs.Shape.{boxed, one, part, parts, variant, vec};
 ghost use Rattle.archive_core.specs.Sources.{Read};
 ghost use Rattle.archive_core.specs.Value.{case, no_value, value};
-ghost use Rattle.archive_core.specs.Viewed.{Viewed};
 ghost use Rattle.archive_core.specs.Writing.{ZeroedPlace};
 ghost use Rattle.archive_core.specs.Written.{GoesOn};
 ghost use Rattle.recursive_types.specs.ExprShape.{expr_add_parts, expr_call_parts, expr_definitions, expr_has_layout, expr_has_variants, expr_is_align, expr_layout, expr_name, expr_no_others, expr_num_parts, expr_shape, expr_stands_for};
@@ -669,112 +668,82 @@ pub trait ExprSeal<'a> {
 
     /// The field `0` of `Num`.
     fn num_0_mut(self) -> Seal<'a, ArchivedI64>
-        requires viewed { sealed self }
+        requires come_to { sealed self }
         requires tag { tag self ≡ 0 };
 
     /// The field `0` of `Add`.
     fn add_0_mut(self) -> Seal<'a, ArchivedBox<ArchivedExpr>>
-        requires viewed { sealed self }
+        requires come_to { sealed self }
         requires tag { tag self ≡ 1 };
 
     /// The field `1` of `Add`.
     fn add_1_mut(self) -> Seal<'a, ArchivedBox<ArchivedExpr>>
-        requires viewed { sealed self }
+        requires come_to { sealed self }
         requires tag { tag self ≡ 1 };
 
     /// The field `0` of `Call`.
     fn call_0_mut(self) -> Seal<'a, ArchivedString>
-        requires viewed { sealed self }
+        requires come_to { sealed self }
         requires tag { tag self ≡ 2 };
 
     /// The field `1` of `Call`.
     fn call_1_mut(self) -> Seal<'a, ArchivedVec<ArchivedExpr>>
-        requires viewed { sealed self }
+        requires come_to { sealed self }
         requires tag { tag self ≡ 2 };
 }
 
 impl<'a> ExprSeal<'a> for Seal<'a, ArchivedExpr> {
-    ghost sealed = { λ s. Viewed expr_definitions s.bytes.now s.pos
-        (one ⟦<ArchivedExpr as Portable>⟧.shape) s.len };
+    ghost sealed = { λ s. IsSealOf expr_definitions (one ⟦<ArchivedExpr as Portable>⟧.shape) s };
 
     ghost tag = { λ s. seal_tag s };
 
     fn num_0_mut(self) -> Seal<'a, ArchivedI64>
-        requires viewed { Viewed expr_definitions self.bytes.now self.pos
-            (one ⟦<ArchivedExpr as Portable>⟧.shape) self.len }
+        requires come_to { IsSealOf expr_definitions (one ⟦<ArchivedExpr as Portable>⟧.shape) self }
         requires tag { seal_tag self ≡ 0 }
-        ensures same_reference { result.bytes.ghost_name ≡ self.entry.bytes.ghost_name }
-        ensures buffer { result.bytes.now ≡ self.entry.bytes.now }
-        ensures position { result.pos ≡ self.entry.pos + 8 }
-        ensures length { result.len ≡ 0 }
-        ensures viewed { Viewed no_definition result.bytes.now result.pos
-            ⟦<ArchivedI64 as ArchivePointee>⟧.pointee result.len }
-        ensures beside { SealsBeside expr_definitions (one ⟦<ArchivedExpr as Portable>⟧.shape)
-            ⟦<ArchivedI64 as ArchivePointee>⟧.pointee result self.entry }
+        ensures { SealsPart expr_definitions (one ⟦<ArchivedExpr as Portable>⟧.shape) no_definition
+            ⟦<ArchivedI64 as ArchivePointee>⟧.pointee (self.entry.pos + 8) 0 self.entry result }
     {
         seal_of_payload::<ArchivedExpr, ArchivedI64>(self, 0, 0, 8)
     }
 
     fn add_0_mut(self) -> Seal<'a, ArchivedBox<ArchivedExpr>>
-        requires viewed { Viewed expr_definitions self.bytes.now self.pos
-            (one ⟦<ArchivedExpr as Portable>⟧.shape) self.len }
+        requires come_to { IsSealOf expr_definitions (one ⟦<ArchivedExpr as Portable>⟧.shape) self }
         requires tag { seal_tag self ≡ 1 }
-        ensures same_reference { result.bytes.ghost_name ≡ self.entry.bytes.ghost_name }
-        ensures buffer { result.bytes.now ≡ self.entry.bytes.now }
-        ensures position { result.pos ≡ self.entry.pos + 4 }
-        ensures length { result.len ≡ 0 }
-        ensures viewed { Viewed ⟦<ArchivedExpr as ArchivePointee>⟧.definitions result.bytes.now
-            result.pos ⟦<ArchivedBox<ArchivedExpr> as ArchivePointee>⟧.pointee result.len }
-        ensures beside { SealsBeside expr_definitions (one ⟦<ArchivedExpr as Portable>⟧.shape)
-            ⟦<ArchivedBox<ArchivedExpr> as ArchivePointee>⟧.pointee result self.entry }
+        ensures { SealsPart expr_definitions (one ⟦<ArchivedExpr as Portable>⟧.shape)
+            ⟦<ArchivedExpr as ArchivePointee>⟧.definitions
+            ⟦<ArchivedBox<ArchivedExpr> as ArchivePointee>⟧.pointee (self.entry.pos + 4) 0
+            self.entry result }
     {
         seal_of_payload::<ArchivedExpr, ArchivedBox<ArchivedExpr>>(self, 1, 0, 4)
     }
 
     fn add_1_mut(self) -> Seal<'a, ArchivedBox<ArchivedExpr>>
-        requires viewed { Viewed expr_definitions self.bytes.now self.pos
-            (one ⟦<ArchivedExpr as Portable>⟧.shape) self.len }
+        requires come_to { IsSealOf expr_definitions (one ⟦<ArchivedExpr as Portable>⟧.shape) self }
         requires tag { seal_tag self ≡ 1 }
-        ensures same_reference { result.bytes.ghost_name ≡ self.entry.bytes.ghost_name }
-        ensures buffer { result.bytes.now ≡ self.entry.bytes.now }
-        ensures position { result.pos ≡ self.entry.pos + 8 }
-        ensures length { result.len ≡ 0 }
-        ensures viewed { Viewed ⟦<ArchivedExpr as ArchivePointee>⟧.definitions result.bytes.now
-            result.pos ⟦<ArchivedBox<ArchivedExpr> as ArchivePointee>⟧.pointee result.len }
-        ensures beside { SealsBeside expr_definitions (one ⟦<ArchivedExpr as Portable>⟧.shape)
-            ⟦<ArchivedBox<ArchivedExpr> as ArchivePointee>⟧.pointee result self.entry }
+        ensures { SealsPart expr_definitions (one ⟦<ArchivedExpr as Portable>⟧.shape)
+            ⟦<ArchivedExpr as ArchivePointee>⟧.definitions
+            ⟦<ArchivedBox<ArchivedExpr> as ArchivePointee>⟧.pointee (self.entry.pos + 8) 0
+            self.entry result }
     {
         seal_of_payload::<ArchivedExpr, ArchivedBox<ArchivedExpr>>(self, 1, 1, 8)
     }
 
     fn call_0_mut(self) -> Seal<'a, ArchivedString>
-        requires viewed { Viewed expr_definitions self.bytes.now self.pos
-            (one ⟦<ArchivedExpr as Portable>⟧.shape) self.len }
+        requires come_to { IsSealOf expr_definitions (one ⟦<ArchivedExpr as Portable>⟧.shape) self }
         requires tag { seal_tag self ≡ 2 }
-        ensures same_reference { result.bytes.ghost_name ≡ self.entry.bytes.ghost_name }
-        ensures buffer { result.bytes.now ≡ self.entry.bytes.now }
-        ensures position { result.pos ≡ self.entry.pos + 4 }
-        ensures length { result.len ≡ 0 }
-        ensures viewed { Viewed no_definition result.bytes.now result.pos
-            ⟦<ArchivedString as ArchivePointee>⟧.pointee result.len }
-        ensures beside { SealsBeside expr_definitions (one ⟦<ArchivedExpr as Portable>⟧.shape)
-            ⟦<ArchivedString as ArchivePointee>⟧.pointee result self.entry }
+        ensures { SealsPart expr_definitions (one ⟦<ArchivedExpr as Portable>⟧.shape) no_definition
+            ⟦<ArchivedString as ArchivePointee>⟧.pointee (self.entry.pos + 4) 0 self.entry result }
     {
         seal_of_payload::<ArchivedExpr, ArchivedString>(self, 2, 0, 4)
     }
 
     fn call_1_mut(self) -> Seal<'a, ArchivedVec<ArchivedExpr>>
-        requires viewed { Viewed expr_definitions self.bytes.now self.pos
-            (one ⟦<ArchivedExpr as Portable>⟧.shape) self.len }
+        requires come_to { IsSealOf expr_definitions (one ⟦<ArchivedExpr as Portable>⟧.shape) self }
         requires tag { seal_tag self ≡ 2 }
-        ensures same_reference { result.bytes.ghost_name ≡ self.entry.bytes.ghost_name }
-        ensures buffer { result.bytes.now ≡ self.entry.bytes.now }
-        ensures position { result.pos ≡ self.entry.pos + 12 }
-        ensures length { result.len ≡ 0 }
-        ensures viewed { Viewed ⟦<ArchivedExpr as ArchivePointee>⟧.definitions result.bytes.now
-            result.pos ⟦<ArchivedVec<ArchivedExpr> as ArchivePointee>⟧.pointee result.len }
-        ensures beside { SealsBeside expr_definitions (one ⟦<ArchivedExpr as Portable>⟧.shape)
-            ⟦<ArchivedVec<ArchivedExpr> as ArchivePointee>⟧.pointee result self.entry }
+        ensures { SealsPart expr_definitions (one ⟦<ArchivedExpr as Portable>⟧.shape)
+            ⟦<ArchivedExpr as ArchivePointee>⟧.definitions
+            ⟦<ArchivedVec<ArchivedExpr> as ArchivePointee>⟧.pointee (self.entry.pos + 12) 0
+            self.entry result }
     {
         seal_of_payload::<ArchivedExpr, ArchivedVec<ArchivedExpr>>(self, 2, 1, 12)
     }

@@ -22,11 +22,10 @@ ghost use Rattle.archive_core.specs.Keyed.{each_keyed, nothing_keyed, part_keyed
 ghost use Rattle.archive_core.specs.PartsPlanned.{no_part_planned, part_planned, product_planned};
 ghost use Rattle.archive_core.specs.Planned.{string_planned};
 ghost use Rattle.archive_core.specs.PlannedOwners.{one_planned, slice_planned, vec_planned};
-ghost use Rattle.archive_core.specs.SealsWritten.{SealsBeside};
+ghost use Rattle.archive_core.specs.SealsWritten.{IsSealOf, SealsPart};
 ghost use Rattle.archive_core.specs.Seen.{ShowsValueOf};
 ghost use Rattle.archive_core.specs.Shape.{no_part, part};
 ghost use Rattle.archive_core.specs.Value.{no_value, product, value};
-ghost use Rattle.archive_core.specs.Viewed.{Viewed};
 ghost use Rattle.archive_core.specs.Writing.{ZeroedPlace};
 ghost use Rattle.std.specs.Prelude.{[], length, refl, string_bytes, ◌++◌, ◌+◌, ◌≡◌};
 
@@ -315,8 +314,8 @@ pub trait OutlineSeal {
 }
 
 impl<'a> OutlineSeal for Seal<'a, ArchivedOutline> {
-    ghost sealed = { λ s. Viewed ⟦<ArchivedOutline as ArchivePointee>⟧.definitions s.bytes.now s.pos
-        ⟦<ArchivedOutline as ArchivePointee>⟧.pointee s.len };
+    ghost sealed = { λ s. IsSealOf ⟦<ArchivedOutline as ArchivePointee>⟧.definitions
+        ⟦<ArchivedOutline as ArchivePointee>⟧.pointee s };
 
     type Title = Seal<'a, ArchivedString>;
 
@@ -325,53 +324,38 @@ impl<'a> OutlineSeal for Seal<'a, ArchivedOutline> {
     type Others = Seal<'a, ArchivedVec<ArchivedTree>>;
 
     fn title_mut(self) -> Seal<'a, ArchivedString>
-        requires viewed { Viewed ⟦<ArchivedOutline as ArchivePointee>⟧.definitions self.bytes.now
-            self.pos ⟦<ArchivedOutline as ArchivePointee>⟧.pointee self.len }
-        ensures same_reference { result.bytes.ghost_name ≡ self.entry.bytes.ghost_name }
-        ensures buffer { result.bytes.now ≡ self.entry.bytes.now }
-        ensures position { result.pos ≡ self.entry.pos
-            + ⟦<(ArchivedString, (ArchivedTree, (ArchivedVec<ArchivedTree>, ()))) as PortableParts>⟧.begin 0 0 }
-        ensures length { result.len ≡ 0 }
-        ensures viewed { Viewed ⟦<ArchivedString as ArchivePointee>⟧.definitions result.bytes.now
-            result.pos ⟦<ArchivedString as ArchivePointee>⟧.pointee result.len }
-        ensures beside { SealsBeside ⟦<ArchivedOutline as ArchivePointee>⟧.definitions
+        requires come_to { IsSealOf ⟦<ArchivedOutline as ArchivePointee>⟧.definitions
+            ⟦<ArchivedOutline as ArchivePointee>⟧.pointee self }
+        ensures { SealsPart ⟦<ArchivedOutline as ArchivePointee>⟧.definitions
             ⟦<ArchivedOutline as ArchivePointee>⟧.pointee
-            ⟦<ArchivedString as ArchivePointee>⟧.pointee result self.entry }
+            ⟦<ArchivedString as ArchivePointee>⟧.definitions
+            ⟦<ArchivedString as ArchivePointee>⟧.pointee (self.entry.pos
+            + ⟦<(ArchivedString, (ArchivedTree, (ArchivedVec<ArchivedTree>, ()))) as PortableParts>⟧.begin 0 0) 0 self.entry result }
     {
         self.field(0)
     }
 
     fn chapters_mut(self) -> Seal<'a, ArchivedTree>
-        requires viewed { Viewed ⟦<ArchivedOutline as ArchivePointee>⟧.definitions self.bytes.now
-            self.pos ⟦<ArchivedOutline as ArchivePointee>⟧.pointee self.len }
-        ensures same_reference { result.bytes.ghost_name ≡ self.entry.bytes.ghost_name }
-        ensures buffer { result.bytes.now ≡ self.entry.bytes.now }
-        ensures position { result.pos ≡ self.entry.pos
-            + ⟦<(ArchivedString, (ArchivedTree, (ArchivedVec<ArchivedTree>, ()))) as PortableParts>⟧.begin 0 1 }
-        ensures length { result.len ≡ 0 }
-        ensures viewed { Viewed ⟦<ArchivedTree as ArchivePointee>⟧.definitions result.bytes.now
-            result.pos ⟦<ArchivedTree as ArchivePointee>⟧.pointee result.len }
-        ensures beside { SealsBeside ⟦<ArchivedOutline as ArchivePointee>⟧.definitions
-            ⟦<ArchivedOutline as ArchivePointee>⟧.pointee ⟦<ArchivedTree as ArchivePointee>⟧.pointee
-            result self.entry }
+        requires come_to { IsSealOf ⟦<ArchivedOutline as ArchivePointee>⟧.definitions
+            ⟦<ArchivedOutline as ArchivePointee>⟧.pointee self }
+        ensures { SealsPart ⟦<ArchivedOutline as ArchivePointee>⟧.definitions
+            ⟦<ArchivedOutline as ArchivePointee>⟧.pointee
+            ⟦<ArchivedTree as ArchivePointee>⟧.definitions
+            ⟦<ArchivedTree as ArchivePointee>⟧.pointee (self.entry.pos
+            + ⟦<(ArchivedString, (ArchivedTree, (ArchivedVec<ArchivedTree>, ()))) as PortableParts>⟧.begin 0 1) 0 self.entry result }
     {
         self.field(1)
     }
 
     fn others_mut(self) -> Seal<'a, ArchivedVec<ArchivedTree>>
-        requires viewed { Viewed ⟦<ArchivedOutline as ArchivePointee>⟧.definitions self.bytes.now
-            self.pos ⟦<ArchivedOutline as ArchivePointee>⟧.pointee self.len }
-        ensures same_reference { result.bytes.ghost_name ≡ self.entry.bytes.ghost_name }
-        ensures buffer { result.bytes.now ≡ self.entry.bytes.now }
-        ensures position { result.pos ≡ self.entry.pos
-            + ⟦<(ArchivedString, (ArchivedTree, (ArchivedVec<ArchivedTree>, ()))) as PortableParts>⟧.begin 0 2 }
-        ensures length { result.len ≡ 0 }
-        ensures viewed { Viewed ⟦<ArchivedVec<ArchivedTree> as ArchivePointee>⟧.definitions
-            result.bytes.now result.pos ⟦<ArchivedVec<ArchivedTree> as ArchivePointee>⟧.pointee
-            result.len }
-        ensures beside { SealsBeside ⟦<ArchivedOutline as ArchivePointee>⟧.definitions
+        requires come_to { IsSealOf ⟦<ArchivedOutline as ArchivePointee>⟧.definitions
+            ⟦<ArchivedOutline as ArchivePointee>⟧.pointee self }
+        ensures { SealsPart ⟦<ArchivedOutline as ArchivePointee>⟧.definitions
             ⟦<ArchivedOutline as ArchivePointee>⟧.pointee
-            ⟦<ArchivedVec<ArchivedTree> as ArchivePointee>⟧.pointee result self.entry }
+            ⟦<ArchivedVec<ArchivedTree> as ArchivePointee>⟧.definitions
+            ⟦<ArchivedVec<ArchivedTree> as ArchivePointee>⟧.pointee
+            (self.entry.pos
+            + ⟦<(ArchivedString, (ArchivedTree, (ArchivedVec<ArchivedTree>, ()))) as PortableParts>⟧.begin 0 2) 0 self.entry result }
     {
         self.field(2)
     }

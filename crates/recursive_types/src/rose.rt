@@ -15,13 +15,12 @@ ghost use Rattle.archive_core.specs.Fields.{field_in};
 ghost use Rattle.archive_core.specs.PlannedOwners.{one_planned};
 ghost use Rattle.archive_core.specs.Plans.{Serialized};
 ghost use Rattle.archive_core.specs.Runs.{EachBelongs, IsRunRefused, SerializedRun, each_flat, each_keys, each_meaning};
-ghost use Rattle.archive_core.specs.SealsWritten.{SealsBeside};
+ghost use Rattle.archive_core.specs.SealsWritten.{IsSealOf, SealsPart};
 ghost use Rattle.archive_core.specs.Seen.{IsPartOf, RefusesPart, ShowsValueOf};
 ghost use Rattle.archive_core.specs.SelfCheck.Laws.{by_schema};
 ghost use Rattle.archive_core.specs.Shape.{one, part, parts, vec};
 ghost use Rattle.archive_core.specs.Sources.{Read};
 ghost use Rattle.archive_core.specs.Value.{value};
-ghost use Rattle.archive_core.specs.Viewed.{Viewed};
 ghost use Rattle.archive_core.specs.Writing.{ZeroedPlace};
 ghost use Rattle.archive_core.specs.Written.{GoesOn};
 ghost use Rattle.recursive_types.specs.RoseShape.{rose_definitions, rose_has_layout, rose_has_parts, rose_is_align, rose_layout, rose_no_others, rose_parts, rose_shape, rose_stands_for};
@@ -406,35 +405,22 @@ pub trait RoseSeal<'a> {
 }
 
 impl<'a> RoseSeal<'a> for Seal<'a, ArchivedRose> {
-    ghost sealed = { λ s. Viewed rose_definitions s.bytes.now s.pos
-        (one ⟦<ArchivedRose as Portable>⟧.shape) s.len };
+    ghost sealed = { λ s. IsSealOf rose_definitions (one ⟦<ArchivedRose as Portable>⟧.shape) s };
 
     fn field_0_mut(self) -> Seal<'a, ArchivedU32>
-        requires viewed { Viewed rose_definitions self.bytes.now self.pos
-            (one ⟦<ArchivedRose as Portable>⟧.shape) self.len }
-        ensures same_reference { result.bytes.ghost_name ≡ self.entry.bytes.ghost_name }
-        ensures buffer { result.bytes.now ≡ self.entry.bytes.now }
-        ensures position { result.pos ≡ self.entry.pos + 0 }
-        ensures length { result.len ≡ 0 }
-        ensures viewed { Viewed no_definition result.bytes.now result.pos
-            ⟦<ArchivedU32 as ArchivePointee>⟧.pointee result.len }
-        ensures beside { SealsBeside rose_definitions (one ⟦<ArchivedRose as Portable>⟧.shape)
-            ⟦<ArchivedU32 as ArchivePointee>⟧.pointee result self.entry }
+        requires come_to { IsSealOf rose_definitions (one ⟦<ArchivedRose as Portable>⟧.shape) self }
+        ensures { SealsPart rose_definitions (one ⟦<ArchivedRose as Portable>⟧.shape) no_definition
+            ⟦<ArchivedU32 as ArchivePointee>⟧.pointee (self.entry.pos + 0) 0 self.entry result }
     {
         seal_of_field::<ArchivedRose, ArchivedU32>(self, 0, 0)
     }
 
     fn field_1_mut(self) -> Seal<'a, ArchivedVec<ArchivedRose>>
-        requires viewed { Viewed rose_definitions self.bytes.now self.pos
-            (one ⟦<ArchivedRose as Portable>⟧.shape) self.len }
-        ensures same_reference { result.bytes.ghost_name ≡ self.entry.bytes.ghost_name }
-        ensures buffer { result.bytes.now ≡ self.entry.bytes.now }
-        ensures position { result.pos ≡ self.entry.pos + 4 }
-        ensures length { result.len ≡ 0 }
-        ensures viewed { Viewed ⟦<ArchivedRose as ArchivePointee>⟧.definitions result.bytes.now
-            result.pos ⟦<ArchivedVec<ArchivedRose> as ArchivePointee>⟧.pointee result.len }
-        ensures beside { SealsBeside rose_definitions (one ⟦<ArchivedRose as Portable>⟧.shape)
-            ⟦<ArchivedVec<ArchivedRose> as ArchivePointee>⟧.pointee result self.entry }
+        requires come_to { IsSealOf rose_definitions (one ⟦<ArchivedRose as Portable>⟧.shape) self }
+        ensures { SealsPart rose_definitions (one ⟦<ArchivedRose as Portable>⟧.shape)
+            ⟦<ArchivedRose as ArchivePointee>⟧.definitions
+            ⟦<ArchivedVec<ArchivedRose> as ArchivePointee>⟧.pointee (self.entry.pos + 4) 0
+            self.entry result }
     {
         seal_of_field::<ArchivedRose, ArchivedVec<ArchivedRose>>(self, 1, 4)
     }

@@ -22,13 +22,12 @@ ghost use Rattle.archive_core.specs.Expressions.{shape_of, shapes_in};
 ghost use Rattle.archive_core.specs.Fields.{field_in};
 ghost use Rattle.archive_core.specs.PlannedOwners.{one_planned};
 ghost use Rattle.archive_core.specs.Plans.{Serialized};
-ghost use Rattle.archive_core.specs.SealsWritten.{SealsBeside};
+ghost use Rattle.archive_core.specs.SealsWritten.{IsSealOf, SealsPart};
 ghost use Rattle.archive_core.specs.Seen.{IsPartOf, RefusesPart, ShowsValueOf};
 ghost use Rattle.archive_core.specs.SelfCheck.Laws.{by_schema};
 ghost use Rattle.archive_core.specs.Shape.{boxed, one, part, parts, vec};
 ghost use Rattle.archive_core.specs.Sources.{Read};
 ghost use Rattle.archive_core.specs.Value.{value};
-ghost use Rattle.archive_core.specs.Viewed.{Viewed};
 ghost use Rattle.archive_core.specs.Writing.{ZeroedPlace};
 ghost use Rattle.archive_core.specs.Written.{GoesOn};
 ghost use Rattle.archive_recursive.specs.Hollow.{option_at};
@@ -455,54 +454,37 @@ pub trait SearchSeal<'a> {
 }
 
 impl<'a> SearchSeal<'a> for Seal<'a, ArchivedSearch> {
-    ghost sealed = { λ s. Viewed search_definitions s.bytes.now s.pos
-        (one ⟦<ArchivedSearch as Portable>⟧.shape) s.len };
+    ghost sealed = { λ s. IsSealOf search_definitions (one ⟦<ArchivedSearch as Portable>⟧.shape)
+        s };
 
     fn left_mut(self) -> Seal<'a, ArchivedOption<ArchivedBox<ArchivedSearch>>>
-        requires viewed { Viewed search_definitions self.bytes.now self.pos
-            (one ⟦<ArchivedSearch as Portable>⟧.shape) self.len }
-        ensures same_reference { result.bytes.ghost_name ≡ self.entry.bytes.ghost_name }
-        ensures buffer { result.bytes.now ≡ self.entry.bytes.now }
-        ensures position { result.pos ≡ self.entry.pos + 0 }
-        ensures length { result.len ≡ 0 }
-        ensures viewed { Viewed ⟦<ArchivedSearch as ArchivePointee>⟧.definitions result.bytes.now
-            result.pos ⟦<ArchivedOption<ArchivedBox<ArchivedSearch>> as ArchivePointee>⟧.pointee
-            result.len }
-        ensures beside { SealsBeside search_definitions (one ⟦<ArchivedSearch as Portable>⟧.shape)
-            ⟦<ArchivedOption<ArchivedBox<ArchivedSearch>> as ArchivePointee>⟧.pointee result
-            self.entry }
+        requires come_to { IsSealOf search_definitions (one ⟦<ArchivedSearch as Portable>⟧.shape)
+            self }
+        ensures { SealsPart search_definitions (one ⟦<ArchivedSearch as Portable>⟧.shape)
+            ⟦<ArchivedSearch as ArchivePointee>⟧.definitions
+            ⟦<ArchivedOption<ArchivedBox<ArchivedSearch>> as ArchivePointee>⟧.pointee
+            (self.entry.pos + 0) 0 self.entry result }
     {
         seal_of_field::<ArchivedSearch, ArchivedOption<ArchivedBox<ArchivedSearch>>>(self, 0, 0)
     }
 
     fn value_mut(self) -> Seal<'a, ArchivedU32>
-        requires viewed { Viewed search_definitions self.bytes.now self.pos
-            (one ⟦<ArchivedSearch as Portable>⟧.shape) self.len }
-        ensures same_reference { result.bytes.ghost_name ≡ self.entry.bytes.ghost_name }
-        ensures buffer { result.bytes.now ≡ self.entry.bytes.now }
-        ensures position { result.pos ≡ self.entry.pos + 8 }
-        ensures length { result.len ≡ 0 }
-        ensures viewed { Viewed no_definition result.bytes.now result.pos
-            ⟦<ArchivedU32 as ArchivePointee>⟧.pointee result.len }
-        ensures beside { SealsBeside search_definitions (one ⟦<ArchivedSearch as Portable>⟧.shape)
-            ⟦<ArchivedU32 as ArchivePointee>⟧.pointee result self.entry }
+        requires come_to { IsSealOf search_definitions (one ⟦<ArchivedSearch as Portable>⟧.shape)
+            self }
+        ensures { SealsPart search_definitions (one ⟦<ArchivedSearch as Portable>⟧.shape)
+            no_definition ⟦<ArchivedU32 as ArchivePointee>⟧.pointee (self.entry.pos + 8) 0
+            self.entry result }
     {
         seal_of_field::<ArchivedSearch, ArchivedU32>(self, 1, 8)
     }
 
     fn right_mut(self) -> Seal<'a, ArchivedOption<ArchivedBox<ArchivedSearch>>>
-        requires viewed { Viewed search_definitions self.bytes.now self.pos
-            (one ⟦<ArchivedSearch as Portable>⟧.shape) self.len }
-        ensures same_reference { result.bytes.ghost_name ≡ self.entry.bytes.ghost_name }
-        ensures buffer { result.bytes.now ≡ self.entry.bytes.now }
-        ensures position { result.pos ≡ self.entry.pos + 12 }
-        ensures length { result.len ≡ 0 }
-        ensures viewed { Viewed ⟦<ArchivedSearch as ArchivePointee>⟧.definitions result.bytes.now
-            result.pos ⟦<ArchivedOption<ArchivedBox<ArchivedSearch>> as ArchivePointee>⟧.pointee
-            result.len }
-        ensures beside { SealsBeside search_definitions (one ⟦<ArchivedSearch as Portable>⟧.shape)
-            ⟦<ArchivedOption<ArchivedBox<ArchivedSearch>> as ArchivePointee>⟧.pointee result
-            self.entry }
+        requires come_to { IsSealOf search_definitions (one ⟦<ArchivedSearch as Portable>⟧.shape)
+            self }
+        ensures { SealsPart search_definitions (one ⟦<ArchivedSearch as Portable>⟧.shape)
+            ⟦<ArchivedSearch as ArchivePointee>⟧.definitions
+            ⟦<ArchivedOption<ArchivedBox<ArchivedSearch>> as ArchivePointee>⟧.pointee
+            (self.entry.pos + 12) 0 self.entry result }
     {
         seal_of_field::<ArchivedSearch, ArchivedOption<ArchivedBox<ArchivedSearch>>>(self, 2, 12)
     }
