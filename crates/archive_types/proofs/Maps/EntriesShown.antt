@@ -10,7 +10,7 @@ use Rattle.archive_check.specs.SelfCheck.Maps.{entry_definitions, entry_size, en
 use Rattle.archive_check.specs.Viewed.{Viewed}
 use Rattle.archive_check.proofs.Maps.CheckedEntries.{key_first_aligned}
 use Rattle.archive_types.specs.Fields.{field_in}
-use Rattle.archive_types.specs.Maps.{part_in}
+use Rattle.archive_types.specs.Maps.{entry_part}
 use Rattle.archive_types.specs.Members.Maps.{entry_is}
 use Rattle.archive_types.specs.Members.OrderedPairs.{entry_laid}
 use Rattle.archive_types.specs.Views.{itself, element_in, ShowsPart, AreViewed}
@@ -41,10 +41,10 @@ module _ (D : Definitions) (bytes : List ℕ) (q : ℕ) (P : Pointee) (n r : ℕ
 -- the part j of the entry i of the map
 pub entry_part_shows : (i j : ℕ) {D : Definitions} {bytes : List ℕ} {q : ℕ} {P : Pointee} {n r : ℕ} {Q : Pointee} {m t : ℕ} {O : Pointee} {o p : ℕ} {Z : Pointee} {z : ℕ} → ShowsPart D bytes q P n r Q m itself
     → ShowsPart D bytes r Q m t O o (element_in i) → ShowsPart D bytes t O o p Z z (field_in j)
-    → ShowsPart D bytes q P n p Z z (λ w. part_in j (element_in i w))
+    → ShowsPart D bytes q P n p Z z (λ w. entry_part j (element_in i w))
 entry_part_shows i j {D} {bytes} {q} {P} {n} {r} {Q} {m} {t} {O} {o} {p} {Z} {z} a b c =
     let element = shows_through D bytes q P n r Q m t O o itself (element_in i) (element_in i) (λ w u x e f. let same : w ≡ u = cc in rw same f) a b in
-    shows_through D bytes q P n t O o p Z z (element_in i) (field_in j) (λ w. part_in j (element_in i w)) (λ w u x e f. rw e f) element c
+    shows_through D bytes q P n t O o p Z z (element_in i) (field_in j) (λ w. entry_part j (element_in i w)) (λ w u x e f. rw e f) element c
 
 -- each entry is viewed
 pub entries_viewed : (D F : Definitions) (X V : Shape) (L M : Layout) → HasLayout D X L → HasLayout F V M

@@ -17,7 +17,7 @@ use Rattle.archive_check.specs.Definitions.{Definitions, no_definition, both, Kn
 use Rattle.archive_check.specs.Members.PartsLayout.{knows_left, knows_right, no_part_laid_out, part_laid_out, record_has_layout}
 use Rattle.archive_check.specs.SelfCheck.Maps.{entry_definitions, entry_size, entry_align}
 use Rattle.archive_types.specs.Compared.{Standing, standing, elements, slice_of, slices, slices_total, slices_fed}
-use Rattle.archive_types.specs.Maps.{value_begin}
+use Rattle.archive_types.specs.Maps.{entry_value_begin}
 use Rattle.archive_types.specs.Members.Maps.{entry_is}
 use Rattle.archive_types.specs.Members.OrderedParts.{slices_ordered, slice_native, then_Equal}
 use Rattle.archive_types.specs.MapPairs.{pair_meaning}
@@ -29,7 +29,7 @@ abbrev pub first_of : Layout → Standing → Standing
 first_of k v = standing v.bytes (v.pos + up 0 k.align) 0
 
 abbrev pub second_of : Layout → Layout → Standing → Standing
-second_of k l v = standing v.bytes (v.pos + value_begin k l) 0
+second_of k l v = standing v.bytes (v.pos + entry_value_begin k l) 0
 
 -- the order of two pairs: by their first parts, and then by their second ones
 abbrev pub pair_order : Layout → Layout → (Standing → Standing → Ordering) → (Standing → Standing → Ordering)
@@ -111,7 +111,7 @@ module _ (D E : Definitions) (X Y : Shape) (k l : Layout) (laid : HasLayout D X 
       let z : size_of s.layouts X ≡ k.size = ap (λ (z : Layout). z.size) (laid.solved s left) in
       let b : align_of s.layouts Y ≡ l.align = ap (λ (z : Layout). z.align) (other.solved s right) in
       let here : q + up 0 (align_of s.layouts X) ≡ q + up 0 k.align = ap (λ n. q + up 0 n) a in
-      let there : q + up (up 0 (align_of s.layouts X) + size_of s.layouts X) (align_of s.layouts Y) ≡ q + value_begin k l = λ i. q + up (up 0 (a i) + z i) (b i) in
+      let there : q + up (up 0 (align_of s.layouts X) + size_of s.layouts X) (align_of s.layouts Y) ≡ q + entry_value_begin k l = λ i. q + up (up 0 (a i) + z i) (b i) in
       record {
         first = w;
         second = y;
