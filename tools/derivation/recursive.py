@@ -61,9 +61,9 @@ class Recursive:
         self.itself = Type(declaration.name, own=declaration)
         self.is_record = declaration.kind == "struct"
         self.is_alone = len(declaration.family) == 1
-        # under which names the variants of a layer, of a value and of its resolver are brought in
-        one = sum(its.kind == "enum" for its in declaration.family) < 2
-        self.layer, self.its, self.kept = (word if one else f"{word}{declaration.name}" for word in ("Layer", "Its", "Kept"))
+        # under which names the variants of layers, of a value and of its resolver are brought in
+        several = sum(its.kind == "enum" for its in declaration.family) > 1
+        self.layer, self.its, self.kept = "Layer", *(f"{word}{declaration.name}" if several else word for word in ("Its", "Kept"))
         self.tag = None
         if self.is_record:
             self.cases = [Case(self, self.name, self.n, None, declaration.form, declaration.fields, declaration.docs)]

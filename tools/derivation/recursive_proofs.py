@@ -159,10 +159,20 @@ def all_goes(goes):
     return out
 
 
+def words_of(it, case):
+    """The calls that write the parts of a case."""
+    return [f"serialize_{it.word(type)}" if back else "serialize_part" for type, back in zip(case.types, case.leads_back)]
+
+
 def parts_written(it, case, answers, function, values, as_):
     """The answers on parts that are written one after another. `as_` makes of what is said of the layer what is said of the value."""
-    words = [f"serialize_{it.word(type)}" if back else "serialize_part" for type, back in zip(case.types, case.leads_back)]
+    words = words_of(it, case)
     calls, oks, errs = numbered(words), matched("in-Ok", words), matched("in-Err", words)
+    those_written(it, case, answers, function, values, as_, calls, oks, errs, "returns")
+
+
+def those_written(it, case, answers, function, values, as_, calls, oks, errs, end):
+    """The answers on these calls one after another, of which the last is followed by the return `end`."""
     written = [f"c.{ok}.ensures.serialized" for ok in oks]
     goes = [f"c.{call}.ensures.goes_on" for call in calls]
     parts = Parts(it, case, values)
@@ -174,9 +184,9 @@ def parts_written(it, case, answers, function, values, as_):
         if i:
             answers.answer(function, f"returns-{err}-clause-goes_on", all_goes(goes[:i + 1]))
     lemma = "serialized_record" if it.is_record else "serialized_variant"
-    answers.answer(function, "returns-clause-serialized", as_("written_as", f"({lemma} {whole_of(it, case)} _ _ _ _ _ {parts.written(written)})"))
+    answers.answer(function, f"{end}-clause-serialized", as_("written_as", f"({lemma} {whole_of(it, case)} _ _ _ _ _ {parts.written(written)})"))
     if case.count > 1:
-        answers.answer(function, "returns-clause-goes_on", all_goes(goes))
+        answers.answer(function, f"{end}-clause-goes_on", all_goes(goes))
 
 
 def matched(arm, words):
@@ -304,20 +314,42 @@ def vec_owner_written(it, type, answers):
 
 def choice_written(it, answers):
     """The answers of the function that goes by the variant."""
-    function, N = f"serialize_{it.n}", it.name
-    first = next(case for case in it.cases if case.count)
+    function = f"serialize_{it.n}"
+    inline = {case.name: recursive_code.is_inline(case) for case in it.cases}
+    words = [word for case in it.cases for word in (words_of(it, case) if inline[case.name] else [f"serialize_{case.n}"] if case.count else [])]
+    calls, oks, errs = numbered(words), matched("in-Ok", words), matched("in-Err", words)
+    at = 0
     for case in it.cases:
-        values = "".join(f" c.in-{case.name}.{name}" for name in case.names)
-        is_ = f"c.in-{case.name}.is"
         if not case.count:
-            nothing = f"(serialized_variant {whole_of(it, case)} _ _ _ _ _ (serialized_no_part no_definition _))"
-            answers.answer(function, f"returns-in-{case.name}-clause-serialized", f"rw {is_} (written_as {case.n}_has_keys {case.n}_means (rw {case.n}_opens refl) {nothing})")
+            empty_written(it, case, answers, function)
             continue
-        # the first of several calls goes by no name
-        ok, err = ("in-Ok", "in-Err") if case is first else (f"in-Ok-serialize_{case.n}", f"in-Err-serialize_{case.n}")
-        answers.answer(function, f"returns-{ok}-clause-serialized", f"rw {is_} (written_as ({case.n}_has_keys{values}) ({case.n}_means{values}) (rw ({case.n}_opens{values}) refl) c.{ok}.ensures.serialized)")
-        answers.answer(function, f"returns-{ok}-clause-same_value", f"rw ({is_}, {case.n}_opens{values}) c.{ok}.ensures.same_values")
-        answers.answer(function, f"returns-{err}-clause-refused", f"rw {is_} (refused_as ({case.n}_has_keys{values}) ({case.n}_means{values}) c.{err}.ensures.refused)")
+        values = [f"c.in-{case.name}.{name}" for name in case.names]
+        opened = "".join(f" {value}" for value in values)
+        is_ = f"c.in-{case.name}.is"
+
+        def as_(lemma, proof):
+            more = f" (rw ({case.n}_opens{opened}) refl)" if lemma == "written_as" else ""
+            return f"rw {is_} ({lemma} ({case.n}_has_keys{opened}) ({case.n}_means{opened}){more} {proof})"
+
+        until = at + (case.count if inline[case.name] else 1)
+        ok, err = oks[until - 1], errs[until - 1]
+        belongs = f"rw ({is_}, {case.n}_opens{opened})"
+        if inline[case.name]:
+            those_written(it, case, answers, function, values, as_, calls[at:until], oks[at:until], errs[at:until], f"returns-{ok}")
+            same = "tt"
+            for each in reversed(oks[at:until]):
+                same = f"(c.{each}.ensures.same_value, {same})"
+            answers.answer(function, f"returns-{ok}-clause-same_value", f"{belongs} {same}")
+        else:
+            answers.answer(function, f"returns-{ok}-clause-serialized", as_("written_as", f"c.{ok}.ensures.serialized"))
+            answers.answer(function, f"returns-{ok}-clause-same_value", f"{belongs} c.{ok}.ensures.same_values")
+            answers.answer(function, f"returns-{err}-clause-refused", as_("refused_as", f"c.{err}.ensures.refused"))
+        at = until
+
+
+def empty_written(it, case, answers, function):
+    nothing = f"(serialized_variant {whole_of(it, case)} _ _ _ _ _ (serialized_no_part no_definition _))"
+    answers.answer(function, f"returns-in-{case.name}-clause-serialized", f"rw c.in-{case.name}.is (written_as {case.n}_has_keys {case.n}_means (rw {case.n}_opens refl) {nothing})")
 
 
 # ---- reading back ----

@@ -23,6 +23,10 @@ def check_family(it: Declaration, names: str):
     elsewhere = [other for other in it.family if other.path != it.path]
     if elsewhere:
         raise Refused(it.path, it.line, f"`{it.name}` and `{elsewhere[0].name}` hold each other ({names}) and are written together; move both to one file")
+    for variant in it.variants:
+        other = next((x for x in it.family if x is not it and any(variant.name == y.name for y in x.variants)), None)
+        if other is not None:
+            raise Refused(it.path, variant.line, f"`{variant.name}` is a variant of `{it.name}` and of `{other.name}`, which hold each other; give one of them another name")
 
 
 def check_parts(it: Declaration, fields):

@@ -191,8 +191,8 @@ def meaning(family):
         more.append((family.declared(it.resolver), it.resolver))
         aliases += f"use Rattle.{family.declared(N)}.{{{N} as {it.source}}}\n" + it.plain_types(body)
         if not it.is_record:
-            for path, alias in ((family.declared(N, "TheOpen"), it.layer), (family.declared(N, "TheVariants"), it.its), (family.declared(it.resolver, "TheVariants"), it.kept)):
-                aliases += f"use Rattle.{path} as {alias}\n"
+            paths = [(family.declared(family.ordered[0].name, "TheOpen"), it.layer), (family.declared(N, "TheVariants"), it.its), (family.declared(it.resolver, "TheVariants"), it.kept)]
+            aliases += "".join(line for path, alias in paths if (line := f"use Rattle.{path} as {alias}\n") not in aliases)
     names = [w for it in family.members for w in it.shape_names() if w in body]
     shape_ = f"use Rattle.{family.crate}.specs.{family.name}Shape.{{{', '.join(names)}}}\n"
     return f"-- What {' and '.join(it.name for it in family.members)} mean{'s' if len(family.members) == 1 else ''}. {family.first.written}\n{brought(body, more)}{shape_}{aliases}{owns(family, body)}\n{body}"
