@@ -5,3 +5,4 @@ pub mod Planning
 pub mod SharedValues
 pub mod Reading
 pub mod Copying
+pub mod Maps

@@ -18,6 +18,7 @@ pub mod Runs
 pub mod ElementsRead
 pub mod FirstRead
 pub mod Views
+pub mod Maps
 pub mod Inner
 pub mod Payloads
 pub mod Copies

@@ -17,3 +17,4 @@ pub mod SharedLaws
 pub mod SharedSources
 pub mod Arrays
 pub mod Maps
+pub mod OrderedPairs

@@ -10,3 +10,4 @@ pub mod SharedWriting
 pub mod OffsetsWritten
 pub mod PointersWritten
 pub mod LengthsSeen
+pub mod SeenEntries

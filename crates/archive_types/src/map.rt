@@ -6,23 +6,35 @@ ghost use Rattle.archive_check.specs.Shape.{one, sorted_map};
 ghost use Rattle.archive_check.specs.SelfCheck.Maps.{entry_size, entry_definitions};
 ghost use Rattle.archive_types.specs.Members.Maps.{entries_checked, entries_reached};
 
+mod iter;
 mod owned;
+mod reading;
+mod search;
 mod slices;
 mod sorted_keys;
 mod sources;
+mod views;
 
 use crate::traits::{ArchivePointee, MapKey, Portable, PortableParts};
 use archive_check::format::error::Error;
 use archive_check::format::expr::{Defs, Expr};
 use archive_check::self_check::MapCheck;
+pub use iter::Iter;
 pub use slices::SortedEntries;
 pub use sorted_keys::SortedKey;
 pub use sources::SortedMapResolver;
 use std::alloc::Global;
 use std::marker::PhantomData;
 
-/// An archived sorted map: eight bytes at a multiple of four, an offset to the entries and their number. An entry is a key and its value; the keys ascend
-/// strictly. Our own, in place of rkyv 0.8.18's maps, whose format is another one.
+/// An archived sorted map: eight bytes at a multiple of four, an offset to the entries and their
+/// number. An entry is a key and its value; the keys ascend strictly.
+///
+/// ```
+/// let view = access::<ArchivedSortedMap<ArchivedString, ArchivedU32>>(alloc, bytes.as_slice())?;
+/// let count = view.get(&name);          // name: String
+/// ```
+///
+/// Our own: rkyv 0.8.18's maps have another format.
 #[derive(Debug)]
 pub struct ArchivedSortedMap<K, V> {
     of: PhantomData<(K, V)>,
@@ -55,7 +67,8 @@ impl<K: MapKey, V: Portable> Portable for ArchivedSortedMap<K, V> {
 
     ghost has_layout = { record { solved = λ s k. refl } };
 
-    ghost no_others = { entries_reached K.definitions K.shape V.definitions V.shape K.key K.is_key K.no_others V.no_others };
+    ghost no_others = { entries_reached K.definitions K.shape V.definitions V.shape K.key K.is_key
+        K.no_others V.no_others };
 
     ghost checks = { entries_checked K.definitions K.shape V.definitions V.shape K.key K.is_key
         K.layout.size K.Check.definitions K.Check.shape K.Check.span K.Check.nameless K.Check.direct

@@ -5,10 +5,10 @@ use Rattle.std.proofs.Math.Nat.{mul-le-mul_right}
 use Rattle.std.specs.Coded.{le_prop}
 use Rattle.std.proofs.Math.IntN.{ℤ_set}
 use Rattle.std.proofs.lemmas.List.Elements.{Contains-push}
-use Rattle.archive_check.specs.Shape.{Shape, boxed, vec, Pointee, one, run}
+use Rattle.archive_check.specs.Shape.{Key, Shape, boxed, vec, sorted_map, Pointee, one, run, entry_of}
 use Rattle.archive_check.specs.Layout.{Layout, size_of, pointer_size}
 use Rattle.archive_check.specs.Value.{Pointer, Value, box, list, hole, pointers, Values}
-use Rattle.archive_check.specs.Reads.{Schema, i32_at, u32_at, length_at, pointer_at, Reads, reads_boxed, reads_vec, ReadsRun, reads_none, reads_element}
+use Rattle.archive_check.specs.Reads.{Schema, i32_at, u32_at, length_at, pointer_at, map_at, Reads, reads_boxed, reads_vec, reads_map, ReadsRun, reads_none, reads_element}
 use Rattle.archive_check.specs.Tour.{Contents, contents_one, contents_run}
 use Rattle.archive_check.specs.Denotes.{Fills, fills_box, fills_list, fills_unique, fills_shared, FillsAll, fills_no_value, fills_value}
 use Rattle.archive_check.specs.Definitions.{Definitions, Knows, HasLayout}
@@ -35,12 +35,16 @@ pub record OwnerShown (D : Definitions) (bytes : List ℕ) (q : ℕ) (P : Pointe
   pub fits : target_from bytes q q ≤ length bytes
   pub viewed : Viewed D bytes (target_from bytes q q) P (length_at bytes q P)
 
+-- the pointer at q to a P, whose elements ascend by these keys where there are any
+abbrev owned_at : List ℕ → ℕ → Option Key → Pointee → Pointer
+owned_at bytes q o P = record { target = pos q +ℤ i32_at bytes q; sharing = None; order = o; pointee = P; length = length_at bytes q P }
+
 -- W owns a P by the pointer at q, of which its value is made
-module _ (D : Definitions) (bytes : List ℕ) (q n : ℕ) (W : Shape) (P : Pointee) (has : (s : Schema) (v : Value) → Contents s bytes q (one W) n v → Contains (pointers v) (pointer_at bytes q None P)) where
+module _ (D : Definitions) (bytes : List ℕ) (q n : ℕ) (W : Shape) (o : Option Key) (P : Pointee) (has : (s : Schema) (v : Value) → Contents s bytes q (one W) n v → Contains (pointers v) (owned_at bytes q o P)) where
   leads : (s : Schema) → Knows s D → Lies s bytes q (one W) n → (pos q +ℤ i32_at bytes q ≡ pos (target_from bytes q q)) × Lies s bytes (target_from bytes q q) P (length_at bytes q P)
   leads s k l =
       let (v, c) = lies_reads s bytes l in
-      let (t, e, i) = lies_leads s bytes l c (pointer_at bytes q None P) (has s v c) in
+      let (t, e, i) = lies_leads s bytes l c (owned_at bytes q o P) (has s v c) in
       let there : pos q +ℤ i32_at bytes q ≡ pos t = e in
       rw there (refl, i)
 
@@ -52,11 +56,11 @@ module _ (D : Definitions) (bytes : List ℕ) (q n : ℕ) (W : Shape) (P : Point
   }
 
   owner_shows : (taken : Value → Option Value) (around : Value → Value) → ((u : Value) → taken (around u) ≡ Some u)
-      → ((s : Schema) (v w : Value) → Contents s bytes q (one W) n v → Fills s bytes v w → (u : Value) × (w ≡ around u) × Fills s bytes (hole (pointer_at bytes q None P)) u)
+      → ((s : Schema) (v w : Value) → Contents s bytes q (one W) n v → Fills s bytes v w → (u : Value) × (w ≡ around u) × Fills s bytes (hole (owned_at bytes q o P)) u)
       → ShowsPart D bytes q (one W) n (target_from bytes q q) P (length_at bytes q P) taken
   owner_shows taken around back filled = record {
     shown = λ s root X w k r.
-        let (t, e, u, i) = pointer_reached s bytes r (pointer_at bytes q None P) (has s r.value r.reads) in
+        let (t, e, u, i) = pointer_reached s bytes r (owned_at bytes q o P) (has s r.value r.reads) in
         let (x, is, f) = filled s r.value w r.reads r.filled in
         let same : x ≡ u = hole_says f refl e i in
         let there : pos q +ℤ i32_at bytes q ≡ pos t = e in
@@ -75,26 +79,42 @@ vec_has bytes q n X s v (contents_one reads_vec) = Contains-push [] (pointer_at 
 vec_filled : (bytes : List ℕ) (q n : ℕ) (X : Shape) (s : Schema) (v w : Value) → Contents s bytes q (one (vec X)) n v → Fills s bytes v w → (u : Value) × (w ≡ u) × Fills s bytes (hole (pointer_at bytes q None (run X))) u
 vec_filled bytes q n X s v w (contents_one reads_vec) f = (w, refl, f)
 
+pub map_has : (bytes : List ℕ) (q n : ℕ) (K : Key) (V : Shape) (s : Schema) (v : Value) → Contents s bytes q (one (sorted_map K V)) n v → Contains (pointers v) (map_at bytes q K V)
+map_has bytes q n K V s v (contents_one reads_map) = Contains-push [] (map_at bytes q K V)
+
+map_filled : (bytes : List ℕ) (q n : ℕ) (K : Key) (V : Shape) (s : Schema) (v w : Value) → Contents s bytes q (one (sorted_map K V)) n v → Fills s bytes v w → (u : Value) × (w ≡ u) × Fills s bytes (hole (map_at bytes q K V)) u
+map_filled bytes q n K V s v w (contents_one reads_map) f = (w, refl, f)
+
 module _ (D : Definitions) (bytes : List ℕ) (q n : ℕ) where
   -- a box
   pub box_shown : (P : Pointee) → Viewed D bytes q (one (boxed P)) n → OwnerShown D bytes q P
-  box_shown P v = owner_shown D bytes q n (boxed P) P (box_has bytes q n P) v
+  box_shown P v = owner_shown D bytes q n (boxed P) None P (box_has bytes q n P) v
 
   pub box_shows : (P : Pointee) → ShowsPart D bytes q (one (boxed P)) n (target_from bytes q q) P (length_at bytes q P) boxed_in
-  box_shows P = owner_shows D bytes q n (boxed P) P (box_has bytes q n P) boxed_in box (λ u. refl) (box_filled bytes q n P)
+  box_shows P = owner_shows D bytes q n (boxed P) None P (box_has bytes q n P) boxed_in box (λ u. refl) (box_filled bytes q n P)
 
   pub box_within : (P : Pointee) → Viewed D bytes q (one (boxed P)) n → q + pointer_size P ≤ length bytes
   box_within P v = ∥∥₁_elim v le_prop (λ (s, k, l). lies_fits s bytes k.laid_out l)
 
   -- a vector
   pub vec_shown : (X : Shape) → Viewed D bytes q (one (vec X)) n → OwnerShown D bytes q (run X)
-  vec_shown X v = owner_shown D bytes q n (vec X) (run X) (vec_has bytes q n X) v
+  vec_shown X v = owner_shown D bytes q n (vec X) None (run X) (vec_has bytes q n X) v
 
   pub vec_shows : (X : Shape) → ShowsPart D bytes q (one (vec X)) n (target_from bytes q q) (run X) (u32_at bytes (q + 4)) itself
-  vec_shows X = owner_shows D bytes q n (vec X) (run X) (vec_has bytes q n X) itself (λ z. z) (λ u. refl) (vec_filled bytes q n X)
+  vec_shows X = owner_shows D bytes q n (vec X) None (run X) (vec_has bytes q n X) itself (λ z. z) (λ u. refl) (vec_filled bytes q n X)
 
   pub vec_within : (X : Shape) → Viewed D bytes q (one (vec X)) n → q + 8 ≤ length bytes
   vec_within X v = ∥∥₁_elim v le_prop (λ (s, k, l). lies_fits s bytes k.laid_out l)
+
+  -- a map
+  pub map_shown : (K : Key) (V : Shape) → Viewed D bytes q (one (sorted_map K V)) n → OwnerShown D bytes q (run (entry_of K V))
+  map_shown K V v = owner_shown D bytes q n (sorted_map K V) (Some K) (run (entry_of K V)) (map_has bytes q n K V) v
+
+  pub map_shows : (K : Key) (V : Shape) → ShowsPart D bytes q (one (sorted_map K V)) n (target_from bytes q q) (run (entry_of K V)) (u32_at bytes (q + 4)) itself
+  map_shows K V = owner_shows D bytes q n (sorted_map K V) (Some K) (run (entry_of K V)) (map_has bytes q n K V) itself (λ z. z) (λ u. refl) (map_filled bytes q n K V)
+
+  pub map_within : (K : Key) (V : Shape) → Viewed D bytes q (one (sorted_map K V)) n → q + 8 ≤ length bytes
+  map_within K V v = ∥∥₁_elim v le_prop (λ (s, k, l). lies_fits s bytes k.laid_out l)
 
   -- a slice of an X
   module _ (X : Shape) (L : Layout) (laid : HasLayout D X L) where

@@ -8,16 +8,17 @@ use Rattle.archive_check.specs.SelfCheck.Laws.{IsCheckOf}
 use Rattle.archive_check.specs.SelfCheck.Lone.{tuple_direct, none_ordered, part_ordered}
 use Rattle.archive_check.specs.SelfCheck.Maps.{entry_definitions, entry_direct, entry_nameless, entry_lone, map_check, map_reaches}
 
+-- a key that is an X, and a value
+pub entry_is : (X V : Shape) (K : Key) → X ≡ key_shape K → parts (part X (part V no_part)) ≡ entry_of K V
+entry_is X V K is = ap (λ Y. parts (part Y (part V no_part))) is
+
 -- keys that are an X, with the definitions D, and values that are a V, with those of F
 module _ (D : Definitions) (X : Shape) (F : Definitions) (V : Shape) (K : Key) (is : X ≡ key_shape K) where
-  entry_is : parts (part X (part V no_part)) ≡ entry_of K V
-  entry_is = ap (λ Y. parts (part Y (part V no_part))) is
-
   -- a map of them reaches what they do
   pub entries_reached : NoOthers D X → NoOthers F V → NoOthers (entry_definitions D F) (sorted_map K V)
   entries_reached h i =
       let value = part_reached F no_definition V no_part i no_parts_reached in
-      map_reaches (entry_definitions D F) K V (part X (part V no_part)) entry_is (part_reached D (both F no_definition) X (part V no_part) h value)
+      map_reaches (entry_definitions D F) K V (part X (part V no_part)) (entry_is X V K is) (part_reached D (both F no_definition) X (part V no_part) h value)
 
   -- and is checked where both check themselves
   pub entries_checked : (size : ℕ) (E : Definitions) (Y : Shape) (n : ℕ) (none direct : Bool) (value_size : ℕ) (G : Definitions) (Z : Shape) (m : ℕ) (no_name own : Bool) (entry : ℕ)
@@ -27,4 +28,4 @@ module _ (D : Definitions) (X : Shape) (F : Definitions) (V : Shape) (K : Key) (
   entries_checked size E Y n none direct value_size G Z m no_name own entry k v says =
       let value = part_ordered F V value_size G Z m no_name no_definition no_part true true own true v (λ _. none_ordered) in
       let key = part_ordered D X size E Y n none (both F no_definition) (part V no_part) (no_name && true) (true || (no_name && true)) direct (own && true) k value in
-      map_check (entry_definitions D F) K V (part X (part V no_part)) entry_is (entry_direct direct own) (entry_nameless none no_name) (entry_lone none no_name) entry key says
+      map_check (entry_definitions D F) K V (part X (part V no_part)) (entry_is X V K is) (entry_direct direct own) (entry_nameless none no_name) (entry_lone none no_name) entry key says

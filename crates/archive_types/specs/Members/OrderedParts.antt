@@ -197,7 +197,7 @@ vecs_ordered D X R by_value a b v w m n = by_value _ _ v w (vec_means D X a v m)
 
 -- options
 
-then_Equal : (r : Ordering) → ordering_then r Equal ≡ r
+pub then_Equal : (r : Ordering) → ordering_then r Equal ≡ r
 then_Equal Less = refl
 then_Equal Equal = refl
 then_Equal Greater = refl

@@ -1,4 +1,4 @@
-// The values that may be the keys of a map.
+// The keys of maps as sources.
 
 ghost use Rattle.std.specs.Prelude.{◌≡◌, refl};
 ghost use Rattle.archive_num.specs.NumberLaws.{unsigned-order};
@@ -6,11 +6,14 @@ ghost use Rattle.archive_types.specs.ValueOrder.{value_cmp};
 
 use crate::primitive::Source;
 use crate::traits::Archive;
-use archive_num::{LittleEndian, Native};
+use archive_nonzero::NonZero;
+use archive_num::{Integer, LittleEndian, Native};
 
-/// A value that may be the key of a map: it is ordered as its archived type. Integers, `usize`, `isize`, chars, strings and archived numbers are. Our own.
+/// A source whose values may be the keys of a sorted map, since their order is that of the archived keys.
+///
+/// Integers, `usize`, `isize`, `char`, `String` and the archived numbers implement it. Our own.
 pub trait SortedKey: Archive + Ord {
-    // Two keys are ordered as what they mean.
+    // Two values are in the order of what they mean.
     ghost sorted: { (x y : Self) → Self.cmp x y ≡ value_cmp (Self.meaning x) (Self.meaning y) };
 }
 
@@ -19,7 +22,11 @@ impl<N: Source> SortedKey for N {
 }
 
 impl<N: Native> SortedKey for LittleEndian<N> {
-    ghost sorted = { λ x y. N.order_law x y };
+    ghost sorted = { N.order_law };
+}
+
+impl<N: Integer> SortedKey for NonZero<N> {
+    ghost sorted = { N.order_law };
 }
 
 impl SortedKey for usize {

@@ -1,0 +1,83 @@
+// Maps are read back: their pairs, which are then inserted one after another.
+
+ghost use Rattle.std.specs.Prelude.{◌≡◌, [], IfOk, IfErr};
+ghost use Rattle.archive_check.specs.Value.{list};
+ghost use Rattle.archive_check.specs.declared.format.error.Error.TheVariants.{OutOfMemory};
+ghost use Rattle.archive_types.specs.MapPairs.{pair_meaning, pair_keys};
+ghost use Rattle.archive_types.specs.Maps.{inserted};
+ghost use Rattle.archive_types.specs.Runs.{each_meaning, each_keys};
+ghost use Rattle.archive_types.specs.Words.Seen.{IsPartOf, ReadsPart, RefusesPart};
+ghost use Rattle.archive_types.specs.Words.Sources.{Read};
+
+use super::ArchivedSortedMap;
+use super::sorted_keys::SortedKey;
+use crate::slice::read_elements;
+use crate::traits::{Archive, ArchivePointee, Deserialize, Entries, MapKey, Portable};
+use crate::view::{RawView, Ref};
+use archive_check::format::error::Error;
+use archive_tuple::ArchivedTuple2;
+use std::alloc::Global;
+use std::collections::BTreeMap;
+
+// A map into which the pairs are inserted one after another.
+fn collect<A: Ord + Drop, B: Drop>(
+    alloc: Global,
+    pairs: Vec<(A, B)>,
+) -> Result<BTreeMap<A, B>, Error>
+    ensures entries { IfOk result (λ map. map.entries ≡ inserted A.cmp [] pairs.items) }
+    ensures refused { IfErr result (λ e. e ≡ OutOfMemory) }
+{
+    let mut map = BTreeMap::new(alloc);
+    for (key, value) in pairs {
+        if map.insert(key, value).is_err() {
+            return Err(Error::OutOfMemory);
+        }
+    }
+    Ok(map)
+}
+
+// The map that the part shows.
+fn read_map<
+    K: MapKey + Deserialize<A, D>,
+    V: Portable + Deserialize<B, D>,
+    A: SortedKey + Drop,
+    B: Archive + Drop,
+    D: Entries,
+>(alloc: Global, part: RawView<'_>, deserializer: &mut D) -> Result<BTreeMap<A, B>, Error>
+    requires { IsPartOf ⟦<ArchivedSortedMap<K, V> as ArchivePointee>⟧ part }
+    ensures read { IfOk result (λ m.
+        ReadsPart ⟦<ArchivedSortedMap<K, V> as ArchivePointee>⟧ part D.Entries deserializer
+        (list (each_meaning (pair_meaning A.meaning B.meaning) m.entries))
+        (each_keys (pair_keys A.keys B.keys) m.entries)) }
+    ensures refused { IfErr result
+        (RefusesPart ⟦<ArchivedSortedMap<K, V> as ArchivePointee>⟧ part D.Entries deserializer) }
+{
+    let view: Ref<'_, ArchivedSortedMap<K, V>> = Ref::at(part);
+    let entries = view.entries().part();
+    let pairs = read_elements::<ArchivedTuple2<K, V>, (A, B), D>(alloc, entries, deserializer)?;
+    collect(alloc, pairs)
+}
+
+impl<
+    K: MapKey + Deserialize<A, D>,
+    V: Portable + Deserialize<B, D>,
+    A: SortedKey + Drop,
+    B: Archive + Drop,
+    D: Entries,
+> Deserialize<BTreeMap<A, B>, D> for ArchivedSortedMap<K, V>
+where
+    A::Archived: MapKey,
+{
+    fn deserialize_part(
+        alloc: Global,
+        part: RawView<'_>,
+        deserializer: &mut D,
+    ) -> Result<BTreeMap<A, B>, Error>
+        requires { IsPartOf ⟦<Self as ArchivePointee>⟧ part }
+        ensures read { IfOk result (Read ⟦<Self as ArchivePointee>⟧ part D.Entries deserializer
+            ⟦<BTreeMap<A, B> as Archive>⟧) }
+        ensures refused { IfErr result (RefusesPart ⟦<Self as ArchivePointee>⟧ part D.Entries deserializer) }
+    {
+        read_map::<K, V, A, B, D>(alloc, part, deserializer)
+    }
+}
