@@ -1,5 +1,5 @@
 -- The keys of a map that a view shows ascend, by the order of their type.
-use Rattle.std.proofs.Common.{◌≡◌, ℕ, zero, suc, ◌+◌, ◌-◌, ◌*◌, ◌<◌, pos, List, [], Option, Some, None, arith, refl, sym, ap, ◌∙◌}
+use Rattle.std.proofs.Common.{◌≡◌, ℕ, zero, suc, ◌+◌, ◌-◌, ◌*◌, ◌<◌, List, [], Option, Some, None, arith, refl, sym, ap, ◌∙◌}
 use Rattle.std.proofs.Math.Logic.{∥∥₁_elim}
 use Rattle.std.proofs.lemmas.List.Elements.{Contains-push}
 use Rattle.std.specs.Ordering.{Ordering-set}
@@ -12,7 +12,7 @@ use Rattle.archive_check.specs.Value.{Value, number, text_value}
 use Rattle.archive_check.specs.Reads.{Schema, bytes_at, u32_at, kind_value, string_at, map_at, reads_leaf, reads_inline, reads_out_of_line}
 use Rattle.archive_check.specs.Readable.{position, target_from, string_text}
 use Rattle.archive_check.specs.Keys.{key_cmp, Ascend, Ordered, in_any_order, in_key_order}
-use Rattle.archive_check.specs.Tour.{Contents, contents_one, contents_text, Leads}
+use Rattle.archive_check.specs.Tour.{Contents, contents_one, contents_text}
 use Rattle.archive_check.specs.Within.{first_part, whole, in_parts}
 use Rattle.archive_check.specs.Definitions.{Definitions, no_definition, both, Knows, HasLayout}
 use Rattle.archive_check.specs.Members.PartsLayout.{knows_left}

@@ -1,6 +1,6 @@
 -- What views of maps lead to: their entries, and the keys and values of these.
 use Rattle.std.proofs.Common.{◌≡◌, ℕ, ◌+◌, List, Option, Some, refl, sym, ap, ◌∙◌, subst}
-use Rattle.archive_check.specs.Shape.{Key, Shape, parts, sorted_map, Pointee, one, run, no_part, part, key_shape, entry_of}
+use Rattle.archive_check.specs.Shape.{Key, Shape, parts, sorted_map, Pointee, one, run, no_part, part, key_shape}
 use Rattle.archive_check.specs.Layout.{Layout, up, key_size, key_align}
 use Rattle.archive_check.specs.Value.{Value}
 use Rattle.archive_check.specs.Reads.{u32_at}

@@ -1,5 +1,5 @@
 -- Halving among keys that ascend: where a key can be that equals a native one, and how often there is something left to halve.
-use Rattle.std.proofs.Common.{◌≡◌, ℕ, zero, suc, ◌+◌, ◌-◌, ◌*◌, ◌/◌, ◌<◌, ◌≤◌, ◌^◌, IsTrue, arith, refl, sym, ap, ◌∙◌, ⊎_elim, subst}
+use Rattle.std.proofs.Common.{◌≡◌, ℕ, zero, suc, ◌+◌, ◌/◌, ◌<◌, ◌≤◌, ◌^◌, IsTrue, arith, refl, sym, ap, ◌∙◌, ⊎_elim}
 use native.Mathlib.Numerals.{unary_clauses}
 use Rattle.std.proofs.lemmas.Bool.{cases_lt}
 use Rattle.std.specs.Cmp.{IsTotalOrder, tied_itself}

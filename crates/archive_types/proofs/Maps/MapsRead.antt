@@ -1,24 +1,23 @@
 -- Maps are read back, or refused, as their entries are; and where these are named by their positions, their keys ascend.
-use Rattle.std.proofs.Common.{◌≡◌, ℕ, zero, suc, ◌+◌, ◌*◌, ◌/◌, nat_eq, if◌then◌else◌, slice_index, pos, Bool, true, false, IsTrue, List, [], ◌∷◌, Option, Some, None, Contains, arith, inl, inr, ⊎_elim, refl, sym, ap, ◌∙◌, subst, ap₂}
+use Rattle.std.proofs.Common.{◌≡◌, ℕ, ◌+◌, ◌/◌, nat_eq, if◌then◌else◌, slice_index, Bool, true, false, List, [], ◌∷◌, Some, None, arith, inl, inr, ⊎_elim, refl, sym, ap, ◌∙◌, ap₂}
 use Rattle.std.proofs.Math.Logic.{∥∥₁_elim}
 use Rattle.std.proofs.lemmas.Bool.Decides.{nat_tests}
 use mathlib.Core.Bool.{Bool-set}
 use Rattle.std.specs.Cmp.{IsTotalOrder}
-use Rattle.std.specs.Ordering.{is_lt}
 use Rattle.std.specs.declared.cmp.Ordering.{Ordering}
 use Rattle.std.specs.declared.cmp.Ordering.TheVariants.{Less}
 use Rattle.archive_check.specs.declared.format.error.Error.{Error}
-use Rattle.archive_check.specs.Shape.{Key, leaf_key, str_key, Shape, leaf, str, sorted_map, Pointee, one, run, text, parts, part, no_part, key_shape, entry_of}
+use Rattle.archive_check.specs.Shape.{Key, leaf_key, str_key, Shape, str, sorted_map, Pointee, one, run, text, parts, part, no_part, key_shape, entry_of}
 use Rattle.archive_check.specs.Layout.{size_of}
-use Rattle.archive_check.specs.Value.{Pointer, Value, Values, no_value, value, number, product, list, text_value, hole, pointers}
-use Rattle.archive_check.specs.Reads.{Schema, Reads, ReadsRun, bytes_at, u32_at, i32_at, kind_value, string_at, map_at, IsOutOfLine, before_end, decoded_length, reads_leaf, reads_inline, reads_out_of_line, reads_map, reads_parts, reads_part, reads_no_part, reads_none, reads_element}
-use Rattle.archive_check.specs.Readable.{position, target_from, string_text}
+use Rattle.archive_check.specs.Value.{Value, Values, no_value, value, product, list, text_value, hole, pointers}
+use Rattle.archive_check.specs.Reads.{Schema, Reads, ReadsRun, bytes_at, u32_at, string_at, map_at, before_end, decoded_length, reads_leaf, reads_inline, reads_out_of_line, reads_map, reads_parts, reads_part, reads_no_part, reads_none, reads_element}
+use Rattle.archive_check.specs.Readable.{position, target_from}
 use Rattle.archive_check.specs.Keys.{Ascend}
-use Rattle.archive_check.specs.Tour.{Contents, contents_one, contents_run, contents_text, Leads}
-use Rattle.archive_check.specs.Denotes.{Meaning, Naming, Denotes, Fills, FillsAll, fills_number, fills_text, fills_product, fills_list, fills_unique, fills_shared, fills_value, fills_no_value}
-use Rattle.archive_check.specs.Definitions.{Definitions, Knows}
+use Rattle.archive_check.specs.Tour.{Contents, contents_one, contents_run, contents_text}
+use Rattle.archive_check.specs.Denotes.{Naming, Fills, FillsAll, fills_number, fills_text, fills_product, fills_list, fills_unique, fills_shared, fills_value}
+use Rattle.archive_check.specs.Definitions.{Definitions}
 use Rattle.archive_check.specs.Pooled.{Entries}
-use Rattle.archive_check.specs.Viewed.{Lies, Viewed, Says}
+use Rattle.archive_check.specs.Viewed.{Viewed, Says}
 use Rattle.archive_check.specs.Entries.{AreNamedByPosition, meets_in_unique, IsCyclic, ReadsBack, RefusesReading}
 use Rattle.archive_check.proofs.Maps.Entries.{key_at}
 use Rattle.archive_check.proofs.Reading.ReadOwners.{owner_read_back}

@@ -1,6 +1,6 @@
 -- How maps go as planned, and why they are refused: from what is known of their entries, which are written as a slice of pairs.
-use Rattle.std.proofs.Common.{◌≡◌, inl, inr, ℕ, ◌<◌, ◌≤◌, Result, List, [], ◌∷◌, ◌++◌, true, false, cond, refl, ap, arith, Contains}
-use Rattle.std.proofs.lemmas.List.Elements.{Contains-append_left, Contains-append_right}
+use Rattle.std.proofs.Common.{◌≡◌, inl, inr, ℕ, ◌<◌, ◌≤◌, Result, List, ◌++◌, true, false, refl, ap, arith, Contains}
+use Rattle.std.proofs.lemmas.List.Elements.{Contains-append_right}
 use Rattle.archive_check.specs.Shape.{Key, Shape, sorted_map, run, entry_of}
 use Rattle.archive_check.specs.Definitions.{Definitions}
 use Rattle.archive_check.specs.Value.{Value, list, hole, Values}

@@ -1,5 +1,5 @@
 -- Pairs and sorted maps: how they are ordered, by keys and then by values, and that this is the order of what they mean.
-use Rattle.std.proofs.Common.{◌≡◌, ℕ, ◌+◌, max, true, IsTrue, List, ◌++◌, Option, Some, refl, sym, ap, ap₂, ◌∙◌, subst}
+use Rattle.std.proofs.Common.{◌≡◌, ℕ, ◌+◌, max, true, IsTrue, List, ◌++◌, refl, sym, ap, ap₂, subst}
 use mathlib.Core.Bool.{true≢false}
 use Rattle.std.specs.Cmp.Lexicographic.{slice_cmp}
 use Rattle.std.specs.Cmp.{IsTotalOrder, on_total, then_total}
@@ -9,10 +9,10 @@ use Rattle.std.specs.declared.cmp.Ordering.{Ordering}
 use Rattle.std.specs.declared.cmp.Ordering.TheVariants.{Less, Equal, Greater}
 use Rattle.archive_check.specs.Shape.{Key, Shape, parts, sorted_map, one, run, no_part, part, key_shape, entry_of}
 use Rattle.archive_check.specs.Layout.{Layout, up, size_of, align_of}
-use Rattle.archive_check.specs.Value.{Pointer, Value, product, list, hole, Values, no_value, value}
-use Rattle.archive_check.specs.Reads.{Schema, Reads, u32_at, map_at, reads_parts, reads_part, reads_no_part, reads_map}
+use Rattle.archive_check.specs.Value.{Value, product, list, hole, no_value, value}
+use Rattle.archive_check.specs.Reads.{Schema, u32_at, map_at, reads_parts, reads_part, reads_no_part, reads_map}
 use Rattle.archive_check.specs.Readable.{position, target_from}
-use Rattle.archive_check.specs.Tour.{Contents, contents_one, Leads}
+use Rattle.archive_check.specs.Tour.{Contents, contents_one}
 use Rattle.archive_check.specs.Definitions.{Definitions, no_definition, both, Knows, HasLayout}
 use Rattle.archive_check.specs.Members.PartsLayout.{knows_left, knows_right, no_part_laid_out, part_laid_out, record_has_layout}
 use Rattle.archive_check.specs.SelfCheck.Maps.{entry_definitions, entry_size, entry_align}
@@ -22,7 +22,7 @@ use Rattle.archive_types.specs.Members.Maps.{entry_is}
 use Rattle.archive_types.specs.Members.OrderedParts.{slices_ordered, slice_native, then_Equal}
 use Rattle.archive_types.specs.MapPairs.{pair_meaning}
 use Rattle.archive_types.specs.Runs.{each_meaning}
-use Rattle.archive_types.specs.ValueOrder.{value_cmp, values_cmp, Follows, follows_product, follows_pointer, follows_no_value, follows_value, Means, OrdersValues, OrdersNative}
+use Rattle.archive_types.specs.ValueOrder.{value_cmp, Follows, follows_product, follows_pointer, follows_no_value, follows_value, Means, OrdersValues, OrdersNative}
 
 -- the first part of a pair, and the second one, of parts with these layouts
 abbrev pub first_of : Layout → Standing → Standing

@@ -1,10 +1,11 @@
-use Rattle.std.proofs.Common.{◌≡◌, ◌<◌, length, map, refl, sym, ap, ◌∙◌, arith, rules}
+use Rattle.std.proofs.Common.{◌<◌, length, map, sym, ap, ◌∙◌, arith, rules}
 use Rattle.std.proofs.lemmas.List.{length-map}
 use Rattle.archive_check.specs.Value.{list}
 use Rattle.archive_check.specs.declared.format.error.Error.TheVariants.{OutOfMemory}
 use Rattle.archive_types.specs.Causes.{no_memory}
 use Rattle.archive_types.specs.MapPairs.{pair_keys, pair_meaning}
-use Rattle.archive_types.specs.Members.PlannedMaps.{entry_is, pair_planned}
+use Rattle.archive_types.specs.Members.Maps.{entry_is}
+use Rattle.archive_types.specs.Members.PlannedMaps.{pair_planned}
 use Rattle.archive_types.specs.Members.PlannedOwners.{each_planned}
 use Rattle.archive_types.specs.Runs.{each_keys, each_meaning}
 use Rattle.archive_types.specs.ValueOrder.{keys_ascend}
@@ -21,7 +22,7 @@ returns-then-len-clause-outcome g c =
       serialized = tt;
       same_value = tt;
       goes_on = goes_nowhere _;
-      refused = long_map_refused _ _ _ _ (entry_is g.K.Archived.MapKey.key g.K.Archived.Portable.shape g.V.Archived.Portable.shape g.met.K.Archived.MapKey.is_key) _ _ _ _ _
+      refused = long_map_refused _ _ _ _ (entry_is g.K.Archived.Portable.shape g.V.Archived.Portable.shape g.K.Archived.MapKey.key g.met.K.Archived.MapKey.is_key) _ _ _ _ _
           (each_planned _ _ _ _ (pair_planned g.K.Archive.keys g.V.Archive.keys g.K.Archive.meaning g.V.Archive.meaning _ _ _ _ g.met.K.Archive.planned g.met.V.Archive.planned) c.args.self.now.entries) long;
     }
 

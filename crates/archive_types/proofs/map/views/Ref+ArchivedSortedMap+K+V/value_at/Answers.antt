@@ -1,4 +1,4 @@
-use Rattle.std.proofs.Common.{◌≡◌, ◌+◌, ◌*◌, ap, ◌∙◌}
+use Rattle.std.proofs.Common.{◌+◌, ◌*◌, ap, ◌∙◌}
 use Rattle.archive_check.specs.SelfCheck.Maps.{entry_size}
 use Rattle.archive_types.specs.Maps.{entry_value_begin}
 use Rattle.archive_types.proofs.Maps.EntriesShown.{entry_part_shows}
