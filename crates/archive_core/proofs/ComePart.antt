@@ -1,17 +1,17 @@
 -- What seals come to is a part of its archive.
 use Rattle.std.proofs.Common.{◌≡◌, ℕ, ◌+◌, ◌*◌, ◌<◌, pos, List, [], Contains, refl, sym, ◌∙◌, subst}
-use Rattle.std.proofs.Math.Logic.{∥∥₁_elim, ∥∥₁_map, ∥∥₁_prop}
+use Rattle.std.proofs.Math.Logic.{∥∥₁_map}
 use Rattle.std.proofs.lemmas.List.Elements.{All-contains, Contains-push}
 use Rattle.archive_check.specs.Shape.{Key, Shape, sorted_map, Pointee, one, run, part, no_part, key_shape, entry_of}
 use Rattle.archive_check.specs.Layout.{up, size_of, align_of}
 use Rattle.archive_check.specs.Value.{Pointer, Value, hole, pointers}
-use Rattle.archive_check.specs.Reads.{Schema, u32_at, map_at, reads_map}
+use Rattle.archive_check.specs.Reads.{Schema, map_at, reads_map}
 use Rattle.archive_check.specs.Tour.{region_of, root_region, Contents, contents_one, Accepted}
 use Rattle.archive_check.specs.Within.{IsPart, first_part, later_part, whole, in_parts, whole_region, PartOf, in_run, in_string, PartOfSome}
 use Rattle.archive_check.specs.Leaves.{regions_of}
 use Rattle.archive_check.specs.ComesTo.{ComesTo, to_root, to_part, to_element, to_text, to_target, to_value, IsComeTo}
-use Rattle.archive_check.specs.Definitions.{Definitions, Knows}
-use Rattle.archive_check.specs.Viewed.{Lies, Viewed}
+use Rattle.archive_check.specs.Definitions.{Definitions}
+use Rattle.archive_check.specs.Viewed.{Viewed}
 use Rattle.archive_check.proofs.Tours.ReadingUnique.{contents_one_value, pos_one}
 use Rattle.archive_check.proofs.Meanings.ReachedParts.{LeadsInto, Closed, accepted_closed, part_of_reads, part_within, part_element}
 use Rattle.archive_check.proofs.Maps.Entries.{value_at}

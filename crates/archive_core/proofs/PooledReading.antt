@@ -12,8 +12,8 @@ use Rattle.archive_check.specs.Denotes.{Naming}
 use Rattle.archive_check.specs.Layout.{has_length}
 use Rattle.archive_check.specs.Reads.{length_at}
 use Rattle.archive_check.specs.Pooled.{Kept, EntryState, Entries, pooled}
-use Rattle.archive_check.specs.Viewed.{Viewed, Says}
-use Rattle.archive_check.specs.Entries.{NoEntries, AreNamedByPosition, IsCyclic, KeepsEntries, ReadsBack, RefusesReading, AreKept}
+use Rattle.archive_check.specs.Viewed.{Viewed}
+use Rattle.archive_check.specs.Entries.{NoEntries, AreNamedByPosition, ReadsBack, RefusesReading, AreKept}
 use Rattle.archive_check.proofs.Reading.ReadShared.{meets_within, meets_alone, again_read_back, pending_cyclic, inner_cyclic, shared_read_back, alone_cyclic, alone_read_back}
 use Rattle.archive_check.proofs.Tours.Seen.{same_some}
 use Rattle.archive_types.specs.Members.SharedSources.{rc_flavor}

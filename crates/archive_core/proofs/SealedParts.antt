@@ -1,5 +1,5 @@
 -- What seals come to from what they came to: parts, elements, texts, and what pointers lead to.
-use Rattle.std.proofs.Common.{◌≡◌, ◌≢◌, ℕ, ◌+◌, ◌*◌, ◌<◌, pos, List, [], ◌∷◌, length, slice_index, Contains, Some, None, refl, sym, ap, subst}
+use Rattle.std.proofs.Common.{◌≡◌, ◌≢◌, ℕ, ◌+◌, ◌*◌, ◌<◌, pos, List, [], length, slice_index, Contains, Some, None, refl, sym, ap, subst}
 use Rattle.std.proofs.Math.Logic.{∥∥₁_elim, ∥∥₁_map, ∥∥₁_prop}
 use Rattle.std.proofs.lemmas.List.Elements.{Contains-push}
 use Rattle.archive_check.specs.Shape.{Name, Flavor, Shape, choice, array, boxed, vec, str, shared, weak, text, Pointee, one, run, Parts, part, no_part, Variants, variant_at}

@@ -1,13 +1,13 @@
 -- Seals and views of one archive: how they are come by, and that seals come to each, or that it is viewed.
-use Rattle.std.proofs.Common.{ℕ, List, [], ◌∷◌, Contains, All, arith, refl}
+use Rattle.std.proofs.Common.{ℕ, List, [], ◌∷◌, Contains, arith, refl}
 use Rattle.std.proofs.Math.Logic.{∥∥₁_elim, ∥∥₁_map, ∥∥₁_prop}
-use Rattle.std.proofs.lemmas.List.Elements.{All-nil, All-cons, All-contains, Contains-push}
+use Rattle.std.proofs.lemmas.List.Elements.{All-nil, All-cons, All-contains}
 use Rattle.archive_check.specs.Shape.{Shape, Pointee, one}
 use Rattle.archive_check.specs.Reads.{Schema}
 use Rattle.archive_check.specs.Leaves.{regions_of}
 use Rattle.archive_check.specs.Within.{PartOfSome}
 use Rattle.archive_check.specs.ComesTo.{ComesTo, to_root, IsComeTo}
-use Rattle.archive_check.specs.Definitions.{Definitions, Knows}
+use Rattle.archive_check.specs.Definitions.{Definitions}
 use Rattle.archive_check.specs.Archives.{IsArchive}
 use Rattle.archive_check.specs.Viewed.{Viewed}
 use Rattle.archive_types.specs.Members.KnownParts.{KnowsAlso}

@@ -1,13 +1,13 @@
 -- The parts of an archive stay its parts where a leaf is written over, and what seals come to stays come to.
-use Rattle.std.proofs.Common.{◌≡◌, ℕ, zero, suc, ◌+◌, ◌-◌, ◌*◌, ◌<◌, ◌≤◌, pos, List, [], ◌∷◌, ◌++◌, length, slice_index, Some, Contains, All, IsUtf8, arith, refl, sym, ap, subst, ◌∙◌}
+use Rattle.std.proofs.Common.{◌≡◌, ℕ, zero, suc, ◌+◌, ◌-◌, ◌*◌, ◌<◌, pos, List, [], ◌∷◌, ◌++◌, length, slice_index, Some, Contains, All, IsUtf8, arith, refl, sym, ap, subst, ◌∙◌}
 use Rattle.std.proofs.Math.Logic.{∥∥₁_map}
 use Rattle.std.proofs.lemmas.List.Elements.{All-nil, All-cons, All-append, All-contains}
 use Rattle.archive_check.specs.Shape.{Name, Shape, parts, choice, array, str, named, Pointee, one, run, text, Parts, Variants, definition, variant_at}
 use Rattle.archive_check.specs.Layout.{size_of}
-use Rattle.archive_check.specs.Value.{Pointer, Value, Values, number, product, case, list, text_value, box, hole, no_value, value, pointers, all_pointers}
+use Rattle.archive_check.specs.Value.{Pointer, Value, Values, product, case, list, text_value, hole, value, pointers, all_pointers}
 use Rattle.archive_check.specs.Reads.{Schema, LaidOut, bytes_at, u32_at, map_at, before_end, IsOutOfLine, Reads, reads_parts, reads_choice, reads_array, reads_inline, reads_out_of_line, reads_named, ReadsParts, reads_part, ReadsRun, reads_none, reads_element}
 use Rattle.archive_check.specs.Tour.{Region, region_of, root_region, pointee_size, Rising, Contents, contents_one, contents_run, contents_text, Leads, Seen, Tour, tour_end, tour_unique, tour_new, tour_again, Accepted}
-use Rattle.archive_check.specs.Leaves.{Leaf, number_leaf, text_leaf, leaf_begin, leaf_size, leaf_value, leaves, leaves_of_contents, leaves_of_tour, leaves_of, regions_of, IsFree, edit, Overwrites, overwrites_number, overwrites_text, Replaced, Altered, altered_here, altered_product, altered_case, altered_list, altered_box, AlteredAmong, altered_first, altered_later, StillAccepted}
+use Rattle.archive_check.specs.Leaves.{Leaf, number_leaf, text_leaf, leaf_begin, leaf_value, leaves, leaves_of_contents, leaves_of_tour, leaves_of, regions_of, IsFree, edit, Overwrites, overwrites_number, overwrites_text, Replaced, Altered, altered_here, altered_product, altered_case, altered_list, altered_box, AlteredAmong, altered_first, altered_later, StillAccepted}
 use Rattle.archive_check.specs.Within.{IsPart, first_part, later_part, Within, whole, in_parts, in_choice, in_array, in_named, PartOf, whole_region, in_one, in_run, in_string, PartOfSome}
 use Rattle.archive_check.proofs.Editing.EditedArchives.{replaced_has, Split, in_first, in_later, split, overwrites_size, renewed, contents_renewed, accepted_renewed, leaf_fits, replaced_one}
 use Rattle.archive_check.proofs.Editing.EditedBytes.{Edits, edit_edits}

@@ -1,7 +1,7 @@
 -- What is said of seals of a result, and of what it holds: of the value or of the error, whichever there is.
 use Rattle.std.specs.Prelude.{◌≡◌, ◌+◌, Option, IfSome, MatchOption, Result, MatchResult}
-use Rattle.archive_check.specs.Shape.{Pointee, one}
-use Rattle.archive_check.specs.Definitions.{Definitions, both}
+use Rattle.archive_check.specs.Shape.{one}
+use Rattle.archive_check.specs.Definitions.{both}
 use Rattle.archive_check.specs.Words.Formats.{FormatOf}
 use Rattle.archive_core.specs.SealsWritten.{IsSealOf, SealsPart, seal_tag}
 use Rattle.archive_core.specs.declared.seal.Seal.{Seal}

@@ -1,15 +1,15 @@
 -- What is read back has as many elements or bytes as its pointer says, and what is kept of a clone is what was kept: what `Pooled` cites.
-use Rattle.std.proofs.Common.{◌≡◌, ◌≤◌, ℕ, zero, suc, ◌+◌, List, [], ◌∷◌, length, refl, sym, ap, ◌∙◌, arith, false}
+use Rattle.std.proofs.Common.{◌≡◌, ◌≤◌, ℕ, suc, List, [], ◌∷◌, length, refl, sym, ap, ◌∙◌, arith}
 use Rattle.std.specs.Coded.{le_prop}
 use Rattle.std.proofs.Math.Logic.{∥∥₁_elim}
 use Rattle.archive_check.specs.Shape.{Shape, Pointee, one, run, text}
-use Rattle.archive_check.specs.Layout.{has_length, size_of}
+use Rattle.archive_check.specs.Layout.{has_length}
 use Rattle.archive_check.specs.Definitions.{Definitions, no_definition, Knows}
-use Rattle.archive_check.specs.Value.{Value, list, text_value, Values, no_value, value}
+use Rattle.archive_check.specs.Value.{Value, list, text_value, Values}
 use Rattle.archive_check.specs.Reads.{Schema, bytes_at, ReadsRun, reads_none, reads_element}
 use Rattle.archive_check.specs.Tour.{Contents, contents_run, contents_text}
-use Rattle.archive_check.specs.Denotes.{Naming, Fills, fills_text, fills_list, FillsAll, fills_no_value, fills_value}
-use Rattle.archive_check.specs.Viewed.{Lies, Viewed, Says}
+use Rattle.archive_check.specs.Denotes.{Naming, Fills, fills_text, fills_list, FillsAll, fills_value}
+use Rattle.archive_check.specs.Viewed.{Lies, Viewed}
 use Rattle.archive_check.proofs.Editing.EditedBytes.{bytes_long}
 use Rattle.archive_check.proofs.Viewing.Viewed.{lies_fits, lies_reads}
 use Rattle.archive_core.specs.Pooling.{kept_at, Spans}
