@@ -9,20 +9,20 @@ use Rattle.archive_types.specs.Fields.{field_in}
 use Rattle.archive_types.specs.Views.{element_in}
 
 -- where the value of an entry begins, counted from the entry, of a key and a value with these layouts
-abbrev pub value_begin : Layout → Layout → ℕ
-value_begin k v = up (up 0 k.align + k.size) v.align
+abbrev pub entry_value_begin : Layout → Layout → ℕ
+entry_value_begin k v = up (up 0 k.align + k.size) v.align
 
 -- the part j of a pair, if it is there
-abbrev pub part_in : ℕ → Option Value → Option Value
-part_in j None = None
-part_in j (Some pair) = field_in j pair
+abbrev pub entry_part : ℕ → Option Value → Option Value
+entry_part j None = None
+entry_part j (Some pair) = field_in j pair
 
 -- the key and the value of the pair i of a list
 abbrev pub key_in : ℕ → Value → Option Value
-key_in i w = part_in 0 (element_in i w)
+key_in i w = entry_part 0 (element_in i w)
 
 abbrev pub value_in : ℕ → Value → Option Value
-value_in i w = part_in 1 (element_in i w)
+value_in i w = entry_part 1 (element_in i w)
 
 -- what a map holds into which these pairs were inserted in turn, where it held es before
 abbrev pub inserted : {A B : Type 0} → (A → A → Ordering) → List (A × B) → List (A × B) → List (A × B)

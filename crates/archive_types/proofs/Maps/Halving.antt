@@ -1,5 +1,5 @@
 -- Halving among keys that ascend: where a key can be that equals a native one, and how often there is something left to halve.
-use Rattle.std.proofs.Common.{◌≡◌, ℕ, zero, suc, ◌+◌, ◌-◌, ◌*◌, ◌/◌, ◌<◌, ◌≤◌, ◌^◌, IsTrue, arith, refl, sym, ap, ◌∙◌, ⊎_elim, subst}
+use Rattle.std.proofs.Common.{◌≡◌, ℕ, zero, suc, ◌+◌, ◌/◌, ◌<◌, ◌≤◌, ◌^◌, IsTrue, arith, refl, sym, ap, ◌∙◌, ⊎_elim}
 use native.Mathlib.Numerals.{unary_clauses}
 use Rattle.std.proofs.lemmas.Bool.{cases_lt}
 use Rattle.std.specs.Cmp.{IsTotalOrder, tied_itself}
@@ -53,25 +53,21 @@ module _ {T U : Type 0} (R : T → T → Ordering) (N : T → U → Ordering) (a
 abbrev pub AreLeft : ℕ → ℕ → ℕ → Type 0
 AreLeft n count left = (digits : ℕ) → n < 2 ^ digits → (rest : ℕ) × (digits ≡ count + rest) × (left < 2 ^ rest)
 
-pub left_start : (n m : ℕ) → m ≡ n → AreLeft n 0 m
-left_start n m e digits h = (digits, omega arith, rw e h)
-
-halved : (rest left less : ℕ) → 0 < left → less ≤ left / 2 → left < 2 ^ rest → (r : ℕ) × (rest ≡ suc r) × (less < 2 ^ r)
+halved : (rest left less : ℕ) → 0 < left → less ≤ left / 2 → left < 2 ^ rest
+    → (r : ℕ) × (rest ≡ suc r) × (less < 2 ^ r)
 halved zero left less some few h = absurd (omega (arith, some, simp unary_clauses at h))
 halved (suc r) left less some few h = (r, refl, omega (arith, some, few, simp unary_clauses at h))
 
-pub left_half : (n count left less : ℕ) → 0 < left → less ≤ left / 2 → AreLeft n count left → AreLeft n (count + 1) less
+pub left_half : (n count left less : ℕ) → 0 < left → less ≤ left / 2 → AreLeft n count left
+    → AreLeft n (count + 1) less
 left_half n count left less some few h digits below =
     let (rest, e, l) = h digits below in
     let (r, is, m) = halved rest left less some few l in
     (r, omega (arith, e, is), m)
 
--- so it was halved no more often than n has binary digits
-pub left_few : (n count left : ℕ) → AreLeft n count left → (digits : ℕ) → n < 2 ^ digits → count ≤ digits
-left_few n count left h digits below = let (rest, e, l) = h digits below in omega (arith, e)
-
--- and once less, if there is something left
-pub left_more : (n count left : ℕ) → 0 < left → AreLeft n count left → (digits : ℕ) → n < 2 ^ digits → count + 1 ≤ digits
+-- so it was halved less often than n has binary digits, if there is something left
+pub left_more : (n count left : ℕ) → 0 < left → AreLeft n count left → (digits : ℕ) → n < 2 ^ digits
+    → count + 1 ≤ digits
 left_more n count left some h digits below =
     let (rest, e, l) = h digits below in
     let (r, is, m) = halved rest left 0 some (omega arith) l in

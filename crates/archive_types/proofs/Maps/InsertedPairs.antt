@@ -1,5 +1,5 @@
 -- Pairs that are inserted into an empty map in turn: where their keys ascend, they are what it holds.
-use Rattle.std.proofs.Common.{◌≡◌, true, List, [], ◌∷◌, ◌++◌, refl, sym, ap, ◌∙◌, append_assoc}
+use Rattle.std.proofs.Common.{◌≡◌, true, List, [], ◌∷◌, ◌++◌, refl, ap, ◌∙◌, append_assoc}
 use Rattle.std.proofs.lemmas.Bool.{and_parts}
 use Rattle.std.specs.BTreeMap.{insert_entry}
 use Rattle.std.specs.Cmp.{IsTotalOrder}
@@ -35,7 +35,8 @@ module _ {A B : Type 0} (cmp : A → A → Ordering) (total : IsTotalOrder cmp) 
   one_more [] e k h last = (last, tt)
   one_more (x ∷ es) e k h last = (h.0, one_more es e k h.1 last)
 
-  inserted_behind : (es : List (A × B)) (k : A) (v : B) (xs : List (A × B)) → AllBelow es k → ascending_from cmp k xs ≡ true → inserted cmp (es ++ (k, v) ∷ []) xs ≡ es ++ (k, v) ∷ xs
+  inserted_behind : (es : List (A × B)) (k : A) (v : B) (xs : List (A × B)) → AllBelow es k
+      → ascending_from cmp k xs ≡ true → inserted cmp (es ++ (k, v) ∷ []) xs ≡ es ++ (k, v) ∷ xs
   inserted_behind es k v [] h a = refl
   inserted_behind es k v (x ∷ xs) h a =
       let parts = and_parts (is_lt (cmp k x.0)) (ascending_from cmp x.0 xs) a in

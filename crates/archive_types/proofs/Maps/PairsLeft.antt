@@ -12,7 +12,8 @@ module _ (k v : Layout) (b : List ℕ) (p : ℕ) where
   last_more i zero = let same : i + 0 ≡ i = omega arith in rw same refl
   last_more i (suc n) = let same : i + 1 + n ≡ i + suc n = omega arith in ap (λ l. pair_at k v b p i ∷ l) (rw same at (last_more (i + 1) n))
 
-  pub last_left : (i j : ℕ) → i < j → pairs_from k v b p i (j - i) ≡ pairs_from k v b p i (j - 1 - i) ++ pair_at k v b p (j - 1) ∷ []
+  pub last_left : (i j : ℕ) → i < j
+      → pairs_from k v b p i (j - i) ≡ pairs_from k v b p i (j - 1 - i) ++ pair_at k v b p (j - 1) ∷ []
   last_left i j h =
       let some : j - i ≡ suc (j - 1 - i) = omega arith in
       let last : i + (j - 1 - i) ≡ j - 1 = omega arith in

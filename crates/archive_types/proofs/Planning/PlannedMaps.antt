@@ -1,6 +1,6 @@
 -- How maps go as planned, and why they are refused: from what is known of their entries, which are written as a slice of pairs.
-use Rattle.std.proofs.Common.{◌≡◌, inl, inr, ℕ, ◌<◌, List, [], ◌∷◌, ◌++◌, true, false, cond, refl, ap, arith, Contains}
-use Rattle.std.proofs.lemmas.List.Elements.{Contains-append_left, Contains-append_right}
+use Rattle.std.proofs.Common.{◌≡◌, inl, inr, ℕ, ◌<◌, ◌≤◌, Result, List, ◌++◌, true, false, refl, ap, arith, Contains}
+use Rattle.std.proofs.lemmas.List.Elements.{Contains-append_right}
 use Rattle.archive_check.specs.Shape.{Key, Shape, sorted_map, run, entry_of}
 use Rattle.archive_check.specs.Definitions.{Definitions}
 use Rattle.archive_check.specs.Value.{Value, list, hole, Values}
@@ -12,6 +12,7 @@ use Rattle.archive_types.specs.Writing.{Naming, to_map}
 use Rattle.archive_types.specs.ValueOrder.{keys_ascend}
 use Rattle.archive_types.specs.Plans.{cursor, Step, disorder, disorders, Serialized, serialized, SerializedRegion, serialized_region, HasRegionPlan}
 use Rattle.archive_types.specs.Members.PlannedMaps.{map_plan}
+use Rattle.archive_types.specs.Outcomes.{SerializesTo}
 use Rattle.archive_types.specs.Runs.{HasRunPlan}
 use Rattle.archive_types.specs.Causes.{own_cause, of_position, of_order, part_itself, owner_map, stands_too_far, order_hinders, HindersSome, IsRefused, IsRegionRefused}
 use Rattle.archive_types.proofs.Writing.EntriesWritten.{writes_map}
@@ -69,3 +70,8 @@ module _ (D : Definitions) (K : Key) (V X : Shape) (is : X ≡ entry_of K V) (n 
   -- two neighbouring keys don't ascend
   pub unsorted_map_refused : (old new : WriterState) → HasRegionPlan D (run X) n ks (list vs) → keys_ascend vs ≡ false → IsRefused D (sorted_map K V) ks (list vs) old new UnsortedKeys
   unsorted_map_refused old new plans unsorted = unsorted_entries_refused old new (rw is at plans) unsorted
+
+-- what is serialized of entries is so of the pairs that they stand for
+pub as_pairs : {R : Type 0} (D : Definitions) (K : Key) (V : Shape) (f : ℕ → R → Value) {ks ls : List Naming} {v w : Value} {n m : ℕ} {old new : WriterState} {r : Result R Error} → ks ≡ ls → v ≡ w → n ≡ m
+    → SerializesTo D (sorted_map K V) ks v (f n) (λ x. n ≤ 4294967295) old new r → SerializesTo D (sorted_map K V) ls w (f m) (λ x. m ≤ 4294967295) old new r
+as_pairs D K V f keys means many h = rw (keys, means, many) at h

@@ -30,8 +30,8 @@ module _ (D : Definitions) (X : Shape) (E : Definitions) (ps : Parts) (is : IsRe
   field_lies s k l =
       let (w, r) = lies_reached s bytes (rw one_is at l) in
       let there : IsPart s q 0 ps (q + begin 0 i) Y = laid.begins s (is.known s k) q 0 i Y at in
-      let (u, i) = within_reached s bytes r (record_within (is.stands s k) there) in
-      reached_lies s bytes i
+      let (u, j) = within_reached s bytes r (record_within (is.stands s k) there) in
+      reached_lies s bytes {w = u} j
 
   -- the part with an index
   pub field_viewed : (F : Definitions) → definitions_at E i ≡ F → Viewed D bytes q P n → Viewed F bytes (q + begin 0 i) (one Y) 0

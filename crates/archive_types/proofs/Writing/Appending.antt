@@ -234,8 +234,8 @@ writes_ordered D old new ks p o P n x h ordered =
     = λ w k. record { before = h.mid.bytes ++ h.zeros; behind = k.rest; is = begins w k; at = length-append h.mid.bytes h.zeros ∙ sym h.at } in
     let leads : (w : World) → Covers w D new.bytes new.states ks → Leads w.schema w.bytes (to_ordered p o P n) p h.flat
     = λ w k. (
-        let contents = h.contents w.schema w.bytes k.knows (stands w k) in
-        record { target = refl; fits = omega (arith, h.sized w.schema k.knows, stands_fits _ _ _ (stands w k)); contents = contents; ordered = ordered w contents (m.fills w (early w k)) }) in
+    let contents = h.contents w.schema w.bytes k.knows (stands w k) in
+    record { target = refl; fits = omega (arith, h.sized w.schema k.knows, stands_fits _ _ _ (stands w k)); contents = contents; ordered = ordered w contents (m.fills w (early w k)) }) in
     record {
       added = m.added ++ (h.zeros ++ h.region);
       grown = h.grown ∙ ap (λ z. z ++ (h.zeros ++ h.region)) m.grown ∙ append_assoc old.bytes m.added (h.zeros ++ h.region);

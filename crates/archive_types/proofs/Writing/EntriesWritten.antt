@@ -1,21 +1,21 @@
 -- The entries of a map where they are written: they lie in the order of their keys where the keys that they mean ascend. And what points to them reads back.
-use Rattle.std.proofs.Common.{◌≡◌, ℕ, ℤ, zero, suc, pos, ◌+◌, ◌<◌, ◌^◌, ◌/◌, if◌then◌else◌, List, Bool, true, false, nat_eq, slice_index, Option, Some, None, arith, refl, sym, ap, subst, ◌∙◌}
-use Rattle.std.specs.Prelude.{FitsSigned}
+use Rattle.std.proofs.Common.{◌≡◌, ℕ, ℤ, ◌+◌, ◌<◌, ◌^◌, ◌/◌, if◌then◌else◌, List, Bool, true, false, nat_eq, slice_index, Option, Some, None, arith, refl, sym, ap, subst, ◌∙◌}
+use Rattle.std.specs.Prelude.{FitsSigned, ◌≤◌, Result, Ok, Err, IfErr, OnOk}
 use Rattle.std.proofs.lemmas.Bool.{and_parts}
 use Rattle.std.proofs.lemmas.Bool.Decides.{nat_tests}
 use Rattle.std.specs.Int.{w32, to_le_bytes, cast_unsigned}
 use Rattle.std.specs.Ordering.{is_lt}
 use Rattle.std.specs.declared.cmp.Ordering.{Ordering}
 use Rattle.std.specs.declared.cmp.Ordering.TheVariants.{Less, Equal, Greater}
-use Rattle.archive_check.specs.Shape.{Kind, Key, leaf_key, str_key, Shape, sorted_map, str, run, text, key_shape, entry_of}
+use Rattle.archive_check.specs.Shape.{Key, leaf_key, str_key, Shape, sorted_map, str, run, text, key_shape, entry_of}
 use Rattle.archive_check.specs.Layout.{kind_size, size_of}
 use Rattle.archive_check.specs.Definitions.{Definitions}
 use Rattle.archive_check.specs.Value.{Pointer, Value, number, product, case, list, text_value, box, null, shared_value, hole, Values, no_value, value}
-use Rattle.archive_check.specs.Reads.{Schema, Reads, reads_leaf, reads_parts, reads_map, reads_inline, reads_out_of_line, ReadsParts, reads_part, reads_no_part, ReadsRun, reads_none, reads_element, bytes_at, u32_at, string_at, map_at, before_end, decoded_length, kind_value}
+use Rattle.archive_check.specs.Reads.{Schema, Reads, reads_leaf, reads_parts, reads_map, reads_inline, reads_out_of_line, reads_part, ReadsRun, reads_none, reads_element, bytes_at, u32_at, string_at, map_at, before_end, decoded_length, kind_value}
 use Rattle.archive_check.specs.Readable.{position, target_from, string_text}
 use Rattle.archive_check.specs.Keys.{key_cmp, ComesBehind, Ascend, Ordered, in_key_order}
 use Rattle.archive_check.specs.Tour.{Contents, contents_run, contents_text, Leads}
-use Rattle.archive_check.specs.Denotes.{Fills, fills_number, fills_product, fills_list, fills_text, fills_unique, fills_shared, FillsAll, fills_no_value, fills_value, rename, rename_all}
+use Rattle.archive_check.specs.Denotes.{Fills, fills_number, fills_product, fills_list, fills_text, fills_unique, fills_shared, FillsAll, fills_value, rename, rename_all}
 use Rattle.archive_check.specs.CleanRegions.{Occurs, clean_map}
 use Rattle.archive_check.specs.WriterState.{WriterState}
 use Rattle.archive_check.specs.declared.format.error.Error.{Error}
@@ -159,12 +159,28 @@ map_there bytes p t n small few K V stands =
     let many : u32_at bytes (p + 4) ≡ n = length_there bytes p n few (stands_back bytes p (p + 4) offset (to_le_bytes w32 n) refl stands) in
     λ i. record { target = offset_there bytes p t small (stands_front bytes p offset (to_le_bytes w32 n) stands) i; sharing = None; order = Some K; pointee = run (entry_of K V); length = many i }
 
-pub resolves_map : (D : Definitions) (p t n : ℕ) (a : List ℕ) (K : Key) (V : Shape) → n < 2 ^ 32 → FitsSigned w32 (distance p t) → a ≡ owner_bytes true (distance p t) n
+resolves_map : (D : Definitions) (p t n : ℕ) (a : List ℕ) (K : Key) (V : Shape) → n < 2 ^ 32 → FitsSigned w32 (distance p t) → a ≡ owner_bytes true (distance p t) n
     → Resolves D p a (sorted_map K V) (hole (to_map t K V n))
 resolves_map D p t n a K V few small e = record {
   reads = λ s bytes k stands. subst (λ h. Reads s bytes p (sorted_map K V) (hole h)) (map_there bytes p t n small few K V (rw e at stands)) reads_map;
   clean = λ s bytes k stands. clean_map;
 }
 
-pub map_hindered_at : (D : Definitions) (K : Key) (V : Shape) (n t p : ℕ) (e : Error) → IsTooFar e (distance p t) → HindersAt D (sorted_map K V) (hole (to_map t K V n)) p e
+map_hindered_at : (D : Definitions) (K : Key) (V : Shape) (n t p : ℕ) (e : Error) → IsTooFar e (distance p t) → HindersAt D (sorted_map K V) (hole (to_map t K V n)) p e
 map_hindered_at D K V n t p e far = owner_hindered_at D (sorted_map K V) _ (to_map t K V n) t p e owner_map refl far
+
+-- after a call that writes these bytes, or finds that the offset doesn't fit
+module _ {A : Type 0} (r : Result A Error) (D : Definitions) (K : Key) (V : Shape) (n t p : ℕ) where
+  pub map_resolved : (a : List ℕ) → n ≤ 4294967295 → OnOk r (a ≡ owner_bytes true (distance p t) n) → OnOk r (FitsSigned w32 (distance p t)) → OnOk r (Resolves D p a (sorted_map K V) (hole (to_map t K V n)))
+  map_resolved a few written fits = resolved r written fits
+    where
+      resolved : (q : Result A Error) → OnOk q (a ≡ owner_bytes true (distance p t) n) → OnOk q (FitsSigned w32 (distance p t)) → OnOk q (Resolves D p a (sorted_map K V) (hole (to_map t K V n)))
+      resolved (Ok x) e small = resolves_map D p t n a K V (omega (arith, few)) small e
+      resolved (Err e) h k = tt
+
+  pub map_unresolved : (same : Type 0) → IfErr r (λ e. same × IsTooFar e (distance p t)) → IfErr r (HindersAt D (sorted_map K V) (hole (to_map t K V n)) p)
+  map_unresolved same h = unresolved r h
+    where
+      unresolved : (q : Result A Error) → IfErr q (λ e. same × IsTooFar e (distance p t)) → IfErr q (HindersAt D (sorted_map K V) (hole (to_map t K V n)) p)
+      unresolved (Ok x) k = tt
+      unresolved (Err e) k = map_hindered_at D K V n t p e k.1

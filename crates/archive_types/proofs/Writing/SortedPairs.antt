@@ -1,11 +1,11 @@
 -- Pairs of a key and a value whose keys ascend: found by a test of neighbours, and those of a `BTreeMap`. And what stands for pairs means what they do.
-use Rattle.std.proofs.Common.{◌≡◌, ℕ, zero, suc, ◌+◌, ◌-◌, ◌<◌, ◌≤◌, List, [], ◌∷◌, ◌++◌, length, drop, get_or, map, Bool, true, false, ◌&&◌, arith, refl, sym, ap, subst, ◌∙◌}
+use Rattle.std.proofs.Common.{◌≡◌, ℕ, ◌+◌, ◌≤◌, List, [], ◌∷◌, ◌++◌, length, drop, map, Bool, true, ◌&&◌, arith, refl, sym, ap, ◌∙◌}
 use Rattle.std.specs.Ordering.{is_lt}
 use Rattle.std.specs.declared.cmp.Ordering.{Ordering}
 use Rattle.std.specs.declared.cmp.Ordering.TheVariants.{Less}
 use Rattle.std.specs.List.Sorted.{IsStrictlySortedBy}
 use Rattle.std.specs.Map.{keys_of}
-use Rattle.std.proofs.lemmas.List.{drop_more, length-drop}
+use Rattle.std.proofs.lemmas.List.{length-drop}
 use Rattle.std.proofs.lemmas.Map.Keys.{sorted_head, sorted_tail}
 use Rattle.archive_check.specs.Value.{Value, value}
 use Rattle.archive_types.specs.MapPairs.{pair_meaning}
@@ -31,20 +31,6 @@ module _ {A B : Type 0} (R : A → A → Ordering) (m : A → Value) (n : B → 
   pub last_ascends : (all : List (A × B)) (i : ℕ) → length all ≤ i + 1 → pairs_ascend (drop i all) ≡ true
   last_ascends all i few = one_ascends (drop i all) (omega (arith, length-drop i all, few))
 
-  module _ (all : List (A × B)) (i : ℕ) (x y : A × B) (below : i + 1 < length all) (here : x ≡ get_or all i x) (next : y ≡ get_or all (i + 1) y) where
-    neighbours : pairs_ascend (drop i all) ≡ (is_lt (R x.0 y.0) && pairs_ascend (drop (i + 1) all))
-    neighbours =
-        let later : drop (i + 1) all ≡ y ∷ drop (i + 1 + 1) all = drop_more all (i + 1) y below ∙ ap (λ z. z ∷ drop (i + 1 + 1) all) (sym next) in
-        let first : drop i all ≡ x ∷ drop (i + 1) all = drop_more all i x (omega (arith, below)) ∙ ap (λ z. z ∷ drop (i + 1) all) (sym here) in
-        ap pairs_ascend (first ∙ ap (λ es. x ∷ es) later) ∙ two_first x y (drop (i + 1 + 1) all) ∙ ap (λ es. is_lt (R x.0 y.0) && pairs_ascend es) (sym later)
-
-    -- these two don't ascend, and so not all do; or they do
-    pub neighbours_tied : is_lt (R x.0 y.0) ≡ false → pairs_ascend (drop i all) ≡ false
-    neighbours_tied e = neighbours ∙ ap (λ b. b && pairs_ascend (drop (i + 1) all)) e
-
-    pub neighbours_ascend : is_lt (R x.0 y.0) ≡ true → pairs_ascend (drop i all) ≡ pairs_ascend (drop (i + 1) all)
-    neighbours_ascend e = neighbours ∙ ap (λ b. b && pairs_ascend (drop (i + 1) all)) e
-
   -- those of a `BTreeMap` do
   pub map_ascends : (es : List (A × B)) → IsStrictlySortedBy R (keys_of es) → pairs_ascend es ≡ true
   map_ascends [] h = refl
@@ -53,12 +39,12 @@ module _ {A B : Type 0} (R : A → A → Ordering) (m : A → Value) (n : B → 
       let less : R x.0 y.0 ≡ Less = (sorted_head R x.0 (keys_of (y ∷ es)) h).0 in
       two_first x y es ∙ ap (λ r. is_lt r && pairs_ascend (y ∷ es)) less ∙ map_ascends (y ∷ es) (sorted_tail R x.0 (keys_of (y ∷ es)) h)
 
--- what stands for pairs
-module _ {E P : Type 0} (pair : E → P) (k : P → List Naming) (m : P → Value) where
-  pub meaning_of_pairs : (es : List E) → each_meaning (λ e. m (pair e)) es ≡ each_meaning m (map pair es)
-  meaning_of_pairs [] = refl
-  meaning_of_pairs (e ∷ es) = ap (λ vs. value (m (pair e)) vs) (meaning_of_pairs es)
+-- what stands for pairs means what they do, and holds their keys
 
-  pub keys_of_pairs : (es : List E) → each_keys (λ e. k (pair e)) es ≡ each_keys k (map pair es)
-  keys_of_pairs [] = refl
-  keys_of_pairs (e ∷ es) = ap (λ ks. k (pair e) ++ ks) (keys_of_pairs es)
+pub meaning_of_pairs : {E P : Type 0} (pair : E → P) (m : P → Value) (es : List E) → each_meaning (λ e. m (pair e)) es ≡ each_meaning m (map pair es)
+meaning_of_pairs pair m [] = refl
+meaning_of_pairs pair m (e ∷ es) = ap (λ vs. value (m (pair e)) vs) (meaning_of_pairs pair m es)
+
+pub keys_of_pairs : {E P : Type 0} (pair : E → P) (k : P → List Naming) (es : List E) → each_keys (λ e. k (pair e)) es ≡ each_keys k (map pair es)
+keys_of_pairs pair k [] = refl
+keys_of_pairs pair k (e ∷ es) = ap (λ ks. k (pair e) ++ ks) (keys_of_pairs pair k es)

@@ -1,7 +1,6 @@
 -- The plans of maps: their entries are planned as a slice of pairs is. Where the keys don't ascend, this is met first.
 use Rattle.std.specs.Prelude.{◌≡◌, ℕ, List, ◌++◌, length}
-use Rattle.std.proofs.Common.{ap}
-use Rattle.archive_check.specs.Shape.{Key, Shape, parts, sorted_map, Pointee, run, part, no_part, key_shape, entry_of}
+use Rattle.archive_check.specs.Shape.{Key, Shape, parts, sorted_map, run, part, no_part, key_shape, entry_of}
 use Rattle.archive_check.specs.Definitions.{Definitions}
 use Rattle.archive_check.specs.SelfCheck.Maps.{entry_definitions}
 use Rattle.archive_check.specs.Value.{Value, list, hole}
@@ -11,12 +10,9 @@ use Rattle.archive_types.specs.Plans.{Cursor, Step, disorders, plans_map, PlanOf
 use Rattle.archive_types.specs.Runs.{each_meaning, each_keys}
 use Rattle.archive_types.specs.MapPairs.{pair_meaning, pair_keys}
 use Rattle.archive_types.specs.Members.Keyed.{each_keyed, nothing_keyed, part_keyed, record_keyed}
+use Rattle.archive_types.specs.Members.Maps.{entry_is}
 use Rattle.archive_types.specs.Members.PartsPlanned.{no_part_planned, part_planned, product_planned}
-use Rattle.archive_types.specs.Members.PlannedOwners.{each_planned, slice_planned}
-
--- the pair of a key and a value is an entry
-pub entry_is : (K : Key) (X V : Shape) → X ≡ key_shape K → parts (part X (part V no_part)) ≡ entry_of K V
-entry_is K X V e = ap (λ Y. parts (part Y (part V no_part))) e
+use Rattle.archive_types.specs.Members.PlannedOwners.{slice_planned}
 
 module _ (D : Definitions) (K : Key) (V : Shape) (n : ℕ) (ks : List Naming) (v : Value) where
   pub map_plan : (s : Schema) (names : NameMap) (a : Cursor) (holds : ℕ → List Step → Cursor → Type 0) (such : Value → List Step → Cursor → Type 0)
@@ -42,4 +38,4 @@ module _ {A B : Type 0} (k : A → List Naming) (l : B → List Naming) (m : A �
     pairs_planned es = slice_planned (entry_definitions D E) (parts (part X (part V no_part))) (pair_keys k l) (pair_meaning m n) pair_planned es
 
     pub map_of_pairs_planned : (K : Key) → X ≡ key_shape K → (es : List (A × B)) → HasPlan (entry_definitions D E) (sorted_map K V) (each_keys (pair_keys k l) es) (list (each_meaning (pair_meaning m n) es))
-    map_of_pairs_planned K e es = map_planned (entry_definitions D E) K V (length es) _ _ (rw (entry_is K X V e) at pairs_planned es)
+    map_of_pairs_planned K e es = map_planned (entry_definitions D E) K V (length es) _ _ (rw (entry_is X V K e) at pairs_planned es)

@@ -8,7 +8,7 @@ use Rattle.archive_check.specs.Readable.{target_from}
 use Rattle.archive_check.specs.SelfCheck.Maps.{entry_size}
 use Rattle.archive_check.specs.declared.format.traits.ArchivePointee as ArchivePointee
 use Rattle.archive_types.specs.Compared.{Standing, standing}
-use Rattle.archive_types.specs.Maps.{value_begin, key_in, value_in}
+use Rattle.archive_types.specs.Maps.{entry_value_begin, key_in, value_in}
 use Rattle.archive_types.specs.Words.Seen.{ShowsPartOf}
 use Rattle.archive_types.specs.declared.view.RawView.{RawView}
 use Rattle.archive_types.specs.declared.view.Ref.{Ref}
@@ -19,7 +19,7 @@ Pair = Standing × Standing
 
 -- the pair of the entry i, of keys and values with these layouts, where the entries begin at p; n pairs from the one of index i on
 abbrev pub pair_at : Layout → Layout → List ℕ → ℕ → ℕ → Pair
-pair_at k v bytes p i = (standing bytes (p + i * entry_size k v) 0, standing bytes (p + i * entry_size k v + value_begin k v) 0)
+pair_at k v bytes p i = (standing bytes (p + i * entry_size k v) 0, standing bytes (p + i * entry_size k v + entry_value_begin k v) 0)
 
 abbrev pub pairs_from : Layout → Layout → List ℕ → ℕ → ℕ → ℕ → List Pair
 pairs_from k v bytes p i zero = []
@@ -44,31 +44,38 @@ abbrev pub key_shown : {T M : Type 0} {g : ArchivePointee.Ghosts T M} → ℕ �
 key_shown z i m = standing m.bytes.now (first_entry m + i * z) 0
 
 -- the pair that two views show
-abbrev pub shown_pair : {T M U N : Type 0} {g : ArchivePointee.Ghosts T M} {h : ArchivePointee.Ghosts U N} → Ref T M g × Ref U N h → Pair
+abbrev pub shown_pair : {T M U N : Type 0} {g : ArchivePointee.Ghosts T M} {h : ArchivePointee.Ghosts U N}
+    → Ref T M g × Ref U N h → Pair
 shown_pair r = (standing (r.0).bytes.now (r.0).pos (r.0).len, standing (r.1).bytes.now (r.1).pos (r.1).len)
 
 -- the first view shows the key of the entry i of the map that the second one shows
-abbrev pub IsKeyOf : {T M U N : Type 0} {g : ArchivePointee.Ghosts T M} {h : ArchivePointee.Ghosts U N} → Layout → Layout → Ref U N h → Ref T M g → ℕ → Type 0
-IsKeyOf k v u m i = (u.bytes.now ≡ m.bytes.now) × (u.pos ≡ first_entry m + i * entry_size k v) × (u.len ≡ 0) × ShowsPartOf u m (key_in i)
+abbrev pub IsEntryKey : {T M U N : Type 0} {g : ArchivePointee.Ghosts T M} {h : ArchivePointee.Ghosts U N} → Layout
+    → Layout → Ref U N h → Ref T M g → ℕ → Type 0
+IsEntryKey k v u m i = (u.bytes.now ≡ m.bytes.now) × (u.pos ≡ first_entry m + i * entry_size k v) × (u.len ≡ 0) × ShowsPartOf u m (key_in i)
 
 -- it shows the value of the entry i
-abbrev pub IsValueOf : {T M U N : Type 0} {g : ArchivePointee.Ghosts T M} {h : ArchivePointee.Ghosts U N} → Layout → Layout → Ref U N h → Ref T M g → ℕ → Type 0
-IsValueOf k v u m i = (u.bytes.now ≡ m.bytes.now) × (u.pos ≡ first_entry m + i * entry_size k v + value_begin k v) × (u.len ≡ 0) × ShowsPartOf u m (value_in i)
+abbrev pub IsEntryValue : {T M U N : Type 0} {g : ArchivePointee.Ghosts T M} {h : ArchivePointee.Ghosts U N} → Layout
+    → Layout → Ref U N h → Ref T M g → ℕ → Type 0
+IsEntryValue k v u m i = (u.bytes.now ≡ m.bytes.now) × (u.pos ≡ first_entry m + i * entry_size k v + entry_value_begin k v) × (u.len ≡ 0) × ShowsPartOf u m (value_in i)
 
 -- by this order of keys and values of the machine, the key of the entry i equals q
-abbrev pub HasKeyAt : {T M Q : Type 0} {g : ArchivePointee.Ghosts T M} → (Standing → Q → Ordering) → ℕ → Ref T M g → Q → ℕ → Type 0
+abbrev pub HasKeyAt : {T M Q : Type 0} {g : ArchivePointee.Ghosts T M} → (Standing → Q → Ordering) → ℕ → Ref T M g → Q
+    → ℕ → Type 0
 HasKeyAt R z m q i = (i < entry_count m) × (R (key_shown z i m) q ≡ Equal)
 
 -- that of some entry does; that of none
-abbrev pub HasKey : {T M Q : Type 0} {g : ArchivePointee.Ghosts T M} → (Standing → Q → Ordering) → ℕ → Ref T M g → Q → Type 0
+abbrev pub HasKey : {T M Q : Type 0} {g : ArchivePointee.Ghosts T M} → (Standing → Q → Ordering) → ℕ → Ref T M g → Q
+    → Type 0
 HasKey R z m q = (i : ℕ) × HasKeyAt R z m q i
 
-abbrev pub HasNoKey : {T M Q : Type 0} {g : ArchivePointee.Ghosts T M} → (Standing → Q → Ordering) → ℕ → Ref T M g → Q → Type 0
+abbrev pub HasNoKey : {T M Q : Type 0} {g : ArchivePointee.Ghosts T M} → (Standing → Q → Ordering) → ℕ → Ref T M g → Q
+    → Type 0
 HasNoKey R z m q = (i : ℕ) → HasKeyAt R z m q i → ⊥
 
 -- the first view shows the value of an entry whose key equals q
-abbrev pub IsValueAtKey : {T M U N Q : Type 0} {g : ArchivePointee.Ghosts T M} {h : ArchivePointee.Ghosts U N} → (Standing → Q → Ordering) → Layout → Layout → Ref U N h → Ref T M g → Q → Type 0
-IsValueAtKey R k v u m q = (i : ℕ) × HasKeyAt R (entry_size k v) m q i × IsValueOf k v u m i
+abbrev pub IsValueAtKey : {T M U N Q : Type 0} {g : ArchivePointee.Ghosts T M} {h : ArchivePointee.Ghosts U N}
+    → (Standing → Q → Ordering) → Layout → Layout → Ref U N h → Ref T M g → Q → Type 0
+IsValueAtKey R k v u m q = (i : ℕ) × HasKeyAt R (entry_size k v) m q i × IsEntryValue k v u m i
 
 -- so many comparisons are no more than the map's length has binary digits
 abbrev pub AreFewFor : {T M : Type 0} {g : ArchivePointee.Ghosts T M} → Ref T M g → ℕ → Type 0

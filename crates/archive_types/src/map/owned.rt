@@ -1,6 +1,6 @@
 // `BTreeMap` as a source of sorted maps: its entries, in the order of the keys.
 
-ghost use Rattle.std.specs.Prelude.{◌≡◌, ◌<◌, ◌≤◌, IfErr, IfOk, OnOk, length, map, refl};
+ghost use Rattle.std.specs.Prelude.{◌≡◌, ◌<◌, ◌≤◌, IfErr, IfOk, OnOk, length, map, true, refl};
 ghost use Rattle.std.specs.BTreeMap.{btree_map_len};
 ghost use Rattle.archive_check.specs.SelfCheck.Maps.{entry_definitions};
 ghost use Rattle.archive_check.specs.Shape.{sorted_map};
@@ -24,9 +24,7 @@ use crate::parts::{PartOf, SourceParts};
 use crate::place::Place;
 use crate::record::{resolve_record, serialize_record};
 use crate::ser::serialize_one;
-use crate::traits::{
-    Archive, ArchiveUnsized, Keys, MapKey, Portable, Serialize, SerializeUnsized,
-};
+use crate::traits::{Archive, ArchiveUnsized, Keys, MapKey, Portable, Serialize, SerializeUnsized};
 use crate::tuples::{Part0, Part1};
 use archive_check::format::error::Error;
 use archive_tuple::ArchivedTuple2;
@@ -105,13 +103,15 @@ impl<'a, A: Serialize<S>, B: Serialize<S>, S: Writer + Keys> Serialize<S> for En
 // The entries of a map, in order, in memory from `alloc`.
 fn entries_of<'a, M: Allocator + Drop, A: Ord, B>(
     alloc: M,
-    map: &'a BTreeMap<A, B>,
+    source: &'a BTreeMap<A, B>,
 ) -> Result<Vec<Entry<'a, A, B>, M>, AllocError>
-    ensures { IfOk result (λ es. map (λ e. (e.key.now, e.value.now)) es.items ≡ map.now.entries) }
+    ensures { IfOk result (λ es. map (λ e. (e.key.now, e.value.now)) es.items ≡ source.now.entries) }
 {
-    let mut entries = Vec::with_capacity(alloc, map.len())?;
-    for (key, value) in map {
-        entries.push(Entry { key, value }).map_err(AllocError::from)?;
+    let mut entries = Vec::with_capacity(alloc, source.len())?;
+    for (key, value) in source {
+        entries
+            .push(Entry { key, value })
+            .map_err(AllocError::from)?;
     }
     Ok(entries)
 }

@@ -121,8 +121,9 @@ where
     }
 }
 
-impl<'a, S: Writer + ResolverAlloc, K: SortedKey + Serialize<S>, V: Serialize<S>>
-    SerializeUnsized<S> for SortedEntries<'a, K, V>
+impl<'a, S: Writer + ResolverAlloc, K: SortedKey + Serialize<S>, V: Serialize<S>> SerializeUnsized<
+    S,
+> for SortedEntries<'a, K, V>
 where
     K::Archived: MapKey,
 {

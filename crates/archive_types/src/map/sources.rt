@@ -69,12 +69,10 @@ pub(super) fn are_sorted<A: SortedKey, B: Archive>(entries: &[(A, B)]) -> bool
 // Writes what the entries of a map own, in order, and then all of them as one region. Their keys ascend, and a pointer can say how many there are.
 #[tactic(auto, using(crate::proofs::Planning::PlannedMaps::serialized_map, crate::proofs::Planning::PlannedMaps::map_refused, crate::proofs::Planning::PlannedMaps::far_map_refused))]
 #[inline(always)]
-pub(super) fn serialize_ordered<
-    K: MapKey,
-    V: Portable,
-    T: Serialize<S>,
-    S: Writer + ResolverAlloc,
->(entries: &[T], serializer: &mut S) -> Result<SortedMapResolver, Error>
+pub(super) fn serialize_ordered<K: MapKey, V: Portable, T: Serialize<S>, S: Writer + ResolverAlloc>(
+    entries: &[T],
+    serializer: &mut S,
+) -> Result<SortedMapResolver, Error>
     requires few { length entries.now ≤ 4294967295 }
     requires ordered { keys_ascend (each_meaning T.meaning entries.now) ≡ true }
     requires pairs { T.Archived.shape ≡ entry_of K.key V.shape }
@@ -125,7 +123,6 @@ impl<K: MapKey, V: Portable> ArchivedSortedMap<K, V> {
     /// these are eight, and that `len` is at most 4,294,967,295; `resolver` should be that of so
     /// many entries. Fails with `IsizeOverflow` or `OffsetOverflow` exactly if the offset to the
     /// entries doesn't fit; the bytes are then unchanged.
-    #[tactic(auto, using(crate::proofs::Writing::EntriesWritten::resolves_map, crate::proofs::Writing::EntriesWritten::map_hindered_at))]
     #[inline(always)]
     pub fn resolve_from_len(
         len: usize,

@@ -3,7 +3,7 @@
 ghost use Rattle.std.specs.Prelude.{◌≡◌, ◌+◌, ◌<◌, ◌↔◌, IfSome, IsSome, IsTrue};
 ghost use Rattle.archive_check.specs.Reads.{u32_at};
 ghost use Rattle.archive_types.specs.Words.Seen.{ShowsPartOf};
-ghost use Rattle.archive_types.specs.Words.SeenEntries.{entry_count, first_entry, IsKeyOf, IsValueOf};
+ghost use Rattle.archive_types.specs.Words.SeenEntries.{entry_count, first_entry, IsEntryKey, IsEntryValue};
 ghost use Rattle.archive_types.specs.Views.{itself};
 
 use super::ArchivedSortedMap;
@@ -32,7 +32,7 @@ impl<'a, K: MapKey, V: Portable> Ref<'a, ArchivedSortedMap<K, V>> {
     // The key of the entry `index`, of which 0 is the first.
     pub(crate) fn key_at(self, index: usize) -> Ref<'a, K>
         requires { index < entry_count self }
-        ensures { IsKeyOf K.layout V.layout result self.entry index }
+        ensures { IsEntryKey K.layout V.layout result self.entry index }
     {
         self.entries().index(index).field::<K>(0)
     }
@@ -40,7 +40,7 @@ impl<'a, K: MapKey, V: Portable> Ref<'a, ArchivedSortedMap<K, V>> {
     // Its value.
     pub(crate) fn value_at(self, index: usize) -> Ref<'a, V>
         requires { index < entry_count self }
-        ensures { IsValueOf K.layout V.layout result self.entry index }
+        ensures { IsEntryValue K.layout V.layout result self.entry index }
     {
         self.entries().index(index).field::<V>(1)
     }
@@ -63,8 +63,8 @@ impl<'a, K: MapKey, V: Portable> Ref<'a, ArchivedSortedMap<K, V>> {
     /// more than `index` entries.
     pub fn get_at(self, index: usize) -> Option<(Ref<'a, K>, Ref<'a, V>)>
         ensures some { IsSome result ↔ (index < entry_count self.entry) }
-        ensures key { IfSome result (λ pair. IsKeyOf K.layout V.layout pair.0 self.entry index) }
-        ensures value { IfSome result (λ pair. IsValueOf K.layout V.layout pair.1 self.entry index) }
+        ensures key { IfSome result (λ pair. IsEntryKey K.layout V.layout pair.0 self.entry index) }
+        ensures value { IfSome result (λ pair. IsEntryValue K.layout V.layout pair.1 self.entry index) }
     {
         if index >= self.len() {
             return None;

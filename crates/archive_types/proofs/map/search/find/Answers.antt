@@ -1,8 +1,8 @@
-use Rattle.std.proofs.Common.{◌≡◌, ◌+◌, ◌-◌, ◌*◌, ◌/◌, ◌<◌, ◌≤◌, ℕ, arith, sym, ◌∙◌}
+use Rattle.std.proofs.Common.{◌≡◌, ◌+◌, ◌-◌, ◌*◌, ◌/◌, ◌<◌, ℕ, arith, sym, ◌∙◌}
 use Rattle.std.specs.declared.cmp.Ordering.TheVariants.{Less, Greater}
 use Rattle.archive_check.specs.SelfCheck.Maps.{entry_size}
 use Rattle.archive_types.specs.Compared.{Standing, standing}
-use Rattle.archive_types.specs.Words.SeenEntries.{entry_count, first_entry, key_shown}
+use Rattle.archive_types.specs.Words.SeenEntries.{entry_count, first_entry}
 use Rattle.archive_types.proofs.Maps.AscendingKeys.{map_ascends}
 use Rattle.archive_types.proofs.Maps.Halving.{later_half, earlier_half, left_half, left_more}
 use Rattle.archive_types.proofs.map.search.find.Goals as goal

@@ -1,4 +1,4 @@
-use Rattle.std.proofs.Common.{◌≡◌, ℕ, ◌≤◌, ◌<◌, ◌-◌}
+use Rattle.std.proofs.Common.{ℕ, ◌≤◌, ◌<◌, ◌-◌}
 use Rattle.archive_check.specs.SelfCheck.Maps.{entry_size}
 use Rattle.archive_types.specs.Words.SeenEntries.{entry_count, HasKeyAt}
 use Rattle.archive_types.proofs.Maps.Halving.{AreLeft}

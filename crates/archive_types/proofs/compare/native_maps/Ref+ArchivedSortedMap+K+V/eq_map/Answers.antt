@@ -1,4 +1,4 @@
-use Rattle.std.proofs.Common.{◌≡◌, ap, ◌∙◌}
+use Rattle.std.proofs.Common.{ap, ◌∙◌}
 use Rattle.std.specs.Ordering.{is_eq}
 use Rattle.archive_check.specs.Shape.{one}
 use Rattle.archive_types.specs.Compared.{standing}

@@ -1,4 +1,4 @@
-use Rattle.std.proofs.Common.{◌≡◌, ◌+◌, ◌*◌, ap, ◌∙◌, add-zero}
+use Rattle.std.proofs.Common.{◌+◌, ◌*◌, ap, ◌∙◌, add-zero}
 use Rattle.archive_check.specs.SelfCheck.Maps.{entry_size}
 use Rattle.archive_types.proofs.Maps.EntriesShown.{entry_part_shows, key_begins}
 use Rattle.archive_types.proofs.map.views.Ref+ArchivedSortedMap+K+V.key_at.Goals as goal
