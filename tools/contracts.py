@@ -1,4 +1,5 @@
 """What the contracts of public calls and the definitions of specs/ say, read as text: for tools/trusted and tools/definitions."""
+import functools
 import pathlib
 import re
 
@@ -21,6 +22,8 @@ class Definition:
         self.key, self.kind, self.path = key, kind, path
         self.lines = []
         self.above = []
+        # The one whose comment is for it, too: the first of a `mutual` block, or of definitions that follow each other under one comment.
+        self.head = self
 
     @property
     def comment(self):
@@ -48,7 +51,7 @@ def definitions(crate, path, found):
     module = ".".join(path.relative_to(CRATES / crate / "specs").with_suffix("").parts)
     lines = path.read_text().split("\n")
     blocks = []
-    current = None
+    current = last = None
     above = []
     constructors = {}
     for line in lines:
@@ -64,7 +67,7 @@ def definitions(crate, path, found):
         blocks = [block for block in blocks if block[0] < indent]
         block = BLOCK.match(line)
         if block:
-            blocks.append((indent, "abbrev" in block[2]))
+            blocks.append((indent, "abbrev" in block[2], [] if "mutual" in block[2] else None))
             current = None
             if not re.match(r" *(abbrev )?mutual", line):
                 above = []
@@ -82,13 +85,20 @@ def definitions(crate, path, found):
         elif DEFINED.match(line):
             started = (DEFINED.match(line)[2], "definition", None)
         elif STATED.match(line):
-            kind = "definition" if any(short for _, short in blocks) else "lemma"
+            kind = "definition" if any(short for _, short, _ in blocks) else "lemma"
             started = (STATED.match(line)[2], kind, None)
         if started:
             name, kind, made = started
             current = Definition((crate, module, name), kind, path)
             current.indent, current.made, current.above = indent, made, above
             found[current.key] = current
+            for together in [block[2] for block in blocks if block[2] is not None][-1:]:
+                together.append(current)
+                current.head = together[0]
+            if kind == "definition":
+                if current.head is current and not above and last:
+                    current.head = last.head
+                last = current
         if current:
             current.lines.append(line)
         above = []
@@ -112,18 +122,45 @@ def hidden(path):
     return private, shown
 
 
+def implementor(owner):
+    """The type whose calls an `impl` without a trait has."""
+    depth, rest = 0, owner.removeprefix("impl")
+    for at, letter in enumerate(rest):
+        depth += (letter == "<") - (letter == ">" and rest[at - 1] not in "-=")
+        if depth == 0 and letter != "<":
+            found = re.match(r"\s*(\w+)", rest[at + (letter == ">") :])
+            return found[1] if found else None
+    return None
+
+
+@functools.cache
+def public_types():
+    """The types that users reach: of a public module, or passed on by one. Their calls are public wherever they stand."""
+    found = set()
+    for path in library_files():
+        private, shown = hidden(path)
+        names = re.findall(r"^pub (?:struct|enum) (\w+)", path.read_text(), re.M)
+        found |= {it for it in names if not private or it in shown}
+    return found
+
+
 def roots(path, only=None):
     """The clauses of the public contracts of a file, or of those of its calls that are named alone."""
     private, shown = hidden(path)
     clauses, owner, public, clause = [], "", True, None
-    for line in path.read_text().split("\n"):
+    lines = path.read_text().split("\n")
+    for number, line in enumerate(lines):
         text = line.strip()
         if re.match(r"(pub(\(crate\))? )?(trait|impl|struct|enum)\b", line):
             owner = line
+            if line.startswith("impl"):
+                # A long head goes on below.
+                owner = " ".join("\n".join(lines[number:]).split("{")[0].split())
         call = re.match(r"(pub(?:\(crate\))? )?(?:final |const )*fn (\w+)", text)
         if call:
             method = owner and line.startswith("    ") and (re.match(r"(pub )?trait", owner) or " for " in owner)
-            open_call = call[1] == "pub " and (not private or call[2] in shown or (line.startswith("    ") and shown & set(re.findall(r"\w+", owner))))
+            of_type = line.startswith("    ") and implementor(owner) in public_types()
+            open_call = call[1] == "pub " and (not private or call[2] in shown or of_type)
             public = bool(method or open_call) and (only is None or call[2] in only)
         if clause is None and re.match(r"(requires|ensures)\*? ", text) and public:
             clause = ""

@@ -84,6 +84,18 @@ def circle(start: Declaration, edges: Dict[int, List[Edge]], behind: bool) -> Op
     return None
 
 
+def reached_from(start: Declaration, edges: Dict[int, List[Edge]]) -> List[Declaration]:
+    """The declarations that this one holds, behind pointers or not, through others or not."""
+    out: List[Declaration] = []
+    left = [start]
+    while left:
+        for other, _, _ in edges[id(left.pop())]:
+            if not any(x is other for x in out):
+                out.append(other)
+                left.append(other)
+    return out
+
+
 def check_circles(declarations: List[Declaration]):
     every = all_of(declarations)
     reach = reach_of(every)
@@ -101,6 +113,11 @@ def check_circles(declarations: List[Declaration]):
     for it in every:
         way = circle(it, edges, True)
         it.recursive = way is not None
+    reached = {id(it): reached_from(it, edges) for it in every}
+    for it in every:
+        it.holds_recursive = not it.recursive and any(x.recursive for x in reached[id(it)])
+        if it.recursive:
+            it.family = sorted((x for x in reached[id(it)] if any(y is it for y in reached[id(x)])), key=lambda x: (x.path, x.line))
     for it in every:
         way = circle(it, edges, True)
         if way:

@@ -85,7 +85,7 @@ def written_files() -> List[str]:
         folders[:] = sorted(it for it in folders if it not in ("out", "data"))
         for path in sorted(os.path.join(folder, it) for it in names if it.endswith(".rt")):
             with open(path, "rb") as text:
-                if MARK.encode() in text.read():
+                if MARK.encode() in text.read().splitlines():
                     found.append(path)
     return found
 

@@ -274,7 +274,7 @@ class Formats:
             return f"⟦<{self.archived(type)} as ArchivePointee>⟧.definitions"
         if kind == "Result":
             return f"(both {self.definitions(type.args[0])} {self.definitions(type.args[1])})"
-        if kind in ("tuple", "BTreeMap") or kind == "own" and type.args:
+        if kind in ("tuple", "BTreeMap") or kind == "own" and type.own.as_tuple:
             out = "no_definition"
             for arg in reversed(self.fields(type) if kind == "own" else type.args):
                 out = f"(both {self.definitions(arg)} {out})"

@@ -1,4 +1,4 @@
-"""The impls of a struct with type parameters: a tuple whose fields have names."""
+"""The impls of a struct with type parameters, or that holds a recursive type: a tuple whose fields have names."""
 
 from .common import doc_lines, infix, resolve_head
 from .layout import Generic, Group, flat, implementation, literal, pair, signature, statement
@@ -10,7 +10,7 @@ def camel(name):
 
 
 class Tuple:
-    """A struct with parameters, and the names of what is written for it."""
+    """Such a struct, and the names of what is written for it."""
 
     def __init__(self, formats, declaration):
         if declaration.kind == "enum":
@@ -28,15 +28,19 @@ class Tuple:
         self.count = len(self.types)
         self.parameters = [parameter.name for parameter in declaration.parameters]
         self.bounds = {parameter.name: parameter.bounds for parameter in declaration.parameters}
-        self.of = f"{self.name}<{', '.join(self.parameters)}>"
+        self.of = f"{self.name}{self.brackets()}"
         self.rust = [formats.rust(type) for type in self.types]
         self.formats_of = [formats.archived(type) for type in self.types]
         self.formats_bare = [formats.archived(type, bare=True) for type in self.types]
-        self.parts = f"{self.name}Fields<{', '.join(self.parameters)}>"
+        self.parts = f"{self.name}Fields{self.brackets()}"
         self.visibility = "pub "  # also of a private type: an accessor of a public one may show it
         self.where = f"\nwhere\n    {declaration.where.rstrip(',')}," if declaration.where else ""
         self.names = [f"a{i}" for i in range(self.count)]
         self.size = "⟦<Self::Archived as Portable>⟧.layout.size"
+
+    def brackets(self):
+        """Its parameters as arguments, if it has any."""
+        return f"<{', '.join(self.parameters)}>" if self.parameters else ""
 
     def bound(self, *more, before=(), after=()):
         """The parameters of an impl, each with its bounds and these."""
@@ -78,7 +82,7 @@ def head(made, generics, trait, arguments):
 def format_of(made):
     parts = statement(
         0,
-        f"pub type {made.archived}<{', '.join(made.parameters)}> = ".replace("pub ", made.visibility, 1),
+        f"pub type {made.archived}{made.brackets()} = ".replace("pub ", made.visibility, 1),
         Group("ArchivedTuple<", [pair(made.formats_bare)], ">"),
         ";",
     )
@@ -214,7 +218,7 @@ def views(made):
         for i, (field, format) in enumerate(zip(made.fields, made.formats_bare))
     )
     bound = ["'a"] + [f"{name}: Portable" for name in made.parameters]
-    of = f"Ref<'a, {made.archived}<{', '.join(made.parameters)}>>"
+    of = f"Ref<'a, {made.archived}{made.brackets()}>"
     return f"""/// The fields of an archived `{made.name}`, where they lie.
 {made.visibility}trait {made.name}View {{
 {docs}
@@ -230,7 +234,7 @@ def seals(made):
     f = made.formats
     f.use("archive_core::seal", "Seal")
     f.ghost("SealsWritten", "IsSealOf", "SealsPart")
-    format_of_all = f"{made.archived}<{', '.join(made.parameters)}>"
+    format_of_all = f"{made.archived}{made.brackets()}"
     whole = f"⟦<{format_of_all} as ArchivePointee>⟧"
     f.use("archive_core::traits", "ArchivePointee")
     docs = "\n".join(f"    /// The seal of `{field.name}`.\n    type {camel(field.accessor)};\n" for field in made.fields)

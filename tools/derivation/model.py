@@ -89,10 +89,17 @@ class Declaration:
     archived: str = ""  # the name of the archived type: `ArchivedPoint`, or another on demand
     named: bool = False  # `// name: ArchivedTest` stands above it
     recursive: bool = False  # holds itself behind a pointer
+    family: List["Declaration"] = field(default_factory=list, compare=False, repr=False)  # of a recursive one: those that it holds and that hold it, itself among them
+    holds_recursive: bool = False  # isn't recursive itself, and holds a type that is
     path: str = ""  # the file that it stands in
     line: int = 0
     crate: str = ""
     module: Tuple[str, ...] = ()  # `("event",)` of src/event.rt; empty at the root
+
+    @property
+    def as_tuple(self) -> bool:
+        """Whether it is archived as a tuple whose fields have names, by impls that take any definitions."""
+        return bool(self.parameters) or self.holds_recursive
 
     def all_fields(self) -> List[Field]:
         return self.fields if self.kind == "struct" else [f for v in self.variants for f in v.fields]

@@ -353,10 +353,10 @@ def check_nests(module: Module):
     the toolchain takes."""
     for it in module.declarations:
         for field in it.all_fields():
-            inner = nested(field.type, bool(it.parameters))
+            inner = nested(field.type, it.as_tuple)
             if inner:
                 what = "a tuple" if inner.name == "tuple" else "a map" if is_map(inner) else f"`{inner.text or inner.name}`"
-                where = "a struct with type parameters" if it.parameters else "a tuple or a map" if inner.own is None else "a tuple or a struct with type parameters"
+                where = "a struct with type parameters" if it.parameters else "a struct that holds a recursive type" if it.holds_recursive else "a tuple or a map" if inner.own is None else "a tuple or a struct with type parameters"
                 raise Refused(module.path, field.type.line, f"{what} in {where} is too deep for the toolchain; write a struct without parameters in place of the inner one")
 
 
@@ -371,8 +371,9 @@ def check_arrays(module: Module):
                 it_is = f"OwnedArray<{inner.args[0].text}, {inner.length}>"
                 raise Refused(module.path, type.line, f"an array in another type is read back as an `OwnedArray`; write `{it_is}`, of `archive_core::core_impls`")
             held = array_in(type, {"array", "OwnedArray"})
-            if held and it.parameters:
-                raise Refused(module.path, type.line, f"an array in a struct with type parameters isn't proved; write a `Vec` in place of `{held.text}`")
+            if held and it.as_tuple:
+                where = "with type parameters" if it.parameters else "that holds a recursive type"
+                raise Refused(module.path, type.line, f"an array in a struct {where} isn't proved; write a `Vec` in place of `{held.text}`")
 
 
 def array_in(it: Type, names: Set[str]) -> Optional[Type]:
@@ -392,7 +393,7 @@ def nested(it: Type, inside: bool) -> Optional[Type]:
     """The first tuple, map, or struct with parameters, that is in another one."""
     if it.parameter or it.own is None and it.name == "PhantomData":
         return None
-    is_tuple = it.name == "tuple" and it.own is None or is_map(it) or it.own is not None and bool(it.args)
+    is_tuple = it.name == "tuple" and it.own is None or is_map(it) or it.own is not None and it.own.as_tuple
     if is_tuple and inside:
         return it
     held = it.args

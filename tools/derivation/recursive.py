@@ -2,6 +2,7 @@
 
 from . import recursive_code, recursive_proofs, recursive_specs
 from .formats import Formats, layout_of, snake
+from .model import Type
 from .recursive_terms import Terms
 
 WRITTEN = "Written by tools/derive: change the declaration, and run it again."
@@ -24,11 +25,32 @@ class Case:
         self.leads_back = [whole.terms.leads_back(type) for type in self.types]
 
 
+class Family:
+    """Types that hold each other, or one that holds itself. Cycles of functions and files are named after the first."""
+
+    def __init__(self, formats, declaration):
+        self.members = []
+        for its in declaration.family:
+            self.members.append(Recursive(formats, its, self))
+        self.first = self.members[0]
+        self.n, self.name, self.crate, self.module = self.first.n, self.first.name, self.first.declaration.crate, self.first.declaration.module
+        # as the toolchain has them in its folds: enums before structs
+        self.ordered = sorted(self.members, key=lambda it: (it.is_record, it.name))
+        self.deepest = max(depth for it in self.members for depth in map(it.depth, it.owners))
+
+    def member(self, declaration):
+        return next(it for it in self.members if it.declaration is declaration)
+
+    def declared(self, *more):
+        """The module of what the toolchain says of a type of the family."""
+        return ".".join((self.crate, "specs", "declared") + tuple(self.module) + more)
+
+
 class Recursive:
     """A declaration that holds itself."""
 
-    def __init__(self, formats, declaration):
-        self.formats = formats
+    def __init__(self, formats, declaration, family):
+        self.formats, self.family = formats, family
         self.declaration = declaration
         self.terms = Terms(declaration)
         self.name, self.archived = declaration.name, declaration.archived
@@ -36,12 +58,17 @@ class Recursive:
         self.n = self.terms.n
         self.source = f"{declaration.name}-Source"  # the type as antt has it, under a name that nothing else has
         self.written = WRITTEN
+        self.itself = Type(declaration.name, own=declaration)
         self.is_record = declaration.kind == "struct"
+        self.is_alone = len(declaration.family) == 1
+        # under which names the variants of layers, of a value and of its resolver are brought in
+        several = sum(its.kind == "enum" for its in declaration.family) > 1
+        self.layer, self.its, self.kept = "Layer", *(f"{word}{declaration.name}" if several else word for word in ("Its", "Kept"))
         self.tag = None
         if self.is_record:
             self.cases = [Case(self, self.name, self.n, None, declaration.form, declaration.fields, declaration.docs)]
             whole = self.cases[0]
-            self.types, self.fields = whole.types, declaration.fields
+            self.types, self.fields, self.names = whole.types, declaration.fields, whole.names
             self.binders = [f"t.{field.name}" for field in declaration.fields]
         else:
             self.cases = [
@@ -53,13 +80,14 @@ class Recursive:
         self.owners = self.owners_of()
 
     def owners_of(self):
-        """The owners of the type that its parts name, each once, with what they hold first."""
+        """The owners of the family that its parts name and that no type before it does, each once, with what they hold first."""
         found = []
+        before = [self.word(type) for it in self.family.members for type in it.owners]
 
         def go(type):
             for arg in type.args:
                 go(arg)
-            if self.terms.leads_back(type) and not self.terms.is_self(type) and all(self.word(type) != self.word(other) for other in found):
+            if self.terms.leads_back(type) and not self.terms.is_member(type) and self.word(type) not in before + [self.word(other) for other in found]:
                 found.append(type)
 
         for case in self.cases:
@@ -67,12 +95,22 @@ class Recursive:
                 go(type)
         return found
 
+    def is_written(self, type):
+        """Whether a function writes what an owner owns: what is in an option is written with it."""
+        return any(self.word(part) == self.word(type) for it in self.family.members for case in it.cases for part in case.types if self.terms.leads_back(part))
+
     def word(self, type):
         """What functions of an owner are called by: `box_expr`."""
-        return self.n if self.terms.is_self(type) else f"{snake(type.name)}_{self.word(type.args[0])}"
+        return self.terms.n_of(type) if self.terms.is_member(type) else f"{snake(type.name)}_{self.word(type.args[0])}"
 
-    def antt(self, type):
-        """A type as antt has it."""
+    def depth(self, type):
+        """How many owners a type has around one of the family."""
+        return 0 if self.terms.is_member(type) else 1 + self.depth(type.args[0])
+
+    def antt(self, type, held=None):
+        """A type as antt has it; `held` has what stands in place of each type of the family, by its name."""
+        if held and self.terms.is_member(type):
+            return held[type.name]
         if type.own is not None:
             return f"{type.name}-Source"
         if type.name[0] == "u" and type.name[1:].isdigit() or type.name == "char":
@@ -81,12 +119,14 @@ class Recursive:
             return "ℤ"
         if type.name == "String":
             return "(String Global)"
-        return f"({type.name} {self.antt(type.args[0])} Global)"
+        if type.name == "Option":
+            return f"(Option {self.antt(type.args[0], held)})"
+        return f"({type.name} {self.antt(type.args[0], held)} Global)"
 
     def plain_types(self, body):
         """The lines that bring in the types of plain parts that `tools/derive` wrote."""
         lines = ""
-        for name, own in sorted({type.name: type.own for case in self.cases for type in case.types if type.own is not None and type.own is not self.declaration}.items()):
+        for name, own in sorted({type.name: type.own for case in self.cases for type in case.types if type.own is not None and not self.terms.is_member(type)}.items()):
             if f"{name}-Source" in body:
                 lines += f"use Rattle.{'.'.join((own.crate, 'specs', 'declared') + tuple(own.module))}.{name}.{{{name} as {name}-Source}}\n"
         return lines
@@ -99,21 +139,18 @@ class Recursive:
         names += [f"{n}_variants", f"{n}_variant_definitions", f"{n}_has_variants"]
         return names + [f"{case.n}_{what}" for case in self.cases for what in ("parts", "definitions")]
 
-    def dotted(self, *more):
-        return ".".join((self.declaration.crate,) + more)
-
 
 def text(formats, declaration):
-    return recursive_code.text(Recursive(formats, declaration))
+    return recursive_code.text(Family(formats, declaration).member(declaration))
 
 
 def files(module):
     """The files beside the module, by their paths in the crate's folder."""
     out, formats = {}, Formats(module)
     for declaration in module.declarations:
-        if declaration.recursive:
-            it = Recursive(formats, declaration)
-            out[f"specs/{it.name}Shape.antt"] = recursive_specs.shape(it)
-            out[f"specs/{it.name}Meaning.antt"] = recursive_specs.meaning(it)
-            out.update(recursive_proofs.files(it))
+        if declaration.recursive and declaration is declaration.family[0]:
+            family = Family(formats, declaration)
+            out[f"specs/{family.name}Shape.antt"] = recursive_specs.shape(family)
+            out[f"specs/{family.name}Meaning.antt"] = recursive_specs.meaning(family)
+            out.update(recursive_proofs.files(family))
     return out

@@ -8,9 +8,9 @@ from .formats import snake
 from .layout import Generic, Group, call, flat, implementation, literal, pair, signature, statement
 
 SERIALIZED = """    ensures serialized {{ IfOk result (λ r. Serialized {D} {X} (⟦<{T} as Archive>⟧.keys {v}.now)
-        (⟦<{T} as Archive>⟧.meaning {v}.now) (⟦<{T} as Archive>⟧.flat {v}.now r)
+        (⟦<{T} as Archive>⟧.meaning {v}.now) ({flat})
         (S.state serializer.old) (S.state serializer.new)) }}
-    ensures same_value {{ IfOk result (λ r. ⟦<{T} as Archive>⟧.belongs {v}.now r) }}
+    ensures same_value {{ IfOk result (λ r. {belongs}) }}
     ensures goes_on {{ GoesOn (S.state serializer.old) (S.state serializer.new) }}
     ensures refused {{ IfErr result (IsRefused {D} {X} (⟦<{T} as Archive>⟧.keys {v}.now)
         (⟦<{T} as Archive>⟧.meaning {v}.now) (S.state serializer.old) (S.state serializer.new)) }}
@@ -38,16 +38,19 @@ def bring(it):
     f.use("archive_core::ser", "ResolverAlloc", "Writer", "serialize_one")
     f.use("archive_core::boxed", "BoxResolver", "serialize_inner")
     f.use("archive_core::vec", "VecResolver")
-    f.use("archive_recursive", "BoxAt", "VecAt", "before_box", "before_vec", "choice_of", "define_name", "part_of_record", "part_of_variant", "read_part", "record_of")
+    f.use("archive_recursive", "BoxAt", "OptionAt", "VecAt", "before_box", "before_vec", "choice_of", "define_name", "option_expression", "part_of_record", "part_of_variant", "read_part", "record_of")
     f.use("archive_recursive", "serialize_inner_slice", "serialize_part", "tag_of_choice")
     f.use("archive_core::traits", "Archive", "ArchivePointee", "ArchiveUnsized", "Choice", "Deserialize", "Entries", "Keys", "Portable", "Record", "Serialize", "SerializeUnsized")
     f.use("archive_core::view", "RawView", "Ref")
     f.use("std::alloc", "AllocError", "Global")
-    f.ghost("std.specs.Prelude", "◌≡◌", "◌++◌", "◌+◌", "◌≤◌", "[]", "refl", "length", "Some", "IfOk", "IfErr", "codes")
+    f.ghost("std.specs.Prelude", "◌≡◌", "◌++◌", "◌+◌", "◌≤◌", "[]", "refl", "length", "Some", "IfOk", "IfErr", "OnOk", "codes")
     f.ghost("std.proofs.Common", "lit≤")
     f.ghost("SelfCheck.Laws", "by_schema")
-    f.ghost("Expressions", "shape_of", "shapes_in")
+    f.ghost("Expressions", "shape_of", "shapes_in", "table_of")
+    f.ghost("Definitions", "Extended", "ExplainsConflict", "defines")
     f.ghost("Shape", "one", "boxed", "vec")
+    f.ghost("Choices", "option_shape")
+    f.ghosts.setdefault("archive_recursive.specs.Hollow", set()).add("option_at")
     f.ghost("Value", "case", "product", "value", "no_value")
     f.ghost("Error.TheVariants", "OutOfMemory")
     f.ghost("Seen", "IsPartOf", "RefusesPart", "ReadsPart", "part_tag")
@@ -62,7 +65,8 @@ def bring(it):
     n = it.n
     names = [f"{n}_{w}" for w in ("name", "shape", "stands_for", "definitions", "layout", "is_align", "has_layout", "no_others")]
     names += [f"{n}_has_parts", f"{n}_parts"] if it.is_record else [f"{n}_has_variants"] + [f"{case.n}_parts" for case in it.cases]
-    f.ghosts.setdefault(f"{it.declaration.crate}.specs.{it.name}Shape", set()).update(names)
+    names += [f"{other.n}_{w}" for other in it.family.members for w in ("shape", "definitions")]
+    f.ghosts.setdefault(f"{it.declaration.crate}.specs.{it.family.name}Shape", set()).update(names)
 
 
 # ---- the format ----
@@ -104,13 +108,15 @@ def pointee(it):
 
 def expression(it, type):
     """The expression of a part."""
-    if it.terms.is_self(type):
-        return f'Expr::Named("{it.archived}")'
+    if it.terms.is_member(type):
+        return f'Expr::Named("{type.own.archived}")'
     if not it.terms.leads_back(type):
         return f"<{it.formats.archived(type)} as Portable>::expr(alloc)?"
     item = expression(it, type.args[0])
     if type.name == "Box":
         return f"Expr::Box(Box::new(alloc, Pointee::One({item}))?)"
+    if type.name == "Option":
+        return f"option_expression(alloc, {item})?"
     return f"Expr::Vec(Box::new(alloc, {item})?)"
 
 
@@ -142,11 +148,50 @@ fn {n}_expression(alloc: Global) -> Result<Expr, Error>
 {{
 {body}}}
 """)
-    return "\n".join(out)
+    if it.is_alone:
+        return "\n".join(out)
+    return "\n".join(out + [defining(it)] + ([defining_all(it.family)] if it is it.family.members[-1] else []))
+
+
+DEFINING = """
+    let stands_for = match {n}_expression(alloc) {{
+        Ok(stands_for) => stands_for,
+        Err(error) => return Err(error),
+    }};
+    define_name("{archived}", stands_for, defs)
+"""
+
+
+def defining(it):
+    """What adds the definition of one name of a family."""
+    definition = f"(defines {it.n}_name {it.n}_stands_for)"
+    return f"""// Adds what the name stands for.
+{added(f"define_{it.n}", definition)}{{{DEFINING.format(n=it.n, archived=it.archived)}}}
+"""
+
+
+def defining_all(family):
+    calls = [f"    define_{it.n}(alloc, defs)" for it in family.members]
+    return f"""// Adds what the names stand for.
+#[tactic(auto, using(archive_check::proofs::format::AddedDefinitions::joining))]
+{added(f"define_{family.n}_family", f"{family.n}_definitions")}{{
+{"?;".join(f"{call_}{chr(10)}" if i == len(calls) - 1 else call_ for i, call_ in enumerate(calls)).replace("?;    ", f"?;{chr(10)}    ")}}}
+"""
+
+
+def added(name, definitions):
+    return f"""fn {name}(alloc: Global, defs: &mut Defs) -> Result<(), Error>
+    ensures added {{ OnOk result (Extended (table_of defs.old) {definitions} (table_of defs.new)) }}
+    ensures refused {{ IfErr result (ExplainsConflict (table_of defs.old) {definitions}) }}
+"""
 
 
 def portable(it):
     n = it.n
+    if it.is_alone:
+        define = DEFINING.format(n=n, archived=it.archived).replace("\n    ", "\n        ")
+    else:
+        define = f"\n        define_{it.family.n}_family(alloc, defs)\n"
     return f"""impl Portable for {it.archived} {{
     ghost shape = {{ {n}_shape }};
 
@@ -176,13 +221,7 @@ def portable(it):
         Ok(Expr::Named("{it.archived}"))
     }}
 
-    fn define(alloc: Global, defs: &mut Defs) -> Result<(), Error> {{
-        let stands_for = match {n}_expression(alloc) {{
-            Ok(stands_for) => stands_for,
-            Err(error) => return Err(error),
-        }};
-        define_name("{it.archived}", stands_for, defs)
-    }}
+    fn define(alloc: Global, defs: &mut Defs) -> Result<(), Error> {{{define}    }}
 }}
 """
 
@@ -218,7 +257,7 @@ def kept(it, type):
     """The resolver of a part."""
     if not it.terms.leads_back(type):
         return f"<{it.formats.rust(type)} as Archive>::Resolver"
-    return "BoxResolver" if type.name == "Box" else "VecResolver"
+    return {"Box": "BoxResolver", "Option": "Option<BoxResolver>", "Vec": "VecResolver"}[type.name]
 
 
 def kept_of(it, case):
@@ -245,8 +284,8 @@ pub enum {it.resolver} {{
 
 def hollow(it, type):
     """What stands for a part that was written: its type."""
-    item = it.formats.archived(type.args[0])
-    return f"{'BoxAt' if type.name == 'Box' else 'VecAt'}<{item}>"
+    item = type.args[0].args[0] if type.name == "Option" else type.args[0]
+    return f"{type.name}At<{it.formats.archived(item)}>"
 
 
 def hollows(it, case):
@@ -258,7 +297,7 @@ def hollows(it, case):
             rust.append(mine)
             values.append(f"&{at}" if it.is_record else at)
             continue
-        made = "BoxAt::new()" if type.name == "Box" else f"VecAt::of({at}.len())"
+        made = f"VecAt::of({at}.len())" if type.name == "Vec" else f"{type.name}At::new()"
         rust.append(hollow(it, type))
         values.append(f"&h{name[1:]}")
         lines.append((f"let h{name[1:]}: {hollow(it, type)} = ", made))
@@ -284,7 +323,7 @@ def archive(it):
     else:
         body = "        match self {\n" + "".join(resolve_arm(it, case) for case in it.cases) + "        }\n"
     return f"""impl Archive for {it.name} {{
-    ghost use Rattle.{it.declaration.crate}.specs.{it.name}Meaning.{{{', '.join(names)}}};
+    ghost use Rattle.{it.declaration.crate}.specs.{it.family.name}Meaning.{{{', '.join(names)}}};
 
     type Archived = {it.archived};
 
@@ -337,17 +376,33 @@ def resolve_arm(it, case):
 
 
 def writing(it):
-    out = [owner_writing(it, type) for type in it.owners]
+    out = [owner_writing(it, type) for type in it.owners if it.is_written(type)]
     if it.is_record:
         out.append(record_writing(it))
     else:
-        out += [case_writing(it, case) for case in it.cases if case.count]
+        out += [case_writing(it, case) for case in it.cases if case.count and not is_inline(case)]
         out.append(choice_writing(it))
     return "\n".join(out)
 
 
 def contract(it, type, v):
-    return SERIALIZED.format(T=it.formats.rust(type), D=it.terms.definitions(type), X=it.terms.shape(type), v=v)
+    """What a function that writes what a value owns promises."""
+    return SERIALIZED.format(
+        T=it.formats.rust(type), D=it.terms.definitions(type), X=it.terms.shape(type), v=v, flat=flat_of(it, type, f"{v}.now", "r"), belongs=belongs_of(it, type, f"{v}.now", "r")
+    )
+
+
+def flat_of(it, type, v, r):
+    """What is read in a value's place, by what is kept of it: of an option by that alone."""
+    if it.terms.leads_back(type) and type.name == "Option":
+        return it.terms.flat(type, v, r)[1:-1]
+    return f"⟦<{it.formats.rust(type)} as Archive>⟧.flat {v} {r}"
+
+
+def belongs_of(it, type, v, r):
+    if it.terms.leads_back(type) and type.name == "Option":
+        return "⊤"
+    return f"⟦<{it.formats.rust(type)} as Archive>⟧.belongs {v} {r}"
 
 
 def owner_writing(it, type):
@@ -356,7 +411,7 @@ def owner_writing(it, type):
     T = it.formats.rust(type)
     if type.name == "Box":
         return f"""// Writes what a box owns.
-#[cycle(serialize_{it.n})]
+#[cycle(serialize_{it.family.n})]
 fn serialize_{name}<{WRITER}>(value: &{T}, serializer: &mut S) -> Result<BoxResolver, Error>
 {contract(it, type, "value")}{{
     let inner = &**value;
@@ -370,10 +425,31 @@ fn serialize_{name}<{WRITER}>(value: &{T}, serializer: &mut S) -> Result<BoxReso
     }}
 }}
 """
+    if type.name == "Option":
+        return f"""// Writes what an option owns.
+#[cycle(serialize_{it.family.n})]
+fn serialize_{name}<{WRITER}>(value: &{T}, serializer: &mut S) -> Result<{kept(it, type)}, Error>
+{contract(it, type, "value")}{{
+    match value {{
+        None => Ok(None),
+        Some(whole) => {{
+            let inner = &**whole;
+            let kept = match serialize_{it.word(item.args[0])}(inner, serializer) {{
+                Ok(kept) => kept,
+                Err(error) => return Err(error),
+            }};
+            match serialize_inner(inner, kept, serializer) {{
+                Ok(at) => Ok(Some(at)),
+                Err(error) => Err(error),
+            }}
+        }}
+    }}
+}}
+"""
     its, D, X = it.formats.rust(item), it.terms.definitions(item), it.terms.shape(item)
     run = f"{D} {X} (length values.now) (each_keys ⟦<{its} as Archive>⟧.keys values.now)\n        (each_meaning ⟦<{its} as Archive>⟧.meaning values.now)"
     return f"""// Writes what each of the values owns, in order.
-#[cycle(serialize_{it.n})]
+#[cycle(serialize_{it.family.n})]
 fn serialize_each_{it.word(item)}<{WRITER}>(values: &[{its}], serializer: &mut S) -> Result<Vec<<{its} as Archive>::Resolver, S::Alloc>, Error>
     ensures serialized {{ IfOk result (λ rs. SerializedRun {run}
         (each_flat ⟦<{its} as Archive>⟧.flat values.now rs.items) (S.state serializer.old)
@@ -396,7 +472,7 @@ fn serialize_each_{it.word(item)}<{WRITER}>(values: &[{its}], serializer: &mut S
 }}
 
 // Writes what a vector owns.
-#[cycle(serialize_{it.n})]
+#[cycle(serialize_{it.family.n})]
 fn serialize_{name}<{WRITER}>(value: &{T}, serializer: &mut S) -> Result<VecResolver, Error>
 {contract(it, type, "value")}{{
     if value.len() > u32::MAX as usize {{
@@ -415,11 +491,11 @@ fn serialize_{name}<{WRITER}>(value: &{T}, serializer: &mut S) -> Result<VecReso
 """
 
 
-def parts_written(it, case, values):
-    lines = ""
+def parts_written(it, case, values, indent=4):
+    lines, pad = "", " " * indent
     for name, type, back, value in zip(case.names, case.types, case.leads_back, values):
         function = f"serialize_{it.word(type)}" if back else "serialize_part"
-        lines += f"    let {name} = match {function}({value}, serializer) {{\n        Ok({name}) => {name},\n        Err(error) => return Err(error),\n    }};\n"
+        lines += f"{pad}let {name} = match {function}({value}, serializer) {{\n{pad}    Ok({name}) => {name},\n{pad}    Err(error) => return Err(error),\n{pad}}};\n"
     return lines
 
 
@@ -428,8 +504,9 @@ def said_of_parts(it, case, kept_):
     sources = [f"⟦<{rust} as Archive>⟧" for rust in case.rust]
     keys = infix("++", [f"{q}.keys {a}.now" for q, a in zip(sources, case.names)], "[]")
     meanings = chain("value", [f"({q}.meaning {a}.now)" for q, a in zip(sources, case.names)], "no_value")
-    flats = chain("value", [f"({q}.flat {a}.now {kept_}{'.1' * i}.0)" for i, (q, a) in enumerate(zip(sources, case.names))], "no_value")
-    belongs = infix("×", [f"{q}.belongs {a}.now {kept_}{'.1' * i}.0" for i, (q, a) in enumerate(zip(sources, case.names))], "Unit {0}")
+    kepts = [f"{kept_}{'.1' * i}.0" for i in range(case.count)]
+    flats = chain("value", [f"({flat_of(it, type, f'{a}.now', r)})" for type, a, r in zip(case.types, case.names, kepts)], "no_value")
+    belongs = infix("×", [belongs_of(it, type, f"{a}.now", r) for type, a, r in zip(case.types, case.names, kepts)], "Unit {0}")
     return keys, meanings, flats, belongs
 
 
@@ -440,7 +517,7 @@ def case_writing(it, case):
     head = signature(
         f"fn serialize_{case.n}", [WRITER], [f"{name}: &{rust}" for name, rust in zip(case.names, case.rust)] + ["serializer: &mut S"], Group("Result<", [kept_of(it, case), "Error"], ">")
     )
-    cycle = f"#[cycle(serialize_{it.n})]\n" if any(case.leads_back) else ""
+    cycle = f"#[cycle(serialize_{it.family.n})]\n" if any(case.leads_back) else ""
     return f"""// Writes what the parts of `{case.name}` own, in order.
 {cycle}{head}
     ensures serialized {{ IfOk result (λ r. Serialized {D} {X} ({keys}) (case {case.tag} {meanings}) (case {case.tag} {flats}) {states}) }}
@@ -453,6 +530,11 @@ def case_writing(it, case):
 """
 
 
+def is_inline(case):
+    """Whether a variant is written where the value is matched: the toolchain doesn't see that a function ends that is passed several parts which lead back."""
+    return sum(case.leads_back) > 1
+
+
 def choice_writing(it):
     arms = ""
     for case in it.cases:
@@ -460,15 +542,21 @@ def choice_writing(it):
         if not case.count:
             arms += f"        {flat(pattern(it, case, []))} => Ok({made}),\n"
             continue
+        if is_inline(case):
+            arms += f"""        {flat(pattern(it, case, case.names))} => {{
+{parts_written(it, case, case.names, 12)}            Ok({made}({flat(pair(case.names))}))
+        }}
+"""
+            continue
         arms += f"""        {flat(pattern(it, case, case.names))} => match serialize_{case.n}({', '.join(case.names)}, serializer) {{
             Ok(kept) => Ok({made}(kept)),
             Err(error) => Err(error),
         }},
 """
     return f"""// Writes what a value owns.
-#[cycle(serialize_{it.n})]
+#[cycle(serialize_{it.family.n})]
 fn serialize_{it.n}<{WRITER}>(value: &{it.name}, serializer: &mut S) -> Result<{it.resolver}, Error>
-{SERIALIZED.format(T=it.name, D=f"{it.n}_definitions", X=f"{it.n}_shape", v="value")}{{
+{contract(it, it.itself, "value")}{{
     match value {{
 {arms}    }}
 }}
@@ -479,9 +567,9 @@ def record_writing(it):
     case = it.cases[0]
     values = [f"&value.{field.name}" for field in case.fields]
     return f"""// Writes what a value owns, part by part.
-#[cycle(serialize_{it.n})]
+#[cycle(serialize_{it.family.n})]
 fn serialize_{it.n}<{WRITER}>(value: &{it.name}, serializer: &mut S) -> Result<{it.resolver}, Error>
-{SERIALIZED.format(T=it.name, D=f"{it.n}_definitions", X=f"{it.n}_shape", v="value")}{{
+{contract(it, it.itself, "value")}{{
 {parts_written(it, case, values)}    Ok({it.resolver} {{ kept: {flat(pair(case.names))} }})
 }}
 """
@@ -544,7 +632,7 @@ def reading(it):
 
 
 def reader(it, name, T, contract_, body, said, cycle=True):
-    mark = f"#[cycle(read_{it.n})]\n" if cycle else ""
+    mark = f"#[cycle(read_{it.family.n})]\n" if cycle else ""
     return f"""// {said}
 {mark}fn read_{name}<D: Entries>(alloc: Global, part: RawView<'_>, deserializer: &mut D) -> Result<{T}, Error>
 {contract_}{{
@@ -563,6 +651,16 @@ def owner_reading(it, type):
     let whole = Box::new(alloc, value)?;
     Ok(whole)
 """
+    elif type.name == "Option":
+        body = f"""    let view: Ref<'_, ArchivedOption<{inner}>> = Ref::at(part);
+    match view.as_ref() {{
+        None => Ok(None),
+        Some(inner) => {{
+            let value = read_{it.word(item)}(alloc, inner.part(), deserializer)?;
+            Ok(Some(value))
+        }}
+    }}
+"""
     else:
         body = f"""    let view: Ref<'_, ArchivedVec<{inner}>> = Ref::at(part);
     let list = before_vec(view);
@@ -573,7 +671,7 @@ def owner_reading(it, type):
     }}
     Ok(items)
 """
-    return reader(it, it.word(type), T, READ.format(T=T, X=X), body, "Reads a box back." if type.name == "Box" else "Reads a vector back.")
+    return reader(it, it.word(type), T, READ.format(T=T, X=X), body, {"Box": "Reads a box back.", "Option": "Reads an option back.", "Vec": "Reads a vector back."}[type.name])
 
 
 def parts_read(it, case):

@@ -1,7 +1,9 @@
 """The proofs of the functions that write and read a recursive type: answers to the goals that the check leaves, which are named after the code."""
 
+from . import recursive_code
 from .formats import snake
-from .recursive_terms import brought, brought_owns
+from .recursive_specs import owns
+from .recursive_terms import brought
 
 # Lemmas and definitions that answers cite, by their modules.
 CITED = {
@@ -26,15 +28,17 @@ CITED = {
     "archive_recursive.proofs.ReadElements": "FirstElements all_have elements_more elements_all element_refused",
     "archive_recursive.proofs.ReadRecords": "record_read_back record_refuses first_refuses later_refuses",
     "archive_recursive.proofs.Runs": "Continues continues_step continues_broken continues_end belongs_end",
+    "archive_recursive.proofs.ReadVariants": "case_read_back case_refuses empty_case_read_back",
     "archive_recursive.proofs.RunRegions": "run_owned long_run_refused",
+    "archive_recursive.proofs.WrittenVariants": "serialized_case serialized_empty_case case_refused",
 }
 
 
 class Answers:
     """The answers to the goals of functions that call each other, or of one."""
 
-    def __init__(self, it, folder):
-        self.it = it
+    def __init__(self, family, folder):
+        self.family = family
         self.folder = folder
         self.items = []
         self.invariants = []
@@ -48,36 +52,31 @@ class Answers:
         self.invariants.append(f"abbrev pub {goal} : goal.{goal}\n{goal} {args} = {body}\n")
 
     def files(self):
-        it = self.it
-        module = "/".join(it.declaration.module)
-        dotted = ".".join(("Rattle", it.declaration.crate, "proofs") + tuple(it.declaration.module))
+        family = self.family
+        module = "/".join(family.module)
+        dotted = ".".join(("Rattle", family.crate, "proofs") + tuple(family.module))
         out = {}
         for name, goals, items in (("Answers", "Goals", self.items), ("Invariants", "Given", self.invariants)):
             if items:
                 body = "\n".join(items)
                 path = ".".join([dotted] + self.folder.split("/"))
-                out[f"proofs/{module}/{self.folder}/{name}.antt"] = f"-- {it.written}\n{head(it, body)}use {path}.{goals} as goal\n\n{body}"
+                out[f"proofs/{module}/{self.folder}/{name}.antt"] = f"-- {family.first.written}\n{head(family, body)}use {path}.{goals} as goal\n\n{body}"
         return out
 
 
-def head(it, body):
+def head(family, body):
     """What a file of answers brings in."""
-    crate, N, n = it.declaration.crate, it.name, it.n
-    meaning = [f"{n}_{w}" for w in ("meaning", "keys", "flat", "belongs", "keyed", "planned", "means", "means_roll", "has_keys", "has_keys_roll")]
-    meaning += [f"{case.n}_{w}" for case in it.cases for w in ("means", "has_keys", "opens")]
-    shape = [f"{n}_{w}" for w in ("layout", "has_layout")] + it.shape_names()
-    declared = ".".join((crate, "specs", "declared") + tuple(it.declaration.module))
-    more = list(CITED.items()) + [
-        (f"{crate}.specs.{N}Shape", " ".join(shape)),
-        (f"{crate}.specs.{N}Meaning", " ".join(dict.fromkeys(meaning))),
-        (f"{declared}.{N}", f"out-{N}"),
-    ]
+    crate = family.crate
+    meaning, shape, more = [], [], list(CITED.items())
+    for it in family.members:
+        meaning += [f"{it.n}_{w}" for w in ("meaning", "keys", "flat", "belongs", "keyed", "planned", "means", "means_roll", "has_keys", "has_keys_roll")]
+        meaning += [f"{case.n}_{w}" for case in it.cases for w in ("means", "has_keys", "opens")]
+        shape += [f"{it.n}_{w}" for w in ("layout", "has_layout")] + it.shape_names()
+        more.append((family.declared(it.name), f"out-{it.name}"))
+    more.append((f"{crate}.specs.{family.name}Shape", " ".join(shape)))
+    more.append((f"{crate}.specs.{family.name}Meaning", " ".join(dict.fromkeys(meaning))))
     fits = "use mir.Val.{SFits}\n" if "SFits" in body else ""
-    return brought(body, more) + brought_owns(it.terms, body) + fits
-
-
-def under(count):
-    return " ".join(["_"] * count)
+    return brought(body, more) + owns(family, body) + fits
 
 
 # ---- parts ----
@@ -90,14 +89,14 @@ class Parts:
         self.it, self.case, self.values = it, case, values
 
     def rest(self, i):
-        t, m, k = self.it.terms, f"{self.it.n}_meaning", f"{self.it.n}_keys"
+        t, m, k = self.it.terms, self.it.terms.own("meaning"), self.it.terms.own("keys")
         types, values = self.case.types[i:], self.values[i:]
         return t.parts_definitions(types), t.parts(types), t.parts_keys(types, values, k), t.parts_meaning(types, values, m)
 
     def first(self, i):
         t = self.it.terms
         type, x = self.case.types[i], self.values[i]
-        return t.definitions(type), t.shape(type), t.keys(type, x, f"{self.it.n}_keys"), t.meaning(type, x, f"{self.it.n}_meaning")
+        return t.definitions(type), t.shape(type), t.keys(type, x, t.own("keys")), t.meaning(type, x, t.own("meaning"))
 
     def both(self, i):
         """The arguments of a lemma on one part and those behind it: definitions, shapes, keys and meanings of each."""
@@ -160,10 +159,20 @@ def all_goes(goes):
     return out
 
 
+def words_of(it, case):
+    """The calls that write the parts of a case."""
+    return [f"serialize_{it.word(type)}" if back else "serialize_part" for type, back in zip(case.types, case.leads_back)]
+
+
 def parts_written(it, case, answers, function, values, as_):
     """The answers on parts that are written one after another. `as_` makes of what is said of the layer what is said of the value."""
-    words = [f"serialize_{it.word(type)}" if back else "serialize_part" for type, back in zip(case.types, case.leads_back)]
+    words = words_of(it, case)
     calls, oks, errs = numbered(words), matched("in-Ok", words), matched("in-Err", words)
+    those_written(it, case, answers, function, values, as_, calls, oks, errs, "returns")
+
+
+def those_written(it, case, answers, function, values, as_, calls, oks, errs, end):
+    """The answers on these calls one after another, of which the last is followed by the return `end`."""
     written = [f"c.{ok}.ensures.serialized" for ok in oks]
     goes = [f"c.{call}.ensures.goes_on" for call in calls]
     parts = Parts(it, case, values)
@@ -175,9 +184,9 @@ def parts_written(it, case, answers, function, values, as_):
         if i:
             answers.answer(function, f"returns-{err}-clause-goes_on", all_goes(goes[:i + 1]))
     lemma = "serialized_record" if it.is_record else "serialized_variant"
-    answers.answer(function, "returns-clause-serialized", as_("written_as", f"({lemma} {whole_of(it, case)} _ _ _ _ _ {parts.written(written)})"))
+    answers.answer(function, f"{end}-clause-serialized", as_("written_as", f"({lemma} {whole_of(it, case)} _ _ _ _ _ {parts.written(written)})"))
     if case.count > 1:
-        answers.answer(function, "returns-clause-goes_on", all_goes(goes))
+        answers.answer(function, f"{end}-clause-goes_on", all_goes(goes))
 
 
 def matched(arm, words):
@@ -185,34 +194,38 @@ def matched(arm, words):
     return [arm] + [f"{arm}-{word}" for word in numbered(words[1:])]
 
 
-def writing(it):
+def writing(family):
     out = {}
-    answers = Answers(it, f"+serialize_{it.n}")
-    for type in it.owners:
-        (box_written if type.name == "Box" else vec_written)(it, type, answers)
-    if it.is_record:
-        case = it.cases[0]
-        values = [f"(out-{it.name} c.args.value.now).{field.name}" for field in case.fields]
-
-        def as_(lemma, proof):
-            more = " refl" if lemma == "written_as" else ""
-            return f"({lemma} ({it.n}_has_keys c.args.value.now) ({it.n}_means c.args.value.now){more} {proof})"
-
-        parts_written(it, case, answers, f"serialize_{it.n}", values, as_)
-        return answers.files()
-    for case in it.cases:
-        if not case.count:
+    answers = Answers(family, f"+serialize_{family.n}")
+    for it in family.members:
+        for type in it.owners:
+            if it.is_written(type):
+                {"Box": box_written, "Option": option_written, "Vec": vec_written}[type.name](it, type, answers)
+        if it.is_record:
+            record_written(it, answers)
             continue
-        values = [f"c.args.{name}.now" for name in case.names]
-        if any(case.leads_back):
-            parts_written(it, case, answers, f"serialize_{case.n}", values, lambda lemma, proof: proof)
-        else:
-            alone = Answers(it, f"serialize_{case.n}")
-            parts_written(it, case, alone, "", values, lambda lemma, proof: proof)
-            out.update(alone.files())
-    choice_written(it, answers)
+        for case in it.cases:
+            if not case.count or recursive_code.is_inline(case):
+                continue
+            values = [f"c.args.{name}.now" for name in case.names]
+            here = answers if any(case.leads_back) else Answers(family, f"serialize_{case.n}")
+            parts_written(it, case, here, f"serialize_{case.n}" if here is answers else "", values, lambda lemma, proof: proof)
+            if here is not answers:
+                out.update(here.files())
+        choice_written(it, answers)
     out.update(answers.files())
     return out
+
+
+def record_written(it, answers):
+    case = it.cases[0]
+    values = [f"(out-{it.name} c.args.value.now).{field.name}" for field in case.fields]
+
+    def as_(lemma, proof):
+        more = " refl" if lemma == "written_as" else ""
+        return f"({lemma} ({it.n}_has_keys c.args.value.now) ({it.n}_means c.args.value.now){more} {proof})"
+
+    parts_written(it, case, answers, f"serialize_{it.n}", values, as_)
 
 
 def box_written(it, type, answers):
@@ -230,11 +243,29 @@ def box_written(it, type, answers):
     answers.answer(function, "returns-in-Err-serialize_inner-clause-refused", f"({same} (c.in-Err-serialize_inner.ensures.refused.since _ c.{inner}.ensures.goes_on c.in-Ok.ensures.serialized))")
 
 
+def option_written(it, type, answers):
+    """An option is written as its box is, in a variant of its own."""
+    item = type.args[0].args[0]
+    function, inner = f"serialize_{it.word(type)}", f"serialize_{it.word(item)}"
+    D, X, Y = it.terms.definitions(type), it.terms.shape(item), it.terms.shape(type.args[0])
+    case = f"{D} {D} (λ s k. k) _ _ 1 {Y} refl _ _"
+    same = "let same : c.deref-inner.result.now ≡ c.in-Some.whole.value = grind (arith, common_steps) in rw (c.in-Some.is, ← same)"
+    goes = f"(goes_both _ _ _ c.{inner}.ensures.goes_on c.serialize_inner.ensures.goes_on)"
+    since = f"ensures.{{}}.since _ c.{inner}.ensures.goes_on c.in-Ok.ensures.serialized"
+    owned = f"(box_refused {D} (one {X}) 0 _ _ _ _ _ (one_owned {D} {X} _ _ _ _ _ c.in-Err.ensures.refused))"
+    answers.answer(function, "returns-in-None-clause-serialized", f"rw c.in-None.is (serialized_empty_case {D} _ _ 0 refl _)")
+    answers.answer(function, "returns-in-Err-clause-refused", f"({same} (case_refused {case} _ _ _ {owned}))")
+    answers.answer(function, "returns-in-Ok-serialize_inner-clause-serialized", f"({same} (serialized_case {case} _ _ _ (c.in-Ok-serialize_inner.{since.format('boxed')})))")
+    answers.answer(function, "returns-in-Ok-serialize_inner-clause-goes_on", goes)
+    answers.answer(function, "returns-in-Err-serialize_inner-clause-goes_on", goes)
+    answers.answer(function, "returns-in-Err-serialize_inner-clause-refused", f"({same} (case_refused {case} _ _ _ (c.in-Err-serialize_inner.{since.format('refused')})))")
+
+
 def vec_written(it, type, answers):
     item = type.args[0]
     w = it.word(item)
-    each, function, inner = f"serialize_each_{w}", f"serialize_{it.word(type)}", f"serialize_{w}"
-    D, X, n = it.terms.definitions(item), it.terms.shape(item), it.n
+    each, inner = f"serialize_each_{w}", f"serialize_{w}"
+    D, X, n = it.terms.definitions(item), it.terms.shape(item), it.terms.n_of(item)
     state = "(g.S.Keys.state l.initial.serializer) (g.S.Keys.state l.serializer)"
     answers.invariant(
         each, f"invariant-{each}-loop-value",
@@ -258,7 +289,7 @@ def vec_written(it, type, answers):
 def vec_owner_written(it, type, answers):
     item = type.args[0]
     each, function = f"serialize_each_{it.word(item)}", f"serialize_{it.word(type)}"
-    D, X, n = it.terms.definitions(item), it.terms.shape(item), it.n
+    D, X, n = it.terms.definitions(item), it.terms.shape(item), it.terms.n_of(item)
     value = "c.args.value.now"
     plans = f"(each_planned {D} {X} {n}_keys {n}_meaning {n}_planned {value}.items)"
     whole = f"{D} {X} (length {value}.items) (each_keys {n}_keys {value}.items)"
@@ -283,51 +314,77 @@ def vec_owner_written(it, type, answers):
 
 def choice_written(it, answers):
     """The answers of the function that goes by the variant."""
-    function, N = f"serialize_{it.n}", it.name
-    first = next(case for case in it.cases if case.count)
+    function = f"serialize_{it.n}"
+    inline = {case.name: recursive_code.is_inline(case) for case in it.cases}
+    words = [word for case in it.cases for word in (words_of(it, case) if inline[case.name] else [f"serialize_{case.n}"] if case.count else [])]
+    calls, oks, errs = numbered(words), matched("in-Ok", words), matched("in-Err", words)
+    at = 0
     for case in it.cases:
-        values = "".join(f" c.in-{case.name}.{name}" for name in case.names)
-        is_ = f"c.in-{case.name}.is"
         if not case.count:
-            nothing = f"(serialized_variant {whole_of(it, case)} _ _ _ _ _ (serialized_no_part no_definition _))"
-            answers.answer(function, f"returns-in-{case.name}-clause-serialized", f"rw {is_} (written_as {case.n}_has_keys {case.n}_means (rw {case.n}_opens refl) {nothing})")
+            empty_written(it, case, answers, function)
             continue
-        # the first of several calls goes by no name
-        ok, err = ("in-Ok", "in-Err") if case is first else (f"in-Ok-serialize_{case.n}", f"in-Err-serialize_{case.n}")
-        answers.answer(function, f"returns-{ok}-clause-serialized", f"rw {is_} (written_as ({case.n}_has_keys{values}) ({case.n}_means{values}) (rw ({case.n}_opens{values}) refl) c.{ok}.ensures.serialized)")
-        answers.answer(function, f"returns-{ok}-clause-same_value", f"rw ({is_}, {case.n}_opens{values}) c.{ok}.ensures.same_values")
-        answers.answer(function, f"returns-{err}-clause-refused", f"rw {is_} (refused_as ({case.n}_has_keys{values}) ({case.n}_means{values}) c.{err}.ensures.refused)")
+        values = [f"c.in-{case.name}.{name}" for name in case.names]
+        opened = "".join(f" {value}" for value in values)
+        is_ = f"c.in-{case.name}.is"
+
+        def as_(lemma, proof):
+            more = f" (rw ({case.n}_opens{opened}) refl)" if lemma == "written_as" else ""
+            return f"rw {is_} ({lemma} ({case.n}_has_keys{opened}) ({case.n}_means{opened}){more} {proof})"
+
+        until = at + (case.count if inline[case.name] else 1)
+        ok, err = oks[until - 1], errs[until - 1]
+        belongs = f"rw ({is_}, {case.n}_opens{opened})"
+        if inline[case.name]:
+            those_written(it, case, answers, function, values, as_, calls[at:until], oks[at:until], errs[at:until], f"returns-{ok}")
+            same = "tt"
+            for each in reversed(oks[at:until]):
+                same = f"(c.{each}.ensures.same_value, {same})"
+            answers.answer(function, f"returns-{ok}-clause-same_value", f"{belongs} {same}")
+        else:
+            answers.answer(function, f"returns-{ok}-clause-serialized", as_("written_as", f"c.{ok}.ensures.serialized"))
+            answers.answer(function, f"returns-{ok}-clause-same_value", f"{belongs} c.{ok}.ensures.same_values")
+            answers.answer(function, f"returns-{err}-clause-refused", as_("refused_as", f"c.{err}.ensures.refused"))
+        at = until
+
+
+def empty_written(it, case, answers, function):
+    nothing = f"(serialized_variant {whole_of(it, case)} _ _ _ _ _ (serialized_no_part no_definition _))"
+    answers.answer(function, f"returns-in-{case.name}-clause-serialized", f"rw c.in-{case.name}.is (written_as {case.n}_has_keys {case.n}_means (rw {case.n}_opens refl) {nothing})")
 
 
 # ---- reading back ----
 
 
-def reading(it):
+def reading(family):
     out = {}
-    answers = Answers(it, f"+read_{it.n}")
-    measures(it, answers)
-    for type in it.owners:
-        (box_read if type.name == "Box" else vec_read)(it, type, answers)
-    for case in it.cases:
-        alone = not it.is_record and not any(case.leads_back)
-        here = Answers(it, f"read_{case.n}") if alone else answers
-        parts_read(it, case, here, "" if alone else f"read_{case.n}")
-        if alone:
-            out.update(here.files())
+    answers = Answers(family, f"+read_{family.n}")
+    for it in family.members:
+        measures(it, answers)
+        for type in it.owners:
+            {"Box": box_read, "Option": option_read, "Vec": vec_read}[type.name](it, type, answers)
+        for case in it.cases:
+            here = answers if it.is_record or any(case.leads_back) else Answers(family, f"read_{case.n}")
+            parts_read(it, case, here, f"read_{case.n}" if here is answers else "")
+            if here is not answers:
+                out.update(here.files())
     out.update(answers.files())
     return out
 
 
 def measures(it, answers):
     """Each function ends before its caller does: by the end of what it reads, and by which of them it is."""
+    deepest = it.family.deepest
+
+    def measure(size, rank):
+        return f"(l.part.pos + {size}) * {deepest + 3} + {rank}"
+
     for type in it.owners:
-        size = 4 if type.name == "Box" else 8
-        answers.invariant("", f"decreases-read_{it.word(type)}", f"(l.part.pos + {size}) * 4 + 1")
+        answers.invariant("", f"decreases-read_{it.word(type)}", measure(it.formats.layout(type)[0], it.depth(type)))
     if not it.is_record:
         for case in it.cases:
             if any(case.leads_back):
-                answers.invariant("", f"decreases-read_{case.n}", f"(l.part.pos + {it.size}) * 4 + 2")
-    answers.invariant("", f"decreases-read_{it.n}", f"(l.part.pos + {it.size}) * 4 + 3")
+                answers.invariant("", f"decreases-read_{case.n}", measure(it.size, deepest + 1))
+    answers.invariant("", f"decreases-read_{it.n}", measure(it.size, deepest + 2))
 
 
 ARGS = "c.args.part.bytes.now c.args.part.pos c.args.part.len"
@@ -351,9 +408,27 @@ def box_read(it, type, answers):
     )
 
 
+def option_read(it, type, answers):
+    inner = type.args[0]
+    function = f"read_{it.word(type)}"
+    D, X = it.terms.definitions(inner), it.terms.shape(inner)
+    size, align = it.formats.layout(inner)
+    here = f"c.args.part.bytes.now c.args.part.pos c.args.part.len"
+    shown = "(rw (c.at-view.ensures.buffer, c.at-view.ensures.position) at c.in-{}.ensures.tag)"
+    case = f"{D} {D} (λ s k. k) _ _ 1 {X} refl (record {{ size = {size}; align = {align} }}) (record {{ solved = λ s k. refl }}) {here} {align} refl {shown.format('Some')}"
+    steps = [f"c.part.ensures.{clause}" for clause in ("buffer", "position", "length")] + [f"c.in-Some.ensures.{clause}" for clause in ("buffer", "position", "length")]
+    told = f"rw ({', '.join(steps + ['c.at-view.ensures.buffer', 'c.at-view.ensures.position'])}) at"
+    answers.answer(function, "returns-in-None-clause-read", f"empty_case_read_back {D} _ _ 0 refl {here} {shown.format('None')} _ _ refl")
+    answers.answer(
+        function, "returns-in_err-value-in-Some-clause-refused",
+        f"err_by c.from_residual.result c.in_err-value-in-Some.field-0.0 _ c.from_residual.ensures.1 (case_refuses {case} _ _ ({told} c.in_err-value-in-Some.ensures.refused))",
+    )
+    answers.answer(function, "returns-in_ok-value-in-Some-clause-read", f"case_read_back {case} _ _ _ _ ({told} c.in_ok-value-in-Some.ensures.read)")
+
+
 def vec_read(it, type, answers):
     item = type.args[0]
-    w, n = it.word(item), it.n
+    w, n = it.word(item), it.terms.n_of(item)
     function = f"read_{it.word(type)}"
     D, X, L, laid = it.terms.definitions(item), it.terms.shape(item), f"{n}_layout", f"{n}_has_layout"
     its = f"{n}_meaning {n}_keys"
@@ -442,14 +517,16 @@ def parts_read(it, case, answers, function):
 
 def defining(it):
     """The answers on the definition of the name."""
-    answers = Answers(it, f"{it.archived}Portable/define")
+    answers = Answers(it.family, f"{it.archived}Portable/define" if it.is_alone else f"define_{it.n}")
     answers.answer("", "returns-clause-added", "rw c.in-Ok.ensures.shape at c.define_name.ensures.added", "c")
     answers.answer("", "returns-clause-refused", "rw c.in-Ok.ensures.shape at c.define_name.ensures.refused", "c")
     return answers.files()
 
 
-def files(it):
-    out = defining(it)
-    out.update(writing(it))
-    out.update(reading(it))
+def files(family):
+    out = {}
+    for it in family.members:
+        out.update(defining(it))
+    out.update(writing(family))
+    out.update(reading(family))
     return out

@@ -4,7 +4,6 @@ from .model import Declaration, Refused, Type
 
 # Plain parts that a recursive type may have beside those that lead back to it.
 PLAIN = {f"{sign}{bits}" for sign in "ui" for bits in (8, 16, 32, 64, 128)} | {"char", "String"}
-OWNERS = ("Box", "Vec")
 MOST_FIELDS = 7
 
 
@@ -12,21 +11,26 @@ def check_recursive(it: Declaration, line: int, names: str):
     """Refuses a recursive declaration that has no templates."""
     if it.parameters:
         raise Refused(it.path, line, f"`{it.name}` is recursive ({names}) and has type parameters; name its arguments, one type for each")
-    if names != f"{it.name} > {it.name}":
-        raise Refused(it.path, line, f"`{it.name}` leads back to itself through another type ({names}), which tools/derive doesn't write yet; put both into one enum")
-    if it.form == "tuple" and it.kind == "struct":
-        raise Refused(it.path, it.line, f"the recursive `{it.name}` is a tuple struct, which tools/derive doesn't write yet; name its fields")
+    check_family(it, names)
     for fields in [it.fields] if it.kind == "struct" else [variant.fields for variant in it.variants]:
         check_parts(it, fields)
         for field in fields:
             check_part(it, field.type, field.line)
 
 
+def check_family(it: Declaration, names: str):
+    """Types that hold each other are written together."""
+    elsewhere = [other for other in it.family if other.path != it.path]
+    if elsewhere:
+        raise Refused(it.path, it.line, f"`{it.name}` and `{elsewhere[0].name}` hold each other ({names}) and are written together; move both to one file")
+    for variant in it.variants:
+        other = next((x for x in it.family if x is not it and any(variant.name == y.name for y in x.variants)), None)
+        if other is not None:
+            raise Refused(it.path, variant.line, f"`{variant.name}` is a variant of `{it.name}` and of `{other.name}`, which hold each other; give one of them another name")
+
+
 def check_parts(it: Declaration, fields):
-    """A variant or a record has one part that leads back, and as many fields as the library writes."""
-    back = [field for field in fields if leads_back(it, field.type)]
-    if len(back) > 1:
-        raise Refused(it.path, back[1].line, f"a second field that leads back to `{it.name}` isn't written yet; put both into one `Vec<{it.name}>`")
+    """A variant or a record has as many fields as the library writes."""
     if len(fields) > MOST_FIELDS:
         raise Refused(it.path, fields[-1].line, f"a variant or a struct of the recursive `{it.name}` has up to {MOST_FIELDS} fields; put some of them into a struct of another file")
 
@@ -34,12 +38,14 @@ def check_parts(it: Declaration, fields):
 def check_part(it: Declaration, type: Type, line: int):
     if type.own is it:
         return
+    if any(type.own is other for other in it.family):
+        raise Refused(it.path, line, f"`{type.own.name}` leads back to `{it.name}`, and isn't written yet without a pointer between; put it into a `Box`")
     if any(leads_back(it, x) for x in type.args):
-        if type.name not in OWNERS:
-            raise Refused(it.path, line, f"`{type.name}` around `{it.name}` isn't written yet; a `Box<{it.name}>` or a `Vec<{it.name}>` is")
-        if type.args[0].own is not it:
-            raise Refused(it.path, line, f"a `{type.name}` of pointers to `{it.name}` isn't written yet; a `{type.name}<{it.name}>` is")
+        check_owner(it, type, line)
         return
+    held = recursive_in(type)
+    if held:
+        raise Refused(it.path, line, f"`{held}` is recursive or holds a type that is, and isn't written yet in the recursive `{it.name}`; archive the two beside each other")
     if type.own is not None and not type.args:
         if type.own.path == it.path:
             raise Refused(it.path, line, f"`{type.own.name}` is held by the recursive `{it.name}`; move it to another file")
@@ -48,19 +54,32 @@ def check_part(it: Declaration, type: Type, line: int):
         raise Refused(it.path, line, f"this field of the recursive `{it.name}` is of a type that tools/derive doesn't write there; put it into a struct of another file")
 
 
+def check_owner(it: Declaration, type: Type, line: int):
+    """What leads back is a box, an option of a box, or a vector of the type itself."""
+    if type.name not in ("Box", "Option", "Vec") or type.own is not None:
+        raise Refused(it.path, line, f"`{type.name}` around `{it.name}` isn't written yet; a `Box<{it.name}>`, an `Option<Box<{it.name}>>` or a `Vec<{it.name}>` is")
+    item = type.args[0]
+    if type.name == "Option" and item.name == "Box" and item.own is None:
+        item = item.args[0]
+    if not any(item.own is other for other in it.family):
+        raise Refused(it.path, line, f"this {'option' if type.name == 'Option' else f'`{type.name}` of pointers'} to `{it.name}` isn't written yet; a `Box<{it.name}>`, an `Option<Box<{it.name}>>` or a `Vec<{it.name}>` is")
+
+
 def leads_back(it: Declaration, type: Type) -> bool:
-    return type.own is it or any(leads_back(it, x) for x in type.args)
+    return any(type.own is other for other in it.family) or any(leads_back(it, x) for x in type.args)
 
 
 def check_held(it: Declaration):
-    """Refuses a type that isn't recursive itself and holds one that is."""
+    """Refuses an enum that isn't recursive itself and holds a type that is."""
+    if not it.holds_recursive or it.kind == "struct":
+        return
     for field in it.all_fields():
         held = recursive_in(field.type)
         if held:
-            raise Refused(it.path, field.line, f"`{held}` is recursive, and only it is archived by itself yet; archive it as the root")
+            raise Refused(it.path, field.line, f"`{held}` is recursive or holds a type that is, and an enum around it isn't written yet; put it into a struct")
 
 
 def recursive_in(type: Type) -> str:
-    if type.own is not None and type.own.recursive:
+    if type.own is not None and (type.own.recursive or type.own.holds_recursive):
         return type.own.name
     return next((held for held in map(recursive_in, type.args) if held), "")

@@ -1,35 +1,132 @@
-"""The definitions of a recursive type that stand beside its module: what it looks like, and what its values mean."""
+"""The definitions that stand beside the modules of recursive types: what they look like, and what their values mean. A family has one file of each."""
 
 from .formats import ALIGNS
-from .recursive_terms import brought, brought_owns
+from .recursive_terms import brought, brought_owns, something
 
 
-def shape(it):
-    """What the archived type looks like: its name, and what the name stands for."""
-    n, t = it.n, it.terms
-    lines = [
-        f"abbrev pub {n}_name : Name\n{n}_name = codes \"{it.archived}\"\n",
-        f"abbrev pub {n}_shape : Shape\n{n}_shape = named {n}_name\n",
-    ]
+def of_each(family, piece):
+    return [line for it in family.members for line in piece(it)]
+
+
+# ---- what archived types look like ----
+
+# What a proof names that each definition of a family is reached.
+REACHED = [
+    ("archive_core.specs.Defined", "Involves involves involves_through mentions_held mentions_first mentions_later mentions_parts mentions_variant mentions_other"),
+    ("archive_core.specs.Defined", "mentions_choice mentions_boxed mentions_one mentions_vec holds_name"),
+    ("archive_core.specs.Definitions", "listed"),
+    ("std.proofs.Common", "zero suc arith"),
+]
+
+
+def shape(family):
+    """What the archived types look like: their names, and what the names stand for."""
+    lines = of_each(family, named) + of_each(family, stood_for)
+    lines += of_each(family, defined) + of_each(family, stands)
+    body = "\n".join(lines)
+    more = [] if family.first.is_alone else REACHED
+    return f"-- What an archived {' and an archived '.join(it.name for it in family.members)} looks like. {family.first.written}\n{brought(body, more)}{owns(family, body)}\n{body}"
+
+
+def owns(family, body):
+    return "".join(sorted({line + "\n" for it in family.members for line in brought_owns(it.terms, body).splitlines()}))
+
+
+def named(it):
+    n = it.n
+    return [f"abbrev pub {n}_name : Name\n{n}_name = codes \"{it.archived}\"\n", f"abbrev pub {n}_shape : Shape\n{n}_shape = named {n}_name\n"]
+
+
+def stood_for(it):
+    n, t, lines = it.n, it.terms, []
     if it.is_record:
         lines.append(f"abbrev pub {n}_parts : Parts\n{n}_parts = {t.parts(it.types)}\n")
-        lines.append(f"abbrev pub {n}_stands_for : Shape\n{n}_stands_for = parts {n}_parts\n")
-    else:
-        for case in it.cases:
-            lines.append(f"abbrev pub {case.n}_parts : Parts\n{case.n}_parts = {t.parts(case.types)}\n")
-        chain = "no_variant"
-        for case in reversed(it.cases):
-            chain = f"(variant {case.n}_parts {chain})"
-        lines.append(f"abbrev pub {n}_variants : Variants\n{n}_variants = {chain}\n")
-        lines.append(f"abbrev pub {n}_stands_for : Shape\n{n}_stands_for = choice {n}_name {n}_variants\n")
-    lines.append(f"abbrev pub {n}_definitions : Definitions\n{n}_definitions = defines {n}_name {n}_stands_for\n")
+        return lines + [f"abbrev pub {n}_stands_for : Shape\n{n}_stands_for = parts {n}_parts\n"]
+    for case in it.cases:
+        lines.append(f"abbrev pub {case.n}_parts : Parts\n{case.n}_parts = {t.parts(case.types)}\n")
+    chain = "no_variant"
+    for case in reversed(it.cases):
+        chain = f"(variant {case.n}_parts {chain})"
+    lines.append(f"abbrev pub {n}_variants : Variants\n{n}_variants = {chain}\n")
+    return lines + [f"abbrev pub {n}_stands_for : Shape\n{n}_stands_for = choice {n}_name {n}_variants\n"]
+
+
+def defined(it):
+    """Its definitions, which are those of its family, with its layout."""
+    n = it.n
+    definitions = ""
+    for other in reversed(it.family.members):
+        one = f"defines {other.n}_name {other.n}_stands_for"
+        definitions = f"both ({one}) ({definitions})" if definitions else one
+    lines = [f"abbrev pub {n}_definitions : Definitions\n{n}_definitions = {definitions}\n"]
     lines.append(f"abbrev pub {n}_layout : Layout\n{n}_layout = record {{ size = {it.size}; align = {it.align} }}\n")
     lines.append(f"pub {n}_is_align : IsAlign {it.align}\n{n}_is_align = {ALIGNS[it.align]}\n")
-    lines.append(f"pub {n}_has_layout : HasLayout {n}_definitions {n}_shape {n}_layout\n{n}_has_layout = name_has_layout {n}_name {n}_stands_for {n}_layout (λ s k. refl)\n")
-    lines.append(f"pub {n}_no_others : NoOthers {n}_definitions {n}_shape\n{n}_no_others = name_reached {n}_name {n}_stands_for\n")
-    lines += stands(it)
-    body = "\n".join(lines)
-    return f"-- What an archived {it.name} looks like. {it.written}\n{brought(body)}{brought_owns(t, body)}\n{body}"
+    said = f"pub {n}_has_layout : HasLayout {n}_definitions {n}_shape {n}_layout\n{n}_has_layout ="
+    reached = f"pub {n}_no_others : NoOthers {n}_definitions {n}_shape\n"
+    if it.is_alone:
+        lines.append(f"{said} name_has_layout {n}_name {n}_stands_for {n}_layout (λ s k. refl)\n")
+        return lines + [f"{reached}{n}_no_others = name_reached {n}_name {n}_stands_for\n"]
+    lines.append(f"{said} member_has_layout {n}_definitions {n}_name {n}_stands_for {n}_layout (λ s k. {has(it)}) (λ s k. refl)\n")
+    index, cases = "zero", ""
+    for other in it.family.members:
+        cases += (
+            f"{n}_no_others m Y ({index}, l, e) = subst (λ q. Involves (listed {n}_definitions) q {n}_shape) (ap (λ (p : Name × Shape). p.0) e) {way(it, other, it, 'mentions_held holds_name')}\n"
+        )
+        index = f"suc {index}" if index == "zero" else f"suc ({index})"
+    return lines + [f"{reached}{cases}{n}_no_others m Y ({index.replace('zero', 'i')}, l, e) = absurd (omega (arith, l))\n"]
+
+
+def has(it):
+    """That a schema which knows the family knows the definition of this name."""
+    members = it.family.members
+    at = members.index(it)
+    return "k.has" + ".1" * at + (".0" if at < len(members) - 1 else "")
+
+
+def way(it, to, at, mentions, seen=()):
+    """That the name of a type is involved where that of another of its family is mentioned: through the definitions on the way."""
+    if at is to:
+        return f"(involves ({mentions}))"
+    nexts = [other for other in it.family.members if other not in seen + (at,) and mention(at, other)]
+    ways = [(other, way(it, to, other, mention(at, other), seen + (at,))) for other in nexts]
+    rest = min((text for _, text in ways if text), key=len, default="")
+    if not rest:
+        return ""
+    number = it.family.members.index(at)
+    index = "zero" if not number else "suc (" * (number - 1) + "suc zero" + ")" * (number - 1)
+    return f"(involves_through ({mentions}) ({index}, omega arith, refl) {rest})"
+
+
+def mention(it, other):
+    """That what a name stands for mentions the name of another type; nothing where it doesn't."""
+    for i, case in enumerate(it.cases):
+        for j, type in enumerate(case.types):
+            inner = mention_in(it, type, other)
+            if inner:
+                inner = f"mentions_first ({inner})"
+                for _ in range(j):
+                    inner = f"mentions_later ({inner})"
+                if it.is_record:
+                    return f"mentions_parts ({inner})"
+                inner = f"mentions_variant ({inner})"
+                for _ in range(i):
+                    inner = f"mentions_other ({inner})"
+                return f"mentions_choice ({inner})"
+    return ""
+
+
+def mention_in(it, type, other):
+    if type.own is other.declaration:
+        return "mentions_held holds_name"
+    if not it.terms.leads_back(type) or it.terms.is_member(type):
+        return ""
+    inner = mention_in(it, type.args[0], other)
+    around = {
+        "Box": "mentions_boxed (mentions_one ({}))",
+        "Option": "mentions_choice (mentions_other (mentions_variant (mentions_first ({}))))",
+        "Vec": "mentions_vec ({})",
+    }
+    return around[type.name].format(inner) if inner else ""
 
 
 def knows(it, known):
@@ -51,7 +148,7 @@ def stands(it):
         return [
             f"abbrev pub {n}_part_definitions : Definitions\n{n}_part_definitions = {t.parts_definitions(it.types)}\n",
             f"pub {n}_has_parts : IsRecord {n}_definitions {n}_shape {n}_part_definitions {n}_parts\n"
-            f"{n}_has_parts = record {{ stands = λ s k. by_name k.has; known = λ s k. {knows_parts(it, it.types)} }}\n",
+            f"{n}_has_parts = record {{ stands = λ s k. by_name {has(it)}; known = λ s k. {knows_parts(it, it.types)} }}\n",
         ]
     lines, chain = [], "no_definition"
     for case in reversed(it.cases):
@@ -60,111 +157,170 @@ def stands(it):
         lines.append(f"abbrev pub {case.n}_definitions : Definitions\n{case.n}_definitions = {t.parts_definitions(case.types)}\n")
     lines.append(f"abbrev pub {n}_variant_definitions : Definitions\n{n}_variant_definitions = {chain}\n")
     known = knows(it, [knows_parts(it, case.types) for case in it.cases])
-    lines.append(
-        f"pub {n}_has_variants : IsChoice {n}_definitions {n}_shape {n}_name {n}_variant_definitions {n}_variants\n"
-        f"{n}_has_variants = is_recursive_choice {n}_name {n}_variant_definitions {n}_variants (λ s k. {known})\n"
-    )
-    return lines
+    said = f"pub {n}_has_variants : IsChoice {n}_definitions {n}_shape {n}_name {n}_variant_definitions {n}_variants\n{n}_has_variants ="
+    if it.is_alone:
+        return lines + [f"{said} is_recursive_choice {n}_name {n}_variant_definitions {n}_variants (λ s k. {known})\n"]
+    return lines + [f"{said} record {{ stands = λ s k. by_name {has(it)}; known = λ s k. {known} }}\n"]
 
 
 # ---- what values mean ----
 
+SAID = [("meaning", "Value", "means"), ("keys", "(List Naming)", "has_keys")]
+LETTERS = "ABCDEFGHIJKLMNOPQRSTUVWXYZ"
 
-def meaning(it):
+
+def meaning(family):
     """What values mean, layer by layer, and the laws of it."""
-    n, N, t = it.n, it.name, it.terms
-    said = [
-        ("meaning", "Value", layer_meaning, "each_mapped", "means"),
-        ("keys", "(List Naming)", layer_keys, "each_mapped_keys", "has_keys"),
-    ]
     lines = []
-    for which, type, layer, mapped, word in said:
-        lines.append(f"abbrev pub {n}_{which}_layer : {{A : Type 0}} → (A → {type}) → {N}-F A → {type}\n" + "".join(f"{n}_{which}_layer m {p} = {layer(it, c)}\n" for p, c in layers(it)))
-        lines.append(f"pub {n}_{which} : {it.source} → {type}\n{n}_{which} = fold-{N} {type} ({n}_{which}_layer (λ v. v))\n")
-        lines.append(rolled(it, which, type, layer, mapped, word))
-        lines.append(opened(it, which, type, word))
-    lines += flats(it)
-    lines += laws(it)
+    for which, type, word in SAID:
+        for it in family.members:
+            lines.append(layer(it, which, type))
+        for it in family.members:
+            lines.append(f"pub {it.n}_{which} : {it.source} → {type}\n{it.n}_{which} = {fold(it, which, type, 'fold')}\n")
+        for it in family.members:
+            lines.append(rolled(it, which, type, word))
+            lines.append(opened(it, which, word))
+    lines += of_each(family, flats)
+    lines += laws(family)
     body = "\n".join(lines)
-    declared = ".".join((it.declaration.crate, "specs", "declared") + tuple(it.declaration.module))
-    views = f"{N}-F out-{N} roll-{N} fold-{N} fold-roll-{N} ind-{N} roll-out-{N} out-roll-{N}"
-    more = [(f"{declared}.{N}", views), (f"{declared}.{it.resolver}", it.resolver), (f"{declared}.{N}.TheFolds", f"map-{N}")]
-    aliases = f"use Rattle.{declared}.{N}.{{{N} as {it.source}}}\n" + it.plain_types(body)
-    aliases += "" if it.is_record else f"use Rattle.{declared}.{N}.TheOpen as Layer\nuse Rattle.{declared}.{N}.TheVariants as Its\nuse Rattle.{declared}.{it.resolver}.TheVariants as Kept\n"
-    shape = f"use Rattle.{it.declaration.crate}.specs.{N}Shape.{{{', '.join(w for w in it.shape_names() if w in body)}}}\n"
-    if not it.is_record:
-        more.append(("std.proofs.Common", PRELUDE_COMMON))
-    return f"-- What {N} means. {it.written}\n{brought(body, more)}{shape}{aliases}{brought_owns(t, body)}\n{body}"
+    more = [(family.declared(family.ordered[0].name, "TheFolds"), " ".join(f"map-{it.name}" for it in family.members)), ("std.proofs.Common", PRELUDE_COMMON)]
+    aliases = ""
+    for it in family.members:
+        N = it.name
+        more.append((family.declared(N), f"{N}-F out-{N} roll-{N} fold-{N} fold-roll-{N} ind-{N} roll-out-{N} out-roll-{N}"))
+        more.append((family.declared(it.resolver), it.resolver))
+        aliases += f"use Rattle.{family.declared(N)}.{{{N} as {it.source}}}\n" + it.plain_types(body)
+        if not it.is_record:
+            paths = [(family.declared(family.ordered[0].name, "TheOpen"), it.layer), (family.declared(N, "TheVariants"), it.its), (family.declared(it.resolver, "TheVariants"), it.kept)]
+            aliases += "".join(line for path, alias in paths if (line := f"use Rattle.{path} as {alias}\n") not in aliases)
+    names = [w for it in family.members for w in it.shape_names() if w in body]
+    shape_ = f"use Rattle.{family.crate}.specs.{family.name}Shape.{{{', '.join(names)}}}\n"
+    return f"-- What {' and '.join(it.name for it in family.members)} mean{'s' if len(family.members) == 1 else ''}. {family.first.written}\n{brought(body, more)}{shape_}{aliases}{owns(family, body)}\n{body}"
 
 
 PRELUDE_COMMON = "ap subst sym ◌∙◌ inl inr ℤ Box Global String Vec"
 
 
+def each_type(family, text):
+    """A text for each type of the family, as the toolchain has them one after another."""
+    return " ".join(text(it) for it in family.ordered)
+
+
+def fold(it, which, type, word):
+    """The fold, or its equation."""
+    steps = each_type(it.family, lambda other: f"({other.n}_{which}_layer {each_type(it.family, lambda _: '(λ v. v)')})")
+    return f"{word}-{it.name} {each_type(it.family, lambda _: type)} {steps}"
+
+
+def layer(it, which, type):
+    """What a layer means, by what is said of the values in it."""
+    n, family = it.n, it.family
+    letters = dict(zip((other.name for other in family.ordered), LETTERS))
+    names = {name: "m" if len(letters) == 1 else f"m{i}" for i, name in enumerate(letters)}
+    takes = "".join(f"({letter} → {type}) → " for letter in letters.values())
+    out = f"abbrev pub {n}_{which}_layer : {{{' '.join(letters.values())} : Type 0}} → {takes}{it.name}-F {' '.join(letters.values())} → {type}\n"
+    return out + "".join(f"{n}_{which}_layer {' '.join(names.values())} {p} = {said_of(it, c, which, names)}\n" for p, c in layers(it))
+
+
 def layers(it):
     """The patterns of one layer, each with its case."""
-    if it.is_record:
-        return [("t", it)]
-    return [(f"(Layer.{case.name}{''.join(' ' + b for b in case.binders)})" if case.binders else f"Layer.{case.name}", case) for case in it.cases]
+    return [("t", it)] if it.is_record else [(layer_of(it, case, case.binders), case) for case in it.cases]
 
 
-def layer_meaning(it, case, m="m"):
-    its = it.terms.parts_meaning(case.types, case.binders, m)
+def said_of(it, case, which, m, terms=None, values=None):
+    """What a layer means, or its keys; `terms` are of some parts by their index, in place of what is said of them."""
+    values = values or case.binders
+    if which == "keys":
+        return it.terms.parts_keys(case.types, values, m, terms)
+    its = it.terms.parts_meaning(case.types, values, m, terms)
     return f"product {its}" if it.is_record else f"case {case.tag} {its}"
 
 
-def layer_keys(it, case, m="m"):
-    return it.terms.parts_keys(case.types, case.binders, m)
-
-
-def rolled(it, which, type, layer, mapped, word):
-    """What is said of a value that is made of a layer."""
-    n, N = it.n, it.name
-    out = f"pub {n}_{word}_roll : (x : {N}-F {it.source}) → {n}_{which} (roll-{N} x) ≡ {n}_{which}_layer {n}_{which} x\nunfolding {n}_{which}\n"
-    for pattern, case in layers(it):
-        lists = [i for i, type_ in enumerate(case.types) if it.terms.leads_back(type_) and type_.name == "Vec"]
-        step = f"fold-roll-{N} {type} ({n}_{which}_layer (λ v. v)) {pattern}"
-        for j in lists:
-            hole = layer(it, case, f"{n}_{which}")
-            # those before it are the value's own already, those behind it are still mapped
-            for i in lists:
-                its = it.terms.function(which, case.types[i].args[0], f"{n}_{which}")
-                own = f"(each_{which} {its} {case.binders[i]}.items)"
-                if i == j:
-                    hole = hole.replace(own, "vs", 1)
-                elif i > j:
-                    hole = hole.replace(own, f"(each_{which} (λ v. v) (map {n}_{which} {case.binders[i]}.items))", 1)
-            step += f" ∙ ap (λ vs. {hole}) ({mapped} {n}_{which} {case.binders[j]}.items)"
-        out += f"{n}_{word}_roll {pattern} = {step}\n"
+def splits(it, case):
+    """The values of the parts, each option as nothing and as something: a layer that is mapped computes at these alone."""
+    out = [[]]
+    for type, name in zip(case.types, case.names):
+        each = ["None", f"(Some {name})"] if it.terms.is_option(type) else [name]
+        out = [values + [one] for values in out for one in each]
     return out
 
 
-def opened(it, which, type, word):
+def layer_of(it, case, values):
+    """The layer of these parts."""
+    if it.is_record:
+        return "(record { " + "; ".join(f"{field.name} = {value}" for field, value in zip(case.fields, values)) + " })"
+    return f"({it.layer}.{case.name}{''.join(' ' + value for value in values)})" if values else f"{it.layer}.{case.name}"
+
+
+def arguments_of(it, case, held=None):
+    """The parts as arguments."""
+    return "".join(f" ({name} : {it.antt(type, held)})" for name, type in zip(case.names, case.types))
+
+
+def sources(it):
+    return each_type(it.family, lambda other: other.source)
+
+
+def rolled(it, which, type, word):
+    """What is said of a value that is made of a layer."""
+    n, N, own = it.n, it.name, it.terms.own(which)
+
+    def step(case, pattern, values):
+        lists = [i for i, type_ in enumerate(case.types) if it.terms.leads_back(type_) and type_.name == "Vec"]
+        out = f"{fold(it, which, type, 'fold-roll')} {pattern}"
+        for j in lists:
+            # those before it are the value's own already, those behind it are still mapped
+            terms = {i: "vs" if i == j else f"(each_{which} (λ v. v) (map {own[case.types[i].args[0].name]} {values[i]}.items))" for i in lists if i >= j}
+            equation = f"{'each_mapped' if which == 'meaning' else 'each_mapped_keys'} {own[case.types[j].args[0].name]} {values[j]}.items"
+            out += f" ∙ ap (λ vs. {said_of(it, case, which, own, terms, values)}) ({equation})"
+        return out
+
+    claim = f"{n}_{which} (roll-{N} {{0}}) ≡ {n}_{which}_layer {each_type(it.family, lambda other: f'{other.n}_{which}')} {{0}}"
+    said = f"pub {n}_{word}_roll : (x : {N}-F {sources(it)}) → {claim.format('x')}\n"
+    opened_ = f"unfolding {' '.join(f'{other.n}_{which}' for other in it.family.members)}\n"
+    if not it.is_record:
+        lines = "".join(f"{n}_{word}_roll {layer_of(it, case, values)} = {step(case, layer_of(it, case, values), values)}\n" for case in it.cases for values in splits(it, case))
+        return said + opened_ + lines
+    if not any(map(it.terms.is_option, it.types)):
+        return f"{said}{opened_}{n}_{word}_roll t = {step(it, 't', it.binders)}\n"
+    whole = layer_of(it, it, it.names)
+    lines = "".join(f"{n}_{word}_at {' '.join(values)} = {step(it, layer_of(it, it, values), values)}\n" for values in splits(it, it))
+    at = f"{n}_{word}_at :{arguments_of(it, it)} → {claim.format(whole)}\n{opened_}{lines}\n"
+    return f"{at}{said}{n}_{word}_roll x = {n}_{word}_at {' '.join(f'x.{field.name}' for field in it.fields)}\n"
+
+
+def opened(it, which, word):
     """The same of a value that is opened: of a record, and of each variant."""
     n, N = it.n, it.name
+    of_layer = f"{n}_{which}_layer {each_type(it.family, lambda other: f'{other.n}_{which}')}"
     if it.is_record:
-        return f"pub {n}_{word} : (t : {it.source}) → {n}_{which} t ≡ {n}_{which}_layer {n}_{which} (out-{N} t)\n{n}_{word} t = ap {n}_{which} (sym (roll-out-{N} t)) ∙ {n}_{word}_roll (out-{N} t)\n"
+        return f"pub {n}_{word} : (t : {it.source}) → {n}_{which} t ≡ {of_layer} (out-{N} t)\n{n}_{word} t = ap {n}_{which} (sym (roll-out-{N} t)) ∙ {n}_{word}_roll (out-{N} t)\n"
     out = []
     for pattern, case in layers(it):
-        arguments = "".join(f" ({b} : {it.antt(type_)})" for b, type_ in zip(case.binders, case.types))
-        made = pattern.replace("Layer.", "Its.")
         names = "".join(f" {b}" for b in case.binders)
+        arguments = arguments_of(it, case)
         arrow = f"{arguments} → " if arguments else " "
         out.append(
-            f"pub {case.n}_{word} :{arrow}{n}_{which} {made} ≡ {n}_{which}_layer {n}_{which} {pattern}\n"
-            f"{case.n}_{word}{names} = ap {n}_{which} (sym {rolls(case)}) ∙ {n}_{word}_roll {pattern}\n"
+            f"pub {case.n}_{word} :{arrow}{n}_{which} {made(it, case)} ≡ {of_layer} {pattern}\n"
+            f"{case.n}_{word}{names} = ap {n}_{which} (sym {rolls(it, case)}) ∙ {n}_{word}_roll {pattern}\n"
         )
     return "\n".join(out)
 
 
-def rolls(case):
-    return f"(Its.rolls-{case.name}{''.join(' ' + b for b in case.binders)})" if case.binders else f"Its.rolls-{case.name}"
+def made(it, case):
+    """A variant of these parts."""
+    return f"({it.its}.{case.name}{''.join(' ' + b for b in case.binders)})" if case.binders else f"{it.its}.{case.name}"
+
+
+def rolls(it, case):
+    return f"({it.its}.rolls-{case.name}{''.join(' ' + b for b in case.binders)})" if case.binders else f"{it.its}.rolls-{case.name}"
 
 
 def flats(it):
     """What is read in a value's place, and which resolvers are its own."""
     n, N, t = it.n, it.name, it.terms
     if it.is_record:
-        values = [f"(out-{N} t).{b.split('.')[-1]}" for b in it.binders]
+        values = [f"(out-{N} t).{field.name}" for field in it.fields]
         return [
             f"-- what is read in its place\nabbrev pub {n}_flat : {it.source} → {it.resolver} → Value\n{n}_flat t r = product {t.parts_flat(it.types, values, 'r.kept')}\n",
             f"abbrev pub {n}_belongs : {it.source} → {it.resolver} → Type 0\n{n}_belongs t r = {t.parts_belong(it.types, values, 'r.kept')}\n",
@@ -172,57 +328,74 @@ def flats(it):
     flat, belongs, opens = "", "", []
     other = " | _ ↦ {}" if len(it.cases) > 1 else ""
     for pattern, case in layers(it):
-        kept = f"Kept.{case.name} s" if case.binders else f"Kept.{case.name}"
+        kept = f"{it.kept}.{case.name} s" if case.binders else f"{it.kept}.{case.name}"
         its = f"case {case.tag} {t.parts_flat(case.types, case.binders, 's')}"
         mine = t.parts_belong(case.types, case.binders, "s")
         flat += f"{n}_flat_layer {pattern} r = " + (f"elim r [ {kept} ↦ {its}{other.format(f'case {case.tag} no_value')} ]\n" if case.binders else f"{its}\n")
         belongs += f"{n}_belongs_layer {pattern} r = elim r [ {kept} ↦ {mine}{other.format('⊥')} ]\n"
-        arguments = "".join(f" ({b} : {it.antt(type_)})" for b, type_ in zip(case.binders, case.types))
-        made = pattern.replace("Layer.", "Its.")
+        arguments = arguments_of(it, case)
         names = "".join(f" {b}" for b in case.binders)
         arrow = f"{arguments} → " if arguments else " "
-        opens.append(f"pub {case.n}_opens :{arrow}out-{N} {made} ≡ {pattern}\n{case.n}_opens{names} = ap out-{N} (sym {rolls(case)}) ∙ out-roll-{N} {pattern}\n")
+        opens.append(f"pub {case.n}_opens :{arrow}out-{N} {made(it, case)} ≡ {pattern}\n{case.n}_opens{names} = ap out-{N} (sym {rolls(it, case)}) ∙ out-roll-{N} {pattern}\n")
     return [
-        f"-- what is read in its place, by the resolver of the same variant\nabbrev pub {n}_flat_layer : {N}-F {it.source} → {it.resolver} → Value\n{flat}",
+        f"-- what is read in its place, by the resolver of the same variant\nabbrev pub {n}_flat_layer : {N}-F {sources(it)} → {it.resolver} → Value\n{flat}",
         f"abbrev pub {n}_flat : {it.source} → {it.resolver} → Value\n{n}_flat v r = {n}_flat_layer (out-{N} v) r\n",
-        f"abbrev pub {n}_belongs_layer : {N}-F {it.source} → {it.resolver} → Type 0\n{belongs}",
+        f"abbrev pub {n}_belongs_layer : {N}-F {sources(it)} → {it.resolver} → Type 0\n{belongs}",
         f"abbrev pub {n}_belongs : {it.source} → {it.resolver} → Type 0\n{n}_belongs v r = {n}_belongs_layer (out-{N} v) r\n",
     ] + opens
 
 
-def laws(it):
+def laws(family):
     """The laws, by induction: each layer has them where what it holds has them."""
-    n, N, t = it.n, it.name, it.terms
-    D, X = f"{n}_definitions", f"{n}_shape"
-
-    def keyed(case, b):
-        its = t.parts_keyed(case.types, b)
-        its = f"record_keyed {its}" if it.is_record else f"case_keyed _ {case.tag} _ {its}"
-        return f"keyed_as ({n}_has_keys_roll _) ({n}_means_roll _) ({its})"
-
-    def planned(case, b):
-        its = held_plan(it, case, b)
-        if it.is_record:
-            its = f"record_planned {D} {X} {n}_part_definitions {n}_parts _ _ {n}_has_parts {its}"
-        else:
-            its = f"variant_planned {D} {X} {n}_name {n}_variant_definitions {n}_variants {n}_has_variants {case.tag} {case.n}_parts refl {case.n}_definitions refl _ _ {its}"
-        return f"planned_as ({n}_has_keys_roll _) ({n}_means_roll _) ({its})"
-
     out = []
-    for law, claim, proof in (("keyed", f"IsKeyed ({n}_keys t) ({n}_meaning t)", keyed), ("planned", f"HasPlan {D} {X} ({n}_keys t) ({n}_meaning t)", planned)):
-        held = f"((t : {it.source}) × {claim})"
-        rolled_claim = claim.replace(" t)", f" (roll-{N} z))")
-        arms = [("y", proof(it, [f"y.{b.split('.')[-1]}" for b in it.binders]))] if it.is_record else [(pattern, proof(case, case.binders)) for pattern, case in layers(it)]
-        out.append(
-            f"{n}_{law}_layer : (y : {N}-F {held}) → {claim.replace(' t)', f' (roll-{N} (map-{N} {held} {it.source} (λ e. e.0) y)))')}\n"
-            + "".join(f"{n}_{law}_layer {pattern} = {body}\n" for pattern, body in arms)
-        )
-        out.append(f"pub {n}_{law} : (t : {it.source}) → {claim}\n{n}_{law} = ind-{N} (λ t. {claim}) (λ x y is. subst (λ z. {rolled_claim}) is ({n}_{law}_layer y))\n")
+    for law, text in (("keyed", "IsKeyed ({n}_keys {x}) ({n}_meaning {x})"), ("planned", "HasPlan {n}_definitions {n}_shape ({n}_keys {x}) ({n}_meaning {x})")):
+        for it in family.members:
+            out += law_of_layer(it, law, text)
+        claims = each_type(family, lambda it: f"(λ t. {text.format(n=it.n, x='t')})")
+        steps = each_type(family, lambda it: f"(λ x y is. subst (λ z. {text.format(n=it.n, x=f'(roll-{it.name} z)')}) is ({it.n}_{law}_layer y))")
+        for it in family.members:
+            out.append(f"pub {it.n}_{law} : (t : {it.source}) → {text.format(n=it.n, x='t')}\n{it.n}_{law} = ind-{it.name} {claims} {steps}\n")
     return out
 
 
+def law_of_layer(it, law, text):
+    """A law of a layer, in which each value has the law beside it."""
+    n, N = it.n, it.name
+    held = {other.name: f"((t : {other.source}) × {text.format(n=other.n, x='t')})" for other in it.family.ordered}
+    mapped = f"(roll-{N} (map-{N} {' '.join(held.values())} {sources(it)} {each_type(it.family, lambda _: '(λ e. e.0)')} {{0}}))"
+    claim = text.format(n=n, x=mapped)
+    said = f"{n}_{law}_layer : (y : {N}-F {' '.join(held.values())}) → {claim.format('y')}\n"
+    proof = keyed if law == "keyed" else planned
+    if not it.is_record:
+        return [said + "".join(f"{n}_{law}_layer {layer_of(it, case, values)} = {proof(it, case, values)}\n" for case in it.cases for values in splits(it, case))]
+    if not any(map(it.terms.is_option, it.types)):
+        return [f"{said}{n}_{law}_layer y = {proof(it, it, [f'y.{field.name}' for field in it.fields])}\n"]
+    lines = "".join(f"{n}_{law}_at {' '.join(values)} = {proof(it, it, values)}\n" for values in splits(it, it))
+    return [
+        f"{n}_{law}_at :{arguments_of(it, it, held)} → {claim.format(layer_of(it, it, it.names))}\n{lines}",
+        f"{said}{n}_{law}_layer y = {n}_{law}_at {' '.join(f'y.{field.name}' for field in it.fields)}\n",
+    ]
+
+
+def keyed(it, case, values):
+    its = it.terms.parts_keyed(case.types, values)
+    its = f"record_keyed {its}" if it.is_record else f"case_keyed _ {case.tag} _ {its}"
+    return f"keyed_as ({it.n}_has_keys_roll _) ({it.n}_means_roll _) ({its})"
+
+
+def planned(it, case, values):
+    n = it.n
+    its = held_plan(it, case, values)
+    if it.is_record:
+        its = f"record_planned {n}_definitions {n}_shape {n}_part_definitions {n}_parts _ _ {n}_has_parts {its}"
+    else:
+        whole = f"{n}_definitions {n}_shape {n}_name {n}_variant_definitions {n}_variants {n}_has_variants"
+        its = f"variant_planned {whole} {case.tag} {case.n}_parts refl {case.n}_definitions refl _ _ {its}"
+    return f"planned_as ({n}_has_keys_roll _) ({n}_means_roll _) ({its})"
+
+
 def held_plan(it, case, values):
-    """The plan of parts of which each value of the type itself has its plan beside it: without the terms that the goal has."""
+    """The plan of parts of which each value of the family has its plan beside it: without the terms that the goal has."""
     out = "no_part_planned"
     for type, x in reversed(list(zip(case.types, values))):
         t = it.terms
@@ -230,30 +403,27 @@ def held_plan(it, case, values):
     return out
 
 
-def held_value(it, type, x):
-    """A part of a layer in which each value of the type itself has a law beside it, as such a value."""
-    if it.terms.is_self(type):
-        return f"{x}.0"
-    return x
-
-
 def held_keys(it, type, x):
     t = it.terms
-    if t.is_self(type):
-        return f"({it.n}_keys {x}.0)"
+    if t.is_member(type):
+        return f"({t.n_of(type)}_keys {x}.0)"
     if t.leads_back(type) and type.name == "Box":
         return held_keys(it, type.args[0], f"{x}.value")
+    if t.is_option(type):
+        return "[]" if x == "None" else held_keys(it, type.args[0], something(x))
     if t.leads_back(type):
-        return f"(each_keys {it.n}_keys (map (λ e. e.0) {x}.items))"
-    return t.keys(type, x, f"{it.n}_keys")
+        return f"(each_keys {t.n_of(type.args[0])}_keys (map (λ e. e.0) {x}.items))"
+    return t.keys(type, x, "")
 
 
 def held_meaning(it, type, x):
     t = it.terms
-    if t.is_self(type):
-        return f"({it.n}_meaning {x}.0)"
+    if t.is_member(type):
+        return f"({t.n_of(type)}_meaning {x}.0)"
     if t.leads_back(type) and type.name == "Box":
         return f"(box {held_meaning(it, type.args[0], f'{x}.value')})"
+    if t.is_option(type):
+        return "(case 0 no_value)" if x == "None" else f"(case_of 1 {held_meaning(it, type.args[0], something(x))})"
     if t.leads_back(type):
-        return f"(list (each_meaning {it.n}_meaning (map (λ e. e.0) {x}.items)))"
-    return t.meaning(type, x, f"{it.n}_meaning")
+        return f"(list (each_meaning {t.n_of(type.args[0])}_meaning (map (λ e. e.0) {x}.items)))"
+    return t.meaning(type, x, "")

@@ -1,7 +1,7 @@
 """Terms of antt on the parts of recursive types: what a part looks like, what it means, and the laws of it.
 
-A part is plain (a number, a text, another type that `tools/derive` wrote), the type itself, or an owner of it: a box or a vector. A term is one at a value,
-which is a term itself: `meaning(type, "a0", m)`, where `m` is the meaning of the type itself.
+A part is plain (a number, a text, another type that `tools/derive` wrote), the type itself, or an owner of it: a box, an option of a box, or a vector. A term
+is one at a value, which is a term itself: `meaning(type, "a0", m)`, where `m` is the meaning of the type itself.
 """
 
 from .formats import INTEGERS, snake
@@ -12,14 +12,6 @@ LEAVES = {
     **{f"i{n}": (f"leaf (number_kind signed w{n})", "number {x}") for n in (8, 16, 32, 64, 128)},
     "char": ("leaf char", "number (pos {x})"),
 }
-OWNERS = ("Box", "Vec")
-
-
-def is_taken(type):
-    """Whether a part that doesn't lead back may be of this type."""
-    return type.own is not None and not type.args and not type.own.recursive or type.name in LEAVES or type.name == "String"
-
-
 class Terms:
     """The terms of a recursive type. It gathers what a file has to bring in."""
 
@@ -28,11 +20,24 @@ class Terms:
         self.n = snake(declaration.name)
         self.owns = {}  # a plain part's declaration, by its name
 
-    def is_self(self, type):
-        return type.own is self.declaration
+    def is_member(self, type):
+        """Whether it is the type itself, or another of its family."""
+        return any(type.own is it for it in self.declaration.family)
+
+    def n_of(self, type):
+        """What names of a type of the family begin with."""
+        return snake(type.own.name)
 
     def leads_back(self, type):
-        return self.is_self(type) or any(self.leads_back(arg) for arg in type.args)
+        return self.is_member(type) or any(self.leads_back(arg) for arg in type.args)
+
+    def own(self, which):
+        """What is said of values of each type of the family, by its name."""
+        return {it.name: f"{snake(it.name)}_{which}" for it in self.declaration.family}
+
+    def is_option(self, type):
+        """Whether it is an option of a box that leads back."""
+        return type.name == "Option" and self.leads_back(type)
 
     def format_of(self, type):
         self.owns[type.name] = type.own
@@ -45,8 +50,8 @@ class Terms:
     # ---- formats ----
 
     def shape(self, type):
-        if self.is_self(type):
-            return f"{self.n}_shape"
+        if self.is_member(type):
+            return f"{self.n_of(type)}_shape"
         if type.own is not None:
             return f"{self.format_of(type)}.shape"
         if type.name in LEAVES:
@@ -54,7 +59,7 @@ class Terms:
         if type.name == "String":
             return "str"
         item = self.shape(type.args[0])
-        return f"(boxed (one {item}))" if type.name == "Box" else f"(vec {item})"
+        return {"Box": f"(boxed (one {item}))", "Option": f"(option_shape {item})", "Vec": f"(vec {item})"}[type.name]
 
     def definitions(self, type):
         return f"{self.n}_definitions" if self.leads_back(type) else "no_definition"
@@ -63,11 +68,11 @@ class Terms:
 
     def function(self, which, type, m):
         """What a value means, or its keys, as a function."""
-        return m if self.is_self(type) else f"(λ y. {getattr(self, which)(type, 'y', m)})"
+        return said(m, type) if self.is_member(type) else f"(λ y. {getattr(self, which)(type, 'y', m)})"
 
     def meaning(self, type, x, m):
-        if self.is_self(type):
-            return f"({m} {x})"
+        if self.is_member(type):
+            return f"({said(m, type)} {x})"
         if type.own is not None:
             return f"({self.source_of(type)}.meaning {x})"
         if type.name in LEAVES:
@@ -77,11 +82,13 @@ class Terms:
         item = type.args[0]
         if type.name == "Box":
             return f"(box {self.meaning(item, f'{x}.value', m)})"
+        if type.name == "Option":
+            return f"(option_meaning {self.function('meaning', item, m)} {x})"
         return f"(list (each_meaning {self.function('meaning', item, m)} {x}.items))"
 
     def keys(self, type, x, k):
-        if self.is_self(type):
-            return f"({k} {x})"
+        if self.is_member(type):
+            return f"({said(k, type)} {x})"
         if type.own is not None:
             return f"({self.source_of(type)}.keys {x})"
         if type.name in LEAVES or type.name == "String":
@@ -89,6 +96,8 @@ class Terms:
         item = type.args[0]
         if type.name == "Box":
             return self.keys(item, f"{x}.value", k)
+        if type.name == "Option":
+            return f"(option_keys {self.function('keys', item, k)} {x})"
         return f"(each_keys {self.function('keys', item, k)} {x}.items)"
 
     def flat(self, type, x, r):
@@ -101,12 +110,14 @@ class Terms:
         item = self.shape(type.args[0])
         if type.name == "Box":
             return f"(box (hole (to_pointee {r} (one {item}) 0)))"
+        if type.name == "Option":
+            return f"(option_at (one {self.shape(type.args[0].args[0])}) {r})"
         return f"(hole (to_pointee {r} (run {item}) (length {x}.items)))"
 
     def belongs(self, type, x, r):
         if type.own is not None:
             return f"({self.source_of(type)}.belongs {x} {r})"
-        if type.name in LEAVES or type.name == "Box":
+        if type.name in LEAVES or type.name in ("Box", "Option"):
             return "⊤"
         if type.name == "String":
             return f"(length (string_bytes {x}) ≤ 1073741823)"
@@ -116,8 +127,7 @@ class Terms:
 
     def keyed(self, type, x):
         """A proof that the keys of a part are those that its meaning leads to, where each value of the type itself has the law beside it."""
-        n = self.n
-        if self.is_self(type):
+        if self.is_member(type):
             return f"{x}.1"
         if type.own is not None:
             return f"(keyed_of_{snake(type.name)} {x})" if self.source_of(type) else ""
@@ -128,13 +138,15 @@ class Terms:
         item = type.args[0]
         if type.name == "Box":
             return f"(box_keyed _ _ {self.keyed(item, f'{x}.value')})"
+        if type.name == "Option":
+            return "none_keyed" if x == "None" else f"(some_keyed _ _ {self.keyed(item, something(x))})"
+        n = self.n_of(item)
         return f"(held_keyed {n}_keys {n}_meaning {x}.items)"
 
     def planned(self, type, x, held):
         """A proof that there is a plan of a part; `held` where each value of the type itself has the law beside it."""
-        n = self.n
-        if self.is_self(type):
-            return f"{x}.1" if held else f"({n}_planned {x})"
+        if self.is_member(type):
+            return f"{x}.1" if held else f"({self.n_of(type)}_planned {x})"
         if type.own is not None:
             return f"(planned_of_{snake(type.name)} {x})" if self.source_of(type) else ""
         if type.name in LEAVES:
@@ -142,9 +154,15 @@ class Terms:
         if type.name == "String":
             return f"(string_planned no_definition [] (string_bytes {x}))"
         item = type.args[0]
-        D, X = f"{n}_definitions", self.shape(item)
+        D, X = f"{self.n}_definitions", self.shape(item)
         if type.name == "Box":
             return f"(boxed_one_planned {D} (one {X}) {X} refl _ _ {self.planned(item, f'{x}.value', held)})"
+        if type.name == "Option" and held:
+            return f"(none_planned {D} {X})" if x == "None" else f"(some_planned {D} {X} _ _ {self.planned(item, something(x), held)})"
+        if type.name == "Option":
+            k, m = (self.function(which, item, self.own(which)) for which in ("keys", "meaning"))
+            return f"(option_planned {D} {X} {k} {m} (λ y. {self.planned(item, 'y', False)}) {x})"
+        n = self.n_of(item)
         if held:
             return f"(vec_planned {D} {X} _ _ _ (run_region_planned {D} {X} _ _ _ (held_planned {n}_keys {n}_meaning {D} {X} {x}.items)))"
         return f"(vec_planned {D} {X} _ _ _ (slice_planned {D} {X} {n}_keys {n}_meaning {n}_planned {x}.items))"
@@ -163,16 +181,19 @@ class Terms:
             out = f"(both {self.definitions(type)} {out})"
         return out
 
-    def parts_meaning(self, types, values, m):
+    def parts_meaning(self, types, values, m, terms=None):
         out = "no_value"
-        for type, x in reversed(list(zip(types, values))):
-            out = f"(value {self.meaning(type, x, m)} {out})"
+        for i, (type, x) in reversed(list(enumerate(zip(types, values)))):
+            its = self.meaning(type, x, m)
+            if terms and i in terms:
+                its = f"(list {terms[i]})" if type.name == "Vec" else terms[i]
+            out = f"(value {its} {out})"
         return out
 
-    def parts_keys(self, types, values, k):
+    def parts_keys(self, types, values, k, terms=None):
         out = "[]"
-        for type, x in reversed(list(zip(types, values))):
-            out = f"({self.keys(type, x, k)} ++ {out})"
+        for i, (type, x) in reversed(list(enumerate(zip(types, values)))):
+            out = f"({terms[i] if terms and i in terms else self.keys(type, x, k)} ++ {out})"
         return out
 
     def parts_flat(self, types, values, r):
@@ -195,7 +216,7 @@ class Terms:
 
     def parts_planned(self, types, values, shown, held):
         """`values` are those that have the law beside them where `held`, `shown` the values themselves."""
-        k, m = f"{self.n}_keys", f"{self.n}_meaning"
+        k, m = self.own("keys"), self.own("meaning")
         out = "no_part_planned"
         for type, x, y in reversed(list(zip(types, values, shown))):
             out = (
@@ -205,18 +226,31 @@ class Terms:
         return out
 
 
+def said(m, type):
+    """What is said of values of a type of the family: the same of all, or by its name."""
+    return m if isinstance(m, str) else m[type.own.name]
+
+
+def something(x):
+    """What `(Some x)` holds."""
+    return x[len("(Some "):-1]
+
+
 PRELUDE = {
-    "std.specs.Prelude": "ℕ List [] ◌++◌ ◌≡◌ ◌≤◌ refl pos length map string_bytes codes ⊤ Some",
+    "std.specs.Prelude": "ℕ List [] ◌++◌ ◌≡◌ ◌≤◌ refl pos length map string_bytes codes ⊤ Option None Some",
     "std.specs.Int": "w8 w16 w32 w64 w128",
     "std.proofs.Common": "ap subst sym ◌∙◌ inl inr",
     "archive_core.specs.Definitions": "Definitions defines both no_definition HasLayout IsAlign NoOthers",
     "archive_core.specs.Layout": "Layout",
     "archive_core.specs.NamedLayout": "name_has_layout name_reached",
     "archive_core.specs.PartsLayout": "IsRecord by_name knows_none",
+    "archive_core.specs.Variants": "case_of",
     "archive_core.specs.VariantsLayout": "IsChoice is_recursive_choice",
     "archive_core.specs.Shape": "Name Shape Parts Variants named choice parts boxed vec str one run leaf char unsigned signed part no_part variant no_variant",
     "archive_core.specs.Value": "Value Values case product list box hole number value no_value text_value",
     "archive_core.specs.Keyed": "case_keyed record_keyed nothing_keyed part_keyed number_keyed text_keyed box_keyed",
+    "archive_core.specs.Choices": "option_shape",
+    "archive_core.specs.Options": "option_keys option_meaning option_planned",
     "archive_core.specs.Planned": "leaf_planned string_planned",
     "archive_core.specs.PlannedOwners": "boxed_one_planned vec_planned run_region_planned slice_planned",
     "archive_core.specs.PartsPlanned": "part_planned no_part_planned record_planned",
@@ -224,7 +258,9 @@ PRELUDE = {
     "archive_core.specs.Runs": "each_keys each_meaning HasRunPlan",
     "archive_core.specs.Strings": "string_flat",
     "archive_core.specs.Writing": "Naming IsKeyed to_pointee",
-    "archive_recursive.specs.Held": "knows_both each_mapped each_mapped_keys held_keyed held_planned variant_planned keyed_as planned_as",
+    "archive_recursive.specs.Held": "member_has_layout knows_both each_mapped each_mapped_keys held_keyed held_planned variant_planned keyed_as planned_as",
+    "archive_recursive.specs.HeldOptions": "none_keyed some_keyed none_planned some_planned",
+    "archive_recursive.specs.Hollow": "option_at",
 }
 RENAMED = {"number_kind": ("archive_core.specs.Shape", "number")}
 

@@ -20,7 +20,7 @@ def proofs(module):
     formats = Formats(module)
     out = {}
     for declaration in module.declarations:
-        if declaration.kind == "struct" and not declaration.parameters and not declaration.recursive:
+        if declaration.kind == "struct" and not declaration.as_tuple and not declaration.recursive:
             out.update(records.proofs(formats, declaration))
     out.update(recursive.files(module))
     return out
@@ -30,7 +30,7 @@ def form(declaration):
     """What writes the impls of a declaration."""
     if declaration.recursive:
         return recursive.text
-    if declaration.parameters:
+    if declaration.as_tuple:
         return generics.text
     return records.text if declaration.kind == "struct" else variants.text
 

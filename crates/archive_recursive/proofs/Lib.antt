@@ -1,5 +1,6 @@
 pub mod EndsBefore
 pub mod RecordAs
+pub use Rattle.archive_check.proofs.Reading.ReadVariants
 pub use Rattle.archive_fields.proofs.OwnChoices
 pub use Rattle.archive_fields.proofs.ReadChoices
 pub use Rattle.archive_types.proofs.Planning.Causes
@@ -11,3 +12,4 @@ pub use Rattle.archive_types.proofs.Reading.OwnersRead
 pub use Rattle.archive_types.proofs.Reading.ReadElements
 pub use Rattle.archive_types.proofs.Reading.ReadRecords
 pub use Rattle.archive_types.proofs.Writing.RunRegions
+pub use Rattle.archive_types.proofs.Writing.WrittenVariants

@@ -1,14 +1,15 @@
 -- What a type that holds itself is written by: a variant of any parts, and the region of values that were serialized before, with the vector that owns it.
 use Rattle.std.specs.Prelude.{◌≡◌, ℕ, Bool, List, [], ◌∷◌, ◌++◌, Some, length, map, refl}
-use Rattle.std.proofs.Common.{ap, subst, inl, inr}
+use Rattle.std.proofs.Common.{ap, subst, inl, inr, ◌∙◌}
 use Rattle.std.proofs.lemmas.List.Elements.{Contains-append_cases}
 use Rattle.archive_types.specs.Members.Keyed.{nothing_keyed, part_keyed}
 use Rattle.archive_types.specs.Members.PlannedOwners.{none_planned, element_planned}
 use Rattle.archive_types.specs.Runs.{HasRunPlan}
 use Rattle.archive_check.specs.Entries.{ReadsBack}
 use Rattle.archive_check.specs.Pooled.{Entries}
-use Rattle.archive_check.specs.Shape.{Name, Shape, Pointee, choice, vec, run, Parts, Variants, variant_at}
-use Rattle.archive_check.specs.Definitions.{Definitions, both, listed, Knows}
+use Rattle.archive_check.specs.Layout.{Layout, layout}
+use Rattle.archive_check.specs.Shape.{Name, Shape, Pointee, choice, named, definition, vec, run, Parts, Variants, variant_at}
+use Rattle.archive_check.specs.Definitions.{Definitions, HasLayout, both, listed, Knows}
 use Rattle.archive_check.specs.Members.VariantsLayout.{IsChoice}
 use Rattle.archive_check.specs.Value.{Value, Values, case, list, hole, value}
 use Rattle.archive_check.specs.Reads.{Schema}
@@ -27,6 +28,10 @@ use Rattle.archive_types.specs.declared.traits.Archive as Archive
 use Rattle.archive_write.specs.Written.{GoesOn}
 use denote.Triple.Both.{Both}
 use denote.Ref.{MutBor}
+
+-- a name among several has the layout of what it stands for
+pub member_has_layout : (D : Definitions) (name : Name) (X : Shape) (L : Layout) → ((s : Schema) → Knows s D → definition s.table name ≡ Some X) → ((s : Schema) → Knows s D → layout s.layouts X ≡ L) → HasLayout D (named name) L
+member_has_layout D name X L has h = record { solved = λ s k. k.laid_out.solves name X (has s k) ∙ h s k }
 
 -- who knows each of two definitions knows both
 pub knows_both : (s : Schema) (D E : Definitions) → Knows s D → Knows s E → Knows s (both D E)

@@ -1,11 +1,18 @@
--- What a part means that was written before: a name that has to name two things, of which no map is, so that the laws of a source hold of it.
+-- What a part means that was written before: a name that has to name two things, of which no map is, so that the laws of a source hold of it; and what is read
+-- in the place of an option of a box.
 use Rattle.std.specs.Prelude.{◌≡◌, ℕ, zero, suc, false, List, [], ◌∷◌, Option, None, Some, Contains}
 use Rattle.std.proofs.Common.{refl, sym, ap, ◌∙◌, arith}
-use Rattle.archive_check.specs.Shape.{text}
-use Rattle.archive_check.specs.Value.{Value, null, shared_value}
+use Rattle.archive_check.specs.Shape.{text, Pointee}
+use Rattle.archive_check.specs.Value.{Value, null, shared_value, case, no_value}
 use Rattle.archive_check.specs.Tour.{Entry}
 use Rattle.archive_check.specs.Reached.{Names, names_itself}
-use Rattle.archive_types.specs.Writing.{Naming, NameMap, AreNamed, HasKeys, key_at_once, IsKeyed}
+use Rattle.archive_types.specs.Members.Variants.{case_of}
+use Rattle.archive_types.specs.Writing.{Naming, NameMap, AreNamed, HasKeys, key_at_once, IsKeyed, box_flat}
+
+-- what is read in the place of an option of a box, by what is kept of it: nothing, or a box of what is at that position
+abbrev pub option_at : Pointee → Option ℕ → Value
+option_at P None = case 0 no_value
+option_at P (Some t) = case_of 1 (box_flat P 0 t)
 
 abbrev pub hollow_entry : ℕ → Entry × Value
 hollow_entry n = (record { flavor = record { name = []; cycles = false }; pointee = text; length = n }, null)

@@ -1,4 +1,5 @@
 pub mod Held
+pub mod HeldOptions
 pub mod Hollow
 pub use Rattle.archive_check.specs.Definitions
 pub use Rattle.archive_check.specs.Expressions
@@ -10,6 +11,8 @@ pub use Rattle.archive_check.specs.Reads
 pub use Rattle.archive_check.specs.Shape
 pub use Rattle.archive_check.specs.Value
 pub use Rattle.archive_check.specs.Words.AddedDefinitions
+pub use Rattle.archive_check.specs.declared.format.error.Error
+pub use Rattle.archive_enum.specs.Choices
 pub use Rattle.archive_fields.specs.OwnChoices
 pub use Rattle.archive_fields.specs.Plain
 pub use Rattle.archive_types.specs.Members.KnownParts

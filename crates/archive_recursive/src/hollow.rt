@@ -3,12 +3,14 @@
 ghost use Rattle.std.specs.Prelude.{◌≡◌, ◌≤◌, ⊤};
 ghost use Rattle.archive_check.specs.Layout.{pointer_size};
 ghost use Rattle.archive_check.specs.Value.{shared_value};
-ghost use Rattle.archive_recursive.specs.Hollow.{hollow_names, twice_keyed, no_two};
+ghost use Rattle.archive_enum.specs.Choices.{option_layout};
+ghost use Rattle.archive_recursive.specs.Hollow.{hollow_names, twice_keyed, no_two, option_at};
 ghost use Rattle.archive_types.specs.Outcomes.{ResolvesAs};
 ghost use Rattle.archive_types.specs.Writing.{ZeroedPlace, box_flat, vec_flat};
 
 use archive_check::format::error::Error;
 use archive_types::boxed::{ArchivedBox, BoxResolver};
+use archive_types::option::ArchivedOption;
 use archive_types::place::Place;
 use archive_types::traits::{Archive, Portable};
 use archive_types::vec::{ArchivedVec, VecResolver};
@@ -54,6 +56,63 @@ impl<X: Portable> Archive for BoxAt<X> {
     {
         let Place { bytes, pos, .. } = place;
         ArchivedBox::<X>::resolve_from_raw_parts(resolver, 0, Place::new(pos, bytes))
+    }
+}
+
+/// An option of a box whose value, of the format `X`, was written before, if there is one: what is kept of it says so. It means nothing, as `BoxAt`.
+#[derive(Drop)]
+pub struct OptionAt<X> {
+    of: PhantomData<X>,
+}
+
+impl<X> OptionAt<X> {
+    /// An option of a box that was written.
+    #[inline(always)]
+    pub fn new() -> OptionAt<X> {
+        OptionAt { of: PhantomData }
+    }
+}
+
+impl<X: Portable> Archive for OptionAt<X> {
+    type Archived = ArchivedOption<ArchivedBox<X>>;
+
+    type Resolver = Option<BoxResolver>;
+
+    ghost meaning = { λ _. shared_value 0 };
+
+    ghost flat = { λ _ r. option_at X.pointee r };
+
+    ghost keys = { λ _. hollow_names };
+
+    ghost belongs = { λ _ _. ⊤ };
+
+    ghost keyed = { λ _. twice_keyed };
+
+    ghost planned = { λ _ a s names known named. absurd (no_two names named) };
+
+    #[inline(always)]
+    fn resolve(
+        &self,
+        resolver: Option<BoxResolver>,
+        place: Place<'_, ArchivedOption<ArchivedBox<X>>>,
+    ) -> Result<(), Error>
+        requires zeroed { ZeroedPlace (option_layout ⟦<ArchivedBox<X> as Portable>⟧.layout).size
+            place.pos place.bytes.now }
+        requires same_value { ⊤ }
+        ensures { ResolvesAs ⟦<Self::Archived as Portable>⟧ place
+            (⟦<Self as Archive>⟧.flat self.now resolver) result }
+    {
+        let Place { bytes, pos, .. } = place;
+        match resolver {
+            None => {
+                let none: Option<BoxAt<X>> = None;
+                none.resolve(None, Place::new(pos, bytes))
+            }
+            Some(at) => {
+                let some: Option<BoxAt<X>> = Some(BoxAt::new());
+                some.resolve(Some(at), Place::new(pos, bytes))
+            }
+        }
     }
 }
 

@@ -17,8 +17,8 @@ pub use fields::{
     resolve_named_record_0, resolve_named_record_1, resolve_named_record_2, resolve_named_record_3,
     resolve_named_record_4, resolve_named_record_5, resolve_named_record_6, resolve_named_record_7,
 };
-pub use hollow::{BoxAt, VecAt};
+pub use hollow::{BoxAt, OptionAt, VecAt};
 pub use inner::{serialize_inner_slice, serialize_part};
-pub use naming::{choice_of, define_name, record_of};
+pub use naming::{choice_of, define_name, option_expression, record_of};
 pub use part_of::{part_of_record, part_of_variant, read_part, tag_of_choice};
 pub use views::{seal_of_field, seal_of_payload, tag_of_view, view_of_field, view_of_payload};

@@ -1,4 +1,5 @@
 pub mod Archives
 pub mod PlanAnswers
 pub mod SchemaDefinitions
+pub mod Given
 pub mod Examples

@@ -1,4 +1,5 @@
 pub mod Schemas
+pub mod Given
 pub mod OneSchema
 pub mod ContextAnswers
 pub mod plan

@@ -21,6 +21,7 @@ pub use archive_check::format::layout::Layout;
 use archive_check::format::traits::Portable;
 use std::alloc::Global;
 
+mod given;
 mod layouts;
 
 /// An expression, with the definitions of the names that it reaches. It is compiled once, and checks any number of buffers. Our own: rkyv 0.8.18 has

@@ -19,14 +19,14 @@ expr_shape = named expr_name
 abbrev pub expr_num_parts : Parts
 expr_num_parts = (part (leaf (number_kind signed w64)) no_part)
 
-abbrev pub expr_negated_parts : Parts
-expr_negated_parts = (part (boxed (one expr_shape)) no_part)
+abbrev pub expr_add_parts : Parts
+expr_add_parts = (part (boxed (one expr_shape)) (part (boxed (one expr_shape)) no_part))
 
 abbrev pub expr_call_parts : Parts
 expr_call_parts = (part str (part (vec expr_shape) no_part))
 
 abbrev pub expr_variants : Variants
-expr_variants = (variant expr_num_parts (variant expr_negated_parts (variant expr_call_parts no_variant)))
+expr_variants = (variant expr_num_parts (variant expr_add_parts (variant expr_call_parts no_variant)))
 
 abbrev pub expr_stands_for : Shape
 expr_stands_for = choice expr_name expr_variants
@@ -49,14 +49,14 @@ expr_no_others = name_reached expr_name expr_stands_for
 abbrev pub expr_num_definitions : Definitions
 expr_num_definitions = (both no_definition no_definition)
 
-abbrev pub expr_negated_definitions : Definitions
-expr_negated_definitions = (both expr_definitions no_definition)
+abbrev pub expr_add_definitions : Definitions
+expr_add_definitions = (both expr_definitions (both expr_definitions no_definition))
 
 abbrev pub expr_call_definitions : Definitions
 expr_call_definitions = (both no_definition (both expr_definitions no_definition))
 
 abbrev pub expr_variant_definitions : Definitions
-expr_variant_definitions = (both expr_num_definitions (both expr_negated_definitions (both expr_call_definitions no_definition)))
+expr_variant_definitions = (both expr_num_definitions (both expr_add_definitions (both expr_call_definitions no_definition)))
 
 pub expr_has_variants : IsChoice expr_definitions expr_shape expr_name expr_variant_definitions expr_variants
-expr_has_variants = is_recursive_choice expr_name expr_variant_definitions expr_variants (λ s k. (knows_both s _ _ (knows_both s _ _ (knows_none s k.laid_out) (knows_none s k.laid_out)) (knows_both s _ _ (knows_both s _ _ k (knows_none s k.laid_out)) (knows_both s _ _ (knows_both s _ _ (knows_none s k.laid_out) (knows_both s _ _ k (knows_none s k.laid_out))) (knows_none s k.laid_out)))))
+expr_has_variants = is_recursive_choice expr_name expr_variant_definitions expr_variants (λ s k. (knows_both s _ _ (knows_both s _ _ (knows_none s k.laid_out) (knows_none s k.laid_out)) (knows_both s _ _ (knows_both s _ _ k (knows_both s _ _ k (knows_none s k.laid_out))) (knows_both s _ _ (knows_both s _ _ (knows_none s k.laid_out) (knows_both s _ _ k (knows_none s k.laid_out))) (knows_none s k.laid_out)))))

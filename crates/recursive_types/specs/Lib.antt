@@ -4,3 +4,9 @@ pub mod TreeMeaning
 pub mod TreeShape
 pub mod ExprMeaning
 pub mod ExprShape
+pub mod SearchMeaning
+pub mod SearchShape
+pub mod RoseMeaning
+pub mod RoseShape
+pub mod DirMeaning
+pub mod DirShape

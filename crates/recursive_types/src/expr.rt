@@ -5,8 +5,8 @@
 pub enum Expr {
     /// A number.
     Num(i64),
-    /// The other sign.
-    Negated(Box<Expr>),
+    /// A sum.
+    Add(Box<Expr>, Box<Expr>),
     /// A call by a name.
     Call(String, Vec<Expr>),
 }
@@ -30,7 +30,7 @@ ghost use Rattle.archive_core.specs.Sources.{Read};
 ghost use Rattle.archive_core.specs.Value.{case, no_value, value};
 ghost use Rattle.archive_core.specs.Writing.{ZeroedPlace};
 ghost use Rattle.archive_core.specs.Written.{GoesOn};
-ghost use Rattle.recursive_types.specs.ExprShape.{expr_call_parts, expr_definitions, expr_has_layout, expr_has_variants, expr_is_align, expr_layout, expr_name, expr_negated_parts, expr_no_others, expr_num_parts, expr_shape, expr_stands_for};
+ghost use Rattle.recursive_types.specs.ExprShape.{expr_add_parts, expr_call_parts, expr_definitions, expr_has_layout, expr_has_variants, expr_is_align, expr_layout, expr_name, expr_no_others, expr_num_parts, expr_shape, expr_stands_for};
 ghost use Rattle.std.proofs.Common.{lit≤};
 ghost use Rattle.std.specs.Prelude.{IfErr, IfOk, [], length, refl, ℕ, ◌++◌, ◌+◌, ◌≡◌, ◌≤◌};
 
@@ -61,11 +61,11 @@ pub struct ArchivedExpr;
 
 type ExprNumParts = (ArchivedI64, ());
 
-type ExprNegatedParts = (ArchivedBox<ArchivedExpr>, ());
+type ExprAddParts = (ArchivedBox<ArchivedExpr>, (ArchivedBox<ArchivedExpr>, ()));
 
 type ExprCallParts = (ArchivedString, (ArchivedVec<ArchivedExpr>, ()));
 
-type ExprVariants = (ExprNumParts, (ExprNegatedParts, (ExprCallParts, ())));
+type ExprVariants = (ExprNumParts, (ExprAddParts, (ExprCallParts, ())));
 
 impl ArchivePointee for ArchivedExpr {
     type ArchivedMetadata = ();
@@ -90,13 +90,14 @@ fn expr_num_expressions(alloc: Global) -> Result<Vec<CoreExpr>, Error>
     Ok(vec![in alloc; a0]?)
 }
 
-// The parts of `Negated`.
-fn expr_negated_expressions(alloc: Global) -> Result<Vec<CoreExpr>, Error>
-    ensures shapes { IfOk result (λ list. shapes_in list.items ≡ expr_negated_parts) }
+// The parts of `Add`.
+fn expr_add_expressions(alloc: Global) -> Result<Vec<CoreExpr>, Error>
+    ensures shapes { IfOk result (λ list. shapes_in list.items ≡ expr_add_parts) }
     ensures refused { IfErr result (λ e. e ≡ OutOfMemory) }
 {
     let a0 = CoreExpr::Box(Box::new(alloc, Pointee::One(CoreExpr::Named("ArchivedExpr")))?);
-    Ok(vec![in alloc; a0]?)
+    let a1 = CoreExpr::Box(Box::new(alloc, Pointee::One(CoreExpr::Named("ArchivedExpr")))?);
+    Ok(vec![in alloc; a0, a1]?)
 }
 
 // The parts of `Call`.
@@ -115,7 +116,7 @@ fn expr_expression(alloc: Global) -> Result<CoreExpr, Error>
     ensures refused { IfErr result (λ e. e ≡ OutOfMemory) }
 {
     let v0 = expr_num_expressions(alloc)?;
-    let v1 = expr_negated_expressions(alloc)?;
+    let v1 = expr_add_expressions(alloc)?;
     let v2 = expr_call_expressions(alloc)?;
     let variants = vec![in alloc; v0, v1, v2]?;
     Ok(choice_of("ArchivedExpr", variants))
@@ -174,8 +175,8 @@ impl Choice for ArchivedExpr {
 pub enum ExprResolver {
     /// Of `Num`.
     Num((<i64 as Archive>::Resolver, ())),
-    /// Of `Negated`.
-    Negated((BoxResolver, ())),
+    /// Of `Add`.
+    Add((BoxResolver, (BoxResolver, ()))),
     /// Of `Call`.
     Call((<String as Archive>::Resolver, (VecResolver, ()))),
 }
@@ -217,14 +218,16 @@ impl Archive for Expr {
                 };
                 resolve_named_case_1::<i64, ArchivedExpr>(0, a0, kept, Place::new(pos, bytes))
             }
-            Expr::Negated(_a0) => {
-                let ExprResolver::Negated(kept) = resolver else {
+            Expr::Add(_a0, _a1) => {
+                let ExprResolver::Add(kept) = resolver else {
                     unreachable!();
                 };
                 let h0: BoxAt<ArchivedExpr> = BoxAt::new();
-                resolve_named_case_1::<BoxAt<ArchivedExpr>, ArchivedExpr>(
+                let h1: BoxAt<ArchivedExpr> = BoxAt::new();
+                resolve_named_case_2::<BoxAt<ArchivedExpr>, BoxAt<ArchivedExpr>, ArchivedExpr>(
                     1,
                     &h0,
+                    &h1,
                     kept,
                     Place::new(pos, bytes),
                 )
@@ -356,32 +359,6 @@ fn serialize_expr_num<S: Writer + Keys + ResolverAlloc>(
     Ok((a0, ()))
 }
 
-// Writes what the parts of `Negated` own, in order.
-#[cycle(serialize_expr)]
-fn serialize_expr_negated<S: Writer + Keys + ResolverAlloc>(
-    a0: &Box<Expr>,
-    serializer: &mut S,
-) -> Result<(BoxResolver, ()), Error>
-    ensures serialized { IfOk result (λ r. Serialized expr_definitions expr_shape
-        (⟦<Box<Expr> as Archive>⟧.keys a0.now ++ []) (case 1
-        (value (⟦<Box<Expr> as Archive>⟧.meaning a0.now) no_value))
-        (case 1 (value (⟦<Box<Expr> as Archive>⟧.flat a0.now r.0) no_value))
-        (S.state serializer.old) (S.state serializer.new)) }
-    ensures same_values { IfOk result (λ r. ⟦<Box<Expr> as Archive>⟧.belongs a0.now r.0
-        × Unit {0}) }
-    ensures goes_on { GoesOn (S.state serializer.old) (S.state serializer.new) }
-    ensures refused { IfErr result (IsRefused expr_definitions expr_shape
-        (⟦<Box<Expr> as Archive>⟧.keys a0.now ++ []) (case 1
-        (value (⟦<Box<Expr> as Archive>⟧.meaning a0.now) no_value)) (S.state serializer.old)
-        (S.state serializer.new)) }
-{
-    let a0 = match serialize_box_expr(a0, serializer) {
-        Ok(a0) => a0,
-        Err(error) => return Err(error),
-    };
-    Ok((a0, ()))
-}
-
 // Writes what the parts of `Call` own, in order.
 #[cycle(serialize_expr)]
 fn serialize_expr_call<S: Writer + Keys + ResolverAlloc>(
@@ -436,10 +413,17 @@ fn serialize_expr<S: Writer + Keys + ResolverAlloc>(
             Ok(kept) => Ok(ExprResolver::Num(kept)),
             Err(error) => Err(error),
         },
-        Expr::Negated(a0) => match serialize_expr_negated(a0, serializer) {
-            Ok(kept) => Ok(ExprResolver::Negated(kept)),
-            Err(error) => Err(error),
-        },
+        Expr::Add(a0, a1) => {
+            let a0 = match serialize_box_expr(a0, serializer) {
+                Ok(a0) => a0,
+                Err(error) => return Err(error),
+            };
+            let a1 = match serialize_box_expr(a1, serializer) {
+                Ok(a1) => a1,
+                Err(error) => return Err(error),
+            };
+            Ok(ExprResolver::Add((a0, (a1, ()))))
+        }
         Expr::Call(a0, a1) => match serialize_expr_call(a0, a1, serializer) {
             Ok(kept) => Ok(ExprResolver::Call(kept)),
             Err(error) => Err(error),
@@ -543,9 +527,9 @@ fn read_expr_num<D: Entries>(
     Ok(Expr::Num(a0))
 }
 
-// Reads `Negated` back.
+// Reads `Add` back.
 #[cycle(read_expr)]
-fn read_expr_negated<D: Entries>(
+fn read_expr_add<D: Entries>(
     alloc: Global,
     part: RawView<'_>,
     deserializer: &mut D,
@@ -559,7 +543,9 @@ fn read_expr_negated<D: Entries>(
 {
     let p0 = part_of_variant::<ArchivedExpr, ArchivedBox<ArchivedExpr>>(part, 1, 0, 4);
     let a0 = read_box_expr(alloc, p0, deserializer)?;
-    Ok(Expr::Negated(a0))
+    let p1 = part_of_variant::<ArchivedExpr, ArchivedBox<ArchivedExpr>>(part, 1, 1, 8);
+    let a1 = read_box_expr(alloc, p1, deserializer)?;
+    Ok(Expr::Add(a0, a1))
 }
 
 // Reads `Call` back.
@@ -598,7 +584,7 @@ fn read_expr<D: Entries>(
 {
     match tag_of_choice::<ArchivedExpr>(part) {
         0 => read_expr_num(alloc, part, deserializer),
-        1 => read_expr_negated(alloc, part, deserializer),
+        1 => read_expr_add(alloc, part, deserializer),
         _ => read_expr_call(alloc, part, deserializer),
     }
 }
@@ -624,8 +610,8 @@ impl<D: Entries> Deserialize<Expr, D> for ArchivedExpr {
 pub enum ViewOfExpr<'a> {
     /// A number.
     Num(Ref<'a, ArchivedI64>),
-    /// The other sign.
-    Negated(Ref<'a, ArchivedBox<ArchivedExpr>>),
+    /// A sum.
+    Add(Ref<'a, ArchivedBox<ArchivedExpr>>, Ref<'a, ArchivedBox<ArchivedExpr>>),
     /// A call by a name.
     Call(Ref<'a, ArchivedString>, Ref<'a, ArchivedVec<ArchivedExpr>>),
 }
@@ -637,16 +623,18 @@ pub trait ExprView<'a> {
 }
 
 impl<'a> ExprView<'a> for Ref<'a, ArchivedExpr> {
-    ghost use Rattle.recursive_types.specs.declared.expr.ViewOfExpr.TheVariants.{Call as ExprCallShown, Negated as ExprNegatedShown, Num as ExprNumShown};
+    ghost use Rattle.recursive_types.specs.declared.expr.ViewOfExpr.TheVariants.{Add as ExprAddShown, Call as ExprCallShown, Num as ExprNumShown};
 
     fn variant(self) -> ViewOfExpr<'a>
         ensures shows { elim result [
           | ExprNumShown a0 ↦ (tag_of self.entry ≡ 0) × (a0.bytes.now ≡ self.entry.bytes.now)
               × (a0.pos ≡ self.entry.pos + 8) × (a0.len ≡ 0)
               × ShowsValueOf a0 self.entry (payload_in 0)
-          | ExprNegatedShown a0 ↦ (tag_of self.entry ≡ 1) × (a0.bytes.now ≡ self.entry.bytes.now)
+          | ExprAddShown a0 a1 ↦ (tag_of self.entry ≡ 1) × (a0.bytes.now ≡ self.entry.bytes.now)
               × (a0.pos ≡ self.entry.pos + 4) × (a0.len ≡ 0)
-              × ShowsValueOf a0 self.entry (payload_in 0)
+              × ShowsValueOf a0 self.entry (payload_in 0) × (a1.bytes.now ≡ self.entry.bytes.now)
+              × (a1.pos ≡ self.entry.pos + 8) × (a1.len ≡ 0)
+              × ShowsValueOf a1 self.entry (payload_in 1)
           | ExprCallShown a0 a1 ↦ (tag_of self.entry ≡ 2) × (a0.bytes.now ≡ self.entry.bytes.now)
               × (a0.pos ≡ self.entry.pos + 4) × (a0.len ≡ 0)
               × ShowsValueOf a0 self.entry (payload_in 0) × (a1.bytes.now ≡ self.entry.bytes.now)
@@ -658,7 +646,8 @@ impl<'a> ExprView<'a> for Ref<'a, ArchivedExpr> {
             0 => ViewOfExpr::Num(view_of_payload::<ArchivedExpr, ArchivedI64>(self, 0, 0, 8)),
             1 => {
                 let a0 = view_of_payload::<ArchivedExpr, ArchivedBox<ArchivedExpr>>(self, 1, 0, 4);
-                ViewOfExpr::Negated(a0)
+                let a1 = view_of_payload::<ArchivedExpr, ArchivedBox<ArchivedExpr>>(self, 1, 1, 8);
+                ViewOfExpr::Add(a0, a1)
             }
             _ => {
                 let a0 = view_of_payload::<ArchivedExpr, ArchivedString>(self, 2, 0, 4);
@@ -682,8 +671,13 @@ pub trait ExprSeal<'a> {
         requires come_to { sealed self }
         requires tag { tag self ≡ 0 };
 
-    /// The field `0` of `Negated`.
-    fn negated_0_mut(self) -> Seal<'a, ArchivedBox<ArchivedExpr>>
+    /// The field `0` of `Add`.
+    fn add_0_mut(self) -> Seal<'a, ArchivedBox<ArchivedExpr>>
+        requires come_to { sealed self }
+        requires tag { tag self ≡ 1 };
+
+    /// The field `1` of `Add`.
+    fn add_1_mut(self) -> Seal<'a, ArchivedBox<ArchivedExpr>>
         requires come_to { sealed self }
         requires tag { tag self ≡ 1 };
 
@@ -712,7 +706,7 @@ impl<'a> ExprSeal<'a> for Seal<'a, ArchivedExpr> {
         seal_of_payload::<ArchivedExpr, ArchivedI64>(self, 0, 0, 8)
     }
 
-    fn negated_0_mut(self) -> Seal<'a, ArchivedBox<ArchivedExpr>>
+    fn add_0_mut(self) -> Seal<'a, ArchivedBox<ArchivedExpr>>
         requires come_to { IsSealOf expr_definitions (one ⟦<ArchivedExpr as Portable>⟧.shape) self }
         requires tag { seal_tag self ≡ 1 }
         ensures { SealsPart expr_definitions (one ⟦<ArchivedExpr as Portable>⟧.shape)
@@ -721,6 +715,17 @@ impl<'a> ExprSeal<'a> for Seal<'a, ArchivedExpr> {
             self.entry result }
     {
         seal_of_payload::<ArchivedExpr, ArchivedBox<ArchivedExpr>>(self, 1, 0, 4)
+    }
+
+    fn add_1_mut(self) -> Seal<'a, ArchivedBox<ArchivedExpr>>
+        requires come_to { IsSealOf expr_definitions (one ⟦<ArchivedExpr as Portable>⟧.shape) self }
+        requires tag { seal_tag self ≡ 1 }
+        ensures { SealsPart expr_definitions (one ⟦<ArchivedExpr as Portable>⟧.shape)
+            ⟦<ArchivedExpr as ArchivePointee>⟧.definitions
+            ⟦<ArchivedBox<ArchivedExpr> as ArchivePointee>⟧.pointee (self.entry.pos + 8) 0
+            self.entry result }
+    {
+        seal_of_payload::<ArchivedExpr, ArchivedBox<ArchivedExpr>>(self, 1, 1, 8)
     }
 
     fn call_0_mut(self) -> Seal<'a, ArchivedString>

@@ -1,6 +1,10 @@
 //! Recursive types as a user declares them, with what tools/derive writes for them. The tests are in tests_recursive.
 #![tactic(auto)]
 
+pub mod dir;
 pub mod expr;
 pub mod list;
+pub mod outline;
+pub mod rose;
+pub mod search;
 pub mod tree;

@@ -5,6 +5,8 @@ use archive_core::api::access;
 use archive_core::error::Error;
 use archive_core::shape::Defs;
 use archive_core::traits::Portable;
+use archive_inspect::explain::explain;
+use archive_inspect::form::Form as ExplainedForm;
 use std::alloc::Global;
 use std::fmt::Debug;
 use std::process::Abort;
@@ -38,6 +40,7 @@ pub(crate) fn form_of<T: Portable>(rt: &impl Abort, alloc: Global) -> Form {
     Form {
         root,
         definitions: definitions.into_items(),
+        explained: ExplainedForm::of::<T>(alloc).expect(rt, "a form"),
     }
 }
 
@@ -46,7 +49,15 @@ fn refusal_of<T: Portable>(alloc: Global, bytes: &[u8]) -> Option<Error> {
     access::<T>(alloc, bytes).err()
 }
 
-// `access` refuses the bytes with the first fault that the slow check finds, with all its fields, or accepts them where it finds none.
+// What is wrong at the place to which the explanation of a refusal leads, if there is one.
+fn fault_explained(alloc: Global, form: &Form, bytes: &[u8]) -> Option<Error> {
+    let explanation = explain(alloc, &form.explained, bytes).ok()??;
+    let place = explanation.place?;
+    Some(place.fault.reason.refusal())
+}
+
+// `access` refuses the bytes with the first fault that the slow check finds, with all its fields, or accepts them where it finds none. What is explained of the
+// bytes leads to the same fault.
 pub(crate) fn assert_agreement<T: Portable>(
     rt: &impl Abort,
     what: &str,
@@ -56,6 +67,7 @@ pub(crate) fn assert_agreement<T: Portable>(
 ) {
     let wanted = first_fault(alloc, form, bytes);
     assert_judged(rt, what, bytes, refusal_of::<T>(alloc, bytes), wanted);
+    assert_judged(rt, what, bytes, fault_explained(alloc, form, bytes), wanted);
 }
 
 // Both answer this.

@@ -1,8 +1,12 @@
 // Recursive values byte for byte, as docs/FORMAT.md has them: written, validated and read back.
 
 use crate::assertions::{assert_read, assert_written};
+use recursive_types::dir::{Dir, Entry};
 use recursive_types::expr::Expr;
 use recursive_types::list::List;
+use recursive_types::outline::Outline;
+use recursive_types::rose::Rose;
+use recursive_types::search::Search;
 use recursive_types::tree::Tree;
 use std::alloc::{AllocError, Global};
 use std::process::Abort;
@@ -63,19 +67,100 @@ fn tree_of_four(rt: HostRuntime) {
     assert_read(&rt, rt.alloc(), TREE, &tree);
 }
 
-fn call(alloc: Global) -> Result<Expr, AllocError> {
+fn sum(alloc: Global) -> Result<Expr, AllocError> {
     let name = String::from_str(alloc, "f")?;
     let call = Expr::Call(name, vec![in alloc; Expr::Num(-1)]?);
-    Ok(Expr::Negated(Box::new(alloc, call)?))
+    Ok(Expr::Add(Box::new(alloc, Expr::Num(2))?, Box::new(alloc, call)?))
 }
 
-// The number -1 at 0, the call at 24 with its name in place, and at 48 the box that leads back to it. A number of 64 bits begins eight bytes behind the tag.
-const CALL: &[u8] =
-    b"\0\0\0\0\0\0\0\0\xff\xff\xff\xff\xff\xff\xff\xff\0\0\0\0\0\0\0\0\x02\0\0\0f\xff\xff\xff\xff\xff\xff\xff\xdc\xff\xff\xff\x01\0\0\0\0\0\0\0\x01\0\0\0\xe4\xff\xff\xff\0\0\0\0\0\0\0\0\0\0\0\0\0\0\0\0";
+// The number 2 at 0, the number -1 at 24, the call at 48 with its name in place, and at 72 the sum, whose boxes lead back to 0 and to 48. A number of 64 bits
+// begins eight bytes behind the tag.
+const SUM: &[u8] =
+    b"\0\0\0\0\0\0\0\0\x02\0\0\0\0\0\0\0\0\0\0\0\0\0\0\0\0\0\0\0\0\0\0\0\xff\xff\xff\xff\xff\xff\xff\xff\0\0\0\0\0\0\0\0\x02\0\0\0f\xff\xff\xff\xff\xff\xff\xff\xdc\xff\xff\xff\x01\0\0\0\0\0\0\0\x01\0\0\0\xb4\xff\xff\xff\xe0\xff\xff\xff\0\0\0\0\0\0\0\0\0\0\0\0";
 
 #[test]
 fn expression(rt: HostRuntime) {
-    let call = call(rt.alloc()).expect(&rt, "an expression");
-    assert_written(&rt, rt.alloc(), &call, CALL);
-    assert_read(&rt, rt.alloc(), CALL, &call);
+    let sum = sum(rt.alloc()).expect(&rt, "an expression");
+    assert_written(&rt, rt.alloc(), &sum, SUM);
+    assert_read(&rt, rt.alloc(), SUM, &sum);
+}
+
+// A binary tree of one number.
+fn only(value: u32) -> Search {
+    Search {
+        left: None,
+        value,
+        right: None,
+    }
+}
+
+fn two_below(alloc: Global) -> Result<Search, AllocError> {
+    Ok(Search {
+        left: Some(Box::new(alloc, only(1))?),
+        value: 2,
+        right: Some(Box::new(alloc, only(3))?),
+    })
+}
+
+// The number 1 at 0 with nothing below, 3 at 20, and 2 at 40. An option of a box is a tag, and four bytes behind it the offset of the box, or zeros.
+const SEARCH: &[u8] =
+    b"\0\0\0\0\0\0\0\0\x01\0\0\0\0\0\0\0\0\0\0\0\0\0\0\0\0\0\0\0\x03\0\0\0\0\0\0\0\0\0\0\0\x01\0\0\0\xd4\xff\xff\xff\x02\0\0\0\x01\0\0\0\xdc\xff\xff\xff";
+
+#[test]
+fn binary_tree(rt: HostRuntime) {
+    let search = two_below(rt.alloc()).expect(&rt, "a tree");
+    assert_written(&rt, rt.alloc(), &search, SEARCH);
+    assert_read(&rt, rt.alloc(), SEARCH, &search);
+}
+
+// A tree without names for its fields is as one with names.
+#[test]
+fn rose(rt: HostRuntime) {
+    let below = vec![in rt.alloc(); Rose(4, Vec::new(rt.alloc()))].expect(&rt, "a list");
+    let rose = Rose(3, below);
+    let bytes = b"\x04\0\0\0\xfc\xff\xff\xff\0\0\0\0\x03\0\0\0\xf0\xff\xff\xff\x01\0\0\0";
+    assert_written(&rt, rt.alloc(), &rose, bytes);
+    assert_read(&rt, rt.alloc(), bytes, &rose);
+}
+
+fn folder(alloc: Global) -> Result<Dir, AllocError> {
+    let inner = Dir {
+        name: String::from_str(alloc, "e")?,
+        entries: Vec::new(alloc),
+    };
+    let sub = Entry::Sub(Box::new(alloc, inner)?);
+    Ok(Dir {
+        name: String::from_str(alloc, "d")?,
+        entries: vec![in alloc; Entry::File(7), sub]?,
+    })
+}
+
+// The folder e at 0, with no entry and its name in place; the two entries of d at 16, a file of seven bytes and a box that leads back to 0; and d at 48.
+const FOLDER: &[u8] =
+    b"e\xff\xff\xff\xff\xff\xff\xff\xf8\xff\xff\xff\0\0\0\0\0\0\0\0\0\0\0\0\x07\0\0\0\0\0\0\0\x01\0\0\0\xdc\xff\xff\xff\0\0\0\0\0\0\0\0d\xff\xff\xff\xff\xff\xff\xff\xd8\xff\xff\xff\x02\0\0\0";
+
+#[test]
+fn folders(rt: HostRuntime) {
+    let folder = folder(rt.alloc()).expect(&rt, "a folder");
+    assert_written(&rt, rt.alloc(), &folder, FOLDER);
+    assert_read(&rt, rt.alloc(), FOLDER, &folder);
+}
+
+fn outline(alloc: Global) -> Result<Outline, AllocError> {
+    Ok(Outline {
+        title: String::from_str(alloc, "t")?,
+        chapters: leaf(alloc, 1),
+        others: vec![in alloc; leaf(alloc, 2)]?,
+    })
+}
+
+// The tree 2 at 0, which is the one of the others; and at 12 the outline: its title in place, the tree 1 at 20, and the vector of the others at 32.
+const OUTLINE: &[u8] =
+    b"\x02\0\0\0\xfc\xff\xff\xff\0\0\0\0t\xff\xff\xff\xff\xff\xff\xff\x01\0\0\0\xe8\xff\xff\xff\0\0\0\0\xe0\xff\xff\xff\x01\0\0\0";
+
+#[test]
+fn struct_of_trees(rt: HostRuntime) {
+    let outline = outline(rt.alloc()).expect(&rt, "an outline");
+    assert_written(&rt, rt.alloc(), &outline, OUTLINE);
+    assert_read(&rt, rt.alloc(), OUTLINE, &outline);
 }

@@ -8,6 +8,7 @@ from .repository import RepositoryTest
 
 LIST = "#[derive(Drop)]\npub enum List { Nil, Cons(u32, Box<List>) }\n"
 TREE = "#[derive(Drop)]\npub struct Tree { pub value: i64, pub children: Vec<Tree> }\n"
+FAMILY = "#[derive(Drop)]\npub struct Dir { name: String, entries: Vec<Entry> }\n#[derive(Drop)]\npub enum Entry { File(u64), Sub(Box<Dir>) }\n"
 
 
 class Recursive(RepositoryTest):
@@ -29,6 +30,37 @@ class Recursive(RepositoryTest):
         self.assertEqual(self.run_command(*paths), (0, ""))
         self.assertEqual(self.beside("specs", "Lib.antt").splitlines(), [f"pub mod {name}{part}" for name in ("List", "Tree") for part in ("Meaning", "Shape")])
         self.assertEqual(self.run_command("--check", *paths), (0, ""))
+
+    def test_a_family_has_its_files_together(self):
+        path = self.put(FAMILY)
+        self.assertEqual(self.run_command(path), (0, ""))
+        self.assertEqual(self.beside("specs", "Lib.antt"), "pub mod DirMeaning\npub mod DirShape\n")
+        self.assertIn("dir_definitions = both (defines dir_name dir_stands_for) (defines entry_name entry_stands_for)", self.beside("specs", "DirShape.antt"))
+        self.assertIn("fold-Dir Value Value (entry_meaning_layer", self.beside("specs", "DirMeaning.antt"))
+        self.assertIn("decreases-read_entry ", self.beside("proofs", "types", "+read_dir", "Invariants.antt"))
+        self.assertEqual(self.text(path).count("fn define_dir_family("), 1)
+        self.assertEqual(self.run_command("--check", path), (0, ""))
+
+    def test_an_option_is_told_by_cases(self):
+        path = self.put("#[derive(Drop)]\npub struct Search { left: Option<Box<Search>>, value: u8, right: Option<Box<Search>> }\n")
+        self.assertEqual(self.run_command(path), (0, ""))
+        self.assertEqual(self.beside("specs", "SearchMeaning.antt").count("\nsearch_keyed_at "), 5)
+        self.assertNotIn("serialize_box_search", self.text(path))
+        self.assertIn("read_box_search", self.text(path))
+
+    def test_several_fields_that_lead_back_are_written_where_the_value_is_matched(self):
+        path = self.put("#[derive(Drop)]\npub enum Sum { One(u8), Add(Box<Sum>, Box<Sum>) }\n")
+        self.assertEqual(self.run_command(path), (0, ""))
+        self.assertNotIn("fn serialize_sum_add", self.text(path))
+        self.assertIn("fn read_sum_add", self.text(path))
+
+    def test_a_struct_around_a_recursive_type_is_a_tuple_with_names(self):
+        path = self.put(TREE + "#[derive(Drop)]\npub struct Forest { pub name: String, pub trees: Vec<Tree> }\n")
+        self.assertEqual(self.run_command(path), (0, ""))
+        text = self.text(path)
+        self.assertIn("pub type ArchivedForest = ArchivedTuple<(ArchivedString, (ArchivedVec<ArchivedTree>, ()))>;", text)
+        self.assertIn("both no_definition (both ⟦<ArchivedTree as ArchivePointee>⟧.definitions no_definition)", " ".join(text.split()))
+        self.assertEqual(self.run_command("--check", path), (0, ""))
 
     def test_names_that_are_there_stay(self):
         self.assertEqual(naming("pub mod Other\n", ["ListShape", "Other"]), "pub mod Other\npub mod ListShape\n")

@@ -149,16 +149,19 @@ class Circles(RepositoryTest):
 
     def test_behind_a_pointer(self):
         for text, said in [
-            ("struct A { b: B }\nstruct B { a: Vec<A> }", "1: `A` leads back to itself through another type (A > B > A), which tools/derive doesn't write yet"),
-            ("struct W<T>(Box<T>);\nstruct A { x: W<A> }", "2: `W` around `A` isn't written yet; a `Box<A>` or a `Vec<A>` is"),
+            ("struct A { b: B }\nstruct B { a: Vec<A> }", "1: `B` leads back to `A`, and isn't written yet without a pointer between; put it into a `Box`"),
+            ("struct W<T>(Box<T>);\nstruct A { x: W<A> }", "2: `W` around `A` isn't written yet; a `Box<A>`, an `Option<Box<A>>` or a `Vec<A>` is"),
             ("struct A<T> { x: T, a: Vec<A<T>> }", "1: `A` is recursive (A > A) and has type parameters; name its arguments, one type for each"),
-            ("struct A { a: Option<Box<A>> }", "1: `Option` around `A` isn't written yet; a `Box<A>` or a `Vec<A>` is"),
-            ("struct A { a: Vec<Box<A>> }", "1: a `Vec` of pointers to `A` isn't written yet; a `Vec<A>` is"),
-            ("enum A { B,\n C(Box<A>, Box<A>) }", "2: a second field that leads back to `A` isn't written yet; put both into one `Vec<A>`"),
-            ("struct A(u8, Vec<A>);", "1: the recursive `A` is a tuple struct, which tools/derive doesn't write yet; name its fields"),
+            ("struct A { a: Option<Vec<A>> }", "1: this option to `A` isn't written yet; a `Box<A>`, an `Option<Box<A>>` or a `Vec<A>` is"),
+            ("struct A { a: Vec<Box<A>> }", "1: this `Vec` of pointers to `A` isn't written yet; a `Box<A>`, an `Option<Box<A>>` or a `Vec<A>` is"),
+            ("struct A { a: Result<Box<A>, u8> }", "1: `Result` around `A` isn't written yet; a `Box<A>`, an `Option<Box<A>>` or a `Vec<A>` is"),
             ("struct A { a: Vec<A>,\n b: Vec<u8> }", "2: this field of the recursive `A` is of a type that tools/derive doesn't write there; put it into a struct of another file"),
             ("struct B { x: u8 }\nstruct A { a: Vec<A>,\n b: B }", "3: `B` is held by the recursive `A`; move it to another file"),
-            ("struct A { a: Vec<A> }\nstruct B { a: A }", "2: `A` is recursive, and only it is archived by itself yet; archive it as the root"),
+            ("enum A { X,\n Y(Box<B>) }\nenum B { X, Z(Box<A>) }", "1: `X` is a variant of `A` and of `B`, which hold each other; give one of them another name"),
+            ("struct A { a: Vec<A> }\nenum B { C(A) }", "2: `A` is recursive or holds a type that is, and an enum around it isn't written yet; put it into a struct"),
+            ("struct A { a: Vec<A> }\nstruct B { a: A }\nstruct C { b: Vec<B> }", "3: `B` in a struct that holds a recursive type is too deep for the toolchain; write a struct without parameters in place"),
+            ("struct A { a: Vec<A> }\nstruct B { a: A, b: [u8; 2] }", "2: an array in a struct that holds a recursive type isn't proved; write a `Vec` in place of `[u8; 2]`"),
+            ("struct A { a: Vec<A> }\nstruct B { b: Vec<B>, a: A }", "2: `A` is recursive or holds a type that is, and isn't written yet in the recursive `B`; archive the two beside each other"),
         ]:
             with self.subTest(text):
                 self.assertIn(said, self.refusal(text))

@@ -306,10 +306,10 @@ module _ (m : Checker) {target : PointeeKind} (j n z p align : ℕ) (is : is_nod
       let k = node_takes is region lt in
       record { size = k.0; few = few; takes = k.1; fits = omega (arith, k.2) }
 
-pub region_entries : (m : Checker) {key : KeyExpr} (j n z p align : ℕ) → RegionIs m (EntriesOf key) j n (Some z) align → 0 < z → p + z ≤ length m.bytes.now → n < 18446744073709551616 → EntriesFit m key j n p None
+pub region_entries : (m : Checker) {key : KeyExpr} (j n z p align : ℕ) → RegionIs m (EntriesOf key) j n (Some z) align → 0 < z → p + z ≤ length m.bytes.now → n < 18446744073709551616 → EntriesFit m key j n p false
 region_entries m j n z p align region lt room few =
     let (offset, size, takes, is) = entry_takes region lt in
-    record { offset = offset; size = size; few = few; takes = takes; fits = omega (arith, is, room); first = tt }
+    record { offset = offset; size = size; few = few; takes = takes; fits = omega (arith, is, room); first = λ none. cc }
 
 pub mark_is : (marks : List Bool) (i : ℕ) (d : Bool) → i < length marks → slice_index_or marks i d ≡ true → IsTrue (marked marks i)
 mark_is marks i d below e = same_at (at_default marks i false below) (at_default marks i d below) ∙ e

@@ -218,10 +218,10 @@ module _ (m : Checker) {target : PointeeKind} (j n : ℕ) (z : ℤ) (s s' : Rang
         rw (e ∙ ap (λ w. Elements j n r.begin ∷ w) listed) (falls_enter (level (length m.nodes.now) s'.end (j + 1) n) (level (length m.nodes.now) s.end 0 0) (cost m s.end old)
         (level_end (length m.nodes.now) s.end s'.end 0 0 (j + 1) n (omega (arith, h.end, h.lands.below)) (omega arith) (omega arith)))
 
-    module _ {key : KeyExpr} (is : target ≡ EntriesOf key) (e : new ≡ Entries key j n r.begin None ∷ mid) where
+    module _ {key : KeyExpr} (is : target ≡ EntriesOf key) (e : new ≡ Entries key j n r.begin false ∷ mid) where
       pub entered_entries : TurnLeads m (Entering m target j n z) (stage s met old) (stage s' met' new)
       entered_entries =
-          let whole : new ≡ Entries key j n r.begin None ∷ Leave (r.begin + r.size) s.end ∷ old = e ∙ ap (λ w. Entries key j n r.begin None ∷ w) listed in
+          let whole : new ≡ Entries key j n r.begin false ∷ Leave (r.begin + r.size) s.end ∷ old = e ∙ ap (λ w. Entries key j n r.begin false ∷ w) listed in
           record {
             keeps = ordered new (ap pending_in whole) (ap regions_in whole);
             leads = λ seen a. (
@@ -237,10 +237,10 @@ module _ (m : Checker) {target : PointeeKind} (j n : ℕ) (z : ℤ) (s s' : Rang
           let all = entered_ready q in
           record {
             below = all.below;
-            fits = rw e (record { offset = k.0; size = k.1; few = few; takes = k.2; fits = omega (arith, k.3, h.lands.below, q.below); first = tt }, all.fits);
+            fits = rw e (record { offset = k.0; size = k.1; few = few; takes = k.2; fits = omega (arith, k.3, h.lands.below, q.below); first = λ none. cc }, all.fits);
           }
 
       pub entered_entries_ends : j < length m.nodes.now → n < 18446744073709551616 → cost m s'.end new ≤ power (level (length m.nodes.now) s.end 0 0) + cost m s.end old
       entered_entries_ends known few =
-          rw (e ∙ ap (λ w. Entries key j n r.begin None ∷ w) listed) (falls_enter (level (length m.nodes.now) s'.end (j + 1) n) (level (length m.nodes.now) s.end 0 0) (cost m s.end old)
+          rw (e ∙ ap (λ w. Entries key j n r.begin false ∷ w) listed) (falls_enter (level (length m.nodes.now) s'.end (j + 1) n) (level (length m.nodes.now) s.end 0 0) (cost m s.end old)
           (level_end (length m.nodes.now) s.end s'.end 0 0 (j + 1) n (omega (arith, h.end, h.lands.below)) (omega arith) (omega arith)))

@@ -1,5 +1,5 @@
 -- What the calls that enter a region answer, one lemma an exit.
-use Rattle.std.proofs.Common.{◌≡◌, ◌≢◌, inl, inr, ℕ, ℤ, ap, ◌∙◌, ◌+◌, ◌<◌, ◌≤◌, arith, List, ◌∷◌, length, slice_index_or, Option, Some, None, Err, OnSome, IfSome, IfNone, to_z, of_z, SFits}
+use Rattle.std.proofs.Common.{◌≡◌, ◌≢◌, inl, inr, ℕ, ℤ, ap, ◌∙◌, ◌+◌, ◌<◌, ◌≤◌, arith, List, ◌∷◌, length, false, slice_index_or, Option, Some, None, Err, OnSome, IfSome, IfNone, to_z, of_z, SFits}
 use mir.Syntax.{w128}
 use Rattle.std.proofs.lemmas.Int.{to_z-of_z}
 use Rattle.archive_check.specs.declared.format.error.Error.{Error}
@@ -168,7 +168,7 @@ module _ {m : Checker} {target : PointeeKind} {j n : ℕ} {z : ℤ} {x x1 x2 : S
   }
   comes_into_run {result = None} is lt fits some none = no_room_there none
 
-  pub comes_into_entries : {result : Option (Unit {0})} {fault : Error} {key : KeyExpr} → target ≡ EntriesOf key → 0 < r.size → PointeeFits m target j n → OnSome result (new ≡ Entries key j n r.begin None ∷ mid) → IfNone result (fault ≡ OutOfMemory) → ComesInto m target j n z x (stage x2.range x2.met new) result fault
+  pub comes_into_entries : {result : Option (Unit {0})} {fault : Error} {key : KeyExpr} → target ≡ EntriesOf key → 0 < r.size → PointeeFits m target j n → OnSome result (new ≡ Entries key j n r.begin false ∷ mid) → IfNone result (fault ≡ OutOfMemory) → ComesInto m target j n z x (stage x2.range x2.met new) result fault
   comes_into_entries {result = Some u} is lt fits some none = record {
     some = record {
       ready = entered_entries_ready m j n z x.range x2.range x.met x2.met x.work mid r within unmet behind new lt is some ready fits.few;

@@ -1,5 +1,5 @@
 -- Each turn of a check's loop is a rule of the run over the plan.
-use Rattle.std.proofs.Common.{◌≡◌, ◌≢◌, ℕ, ℤ, pos, ◌+ℤ◌, refl, sym, ap, ◌+◌, ◌-◌, ◌*◌, ◌%◌, ◌<◌, ◌≤◌, arith, List, [], ◌∷◌, length, Option, Some, None, slice_index, Bor}
+use Rattle.std.proofs.Common.{◌≡◌, ◌≢◌, ℕ, ℤ, pos, ◌+ℤ◌, refl, sym, ap, ◌+◌, ◌-◌, ◌*◌, ◌%◌, ◌<◌, ◌≤◌, arith, List, [], ◌∷◌, length, Bool, true, false, Option, Some, None, slice_index, Bor}
 use Rattle.std.specs.FinMap.{get, insert}
 use Rattle.archive_check.specs.declared.format.expr.Key.{Key as KeyExpr}
 use Rattle.archive_schema.specs.declared.plan.PointeeKind.{PointeeKind}
@@ -17,8 +17,9 @@ use Rattle.archive_check.specs.Tour.{Seen}
 use Rattle.archive_check.specs.Outcomes.{Outcome, done, refused}
 use Rattle.archive_check.specs.Trail.{Fault}
 use Rattle.archive_check.specs.Words.Elements.{IsAt}
-use Rattle.archive_schema.specs.check.Runs.{IsNode, Takes, EntryTakes, RegionIs, OrderRuns, pointee_count, pointee_length, entry_for, run_record, run_choice, run_array, run_pointer, run_shared, run_weak, FollowRuns, follow_new, parts_end, parts_next, parts_stop, elements_end, elements_next, elements_free, elements_stop, entries_end, entries_key, entries_value, entries_next, EnterRuns, enter_within, enter_stop, contents_one, contents_run, contents_entries, ListRuns, list_end, list_part, list_part_stop, list_parts, list_parts_stop, list_elements, list_elements_stop, list_entries, list_entries_stop, list_leave, list_finish}
+use Rattle.archive_schema.specs.check.Runs.{IsNode, Takes, EntryTakes, before_at, RegionIs, OrderRuns, EntriesRun, pointee_count, pointee_length, entry_for, run_record, run_choice, run_array, run_pointer, run_shared, run_weak, FollowRuns, follow_new, parts_end, parts_next, parts_stop, elements_end, elements_next, elements_free, elements_stop, entries_end, entries_key, entries_value, entries_next, EnterRuns, enter_within, enter_stop, contents_one, contents_run, contents_entries, ListRuns, list_end, list_part, list_part_stop, list_parts, list_parts_stop, list_elements, list_elements_stop, list_entries, list_entries_stop, list_leave, list_finish}
 use Rattle.archive_schema.specs.check.LoopInvariant.{Then, and_then, stops}
+use Rattle.archive_schema.proofs.plan.PlanSizes.{entry_sizes}
 
 -- one level of depth is got back
 pub inside_same : (d outer : Option ℕ) → Allows d 1 → inside d ≡ inside outer → outer ≡ d
@@ -70,22 +71,27 @@ module _ (m : Checker) where
   turn_element_last lt none at (list_part v r) = list_elements (elements_next lt at v (elements_end none)) r
   turn_element_last lt none at (list_part_stop v) = list_elements_stop (elements_stop lt v)
 
-  pub turn_entries_end : {pd : List ℕ} {d : Option ℕ} {e j n p s : ℕ} {before : Option ℕ} {k : Seen} {o : Outcome} {w : List Work} {key : KeyExpr} → n ≡ 0 → ListRuns m pd d e w s k o → ListRuns m pd d e (Entries key j n p before ∷ w) s k o
-  turn_entries_end none r = list_entries (entries_end none) r
+  module _ {key : KeyExpr} {j offset size : ℕ} (takes : EntryTakes m key j offset size) where
+    pub turn_entries_end : {pd : List ℕ} {d : Option ℕ} {e n p s : ℕ} {later : Bool} {k : Seen} {o : Outcome} {w : List Work} → n ≡ 0 → ListRuns m pd d e w s k o → ListRuns m pd d e (Entries key j n p later ∷ w) s k o
+    turn_entries_end none r = list_entries takes (entries_end none) r
 
-  pub turn_entries_key : {pd : List ℕ} {d : Option ℕ} {e j n p s : ℕ} {before : Option ℕ} {k : Seen} {f : Fault} {w : List Work} {key : KeyExpr} → 0 < n → OrderRuns m pd d e key j before p s k (refused f) → ListRuns m pd d e (Entries key j n p before ∷ w) s k (refused f)
-  turn_entries_key lt v = list_entries_stop (entries_key lt v)
+    pub turn_entries_key : {pd : List ℕ} {d : Option ℕ} {e n p s : ℕ} {later : Bool} {k : Seen} {f : Fault} {w : List Work} → 0 < n → OrderRuns m pd d e key j (before_at later p size) p s k (refused f) → ListRuns m pd d e (Entries key j n p later ∷ w) s k (refused f)
+    turn_entries_key lt v = list_entries_stop takes (entries_key lt v)
 
-  pub turn_entries : {pd : List ℕ} {d : Option ℕ} {e j n p offset size s mid : ℕ} {before : Option ℕ} {k known : Seen} {o : Outcome} {w : List Work} {key : KeyExpr} → 0 < n → OrderRuns m pd d e key j before p s k (done mid known) → EntryTakes m key j offset size
-      → ListRuns m pd d e (PartWork j (p + offset) ∷ Entries key j (n - 1) (p + size) (Some p) ∷ w) mid known o → ListRuns m pd d e (Entries key j n p before ∷ w) s k o
-  turn_entries lt first at (list_part v (list_entries vs r)) = list_entries (entries_next lt first at v vs) r
-  turn_entries lt first at (list_part v (list_entries_stop vs)) = list_entries_stop (entries_next lt first at v vs)
-  turn_entries lt first at (list_part_stop v) = list_entries_stop (entries_value lt first at v)
+    -- behind an entry, the one before is that entry
+    behind : {pd : List ℕ} {d : Option ℕ} {e n p s place whole : ℕ} {k : Seen} {o : Outcome} → EntryTakes m key j place whole → EntriesRun m pd d e key j (Some (p + size - whole)) n (p + size) s k o → EntriesRun m pd d e key j (Some p) n (p + size) s k o
+    behind {p = p} {whole = whole} same r = let there : p + size - whole ≡ p = omega (arith, entry_sizes takes same) in rw there at r
 
-  pub turn_entry_last : {pd : List ℕ} {d : Option ℕ} {e j n p offset size s mid : ℕ} {before : Option ℕ} {k known : Seen} {o : Outcome} {w : List Work} {key : KeyExpr} → 0 < n → n - 1 ≡ 0 → OrderRuns m pd d e key j before p s k (done mid known) → EntryTakes m key j offset size
-      → ListRuns m pd d e (PartWork j (p + offset) ∷ w) mid known o → ListRuns m pd d e (Entries key j n p before ∷ w) s k o
-  turn_entry_last lt none first at (list_part v r) = list_entries (entries_next lt first at v (entries_end none)) r
-  turn_entry_last lt none first at (list_part_stop v) = list_entries_stop (entries_value lt first at v)
+    pub turn_entries : {pd : List ℕ} {d : Option ℕ} {e n p s mid : ℕ} {later : Bool} {k known : Seen} {o : Outcome} {w : List Work} → 0 < n → OrderRuns m pd d e key j (before_at later p size) p s k (done mid known)
+        → ListRuns m pd d e (PartWork j (p + offset) ∷ Entries key j (n - 1) (p + size) true ∷ w) mid known o → ListRuns m pd d e (Entries key j n p later ∷ w) s k o
+    turn_entries lt first (list_part v (list_entries same vs r)) = list_entries takes (entries_next lt first takes v (behind same vs)) r
+    turn_entries lt first (list_part v (list_entries_stop same vs)) = list_entries_stop takes (entries_next lt first takes v (behind same vs))
+    turn_entries lt first (list_part_stop v) = list_entries_stop takes (entries_value lt first takes v)
+
+    pub turn_entry_last : {pd : List ℕ} {d : Option ℕ} {e n p s mid : ℕ} {later : Bool} {k known : Seen} {o : Outcome} {w : List Work} → 0 < n → n - 1 ≡ 0 → OrderRuns m pd d e key j (before_at later p size) p s k (done mid known)
+        → ListRuns m pd d e (PartWork j (p + offset) ∷ w) mid known o → ListRuns m pd d e (Entries key j n p later ∷ w) s k o
+    turn_entry_last lt none first (list_part v r) = list_entries takes (entries_next lt first takes v (entries_end none)) r
+    turn_entry_last lt none first (list_part_stop v) = list_entries_stop takes (entries_value lt first takes v)
 
   pub turn_elements_free : {pd : List ℕ} {d : Option ℕ} {e j n p z s : ℕ} {k : Seen} {o : Outcome} {w : List Work} → IsNode m j Free → Takes m j z → p + n * z ≤ length m.bytes.now → ListRuns m pd d e w s k o → ListRuns m pd d e (Elements j n p ∷ w) s k o
   turn_elements_free h at fits r = list_elements (elements_free h at fits) r
@@ -101,9 +107,9 @@ module _ (m : Checker) where
   enter_run reg above below aligned deep lt (list_elements v (list_leave same r)) = and_then (enter_within reg refl above below aligned deep (contents_run lt v)) (outer_same deep same r)
   enter_run reg above below aligned deep lt (list_elements_stop v) = stops (enter_stop reg refl above below aligned deep (contents_run lt v))
 
-  pub enter_entries : {pd : List ℕ} {d : Option ℕ} {e j n z align t s : ℕ} {k : Seen} {o : Outcome} {w : List Work} {key : KeyExpr} → RegionIs m (EntriesOf key) j n (Some z) align → s ≤ t → t + z ≤ e → t % align ≡ 0 → Allows d 1 → 0 < z → ListRuns m pd (inside d) t (Entries key j n t None ∷ Leave (t + z) e ∷ w) s k o → Then m pd d e (EnterRuns m pd d e (EntriesOf key) j n (pos t) s k) w o
-  enter_entries reg above below aligned deep lt (list_entries v (list_leave same r)) = and_then (enter_within reg refl above below aligned deep (contents_entries lt v)) (outer_same deep same r)
-  enter_entries reg above below aligned deep lt (list_entries_stop v) = stops (enter_stop reg refl above below aligned deep (contents_entries lt v))
+  pub enter_entries : {pd : List ℕ} {d : Option ℕ} {e j n z align t s : ℕ} {k : Seen} {o : Outcome} {w : List Work} {key : KeyExpr} → RegionIs m (EntriesOf key) j n (Some z) align → s ≤ t → t + z ≤ e → t % align ≡ 0 → Allows d 1 → 0 < z → ListRuns m pd (inside d) t (Entries key j n t false ∷ Leave (t + z) e ∷ w) s k o → Then m pd d e (EnterRuns m pd d e (EntriesOf key) j n (pos t) s k) w o
+  enter_entries reg above below aligned deep lt (list_entries takes v (list_leave same r)) = and_then (enter_within reg refl above below aligned deep (contents_entries lt v)) (outer_same deep same r)
+  enter_entries reg above below aligned deep lt (list_entries_stop takes v) = stops (enter_stop reg refl above below aligned deep (contents_entries lt v))
 
   -- a list that begins with the end of a shared position runs within it
   record Finishing (pd : List ℕ) (d : Option ℕ) (e t : ℕ) (w : List Work) (s : ℕ) (k : Seen) (o : Outcome) : Type 0 where

@@ -1,5 +1,5 @@
 -- What each turn of the check keeps, and why the turns end.
-use Rattle.std.specs.Prelude.{◌≡◌, ◌≢◌, ◌⊎◌, ℕ, zero, suc, ◌+◌, ◌-◌, ◌*◌, ◌<◌, ◌≤◌, max, ℤ, pos, negsuc, ◌+ℤ◌, List, [], ◌∷◌, length, Option, Some, None, Contains, IfSome, true, false}
+use Rattle.std.specs.Prelude.{◌≡◌, ◌≢◌, ◌⊎◌, ℕ, zero, suc, ◌+◌, ◌-◌, ◌*◌, ◌<◌, ◌≤◌, max, ℤ, pos, negsuc, ◌+ℤ◌, List, [], ◌∷◌, length, Option, Some, None, Contains, IfSome, IsTrue, Bool, true, false}
 use Rattle.std.specs.FinMap.{get}
 use Rattle.archive_check.specs.declared.format.error.Error.{Error}
 use Rattle.archive_check.specs.declared.format.error.Error.TheVariants.{OutOfMemory}
@@ -61,14 +61,14 @@ pub record KeyFits (m : Checker) (key : KeyExpr) (before : Option ℕ) (p : ℕ)
   pub first : IfSome before (λ q. q + key_size (key_of key) ≤ length m.bytes.now)
   pub here : p + key_size (key_of key) ≤ length m.bytes.now
 
--- n entries of a key and of the node j have a size, and lie in the bytes from p on; so does the key before them
-pub record EntriesFit (m : Checker) (key : KeyExpr) (j n p : ℕ) (before : Option ℕ) : Type 0 where
+-- n entries of a key and of the node j have a size, and lie in the bytes from p on; so does the one before them
+pub record EntriesFit (m : Checker) (key : KeyExpr) (j n p : ℕ) (later : Bool) : Type 0 where
   pub offset : ℕ
   pub size : ℕ
   pub few : n < 18446744073709551616
   pub takes : EntryTakes m key j offset size
   pub fits : p + n * size ≤ length m.bytes.now
-  pub first : IfSome before (λ q. q + key_size (key_of key) ≤ length m.bytes.now)
+  pub first : IsTrue later → size ≤ p
 
 -- what remains lies in the bytes, the ranges to come back to lie behind one another, and shared types are known
 abbrev pub ListFits : Checker → ℕ → List Work → Type 0
@@ -76,7 +76,7 @@ ListFits m stop [] = Unit {0}
 ListFits m stop (PartWork i p ∷ work) = PartFits m i p × ListFits m stop work
 ListFits m stop (Parts a b p ∷ work) = PartsFit m a b p × ListFits m stop work
 ListFits m stop (Elements j n p ∷ work) = ElementsFit m j n p × ListFits m stop work
-ListFits m stop (Entries key j n p before ∷ work) = EntriesFit m key j n p before × ListFits m stop work
+ListFits m stop (Entries key j n p later ∷ work) = EntriesFit m key j n p later × ListFits m stop work
 ListFits m stop (Leave x y ∷ work) = (stop ≤ x) × (y ≤ length m.bytes.now) × ListFits m y work
 ListFits m stop (Finish k t ∷ work) = (k < length m.shared_types.now) × ListFits m stop work
 
@@ -91,7 +91,7 @@ pending_in [] = []
 pending_in (PartWork i p ∷ work) = pending_in work
 pending_in (Parts a b p ∷ work) = pending_in work
 pending_in (Elements j n p ∷ work) = pending_in work
-pending_in (Entries key j n p before ∷ work) = pending_in work
+pending_in (Entries key j n p later ∷ work) = pending_in work
 pending_in (Leave x y ∷ work) = pending_in work
 pending_in (Finish k t ∷ work) = t ∷ pending_in work
 
@@ -101,7 +101,7 @@ regions_in [] = 0
 regions_in (PartWork i p ∷ work) = regions_in work
 regions_in (Parts a b p ∷ work) = regions_in work
 regions_in (Elements j n p ∷ work) = regions_in work
-regions_in (Entries key j n p before ∷ work) = regions_in work
+regions_in (Entries key j n p later ∷ work) = regions_in work
 regions_in (Leave x y ∷ work) = 1 + regions_in work
 regions_in (Finish k t ∷ work) = regions_in work
 
@@ -238,6 +238,6 @@ cost m stop [] = 0
 cost m stop (PartWork i p ∷ work) = power (level (length m.nodes.now) stop i 18446744073709551616) + cost m stop work
 cost m stop (Parts a b p ∷ work) = power (level (length m.nodes.now) stop (rank (span m.parts.now a b)) (b - a)) + cost m stop work
 cost m stop (Elements j n p ∷ work) = power (level (length m.nodes.now) stop (j + 1) n) + cost m stop work
-cost m stop (Entries key j n p before ∷ work) = power (level (length m.nodes.now) stop (j + 1) n) + cost m stop work
+cost m stop (Entries key j n p later ∷ work) = power (level (length m.nodes.now) stop (j + 1) n) + cost m stop work
 cost m stop (Leave x y ∷ work) = 1 + cost m y work
 cost m stop (Finish k t ∷ work) = 1 + cost m stop work

@@ -1,5 +1,5 @@
 -- How a check goes over a plan: one rule for each thing that it finds.
-use Rattle.std.specs.Prelude.{◌≡◌, ◌≢◌, ◌⊎◌, ℕ, ◌+◌, ◌-◌, ◌*◌, ◌%◌, ◌<◌, ◌≤◌, max, ℤ, pos, ◌+ℤ◌, List, [], ◌∷◌, length, slice_index, Option, Some, None, IsUtf8, Contains, IsTrue, false}
+use Rattle.std.specs.Prelude.{◌≡◌, ◌≢◌, ◌⊎◌, ℕ, ◌+◌, ◌-◌, ◌*◌, ◌%◌, ◌<◌, ◌≤◌, max, ℤ, pos, ◌+ℤ◌, List, [], ◌∷◌, length, slice_index, Option, Some, None, IsUtf8, Contains, IsTrue, Bool, true, false}
 use Rattle.std.specs.FinMap.{get, insert}
 use Rattle.archive_check.specs.declared.format.error.Error.{Error}
 use Rattle.archive_check.specs.declared.format.error.Error.TheVariants.{InvalidDiscriminant}
@@ -79,6 +79,11 @@ pub record EntryTakes (m : Checker) (key : KeyExpr) (i offset size : ℕ) : Type
   pub at : IsAt m.nodes.now i node
   pub offset_is : value_begin key node.align ≡ Some offset
   pub size_is : unit_size (EntriesOf key) node ≡ Some size
+
+-- where the entry of this size begins that is before the one at p, if there is one
+abbrev pub before_at : Bool → ℕ → ℕ → Option ℕ
+before_at false p size = None
+before_at true p size = Some (p - size)
 
 -- how many there are behind a pointer
 abbrev pub pointee_count : List ℕ → ℕ → PointeeKind → ℕ
@@ -411,13 +416,15 @@ pub data ListRuns (m : Checker) : List ℕ → Option ℕ → ℕ → List Work 
   list_elements_stop : {pending : List ℕ} {depth : Option ℕ} {stop j n p start : ℕ} {seen : Seen} {e : Fault} {work : List Work}
       → ElementsRun m pending depth stop j n p start seen (refused e)
       → ListRuns m pending depth stop (Elements j n p ∷ work) start seen (refused e)
-  list_entries : {pending : List ℕ} {depth : Option ℕ} {stop j n p start mid : ℕ} {before : Option ℕ} {seen known : Seen} {key : KeyExpr} {o : Outcome} {work : List Work}
-      → EntriesRun m pending depth stop key j before n p start seen (done mid known)
+  list_entries : {pending : List ℕ} {depth : Option ℕ} {stop j n p offset size start mid : ℕ} {later : Bool} {seen known : Seen} {key : KeyExpr} {o : Outcome} {work : List Work}
+      → EntryTakes m key j offset size
+      → EntriesRun m pending depth stop key j (before_at later p size) n p start seen (done mid known)
       → ListRuns m pending depth stop work mid known o
-      → ListRuns m pending depth stop (Entries key j n p before ∷ work) start seen o
-  list_entries_stop : {pending : List ℕ} {depth : Option ℕ} {stop j n p start : ℕ} {before : Option ℕ} {seen : Seen} {key : KeyExpr} {e : Fault} {work : List Work}
-      → EntriesRun m pending depth stop key j before n p start seen (refused e)
-      → ListRuns m pending depth stop (Entries key j n p before ∷ work) start seen (refused e)
+      → ListRuns m pending depth stop (Entries key j n p later ∷ work) start seen o
+  list_entries_stop : {pending : List ℕ} {depth : Option ℕ} {stop j n p offset size start : ℕ} {later : Bool} {seen : Seen} {key : KeyExpr} {e : Fault} {work : List Work}
+      → EntryTakes m key j offset size
+      → EntriesRun m pending depth stop key j (before_at later p size) n p start seen (refused e)
+      → ListRuns m pending depth stop (Entries key j n p later ∷ work) start seen (refused e)
   list_leave : {pending : List ℕ} {depth outer : Option ℕ} {stop x y start : ℕ} {seen : Seen} {o : Outcome} {work : List Work}
       → depth ≡ inside outer
       → ListRuns m pending outer y work x seen o

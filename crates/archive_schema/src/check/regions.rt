@@ -179,7 +179,7 @@ impl Checker<'_> {
         work.leave(start, end)?;
         match target {
             PointeeKind::One => work.part(pointee, begin),
-            PointeeKind::Entries(key) => work.entries(key, pointee, count, begin, None),
+            PointeeKind::Entries(key) => work.entries(key, pointee, count, begin, false),
             _ => work.elements(pointee, count, begin),
         }
     }

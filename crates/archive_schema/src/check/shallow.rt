@@ -1,6 +1,6 @@
 //! The check of shallow nodes. They lead to nothing that has to be listed, so the calls nest as deep as the shape does, and no deeper.
 
-ghost use Rattle.std.specs.Prelude.{◌≡◌, ◌+◌, ◌<◌, ◌≤◌, ℕ, length, IsTrue, None};
+ghost use Rattle.std.specs.Prelude.{◌≡◌, ◌+◌, ◌<◌, ◌≤◌, ℕ, length, IsTrue, None, false};
 ghost use Rattle.archive_schema.specs.declared.plan.NodeKind.TheVariants.{Str, Leaf as LeafNode, Pointer as PointerNode};
 ghost use Rattle.archive_schema.specs.check.Runs.{IsNode};
 ghost use Rattle.archive_schema.specs.plan.SoundPlans.{IsSound};
@@ -376,7 +376,7 @@ impl Checker<'_> {
     ) -> Option<()>
         requires plan { IsCheckable self.now }
         requires shallow { IsTrue (marked self.now.shallow.now value) }
-        requires fits { EntriesFit self.now key value count at None }
+        requires fits { EntriesFit self.now key value count at false }
         requires below { (C.state context.old).end ≤ length self.now.bytes.now }
         ensures passes { Passes C.Context (entries_rule self.now key value None count at) context
             work result }

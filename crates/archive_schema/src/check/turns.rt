@@ -1,9 +1,9 @@
 //! The loop of a check: each entry of the list is opened, and leaves others in its place.
 
-ghost use Rattle.std.specs.Prelude.{◌≡◌, ◌+◌, ◌<◌, ◌≤◌, ◌∷◌, [], length, OnSome, IfNone};
+ghost use Rattle.std.specs.Prelude.{◌≡◌, ◌+◌, ◌<◌, ◌≤◌, ◌∷◌, [], length, OnSome, IfNone, IsTrue};
 ghost use Rattle.archive_schema.specs.declared.check.worklist.Work.TheVariants.{Part as PartWork, Parts as PartsWork};
 ghost use Rattle.archive_schema.specs.check.Lists.{list_of};
-ghost use Rattle.archive_schema.specs.check.Runs.{pointer_bytes};
+ghost use Rattle.archive_schema.specs.check.Runs.{pointer_bytes, before_at};
 ghost use Rattle.archive_schema.specs.check.LoopInvariant.{Ready};
 ghost use Rattle.archive_check.specs.context.FreshContexts.{KeepsLevels};
 ghost use Rattle.archive_check.specs.context.Pushes.{FewPushed};
@@ -19,6 +19,17 @@ use crate::plan::{NodeKind, PointeeKind};
 use archive_check::context::{ArchiveContext, SharedContext, ValidationState};
 use archive_check::format::bytes::{read_i32, read_position};
 use archive_check::format::error::Error;
+
+// Where the entry of this size begins that is before the one at `at`; none where that is the first.
+fn entry_before(later: bool, at: usize, size: usize) -> Option<usize>
+    requires { IsTrue later → size ≤ at }
+    ensures { result ≡ before_at later at size }
+{
+    if later {
+        return Some(at - size);
+    }
+    None
+}
 
 impl Checker<'_> {
     /// Follows the shared pointer at `at`. What lies at a position that was met before isn't checked again.
@@ -171,17 +182,17 @@ impl Checker<'_> {
                 value,
                 left,
                 at,
-                before,
+                later,
             } => {
                 if left == 0 {
                     return Some(());
                 }
-                self.check_next_key(key, value, before, at, work, context)?;
                 let node = self.nodes[value];
-                let entry = unit_of(PointeeKind::Entries(key), node);
+                let size = unit_of(PointeeKind::Entries(key), node).end.unwrap_or(0);
                 let offset = value_offset(key, node.align).unwrap_or(0);
-                let next = at + entry.end.unwrap_or(0);
-                work.more_entries(key, value, left - 1, next, Some(at))?;
+                let before = entry_before(later, at, size);
+                self.check_next_key(key, value, before, at, work, context)?;
+                work.more_entries(key, value, left - 1, at + size, true)?;
                 self.open(value, at + offset, work, context)
             }
             Work::Leave { start, end } => leave_region(start, end, work, context),

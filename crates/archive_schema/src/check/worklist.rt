@@ -28,13 +28,13 @@ pub enum Work {
         left: usize,
         at: usize,
     },
-    /// So many entries of a key and a value, the next of them here, and the one before it, if there is one.
+    /// So many entries of a key and a value, the next of them here, and whether there is one before it.
     Entries {
         key: Key,
         value: usize,
         left: usize,
         at: usize,
-        before: Option<usize>,
+        later: bool,
     },
     /// A region is left: the range is this one again.
     Leave {
@@ -144,9 +144,9 @@ impl Worklist {
         value: usize,
         left: usize,
         at: usize,
-        before: Option<usize>,
+        later: bool,
     ) -> Option<()>
-        ensures some { OnSome result (list_of self.new ≡ Work.Entries key value left at before ∷ list_of self.old) }
+        ensures some { OnSome result (list_of self.new ≡ Work.Entries key value left at later ∷ list_of self.old) }
         ensures none { IfNone result (self.new.fault ≡ Error.OutOfMemory) }
         ensures kept { IfNone result (list_of self.new ≡ list_of self.old) }
     {
@@ -155,7 +155,7 @@ impl Worklist {
             value,
             left,
             at,
-            before,
+            later,
         })
     }
 
@@ -190,14 +190,14 @@ impl Worklist {
         value: usize,
         left: usize,
         at: usize,
-        before: Option<usize>,
+        later: bool,
     ) -> Option<()>
-        ensures some { OnSome result (PutsMore (Work.Entries key value left at before) (left ≡ 0) self) }
+        ensures some { OnSome result (PutsMore (Work.Entries key value left at later) (left ≡ 0) self) }
         ensures none { IfNone result (self.new.fault ≡ Error.OutOfMemory) }
         ensures kept { IfNone result (list_of self.new ≡ list_of self.old) }
     {
         if left > 0 {
-            self.entries(key, value, left, at, before)?;
+            self.entries(key, value, left, at, later)?;
         }
         Some(())
     }

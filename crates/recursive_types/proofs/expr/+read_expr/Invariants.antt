@@ -15,8 +15,8 @@ decreases-read_box_expr g l = (l.part.pos + 4) * 4 + 1
 abbrev pub decreases-read_vec_expr : goal.decreases-read_vec_expr
 decreases-read_vec_expr g l = (l.part.pos + 8) * 4 + 1
 
-abbrev pub decreases-read_expr_negated : goal.decreases-read_expr_negated
-decreases-read_expr_negated g l = (l.part.pos + 24) * 4 + 2
+abbrev pub decreases-read_expr_add : goal.decreases-read_expr_add
+decreases-read_expr_add g l = (l.part.pos + 24) * 4 + 2
 
 abbrev pub decreases-read_expr_call : goal.decreases-read_expr_call
 decreases-read_expr_call g l = (l.part.pos + 24) * 4 + 2

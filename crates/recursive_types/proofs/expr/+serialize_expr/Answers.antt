@@ -3,7 +3,7 @@ use Rattle.archive_core.specs.Causes.{no_memory}
 use Rattle.archive_core.specs.Definitions.{both, no_definition}
 use Rattle.archive_core.specs.Error.TheVariants.{OutOfMemory}
 use Rattle.archive_core.specs.PartsPlanned.{part_planned, no_part_planned}
-use Rattle.archive_core.specs.PlannedOwners.{vec_planned, slice_planned, each_planned}
+use Rattle.archive_core.specs.PlannedOwners.{boxed_one_planned, vec_planned, slice_planned, each_planned}
 use Rattle.archive_core.specs.Runs.{each_keys, each_meaning}
 use Rattle.archive_core.specs.Shape.{boxed, vec, str, one, part, no_part}
 use Rattle.archive_core.specs.Value.{list, box, value, no_value, text_value}
@@ -15,8 +15,8 @@ use Rattle.archive_recursive.proofs.PlannedParts.{serialized_no_part, serialized
 use Rattle.archive_recursive.proofs.RunRegions.{run_owned, long_run_refused}
 use Rattle.archive_recursive.proofs.Runs.{continues_step, continues_broken, continues_end, belongs_end}
 use Rattle.archive_recursive.specs.Held.{written_as, refused_as}
-use Rattle.recursive_types.specs.ExprMeaning.{expr_meaning, expr_keys, expr_planned, expr_num_means, expr_num_has_keys, expr_num_opens, expr_negated_means, expr_negated_has_keys, expr_negated_opens, expr_call_means, expr_call_has_keys, expr_call_opens}
-use Rattle.recursive_types.specs.ExprShape.{expr_name, expr_shape, expr_definitions, expr_variants, expr_variant_definitions, expr_has_variants, expr_negated_parts, expr_negated_definitions, expr_call_parts, expr_call_definitions}
+use Rattle.recursive_types.specs.ExprMeaning.{expr_meaning, expr_keys, expr_planned, expr_num_means, expr_num_has_keys, expr_num_opens, expr_add_means, expr_add_has_keys, expr_add_opens, expr_call_means, expr_call_has_keys, expr_call_opens}
+use Rattle.recursive_types.specs.ExprShape.{expr_name, expr_shape, expr_definitions, expr_variants, expr_variant_definitions, expr_has_variants, expr_add_parts, expr_add_definitions, expr_call_parts, expr_call_definitions}
 use Rattle.std.proofs.Common.{◌≡◌, ◌<◌, ◌++◌, [], length, refl, arith, string_bytes}
 use Rattle.std.proofs.Math.ListN.{drop_of_length-le}
 use Rattle.std.proofs.lemmas.Grind.{common_steps}
@@ -80,12 +80,6 @@ serialize_vec_expr-returns-in-Err-serialize_inner_slice-clause-goes_on g t c = (
 pub serialize_vec_expr-returns-in-Err-serialize_inner_slice-clause-refused : goal.serialize_vec_expr-returns-in-Err-serialize_inner_slice-clause-refused
 serialize_vec_expr-returns-in-Err-serialize_inner_slice-clause-refused g t c = (rw c.as_slice-items.ensures.value at c.in-Err-serialize_inner_slice.ensures.refused).since _ c.serialize_each_expr.ensures.goes_on (rw c.as_slice-items.ensures.value at c.in-Ok.ensures.serialized)
 
-pub serialize_expr_negated-returns-in-Err-clause-refused : goal.serialize_expr_negated-returns-in-Err-clause-refused
-serialize_expr_negated-returns-in-Err-clause-refused g t c = (variant_refused expr_definitions expr_shape expr_name expr_variant_definitions expr_variants expr_has_variants 1 expr_negated_parts refl expr_negated_definitions refl _ _ _ _ _ (first_refused expr_definitions no_definition (boxed (one expr_shape)) no_part (expr_keys c.args.a0.now.value) [] (box (expr_meaning c.args.a0.now.value)) no_value _ _ _ no_part_planned c.in-Err.ensures.refused))
-
-pub serialize_expr_negated-returns-clause-serialized : goal.serialize_expr_negated-returns-clause-serialized
-serialize_expr_negated-returns-clause-serialized g t c = (serialized_variant expr_definitions expr_shape expr_name expr_variant_definitions expr_variants expr_has_variants 1 expr_negated_parts refl expr_negated_definitions refl _ _ _ _ _ (serialized_part expr_definitions no_definition (boxed (one expr_shape)) no_part (expr_keys c.args.a0.now.value) [] (box (expr_meaning c.args.a0.now.value)) no_value _ _ _ _ _ c.in-Ok.ensures.serialized (serialized_no_part no_definition _)))
-
 pub serialize_expr_call-returns-in-Err-clause-refused : goal.serialize_expr_call-returns-in-Err-clause-refused
 serialize_expr_call-returns-in-Err-clause-refused g t c = (variant_refused expr_definitions expr_shape expr_name expr_variant_definitions expr_variants expr_has_variants 2 expr_call_parts refl expr_call_definitions refl _ _ _ _ _ (first_refused no_definition (both expr_definitions no_definition) str (part (vec expr_shape) no_part) [] ((each_keys expr_keys c.args.a1.now.items) ++ []) (text_value (string_bytes c.args.a0.now)) (value (list (each_meaning expr_meaning c.args.a1.now.items)) no_value) _ _ _ (part_planned expr_definitions (vec expr_shape) (each_keys expr_keys c.args.a1.now.items) (list (each_meaning expr_meaning c.args.a1.now.items)) (vec_planned expr_definitions expr_shape _ _ _ (slice_planned expr_definitions expr_shape expr_keys expr_meaning expr_planned c.args.a1.now.items)) no_part_planned) c.in-Err.ensures.refused))
 
@@ -110,14 +104,23 @@ serialize_expr-returns-in-Ok-clause-same_value g t c = rw (c.in-Num.is, expr_num
 pub serialize_expr-returns-in-Err-clause-refused : goal.serialize_expr-returns-in-Err-clause-refused
 serialize_expr-returns-in-Err-clause-refused g t c = rw c.in-Num.is (refused_as (expr_num_has_keys c.in-Num.a0) (expr_num_means c.in-Num.a0) c.in-Err.ensures.refused)
 
-pub serialize_expr-returns-in-Ok-serialize_expr_negated-clause-serialized : goal.serialize_expr-returns-in-Ok-serialize_expr_negated-clause-serialized
-serialize_expr-returns-in-Ok-serialize_expr_negated-clause-serialized g t c = rw c.in-Negated.is (written_as (expr_negated_has_keys c.in-Negated.a0) (expr_negated_means c.in-Negated.a0) (rw (expr_negated_opens c.in-Negated.a0) refl) c.in-Ok-serialize_expr_negated.ensures.serialized)
+pub serialize_expr-returns-in-Err-serialize_box_expr-clause-refused : goal.serialize_expr-returns-in-Err-serialize_box_expr-clause-refused
+serialize_expr-returns-in-Err-serialize_box_expr-clause-refused g t c = rw c.in-Add.is (refused_as (expr_add_has_keys c.in-Add.a0 c.in-Add.a1) (expr_add_means c.in-Add.a0 c.in-Add.a1) (variant_refused expr_definitions expr_shape expr_name expr_variant_definitions expr_variants expr_has_variants 1 expr_add_parts refl expr_add_definitions refl _ _ _ _ _ (first_refused expr_definitions (both expr_definitions no_definition) (boxed (one expr_shape)) (part (boxed (one expr_shape)) no_part) (expr_keys c.in-Add.a0.value) ((expr_keys c.in-Add.a1.value) ++ []) (box (expr_meaning c.in-Add.a0.value)) (value (box (expr_meaning c.in-Add.a1.value)) no_value) _ _ _ (part_planned expr_definitions (boxed (one expr_shape)) (expr_keys c.in-Add.a1.value) (box (expr_meaning c.in-Add.a1.value)) (boxed_one_planned expr_definitions (one expr_shape) expr_shape refl _ _ (expr_planned c.in-Add.a1.value)) no_part_planned) c.in-Err-serialize_box_expr.ensures.refused)))
 
-pub serialize_expr-returns-in-Ok-serialize_expr_negated-clause-same_value : goal.serialize_expr-returns-in-Ok-serialize_expr_negated-clause-same_value
-serialize_expr-returns-in-Ok-serialize_expr_negated-clause-same_value g t c = rw (c.in-Negated.is, expr_negated_opens c.in-Negated.a0) c.in-Ok-serialize_expr_negated.ensures.same_values
+pub serialize_expr-returns-in-Err-serialize_box_expr-2-clause-refused : goal.serialize_expr-returns-in-Err-serialize_box_expr-2-clause-refused
+serialize_expr-returns-in-Err-serialize_box_expr-2-clause-refused g t c = rw c.in-Add.is (refused_as (expr_add_has_keys c.in-Add.a0 c.in-Add.a1) (expr_add_means c.in-Add.a0 c.in-Add.a1) (variant_refused expr_definitions expr_shape expr_name expr_variant_definitions expr_variants expr_has_variants 1 expr_add_parts refl expr_add_definitions refl _ _ _ _ _ (later_refused expr_definitions (both expr_definitions no_definition) (boxed (one expr_shape)) (part (boxed (one expr_shape)) no_part) (expr_keys c.in-Add.a0.value) ((expr_keys c.in-Add.a1.value) ++ []) (box (expr_meaning c.in-Add.a0.value)) (value (box (expr_meaning c.in-Add.a1.value)) no_value) _ _ _ _ _ c.in-Ok-serialize_box_expr.ensures.serialized c.serialize_box_expr.ensures.goes_on c.serialize_box_expr-2.ensures.goes_on (first_refused expr_definitions no_definition (boxed (one expr_shape)) no_part (expr_keys c.in-Add.a1.value) [] (box (expr_meaning c.in-Add.a1.value)) no_value _ _ _ no_part_planned c.in-Err-serialize_box_expr-2.ensures.refused))))
 
-pub serialize_expr-returns-in-Err-serialize_expr_negated-clause-refused : goal.serialize_expr-returns-in-Err-serialize_expr_negated-clause-refused
-serialize_expr-returns-in-Err-serialize_expr_negated-clause-refused g t c = rw c.in-Negated.is (refused_as (expr_negated_has_keys c.in-Negated.a0) (expr_negated_means c.in-Negated.a0) c.in-Err-serialize_expr_negated.ensures.refused)
+pub serialize_expr-returns-in-Err-serialize_box_expr-2-clause-goes_on : goal.serialize_expr-returns-in-Err-serialize_box_expr-2-clause-goes_on
+serialize_expr-returns-in-Err-serialize_box_expr-2-clause-goes_on g t c = (goes_both _ _ _ c.serialize_box_expr.ensures.goes_on c.serialize_box_expr-2.ensures.goes_on)
+
+pub serialize_expr-returns-in-Ok-serialize_box_expr-2-clause-serialized : goal.serialize_expr-returns-in-Ok-serialize_box_expr-2-clause-serialized
+serialize_expr-returns-in-Ok-serialize_box_expr-2-clause-serialized g t c = rw c.in-Add.is (written_as (expr_add_has_keys c.in-Add.a0 c.in-Add.a1) (expr_add_means c.in-Add.a0 c.in-Add.a1) (rw (expr_add_opens c.in-Add.a0 c.in-Add.a1) refl) (serialized_variant expr_definitions expr_shape expr_name expr_variant_definitions expr_variants expr_has_variants 1 expr_add_parts refl expr_add_definitions refl _ _ _ _ _ (serialized_part expr_definitions (both expr_definitions no_definition) (boxed (one expr_shape)) (part (boxed (one expr_shape)) no_part) (expr_keys c.in-Add.a0.value) ((expr_keys c.in-Add.a1.value) ++ []) (box (expr_meaning c.in-Add.a0.value)) (value (box (expr_meaning c.in-Add.a1.value)) no_value) _ _ _ _ _ c.in-Ok-serialize_box_expr.ensures.serialized (serialized_part expr_definitions no_definition (boxed (one expr_shape)) no_part (expr_keys c.in-Add.a1.value) [] (box (expr_meaning c.in-Add.a1.value)) no_value _ _ _ _ _ c.in-Ok-serialize_box_expr-2.ensures.serialized (serialized_no_part no_definition _)))))
+
+pub serialize_expr-returns-in-Ok-serialize_box_expr-2-clause-goes_on : goal.serialize_expr-returns-in-Ok-serialize_box_expr-2-clause-goes_on
+serialize_expr-returns-in-Ok-serialize_box_expr-2-clause-goes_on g t c = (goes_both _ _ _ c.serialize_box_expr.ensures.goes_on c.serialize_box_expr-2.ensures.goes_on)
+
+pub serialize_expr-returns-in-Ok-serialize_box_expr-2-clause-same_value : goal.serialize_expr-returns-in-Ok-serialize_box_expr-2-clause-same_value
+serialize_expr-returns-in-Ok-serialize_box_expr-2-clause-same_value g t c = rw (c.in-Add.is, expr_add_opens c.in-Add.a0 c.in-Add.a1) (c.in-Ok-serialize_box_expr.ensures.same_value, (c.in-Ok-serialize_box_expr-2.ensures.same_value, tt))
 
 pub serialize_expr-returns-in-Ok-serialize_expr_call-clause-serialized : goal.serialize_expr-returns-in-Ok-serialize_expr_call-clause-serialized
 serialize_expr-returns-in-Ok-serialize_expr_call-clause-serialized g t c = rw c.in-Call.is (written_as (expr_call_has_keys c.in-Call.a0 c.in-Call.a1) (expr_call_means c.in-Call.a0 c.in-Call.a1) (rw (expr_call_opens c.in-Call.a0 c.in-Call.a1) refl) c.in-Ok-serialize_expr_call.ensures.serialized)

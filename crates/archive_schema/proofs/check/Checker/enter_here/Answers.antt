@@ -1,4 +1,4 @@
-use Rattle.std.proofs.Common.{rules, refl, ap, None, ◌∙◌, ◌∷◌}
+use Rattle.std.proofs.Common.{rules, refl, ap, false, ◌∙◌, ◌∷◌}
 use Rattle.std.proofs.lemmas.Int.{to_z-of_z}
 use mir.Syntax.{w128}
 use Rattle.archive_schema.proofs.check.EnteredRegions.{is_node_itself, run_left}
@@ -69,7 +69,7 @@ returns-in-Entries-clause-pays g c =
     let listed = c.in_ok-contents.ensures.passes.other c.if-branch.false in
     let list = c.in_ok-leave.ensures.some ∙ ap (λ w. Leave r.outer_start r.outer_end ∷ w) (ap (λ q. q.work) listed.1 ∙ c.in_ok-region.ensures.list) in
     let mid = list_of c.leave.new.self in
-    let entry = Entries c.in-Entries.key c.args.pointee c.args.count r.begin None in
+    let entry = Entries c.in-Entries.key c.args.pointee c.args.count r.begin false in
     listed_pays m s (list_of c.args.work.now) mid (list_of c.entries.new.self) entry h c.in_ok-region.ensures.pushes (ap (λ q. q.range) listed.1) (region_entries_few (rw c.in-Entries.is at h.region) listed.0.0)
     list (pays_entry m s mid (list_of c.entries.new.self) entry c.entries.result c.entries.ensures.some c.entries.ensures.kept)
 

@@ -1,0 +1,158 @@
+//! Why bytes are no archive of a form, and where.
+
+ghost use Rattle.std.specs.Prelude.{◌≡◌, ◌≢◌, ◌-◌, None, IfOk, IfErr};
+ghost use Rattle.archive_check.specs.declared.format.error.Error.TheVariants.{OutOfMemory};
+ghost use Rattle.archive_check.specs.Archives.{Answers, ExplainsNoSchema, root_in};
+ghost use Rattle.archive_inspect.specs.Explained.{IsExplained, ExplainsBuffer, ExplainsWhole};
+ghost use Rattle.archive_schema.specs.Schemas.{IsSchemaOf};
+
+use crate::form::Form;
+use crate::route::{Route, route_of};
+use crate::walk::Walker;
+use crate::walk::faults::{FirstFault, Stop};
+use archive_check::context::HighValidator;
+use archive_check::format::error::Error;
+use archive_check::format::traits::Portable;
+use std::alloc::{AllocError, Global};
+use std::fmt;
+
+/// Why bytes are no archive of a form, and where: the first test of the check that is false.
+#[derive(Drop)]
+pub struct Explanation {
+    /// The refusal, as the check tells it.
+    pub refusal: Error,
+    /// Where the fault is: none if the search for it ended elsewhere than the check.
+    pub place: Option<FaultPlace>,
+}
+
+/// A fault, and the way to it.
+#[derive(Drop)]
+pub struct FaultPlace {
+    /// The way from the root to what was looked at.
+    pub way: Route,
+    /// What was found, with its position.
+    pub fault: FirstFault,
+}
+
+/// One line: `at .events[17].Text, byte 412: the text isn't UTF-8 (byte 3 of 11 is 0xc0)`. Bytes
+/// are counted from 0.
+impl fmt::Display for Explanation {
+    fn fmt<W: fmt::Write>(&self, f: &mut fmt::Formatter<W>) -> fmt::Result {
+        let Some(place) = &self.place else {
+            let refusal = self.refusal;
+            return write!(f, "{refusal}");
+        };
+        let way = &place.way;
+        let position = place.fault.position;
+        let reason = place.fault.reason;
+        write!(f, "at {way}, byte {position}: {reason}")
+    }
+}
+
+/// Why the bytes are no archive of the form whose root lies at their end: none if they are one. The
+/// refusal is that of the check. Takes memory for each level, and for each shared position. Fails if
+/// memory from `alloc` is refused.
+pub fn explain(alloc: Global, form: &Form, bytes: &[u8]) -> Result<Option<Explanation>, AllocError>
+    ensures { IfOk result (ExplainsWhole form.now bytes.now) }
+{
+    let answer = form.schema().check_archive(alloc, bytes);
+    explained(alloc, form, bytes, answer)
+}
+
+/// Why the bytes are no archive of a `T` whose root lies at their end: none if they are one. The
+/// refusal is that of `access`. Parts and variants have numbers for names in the way: `explain` by
+/// the form of a text, as of the declaration of `T`, has their names.
+///
+/// Errors:
+/// - `OutOfMemory`: memory from `alloc` is refused.
+/// - `ShapeConflict`, `RecursiveLayout`: the definitions of `T` have no meaning.
+pub fn explain_as<T: Portable>(alloc: Global, bytes: &[u8]) -> Result<Option<Explanation>, Error>
+    ensures explained { IfOk result (ExplainsBuffer T.definitions bytes.now
+        (root_in bytes.now T.layout) T.shape) }
+    ensures refused { IfErr result (λ e. ExplainsNoSchema T.shape T.definitions e) }
+{
+    let form = Form::of::<T>(alloc)?;
+    let answer = check_as::<T>(alloc, &form, bytes);
+    let explanation = explained(alloc, &form, bytes, answer)?;
+    Ok(explanation)
+}
+
+// The position of a root in so many bytes.
+fn root_position<T: Portable>(len: usize) -> usize
+    ensures { result ≡ len - T.layout.size }
+{
+    len.saturating_sub(T::size())
+}
+
+// What the check answers of a whole buffer whose root is a `T`.
+fn check_as<T: Portable>(alloc: Global, form: &Form, bytes: &[u8]) -> Result<(), Error>
+    requires { IsSchemaOf form.now.schema T.shape T.definitions }
+    ensures { Answers T.definitions bytes.now None (root_in bytes.now T.layout) T.shape result }
+{
+    prove!(bytes.len() <= usize::MAX);
+    let mut context = HighValidator::new(alloc, bytes);
+    let root = root_position::<T>(bytes.len());
+    form.schema().check(bytes, root, &mut context)
+}
+
+// What is explained where the check answered so. Fails if memory is refused, as the answer may say.
+fn explained(
+    alloc: Global,
+    form: &Form,
+    bytes: &[u8],
+    answer: Result<(), Error>,
+) -> Result<Option<Explanation>, AllocError>
+    ensures { IfOk result (IsExplained answer) }
+{
+    match answer {
+        Ok(()) => Ok(None),
+        Err(refusal) => {
+            let explanation = located(alloc, form, bytes, refusal)?;
+            Ok(Some(explanation))
+        }
+    }
+}
+
+// A refusal with its place. Fails if memory is refused, also where the refusal says so.
+fn located(
+    alloc: Global,
+    form: &Form,
+    bytes: &[u8],
+    refusal: Error,
+) -> Result<Explanation, AllocError>
+    ensures same { IfOk result (λ x. x.refusal ≡ refusal) }
+    ensures other { IfOk result (λ _. refusal ≢ OutOfMemory) }
+{
+    match refusal {
+        Error::OutOfMemory => Err(AllocError),
+        _ => {
+            let place = place_of(alloc, form, bytes, refusal)?;
+            Ok(Explanation { refusal, place })
+        }
+    }
+}
+
+// The place of the first fault, if it is the one that the check told.
+fn place_of(
+    alloc: Global,
+    form: &Form,
+    bytes: &[u8],
+    refusal: Error,
+) -> Result<Option<FaultPlace>, AllocError> {
+    let mut walk = Walker::quick(alloc, form, bytes);
+    for _ in 0..u64::MAX {
+        match walk.step() {
+            Ok(Some(_)) => {}
+            Ok(None) => break,
+            Err(Stop::OutOfMemory) => return Err(AllocError),
+            Err(Stop::Fault(fault)) => {
+                if fault.reason.refusal() != refusal {
+                    break;
+                }
+                let way = route_of(alloc, walk.frames(), usize::MAX)?;
+                return Ok(Some(FaultPlace { way, fault }));
+            }
+        }
+    }
+    Ok(None)
+}

@@ -1,0 +1,18 @@
+-- Written by tools/derive: change the declaration, and run it again.
+use Rattle.archive_core.specs.Definitions.{no_definition}
+use Rattle.archive_core.specs.PartsPlanned.{no_part_planned}
+use Rattle.archive_core.specs.Shape.{leaf, unsigned, no_part, number as number_kind}
+use Rattle.archive_core.specs.Value.{number, no_value}
+use Rattle.archive_recursive.proofs.OwnChoices.{serialized_variant, variant_refused}
+use Rattle.archive_recursive.proofs.PlannedParts.{serialized_no_part, serialized_part, first_refused}
+use Rattle.recursive_types.specs.DirShape.{entry_name, entry_shape, entry_definitions, entry_variants, entry_variant_definitions, entry_has_variants, entry_file_parts, entry_file_definitions}
+use Rattle.std.proofs.Common.{[], refl, pos}
+use Rattle.std.specs.Int.{w64}
+use Rattle.std.specs.Prelude.{[], refl, pos}
+use Rattle.recursive_types.proofs.dir.serialize_entry_file.Goals as goal
+
+pub returns-in-Err-clause-refused : goal.returns-in-Err-clause-refused
+returns-in-Err-clause-refused g c = (variant_refused entry_definitions entry_shape entry_name entry_variant_definitions entry_variants entry_has_variants 0 entry_file_parts refl entry_file_definitions refl _ _ _ _ _ (first_refused no_definition no_definition (leaf (number_kind unsigned w64)) no_part [] [] (number (pos c.args.a0.now)) no_value _ _ _ no_part_planned c.in-Err.ensures.refused))
+
+pub returns-clause-serialized : goal.returns-clause-serialized
+returns-clause-serialized g c = (serialized_variant entry_definitions entry_shape entry_name entry_variant_definitions entry_variants entry_has_variants 0 entry_file_parts refl entry_file_definitions refl _ _ _ _ _ (serialized_part no_definition no_definition (leaf (number_kind unsigned w64)) no_part [] [] (number (pos c.args.a0.now)) no_value _ _ _ _ _ c.in-Ok.ensures.serialized (serialized_no_part no_definition _)))

@@ -1,0 +1,81 @@
+-- Written by tools/derive: change the declaration, and run it again.
+use Rattle.archive_core.specs.Causes.{no_memory}
+use Rattle.archive_core.specs.Definitions.{both, no_definition}
+use Rattle.archive_core.specs.Error.TheVariants.{OutOfMemory}
+use Rattle.archive_core.specs.PartsPlanned.{part_planned, no_part_planned}
+use Rattle.archive_core.specs.PlannedOwners.{vec_planned, slice_planned, each_planned}
+use Rattle.archive_core.specs.Runs.{each_keys, each_meaning}
+use Rattle.archive_core.specs.Shape.{vec, leaf, unsigned, part, no_part, number as number_kind}
+use Rattle.archive_core.specs.Value.{list, number, value, no_value}
+use Rattle.archive_recursive.proofs.Causes.{err_by, goes_both}
+use Rattle.archive_recursive.proofs.Owners.{vec_refused}
+use Rattle.archive_recursive.proofs.PlannedParts.{serialized_no_part, serialized_part, serialized_record, record_refused, first_refused, later_refused}
+use Rattle.archive_recursive.proofs.RunRegions.{run_owned, long_run_refused}
+use Rattle.archive_recursive.proofs.Runs.{continues_step, continues_broken, continues_end, belongs_end}
+use Rattle.archive_recursive.specs.Held.{written_as, refused_as}
+use Rattle.recursive_types.specs.RoseMeaning.{rose_meaning, rose_keys, rose_planned, rose_means, rose_has_keys}
+use Rattle.recursive_types.specs.RoseShape.{rose_shape, rose_definitions, rose_parts, rose_part_definitions, rose_has_parts}
+use Rattle.recursive_types.specs.declared.rose.Rose.{out-Rose}
+use Rattle.std.proofs.Common.{◌≡◌, ◌<◌, ◌++◌, [], length, refl, arith, pos}
+use Rattle.std.proofs.Math.ListN.{drop_of_length-le}
+use Rattle.std.proofs.lemmas.Grind.{common_steps}
+use Rattle.std.specs.Int.{w32}
+use Rattle.std.specs.Prelude.{[], ◌++◌, ◌≡◌, refl, pos, length}
+use Rattle.recursive_types.proofs.rose.+serialize_rose.Goals as goal
+
+pub serialize_each_rose-returns-in_err-resolvers-clause-refused : goal.serialize_each_rose-returns-in_err-resolvers-clause-refused
+serialize_each_rose-returns-in_err-resolvers-clause-refused g t c = err_by c.from_residual.result OutOfMemory _ c.from_residual.ensures.1 no_memory
+
+pub serialize_each_rose-returns-in-Err-clause-goes_on : goal.serialize_each_rose-returns-in-Err-clause-goes_on
+serialize_each_rose-returns-in-Err-clause-goes_on g t c = goes_both _ _ _ c.loop-value.invariant.continues.goes c.serialize_rose.ensures.goes_on
+
+pub serialize_each_rose-returns-in-Err-clause-refused : goal.serialize_each_rose-returns-in-Err-clause-refused
+serialize_each_rose-returns-in-Err-clause-refused g t c = continues_broken _ _ _ _ _ _ _ _ _ _ c.loop-value.value-index _ _ _ c.loop-value-test.true c.value-item.is rose_planned c.loop-value.invariant.continues c.serialize_rose.ensures.goes_on c.in-Err.ensures.refused
+
+pub serialize_each_rose-returns-in_err-map_err-clause-goes_on : goal.serialize_each_rose-returns-in_err-map_err-clause-goes_on
+serialize_each_rose-returns-in_err-map_err-clause-goes_on g t c = goes_both _ _ _ c.loop-value.invariant.continues.goes c.serialize_rose.ensures.goes_on
+
+pub serialize_each_rose-returns-in_err-map_err-clause-refused : goal.serialize_each_rose-returns-in_err-map_err-clause-refused
+serialize_each_rose-returns-in_err-map_err-clause-refused g t c = err_by c.from_residual-in_err-map_err.result OutOfMemory _ c.from_residual-in_err-map_err.ensures.1 no_memory
+
+pub serialize_each_rose-loop-value-preserved : goal.serialize_each_rose-loop-value-preserved
+serialize_each_rose-loop-value-preserved g t c = record { continues = continues_step _ _ _ _ _ _ _ _ _ _ c.loop-value.value-index _ _ _ _ c.loop-value-test.true c.value-item.is (grind (arith, common_steps)) c.loop-value.invariant.continues c.in-Ok.ensures.serialized c.in-Ok.ensures.same_value c.serialize_rose.ensures.goes_on }
+
+pub serialize_each_rose-returns-clause-serialized : goal.serialize_each_rose-returns-clause-serialized
+serialize_each_rose-returns-clause-serialized g t c = continues_end _ _ _ _ _ _ _ _ _ _ _ (drop_of_length-le _ c.loop-value-test.false) c.loop-value.invariant.continues
+
+pub serialize_each_rose-returns-clause-same_values : goal.serialize_each_rose-returns-clause-same_values
+serialize_each_rose-returns-clause-same_values g t c = belongs_end _ _ _ _ _ _ _ _ _ _ _ (drop_of_length-le _ c.loop-value-test.false) c.loop-value.invariant.continues
+
+pub serialize_vec_rose-returns-then-len-clause-refused : goal.serialize_vec_rose-returns-then-len-clause-refused
+serialize_vec_rose-returns-then-len-clause-refused g t c = (let long : 4294967295 < length c.args.value.now.items = (let whole : length c.args.value.now.items ≡ c.len.result = grind (arith, common_steps, c.len.ensures) in omega (arith, c.if-len.true, whole)) in vec_refused rose_definitions rose_shape (length c.args.value.now.items) (each_keys rose_keys c.args.value.now.items) (list (each_meaning rose_meaning c.args.value.now.items)) _ _ _ (long_run_refused rose_definitions rose_shape (length c.args.value.now.items) (each_keys rose_keys c.args.value.now.items) (each_meaning rose_meaning c.args.value.now.items) _ _ (each_planned rose_definitions rose_shape rose_keys rose_meaning rose_planned c.args.value.now.items) long))
+
+pub serialize_vec_rose-returns-in-Err-clause-refused : goal.serialize_vec_rose-returns-in-Err-clause-refused
+serialize_vec_rose-returns-in-Err-clause-refused g t c = vec_refused rose_definitions rose_shape (length c.args.value.now.items) (each_keys rose_keys c.args.value.now.items) (list (each_meaning rose_meaning c.args.value.now.items)) _ _ _ (run_owned rose_definitions rose_shape (length c.args.value.now.items) (each_keys rose_keys c.args.value.now.items) (each_meaning rose_meaning c.args.value.now.items) _ _ _ (rw c.as_slice-items.ensures.value at c.in-Err.ensures.refused))
+
+pub serialize_vec_rose-returns-in-Ok-serialize_inner_slice-clause-serialized : goal.serialize_vec_rose-returns-in-Ok-serialize_inner_slice-clause-serialized
+serialize_vec_rose-returns-in-Ok-serialize_inner_slice-clause-serialized g t c = (rw c.as_slice-items.ensures.value at c.in-Ok-serialize_inner_slice.ensures.listed).since _ c.serialize_each_rose.ensures.goes_on (rw c.as_slice-items.ensures.value at c.in-Ok.ensures.serialized)
+
+pub serialize_vec_rose-returns-in-Ok-serialize_inner_slice-clause-goes_on : goal.serialize_vec_rose-returns-in-Ok-serialize_inner_slice-clause-goes_on
+serialize_vec_rose-returns-in-Ok-serialize_inner_slice-clause-goes_on g t c = (goes_both _ _ _ c.serialize_each_rose.ensures.goes_on c.serialize_inner_slice.ensures.goes_on)
+
+pub serialize_vec_rose-returns-in-Err-serialize_inner_slice-clause-goes_on : goal.serialize_vec_rose-returns-in-Err-serialize_inner_slice-clause-goes_on
+serialize_vec_rose-returns-in-Err-serialize_inner_slice-clause-goes_on g t c = (goes_both _ _ _ c.serialize_each_rose.ensures.goes_on c.serialize_inner_slice.ensures.goes_on)
+
+pub serialize_vec_rose-returns-in-Err-serialize_inner_slice-clause-refused : goal.serialize_vec_rose-returns-in-Err-serialize_inner_slice-clause-refused
+serialize_vec_rose-returns-in-Err-serialize_inner_slice-clause-refused g t c = (rw c.as_slice-items.ensures.value at c.in-Err-serialize_inner_slice.ensures.refused).since _ c.serialize_each_rose.ensures.goes_on (rw c.as_slice-items.ensures.value at c.in-Ok.ensures.serialized)
+
+pub serialize_rose-returns-in-Err-clause-refused : goal.serialize_rose-returns-in-Err-clause-refused
+serialize_rose-returns-in-Err-clause-refused g t c = (refused_as (rose_has_keys c.args.value.now) (rose_means c.args.value.now) (record_refused rose_definitions rose_shape rose_part_definitions rose_parts rose_has_parts _ _ _ _ _ (first_refused no_definition (both rose_definitions no_definition) (leaf (number_kind unsigned w32)) (part (vec rose_shape) no_part) [] ((each_keys rose_keys (out-Rose c.args.value.now).1.items) ++ []) (number (pos (out-Rose c.args.value.now).0)) (value (list (each_meaning rose_meaning (out-Rose c.args.value.now).1.items)) no_value) _ _ _ (part_planned rose_definitions (vec rose_shape) (each_keys rose_keys (out-Rose c.args.value.now).1.items) (list (each_meaning rose_meaning (out-Rose c.args.value.now).1.items)) (vec_planned rose_definitions rose_shape _ _ _ (slice_planned rose_definitions rose_shape rose_keys rose_meaning rose_planned (out-Rose c.args.value.now).1.items)) no_part_planned) c.in-Err.ensures.refused)))
+
+pub serialize_rose-returns-in-Err-serialize_vec_rose-clause-refused : goal.serialize_rose-returns-in-Err-serialize_vec_rose-clause-refused
+serialize_rose-returns-in-Err-serialize_vec_rose-clause-refused g t c = (refused_as (rose_has_keys c.args.value.now) (rose_means c.args.value.now) (record_refused rose_definitions rose_shape rose_part_definitions rose_parts rose_has_parts _ _ _ _ _ (later_refused no_definition (both rose_definitions no_definition) (leaf (number_kind unsigned w32)) (part (vec rose_shape) no_part) [] ((each_keys rose_keys (out-Rose c.args.value.now).1.items) ++ []) (number (pos (out-Rose c.args.value.now).0)) (value (list (each_meaning rose_meaning (out-Rose c.args.value.now).1.items)) no_value) _ _ _ _ _ c.in-Ok.ensures.serialized c.serialize_part.ensures.goes_on c.serialize_vec_rose.ensures.goes_on (first_refused rose_definitions no_definition (vec rose_shape) no_part (each_keys rose_keys (out-Rose c.args.value.now).1.items) [] (list (each_meaning rose_meaning (out-Rose c.args.value.now).1.items)) no_value _ _ _ no_part_planned c.in-Err-serialize_vec_rose.ensures.refused))))
+
+pub serialize_rose-returns-in-Err-serialize_vec_rose-clause-goes_on : goal.serialize_rose-returns-in-Err-serialize_vec_rose-clause-goes_on
+serialize_rose-returns-in-Err-serialize_vec_rose-clause-goes_on g t c = (goes_both _ _ _ c.serialize_part.ensures.goes_on c.serialize_vec_rose.ensures.goes_on)
+
+pub serialize_rose-returns-clause-serialized : goal.serialize_rose-returns-clause-serialized
+serialize_rose-returns-clause-serialized g t c = (written_as (rose_has_keys c.args.value.now) (rose_means c.args.value.now) refl (serialized_record rose_definitions rose_shape rose_part_definitions rose_parts rose_has_parts _ _ _ _ _ (serialized_part no_definition (both rose_definitions no_definition) (leaf (number_kind unsigned w32)) (part (vec rose_shape) no_part) [] ((each_keys rose_keys (out-Rose c.args.value.now).1.items) ++ []) (number (pos (out-Rose c.args.value.now).0)) (value (list (each_meaning rose_meaning (out-Rose c.args.value.now).1.items)) no_value) _ _ _ _ _ c.in-Ok.ensures.serialized (serialized_part rose_definitions no_definition (vec rose_shape) no_part (each_keys rose_keys (out-Rose c.args.value.now).1.items) [] (list (each_meaning rose_meaning (out-Rose c.args.value.now).1.items)) no_value _ _ _ _ _ c.in-Ok-serialize_vec_rose.ensures.serialized (serialized_no_part no_definition _)))))
+
+pub serialize_rose-returns-clause-goes_on : goal.serialize_rose-returns-clause-goes_on
+serialize_rose-returns-clause-goes_on g t c = (goes_both _ _ _ c.serialize_part.ensures.goes_on c.serialize_vec_rose.ensures.goes_on)

@@ -1,0 +1,957 @@
+//! Folders.
+
+/// A folder.
+#[derive(Debug, PartialEq, Drop)]
+#[cycle(dir)]
+pub struct Dir {
+    /// Its name.
+    pub name: String,
+    /// What is in it.
+    pub entries: Vec<Entry>,
+}
+
+/// What is in a folder.
+#[derive(Debug, PartialEq, Drop)]
+#[cycle(dir)]
+pub enum Entry {
+    /// A file, by its length.
+    File(u64),
+    /// A folder.
+    Sub(Box<Dir>),
+}
+
+// Below this line all is written by tools/derive: change what is above it, and run it again.
+
+ghost use Rattle.archive_core.specs.CallOutcomes.{ResolvesAs};
+ghost use Rattle.archive_core.specs.Causes.{IsRefused};
+ghost use Rattle.archive_core.specs.Definitions.{ExplainsConflict, Extended, defines, no_definition};
+ghost use Rattle.archive_core.specs.Error.TheVariants.{OutOfMemory};
+ghost use Rattle.archive_core.specs.Expressions.{shape_of, shapes_in, table_of};
+ghost use Rattle.archive_core.specs.Fields.{field_in};
+ghost use Rattle.archive_core.specs.Payloads.{payload_in};
+ghost use Rattle.archive_core.specs.PlannedOwners.{one_planned};
+ghost use Rattle.archive_core.specs.Plans.{Serialized};
+ghost use Rattle.archive_core.specs.Runs.{EachBelongs, IsRunRefused, SerializedRun, each_flat, each_keys, each_meaning};
+ghost use Rattle.archive_core.specs.SealsWritten.{IsSealOf, SealsPart, seal_tag};
+ghost use Rattle.archive_core.specs.Seen.{IsPartOf, RefusesPart, ShowsValueOf, part_tag, tag_of};
+ghost use Rattle.archive_core.specs.SelfCheck.Laws.{by_schema};
+ghost use Rattle.archive_core.specs.Shape.{boxed, one, part, parts, variant, vec};
+ghost use Rattle.archive_core.specs.Sources.{Read};
+ghost use Rattle.archive_core.specs.Value.{case, no_value, value};
+ghost use Rattle.archive_core.specs.Writing.{ZeroedPlace};
+ghost use Rattle.archive_core.specs.Written.{GoesOn};
+ghost use Rattle.recursive_types.specs.DirShape.{dir_definitions, dir_has_layout, dir_has_parts, dir_is_align, dir_layout, dir_name, dir_no_others, dir_parts, dir_shape, dir_stands_for, entry_definitions, entry_file_parts, entry_has_layout, entry_has_variants, entry_is_align, entry_layout, entry_name, entry_no_others, entry_shape, entry_stands_for, entry_sub_parts};
+ghost use Rattle.std.proofs.Common.{lit≤};
+ghost use Rattle.std.specs.Prelude.{IfErr, IfOk, OnOk, [], length, refl, ℕ, ◌++◌, ◌+◌, ◌≡◌, ◌≤◌};
+
+use archive_core::boxed::{ArchivedBox, BoxResolver, serialize_inner};
+use archive_core::error::Error;
+use archive_core::place::Place;
+use archive_core::primitive::ArchivedU64;
+use archive_core::seal::Seal;
+use archive_core::self_check::BySchema;
+use archive_core::ser::{ResolverAlloc, Writer, serialize_one};
+use archive_core::shape::{Defs, Expr, Pointee};
+use archive_core::string::ArchivedString;
+use archive_core::traits::{
+    Archive, ArchivePointee, ArchiveUnsized, Choice, Deserialize, Entries, Keys, Portable, Record,
+    Serialize, SerializeUnsized,
+};
+use archive_core::vec::{ArchivedVec, VecResolver};
+use archive_core::view::{RawView, Ref};
+use archive_recursive::{
+    BoxAt, VecAt, before_box, before_vec, choice_of, define_name, part_of_record, part_of_variant,
+    read_part, record_of, resolve_named_case_1, resolve_named_record_2, seal_of_field,
+    seal_of_payload, serialize_inner_slice, serialize_part, tag_of_choice, tag_of_view,
+    view_of_field, view_of_payload,
+};
+use std::alloc::{AllocError, Global};
+
+/// An archived `Dir`: 16 bytes at a multiple of 4. It is validated by its schema.
+pub struct ArchivedDir;
+
+type DirParts = (ArchivedString, (ArchivedVec<ArchivedEntry>, ()));
+
+impl ArchivePointee for ArchivedDir {
+    type ArchivedMetadata = ();
+
+    ghost pointee = { one dir_shape };
+
+    ghost definitions = { dir_definitions };
+
+    ghost metadata_length = { λ _. 0 };
+
+    fn pointer_metadata(_metadata: &()) -> usize {
+        0
+    }
+}
+
+// The parts of `Dir`.
+fn dir_expressions(alloc: Global) -> Result<Vec<Expr>, Error>
+    ensures shapes { IfOk result (λ list. shapes_in list.items ≡ dir_parts) }
+    ensures refused { IfErr result (λ e. e ≡ OutOfMemory) }
+{
+    let a0 = <ArchivedString as Portable>::expr(alloc)?;
+    let a1 = Expr::Vec(Box::new(alloc, Expr::Named("ArchivedEntry"))?);
+    Ok(vec![in alloc; a0, a1]?)
+}
+
+// What the name stands for.
+fn dir_expression(alloc: Global) -> Result<Expr, Error>
+    ensures shape { IfOk result (λ e. shape_of e ≡ dir_stands_for) }
+    ensures refused { IfErr result (λ e. e ≡ OutOfMemory) }
+{
+    let parts = dir_expressions(alloc)?;
+    Ok(record_of(parts))
+}
+
+// Adds what the name stands for.
+fn define_dir(alloc: Global, defs: &mut Defs) -> Result<(), Error>
+    ensures added { OnOk result (Extended (table_of defs.old) (defines dir_name dir_stands_for)
+        (table_of defs.new)) }
+    ensures refused { IfErr result (ExplainsConflict (table_of defs.old)
+        (defines dir_name dir_stands_for)) }
+{
+    let stands_for = match dir_expression(alloc) {
+        Ok(stands_for) => stands_for,
+        Err(error) => return Err(error),
+    };
+    define_name("ArchivedDir", stands_for, defs)
+}
+
+impl Portable for ArchivedDir {
+    ghost shape = { dir_shape };
+
+    ghost layout = { dir_layout };
+
+    type Check = BySchema;
+
+    ghost is_one = { refl };
+
+    ghost is_align = { dir_is_align };
+
+    ghost has_layout = { dir_has_layout };
+
+    ghost no_others = { dir_no_others };
+
+    ghost checks = { λ direct. by_schema direct };
+
+    fn size() -> usize {
+        16
+    }
+
+    fn align() -> usize {
+        4
+    }
+
+    fn expr(_alloc: Global) -> Result<Expr, Error> {
+        Ok(Expr::Named("ArchivedDir"))
+    }
+
+    fn define(alloc: Global, defs: &mut Defs) -> Result<(), Error> {
+        define_dir_family(alloc, defs)
+    }
+}
+
+impl Record for ArchivedDir {
+    type Parts = DirParts;
+
+    ghost has_parts = { dir_has_parts };
+
+    ghost holds = { lit≤ tt };
+}
+
+/// What is kept of `Dir` from its serialization until it is resolved.
+#[derive(Drop)]
+pub struct DirResolver {
+    kept: (<String as Archive>::Resolver, (VecResolver, ())),
+}
+
+impl Archive for Dir {
+    ghost use Rattle.recursive_types.specs.DirMeaning.{dir_meaning, dir_flat, dir_keys, dir_belongs, dir_keyed, dir_planned};
+
+    type Archived = ArchivedDir;
+
+    type Resolver = DirResolver;
+
+    ghost meaning = { dir_meaning };
+
+    ghost flat = { dir_flat };
+
+    ghost keys = { dir_keys };
+
+    ghost belongs = { dir_belongs };
+
+    ghost keyed = { dir_keyed };
+
+    ghost planned = { dir_planned };
+
+    fn resolve(
+        &self,
+        resolver: Self::Resolver,
+        place: Place<'_, Self::Archived>,
+    ) -> Result<(), Error>
+        requires zeroed { ZeroedPlace 16 place.pos place.bytes.now }
+        requires same_value { ⟦<Self as Archive>⟧.belongs self.now resolver }
+        ensures { ResolvesAs ⟦<Self::Archived as Portable>⟧ place
+            (⟦<Self as Archive>⟧.flat self.now resolver) result }
+    {
+        let Place { bytes, pos, .. } = place;
+        let DirResolver { kept } = resolver;
+        let h1: VecAt<ArchivedEntry> = VecAt::of(self.entries.len());
+        resolve_named_record_2::<String, VecAt<ArchivedEntry>, ArchivedDir>(
+            &self.name,
+            &h1,
+            kept,
+            Place::new(pos, bytes),
+        )
+    }
+}
+
+// Writes what each of the values owns, in order.
+#[cycle(serialize_dir)]
+fn serialize_each_entry<S: Writer + Keys + ResolverAlloc>(
+    values: &[Entry],
+    serializer: &mut S,
+) -> Result<Vec<<Entry as Archive>::Resolver, S::Alloc>, Error>
+    ensures serialized { IfOk result (λ rs. SerializedRun dir_definitions entry_shape
+        (length values.now) (each_keys ⟦<Entry as Archive>⟧.keys values.now)
+        (each_meaning ⟦<Entry as Archive>⟧.meaning values.now)
+        (each_flat ⟦<Entry as Archive>⟧.flat values.now rs.items) (S.state serializer.old)
+        (S.state serializer.new)) }
+    ensures same_values { IfOk result (λ rs. EachBelongs ⟦<Entry as Archive>⟧.belongs values.now
+        rs.items) }
+    ensures goes_on { GoesOn (S.state serializer.old) (S.state serializer.new) }
+    ensures refused { IfErr result (IsRunRefused dir_definitions entry_shape (length values.now)
+        (each_keys ⟦<Entry as Archive>⟧.keys values.now)
+        (each_meaning ⟦<Entry as Archive>⟧.meaning values.now) (S.state serializer.old)
+        (S.state serializer.new)) }
+{
+    let alloc = serializer.resolver_alloc();
+    let mut resolvers = Vec::with_capacity(alloc, values.len())?;
+    for value in values {
+        let resolver = match serialize_entry(value, serializer) {
+            Ok(resolver) => resolver,
+            Err(error) => return Err(error),
+        };
+        resolvers.push(resolver).map_err(AllocError::from)?;
+    }
+    Ok(resolvers)
+}
+
+// Writes what a vector owns.
+#[cycle(serialize_dir)]
+fn serialize_vec_entry<S: Writer + Keys + ResolverAlloc>(
+    value: &Vec<Entry>,
+    serializer: &mut S,
+) -> Result<VecResolver, Error>
+    ensures serialized { IfOk result (λ r. Serialized dir_definitions (vec entry_shape)
+        (⟦<Vec<Entry> as Archive>⟧.keys value.now) (⟦<Vec<Entry> as Archive>⟧.meaning value.now)
+        (⟦<Vec<Entry> as Archive>⟧.flat value.now r) (S.state serializer.old)
+        (S.state serializer.new)) }
+    ensures same_value { IfOk result (λ r. ⟦<Vec<Entry> as Archive>⟧.belongs value.now r) }
+    ensures goes_on { GoesOn (S.state serializer.old) (S.state serializer.new) }
+    ensures refused { IfErr result (IsRefused dir_definitions (vec entry_shape)
+        (⟦<Vec<Entry> as Archive>⟧.keys value.now) (⟦<Vec<Entry> as Archive>⟧.meaning value.now)
+        (S.state serializer.old) (S.state serializer.new)) }
+{
+    if value.len() > u32::MAX as usize {
+        return Err(Error::LengthTooLarge);
+    }
+    let items = value.as_slice();
+    let kept = match serialize_each_entry(items, serializer) {
+        Ok(kept) => kept,
+        Err(error) => return Err(error),
+    };
+    match serialize_inner_slice(items, kept, serializer) {
+        Ok(at) => Ok(at),
+        Err(error) => Err(error),
+    }
+}
+
+// Writes what a value owns, part by part.
+#[cycle(serialize_dir)]
+fn serialize_dir<S: Writer + Keys + ResolverAlloc>(
+    value: &Dir,
+    serializer: &mut S,
+) -> Result<DirResolver, Error>
+    ensures serialized { IfOk result (λ r. Serialized dir_definitions dir_shape
+        (⟦<Dir as Archive>⟧.keys value.now) (⟦<Dir as Archive>⟧.meaning value.now)
+        (⟦<Dir as Archive>⟧.flat value.now r) (S.state serializer.old) (S.state serializer.new)) }
+    ensures same_value { IfOk result (λ r. ⟦<Dir as Archive>⟧.belongs value.now r) }
+    ensures goes_on { GoesOn (S.state serializer.old) (S.state serializer.new) }
+    ensures refused { IfErr result (IsRefused dir_definitions dir_shape
+        (⟦<Dir as Archive>⟧.keys value.now) (⟦<Dir as Archive>⟧.meaning value.now)
+        (S.state serializer.old) (S.state serializer.new)) }
+{
+    let a0 = match serialize_part(&value.name, serializer) {
+        Ok(a0) => a0,
+        Err(error) => return Err(error),
+    };
+    let a1 = match serialize_vec_entry(&value.entries, serializer) {
+        Ok(a1) => a1,
+        Err(error) => return Err(error),
+    };
+    Ok(DirResolver {
+        kept: (a0, (a1, ())),
+    })
+}
+
+impl<S: Writer + Keys + ResolverAlloc> Serialize<S> for Dir {
+    fn serialize(&self, serializer: &mut S) -> Result<Self::Resolver, Error> {
+        serialize_dir(self, serializer)
+    }
+}
+
+/// As a region of its own: the value itself.
+impl ArchiveUnsized for Dir {
+    ghost use Rattle.recursive_types.specs.contracts.dir.DirArchive.TheImpl.Laws.{keyed-law as keyed_of_dir, planned-law as planned_of_dir};
+
+    type Archived = ArchivedDir;
+
+    ghost source_length = { λ _. 0 };
+
+    ghost meaning = { ⟦<Dir as Archive>⟧.meaning };
+
+    ghost keys = { ⟦<Dir as Archive>⟧.keys };
+
+    ghost keyed = { keyed_of_dir };
+
+    ghost one_length = { λ _ _. refl };
+
+    ghost planned = { λ v. one_planned dir_definitions dir_shape (⟦<Dir as Archive>⟧.keys v)
+        (⟦<Dir as Archive>⟧.meaning v) (planned_of_dir v) };
+
+    fn archived_metadata(&self) -> Result<(), Error> {
+        Ok(())
+    }
+}
+
+impl<S: Writer + Keys + ResolverAlloc> SerializeUnsized<S> for Dir {
+    fn serialize_unsized(&self, serializer: &mut S) -> Result<usize, Error> {
+        serialize_one(self, serializer)
+    }
+}
+
+// Reads a vector back.
+#[cycle(read_dir)]
+fn read_vec_entry<D: Entries>(
+    alloc: Global,
+    part: RawView<'_>,
+    deserializer: &mut D,
+) -> Result<Vec<Entry>, Error>
+    requires { IsPartOf ⟦<ArchivedVec<ArchivedEntry> as ArchivePointee>⟧ part }
+    ensures read { IfOk result (Read ⟦<ArchivedVec<ArchivedEntry> as ArchivePointee>⟧ part D.Entries
+        deserializer ⟦<Vec<Entry> as Archive>⟧) }
+    ensures refused { IfErr result (RefusesPart ⟦<ArchivedVec<ArchivedEntry> as ArchivePointee>⟧
+        part D.Entries deserializer) }
+{
+    let view: Ref<'_, ArchivedVec<ArchivedEntry>> = Ref::at(part);
+    let list = before_vec(view);
+    let mut items = Vec::with_capacity(alloc, list.len())?;
+    for index in 0..list.len() {
+        let item = read_entry(alloc, list.index(index).part(), deserializer)?;
+        items.push_reserved(item);
+    }
+    Ok(items)
+}
+
+// Reads a value back, part by part.
+#[cycle(read_dir)]
+fn read_dir<D: Entries>(
+    alloc: Global,
+    part: RawView<'_>,
+    deserializer: &mut D,
+) -> Result<Dir, Error>
+    requires { IsPartOf ⟦<ArchivedDir as ArchivePointee>⟧ part }
+    ensures read { IfOk result (Read ⟦<ArchivedDir as ArchivePointee>⟧ part D.Entries deserializer
+        ⟦<Dir as Archive>⟧) }
+    ensures refused { IfErr result (RefusesPart ⟦<ArchivedDir as ArchivePointee>⟧ part D.Entries
+        deserializer) }
+{
+    let p0 = part_of_record::<ArchivedDir, ArchivedString>(part, 0, 0);
+    let a0 = read_part::<ArchivedString, String, D>(alloc, p0, deserializer)?;
+    let p1 = part_of_record::<ArchivedDir, ArchivedVec<ArchivedEntry>>(part, 1, 8);
+    let a1 = read_vec_entry(alloc, p1, deserializer)?;
+    Ok(Dir {
+        name: a0,
+        entries: a1,
+    })
+}
+
+impl<D: Entries> Deserialize<Dir, D> for ArchivedDir {
+    fn deserialize_part(
+        alloc: Global,
+        part: RawView<'_>,
+        deserializer: &mut D,
+    ) -> Result<Dir, Error>
+        requires { IsPartOf ⟦<Self as ArchivePointee>⟧ part }
+        ensures read { IfOk result (Read ⟦<Self as ArchivePointee>⟧ part D.Entries deserializer
+            ⟦<Dir as Archive>⟧) }
+        ensures refused { IfErr result (RefusesPart ⟦<Self as ArchivePointee>⟧ part D.Entries
+            deserializer) }
+    {
+        read_dir(alloc, part, deserializer)
+    }
+}
+
+/// The fields of an archived `Dir`, where they lie.
+pub trait DirView<'a> {
+    /// Its name.
+    fn name(self) -> Ref<'a, ArchivedString>;
+
+    /// What is in it.
+    fn entries(self) -> Ref<'a, ArchivedVec<ArchivedEntry>>;
+}
+
+impl<'a> DirView<'a> for Ref<'a, ArchivedDir> {
+    fn name(self) -> Ref<'a, ArchivedString>
+        ensures buffer { result.bytes.now ≡ self.entry.bytes.now }
+        ensures position { result.pos ≡ self.entry.pos + 0 }
+        ensures length { result.len ≡ 0 }
+        ensures shows { ShowsValueOf result self.entry (field_in 0) }
+    {
+        view_of_field::<ArchivedDir, ArchivedString>(self, 0, 0)
+    }
+
+    fn entries(self) -> Ref<'a, ArchivedVec<ArchivedEntry>>
+        ensures buffer { result.bytes.now ≡ self.entry.bytes.now }
+        ensures position { result.pos ≡ self.entry.pos + 8 }
+        ensures length { result.len ≡ 0 }
+        ensures shows { ShowsValueOf result self.entry (field_in 1) }
+    {
+        view_of_field::<ArchivedDir, ArchivedVec<ArchivedEntry>>(self, 1, 8)
+    }
+}
+
+/// The fields of an archived `Dir`, sealed where they lie.
+pub trait DirSeal<'a> {
+    // The seal shows a part of a buffer that was checked.
+    ghost sealed: { Self → Type 0 };
+
+    /// Its name.
+    fn name_mut(self) -> Seal<'a, ArchivedString>
+        requires { sealed self };
+
+    /// What is in it.
+    fn entries_mut(self) -> Seal<'a, ArchivedVec<ArchivedEntry>>
+        requires { sealed self };
+}
+
+impl<'a> DirSeal<'a> for Seal<'a, ArchivedDir> {
+    ghost sealed = { λ s. IsSealOf dir_definitions (one ⟦<ArchivedDir as Portable>⟧.shape) s };
+
+    fn name_mut(self) -> Seal<'a, ArchivedString>
+        requires come_to { IsSealOf dir_definitions (one ⟦<ArchivedDir as Portable>⟧.shape) self }
+        ensures { SealsPart dir_definitions (one ⟦<ArchivedDir as Portable>⟧.shape) no_definition
+            ⟦<ArchivedString as ArchivePointee>⟧.pointee (self.entry.pos + 0) 0 self.entry result }
+    {
+        seal_of_field::<ArchivedDir, ArchivedString>(self, 0, 0)
+    }
+
+    fn entries_mut(self) -> Seal<'a, ArchivedVec<ArchivedEntry>>
+        requires come_to { IsSealOf dir_definitions (one ⟦<ArchivedDir as Portable>⟧.shape) self }
+        ensures { SealsPart dir_definitions (one ⟦<ArchivedDir as Portable>⟧.shape)
+            ⟦<ArchivedEntry as ArchivePointee>⟧.definitions
+            ⟦<ArchivedVec<ArchivedEntry> as ArchivePointee>⟧.pointee (self.entry.pos + 8) 0
+            self.entry result }
+    {
+        seal_of_field::<ArchivedDir, ArchivedVec<ArchivedEntry>>(self, 1, 8)
+    }
+}
+
+/// An archived `Entry`: 16 bytes at a multiple of 8. It is validated by its schema.
+pub struct ArchivedEntry;
+
+type EntryFileParts = (ArchivedU64, ());
+
+type EntrySubParts = (ArchivedBox<ArchivedDir>, ());
+
+type EntryVariants = (EntryFileParts, (EntrySubParts, ()));
+
+impl ArchivePointee for ArchivedEntry {
+    type ArchivedMetadata = ();
+
+    ghost pointee = { one entry_shape };
+
+    ghost definitions = { entry_definitions };
+
+    ghost metadata_length = { λ _. 0 };
+
+    fn pointer_metadata(_metadata: &()) -> usize {
+        0
+    }
+}
+
+// The parts of `File`.
+fn entry_file_expressions(alloc: Global) -> Result<Vec<Expr>, Error>
+    ensures shapes { IfOk result (λ list. shapes_in list.items ≡ entry_file_parts) }
+    ensures refused { IfErr result (λ e. e ≡ OutOfMemory) }
+{
+    let a0 = <ArchivedU64 as Portable>::expr(alloc)?;
+    Ok(vec![in alloc; a0]?)
+}
+
+// The parts of `Sub`.
+fn entry_sub_expressions(alloc: Global) -> Result<Vec<Expr>, Error>
+    ensures shapes { IfOk result (λ list. shapes_in list.items ≡ entry_sub_parts) }
+    ensures refused { IfErr result (λ e. e ≡ OutOfMemory) }
+{
+    let a0 = Expr::Box(Box::new(alloc, Pointee::One(Expr::Named("ArchivedDir")))?);
+    Ok(vec![in alloc; a0]?)
+}
+
+// What the name stands for.
+fn entry_expression(alloc: Global) -> Result<Expr, Error>
+    ensures shape { IfOk result (λ e. shape_of e ≡ entry_stands_for) }
+    ensures refused { IfErr result (λ e. e ≡ OutOfMemory) }
+{
+    let v0 = entry_file_expressions(alloc)?;
+    let v1 = entry_sub_expressions(alloc)?;
+    let variants = vec![in alloc; v0, v1]?;
+    Ok(choice_of("ArchivedEntry", variants))
+}
+
+// Adds what the name stands for.
+fn define_entry(alloc: Global, defs: &mut Defs) -> Result<(), Error>
+    ensures added { OnOk result (Extended (table_of defs.old) (defines entry_name entry_stands_for)
+        (table_of defs.new)) }
+    ensures refused { IfErr result (ExplainsConflict (table_of defs.old)
+        (defines entry_name entry_stands_for)) }
+{
+    let stands_for = match entry_expression(alloc) {
+        Ok(stands_for) => stands_for,
+        Err(error) => return Err(error),
+    };
+    define_name("ArchivedEntry", stands_for, defs)
+}
+
+// Adds what the names stand for.
+#[tactic(auto, using(archive_check::proofs::format::AddedDefinitions::joining))]
+fn define_dir_family(alloc: Global, defs: &mut Defs) -> Result<(), Error>
+    ensures added { OnOk result (Extended (table_of defs.old) dir_definitions (table_of defs.new)) }
+    ensures refused { IfErr result (ExplainsConflict (table_of defs.old) dir_definitions) }
+{
+    define_dir(alloc, defs)?;
+    define_entry(alloc, defs)
+}
+
+impl Portable for ArchivedEntry {
+    ghost shape = { entry_shape };
+
+    ghost layout = { entry_layout };
+
+    type Check = BySchema;
+
+    ghost is_one = { refl };
+
+    ghost is_align = { entry_is_align };
+
+    ghost has_layout = { entry_has_layout };
+
+    ghost no_others = { entry_no_others };
+
+    ghost checks = { λ direct. by_schema direct };
+
+    fn size() -> usize {
+        16
+    }
+
+    fn align() -> usize {
+        8
+    }
+
+    fn expr(_alloc: Global) -> Result<Expr, Error> {
+        Ok(Expr::Named("ArchivedEntry"))
+    }
+
+    fn define(alloc: Global, defs: &mut Defs) -> Result<(), Error> {
+        define_dir_family(alloc, defs)
+    }
+}
+
+impl Choice for ArchivedEntry {
+    type Variants = EntryVariants;
+
+    ghost name = { entry_name };
+
+    ghost has_variants = { entry_has_variants };
+
+    ghost holds = { lit≤ tt };
+}
+
+/// What is kept of `Entry` from its serialization until it is resolved.
+#[derive(Drop)]
+pub enum EntryResolver {
+    /// Of `File`.
+    File((<u64 as Archive>::Resolver, ())),
+    /// Of `Sub`.
+    Sub((BoxResolver, ())),
+}
+
+impl Archive for Entry {
+    ghost use Rattle.recursive_types.specs.DirMeaning.{entry_meaning, entry_flat, entry_keys, entry_belongs, entry_keyed, entry_planned};
+
+    type Archived = ArchivedEntry;
+
+    type Resolver = EntryResolver;
+
+    ghost meaning = { entry_meaning };
+
+    ghost flat = { entry_flat };
+
+    ghost keys = { entry_keys };
+
+    ghost belongs = { entry_belongs };
+
+    ghost keyed = { entry_keyed };
+
+    ghost planned = { entry_planned };
+
+    fn resolve(
+        &self,
+        resolver: Self::Resolver,
+        place: Place<'_, Self::Archived>,
+    ) -> Result<(), Error>
+        requires zeroed { ZeroedPlace 16 place.pos place.bytes.now }
+        requires same_value { ⟦<Self as Archive>⟧.belongs self.now resolver }
+        ensures { ResolvesAs ⟦<Self::Archived as Portable>⟧ place
+            (⟦<Self as Archive>⟧.flat self.now resolver) result }
+    {
+        let Place { bytes, pos, .. } = place;
+        match self {
+            Entry::File(a0) => {
+                let EntryResolver::File(kept) = resolver else {
+                    unreachable!();
+                };
+                resolve_named_case_1::<u64, ArchivedEntry>(0, a0, kept, Place::new(pos, bytes))
+            }
+            Entry::Sub(_a0) => {
+                let EntryResolver::Sub(kept) = resolver else {
+                    unreachable!();
+                };
+                let h0: BoxAt<ArchivedDir> = BoxAt::new();
+                resolve_named_case_1::<BoxAt<ArchivedDir>, ArchivedEntry>(
+                    1,
+                    &h0,
+                    kept,
+                    Place::new(pos, bytes),
+                )
+            }
+        }
+    }
+}
+
+// Writes what a box owns.
+#[cycle(serialize_dir)]
+fn serialize_box_dir<S: Writer + Keys + ResolverAlloc>(
+    value: &Box<Dir>,
+    serializer: &mut S,
+) -> Result<BoxResolver, Error>
+    ensures serialized { IfOk result (λ r. Serialized entry_definitions (boxed (one dir_shape))
+        (⟦<Box<Dir> as Archive>⟧.keys value.now) (⟦<Box<Dir> as Archive>⟧.meaning value.now)
+        (⟦<Box<Dir> as Archive>⟧.flat value.now r) (S.state serializer.old)
+        (S.state serializer.new)) }
+    ensures same_value { IfOk result (λ r. ⟦<Box<Dir> as Archive>⟧.belongs value.now r) }
+    ensures goes_on { GoesOn (S.state serializer.old) (S.state serializer.new) }
+    ensures refused { IfErr result (IsRefused entry_definitions (boxed (one dir_shape))
+        (⟦<Box<Dir> as Archive>⟧.keys value.now) (⟦<Box<Dir> as Archive>⟧.meaning value.now)
+        (S.state serializer.old) (S.state serializer.new)) }
+{
+    let inner = &**value;
+    let kept = match serialize_dir(inner, serializer) {
+        Ok(kept) => kept,
+        Err(error) => return Err(error),
+    };
+    match serialize_inner(inner, kept, serializer) {
+        Ok(at) => Ok(at),
+        Err(error) => Err(error),
+    }
+}
+
+// Writes what the parts of `File` own, in order.
+fn serialize_entry_file<S: Writer + Keys + ResolverAlloc>(
+    a0: &u64,
+    serializer: &mut S,
+) -> Result<(<u64 as Archive>::Resolver, ()), Error>
+    ensures serialized { IfOk result (λ r. Serialized entry_definitions entry_shape
+        (⟦<u64 as Archive>⟧.keys a0.now ++ []) (case 0 (value (⟦<u64 as Archive>⟧.meaning a0.now)
+        no_value)) (case 0 (value (⟦<u64 as Archive>⟧.flat a0.now r.0) no_value))
+        (S.state serializer.old) (S.state serializer.new)) }
+    ensures same_values { IfOk result (λ r. ⟦<u64 as Archive>⟧.belongs a0.now r.0 × Unit {0}) }
+    ensures goes_on { GoesOn (S.state serializer.old) (S.state serializer.new) }
+    ensures refused { IfErr result (IsRefused entry_definitions entry_shape
+        (⟦<u64 as Archive>⟧.keys a0.now ++ []) (case 0 (value (⟦<u64 as Archive>⟧.meaning a0.now)
+        no_value)) (S.state serializer.old) (S.state serializer.new)) }
+{
+    let a0 = match serialize_part(a0, serializer) {
+        Ok(a0) => a0,
+        Err(error) => return Err(error),
+    };
+    Ok((a0, ()))
+}
+
+// Writes what the parts of `Sub` own, in order.
+#[cycle(serialize_dir)]
+fn serialize_entry_sub<S: Writer + Keys + ResolverAlloc>(
+    a0: &Box<Dir>,
+    serializer: &mut S,
+) -> Result<(BoxResolver, ()), Error>
+    ensures serialized { IfOk result (λ r. Serialized entry_definitions entry_shape
+        (⟦<Box<Dir> as Archive>⟧.keys a0.now ++ []) (case 1
+        (value (⟦<Box<Dir> as Archive>⟧.meaning a0.now) no_value))
+        (case 1 (value (⟦<Box<Dir> as Archive>⟧.flat a0.now r.0) no_value)) (S.state serializer.old)
+        (S.state serializer.new)) }
+    ensures same_values { IfOk result (λ r. ⟦<Box<Dir> as Archive>⟧.belongs a0.now r.0 × Unit {0}) }
+    ensures goes_on { GoesOn (S.state serializer.old) (S.state serializer.new) }
+    ensures refused { IfErr result (IsRefused entry_definitions entry_shape
+        (⟦<Box<Dir> as Archive>⟧.keys a0.now ++ []) (case 1
+        (value (⟦<Box<Dir> as Archive>⟧.meaning a0.now) no_value)) (S.state serializer.old)
+        (S.state serializer.new)) }
+{
+    let a0 = match serialize_box_dir(a0, serializer) {
+        Ok(a0) => a0,
+        Err(error) => return Err(error),
+    };
+    Ok((a0, ()))
+}
+
+// Writes what a value owns.
+#[cycle(serialize_dir)]
+fn serialize_entry<S: Writer + Keys + ResolverAlloc>(
+    value: &Entry,
+    serializer: &mut S,
+) -> Result<EntryResolver, Error>
+    ensures serialized { IfOk result (λ r. Serialized entry_definitions entry_shape
+        (⟦<Entry as Archive>⟧.keys value.now) (⟦<Entry as Archive>⟧.meaning value.now)
+        (⟦<Entry as Archive>⟧.flat value.now r) (S.state serializer.old) (S.state serializer.new)) }
+    ensures same_value { IfOk result (λ r. ⟦<Entry as Archive>⟧.belongs value.now r) }
+    ensures goes_on { GoesOn (S.state serializer.old) (S.state serializer.new) }
+    ensures refused { IfErr result (IsRefused entry_definitions entry_shape
+        (⟦<Entry as Archive>⟧.keys value.now) (⟦<Entry as Archive>⟧.meaning value.now)
+        (S.state serializer.old) (S.state serializer.new)) }
+{
+    match value {
+        Entry::File(a0) => match serialize_entry_file(a0, serializer) {
+            Ok(kept) => Ok(EntryResolver::File(kept)),
+            Err(error) => Err(error),
+        },
+        Entry::Sub(a0) => match serialize_entry_sub(a0, serializer) {
+            Ok(kept) => Ok(EntryResolver::Sub(kept)),
+            Err(error) => Err(error),
+        },
+    }
+}
+
+impl<S: Writer + Keys + ResolverAlloc> Serialize<S> for Entry {
+    fn serialize(&self, serializer: &mut S) -> Result<Self::Resolver, Error> {
+        serialize_entry(self, serializer)
+    }
+}
+
+/// As a region of its own: the value itself.
+impl ArchiveUnsized for Entry {
+    ghost use Rattle.recursive_types.specs.contracts.dir.EntryArchive.TheImpl.Laws.{keyed-law as keyed_of_entry, planned-law as planned_of_entry};
+
+    type Archived = ArchivedEntry;
+
+    ghost source_length = { λ _. 0 };
+
+    ghost meaning = { ⟦<Entry as Archive>⟧.meaning };
+
+    ghost keys = { ⟦<Entry as Archive>⟧.keys };
+
+    ghost keyed = { keyed_of_entry };
+
+    ghost one_length = { λ _ _. refl };
+
+    ghost planned = { λ v. one_planned entry_definitions entry_shape (⟦<Entry as Archive>⟧.keys v)
+        (⟦<Entry as Archive>⟧.meaning v) (planned_of_entry v) };
+
+    fn archived_metadata(&self) -> Result<(), Error> {
+        Ok(())
+    }
+}
+
+impl<S: Writer + Keys + ResolverAlloc> SerializeUnsized<S> for Entry {
+    fn serialize_unsized(&self, serializer: &mut S) -> Result<usize, Error> {
+        serialize_one(self, serializer)
+    }
+}
+
+// Reads a box back.
+#[cycle(read_dir)]
+fn read_box_dir<D: Entries>(
+    alloc: Global,
+    part: RawView<'_>,
+    deserializer: &mut D,
+) -> Result<Box<Dir>, Error>
+    requires { IsPartOf ⟦<ArchivedBox<ArchivedDir> as ArchivePointee>⟧ part }
+    ensures read { IfOk result (Read ⟦<ArchivedBox<ArchivedDir> as ArchivePointee>⟧ part D.Entries
+        deserializer ⟦<Box<Dir> as Archive>⟧) }
+    ensures refused { IfErr result (RefusesPart ⟦<ArchivedBox<ArchivedDir> as ArchivePointee>⟧ part
+        D.Entries deserializer) }
+{
+    let view: Ref<'_, ArchivedBox<ArchivedDir>> = Ref::at(part);
+    let value = read_dir(alloc, before_box(view).part(), deserializer)?;
+    let whole = Box::new(alloc, value)?;
+    Ok(whole)
+}
+
+// Reads `File` back.
+fn read_entry_file<D: Entries>(
+    alloc: Global,
+    part: RawView<'_>,
+    deserializer: &mut D,
+) -> Result<Entry, Error>
+    requires viewed { IsPartOf ⟦<ArchivedEntry as ArchivePointee>⟧ part }
+    requires tag { part_tag part ≡ 0 }
+    ensures read { IfOk result (Read ⟦<ArchivedEntry as ArchivePointee>⟧ part D.Entries deserializer
+        ⟦<Entry as Archive>⟧) }
+    ensures refused { IfErr result (RefusesPart ⟦<ArchivedEntry as ArchivePointee>⟧ part D.Entries
+        deserializer) }
+{
+    let p0 = part_of_variant::<ArchivedEntry, ArchivedU64>(part, 0, 0, 8);
+    let a0 = read_part::<ArchivedU64, u64, D>(alloc, p0, deserializer)?;
+    Ok(Entry::File(a0))
+}
+
+// Reads `Sub` back.
+#[cycle(read_dir)]
+fn read_entry_sub<D: Entries>(
+    alloc: Global,
+    part: RawView<'_>,
+    deserializer: &mut D,
+) -> Result<Entry, Error>
+    requires viewed { IsPartOf ⟦<ArchivedEntry as ArchivePointee>⟧ part }
+    requires tag { part_tag part ≡ 1 }
+    ensures read { IfOk result (Read ⟦<ArchivedEntry as ArchivePointee>⟧ part D.Entries deserializer
+        ⟦<Entry as Archive>⟧) }
+    ensures refused { IfErr result (RefusesPart ⟦<ArchivedEntry as ArchivePointee>⟧ part D.Entries
+        deserializer) }
+{
+    let p0 = part_of_variant::<ArchivedEntry, ArchivedBox<ArchivedDir>>(part, 1, 0, 4);
+    let a0 = read_box_dir(alloc, p0, deserializer)?;
+    Ok(Entry::Sub(a0))
+}
+
+// Reads a value back.
+#[cycle(read_dir)]
+fn read_entry<D: Entries>(
+    alloc: Global,
+    part: RawView<'_>,
+    deserializer: &mut D,
+) -> Result<Entry, Error>
+    requires { IsPartOf ⟦<ArchivedEntry as ArchivePointee>⟧ part }
+    ensures read { IfOk result (Read ⟦<ArchivedEntry as ArchivePointee>⟧ part D.Entries deserializer
+        ⟦<Entry as Archive>⟧) }
+    ensures refused { IfErr result (RefusesPart ⟦<ArchivedEntry as ArchivePointee>⟧ part D.Entries
+        deserializer) }
+{
+    match tag_of_choice::<ArchivedEntry>(part) {
+        0 => read_entry_file(alloc, part, deserializer),
+        _ => read_entry_sub(alloc, part, deserializer),
+    }
+}
+
+impl<D: Entries> Deserialize<Entry, D> for ArchivedEntry {
+    fn deserialize_part(
+        alloc: Global,
+        part: RawView<'_>,
+        deserializer: &mut D,
+    ) -> Result<Entry, Error>
+        requires { IsPartOf ⟦<Self as ArchivePointee>⟧ part }
+        ensures read { IfOk result (Read ⟦<Self as ArchivePointee>⟧ part D.Entries deserializer
+            ⟦<Entry as Archive>⟧) }
+        ensures refused { IfErr result (RefusesPart ⟦<Self as ArchivePointee>⟧ part D.Entries
+            deserializer) }
+    {
+        read_entry(alloc, part, deserializer)
+    }
+}
+
+/// What a view of an archived `Entry` shows, by its tag.
+#[derive(Drop)]
+pub enum ViewOfEntry<'a> {
+    /// A file, by its length.
+    File(Ref<'a, ArchivedU64>),
+    /// A folder.
+    Sub(Ref<'a, ArchivedBox<ArchivedDir>>),
+}
+
+/// The variant of an archived `Entry`, where it lies.
+pub trait EntryView<'a> {
+    /// The variant that the tag names, with views of its fields.
+    fn variant(self) -> ViewOfEntry<'a>;
+}
+
+impl<'a> EntryView<'a> for Ref<'a, ArchivedEntry> {
+    ghost use Rattle.recursive_types.specs.declared.dir.ViewOfEntry.TheVariants.{File as EntryFileShown, Sub as EntrySubShown};
+
+    fn variant(self) -> ViewOfEntry<'a>
+        ensures shows { elim result [
+          | EntryFileShown a0 ↦ (tag_of self.entry ≡ 0) × (a0.bytes.now ≡ self.entry.bytes.now)
+              × (a0.pos ≡ self.entry.pos + 8) × (a0.len ≡ 0)
+              × ShowsValueOf a0 self.entry (payload_in 0)
+          | EntrySubShown a0 ↦ (tag_of self.entry ≡ 1) × (a0.bytes.now ≡ self.entry.bytes.now)
+              × (a0.pos ≡ self.entry.pos + 4) × (a0.len ≡ 0)
+              × ShowsValueOf a0 self.entry (payload_in 0)
+        ] }
+    {
+        match tag_of_view(self) {
+            0 => ViewOfEntry::File(view_of_payload::<ArchivedEntry, ArchivedU64>(self, 0, 0, 8)),
+            _ => {
+                let a0 = view_of_payload::<ArchivedEntry, ArchivedBox<ArchivedDir>>(self, 1, 0, 4);
+                ViewOfEntry::Sub(a0)
+            }
+        }
+    }
+}
+
+/// The fields of an archived `Entry`, sealed where they lie. Each call asks that the tag is its variant's.
+pub trait EntrySeal<'a> {
+    // The seal shows a part of a buffer that was checked.
+    ghost sealed: { Self → Type 0 };
+
+    // The tag that it shows.
+    ghost tag: { Self → ℕ };
+
+    /// The field `0` of `File`.
+    fn file_0_mut(self) -> Seal<'a, ArchivedU64>
+        requires come_to { sealed self }
+        requires tag { tag self ≡ 0 };
+
+    /// The field `0` of `Sub`.
+    fn sub_0_mut(self) -> Seal<'a, ArchivedBox<ArchivedDir>>
+        requires come_to { sealed self }
+        requires tag { tag self ≡ 1 };
+}
+
+impl<'a> EntrySeal<'a> for Seal<'a, ArchivedEntry> {
+    ghost sealed = { λ s. IsSealOf entry_definitions (one ⟦<ArchivedEntry as Portable>⟧.shape) s };
+
+    ghost tag = { λ s. seal_tag s };
+
+    fn file_0_mut(self) -> Seal<'a, ArchivedU64>
+        requires come_to { IsSealOf entry_definitions (one ⟦<ArchivedEntry as Portable>⟧.shape)
+            self }
+        requires tag { seal_tag self ≡ 0 }
+        ensures { SealsPart entry_definitions (one ⟦<ArchivedEntry as Portable>⟧.shape)
+            no_definition ⟦<ArchivedU64 as ArchivePointee>⟧.pointee (self.entry.pos + 8) 0
+            self.entry result }
+    {
+        seal_of_payload::<ArchivedEntry, ArchivedU64>(self, 0, 0, 8)
+    }
+
+    fn sub_0_mut(self) -> Seal<'a, ArchivedBox<ArchivedDir>>
+        requires come_to { IsSealOf entry_definitions (one ⟦<ArchivedEntry as Portable>⟧.shape)
+            self }
+        requires tag { seal_tag self ≡ 1 }
+        ensures { SealsPart entry_definitions (one ⟦<ArchivedEntry as Portable>⟧.shape)
+            ⟦<ArchivedDir as ArchivePointee>⟧.definitions
+            ⟦<ArchivedBox<ArchivedDir> as ArchivePointee>⟧.pointee (self.entry.pos + 4) 0 self.entry
+            result }
+    {
+        seal_of_payload::<ArchivedEntry, ArchivedBox<ArchivedDir>>(self, 1, 0, 4)
+    }
+}

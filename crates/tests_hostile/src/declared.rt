@@ -1,0 +1,76 @@
+// Declarations from which tools/derive writes types: as texts they have the schemas of those types.
+
+use crate::assertions::assert_same;
+use archive_core::traits::Portable;
+use archive_inspect::explain::explain_as;
+use archive_inspect::form::Form;
+use archive_inspect::text::parse;
+use derived_types::event::ArchivedEvent;
+use derived_types::track::ArchivedRuns;
+use recursive_types::expr::ArchivedExpr;
+use std::alloc::Global;
+use std::process::Abort;
+use std::test::Fail;
+
+// The text has the root and the definitions of the type.
+fn assert_declared<T: Portable>(rt: &impl Abort, alloc: Global, text: &str) {
+    let written = parse(alloc, text).expect(rt, "a schema");
+    let derived = Form::of::<T>(alloc).expect(rt, "a form");
+    let (written, derived) = (written.schema(), derived.schema());
+    assert!(rt; written.root() == derived.root());
+    assert!(rt; written.definitions() == derived.definitions());
+}
+
+const EVENT: &str = "/// What happens.
+#[derive(Debug, PartialEq, Drop)]
+pub enum Event {
+    /// The end.
+    Quit,
+    /// A key.
+    Key(char),
+    /// A text.
+    Text(String),
+    /// A step.
+    Move {
+        /// To the right.
+        x: i32,
+        /// Up.
+        y: i32,
+    },
+    /// Numbers.
+    Batch(Vec<u32>),
+}";
+
+#[test]
+fn an_enum(rt: HostRuntime) {
+    assert_declared::<ArchivedEvent>(&rt, rt.alloc(), EVENT);
+}
+
+#[test]
+fn a_type_is_explained(rt: HostRuntime) -> Result<(), Fail> {
+    let alloc = rt.alloc();
+    let explanation = explain_as::<ArchivedEvent>(alloc, b"\x09\0\0\0\0\0\0\0\0\0\0\0")?;
+    let line = match explanation {
+        Some(explanation) => format!(in alloc; "{explanation}")?,
+        None => String::new(alloc),
+    };
+    let wanted = "at the root, byte 0: the tag is 9, and ArchivedEvent has 5 variants";
+    assert_same(&rt, "a tag", line.as_str(), wanted);
+    assert!(&rt; explain_as::<ArchivedEvent>(alloc, &[0; 12])?.is_none());
+    Ok(())
+}
+
+const RUNS: &str = "pub struct Spot { pub right: u16, pub up: i16 }
+pub struct Line { pub from: Spot, pub to: Spot }
+pub struct Runs { pub lines: SharedSlice<Line>, pub text: SharedStr, pub weak: WeakShared<Line> }";
+
+#[test]
+fn a_struct_that_shares(rt: HostRuntime) {
+    assert_declared::<ArchivedRuns>(&rt, rt.alloc(), RUNS);
+}
+
+#[test]
+fn a_recursive_enum(rt: HostRuntime) {
+    let text = "pub enum Expr { Num(i64), Negated(Box<Expr>), Call(String, Vec<Expr>) }";
+    assert_declared::<ArchivedExpr>(&rt, rt.alloc(), text);
+}
