@@ -2,6 +2,7 @@ pub mod NamedVariants
 pub mod Nests
 pub mod ComePart
 pub mod SealedParts
+pub mod SealedMaps
 pub mod StandingParts
 pub mod SealedLeaves
 pub mod SealsTogether

@@ -10,6 +10,7 @@ mod choices;
 mod fields;
 mod items;
 mod leaves;
+mod maps;
 mod parts;
 mod results;
 mod text;

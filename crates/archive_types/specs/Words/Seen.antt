@@ -5,7 +5,7 @@ use denote.Ref.{MutBor}
 use Rattle.std.specs.declared.cmp.Ordering.{Ordering}
 use Rattle.std.specs.Prelude.{Bool, ◌≡◌, ◌+◌, ◌*◌, ◌-◌, ℕ, List, Option, Result, slice_index}
 use Rattle.archive_check.specs.Layout.{Layout}
-use Rattle.archive_check.specs.Shape.{Pointee, text}
+use Rattle.archive_check.specs.Shape.{Pointee}
 use Rattle.archive_check.specs.LittleEndian.{little_number}
 use Rattle.archive_check.specs.Reads.{bytes_at, length_at}
 use Rattle.archive_check.specs.Readable.{target_from, string_text}
@@ -131,9 +131,6 @@ ViewComparesTo {g = g} v = ComparesTo g.definitions g.pointee v.bytes.now v.pos 
 abbrev pub ViewEquals : {T M : Type 0} {g : ArchivePointee.Ghosts T M} → Ref T M g → Value → Bool → Type 0
 ViewEquals {g = g} v = EqualsTo g.definitions g.pointee v.bytes.now v.pos v.len
 
--- the n bytes at p are the text of the string that a view shows; wherever that is a part of an archive, so is the text there
+-- the n bytes at p are the text of the string that a view shows
 abbrev pub IsTextAt : {T M : Type 0} {g : ArchivePointee.Ghosts T M} → Ref T M g → ℕ → ℕ → Type 0
 IsTextAt v p n = bytes_at v.bytes.now p n ≡ string_text v.bytes.now v.pos
-
-abbrev pub TextStandsBeside : {T M : Type 0} {g : ArchivePointee.Ghosts T M} → Ref T M g → ℕ → ℕ → Type 0
-TextStandsBeside {g = g} v p n = StandsWith g.definitions v.bytes.now (view v.pos g.pointee v.len) (view p text n)
