@@ -71,6 +71,6 @@ fn a_struct_that_shares(rt: HostRuntime) {
 
 #[test]
 fn a_recursive_enum(rt: HostRuntime) {
-    let text = "pub enum Expr { Num(i64), Negated(Box<Expr>), Call(String, Vec<Expr>) }";
+    let text = "pub enum Expr { Num(i64), Add(Box<Expr>, Box<Expr>), Call(String, Vec<Expr>) }";
     assert_declared::<ArchivedExpr>(&rt, rt.alloc(), text);
 }
