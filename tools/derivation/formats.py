@@ -544,7 +544,7 @@ class Formats:
             p, q, key = self.source(a), self.source(b), f"⟦<{self.archived(a)} as MapKey>⟧"
             return (
                 f"(map_of_pairs_planned {p}.keys {q}.keys {p}.meaning {q}.meaning {self.definitions(a)} {self.definitions(b)}"
-                f" {self.shape(a)} {self.shape(b)} {self.function('planned', a)} {self.function('planned', b)} {key}.key {key}.is_key {x}.entries)"
+                f" {self.shape(a)} {self.shape(b)} {self.function('planned', a)} {self.function('planned', b)} {key}.key refl {x}.entries)"
             )
         item = type.args[0]
         q, X = self.source(item), self.shape(item)

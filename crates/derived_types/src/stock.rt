@@ -207,9 +207,8 @@ impl Archive for Stock {
         ⟦<String as Archive>⟧.meaning ⟦<u32 as Archive>⟧.meaning no_definition no_definition
         ⟦<ArchivedString as Portable>⟧.shape ⟦<ArchivedU32 as Portable>⟧.shape
         (λ x. string_planned no_definition [] (string_bytes x))
-        (λ x. leaf_planned no_definition _ _ [] _ refl) ⟦<ArchivedString as MapKey>⟧.key
-        ⟦<ArchivedString as MapKey>⟧.is_key v.prices.entries)
-        (part_planned (both no_definition (both no_definition no_definition))
+        (λ x. leaf_planned no_definition _ _ [] _ refl) ⟦<ArchivedString as MapKey>⟧.key refl
+        v.prices.entries) (part_planned (both no_definition (both no_definition no_definition))
         ⟦<ArchivedSortedMap<ArchivedU16, ArchivedSpot> as Portable>⟧.shape
         (⟦<BTreeMap<u16, Spot> as Archive>⟧.keys v.places)
         (⟦<BTreeMap<u16, Spot> as Archive>⟧.meaning v.places)
@@ -217,8 +216,7 @@ impl Archive for Stock {
         ⟦<u16 as Archive>⟧.meaning ⟦<Spot as Archive>⟧.meaning no_definition no_definition
         ⟦<ArchivedU16 as Portable>⟧.shape ⟦<ArchivedSpot as Portable>⟧.shape
         (λ x. leaf_planned no_definition _ _ [] _ refl) planned_of_spot
-        ⟦<ArchivedU16 as MapKey>⟧.key ⟦<ArchivedU16 as MapKey>⟧.is_key v.places.entries)
-        no_part_planned)) refl };
+        ⟦<ArchivedU16 as MapKey>⟧.key refl v.places.entries) no_part_planned)) refl };
 
     fn resolve(
         &self,
