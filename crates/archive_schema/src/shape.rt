@@ -16,7 +16,9 @@ use crate::plan::names::definitions_of;
 use crate::plan::shallow::shallow_nodes;
 use archive_check::context::{ArchiveContext, SharedContext};
 pub use archive_check::format::error::Error;
-pub use archive_check::format::expr::{Def, Defs, Expr, FlavorInfo, IntegerKind, Key, Kind, Pointee};
+pub use archive_check::format::expr::{
+    Def, Defs, Expr, FlavorInfo, IntegerKind, Key, Kind, Pointee,
+};
 pub use archive_check::format::layout::Layout;
 use archive_check::format::traits::Portable;
 use std::alloc::Global;
