@@ -2,9 +2,10 @@
 
 ghost use Rattle.std.specs.Prelude.{◌≡◌, ℕ, min, IfOk, refl};
 ghost use Rattle.std.proofs.Common.{ap, inl, inr};
-ghost use Rattle.archive_check.specs.Shape.{Name, Key as KeyOf, Shape, leaf_key, str_key, number, unit, one, run, array, boxed, vec, sorted_map, shared, weak, named};
+ghost use Rattle.std.specs.Int.{w32};
+ghost use Rattle.archive_check.specs.Shape.{Name, Key as KeyOf, Shape, leaf_key, str_key, signed, unsigned, number, unit, one, run, array, boxed, vec, sorted_map, shared, weak, named};
 ghost use Rattle.archive_check.specs.Layout.{Layout as LayoutOf, Layouts, layout as layout_of};
-ghost use Rattle.archive_check.specs.Expressions.{integer_of, key_of, pointee_of, shape_of};
+ghost use Rattle.archive_check.specs.Expressions.{key_of, pointee_of, shape_of};
 ghost use Rattle.archive_check.specs.Defined.{Mentions, mentions_array, mentions_boxed, mentions_vec, mentions_map, mentions_shared, mentions_weak, mentions_one, mentions_run};
 ghost use Rattle.archive_check.specs.Definitions.{no_definition, defines, IsAlign};
 ghost use Rattle.archive_check.specs.Members.LeafLayout.{no_definition_reached};
@@ -349,7 +350,7 @@ impl<K: MapKeys> Around for InMap<K> {
 pub(crate) struct I32Keys;
 
 impl MapKeys for I32Keys {
-    ghost key = { leaf_key (number (integer_of IntegerKind.I32).0 (integer_of IntegerKind.I32).1) };
+    ghost key = { leaf_key (number signed w32) };
 
     fn key() -> Key {
         Key::Leaf(Kind::Number(IntegerKind::I32))
@@ -360,7 +361,7 @@ impl MapKeys for I32Keys {
 pub(crate) struct U32Keys;
 
 impl MapKeys for U32Keys {
-    ghost key = { leaf_key (number (integer_of IntegerKind.U32).0 (integer_of IntegerKind.U32).1) };
+    ghost key = { leaf_key (number unsigned w32) };
 
     fn key() -> Key {
         Key::Leaf(Kind::Number(IntegerKind::U32))
