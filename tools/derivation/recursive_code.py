@@ -43,7 +43,7 @@ def bring(it):
     f.use("archive_core::traits", "Archive", "ArchivePointee", "ArchiveUnsized", "Choice", "Deserialize", "Entries", "Keys", "Portable", "Record", "Serialize", "SerializeUnsized")
     f.use("archive_core::view", "RawView", "Ref")
     f.use("std::alloc", "AllocError", "Global")
-    f.ghost("std.specs.Prelude", "◌≡◌", "◌++◌", "◌+◌", "◌≤◌", "[]", "refl", "length", "Some", "IfOk", "IfErr", "OnOk", "codes")
+    f.ghost("std.specs.Prelude", "◌≡◌", "◌++◌", "◌+◌", "◌≤◌", "[]", "refl", "length", "Some", "IfOk", "IfErr", "OnOk", "⊤", "codes")
     f.ghost("std.proofs.Common", "lit≤")
     f.ghost("SelfCheck.Laws", "by_schema")
     f.ghost("Expressions", "shape_of", "shapes_in", "table_of")

@@ -140,6 +140,19 @@ def numbered(words):
     return out
 
 
+def in_arms(made):
+    """Names of calls in the arms of a match, each with its arm: where the name is there already the arm is behind it, and then a number."""
+    out = []
+    for arm, word in made:
+        name = word if word not in out else f"{word}-in-{arm}"
+        number = 2
+        while name in out:
+            name = f"{word}-in-{arm}-{number}"
+            number += 1
+        out.append(name)
+    return out
+
+
 def residual(names, i):
     return "from_residual" if i == 0 else f"from_residual-in_err-{names[i]}"
 
@@ -316,8 +329,9 @@ def choice_written(it, answers):
     """The answers of the function that goes by the variant."""
     function = f"serialize_{it.n}"
     inline = {case.name: recursive_code.is_inline(case) for case in it.cases}
-    words = [word for case in it.cases for word in (words_of(it, case) if inline[case.name] else [f"serialize_{case.n}"] if case.count else [])]
-    calls, oks, errs = numbered(words), matched("in-Ok", words), matched("in-Err", words)
+    made = [(case.name, word) for case in it.cases for word in (words_of(it, case) if inline[case.name] else [f"serialize_{case.n}"] if case.count else [])]
+    words = [word for _, word in made]
+    calls, oks, errs = in_arms(made), matched("in-Ok", words), matched("in-Err", words)
     at = 0
     for case in it.cases:
         if not case.count:

@@ -21,8 +21,10 @@ module _ (D : Definitions) (bytes : List ℕ) (root : ℕ) (X : Shape) (well : W
   pub explains : (answer : Result (Unit {0}) Error) (explanation : Option Explanation) → Answers D bytes None root X answer → IsExplained answer explanation
       → ExplainsBuffer D bytes root X explanation
   explains (Ok u) explanation h none = rw none (record { accepted = h.accepted; refused = tt; exact = tt })
-  explains (Err e) explanation h (other, x, is, same) = rw is (record {
-    accepted = tt;
-    refused = rw same (faulty e other h.refused);
-    exact = ⊎_elim (λ memory. absurd (other memory)) (λ none. none) h.exact;
-  })
+  explains (Err e) explanation h (other, found) =
+      let (x, is, same) = found in
+      rw is (record {
+        accepted = tt;
+        refused = rw same (faulty e other h.refused);
+        exact = ⊎_elim (λ memory. absurd (other memory)) (λ none. none) h.exact;
+      })

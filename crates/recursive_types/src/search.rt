@@ -33,7 +33,7 @@ ghost use Rattle.archive_core.specs.Written.{GoesOn};
 ghost use Rattle.archive_recursive.specs.Hollow.{option_at};
 ghost use Rattle.recursive_types.specs.SearchShape.{search_definitions, search_has_layout, search_has_parts, search_is_align, search_layout, search_no_others, search_parts, search_shape, search_stands_for};
 ghost use Rattle.std.proofs.Common.{lit≤};
-ghost use Rattle.std.specs.Prelude.{IfErr, IfOk, Some, length, refl, ◌+◌, ◌≡◌, ◌≤◌};
+ghost use Rattle.std.specs.Prelude.{IfErr, IfOk, Some, length, refl, ⊤, ◌+◌, ◌≡◌, ◌≤◌};
 
 use archive_core::boxed::{ArchivedBox, BoxResolver, serialize_inner};
 use archive_core::error::Error;

@@ -108,16 +108,16 @@ pub serialize_expr-returns-in-Err-serialize_box_expr-clause-refused : goal.seria
 serialize_expr-returns-in-Err-serialize_box_expr-clause-refused g t c = rw c.in-Add.is (refused_as (expr_add_has_keys c.in-Add.a0 c.in-Add.a1) (expr_add_means c.in-Add.a0 c.in-Add.a1) (variant_refused expr_definitions expr_shape expr_name expr_variant_definitions expr_variants expr_has_variants 1 expr_add_parts refl expr_add_definitions refl _ _ _ _ _ (first_refused expr_definitions (both expr_definitions no_definition) (boxed (one expr_shape)) (part (boxed (one expr_shape)) no_part) (expr_keys c.in-Add.a0.value) ((expr_keys c.in-Add.a1.value) ++ []) (box (expr_meaning c.in-Add.a0.value)) (value (box (expr_meaning c.in-Add.a1.value)) no_value) _ _ _ (part_planned expr_definitions (boxed (one expr_shape)) (expr_keys c.in-Add.a1.value) (box (expr_meaning c.in-Add.a1.value)) (boxed_one_planned expr_definitions (one expr_shape) expr_shape refl _ _ (expr_planned c.in-Add.a1.value)) no_part_planned) c.in-Err-serialize_box_expr.ensures.refused)))
 
 pub serialize_expr-returns-in-Err-serialize_box_expr-2-clause-refused : goal.serialize_expr-returns-in-Err-serialize_box_expr-2-clause-refused
-serialize_expr-returns-in-Err-serialize_box_expr-2-clause-refused g t c = rw c.in-Add.is (refused_as (expr_add_has_keys c.in-Add.a0 c.in-Add.a1) (expr_add_means c.in-Add.a0 c.in-Add.a1) (variant_refused expr_definitions expr_shape expr_name expr_variant_definitions expr_variants expr_has_variants 1 expr_add_parts refl expr_add_definitions refl _ _ _ _ _ (later_refused expr_definitions (both expr_definitions no_definition) (boxed (one expr_shape)) (part (boxed (one expr_shape)) no_part) (expr_keys c.in-Add.a0.value) ((expr_keys c.in-Add.a1.value) ++ []) (box (expr_meaning c.in-Add.a0.value)) (value (box (expr_meaning c.in-Add.a1.value)) no_value) _ _ _ _ _ c.in-Ok-serialize_box_expr.ensures.serialized c.serialize_box_expr.ensures.goes_on c.serialize_box_expr-2.ensures.goes_on (first_refused expr_definitions no_definition (boxed (one expr_shape)) no_part (expr_keys c.in-Add.a1.value) [] (box (expr_meaning c.in-Add.a1.value)) no_value _ _ _ no_part_planned c.in-Err-serialize_box_expr-2.ensures.refused))))
+serialize_expr-returns-in-Err-serialize_box_expr-2-clause-refused g t c = rw c.in-Add.is (refused_as (expr_add_has_keys c.in-Add.a0 c.in-Add.a1) (expr_add_means c.in-Add.a0 c.in-Add.a1) (variant_refused expr_definitions expr_shape expr_name expr_variant_definitions expr_variants expr_has_variants 1 expr_add_parts refl expr_add_definitions refl _ _ _ _ _ (later_refused expr_definitions (both expr_definitions no_definition) (boxed (one expr_shape)) (part (boxed (one expr_shape)) no_part) (expr_keys c.in-Add.a0.value) ((expr_keys c.in-Add.a1.value) ++ []) (box (expr_meaning c.in-Add.a0.value)) (value (box (expr_meaning c.in-Add.a1.value)) no_value) _ _ _ _ _ c.in-Ok-serialize_box_expr.ensures.serialized c.serialize_box_expr.ensures.goes_on c.serialize_box_expr-in-Add.ensures.goes_on (first_refused expr_definitions no_definition (boxed (one expr_shape)) no_part (expr_keys c.in-Add.a1.value) [] (box (expr_meaning c.in-Add.a1.value)) no_value _ _ _ no_part_planned c.in-Err-serialize_box_expr-2.ensures.refused))))
 
 pub serialize_expr-returns-in-Err-serialize_box_expr-2-clause-goes_on : goal.serialize_expr-returns-in-Err-serialize_box_expr-2-clause-goes_on
-serialize_expr-returns-in-Err-serialize_box_expr-2-clause-goes_on g t c = (goes_both _ _ _ c.serialize_box_expr.ensures.goes_on c.serialize_box_expr-2.ensures.goes_on)
+serialize_expr-returns-in-Err-serialize_box_expr-2-clause-goes_on g t c = (goes_both _ _ _ c.serialize_box_expr.ensures.goes_on c.serialize_box_expr-in-Add.ensures.goes_on)
 
 pub serialize_expr-returns-in-Ok-serialize_box_expr-2-clause-serialized : goal.serialize_expr-returns-in-Ok-serialize_box_expr-2-clause-serialized
 serialize_expr-returns-in-Ok-serialize_box_expr-2-clause-serialized g t c = rw c.in-Add.is (written_as (expr_add_has_keys c.in-Add.a0 c.in-Add.a1) (expr_add_means c.in-Add.a0 c.in-Add.a1) (rw (expr_add_opens c.in-Add.a0 c.in-Add.a1) refl) (serialized_variant expr_definitions expr_shape expr_name expr_variant_definitions expr_variants expr_has_variants 1 expr_add_parts refl expr_add_definitions refl _ _ _ _ _ (serialized_part expr_definitions (both expr_definitions no_definition) (boxed (one expr_shape)) (part (boxed (one expr_shape)) no_part) (expr_keys c.in-Add.a0.value) ((expr_keys c.in-Add.a1.value) ++ []) (box (expr_meaning c.in-Add.a0.value)) (value (box (expr_meaning c.in-Add.a1.value)) no_value) _ _ _ _ _ c.in-Ok-serialize_box_expr.ensures.serialized (serialized_part expr_definitions no_definition (boxed (one expr_shape)) no_part (expr_keys c.in-Add.a1.value) [] (box (expr_meaning c.in-Add.a1.value)) no_value _ _ _ _ _ c.in-Ok-serialize_box_expr-2.ensures.serialized (serialized_no_part no_definition _)))))
 
 pub serialize_expr-returns-in-Ok-serialize_box_expr-2-clause-goes_on : goal.serialize_expr-returns-in-Ok-serialize_box_expr-2-clause-goes_on
-serialize_expr-returns-in-Ok-serialize_box_expr-2-clause-goes_on g t c = (goes_both _ _ _ c.serialize_box_expr.ensures.goes_on c.serialize_box_expr-2.ensures.goes_on)
+serialize_expr-returns-in-Ok-serialize_box_expr-2-clause-goes_on g t c = (goes_both _ _ _ c.serialize_box_expr.ensures.goes_on c.serialize_box_expr-in-Add.ensures.goes_on)
 
 pub serialize_expr-returns-in-Ok-serialize_box_expr-2-clause-same_value : goal.serialize_expr-returns-in-Ok-serialize_box_expr-2-clause-same_value
 serialize_expr-returns-in-Ok-serialize_box_expr-2-clause-same_value g t c = rw (c.in-Add.is, expr_add_opens c.in-Add.a0 c.in-Add.a1) (c.in-Ok-serialize_box_expr.ensures.same_value, (c.in-Ok-serialize_box_expr-2.ensures.same_value, tt))
