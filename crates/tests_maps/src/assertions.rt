@@ -67,6 +67,8 @@ pub(crate) fn sealed<'a, T: Portable>(
     rt: &impl Abort,
     alloc: Global,
     bytes: &'a mut [u8],
-) -> Seal<'a, T> {
+) -> Seal<'a, T>
+    ensures come_to { IsSealOf T.definitions T.pointee result }
+{
     access_mut::<T>(alloc, bytes).expect(rt, "an archive")
 }
