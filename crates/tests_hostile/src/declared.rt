@@ -1,6 +1,7 @@
 // Declarations from which tools/derive writes types: as texts they have the schemas of those types.
 
 use crate::assertions::assert_same;
+use archive_core::shape::Schema;
 use archive_core::traits::Portable;
 use archive_inspect::explain::explain_as;
 use archive_inspect::form::Form;
@@ -16,9 +17,13 @@ use std::test::Fail;
 fn assert_declared<T: Portable>(rt: &impl Abort, alloc: Global, text: &str) {
     let written = parse(alloc, text).expect(rt, "a schema");
     let derived = Form::of::<T>(alloc).expect(rt, "a form");
-    let (written, derived) = (written.schema(), derived.schema());
-    assert!(rt; written.root() == derived.root());
-    assert!(rt; written.definitions() == derived.definitions());
+    assert_same_schema(rt, written.schema(), derived.schema());
+}
+
+// Both schemas have one root and the same definitions.
+fn assert_same_schema(rt: &impl Abort, one: &Schema, other: &Schema) {
+    assert!(rt; one.root() == other.root());
+    assert!(rt; one.definitions() == other.definitions());
 }
 
 const EVENT: &str = "/// What happens.

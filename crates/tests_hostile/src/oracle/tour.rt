@@ -373,7 +373,7 @@ fn go_over_key(
 ) -> Option<()> {
     match key {
         Key::Leaf(kind) => go_over_leaf(archive, listing, kind, at),
-        Key::Str => go_over_string(archive, listing, at, levels),
+        Key::Str => go_over_string(archive, listing, at, levels.checked_sub(1)?),
     }
 }
 

@@ -10,6 +10,12 @@ decreases-go_over_parts l = 4 * l.levels + 1
 abbrev pub decreases-go_over_elements : goal.decreases-go_over_elements
 decreases-go_over_elements l = 4 * l.levels + 1
 
+abbrev pub decreases-go_over_entries : goal.decreases-go_over_entries
+decreases-go_over_entries l = 4 * l.levels + 1
+
+abbrev pub decreases-go_over_key : goal.decreases-go_over_key
+decreases-go_over_key l = 4 * l.levels
+
 abbrev pub decreases-go_over_choice : goal.decreases-go_over_choice
 decreases-go_over_choice l = 4 * l.levels + 2
 
