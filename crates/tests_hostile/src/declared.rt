@@ -23,7 +23,11 @@ fn assert_declared<T: Portable>(rt: &impl Abort, alloc: Global, text: &str) {
 // Both schemas have one root and the same definitions.
 fn assert_same_schema(rt: &impl Abort, one: &Schema, other: &Schema) {
     assert!(rt; one.root() == other.root());
-    assert!(rt; one.definitions() == other.definitions());
+    assert_equal(rt, one.definitions(), other.definitions());
+}
+
+fn assert_equal<T: PartialEq>(rt: &impl Abort, found: &[T], wanted: &[T]) {
+    assert!(rt; found == wanted);
 }
 
 const EVENT: &str = "/// What happens.
