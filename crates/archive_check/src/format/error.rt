@@ -118,7 +118,7 @@ pub enum Error {
     /// 31: a name contains itself other than behind a pointer.
     #[error("a type contains itself without a pointer between")]
     RecursiveLayout,
-    /// 32: kept for sorted maps. No call answers it yet.
+    /// 32: two neighbouring keys of a sorted map, or of the pairs of one to be written, do not ascend strictly.
     #[error("the keys of a sorted map do not ascend strictly")]
     UnsortedKeys,
 }

@@ -37,7 +37,9 @@ fn check_key<K: MapKey, C: ArchiveContext>(
     requires below { (C.state context.old).end ≤ length bytes.now }
     ensures through { WentOver C.Context context K.Portable (shape_way bytes.now at) result }
     ensures behind { OnSome result (ComesBehind K.key bytes.now before at) }
-    ensures stops { IsTrue K.Check.direct → (n : ℕ) (V : Shape) → Stopped C.Context context K.definitions (entries_way bytes.now before at (suc n) K.key V) result refusal }
+    ensures stops { IsTrue K.Check.direct → (n : ℕ) (V : Shape)
+        → Stopped C.Context context K.definitions (entries_way bytes.now before at (suc n) K.key V)
+        result refusal }
     ensures spends { Spends K.layout.size (C.state context.old) (C.state context.new) }
     ensures positions { OnSome result (C.positions context.new ≡ C.positions context.old) }
 {
@@ -61,8 +63,10 @@ fn check_entries<K: MapKey, V: Portable, C: ArchiveContext>(
     requires sized { size ≡ entry_size K.layout V.layout }
     requires fits { at + count * size ≤ length bytes.now }
     requires below { (C.state context.old).end ≤ length bytes.now }
-    ensures through { Went C.Context context (entry_definitions K.definitions V.definitions) (entries_way bytes.now None at count K.key V.shape) result }
-    ensures stops { StoppedIf C.Context context (entry_direct K.Check.direct V.Check.direct) (entry_definitions K.definitions V.definitions)
+    ensures through { Went C.Context context (entry_definitions K.definitions V.definitions)
+        (entries_way bytes.now None at count K.key V.shape) result }
+    ensures stops { StoppedIf C.Context context (entry_direct K.Check.direct V.Check.direct)
+        (entry_definitions K.definitions V.definitions)
         (entries_way bytes.now None at count K.key V.shape) result refusal }
     ensures spends { Spends (count * size) (C.state context.old) (C.state context.new) }
     ensures positions { OnSome result (C.positions context.new ≡ C.positions context.old) }
@@ -88,10 +92,12 @@ fn check_map<K: MapKey, V: Portable, C: ArchiveContext>(
     context: &mut C,
 ) -> Option<()>
     requires below { (C.state context.old).end ≤ length bytes.now }
-    ensures through { Went C.Context context (entry_definitions K.definitions V.definitions) (entries_at bytes.now position count K.key V.shape) result }
-    ensures stops { StoppedIf C.Context context
-        (tuple_direct (entry_direct K.Check.direct V.Check.direct) (entry_lone K.Check.nameless V.Check.nameless) (entry_size K.layout V.layout))
-        (entry_definitions K.definitions V.definitions) (entries_at bytes.now position count K.key V.shape) result refusal }
+    ensures through { Went C.Context context (entry_definitions K.definitions V.definitions)
+        (entries_at bytes.now position count K.key V.shape) result }
+    ensures stops { StoppedIf C.Context context (tuple_direct
+        (entry_direct K.Check.direct V.Check.direct) (entry_lone K.Check.nameless V.Check.nameless)
+        (entry_size K.layout V.layout)) (entry_definitions K.definitions V.definitions)
+        (entries_at bytes.now position count K.key V.shape) result refusal }
     ensures spends { Spends 4 (C.state context.old) (C.state context.new) }
     ensures positions { OnSome result (C.positions context.new ≡ C.positions context.old) }
 {
@@ -117,7 +123,8 @@ impl<K: MapKey, V: Portable> SelfCheck for MapCheck<K, V> {
 
     ghost span = { 8 };
 
-    ghost direct = { tuple_direct (entry_direct K.Check.direct V.Check.direct) (entry_lone K.Check.nameless V.Check.nameless) (entry_size K.layout V.layout) };
+    ghost direct = { tuple_direct (entry_direct K.Check.direct V.Check.direct)
+        (entry_lone K.Check.nameless V.Check.nameless) (entry_size K.layout V.layout) };
 
     ghost nameless = { entry_nameless K.Check.nameless V.Check.nameless };
 
