@@ -46,10 +46,12 @@ where
 
     ghost belongs = { λ s _. length s.entries.now ≤ 4294967295 };
 
-    ghost keyed = { λ s. pairs_keyed K.keys V.keys K.meaning V.meaning K.keyed V.keyed s.entries.now };
+    ghost keyed = { λ s. pairs_keyed K.keys V.keys K.meaning V.meaning K.keyed V.keyed
+        s.entries.now };
 
-    ghost planned = { λ s. map_of_pairs_planned K.keys V.keys K.meaning V.meaning K.Archived.definitions V.Archived.definitions K.Archived.shape V.Archived.shape
-        K.planned V.planned K.Archived.key K.Archived.is_key s.entries.now };
+    ghost planned = { λ s. map_of_pairs_planned K.keys V.keys K.meaning V.meaning
+        K.Archived.definitions V.Archived.definitions K.Archived.shape V.Archived.shape K.planned
+        V.planned K.Archived.key K.Archived.is_key s.entries.now };
 
     #[inline(always)]
     fn resolve(
@@ -81,11 +83,13 @@ where
     /// Writes the entries, as `ArchivedSortedMap::serialize_from_entries` does, with its errors.
     #[inline(always)]
     fn serialize(&self, serializer: &mut S) -> Result<SortedMapResolver, Error>
-        ensures outcome { Serializes ⟦<Self as Archive>⟧ ⟦<Self::Archived as Portable>⟧ self.now S.Keys serializer
-            result }
-        ensures too_long { 4294967295 < length self.now.entries.now → AtOnce result LengthTooLarge S.Keys serializer }
-        ensures unsorted { length self.now.entries.now ≤ 4294967295 → keys_ascend (each_meaning (pair_meaning K.meaning V.meaning) self.now.entries.now) ≡ false
-            → AtOnce result UnsortedKeys S.Keys serializer }
+        ensures outcome { Serializes ⟦<Self as Archive>⟧ ⟦<Self::Archived as Portable>⟧ self.now
+            S.Keys serializer result }
+        ensures too_long { 4294967295 < length self.now.entries.now
+            → AtOnce result LengthTooLarge S.Keys serializer }
+        ensures unsorted { length self.now.entries.now ≤ 4294967295
+            → keys_ascend (each_meaning (pair_meaning K.meaning V.meaning) self.now.entries.now)
+            ≡ false → AtOnce result UnsortedKeys S.Keys serializer }
     {
         ArchivedSortedMap::<K::Archived, V::Archived>::serialize_from_entries(
             self.entries,
@@ -107,14 +111,18 @@ where
 
     ghost keys = { ⟦<Self as Archive>⟧.keys };
 
-    ghost keyed = { λ s. pairs_keyed K.keys V.keys K.meaning V.meaning K.keyed V.keyed s.entries.now };
+    ghost keyed = { λ s. pairs_keyed K.keys V.keys K.meaning V.meaning K.keyed V.keyed
+        s.entries.now };
 
     ghost one_length = { λ _ _. refl };
 
-    ghost planned = { λ s. one_planned (entry_definitions K.Archived.definitions V.Archived.definitions) (sorted_map K.Archived.key V.Archived.shape)
-        (each_keys (pair_keys K.keys V.keys) s.entries.now) (list (each_meaning (pair_meaning K.meaning V.meaning) s.entries.now))
-        (map_of_pairs_planned K.keys V.keys K.meaning V.meaning K.Archived.definitions V.Archived.definitions K.Archived.shape V.Archived.shape
-        K.planned V.planned K.Archived.key K.Archived.is_key s.entries.now) };
+    ghost planned = { λ s. one_planned (entry_definitions K.Archived.definitions
+        V.Archived.definitions) (sorted_map K.Archived.key V.Archived.shape)
+        (each_keys (pair_keys K.keys V.keys) s.entries.now)
+        (list (each_meaning (pair_meaning K.meaning V.meaning) s.entries.now))
+        (map_of_pairs_planned K.keys V.keys K.meaning V.meaning K.Archived.definitions
+        V.Archived.definitions K.Archived.shape V.Archived.shape K.planned V.planned K.Archived.key
+        K.Archived.is_key s.entries.now) };
 
     fn archived_metadata(&self) -> Result<(), Error> {
         Ok(())

@@ -76,9 +76,10 @@ pub(super) fn serialize_ordered<K: MapKey, V: Portable, T: Serialize<S>, S: Writ
     requires few { length entries.now ≤ 4294967295 }
     requires ordered { keys_ascend (each_meaning T.meaning entries.now) ≡ true }
     requires pairs { T.Archived.shape ≡ entry_of K.key V.shape }
-    ensures { SerializesTo T.Archived.definitions (sorted_map K.key V.shape) (each_keys T.keys entries.now)
-        (list (each_meaning T.meaning entries.now)) (map_flat K.key V.shape (length entries.now))
-        (λ _. length entries.now ≤ 4294967295) (S.state serializer.old) (S.state serializer.new) result }
+    ensures { SerializesTo T.Archived.definitions (sorted_map K.key V.shape)
+        (each_keys T.keys entries.now) (list (each_meaning T.meaning entries.now))
+        (map_flat K.key V.shape (length entries.now)) (λ _. length entries.now ≤ 4294967295)
+        (S.state serializer.old) (S.state serializer.new) result }
 {
     let pos = serialize_in_turn(entries, serializer)?;
     let pos = position_of(pos)?;
@@ -103,11 +104,15 @@ impl<K: MapKey, V: Portable> ArchivedSortedMap<K, V> {
         B: Serialize<S, Archived = V>,
         S: Writer + ResolverAlloc,
     >(entries: &[(A, B)], serializer: &mut S) -> Result<SortedMapResolver, Error>
-        ensures outcome { SerializesAs ⟦<Self as Portable>⟧ (each_keys (pair_keys A.keys B.keys) entries.now)
-            (list (each_meaning (pair_meaning A.meaning B.meaning) entries.now)) (map_flat K.key V.shape (length entries.now))
-            (λ _. length entries.now ≤ 4294967295) S.Keys serializer result }
-        ensures too_long { 4294967295 < length entries.now → AtOnce result LengthTooLarge S.Keys serializer }
-        ensures unsorted { length entries.now ≤ 4294967295 → keys_ascend (each_meaning (pair_meaning A.meaning B.meaning) entries.now) ≡ false
+        ensures outcome { SerializesAs ⟦<Self as Portable>⟧
+            (each_keys (pair_keys A.keys B.keys) entries.now)
+            (list (each_meaning (pair_meaning A.meaning B.meaning) entries.now))
+            (map_flat K.key V.shape (length entries.now)) (λ _. length entries.now ≤ 4294967295)
+            S.Keys serializer result }
+        ensures too_long { 4294967295 < length entries.now
+            → AtOnce result LengthTooLarge S.Keys serializer }
+        ensures unsorted { length entries.now ≤ 4294967295
+            → keys_ascend (each_meaning (pair_meaning A.meaning B.meaning) entries.now) ≡ false
             → AtOnce result UnsortedKeys S.Keys serializer }
     {
         if entries.len() > u32::MAX as usize {
@@ -131,7 +136,8 @@ impl<K: MapKey, V: Portable> ArchivedSortedMap<K, V> {
     ) -> Result<(), Error>
         requires sized { length place.bytes.now ≡ 8 }
         requires held { len ≤ 4294967295 }
-        ensures outcome { ResolvesAs ⟦<Self as Portable>⟧ place (map_flat K.key V.shape len resolver) result }
+        ensures outcome { ResolvesAs ⟦<Self as Portable>⟧ place
+            (map_flat K.key V.shape len resolver) result }
         ensures written { OnOk result (PointsTo place true resolver len) }
         ensures fits { OnOk result (FitsSigned w32 (distance place.entry.pos resolver)) }
         ensures cause { IfErr result (IsTooFarFrom place resolver) }
