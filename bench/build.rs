@@ -1,14 +1,36 @@
 // Builds the peers in C++ and the counter of the heap, and links them, the project's static library and the kit's heap for it. Finds which exports
-// the library has: the driver's rows of the others have a dash.
+// the library has.
 use std::env;
 use std::fmt::Write;
 use std::fs;
 use std::path::{Path, PathBuf};
 use std::process::Command;
 
-const SETS: [&str; 11] = [
-    "u32", "string", "record", "plain", "own", "frames", "events", "numbers", "rows", "list",
+const NAMES: [&str; 24] = [
+    "u32",
+    "string",
+    "record",
+    "plain",
+    "own",
+    "frames",
+    "events",
+    "numbers",
+    "bools",
+    "chars",
+    "shorts",
+    "rows",
+    "list",
+    "records",
+    "tree",
     "shared",
+    "pairs",
+    "map",
+    "text_pairs",
+    "text_map",
+    "compare_names",
+    "get_map",
+    "get_text_map",
+    "view_rows",
 ];
 
 fn run(command: &mut Command) -> String {
@@ -32,8 +54,8 @@ fn defined(library: &Path) -> Vec<String> {
 }
 
 // A function from names of exports to those that are there, all of one type.
-fn table(out: &mut String, has: &[String], kind: &str, names: &[String], parameters: &str) {
-    let there: Vec<&String> = names
+fn table(out: &mut String, has: &[String], kind: &str, names: &[&str], parameters: &str) {
+    let there: Vec<&&str> = names
         .iter()
         .filter(|it| has.contains(&format!("archive_bench_{it}")))
         .collect();
@@ -60,52 +82,19 @@ fn table(out: &mut String, has: &[String], kind: &str, names: &[String], paramet
 
 fn exports(library: &Path, out: &Path) {
     let has = defined(library);
-    let on_bytes: Vec<String> = ["check", "access", "read"]
-        .iter()
-        .flat_map(|it| SETS.map(|set| format!("{it}_{set}")))
-        .chain(["compare_names".to_string()])
-        .collect();
-    let names = |of: &[&str]| {
-        of.iter()
-            .map(|set| format!("write_{set}"))
-            .collect::<Vec<_>>()
-    };
     let mut text = String::new();
     table(
         &mut text,
         &has,
-        "Bytes",
-        &on_bytes,
-        "bytes: *const u8, len: usize, step: usize, count: usize",
-    );
-    table(
-        &mut text,
-        &has,
-        "Numbers",
-        &names(&["u32", "numbers"]),
-        "numbers: *const u32, len: usize, count: usize, reuse: bool",
-    );
-    table(
-        &mut text,
-        &has,
-        "Text",
-        &names(&["string"]),
-        "text: *const u8, len: usize, count: usize, reuse: bool",
-    );
-    table(
-        &mut text,
-        &has,
-        "Size",
-        &names(&[
-            "record", "plain", "own", "frames", "events", "rows", "list", "shared",
-        ]),
-        "size: usize, count: usize, reuse: bool",
+        "Run",
+        &NAMES,
+        "bytes: *const u8, len: usize, step: usize, size: usize, count: usize, operation: u32",
     );
     table(
         &mut text,
         &has,
         "Edit",
-        &["seal_record".to_string()],
+        &["seal_record"],
         "bytes: *mut u8, len: usize, count: usize",
     );
     fs::write(out.join("exports.rs"), text).unwrap();

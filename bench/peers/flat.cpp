@@ -1,4 +1,4 @@
-// FlatBuffers: written by a builder from values, checked by a Verifier, read back by UnPack after a check.
+// FlatBuffers: written by a builder from values, checked by a Verifier, read back by UnPack after a check. A sorted map is a vector of tables with a key.
 #include "sets_generated.h"
 #include "values.h"
 
@@ -29,7 +29,23 @@ static Offset<flat::Node> put(FlatBufferBuilder& b, Node const& v) {
   return last;
 }
 
+static Offset<flat::Entries> put(FlatBufferBuilder& b, Entries const& v) {
+  std::vector<Offset<flat::Entry>> entries;
+  entries.reserve(v.entries.size());
+  for (auto const& [key, value] : v.entries) entries.push_back(flat::CreateEntry(b, key, value));
+  return flat::CreateEntries(b, b.CreateVector(entries));
+}
+static Offset<flat::TextEntries> put(FlatBufferBuilder& b, TextEntries const& v) {
+  std::vector<Offset<flat::TextEntry>> entries;
+  entries.reserve(v.entries.size());
+  for (auto const& [key, value] : v.entries) entries.push_back(flat::CreateTextEntry(b, b.CreateString(key), value));
+  return flat::CreateTextEntries(b, b.CreateVector(entries));
+}
+
 ROOTS(flat)
+namespace flat {
+ROOT_OF(Entries) ROOT_OF(TextEntries)
+}
 
 template <class Value> struct Flat : Case {
   using Root = typename flat::RootOf<Value>::Root;
@@ -85,4 +101,35 @@ template <class Value> struct Flat : Case {
   }
 };
 
-PEER(flat, Flat)
+// A sorted map, in which keys are also looked up.
+template <class Value, class Key> struct FlatMap : Flat<Value> {
+  std::vector<Key> keys;
+  explicit FlatMap(Value v) : Flat<Value>(std::move(v), false) {
+    for (auto const& [key, value] : this->value.entries) keys.push_back(key);
+  }
+  static uint32_t as_key(uint32_t key) { return key; }
+  static char const* as_key(std::string const& key) { return key.c_str(); }
+
+  uint64_t run(int operation, size_t count) override {
+    if (operation != GET) return Flat<Value>::run(operation, count);
+    hide(*this->written.data());
+    auto entries = flatbuffers::GetRoot<typename Flat<Value>::Root>(this->written.data())->entries();
+    uint64_t total = 0;
+    size_t index = 0;
+    for (size_t i = 0; i < count; i++) {
+      if (auto entry = entries->LookupByKey(as_key(keys[index]))) total += entry->value();
+      index = (index + STRIDE) % keys.size();
+    }
+    return total;
+  }
+};
+
+static Case* make_map(int set, size_t size) {
+  switch (set) {
+    case MAP: return new FlatMap<Entries, uint32_t>(make_entries(size));
+    case TEXT_MAP: return new FlatMap<TextEntries, std::string>(make_text_entries(size));
+    default: return nullptr;
+  }
+}
+
+PEER(flat, Flat, make_map)

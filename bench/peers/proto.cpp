@@ -148,4 +148,6 @@ template <class Value> struct Proto : Case {
   }
 };
 
-PEER(proto, Proto)
+static Case* make_none(int, size_t) { return nullptr; }
+
+PEER(proto, Proto, make_none)

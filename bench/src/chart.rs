@@ -8,7 +8,7 @@ use std::fs;
 
 const WIDTH: f64 = 960.0;
 // Where the bars may lie, from left to right.
-const LEFT: f64 = 210.0;
+const LEFT: f64 = 260.0;
 const RIGHT: f64 = 890.0;
 const BAR: f64 = 11.0;
 
@@ -83,7 +83,7 @@ impl Picture {
         );
         let what = "Each number: archive-core's time divided by the other format's. 1 is as fast, 2 takes twice as long; each line is ten times the one before.";
         self.label(20.0, 56.0, "font-size=\"12.5\" fill=\"#444\"", what);
-        let sets = "Small record: a u8, a string of 11 bytes, 4 i32. Row: a u64, a string of 20 bytes, 8 u32. Chain: boxes, each within the one before. ";
+        let sets = "Small record: a u8, a string of 11 bytes, 4 i32. Row: a u64, a string of 20 bytes, 8 u32. Chain: boxes, each within the one before. Derived: by derives.";
         self.label(20.0, 74.0, "font-size=\"11\" fill=\"#444\"", sets);
         let mut x = 20.0;
         for (format, color) in PEERS {
@@ -180,7 +180,7 @@ impl Picture {
                 20.0,
                 self.y,
                 "font-size=\"11.5\" fill=\"#777\"",
-                &format!("Not yet in archive-core: {}.", names.join("; ")),
+                &format!("Without a time of archive-core: {}.", names.join("; ")),
             );
         }
         self.y += 26.0;

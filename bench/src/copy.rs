@@ -14,7 +14,7 @@ fn compare(set: Set) -> Task {
     let names = crate::sets::names(set.size());
     let wanted = lesser(&names);
     Task::Ready(Ready {
-        bytes: crate::sets::archive(set).len(),
+        bytes: crate::archives::archive(set).len(),
         run: Box::new(move |count| (0..count).map(|_| lesser(&names)).sum()),
         expected: Some(Box::new(move |count| wanted * count as u64)),
         prepares: false,
@@ -24,10 +24,10 @@ fn compare(set: Set) -> Task {
 pub fn task(set: Set, operation: Operation) -> Task {
     match operation {
         Operation::Compare => return compare(set),
-        Operation::Seal => return Task::Absent,
+        Operation::Seal | Operation::Get | Operation::View => return Task::Absent,
         _ => {}
     }
-    let from = crate::sets::archive(set);
+    let from = crate::archives::archive(set);
     let bytes = from.len();
     let mut kept = vec![0u8; bytes];
     let run: Box<dyn FnMut(usize) -> u64> = match operation {

@@ -49,7 +49,10 @@ pub fn task(format: Format, set: Set, operation: Operation, limited: bool) -> Ta
         Operation::WriteReused => 1,
         Operation::Check | Operation::Access => 2,
         Operation::Read => 3,
-        Operation::Seal | Operation::Compare => return Task::Absent,
+        Operation::Get if format == Format::Flat => 4,
+        Operation::Seal | Operation::Compare | Operation::Get | Operation::View => {
+            return Task::Absent
+        }
     };
     // Neither looks at the bytes of a text when it checks one.
     let is_unseen = number == 2 && matches!(set, Set::Text(_));
@@ -57,11 +60,15 @@ pub fn task(format: Format, set: Set, operation: Operation, limited: bool) -> Ta
         return Task::Absent;
     };
     let case = unsafe { make(set_number, set.size(), limited) };
+    if case.is_null() {
+        return Task::Absent;
+    }
     let bytes = unsafe { length(case) };
     let mut held = Held { case, run, free };
+    let sum = move |count| crate::sets::sum_of_values(set.size(), count);
     Task::Ready(Ready {
         run: Box::new(move |count| held.run(number, count)),
-        expected: None,
+        expected: (operation == Operation::Get).then(|| Box::new(sum) as Box<dyn Fn(usize) -> u64>),
         bytes,
         prepares: false,
     })

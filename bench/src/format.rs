@@ -11,20 +11,38 @@ pub enum Set {
     Record,
     /// The same without the option.
     Plain,
-    /// The small record again, as a struct that the project's and rkyv's derive archive.
+    /// A struct of two i32, a string and two strings, which the project's and rkyv's derive archive. So are the next two.
     Own,
-    /// So many structs of a u64, two structs of two i32 each, and a string of 20 bytes.
+    /// So many structs of structs: a line of two places, three lines, perhaps a boxed line, and an enum.
     Frames(usize),
     /// So many enums of five variants, in turns: nothing, a char, a string of 20 bytes, two i32, 8 u32.
     Events(usize),
     /// So many u32.
     Numbers(usize),
+    /// So many bools.
+    Bools(usize),
+    /// So many chars.
+    Chars(usize),
+    /// So many strings of 5 bytes.
+    Shorts(usize),
     /// So many rows of a u64, a string of 20 bytes and 8 u32.
     Rows(usize),
     /// A chain of so many boxes, each within the one before it.
     List(usize),
+    /// The same with a u32 in each box.
+    Records(usize),
+    /// A tree with so many leaves, a power of ten: a u32 at each node, and ten trees below each that is no leaf.
+    Tree(usize),
     /// So many pointers, in turns, to a hundredth as many strings of 20 bytes.
     Shared(usize),
+    /// So many pairs of a bool and a u32.
+    Pairs(usize),
+    /// A sorted map of so many u32 to u32.
+    Map(usize),
+    /// So many pairs of a string of 20 bytes and a u32.
+    TextPairs(usize),
+    /// A sorted map of so many strings of 20 bytes to u32.
+    TextMap(usize),
     /// So many strings of 20 bytes and one, each of which is compared with the next one.
     Names(usize),
 }
@@ -41,9 +59,18 @@ impl Set {
             Set::Frames(_) => "frames",
             Set::Events(_) => "events",
             Set::Numbers(_) => "numbers",
+            Set::Bools(_) => "bools",
+            Set::Chars(_) => "chars",
+            Set::Shorts(_) => "shorts",
             Set::Rows(_) => "rows",
             Set::List(_) => "list",
+            Set::Records(_) => "records",
+            Set::Tree(_) => "tree",
             Set::Shared(_) => "shared",
+            Set::Pairs(_) => "pairs",
+            Set::Map(_) => "map",
+            Set::TextPairs(_) => "text_pairs",
+            Set::TextMap(_) => "text_map",
             Set::Names(_) => "names",
         }
     }
@@ -57,8 +84,9 @@ impl Set {
             Set::Numbers(_) => Some(3),
             Set::Rows(_) => Some(4),
             Set::List(_) => Some(5),
-            Set::Own | Set::Frames(_) | Set::Events(_) => None,
-            Set::Shared(_) | Set::Names(_) => None,
+            Set::Map(_) => Some(6),
+            Set::TextMap(_) => Some(7),
+            _ => None,
         }
     }
 
@@ -67,6 +95,8 @@ impl Set {
         match self {
             Set::Names(_) => vec![Operation::Compare],
             Set::Record => [&Operation::ALL[..], &[Operation::Seal]].concat(),
+            Set::Map(_) | Set::TextMap(_) => [&Operation::ALL[..], &[Operation::Get]].concat(),
+            Set::Rows(_) => [&Operation::ALL[..], &[Operation::View]].concat(),
             _ => Operation::ALL.to_vec(),
         }
     }
@@ -77,6 +107,8 @@ impl Set {
             Set::Number | Set::Record | Set::Plain | Set::Own => 1,
             Set::Text(n) | Set::Numbers(n) | Set::Rows(n) | Set::List(n) => n,
             Set::Frames(n) | Set::Events(n) | Set::Shared(n) | Set::Names(n) => n,
+            Set::Bools(n) | Set::Chars(n) | Set::Shorts(n) | Set::Records(n) => n,
+            Set::Pairs(n) | Set::Map(n) | Set::TextPairs(n) | Set::TextMap(n) | Set::Tree(n) => n,
         }
     }
 
@@ -88,9 +120,8 @@ impl Set {
             Set::Rows(_) => "rows, for one",
             Set::List(_) => "chain, for a box",
             Set::Shared(_) => "shared pointers, for one",
-            Set::Frames(_) => "structs of structs, for one",
-            Set::Events(_) => "enums, for one",
-            Set::Number | Set::Record | Set::Plain | Set::Own | Set::Names(_) => "one",
+            Set::Map(_) => "sorted map, for an entry",
+            _ => "one",
         }
     }
 
@@ -102,19 +133,42 @@ impl Set {
             Set::Record => "small record".into(),
             Set::Plain => "small record without its option".into(),
             Set::Own => "struct, derived".into(),
-            Set::Frames(n) => format!("{} structs of structs, derived", grouped(n as f64)),
-            Set::Events(n) => format!("{} enums, derived", grouped(n as f64)),
-            Set::Numbers(n) => format!("{} u32", grouped(n as f64)),
-            Set::Rows(n) => format!("{} rows", grouped(n as f64)),
-            Set::List(n) => format!("chain of {} boxes", grouped(n as f64)),
-            Set::Shared(n) => format!(
-                "{} pointers to {} strings",
-                grouped(n as f64),
-                grouped(crate::sets::shared_strings(n) as f64)
-            ),
-            Set::Names(n) => format!("{} comparisons of strings", grouped(n as f64)),
+            Set::Shared(n) => pointers(n),
+            Set::Names(n) => counted(n, "comparisons of strings"),
+            Set::Frames(n) => counted(n, "structs of structs, derived"),
+            Set::Events(n) => counted(n, "enums, derived"),
+            Set::Numbers(n) => counted(n, "u32"),
+            Set::Bools(n) => counted(n, "bools"),
+            Set::Chars(n) => counted(n, "chars"),
+            Set::Shorts(n) => counted(n, "strings of 5 bytes"),
+            Set::Rows(n) => counted(n, "rows"),
+            Set::List(n) => format!("chain of {}", counted(n, "boxes")),
+            Set::Records(n) => format!("list of {}", counted(n, "u32, derived")),
+            Set::Tree(n) => format!("tree of {}", counted(nodes(n), "nodes, derived")),
+            Set::Pairs(n) => counted(n, "pairs of bool and u32"),
+            Set::Map(n) => format!("sorted map of {}", counted(n, "u32 to u32")),
+            Set::TextPairs(n) => counted(n, "pairs of string and u32"),
+            Set::TextMap(n) => format!("sorted map of {}", counted(n, "strings to u32")),
         }
     }
+}
+
+fn counted(count: usize, what: &str) -> String {
+    format!("{} {what}", grouped(count as f64))
+}
+
+fn pointers(count: usize) -> String {
+    let to = match crate::sets::shared_strings(count) {
+        1 => "1 string".into(),
+        strings => counted(strings, "strings"),
+    };
+    let what = if count == 1 { "pointer" } else { "pointers" };
+    format!("{} to {to}", counted(count, what))
+}
+
+/// How many nodes a tree with so many leaves has.
+pub fn nodes(leaves: usize) -> usize {
+    std::iter::successors(Some(leaves), |it| Some(it / 10).filter(|it| *it > 0)).sum()
 }
 
 /// What is done with a set.
@@ -129,6 +183,10 @@ pub enum Operation {
     Seal,
     /// Each string is compared with the next one.
     Compare,
+    /// A value is looked up by its key.
+    Get,
+    /// The lengths of each row's name and list are added up.
+    View,
 }
 
 impl Operation {
@@ -146,11 +204,15 @@ impl Operation {
         match self {
             Operation::WriteNew => "Write a value into new memory",
             Operation::WriteReused => "Write a value into memory that is used again",
-            Operation::Check => "Check bytes for access where they lie (archive-core: by an `Access` that is kept)",
+            Operation::Check => {
+                "Check bytes for access where they lie (archive-core: by an `Access` that is kept)"
+            }
             Operation::Access => "Check bytes for access where they lie (archive-core: by access)",
             Operation::Read => "Check bytes and read the value back",
             Operation::Seal => "Write a number over where it lies",
             Operation::Compare => "Compare strings where they lie",
+            Operation::Get => "Look up a value by its key where it lies",
+            Operation::View => "View each row where it lies",
         }
     }
 
@@ -164,6 +226,8 @@ impl Operation {
             Operation::Read => "check and read back",
             Operation::Seal => "sealed write",
             Operation::Compare => "compare",
+            Operation::Get => "look up one key",
+            Operation::View => "view each row",
         }
     }
 }
@@ -186,6 +250,9 @@ impl Format {
         Format::Proto,
         Format::Copy,
     ];
+
+    /// Those that the project is compared with.
+    pub const PEERS: [Format; 3] = [Format::Rkyv, Format::Flat, Format::Proto];
 
     /// Its name in a column.
     pub fn title(self) -> &'static str {

@@ -1,17 +1,20 @@
 //! Times the project beside its peers, in one process and in turns, and writes RESULTS.md, results.svg and the table in the README, unless the tree has
 //! changes that aren't committed.
-//! `driver` does all; `driver goals` times what the goals speak of and prints their table alone; `driver deep FORMAT OPERATION` and `driver heap` are
-//! what it starts as children.
+//! `driver` does all; `driver goals` times what the goals speak of and prints their table alone; `driver large ROWS` says what one archive of so many
+//! rows takes. `driver deep FORMAT OPERATION`, `driver heap` and `driver large-child ROWS` are what it starts as children.
 
+mod archives;
 mod chart;
 mod copy;
 mod cpp_peers;
 mod format;
 mod goals;
+mod large;
 mod measure;
 mod project;
 mod report;
 mod rkyv_peer;
+mod rkyv_types;
 mod sets;
 mod timing;
 
@@ -27,16 +30,23 @@ fn rounds() -> usize {
         .unwrap_or(40)
 }
 
-// Large sets take long, and what a round of one says changes little from round to round.
+// The largest sets take long, and what a round of one says changes little from round to round.
+fn rounds_of(set: Set) -> usize {
+    if set.size() < 1_000_000 {
+        return rounds();
+    }
+    (rounds() / 4).max(2)
+}
+
 fn rounds_of_growth(set: Set) -> usize {
     if set.size() < 100_000 {
-        return rounds();
+        return (rounds() / 2).max(2);
     }
     (rounds() / 10).max(2)
 }
 
 fn all() {
-    sets::verify();
+    archives::verify();
     let is_changed = report::is_changed();
     if is_changed {
         eprintln!("The tree has changes that aren't committed: only the goals are printed, and nothing is written.");
@@ -44,18 +54,11 @@ fn all() {
     let machine = report::Machine::now();
     let mut rows = Vec::new();
     let mut beside = Vec::new();
-    for (set, limited) in measure::SETS {
-        for operation in set.operations() {
-            eprintln!("{}: {}", set.title(), operation.title());
-            beside.push(report::others());
-            rows.push(measure::row(
-                set,
-                operation,
-                limited,
-                &Format::ALL,
-                rounds(),
-            ));
-        }
+    for (set, operation, limited) in measure::rows() {
+        eprintln!("{}: {}", set.title(), operation.title());
+        beside.push(report::others());
+        let row = measure::row(set, operation, limited, &Format::ALL, rounds_of(set));
+        rows.push(row);
     }
     let mut growth = Vec::new();
     for set in measure::growing() {
@@ -71,23 +74,38 @@ fn all() {
         }
     }
     eprintln!("the heap");
-    let heap = measure::heap_of_child();
+    let (heap, heap_growth) = measure::heap_of_child();
     let others = beside.iter().sum::<f64>() / beside.len() as f64;
+    let taken = report::Taken {
+        machine,
+        rounds: rounds(),
+        others,
+        rows,
+        heap,
+        growth,
+        heap_growth,
+    };
     if !is_changed {
-        report::write(&machine, &rows, &growth, &heap, rounds(), others);
-        chart::write(&rows);
+        report::write(&taken);
+        chart::write(&taken.rows);
     }
-    print!("{}", goals::table(&rows));
+    print!("{}", goals::table(&taken.rows, &taken.heap));
 }
 
 // The goals' table, of their rows alone; nothing is written.
 fn goals_alone() {
-    sets::verify();
-    let rows: Vec<measure::Row> = goals::wanted()
+    archives::verify();
+    let wanted = goals::wanted();
+    let of_goals = measure::rows()
         .into_iter()
-        .map(|(set, operation)| measure::row(set, operation, false, &Format::ALL, rounds()))
+        .filter(|(set, operation, _)| wanted.contains(&(*set, *operation)));
+    let rows: Vec<measure::Row> = of_goals
+        .map(|(set, operation, limited)| {
+            measure::row(set, operation, limited, &Format::ALL, rounds_of(set))
+        })
         .collect();
-    print!("{}", goals::table(&rows));
+    let (heap, _) = measure::heap_of_child();
+    print!("{}", goals::table(&rows, &heap));
 }
 
 fn on_a_large_stack(work: fn()) {
@@ -106,6 +124,8 @@ fn main() {
             std::process::exit(measure::deep(number(format), number(operation)))
         }
         ["heap"] => on_a_large_stack(measure::heap),
+        ["large", rows] => print!("{}", measure::said_by_child(&["large-child", rows])),
+        ["large-child", rows] => large::print(rows.parse().expect("a number")),
         ["goals"] => on_a_large_stack(goals_alone),
         _ => on_a_large_stack(all),
     }

@@ -29,15 +29,44 @@ pub struct Row {
 }
 
 impl Row {
+    /// The time in a format.
+    pub fn ns(&self, format: Format) -> Option<f64> {
+        self.cells.get(format as usize).and_then(Cell::ns)
+    }
+
     /// The project's time as a ratio to that of a format.
     pub fn ratio(&self, format: Format) -> Option<f64> {
-        let of = |it: Format| self.cells.get(it as usize).and_then(Cell::ns);
-        Some(of(Format::Project)? / of(format)?)
+        Some(self.ns(Format::Project)? / self.ns(format)?)
+    }
+
+    /// The project's time as a ratio to the least of the peers'.
+    pub fn of_least(&self) -> Option<f64> {
+        let ratios = Format::PEERS.into_iter().filter_map(|it| self.ratio(it));
+        ratios.reduce(f64::max)
+    }
+}
+
+/// The most heap that an operation on a set held, in each format whose growth is shown.
+pub struct HeapRow {
+    pub set: Set,
+    pub operation: Operation,
+    pub peaks: Vec<Option<usize>>,
+}
+
+impl HeapRow {
+    /// The project's heap as a ratio to the least of the peers': 0 where it holds none.
+    pub fn of_least(&self) -> Option<f64> {
+        let (own, peers) = self.peaks.split_first()?;
+        let least = peers.iter().flatten().min()?;
+        match ((*own)?, *least) {
+            (0, _) => Some(0.0),
+            (own, least) => Some(own as f64 / least as f64),
+        }
     }
 }
 
 /// The sets of the table, and whether a peer keeps its own limits of depth and size.
-pub const SETS: [(Set, bool); 15] = [
+pub const SETS: [(Set, bool); 26] = [
     (Set::Number, false),
     (Set::Text(11), false),
     (Set::Text(65_536), false),
@@ -47,13 +76,33 @@ pub const SETS: [(Set, bool); 15] = [
     (Set::Frames(10_000), false),
     (Set::Events(10_000), false),
     (Set::Numbers(100_000), false),
+    (Set::Bools(100_000), false),
+    (Set::Chars(100_000), false),
+    (Set::Shorts(10_000), false),
     (Set::Rows(10_000), false),
     (Set::List(1_000), false),
     (Set::List(100_000), false),
     (DEEP, true),
+    (Set::Records(100_000), false),
+    (Set::Tree(100_000), false),
+    (Set::Shared(1), false),
+    (Set::Shared(10), false),
     (Set::Shared(10_000), false),
+    (Set::Pairs(10_000), false),
+    (Set::Map(10_000), false),
+    (Set::TextPairs(10_000), false),
+    (Set::TextMap(10_000), false),
     (Set::Names(10_000), false),
 ];
+
+/// The operations of the table, set by set, and whether a peer keeps its own limits.
+pub fn rows() -> Vec<(Set, Operation, bool)> {
+    let of_set = |(set, limited): (Set, bool)| {
+        let operations = set.operations().into_iter();
+        operations.map(move |it| (set, it, limited))
+    };
+    SETS.into_iter().flat_map(of_set).collect()
+}
 
 /// The deep set, which is run on the machine's own stack too.
 pub const DEEP: Set = Set::List(1_000_000);
@@ -81,7 +130,9 @@ fn stopped(format: Format, operation: Operation) -> Option<String> {
 pub fn deep(format: usize, operation: usize) -> i32 {
     match Format::ALL[format].task(DEEP, Operation::ALL[operation], true) {
         Task::Ready(mut ready) => {
-            let refused = (ready.run)(1) == crate::format::REFUSED;
+            let answer = (ready.run)(1);
+            let is_wrong = ready.expected.is_some_and(|it| answer != it(1));
+            let refused = answer == crate::format::REFUSED || is_wrong;
             // Nothing is freed: that may need a deep stack, too.
             std::process::exit(if refused { 3 } else { 0 })
         }
@@ -147,6 +198,7 @@ pub fn growing() -> Vec<Set> {
         of(Set::Rows),
         of(Set::List),
         of(Set::Shared),
+        of(Set::Map),
     ]
     .concat()
 }
@@ -162,8 +214,8 @@ fn heap_call<F>(name: &[u8]) -> F {
     unsafe { std::mem::transmute_copy(&found) }
 }
 
-// The most of the heap that an operation held beyond what it found, in bytes. What a run prepares is made first, and isn't counted.
-fn peak(ready: &mut Ready) -> usize {
+/// The most of the heap that an operation held beyond what it found, in bytes. What a run prepares is made first, and isn't counted.
+pub fn peak(ready: &mut Ready) -> usize {
     let restart: extern "C" fn(usize) = heap_call(b"heap_restart\0");
     let most: extern "C" fn() -> usize = heap_call(b"heap_most\0");
     let made: extern "C" fn() -> usize = heap_call(b"heap_made\0");
@@ -174,34 +226,53 @@ fn peak(ready: &mut Ready) -> usize {
     most()
 }
 
-/// Prints the heap's peak of each operation whose growth is shown, one line for each set: in bytes, or a dash.
+// What the heap is counted of: the rows of the table, then those of growth.
+fn counted() -> Vec<(Set, Operation)> {
+    let of_table = rows()
+        .into_iter()
+        .map(|(set, operation, _)| (set, operation));
+    let of_growth = growing()
+        .into_iter()
+        .flat_map(|set| GROWTH.map(|it| (set, it)));
+    of_table.chain(of_growth).collect()
+}
+
+/// Prints the heap's peak of each row of the table and of growth, one line for each: in bytes, or a dash.
 pub fn heap() {
-    for set in growing() {
-        for operation in GROWTH {
-            let peaks = GROWING.map(|format| match format.task(set, operation, false) {
-                Task::Ready(mut ready) => peak(&mut ready).to_string(),
-                Task::Absent => "-".into(),
-            });
-            println!("{}", peaks.join(" "));
-        }
+    for (set, operation) in counted() {
+        let peaks = GROWING.map(|format| match format.task(set, operation, false) {
+            Task::Ready(mut ready) => peak(&mut ready).to_string(),
+            Task::Absent => "-".into(),
+        });
+        println!("{}", peaks.join(" "));
     }
 }
 
-/// The lines of `heap`, run in a child that counts its heap.
-pub fn heap_of_child() -> Vec<Vec<Option<usize>>> {
+/// What this program prints in a child that counts its heap.
+pub fn said_by_child(words: &[&str]) -> String {
     let child = std::env::current_exe().expect("the program's path");
     let done = Command::new(child)
-        .arg("heap")
+        .args(words)
         .env("LD_PRELOAD", env!("HEAP_LIBRARY"))
         .output()
         .expect("a child");
-    assert!(
-        done.status.success(),
-        "counting the heap: {}",
-        String::from_utf8_lossy(&done.stderr)
-    );
-    let said = String::from_utf8_lossy(&done.stdout).into_owned();
-    said.lines()
-        .map(|line| line.split(' ').map(|it| it.parse().ok()).collect())
-        .collect()
+    let why = String::from_utf8_lossy(&done.stderr);
+    assert!(done.status.success(), "counting the heap: {why}");
+    String::from_utf8_lossy(&done.stdout).into_owned()
+}
+
+/// The lines of `heap`: the rows of the table, then those of growth.
+pub fn heap_of_child() -> (Vec<HeapRow>, Vec<HeapRow>) {
+    let said = said_by_child(&["heap"]);
+    let peaks_of = |line: &str| line.split(' ').map(|it| it.parse().ok()).collect();
+    let counted = counted().into_iter().zip(said.lines());
+    let mut rows_of_table: Vec<HeapRow> = counted
+        .map(|((set, operation), line)| HeapRow {
+            set,
+            operation,
+            peaks: peaks_of(line),
+        })
+        .collect();
+    let growth = rows_of_table.split_off(rows().len());
+    (rows_of_table, growth)
 }

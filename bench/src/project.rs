@@ -1,71 +1,46 @@
-//! The project's exports, on archives made by hand. An export that its static library hasn't yet is a row that says so.
+//! The project's exports, on archives made by hand. An export that its static library hasn't is a row with a dash.
 
-use crate::format::{Operation, Ready, Set, Task, REFUSED};
+use crate::archives;
+use crate::format::{Operation, Ready, Set, Task};
 use crate::sets;
+use std::cell::OnceCell;
 
 include!(concat!(env!("OUT_DIR"), "/exports.rs"));
+
+// How many numbers are written in turns.
+const NUMBERS: usize = 1024;
 
 // Archives of one length, one after another, so that a small one differs from round to round; a large one is alone.
 fn archives(set: Set) -> (Vec<u8>, usize) {
     if set == Set::Number {
-        return (
-            sets::numbers(1024)
-                .iter()
-                .flat_map(|n| n.to_le_bytes())
-                .collect(),
-            4,
-        );
+        let numbers = sets::numbers(NUMBERS);
+        return (numbers.iter().flat_map(|n| n.to_le_bytes()).collect(), 4);
     }
-    let one = sets::archive(set);
+    let one = archives::archive(set);
     let copies = if one.len() <= 64 { 64 } else { 1 };
     (one.repeat(copies), one.len())
 }
 
-// What an export answers; 0 is a refusal, or no memory, where nothing else says which number is right.
-fn told(answer: usize, count: usize, known: bool) -> u64 {
-    if answer == 0 && count > 0 && !known {
-        return REFUSED;
+// The number of an operation, as exports take it.
+fn number(operation: Operation) -> u32 {
+    match operation {
+        Operation::Access => 1,
+        Operation::Read => 2,
+        Operation::WriteNew => 3,
+        Operation::WriteReused => 4,
+        Operation::Check | Operation::Seal => 0,
+        Operation::Compare | Operation::Get | Operation::View => 0,
     }
-    answer as u64
 }
 
-fn on_bytes(set: Set, operation: Operation, call: Bytes) -> Ready {
-    let (bytes, step) = archives(set);
-    let expected: Option<Box<dyn Fn(usize) -> u64>> = match (operation, set) {
-        (Operation::Check | Operation::Access, _) => Some(Box::new(|count| count as u64)),
-        (Operation::Read, Set::Number) => {
-            let numbers = sets::numbers(1024);
-            Some(Box::new(move |count| {
-                (0..count).map(|i| u64::from(numbers[i % 1024])).sum()
-            }))
-        }
-        (Operation::Read, Set::Record | Set::Plain | Set::Own) => Some(Box::new(|count| {
-            ("hello world".len() + 4) as u64 * count as u64
-        })),
-        (Operation::Read, Set::List(n)) => {
-            Some(Box::new(move |count| n.min(1) as u64 * count as u64))
-        }
-        (Operation::Read, _) => Some(Box::new(move |count| (set.size() * count) as u64)),
-        (Operation::Compare, _) => {
-            let names = sets::names(set.size());
-            let lesser = names.windows(2).filter(|it| it[0] < it[1]).count();
-            Some(Box::new(move |count| (lesser * count) as u64))
-        }
-        _ => None,
-    };
-    let known = expected.is_some();
-    let run = Box::new(move |count| {
-        told(
-            unsafe { call(bytes.as_ptr(), bytes.len(), step, count) },
-            count,
-            known,
-        )
-    });
-    Ready {
-        run,
-        expected,
-        bytes: step,
-        prepares: true,
+// What a round of reading back is told by.
+fn told(set: Set) -> usize {
+    match set {
+        Set::Record | Set::Plain => "hello world".len() + 4,
+        Set::Own => "hello world".len() + sets::TAGS.len(),
+        Set::List(n) | Set::Records(n) => n.min(1),
+        Set::Tree(n) => n.min(10),
+        _ => set.size(),
     }
 }
 
@@ -79,74 +54,97 @@ fn sum_of_written(archives: &[Vec<u8>], count: usize) -> u64 {
     (0..count).map(one).sum()
 }
 
-// Writes a set that its export makes by itself.
-fn by_size(name: &str, set: Set, reuse: bool) -> Option<Box<dyn FnMut(usize) -> u64>> {
-    let call = size(name)?;
-    Some(Box::new(
-        move |count| unsafe { call(set.size(), count, reuse) } as u64,
-    ))
+// What is written, round by round.
+fn written(set: Set) -> Vec<Vec<u8>> {
+    if set == Set::Number {
+        let numbers = sets::numbers(NUMBERS);
+        return numbers.iter().map(|n| n.to_le_bytes().to_vec()).collect();
+    }
+    vec![archives::archive(set)]
 }
 
-fn write(set: Set, reuse: bool) -> Option<Ready> {
-    let name = format!("write_{}", set.export());
-    let mut archived = vec![sets::archive(set)];
-    let bytes = archived[0].len();
-    let run: Box<dyn FnMut(usize) -> u64> = match set {
-        Set::Number | Set::Numbers(_) => {
-            let call = numbers(&name)?;
-            let values = sets::numbers(if set == Set::Number { 1024 } else { set.size() });
-            if set == Set::Number {
-                archived = values.iter().map(|n| n.to_le_bytes().to_vec()).collect();
-            }
-            Box::new(
-                move |count| unsafe { call(values.as_ptr(), values.len(), count, reuse) } as u64,
-            )
+// How many strings are less than the next one.
+fn lesser(size: usize) -> usize {
+    let names = sets::names(size);
+    names.windows(2).filter(|it| it[0] < it[1]).count()
+}
+
+// What an operation returns.
+fn expected(set: Set, operation: Operation) -> Box<dyn Fn(usize) -> u64> {
+    match operation {
+        Operation::Check | Operation::Access | Operation::Seal => Box::new(|count| count as u64),
+        Operation::WriteNew | Operation::WriteReused => {
+            // Made when it is asked for: beside the largest value there is no room for it.
+            let archives = OnceCell::new();
+            Box::new(move |count| sum_of_written(archives.get_or_init(|| written(set)), count))
         }
-        Set::Text(n) => {
-            let call = self::text(&name)?;
-            let value = sets::text(n);
-            Box::new(move |count| unsafe { call(value.as_ptr(), value.len(), count, reuse) } as u64)
+        Operation::Read if set == Set::Number => {
+            let numbers = sets::numbers(NUMBERS);
+            Box::new(move |count| (0..count).map(|i| u64::from(numbers[i % NUMBERS])).sum())
         }
-        Set::Names(_) => return None,
-        Set::Record | Set::Plain | Set::Own => by_size(&name, set, reuse)?,
-        Set::Frames(_) | Set::Events(_) => by_size(&name, set, reuse)?,
-        Set::Rows(_) | Set::List(_) | Set::Shared(_) => by_size(&name, set, reuse)?,
+        Operation::Read => Box::new(move |count| (told(set) * count) as u64),
+        Operation::Compare => {
+            let lesser = lesser(set.size());
+            Box::new(move |count| (lesser * count) as u64)
+        }
+        Operation::Get => Box::new(move |count| sets::sum_of_values(set.size(), count)),
+        Operation::View => Box::new(move |count| sets::sum_of_lengths(set.size(), count)),
+    }
+}
+
+fn on_bytes(set: Set, operation: Operation, call: Run) -> Ready {
+    let (bytes, step) = match operation {
+        Operation::WriteNew | Operation::WriteReused => (Vec::new(), written(set)[0].len()),
+        _ => archives(set),
     };
-    let expected: Option<Box<dyn Fn(usize) -> u64>> =
-        Some(Box::new(move |count| sum_of_written(&archived, count)));
-    Some(Ready {
+    let size = if set == Set::Number {
+        NUMBERS
+    } else {
+        set.size()
+    };
+    let number = number(operation);
+    let run = Box::new(move |count| {
+        let answer = unsafe { call(bytes.as_ptr(), bytes.len(), step, size, count, number) };
+        answer as u64
+    });
+    Ready {
         run,
-        expected,
-        bytes,
+        expected: Some(expected(set, operation)),
+        bytes: step,
         prepares: true,
-    })
+    }
 }
 
-fn seal(set: Set) -> Option<Ready> {
-    let call = edit(&format!("seal_{}", set.export()))?;
-    let mut bytes = sets::archive(set);
-    Some(Ready {
+fn seal(set: Set, call: Edit) -> Ready {
+    let mut bytes = archives::archive(set);
+    Ready {
         bytes: bytes.len(),
         run: Box::new(move |count| unsafe { call(bytes.as_mut_ptr(), bytes.len(), count) } as u64),
-        expected: Some(Box::new(|count| count as u64)),
+        expected: Some(expected(set, Operation::Seal)),
         prepares: true,
-    })
-}
-
-fn ready(set: Set, operation: Operation) -> Option<Ready> {
-    let verb = match operation {
-        Operation::WriteNew => return write(set, false),
-        Operation::WriteReused => return write(set, true),
-        Operation::Check => "check",
-        Operation::Access => "access",
-        Operation::Read => "read",
-        Operation::Compare => "compare",
-        Operation::Seal => return seal(set),
-    };
-    let call = bytes(&format!("{verb}_{}", set.export()))?;
-    Some(on_bytes(set, operation, call))
+    }
 }
 
 pub fn task(set: Set, operation: Operation) -> Task {
-    ready(set, operation).map_or(Task::Absent, Task::Ready)
+    let export = set.export();
+    let ready = match operation {
+        Operation::Seal => edit(&format!("seal_{export}")).map(|call| seal(set, call)),
+        _ => {
+            let name = match operation {
+                Operation::Compare => format!("compare_{export}"),
+                Operation::Get => format!("get_{export}"),
+                Operation::View => format!("view_{export}"),
+                _ => export.to_string(),
+            };
+            run(&name).map(|call| on_bytes(set, operation, call))
+        }
+    };
+    ready.map_or(Task::Absent, Task::Ready)
+}
+
+/// The most keys that one look-up compares in a sorted map, if the export is there.
+pub fn most_compared(set: Set) -> Option<usize> {
+    let call = run(&format!("get_{}", set.export()))?;
+    let (bytes, step) = archives(set);
+    Some(unsafe { call(bytes.as_ptr(), bytes.len(), step, set.size(), 0, 1) })
 }

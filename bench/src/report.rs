@@ -2,7 +2,7 @@
 
 use crate::format::{grouped, Format, Operation, Set};
 use crate::goals;
-use crate::measure::{self, Cell, Row, GROWING, GROWTH, SETS};
+use crate::measure::{self, Cell, HeapRow, Row, GROWING, GROWTH, SETS};
 use std::fmt::Write;
 use std::fs;
 use std::process::Command;
@@ -190,8 +190,27 @@ fn capital(text: &str) -> String {
         .unwrap_or_default()
 }
 
+// A row for each set and operation, a column for each format and one for the ratio to the least peer.
+fn heap_table(out: &mut String, heap: &[HeapRow]) {
+    let formats = GROWING.map(|it| format!(" {} ", it.title()));
+    writeln!(out, "| set | operation |{}| ratio |", formats.join("|")).unwrap();
+    writeln!(out, "|---|---|{}---:|", "---:|".repeat(GROWING.len())).unwrap();
+    for row in heap {
+        let shown = |it: &Option<usize>| it.map_or("–".into(), |it| grouped(it as f64));
+        let peaks: Vec<String> = row.peaks.iter().map(shown).collect();
+        let of_least = match row.of_least() {
+            None => "–".into(),
+            Some(it) if it.is_infinite() => "above 0".into(),
+            Some(it) => format!("**{}**", ratio(it)),
+        };
+        let (set, operation) = (row.set.title(), row.operation.title());
+        let peaks = peaks.join(" | ");
+        writeln!(out, "| {set} | {operation} | {peaks} | {of_least} |").unwrap();
+    }
+}
+
 // A row for each set, operation and format, a column for each size.
-fn growth_table(out: &mut String, growth: &[Row], heap: &[Vec<Option<usize>>]) {
+fn growth_table(out: &mut String, growth: &[Row], heap: &[HeapRow]) {
     let sizes = measure::SIZES.map(|it| format!(" {} ", grouped(it as f64)));
     writeln!(out, "| set | operation | format |{}|", sizes.join("|")).unwrap();
     writeln!(
@@ -200,13 +219,13 @@ fn growth_table(out: &mut String, growth: &[Row], heap: &[Vec<Option<usize>>]) {
         ["---:"; measure::SIZES.len()].join("|")
     )
     .unwrap();
-    let rows: Vec<(&Row, &Vec<Option<usize>>)> = growth.iter().zip(heap).collect();
+    let rows: Vec<(&Row, &HeapRow)> = growth.iter().zip(heap).collect();
     for family in rows.chunks(measure::SIZES.len() * GROWTH.len()) {
         for operation in GROWTH {
             for (place, format) in GROWING.iter().enumerate() {
                 let of_operation = family.iter().filter(|(row, _)| row.operation == operation);
                 let cells = of_operation
-                    .map(|(row, peaks)| grown(row, peaks[place], place))
+                    .map(|(row, heap)| grown(row, heap.peaks[place], place))
                     .collect::<Vec<_>>();
                 let set = family[0].0.set.family();
                 writeln!(
@@ -309,38 +328,60 @@ fn readme(table: &str) {
     fs::write(README, whole).expect("the README is written");
 }
 
+/// What a run measured, and with what.
+pub struct Taken {
+    pub machine: Machine,
+    pub rounds: usize,
+    /// How many others ran beside it, on average.
+    pub others: f64,
+    pub rows: Vec<Row>,
+    /// The heap of each of these rows.
+    pub heap: Vec<HeapRow>,
+    pub growth: Vec<Row>,
+    /// And of those of growth.
+    pub heap_growth: Vec<HeapRow>,
+}
+
+const HEAP: &str = "\n## The heap
+
+The most bytes that an operation held beyond the value, the bytes or the schema it is given, what it makes included, as a counter in place of `malloc`
+tells (`bench/heap`). The ratio is archive-core's to the least of the peers'.
+
+";
+
+const GROWS: &str = "\n## How time and heap grow
+
+By the number of elements: nanoseconds · bytes of heap, each **divided by that number**. Where they stay the same from one size to the next, time or
+heap is linear.
+
+";
+
 /// Writes RESULTS.md and the README's table.
-pub fn write(
-    machine: &Machine,
-    rows: &[Row],
-    growth: &[Row],
-    heap: &[Vec<Option<usize>>],
-    rounds: usize,
-    others: f64,
-) {
+pub fn write(taken: &Taken) {
+    let rows = &taken.rows;
     let mut out = String::from("# archive-core beside its peers\n\n");
-    out.push_str(&warning(others));
+    out.push_str(&warning(taken.others));
     out.push_str(INTRODUCTION);
     out.push('\n');
-    for line in &machine.lines {
+    for line in &taken.machine.lines {
         writeln!(out, "- {line}").unwrap();
     }
-    writeln!(out, "- The least of {rounds} rounds. Load of the machine (1, 5 and 15 minutes): {} at the start, {} at the end.", machine.load, load()).unwrap();
+    let (rounds, at_start) = (taken.rounds, &taken.machine.load);
+    writeln!(out, "- The least of {rounds} rounds. Load of the machine (1, 5 and 15 minutes): {at_start} at the start, {} at the end.", load()).unwrap();
     writeln!(
         out,
         "\n![The ratios as bars](results.svg)\n\n## What is wanted, and what was measured\n\n{}",
-        goals::table(rows)
+        goals::table(rows, &taken.heap)
     )
     .unwrap();
     writeln!(out, "## The ratios\n\n{}", short_table(rows, |_| true)).unwrap();
     out.push_str("## Times, speeds and ratios\n");
     tables(&mut out, rows);
-    out.push_str("\n## How time and heap grow\n\n");
-    out.push_str("By the number of elements: nanoseconds · bytes of heap, each **divided by that number**. Where they stay the same from one size to the\n");
-    out.push_str("next, time or heap is linear. The heap is the most that an operation held beyond the value, the bytes or the schema it is given, what\n");
-    out.push_str("it makes included, as a counter in place of `malloc` tells (`bench/heap`).\n\n");
-    growth_table(&mut out, growth, heap);
+    out.push_str(HEAP);
+    heap_table(&mut out, &taken.heap);
+    out.push_str(GROWS);
+    growth_table(&mut out, &taken.growth, &taken.heap_growth);
     fs::write("RESULTS.md", out).expect("RESULTS.md is written");
     let table = short_table(rows, |title| IN_README.contains(&title));
-    readme(&(warning(others) + &table));
+    readme(&(warning(taken.others) + &table));
 }

@@ -2,7 +2,8 @@
 //! with `check_archived_root`, read back with `from_bytes`. A number is written over through `archived_root_mut`, strings are compared by `cmp`.
 
 use crate::format::{Operation, Ready, Set, Task, REFUSED};
-use crate::sets;
+use crate::rkyv_types::{Drawing, Event, Line, List, Node, Plain, Point, Record, Row, Spot, Tree};
+use crate::{archives, sets};
 use bytecheck::CheckBytes;
 use rkyv::de::deserializers::SharedDeserializeMap;
 use rkyv::ser::serializers::{
@@ -12,77 +13,11 @@ use rkyv::ser::serializers::{
 use rkyv::ser::Serializer;
 use rkyv::validation::validators::DefaultValidator;
 use rkyv::{AlignedVec, Archive, Deserialize, Fallible, Infallible, Serialize};
+use std::collections::BTreeMap;
 use std::fmt::Debug;
 use std::hint::black_box;
 use std::pin::Pin;
 use std::rc::Rc;
-
-#[derive(Archive, Serialize, Deserialize)]
-#[archive_attr(derive(CheckBytes))]
-pub struct Record {
-    byte: u8,
-    text: String,
-    list: Option<Vec<i32>>,
-}
-
-#[derive(Archive, Serialize, Deserialize)]
-#[archive_attr(derive(CheckBytes))]
-pub struct Plain {
-    byte: u8,
-    text: String,
-    list: Vec<i32>,
-}
-
-#[derive(Archive, Serialize, Deserialize)]
-#[archive_attr(derive(CheckBytes))]
-pub struct Corner {
-    x: i32,
-    y: i32,
-}
-
-#[derive(Archive, Serialize, Deserialize)]
-#[archive_attr(derive(CheckBytes))]
-pub struct Frame {
-    id: u64,
-    from: Corner,
-    to: Corner,
-    label: String,
-}
-
-#[derive(Archive, Serialize, Deserialize)]
-#[archive_attr(derive(CheckBytes))]
-pub enum Event {
-    Quit,
-    Key(char),
-    Text(String),
-    Move { x: i32, y: i32 },
-    Batch(Vec<u32>),
-}
-
-#[derive(Archive, Serialize, Deserialize)]
-#[archive_attr(derive(CheckBytes))]
-pub struct Row {
-    id: u64,
-    name: String,
-    values: Vec<u32>,
-}
-
-#[derive(Archive, Serialize, Deserialize)]
-#[archive(bound(serialize = "__S: Serializer"))]
-#[archive_attr(
-    derive(CheckBytes),
-    check_bytes(
-        bound = "__C: rkyv::validation::ArchiveContext, <__C as rkyv::Fallible>::Error: std::error::Error"
-    )
-)]
-pub enum Node {
-    Nil,
-    Cons(
-        #[omit_bounds]
-        #[archive_attr(omit_bounds)]
-        Box<Node>,
-    ),
-}
 
 type Scratch = FallbackScratch<HeapScratch<1024>, AllocScratch>;
 // `M` keeps what is shared: nothing, or a map.
@@ -173,7 +108,9 @@ where
                 count as u64
             })
         }
-        Operation::Seal | Operation::Compare => unreachable!("they have tasks of their own"),
+        Operation::Seal | Operation::Compare | Operation::Get | Operation::View => {
+            unreachable!("they have tasks of their own")
+        }
     };
     Ready {
         run,
@@ -258,36 +195,37 @@ fn compare(n: usize) -> Ready {
     }
 }
 
-fn corner((x, y): (i32, i32)) -> Corner {
-    Corner { x, y }
-}
-
-fn frames(n: usize) -> Vec<Frame> {
-    let made = (0..n).map(sets::frame);
-    made.map(|(id, [from, to], label)| Frame {
-        id,
-        from: corner(from),
-        to: corner(to),
-        label,
-    })
-    .collect()
-}
-
-fn event(i: usize) -> Event {
-    match i % 5 {
-        0 => Event::Quit,
-        1 => Event::Key(sets::key(i)),
-        2 => Event::Text(sets::row(i).1),
-        3 => {
-            let Corner { x, y } = corner(sets::frame(i).1[0]);
-            Event::Move { x, y }
-        }
-        _ => Event::Batch(sets::row(i).2),
+fn point() -> Point {
+    Point {
+        x: 3,
+        y: -4,
+        name: "hello world".into(),
+        tags: sets::TAGS.map(String::from).to_vec(),
     }
 }
 
-fn events(n: usize) -> Vec<Event> {
-    (0..n).map(event).collect()
+fn line(i: usize) -> Line {
+    let [from, to] = sets::line(i).map(|(right, up)| Spot { right, up });
+    Line { from, to }
+}
+
+fn event(i: usize) -> Event {
+    match sets::event(i) {
+        sets::Event::Quit => Event::Quit,
+        sets::Event::Key(key) => Event::Key(key),
+        sets::Event::Text(text) => Event::Text(text),
+        sets::Event::Move(x, y) => Event::Move { x, y },
+        sets::Event::Batch(numbers) => Event::Batch(numbers),
+    }
+}
+
+fn drawing(i: usize) -> Drawing {
+    Drawing {
+        first: line(i),
+        lines: (i..i + 3).map(line).collect(),
+        last: (i % 2 == 0).then(|| Box::new(line(i))),
+        event: event(i),
+    }
 }
 
 fn rows(n: usize) -> Vec<Row> {
@@ -300,16 +238,100 @@ fn list(n: usize) -> Node {
     (0..n).fold(Node::Nil, |inner, _| Node::Cons(Box::new(inner)))
 }
 
-/// What rkyv writes of a list of numbers or a chain.
-pub fn written(set: Set) -> Vec<u8> {
-    match set {
-        Set::Numbers(n) => rkyv::to_bytes::<_, 256>(&sets::numbers(n))
-            .expect("rkyv writes it")
-            .to_vec(),
-        _ => rkyv::to_bytes::<_, 256>(&list(set.size()))
-            .expect("rkyv writes it")
-            .to_vec(),
+fn records(n: usize) -> List {
+    let numbers = sets::numbers(n).into_iter();
+    numbers.fold(List::Nil, |rest, it| List::Cons(it, Box::new(rest)))
+}
+
+fn tree(index: usize, height: usize) -> Tree {
+    let children = index * 10..index * 10 + 10;
+    Tree {
+        value: sets::number(index),
+        children: match height {
+            0 => Vec::new(),
+            _ => children.map(|it| tree(it, height - 1)).collect(),
+        },
     }
+}
+
+fn pairs(n: usize) -> Vec<(bool, u32)> {
+    (0..n).map(|i| (sets::bit(i), sets::number(i))).collect()
+}
+
+fn entries(n: usize) -> BTreeMap<u32, u32> {
+    (0..n).map(|i| (sets::key(i), sets::number(i))).collect()
+}
+
+fn texts(n: usize) -> impl Iterator<Item = (String, u32)> {
+    (0..n).map(|i| (sets::name(i), sets::number(i)))
+}
+
+// Goes through rows that were checked once.
+fn view(n: usize) -> Ready {
+    let archive = rkyv::to_bytes::<_, 256>(&rows(n)).expect("rkyv writes it");
+    Ready {
+        bytes: archive.len(),
+        run: Box::new(move |count| {
+            let sum = |_| {
+                let rows = unsafe { rkyv::archived_root::<Vec<Row>>(black_box(&archive)) };
+                let lengths = rows.iter().map(|it| it.name.len() + it.values.len());
+                lengths.sum::<usize>() as u64
+            };
+            (0..count).map(sum).sum()
+        }),
+        expected: Some(Box::new(move |count| sets::sum_of_lengths(n, count))),
+        prepares: false,
+    }
+}
+
+// Looks keys up in a map that was checked once.
+fn get(set: Set) -> Ready {
+    let n = set.size();
+    let next = move |index: usize| (index + sets::STRIDE) % n;
+    let archive = match set {
+        Set::Map(_) => rkyv::to_bytes::<_, 256>(&entries(n)),
+        _ => rkyv::to_bytes::<_, 256>(&texts(n).collect::<BTreeMap<String, u32>>()),
+    }
+    .expect("rkyv writes it");
+    let bytes = archive.len();
+    let run: Box<dyn FnMut(usize) -> u64> = match set {
+        Set::Map(_) => {
+            let keys: Vec<u32> = (0..n).map(sets::key).collect();
+            Box::new(move |count| {
+                let map = unsafe { rkyv::archived_root::<BTreeMap<u32, u32>>(black_box(&archive)) };
+                let indices = std::iter::successors(Some(0), |it| Some(next(*it))).take(count);
+                let values = indices.filter_map(|it| map.get(&keys[it]));
+                values.map(|it| u64::from(*it)).sum()
+            })
+        }
+        _ => {
+            let keys: Vec<String> = (0..n).map(sets::name).collect();
+            Box::new(move |count| {
+                let map =
+                    unsafe { rkyv::archived_root::<BTreeMap<String, u32>>(black_box(&archive)) };
+                let indices = std::iter::successors(Some(0), |it| Some(next(*it))).take(count);
+                let values = indices.filter_map(|it| map.get(keys[it].as_str()));
+                values.map(|it| u64::from(*it)).sum()
+            })
+        }
+    };
+    Ready {
+        run,
+        expected: Some(Box::new(move |count| sets::sum_of_values(n, count))),
+        bytes,
+        prepares: false,
+    }
+}
+
+/// What rkyv writes of a list of numbers, a chain, a list or a tree.
+pub fn written(set: Set) -> Vec<u8> {
+    let written = match set {
+        Set::Numbers(n) => rkyv::to_bytes::<_, 256>(&sets::numbers(n)),
+        Set::Records(n) => rkyv::to_bytes::<_, 256>(&records(n)),
+        Set::Tree(n) => rkyv::to_bytes::<_, 256>(&tree(0, n.ilog10() as usize)),
+        _ => rkyv::to_bytes::<_, 256>(&list(set.size())),
+    };
+    written.expect("rkyv writes it").to_vec()
 }
 
 // The operation on a value that shares nothing.
@@ -322,25 +344,43 @@ where
 }
 
 pub fn task(set: Set, operation: Operation) -> Task {
+    if operation == Operation::Get {
+        return Task::Ready(get(set));
+    }
     Task::Ready(match set {
         Set::Record if operation == Operation::Seal => seal(),
+        Set::Rows(n) if operation == Operation::View => view(n),
         Set::Number => unshared(42u32, operation, None),
         Set::Text(n) => unshared(sets::text(n), operation, None),
-        Set::Record | Set::Own => unshared(record(), operation, None),
-        Set::Frames(n) => unshared(frames(n), operation, None),
-        Set::Events(n) => unshared(events(n), operation, None),
+        Set::Record => unshared(record(), operation, None),
+        Set::Own => unshared(point(), operation, None),
+        Set::Frames(n) => unshared((0..n).map(drawing).collect::<Vec<_>>(), operation, None),
+        Set::Events(n) => unshared((0..n).map(event).collect::<Vec<_>>(), operation, None),
         Set::Plain => unshared(plain(), operation, None),
         Set::Numbers(n) => unshared(sets::numbers(n), operation, None),
+        Set::Bools(n) => unshared((0..n).map(sets::bit).collect::<Vec<_>>(), operation, None),
+        Set::Chars(n) => unshared(
+            (0..n).map(sets::letter).collect::<Vec<_>>(),
+            operation,
+            None,
+        ),
+        Set::Shorts(n) => unshared((0..n).map(sets::short).collect::<Vec<_>>(), operation, None),
         Set::Rows(n) => unshared(rows(n), operation, None),
         Set::Shared(n) => ready::<_, SharedSerializeMap>(pointers(n), operation, None),
+        Set::Pairs(n) => unshared(pairs(n), operation, None),
+        Set::Map(n) => unshared(entries(n), operation, None),
+        Set::TextPairs(n) => unshared(texts(n).collect::<Vec<_>>(), operation, None),
+        Set::TextMap(n) => unshared(texts(n).collect::<BTreeMap<_, _>>(), operation, None),
         Set::Names(n) => compare(n),
+        Set::Records(n) => unshared(records(n), operation, None),
+        Set::Tree(n) => unshared(tree(0, n.ilog10() as usize), operation, None),
         // Its archive is the project's, so that a check needs no write before it, and no value.
         Set::List(n) => {
             let writes = matches!(operation, Operation::WriteNew | Operation::WriteReused);
             unshared(
                 list(if writes { n } else { 0 }),
                 operation,
-                Some(aligned(&sets::of_list(n))),
+                Some(aligned(&archives::of_list(n))),
             )
         }
     })

@@ -52,6 +52,11 @@ def pair(parts, end="()"):
     return Group("(", [parts[0], pair(parts[1:], end)], ")", CALL) if parts else end
 
 
+def fours(parts):
+    """`FourParts<a, b, c, d, rest>`: four at once, and pairs of those that are left."""
+    return Group("FourParts<", [*parts[:4], fours(parts[4:])], ">") if len(parts) >= 4 else pair(parts)
+
+
 def flat(doc):
     if isinstance(doc, str):
         return doc

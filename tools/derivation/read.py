@@ -9,7 +9,9 @@ from .names import ALIASES, FLOATS, LIBRARY, PRIMITIVES, STD, STD_MODULES, Found
 from .parse import Declared
 from .items import number_of
 
-MOST_FIELDS = 8
+MOST_FIELDS = 10
+# Of a variant, and of a type that is archived as a tuple with names.
+MOST_FEW = 8
 MOST_PARTS = 13
 MOST_VARIANTS = 256
 MOST_ITEMS = 2**32 - 1
@@ -266,8 +268,9 @@ def check_shape(it: Declaration):
         for x in fields:
             if x.name == "now" and it.kind == "struct":
                 raise Refused(it.path, x.line, "`now` has a meaning in contracts; choose another name for the field")
-        if len(fields) > MOST_FIELDS:
-            raise Refused(it.path, fields[MOST_FIELDS].line, f"`{of}` has {len(fields)} fields, and {MOST_FIELDS} are the most; put some into a struct of their own")
+        most = MOST_FIELDS if fields is it.fields and it.kind == "struct" else MOST_FEW
+        if len(fields) > most:
+            raise Refused(it.path, fields[most].line, f"`{of}` has {len(fields)} fields, and {most} are the most; put some into a struct of their own")
     check_name(it, it.name, it.line)
     for p in it.parameters:
         check_name(it, p.name, it.line)
@@ -343,9 +346,72 @@ def module(reader: Reader, source: Source) -> Module:
         raise Refused(source.path, 1, "no struct and no enum is declared here; declare one above the marker")
     check_circles(out.declarations)
     check_nests(out)
+    check_loads(out)
     check_arrays(out)
     check_own_names(out)
     return out
+
+
+# What a call passes of a type grows with how deep the type is, and the toolchain follows only so much ("the impls to pass .. do not end, or are too many").
+# These bounds were found by trying.
+DEEPEST = 5
+MOST_LOAD = 4
+MOST_IN_ENUM = 60
+
+
+def check_loads(module: Module):
+    """Refuses what is too much for the toolchain at once."""
+    for it in module.declarations:
+        if it.as_tuple and len(it.fields) > MOST_FEW:
+            kind = "with type parameters" if it.parameters else "that holds a recursive type"
+            said = f"`{it.name}` has {len(it.fields)} fields, and {MOST_FEW} are the most of a struct {kind}; put some into a struct of their own"
+            raise Refused(module.path, it.fields[MOST_FEW].line, said)
+        if it.as_tuple or it.recursive:
+            continue
+        for fields in [it.fields] + [v.fields for v in it.variants]:
+            check_load(module, fields)
+        load = 0
+        for v in it.variants:
+            load += 2 if v.fields else 1
+            if load > MOST_IN_ENUM:
+                raise Refused(module.path, v.line, f"`{it.name}` has more variants up to here than the toolchain follows; put some into an enum of their own")
+
+
+def check_load(module: Module, fields: List[Field]):
+    load = 0
+    for field in fields:
+        its = depth(field.type)
+        load += max(0, its - 2)
+        if len(fields) > MOST_FEW and not is_light(field.type):
+            said = f"`{field.type.text}` is too much for the toolchain in a struct of more than {MOST_FEW} fields; put it into a struct of its own"
+            raise Refused(module.path, field.type.line, said)
+        if its > DEEPEST or load > MOST_LOAD:
+            said = f"`{field.type.text}` is too deep for the toolchain{'' if its > DEEPEST else ' beside the fields before it'}; put a part of it into a struct"
+            raise Refused(module.path, field.type.line, said)
+
+
+def depth(it: Type) -> int:
+    """How deep a type is; a tuple counts for more."""
+    if not it.args or it.name in ("PhantomData", "NonZero") and it.own is None:
+        return 0
+    inner = max(depth(x) for x in it.args)
+    if it.own is not None:
+        return inner + 2
+    return inner + 1 + (1 + (len(it.args) > 4) + 2 * (len(it.args) > 8) if it.name == "tuple" else 0)
+
+
+def is_light(it: Type) -> bool:
+    """Whether sixteen such fields pass: no type in a type, no tuple, no array, no shared slice."""
+    return depth(it) <= 1 and it.name not in ("array", "OwnedArray", "SharedSlice", "SharedStr", "WeakShared")
+
+
+def found_in(it: Type, is_it) -> Optional[Type]:
+    """The first type of these in a type, other than in a type that the user declared."""
+    if it.parameter or it.own is None and it.name == "PhantomData":
+        return None
+    if is_it(it):
+        return it
+    return next((found for x in it.args if (found := found_in(x, is_it))), None)
 
 
 def check_nests(module: Module):
@@ -378,11 +444,7 @@ def check_arrays(module: Module):
 
 def array_in(it: Type, names: Set[str]) -> Optional[Type]:
     """The first array in a type, other than in a type that the user declared."""
-    if it.parameter or it.own is None and it.name == "PhantomData":
-        return None
-    if it.own is None and it.name in names:
-        return it
-    return next((found for x in it.args if (found := array_in(x, names))), None)
+    return found_in(it, lambda x: x.own is None and x.name in names)
 
 
 def is_map(it: Type) -> bool:

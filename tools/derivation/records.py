@@ -19,6 +19,7 @@ from .common import (
 )
 from .formats import layout_of, snake
 from .layout import Generic, Group, flat, implementation, literal, pair, signature, statement
+from .long import fields_of, is_long, nest, opened, places
 
 
 # Up to so many fields a value is made where it is read.
@@ -57,7 +58,10 @@ class Record(Source):
 
 def text(formats, declaration):
     record = Record(formats, declaration)
-    formats.use("archive_core::fields", f"serialize_record_{record.count}", f"resolve_record_{record.count}")
+    if is_long(record.types):
+        formats.use("archive_core::record", "resolve_record", "serialize_record")
+    else:
+        formats.use("archive_core::fields", f"serialize_record_{record.count}", f"resolve_record_{record.count}")
     pieces = [
         struct(record),
         archive_pointee(record),
@@ -77,13 +81,16 @@ def text(formats, declaration):
 
 def struct(record):
     archived = record.archived
-    parts = statement(0, f"type {record.name}Parts = ", pair(record.formats_of), ";")
-    owned = statement(0, f"type {record.name}Owned = ", pair(record.read), ";")
+    parts = statement(0, f"type {record.name}Parts = ", nest(record.formats_of), ";")
+    owned = statement(0, f"type {record.name}Owned = ", nest(record.read), ";")
+    fields = ""
+    if is_long(record.types):
+        fields = fields_of(record.formats, f"{record.name}Fields", record.name, record.rust, [field.name for field in record.fields])
     return f"""/// An archived `{record.name}`: {record.size} bytes at a multiple of {record.align}.
 {record.visibility}struct {archived};
 
 {parts}
-{owned}"""
+{owned}{fields}"""
 
 
 def check_of(record):
@@ -134,9 +141,11 @@ def archive(record):
     for type, q, v in reversed(list(zip(types, sources, values))):
         planned = f"(part_planned {f.definitions(type)} {f.shape(type)} ({q}.keys {v}) ({q}.meaning {v}) {f.planned(type, v)} {planned})"
     kept = kept_of(f, types) if record.count else "resolver"
-    opened = f"        let {record.resolver} {{ kept }} = resolver;\n{taken_apart(f, types, 8)}" if record.count else ""
+    taken = f"        let {record.resolver} {{ kept }} = resolver;\n{taken_apart(f, types, 8)}" if record.count else ""
     arguments = [f"&self.{field.name}" for field in record.fields] + [kept, "Place::new(pos, bytes)"]
     call = Generic(f"resolve_record_{record.count}", record.rust + [record.archived], arguments)
+    if is_long(types):
+        call = Generic("resolve_record", ["Self", f"{record.name}Fields", record.archived], ["self", kept, "Place::new(pos, bytes)"])
     return f"""impl Archive for {record.name} {{
 {f.law_lines()}    type Archived = {record.archived};
 
@@ -156,7 +165,7 @@ def archive(record):
 
 {resolve_head(record)}    {{
         let Place {{ bytes, pos, .. }} = place;
-{opened}{statement(8, "", call, "")}    }}
+{taken}{statement(8, "", call, "")}    }}
 }}
 """
 
@@ -165,6 +174,8 @@ def serialize(record):
     bound = record.formats.writer_bound(record.types)
     arguments = [f"&self.{field.name}" for field in record.fields] + ["serializer"]
     call = Generic(f"serialize_record_{record.count}", record.rust + [record.archived, "S"], arguments)
+    if is_long(record.types):
+        call = Generic("serialize_record", ["Self", f"{record.name}Fields", record.archived, "S"], ["self", "serializer"])
     if record.count:
         body = f"""{statement(8, "match ", call, " {")}            Ok(kept) => Ok({record.resolver} {{ kept }}),
             Err(error) => Err(error),
@@ -179,7 +190,7 @@ def serialize(record):
 """
 
 
-def is_long(record):
+def is_made_apart(record):
     """Whether a value is made of those of its fields by a function of its own, whose proof is written beside the module."""
     return record.count > SHORT_RECORD
 
@@ -187,19 +198,19 @@ def is_long(record):
 def read(record):
     record.formats.use("archive_core::record", "deserialize_record")
     call = Generic("deserialize_record", ["Self", f"{record.name}Owned", "D"], ["alloc", "part", "deserializer"])
-    if is_long(record):
+    if is_made_apart(record):
         ok = f"            Ok(values) => Ok({snake(record.name)}_of(values)),\n"
     else:
         ok = ok_arm(flat(pair(record.names)), record.built(), 12)
     impl = deserialize(record, f"""{statement(8, "match ", call, " {")}{ok}            Err(error) => Err(error),
         }}
 """)
-    return f"{made_of(record)}\n{impl}" if is_long(record) else impl
+    return f"{made_of(record)}\n{impl}" if is_made_apart(record) else impl
 
 
 def made_of(record):
     sources = [f"⟦<{read} as Archive>⟧" for read in record.read]
-    values = [f"values{'.1' * i}.0" for i in range(record.count)]
+    values = [f"values{place}" for place in places(record.count)]
     meanings = chain("value", [f"({q}.meaning {v})" for q, v in zip(sources, values)], "no_value")
     keys = infix("++", [f"{q}.keys {v}" for q, v in zip(sources, values)], "[]")
     return f"""// The `{record.name}` of these values, one after another.
@@ -207,14 +218,14 @@ fn {snake(record.name)}_of(values: {record.name}Owned) -> {record.name}
     ensures meaning {{ ⟦<{record.name} as Archive>⟧.meaning result ≡ product {meanings} }}
     ensures keys {{ ⟦<{record.name} as Archive>⟧.keys result ≡ {keys} }}
 {{
-{statement(4, "let ", pair(record.names), " = values;")}{statement(4, "", record.built(), "")}}}
+{opened(record.names, 4)}{statement(4, "", record.built(), "")}}}
 """
 
 
 def proofs(formats, declaration):
     """The proofs that are written beside the module, by their paths in the crate."""
     record = Record(formats, declaration)
-    if not is_long(record):
+    if not is_made_apart(record):
         return {}
     module = "/".join(declaration.module)
     dotted = ".".join((declaration.crate, "proofs") + tuple(declaration.module))
@@ -222,8 +233,8 @@ def proofs(formats, declaration):
     impl = f"{record.archived}Deserialize{record.name}"
     out = {}
     signed = [
-        (f"w{8 * formats.layout(type)[0]}", f"c.args.values{'.1' * i}.0")
-        for i, type in enumerate(record.types)
+        (f"w{8 * formats.layout(type)[0]}", f"c.args.values{place}")
+        for place, type in zip(places(record.count), record.types)
         if type.name in SIGNED and type.own is None
     ]
     if signed:

@@ -27,13 +27,15 @@ fn lesser(names: Ref<'_, ArchivedSlice<ArchivedString>>, from: usize, to: usize)
 }
 
 /// How many strings of an archived list are less than the next one, summed over `count` goes through the list, which was checked once. 0 where it is
-/// refused. `_step` isn't used: all exports that take archives have the same parameters.
+/// refused. The other parameters aren't used: all exports that take archives have the same ones.
 #[unsafe(no_mangle)]
 pub extern "C" fn archive_bench_compare_names(
     alloc: Global,
     bytes: &[u8],
     _step: usize,
+    _size: usize,
     count: usize,
+    _operation: u32,
 ) -> usize
     ensures { count ≡ 0 → result ≡ 0 }
 {

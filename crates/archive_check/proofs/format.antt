@@ -4,6 +4,7 @@ pub mod BytesAt
 pub mod ChoiceVariants
 pub mod Copies
 pub mod EqualExpressions
+pub mod Lanes
 pub mod LegalBytes
 pub mod RecordParts
 pub mod Views

@@ -6,5 +6,6 @@ pub mod AddAnswer
 pub mod PlainData
 pub mod Formats
 pub mod Faults
+pub mod LegalRuns
 pub mod AddedDefinitions
 pub mod TwoVariants

@@ -1,7 +1,9 @@
 //! What a check keeps: the range that regions may lie in, and the shared positions that it came to.
 
-ghost use Rattle.std.specs.Prelude.{◌≡◌, ◌<◌, ◌≤◌, ◌↔◌, IsTrue, OnOk, OnErr, IfOk, IfErr, IsErrOf, Some};
-ghost use Rattle.archive_check.specs.context.PositionStates.{Positions, IsStartAnswer, IsFinishedAs, Starts, finish_answer, finished, entry_as};
+ghost use Rattle.std.specs.Prelude.{◌≡◌, ◌<◌, ◌≤◌, ◌↔◌, ℕ, OnOk, OnErr, IfSome, IfNone, IfOk, IfErr, IsErrOf, Some};
+ghost use Rattle.archive_check.specs.Expressions.{flavor_of, pointee_of};
+ghost use Rattle.archive_check.specs.Shape.{Flavor, Pointee};
+ghost use Rattle.archive_check.specs.context.PositionStates.{Positions, IsStartAnswer, IsFinishedAnswer, NoneFinishedAs, Starts, finish_answer, finished, entry_as};
 ghost use Rattle.archive_check.specs.context.Ranges.{RangeState, subtree_answer, pushed, pop_answer, popped};
 
 pub mod positions;
@@ -81,6 +83,9 @@ pub enum ValidationState {
 /// nothing. The calls are those of rkyv 0.8.18, with positions in place of addresses and with a
 /// flavor and an expression in place of a type's number.
 pub trait SharedContext: Context {
+    // The number is that of this flavor and pointee.
+    ghost numbered: { Self → ℕ → Flavor → Pointee → Type 0 };
+
     /// Comes to a pointee at `position`; `length` is its length in elements or bytes, 0 for one
     /// value. Fails with `TypeMismatch` if the position was started with another flavor or pointee,
     /// else with `MetadataMismatch` if it was with another length; and with `OutOfMemory` if it is
@@ -97,17 +102,17 @@ pub trait SharedContext: Context {
         ensures unchanged { OnErr result (Self.positions self.new ≡ Self.positions self.old) }
         ensures range { Self.state self.new ≡ Self.state self.old };
 
-    /// Whether the position was started with this flavor, pointee and length, and is finished:
-    /// exactly if `start_shared` returns `Finished`, which changes nothing. Our own, so that the
-    /// many pointers to what was checked before are passed over with no wide answer.
-    fn is_finished(
-        &self,
-        flavor: &FlavorInfo,
-        pointee: &Pointee,
-        position: i128,
-        length: usize,
-    ) -> bool
-        ensures { IsTrue result ↔ IsFinishedAs (Self.positions self.now position) (entry_as flavor.now pointee.now length) };
+    /// The number of a flavor and a pointee, by which the many pointers to what was checked before
+    /// are passed over. None only if no position is finished that was started with them. Our own.
+    fn type_number(&self, flavor: &FlavorInfo, pointee: &Pointee) -> Option<usize>
+        ensures number { IfSome result (λ n. Self.numbered self.now n (flavor_of flavor.now) (pointee_of pointee.now)) }
+        ensures none { IfNone result (NoneFinishedAs (Self.positions self.now) flavor.now pointee.now) };
+
+    /// Whether the position was started with this length and with the flavor and pointee of this
+    /// number, and is finished: exactly if `start_shared` returns `Finished`, which changes nothing.
+    /// The caller must ensure that `type_number` gave the number. Our own.
+    fn is_finished_as(&self, number: usize, position: i128, length: usize) -> bool
+        ensures { IsFinishedAnswer (Self.numbered self.now number) (Self.positions self.now position) length result };
 
     /// Leaves the pointee at `position`, whatever its flavor and pointee. Fails with `NotStarted`
     /// exactly if it wasn't started, and with `AlreadyFinished` exactly if it is finished.

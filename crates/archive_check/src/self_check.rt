@@ -1,11 +1,11 @@
 //! Types that validate themselves: with no schema, no list and no memory. A type names its check;
 //! one whose values are shared or recursive names `BySchema`.
 
-ghost use Rattle.std.specs.Prelude.{Bool, ◌≡◌, ◌+◌, ◌≤◌, ℕ, length, OnSome, IfNone, false, IsTrue};
+ghost use Rattle.std.specs.Prelude.{Bool, ◌≡◌, ◌+◌, ◌*◌, ◌≤◌, ℕ, length, OnSome, IfNone, false, IsTrue};
 ghost use Rattle.std.specs.Int.{w8};
 ghost use Rattle.archive_check.specs.Shape.{Shape, leaf, unit};
 ghost use Rattle.archive_check.specs.Definitions.{Definitions, no_definition};
-ghost use Rattle.archive_check.specs.SelfCheck.Ways.{shape_way};
+ghost use Rattle.archive_check.specs.SelfCheck.Ways.{shape_way, AreGood};
 ghost use Rattle.archive_check.specs.context.Pushes.{Spends};
 ghost use Rattle.archive_check.specs.SelfCheck.Steps.{Went, Stopped};
 
@@ -26,7 +26,7 @@ mod variants;
 pub use arrays::ArrayCheck;
 pub use elements::VecCheck;
 pub use entries::MapCheck;
-pub use leaves::check_leaf;
+pub use leaves::{check_first_leaves, check_leaf};
 pub use parts::{CheckedParts, RecordCheck};
 pub use roots::check_root;
 pub use texts::{BoxStrCheck, StringCheck};
@@ -74,6 +74,19 @@ pub trait SelfCheck {
         ensures stops { IsTrue direct → Stopped C.Context context definitions (shape_way bytes.now at shape) result refusal }
         ensures spends { Spends span (C.state context.old) (C.state context.new) }
         ensures positions { OnSome result (C.positions context.new ≡ C.positions context.old) };
+
+    /// How many values at the front are known to be valid at once, by default none.
+    ///
+    /// `check_at` checks the others. There are `count` of them, `step` bytes apart from `at` on; the
+    /// caller must ensure that all lie in the bytes. Our own.
+    #[inline(always)]
+    fn check_first(_bytes: &[u8], _at: usize, _step: usize, _count: usize) -> usize
+        requires { _at + _count * _step ≤ length _bytes.now }
+        ensures few { result ≤ _count }
+        ensures good { AreGood definitions _bytes.now _at _step shape result }
+    {
+        0
+    }
 }
 
 /// The check of a type that doesn't validate itself: it goes by its schema.

@@ -128,19 +128,10 @@ pub fn to_bytes<T: Serialize<HighSerializer<Vec<u8>, Global>>>(
     to_bytes_with_alloc(alloc, value, alloc)
 }
 
-/// Checks that `bytes` are an archive whose root, a `T`, lies at `pos`. The caller must ensure that
-/// the context's range ends in the buffer. In a fresh context for these bytes the result is exact.
-/// In any context the check enters at most one region and one for each four bytes of the context's
-/// range, so 1 + n / 4 in n bytes; and if it succeeds with levels left, levels are left. A type
-/// that validates itself takes no memory; else it comes from `alloc`.
-///
-/// Errors:
-/// - `OutOfMemory`: memory is refused.
-/// - `ShapeConflict`, `RecursiveLayout`: the definitions of `T` have no meaning; no byte is looked
-///   at.
-/// - in a fresh context the first fault of the bytes, in the order that docs/FORMAT.md gives; in
-///   any with levels left an error that a check can find.
-pub fn check_pos_with_context<T: Portable, C: ArchiveContext + SharedContext>(
+// `check_pos_with_context` by the schema of `T`, which is compiled for this one check. It is a call,
+// so that callers have little in line besides the check of a type that validates itself.
+#[inline(never)]
+fn check_by_schema<T: Portable, C: ArchiveContext + SharedContext>(
     alloc: Global,
     bytes: &[u8],
     pos: usize,
@@ -154,11 +145,40 @@ pub fn check_pos_with_context<T: Portable, C: ArchiveContext + SharedContext>(
     ensures few_subtrees { FewPushed (C.state context.old) (C.state context.new) }
 {
     prove!(bytes.len() <= usize::MAX);
+    let schema = Schema::of::<T>(alloc)?;
+    schema.check(bytes, pos, context)
+}
+
+/// Checks that `bytes` are an archive whose root, a `T`, lies at `pos`. The caller must ensure that
+/// the context's range ends in the buffer. In a fresh context for these bytes the result is exact.
+/// In any context the check enters at most one region and one for each four bytes of the context's
+/// range, so 1 + n / 4 in n bytes; and if it succeeds with levels left, levels are left. A type
+/// that validates itself takes no memory; else it comes from `alloc`.
+///
+/// Errors:
+/// - `OutOfMemory`: memory is refused.
+/// - `ShapeConflict`, `RecursiveLayout`: the definitions of `T` have no meaning; no byte is looked
+///   at.
+/// - in a fresh context the first fault of the bytes, in the order that docs/FORMAT.md gives; in
+///   any with levels left an error that a check can find.
+#[inline(always)]
+pub fn check_pos_with_context<T: Portable, C: ArchiveContext + SharedContext>(
+    alloc: Global,
+    bytes: &[u8],
+    pos: usize,
+    context: &mut C,
+) -> Result<(), Error>
+    requires { (C.state context.old).end ≤ length bytes.now }
+    ensures meaning { IfErr result (LacksSchema T.Portable) }
+    ensures answer { AnswersIn T.definitions T.shape C.Context context bytes.now pos result }
+    ensures of_check { IfErr result (IsAnswerable T.shape T.definitions (C.state context.old).depth) }
+    ensures levels { OnOk result (KeepsLevels (C.state context.old) (C.state context.new)) }
+    ensures few_subtrees { FewPushed (C.state context.old) (C.state context.new) }
+{
     if T::Check::is_direct() {
         return check_root::<T, C>(bytes, pos, context);
     }
-    let schema = Schema::of::<T>(alloc)?;
-    schema.check(bytes, pos, context)
+    check_by_schema::<T, C>(alloc, bytes, pos, context)
 }
 
 /// Checks that `bytes` are an archive whose root, a `T`, lies at `pos`, and returns the root's
@@ -169,6 +189,7 @@ pub fn check_pos_with_context<T: Portable, C: ArchiveContext + SharedContext>(
 /// - `ShapeConflict`, `RecursiveLayout`: the definitions of `T` have no meaning; no byte is looked
 ///   at.
 /// - the first fault of the bytes, in the order that docs/FORMAT.md gives.
+#[inline(always)]
 pub fn access_pos<'a, T: Portable>(
     alloc: Global,
     bytes: &'a [u8],
@@ -185,6 +206,7 @@ pub fn access_pos<'a, T: Portable>(
 
 /// Checks that `bytes` are an archive whose root, a `T`, lies at the end, and returns the root's
 /// view. Memory comes from `alloc`. Fails as `access_pos` does.
+#[inline(always)]
 pub fn access<'a, T: Portable>(alloc: Global, bytes: &'a [u8]) -> Result<Ref<'a, T>, Error>
     ensures answer { Answers T.definitions bytes.now None (root_in bytes.now T.layout) T.shape result }
     ensures buffer { IfOk result (λ r. r.bytes.now ≡ bytes.now) }
@@ -222,6 +244,7 @@ pub fn access_pos_with_context<'a, T: Portable, C: ArchiveContext + SharedContex
 /// Checks that `bytes` are an archive whose root, a `T`, lies at the end, and returns the root's
 /// view. The caller must ensure that the context is a fresh one of these bytes. Memory comes from
 /// `alloc`. Fails as `access_pos_with_context` does.
+#[inline(always)]
 pub fn access_with_context<'a, T: Portable, C: ArchiveContext + SharedContext>(
     alloc: Global,
     bytes: &'a [u8],

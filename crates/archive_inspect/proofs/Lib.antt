@@ -1,1 +1,5 @@
+pub mod EntryLayouts
 pub mod Explained
+pub mod Refused
+pub mod Variants
+pub mod WaySteps

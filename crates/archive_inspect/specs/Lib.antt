@@ -1,6 +1,15 @@
 pub mod Explained
+pub mod Points
+pub mod Ways
 pub use Rattle.archive_check.specs.Archives
 pub use Rattle.archive_check.specs.Expressions
 pub use Rattle.archive_check.specs.declared.format.error.Error
 pub use Rattle.archive_schema.specs.Given
 pub use Rattle.archive_schema.specs.Schemas
+pub use Rattle.archive_check.specs.Definitions
+pub use Rattle.archive_check.specs.Keys
+pub use Rattle.archive_check.specs.Layout
+pub use Rattle.archive_check.specs.Reads
+pub use Rattle.archive_check.specs.Shape
+pub use Rattle.archive_check.specs.Tour
+pub use Rattle.archive_check.specs.Words.AddAnswer

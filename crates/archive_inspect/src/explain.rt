@@ -1,15 +1,16 @@
 //! Why bytes are no archive of a form, and where.
 
-ghost use Rattle.std.specs.Prelude.{◌≡◌, ◌≢◌, ◌-◌, None, IfOk, IfErr};
+ghost use Rattle.std.specs.Prelude.{◌≡◌, ◌≢◌, ◌-◌, pos, None, IsTrue, IfSome, IfOk, IfErr};
 ghost use Rattle.archive_check.specs.declared.format.error.Error.TheVariants.{OutOfMemory};
 ghost use Rattle.archive_check.specs.Archives.{Answers, ExplainsNoSchema, root_in};
-ghost use Rattle.archive_inspect.specs.Explained.{IsExplained, ExplainsBuffer, ExplainsWhole};
-ghost use Rattle.archive_schema.specs.Schemas.{IsSchemaOf};
+ghost use Rattle.archive_inspect.specs.Explained.{IsExplained, ExplainsBuffer, ExplainsWhole, IsPlaceOf};
+ghost use Rattle.archive_schema.specs.Schemas.{IsSchemaOf, definitions_in, root_of};
 
 use crate::form::Form;
 use crate::route::{Route, route_of};
 use crate::walk::Walker;
 use crate::walk::faults::{FirstFault, Stop};
+use crate::ways::faults::is_refused_by;
 use archive_check::context::HighValidator;
 use archive_check::format::error::Error;
 use archive_check::format::traits::Portable;
@@ -56,7 +57,8 @@ pub fn explain(alloc: Global, form: &Form, bytes: &[u8]) -> Result<Option<Explan
     ensures { IfOk result (ExplainsWhole form.now bytes.now) }
 {
     let answer = form.schema().check_archive(alloc, bytes);
-    explained(alloc, form, bytes, answer)
+    let root = form.schema().root_position(bytes.len());
+    explained(alloc, form, bytes, root, answer)
 }
 
 /// Why the bytes are no archive of a `T` whose root lies at their end: none if they are one. The
@@ -73,7 +75,8 @@ pub fn explain_as<T: Portable>(alloc: Global, bytes: &[u8]) -> Result<Option<Exp
 {
     let form = Form::of::<T>(alloc)?;
     let answer = check_as::<T>(alloc, &form, bytes);
-    let explanation = explained(alloc, &form, bytes, answer)?;
+    let root = root_position::<T>(bytes.len());
+    let explanation = explained(alloc, &form, bytes, root, answer)?;
     Ok(explanation)
 }
 
@@ -95,19 +98,21 @@ fn check_as<T: Portable>(alloc: Global, form: &Form, bytes: &[u8]) -> Result<(),
     form.schema().check(bytes, root, &mut context)
 }
 
-// What is explained where the check answered so. Fails if memory is refused, as the answer may say.
+// What is explained where the check answered so of a root. Fails if memory is refused, as the answer
+// may say.
 fn explained(
     alloc: Global,
     form: &Form,
     bytes: &[u8],
+    root: usize,
     answer: Result<(), Error>,
 ) -> Result<Option<Explanation>, AllocError>
-    ensures { IfOk result (IsExplained answer) }
+    ensures { IfOk result (IsExplained form.now.schema bytes.now root answer) }
 {
     match answer {
         Ok(()) => Ok(None),
         Err(refusal) => {
-            let explanation = located(alloc, form, bytes, refusal)?;
+            let explanation = located(alloc, form, bytes, root, refusal)?;
             Ok(Some(explanation))
         }
     }
@@ -118,28 +123,25 @@ fn located(
     alloc: Global,
     form: &Form,
     bytes: &[u8],
+    root: usize,
     refusal: Error,
 ) -> Result<Explanation, AllocError>
     ensures same { IfOk result (λ x. x.refusal ≡ refusal) }
     ensures other { IfOk result (λ _. refusal ≢ OutOfMemory) }
+    ensures placed { IfOk result (λ x. IfSome x.place (IsPlaceOf (definitions_in form.now.schema)
+        bytes.now root (root_of form.now.schema) refusal)) }
 {
     match refusal {
         Error::OutOfMemory => Err(AllocError),
         _ => {
-            let place = place_of(alloc, form, bytes, refusal)?;
+            let place = place_of(alloc, form, bytes, root, refusal)?;
             Ok(Explanation { refusal, place })
         }
     }
 }
 
-// The place of the first fault, if it is the one that the check told.
-fn place_of(
-    alloc: Global,
-    form: &Form,
-    bytes: &[u8],
-    refusal: Error,
-) -> Result<Option<FaultPlace>, AllocError> {
-    let mut walk = Walker::quick(alloc, form, bytes);
+// Where a walk stops, if it is for the refusal.
+fn stopped_at(walk: &mut Walker<'_>, refusal: Error) -> Result<Option<FirstFault>, AllocError> {
     for _ in 0..u64::MAX {
         match walk.step() {
             Ok(Some(_)) => {}
@@ -149,10 +151,53 @@ fn place_of(
                 if fault.reason.refusal() != refusal {
                     break;
                 }
-                let way = route_of(alloc, walk.frames(), usize::MAX)?;
-                return Ok(Some(FaultPlace { way, fault }));
+                return Ok(Some(fault));
             }
         }
+    }
+    Ok(None)
+}
+
+// The position of a fault, if it isn't before the buffer.
+fn position_of(fault: &FirstFault) -> Option<usize>
+    ensures { IfSome result (λ n. fault.now.position ≡ pos n) }
+{
+    usize::try_from(fault.position).ok()
+}
+
+// Whether the whole way to a place leads to what was refused.
+fn is_place(form: &Form, bytes: &[u8], root: usize, place: &FaultPlace, refusal: Error) -> bool
+    ensures { IsTrue result → IsPlaceOf (definitions_in form.now.schema) bytes.now root
+        (root_of form.now.schema) refusal place.now }
+{
+    if place.way.left_out != 0 {
+        return false;
+    }
+    match position_of(&place.fault) {
+        Some(position) => { is_refused_by(form, bytes, root, &place.way.steps, position, refusal) }
+        None => false,
+    }
+}
+
+// The place of the first fault: what the walk finds, if the way to it leads to what was refused.
+fn place_of(
+    alloc: Global,
+    form: &Form,
+    bytes: &[u8],
+    root: usize,
+    refusal: Error,
+) -> Result<Option<FaultPlace>, AllocError>
+    ensures { IfOk result (λ place. IfSome place (IsPlaceOf (definitions_in form.now.schema)
+        bytes.now root (root_of form.now.schema) refusal)) }
+{
+    let mut walk = Walker::quick(alloc, form, bytes);
+    let Some(fault) = stopped_at(&mut walk, refusal)? else {
+        return Ok(None);
+    };
+    let way = route_of(alloc, walk.frames(), usize::MAX)?;
+    let place = FaultPlace { way, fault };
+    if is_place(form, bytes, root, &place, refusal) {
+        return Ok(Some(place));
     }
     Ok(None)
 }

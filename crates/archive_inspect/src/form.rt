@@ -5,6 +5,9 @@ ghost use Rattle.std.specs.Prelude.{◌≡◌, IfOk, IfErr};
 ghost use Rattle.archive_check.specs.Archives.{ExplainsNoSchema};
 ghost use Rattle.archive_check.specs.Expressions.{shape_of, entries_of};
 ghost use Rattle.archive_schema.specs.Given.{IsSchemaAmong, ExplainsNoMeaning};
+ghost use Rattle.archive_check.specs.Shape.{definition};
+ghost use Rattle.archive_check.specs.Words.AddAnswer.{IsFound};
+ghost use Rattle.archive_inspect.specs.Points.{Under, MeantBy};
 ghost use Rattle.archive_schema.specs.Schemas.{IsSchemaOf};
 
 pub mod labels;
@@ -104,7 +107,9 @@ impl Form {
     }
 
     /// What a name stands for, and what that stands for if it is one, and so on.
-    pub fn meant<'a>(&'a self, expr: &'a Expr) -> &'a Expr {
+    pub fn meant<'a>(&'a self, expr: &'a Expr) -> &'a Expr
+        ensures { Under self.now.schema (λ s. MeantBy s (shape_of expr.now) (shape_of result.now)) }
+    {
         let definitions = self.schema.definitions();
         let mut meant = expr;
         for _ in 0..definitions.len() {
@@ -134,7 +139,10 @@ impl Form {
 }
 
 // The expression that a name stands for.
-fn definition_of<'a>(definitions: &'a [Def], name: &str) -> Option<&'a Expr> {
+#[tactic(auto, using(archive_check::proofs::Names::Named::tables))]
+fn definition_of<'a>(definitions: &'a [Def], name: &str) -> Option<&'a Expr>
+    ensures { IsFound result (definition (entries_of definitions.now) name.now) }
+{
     for def in definitions {
         if def.name == name {
             return Some(&def.expr);

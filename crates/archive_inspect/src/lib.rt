@@ -8,3 +8,4 @@ pub mod form;
 pub mod route;
 pub mod text;
 pub mod walk;
+mod ways;

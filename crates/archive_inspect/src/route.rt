@@ -13,6 +13,8 @@ pub enum RouteStep {
     Part(usize, &'static str),
     /// To the parts of the variant, by its tag and its name, which is empty if none is known.
     Variant(u8, &'static str),
+    /// From there to the only part, which has no name: nothing is written of it.
+    Only,
     /// To an element, by its number.
     Element(usize),
     /// To the key of an entry, by its number.
@@ -21,6 +23,8 @@ pub enum RouteStep {
     Value(usize),
     /// To the one value that a pointer leads to.
     Target,
+    /// To the text that a pointer leads to: nothing is written of it.
+    Text,
 }
 
 /// As `.name`, `[17]` or `.*`.
@@ -35,6 +39,7 @@ impl fmt::Display for RouteStep {
             RouteStep::Key(number) => write!(f, ".key({number})"),
             RouteStep::Value(number) => write!(f, ".value({number})"),
             RouteStep::Target => f.write_str(".*"),
+            RouteStep::Only | RouteStep::Text => Ok(()),
         }
     }
 }
@@ -48,12 +53,19 @@ pub struct Route {
     pub steps: Vec<RouteStep>,
 }
 
+// Whether nothing is written of any of the steps.
+fn are_silent(steps: &[RouteStep]) -> bool {
+    steps
+        .iter()
+        .all(|step| matches!(step, RouteStep::Only | RouteStep::Text))
+}
+
 /// As `.events[17].Text`; the root alone is `the root`.
 impl fmt::Display for Route {
     fn fmt<W: fmt::Write>(&self, f: &mut fmt::Formatter<W>) -> fmt::Result {
         if self.left_out > 0 {
             f.write_str("..")?;
-        } else if self.steps.is_empty() {
+        } else if are_silent(&self.steps) {
             return f.write_str("the root");
         }
         for step in &self.steps {
@@ -127,6 +139,18 @@ fn variant_in(frame: &Frame<'_>) -> Option<RouteStep> {
     }
 }
 
+// The step of which nothing is written, from a frame to what was begun in it last.
+fn silent_step_in(frame: &Frame<'_>) -> Option<RouteStep> {
+    match frame {
+        Frame::Parts(parts) if parts.begun > 0 && is_only(parts) => Some(RouteStep::Only),
+        Frame::Region(inside) => match &inside.held {
+            Held::Text => Some(RouteStep::Text),
+            _ => None,
+        },
+        _ => None,
+    }
+}
+
 /// The way to what was begun last within these, the last ones of which tell it, so many at most.
 pub fn route_of(alloc: Global, frames: &[Frame<'_>], most: usize) -> Result<Route, AllocError> {
     let mut steps = Vec::new(alloc);
@@ -135,7 +159,7 @@ pub fn route_of(alloc: Global, frames: &[Frame<'_>], most: usize) -> Result<Rout
         if let Some(step) = variant_in(frame) {
             steps.push(step)?;
         }
-        if let Some(step) = step_in(frame) {
+        if let Some(step) = step_in(frame).or(silent_step_in(frame)) {
             steps.push(step)?;
         }
     }

@@ -13,7 +13,7 @@ use archive_check::context::ArchiveContext;
 use archive_check::format::error::Error;
 use archive_check::format::expr::{Defs, Expr, Key, Kind};
 use archive_check::format::traits::{ArchivePointee, MapKey, Portable};
-use archive_check::self_check::{SelfCheck, check_leaf};
+use archive_check::self_check::{SelfCheck, check_first_leaves, check_leaf};
 use archive_num::Integer;
 use std::alloc::{AllocError, Global};
 use std::cmp::Ordering;
@@ -157,6 +157,11 @@ impl<N: Integer> SelfCheck for NonZero<N> {
         context: &mut C,
     ) -> Option<()> {
         check_leaf(non_zero_kind::<N>(), bytes, at, refusal, context)
+    }
+
+    #[inline(always)]
+    fn check_first(bytes: &[u8], at: usize, step: usize, count: usize) -> usize {
+        check_first_leaves(non_zero_kind::<N>(), bytes, at, step, count)
     }
 }
 

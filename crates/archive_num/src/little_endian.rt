@@ -12,7 +12,7 @@ use archive_check::context::ArchiveContext;
 use archive_check::format::error::Error;
 use archive_check::format::expr::{Defs, Expr, Key};
 use archive_check::format::traits::{ArchivePointee, MapKey, Portable};
-use archive_check::self_check::{SelfCheck, check_leaf};
+use archive_check::self_check::{SelfCheck, check_first_leaves, check_leaf};
 use std::alloc::{AllocError, Global};
 use std::cmp::Ordering;
 use std::fmt;
@@ -133,6 +133,11 @@ impl<N: Native> SelfCheck for LittleEndian<N> {
         context: &mut C,
     ) -> Option<()> {
         check_leaf(N::kind(), bytes, at, refusal, context)
+    }
+
+    #[inline(always)]
+    fn check_first(bytes: &[u8], at: usize, step: usize, count: usize) -> usize {
+        check_first_leaves(N::kind(), bytes, at, step, count)
     }
 }
 

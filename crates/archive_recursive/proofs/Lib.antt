@@ -1,3 +1,4 @@
+pub mod Links
 pub mod EndsBefore
 pub mod RecordAs
 pub use Rattle.archive_check.proofs.Reading.ReadVariants
@@ -13,3 +14,5 @@ pub use Rattle.archive_types.proofs.Reading.ReadElements
 pub use Rattle.archive_types.proofs.Reading.ReadRecords
 pub use Rattle.archive_types.proofs.Writing.RunRegions
 pub use Rattle.archive_types.proofs.Writing.WrittenVariants
+pub mod ChainsWritten
+pub mod ChainsRead

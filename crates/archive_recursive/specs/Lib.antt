@@ -1,3 +1,5 @@
+pub mod ChainSteps
+pub mod Chains
 pub mod Held
 pub mod HeldOptions
 pub mod Hollow
@@ -28,3 +30,6 @@ pub use Rattle.archive_types.specs.Writing
 pub use Rattle.archive_write.specs.Written
 pub use Rattle.archive_check.specs.Viewed
 pub use Rattle.archive_core.specs.SealsWritten
+pub use Rattle.archive_check.specs.Denotes
+pub use Rattle.archive_check.specs.SelfCheck
+pub use Rattle.archive_check.specs.context.Pushes

@@ -3,6 +3,7 @@
 #![tactic(auto)]
 
 mod before;
+mod chain;
 mod fields;
 mod hollow;
 mod inner;
@@ -11,6 +12,10 @@ mod part_of;
 mod views;
 
 pub use before::{before_box, before_vec};
+pub use chain::{
+    Chain, ChainBack, ChainCheck, ChainParts, ChainSource, ChainVariants, Head, ReadHead, Rest,
+    WrittenHead, read_chain, serialize_chain,
+};
 pub use fields::{
     resolve_named_case_0, resolve_named_case_1, resolve_named_case_2, resolve_named_case_3,
     resolve_named_case_4, resolve_named_case_5, resolve_named_case_6, resolve_named_case_7,

@@ -20,7 +20,7 @@ use crate::plan::{Node, NodeKind, Part, PointeeKind, Span};
 use archive_check::context::positions::SharedType;
 use archive_check::format::bytes::read_u32;
 use archive_check::format::error::Error;
-use archive_check::format::leaf::is_legal;
+use archive_check::format::leaf::{count_legal, is_legal};
 
 /// A plan, and the bytes that it is checked against.
 #[derive(Clone, Copy)]
@@ -141,6 +141,22 @@ impl Checker<'_> {
         last
     }
 
+    /// How many of the first of the elements at `at`, each of `size` bytes, are known to be legal at once.
+    #[inline(always)]
+    fn count_at_once(&self, node: usize, count: usize, at: usize, size: usize) -> usize
+        requires fits { ElementsFit self.now node count at }
+        requires size { Takes self.now node size }
+        ensures below { result ≤ count }
+        ensures passed { (k : ℕ) → k < result → IsLegalHere self.now node (at + k * size) }
+    {
+        let here = self.nodes[node];
+        match here.kind {
+            NodeKind::Free => count,
+            NodeKind::Leaf(kind) => count_legal(kind, self.bytes, at, size, count),
+            _ => 0,
+        }
+    }
+
     /// How many of the elements at `at`, each of `size` bytes, come before the first that is to be opened; `count` where none is.
     pub fn count_legal(&self, node: usize, count: usize, at: usize, size: usize) -> usize
         requires sound { IsSound self.now }
@@ -150,7 +166,8 @@ impl Checker<'_> {
         ensures opened { result < count → ¬ LiesLegal self.now node (at + result * size) }
         ensures passed { (k : ℕ) → k < result → IsLegalHere self.now node (at + k * size) }
     {
-        for index in 0..count {
+        let known = self.count_at_once(node, count, at, size);
+        for index in known..count {
             if !self.is_legal_here(node, at + index * size) {
                 return index;
             }

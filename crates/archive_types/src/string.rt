@@ -48,7 +48,7 @@ use archive_check::format::expr::{Defs, Expr, Key, Pointee};
 use archive_check::format::layout::Layout;
 use archive_check::self_check::{BoxStrCheck, StringCheck};
 pub use archive_num::repr;
-use archive_write::ser::{ResolverAlloc, Writer};
+use archive_write::ser::{ResolverAlloc, Writer, WriterExt};
 use std::alloc::Global;
 use std::marker::Model;
 
@@ -228,7 +228,7 @@ impl<'a, S: Writer + Keys> SerializeUnsized<S> for Text<'a> {
             return Err(error);
         }
         let pos = serializer.pos();
-        serializer.write(self.text.as_bytes())?;
+        serializer.write_long(self.text.as_bytes())?;
         Ok(pos)
     }
 }

@@ -59,7 +59,9 @@ fn inspect(rt: &HostRuntime, options: &Options<'_>) -> Result<u8> {
 
 // The same for the words of the command line; `--help` is printed with the status 0.
 fn run(rt: &HostRuntime) -> Result<u8> {
-    let words: Vec<String> = env::args(rt)?.collect(rt.alloc())?;
+    let words: Vec<String> = env::args(rt)
+        .context("reading the arguments")?
+        .collect(rt.alloc())?;
     match command(rt.alloc())?.try_get_matches_from(words.as_slice()) {
         Ok(matches) => inspect(rt, &options_of(&matches)),
         Err(error) => {

@@ -70,7 +70,7 @@ impl<W: io::Write + Drop> Tree<'_, W> {
         write!(self.out, "{position:>8}  ")?;
         self.indent(line.level)?;
         match line.step {
-            None => Ok(()),
+            None | Some(RouteStep::Only) | Some(RouteStep::Text) => Ok(()),
             Some(RouteStep::Part(number, "")) => write!(self.out, "{number}: "),
             Some(RouteStep::Part(_, name)) => write!(self.out, "{name}: "),
             Some(RouteStep::Variant(_, name)) => write!(self.out, "{name}: "),

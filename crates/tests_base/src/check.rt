@@ -1,5 +1,6 @@
 // Archived types, their layouts, and the check of bytes against them.
 
+mod blocks;
 mod buffers;
 mod contexts;
 mod definitions;

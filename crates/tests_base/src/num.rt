@@ -2,3 +2,4 @@
 
 mod non_zero;
 mod numbers;
+mod texts;

@@ -8,7 +8,11 @@ mod assertions;
 #[cfg(test)]
 mod comparisons;
 #[cfg(test)]
+mod lengths;
+#[cfg(test)]
 mod reading;
+#[cfg(test)]
+mod resolved;
 #[cfg(test)]
 mod seals;
 #[cfg(test)]

@@ -1,5 +1,6 @@
 // Boxes, vectors, arrays, tuples, options, results, and records and choices of their own.
 
+mod all_tuples;
 mod arrays;
 mod boxed_slices;
 mod copies;

@@ -117,6 +117,30 @@ where
     from_bytes(alloc, archive, &mut ()).ok()
 }
 
+// Whether these bytes are the archive of a value.
+fn is_written<T: Serialize<Vec<u8>>>(alloc: Global, value: &T, archive: &[u8]) -> bool {
+    match bytes_of(alloc, value) {
+        Some(bytes) => bytes.as_slice() == archive,
+        None => false,
+    }
+}
+
+// Whether these bytes are the archive of a value, and of what is read back of them. A test of a long tuple calls this alone, since one call at it is dear.
+pub(crate) fn is_kept<T: Serialize<Vec<u8>> + Drop>(
+    alloc: Global,
+    value: &T,
+    archive: &[u8],
+) -> bool
+where
+    T::Archived: Deserialize<T, ()>,
+{
+    let back: Option<T> = found(alloc, archive);
+    let Some(back) = back else {
+        return false;
+    };
+    is_written(alloc, value, archive) && is_written(alloc, &back, archive)
+}
+
 // The view of the `T` that lies at the end of the bytes.
 pub(crate) fn viewed<'a, T: Portable>(
     rt: &impl Abort,

@@ -1,5 +1,6 @@
 // Shared and weak pointers, pools, seals, and what is compared where it lies.
 
+mod colliding;
 mod comparisons;
 mod contexts;
 mod cycles;

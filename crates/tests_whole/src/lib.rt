@@ -5,3 +5,5 @@
 mod archive;
 #[cfg(test)]
 mod assertions;
+#[cfg(test)]
+mod threads;

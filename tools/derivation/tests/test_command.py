@@ -69,6 +69,14 @@ class Writing(RepositoryTest):
                 self.assertEqual(status, 2)
                 self.assertIn(why, said)
 
+    def test_many_fields_are_a_nest_of_four_at_once(self):
+        fields = ", ".join(f"f{i}: u8" for i in range(10))
+        path = self.put(f"#[derive(Drop)]\npub struct Big {{ {fields} }}\n")
+        self.assertEqual(self.run_command(path), (0, ""))
+        self.assertIn("serialize_record::<Self, BigFields, ArchivedBig, S>(self, serializer)", self.text(path))
+        self.assertNotIn("serialize_record_10", self.text(path))
+        self.assertEqual(self.run_command("--check", path), (0, ""))
+
     def test_names_that_the_library_has_too(self):
         text = "use std::fmt::Error;\n/// A Choice of these.\n#[derive(Drop)]\npub enum Choice { Record(Record), Choice }\n#[derive(Drop)]\npub struct Record { pub x: u8 }\n"
         path = self.put(text)

@@ -28,9 +28,9 @@ class Declarations(RepositoryTest):
         self.assertEqual([(v.name, v.form, len(v.fields)) for v in it.variants], [("Quit", "unit", 0), ("Key", "tuple", 1), ("Move", "struct", 2), ("Batch", "tuple", 1)])
         self.assertEqual(it.variants[1].docs, ["A key."])
 
-    def test_256_variants(self):
-        it = self.declaration(f"enum Many {{ {', '.join(f'V{i}' for i in range(256))} }}")
-        self.assertEqual(len(it.variants), 256)
+    def test_60_variants(self):
+        it = self.declaration(f"enum Many {{ {', '.join(f'V{i}' for i in range(60))} }}")
+        self.assertEqual(len(it.variants), 60)
 
     def test_parameters_bounds_and_where(self):
         it = self.declaration("pub struct Pair<A: Clone + Into<Vec<u8>>, B>(pub A, Box<B>) where B: Debug, A: PartialEq;")

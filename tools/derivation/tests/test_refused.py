@@ -2,6 +2,7 @@
 
 from derivation.model import MARK
 from derivation.read import MOST_FIELDS as MOST
+from derivation.read import MOST_FEW as FEW
 
 from .repository import RepositoryTest
 
@@ -61,6 +62,12 @@ DECLARATIONS = [
     ("struct A<T> { x: u8,\ny: [T; 2] }", "2: an array in a struct with type parameters isn't proved; write a `Vec` in place of `[T; 2]`"),
     ("struct A<T> { x: T,\ny: (u8, T) }", "2: a tuple in a struct with type parameters is too deep for the toolchain; write a struct without parameters"),
     ("struct W<T>(T);\nstruct A { x: Vec<W<Option<W<u8>>>> }", "2: `W<u8>` in a tuple or a struct with type parameters is too deep for the toolchain; write a struct without"),
+    (f"struct A<T> {{ t: T, {LIST.join(f'f{i}: u8' for i in range(FEW))} }}", f"{FEW}: `A` has {FEW + 1} fields, and {FEW} are the most of a struct with type parameters; put some into a struct of their own"),
+    (f"enum A {{ X({LIST.join('u8' for _ in range(FEW + 1))}) }}", f"{FEW + 1}: `A::X` has {FEW + 1} fields, and {FEW} are the most; put some into a struct of their own"),
+    (f"struct A {{ {LIST.join(f'f{i}: u8' for i in range(FEW))},\nx: (u8, u8) }}", f"{FEW + 1}: `(u8, u8)` is too much for the toolchain in a struct of more than {FEW} fields; put it into a struct of its own"),
+    ("struct A { x: Vec<Option<Vec<Option<Vec<Option<u8>>>>>> }", "1: `Vec<Option<Vec<Option<Vec<Option<u8>>>>>>` is too deep for the toolchain; put a part of it into a struct"),
+    (f"struct A {{ {LIST.join(f'f{i}: Vec<Option<Vec<u8>>>' for i in range(5))} }}", "5: `Vec<Option<Vec<u8>>>` is too deep for the toolchain beside the fields before it; put a part of it into a struct"),
+    (f"enum A {{\n{LIST.join(f'V{i}(u8)' for i in range(31))} }}", "32: `A` has more variants up to here than the toolchain follows; put some into an enum of their own"),
     ("struct A<T = u8>(T);", "1: `T` has a default; write the type at each use instead"),
     (f"struct A {{\n{LIST.join(f'f{i}: u8' for i in range(MOST + 1))} }}", f"{MOST + 2}: `A` has {MOST + 1} fields, and {MOST} are the most; put some into a struct of their own"),
     ("struct A { x: u8, X: u8 }", "1: the fields `X` and `x` differ only in case; give one of them another name"),

@@ -72,6 +72,21 @@ fn maps_are_checked(rt: HostRuntime) -> Result<(), Fail> {
         ),
         ("check|map-u32|0000000000000000", 0, "accepted\n"),
         (TEXTS, 0, "accepted\n"),
+        (
+            "check|map-string|62ffffffffffffff0100000061ffffffffffffff02000000e8ffffff02000000",
+            1,
+            "refused: 32 UnsortedKeys\n",
+        ),
+        (
+            "check|map-string|c0ffffffffffffff01000000f4ffffff01000000",
+            1,
+            "refused: 28 InvalidUtf8\n",
+        ),
+        (
+            "check|map-string|61ffffffffffffff01000000f4ffffff02000000",
+            1,
+            "refused: 16 InvalidSubtreePointer\n",
+        ),
     ];
     assert_said(&rt, rt.alloc(), &rows)?;
     Ok(())

@@ -1,11 +1,11 @@
 -- The elements of a run, one after another.
-use Rattle.std.proofs.Common.{◌≡◌, ◌≢◌, ℕ, suc, sym, ◌∙◌, ◌+◌, ◌-◌, ◌*◌, ◌<◌, ◌≤◌, arith, List}
+use Rattle.std.proofs.Common.{◌≡◌, ◌≢◌, ℕ, zero, suc, sym, ◌∙◌, ◌+◌, ◌-◌, ◌*◌, ◌<◌, ◌≤◌, arith, List}
 use Rattle.archive_check.specs.Shape.{Shape}
 use Rattle.archive_check.specs.Layout.{size_of, Layout}
 use Rattle.archive_check.specs.declared.format.error.Error.{Error}
 use Rattle.archive_check.specs.context.Ranges.{RangeState}
 use Rattle.archive_check.specs.Definitions.{Definitions, HasLayout}
-use Rattle.archive_check.specs.SelfCheck.Ways.{Goes, Halts, shape_way, run_way}
+use Rattle.archive_check.specs.SelfCheck.Ways.{Goes, Halts, AreGood, shape_way, run_way}
 use Rattle.archive_check.proofs.Checks.PlainRuns.{empty_stays, empty_run}
 use Rattle.archive_check.proofs.SelfCheck.Ways.{Toward, toward_same, toward_then, toward_halts, toward_end}
 use Rattle.archive_check.proofs.SelfCheck.Layouts.{its_size}
@@ -30,6 +30,13 @@ elements_gone D X b at n z s s1 k ge toward = toward_end D (run_way b at n X) (r
 
 pub elements_begin : (D : Definitions) (X : Shape) (b : List ℕ) (at n z : ℕ) (s : RangeState) → Toward D (run_way b at n X) (run_way b (at + 0 * z) (n - 0) X) s s
 elements_begin D X b at n z s = let here : at + 0 * z ≡ at = omega arith in let all : n - 0 ≡ n = omega arith in rw (here, all) (toward_same D (run_way b at n X) s)
+
+-- the first ones are known to be good
+pub toward_good : (D : Definitions) (X : Shape) (L : Layout) (laid : HasLayout D X L) (b : List ℕ) (at n z : ℕ) (s : RangeState) (k : ℕ) → k ≤ n → (zero < n → z ≡ L.size) → AreGood D b at z X k → Toward D (run_way b at n X) (run_way b (at + k * z) (n - k) X) s s
+toward_good D X L laid b at n z s zero le same good = elements_begin D X b at n z s
+toward_good D X L laid b at n z s (suc k) le same good =
+    let next : suc k ≡ k + 1 = omega arith in
+    rw next (toward_element D X L laid b at n z s s k (omega arith) (toward_good D X L laid b at n z s k (omega arith) same (λ i t lt. good i t (omega arith))) s (same (omega arith)) (good k s (omega arith)))
 
 -- elements that take no bytes: the first stands for all
 module _ (D : Definitions) (X : Shape) (L : Layout) (laid : HasLayout D X L) (none : L.size ≡ 0) (b : List ℕ) (at n : ℕ) (s : RangeState) where

@@ -1,5 +1,6 @@
 -- What is spent on the regions that a type's own check enters.
 use Rattle.std.proofs.Common.{◌≡◌, ℕ, ℤ, ap, ◌+◌, ◌-◌, ◌*◌, ◌<◌, ◌≤◌, arith, Option, Some, None, OnSome, IfNone}
+use Rattle.std.proofs.Math.Nat.{mul-le-mul_right}
 use Rattle.archive_check.specs.declared.context.range.Region.{Region}
 use Rattle.archive_check.specs.context.Ranges.{RangeState, popped}
 use Rattle.archive_check.specs.context.Pushes.{Spends}
@@ -18,6 +19,10 @@ left_spends s2 s3 n (Some u) h pushes size spends end some none =
     let b = ap (λ (q : RangeState). q.end) some in
     omega (arith, spends, pushes, size, end, p, a, b, h.start, h.end, h.lands.above, h.lands.below, h.outer_start, h.outer_end)
 left_spends s2 s3 n None h pushes size spends end some none = rw none (region_spends s2 n h pushes size spends)
+
+-- some elements less
+pub fewer_spend : (z n k : ℕ) → (n - k) * z ≤ n * z
+fewer_spend z n k = mul-le-mul_right z (omega arith)
 
 -- the next of some elements
 pub next_spends : (z n k : ℕ) → k < n → (n - k) * z ≡ z + (n - (k + 1)) * z

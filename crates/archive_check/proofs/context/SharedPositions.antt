@@ -1,5 +1,5 @@
 -- Steps of what is kept of shared positions.
-use Rattle.std.proofs.Common.{◌≡◌, ⊎_elim, ℕ, ◌<◌, ◌≤◌, ℤ, List, [], ◌∷◌, ◌++◌, length, Bool, true, false, cond, refl, sym, ap, ◌∙◌, subst, Option, Some, None, option_map, arith, zero, suc, slice_get, Result, Ok, Err, OnOk, OnErr, ◌&&◌, bytes_eq, get_or, ◌+◌, length-append}
+use Rattle.std.proofs.Common.{◌≡◌, ◌⊎◌, inl, inr, ⊎_elim, ◌↔◌, IsTrue, ℕ, ◌<◌, ◌≤◌, ℤ, List, [], ◌∷◌, ◌++◌, length, Bool, true, false, cond, refl, sym, ap, ◌∙◌, subst, Option, Some, None, option_map, arith, zero, suc, slice_get, Result, Ok, Err, OnOk, OnErr, ◌&&◌, bytes_eq, get_or, ◌+◌, length-append}
 use Rattle.std.specs.Bool.{beq}
 use Rattle.std.proofs.lemmas.Bool.{cases_lt}
 use Rattle.std.proofs.lemmas.Option.{slice_get_read, slice_get_within}
@@ -8,7 +8,7 @@ use Rattle.std.specs.Cmp.{signed_Decides}
 use Rattle.std.specs.Ordering.{int_eq}
 use Rattle.std.specs.Map.{update, lookup}
 use Rattle.std.specs.HashMap.{HashMap, get, Updates, IsUnchanged}
-use Rattle.std.specs.Option.{ForSome}
+use Rattle.std.specs.Option.{ForSome, IfNone}
 use Rattle.archive_check.specs.declared.format.error.Error.TheVariants.{AlreadyFinished}
 use Rattle.archive_check.specs.declared.context.positions.SharedType.{SharedType}
 use Rattle.archive_check.specs.declared.context.positions.SharedPosition.{SharedPosition}
@@ -20,8 +20,8 @@ use Rattle.archive_check.specs.Shape.{Flavor, Pointee}
 use Rattle.archive_check.specs.Expressions.{flavor_of, pointee_of}
 use Rattle.archive_check.specs.Equality.{same_flavor-Decides}
 use Rattle.archive_check.specs.Tour.{Entry}
-use Rattle.archive_check.specs.context.PositionStates.{PositionState, Positions, started, started_at, finish_answer, IsStartAnswer}
-use Rattle.archive_check.specs.context.SharedPositions.{met_as, met_in, positions_in, AreKnown, HasType, IsAbsent, IsGrown}
+use Rattle.archive_check.specs.context.PositionStates.{PositionState, Positions, started, started_at, finish_answer, IsStartAnswer, IsFinishedAs, IsFinishedAnswer}
+use Rattle.archive_check.specs.context.SharedPositions.{met_as, met_in, positions_in, finished_as, AreKnown, AreDistinct, HasType, IsAbsent, IsGrown, IsType}
 
 slice_get-append : {A : Type 0} (xs ys : List A) (k : ℕ) → k < length xs → slice_get (xs ++ ys) k ≡ slice_get xs k
 slice_get-append [] ys k h = absurd (omega arith)
@@ -108,6 +108,88 @@ none_next shared_types flavor pointee n x before below is other index lt has = �
 pub none_absent : (shared_types : List SharedType) (flavor : Flavor) (pointee : Pointee) (n : ℕ) → NoneBefore shared_types flavor pointee n → length shared_types ≤ n → IsAbsent shared_types flavor pointee
 none_absent shared_types flavor pointee n before end index has = before index (omega (arith, end, slice_get_within shared_types index has.type_there has.at)) has
 
+-- in a list with one type more, a type stands where it stood, or it is the new one
+has_in_pushed : (shared_types : List SharedType) (x : SharedType) (k : ℕ) (flavor : Flavor) (pointee : Pointee) → HasType (shared_types ++ x ∷ []) k flavor pointee
+    → HasType shared_types k flavor pointee ⊎ ((k ≡ length shared_types) × IsType x flavor pointee)
+has_in_pushed shared_types x k flavor pointee has = ⊎_elim
+    (λ less. inl (record { type_there = has.type_there; at = sym (slice_get-append shared_types (x ∷ []) k less) ∙ has.at; flavor_is = has.flavor_is; pointee_is = has.pointee_is }))
+    (λ more.
+    let below : k < length (shared_types ++ x ∷ []) = slice_get_within (shared_types ++ x ∷ []) k has.type_there has.at in
+    let size : length (shared_types ++ x ∷ []) ≡ length shared_types + 1 = length-append shared_types (x ∷ []) in
+    let last : k ≡ length shared_types = omega (arith, more, below, size) in
+    let same : Some x ≡ Some has.type_there = sym (ap (slice_get (shared_types ++ x ∷ [])) last ∙ slice_get-last shared_types x) ∙ has.at in
+    let one : x ≡ has.type_there = cc same in
+    inr (last, (ap (λ (s : SharedType). flavor_of s.flavor) one ∙ has.flavor_is, ap (λ (s : SharedType). pointee_of s.pointee) one ∙ has.pointee_is)))
+    (cases_lt k (length shared_types))
+
+-- each type still stands once where one is put at the end that wasn't there
+pub distinct_pushed : (shared_types new : List SharedType) (f : FlavorInfo) (p : PointeeExpr) (P : Pointee) → IsAbsent shared_types (flavor_of f) P → new ≡ shared_types ++ record { flavor = f; pointee = p } ∷ [] → pointee_of p ≡ P
+    → AreDistinct shared_types → AreDistinct new
+distinct_pushed shared_types new f p P absent is pointee_is distinct = subst AreDistinct (sym is) once
+  where
+    x : SharedType
+    x = record { flavor = f; pointee = p }
+
+    clash : (k : ℕ) (flavor : Flavor) (pointee : Pointee) → HasType shared_types k flavor pointee → IsType x flavor pointee → ⊥
+    clash k flavor pointee has is_x = absent k (record { type_there = has.type_there; at = has.at; flavor_is = has.flavor_is ∙ sym is_x.0; pointee_is = has.pointee_is ∙ sym is_x.1 ∙ pointee_is })
+
+    once : AreDistinct (shared_types ++ x ∷ [])
+    once i j flavor pointee at_i at_j = ⊎_elim
+        (λ old_i. ⊎_elim (λ old_j. distinct i j flavor pointee old_i old_j) (λ new_j. absurd (clash i flavor pointee old_i new_j.1)) (has_in_pushed shared_types x j flavor pointee at_j))
+        (λ new_i. ⊎_elim (λ old_j. absurd (clash j flavor pointee old_j new_i.1)) (λ new_j. new_i.0 ∙ sym new_j.0) (has_in_pushed shared_types x j flavor pointee at_j))
+        (has_in_pushed shared_types x i flavor pointee at_i)
+
+-- what is kept of a position that is finished, as one of a flavor, a pointee and a length
+met_kept : (shared_types : List SharedType) (found : Option SharedPosition) (e : Entry) → ForSome found (λ k. k.shared_type < length shared_types) → IsFinishedAs (met_in shared_types found) e
+    → (k : SharedPosition) × (found ≡ Some k) × (k.finished ≡ true) × (k.length ≡ e.length) × HasType shared_types k.shared_type e.flavor e.pointee
+met_kept shared_types None e known is = absurd (let none : None ≡ Some (record { entry = e; finished = true }) = is in cc)
+met_kept shared_types (Some k) e known is =
+    let (t, at) = slice_get-some shared_types k.shared_type (known k refl) in
+    let same : Some (met_as k t) ≡ Some (record { entry = e; finished = true }) = sym (ap (option_map (met_as k)) at) ∙ is in
+    let met : met_as k t ≡ record { entry = e; finished = true } = cc same in (
+      k,
+      refl,
+      ap (λ (m : PositionState). m.finished) met,
+      ap (λ (m : PositionState). m.entry.length) met,
+      record {
+        type_there = t;
+        at = at;
+        flavor_is = ap (λ (m : PositionState). m.entry.flavor) met;
+        pointee_is = ap (λ (m : PositionState). m.entry.pointee) met;
+      },
+    )
+
+-- nothing is finished as one of a type that isn't in the list
+pub absent_unfinished : (shared_types : List SharedType) (f : ℤ → Option SharedPosition) (flavor : Flavor) (pointee : Pointee) → AreKnown shared_types f → IsAbsent shared_types flavor pointee
+    → (position : ℤ) (n : ℕ) → IsFinishedAs (positions_in shared_types f position) (record { flavor = flavor; pointee = pointee; length = n }) → ⊥
+absent_unfinished shared_types f flavor pointee known absent position n is =
+    let kept = met_kept shared_types (f position) (record { flavor = flavor; pointee = pointee; length = n }) (known position) is in
+    absent kept.0.shared_type kept.4
+
+-- a position that is recalled is finished exactly if what is kept of it is
+pub finished_recalled : (f : ℤ → Option SharedPosition) (key : ℤ) (k : SharedPosition) (number n : ℕ) (answer : Bool) → f key ≡ Some k → (IsTrue answer ↔ k ≡ finished_as number n)
+    → IsTrue answer ↔ f key ≡ Some (finished_as number n)
+finished_recalled f key k number n answer e is = (
+  λ so. e ∙ ap Some (is.0 so),
+  λ h. let same : Some k ≡ Some (finished_as number n) = sym e ∙ h in let one : k ≡ finished_as number n = cc same in is.1 one,
+)
+
+-- a position is finished as one of a type exactly if it is kept so, with the type's number
+pub finished_numbered : (shared_types : List SharedType) (f : ℤ → Option SharedPosition) (p key : ℤ) (number n : ℕ) (answer : Bool) → AreKnown shared_types f → AreDistinct shared_types → key ≡ p
+    → (IsTrue answer ↔ f key ≡ Some (finished_as number n)) → IsFinishedAnswer (HasType shared_types number) (positions_in shared_types f p) n answer
+finished_numbered shared_types f p key number n answer known distinct same is flavor pointee has = (
+  λ so.
+      let kept : f p ≡ Some (finished_as number n) = ap f (sym same) ∙ is.0 so in
+      let entry : met_as (finished_as number n) has.type_there ≡ record { entry = record { flavor = flavor; pointee = pointee; length = n }; finished = true } =
+      (λ i. record { entry = record { flavor = has.flavor_is i; pointee = has.pointee_is i; length = n }; finished = true }) in
+      ap (met_in shared_types) kept ∙ ap (option_map (met_as (finished_as number n))) has.at ∙ ap Some entry,
+  λ finished.
+      let kept = met_kept shared_types (f p) (record { flavor = flavor; pointee = pointee; length = n }) (known p) finished in
+      let type_is : kept.0.shared_type ≡ number = distinct kept.0.shared_type number flavor pointee kept.4 has in
+      let whole : kept.0 ≡ finished_as number n = (λ i. record { shared_type = type_is i; length = kept.3 i; finished = kept.2 i }) in
+      is.1 (ap f same ∙ kept.1 ∙ ap Some whole),
+)
+
 -- the types' list grows, and a position is entered
 pub AreKnown-grown : (old new : List SharedType) (f : ℤ → Option SharedPosition) → AreKnown old f → IsGrown old new → AreKnown new f
 AreKnown-grown old new f h g q k e =
@@ -159,6 +241,10 @@ unchanged_kept old new m n known grown same =
     let stays = positions_in-grown old new (get int_eq m) grown known in
     let entries : positions_in new (get int_eq n) ≡ positions_in new (get int_eq m) = ap (λ es. positions_in new (λ q. lookup (int_eq q) es)) same in
     entries ∙ stays
+
+pub none_weaker : {X : Type 0} (r : Option X) {P Q : Type 0} → (P → Q) → IfNone r P → IfNone r Q
+none_weaker (Some x) h p = tt
+none_weaker None h p = h p
 
 pub on_ok : {T E : Type 0} {P : Type 0} (r : Result T E) → P → OnOk r P
 on_ok (Ok x) p = p

@@ -69,3 +69,18 @@ ascii_at bytes p n w ge le fits first last i false false e f =
 
 pub ascii_ends : (bytes : List ℕ) (p n w : ℕ) → w ≤ n → n ≤ w + w → p + n ≤ length bytes → IsAscii (bytes_at bytes p w) → IsAscii (bytes_at bytes (p + n - w) w) → IsAscii (bytes_at bytes p n)
 ascii_ends bytes p n w ge le fits first last i = ascii_at bytes p n w ge le fits first last i (nat_lt i w) (nat_lt i n) refl refl
+
+-- no byte of a part is above m where none of the whole is there
+most_at : (bytes : List ℕ) (p n m i : ℕ) → p + n ≤ length bytes → ((k : ℕ) → k < n → slice_index bytes (p + k) ≤ m) → (b : Bool) → nat_lt i n ≡ b → slice_index (bytes_at bytes p n) i ≤ m
+most_at bytes p n m i fits each true e =
+    let lt : i < n = grind (arith, nat_tests) in
+    omega (arith, byte_in bytes p n i lt, each i lt)
+most_at bytes p n m i fits each false e =
+    let out : n ≤ i = grind (arith, nat_tests) in
+    omega (arith, get_or_past (bytes_at bytes p n) i 0 (omega (arith, bytes_long bytes p n fits)))
+
+pub none_above : (bytes : List ℕ) (p n m : ℕ) → p + n ≤ length bytes → ((k : ℕ) → k < n → slice_index bytes (p + k) ≤ m) → (i : ℕ) → slice_index (bytes_at bytes p n) i ≤ m
+none_above bytes p n m fits each i = most_at bytes p n m i fits each (nat_lt i n) refl
+
+pub ascii_below : (bytes : List ℕ) (p n : ℕ) → p + n ≤ length bytes → ((k : ℕ) → k < n → slice_index bytes (p + k) < 128) → IsAscii (bytes_at bytes p n)
+ascii_below bytes p n fits each i = omega (arith, none_above bytes p n 127 fits (λ k lt. omega (arith, each k lt)) i)

@@ -1,22 +1,24 @@
 -- Which bytes in a buffer are a leaf, byte by byte; and that a leaf has one encoding.
-use Rattle.std.proofs.Common.{◌≡◌, ◌≢◌, ◌⊎◌, inl, inr, ℕ, zero, suc, ◌+◌, ◌-◌, ◌^◌, ◌<◌, ◌≤◌, arith, refl, sym, ap, ◌∙◌, List, length, slice_index, Bool, true, false, IsTrue, nat_lt, nat_eq}
+use Rattle.std.proofs.Common.{◌≡◌, ◌≢◌, ◌⊎◌, inl, inr, ℕ, zero, suc, ◌+◌, ◌-◌, ◌*◌, ◌^◌, ◌<◌, ◌≤◌, arith, refl, sym, ap, ◌∙◌, List, length, slice_index, Bool, true, false, IsTrue, not, nat_lt, nat_eq}
+use Rattle.std.proofs.lemmas.Bool.{cases_lt}
 use Rattle.std.proofs.lemmas.Bool.Decides.{nat_tests}
 use Rattle.std.proofs.lemmas.List.{nil_from_length}
-use Rattle.std.specs.Int.{Width, w8, w32, byte_len, byte_worth, sum_through}
+use Rattle.std.specs.Int.{Width, w8, w32, byte_len, byte_worth, sum_through, from_le_bytes}
 use Rattle.archive_check.specs.declared.format.expr.Kind.{Kind as KindExpr}
 use Rattle.archive_check.specs.declared.format.expr.Kind.TheVariants as expr
 use Rattle.archive_check.specs.declared.format.expr.IntegerKind.{IntegerKind}
 use Rattle.archive_check.specs.declared.format.error.Error.TheVariants.{ZeroNumber}
 use Rattle.archive_check.specs.Expressions.{kind_of}
 use Rattle.archive_check.specs.Words.Faults.{illegal_error}
-use Rattle.archive_check.specs.Shape.{Sign, bool, char, non_zero, Kind as LeafKind, unit, number, raw_rel}
+use Rattle.archive_check.specs.Shape.{Sign, unsigned, bool, char, non_zero, Kind as LeafKind, unit, number, raw_rel}
 use Rattle.archive_check.specs.Layout.{kind_size}
 use Rattle.archive_check.specs.Reads.{bytes_at, u32_at, kind_number, IsLegal, IsLegalNumber, kind_value}
 use Rattle.archive_check.specs.LittleEndian.{AreBytes}
+use Rattle.archive_check.specs.Words.LegalRuns.{AreLegal}
 use Rattle.archive_check.proofs.format.BytesAt.{bytes_one, byte_in}
 use Rattle.archive_check.proofs.Editing.EditedBytes.{bytes_long}
 use Rattle.archive_check.proofs.LittleEndian.{some_byte, from_le_bytes-one, with_sign-one}
-use Rattle.std.proofs.Math.Nat.{eq_of_mul-eq-mul_right, one-le-pow, zero-mul}
+use Rattle.std.proofs.Math.Nat.{eq_of_mul-eq-mul_right, one-le-pow, zero-mul, mul-le-mul_right}
 
 pub legal_bool : (bytes : List ℕ) (p : ℕ) → p + 1 ≤ length bytes → (IsTrue (nat_lt (slice_index bytes p) 2) → IsLegal bool (bytes_at bytes p 1)) × (IsLegal bool (bytes_at bytes p 1) → IsTrue (nat_lt (slice_index bytes p) 2))
 unfolding kind_number
@@ -79,6 +81,14 @@ legal_non_zero s w bytes p n e room =
       ],
     )
 
+-- a number that was read and isn't 0 has a byte that isn't
+pub some_bits : (w : Width) (bytes : List ℕ) (p n x : ℕ) → n ≡ byte_len w → p + n ≤ length bytes → x ≡ from_le_bytes w (bytes_at bytes p (byte_len w)) → IsTrue (not (nat_eq x 0)) → (i : ℕ) × (i < n) × (slice_index bytes (p + i) ≢ 0)
+unfolding kind_number
+some_bits w bytes p n x size room read some =
+    let other : x ≢ 0 = grind (arith, nat_tests) in
+    let whole = rw size at room in
+    (legal_non_zero unsigned w bytes p n size whole).1 (record { size = bytes_long bytes p (byte_len w) whole; number = λ z. other (read ∙ z) })
+
 -- any bytes are such a leaf
 abbrev pub IsAny : KindExpr → Type 0
 IsAny kind = (kind ≡ expr.Unit) ⊎ ((x : IntegerKind) × (kind ≡ expr.Number x)) ⊎ ((x : IntegerKind) × (kind ≡ expr.RawRel x))
@@ -99,6 +109,21 @@ legal_of (expr.NonZero y) xs long (inr (inr (x, e))) = cc
 
 pub legal_any : (kind : KindExpr) (bytes : List ℕ) (p : ℕ) → p + kind_size (kind_of kind) ≤ length bytes → IsAny kind → IsLegal (kind_of kind) (bytes_at bytes p (kind_size (kind_of kind)))
 legal_any kind bytes p room any = legal_of kind (bytes_at bytes p (kind_size (kind_of kind))) (bytes_long bytes p (kind_size (kind_of kind)) room) any
+
+-- leaves one behind another
+pub any_legal : (kind : KindExpr) (bytes : List ℕ) (p z n : ℕ) → z ≡ kind_size (kind_of kind) → p + n * z ≤ length bytes → IsAny kind → AreLegal (kind_of kind) bytes p z n
+any_legal kind bytes p z n size room any k lt =
+    let within : (k + 1) * z ≤ n * z = mul-le-mul_right z (omega arith) in
+    legal_any kind bytes (p + k * z) (omega (arith, size)) any
+
+pub legal_more : (kind : LeafKind) (bytes : List ℕ) (p z a n : ℕ) → AreLegal kind bytes p z a → AreLegal kind bytes (p + a * z) z n → AreLegal kind bytes p z (a + n)
+legal_more kind bytes p z a n first second k lt = elim (cases_lt k a) [
+  | inl before ↦ first k before
+  | inr behind ↦
+      let sum : a + (k - a) ≡ k = omega arith in
+      let there : p + a * z + (k - a) * z ≡ p + (a + (k - a)) * z = omega arith in
+      rw sum at (rw there at (second (k - a) (omega arith)))
+]
 
 -- what else isn't legal is 0
 pub illegal_zero : (kind : KindExpr) (xs : List ℕ) → length xs ≡ kind_size (kind_of kind) → (kind ≡ expr.Bool → ⊥) → (kind ≡ expr.Char → ⊥) → (IsLegal (kind_of kind) xs → ⊥) → ZeroNumber ≡ illegal_error (kind_of kind)

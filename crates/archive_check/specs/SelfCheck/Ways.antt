@@ -1,6 +1,6 @@
 -- What comes of a check that follows a type alone, with no schema at hand: the same under each schema that knows the type's definitions, whatever is
 -- seen and pending.
-use Rattle.std.specs.Prelude.{◌≡◌, ℕ, ℤ, List, Option, Some, None}
+use Rattle.std.specs.Prelude.{◌≡◌, ℕ, ◌+◌, ◌*◌, ◌<◌, ℤ, List, Option, Some, None}
 use Rattle.archive_check.specs.declared.format.error.Error.{Error}
 use Rattle.archive_check.specs.Shape.{Shape, Pointee, Parts, Variants, variant_at}
 use Rattle.archive_check.specs.Value.{Pointer}
@@ -51,6 +51,10 @@ pub record Goes (D : Definitions) (W : Way) (s s' : RangeState) : Type 0 where
 -- The way comes to a fault, the same one under each schema, with this refusal.
 abbrev pub Halts : Definitions → Way → RangeState → Error → Type 0
 Halts D W s e = HasLevels s.depth → (f : Fault) × IsFor f e × ((t : Schema) → Knows t D → (pending : List ℕ) (seen : Seen) → W t pending s.depth s.end s.start seen (refused f))
+
+-- The first n of these, z bytes apart from p on, are gone through wherever a check of them stands, and leave its range as it is.
+abbrev pub AreGood : Definitions → List ℕ → ℕ → ℕ → Shape → ℕ → Type 0
+AreGood D bytes p z X n = (k : ℕ) (s : RangeState) → k < n → Goes D (shape_way bytes (p + k * z) X) s s
 
 -- the parts of the variant with this tag are gone through
 pub record VariantGoes (D : Definitions) (bytes : List ℕ) (base : ℕ) (vs : Variants) (tag : ℕ) (s s' : RangeState) : Type 0 where

@@ -3,7 +3,7 @@ use denote.Triple.Both.{Both}
 use denote.Ref.{MutBor}
 use Rattle.std.specs.Borrow.{Bor}
 use Rattle.std.specs.Ordering.{int_eq}
-use Rattle.std.specs.Prelude.{◌≡◌, ◌≢◌, ℕ, ℤ, Bool, true, false, Option, Some, None, option_map, cond, Result, Ok, Err}
+use Rattle.std.specs.Prelude.{◌≡◌, ◌≢◌, ◌↔◌, IsTrue, ℕ, ℤ, Bool, true, false, Option, Some, None, option_map, cond, Result, Ok, Err}
 use Rattle.std.specs.Map.{update}
 use Rattle.archive_check.specs.declared.format.error.Error.{Error}
 use Rattle.archive_check.specs.declared.format.error.Error.TheVariants.{OutOfMemory, NotStarted, AlreadyFinished, TypeMismatch, MetadataMismatch}
@@ -12,6 +12,7 @@ use Rattle.archive_check.specs.declared.format.expr.Pointee.{Pointee as PointeeE
 use Rattle.archive_check.specs.declared.context.ValidationState.{ValidationState}
 use Rattle.archive_check.specs.declared.context.ValidationState.TheVariants.{Started, Pending, Finished}
 use Rattle.archive_check.specs.Expressions.{flavor_of, pointee_of}
+use Rattle.archive_check.specs.Shape.{Flavor, Pointee}
 use Rattle.archive_check.specs.Tour.{Entry}
 
 -- how a position was first met, and whether what lies there is checked to its end
@@ -47,6 +48,15 @@ IsStartAnswer (Some old) new (Err e) = ⊥
 -- a position was met so, and is finished
 abbrev pub IsFinishedAs : Option PositionState → Entry → Type 0
 IsFinishedAs met new = met ≡ Some (record { entry = new; finished = true })
+
+-- no position is finished that was met so, whatever its length
+abbrev pub NoneFinishedAs : Positions → FlavorInfo → PointeeExpr → Type 0
+NoneFinishedAs met flavor pointee = (position : ℤ) (length : ℕ) → IsFinishedAs (met position) (entry_as flavor pointee length) → ⊥
+
+-- it is answered whether a position is finished that was met with this length, and with a flavor and a pointee of which this is so
+abbrev pub IsFinishedAnswer : (Flavor → Pointee → Type 0) → Option PositionState → ℕ → Bool → Type 0
+IsFinishedAnswer numbered met length answer =
+    (flavor : Flavor) (pointee : Pointee) → numbered flavor pointee → IsTrue answer ↔ IsFinishedAs met (record { flavor = flavor; pointee = pointee; length = length })
 
 -- a position that wasn't met is pending now, one that was stays as it was
 abbrev pub started_at : Option PositionState → Entry → PositionState

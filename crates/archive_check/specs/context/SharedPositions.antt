@@ -1,5 +1,5 @@
 -- The shared positions that a validator keeps, as a check speaks of them.
-use Rattle.std.specs.Prelude.{◌≡◌, ◌⊎◌, ℕ, ℤ, List, ◌++◌, length, ◌<◌, Option, Some, None, option_map, slice_get}
+use Rattle.std.specs.Prelude.{◌≡◌, ℕ, ℤ, true, List, ◌++◌, length, ◌<◌, Option, Some, None, option_map, slice_get}
 use Rattle.std.specs.Option.{ForSome}
 use Rattle.archive_check.specs.declared.context.positions.SharedType.{SharedType}
 use Rattle.archive_check.specs.declared.context.positions.SharedPosition.{SharedPosition}
@@ -13,6 +13,10 @@ met_as kept shared_type = record {
   entry = record { flavor = flavor_of shared_type.flavor; pointee = pointee_of shared_type.pointee; length = kept.length };
   finished = kept.finished;
 }
+
+-- what is kept of a finished position, by its type's index and its length
+abbrev pub finished_as : ℕ → ℕ → SharedPosition
+finished_as shared_type length = record { shared_type = shared_type; length = length; finished = true }
 
 abbrev pub met_in : List SharedType → Option SharedPosition → Option PositionState
 met_in shared_types None = None
@@ -41,9 +45,9 @@ pub record HasType (shared_types : List SharedType) (index : ℕ) (flavor : Flav
 abbrev pub IsAbsent : List SharedType → Flavor → Pointee → Type 0
 IsAbsent shared_types flavor pointee = (index : ℕ) → HasType shared_types index flavor pointee → ⊥
 
--- a list stays, or it didn't have the type
-abbrev pub IsAddedOnce : List SharedType → List SharedType → Flavor → Pointee → Type 0
-IsAddedOnce old new flavor pointee = (new ≡ old) ⊎ IsAbsent old flavor pointee
+-- each type stands once in a list
+abbrev pub AreDistinct : List SharedType → Type 0
+AreDistinct shared_types = (i j : ℕ) (flavor : Flavor) (pointee : Pointee) → HasType shared_types i flavor pointee → HasType shared_types j flavor pointee → i ≡ j
 
 -- a list with more types at its end
 pub record IsGrown (old new : List SharedType) : Type 0 where

@@ -5,7 +5,8 @@ use Rattle.std.specs.Ordering.{int_eq}
 use Rattle.archive_check.specs.declared.context.positions.SharedValidator.{SharedValidator}
 use Rattle.archive_check.specs.declared.context.validator.Validator.{Validator}
 use Rattle.archive_check.specs.context.PositionStates.{Positions, nothing_met}
-use Rattle.archive_check.specs.context.SharedPositions.{positions_in}
+use Rattle.archive_check.specs.context.SharedPositions.{positions_in, HasType}
+use Rattle.archive_check.specs.Shape.{Flavor, Pointee}
 
 -- the positions that a validator of shared ones met
 abbrev pub positions_of : {A : Type 0} → SharedValidator A → Positions
@@ -15,6 +16,14 @@ positions_of v = positions_in v.shared_types.items (get int_eq v.positions)
 abbrev pub positions_met : {A B : Type 0} → Option (Box (SharedValidator A) B) → Positions
 positions_met None = nothing_met
 positions_met (Some v) = positions_of v.value
+
+-- its number of a flavor and a pointee: where they stand in its list
+abbrev pub numbered_of : {A : Type 0} → SharedValidator A → ℕ → Flavor → Pointee → Type 0
+numbered_of v = HasType v.shared_types.items
+
+abbrev pub numbered_met : {A B : Type 0} → Option (Box (SharedValidator A) B) → ℕ → Flavor → Pointee → Type 0
+numbered_met None number flavor pointee = ⊥
+numbered_met (Some v) number flavor pointee = numbered_of v.value number flavor pointee
 
 -- how many more it can keep without taking memory for them
 abbrev pub room_of : {A : Type 0} → SharedValidator A → ℕ

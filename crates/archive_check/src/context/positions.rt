@@ -1,13 +1,13 @@
 //! The shared positions of a check, kept in a map.
 
-ghost use Rattle.std.specs.Prelude.{◌≡◌, ◌⊎◌, ◌↔◌, ◌≤◌, IsTrue, Some, None, IfOk, IfErr, OnOk, OnErr};
+ghost use Rattle.std.specs.Prelude.{◌≡◌, ◌⊎◌, ◌↔◌, ◌≤◌, IsTrue, Some, None, IfSome, IfNone, IfOk, IfErr, OnOk, OnErr};
 ghost use Rattle.std.specs.HashMap.{get};
 ghost use Rattle.std.specs.Ordering.{int_eq};
-ghost use Rattle.archive_check.specs.context.SharedPositions.{met_as, AreKnown, HasType, IsGrown, IsType, IsAddedOnce};
+ghost use Rattle.archive_check.specs.context.SharedPositions.{met_as, finished_as, AreKnown, AreDistinct, HasType, IsAbsent, IsGrown, IsType};
 ghost use Rattle.archive_check.specs.context.RecalledPositions.{AreRecalled};
 ghost use Rattle.archive_check.specs.Expressions.{flavor_of, pointee_of};
 ghost use Rattle.archive_check.specs.context.Ranges.{whole};
-ghost use Rattle.archive_check.specs.context.PositionStates.{nothing_met, IsStartAnswer, IsFinishedAs, Starts, entry_as};
+ghost use Rattle.archive_check.specs.context.PositionStates.{nothing_met, IsStartAnswer, Starts, entry_as};
 ghost use Rattle.archive_check.specs.declared.format.error.Error.TheVariants.{OutOfMemory};
 
 use crate::context::recalled::FinishedPositions;
@@ -30,9 +30,9 @@ pub struct SharedType {
 /// What is kept of a shared position: its type, by its index in the list of types, its length, and whether it is finished.
 #[derive(Clone, Copy)]
 pub(crate) struct SharedPosition {
-    shared_type: usize,
-    length: usize,
-    finished: bool,
+    pub(crate) shared_type: usize,
+    pub(crate) length: usize,
+    pub(crate) finished: bool,
 }
 
 // Whether two pointees are written alike. Of strings and texts, to which most shared pointers lead, no call is needed to tell.
@@ -90,18 +90,12 @@ impl SharedPosition {
         })
     }
 
-    // Whether this position, whose type is `shared_type`, is finished as one of these.
+    // Whether this position is finished, as one of this type's index and of this length.
     #[inline(always)]
-    fn is_finished_as(
-        &self,
-        shared_type: &SharedType,
-        flavor: &FlavorInfo,
-        pointee: &Pointee,
-        length: usize,
-    ) -> bool
-        ensures { IsTrue result ↔ IsFinishedAs (Some (met_as self.now shared_type.now)) (entry_as flavor.now pointee.now length) }
+    fn is_as(&self, shared_type: usize, length: usize) -> bool
+        ensures { IsTrue result ↔ self.now ≡ finished_as shared_type length }
     {
-        self.finished && self.length == length && is_of(shared_type, flavor, pointee)
+        self.finished && self.length == length && self.shared_type == shared_type
     }
 }
 
@@ -116,7 +110,8 @@ pub struct SharedValidator<A: Allocator = Global> {
     // Most pointers lead to a finished position, which is looked for here first.
     recalled: FinishedPositions<A>,
     ghost known: { AreKnown shared_types.items (get int_eq positions) },
-    ghost recalls: { AreRecalled recalled.list.items (get int_eq positions) },
+    ghost distinct: { AreDistinct shared_types.items },
+    ghost recalls: { AreRecalled recalled.slots.items (get int_eq positions) },
 }
 
 impl<A: Allocator + Copy> SharedValidator<A> {
@@ -154,10 +149,10 @@ impl<A: Allocator + Copy> SharedValidator<A> {
     fn find(&self, position: i128) -> Option<SharedPosition>
         ensures value { result ≡ get int_eq self.now.positions position }
     {
-        if let Some(kept) = self.recalled.get(position) {
-            return Some(*kept);
+        match self.recalled.get(position) {
+            None => self.search(position),
+            kept => kept,
         }
-        self.search(position)
     }
 
     // The same, by the map. It stands apart, since most positions are recalled.
@@ -166,6 +161,18 @@ impl<A: Allocator + Copy> SharedValidator<A> {
         ensures value { result ≡ get int_eq self.now.positions position }
     {
         self.positions.get(&position).copied()
+    }
+
+    // Whether a position that isn't recalled is finished, as one of this type's index and of this length. It stands apart, for a position that is recalled
+    // needs none of the map.
+    #[inline(never)]
+    fn search_as(&self, shared_type: usize, position: i128, length: usize) -> bool
+        ensures { IsTrue result ↔ get int_eq self.now.positions position ≡ Some (finished_as shared_type length) }
+    {
+        match self.positions.get(&position) {
+            Some(kept) => kept.is_as(shared_type, length),
+            None => false,
+        }
     }
 
     // Starts a position that wasn't met. It stands apart, since most pointers lead to one that was.
@@ -207,6 +214,10 @@ impl<A: Allocator + Copy> Context for SharedValidator<A> {
 }
 
 impl<A: Allocator + Copy> SharedContext for SharedValidator<A> {
+    ghost use Rattle.archive_check.specs.context.Validators.{numbered_of};
+
+    ghost numbered = { numbered_of };
+
     #[tactic(auto, using(crate::proofs::context::SharedPositions::kept))]
     fn start_shared(
         &mut self,
@@ -226,22 +237,15 @@ impl<A: Allocator + Copy> SharedContext for SharedValidator<A> {
         self.start_new(flavor, pointee, position, length)
     }
 
+    fn type_number(&self, flavor: &FlavorInfo, pointee: &Pointee) -> Option<usize> {
+        find_type(&self.shared_types, flavor, pointee)
+    }
+
     #[inline(always)]
-    fn is_finished(
-        &self,
-        flavor: &FlavorInfo,
-        pointee: &Pointee,
-        position: i128,
-        length: usize,
-    ) -> bool {
-        match self.find(position) {
-            Some(kept) => kept.is_finished_as(
-                &self.shared_types[kept.shared_type],
-                flavor,
-                pointee,
-                length,
-            ),
-            None => false,
+    fn is_finished_as(&self, number: usize, position: i128, length: usize) -> bool {
+        match self.recalled.get(position) {
+            Some(kept) => kept.is_as(number, length),
+            None => self.search_as(number, position, length),
         }
     }
 
@@ -267,6 +271,20 @@ impl<A: Allocator + Copy> SharedContext for SharedValidator<A> {
     }
 }
 
+// The index of a type in a list; none where it isn't there.
+#[tactic(auto, using(crate::proofs::context::SharedPositions::same_type))]
+fn find_type(shared_types: &[SharedType], flavor: &FlavorInfo, pointee: &Pointee) -> Option<usize>
+    ensures found { IfSome result (λ k. HasType shared_types.now k (flavor_of flavor.now) (pointee_of pointee.now)) }
+    ensures absent { IfNone result (IsAbsent shared_types.now (flavor_of flavor.now) (pointee_of pointee.now)) }
+{
+    for (index, shared_type) in shared_types.iter().enumerate() {
+        if is_of(shared_type, flavor, pointee) {
+            return Some(index);
+        }
+    }
+    None
+}
+
 // The index of a type in a list, at whose end it is put where it isn't there.
 #[tactic(auto, using(crate::proofs::context::SharedPositions::same_type))]
 fn type_index<A: Allocator>(
@@ -276,13 +294,10 @@ fn type_index<A: Allocator>(
 ) -> Result<usize, AllocError>
     ensures found { IfOk result (λ k. HasType shared_types.new.items k (flavor_of flavor.now) (pointee_of pointee.now)) }
     ensures kept { IsGrown shared_types.old.items shared_types.new.items }
-    ensures once { IsAddedOnce shared_types.old.items shared_types.new.items (flavor_of flavor.now)
-        (pointee_of pointee.now) }
+    ensures distinct { AreDistinct shared_types.old.items → AreDistinct shared_types.new.items }
 {
-    for (index, shared_type) in shared_types.iter().enumerate() {
-        if is_of(shared_type, flavor, pointee) {
-            return Ok(index);
-        }
+    if let Some(index) = find_type(shared_types, flavor, pointee) {
+        return Ok(index);
     }
     let index = shared_types.len();
     shared_types.push(SharedType {

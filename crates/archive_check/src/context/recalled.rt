@@ -1,106 +1,170 @@
-//! Finished positions that are found with no search in a map, where a hint leads to them.
+//! Finished positions that are found with no search in a map, where a slot has them.
 
-ghost use Rattle.std.specs.Prelude.{◌≡◌, ℤ, Option};
+ghost use Rattle.std.specs.Prelude.{ℤ, pos, Option, IfSome};
 ghost use Rattle.archive_check.specs.declared.context.positions.SharedPosition.{SharedPosition};
-ghost use Rattle.archive_check.specs.context.RecalledPositions.{AreRecalled, IsRecalled, StaysRecalled};
+ghost use Rattle.archive_check.specs.context.RecalledPositions.{AreRecalled, SaysNothing, IsHeld, IsRecalled, StaysRecalled, StayRecalled, PutsRecalled};
 
 use crate::context::positions::SharedPosition;
 use std::alloc::{AllocError, Allocator};
 
-/// A finished position, and what is kept of it.
+/// A finished position and what is kept of it. A slot whose type is `u32::MAX` is free, and says nothing.
 #[derive(Clone, Copy)]
-pub(crate) struct FinishedPosition {
+pub(crate) struct Slot {
     pub(crate) position: usize,
-    pub(crate) kept: SharedPosition,
+    pub(crate) length: u32,
+    pub(crate) shared_type: u32,
 }
 
-/// Finished positions as they come, and hints: at an index that follows from a position, which of them it may be. A hint may be wrong, so what it leads
-/// to is compared with the position.
+/// Finished positions in slots: each may stand in one of two, and no other is looked at, so one that finds both taken drives another out. What a slot
+/// says is always true.
 #[derive(Drop)]
 pub(crate) struct FinishedPositions<A: Allocator> {
-    pub(crate) list: Vec<FinishedPosition, A>,
-    hints: Vec<u32, A>,
+    alloc: A,
+    pub(crate) slots: Vec<Slot, A>,
+    // How many of a product's bits are left out for the index of a slot.
+    shift: u32,
 }
 
-// Where the hint to a position stands among so many, a power of two.
+// The first of the two slots in which a position may stand. Positions at one distance from each other seldom meet so.
 #[inline(always)]
-fn hint_index(position: usize, count: usize) -> usize {
-    let product = position.wrapping_mul(0x9e37_79b9_7f4a_7c15);
-    (product ^ (product >> 32)) & count.wrapping_sub(1)
+fn slot_index(position: usize, shift: u32) -> usize {
+    position
+        .wrapping_mul(0x9e37_79b9_7f4a_7c15)
+        .wrapping_shr(shift)
 }
 
-// Makes four hints for each of so many positions but the first, at least. They double, so that each position has the hint that it had.
-fn make_hints<A: Allocator>(hints: &mut Vec<u32, A>, count: usize) -> Result<(), AllocError> {
-    for _ in 0..usize::BITS {
-        if hints.len() / 4 >= count.saturating_sub(1) {
-            break;
-        }
-        if hints.is_empty() {
-            hints.resize(8, 0)?;
-        } else {
-            hints.extend_from_within(..)?;
+impl Slot {
+    // One that says nothing.
+    fn free() -> Slot
+        ensures { SaysNothing result }
+    {
+        Slot {
+            position: 0,
+            length: 0,
+            shared_type: u32::MAX,
         }
     }
-    Ok(())
+
+    // One of a finished position; none where a number is too large for it.
+    fn of(position: i128, now: SharedPosition) -> Option<Slot>
+        ensures { IfSome result (λ slot. IsHeld slot position now) }
+    {
+        let Ok(position) = usize::try_from(position) else {
+            return None;
+        };
+        let Ok(length) = u32::try_from(now.length) else {
+            return None;
+        };
+        match u32::try_from(now.shared_type) {
+            Ok(shared_type) if shared_type != u32::MAX => Some(Slot {
+                position,
+                length,
+                shared_type,
+            }),
+            _ => None,
+        }
+    }
+}
+
+// Whether a position may be put into a slot with no other lost.
+fn is_free_at(slots: &[Slot], index: usize) -> bool {
+    match slots.get(index) {
+        Some(slot) => slot.shared_type == u32::MAX,
+        None => false,
+    }
+}
+
+// Puts a finished position into one of its two slots, the first if neither is free. What says nothing is left out.
+fn put<A: Allocator>(slots: &mut Vec<Slot, A>, shift: u32, slot: Slot)
+    ensures { PutsRecalled slots.old.items slots.new.items slot }
+{
+    let first = slot_index(slot.position, shift);
+    let second = first ^ 1;
+    let is_second = is_free_at(slots, second) && !is_free_at(slots, first);
+    let index = if is_second { second } else { first };
+    if index < slots.len() && slot.shared_type != u32::MAX {
+        slots[index] = slot;
+    }
+}
+
+// Puts each position of the old slots into the new ones.
+fn put_all<A: Allocator>(slots: &mut Vec<Slot, A>, shift: u32, old: &[Slot])
+    ensures { StayRecalled old.now slots.old.items slots.new.items }
+{
+    for slot in old {
+        put(slots, shift, *slot);
+    }
 }
 
 impl<A: Allocator + Copy> FinishedPositions<A> {
     /// No position. Memory comes from `alloc`, and none is taken yet.
     pub(crate) fn new(alloc: A) -> FinishedPositions<A>
-        ensures { (kept : ℤ → Option SharedPosition) → AreRecalled result.list.items kept }
+        ensures { (kept : ℤ → Option SharedPosition) → AreRecalled result.slots.items kept }
     {
         FinishedPositions {
-            list: Vec::new(alloc),
-            hints: Vec::new(alloc),
+            alloc,
+            slots: Vec::new(alloc),
+            shift: 0,
         }
     }
 
-    /// What is kept of a position, where a hint leads to it.
+    // What is kept of a position, where it stands in this slot.
     #[inline(always)]
-    pub(crate) fn get(&self, position: i128) -> Option<&SharedPosition>
-        ensures { IsRecalled self.now.list.items position result }
+    fn get_at(&self, index: usize, position: usize) -> Option<SharedPosition>
+        ensures { IsRecalled self.now.slots.items (pos position) result }
     {
-        let Ok(position) = usize::try_from(position) else {
-            return None;
-        };
-        let index = match self.hints.get(hint_index(position, self.hints.len())) {
-            Some(hint) => *hint as usize,
-            None => 0,
-        };
-        match self.list.get(index) {
-            Some(known) if known.position == position => Some(&known.kept),
+        match self.slots.get(index) {
+            Some(slot) if slot.position == position && slot.shared_type != u32::MAX => Some(
+                SharedPosition {
+                    shared_type: slot.shared_type as usize,
+                    length: slot.length as usize,
+                    finished: true,
+                },
+            ),
             _ => None,
         }
     }
 
-    /// Makes room for so many positions in all, so that to add one takes no memory. Refused where memory is; what is recalled stays in any case.
-    pub(crate) fn make_room(&mut self, count: usize) -> Result<(), AllocError>
-        ensures { self.new.list.items ≡ self.old.list.items }
-    {
-        self.list.reserve(count.saturating_sub(self.list.len()))?;
-        make_hints(&mut self.hints, count)
-    }
-
-    /// Adds a finished position with what is kept of it. It is left out where it is no `usize`, and where there is no room.
-    pub(crate) fn add(&mut self, position: i128, now: SharedPosition)
-        ensures { StaysRecalled self.old.list.items self.new.list.items position now }
+    /// What is kept of a position, where a slot has it.
+    #[inline(always)]
+    pub(crate) fn get(&self, position: i128) -> Option<SharedPosition>
+        ensures { IsRecalled self.now.slots.items position result }
     {
         let Ok(position) = usize::try_from(position) else {
-            return;
+            return None;
         };
-        let index = self.list.len();
-        let Ok(hint) = u32::try_from(index) else {
-            return;
-        };
-        if index < self.list.capacity() {
-            self.list.push_reserved(FinishedPosition {
-                position,
-                kept: now,
-            });
-            let at = hint_index(position, self.hints.len());
-            if at < self.hints.len() {
-                self.hints[at] = hint;
-            }
+        let first = slot_index(position, self.shift);
+        match self.get_at(first, position) {
+            None => self.get_at(first ^ 1, position),
+            kept => kept,
+        }
+    }
+
+    /// Makes two slots for each of so many positions, at least, so that to add one takes no memory. Refused where memory is; what is recalled stays in
+    /// any case.
+    pub(crate) fn make_room(&mut self, count: usize) -> Result<(), AllocError>
+        ensures { (kept : ℤ → Option SharedPosition) → AreRecalled self.old.slots.items kept → AreRecalled self.new.slots.items kept }
+    {
+        if self.slots.len() / 2 >= count {
+            return Ok(());
+        }
+        let least = count.saturating_mul(2).min(1 << 63).max(16);
+        let size = least.next_power_of_two();
+        let mut slots = Vec::new(self.alloc);
+        slots.resize(size, Slot::free())?;
+        let shift = size.leading_zeros() + 1;
+        put_all(&mut slots, shift, &self.slots);
+        self.slots = slots;
+        self.shift = shift;
+        Ok(())
+    }
+
+    /// Adds a finished position with what is kept of it. It is left out where a number is too large, and where there is no slot.
+    pub(crate) fn add(&mut self, position: i128, now: SharedPosition)
+        ensures { StaysRecalled self.old.slots.items self.new.slots.items position now }
+    {
+        if let Some(slot) = Slot::of(position, now) {
+            put(&mut self.slots, self.shift, slot);
         }
     }
 }

@@ -61,6 +61,10 @@ impl<A: ArchiveContext, S: Context> ArchiveContext for Validator<A, S> {
 }
 
 impl<A: Context, S: SharedContext> SharedContext for Validator<A, S> {
+    ghost use Rattle.archive_check.specs.context.Validators.{shared_of};
+
+    ghost numbered = { λ v. S.numbered (shared_of v) };
+
     fn start_shared(
         &mut self,
         flavor: &FlavorInfo,
@@ -71,15 +75,13 @@ impl<A: Context, S: SharedContext> SharedContext for Validator<A, S> {
         self.shared.start_shared(flavor, pointee, position, length)
     }
 
+    fn type_number(&self, flavor: &FlavorInfo, pointee: &Pointee) -> Option<usize> {
+        self.shared.type_number(flavor, pointee)
+    }
+
     #[inline(always)]
-    fn is_finished(
-        &self,
-        flavor: &FlavorInfo,
-        pointee: &Pointee,
-        position: i128,
-        length: usize,
-    ) -> bool {
-        self.shared.is_finished(flavor, pointee, position, length)
+    fn is_finished_as(&self, number: usize, position: i128, length: usize) -> bool {
+        self.shared.is_finished_as(number, position, length)
     }
 
     fn finish_shared(
@@ -183,6 +185,10 @@ impl ArchiveContext for HighValidator<'_> {
 }
 
 impl SharedContext for HighValidator<'_> {
+    ghost use Rattle.archive_check.specs.context.Validators.{numbered_met};
+
+    ghost numbered = { λ v. numbered_met v.positions };
+
     fn start_shared(
         &mut self,
         flavor: &FlavorInfo,
@@ -196,16 +202,17 @@ impl SharedContext for HighValidator<'_> {
         self.start_first(flavor, pointee, position, length)
     }
 
-    #[inline(always)]
-    fn is_finished(
-        &self,
-        flavor: &FlavorInfo,
-        pointee: &Pointee,
-        position: i128,
-        length: usize,
-    ) -> bool {
+    fn type_number(&self, flavor: &FlavorInfo, pointee: &Pointee) -> Option<usize> {
         match &self.positions {
-            Some(positions) => positions.is_finished(flavor, pointee, position, length),
+            Some(positions) => positions.type_number(flavor, pointee),
+            None => None,
+        }
+    }
+
+    #[inline(always)]
+    fn is_finished_as(&self, number: usize, position: i128, length: usize) -> bool {
+        match &self.positions {
+            Some(positions) => positions.is_finished_as(number, position, length),
             None => false,
         }
     }

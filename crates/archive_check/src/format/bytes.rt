@@ -1,7 +1,8 @@
 //! Numbers and texts in bytes, as rkyv 0.8.18 has them. Positions are in bytes from the buffer's first one.
 #![tactic(auto, unfolding(crate::specs::Reads::bytes_at, crate::specs::Reads::u32_at, crate::specs::Reads::i32_at, crate::specs::Reads::decoded_length))]
 
-ghost use Rattle.std.specs.Prelude.{◌≡◌, ◌↔◌, ◌+◌, ◌<◌, ◌≤◌, length, take, pos, ◌+ℤ◌, IsTrue, IsUtf8, IsAscii};
+ghost use Rattle.std.specs.Prelude.{◌≡◌, ◌↔◌, ◌+◌, ◌<◌, ◌≤◌, length, take, pos, ◌+ℤ◌, IsTrue, IsUtf8, IsAscii, if◌then◌else◌, ◌==◌};
+ghost use Rattle.std.specs.Int.{w16, w64, w128, from_le_bytes, trailing_zeros};
 ghost use Rattle.archive_check.specs.Reads.{bytes_at, u32_at, i32_at, before_end, decoded_length, IsOutOfLine};
 ghost use Rattle.archive_check.specs.Readable.{target_from};
 
@@ -13,7 +14,39 @@ pub fn read_u32(bytes: &[u8], p: usize) -> u32
     requires { p + 4 ≤ length bytes.now }
     ensures { result ≡ u32_at bytes.now p }
 {
-    u32::from_le_bytes([bytes[p], bytes[p + 1], bytes[p + 2], bytes[p + 3]])
+    let mut raw = [0; 4];
+    raw.copy_from_slice(&bytes[p..p + 4]);
+    u32::from_le_bytes(raw)
+}
+
+// The number in the two bytes at `p`.
+pub(super) fn read_u16(bytes: &[u8], p: usize) -> u16
+    requires { p + 2 ≤ length bytes.now }
+    ensures { result ≡ from_le_bytes w16 (bytes_at bytes.now p 2) }
+{
+    let mut raw = [0; 2];
+    raw.copy_from_slice(&bytes[p..p + 2]);
+    u16::from_le_bytes(raw)
+}
+
+// The number in the eight bytes at `p`.
+pub(super) fn read_u64(bytes: &[u8], p: usize) -> u64
+    requires { p + 8 ≤ length bytes.now }
+    ensures { result ≡ from_le_bytes w64 (bytes_at bytes.now p 8) }
+{
+    let mut raw = [0; 8];
+    raw.copy_from_slice(&bytes[p..p + 8]);
+    u64::from_le_bytes(raw)
+}
+
+// The number in the sixteen bytes at `p`.
+pub(super) fn read_u128(bytes: &[u8], p: usize) -> u128
+    requires { p + 16 ≤ length bytes.now }
+    ensures { result ≡ from_le_bytes w128 (bytes_at bytes.now p 16) }
+{
+    let mut raw = [0; 16];
+    raw.copy_from_slice(&bytes[p..p + 16]);
+    u128::from_le_bytes(raw)
 }
 
 /// The signed number in the four bytes at `p`, the lowest first, in two's complement. The caller
@@ -69,45 +102,73 @@ pub fn read_coded_length(bytes: &[u8], p: usize) -> usize
     code % 64 + code / 256 * 64
 }
 
+// The place of the first of the eight lanes that are set in the mask; 8 where none is.
+#[inline(always)]
+fn first_set(mask: u64) -> usize
+    ensures { result ≡ if mask == 0 then 8 else trailing_zeros w64 mask }
+{
+    if mask == 0 {
+        return 8;
+    }
+    mask.trailing_zeros() as usize
+}
+
 /// How many of the eight bytes at `p` stand before the first 0xff; 8 where there is none. The
 /// caller must ensure that they lie in the buffer.
+#[inline(always)]
 pub fn inline_length(bytes: &[u8], p: usize) -> usize
     requires { p + 8 ≤ length bytes.now }
     ensures short { result ≤ 8 }
     ensures text { bytes_at bytes.now p result ≡ before_end (bytes_at bytes.now p 8) }
 {
-    for k in 0..8 {
-        if bytes[p + k] == 0xff {
-            return k;
-        }
-    }
-    8
+    let ends = u8x8::from_slice(&bytes[p..]).simd_eq(u8x8::splat(0xff));
+    first_set(ends.to_bitmask())
 }
 
-// Whether the eight bytes at `p` are ASCII.
+// How many of the eight bytes at `p` stand before the first that isn't ASCII; 8 where there is none.
 #[inline(always)]
-fn are_ascii(bytes: &[u8], p: usize) -> bool
+fn ascii_length(bytes: &[u8], p: usize) -> usize
     requires { p + 8 ≤ length bytes.now }
-    ensures { IsTrue result → IsAscii (bytes_at bytes.now p 8) }
+    ensures { IsAscii (bytes_at bytes.now p result) }
 {
-    u8x8::from_slice(&bytes[p..])
-        .simd_lt(u8x8::splat(0x80))
-        .all()
+    let others = u8x8::from_slice(&bytes[p..]).simd_ge(u8x8::splat(0x80));
+    first_set(others.to_bitmask())
 }
 
-// Whether the `n` bytes at `p` are known to be ASCII at once, as most short texts are: the first eight and the last eight of them.
+// Whether the `N` bytes at `p` are ASCII.
+#[inline(always)]
+fn are_ascii<const N: usize>(bytes: &[u8], p: usize) -> bool
+    requires few { N ≤ 64 }
+    requires fits { p + N ≤ length bytes.now }
+    ensures { IsTrue result → IsAscii (bytes_at bytes.now p N) }
+{
+    let others = Simd::<u8, N>::from_slice(&bytes[p..]).simd_ge(Simd::splat(0x80));
+    others.to_bitmask() == 0
+}
+
+// Whether the first `N` and the last `N` of the `n` bytes at `p` are ASCII, and so all of them: the
+// two vectors meet or overlap.
+#[inline(always)]
+fn are_ends_ascii<const N: usize>(bytes: &[u8], p: usize, n: usize) -> bool
+    requires few { N ≤ 64 }
+    requires meet { (N ≤ n) × (n ≤ N + N) }
+    requires fits { p + n ≤ length bytes.now }
+    ensures { IsTrue result → IsAscii (bytes_at bytes.now p n) }
+{
+    are_ascii::<N>(bytes, p) && are_ascii::<N>(bytes, p + n - N)
+}
+
+// Whether the `n` bytes at `p` are known to be ASCII at once, as most short texts are.
 #[inline(always)]
 fn is_short_ascii(bytes: &[u8], p: usize, n: usize) -> bool
     requires { p + n ≤ length bytes.now }
     ensures { IsTrue result → IsAscii (bytes_at bytes.now p n) }
 {
-    if n < 8 || n > 16 {
-        return false;
+    match n {
+        8..=16 => are_ends_ascii::<8>(bytes, p, n),
+        17..=32 => are_ends_ascii::<16>(bytes, p, n),
+        _ => false,
     }
-    if !are_ascii(bytes, p) {
-        return false;
-    }
-    are_ascii(bytes, p + n - 8)
 }
 
 // The bits that any of the bytes has: below 128 where each byte is ASCII.
@@ -169,6 +230,17 @@ pub fn is_text(bytes: &[u8], p: usize, n: usize) -> bool
     ensures { IsTrue result ↔ IsUtf8 (bytes_at bytes.now p n) }
 {
     is_short_ascii(bytes, p, n) || is_any_text(bytes, p, n)
+}
+
+/// Whether the inline string at `p` is UTF-8: those of its eight bytes before the first 0xff. The
+/// caller must ensure that the eight lie in the buffer.
+#[inline(always)]
+pub fn is_inline_text(bytes: &[u8], p: usize) -> bool
+    requires { p + 8 ≤ length bytes.now }
+    ensures { IsTrue result ↔ IsUtf8 (before_end (bytes_at bytes.now p 8)) }
+{
+    let length = inline_length(bytes, p);
+    ascii_length(bytes, p) == length || is_any_text(bytes, p, length)
 }
 
 /// The `n` bytes at `p` as a text. The caller must ensure that they lie in the buffer and are

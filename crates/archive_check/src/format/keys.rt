@@ -12,7 +12,8 @@ ghost use Rattle.archive_check.specs.Readable.{target_from, string_text};
 ghost use Rattle.archive_check.specs.Keys.{key_cmp, ComesBehind};
 
 use crate::format::bytes::{
-    inline_length, is_out_of_line, read_coded_length, read_i32, read_position, read_u32,
+    inline_length, is_out_of_line, read_coded_length, read_i32, read_position, read_u16, read_u32,
+    read_u64, read_u128,
 };
 use crate::format::expr::{IntegerKind, Key, Kind};
 
@@ -36,16 +37,6 @@ fn read_i8(bytes: &[u8], p: usize) -> i8
     i8::from_le_bytes(raw)
 }
 
-// The number in the two bytes at `p`.
-fn read_u16(bytes: &[u8], p: usize) -> u16
-    requires { p + 2 ≤ length bytes.now }
-    ensures { result ≡ from_le_bytes w16 (bytes_at bytes.now p 2) }
-{
-    let mut raw = [0; 2];
-    raw.copy_from_slice(&bytes[p..p + 2]);
-    u16::from_le_bytes(raw)
-}
-
 // The signed number in the two bytes at `p`.
 fn read_i16(bytes: &[u8], p: usize) -> i16
     requires { p + 2 ≤ length bytes.now }
@@ -56,16 +47,6 @@ fn read_i16(bytes: &[u8], p: usize) -> i16
     i16::from_le_bytes(raw)
 }
 
-// The number in the eight bytes at `p`.
-fn read_u64(bytes: &[u8], p: usize) -> u64
-    requires { p + 8 ≤ length bytes.now }
-    ensures { result ≡ from_le_bytes w64 (bytes_at bytes.now p 8) }
-{
-    let mut raw = [0; 8];
-    raw.copy_from_slice(&bytes[p..p + 8]);
-    u64::from_le_bytes(raw)
-}
-
 // The signed number in the eight bytes at `p`.
 fn read_i64(bytes: &[u8], p: usize) -> i64
     requires { p + 8 ≤ length bytes.now }
@@ -74,16 +55,6 @@ fn read_i64(bytes: &[u8], p: usize) -> i64
     let mut raw = [0; 8];
     raw.copy_from_slice(&bytes[p..p + 8]);
     i64::from_le_bytes(raw)
-}
-
-// The number in the sixteen bytes at `p`.
-fn read_u128(bytes: &[u8], p: usize) -> u128
-    requires { p + 16 ≤ length bytes.now }
-    ensures { result ≡ from_le_bytes w128 (bytes_at bytes.now p 16) }
-{
-    let mut raw = [0; 16];
-    raw.copy_from_slice(&bytes[p..p + 16]);
-    u128::from_le_bytes(raw)
 }
 
 // The signed number in the sixteen bytes at `p`.

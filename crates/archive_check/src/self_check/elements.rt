@@ -3,7 +3,7 @@
 
 ghost use Rattle.std.specs.Prelude.{◌≡◌, ◌+◌, ◌*◌, ◌≤◌, length, OnSome, IfNone, IsTrue};
 ghost use Rattle.archive_check.specs.Shape.{run, vec};
-ghost use Rattle.archive_check.specs.SelfCheck.Ways.{run_way};
+ghost use Rattle.archive_check.specs.SelfCheck.Ways.{run_way, AreGood};
 ghost use Rattle.archive_check.specs.context.Pushes.{Spends};
 ghost use Rattle.archive_check.specs.SelfCheck.Steps.{WentOver, StoppedIn, run_at};
 
@@ -39,7 +39,21 @@ fn check_no_bytes<T: Portable, C: ArchiveContext>(
     check_value::<T, C>(bytes, at, refusal, context)
 }
 
-// Checks so many of `T`, one behind another from `at` on.
+// How many of the first of so many of `T`, `step` bytes apart from `at` on, are known to be good at once.
+#[inline(always)]
+fn count_good<T: Portable>(bytes: &[u8], at: usize, step: usize, count: usize) -> usize
+    requires { at + count * step ≤ length bytes.now }
+    ensures few { result ≤ count }
+    ensures good { AreGood T.definitions bytes.now at step T.shape result }
+{
+    if !T::Check::is_direct() {
+        return 0;
+    }
+    T::Check::check_first(bytes, at, step, count)
+}
+
+// Checks so many of `T`, one behind another from `at` on. Those that are known to be good at once
+// are passed over; the others go one by one, so that the first fault is told.
 #[inline(always)]
 pub fn check_elements<T: Portable, C: ArchiveContext>(
     bytes: &[u8],
@@ -60,7 +74,8 @@ pub fn check_elements<T: Portable, C: ArchiveContext>(
     if size == 0 {
         return check_no_bytes::<T, C>(bytes, at, count, refusal, context);
     }
-    for index in 0..count {
+    let good = count_good::<T>(bytes, at, size, count);
+    for index in good..count {
         check_value::<T, C>(bytes, at + index * size, refusal, context)?;
     }
     Some(())

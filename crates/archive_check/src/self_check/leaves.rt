@@ -1,12 +1,12 @@
 // Leaves, and the types of the machine that are leaves.
 
-ghost use Rattle.std.specs.Prelude.{◌≡◌, ◌+◌, ◌≤◌, length, OnSome, IfNone, true};
+ghost use Rattle.std.specs.Prelude.{◌≡◌, ◌+◌, ◌*◌, ◌≤◌, length, OnSome, IfNone, true};
 ghost use Rattle.std.specs.Int.{w8};
 ghost use Rattle.archive_check.specs.Shape.{leaf, unit, bool, number, unsigned, signed};
 ghost use Rattle.archive_check.specs.Layout.{kind_size};
 ghost use Rattle.archive_check.specs.Expressions.{kind_of};
 ghost use Rattle.archive_check.specs.Definitions.{no_definition};
-ghost use Rattle.archive_check.specs.SelfCheck.Ways.{shape_way};
+ghost use Rattle.archive_check.specs.SelfCheck.Ways.{shape_way, AreGood};
 ghost use Rattle.archive_check.specs.context.Pushes.{Spends};
 ghost use Rattle.archive_check.specs.SelfCheck.Steps.{Went, Stopped};
 
@@ -15,7 +15,7 @@ use crate::context::ArchiveContext;
 use crate::context::refusals::refuse;
 use crate::format::error::Error;
 use crate::format::expr::{IntegerKind, Kind};
-use crate::format::leaf::{illegal, is_legal};
+use crate::format::leaf::{count_legal, illegal, is_legal};
 
 /// Checks the leaf of this kind at `at`, in bytes from the first one. The caller must ensure that
 /// it lies in `bytes`. `None` if the check stops, and `refusal` is why: `InvalidBool`,
@@ -38,6 +38,19 @@ pub fn check_leaf<C: ArchiveContext>(
         return refuse(refusal, illegal(kind));
     }
     Some(())
+}
+
+/// How many leaves of this kind at the front are known to be valid at once.
+///
+/// There are `count` of them, `step` bytes apart from `at` on; the caller must ensure that all lie
+/// in `bytes`. Our own.
+#[inline(always)]
+pub fn check_first_leaves(kind: Kind, bytes: &[u8], at: usize, step: usize, count: usize) -> usize
+    requires { at + count * step ≤ length bytes.now }
+    ensures few { result ≤ count }
+    ensures good { AreGood no_definition bytes.now at step (leaf (kind_of kind)) result }
+{
+    count_legal(kind, bytes, at, step, count)
 }
 
 impl SelfCheck for () {
@@ -97,6 +110,11 @@ impl SelfCheck for bool {
         context: &mut C,
     ) -> Option<()> {
         check_leaf(Kind::Bool, bytes, at, refusal, context)
+    }
+
+    #[inline(always)]
+    fn check_first(bytes: &[u8], at: usize, step: usize, count: usize) -> usize {
+        check_first_leaves(Kind::Bool, bytes, at, step, count)
     }
 }
 

@@ -11,7 +11,7 @@ use crate::context::ArchiveContext;
 use crate::context::refusals::refuse;
 use crate::context::regions::{enter, leave};
 use crate::format::bytes::{
-    inline_length, is_out_of_line, is_text, read_coded_length, read_position, read_u32,
+    is_inline_text, is_out_of_line, is_text, read_coded_length, read_position, read_u32,
 };
 use crate::format::error::Error;
 
@@ -74,8 +74,7 @@ impl SelfCheck for StringCheck {
             let position = read_position(bytes, at, at + 4);
             return check_text(bytes, position, length, refusal, context);
         }
-        let length = inline_length(bytes, at);
-        if !is_text(bytes, at, length) {
+        if !is_inline_text(bytes, at) {
             return refuse(refusal, Error::InvalidUtf8);
         }
         Some(())

@@ -14,14 +14,17 @@ use Rattle.archive_schema.specs.declared.check.Checker.{Checker}
 use Rattle.archive_schema.specs.declared.check.worklist.Work.{Work}
 use Rattle.archive_schema.specs.declared.check.worklist.Work.TheVariants.{Finish}
 use Rattle.archive_check.specs.context.Ranges.{RangeState}
-use Rattle.archive_check.specs.context.PositionStates.{PositionState, Positions, IsStartAnswer, IsFinishedAs, started}
+use Rattle.archive_check.specs.context.PositionStates.{PositionState, Positions, IsStartAnswer, IsFinishedAnswer, started}
+use Rattle.std.specs.Option.{IfSome}
+use Rattle.archive_check.specs.Expressions.{flavor_of, pointee_of}
+use Rattle.archive_check.specs.Shape.{Flavor, Pointee}
 use Rattle.archive_check.specs.Reads.{i32_at}
 use Rattle.archive_check.specs.Tour.{Seen, Entry}
 use Rattle.archive_check.specs.Trail.{Fault, cyclic, other_type, other_length}
 use Rattle.archive_check.specs.Outcomes.{Outcome, done, refused}
 use Rattle.archive_check.specs.Words.Elements.{IsAt}
 use Rattle.archive_schema.specs.check.Runs.{IsNode, run_shared, run_weak, run_null, pointee_count, pointee_length, entry_for, EnterRuns, FollowRuns, follow_before, follow_new, follow_again, follow_type, follow_length, follow_cycle}
-use Rattle.archive_schema.specs.check.LoopInvariant.{Stage, stage, pending_in, Ready, Agrees, Agreeing, LeadsBack, LeadsNowhere, IsOrderly, Then, and_then, stops, Entering, Following, TurnLeads, TurnRefuses, IsStopped}
+use Rattle.archive_schema.specs.check.LoopInvariant.{Stage, stage, pending_in, Ready, Agrees, Agreeing, HasNumber, LeadsBack, LeadsBackOrIsNull, LeadsNowhere, IsOrderly, Then, and_then, stops, Entering, Following, TurnLeads, TurnRefuses, IsStopped}
 use Rattle.archive_schema.specs.check.Turns.{ComesInto}
 use Rattle.archive_schema.proofs.check.ContextAgrees.{agrees_same, SeenAs, seen_as, met_none, agrees_new, started_again}
 use Rattle.archive_schema.proofs.check.OrderlyContexts.{orderly_levels, orderly_same, orderly_new}
@@ -135,11 +138,9 @@ follow_back {m = m} {met = met} {k = k} {p = p} {target = target} j back {depth 
 pub shared_nowhere : {m : Checker} {met : Positions} {i k j p : ℕ} {target : PointeeKind} → IsNode m i (Shared k target j) → LeadsBack m met k target p → LeadsNowhere m met i p
 shared_nowhere {j = j} is back depth pending regions stop start seen a = run_shared is (follow_back j back stop start a)
 
-pub weak_nowhere : {m : Checker} {met : Positions} {i k j p : ℕ} {target : PointeeKind} → IsNode m i (Weak k target j) → i32_at m.bytes.now p ≢ pos 1 → LeadsBack m met k target p → LeadsNowhere m met i p
-weak_nowhere {j = j} is other back depth pending regions stop start seen a = run_weak is other (follow_back j back stop start a)
-
-pub null_nowhere : {m : Checker} {met : Positions} {i k j p : ℕ} {target : PointeeKind} → IsNode m i (Weak k target j) → i32_at m.bytes.now p ≡ pos 1 → LeadsNowhere m met i p
-null_nowhere is null depth pending regions stop start seen a = run_null is null
+pub weak_nowhere : {m : Checker} {met : Positions} {i k j p : ℕ} {target : PointeeKind} → IsNode m i (Weak k target j) → LeadsBackOrIsNull m met k target p → LeadsNowhere m met i p
+weak_nowhere is (inl null) depth pending regions stop start seen a = run_null is null
+weak_nowhere {j = j} is (inr (other, back)) depth pending regions stop start seen a = run_weak is other (follow_back j back stop start a)
 
 -- positions as indices
 
@@ -200,9 +201,16 @@ follows_started {m = m} {s = s} {met = met} {old = old} {k = k} {j = j} {p = p} 
 follows_started {m = m} {s = s} {met = met} {old = old} {k = k} {j = j} {p = p} {n = n} {l = l} {target = target} {z = z} {x = x} {s1 = s1} {met1 = met1} {result = None} {fault = fault} r same starts new at list h =
     record { some = tt; none = refuses_new m s met old k j p n l target z x r.type_is r.count_is r.length_is r.position_is s1 met1 same starts new fault h.none }
 
+-- the number that a context has of a shared type
+pub numbered_at : (m : Checker) (numbered : ℕ → Flavor → Pointee → Type 0) (k : ℕ) (r : Option ℕ) (x : SharedType) → IsAt m.shared_types.now k x
+    → IfSome r (λ n. numbered n (flavor_of x.flavor) (pointee_of x.pointee)) → IfSome r (λ n. HasNumber m (numbered n) k)
+numbered_at m numbered k None x at h = h
+numbered_at m numbered k (Some n) x at h = record { shared_type = x; at = at; numbered_is = h }
+
 -- what a context says to be finished
-pub leads_back : {m : Checker} {met : Positions} {k p n l : ℕ} {target : PointeeKind} {z : ℤ} {x : SharedType} {y : Bool} → SharedAt m k p target n l z x → (IsTrue y → IsFinishedAs (met z) (entry_for x l)) → IsTrue y → LeadsBack m met k target p
-leads_back r answer so = record { shared_type = _; at = r.type_is; finished = rw (← r.length_is, ← r.position_is) (answer so) }
+pub leads_back : {m : Checker} {met : Positions} {numbered : Flavor → Pointee → Type 0} {k p l : ℕ} {target : PointeeKind} {z : ℤ} {y : Bool}
+    → l ≡ pointee_length m.bytes.now p target → z ≡ pos p +ℤ i32_at m.bytes.now p → IsFinishedAnswer numbered (met z) l y → HasNumber m numbered k → IsTrue y → LeadsBack m met k target p
+leads_back length_is position_is answer k so = record { shared_type = k.shared_type; at = k.at; finished = rw (← length_is, ← position_is) ((answer _ _ k.numbered_is).0 so) }
 
 pub answer_of : (o : Option PositionState) (e : Entry) {r r' : Result ValidationState Error} → r ≡ r' → IsStartAnswer o e r → IsStartAnswer o e r'
 answer_of o e is h = rw is at h

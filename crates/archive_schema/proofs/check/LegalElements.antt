@@ -48,13 +48,16 @@ node_takes {m = m} {j = j} {z = z} {x = x} f is e =
 
 module _ (m : Checker) (j z : ℕ) (takes : Takes m j z) where
   -- k elements and one more take no more than n
-  room : (n p k : ℕ) → ElementsFit m j n p → k < n → p + k * z + z ≤ length m.bytes.now
+  pub room : (n p k : ℕ) → ElementsFit m j n p → k < n → p + k * z + z ≤ length m.bytes.now
   room n p k f lt =
       let size = take_same f.takes takes in
       let all : (k + 1) * z ≤ n * z = mul-le-mul_right z (omega arith) in
       let more : (k + 1) * z ≡ k * z + z = omega arith in
       let whole : n * f.size ≡ n * z = ap (λ q. n * q) size in
       omega (arith, f.fits)
+
+  pub elements_fit : (n p : ℕ) → ElementsFit m j n p → p + n * z ≤ length m.bytes.now
+  elements_fit n p f = let whole : n * f.size ≡ n * z = ap (λ q. n * q) (take_same f.takes takes) in omega (arith, f.fits)
 
   pub element_fits : (n p k : ℕ) → ElementsFit m j n p → k < n → PartFits m j (p + k * z)
   element_fits n p k f lt = record { size = z; takes = takes; fits = room n p k f lt }

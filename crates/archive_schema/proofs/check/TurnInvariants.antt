@@ -15,7 +15,7 @@ use Rattle.archive_check.specs.Tour.{Seen}
 use Rattle.archive_check.specs.Trail.{Fault}
 use Rattle.archive_check.specs.Outcomes.{Outcome, done, refused}
 use Rattle.archive_check.specs.Words.Elements.{IsAt, span}
-use Rattle.archive_schema.specs.check.Runs.{IsNode, IsVariant, NodeRuns, ListRuns, list_part, list_part_stop, list_leave, list_finish}
+use Rattle.archive_schema.specs.check.Runs.{IsNode, IsVariant, Takes, NodeRuns, ListRuns, list_part, list_part_stop, list_leave, list_finish}
 use Rattle.archive_schema.specs.check.Lists.{IsMore}
 use Rattle.archive_schema.specs.plan.SoundPlans.{PartsWithin, SpanFits, ArrayFits, NodeKindFits, IsSound}
 use Rattle.archive_check.specs.Words.Faults.{IsFor}
@@ -156,13 +156,19 @@ rank_from : (m : Checker) (i z : ℕ) (xs : List Part) → PartsWithin m i z xs 
 rank_from m i z [] h = omega arith
 rank_from m i z (x ∷ xs) h = omega (arith, h.0.1, rank_from m i z xs h.1)
 
+pub kind_fits : {m : Checker} {i z : ℕ} {kind : NodeKind} → IsSound m → IsNode m i kind → Takes m i z → NodeKindFits m i z kind
+kind_fits {i = i} {z = z} sound h takes =
+    let fits = sound.fits i h.node z h.at (ap (λ q. q.size) (same_at h.at takes.at) ∙ takes.size_is) in rw h.kind_is at fits
+
 pub node_fits : {m : Checker} {i p : ℕ} {kind : NodeKind} → IsSound m → IsNode m i kind → (f : PartFits m i p) → NodeKindFits m i f.size kind
-node_fits {i = i} sound h f =
-    let fits = sound.fits i h.node f.size h.at (ap (λ q. q.size) (same_at h.at f.takes.at) ∙ f.takes.size_is) in rw h.kind_is at fits
+node_fits sound h f = kind_fits sound h f.takes
 
 -- what the list's index says of a node
+pub node_there : {m : Checker} {i z : ℕ} {x : Node} {kind : NodeKind} → Takes m i z → x ≡ slice_index_or m.nodes.now i x → (slice_index_or m.nodes.now i x).kind ≡ kind → IsNode m i kind
+node_there {x = x} takes is kind_is = record { node = x; at = record { below = takes.at.below; is = is }; kind_is = ap (λ q. q.kind) is ∙ kind_is }
+
 pub node_is : {m : Checker} {i p : ℕ} {x : Node} {kind : NodeKind} → PartFits m i p → x ≡ slice_index_or m.nodes.now i x → (slice_index_or m.nodes.now i x).kind ≡ kind → IsNode m i kind
-node_is {x = x} f is kind_is = record { node = x; at = record { below = f.takes.at.below; is = is }; kind_is = ap (λ q. q.kind) is ∙ kind_is }
+node_is f is kind_is = node_there f.takes is kind_is
 
 -- the parts of a record, and of a variant
 pub record_fits : {m : Checker} {i p a b : ℕ} → IsSound m → IsNode m i (Record a b) → (f : PartFits m i p) → SpanFits m i f.size a b

@@ -17,7 +17,8 @@ use Rattle.archive_check.specs.Trail.{Fault}
 use Rattle.archive_check.specs.declared.format.expr.Kind.{Kind as KindExpr}
 use Rattle.archive_check.specs.declared.format.expr.Key.{Key as KeyExpr}
 use Rattle.archive_schema.specs.declared.plan.NodeKind.TheVariants.{Free, Leaf}
-use Rattle.archive_check.specs.Expressions.{kind_of, key_of}
+use Rattle.archive_check.specs.Expressions.{kind_of, key_of, flavor_of, pointee_of}
+use Rattle.archive_check.specs.Shape.{Flavor, Pointee}
 use Rattle.archive_check.specs.Layout.{kind_size, key_size}
 use Rattle.archive_check.specs.Reads.{bytes_at, i32_at, IsLegal}
 use Rattle.archive_check.specs.Outcomes.{Outcome, done, refused}
@@ -197,11 +198,21 @@ abbrev pub LeadsNowhere : Checker → Positions → ℕ → ℕ → Type 0
 LeadsNowhere m met i p =
     (depth : Option ℕ) (pending : List ℕ) (regions stop start : ℕ) (seen : Seen) → Agrees depth met pending regions seen → NodeRuns m pending depth stop i p start seen (done start seen)
 
+-- the shared type k is one of which this is so: a context has a number of it
+pub record HasNumber (m : Checker) (numbered : Flavor → Pointee → Type 0) (k : ℕ) : Type 0 where
+  pub shared_type : SharedType
+  pub at : IsAt m.shared_types.now k shared_type
+  pub numbered_is : numbered (flavor_of shared_type.flavor) (pointee_of shared_type.pointee)
+
 -- the shared pointer at p leads to a position that is finished, met as one of its type k and of its length
 pub record LeadsBack (m : Checker) (met : Positions) (k : ℕ) (target : PointeeKind) (p : ℕ) : Type 0 where
   pub shared_type : SharedType
   pub at : IsAt m.shared_types.now k shared_type
   pub finished : IsFinishedAs (met (pos p +ℤ i32_at m.bytes.now p)) (entry_for shared_type (pointee_length m.bytes.now p target))
+
+-- the weak pointer at p is a null, or it leads to such a position
+abbrev pub LeadsBackOrIsNull : Checker → Positions → ℕ → PointeeKind → ℕ → Type 0
+LeadsBackOrIsNull m met k target p = (i32_at m.bytes.now p ≡ pos 1) ⊎ ((i32_at m.bytes.now p ≢ pos 1) × LeadsBack m met k target p)
 
 -- the node at p is a leaf that is legal, or may be any bytes
 pub data LiesLegal (m : Checker) (i p : ℕ) : Type 0 where

@@ -21,7 +21,7 @@ use crate::plan::extents::{unit_of, value_offset};
 use crate::plan::{NodeKind, PointeeKind, Span};
 use archive_check::context::ArchiveContext;
 use archive_check::format::bytes::{
-    inline_length, is_out_of_line, is_text, read_coded_length, read_position,
+    is_inline_text, is_out_of_line, is_text, read_coded_length, read_position,
 };
 use archive_check::format::error::Error;
 use archive_check::format::expr::{Key, Kind};
@@ -151,8 +151,7 @@ impl Checker<'_> {
                 context,
             );
         }
-        let length = inline_length(self.bytes, at);
-        if !is_text(self.bytes, at, length) {
+        if !is_inline_text(self.bytes, at) {
             return work.refuse(Error::InvalidUtf8);
         }
         Some(())

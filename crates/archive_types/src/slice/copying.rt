@@ -271,7 +271,7 @@ fn copy_together<S: Writer + Keys, T: Copied>(
     ensures succeeds { Takes S.position S.Keys serializer S.takes_memory T.CopiedAs.layout (length values.now) → IsOk result }
     ensures keys { OnOk result (KeepsKeys (S.state serializer.old).states (S.state serializer.new).states) }
 {
-    serializer.align_for::<T::CopiedAs>()?;
+    serializer.align_for_run::<T::CopiedAs>(values.len())?;
     copy_aligned(values, size, together, serializer)
 }
 

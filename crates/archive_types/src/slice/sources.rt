@@ -74,7 +74,7 @@ pub(crate) fn serialize_in_turn<S: Writer + ResolverAlloc, T: Serialize<S>>(
 {
     let alloc = serializer.resolver_alloc();
     let resolvers = serialize_each(alloc, values, serializer)?;
-    serializer.align_for::<T::Archived>()?;
+    serializer.align_for_run::<T::Archived>(values.len())?;
     serializer.resolve_slice_aligned(alloc, values, resolvers)
 }
 

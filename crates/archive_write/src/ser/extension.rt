@@ -1,6 +1,6 @@
 //! What is written to every writer.
 
-ghost use Rattle.std.specs.Prelude.{◌≡◌, ◌++◌, ◌<◌, ◌≤◌, OnOk, OnErr, IfOk, IfErr, IsErrOf, IsTrue, replicate};
+ghost use Rattle.std.specs.Prelude.{◌≡◌, ◌++◌, ◌<◌, ◌≤◌, OnOk, OnErr, IfOk, IfErr, IsErrOf, IsTrue, length, replicate};
 ghost use Rattle.archive_check.specs.WriterState.{KeepsKeys, Pads};
 ghost use Rattle.archive_write.specs.Written.{IsBeginning, padding};
 ghost use Rattle.archive_write.specs.Writes.{SpendsRoom, ExplainsWrite, ExplainsPadding, Padded};
@@ -18,6 +18,24 @@ fn zeros_due(pos: usize, align: usize) -> usize
 {
     let past = pos % align;
     (align - past) % align
+}
+
+/// As many bytes or more are long: room for them is made at once.
+const LONG: usize = 1024;
+
+/// Room is made for so many bytes more, for what mostly follows the last long region of an archive: its owner, and the root.
+const BEHIND: usize = 64;
+
+// Makes room at once for so many values of a size, if they are long together.
+#[inline(always)]
+fn make_room_for<W: Writer>(writer: &mut W, count: usize, size: usize)
+    ensures unchanged { W.state writer.new ≡ W.state writer.old }
+    ensures same_position { W.position writer.new ≡ W.position writer.old }
+{
+    let bytes = count.saturating_mul(size);
+    if bytes >= LONG {
+        writer.make_room(bytes.saturating_add(BEHIND));
+    }
 }
 
 /// What every writer can do besides. Errors are those of the writer's `write`: `OutOfMemory`,
@@ -84,6 +102,42 @@ pub trait WriterExt: Writer {
         ensures memory { IsErrOf result Error.OutOfMemory → IsTrue Self.takes_memory }
     {
         self.align(T::align())
+    }
+
+    /// As `align_for`, with room made at once for `count` values, if these are long. Our own.
+    #[inline(always)]
+    final fn align_for_run<T: Portable>(&mut self, count: usize) -> Result<usize, Error>
+    where
+        Self: Sized,
+        ensures position { IfOk result (λ p. p ≡ Self.position self.new) }
+        ensures padded { OnOk result (Pads T.layout.align (Self.state self.old) (Self.state self.new)) }
+        ensures written { OnOk result (Padded Self.state self Self.position T.layout.align) }
+        ensures kept { OnErr result (IsBeginning (Self.state self.old).bytes (Self.state self.new).bytes) }
+        ensures room { SpendsRoom Self.state self }
+        ensures refusal { IfErr result (ExplainsPadding Self.state self Self.position T.layout.align) }
+        ensures device { (Self.state self.old).failures ≤ (Self.state self.new).failures }
+        ensures keys { KeepsKeys (Self.state self.old).states (Self.state self.new).states }
+        ensures memory { IsErrOf result Error.OutOfMemory → IsTrue Self.takes_memory }
+    {
+        make_room_for(self, count, T::size());
+        self.align_for::<T>()
+    }
+
+    /// As `write`, with room made at once, if the bytes are long. Our own.
+    #[inline(always)]
+    final fn write_long(&mut self, bytes: &[u8]) -> Result<(), Error>
+    where
+        Self: Sized,
+        ensures written { OnOk result ((Self.state self.new).bytes ≡ (Self.state self.old).bytes ++ bytes.now) }
+        ensures kept { OnErr result (IsBeginning (Self.state self.old).bytes (Self.state self.new).bytes) }
+        ensures room { SpendsRoom Self.state self }
+        ensures refusal { IfErr result (ExplainsWrite Self.state self Self.position (length bytes.now)) }
+        ensures device { (Self.state self.old).failures ≤ (Self.state self.new).failures }
+        ensures keys { KeepsKeys (Self.state self.old).states (Self.state self.new).states }
+        ensures memory { IsErrOf result Error.OutOfMemory → IsTrue Self.takes_memory }
+    {
+        make_room_for(self, bytes.len(), 1);
+        self.write(bytes)
     }
 }
 

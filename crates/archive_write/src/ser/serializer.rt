@@ -109,4 +109,9 @@ impl<W: Writer, A, S: Keys> Writer for Serializer<W, A, S> {
     fn write_at_once(&mut self, bytes: &[u8]) -> bool {
         self.writer.write_at_once(bytes)
     }
+
+    #[inline(always)]
+    fn make_room(&mut self, n: usize) {
+        self.writer.make_room(n);
+    }
 }

@@ -52,6 +52,13 @@ pub trait Writer: Positional + Keys {
         false
     }
 
+    /// Asks for room for `n` more bytes at once, so that writes needn't ask for it piece by piece.
+    /// A hint: it never fails and appends nothing, and by default it does nothing. Our own.
+    #[inline(always)]
+    fn make_room(&mut self, _n: usize)
+        ensures unchanged { Self.state self.new ≡ Self.state self.old }
+    {}
+
     // It stands behind the bytes that it tells.
     ghost position_law: { (w : Self) → Self.position w ≡ length (Self.state w).bytes };
 }
@@ -90,6 +97,11 @@ impl<W: Writer> Writer for &mut W {
     #[inline(always)]
     fn write_at_once(&mut self, bytes: &[u8]) -> bool {
         W::write_at_once(&mut **self, bytes)
+    }
+
+    #[inline(always)]
+    fn make_room(&mut self, n: usize) {
+        W::make_room(&mut **self, n);
     }
 }
 
@@ -141,5 +153,11 @@ impl<A: Allocator> Writer for Vec<u8, A> {
     #[inline(always)]
     fn write_at_once(&mut self, bytes: &[u8]) -> bool {
         replace_with(self, bytes, with_bytes)
+    }
+
+    // Where memory for the room is refused, the writes ask for what they need themselves.
+    #[inline(always)]
+    fn make_room(&mut self, n: usize) {
+        let _ = self.reserve(n);
     }
 }

@@ -51,6 +51,20 @@ fn result_of(answer: &Answer) -> Result<Option<ValidationState>, Error> {
 // none where it is finished, and the answer.
 type Call = (bool, bool, i128, Option<usize>, Answer);
 
+// Whether a position is finished as one of these, as the calls tell that pass over such a position.
+fn is_finished<S: SharedContext>(
+    shared: &S,
+    flavor: &FlavorInfo,
+    pointee: &Pointee,
+    position: i128,
+    length: usize,
+) -> bool {
+    match shared.type_number(flavor, pointee) {
+        Some(number) => shared.is_finished_as(number, position, length),
+        None => false,
+    }
+}
+
 // Starts a position; a call that looks whether it is finished answers so.
 fn start<S: SharedContext>(
     rt: &impl Abort,
@@ -61,7 +75,7 @@ fn start<S: SharedContext>(
     length: usize,
 ) -> Result<Option<ValidationState>, Error> {
     let state = shared.start_shared(flavor, pointee, position, length);
-    let is_finished = shared.is_finished(flavor, pointee, position, length);
+    let is_finished = is_finished(shared, flavor, pointee, position, length);
     let right = matches!(&state, Ok(ValidationState::Finished));
     assert_same(rt, "what is finished", is_finished, right);
     match state {

@@ -22,15 +22,6 @@ type NativeFive = (u8, u32, bool, u16, u8);
 
 type Five = ArchivedTuple5<u8, ArchivedU32, bool, ArchivedU16, u8>;
 
-// The tuple (1, 2, true, 3, 4, 5, 6): a `u8`, a `u32` at 4, a `bool` at 8, a `u16` at 10, a `u8` at 12, one at 13 and a `u32` at 16.
-const SEVEN: &[u8] = b"\x01\0\0\0\x02\0\0\0\x01\0\x03\0\x04\x05\0\0\x06\0\0\0";
-
-// The tuple (1, 2, 3, 4, true, 5, 6, 7, 8, 9, 10): a `u8`, a `u16` at 2, a `u8` at 4, a `u32` at 8, a `bool` at 12, a `u8` at 13, a `u16` at 14, a `u8` at
-// 16, one at 17, a `u16` at 18 and a `u8` at 20, and zeros up to a multiple of 4.
-const ELEVEN: &[u8] = b"\x01\0\x02\0\x03\0\0\0\x04\0\0\0\x01\x05\x06\0\x07\x08\x09\0\x0a\0\0\0";
-
-type NativeEleven = (u8, u16, u8, u32, bool, u8, u16, u8, u8, u16, u8);
-
 // The tuple (1, 2, true, 3, 4, 5, 6, 7, 8, 9, 10, false, 11): a `u8`, one at 1, a `bool` at 2, a `u8` at 3, a `u32` at 4, a `u8` at 8, one at 9, a `u16` at
 // 10, a `u8` at 12, a `u16` at 14, a `u8` at 16, a `bool` at 17 and a `u32` at 20.
 const THIRTEEN: &[u8] = b"\x01\x02\x01\x03\x04\0\0\0\x05\x06\x07\0\x08\0\x09\0\x0a\0\0\0\x0b\0\0\0";
@@ -134,67 +125,6 @@ fn a_tuple_of_five_is_viewed(rt: HostRuntime) {
     let view = viewed::<Five>(&rt, rt.alloc(), FIVE);
     let fourth = view.field::<ArchivedU16>(3).get();
     assert_same(&rt, "the fourth", fourth, 3);
-}
-
-// What is read back of the archive of six.
-fn read_six(alloc: Global) -> Option<(u8, u8, bool, u8, u8, u8)> {
-    found(alloc, b"\x01\x02\x01\x03\x04\x05")
-}
-
-#[test]
-fn a_tuple_of_six_is_read_back(rt: HostRuntime) {
-    let back = read_six(rt.alloc()).expect(&rt, "a tuple");
-    let numbers = [back.0, back.1, back.2 as u8, back.3, back.4, back.5];
-    assert_same(&rt, "the numbers", numbers, [1, 2, 1, 3, 4, 5]);
-}
-
-// What is read back of the archive of seven.
-fn read_seven(alloc: Global) -> Option<(u8, u32, bool, u16, u8, u8, u32)> {
-    found(alloc, SEVEN)
-}
-
-#[test]
-fn a_tuple_of_seven_is_read_back(rt: HostRuntime) {
-    let back = read_seven(rt.alloc()).expect(&rt, "a tuple");
-    let numbers = [
-        back.0 as u32,
-        back.1,
-        back.2 as u32,
-        back.3 as u32,
-        back.4 as u32,
-        back.5 as u32,
-        back.6,
-    ];
-    assert_same(&rt, "the numbers", numbers, [1, 2, 1, 3, 4, 5, 6]);
-}
-
-// What is read back of the archive of eleven.
-fn read_eleven(alloc: Global) -> Option<NativeEleven> {
-    found(alloc, ELEVEN)
-}
-
-#[test]
-fn a_tuple_of_eleven_is_read_back(rt: HostRuntime) {
-    let back = read_eleven(rt.alloc()).expect(&rt, "a tuple");
-    let numbers = [
-        back.0 as u32,
-        back.1 as u32,
-        back.2 as u32,
-        back.3,
-        back.4 as u32,
-        back.5 as u32,
-        back.6 as u32,
-        back.7 as u32,
-        back.8 as u32,
-        back.9 as u32,
-        back.10 as u32,
-    ];
-    assert_same(
-        &rt,
-        "the numbers",
-        numbers,
-        [1, 2, 3, 4, 1, 5, 6, 7, 8, 9, 10],
-    );
 }
 
 // The bytes of a tuple of thirteen.

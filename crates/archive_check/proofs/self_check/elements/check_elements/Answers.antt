@@ -1,6 +1,6 @@
 use Rattle.std.proofs.Common.{◌≡◌, ◌+◌, ◌-◌, ◌*◌, ◌<◌, ◌≤◌, ℕ, zero, suc, min, arith, refl, ◌∙◌, length}
-use Rattle.archive_check.proofs.SelfCheck.Elements.{toward_element, element_halts, elements_gone, elements_begin}
-use Rattle.archive_check.proofs.SelfCheck.Spent.{next_spends}
+use Rattle.archive_check.proofs.SelfCheck.Elements.{toward_element, element_halts, elements_gone, toward_good}
+use Rattle.archive_check.proofs.SelfCheck.Spent.{next_spends, fewer_spend}
 use Rattle.archive_check.proofs.self_check.elements.check_elements.Goals as goal
 
 -- an element that lies in bytes has its size
@@ -9,7 +9,12 @@ its_own z zero k len at w lt fits small e = absurd (omega arith)
 its_own z (suc n) k len at w lt fits small e = let more : suc n * z ≡ z + n * z = omega arith in omega arith
 
 pub loop-index-init : goal.loop-index-init
-loop-index-init g c = (refl, elements_begin g.T.ArchivePointee.definitions g.T.Portable.shape c.args.bytes.now c.args.at c.args.count c.size-size.result (g.C.Context.state c.args.context.now), let all : c.args.count - 0 ≡ c.args.count = omega arith in rw all (omega arith))
+loop-index-init g c = (
+  refl,
+  toward_good g.T.ArchivePointee.definitions g.T.Portable.shape g.T.Portable.layout g.met.T.Portable.has_layout c.args.bytes.now c.args.at c.args.count c.size-size.result (g.C.Context.state c.args.context.now) c.count_good-good.result c.count_good-good.ensures.few
+      (λ some. its_own g.T.Portable.layout.size c.args.count 0 (length c.args.bytes.now) c.args.at c.size-size.result some c.requires.fits (omega (arith, c.if-prove.false)) c.size-size.ensures) c.count_good-good.ensures.good,
+  omega (arith, fewer_spend g.T.Portable.layout.size c.args.count c.count_good-good.result),
+)
 
 pub returns-in_err-check_value-clause-stops : goal.returns-in_err-check_value-clause-stops
 returns-in_err-check_value-clause-stops g c d =

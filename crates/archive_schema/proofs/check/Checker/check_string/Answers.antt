@@ -24,17 +24,14 @@ returns-then-is_out_of_line-clause-passes g c =
     let length = c.read_coded_length-length.ensures in
     passes_by (rw (length, position) at c.check_shallow_region.ensures.passes) (λ pending seen o r. string_out_of_line out (rw length at c.if-length-le8.false) r)
 
-pub inline_length-length-requires : goal.inline_length-length-requires
-inline_length-length-requires g c = omega (arith, c.requires.fits)
+pub is_inline_text-requires : goal.is_inline_text-requires
+is_inline_text-requires g c = omega (arith, c.requires.fits)
 
-pub is_text-requires : goal.is_text-requires
-is_text-requires g c = omega (arith, c.requires.fits, c.inline_length-length.ensures.short)
-
-pub returns-then-not-is_text-clause-passes : goal.returns-then-not-is_text-clause-passes
-returns-then-not-is_text-clause-passes g c =
-    passes_refused c.refuse-then-not-is_text.ensures.none c.refuse-then-not-is_text.ensures.fault
-    (λ some. (no_text, refl, λ pending seen. string_no_text (λ u. not_true c.is_out_of_line.result c.if-is_out_of_line.false (c.is_out_of_line.ensures.1 u)) (λ u. not_true c.is_text.result c.if-not-is_text.true (c.is_text.ensures.1 (rw (← c.inline_length-length.ensures.text) at u)))))
+pub returns-then-not-is_inline_text-clause-passes : goal.returns-then-not-is_inline_text-clause-passes
+returns-then-not-is_inline_text-clause-passes g c =
+    passes_refused c.refuse-then-not-is_inline_text.ensures.none c.refuse-then-not-is_inline_text.ensures.fault
+    (λ some. (no_text, refl, λ pending seen. string_no_text (λ u. not_true c.is_out_of_line.result c.if-is_out_of_line.false (c.is_out_of_line.ensures.1 u)) (λ u. not_true c.is_inline_text.result c.if-not-is_inline_text.true (c.is_inline_text.ensures.1 u))))
 
 pub returns-clause-passes : goal.returns-clause-passes
 returns-clause-passes g c =
-    passes_same (λ pending seen. string_inline (λ u. not_true c.is_out_of_line.result c.if-is_out_of_line.false (c.is_out_of_line.ensures.1 u)) (rw c.inline_length-length.ensures.text at (c.is_text.ensures.0 (is_true c.is_text.result c.if-not-is_text.false))))
+    passes_same (λ pending seen. string_inline (λ u. not_true c.is_out_of_line.result c.if-is_out_of_line.false (c.is_out_of_line.ensures.1 u)) (c.is_inline_text.ensures.0 (is_true c.is_inline_text.result c.if-not-is_inline_text.false)))

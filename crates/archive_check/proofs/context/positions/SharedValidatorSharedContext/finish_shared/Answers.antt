@@ -22,5 +22,5 @@ invariant_of-self-in-Some-clause-recalls g c =
     let now : SharedPosition = record { shared_type = kept.shared_type; length = kept.length; finished = true } in
     let written = c.get_mut.follows.holds now in
     let updates = written.3 (ap is_some (sym c.in-Some.ensures.value)) in
-    recalled_finished c.args.self.now.recalled.list.items c.add.new.self.list.items (get int_eq c.args.self.now.positions) (get int_eq (c.get_mut.follows.lender now)) _ kept now
+    recalled_finished c.args.self.now.recalled.slots.items c.add.new.self.slots.items (get int_eq c.args.self.now.positions) (get int_eq (c.get_mut.follows.lender now)) _ kept now
     c.in-Some.ensures.value c.if-kept.false refl updates.0 c.add.ensures c.args.self.now.recalls

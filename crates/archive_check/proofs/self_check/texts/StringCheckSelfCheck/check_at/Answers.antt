@@ -42,12 +42,12 @@ returns-then-is_out_of_line-clause-stops g c d =
     let z_is = to_z-of_z w128 c.read_position-position.result fits ∙ c.read_position-position.ensures in
     halts_by no_definition no_definition (enter_way b p) (shape_way b c.args.at str) s (λ t k. k) (λ t k pending seen o w. string_way b t pending s.depth s.end s.start seen c.args.at o (c.is_out_of_line.ensures.0 (is_true c.is_out_of_line.result c.if-is_out_of_line.true)) (rw c.read_coded_length-length.ensures at c.if-length-le8.false) (rw (z_is, c.read_coded_length-length.ensures) at w)) c.check_text.new.refusal c.check_text.result c.check_text.ensures.stops
 
-pub returns-then-not-is_text-clause-stops : goal.returns-then-not-is_text-clause-stops
-returns-then-not-is_text-clause-stops g c d =
+pub returns-then-not-is_inline_text-clause-stops : goal.returns-then-not-is_inline_text-clause-stops
+returns-then-not-is_inline_text-clause-stops g c d =
     let s = g.C.Context.state c.args.context.now in
-    if_none (λ e. Halts no_definition (shape_way c.args.bytes.now c.args.at str) s e) c.refuse-then-not-is_text.result c.refuse-then-not-is_text.new.refusal InvalidUtf8 c.refuse-then-not-is_text.ensures.fault
-    (λ some. (no_text, refl, λ t k pending seen. trips_inline (λ u. not_true c.is_out_of_line.result c.if-is_out_of_line.false (c.is_out_of_line.ensures.1 u)) (λ u. not_true c.is_text.result c.if-not-is_text.true (c.is_text.ensures.1 (rw (← c.inline_length-length.ensures.text) at u)))))
+    if_none (λ e. Halts no_definition (shape_way c.args.bytes.now c.args.at str) s e) c.refuse-then-not-is_inline_text.result c.refuse-then-not-is_inline_text.new.refusal InvalidUtf8 c.refuse-then-not-is_inline_text.ensures.fault
+    (λ some. (no_text, refl, λ t k pending seen. trips_inline (λ u. not_true c.is_out_of_line.result c.if-is_out_of_line.false (c.is_out_of_line.ensures.1 u)) (λ u. not_true c.is_inline_text.result c.if-not-is_inline_text.true (c.is_inline_text.ensures.1 u))))
 
 pub returns-clause-through : goal.returns-clause-through
 returns-clause-through g c = goes_same no_definition (shape_way c.args.bytes.now c.args.at str) (g.C.Context.state c.args.context.now)
-    (λ t k pending seen. walk_inline (λ u. not_true c.is_out_of_line.result c.if-is_out_of_line.false (c.is_out_of_line.ensures.1 u)) (rw c.inline_length-length.ensures.text at (c.is_text.ensures.0 (is_true c.is_text.result c.if-not-is_text.false))))
+    (λ t k pending seen. walk_inline (λ u. not_true c.is_out_of_line.result c.if-is_out_of_line.false (c.is_out_of_line.ensures.1 u)) (c.is_inline_text.ensures.0 (is_true c.is_inline_text.result c.if-not-is_inline_text.false)))

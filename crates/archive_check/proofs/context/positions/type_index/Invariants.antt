@@ -1,6 +1,0 @@
-use Rattle.archive_check.specs.Expressions.{flavor_of, pointee_of}
-use Rattle.archive_check.proofs.context.SharedPositions.{NoneBefore}
-use Rattle.archive_check.proofs.context.positions.type_index.Given as goal
-
-abbrev pub invariant-loop-index : goal.invariant-loop-index
-invariant-loop-index g l = NoneBefore l.shared_type-items (flavor_of l.flavor) (pointee_of l.pointee) l.index

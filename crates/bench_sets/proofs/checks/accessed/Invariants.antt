@@ -1,0 +1,5 @@
+use Rattle.std.proofs.Common.{◌≤◌}
+use Rattle.bench_sets.proofs.checks.accessed.Given as goal
+
+abbrev pub invariant-loop : goal.invariant-loop
+invariant-loop g l = l.accepted ≤ l.counter

@@ -1,0 +1,60 @@
+"""Fields one after another: up to eight by calls by their number, more as a nest of four at once."""
+
+from .layout import fours, implementation, literal, pair, statement
+
+# Up to so many fields there are calls by their number.
+MOST_BY_NUMBER = 8
+# The fields of a `FourParts`.
+ORDINALS = ("first", "second", "third", "fourth")
+
+
+def is_long(parts):
+    return len(parts) > MOST_BY_NUMBER
+
+
+def nest(parts):
+    """Fields as types or as values."""
+    return fours(parts) if is_long(parts) else pair(parts)
+
+
+def places(count):
+    """Where each of so many fields is in the nest of their values."""
+    if count <= MOST_BY_NUMBER:
+        return [f"{'.1' * i}.0" for i in range(count)]
+    last = 4 * (count // 4)
+    quads = [f"{'.rest' * (i // 4)}.{ORDINALS[i % 4]}" for i in range(last)]
+    return quads + [f"{'.rest' * (last // 4)}{'.1' * i}.0" for i in range(count - last)]
+
+
+def opened(names, indent):
+    """The lines that name each of `values`."""
+    if not is_long(names):
+        return statement(indent, "let ", pair(names), " = values;")
+    lines, left, whole = "", list(names), "values"
+    while len(left) >= 4:
+        pattern = literal("FourParts", [f"{at}: {name}" for at, name in zip(ORDINALS, left)] + ["rest"])
+        lines += statement(indent, "let ", pattern, f" = {whole};")
+        left, whole = left[4:], "rest"
+    return lines + statement(indent, "let ", pair(left), " = rest;")
+
+
+def fields_of(formats, name, whole, rust, values):
+    """Many fields of the struct `whole` as sources, and how each is found: `values` are their names."""
+    formats.use("archive_core::own", "Field", "HasField")
+    formats.use("archive_core::traits", "FourParts")
+    those = statement(0, f"type {name} = ", fours([f"Field<{i}, {type}>" for i, type in enumerate(rust)]), ";")
+    impls = "".join(
+        f"""
+{implementation([], "HasField", [str(i), type], whole)}
+    ghost field = {{ λ v. v.{value} }};
+
+    fn field(&self) -> &{type} {{
+        &self.{value}
+    }}
+}}
+"""
+        for i, (type, value) in enumerate(zip(rust, values))
+    )
+    return f"""
+// The fields as sources.
+{those}{impls}"""
