@@ -8,10 +8,10 @@ use Rattle.std.specs.Map.{keys_of}
 use Rattle.std.proofs.lemmas.List.{length-drop}
 use Rattle.std.proofs.lemmas.Map.Keys.{sorted_head, sorted_tail}
 use Rattle.archive_check.specs.Value.{Value, value}
+use Rattle.archive_check.specs.Denotes.{Naming}
 use Rattle.archive_types.specs.MapPairs.{pair_meaning}
 use Rattle.archive_types.specs.Runs.{each_keys, each_meaning}
 use Rattle.archive_types.specs.ValueOrder.{value_cmp, keys_ascend}
-use Rattle.archive_types.specs.Writing.{Naming}
 
 module _ {A B : Type 0} (R : A → A → Ordering) (m : A → Value) (n : B → Value) (law : (x y : A) → R x y ≡ value_cmp (m x) (m y)) where
   -- whether their keys ascend
