@@ -34,10 +34,6 @@ alone_finished p met =
     ap (λ x. update int_eq (alone p met) p (option_map done x)) (alone_there p met)
     ∙ (λ i q. twice (int_eq p q) (Some (done met)) (Some met) i)
 
-pub finishes_alone : (first now : FirstPosition) (p : ℤ) → first.position ≡ p → now.position ≡ first.position → first_as now ≡ done (first_as first) → first_met now ≡ finished (first_met first) p
-finishes_alone first now p here stays is =
-    (λ i. alone (stays i) (is i)) ∙ sym (alone_finished first.position (first_as first)) ∙ ap (finished (first_met first)) here
-
 -- what is listed where it was started there
 abbrev pub pending : FirstPosition → PositionState
 pending first = record { entry = (first_as first).entry; finished = false }
