@@ -1,7 +1,6 @@
 // Shared positions that collide in the slots in which a check remembers them.
 
-use crate::assertions::{assert_holds, assert_refusal};
-use archive_core::api::access;
+use crate::assertions::{assert_accepted, assert_refused};
 use archive_core::error::Error;
 use archive_core::rc::{ArchivedRc, RcFlavor};
 use archive_core::string::ArchivedStr;
@@ -16,8 +15,8 @@ fn push(rt: &impl Abort, bytes: &mut Vec<u8>, word: u32) {
     pushed.expect(rt, "memory");
 }
 
-// A list of pointers in turns to 17 texts of one byte, three to each; the last says that its text has so many. The texts are 610 bytes apart, and
-// multiples of 610 share their slots.
+// A list of pointers in turns to 17 texts of one byte, three to each; the last says that its text
+// has so many. The texts are 610 bytes apart, and multiples of 610 share their slots.
 fn pointers(rt: &impl Abort, alloc: Global, last: u32) -> Vec<u8> {
     let mut bytes = Vec::new(alloc);
     bytes.resize(10_372, 0).expect(rt, "memory");
@@ -35,9 +34,8 @@ fn pointers(rt: &impl Abort, alloc: Global, last: u32) -> Vec<u8> {
 #[test]
 fn positions_that_collide_are_told_apart(rt: HostRuntime) {
     let right = pointers(&rt, rt.alloc(), 1);
-    let accepted = access::<Pointers>(rt.alloc(), right.as_slice()).is_ok();
-    assert_holds(&rt, "pointers to texts of a byte", accepted);
+    assert_accepted::<Pointers>(&rt, rt.alloc(), right.as_slice());
     let wrong = pointers(&rt, rt.alloc(), 2);
-    let refused = access::<Pointers>(rt.alloc(), wrong.as_slice());
-    assert_refusal(&rt, "two bytes", refused, Error::MetadataMismatch);
+    let bytes = wrong.as_slice();
+    assert_refused::<Pointers>(&rt, "two bytes", rt.alloc(), bytes, Error::MetadataMismatch);
 }
