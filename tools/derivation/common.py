@@ -185,6 +185,31 @@ def own_check(source, body):
 """
 
 
+def in_turn(formats):
+    """Two texts of an impl of `Archive`: that slices of the type aren't written in bulk, and the calls that say so."""
+    formats.use("archive_core::error", "Error")
+    formats.use("archive_core::ser", "Writer")
+    formats.use("archive_core::traits", "CopyOptimization", "Keys")
+    formats.ghost("std.specs.Prelude", "None")
+    return (
+        "    ghost in_bulk = { None };\n",
+        """    #[inline(always)]
+    fn copy_optimization() -> CopyOptimization<Self> {
+        CopyOptimization::disable()
+    }
+
+    #[inline(always)]
+    fn serialize_copied<S: Writer + Keys>(
+        _values: &[Self],
+        _together: usize,
+        _serializer: &mut S,
+    ) -> Result<Option<usize>, Error> {
+        Ok(None)
+    }
+""",
+    )
+
+
 def resolve_head(source):
     return f"""    fn resolve(
         &self,

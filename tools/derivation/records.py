@@ -6,6 +6,7 @@ from .common import (
     chain,
     deserialize,
     doc_lines,
+    in_turn,
     infix,
     kept_of,
     ok_arm,
@@ -146,6 +147,7 @@ def archive(record):
     call = Generic(f"resolve_record_{record.count}", record.rust + [record.archived], arguments)
     if is_long(types):
         call = Generic("resolve_record", ["Self", f"{record.name}Fields", record.archived], ["self", kept, "Place::new(pos, bytes)"])
+    told, calls = in_turn(f)
     return f"""impl Archive for {record.name} {{
 {f.law_lines()}    type Archived = {record.archived};
 
@@ -159,6 +161,7 @@ def archive(record):
 
     ghost belongs = {{ λ v r. {belongs} }};
 
+{told}
     ghost keyed = {{ λ v. record_keyed {keyed} }};
 
     ghost planned = {{ λ v. plain_record_planned {record.defined} {record.parts} _ _ {planned} refl }};
@@ -166,7 +169,8 @@ def archive(record):
 {resolve_head(record)}    {{
         let Place {{ bytes, pos, .. }} = place;
 {taken}{statement(8, "", call, "")}    }}
-}}
+
+{calls}}}
 """
 
 

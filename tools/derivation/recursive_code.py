@@ -3,7 +3,7 @@
 import re
 
 from . import records, variants
-from .common import chain, doc_lines, infix
+from .common import chain, doc_lines, in_turn, infix
 from .formats import snake
 from .layout import Generic, Group, call, flat, implementation, literal, pair, signature, statement
 
@@ -322,6 +322,7 @@ def archive(it):
         it.formats.use("archive_recursive", f"resolve_named_record_{case.count}")
     else:
         body = "        match self {\n" + "".join(resolve_arm(it, case) for case in it.cases) + "        }\n"
+    told, calls = in_turn(it.formats)
     return f"""impl Archive for {it.name} {{
     ghost use Rattle.{it.declaration.crate}.specs.{it.family.name}Meaning.{{{', '.join(names)}}};
 
@@ -337,6 +338,7 @@ def archive(it):
 
     ghost belongs = {{ {n}_belongs }};
 
+{told}
     ghost keyed = {{ {n}_keyed }};
 
     ghost planned = {{ {n}_planned }};
@@ -353,7 +355,8 @@ def archive(it):
     {{
         let Place {{ bytes, pos, .. }} = place;
 {body}    }}
-}}
+
+{calls}}}
 """
 
 

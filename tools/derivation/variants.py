@@ -6,6 +6,7 @@ from .common import (
     chain,
     deserialize,
     doc_lines,
+    in_turn,
     infix,
     kept_of,
     ok_arm,
@@ -200,6 +201,7 @@ def archive(choice):
 
     arms = "".join(resolve_arm(choice, case) for case in choice.cases)
     laws = (choice.elim("", keyed), choice.elim("", planned))
+    told, calls = in_turn(f)
     brought = (f.law_lines() + choice.brought(own=choice.name, Kept=choice.resolver)).replace("\n\n    ghost", "\n    ghost")
     return f"""impl Archive for {choice.name} {{
 {brought}    type Archived = {choice.archived};
@@ -214,6 +216,7 @@ def archive(choice):
 
     ghost belongs = {{ λ v r. {choice.elim("v", belongs)} }};
 
+{told}
     ghost keyed = {{ {laws[0]} }};
 
     ghost planned = {{ {laws[1]} }};
@@ -223,7 +226,8 @@ def archive(choice):
         match self {{
 {arms}        }}
     }}
-}}
+
+{calls}}}
 """
 
 

@@ -1,6 +1,6 @@
 // Parts whose values were written before: a recursive value is resolved with these in place of what it holds.
 
-ghost use Rattle.std.specs.Prelude.{◌≡◌, ◌≤◌, ⊤};
+ghost use Rattle.std.specs.Prelude.{◌≡◌, ◌≤◌, ⊤, None};
 ghost use Rattle.archive_check.specs.Layout.{pointer_size};
 ghost use Rattle.archive_check.specs.Value.{shared_value};
 ghost use Rattle.archive_enum.specs.Choices.{option_layout};
@@ -12,7 +12,7 @@ use archive_check::format::error::Error;
 use archive_types::boxed::{ArchivedBox, BoxResolver};
 use archive_types::option::ArchivedOption;
 use archive_types::place::Place;
-use archive_types::traits::{Archive, Portable};
+use archive_types::traits::{Archive, CopyOptimization, Keys, Portable};
 use archive_types::vec::{ArchivedVec, VecResolver};
 use std::marker::PhantomData;
 
@@ -43,6 +43,8 @@ impl<X: Portable> Archive for BoxAt<X> {
 
     ghost belongs = { λ _ _. ⊤ };
 
+    ghost in_bulk = { None };
+
     ghost keyed = { λ _. twice_keyed };
 
     ghost planned = { λ _ a s names known named. absurd (no_two names named) };
@@ -56,6 +58,20 @@ impl<X: Portable> Archive for BoxAt<X> {
     {
         let Place { bytes, pos, .. } = place;
         ArchivedBox::<X>::resolve_from_raw_parts(resolver, 0, Place::new(pos, bytes))
+    }
+
+    #[inline(always)]
+    fn copy_optimization() -> CopyOptimization<Self> {
+        CopyOptimization::disable()
+    }
+
+    #[inline(always)]
+    fn serialize_copied<S: Writer + Keys>(
+        _values: &[Self],
+        _together: usize,
+        _serializer: &mut S,
+    ) -> Result<Option<usize>, Error> {
+        Ok(None)
     }
 }
 
@@ -86,6 +102,8 @@ impl<X: Portable> Archive for OptionAt<X> {
 
     ghost belongs = { λ _ _. ⊤ };
 
+    ghost in_bulk = { None };
+
     ghost keyed = { λ _. twice_keyed };
 
     ghost planned = { λ _ a s names known named. absurd (no_two names named) };
@@ -113,6 +131,20 @@ impl<X: Portable> Archive for OptionAt<X> {
                 some.resolve(Some(at), Place::new(pos, bytes))
             }
         }
+    }
+
+    #[inline(always)]
+    fn copy_optimization() -> CopyOptimization<Self> {
+        CopyOptimization::disable()
+    }
+
+    #[inline(always)]
+    fn serialize_copied<S: Writer + Keys>(
+        _values: &[Self],
+        _together: usize,
+        _serializer: &mut S,
+    ) -> Result<Option<usize>, Error> {
+        Ok(None)
     }
 }
 
@@ -150,6 +182,8 @@ impl<X: Portable> Archive for VecAt<X> {
 
     ghost belongs = { λ v _. v.len ≤ 4294967295 };
 
+    ghost in_bulk = { None };
+
     ghost keyed = { λ _. twice_keyed };
 
     ghost planned = { λ _ a s names known named. absurd (no_two names named) };
@@ -163,5 +197,19 @@ impl<X: Portable> Archive for VecAt<X> {
     {
         let Place { bytes, pos, .. } = place;
         ArchivedVec::<X>::resolve_from_len(self.len, resolver, Place::new(pos, bytes))
+    }
+
+    #[inline(always)]
+    fn copy_optimization() -> CopyOptimization<Self> {
+        CopyOptimization::disable()
+    }
+
+    #[inline(always)]
+    fn serialize_copied<S: Writer + Keys>(
+        _values: &[Self],
+        _together: usize,
+        _serializer: &mut S,
+    ) -> Result<Option<usize>, Error> {
+        Ok(None)
     }
 }

@@ -32,7 +32,7 @@ ghost use Rattle.archive_core.specs.Writing.{ZeroedPlace};
 ghost use Rattle.archive_core.specs.Written.{GoesOn};
 ghost use Rattle.recursive_types.specs.ExprShape.{expr_add_parts, expr_call_parts, expr_definitions, expr_has_layout, expr_has_variants, expr_is_align, expr_layout, expr_name, expr_no_others, expr_num_parts, expr_shape, expr_stands_for};
 ghost use Rattle.std.proofs.Common.{lit≤};
-ghost use Rattle.std.specs.Prelude.{IfErr, IfOk, [], length, refl, ℕ, ◌++◌, ◌+◌, ◌≡◌, ◌≤◌};
+ghost use Rattle.std.specs.Prelude.{IfErr, IfOk, None, [], length, refl, ℕ, ◌++◌, ◌+◌, ◌≡◌, ◌≤◌};
 
 use archive_core::boxed::{ArchivedBox, BoxResolver, serialize_inner};
 use archive_core::error::Error;
@@ -44,8 +44,8 @@ use archive_core::ser::{ResolverAlloc, Writer, serialize_one};
 use archive_core::shape::{Defs, Expr as CoreExpr, Pointee};
 use archive_core::string::ArchivedString;
 use archive_core::traits::{
-    Archive, ArchivePointee, ArchiveUnsized, Choice, Deserialize, Entries, Keys, Portable,
-    Serialize, SerializeUnsized,
+    Archive, ArchivePointee, ArchiveUnsized, Choice, CopyOptimization, Deserialize, Entries, Keys,
+    Portable, Serialize, SerializeUnsized,
 };
 use archive_core::vec::{ArchivedVec, VecResolver};
 use archive_core::view::{RawView, Ref};
@@ -196,6 +196,8 @@ impl Archive for Expr {
 
     ghost belongs = { expr_belongs };
 
+    ghost in_bulk = { None };
+
     ghost keyed = { expr_keyed };
 
     ghost planned = { expr_planned };
@@ -246,6 +248,20 @@ impl Archive for Expr {
                 )
             }
         }
+    }
+
+    #[inline(always)]
+    fn copy_optimization() -> CopyOptimization<Self> {
+        CopyOptimization::disable()
+    }
+
+    #[inline(always)]
+    fn serialize_copied<S: Writer + Keys>(
+        _values: &[Self],
+        _together: usize,
+        _serializer: &mut S,
+    ) -> Result<Option<usize>, Error> {
+        Ok(None)
     }
 }
 

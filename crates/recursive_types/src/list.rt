@@ -29,7 +29,7 @@ ghost use Rattle.archive_core.specs.Writing.{ZeroedPlace};
 ghost use Rattle.archive_core.specs.Written.{GoesOn};
 ghost use Rattle.recursive_types.specs.ListShape.{list_cons_parts, list_definitions, list_has_layout, list_has_variants, list_is_align, list_layout, list_name, list_no_others, list_shape, list_stands_for};
 ghost use Rattle.std.proofs.Common.{lit≤};
-ghost use Rattle.std.specs.Prelude.{IfErr, IfOk, [], refl, ℕ, ◌++◌, ◌+◌, ◌≡◌, ◌≤◌};
+ghost use Rattle.std.specs.Prelude.{IfErr, IfOk, None, [], refl, ℕ, ◌++◌, ◌+◌, ◌≡◌, ◌≤◌};
 
 use archive_core::boxed::{ArchivedBox, BoxResolver, serialize_inner};
 use archive_core::error::Error;
@@ -40,8 +40,8 @@ use archive_core::self_check::BySchema;
 use archive_core::ser::{ResolverAlloc, Writer, serialize_one};
 use archive_core::shape::{Defs, Expr, Pointee};
 use archive_core::traits::{
-    Archive, ArchivePointee, ArchiveUnsized, Choice, Deserialize, Entries, Keys, Portable,
-    Serialize, SerializeUnsized,
+    Archive, ArchivePointee, ArchiveUnsized, Choice, CopyOptimization, Deserialize, Entries, Keys,
+    Portable, Serialize, SerializeUnsized,
 };
 use archive_core::view::{RawView, Ref};
 use archive_recursive::{
@@ -165,6 +165,8 @@ impl Archive for List {
 
     ghost belongs = { list_belongs };
 
+    ghost in_bulk = { None };
+
     ghost keyed = { list_keyed };
 
     ghost planned = { list_planned };
@@ -196,6 +198,20 @@ impl Archive for List {
                 )
             }
         }
+    }
+
+    #[inline(always)]
+    fn copy_optimization() -> CopyOptimization<Self> {
+        CopyOptimization::disable()
+    }
+
+    #[inline(always)]
+    fn serialize_copied<S: Writer + Keys>(
+        _values: &[Self],
+        _together: usize,
+        _serializer: &mut S,
+    ) -> Result<Option<usize>, Error> {
+        Ok(None)
     }
 }
 
