@@ -92,6 +92,15 @@ def substituted(type, by):
     return replace(type, args=[substituted(arg, by) for arg in type.args], text="")
 
 
+def without(type, family):
+    """The type, or where it leads to one of these, the arguments that don't."""
+    if any(type.own is it for it in family):
+        return []
+    if any(part is not arg for arg in type.args for part in without(arg, family) or [None]):
+        return [part for arg in type.args for part in without(arg, family)]
+    return [type]
+
+
 class Formats:
     """What a module says of types. It gathers the names that the module has to bring in."""
 
@@ -289,9 +298,10 @@ class Formats:
         """Whether the type, or one that it holds, is one of these."""
         if type.name in names and type.own is None:
             return True
-        if type.own is not None and not type.own.recursive and any(self.any_of(field, names) for field in self.fields(type)):
-            return True
-        return any(self.any_of(arg, names) for arg in type.args)
+        held = self.fields(type) if type.own is not None else []
+        if type.own is not None and type.own.recursive:
+            held = [part for it in type.own.family for field in it.all_fields() for part in without(field.type, type.own.family)]
+        return any(self.any_of(part, names) for part in held + type.args)
 
     def holds(self, type, names, inside):
         """Whether the type holds another declared one, and that one of these, both behind no pointer; `inside` that one already."""

@@ -3,8 +3,10 @@
 import re
 
 from . import records, variants
-from .common import chain, doc_lines, infix
+from . import recursive_chains as chains
+from .common import chain, infix
 from .formats import snake
+from .recursive_reads import by_match
 from .layout import Generic, Group, call, flat, implementation, literal, pair, signature, statement
 
 SERIALIZED = """    ensures serialized {{ IfOk result (λ r. Serialized {D} {X} (⟦<{T} as Archive>⟧.keys {v}.now)
@@ -19,12 +21,17 @@ READ = """    requires {{ IsPartOf ⟦<{X} as ArchivePointee>⟧ part }}
     ensures read {{ IfOk result (Read ⟦<{X} as ArchivePointee>⟧ part D.Entries deserializer ⟦<{T} as Archive>⟧) }}
     ensures refused {{ IfErr result (RefusesPart ⟦<{X} as ArchivePointee>⟧ part D.Entries deserializer) }}
 """
-WRITER = "S: Writer + Keys + ResolverAlloc"
 
 
 def text(it):
     bring(it)
-    pieces = [types(it), pointee(it), stands_for(it), portable(it), view_of(it), resolver(it), archive(it), writing(it), serialize(it), region(it), reading(it), deserialize(it)]
+    pieces = [types(it), pointee(it), stands_for(it), portable(it), view_of(it), resolver(it), archive(it)]
+    if it.is_chain:
+        chains.refuse_derived_drop(it.declaration)
+        chains.bring(it)
+        pieces += [chains.check(it), chains.drop(it), chains.writing(it), region(it), chains.reading(it), deserialize(it)]
+    else:
+        pieces += [writing(it), serialize(it), region(it), reading(it), deserialize(it)]
     pieces += [accessors(it, records.views, variants.views), accessors(it, records.seals, variants.seals)]
     return "\n".join(piece for piece in pieces if piece)
 
@@ -79,7 +86,7 @@ def types(it):
             lines.append(statement(0, f"type {word(it, case)}Parts = ", pair(case.archived), ";"))
     if not it.is_record:
         lines.append(statement(0, f"type {it.name}Variants = ", pair([f"{word(it, case)}Parts" if case.count else "()" for case in it.cases]), ";"))
-    return f"""/// An archived `{it.name}`: {it.size} bytes at a multiple of {it.align}. It is validated by its schema.
+    return f"""/// An archived `{it.name}`: {it.size} bytes at a multiple of {it.align}. It {'validates itself' if it.is_chain else 'is validated by its schema'}.
 pub struct {it.archived};
 
 {chr(10).join(lines)}"""
@@ -192,12 +199,13 @@ def portable(it):
         define = DEFINING.format(n=n, archived=it.archived).replace("\n    ", "\n        ")
     else:
         define = f"\n        define_{it.family.n}_family(alloc, defs)\n"
+    check, checks = (f"ChainCheck<{it.name}Chain>", f"λ _. {n}_checked") if it.is_chain else ("BySchema", "λ direct. by_schema direct")
     return f"""impl Portable for {it.archived} {{
     ghost shape = {{ {n}_shape }};
 
     ghost layout = {{ {n}_layout }};
 
-    type Check = BySchema;
+    type Check = {check};
 
     ghost is_one = {{ refl }};
 
@@ -207,7 +215,7 @@ def portable(it):
 
     ghost no_others = {{ {n}_no_others }};
 
-    ghost checks = {{ λ direct. by_schema direct }};
+    ghost checks = {{ {checks} }};
 
     fn size() -> usize {{
         {it.size}
@@ -412,7 +420,7 @@ def owner_writing(it, type):
     if type.name == "Box":
         return f"""// Writes what a box owns.
 #[cycle(serialize_{it.family.n})]
-fn serialize_{name}<{WRITER}>(value: &{T}, serializer: &mut S) -> Result<BoxResolver, Error>
+fn serialize_{name}<{it.writer}>(value: &{T}, serializer: &mut S) -> Result<BoxResolver, Error>
 {contract(it, type, "value")}{{
     let inner = &**value;
     let kept = match serialize_{it.word(item)}(inner, serializer) {{
@@ -428,7 +436,7 @@ fn serialize_{name}<{WRITER}>(value: &{T}, serializer: &mut S) -> Result<BoxReso
     if type.name == "Option":
         return f"""// Writes what an option owns.
 #[cycle(serialize_{it.family.n})]
-fn serialize_{name}<{WRITER}>(value: &{T}, serializer: &mut S) -> Result<{kept(it, type)}, Error>
+fn serialize_{name}<{it.writer}>(value: &{T}, serializer: &mut S) -> Result<{kept(it, type)}, Error>
 {contract(it, type, "value")}{{
     match value {{
         None => Ok(None),
@@ -450,7 +458,7 @@ fn serialize_{name}<{WRITER}>(value: &{T}, serializer: &mut S) -> Result<{kept(i
     run = f"{D} {X} (length values.now) (each_keys ⟦<{its} as Archive>⟧.keys values.now)\n        (each_meaning ⟦<{its} as Archive>⟧.meaning values.now)"
     return f"""// Writes what each of the values owns, in order.
 #[cycle(serialize_{it.family.n})]
-fn serialize_each_{it.word(item)}<{WRITER}>(values: &[{its}], serializer: &mut S) -> Result<Vec<<{its} as Archive>::Resolver, S::Alloc>, Error>
+fn serialize_each_{it.word(item)}<{it.writer}>(values: &[{its}], serializer: &mut S) -> Result<Vec<<{its} as Archive>::Resolver, S::Alloc>, Error>
     ensures serialized {{ IfOk result (λ rs. SerializedRun {run}
         (each_flat ⟦<{its} as Archive>⟧.flat values.now rs.items) (S.state serializer.old)
         (S.state serializer.new)) }}
@@ -473,7 +481,7 @@ fn serialize_each_{it.word(item)}<{WRITER}>(values: &[{its}], serializer: &mut S
 
 // Writes what a vector owns.
 #[cycle(serialize_{it.family.n})]
-fn serialize_{name}<{WRITER}>(value: &{T}, serializer: &mut S) -> Result<VecResolver, Error>
+fn serialize_{name}<{it.writer}>(value: &{T}, serializer: &mut S) -> Result<VecResolver, Error>
 {contract(it, type, "value")}{{
     if value.len() > u32::MAX as usize {{
         return Err(Error::LengthTooLarge);
@@ -515,7 +523,7 @@ def case_writing(it, case):
     n = it.n
     D, X, states = f"{n}_definitions", f"{n}_shape", "(S.state serializer.old) (S.state serializer.new)"
     head = signature(
-        f"fn serialize_{case.n}", [WRITER], [f"{name}: &{rust}" for name, rust in zip(case.names, case.rust)] + ["serializer: &mut S"], Group("Result<", [kept_of(it, case), "Error"], ">")
+        f"fn serialize_{case.n}", [it.writer], [f"{name}: &{rust}" for name, rust in zip(case.names, case.rust)] + ["serializer: &mut S"], Group("Result<", [kept_of(it, case), "Error"], ">")
     )
     cycle = f"#[cycle(serialize_{it.family.n})]\n" if any(case.leads_back) else ""
     return f"""// Writes what the parts of `{case.name}` own, in order.
@@ -555,7 +563,7 @@ def choice_writing(it):
 """
     return f"""// Writes what a value owns.
 #[cycle(serialize_{it.family.n})]
-fn serialize_{it.n}<{WRITER}>(value: &{it.name}, serializer: &mut S) -> Result<{it.resolver}, Error>
+fn serialize_{it.n}<{it.writer}>(value: &{it.name}, serializer: &mut S) -> Result<{it.resolver}, Error>
 {contract(it, it.itself, "value")}{{
     match value {{
 {arms}    }}
@@ -568,7 +576,7 @@ def record_writing(it):
     values = [f"&value.{field.name}" for field in case.fields]
     return f"""// Writes what a value owns, part by part.
 #[cycle(serialize_{it.family.n})]
-fn serialize_{it.n}<{WRITER}>(value: &{it.name}, serializer: &mut S) -> Result<{it.resolver}, Error>
+fn serialize_{it.n}<{it.writer}>(value: &{it.name}, serializer: &mut S) -> Result<{it.resolver}, Error>
 {contract(it, it.itself, "value")}{{
 {parts_written(it, case, values)}    Ok({it.resolver} {{ kept: {flat(pair(case.names))} }})
 }}
@@ -576,7 +584,7 @@ fn serialize_{it.n}<{WRITER}>(value: &{it.name}, serializer: &mut S) -> Result<{
 
 
 def serialize(it):
-    return f"""impl<{WRITER}> Serialize<S> for {it.name} {{
+    return f"""impl<{it.writer}> Serialize<S> for {it.name} {{
     fn serialize(&self, serializer: &mut S) -> Result<Self::Resolver, Error> {{
         serialize_{it.n}(self, serializer)
     }}
@@ -610,7 +618,7 @@ impl ArchiveUnsized for {it.name} {{
     }}
 }}
 
-impl<{WRITER}> SerializeUnsized<S> for {it.name} {{
+impl<{it.writer}> SerializeUnsized<S> for {it.name} {{
     fn serialize_unsized(&self, serializer: &mut S) -> Result<usize, Error> {{
         serialize_one(self, serializer)
     }}
@@ -682,6 +690,10 @@ def parts_read(it, case):
         else:
             where = Generic("part_of_variant", [it.archived, X], ["part", str(case.tag), str(i), str(offset)])
         lines += statement(4, f"let p{i} = ", where, ";")
+        if by_match(type):
+            read = Generic("read_part", [X, T, "D"], ["alloc", f"p{i}", "deserializer"])
+            lines += statement(4, f"let {name} = match ", read, " {") + f"        Ok({name}) => {name},\n        Err(error) => return Err(error),\n    }};\n"
+            continue
         read = call(f"read_{it.word(type)}", ["alloc", f"p{i}", "deserializer"], "?") if back else Generic("read_part", [X, T, "D"], ["alloc", f"p{i}", "deserializer"], "?")
         lines += statement(4, f"let {name} = ", read, ";")
     return lines
@@ -719,6 +731,7 @@ def record_reading(it):
 
 
 def deserialize(it):
+    read = f"read_chain::<{it.archived}, {it.name}, D>(alloc, part, deserializer)" if it.is_chain else f"read_{it.n}(alloc, part, deserializer)"
     return f"""impl<D: Entries> Deserialize<{it.name}, D> for {it.archived} {{
     fn deserialize_part(
         alloc: Global,
@@ -729,7 +742,7 @@ def deserialize(it):
         ensures read {{ IfOk result (Read ⟦<Self as ArchivePointee>⟧ part D.Entries deserializer ⟦<{it.name} as Archive>⟧) }}
         ensures refused {{ IfErr result (RefusesPart ⟦<Self as ArchivePointee>⟧ part D.Entries deserializer) }}
     {{
-        read_{it.n}(alloc, part, deserializer)
+        {read}
     }}
 }}
 """

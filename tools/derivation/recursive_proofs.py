@@ -1,7 +1,9 @@
 """The proofs of the functions that write and read a recursive type: answers to the goals that the check leaves, which are named after the code."""
 
+from . import recursive_chain_proofs as chains
 from . import recursive_code
 from .formats import snake
+from .recursive_reads import Reads
 from .recursive_specs import owns
 from .recursive_terms import brought
 
@@ -15,6 +17,7 @@ CITED = {
     "std.specs.Prelude": "",
     "archive_core.specs.Causes": "no_memory",
     "archive_core.specs.Error.TheVariants": "OutOfMemory",
+    "archive_recursive.specs.Chains": "written_up_to_as",
     "archive_recursive.specs.Held": "keyed_as planned_as written_as refused_as read_as",
     "archive_core.specs.PlannedOwners": "each_planned",
     "archive_core.specs.PartsReading": "part_read_back no_part_read_back",
@@ -478,12 +481,12 @@ def vec_read(it, type, answers):
     )
 
 
-def signed(case):
+def signed_values(values):
     """What makes of a number with a sign, as a body has it, the number that was read."""
     out, steps = "", []
-    for name, type in zip(case.names, case.types):
+    for type, name, value in values:
         if type.name in ("i8", "i16", "i32", "i64", "i128") and type.own is None:
-            width, value = f"w{type.name[1:]}", f"c.in_ok-{name}.{name}"
+            width = f"w{type.name[1:]}"
             out += f"let fits_{name} : SFits {width} {value} = search rules in "
             steps.append(f"to_z-of_z {width} {value} fits_{name}")
     return f"{out}rw ({', '.join(steps)}) " if steps else ""
@@ -493,7 +496,8 @@ def parts_read(it, case, answers, function):
     """The answers on parts that are read one after another."""
     where = "part_of_record" if it.is_record else "part_of_variant"
     told = ["rw (" + ", ".join(f"c.{where}-p{i}.ensures.{clause}" for clause in ("buffer", "position", "length")) + ") at " for i in range(case.count)]
-    values = [f"c.in_ok-{name}.{name}" for name in case.names]
+    reads = Reads(case.names, case.types)
+    values = reads.values
     parts = Parts(it, case, values)
     laid = "(record { solved = λ s k. refl })"
     sizes = [it.formats.layout(type) for type in case.types]
@@ -506,26 +510,26 @@ def parts_read(it, case, answers, function):
         E, P, _, _ = parts.rest(at + 1)
         head = f"{D} {E} {X} {layouts[at]} {laid} {P} _ _ {starts[at]} _ _"
         if at == i:
-            return f"(first_refuses {head} ({told[i]}c.in_err-{case.names[i]}.ensures.refused))"
-        return f"(later_refuses {head} _ c.in_ok-{case.names[at]}.ensures.read.kept {refused(i, at + 1)})"
+            return f"(first_refuses {head} ({told[i]}c.{reads.errs[i]}.ensures.refused))"
+        return f"(later_refuses {head} _ c.{reads.oks[at]}.ensures.read.kept {refused(i, at + 1)})"
 
     def read(at=0):
         if at == case.count:
             return "no_part_read_back"
         _, _, K, _ = parts.first(at)
         _, _, L, _ = parts.rest(at + 1)
-        return f"(part_read_back {{L = {layouts[at]}}} {{ks = {K}}} {{ls = {L}}} {laid} ({told[at]}c.in_ok-{case.names[at]}.ensures.read) {read(at + 1)})"
+        return f"(part_read_back {{L = {layouts[at]}}} {{ks = {K}}} {{ls = {L}}} {laid} ({told[at]}c.{reads.oks[at]}.ensures.read) {read(at + 1)})"
 
     lemma = "record_refuses" if it.is_record else "variant_refuses"
-    for i, name in enumerate(case.names):
-        answers.answer(function, f"returns-in_err-{name}-clause-refused", error_by(case.names, i, f"({lemma} {whole_of(it, case)} _ _ _ {first}_ _ {refused(i)})"))
+    for i, err in enumerate(reads.errs):
+        answers.answer(function, f"returns-{err}-clause-refused", reads.refused(i, f"({lemma} {whole_of(it, case)} _ _ _ {first}_ _ {refused(i)})"))
     if it.is_record:
         made = "(record { " + "; ".join(f"{field.name} = {value}" for field, value in zip(case.fields, values)) + " })"
         body = f"read_as ({it.n}_has_keys_roll {made}) ({it.n}_means_roll {made}) (record_read_back {whole_of(it, case)} _ _ _ _ _ _ _ {read()})"
     else:
         its = "".join(f" {value}" for value in values)
         body = f"read_as ({case.n}_has_keys{its}) ({case.n}_means{its}) (variant_read_back {whole_of(it, case)} _ _ _ {first}_ _ _ _ {read()})"
-    lets = signed(case)
+    lets = signed_values(zip(case.types, case.names, values))
     answers.answer(function, "returns-clause-read", f"({lets}({body}))" if lets else body)
 
 
@@ -541,6 +545,9 @@ def files(family):
     out = {}
     for it in family.members:
         out.update(defining(it))
+    if family.first.is_chain:
+        out.update(chains.files(family.first))
+        return out
     out.update(writing(family))
     out.update(reading(family))
     return out

@@ -1,5 +1,6 @@
 """The definitions that stand beside the modules of recursive types: what they look like, and what their values mean. A family has one file of each."""
 
+from . import recursive_chain_specs as chains
 from .formats import ALIGNS
 from .recursive_terms import brought, brought_owns, something
 
@@ -19,12 +20,18 @@ REACHED = [
 ]
 
 
+# What plain parts and lists speak of beside the rest.
+SPOKEN = [("std.specs.Prelude", "false ◌∷◌ ◌<◌ ◌^◌ Bool Result")]
+
+
 def shape(family):
     """What the archived types look like: their names, and what the names stand for."""
     lines = of_each(family, named) + of_each(family, stood_for)
     lines += of_each(family, defined) + of_each(family, stands)
+    if family.first.is_chain:
+        lines += chains.shape(family.first, knows_parts)
     body = "\n".join(lines)
-    more = [] if family.first.is_alone else REACHED
+    more = SPOKEN + ([] if family.first.is_alone else REACHED)
     return f"-- What an archived {' and an archived '.join(it.name for it in family.members)} looks like. {family.first.written}\n{brought(body, more)}{owns(family, body)}\n{body}"
 
 
@@ -138,7 +145,7 @@ def knows(it, known):
 
 
 def knows_parts(it, types):
-    return knows(it, ["k" if it.terms.leads_back(type) else "(knows_none s k.laid_out)" for type in types])
+    return knows(it, ["k" if it.terms.leads_back(type) else it.terms.plain.known(type) for type in types])
 
 
 def stands(it):
@@ -181,9 +188,11 @@ def meaning(family):
             lines.append(rolled(it, which, type, word))
             lines.append(opened(it, which, word))
     lines += of_each(family, flats)
+    if family.first.is_chain:
+        lines += chains.meaning(family.first)
     lines += laws(family)
     body = "\n".join(lines)
-    more = [(family.declared(family.ordered[0].name, "TheFolds"), " ".join(f"map-{it.name}" for it in family.members)), ("std.proofs.Common", PRELUDE_COMMON)]
+    more = SPOKEN + [(family.declared(family.ordered[0].name, "TheFolds"), " ".join(f"map-{it.name}" for it in family.members)), ("std.proofs.Common", PRELUDE_COMMON)]
     aliases = ""
     for it in family.members:
         N = it.name
@@ -193,6 +202,8 @@ def meaning(family):
         if not it.is_record:
             paths = [(family.declared(family.ordered[0].name, "TheOpen"), it.layer), (family.declared(N, "TheVariants"), it.its), (family.declared(it.resolver, "TheVariants"), it.kept)]
             aliases += "".join(line for path, alias in paths if (line := f"use Rattle.{path} as {alias}\n") not in aliases)
+    if family.first.is_chain:
+        aliases += chains.aliases(family.first)
     names = [w for it in family.members for w in it.shape_names() if w in body]
     shape_ = f"use Rattle.{family.crate}.specs.{family.name}Shape.{{{', '.join(names)}}}\n"
     return f"-- What {' and '.join(it.name for it in family.members)} mean{'s' if len(family.members) == 1 else ''}. {family.first.written}\n{brought(body, more)}{shape_}{aliases}{owns(family, body)}\n{body}"

@@ -58,6 +58,16 @@ pub record IsWrittenUpTo (D : Definitions) (X : Shape) (keys : List Naming) (v :
   pub unwritten : (new : WriterState) (e : Error) → GoesOn mid new → IsRefused D (boxed (one X)) ks (box m) mid new e → IsRefused D X keys v old new e
   pub lighter : weight m < weight v
 
+-- what is known of a value by another name for it, for its keys and for what is read in its place
+pub written_up_to_as : {D : Definitions} {X : Shape} {ks ls ms : List Naming} {v w m : Value} {f g : ℕ → Value} {P Q : ℕ → Type 0} {old mid : WriterState} → ks ≡ ls → v ≡ w → ((t : ℕ) → f t ≡ g t) → ((t : ℕ) → Q t → P t)
+    → IsWrittenUpTo D X ls w g Q ms m old mid → IsWrittenUpTo D X ks v f P ms m old mid
+written_up_to_as e h i j r = record {
+  written = λ t new go s. rw (e, h, i t) (r.written t new go s);
+  same_value = λ t. j t (r.same_value t);
+  unwritten = λ new x go s. rw (e, h) (r.unwritten new x go s);
+  lighter = rw h r.lighter;
+}
+
 -- what comes of a value's head: all of it is written, or all but its box
 abbrev pub HeadSerialized : {T A R M C S K : Type 0} → Archive.Ghosts T A R C M → FormatOf M → (T → Option T) → (K → ℕ → R) → T → Keys.Ghosts S → Both (MutBor S) (MutBor S) → WrittenHead R K → Type 0
 HeadSerialized a f rest closed v k w (Written.Whole r) = Serialized f.definitions f.shape (a.keys v) (a.meaning v) (a.flat v r) (k.state w.entry.now) (k.state w.exit.now) × a.belongs v r

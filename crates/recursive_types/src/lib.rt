@@ -7,4 +7,5 @@ pub mod list;
 pub mod outline;
 pub mod rose;
 pub mod search;
+pub mod task;
 pub mod tree;
