@@ -7,7 +7,7 @@ use Rattle.std.proofs.lemmas.List.Elements.{Contains-append_left, Contains-appen
 use Rattle.archive_check.specs.declared.format.error.Error.{Error}
 use Rattle.archive_check.specs.Shape.{Name, Shape, one, Table, definition}
 use Rattle.archive_check.specs.Value.{Value, number}
-use Rattle.archive_check.specs.Reads.{Schema, LaidOut}
+use Rattle.archive_check.specs.Reads.{SchemaTable, LaidOut}
 use Rattle.archive_check.specs.Defined.{Reaches, reaches, reaches_through, HeldIn, held, held_through, mentions_held, WellFormed}
 use Rattle.archive_check.specs.Definitions.{Definitions, no_definition, defines, both, listed, NoOthers, Has, Knows}
 use Rattle.archive_check.specs.context.Ranges.{RangeState, whole}
@@ -32,13 +32,13 @@ use Rattle.archive_check.proofs.Tours.Seen.{same_some}
 use Rattle.archive_check.proofs.Meanings.NamesReached.{names_reached}
 
 -- a schema that has the definitions has each that their list shows
-pub has_each : (s : Schema) (D : Definitions) → Has s D → (name : Name) (Y : Shape) → Contains (listed D) (name, Y) → definition s.table name ≡ Some Y
+pub has_each : (s : SchemaTable) (D : Definitions) → Has s D → (name : Name) (Y : Shape) → Contains (listed D) (name, Y) → definition s.table name ≡ Some Y
 has_each s no_definition h name Y c = absurd (omega (arith, c.1))
 has_each s (defines n X) h name Y c = ⊎_elim (λ e. let named : n ≡ name = ap (λ d. d.0) e in let same : X ≡ Y = ap (λ d. d.1) e in cc (h, named, same)) (λ d. absurd (omega (arith, d.1))) (contains_cases (n, X) [] (name, Y) c)
 has_each s (both D E) (h, k) name Y c = ⊎_elim (has_each s D h name Y) (has_each s E k name Y) (Contains-append_cases (listed D) (listed E) (name, Y) c)
 
 -- and one that has each has them
-each_has : (s : Schema) (D : Definitions) → ((name : Name) (Y : Shape) → Contains (listed D) (name, Y) → definition s.table name ≡ Some Y) → Has s D
+each_has : (s : SchemaTable) (D : Definitions) → ((name : Name) (Y : Shape) → Contains (listed D) (name, Y) → definition s.table name ≡ Some Y) → Has s D
 each_has s no_definition h = tt
 each_has s (defines n X) h = h n X (contains_first [] (n, X))
 each_has s (both D E) h = (
@@ -53,7 +53,7 @@ reached_on (reaches_through h e r) d i = reaches_through h e (reached_on r d i)
 
 -- Where a shape is well formed, and no definition is brought that it doesn't reach, a schema knows them.
 module _ (D : Definitions) (X : Shape) (well : WellFormed (listed D) X) (no_others : NoOthers D X) where
-  abbrev own : Schema
+  abbrev own : SchemaTable
   own = record { table = listed D; layouts = rounds (listed D) (length (names_of (listed D))) }
 
   reached_each : (name : Name) (Y : Shape) → Contains (listed D) (name, Y) → Reaches (listed D) name X
@@ -63,7 +63,7 @@ module _ (D : Definitions) (X : Shape) (well : WellFormed (listed D) X) (no_othe
   own_each name Y c = let (Z, e, only) = well.defined name (reached_each name Y c) in e ∙ ap Some (sym (only Y c))
 
   -- what is held under a schema that has them is held under them alone
-  own_held : (s : Schema) → Has s D → {name : Name} {Y : Shape} → ((n : Name) → Reaches (listed D) n Y → Reaches (listed D) n X) → HeldIn s.table name Y → HeldIn (listed D) name Y
+  own_held : (s : SchemaTable) → Has s D → {name : Name} {Y : Shape} → ((n : Name) → Reaches (listed D) n Y → Reaches (listed D) n X) → HeldIn s.table name Y → HeldIn (listed D) name Y
   own_held s has sub (held h) = held h
   own_held s has sub (held_through {Y = Z} {n = n} h e i) =
       let (W, d, only) = well.defined n (sub n (reaches (mentions_held h))) in
@@ -72,7 +72,7 @@ module _ (D : Definitions) (X : Shape) (well : WellFormed (listed D) X) (no_othe
       held_through h d' (own_held s has (λ m r. sub m (reaches_through (mentions_held h) d' r)) i)
 
   -- each schema that has them knows them
-  pub has_knows : (s : Schema) → Has s D → LaidOut s → Knows s D
+  pub has_knows : (s : SchemaTable) → Has s D → LaidOut s → Knows s D
   has_knows s has laid = record {
     has = has;
     finite = λ name Y c h.
@@ -82,7 +82,7 @@ module _ (D : Definitions) (X : Shape) (well : WellFormed (listed D) X) (no_othe
     laid_out = laid;
   }
 
-  pub some_knows : (s : Schema) × Knows s D
+  pub some_knows : (s : SchemaTable) × Knows s D
   some_knows = (
     own,
     has_knows own (each_has own D own_each) (record {
@@ -122,18 +122,18 @@ module _ (D : Definitions) (bytes : List ℕ) (root : ℕ) (X : Shape) (w : Valu
     (direct : (k : ℕ) → Names k w → (x : Entry × Value) × Contains keys (k, x))
     (further : (k : Naming) → Contains keys k → (u : ℕ) → Names u k.1.1 → (x : Entry × Value) × Contains keys (u, x))
     (a : IsArchive D bytes root X) (says : Says D bytes root (one X) 0 w)
-    (shares : (s : Schema) (m : Meaning) → Knows s D → Denotes s bytes root X m → AreShared m.shared keys) where
-  value_is : (s : Schema) (m : Meaning) → Knows s D → Denotes s bytes root X m → m.value ≡ w
+    (shares : (s : SchemaTable) (m : Meaning) → Knows s D → Denotes s bytes root X m → AreShared m.shared keys) where
+  value_is : (s : SchemaTable) (m : Meaning) → Knows s D → Denotes s bytes root X m → m.value ≡ w
   value_is s m k d = root_says D bytes root X w s m says k d
 
   -- a key holds what the archive does
-  same_held : (s : Schema) (m : Meaning) → Knows s D → Denotes s bytes root X m → (t : ℕ) (x : Entry × Value) → Contains keys (t, x) → (e : Entry) (v : Value) → get m.shared t ≡ Some (e, v) → x.1 ≡ v
+  same_held : (s : SchemaTable) (m : Meaning) → Knows s D → Denotes s bytes root X m → (t : ℕ) (x : Entry × Value) → Contains keys (t, x) → (e : Entry) (v : Value) → get m.shared t ≡ Some (e, v) → x.1 ≡ v
   same_held s m k d t x c e v known =
       let i = shares s m k d (t, x) c in
       ap (λ (p : Entry × Value). p.1) (same_some (sym i.known ∙ known))
 
   -- each name that the archive leads to is among the keys
-  led : (s : Schema) (m : Meaning) → Knows s D → Denotes s bytes root X m → (t : ℕ) → LeadsTo m.shared m.value t → (x : Entry × Value) × Contains keys (t, x)
+  led : (s : SchemaTable) (m : Meaning) → Knows s D → Denotes s bytes root X m → (t : ℕ) → LeadsTo m.shared m.value t → (x : Entry × Value) × Contains keys (t, x)
   led s m k d t (leads_at_once n) = direct t (subst (Names t) (value_is s m k d) n)
   led s m k d t (leads_through {t = q} {e = e} {w = v} l known n) =
       let (x, c) = led s m k d q l in
@@ -158,7 +158,7 @@ number_named z k n = elim n [ ]
 
 -- What is read back at the root, with nothing told before.
 module _ {keeps : Bool} (D : Definitions) (bytes : List ℕ) (root : ℕ) (X : Shape) (old new : Entries) (w : Value) (keys : List Naming) (a : IsArchive D bytes root X) (h : ReadsBack keeps D bytes root (one X) 0 old new w keys) where
-  at_root : NoEntries old → (s : Schema) (m : Meaning) → Knows s D → Denotes s bytes root X m → AreShared m.shared keys × AreRight m.shared new
+  at_root : NoEntries old → (s : SchemaTable) (m : Meaning) → Knows s D → Denotes s bytes root X m → AreShared m.shared keys × AreRight m.shared new
   unfolding root_lies
   at_root empty s m k d = h.shared (none_named old empty) s m k (root_lies s bytes d.accepted) d (none_wrong m.shared old empty)
 

@@ -5,7 +5,7 @@ use Rattle.std.proofs.lemmas.List.Elements.{All-nil, All-cons, All-append, All-c
 use Rattle.std.proofs.lemmas.Bool.{and_parts}
 use Rattle.archive_check.specs.Shape.{Name, Key, leaf_key, str_key, entry_of, Flavor, Shape, Pointee, one, run, Parts, Variants, no_variant, variant, definition, variant_at}
 use Rattle.archive_check.specs.Value.{Pointer, Value, Values, pointers, all_pointers}
-use Rattle.archive_check.specs.Reads.{Schema, pointer_at, map_at, string_at, Reads, reads_leaf, reads_parts, reads_choice, reads_array, reads_boxed, reads_vec, reads_map, reads_inline, reads_out_of_line, reads_shared, reads_null, reads_weak, reads_named, ReadsParts, reads_no_part, reads_part, ReadsRun, reads_none, reads_element}
+use Rattle.archive_check.specs.Reads.{SchemaTable, pointer_at, map_at, string_at, Reads, reads_leaf, reads_parts, reads_choice, reads_array, reads_boxed, reads_vec, reads_map, reads_inline, reads_out_of_line, reads_shared, reads_null, reads_weak, reads_named, ReadsParts, reads_no_part, reads_part, ReadsRun, reads_none, reads_element}
 use Rattle.archive_check.specs.Tour.{Contents, contents_one, contents_run, contents_text, root_region, Accepted}
 use Rattle.archive_check.specs.Definitions.{Definitions, listed, Has, Knows}
 use Rattle.archive_check.specs.Pooled.{Entries}
@@ -22,7 +22,7 @@ pub found : {A : Type 0} (o : Option A) → IsTrue (is_some o) → (x : A) × (o
 found None h = cc
 found (Some x) h = (x, refl)
 
-module _ (right : Flavor → Bool) (D : Definitions) (each : (name : Name) (Y : Shape) → Contains (listed D) (name, Y) → IsTrue (has_flavors right (listed D) Y)) (s : Schema) (has : Has s D) (bytes : List ℕ) where
+module _ (right : Flavor → Bool) (D : Definitions) (each : (name : Name) (Y : Shape) → Contains (listed D) (name, Y) → IsTrue (has_flavors right (listed D) Y)) (s : SchemaTable) (has : Has s D) (bytes : List ℕ) where
   -- the pointer has such a flavor, where it is shared, and so has all that it leads to
   abbrev pub Right : Pointer → Type 0
   Right p = ((flavor : Flavor) → p.sharing ≡ Some flavor → IsTrue (right flavor)) × IsTrue (pointee_has_flavors right (listed D) p.pointee)
@@ -85,7 +85,7 @@ module _ (right : Flavor → Bool) (D : Definitions) (each : (name : Name) (Y : 
   contents_right (contents_text u) h = All-nil Right
 
 -- where nothing is shared, no shared pointer is met
-module _ (D : Definitions) (each : (name : Name) (Y : Shape) → Contains (listed D) (name, Y) → IsTrue (has_flavors (λ flavor. false) (listed D) Y)) (s : Schema) (has : Has s D) (bytes : List ℕ) where
+module _ (D : Definitions) (each : (name : Name) (Y : Shape) → Contains (listed D) (name, Y) → IsTrue (has_flavors (λ flavor. false) (listed D) Y)) (s : SchemaTable) (has : Has s D) (bytes : List ℕ) where
   abbrev none : Flavor → Bool
   none flavor = false
 
@@ -102,7 +102,7 @@ pub no_cycles : (flavor : Flavor) → IsTrue (not flavor.cycles) → IsTrue flav
 no_cycles flavor h k = let e : flavor.cycles ≡ true = k in let never : not true ≡ true = rw e at h in cc
 
 -- where no flavor allows cycles, no position that is being read is met
-acyclic_never : (D : Definitions) (X : Shape) (told : Entries) → IsAcyclic D X → ((t : ℕ) → told t ≡ Some None → ⊥) → (s : Schema) → Knows s D → (bytes : List ℕ) (root : ℕ) → Accepted s bytes root X
+acyclic_never : (D : Definitions) (X : Shape) (told : Entries) → IsAcyclic D X → ((t : ℕ) → told t ≡ Some None → ⊥) → (s : SchemaTable) → Knows s D → (bytes : List ℕ) (root : ℕ) → Accepted s bytes root X
     → MeetsOpen s bytes told [] root (one X) 0 → ⊥
 acyclic_never D X told h idle s k bytes root a m =
     let allowed : Pointer → Type 0 = Right (λ flavor. not flavor.cycles) D h.definitions s k.has bytes in

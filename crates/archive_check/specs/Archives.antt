@@ -6,7 +6,7 @@ use Rattle.archive_check.specs.declared.format.error.Error.TheVariants.{OutOfMem
 use Rattle.archive_check.specs.Shape.{Shape, one}
 use Rattle.archive_check.specs.Layout.{Layout}
 use Rattle.archive_check.specs.Value.{Value}
-use Rattle.archive_check.specs.Reads.{Schema}
+use Rattle.archive_check.specs.Reads.{SchemaTable}
 use Rattle.archive_check.specs.Depth.{AcceptedWithin}
 use Rattle.archive_check.specs.Tour.{Entry}
 use Rattle.archive_check.specs.Denotes.{Meaning, Naming, Denotes}
@@ -22,8 +22,8 @@ use Rattle.archive_check.specs.context.FreshContexts.{HasLevels}
 -- deep.
 pub record IsArchiveWithin (D : Definitions) (bytes : List ℕ) (limit : Option ℕ) (root : ℕ) (X : Shape) : Type 0 where
   pub well_formed : WellFormed (listed D) X
-  pub known : ∥ ((s : Schema) × Knows s D) ∥₁
-  pub accepted : (s : Schema) → Knows s D → ∥ AcceptedWithin s bytes limit root X ∥₁
+  pub known : ∥ ((s : SchemaTable) × Knows s D) ∥₁
+  pub accepted : (s : SchemaTable) → Knows s D → ∥ AcceptedWithin s bytes limit root X ∥₁
 
 -- with no limit of depth
 abbrev pub IsArchive : Definitions → List ℕ → ℕ → Shape → Type 0
@@ -32,9 +32,9 @@ IsArchive D bytes root X = IsArchiveWithin D bytes None root X
 -- The buffer is an archive of an X at root, and under each schema that knows the definitions it denotes w, with just these shared values.
 pub record IsValueOf (D : Definitions) (bytes : List ℕ) (root : ℕ) (X : Shape) (w : Value) (keys : List Naming) : Type 0 where
   pub archive : IsArchive D bytes root X
-  pub denoted : (s : Schema) (m : Meaning) → Knows s D → Denotes s bytes root X m → m.value ≡ w
-  pub shared : (s : Schema) (m : Meaning) → Knows s D → Denotes s bytes root X m → AreShared m.shared keys
-  pub whole : (s : Schema) (m : Meaning) → Knows s D → Denotes s bytes root X m
+  pub denoted : (s : SchemaTable) (m : Meaning) → Knows s D → Denotes s bytes root X m → m.value ≡ w
+  pub shared : (s : SchemaTable) (m : Meaning) → Knows s D → Denotes s bytes root X m → AreShared m.shared keys
+  pub whole : (s : SchemaTable) (m : Meaning) → Knows s D → Denotes s bytes root X m
       → (t : ℕ) (e : Entry) (v : Value) → get m.shared t ≡ Some (e, v) → (f : Entry) × Contains keys (t, (f, v))
 
 -- The root was read back as w, with these keys. Where nothing was told of shared values before, this is what the buffer denotes, and what is told of
@@ -42,7 +42,7 @@ pub record IsValueOf (D : Definitions) (bytes : List ℕ) (root : ℕ) (X : Shap
 pub record ReadsWhole (keeps : Bool) (D : Definitions) (bytes : List ℕ) (root : ℕ) (X : Shape) (old new : Entries) (w : Value) (keys : List Naming) : Type 0 where
   pub kept : KeepsEntries old new
   pub value : NoEntries old → IsValueOf D bytes root X w keys
-  pub right : NoEntries old → (s : Schema) (m : Meaning) → Knows s D → Denotes s bytes root X m → AreRight m.shared new
+  pub right : NoEntries old → (s : SchemaTable) (m : Meaning) → Knows s D → Denotes s bytes root X m → AreRight m.shared new
   pub unmet : IsCyclic D bytes old root (one X) 0 → ⊥
   pub once : KeepsRead keeps old new keys
 
@@ -51,7 +51,7 @@ pub record IsFaulty (D : Definitions) (bytes : List ℕ) (limit : Option ℕ) (r
   pub well_formed : WellFormed (listed D) X
   pub fault : Fault
   pub said : IsFor fault error
-  pub trips : (s : Schema) → Knows s D → ∥ RootTrips s bytes limit root X fault ∥₁
+  pub trips : (s : SchemaTable) → Knows s D → ∥ RootTrips s bytes limit root X fault ∥₁
 
 -- Why a shape has no schema: a name that it reaches has none or two definitions, or else one holds itself.
 abbrev pub ExplainsNoSchema : Shape → Definitions → Error → Type 0

@@ -2,7 +2,7 @@
 use Rattle.std.specs.Prelude.{◌≡◌, ◌≢◌, ℕ, zero, suc, ◌+◌, ◌<◌, ◌≤◌, pos, List, [], ◌∷◌, ◌++◌, length, slice_index, Some}
 use Rattle.archive_check.specs.Shape.{Name, Kind, Key, Flavor, Shape, leaf, parts, choice, array, boxed, vec, sorted_map, str, shared, weak, named, Pointee, one, run, text, Parts, no_part, part, Variants, definition, variant_at}
 use Rattle.archive_check.specs.Layout.{up, size_of, align_of}
-use Rattle.archive_check.specs.Reads.{Schema, bytes_at, i32_at, length_at, before_end, IsOutOfLine}
+use Rattle.archive_check.specs.Reads.{SchemaTable, bytes_at, i32_at, length_at, before_end, IsOutOfLine}
 use Rattle.archive_check.specs.Tour.{Region}
 use Rattle.archive_check.specs.Tightness.{after}
 
@@ -27,7 +27,7 @@ pub record IsFilled (bytes : List ℕ) (p : ℕ) : Type 0 where
 
 -- What is read as X at p is clean. A rule for each format.
 mutual
-  pub data CleanValue (s : Schema) (bytes : List ℕ) : ℕ → Shape → Type 0 where
+  pub data CleanValue (s : SchemaTable) (bytes : List ℕ) : ℕ → Shape → Type 0 where
     clean_leaf : {p : ℕ} {kind : Kind} → CleanValue s bytes p (leaf kind)
     clean_parts : {p : ℕ} {ps : Parts} → CleanParts s bytes p 0 ps (p + size_of s.layouts (parts ps)) → CleanValue s bytes p (parts ps)
     clean_choice : {p : ℕ} {name : Name} {variants : Variants} {ps : Parts}
@@ -46,7 +46,7 @@ mutual
     clean_named : {p : ℕ} {name : Name} {X : Shape} → definition s.table name ≡ Some X → CleanValue s bytes p X → CleanValue s bytes p (named name)
 
   -- the parts from an offset on, and what is behind them, up to a stop
-  pub data CleanParts (s : Schema) (bytes : List ℕ) : ℕ → ℕ → Parts → ℕ → Type 0 where
+  pub data CleanParts (s : SchemaTable) (bytes : List ℕ) : ℕ → ℕ → Parts → ℕ → Type 0 where
     clean_no_part : {p at stop : ℕ} → AreZero bytes (p + at) stop → CleanParts s bytes p at no_part stop
     clean_part : {p at stop : ℕ} {X : Shape} {ps : Parts}
         → AreZero bytes (p + at) (p + up at (align_of s.layouts X))
@@ -54,16 +54,16 @@ mutual
         → CleanParts s bytes p (up at (align_of s.layouts X) + size_of s.layouts X) ps stop
         → CleanParts s bytes p at (part X ps) stop
 
-  pub data CleanRun (s : Schema) (bytes : List ℕ) : ℕ → ℕ → Shape → Type 0 where
+  pub data CleanRun (s : SchemaTable) (bytes : List ℕ) : ℕ → ℕ → Shape → Type 0 where
     clean_none : {p : ℕ} {X : Shape} → CleanRun s bytes p zero X
     clean_element : {p n : ℕ} {X : Shape} → CleanValue s bytes p X → CleanRun s bytes (p + size_of s.layouts X) n X → CleanRun s bytes p (suc n) X
 
-pub data CleanPointee (s : Schema) (bytes : List ℕ) (t : ℕ) : Pointee → ℕ → Type 0 where
+pub data CleanPointee (s : SchemaTable) (bytes : List ℕ) (t : ℕ) : Pointee → ℕ → Type 0 where
   clean_one : {n : ℕ} {X : Shape} → CleanValue s bytes t X → CleanPointee s bytes t (one X) n
   clean_run : {n : ℕ} {X : Shape} → CleanRun s bytes t n X → CleanPointee s bytes t (run X) n
   clean_text : {n : ℕ} → CleanPointee s bytes t text n
 
 -- from start on each region is clean, and so are the bytes between them
-abbrev pub CleanRegions : Schema → List ℕ → ℕ → List Region → Type 0
+abbrev pub CleanRegions : SchemaTable → List ℕ → ℕ → List Region → Type 0
 CleanRegions s bytes start [] = Unit {0}
 CleanRegions s bytes start (r ∷ C) = AreZero bytes start r.begin × CleanPointee s bytes r.begin r.pointee r.length × AreZero bytes (r.begin + r.size) (after r) × CleanRegions s bytes (after r) C

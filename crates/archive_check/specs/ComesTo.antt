@@ -3,7 +3,7 @@ use Rattle.std.specs.Prelude.{◌≡◌, ℕ, ◌+◌, ◌*◌, ◌<◌, pos, Li
 use Rattle.archive_check.specs.Shape.{Key, Shape, sorted_map, str, Pointee, one, run, text, key_shape, entry_of}
 use Rattle.archive_check.specs.Layout.{up, size_of, align_of}
 use Rattle.archive_check.specs.Value.{Pointer, Value, pointers}
-use Rattle.archive_check.specs.Reads.{Schema, bytes_at, u32_at, map_at, IsOutOfLine, before_end}
+use Rattle.archive_check.specs.Reads.{SchemaTable, bytes_at, u32_at, map_at, IsOutOfLine, before_end}
 use Rattle.archive_check.specs.Keys.{order_of}
 use Rattle.archive_check.specs.Tour.{Contents, Accepted}
 use Rattle.archive_check.specs.Within.{Within}
@@ -11,7 +11,7 @@ use Rattle.archive_check.specs.Definitions.{Definitions, Knows}
 
 -- `ComesTo s bytes root X q P n`: the pointee P at q, with its length, is the root X, or is come to from there by steps to parts, to elements, to texts in
 -- place, to what pointers lead to that ask for no order, and to the values of maps. No step leads to a key.
-pub data ComesTo (s : Schema) (bytes : List ℕ) (root : ℕ) (X : Shape) : ℕ → Pointee → ℕ → Type 0 where
+pub data ComesTo (s : SchemaTable) (bytes : List ℕ) (root : ℕ) (X : Shape) : ℕ → Pointee → ℕ → Type 0 where
   to_root : ComesTo s bytes root X root (one X) 0
   to_part : {q n r : ℕ} {Y Z : Shape}
       → ComesTo s bytes root X q (one Y) n
@@ -40,4 +40,4 @@ pub data ComesTo (s : Schema) (bytes : List ℕ) (root : ℕ) (X : Shape) : ℕ 
 
 -- it is come to in an accepted buffer, under some schema that knows the definitions
 abbrev pub IsComeTo : Definitions → List ℕ → ℕ → Pointee → ℕ → Type 0
-IsComeTo D bytes q P n = ∥ ((s : Schema) × Knows s D × (root : ℕ) × (X : Shape) × Accepted s bytes root X × ComesTo s bytes root X q P n) ∥₁
+IsComeTo D bytes q P n = ∥ ((s : SchemaTable) × Knows s D × (root : ℕ) × (X : Shape) × Accepted s bytes root X × ComesTo s bytes root X q P n) ∥₁

@@ -5,7 +5,7 @@ use Rattle.archive_check.specs.declared.format.error.Error.TheVariants.{OutOfMem
 use Rattle.archive_check.specs.Shape.{Name, Shape, parts, choice, Parts, Variants, Table, definition}
 use Rattle.archive_check.specs.Layout.{Layout, layout}
 use Rattle.archive_check.specs.Defined.{HeldIn, Involves}
-use Rattle.archive_check.specs.Reads.{Schema, LaidOut}
+use Rattle.archive_check.specs.Reads.{SchemaTable, LaidOut}
 
 -- the definitions that a type brings with it: none, one under a name, or those of two
 pub data Definitions : Type 0 where
@@ -50,25 +50,25 @@ abbrev pub named_choice : Name → Variants → Definitions → Definitions
 named_choice name vs D = both (defines name (choice name vs)) D
 
 -- the schema has each of them
-abbrev pub Has : Schema → Definitions → Type 0
+abbrev pub Has : SchemaTable → Definitions → Type 0
 Has s no_definition = Unit {0}
 Has s (defines name X) = definition s.table name ≡ Some X
 Has s (both D E) = Has s D × Has s E
 
 -- A schema that has them, in which none of them holds itself, and whose layouts are those of its definitions. There is none where they give no
 -- meaning: where one name has two, or where one holds itself.
-pub record Knows (s : Schema) (D : Definitions) : Type 0 where
+pub record Knows (s : SchemaTable) (D : Definitions) : Type 0 where
   pub has : Has s D
   pub finite : (name : Name) (X : Shape) → Contains (listed D) (name, X) → HeldIn s.table name X → ⊥
   pub laid_out : LaidOut s
 
 -- under each schema that knows D, X has this layout
 pub record HasLayout (D : Definitions) (X : Shape) (L : Layout) : Type 0 where
-  pub solved : (s : Schema) → Knows s D → layout s.layouts X ≡ L
+  pub solved : (s : SchemaTable) → Knows s D → layout s.layouts X ≡ L
 
 -- some layouts are those of a table's definitions
 abbrev pub HasLayouts : Table → Type 0
-HasLayouts table = ∥ ((t : Schema) × (t.table ≡ table) × LaidOut t) ∥₁
+HasLayouts table = ∥ ((t : SchemaTable) × (t.table ≡ table) × LaidOut t) ∥₁
 
 -- a power of two, at most 32
 abbrev pub IsAlign : ℕ → Type 0

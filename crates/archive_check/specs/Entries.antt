@@ -6,7 +6,7 @@ use Rattle.archive_check.specs.declared.format.error.Error.{Error}
 use Rattle.archive_check.specs.declared.format.error.Error.TheVariants.{OutOfMemory, CyclicDeserialize}
 use Rattle.archive_check.specs.Shape.{Flavor, Shape, Pointee}
 use Rattle.archive_check.specs.Value.{Pointer, Value, pointers}
-use Rattle.archive_check.specs.Reads.{Schema}
+use Rattle.archive_check.specs.Reads.{SchemaTable}
 use Rattle.archive_check.specs.Tour.{Entry, Contents}
 use Rattle.archive_check.specs.Denotes.{Meaning, Naming, Denotes}
 use Rattle.archive_check.specs.Definitions.{Definitions, Knows}
@@ -58,7 +58,7 @@ abbrev pub IsOpen : Entries → List ℕ → ℕ → Type 0
 IsOpen told within t = (told t ≡ Some None) ⊎ Contains within t
 
 -- Following P at q, and what it leads to, a pointer to an open shared position is met. What is finished isn't followed.
-pub data MeetsOpen (s : Schema) (bytes : List ℕ) (told : Entries) : List ℕ → ℕ → Pointee → ℕ → Type 0 where
+pub data MeetsOpen (s : SchemaTable) (bytes : List ℕ) (told : Entries) : List ℕ → ℕ → Pointee → ℕ → Type 0 where
   meets_open : {within : List ℕ} {q n t : ℕ} {P : Pointee} {v : Value} {p : Pointer} {flavor : Flavor}
       → Contents s bytes q P n v
       → Contains (pointers v) p
@@ -83,7 +83,7 @@ pub data MeetsOpen (s : Schema) (bytes : List ℕ) (told : Entries) : List ℕ �
       → MeetsOpen s bytes told within q P n
 
 -- the pointer stands in what is read of some part of the archive
-pub record IsMet (s : Schema) (bytes : List ℕ) (root : ℕ) (X : Shape) (p : Pointer) : Type 0 where
+pub record IsMet (s : SchemaTable) (bytes : List ℕ) (root : ℕ) (X : Shape) (p : Pointer) : Type 0 where
   pub at : ℕ
   pub pointee : Pointee
   pub length : ℕ
@@ -92,16 +92,16 @@ pub record IsMet (s : Schema) (bytes : List ℕ) (root : ℕ) (X : Shape) (p : P
   pub has : Contains (pointers reached.value) p
 
 -- Wherever the archive has a pointer to the shared position t: following it, no open position is met, t itself among them.
-abbrev pub IsClosed : Schema → List ℕ → ℕ → Shape → Entries → ℕ → Type 0
+abbrev pub IsClosed : SchemaTable → List ℕ → ℕ → Shape → Entries → ℕ → Type 0
 IsClosed s bytes root X told t = (p : Pointer) (flavor : Flavor) → IsMet s bytes root X p → p.sharing ≡ Some flavor → p.target ≡ pos t → MeetsOpen s bytes told (t ∷ []) t p.pointee p.length → ⊥
 
 -- under each schema that knows the definitions and in which P lies at q, the reading of it meets an open position
 pub record IsCyclic (D : Definitions) (bytes : List ℕ) (told : Entries) (q : ℕ) (P : Pointee) (n : ℕ) : Type 0 where
-  pub meets : (s : Schema) → Knows s D → Lies s bytes q P n → MeetsOpen s bytes told [] q P n
+  pub meets : (s : SchemaTable) → Knows s D → Lies s bytes q P n → MeetsOpen s bytes told [] q P n
 
 -- the shared position t is pending, or what is there leads to an open one, t itself among them
 abbrev pub LeadsToOpen : Definitions → List ℕ → Entries → ℕ → Pointee → ℕ → Type 0
-LeadsToOpen D bytes told t P n = (told t ≡ Some None) ⊎ ((s : Schema) → Knows s D → Lies s bytes t P n → MeetsOpen s bytes told (t ∷ []) t P n)
+LeadsToOpen D bytes told t P n = (told t ≡ Some None) ⊎ ((s : SchemaTable) → Knows s D → Lies s bytes t P n → MeetsOpen s bytes told (t ∷ []) t P n)
 
 -- P at q was read back as w, its shared values named by their positions, and these are what the names in w lead to: under each schema that knows
 -- the definitions, and under each root under which it lies so, what the archive means. What was told of finished positions before is as right as
@@ -109,10 +109,10 @@ LeadsToOpen D bytes told t P n = (told t ≡ Some None) ⊎ ((s : Schema) → Kn
 pub record ReadsBack (keeps : Bool) (D : Definitions) (bytes : List ℕ) (q : ℕ) (P : Pointee) (n : ℕ) (old new : Entries) (w : Value) (keys : List Naming) : Type 0 where
   pub kept : KeepsEntries old new
   pub value : AreNamedByPosition old → Says D bytes q P n w
-  pub shared : AreNamedByPosition old → (s : Schema) (m : Meaning) → Knows s D → (l : Lies s bytes q P n) → Denotes s bytes l.root l.shape m
+  pub shared : AreNamedByPosition old → (s : SchemaTable) (m : Meaning) → Knows s D → (l : Lies s bytes q P n) → Denotes s bytes l.root l.shape m
       → AreRight m.shared old → AreShared m.shared keys × AreRight m.shared new
-  pub unmet : (s : Schema) → Knows s D → Lies s bytes q P n → MeetsOpen s bytes old [] q P n → ⊥
-  pub closed : (s : Schema) → Knows s D → (l : Lies s bytes q P n) → (t : ℕ) (k : Kept) → old t ≡ None → new t ≡ Some (Some k) → IsClosed s bytes l.root l.shape old t
+  pub unmet : (s : SchemaTable) → Knows s D → Lies s bytes q P n → MeetsOpen s bytes old [] q P n → ⊥
+  pub closed : (s : SchemaTable) → Knows s D → (l : Lies s bytes q P n) → (t : ℕ) (k : Kept) → old t ≡ None → new t ≡ Some (Some k) → IsClosed s bytes l.root l.shape old t
   pub once : KeepsRead keeps old new keys
 
 -- it was refused: memory was, or an open position is met

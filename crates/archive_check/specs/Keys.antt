@@ -7,7 +7,7 @@ use Rattle.std.specs.Cmp.Lexicographic.{slice_cmp}
 use Rattle.archive_check.specs.Shape.{Key, leaf_key, str_key, Shape, Pointee, run, entry_of}
 use Rattle.archive_check.specs.Layout.{kind_size, size_of}
 use Rattle.archive_check.specs.Value.{Pointer}
-use Rattle.archive_check.specs.Reads.{Schema, bytes_at, kind_value}
+use Rattle.archive_check.specs.Reads.{SchemaTable, bytes_at, kind_value}
 use Rattle.archive_check.specs.Readable.{string_text}
 
 -- the keys by which the elements ascend that a pointer leads to; nothing is asked of them where others may point there, too
@@ -30,8 +30,8 @@ Ascend K bytes before q z zero = Unit {0}
 Ascend K bytes before q z (suc n) = ComesBehind K bytes before q × Ascend K bytes (Some q) (q + z) z n
 
 -- what stands at t is in its order: the entries of a map ascend by their keys; of all else none is asked
-pub data Ordered (s : Schema) (bytes : List ℕ) (t n : ℕ) : Option Key → Pointee → Type 0 where
-  in_any_order : {P : Pointee} → Ordered s bytes t n None P
+pub data IsInOrder (s : SchemaTable) (bytes : List ℕ) (t n : ℕ) : Option Key → Pointee → Type 0 where
+  in_any_order : {P : Pointee} → IsInOrder s bytes t n None P
   in_key_order : {K : Key} {V : Shape}
       → Ascend K bytes None t (size_of s.layouts (entry_of K V)) n
-      → Ordered s bytes t n (Some K) (run (entry_of K V))
+      → IsInOrder s bytes t n (Some K) (run (entry_of K V))

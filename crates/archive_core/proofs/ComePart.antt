@@ -5,9 +5,9 @@ use Rattle.std.proofs.lemmas.List.Elements.{All-contains, Contains-push}
 use Rattle.archive_check.specs.Shape.{Key, Shape, sorted_map, Pointee, one, run, part, no_part, key_shape, entry_of}
 use Rattle.archive_check.specs.Layout.{up, size_of, align_of}
 use Rattle.archive_check.specs.Value.{Pointer, Value, hole, pointers}
-use Rattle.archive_check.specs.Reads.{Schema, map_at, reads_map}
+use Rattle.archive_check.specs.Reads.{SchemaTable, map_at, reads_map}
 use Rattle.archive_check.specs.Tour.{region_of, root_region, Contents, contents_one, Accepted}
-use Rattle.archive_check.specs.Within.{IsPart, first_part, later_part, whole, in_parts, whole_region, PartOf, in_run, in_string, PartOfSome}
+use Rattle.archive_check.specs.Within.{IsPart, first_part, later_part, whole, in_parts, whole_region, PartOfRegion, in_run, in_string, PartOfSome}
 use Rattle.archive_check.specs.Leaves.{regions_of}
 use Rattle.archive_check.specs.ComesTo.{ComesTo, to_root, to_part, to_element, to_text, to_target, to_value, IsComeTo}
 use Rattle.archive_check.specs.Definitions.{Definitions}
@@ -17,10 +17,10 @@ use Rattle.archive_check.proofs.Meanings.ReachedParts.{LeadsInto, Closed, accept
 use Rattle.archive_check.proofs.Maps.Entries.{value_at}
 
 -- a map is a pointer to its entries
-pub map_hole : {s : Schema} {bytes : List ℕ} {q n : ℕ} {K : Key} {V : Shape} {v : Value} → Contents s bytes q (one (sorted_map K V)) n v → v ≡ hole (map_at bytes q K V)
+pub map_hole : {s : SchemaTable} {bytes : List ℕ} {q n : ℕ} {K : Key} {V : Shape} {v : Value} → Contents s bytes q (one (sorted_map K V)) n v → v ≡ hole (map_at bytes q K V)
 map_hole (contents_one reads_map) = refl
 
-module _ (s : Schema) (bytes : List ℕ) {root : ℕ} {X : Shape} (a : Accepted s bytes root X) where
+module _ (s : SchemaTable) (bytes : List ℕ) {root : ℕ} {X : Shape} (a : Accepted s bytes root X) where
   part_says : {q n : ℕ} {P : Pointee} → PartOfSome s bytes (regions_of a) q P n
       → (w : Value) × Contents s bytes q P n w × ((p : Pointer) → Contains (pointers w) p → LeadsInto s bytes (regions_of a) p)
   part_says (r, c, i) =
@@ -40,11 +40,11 @@ module _ (s : Schema) (bytes : List ℕ) {root : ℕ} {X : Shape} (a : Accepted 
 
   -- the value of an entry of a map lies in the region of the entries
   value_there : {t : ℕ} (p : Pointer) (K : Key) (V : Shape) (k : ℕ) → p.pointee ≡ run (entry_of K V) → k < p.length
-      → PartOf s bytes (region_of s p t) (t + k * size_of s.layouts (entry_of K V) + up (size_of s.layouts (key_shape K)) (align_of s.layouts V)) (one V) 0
+      → PartOfRegion s bytes (region_of s p t) (t + k * size_of s.layouts (entry_of K V) + up (size_of s.layouts (key_shape K)) (align_of s.layouts V)) (one V) 0
   value_there {t = t} p K V k is below =
       let q = t + k * size_of s.layouts (entry_of K V) in
       let behind : IsPart s q 0 (part (key_shape K) (part V no_part)) (q + up (up 0 (align_of s.layouts (key_shape K)) + size_of s.layouts (key_shape K)) (align_of s.layouts V)) V = later_part first_part in
-      subst (λ o. PartOf s bytes (region_of s p t) (q + o) (one V) 0) (value_at s.layouts K V) (in_run is below (in_parts whole behind))
+      subst (λ o. PartOfRegion s bytes (region_of s p t) (q + o) (one V) 0) (value_at s.layouts K V) (in_run is below (in_parts whole behind))
 
   pub come_part : {q n : ℕ} {P : Pointee} → ComesTo s bytes root X q P n → PartOfSome s bytes (regions_of a) q P n
   come_part to_root = (root_region s root X, Contains-push a.regions (root_region s root X), whole_region)

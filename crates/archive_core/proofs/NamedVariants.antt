@@ -4,14 +4,15 @@ use Rattle.archive_check.specs.Shape.{Name, Shape, choice, named, boxed, one, Va
 use Rattle.archive_check.specs.Layout.{Layout, up}
 use Rattle.archive_check.specs.Definitions.{Definitions, Knows, HasLayout}
 use Rattle.archive_check.specs.Value.{Value, case, box, hole, no_value}
-use Rattle.archive_check.specs.Reads.{Schema}
+use Rattle.archive_check.specs.Reads.{SchemaTable}
 use Rattle.archive_check.specs.WriterState.{WriterState}
 use Rattle.archive_check.specs.Pooled.{Entries}
 use Rattle.archive_check.specs.Entries.{ReadsBack, RefusesReading}
 use Rattle.archive_check.specs.declared.format.error.Error.{Error}
 use Rattle.archive_check.proofs.Reading.ReadVariants.{case_read_back, empty_case_read_back, case_refuses, named_read_back, named_refuses}
+use Rattle.archive_check.specs.Denotes.{Naming}
 use Rattle.archive_write.specs.Written.{GoesOn}
-use Rattle.archive_types.specs.Writing.{Naming, Resolves, to_pointee}
+use Rattle.archive_types.specs.Writing.{Resolves, to_pointee}
 use Rattle.archive_types.specs.Plans.{Serialized}
 use Rattle.archive_types.specs.Causes.{IsRefused, HindersAt}
 use Rattle.archive_types.specs.Inner.{IsBoxed, IsNotBoxed}
@@ -21,7 +22,7 @@ use Rattle.archive_types.proofs.Planning.Planned.{one_owned}
 use Rattle.archive_types.proofs.Writing.ResolvedVariants.{resolves_case}
 use Rattle.archive_types.proofs.Writing.WrittenVariants.{serialized_case, case_refused, case_hindered_at, serialized_empty_case, serialized_named, named_refused, resolves_named, named_hindered_at}
 
-module _ (D : Definitions) (name : Name) (vs : Variants) (has : (s : Schema) → Knows s D → definition s.table name ≡ Some (choice name vs)) (tag : ℕ) where
+module _ (D : Definitions) (name : Name) (vs : Variants) (has : (s : SchemaTable) → Knows s D → definition s.table name ≡ Some (choice name vs)) (tag : ℕ) where
   -- a variant with no part
   module _ (is : variant_at vs tag ≡ Some no_part) where
     pub empty_serialized : (w : WriterState) → Serialized D (named name) [] (case tag no_value) (case tag no_value) w w
@@ -31,7 +32,7 @@ module _ (D : Definitions) (name : Name) (vs : Variants) (has : (s : Schema) →
     empty_read_back bytes q n first old new same = named_read_back D name (choice name vs) has bytes q n old new _ _ (empty_case_read_back D name vs tag is bytes q 0 first old new same)
 
   -- a variant with one part, with definitions that are known where the choice's are
-  module _ (E : Definitions) (known : (s : Schema) → Knows s D → Knows s E) (X : Shape) (is : variant_at vs tag ≡ Some (part X no_part)) where
+  module _ (E : Definitions) (known : (s : SchemaTable) → Knows s D → Knows s E) (X : Shape) (is : variant_at vs tag ≡ Some (part X no_part)) where
     pub part_serialized : (ks : List Naming) (v flat : Value) (old new : WriterState) → Serialized E X ks v flat old new → Serialized D (named name) ks (case_of tag v) (case_of tag flat) old new
     part_serialized ks v flat old new h = serialized_named D name (choice name vs) has _ _ _ _ _ (serialized_case D E known name vs tag X is ks v flat old new h)
 
@@ -53,7 +54,7 @@ module _ (D : Definitions) (name : Name) (vs : Variants) (has : (s : Schema) →
         part_refuses told e h = named_refuses D name (choice name vs) has bytes q n told e (case_refuses D E known name vs tag X is L inner bytes q 0 offset there first told e h)
 
   -- a variant whose part is a box of one value, which was serialized before
-  module _ (E : Definitions) (known : (s : Schema) → Knows s D → Knows s E) (Y : Shape) (is : variant_at vs tag ≡ Some (part (boxed (one Y)) no_part)) (ks : List Naming) (v : Value) (old : WriterState) where
+  module _ (E : Definitions) (known : (s : SchemaTable) → Knows s D → Knows s E) (Y : Shape) (is : variant_at vs tag ≡ Some (part (boxed (one Y)) no_part)) (ks : List Naming) (v : Value) (old : WriterState) where
     pub inner_serialized : (flat : Value) (t : ℕ) (mid new : WriterState) → GoesOn old mid → Serialized E Y ks v flat old mid → IsBoxed E Y ks v flat t mid new
         → Serialized D (named name) ks (case_of tag (box v)) (case_of tag (box (hole (to_pointee t (one Y) 0)))) old new
     inner_serialized flat t mid new g h b = part_serialized E known (boxed (one Y)) is ks (box v) _ old new (b.since old g h)

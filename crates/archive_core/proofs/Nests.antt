@@ -10,7 +10,7 @@ use Rattle.archive_check.specs.Definitions.{Definitions, Knows, HasLayout}
 use Rattle.archive_check.specs.Members.PartsLayout.{StandsFor, for_itself, by_name}
 use Rattle.archive_check.specs.Members.VariantsLayout.{IsChoice}
 use Rattle.archive_check.specs.Value.{Value, case, box, hole, no_value}
-use Rattle.archive_check.specs.Reads.{Schema, length_at}
+use Rattle.archive_check.specs.Reads.{SchemaTable, length_at}
 use Rattle.archive_check.specs.Readable.{target_from}
 use Rattle.archive_check.specs.Pooled.{Entries}
 use Rattle.archive_check.specs.Entries.{ReadsBack, RefusesReading}
@@ -24,13 +24,14 @@ use Rattle.archive_check.proofs.Tours.UniqueBefore.{lies_before}
 use Rattle.archive_check.proofs.Viewing.Viewed.{lies_reads}
 use Rattle.archive_check.proofs.Viewing.ViewedVariants.{case_viewed, definition_viewed}
 use Rattle.archive_write.specs.Written.{GoesOn}
-use Rattle.archive_types.specs.Writing.{Naming, Resolves, ZeroedPlace, to_pointee}
+use Rattle.archive_types.specs.Writing.{Resolves, ZeroedPlace, to_pointee}
 use Rattle.archive_types.specs.Plans.{Serialized}
 use Rattle.archive_types.specs.Causes.{IsRefused, HindersAt}
 use Rattle.archive_types.specs.Inner.{IsBoxed, IsNotBoxed}
 use Rattle.archive_types.specs.Members.Variants.{case_of, HoldsCase}
 use Rattle.archive_core.specs.Nests.{box_part, AreNests, HoldsNothing, HoldsBox, IsTagOf, IsResolvedBy, nest_of, nest_flat}
 use Rattle.archive_core.proofs.NamedVariants.{empty_serialized, empty_read_back, part_resolves, part_hindered_at, inner_serialized, inner_refused, inner_unboxed}
+use Rattle.archive_check.specs.Denotes.{Naming}
 use Rattle.archive_types.proofs.Reading.OwnersRead.{box_read, box_unread}
 use Rattle.archive_types.proofs.Viewing.PartsShown.{box_has, box_shown}
 use Rattle.archive_types.proofs.Writing.ResolvedVariants.{resolves_empty_case}
@@ -76,12 +77,12 @@ box_otherwise vs tag some n = other_from 0 vs tag tag (omega arith) some n
 
 -- the choice, by its name
 
-stands_by_name : {s : Schema} {name m : Name} {vs : Variants} {X : Shape} → StandsFor s (choice m vs) X → X ≡ named name → definition s.table name ≡ Some (choice m vs)
+stands_by_name : {s : SchemaTable} {name m : Name} {vs : Variants} {X : Shape} → StandsFor s (choice m vs) X → X ≡ named name → definition s.table name ≡ Some (choice m vs)
 stands_by_name for_itself e = cc
 stands_by_name (by_name d) e = cc
 
 module _ (D : Definitions) (X : Shape) (name : Name) (E : Definitions) (vs : Variants) (is : IsChoice D X name E vs) (by : X ≡ named name) where
-  pub has_choice : (s : Schema) → Knows s D → definition s.table name ≡ Some (choice name vs)
+  pub has_choice : (s : SchemaTable) → Knows s D → definition s.table name ≡ Some (choice name vs)
   has_choice s k = stands_by_name (is.stands s k) by
 
   choice_layout : (L : Layout) → HasLayout D X L → HasLayout D (choice name vs) L
@@ -147,7 +148,7 @@ module _ (D : Definitions) (X : Shape) (name : Name) (E : Definitions) (vs : Var
 -- reading back
 
 module _ (D : Definitions) (name : Name) (E : Definitions) (vs : Variants) (is : IsChoice D (named name) name E vs) (nests : AreNests (named name) vs) (bytes : List ℕ) (q n tag : ℕ) (first : slice_index bytes q ≡ tag) where
-  has : (s : Schema) → Knows s D → definition s.table name ≡ Some (choice name vs)
+  has : (s : SchemaTable) → Knows s D → definition s.table name ≡ Some (choice name vs)
   has = has_choice D (named name) name E vs is refl
 
   pub empty_back : {keeps : Bool} → HoldsNothing 0 vs tag → (old new : Entries) → new ≡ old → ReadsBack keeps D bytes q (one (named name)) n old new (case tag no_value) []
@@ -161,7 +162,7 @@ module _ (D : Definitions) (name : Name) (E : Definitions) (vs : Variants) (is :
     box_viewed = case_viewed D D (λ s k. k) name vs tag (boxed (one (named name))) at (record { size = 4; align = 4 }) (record { solved = λ s k. refl }) bytes q 0 4 refl first (definition_viewed D name (choice name vs) has bytes q n v)
 
     -- the choice has eight bytes at least
-    eight : (s : Schema) → Knows s D → 8 ≤ size_of s.layouts (named name)
+    eight : (s : SchemaTable) → Knows s D → 8 ≤ size_of s.layouts (named name)
     eight s k =
         let part_there : IsPart s q 1 (box_part (named name)) (q + 4) (boxed (one (named name))) = first_part in
         let inside = within_inside s k.laid_out {bytes = bytes} (in_choice (in_named whole (has s k)) (rw first at) part_there) in

@@ -5,9 +5,9 @@ use Rattle.archive_check.specs.Definitions.{Definitions}
 use Rattle.archive_check.specs.Value.{Value}
 use Rattle.archive_check.specs.WriterState.{KeyStates, WriterState}
 use Rattle.archive_check.specs.declared.format.error.Error.{Error}
+use Rattle.archive_check.specs.Denotes.{Naming}
 use Rattle.archive_write.specs.Written.{GoesOn}
 use Rattle.archive_write.specs.Sharing.{KnowsNone}
-use Rattle.archive_types.specs.Writing.{Naming}
 use Rattle.archive_types.specs.Plans.{unshared}
 use Rattle.archive_types.specs.Causes.{Explains, no_memory, no_room, device_failed, own_cause, IsRegionRefused}
 

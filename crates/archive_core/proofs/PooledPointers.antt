@@ -4,7 +4,7 @@ use Rattle.archive_check.specs.declared.format.error.Error.{Error}
 use Rattle.archive_check.specs.Shape.{Flavor, shared, weak, Pointee, one}
 use Rattle.archive_check.specs.Definitions.{Definitions}
 use Rattle.archive_check.specs.Value.{Value, null, shared_value, pointers}
-use Rattle.archive_check.specs.Reads.{Schema, i32_at, length_at, reads_null, reads_weak}
+use Rattle.archive_check.specs.Reads.{SchemaTable, i32_at, length_at, reads_null, reads_weak}
 use Rattle.archive_check.specs.Tour.{Contents, contents_one}
 use Rattle.archive_check.specs.Pooled.{Kept, Entries}
 use Rattle.archive_check.specs.Readable.{target_from}
@@ -39,7 +39,7 @@ module _ (D : Definitions) (bytes : List ℕ) (q n : ℕ) (flavor : Flavor) (P :
   weak_unread told e far v h = ⊎_elim inl (λ c. inr (c.0, c.1.by_pointers q n (weak flavor P) (weak_leads far v))) h
 
   -- a null is read back as such
-  null_bare : i32_at bytes q ≡ pos 1 → (s : Schema) (v : Value) → Contents s bytes q (one (weak flavor P)) n v → pointers v ≡ []
+  null_bare : i32_at bytes q ≡ pos 1 → (s : SchemaTable) (v : Value) → Contents s bytes q (one (weak flavor P)) n v → pointers v ≡ []
   null_bare is s v (contents_one (reads_null e)) = refl
   null_bare is s v (contents_one (reads_weak e)) = absurd (e is)
 

@@ -5,7 +5,7 @@ use Rattle.std.proofs.lemmas.Bool.Decides.{nat_tests}
 use Rattle.archive_check.specs.Shape.{Kind, leaf, str, Pointee, one, text}
 use Rattle.archive_check.specs.Layout.{kind_size}
 use Rattle.archive_check.specs.Leaves.{number_leaf, text_leaf, IsFree, edit, Overwrites, overwrites_number, overwrites_text}
-use Rattle.archive_check.specs.Reads.{Schema, bytes_at, u32_at, kind_value, IsOutOfLine, before_end, decoded_length}
+use Rattle.archive_check.specs.Reads.{SchemaTable, bytes_at, u32_at, kind_value, IsOutOfLine, before_end, decoded_length}
 use Rattle.archive_check.specs.Readable.{target_from, string_text}
 use Rattle.archive_check.specs.ComesTo.{ComesTo, to_text}
 use Rattle.archive_check.specs.Revised.{WritesLeaf}
@@ -59,7 +59,7 @@ text_written bytes new b q n law u size fits e =
     writes_over bytes new b (text_leaf q (bytes_at bytes q n)) (text_leaf q b) o e q text n (λ s root X a i. text_stands s bytes a q n i) (text_free bytes q n) w
 
 -- the text of a string lies in what was checked
-string_lies : {s : Schema} {bytes : List ℕ} {q n : ℕ} → (IsOutOfLine bytes q → ⊥) → Lies s bytes q (one str) n → Lies s bytes q text (length (before_end (bytes_at bytes q 8)))
+string_lies : {s : SchemaTable} {bytes : List ℕ} {q n : ℕ} → (IsOutOfLine bytes q → ⊥) → Lies s bytes q (one str) n → Lies s bytes q text (length (before_end (bytes_at bytes q 8)))
 string_lies o l = let (r, c, i) = l.part in record { root = l.root; shape = l.shape; accepted = l.accepted; part = (r, c, in_string i o) }
 
 -- one in place has as many bytes as stand before its end

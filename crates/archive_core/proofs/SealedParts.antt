@@ -5,7 +5,7 @@ use Rattle.std.proofs.lemmas.List.Elements.{Contains-push}
 use Rattle.archive_check.specs.Shape.{Name, Flavor, Shape, choice, array, boxed, vec, str, shared, weak, text, Pointee, one, run, Parts, part, no_part, Variants, variant_at}
 use Rattle.archive_check.specs.Layout.{Layout, up, size_of}
 use Rattle.archive_check.specs.Value.{Pointer, Value, hole, pointers}
-use Rattle.archive_check.specs.Reads.{Schema, bytes_at, i32_at, u32_at, length_at, pointer_at, string_at, decoded_length, before_end, IsOutOfLine, reads_vec}
+use Rattle.archive_check.specs.Reads.{SchemaTable, bytes_at, i32_at, u32_at, length_at, pointer_at, string_at, decoded_length, before_end, IsOutOfLine, reads_vec}
 use Rattle.archive_check.specs.Readable.{position, target_from}
 use Rattle.archive_check.specs.Keys.{order_of}
 use Rattle.archive_check.specs.Tour.{Contents, contents_one}
@@ -13,7 +13,7 @@ use Rattle.archive_check.specs.Within.{IsPart, first_part, Within, whole, in_cho
 use Rattle.archive_check.specs.ComesTo.{to_root, to_part, to_element, to_text, to_target, IsComeTo}
 use Rattle.archive_check.specs.Definitions.{Definitions, Knows, HasLayout}
 use Rattle.archive_check.specs.Archives.{IsArchive}
-use Rattle.archive_check.specs.Members.PartsLayout.{part_at, offset_at, PartsLaidOut, IsRecord}
+use Rattle.archive_check.specs.Members.PartsLayout.{part_at, offset_of_part, PartsLaidOut, IsRecord}
 use Rattle.archive_check.specs.Members.VariantsLayout.{payload_at, payload_offset, VariantsLaidOut, IsChoice}
 use Rattle.archive_check.proofs.Meanings.ReachedParts.{part_reached, pointer_reached}
 use Rattle.archive_check.proofs.Viewing.ViewedPayloads.{is_payload, offset_is, part_stands, choice_within}
@@ -45,12 +45,12 @@ pub comes_also : {D E : Definitions} → KnowsAlso D E → (bytes : List ℕ) (u
 comes_also known bytes u v with = record { comes = λ s root X k a c. with.comes s root X (known s k) a c }
 
 -- what lies within a value
-pub within_comes : (D : Definitions) (bytes : List ℕ) (q n r : ℕ) (X Y : Shape) → ((s : Schema) → Knows s D → Within s bytes q X r Y) → ComesWith D bytes (view q (one X) n) (view r (one Y) 0)
+pub within_comes : (D : Definitions) (bytes : List ℕ) (q n r : ℕ) (X Y : Shape) → ((s : SchemaTable) → Knows s D → Within s bytes q X r Y) → ComesWith D bytes (view q (one X) n) (view r (one Y) 0)
 within_comes D bytes q n r X Y inside = record { comes = λ s root Z k a c. to_part c (inside s k) }
 
 -- what a pointer leads to that asks for no order
 pub target_comes : (D : Definitions) (bytes : List ℕ) (q n : ℕ) (W : Shape) (p : Pointer) (r : ℕ) → order_of p ≡ None → ((t : ℕ) → p.target ≡ pos t → t ≡ r)
-    → ((s : Schema) (v : Value) → Contents s bytes q (one W) n v → Contains (pointers v) p) → ComesWith D bytes (view q (one W) n) (view r p.pointee p.length)
+    → ((s : SchemaTable) (v : Value) → Contents s bytes q (one W) n v → Contains (pointers v) p) → ComesWith D bytes (view q (one W) n) (view r p.pointee p.length)
 target_comes D bytes q n W p r free there has = record {
   comes = λ s root X k a c.
       let (w, reached) = part_reached s bytes a (come_part s bytes a c) in
@@ -60,7 +60,7 @@ target_comes D bytes q n W p r free there has = record {
       rw here at (to_target c reached.reads m free e);
 }
 
-vec_hole : {s : Schema} {bytes : List ℕ} {q n : ℕ} {X : Shape} {v : Value} → Contents s bytes q (one (vec X)) n v → v ≡ hole (pointer_at bytes q None (run X))
+vec_hole : {s : SchemaTable} {bytes : List ℕ} {q n : ℕ} {X : Shape} {v : Value} → Contents s bytes q (one (vec X)) n v → v ≡ hole (pointer_at bytes q None (run X))
 vec_hole (contents_one reads_vec) = refl
 
 hole_has : {v : Value} (p : Pointer) → v ≡ hole p → Contains (pointers v) p
@@ -90,7 +90,7 @@ module _ (D : Definitions) (bytes : List ℕ) (q n : ℕ) where
 
   -- an element of a slice, and of an array
   module _ (X : Shape) (L : Layout) (laid : HasLayout D X L) (k : ℕ) (P : Pointee) (is : P ≡ one X) where
-    sized : (s : Schema) → Knows s D → size_of s.layouts X ≡ L.size
+    sized : (s : SchemaTable) → Knows s D → size_of s.layouts X ≡ L.size
     sized s known = ap (λ l. l.size) (laid.solved s known)
 
     pub element_comes : k < n → ComesWith D bytes (view q (run X) n) (view (q + k * L.size) P 0)
@@ -103,7 +103,7 @@ module _ (D : Definitions) (bytes : List ℕ) (q n : ℕ) where
         rw same at there))
 
 -- the part of a variant with one part
-pub case_comes : (D E : Definitions) (known : (s : Schema) → Knows s D → Knows s E) (name : Name) (vs : Variants) (tag : ℕ) (X : Shape) (is : variant_at vs tag ≡ Some (part X no_part)) (L : Layout) (layout : HasLayout E X L)
+pub case_comes : (D E : Definitions) (known : (s : SchemaTable) → Knows s D → Knows s E) (name : Name) (vs : Variants) (tag : ℕ) (X : Shape) (is : variant_at vs tag ≡ Some (part X no_part)) (L : Layout) (layout : HasLayout E X L)
     (bytes : List ℕ) (q n offset : ℕ) (there : offset ≡ up 1 L.align) (first : slice_index bytes q ≡ tag) → ComesWith D bytes (view q (one (choice name vs)) n) (view (q + offset) (one X) 0)
 case_comes D E known name vs tag X is L layout bytes q n offset there first =
     let e : variant_at vs (slice_index bytes q) ≡ Some (part X no_part) = rw first is in
@@ -114,12 +114,12 @@ case_comes D E known name vs tag X is L layout bytes q n offset there first =
 
 -- the field of a record with an index, wherever it begins
 module _ (D : Definitions) (X : Shape) (E : Definitions) (ps : Parts) (is : IsRecord D X E ps) (bytes : List ℕ) (q n : ℕ) (P : Pointee) (one_is : P ≡ one X)
-    (i off : ℕ) (Y : Shape) (begins : (s : Schema) → Knows s D → IsPart s q 0 ps (q + off) Y) where
+    (i off : ℕ) (Y : Shape) (begins : (s : SchemaTable) → Knows s D → IsPart s q 0 ps (q + off) Y) where
   pub part_comes : (Q : Pointee) → Q ≡ one Y → ComesWith D bytes (view q P n) (view (q + off) Q 0)
   part_comes Q there = rw (there, one_is) (within_comes D bytes q n (q + off) X Y (λ s k. record_within (is.stands s k) (begins s k)))
 
 pub offset_comes : (D : Definitions) (X : Shape) (E : Definitions) (ps : Parts) → IsRecord D X E ps → (bytes : List ℕ) (q n : ℕ) (P : Pointee) → P ≡ one X
-    → (i off : ℕ) → ((s : Schema) → Knows s D → offset_at s.layouts 0 ps i ≡ off) → (Y : Shape) → part_at ps i ≡ Some Y → (Q : Pointee) → Q ≡ one Y → ComesWith D bytes (view q P n) (view (q + off) Q 0)
+    → (i off : ℕ) → ((s : SchemaTable) → Knows s D → offset_of_part s.layouts 0 ps i ≡ off) → (Y : Shape) → part_at ps i ≡ Some Y → (Q : Pointee) → Q ≡ one Y → ComesWith D bytes (view q P n) (view (q + off) Q 0)
 offset_comes D X E ps is bytes q n P one_is i off starts Y at Q there = part_comes D X E ps is bytes q n P one_is i off Y (λ s k. rw (starts s k) at (part_stands s q 0 ps i Y at)) Q there
 
 pub field_comes : (D : Definitions) (X : Shape) (E : Definitions) (ps : Parts) → IsRecord D X E ps → (bytes : List ℕ) (q n : ℕ) (P : Pointee) → P ≡ one X → (a : ℕ) (end : ℕ → ℕ) (begin : ℕ → ℕ → ℕ)
@@ -128,7 +128,7 @@ field_comes D X E ps is bytes q n P one_is a end begin laid i Y at Q there = par
 
 -- and the part with an index of the variant that the tag names
 pub behind_comes : (D : Definitions) (X : Shape) (name : Name) (E : Definitions) (vs : Variants) → IsChoice D X name E vs → (bytes : List ℕ) (q n : ℕ) (P : Pointee) → P ≡ one X
-    → (i off : ℕ) → ((s : Schema) → Knows s D → payload_offset s.layouts vs (slice_index bytes q) i ≡ off) → (Y : Shape) → payload_at vs (slice_index bytes q) i ≡ Some Y
+    → (i off : ℕ) → ((s : SchemaTable) → Knows s D → payload_offset s.layouts vs (slice_index bytes q) i ≡ off) → (Y : Shape) → payload_at vs (slice_index bytes q) i ≡ Some Y
     → (Q : Pointee) → Q ≡ one Y → ComesWith D bytes (view q P n) (view (q + off) Q 0)
 behind_comes D X name E vs is bytes q n P one_is i off starts Y at Q there = rw (there, one_is) (within_comes D bytes q n (q + off) X Y (λ s k.
     let h = is_payload vs (slice_index bytes q) i Y at in

@@ -3,7 +3,7 @@ use Rattle.std.proofs.Common.{ℕ, List, [], ◌∷◌, Contains, arith, refl}
 use Rattle.std.proofs.Math.Logic.{∥∥₁_elim, ∥∥₁_map, ∥∥₁_prop}
 use Rattle.std.proofs.lemmas.List.Elements.{All-nil, All-cons, All-contains}
 use Rattle.archive_check.specs.Shape.{Shape, Pointee, one}
-use Rattle.archive_check.specs.Reads.{Schema}
+use Rattle.archive_check.specs.Reads.{SchemaTable}
 use Rattle.archive_check.specs.Leaves.{regions_of}
 use Rattle.archive_check.specs.Within.{PartOfSome}
 use Rattle.archive_check.specs.ComesTo.{ComesTo, to_root, IsComeTo}
@@ -16,10 +16,10 @@ use Rattle.archive_core.specs.SealsKept.{LieTogether, SealedTogether, KeepsSeals
 use Rattle.archive_core.proofs.ComePart.{come_part}
 
 -- seals come to the view from the root of the archive; it is a part of that
-abbrev Comes : (s : Schema) (bytes : List ℕ) → {seals views : List View} → LieTogether s bytes seals views → View → Type 0
+abbrev Comes : (s : SchemaTable) (bytes : List ℕ) → {seals views : List View} → LieTogether s bytes seals views → View → Type 0
 Comes s bytes l v = ComesTo s bytes l.root l.shape v.begin v.pointee v.length
 
-abbrev Lies : (s : Schema) (bytes : List ℕ) → {seals views : List View} → LieTogether s bytes seals views → View → Type 0
+abbrev Lies : (s : SchemaTable) (bytes : List ℕ) → {seals views : List View} → LieTogether s bytes seals views → View → Type 0
 Lies s bytes l v = PartOfSome s bytes (regions_of l.accepted) v.begin v.pointee v.length
 
 -- the root of an archive

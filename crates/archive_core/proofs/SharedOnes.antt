@@ -6,7 +6,8 @@ use Rattle.archive_check.specs.Value.{Value, shared_value, hole}
 use Rattle.archive_check.specs.WriterState.{WriterState}
 use Rattle.archive_check.specs.declared.format.error.Error.{Error}
 use Rattle.archive_check.specs.declared.format.error.Error.TheVariants.{PositionTooLarge}
-use Rattle.archive_types.specs.Writing.{Naming, to_shared}
+use Rattle.archive_check.specs.Denotes.{Naming}
+use Rattle.archive_types.specs.Writing.{to_shared}
 use Rattle.archive_types.specs.Plans.{Serialized}
 use Rattle.archive_types.specs.Causes.{IsRefused}
 use Rattle.archive_types.specs.Members.SharedLaws.{naming_of}

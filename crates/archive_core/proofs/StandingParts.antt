@@ -5,10 +5,10 @@ use Rattle.std.proofs.lemmas.List.Elements.{All-nil, All-cons, All-append, All-c
 use Rattle.archive_check.specs.Shape.{Name, Shape, parts, choice, array, str, named, Pointee, one, run, text, Parts, Variants, definition, variant_at}
 use Rattle.archive_check.specs.Layout.{size_of}
 use Rattle.archive_check.specs.Value.{Pointer, Value, Values, product, case, list, text_value, hole, value, pointers, all_pointers}
-use Rattle.archive_check.specs.Reads.{Schema, LaidOut, bytes_at, u32_at, map_at, before_end, IsOutOfLine, Reads, reads_parts, reads_choice, reads_array, reads_inline, reads_out_of_line, reads_named, ReadsParts, reads_part, ReadsRun, reads_none, reads_element}
+use Rattle.archive_check.specs.Reads.{SchemaTable, LaidOut, bytes_at, u32_at, map_at, before_end, IsOutOfLine, Reads, reads_parts, reads_choice, reads_array, reads_inline, reads_out_of_line, reads_named, ReadsParts, reads_part, ReadsRun, reads_none, reads_element}
 use Rattle.archive_check.specs.Tour.{Region, region_of, root_region, pointee_size, Rising, Contents, contents_one, contents_run, contents_text, Leads, Seen, Tour, tour_end, tour_unique, tour_new, tour_again, Accepted}
-use Rattle.archive_check.specs.Leaves.{Leaf, number_leaf, text_leaf, leaf_begin, leaf_value, leaves, leaves_of_contents, leaves_of_tour, leaves_of, regions_of, IsFree, edit, Overwrites, overwrites_number, overwrites_text, Replaced, Altered, altered_here, altered_product, altered_case, altered_list, altered_box, AlteredAmong, altered_first, altered_later, StillAccepted}
-use Rattle.archive_check.specs.Within.{IsPart, first_part, later_part, Within, whole, in_parts, in_choice, in_array, in_named, PartOf, whole_region, in_one, in_run, in_string, PartOfSome}
+use Rattle.archive_check.specs.Leaves.{PlacedLeaf, number_leaf, text_leaf, leaf_begin, leaf_value, leaves, leaves_of_contents, leaves_of_tour, leaves_of, regions_of, IsFree, edit, Overwrites, overwrites_number, overwrites_text, Replaced, Altered, altered_here, altered_product, altered_case, altered_list, altered_box, AlteredAmong, altered_first, altered_later, StillAccepted}
+use Rattle.archive_check.specs.Within.{IsPart, first_part, later_part, Within, whole, in_parts, in_choice, in_array, in_named, PartOfRegion, whole_region, in_one, in_run, in_string, PartOfSome}
 use Rattle.archive_check.proofs.Editing.EditedArchives.{replaced_has, Split, in_first, in_later, split, overwrites_size, renewed, contents_renewed, accepted_renewed, leaf_fits, replaced_one}
 use Rattle.archive_check.proofs.Editing.EditedBytes.{Edits, edit_edits}
 use Rattle.archive_check.proofs.Tours.EqualBytes.{Agrees, agrees_part, reads_agree}
@@ -27,42 +27,42 @@ use Rattle.archive_core.specs.SealsWritten.{WritesOver}
 use Rattle.archive_core.proofs.ComePart.{map_hole, come_part}
 
 -- the second value is the first one, or that with the leaf y in place of x
-data Kin (x y : Leaf) : Value → Value → Type 0 where
+data Kin (x y : PlacedLeaf) : Value → Value → Type 0 where
   kin_same : {v : Value} → Kin x y v v
   kin_altered : {v w : Value} → Altered x y v w → Kin x y v w
 
-data KinAmong (x y : Leaf) : Values → Values → Type 0 where
+data KinAmong (x y : PlacedLeaf) : Values → Values → Type 0 where
   all_same : {vs : Values} → KinAmong x y vs vs
   one_altered : {vs ws : Values} → AlteredAmong x y vs ws → KinAmong x y vs ws
 
 -- a leaf has no parts
 
-not_product : (x : Leaf) {vs : Values} → leaf_value x ≡ product vs → ⊥
+not_product : (x : PlacedLeaf) {vs : Values} → leaf_value x ≡ product vs → ⊥
 not_product (number_leaf p kind z) e = cc
 not_product (text_leaf p t) e = cc
 
-not_case : (x : Leaf) {tag : ℕ} {vs : Values} → leaf_value x ≡ case tag vs → ⊥
+not_case : (x : PlacedLeaf) {tag : ℕ} {vs : Values} → leaf_value x ≡ case tag vs → ⊥
 not_case (number_leaf p kind z) e = cc
 not_case (text_leaf p t) e = cc
 
-not_list : (x : Leaf) {vs : Values} → leaf_value x ≡ list vs → ⊥
+not_list : (x : PlacedLeaf) {vs : Values} → leaf_value x ≡ list vs → ⊥
 not_list (number_leaf p kind z) e = cc
 not_list (text_leaf p t) e = cc
 
-not_hole : (x : Leaf) {p : Pointer} → leaf_value x ≡ hole p → ⊥
+not_hole : (x : PlacedLeaf) {p : Pointer} → leaf_value x ≡ hole p → ⊥
 not_hole (number_leaf p kind z) e = cc
 not_hole (text_leaf p t) e = cc
 
 -- so what is altered of a value with parts is altered in one of them
 
-product_altered : {x y : Leaf} {v w : Value} {vs ws : Values} → Altered x y v w → v ≡ product vs → w ≡ product ws → AlteredAmong x y vs ws
+product_altered : {x y : PlacedLeaf} {v w : Value} {vs ws : Values} → Altered x y v w → v ≡ product vs → w ≡ product ws → AlteredAmong x y vs ws
 product_altered {x} altered_here e f = absurd (not_product x e)
 product_altered {vs = vs} {ws = ws} (altered_product {vs = us} {ws = zs} a) e f = let g : us ≡ vs = cc in let h : zs ≡ ws = cc in rw (g, h) at a
 product_altered (altered_case a) e f = cc
 product_altered (altered_list a) e f = cc
 product_altered (altered_box a) e f = cc
 
-case_altered : {x y : Leaf} {v w : Value} {tag other : ℕ} {vs ws : Values} → Altered x y v w → v ≡ case tag vs → w ≡ case other ws → (other ≡ tag) × AlteredAmong x y vs ws
+case_altered : {x y : PlacedLeaf} {v w : Value} {tag other : ℕ} {vs ws : Values} → Altered x y v w → v ≡ case tag vs → w ≡ case other ws → (other ≡ tag) × AlteredAmong x y vs ws
 case_altered {x} altered_here e f = absurd (not_case x e)
 case_altered (altered_product a) e f = cc
 case_altered {tag = tag} {other = other} {vs = vs} {ws = ws} (altered_case {tag = t} {vs = us} {ws = zs} a) e f =
@@ -70,37 +70,37 @@ case_altered {tag = tag} {other = other} {vs = vs} {ws = ws} (altered_case {tag 
 case_altered (altered_list a) e f = cc
 case_altered (altered_box a) e f = cc
 
-list_altered : {x y : Leaf} {v w : Value} {vs ws : Values} → Altered x y v w → v ≡ list vs → w ≡ list ws → AlteredAmong x y vs ws
+list_altered : {x y : PlacedLeaf} {v w : Value} {vs ws : Values} → Altered x y v w → v ≡ list vs → w ≡ list ws → AlteredAmong x y vs ws
 list_altered {x} altered_here e f = absurd (not_list x e)
 list_altered (altered_product a) e f = cc
 list_altered (altered_case a) e f = cc
 list_altered {vs = vs} {ws = ws} (altered_list {vs = us} {ws = zs} a) e f = let g : us ≡ vs = cc in let h : zs ≡ ws = cc in rw (g, h) at a
 list_altered (altered_box a) e f = cc
 
-among_altered : {x y : Leaf} {vs ws us zs : Values} {v w : Value} → AlteredAmong x y vs ws → vs ≡ value v us → ws ≡ value w zs → Kin x y v w × KinAmong x y us zs
+among_altered : {x y : PlacedLeaf} {vs ws us zs : Values} {v w : Value} → AlteredAmong x y vs ws → vs ≡ value v us → ws ≡ value w zs → Kin x y v w × KinAmong x y us zs
 among_altered {us = us} {zs = zs} {v = v} {w = w} (altered_first {v = a} {w = b} {vs = rs} h) e f =
     let i : a ≡ v = cc in let j : b ≡ w = cc in let k : us ≡ rs = cc in let l : zs ≡ rs = cc in (kin_altered (rw (i, j) at h), rw (k, l) all_same)
 among_altered {us = us} {zs = zs} {v = v} {w = w} (altered_later {v = a} {vs = rs} {ws = ts} h) e f =
     let i : v ≡ a = cc in let j : w ≡ a = cc in let k : rs ≡ us = cc in let l : ts ≡ zs = cc in (rw (i, j) kin_same, one_altered (rw (k, l) at h))
 
-product_kin : {x y : Leaf} {v w : Value} {vs ws : Values} → Kin x y v w → v ≡ product vs → w ≡ product ws → KinAmong x y vs ws
+product_kin : {x y : PlacedLeaf} {v w : Value} {vs ws : Values} → Kin x y v w → v ≡ product vs → w ≡ product ws → KinAmong x y vs ws
 product_kin {vs = vs} {ws = ws} kin_same e f = let g : ws ≡ vs = cc in rw g all_same
 product_kin (kin_altered a) e f = one_altered (product_altered a e f)
 
-case_kin : {x y : Leaf} {v w : Value} {tag other : ℕ} {vs ws : Values} → Kin x y v w → v ≡ case tag vs → w ≡ case other ws → (other ≡ tag) × KinAmong x y vs ws
+case_kin : {x y : PlacedLeaf} {v w : Value} {tag other : ℕ} {vs ws : Values} → Kin x y v w → v ≡ case tag vs → w ≡ case other ws → (other ≡ tag) × KinAmong x y vs ws
 case_kin {tag = tag} {other = other} {vs = vs} {ws = ws} kin_same e f = let h : other ≡ tag = cc in let g : ws ≡ vs = cc in (h, rw g all_same)
 case_kin (kin_altered a) e f = let (h, g) = case_altered a e f in (h, one_altered g)
 
-list_kin : {x y : Leaf} {v w : Value} {vs ws : Values} → Kin x y v w → v ≡ list vs → w ≡ list ws → KinAmong x y vs ws
+list_kin : {x y : PlacedLeaf} {v w : Value} {vs ws : Values} → Kin x y v w → v ≡ list vs → w ≡ list ws → KinAmong x y vs ws
 list_kin {vs = vs} {ws = ws} kin_same e f = let g : ws ≡ vs = cc in rw g all_same
 list_kin (kin_altered a) e f = one_altered (list_altered a e f)
 
-among_kin : {x y : Leaf} {vs ws us zs : Values} {v w : Value} → KinAmong x y vs ws → vs ≡ value v us → ws ≡ value w zs → Kin x y v w × KinAmong x y us zs
+among_kin : {x y : PlacedLeaf} {vs ws us zs : Values} {v w : Value} → KinAmong x y vs ws → vs ≡ value v us → ws ≡ value w zs → Kin x y v w × KinAmong x y us zs
 among_kin {us = us} {zs = zs} {v = v} {w = w} all_same e f = let g : w ≡ v = cc in let h : zs ≡ us = cc in (rw g kin_same, rw h all_same)
 among_kin (one_altered a) e f = among_altered a e f
 
 -- a text that is written over another one has as many bytes
-text_altered : {b : List ℕ} {x y : Leaf} {v w : Value} {t u : List ℕ} → Overwrites b x y → Altered x y v w → v ≡ text_value t → w ≡ text_value u → length u ≡ length t
+text_altered : {b : List ℕ} {x y : PlacedLeaf} {v w : Value} {t u : List ℕ} → Overwrites b x y → Altered x y v w → v ≡ text_value t → w ≡ text_value u → length u ≡ length t
 text_altered (overwrites_number legal) altered_here e f = cc
 text_altered {b = b} {t = t} {u = u} (overwrites_text {text = old} utf8 size) altered_here e f = let g : old ≡ t = cc in let h : b ≡ u = cc in rw (g, h) at size
 text_altered o (altered_product a) e f = cc
@@ -108,45 +108,45 @@ text_altered o (altered_case a) e f = cc
 text_altered o (altered_list a) e f = cc
 text_altered o (altered_box a) e f = cc
 
-text_kin : {b : List ℕ} {x y : Leaf} {v w : Value} {t u : List ℕ} → Overwrites b x y → Kin x y v w → v ≡ text_value t → w ≡ text_value u → length u ≡ length t
+text_kin : {b : List ℕ} {x y : PlacedLeaf} {v w : Value} {t u : List ℕ} → Overwrites b x y → Kin x y v w → v ≡ text_value t → w ≡ text_value u → length u ≡ length t
 text_kin {t = t} {u = u} o kin_same e f = let g : u ≡ t = cc in ap (λ l. length l) g
 text_kin o (kin_altered a) e f = text_altered o a e f
 
-hole_altered : {x y : Leaf} {v w : Value} {t : List ℕ} {p : Pointer} → Altered x y v w → v ≡ text_value t → w ≡ hole p → ⊥
+hole_altered : {x y : PlacedLeaf} {v w : Value} {t : List ℕ} {p : Pointer} → Altered x y v w → v ≡ text_value t → w ≡ hole p → ⊥
 hole_altered {y = y} altered_here e f = not_hole y f
 hole_altered (altered_product a) e f = cc
 hole_altered (altered_case a) e f = cc
 hole_altered (altered_list a) e f = cc
 hole_altered (altered_box a) e f = cc
 
-hole_kin : {x y : Leaf} {v w : Value} {t : List ℕ} {p : Pointer} → Kin x y v w → v ≡ text_value t → w ≡ hole p → ⊥
+hole_kin : {x y : PlacedLeaf} {v w : Value} {t : List ℕ} {p : Pointer} → Kin x y v w → v ≡ text_value t → w ≡ hole p → ⊥
 hole_kin kin_same e f = cc
 hole_kin (kin_altered a) e f = hole_altered a e f
 
 -- what is altered has the pointers that it had
 
-leaf_pointers : (x : Leaf) → pointers (leaf_value x) ≡ []
+leaf_pointers : (x : PlacedLeaf) → pointers (leaf_value x) ≡ []
 leaf_pointers (number_leaf p kind z) = refl
 leaf_pointers (text_leaf p t) = refl
 
 mutual
-  altered_pointers : {x y : Leaf} {v w : Value} → Altered x y v w → pointers w ≡ pointers v
+  altered_pointers : {x y : PlacedLeaf} {v w : Value} → Altered x y v w → pointers w ≡ pointers v
   altered_pointers {x} {y} altered_here = leaf_pointers y ∙ sym (leaf_pointers x)
   altered_pointers (altered_product a) = among_pointers a
   altered_pointers (altered_case a) = among_pointers a
   altered_pointers (altered_list a) = among_pointers a
   altered_pointers (altered_box a) = altered_pointers a
 
-  among_pointers : {x y : Leaf} {vs ws : Values} → AlteredAmong x y vs ws → all_pointers ws ≡ all_pointers vs
+  among_pointers : {x y : PlacedLeaf} {vs ws : Values} → AlteredAmong x y vs ws → all_pointers ws ≡ all_pointers vs
   among_pointers (altered_first {vs = vs} a) = ap (λ O. O ++ all_pointers vs) (altered_pointers a)
   among_pointers (altered_later {v = v} a) = ap (λ O. pointers v ++ O) (among_pointers a)
 
-kin_pointers : {x y : Leaf} {v w : Value} → Kin x y v w → pointers w ≡ pointers v
+kin_pointers : {x y : PlacedLeaf} {v w : Value} → Kin x y v w → pointers w ≡ pointers v
 kin_pointers kin_same = refl
 kin_pointers (kin_altered a) = altered_pointers a
 
 -- and what is a pointer alone stays that pointer
-holes_kin : {x y : Leaf} {v w : Value} {p q : Pointer} → Kin x y v w → v ≡ hole p → w ≡ hole q → q ≡ p
+holes_kin : {x y : PlacedLeaf} {v w : Value} {p q : Pointer} → Kin x y v w → v ≡ hole p → w ≡ hole q → q ≡ p
 holes_kin kin_same e f = cc
 holes_kin {x} (kin_altered altered_here) e f = absurd (not_hole x e)
 holes_kin (kin_altered (altered_product a)) e f = cc
@@ -154,7 +154,7 @@ holes_kin (kin_altered (altered_case a)) e f = cc
 holes_kin (kin_altered (altered_list a)) e f = cc
 holes_kin (kin_altered (altered_box a)) e f = cc
 
-module _ (s : Schema) (laid : LaidOut s) (bytes new b : List ℕ) (x y : Leaf) (o : Overwrites b x y) (d : Edits bytes new (leaf_begin x) b) where
+module _ (s : SchemaTable) (laid : LaidOut s) (bytes new b : List ℕ) (x y : PlacedLeaf) (o : Overwrites b x y) (d : Edits bytes new (leaf_begin x) b) where
   -- what the region says before and after
   abbrev Kept : Region → Type 0
   Kept r = (v : Value) × (w : Value) × Contents s bytes r.begin r.pointee r.length v × Contents s new r.begin r.pointee r.length w × Kin x y v w
@@ -189,14 +189,14 @@ module _ (s : Schema) (laid : LaidOut s) (bytes new b : List ℕ) (x y : Leaf) (
   module _ {inner pending : List ℕ} {first mid last : Seen} {p : Pointer} {O : List Pointer} {t : ℕ} {v : Value} {C D : List Region}
       (h : Leads s bytes p t v) (i : Tour s bytes inner first (pointers v) C mid) (j : Tour s bytes pending mid O D last)
       (start stop : ℕ) (front : Rising start C t) (back : Rising (t + pointee_size s p.pointee p.length) D stop) where
-    in_own : {zs : List Leaf} → Replaced x y (leaves_of_tour i) zs → All Kept C → All Kept (C ++ region_of s p t ∷ D)
+    in_own : {zs : List PlacedLeaf} → Replaced x y (leaves_of_tour i) zs → All Kept C → All Kept (C ++ region_of s p t ∷ D)
     in_own k own =
         let there : Between start t x = replaced_has (Between start t) k (tour_between s laid bytes i start t front) in
         around C (region_of s p t) D own
         (v, v, h.contents, (contents_agree bytes new s laid h.contents (d.behind t (pointee_size s p.pointee p.length) (omega (arith, there, overwrites_size o)))).0, kin_same)
         (tour_unchanged j (t + pointee_size s p.pointee p.length) stop back (d.behind (t + pointee_size s p.pointee p.length) (stop - (t + pointee_size s p.pointee p.length)) (omega (arith, there, overwrites_size o))))
 
-    in_this : {zs : List Leaf} → Replaced x y (leaves_of_contents h.contents) zs → All Kept (C ++ region_of s p t ∷ D)
+    in_this : {zs : List PlacedLeaf} → Replaced x y (leaves_of_contents h.contents) zs → All Kept (C ++ region_of s p t ∷ D)
     in_this k =
         let q = contents_renewed s laid bytes new b h.contents h.fits k o d in
         let there : Between t (t + pointee_size s p.pointee p.length) x = replaced_has (Between t (t + pointee_size s p.pointee p.length)) k (contents_between s laid bytes h.contents) in
@@ -205,7 +205,7 @@ module _ (s : Schema) (laid : LaidOut s) (bytes new b : List ℕ) (x y : Leaf) (
         (v, q.found, h.contents, q.contents, kin_altered q.altered)
         (tour_unchanged j (t + pointee_size s p.pointee p.length) stop back (d.behind (t + pointee_size s p.pointee p.length) (stop - (t + pointee_size s p.pointee p.length)) (omega (arith, there, overwrites_size o))))
 
-    in_rest : {zs : List Leaf} → Replaced x y (leaves_of_tour j) zs → All Kept D → All Kept (C ++ region_of s p t ∷ D)
+    in_rest : {zs : List PlacedLeaf} → Replaced x y (leaves_of_tour j) zs → All Kept D → All Kept (C ++ region_of s p t ∷ D)
     in_rest k rest =
         let there : Between (t + pointee_size s p.pointee p.length) stop x = replaced_has (Between (t + pointee_size s p.pointee p.length) stop) k (tour_between s laid bytes j (t + pointee_size s p.pointee p.length) stop back) in
         around C (region_of s p t) D
@@ -213,9 +213,9 @@ module _ (s : Schema) (laid : LaidOut s) (bytes new b : List ℕ) (x y : Leaf) (
         (v, v, h.contents, (contents_agree bytes new s laid h.contents (d.before t (pointee_size s p.pointee p.length) (omega (arith, there)))).0, kin_same)
         rest
 
-    in_any : {ms : List Leaf} → Split x y (leaves_of_tour i) (leaves_of_contents h.contents ++ leaves_of_tour j) ms
-        → ((zs : List Leaf) → Replaced x y (leaves_of_tour i) zs → All Kept C)
-        → ((zs : List Leaf) → Replaced x y (leaves_of_tour j) zs → All Kept D)
+    in_any : {ms : List PlacedLeaf} → Split x y (leaves_of_tour i) (leaves_of_contents h.contents ++ leaves_of_tour j) ms
+        → ((zs : List PlacedLeaf) → Replaced x y (leaves_of_tour i) zs → All Kept C)
+        → ((zs : List PlacedLeaf) → Replaced x y (leaves_of_tour j) zs → All Kept D)
         → All Kept (C ++ region_of s p t ∷ D)
     in_any (in_first {ns = ns} k f) own rest = in_own k (own ns k)
     in_any (in_later {ns = ns} k f) own rest = go (split (leaves_of_contents h.contents) k)
@@ -224,7 +224,7 @@ module _ (s : Schema) (laid : LaidOut s) (bytes new b : List ℕ) (x y : Leaf) (
         go (in_first l g) = in_this l
         go (in_later {ns = zs} l g) = in_rest l (rest zs l)
 
-  tour_kept : {pending : List ℕ} {seen last : Seen} {O : List Pointer} {C : List Region} (i : Tour s bytes pending seen O C last) (start stop : ℕ) → Rising start C stop → {ms : List Leaf} → Replaced x y (leaves_of_tour i) ms → All Kept C
+  tour_kept : {pending : List ℕ} {seen last : Seen} {O : List Pointer} {C : List Region} (i : Tour s bytes pending seen O C last) (start stop : ℕ) → Rising start C stop → {ms : List PlacedLeaf} → Replaced x y (leaves_of_tour i) ms → All Kept C
   tour_kept tour_end start stop rising k = All-nil Kept
   tour_kept (tour_unique {p = p} {t = t} {C = C} {D = D} e h i j) start stop rising k =
       let front = rising_front start C (region_of s p t) D stop rising in
@@ -238,7 +238,7 @@ module _ (s : Schema) (laid : LaidOut s) (bytes new b : List ℕ) (x y : Leaf) (
       (λ zs l. tour_kept i start t front l) (λ zs l. tour_kept j (t + pointee_size s p.pointee p.length) stop back l)
   tour_kept (tour_again e t known free j) start stop rising k = tour_kept j start stop rising k
 
-  accepted_kept : {root : ℕ} {X : Shape} (a : Accepted s bytes root X) {ms : List Leaf} → Replaced x y (leaves_of a) ms → All Kept (regions_of a)
+  accepted_kept : {root : ℕ} {X : Shape} (a : Accepted s bytes root X) {ms : List PlacedLeaf} → Replaced x y (leaves_of a) ms → All Kept (regions_of a)
   accepted_kept {root = root} {X = X} a {ms} k = go (split (leaves_of_tour a.tour) k)
     where
       front : Rising 0 a.regions root
@@ -321,17 +321,17 @@ module _ (s : Schema) (laid : LaidOut s) (bytes new b : List ℕ) (x y : Leaf) (
   string_step inline (contents_one (reads_inline i u)) (contents_one (reads_out_of_line j l)) h = absurd (hole_kin h refl refl)
   string_step inline (contents_one (reads_out_of_line j l)) k h = absurd (inline j)
 
-  part_kept : {r : Region} {q : ℕ} {P : Pointee} {n : ℕ} {v w : Value} → PartOf s bytes r q P n → Contents s bytes r.begin r.pointee r.length v → Contents s new r.begin r.pointee r.length w → Kin x y v w
-      → PartOf s new r q P n × BothContents q P n
+  part_kept : {r : Region} {q : ℕ} {P : Pointee} {n : ℕ} {v w : Value} → PartOfRegion s bytes r q P n → Contents s bytes r.begin r.pointee r.length v → Contents s new r.begin r.pointee r.length w → Kin x y v w
+      → PartOfRegion s new r q P n × BothContents q P n
   part_kept {v = v} {w = w} whole_region c k h = (whole_region, (v, w, c, k, h))
   part_kept (in_one e i) c k h = let (j, both) = one_step i (rw e at c) (rw e at k) h in (in_one e j, both)
   part_kept (in_run e below i) c k h = let (j, both) = run_step below i (rw e at c) (rw e at k) h in (in_run e below j, both)
   part_kept {r = r} (in_string {q = q} i inline) c k h =
       let (j, (v, w, a, f, g)) = part_kept i c k h in
       let (now, size, both) = string_step inline a f g in
-      (subst (λ m. PartOf s new r q text m) size (in_string j now), both)
+      (subst (λ m. PartOfRegion s new r q text m) size (in_string j now), both)
 
-  parts_stay : {root : ℕ} {X : Shape} (a : Accepted s bytes root X) {ms : List Leaf} → IsFree a x → Replaced x y (leaves_of a) ms → (c : Accepted s new root X) → (q : ℕ) (P : Pointee) (n : ℕ)
+  parts_stay : {root : ℕ} {X : Shape} (a : Accepted s bytes root X) {ms : List PlacedLeaf} → IsFree a x → Replaced x y (leaves_of a) ms → (c : Accepted s new root X) → (q : ℕ) (P : Pointee) (n : ℕ)
       → PartOfSome s bytes (regions_of a) q P n → PartOfSome s new (regions_of c) q P n
   parts_stay {root = root} {X = X} a {ms} free k c q P n (r, i, j) =
       let still : StillAccepted s bytes new root X a ms = accepted_renewed s laid bytes new b a free k o d in
@@ -340,7 +340,7 @@ module _ (s : Schema) (laid : LaidOut s) (bytes new b : List ℕ) (x y : Leaf) (
       (r, rw same i, (part_kept j f g h).0)
 
   -- what a seal comes to says the same as before, but for the leaf
-  module _ {root : ℕ} {X : Shape} (a : Accepted s bytes root X) {ms : List Leaf} (k : Replaced x y (leaves_of a) ms) where
+  module _ {root : ℕ} {X : Shape} (a : Accepted s bytes root X) {ms : List PlacedLeaf} (k : Replaced x y (leaves_of a) ms) where
     there_both : {q n : ℕ} {P : Pointee} → ComesTo s bytes root X q P n → BothContents q P n
     there_both h =
         let (r, i, j) = come_part s bytes a h in
@@ -370,8 +370,8 @@ module _ (s : Schema) (laid : LaidOut s) (bytes new b : List ℕ) (x y : Leaf) (
         to_value (come_kept h) target (rw count below)
 
 -- where legal bytes are written over a leaf
-module _ (bytes new b : List ℕ) (x y : Leaf) (o : Overwrites b x y) (e : new ≡ edit bytes (leaf_begin x) b) where
-  edits_at : (s : Schema) → LaidOut s → {root : ℕ} {X : Shape} (a : Accepted s bytes root X) {ms : List Leaf} → Replaced x y (leaves_of a) ms → Edits bytes new (leaf_begin x) b
+module _ (bytes new b : List ℕ) (x y : PlacedLeaf) (o : Overwrites b x y) (e : new ≡ edit bytes (leaf_begin x) b) where
+  edits_at : (s : SchemaTable) → LaidOut s → {root : ℕ} {X : Shape} (a : Accepted s bytes root X) {ms : List PlacedLeaf} → Replaced x y (leaves_of a) ms → Edits bytes new (leaf_begin x) b
   edits_at s laid a k =
       let edits : Edits bytes (edit bytes (leaf_begin x) b) (leaf_begin x) b = edit_edits bytes (leaf_begin x) b (omega (arith, leaf_fits s laid bytes a k, overwrites_size o)) in
       rw e edits
@@ -385,7 +385,7 @@ module _ (bytes new b : List ℕ) (x y : Leaf) (o : Overwrites b x y) (e : new �
 
   -- so seals and views of one archive, of which a seal shows the leaf, stay such
   module _ (q : ℕ) (P : Pointee) (n : ℕ) (stands : StandsIn bytes q P n x) (free : IsFreeIn bytes q P n x) where
-    together : {s : Schema} {seals views : List View} → LaidOut s → Contains seals (view q P n) → LieTogether s bytes seals views → LieTogether s new seals views
+    together : {s : SchemaTable} {seals views : List View} → LaidOut s → Contains seals (view q P n) → LieTogether s bytes seals views → LieTogether s new seals views
     together {s = s} {seals = seals} laid c l =
         let here : ComesTo s bytes l.root l.shape q P n = All-contains (λ v. ComesTo s bytes l.root l.shape v.begin v.pointee v.length) seals (view q P n) l.come_to c in
         let has : Contains (leaves_of l.accepted) x = stands s l.root l.shape l.accepted (come_part s bytes l.accepted here) in

@@ -9,7 +9,7 @@ use Rattle.archive_check.specs.Definitions.{Definitions}
 use Rattle.archive_check.specs.Value.{Value, pointers}
 use Rattle.archive_check.specs.Reads.{Reads}
 use Rattle.archive_check.specs.Tour.{Region, Entry, Accepted, root_region}
-use Rattle.archive_check.specs.Denotes.{IsSharedValue, rename}
+use Rattle.archive_check.specs.Denotes.{Naming, IsSharedValue, rename}
 use Rattle.archive_check.specs.Tightness.{Tight}
 use Rattle.archive_check.specs.CleanRegions.{Occurs, CleanRegions}
 use Rattle.archive_check.specs.WriterState.{WriterState}
@@ -22,7 +22,7 @@ use Rattle.archive_check.proofs.Tours.StandingBytes.{stands_zero, zero_nowhere, 
 use Rattle.archive_check.proofs.Tours.CleanRegions.{regions_clean}
 use Rattle.archive_check.proofs.Tours.Tightness.{tight_append, clean_regions_append, ArePositive, positive_append, sized_append, tour_positive, tour_sized, rising_lower, tight_rises}
 use Rattle.archive_check.proofs.Checks.AcceptedWalks.{reads_of}
-use Rattle.archive_types.specs.Writing.{Naming, IsKeyed, World, Covers, Known as KnownKeys, Unseen, Found, Appends, LaysOut, Archives}
+use Rattle.archive_types.specs.Writing.{IsKeyed, World, Covers, Known as KnownKeys, Unseen, Found, Appends, LaysOut, Archives}
 use Rattle.archive_types.proofs.Writing.Denoting.{InTheEnd, same_in_the_end, rename_plain}
 
 abbrev position_in : Option (Option ℕ) → ℕ

@@ -6,7 +6,7 @@ use Rattle.archive_check.specs.Members.PartsLayout.{knows_right}
 use Rattle.archive_check.specs.Words.BoundedSizes.{fits}
 use Rattle.archive_check.specs.MissingNames.{missing}
 use Rattle.archive_check.specs.SelfCheck.Orders.{IsOrder}
-use Rattle.archive_check.specs.SelfCheck.Laws.{IsCheckOf, by_schema, named_leads}
+use Rattle.archive_check.specs.SelfCheck.Laws.{IsCheckOf, by_schema, named_checks_as}
 
 -- its parts hold no name, also behind pointers, and bring no definition; a table finds the name
 module _ (name : Name) (ps : Parts) (D : Definitions) (found : definition ((name, parts ps) ∷ []) name ≡ Some (parts ps)) (alone : missing true ((name, parts ps) ∷ []) (parts ps) ≡ None)
@@ -29,6 +29,6 @@ named_check {name = name} {ps = ps} {D = D} within small found alone first empty
   order = (name, parts ps) ∷ [];
   ordered = name_order name ps D found alone first empty;
   known = λ t k. knows_right t (defines name (parts ps)) D k;
-  leads = λ t k. named_leads t name (parts ps) k.has.0;
+  leads = λ t k. named_checks_as t name (parts ps) k.has.0;
   plain = λ says. by_schema says;
 }

@@ -7,7 +7,7 @@ use Rattle.archive_check.specs.Shape.{Flavor, Shape, Pointee, one}
 use Rattle.archive_check.specs.Layout.{has_length}
 use Rattle.archive_check.specs.Definitions.{Definitions}
 use Rattle.archive_check.specs.Value.{Value, shared_value, hole}
-use Rattle.archive_check.specs.Reads.{Schema, length_at, pointer_at}
+use Rattle.archive_check.specs.Reads.{SchemaTable, length_at, pointer_at}
 use Rattle.archive_check.specs.Tour.{Contents}
 use Rattle.archive_check.specs.Denotes.{Naming}
 use Rattle.archive_check.specs.Pooled.{Kept, EntryState, Entries}
@@ -51,7 +51,7 @@ pub record LeadsHere (bytes : List ℕ) (q m : ℕ) (X : Shape) (P : Pointee) (t
   pub flavor : Flavor
   pub target : (pointer_at bytes q (Some flavor) P).target ≡ pos t
   pub length : length_at bytes q P ≡ n
-  pub reads : (s : Schema) (v : Value) → Contents s bytes q (one X) m v → v ≡ hole (pointer_at bytes q (Some flavor) P)
+  pub reads : (s : SchemaTable) (v : Value) → Contents s bytes q (one X) m v → v ≡ hole (pointer_at bytes q (Some flavor) P)
 
 -- each pointer to P at t is read back as the name of what is kept
 abbrev pub ReadsShared : Bool → Definitions → List ℕ → ℕ → Pointee → ℕ → Entries → Entries → Kept → Type 0

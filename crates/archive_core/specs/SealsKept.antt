@@ -1,26 +1,26 @@
 -- What seals come to, and what else an archive has, where a leaf is written over that no key has a byte of.
 use Rattle.std.specs.Prelude.{ℕ, List, All, Contains}
 use Rattle.archive_check.specs.Shape.{Shape, Pointee}
-use Rattle.archive_check.specs.Reads.{Schema, LaidOut}
+use Rattle.archive_check.specs.Reads.{SchemaTable, LaidOut}
 use Rattle.archive_check.specs.Tour.{Accepted}
 use Rattle.archive_check.specs.ComesTo.{ComesTo}
-use Rattle.archive_check.specs.Leaves.{Leaf, leaves_of, regions_of, IsFree}
+use Rattle.archive_check.specs.Leaves.{PlacedLeaf, leaves_of, regions_of, IsFree}
 use Rattle.archive_check.specs.Within.{PartOfSome}
 use Rattle.archive_check.specs.Definitions.{Definitions, Knows}
 use Rattle.archive_types.specs.Standing.{View}
 
 -- wherever seals come to the P at q, with its length, the leaf x is no key's
-abbrev pub IsFreeIn : List ℕ → ℕ → Pointee → ℕ → Leaf → Type 0
-IsFreeIn bytes q P n x = (s : Schema) (root : ℕ) (X : Shape) → LaidOut s → (a : Accepted s bytes root X) → ComesTo s bytes root X q P n → IsFree a x
+abbrev pub IsFreeIn : List ℕ → ℕ → Pointee → ℕ → PlacedLeaf → Type 0
+IsFreeIn bytes q P n x = (s : SchemaTable) (root : ℕ) (X : Shape) → LaidOut s → (a : Accepted s bytes root X) → ComesTo s bytes root X q P n → IsFree a x
 
 -- Under each schema and each root under which the old bytes are accepted and the leaf stands in them, free of keys, the parts of the archive are parts of
 -- it in the new bytes, too.
-pub record KeepsParts (x : Leaf) (old new : List ℕ) : Type 0 where
-  pub parts : (s : Schema) (root : ℕ) (X : Shape) → LaidOut s → (a : Accepted s old root X) → Contains (leaves_of a) x → IsFree a x → (c : Accepted s new root X)
+pub record KeepsParts (x : PlacedLeaf) (old new : List ℕ) : Type 0 where
+  pub parts : (s : SchemaTable) (root : ℕ) (X : Shape) → LaidOut s → (a : Accepted s old root X) → Contains (leaves_of a) x → IsFree a x → (c : Accepted s new root X)
       → (q : ℕ) (P : Pointee) (n : ℕ) → PartOfSome s old (regions_of a) q P n → PartOfSome s new (regions_of c) q P n
 
 -- all of these are of one archive, as far as the schema tells: seals come to the first from its root, the others are parts of it
-pub record LieTogether (s : Schema) (bytes : List ℕ) (seals views : List View) : Type 0 where
+pub record LieTogether (s : SchemaTable) (bytes : List ℕ) (seals views : List View) : Type 0 where
   pub root : ℕ
   pub shape : Shape
   pub accepted : Accepted s bytes root shape
@@ -29,7 +29,7 @@ pub record LieTogether (s : Schema) (bytes : List ℕ) (seals views : List View)
 
 -- they are so under some schema that knows the definitions
 abbrev pub SealedTogether : Definitions → List ℕ → List View → List View → Type 0
-SealedTogether D bytes seals views = ∥ ((s : Schema) × Knows s D × LieTogether s bytes seals views) ∥₁
+SealedTogether D bytes seals views = ∥ ((s : SchemaTable) × Knows s D × LieTogether s bytes seals views) ∥₁
 
 -- Seals and views of one archive, where one of the seals shows v, stay seals and views of one archive.
 pub record KeepsSeals (old new : List ℕ) (v : View) : Type 0 where
@@ -37,5 +37,5 @@ pub record KeepsSeals (old new : List ℕ) (v : View) : Type 0 where
 
 -- Wherever seals come to what the first one shows, under a schema that knows the definitions, they come to what the second one shows.
 pub record ComesWith (D : Definitions) (bytes : List ℕ) (v u : View) : Type 0 where
-  pub comes : (s : Schema) (root : ℕ) (X : Shape) → Knows s D → Accepted s bytes root X
+  pub comes : (s : SchemaTable) (root : ℕ) (X : Shape) → Knows s D → Accepted s bytes root X
       → ComesTo s bytes root X v.begin v.pointee v.length → ComesTo s bytes root X u.begin u.pointee u.length

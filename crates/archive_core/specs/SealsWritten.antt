@@ -3,7 +3,7 @@ use Rattle.std.specs.Prelude.{◌≡◌, ℕ, ℤ, List, slice_index}
 use Rattle.archive_check.specs.Shape.{Kind, Pointee, one, str, text}
 use Rattle.archive_check.specs.ComesTo.{IsComeTo}
 use Rattle.archive_check.specs.Reads.{bytes_at}
-use Rattle.archive_check.specs.Leaves.{Leaf, edit, number_leaf, text_leaf}
+use Rattle.archive_check.specs.Leaves.{PlacedLeaf, edit, number_leaf, text_leaf}
 use Rattle.archive_check.specs.Definitions.{Definitions}
 use Rattle.archive_check.specs.Revised.{WritesLeaf}
 use Rattle.archive_types.specs.Sealed.{StandsIn, leaf_at, string_leaf, text_begin}
@@ -30,7 +30,7 @@ pub record SealsPart {T U : Type 0} (D : Definitions) (P : Pointee) (E : Definit
 
 -- Over the leaf x, which stands in the P at q, y was written: in every archive in which x stands, no key's, it alone changes, and the parts stay parts.
 -- Where seals come to that P, x is no key's, and what they come to else, they come to as before.
-pub record WritesOver (x y : Leaf) (q : ℕ) (P : Pointee) (n : ℕ) (old new : List ℕ) : Type 0 where
+pub record WritesOver (x y : PlacedLeaf) (q : ℕ) (P : Pointee) (n : ℕ) (old new : List ℕ) : Type 0 where
   pub stands : StandsIn old q P n x
   pub free : IsFreeIn old q P n x
   pub leaf : WritesLeaf x y old new

@@ -6,7 +6,7 @@ use Rattle.archive_check.specs.Shape.{Shape, Pointee, one, run, text}
 use Rattle.archive_check.specs.Layout.{has_length}
 use Rattle.archive_check.specs.Definitions.{Definitions, no_definition, Knows}
 use Rattle.archive_check.specs.Value.{Value, list, text_value, Values}
-use Rattle.archive_check.specs.Reads.{Schema, bytes_at, ReadsRun, reads_none, reads_element}
+use Rattle.archive_check.specs.Reads.{SchemaTable, bytes_at, ReadsRun, reads_none, reads_element}
 use Rattle.archive_check.specs.Tour.{Contents, contents_run, contents_text}
 use Rattle.archive_check.specs.Denotes.{Naming, Fills, fills_text, fills_list, FillsAll, fills_value}
 use Rattle.archive_check.specs.Viewed.{Lies, Viewed}
@@ -20,7 +20,7 @@ pub one_spans : (D : Definitions) (P : Pointee) (X : Shape) → P ≡ one X → 
 one_spans D P X is v bytes t n none viewed says = sym (none (ap has_length is))
 
 -- where it is so in each schema in which it lies there, it is so
-by_schema : (D : Definitions) (P : Pointee) (bytes : List ℕ) (t n count : ℕ) → Viewed D bytes t P n → ((s : Schema) → Knows s D → Lies s bytes t P n → count ≡ n) → count ≡ n
+by_schema : (D : Definitions) (P : Pointee) (bytes : List ℕ) (t n count : ℕ) → Viewed D bytes t P n → ((s : SchemaTable) → Knows s D → Lies s bytes t P n → count ≡ n) → count ≡ n
 by_schema D P bytes t n count viewed f =
     let below : count ≤ n = ∥∥₁_elim viewed le_prop (λ (s, k, l). let e = f s k l in omega (arith, e)) in
     let above : n ≤ count = ∥∥₁_elim viewed le_prop (λ (s, k, l). let e = f s k l in omega (arith, e)) in
@@ -28,7 +28,7 @@ by_schema D P bytes t n count viewed f =
 
 -- a text
 
-text_is : {s : Schema} {bytes : List ℕ} {t n : ℕ} {v : Value} {xs : List ℕ} → Contents s bytes t text n v → Fills s bytes v (text_value xs) → xs ≡ bytes_at bytes t n
+text_is : {s : SchemaTable} {bytes : List ℕ} {t n : ℕ} {v : Value} {xs : List ℕ} → Contents s bytes t text n v → Fills s bytes v (text_value xs) → xs ≡ bytes_at bytes t n
 text_is (contents_text u) fills_text = refl
 
 pub text_spans : (xs : List ℕ) → Spans no_definition text (length xs) (text_value xs)
@@ -38,13 +38,13 @@ text_spans xs bytes t n none viewed says = by_schema no_definition text bytes t 
 
 -- a slice
 
-run_is : {A : Type 0} {s : Schema} {bytes : List ℕ} {X : Shape} (m : A → Value) (xs : List A) {t n : ℕ} {vs : Values} → ReadsRun s bytes t n X vs → FillsAll s bytes vs (each_meaning m xs) → length xs ≡ n
+run_is : {A : Type 0} {s : SchemaTable} {bytes : List ℕ} {X : Shape} (m : A → Value) (xs : List A) {t n : ℕ} {vs : Values} → ReadsRun s bytes t n X vs → FillsAll s bytes vs (each_meaning m xs) → length xs ≡ n
 run_is m [] reads_none f = refl
 run_is m [] (reads_element r h) f = elim f [ ]
 run_is m (x ∷ xs) reads_none f = elim f [ ]
 run_is m (x ∷ xs) (reads_element r h) (fills_value g f) = ap suc (run_is m xs h f)
 
-slice_is : {A : Type 0} {s : Schema} {bytes : List ℕ} {t n : ℕ} {X : Shape} (m : A → Value) (xs : List A) {v : Value} → Contents s bytes t (run X) n v → Fills s bytes v (list (each_meaning m xs)) → length xs ≡ n
+slice_is : {A : Type 0} {s : SchemaTable} {bytes : List ℕ} {t n : ℕ} {X : Shape} (m : A → Value) (xs : List A) {v : Value} → Contents s bytes t (run X) n v → Fills s bytes v (list (each_meaning m xs)) → length xs ≡ n
 slice_is m xs (contents_run h) (fills_list f) = run_is m xs h f
 
 pub slice_spans : {A : Type 0} (D : Definitions) (X : Shape) (m : A → Value) (xs : List A) → Spans D (run X) (length xs) (list (each_meaning m xs))

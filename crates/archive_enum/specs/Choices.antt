@@ -6,7 +6,7 @@ use Rattle.std.proofs.lemmas.List.{append-nil}
 use Rattle.std.proofs.lemmas.Bool.Decides.{nat_tests}
 use Rattle.archive_check.specs.Shape.{Name, Shape, choice, no_part, part, no_variant, variant, variant_at}
 use Rattle.archive_check.specs.Layout.{Layout, up, size_of, align_of}
-use Rattle.archive_check.specs.Reads.{Schema}
+use Rattle.archive_check.specs.Reads.{SchemaTable}
 use Rattle.archive_check.specs.Defined.{Mentions, mentions_choice, mentions_other, mentions_variant, mentions_first}
 use Rattle.archive_check.specs.Definitions.{Definitions, no_definition, both, Knows, NoOthers, HasLayout, IsAlign}
 use Rattle.archive_check.specs.Members.NoOthers.{around_reached}
@@ -91,7 +91,7 @@ no_more n = grind (arith, nat_tests)
 small_fits : (n : ℕ) → IsTrue (nat_lt n 18446744073709551615) → fits n ≡ Some n
 small_fits n h = grind (arith, nat_tests)
 
-known_below : (D : Definitions) (s : Schema) → Knows s D → Knows s (option_definitions D)
+known_below : (D : Definitions) (s : SchemaTable) → Knows s D → Knows s (option_definitions D)
 known_below D s k = record {
   has = (tt, ((k.has, tt), tt));
   finite = λ name Y c. k.finite name Y (simp append-nil at c);

@@ -6,7 +6,7 @@ use Rattle.std.proofs.lemmas.List.{append-nil}
 use Rattle.archive_check.specs.Shape.{Name, Shape, choice, no_part, part, Variants, no_variant, variant, variant_at, Table}
 use Rattle.archive_check.specs.Layout.{Layout, up, size_of, align_of}
 use Rattle.archive_check.specs.Defined.{Mentions, mentions_choice, mentions_other, mentions_variant, mentions_first}
-use Rattle.archive_check.specs.Reads.{Schema}
+use Rattle.archive_check.specs.Reads.{SchemaTable}
 use Rattle.archive_check.specs.Definitions.{Definitions, no_definition, both, listed, Knows, NoOthers, HasLayout, IsAlign}
 use Rattle.archive_check.specs.Members.NoOthers.{around_reached, both_reached}
 use Rattle.archive_check.specs.Members.PartsLayout.{knows_left, knows_right}
@@ -75,7 +75,7 @@ error_mentions X Y n m = mentions_choice (mentions_other (mentions_variant (ment
 pub result_reached : (D E : Definitions) (X Y : Shape) → NoOthers D X → NoOthers E Y → NoOthers (both D E) (result_shape X Y)
 result_reached D E X Y h k = both_reached D E (result_shape X Y) (around_reached D X (result_shape X Y) (value_mentions X Y) h) (around_reached E Y (result_shape X Y) (error_mentions X Y) k)
 
-known_in_variants : (D E : Definitions) (s : Schema) → Knows s (both D E) → Knows s (result_definitions D E)
+known_in_variants : (D E : Definitions) (s : SchemaTable) → Knows s (both D E) → Knows s (result_definitions D E)
 known_in_variants D E s k = record {
   has = ((k.has.0, tt), ((k.has.1, tt), tt));
   finite = λ name Y c. k.finite name Y (simp append-nil at c);

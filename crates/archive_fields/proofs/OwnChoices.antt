@@ -6,14 +6,14 @@ use Rattle.archive_check.specs.Layout.{Layout, size_of}
 use Rattle.archive_check.specs.Definitions.{Definitions, Knows, HasLayout}
 use Rattle.archive_check.specs.Members.VariantsLayout.{IsChoice}
 use Rattle.archive_check.specs.Value.{case, Values}
-use Rattle.archive_check.specs.Reads.{Schema, Reads, reads_choice}
-use Rattle.archive_check.specs.Denotes.{fills_case}
+use Rattle.archive_check.specs.Reads.{SchemaTable, Reads, reads_choice}
+use Rattle.archive_check.specs.Denotes.{Naming, fills_case}
 use Rattle.archive_check.specs.Reached.{names_case}
 use Rattle.archive_check.specs.CleanRegions.{clean_choice}
 use Rattle.archive_check.specs.WriterState.{KeyStates, WriterState}
 use Rattle.archive_check.specs.declared.format.error.Error.{Error}
 use Rattle.archive_check.proofs.Tours.StandingBytes.{stands_back}
-use Rattle.archive_types.specs.Writing.{Naming, AreFinished, AllFinished, Writes, WritesAll, Resolves}
+use Rattle.archive_types.specs.Writing.{AreFinished, AllFinished, Writes, WritesAll, Resolves}
 use Rattle.archive_types.specs.Plans.{cursor, plans_choice, Serialized, serialized}
 use Rattle.archive_types.specs.Parts.{SerializedParts, serialized_parts, ArePartsRefused, ResolvesParts, HindersPartsAt}
 use Rattle.archive_types.specs.Members.PartsPlanned.{standing_plan}
@@ -33,7 +33,7 @@ writes_variant D old new ks tag vs xs h = record { added = h.added; grown = h.gr
 
 -- a choice with such a variant, which brings the definitions F
 module _ (D : Definitions) (X : Shape) (name : Name) (E : Definitions) (vs : Variants) (is : IsChoice D X name E vs) (tag : ℕ) (ps : Parts) (at : variant_at vs tag ≡ Some ps) (F : Definitions) (its : variant_definitions E tag ≡ F) where
-  pub knows_its : (s : Schema) → Knows s D → Knows s F
+  pub knows_its : (s : SchemaTable) → Knows s D → Knows s F
   knows_its s k = subst (λ G. Knows s G) its (knows_variant s E tag (is.known s k))
 
   module _ (ks : List Naming) (us : Values) (old new : WriterState) where

@@ -4,7 +4,7 @@ use Rattle.std.proofs.Math.Logic.{∥∥₁_map}
 use Rattle.archive_check.specs.declared.format.error.Error.{Error}
 use Rattle.archive_check.specs.Shape.{Name, Shape, choice, one, Parts, Variants, variant_at}
 use Rattle.archive_check.specs.Value.{Pointer, Value, case, pointers, all_pointers, Values}
-use Rattle.archive_check.specs.Reads.{Schema, Reads, reads_choice, reads_named, ReadsParts}
+use Rattle.archive_check.specs.Reads.{SchemaTable, Reads, reads_choice, reads_named, ReadsParts}
 use Rattle.archive_check.specs.Tour.{Contents, contents_one}
 use Rattle.archive_check.specs.Denotes.{Naming, Fills, fills_case}
 use Rattle.archive_check.specs.Definitions.{Definitions, Knows}
@@ -24,26 +24,26 @@ use Rattle.archive_fields.proofs.OwnChoices.{knows_its}
 use Rattle.archive_types.proofs.Reading.ReadRecords.{keeps_itself, Tail, TailRead, tail_read, tail_meets}
 
 -- what is read of a choice
-record IsCase (s : Schema) (bytes : List ℕ) (q tag : ℕ) (ps : Parts) (v : Value) : Type 0 where
+record IsCase (s : SchemaTable) (bytes : List ℕ) (q tag : ℕ) (ps : Parts) (v : Value) : Type 0 where
   pub values : Values
   pub is : v ≡ case tag values
   pub reads : ReadsParts s bytes q 1 ps values
 
-choice_reads : {s : Schema} {bytes : List ℕ} {q tag : ℕ} {ps : Parts} {name : Name} {vs : Variants} {v : Value} → slice_index bytes q ≡ tag → variant_at vs tag ≡ Some ps → Reads s bytes q (choice name vs) v → IsCase s bytes q tag ps v
+choice_reads : {s : SchemaTable} {bytes : List ℕ} {q tag : ℕ} {ps : Parts} {name : Name} {vs : Variants} {v : Value} → slice_index bytes q ≡ tag → variant_at vs tag ≡ Some ps → Reads s bytes q (choice name vs) v → IsCase s bytes q tag ps v
 choice_reads {s = s} {bytes = bytes} {q = q} {ps = ps} first at (reads_choice {ps = rs} {vs = us} e r) = let same : rs ≡ ps = some_same (sym e ∙ ap (variant_at _) first ∙ at) in record { values = us; is = ap (λ t. case t us) first; reads = subst (λ z. ReadsParts s bytes q 1 z us) same r }
   where
     some_same : {A : Type 0} {x y : A} → Some x ≡ Some y → x ≡ y
     some_same e = cc
 
-standing_reads_case : {s : Schema} {bytes : List ℕ} {q tag : ℕ} {ps : Parts} {name : Name} {vs : Variants} {X : Shape} {v : Value} → slice_index bytes q ≡ tag → variant_at vs tag ≡ Some ps → StandsFor s (choice name vs) X → Reads s bytes q X v → IsCase s bytes q tag ps v
+standing_reads_case : {s : SchemaTable} {bytes : List ℕ} {q tag : ℕ} {ps : Parts} {name : Name} {vs : Variants} {X : Shape} {v : Value} → slice_index bytes q ≡ tag → variant_at vs tag ≡ Some ps → StandsFor s (choice name vs) X → Reads s bytes q X v → IsCase s bytes q tag ps v
 standing_reads_case first at for_itself r = choice_reads first at r
 standing_reads_case {name = name} {vs = vs} first at (by_name d) (reads_named {X = Y} e r) = let same : Y ≡ choice name vs = cc in choice_reads first at (rw same at r)
 
-choice_contents : {s : Schema} {bytes : List ℕ} {q n tag : ℕ} {ps : Parts} {name : Name} {vs : Variants} {X : Shape} {v : Value} → slice_index bytes q ≡ tag → variant_at vs tag ≡ Some ps → StandsFor s (choice name vs) X → Contents s bytes q (one X) n v
+choice_contents : {s : SchemaTable} {bytes : List ℕ} {q n tag : ℕ} {ps : Parts} {name : Name} {vs : Variants} {X : Shape} {v : Value} → slice_index bytes q ≡ tag → variant_at vs tag ≡ Some ps → StandsFor s (choice name vs) X → Contents s bytes q (one X) n v
     → IsCase s bytes q tag ps v
 choice_contents first at st (contents_one r) = standing_reads_case first at st r
 
-choice_within : {s : Schema} {bytes : List ℕ} {q r tag : ℕ} {ps : Parts} {name : Name} {vs : Variants} {X Y : Shape} → slice_index bytes q ≡ tag → variant_at vs tag ≡ Some ps → StandsFor s (choice name vs) X → IsPart s q 1 ps r Y → Within s bytes q X r Y
+choice_within : {s : SchemaTable} {bytes : List ℕ} {q r tag : ℕ} {ps : Parts} {name : Name} {vs : Variants} {X Y : Shape} → slice_index bytes q ≡ tag → variant_at vs tag ≡ Some ps → StandsFor s (choice name vs) X → IsPart s q 1 ps r Y → Within s bytes q X r Y
 choice_within first at for_itself i = in_choice whole (rw first at) i
 choice_within first at (by_name d) i = in_choice (in_named whole d) (rw first at) i
 
@@ -66,10 +66,10 @@ module _ (D : Definitions) (X : Shape) (name : Name) (E : Definitions) (vs : Var
     all_read : TailRead D bytes q (one X) n keeps ps 1 old new us keys
     all_read = tail_read D bytes q (one X) n variant_tail h
 
-    fills_choice : AreNamedByPosition old → (s : Schema) (v : Value) → Knows s D → Lies s bytes q (one X) n → Contents s bytes q (one X) n v → Fills s bytes v (case tag us)
+    fills_choice : AreNamedByPosition old → (s : SchemaTable) (v : Value) → Knows s D → Lies s bytes q (one X) n → Contents s bytes q (one X) n v → Fills s bytes v (case tag us)
     fills_choice by s v k l c = let p = choice_contents first at (is.stands s k) c in rw p.is (fills_case (all_read.fills by s p.values k l p.reads))
 
-    unmet_choice : (s : Schema) → Knows s D → (l : Lies s bytes q (one X) n) → MeetsOpen s bytes old [] q (one X) n → ⊥
+    unmet_choice : (s : SchemaTable) → Knows s D → (l : Lies s bytes q (one X) n) → MeetsOpen s bytes old [] q (one X) n → ⊥
     unmet_choice s k l m =
         let b = by_pointer s bytes m in
         let p = choice_contents first at (is.stands s k) b.contents in

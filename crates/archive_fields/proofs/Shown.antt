@@ -3,12 +3,12 @@ use Rattle.std.proofs.Common.{◌≡◌, ℕ, zero, suc, ◌+◌, ◌≤◌, len
 use Rattle.archive_check.specs.Shape.{Name, Shape, choice, Pointee, one, Parts, part, no_part, Variants, variant_at, definition}
 use Rattle.archive_check.specs.Layout.{up, size_of, align_of}
 use Rattle.archive_check.specs.Value.{Value, case, Values}
-use Rattle.archive_check.specs.Reads.{Schema, Reads, reads_choice, reads_named, ReadsParts, reads_part, reads_no_part}
+use Rattle.archive_check.specs.Reads.{SchemaTable, Reads, reads_choice, reads_named, ReadsParts, reads_part, reads_no_part}
 use Rattle.archive_check.specs.Tour.{Contents, contents_one}
 use Rattle.archive_check.specs.Denotes.{Fills, fills_case, FillsAll, fills_no_value, fills_value}
 use Rattle.archive_check.specs.Within.{Within, in_choice, IsPart}
 use Rattle.archive_check.specs.Definitions.{Definitions, Knows}
-use Rattle.archive_check.specs.Members.PartsLayout.{part_at, offset_at, StandsFor, for_itself, by_name}
+use Rattle.archive_check.specs.Members.PartsLayout.{part_at, offset_of_part, StandsFor, for_itself, by_name}
 use Rattle.archive_check.specs.Members.VariantsLayout.{payload_at, payload_offset, IsChoice}
 use Rattle.archive_check.specs.Viewed.{Lies, Viewed}
 use Rattle.archive_check.proofs.Viewing.Viewed.{lies_reached, reached_lies, lies_fits}
@@ -23,37 +23,37 @@ use Rattle.archive_types.specs.Views.{value_at, ShowsPart}
 use Rattle.archive_types.specs.Payloads.{payload_in}
 
 -- the value of a choice
-record IsCaseOf (s : Schema) (bytes : List ℕ) (q : ℕ) (vs : Variants) (v : Value) : Type 0 where
+record IsCaseOf (s : SchemaTable) (bytes : List ℕ) (q : ℕ) (vs : Variants) (v : Value) : Type 0 where
   its_parts : Parts
   values : Values
   is : v ≡ case (slice_index bytes q) values
   variant : variant_at vs (slice_index bytes q) ≡ Some its_parts
   reads : ReadsParts s bytes q 1 its_parts values
 
-case_reads : {s : Schema} {bytes : List ℕ} {q : ℕ} {name : Name} {vs : Variants} {v : Value} → Reads s bytes q (choice name vs) v → IsCaseOf s bytes q vs v
+case_reads : {s : SchemaTable} {bytes : List ℕ} {q : ℕ} {name : Name} {vs : Variants} {v : Value} → Reads s bytes q (choice name vs) v → IsCaseOf s bytes q vs v
 case_reads (reads_choice {ps = ps} {vs = xs} e rs) = record { its_parts = ps; values = xs; is = refl; variant = e; reads = rs }
 
-choice_contents : {s : Schema} {bytes : List ℕ} {q n : ℕ} {X : Shape} {name : Name} {vs : Variants} {v : Value} → StandsFor s (choice name vs) X → Contents s bytes q (one X) n v → IsCaseOf s bytes q vs v
+choice_contents : {s : SchemaTable} {bytes : List ℕ} {q n : ℕ} {X : Shape} {name : Name} {vs : Variants} {v : Value} → StandsFor s (choice name vs) X → Contents s bytes q (one X) n v → IsCaseOf s bytes q vs v
 choice_contents for_itself (contents_one r) = case_reads r
 choice_contents {name = name} {vs = vs} (by_name d) (contents_one (reads_named {X = Y} e r)) = let same : Y ≡ choice name vs = cc in case_reads (rw same at r)
 
 -- what is read as the part with an index, and what it is filled with
-pub filled_part : {s : Schema} {bytes : List ℕ} {q at : ℕ} {ps : Parts} {vs ws : Values} (i : ℕ) (Y : Shape) → part_at ps i ≡ Some Y → ReadsParts s bytes q at ps vs → FillsAll s bytes vs ws
-    → (x u : Value) × Reads s bytes (q + offset_at s.layouts at ps i) Y x × Fills s bytes x u × (value_at i ws ≡ Some u)
+pub filled_part : {s : SchemaTable} {bytes : List ℕ} {q at : ℕ} {ps : Parts} {vs ws : Values} (i : ℕ) (Y : Shape) → part_at ps i ≡ Some Y → ReadsParts s bytes q at ps vs → FillsAll s bytes vs ws
+    → (x u : Value) × Reads s bytes (q + offset_of_part s.layouts at ps i) Y x × Fills s bytes x u × (value_at i ws ≡ Some u)
 filled_part i Y e reads_no_part fs = cc
 filled_part {s = s} {bytes = bytes} {q = q} {at = at} zero Y e (reads_part {X = X} {v = v} r rs) (fills_value {w = w} f fs) =
     let same : X ≡ Y = cc e in
     (v, w, subst (λ Z. Reads s bytes (q + up at (align_of s.layouts X)) Z v) same r, f, refl)
 filled_part (suc i) Y e (reads_part r rs) (fills_value f fs) = filled_part i Y e rs fs
 
-case_filled : {s : Schema} {bytes : List ℕ} {q tag : ℕ} {ps : Parts} {xs : Values} {w : Value} (i : ℕ) (Y : Shape) → part_at ps i ≡ Some Y → ReadsParts s bytes q 1 ps xs → Fills s bytes (case tag xs) w
-    → (x u : Value) × Reads s bytes (q + offset_at s.layouts 1 ps i) Y x × Fills s bytes x u × (payload_in i w ≡ Some u)
+case_filled : {s : SchemaTable} {bytes : List ℕ} {q tag : ℕ} {ps : Parts} {xs : Values} {w : Value} (i : ℕ) (Y : Shape) → part_at ps i ≡ Some Y → ReadsParts s bytes q 1 ps xs → Fills s bytes (case tag xs) w
+    → (x u : Value) × Reads s bytes (q + offset_of_part s.layouts 1 ps i) Y x × Fills s bytes x u × (payload_in i w ≡ Some u)
 case_filled i Y e rs (fills_case fs) = filled_part i Y e rs fs
 
 module _ (D : Definitions) (X : Shape) (name : Name) (E : Definitions) (vs : Variants) (is : IsChoice D X name E vs) (bytes : List ℕ) (q n : ℕ) (P : Pointee) (one_is : P ≡ one X)
-    (i off : ℕ) (starts : (s : Schema) → Knows s D → payload_offset s.layouts vs (slice_index bytes q) i ≡ off) (Y : Shape) (at : payload_at vs (slice_index bytes q) i ≡ Some Y) where
+    (i off : ℕ) (starts : (s : SchemaTable) → Knows s D → payload_offset s.layouts vs (slice_index bytes q) i ≡ off) (Y : Shape) (at : payload_at vs (slice_index bytes q) i ≡ Some Y) where
   -- where the variant has it
-  begins : (s : Schema) → Knows s D → (ps : Parts) → variant_at vs (slice_index bytes q) ≡ Some ps → offset_at s.layouts 1 ps i ≡ off
+  begins : (s : SchemaTable) → Knows s D → (ps : Parts) → variant_at vs (slice_index bytes q) ≡ Some ps → offset_of_part s.layouts 1 ps i ≡ off
   begins s k ps e = sym (offset_is s vs (slice_index bytes q) i ps e) ∙ starts s k
 
   -- the part with an index of the variant that the tag names
@@ -74,7 +74,7 @@ module _ (D : Definitions) (X : Shape) (name : Name) (E : Definitions) (vs : Var
         (u, e ∙ ap Some same, j);
   })
 
-  pub payload_lies : (s : Schema) → Knows s D → Lies s bytes q P n → Lies s bytes (q + off) (one Y) 0
+  pub payload_lies : (s : SchemaTable) → Knows s D → Lies s bytes q P n → Lies s bytes (q + off) (one Y) 0
   payload_lies s k l =
       let (w, r) = lies_reached s bytes (rw one_is at l) in
       let h = is_payload vs (slice_index bytes q) i Y at in

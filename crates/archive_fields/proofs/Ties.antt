@@ -8,7 +8,7 @@ use Rattle.archive_check.specs.Shape.{Name, Shape, leaf, parts, choice, array, b
 use Rattle.archive_check.specs.Definitions.{Definitions, no_definition, defines, both, Knows, Has, listed}
 use Rattle.archive_check.specs.Members.PartsLayout.{IsRecord}
 use Rattle.archive_check.specs.Members.VariantsLayout.{IsChoice, payload_at, payload_offset}
-use Rattle.archive_check.specs.Reads.{Schema}
+use Rattle.archive_check.specs.Reads.{SchemaTable}
 use Rattle.archive_fields.specs.OwnChoices.{variant_definitions}
 use Rattle.archive_fields.specs.Plain.{variant_count, variant_in, part_in, BeginsAt, is_choice, are_none, plain_record, plain_choice}
 
@@ -97,7 +97,7 @@ pub record PartIn (D : Definitions) (X : Shape) (tag i offset : ℕ) (Y : Shape)
   pub variants : Variants
   pub is : X ≡ choice name variants
   pub at : payload_at variants tag i ≡ Some Y
-  pub starts : (s : Schema) → Knows s D → payload_offset s.layouts variants tag i ≡ offset
+  pub starts : (s : SchemaTable) → Knows s D → payload_offset s.layouts variants tag i ≡ offset
 
 pub part_of : {D : Definitions} → D ≡ no_definition → (X : Shape) (tag i : ℕ) (Y : Shape) → part_in X tag i ≡ Some Y → (offset : ℕ) → BeginsAt X tag i offset → PartIn D X tag i offset Y
 part_of none (choice name vs) tag i Y h offset b = record { name = name; variants = vs; is = refl; at = h; starts = λ s k. b s (rw none at k) }

@@ -6,12 +6,12 @@ use Rattle.archive_check.specs.Definitions.{Definitions, no_definition, defines,
 use Rattle.archive_check.specs.Members.PartsLayout.{IsRecord, for_itself}
 use Rattle.archive_check.specs.Members.VariantsLayout.{IsChoice, payload_at, payload_offset}
 use Rattle.archive_check.specs.Layout.{Layouts}
-use Rattle.archive_check.specs.Reads.{Schema}
+use Rattle.archive_check.specs.Reads.{SchemaTable}
 use Rattle.archive_check.specs.MissingNames.{missing}
 use Rattle.archive_check.specs.Words.BoundedSizes.{fits}
 use Rattle.archive_check.specs.SelfCheck.Laws.{IsCheckOf}
 use Rattle.archive_check.specs.Value.{Values, product, case}
-use Rattle.archive_types.specs.Writing.{Naming}
+use Rattle.archive_check.specs.Denotes.{Naming}
 use Rattle.archive_types.specs.Parts.{HavePlan}
 use Rattle.archive_types.specs.Members.PartsPlanned.{record_planned}
 use Rattle.archive_types.specs.Plans.{HasPlan}
@@ -36,13 +36,13 @@ listed_none no_definition h = refl
 listed_none (defines name X) h = cc
 listed_none (both D E) h = rw (listed_none D (first_true (are_none D) (are_none E) h), listed_none E (second_true (are_none D) (are_none E) h)) refl
 
-has_none : (s : Schema) (E : Definitions) → are_none E ≡ true → Has s E
+has_none : (s : SchemaTable) (E : Definitions) → are_none E ≡ true → Has s E
 has_none s no_definition h = tt
 has_none s (defines name X) h = cc
 has_none s (both D E) h = (has_none s D (first_true (are_none D) (are_none E) h), has_none s E (second_true (are_none D) (are_none E) h))
 
 -- Every schema knows definitions of no name.
-pub knows_plain : (E : Definitions) → are_none E ≡ true → (s : Schema) → Knows s no_definition → Knows s E
+pub knows_plain : (E : Definitions) → are_none E ≡ true → (s : SchemaTable) → Knows s no_definition → Knows s E
 knows_plain E plain s k = record { has = has_none s E plain; finite = λ n X c. k.finite n X (subst (λ t. Contains t (n, X)) (listed_none E plain) c); laid_out = k.laid_out }
 
 -- Parts without names are those of the record of them.
@@ -107,4 +107,4 @@ offset_in names _ tag i = zero
 
 -- That part begins at this offset, whatever names stand for.
 abbrev pub BeginsAt : Shape → ℕ → ℕ → ℕ → Type 0
-BeginsAt X tag i offset = (s : Schema) → Knows s no_definition → offset_in s.layouts X tag i ≡ offset
+BeginsAt X tag i offset = (s : SchemaTable) → Knows s no_definition → offset_in s.layouts X tag i ≡ offset

@@ -11,7 +11,7 @@ use Rattle.archive_check.specs.Shape.{Shape}
 use Rattle.archive_inspect.specs.declared.explain.FaultPlace.{FaultPlace}
 use Rattle.archive_schema.specs.declared.shape.Schema.{Schema as RustSchema}
 use Rattle.archive_schema.specs.Schemas.{definitions_in, root_of, IsSchemaOf}
-use Rattle.archive_check.specs.Reads.{Schema}
+use Rattle.archive_check.specs.Reads.{SchemaTable}
 use Rattle.archive_check.specs.Definitions.{Knows}
 use Rattle.archive_check.specs.Expressions.{entries_of}
 use Rattle.archive_check.proofs.Archives.{has_each}
@@ -42,7 +42,7 @@ module _ (D : Definitions) (bytes : List ℕ) (root : ℕ) (X : Shape) (well : W
   })
 
 -- what knows a type's definitions knows those that its schema keeps
-knows_kept : (f : RustSchema) (X : Shape) (D : Definitions) → IsSchemaOf f X D → (s : Schema) → Knows s D → Knows s (definitions_in f)
+knows_kept : (f : RustSchema) (X : Shape) (D : Definitions) → IsSchemaOf f X D → (s : SchemaTable) → Knows s D → Knows s (definitions_in f)
 knows_kept f X D made s k = record {
   has = defined_has s (entries_of f.definitions.items) (λ name Y c. has_each s D k.has name Y (found_stands (listed D) name Y (made.known name Y c)));
   finite = λ name Y c h. k.finite name Y (found_stands (listed D) name Y (made.known name Y c)) h;

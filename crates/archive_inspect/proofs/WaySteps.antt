@@ -15,7 +15,7 @@ use Rattle.archive_check.specs.Shape.{Name, Key, Flavor, Shape, parts, choice, a
 use Rattle.archive_check.specs.Layout.{Layout, layout, up, key_size, key_align, size_of, align_of}
 use Rattle.archive_check.specs.Expressions.{shape_of, shapes_in, variants_in, key_of, flavor_of}
 use Rattle.archive_check.specs.Value.{Pointer}
-use Rattle.archive_check.specs.Reads.{Schema, u32_at, i32_at, IsOutOfLine, decoded_length, pointer_at, map_at, string_at}
+use Rattle.archive_check.specs.Reads.{SchemaTable, u32_at, i32_at, IsOutOfLine, decoded_length, pointer_at, map_at, string_at}
 use Rattle.archive_check.specs.Definitions.{Knows, HasLayout}
 use Rattle.archive_schema.specs.Schemas.{definitions_in, root_of, layout_of}
 use Rattle.archive_inspect.proofs.EntryLayouts.{key_takes, entry_layout}
@@ -96,7 +96,7 @@ module _ (f : RustSchema) where
         left s know 0 q X count (subst (λ r. IsPartNumbered s p at r 0 q X) (sym is) here)
 
   -- a way leads to what its end means, too
-  module _ (s : Schema) (bytes : List ℕ) (root : ℕ) (X : Shape) (steps : List RouteStep) (p : ℕ) where
+  module _ (s : SchemaTable) (bytes : List ℕ) (root : ℕ) (X : Shape) (steps : List RouteStep) (p : ℕ) where
     pub leads_meant : {Y Z : Shape} → LeadsBy s bytes root X steps p (a_value Y) → MeantBy s Y Z → LeadsBy s bytes root X steps p (a_value Z)
     leads_meant h means_itself = h
     leads_meant h (means_more m d) = leads_named (leads_meant h m) d

@@ -10,7 +10,7 @@ use Rattle.archive_check.specs.Archives.{IsArchive, IsFaulty, root_in}
 use Rattle.archive_check.specs.Definitions.{Definitions, HasLayout, Knows}
 use Rattle.archive_check.specs.Layout.{Layout}
 use Rattle.archive_check.specs.Shape.{Shape}
-use Rattle.archive_check.specs.Reads.{Schema}
+use Rattle.archive_check.specs.Reads.{SchemaTable}
 use Rattle.archive_check.specs.Trail.{Fault}
 use Rattle.archive_check.specs.Words.Faults.{IsFor}
 use Rattle.archive_inspect.specs.Ways.{FaultBy}
@@ -23,7 +23,7 @@ pub record IsPlaceOf (D : Definitions) (bytes : List ℕ) (root : ℕ) (X : Shap
   pub whole : place.way.left_out ≡ 0
   pub told : place.fault.position ≡ pos at
   pub said : IsFor fault e
-  pub leads : (s : Schema) → Knows s D → FaultBy s bytes root X place.way.steps.items at fault
+  pub leads : (s : SchemaTable) → Knows s D → FaultBy s bytes root X place.way.steps.items at fault
 
 -- what is explained where a check answered with this error, which is no want of memory
 pub record ExplainsError (D : Definitions) (bytes : List ℕ) (root : ℕ) (X : Shape) (e : Error) (x : Explanation) : Type 0 where

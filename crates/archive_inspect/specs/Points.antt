@@ -17,7 +17,7 @@ use Rattle.archive_check.specs.Shape.{Name, Key, Flavor, Shape, leaf, choice, so
 use Rattle.archive_check.specs.Layout.{Layout, layout, kind_size, up, size_of, align_of}
 use Rattle.archive_check.specs.Expressions.{kind_of, shape_of, shapes_in, key_of, flavor_of}
 use Rattle.archive_check.specs.Value.{Pointer}
-use Rattle.archive_check.specs.Reads.{Schema, bytes_at, u32_at, i32_at, map_at, IsLegal, IsOutOfLine, before_end, decoded_length}
+use Rattle.archive_check.specs.Reads.{SchemaTable, bytes_at, u32_at, i32_at, map_at, IsLegal, IsOutOfLine, before_end, decoded_length}
 use Rattle.archive_check.specs.Keys.{ComesBehind}
 use Rattle.archive_check.specs.Tour.{region_of}
 use Rattle.archive_check.specs.Trail.{Fault, illegal}
@@ -61,16 +61,16 @@ pub record IsRunAt (bytes : List ℕ) (at : ℕ) (to : Pointed) (p : Pointing) :
   pub owned : p.flavor ≡ None
 
 -- under whatever knows the definitions of a schema
-abbrev pub Under : RustSchema → (Schema → Type 0) → Type 0
-Under f P = (s : Schema) → Knows s (definitions_in f) → P s
+abbrev pub Under : RustSchema → (SchemaTable → Type 0) → Type 0
+Under f P = (s : SchemaTable) → Knows s (definitions_in f) → P s
 
 -- what an X means: itself, or what its name is defined as, and so on
-pub data MeantBy (s : Schema) (X : Shape) : Shape → Type 0 where
+pub data MeantBy (s : SchemaTable) (X : Shape) : Shape → Type 0 where
   means_itself : MeantBy s X X
   means_more : {name : Name} {Y : Shape} → MeantBy s X (named name) → definition s.table name ≡ Some Y → MeantBy s X Y
 
 -- what a way leads to means: a value what its shape does, and anything itself
-pub data MeansEnd (s : Schema) : WayEnd → WayEnd → Type 0 where
+pub data MeansEnd (s : SchemaTable) : WayEnd → WayEnd → Type 0 where
   means_value : {X Y : Shape} → MeantBy s X Y → MeansEnd s (a_value X) (a_value Y)
   means_so : {e : WayEnd} → MeansEnd s e e
 
@@ -119,7 +119,7 @@ abbrev pub LeadsToPoint : RustSchema → List ℕ → ℕ → List RouteStep →
 LeadsToPoint f bytes root steps a = Under f (λ s. LeadsBy s bytes root (root_of f) steps a.at (end_of_way a.thing))
 
 -- what each element of a pointee takes: a text is of single bytes
-abbrev pub unit_layout : Schema → Pointee → Layout
+abbrev pub unit_layout : SchemaTable → Pointee → Layout
 unit_layout s (one X) = layout s.layouts X
 unit_layout s (run X) = layout s.layouts X
 unit_layout s text = record { size = 1; align = 1 }

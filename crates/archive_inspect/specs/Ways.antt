@@ -6,7 +6,7 @@ use Rattle.archive_inspect.specs.declared.route.RouteStep.TheVariants.{Part, Onl
 use Rattle.archive_check.specs.Shape.{Name, Kind, Key, Flavor, Shape, leaf, parts, choice, array, boxed, vec, sorted_map, str, shared, weak, named, Pointee, one, run, text, Parts, no_part, part, Variants, key_shape, entry_of, definition, variant_at}
 use Rattle.archive_check.specs.Layout.{up, kind_size, size_of, align_of}
 use Rattle.archive_check.specs.Value.{Pointer}
-use Rattle.archive_check.specs.Reads.{Schema, bytes_at, u32_at, i32_at, IsLegal, IsOutOfLine, before_end, decoded_length, pointer_at, map_at, string_at}
+use Rattle.archive_check.specs.Reads.{SchemaTable, bytes_at, u32_at, i32_at, IsLegal, IsOutOfLine, before_end, decoded_length, pointer_at, map_at, string_at}
 use Rattle.archive_check.specs.Keys.{ComesBehind}
 use Rattle.archive_check.specs.Tour.{region_of, root_pointer}
 use Rattle.archive_check.specs.Trail.{Fault, too_large, outside, unaligned, cyclic, other_type, other_length, illegal, no_such_variant, no_text, no_string, unsorted}
@@ -18,7 +18,7 @@ pub data WayEnd : Type 0 where
   a_text : ℕ → WayEnd
 
 -- Y, at q, is the part of this number, from 0 on, among those laid out from an offset on, of what begins at p
-pub data IsPartNumbered (s : Schema) (p : ℕ) : ℕ → Parts → ℕ → ℕ → Shape → Type 0 where
+pub data IsPartNumbered (s : SchemaTable) (p : ℕ) : ℕ → Parts → ℕ → ℕ → Shape → Type 0 where
   numbered_first : {at : ℕ} {X : Shape} {ps : Parts} → IsPartNumbered s p at (part X ps) 0 (p + up at (align_of s.layouts X)) X
   numbered_later : {at k q : ℕ} {X Y : Shape} {ps : Parts}
       → IsPartNumbered s p (up at (align_of s.layouts X) + size_of s.layouts X) ps k q Y
@@ -34,7 +34,7 @@ pub data PointsBy (bytes : List ℕ) (p : ℕ) : Shape → Pointer → Type 0 wh
   points_weak : {flavor : Flavor} {P : Pointee} → i32_at bytes p ≢ pos 1 → PointsBy bytes p (weak flavor P) (pointer_at bytes p (Some flavor) P)
 
 -- One step from what lies at a position to what lies in it, or to what it leads to. The names in a step are for people.
-pub data StepsTo (s : Schema) (bytes : List ℕ) (p : ℕ) : RouteStep → WayEnd → ℕ → WayEnd → Type 0 where
+pub data StepsTo (s : SchemaTable) (bytes : List ℕ) (p : ℕ) : RouteStep → WayEnd → ℕ → WayEnd → Type 0 where
   steps_part : {k q : ℕ} {shown : Bor Name} {ps : Parts} {Y : Shape}
       → IsPartNumbered s p 0 ps k q Y
       → StepsTo s bytes p (Part k shown) (a_value (parts ps)) q (a_value Y)
@@ -76,7 +76,7 @@ pub data StepsTo (s : Schema) (bytes : List ℕ) (p : ℕ) : RouteStep → WayEn
       (t + k * size_of s.layouts (entry_of K V) + up (size_of s.layouts (key_shape K)) (align_of s.layouts V)) (a_value V)
 
 -- the steps lead from the X at root to what lies at the position; what a name stands for lies where the name does
-pub data LeadsBy (s : Schema) (bytes : List ℕ) (root : ℕ) (X : Shape) : List RouteStep → ℕ → WayEnd → Type 0 where
+pub data LeadsBy (s : SchemaTable) (bytes : List ℕ) (root : ℕ) (X : Shape) : List RouteStep → ℕ → WayEnd → Type 0 where
   leads_root : LeadsBy s bytes root X [] root (a_value X)
   leads_named : {steps : List RouteStep} {p : ℕ} {name : Name} {Y : Shape}
       → LeadsBy s bytes root X steps p (a_value (named name))
@@ -88,7 +88,7 @@ pub data LeadsBy (s : Schema) (bytes : List ℕ) (root : ℕ) (X : Shape) : List
       → LeadsBy s bytes root X (steps ++ step ∷ []) q f
 
 -- A test of the pointer's region is false: of its size, of its range, or of its alignment. The trail says which range it is.
-pub data RegionFails (s : Schema) (P : Pointer) : Fault → Type 0 where
+pub data RegionFails (s : SchemaTable) (P : Pointer) : Fault → Type 0 where
   fails_size : 2 ^ 64 ≤ (region_of s P 0).size → RegionFails s P too_large
   fails_range : {start stop : ℕ}
       → ((t : ℕ) → P.target ≡ pos t → start ≤ t → t + (region_of s P t).size ≤ stop → ⊥)
@@ -102,7 +102,7 @@ pub data SharingFails (flavor : Flavor) : Fault → Type 0 where
   fails_cycle : flavor.cycles ≡ false → SharingFails flavor cyclic
 
 -- a test of what lies at p is false, which is the fault
-pub data FailsAt (s : Schema) (bytes : List ℕ) (p : ℕ) : WayEnd → Fault → Type 0 where
+pub data FailsAt (s : SchemaTable) (bytes : List ℕ) (p : ℕ) : WayEnd → Fault → Type 0 where
   fails_leaf : {kind : Kind} → (IsLegal kind (bytes_at bytes p (kind_size kind)) → ⊥) → FailsAt s bytes p (a_value (leaf kind)) (illegal kind)
   fails_tag : {name : Name} {variants : Variants}
       → variant_at variants (slice_index bytes p) ≡ None
@@ -120,7 +120,7 @@ pub data FailsAt (s : Schema) (bytes : List ℕ) (p : ℕ) : WayEnd → Fault �
 
 -- The steps lead from the X at root to what lies at the position, of which a test is false: one of its own; of the root, one of its region; of a key
 -- of a map, that it comes behind the key of the entry before.
-pub data FaultBy (s : Schema) (bytes : List ℕ) (root : ℕ) (X : Shape) : List RouteStep → ℕ → Fault → Type 0 where
+pub data FaultBy (s : SchemaTable) (bytes : List ℕ) (root : ℕ) (X : Shape) : List RouteStep → ℕ → Fault → Type 0 where
   fault_there : {steps : List RouteStep} {p : ℕ} {e : WayEnd} {fault : Fault}
       → LeadsBy s bytes root X steps p e
       → FailsAt s bytes p e fault

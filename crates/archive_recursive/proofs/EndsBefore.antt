@@ -5,7 +5,7 @@ use Rattle.std.specs.Coded.{le_prop}
 use Rattle.archive_check.specs.Definitions.{Definitions, HasLayout}
 use Rattle.archive_check.specs.Layout.{Layout}
 use Rattle.archive_check.specs.Readable.{target_from}
-use Rattle.archive_check.specs.Reads.{Schema, u32_at, pointer_at, reads_vec}
+use Rattle.archive_check.specs.Reads.{SchemaTable, u32_at, pointer_at, reads_vec}
 use Rattle.std.proofs.lemmas.List.Elements.{Contains-push}
 use Rattle.archive_check.specs.Shape.{Shape, Pointee, boxed, vec, one, run}
 use Rattle.archive_check.specs.Tour.{Contents, contents_one}
@@ -32,5 +32,5 @@ module _ (D : Definitions) (X : Shape) (L : Layout) (laid : HasLayout D X L) (by
       let ends = lies_before s bytes k.laid_out l c (vec_pointer s u c) refl (vec_shown D bytes q n X v).lands in
       rw (size_is laid s k) at ends)
     where
-      vec_pointer : (s : Schema) (u : Value) → Contents s bytes q (one (vec X)) n u → Contains (pointers u) (pointer_at bytes q None (run X))
+      vec_pointer : (s : SchemaTable) (u : Value) → Contents s bytes q (one (vec X)) n u → Contains (pointers u) (pointer_at bytes q None (run X))
       vec_pointer s u (contents_one reads_vec) = Contains-push [] (pointer_at bytes q None (run X))

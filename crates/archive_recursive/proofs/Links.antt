@@ -4,7 +4,7 @@ use Rattle.archive_check.specs.declared.format.error.Error.{Error}
 use Rattle.archive_check.specs.declared.context.range.Region.{Region}
 use Rattle.archive_check.specs.Shape.{Name, Shape, Parts, Variants, choice, named, part, no_part, variant, boxed, one}
 use Rattle.archive_check.specs.Layout.{up, Layout, size_of, align_of}
-use Rattle.archive_check.specs.Reads.{Schema, pointer_at}
+use Rattle.archive_check.specs.Reads.{SchemaTable, pointer_at}
 use Rattle.archive_check.specs.Tour.{Seen}
 use Rattle.archive_check.specs.Walk.{walk_named, walk_part, walk_no_part, enter}
 use Rattle.archive_check.specs.Depth.{inside}
@@ -29,8 +29,8 @@ use Rattle.archive_recursive.specs.declared.chain.parts.Head.TheVariants.{Unknow
 
 -- what comes of one way up to a box comes of another
 module _ (D E : Definitions) (W V : Way) (bytes : List ℕ) (X : Shape) (at n m : ℕ) (s s' : RangeState)
-    (known : (t : Schema) → Knows t E → Knows t D)
-    (leads : (t : Schema) → Knows t E → (pending : List ℕ) (seen : Seen) (o : Outcome) → W t pending s.depth s.end s.start seen o → V t pending s.depth s.end s.start seen o) where
+    (known : (t : SchemaTable) → Knows t E → Knows t D)
+    (leads : (t : SchemaTable) → Knows t E → (pending : List ℕ) (seen : Seen) (o : Outcome) → W t pending s.depth s.end s.start seen o → V t pending s.depth s.end s.start seen o) where
   pub reaches_from : n ≤ m → ReachesRest D W bytes X at n s s' → ReachesRest E V bytes X at m s s'
   reaches_from le r = record {
     end = r.end;
@@ -41,7 +41,7 @@ module _ (D E : Definitions) (W V : Way) (bytes : List ℕ) (X : Shape) (at n m 
   }
 
 -- up to a box, past the first of some parts
-module _ (D E : Definitions) (W V : Way) (bytes : List ℕ) (X : Shape) (at n m : ℕ) (s s1 s2 : RangeState) (known : (t : Schema) → Knows t D → Knows t E)
+module _ (D E : Definitions) (W V : Way) (bytes : List ℕ) (X : Shape) (at n m : ℕ) (s s1 s2 : RangeState) (known : (t : SchemaTable) → Knows t D → Knows t E)
     (toward : Toward D W V s s1) (first : worth s1 + n ≤ worth s + m) where
   pub reaches_later : ReachesRest E V bytes X at n s1 s2 → ReachesRest D W bytes X at m s s2
   reaches_later r =
@@ -59,7 +59,7 @@ module _ (D E : Definitions) (W V : Way) (bytes : List ℕ) (X : Shape) (at n m 
 
 -- the box itself, the last of the parts
 module _ (bytes : List ℕ) (X : Shape) (base start at : ℕ) (is : at ≡ base + up start 4) where
-  rest_way : (t : Schema) (pending : List ℕ) (depth : Option ℕ) (stop first : ℕ) (seen : Seen) (o : Outcome) → shape_way bytes at (boxed (one X)) t pending depth stop first seen o
+  rest_way : (t : SchemaTable) (pending : List ℕ) (depth : Option ℕ) (stop first : ℕ) (seen : Seen) (o : Outcome) → shape_way bytes at (boxed (one X)) t pending depth stop first seen o
       → parts_way bytes base start (part (boxed (one X)) no_part) t pending depth stop first seen o
   rest_way t pending depth stop first seen (done later last) w = walk_part (rw is at w) walk_no_part
   rest_way t pending depth stop first seen (refused f) w = trips_first (rw is at w)
@@ -76,10 +76,10 @@ module _ (bytes : List ℕ) (X : Shape) (base start at : ℕ) (is : at ≡ base 
 -- the first of some parts is gone through, and the others come to what they come to
 module _ (D E : Definitions) (X : Shape) (L : Layout) (laid : HasLayout D X L) (bytes : List ℕ) (base start offset size : ℕ) (o_is : offset ≡ up start L.align) (s : RangeState)
     (s_is : size ≡ L.size) (s1 : RangeState) (goes : Goes D (shape_way bytes (base + offset) X) s s1) where
-  here_is : (t : Schema) → Knows t (both D E) → base + offset ≡ base + up start (align_of t.layouts X)
+  here_is : (t : SchemaTable) → Knows t (both D E) → base + offset ≡ base + up start (align_of t.layouts X)
   here_is t k = rw (its_align D X L laid L.align refl t (knows_left t D E k)) (ap (λ n. base + n) o_is)
 
-  after_is : (t : Schema) → Knows t (both D E) → offset + size ≡ up start (align_of t.layouts X) + size_of t.layouts X
+  after_is : (t : SchemaTable) → Knows t (both D E) → offset + size ≡ up start (align_of t.layouts X) + size_of t.layouts X
   after_is t k = rw (its_align D X L laid L.align refl t (knows_left t D E k), its_size D X L laid t (knows_left t D E k), o_is, s_is) refl
 
   past_first : (ps : Parts) → Toward (both D E) (parts_way bytes base start (part X ps)) (parts_way bytes base (offset + size) ps) s s1
@@ -115,12 +115,12 @@ module _ (D E : Definitions) (bytes : List ℕ) (base : ℕ) (ps : Shape → Par
       }
 
 -- a choice under its name
-pub named_way : (bytes : List ℕ) (p : ℕ) (name : Name) (X : Shape) (t : Schema) (k : Knows t (defines name X)) (pending : List ℕ) (depth : Option ℕ) (stop start : ℕ) (seen : Seen) (o : Outcome) → shape_way bytes p X t pending depth stop start seen o
+pub named_way : (bytes : List ℕ) (p : ℕ) (name : Name) (X : Shape) (t : SchemaTable) (k : Knows t (defines name X)) (pending : List ℕ) (depth : Option ℕ) (stop start : ℕ) (seen : Seen) (o : Outcome) → shape_way bytes p X t pending depth stop start seen o
     → shape_way bytes p (named name) t pending depth stop start seen o
 named_way bytes p name X t k pending depth stop start seen (done later last) w = walk_named k.has w
 named_way bytes p name X t k pending depth stop start seen (refused f) w = trips_named k.has w
 
-module _ (name : Name) (vs : Variants) (E : Definitions) (known : (t : Schema) → Knows t (defines name (choice name vs)) → Knows t E) (bytes : List ℕ) (p : ℕ) where
+module _ (name : Name) (vs : Variants) (E : Definitions) (known : (t : SchemaTable) → Knows t (defines name (choice name vs)) → Knows t E) (bytes : List ℕ) (p : ℕ) where
   pub link_goes : (s s' : RangeState) → Goes E (shape_way bytes p (choice name vs)) s s' → Goes (defines name (choice name vs)) (shape_way bytes p (named name)) s s'
   link_goes s = goes_from E (defines name (choice name vs)) (shape_way bytes p (choice name vs)) (shape_way bytes p (named name)) s known (λ t k pending seen o w. named_way bytes p name (choice name vs) t k pending s.depth s.end s.start seen o w)
 
@@ -139,13 +139,13 @@ comes_again R S h (refused f) r = h (refused f) r
 
 -- the region of the X that a box leads to
 module _ (D : Definitions) (X : Shape) (L : Layout) (laid : HasLayout D X L) (bytes : List ℕ) (at : ℕ) (s s' : RangeState) (r : Region) (e : EntersRest bytes at L s s' r) where
-  size_is : (t : Schema) → Knows t D → size_of t.layouts X ≡ r.size
+  size_is : (t : SchemaTable) → Knows t D → size_of t.layouts X ≡ r.size
   size_is t k = its_size D X L laid t k ∙ sym e.size
 
   pub inside_levels : HasLevels s.depth → HasLevels s'.depth
   inside_levels some = rw e.begun.depth (levels_inside s.depth some e.begun.deep)
 
-  module _ (some : HasLevels s.depth) (t : Schema) (k : Knows t D) (pending : List ℕ) (seen : Seen) where
+  module _ (some : HasLevels s.depth) (t : SchemaTable) (k : Knows t D) (pending : List ℕ) (seen : Seen) where
     pub region_done : (mid : ℕ) (last : Seen) → shape_way bytes r.begin X t pending s'.depth s'.end s'.start seen (done mid last) → shape_way bytes at (boxed (one X)) t pending s.depth s.end s.start seen (done r.outer_start last)
     region_done mid last w =
         let h = e.begun in
@@ -189,7 +189,7 @@ reached_halts D W bytes X at n s s' e r halts some =
 pub record Within (D : Definitions) (W Q : Way) (s s1 : RangeState) (k : ℕ) : Type 0 where
   pub depth : HasLevels s.depth → raised k s1.depth ≡ s.depth
   pub some : HasLevels s.depth → HasLevels s1.depth
-  pub leads : HasLevels s.depth → (t : Schema) → Knows t D → (pending : List ℕ) (seen : Seen) (o : Outcome) → Q t pending s1.depth s1.end s1.start seen o → Comes (W t pending s.depth s.end s.start seen) o
+  pub leads : HasLevels s.depth → (t : SchemaTable) → Knows t D → (pending : List ℕ) (seen : Seen) (o : Outcome) → Q t pending s1.depth s1.end s1.start seen o → Comes (W t pending s.depth s.end s.start seen) o
 
 pub raised_none : (d : Option ℕ) → raised 0 d ≡ d
 raised_none None = refl

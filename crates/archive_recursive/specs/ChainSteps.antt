@@ -3,7 +3,7 @@ use Rattle.std.specs.Prelude.{◌≡◌, ℕ, pos, ◌+ℤ◌, ◌+◌, ◌<◌,
 use Rattle.std.proofs.Common.{arith}
 use Rattle.archive_check.specs.Shape.{Shape, Parts, Variants, variant_at, boxed, one}
 use Rattle.archive_check.specs.Layout.{up, Layout}
-use Rattle.archive_check.specs.Reads.{Schema, i32_at}
+use Rattle.archive_check.specs.Reads.{SchemaTable, i32_at}
 use Rattle.archive_check.specs.Tour.{Seen}
 use Rattle.archive_check.specs.Outcomes.{Outcome, done, refused}
 use Rattle.archive_check.specs.Definitions.{Definitions, Knows}
@@ -21,7 +21,7 @@ use Rattle.archive_recursive.specs.declared.chain.check.Depth.{Depth}
 pub record ReachesRest (D : Definitions) (W : Way) (bytes : List ℕ) (X : Shape) (at n : ℕ) (s s' : RangeState) : Type 0 where
   pub end : s'.end ≡ s.end
   pub depth : HasLevels s.depth → s'.depth ≡ s.depth
-  pub leads : HasLevels s.depth → (t : Schema) → Knows t D → (pending : List ℕ) (seen : Seen) (o : Outcome)
+  pub leads : HasLevels s.depth → (t : SchemaTable) → Knows t D → (pending : List ℕ) (seen : Seen) (o : Outcome)
       → shape_way bytes at (boxed (one X)) t pending s.depth s.end s'.start seen o → W t pending s.depth s.end s.start seen o
   pub spent : worth s' + 4 ≤ worth s + n
   pub inside : at + 4 ≤ length bytes
@@ -74,7 +74,7 @@ pub record Sunk (D : Definitions) (W : Way) (s s' : RangeState) (d : Depth) : Ty
   pub end : s'.end ≡ d.innermost
   pub below : s'.end ≤ s.end
   pub depth : HasLevels s.depth → raised d.levels s'.depth ≡ s.depth
-  pub runs : HasLevels s.depth → (t : Schema) → Knows t D → (pending : List ℕ) (seen : Seen) → (mid : ℕ) × W t pending s.depth s.end s.start seen (done mid seen)
+  pub runs : HasLevels s.depth → (t : SchemaTable) → Knows t D → (pending : List ℕ) (seen : Seen) → (mid : ℕ) × W t pending s.depth s.end s.start seen (done mid seen)
 
 -- and they are left
 pub record Risen (n : ℕ) (s s' : RangeState) : Type 0 where

@@ -12,10 +12,11 @@ use Rattle.archive_check.specs.Shape.{Name, Shape, Pointee, choice, named, defin
 use Rattle.archive_check.specs.Definitions.{Definitions, HasLayout, both, listed, Knows}
 use Rattle.archive_check.specs.Members.VariantsLayout.{IsChoice}
 use Rattle.archive_check.specs.Value.{Value, Values, case, list, hole, value}
-use Rattle.archive_check.specs.Reads.{Schema}
+use Rattle.archive_check.specs.Reads.{SchemaTable}
 use Rattle.archive_check.specs.WriterState.{WriterState}
 use Rattle.archive_check.specs.Words.Formats.{FormatOf}
 use Rattle.archive_check.specs.declared.format.error.Error.{Error}
+use Rattle.archive_check.specs.Denotes.{Naming}
 use Rattle.archive_check.specs.declared.format.traits.Keys as Keys
 use Rattle.archive_fields.specs.OwnChoices.{variant_definitions, knows_variant, variant_plan}
 use Rattle.archive_types.specs.Causes.{IsRefused}
@@ -23,18 +24,18 @@ use Rattle.archive_types.specs.Parts.{HavePlan}
 use Rattle.archive_types.specs.Members.PartsPlanned.{standing_plan}
 use Rattle.archive_types.specs.Plans.{HasPlan, Serialized}
 use Rattle.archive_types.specs.Runs.{each_keys, each_meaning, each_flat, SerializedRun}
-use Rattle.archive_types.specs.Writing.{Naming, to_pointee, IsKeyed}
+use Rattle.archive_types.specs.Writing.{to_pointee, IsKeyed}
 use Rattle.archive_types.specs.declared.traits.Archive as Archive
 use Rattle.archive_write.specs.Written.{GoesOn}
 use denote.Triple.Both.{Both}
 use denote.Ref.{MutBor}
 
 -- a name among several has the layout of what it stands for
-pub member_has_layout : (D : Definitions) (name : Name) (X : Shape) (L : Layout) → ((s : Schema) → Knows s D → definition s.table name ≡ Some X) → ((s : Schema) → Knows s D → layout s.layouts X ≡ L) → HasLayout D (named name) L
+pub member_has_layout : (D : Definitions) (name : Name) (X : Shape) (L : Layout) → ((s : SchemaTable) → Knows s D → definition s.table name ≡ Some X) → ((s : SchemaTable) → Knows s D → layout s.layouts X ≡ L) → HasLayout D (named name) L
 member_has_layout D name X L has h = record { solved = λ s k. k.laid_out.solves name X (has s k) ∙ h s k }
 
 -- who knows each of two definitions knows both
-pub knows_both : (s : Schema) (D E : Definitions) → Knows s D → Knows s E → Knows s (both D E)
+pub knows_both : (s : SchemaTable) (D E : Definitions) → Knows s D → Knows s E → Knows s (both D E)
 knows_both s D E k l = record {
   has = (k.has, l.has);
   finite = λ n X c. elim (Contains-append_cases (listed D) (listed E) (n, X) c) [ inl d ↦ k.finite n X d | inr d ↦ l.finite n X d ];

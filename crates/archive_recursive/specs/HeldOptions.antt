@@ -3,11 +3,12 @@ use Rattle.std.specs.Prelude.{List, [], None, refl}
 use Rattle.archive_check.specs.Definitions.{Definitions}
 use Rattle.archive_check.specs.Shape.{Shape}
 use Rattle.archive_check.specs.Value.{Value, case, no_value}
+use Rattle.archive_check.specs.Denotes.{Naming}
 use Rattle.archive_enum.specs.Choices.{option_shape}
 use Rattle.archive_types.specs.Members.Options.{option_keyed}
 use Rattle.archive_types.specs.Members.Variants.{case_of, one_keyed, case_planned, empty_planned}
 use Rattle.archive_types.specs.Plans.{HasPlan}
-use Rattle.archive_types.specs.Writing.{Naming, IsKeyed}
+use Rattle.archive_types.specs.Writing.{IsKeyed}
 
 pub none_keyed : IsKeyed [] (case 0 no_value)
 none_keyed = option_keyed {A = ⊥} (λ x. absurd x) (λ x. absurd x) (λ x. absurd x) None

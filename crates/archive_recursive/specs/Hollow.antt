@@ -6,8 +6,9 @@ use Rattle.archive_check.specs.Shape.{text, Pointee}
 use Rattle.archive_check.specs.Value.{Value, null, shared_value, case, no_value}
 use Rattle.archive_check.specs.Tour.{Entry}
 use Rattle.archive_check.specs.Reached.{Names, names_itself}
+use Rattle.archive_check.specs.Denotes.{Naming}
 use Rattle.archive_types.specs.Members.Variants.{case_of}
-use Rattle.archive_types.specs.Writing.{Naming, NameMap, AreNamed, HasKeys, key_at_once, IsKeyed, box_flat}
+use Rattle.archive_types.specs.Writing.{NameMap, AreNamed, HasKeys, key_at_once, IsKeyed, box_flat}
 
 -- what is read in the place of an option of a box, by what is kept of it: nothing, or a box of what is at that position
 abbrev pub option_at : Pointee → Option ℕ → Value

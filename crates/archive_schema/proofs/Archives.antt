@@ -6,7 +6,7 @@ use Rattle.archive_schema.specs.declared.shape.Schema.{Schema as RustSchema}
 use Rattle.archive_check.specs.Shape.{Name, Shape, Table, definition}
 use Rattle.archive_check.specs.Expressions.{entries_of}
 use Rattle.archive_check.specs.MissingNames.{missing}
-use Rattle.archive_check.specs.Reads.{Schema}
+use Rattle.archive_check.specs.Reads.{SchemaTable}
 use Rattle.archive_check.specs.Depth.{AcceptedWithin}
 use Rattle.archive_check.specs.Definitions.{Definitions, listed, NoOthers, Knows, HasLayouts}
 use Rattle.archive_check.specs.Trail.{RootTrips}
@@ -41,7 +41,7 @@ prepared_schema r X D root p = record {
 
 module _ (r : RustSchema) (X : Shape) (D : Definitions) (made : IsSchemaOf r X D) where
   -- what knows a type's definitions knows those that its schema keeps
-  knows_schema : (s : Schema) → Knows s D → Knows s (definitions_in r)
+  knows_schema : (s : SchemaTable) → Knows s D → Knows s (definitions_in r)
   knows_schema s k = record {
     has = defined_has s (entries_of r.definitions.items) (λ name Y c. has_each s D k.has name Y (found_stands (listed D) name Y (made.known name Y c)));
     finite = λ name Y c h. k.finite name Y (found_stands (listed D) name Y (made.known name Y c)) h;

@@ -8,7 +8,7 @@ use Rattle.archive_schema.specs.declared.check.Checker.{Checker}
 use Rattle.archive_schema.specs.declared.shape.Schema.{Schema as RustSchema}
 use Rattle.archive_check.specs.Shape.{Name, Table}
 use Rattle.archive_check.specs.Expressions.{entries_of}
-use Rattle.archive_check.specs.Reads.{Schema}
+use Rattle.archive_check.specs.Reads.{SchemaTable}
 use Rattle.archive_check.specs.Depth.{AcceptedWithin}
 use Rattle.archive_check.specs.Trail.{Fault, RootTrips}
 use Rattle.archive_check.specs.Defined.{Reaches}
@@ -27,10 +27,10 @@ abbrev own_table : RustSchema → Table
 own_table s = entries_of s.definitions.items
 
 -- the schema's own definitions, with the layouts of one that knows them
-abbrev of_own : RustSchema → Schema → Schema
+abbrev of_own : RustSchema → SchemaTable → SchemaTable
 of_own s t = record { table = own_table s; layouts = t.layouts }
 
-module _ (s : RustSchema) (t : Schema) (knows : Knows t (definitions_in s)) where
+module _ (s : RustSchema) (t : SchemaTable) (knows : Knows t (definitions_in s)) where
   same_names : (n : Name) → Reaches (own_table s) n (root_of s) → SameName (of_own s t) t n
   same_names n r =
       let (Y, e) = reached_within (own_table s) (own_table s) (λ m Z f. f) s.complete.closed r s.complete.root in

@@ -5,7 +5,7 @@ use Rattle.archive_schema.specs.declared.shape.Schema.{Schema as RustSchema}
 use Rattle.archive_check.specs.Shape.{Name, Shape, Table, definition}
 use Rattle.archive_check.specs.Expressions.{entries_of}
 use Rattle.archive_check.specs.MissingNames.{missing, Arranged}
-use Rattle.archive_check.specs.Reads.{Schema, LaidOut}
+use Rattle.archive_check.specs.Reads.{SchemaTable, LaidOut}
 use Rattle.archive_check.specs.Defined.{HeldIn, held, held_through, WellFormed}
 use Rattle.archive_check.specs.Definitions.{listed, Has, Knows}
 use Rattle.archive_schema.specs.Schemas.{root_of, defined_by, definitions_in, HasMeaning}
@@ -24,11 +24,11 @@ pub listed_in : (s : RustSchema) → listed (definitions_in s) ≡ entries_of s.
 listed_in s = listed_defined (entries_of s.definitions.items)
 
 -- a schema that has each has them
-pub defined_has : (t : Schema) (table : Table) → ((name : Name) (Y : Shape) → Contains (listed (defined_by table)) (name, Y) → definition t.table name ≡ Some Y) → Has t (defined_by table)
+pub defined_has : (t : SchemaTable) (table : Table) → ((name : Name) (Y : Shape) → Contains (listed (defined_by table)) (name, Y) → definition t.table name ≡ Some Y) → Has t (defined_by table)
 defined_has t [] h = tt
 defined_has t (d ∷ ds) h = (h d.0 d.1 (contains_first (listed (defined_by ds)) d), defined_has t ds (λ name Y c. h name Y (contains_later d (listed (defined_by ds)) (name, Y) c)))
 
-module _ (table : Table) (t : Schema) where
+module _ (table : Table) (t : SchemaTable) where
   -- what knows a table's definitions has each, and its layouts are theirs
   pub knows_own : Knows t (defined_by table) → (name : Name) (Y : Shape) → definition table name ≡ Some Y → definition t.table name ≡ Some Y
   knows_own k name Y e = has_each t (defined_by table) k.has name Y (subst (λ l. Contains l (name, Y)) (sym (listed_defined table)) (found_stands table name Y e))
@@ -48,7 +48,7 @@ module _ (table : Table) (arranged : Arranged table table) (closed : (name : Nam
     finite = λ n Y r e h. arranged_never table table arranged n Y e h;
   })
 
-  module _ (t : Schema) (has : (name : Name) (Y : Shape) → definition table name ≡ Some Y → definition t.table name ≡ Some Y) where
+  module _ (t : SchemaTable) (has : (name : Name) (Y : Shape) → definition table name ≡ Some Y → definition t.table name ≡ Some Y) where
     -- what is held under more definitions is held under the table's own
     held_own : {n : Name} {X : Shape} → HeldIn t.table n X → missing true table X ≡ None → HeldIn table n X
     held_own (held h) none = held h
@@ -67,7 +67,7 @@ module _ (table : Table) (arranged : Arranged table table) (closed : (name : Nam
     }
 
 -- So what knows a schema's definitions is just what has them, with layouts of theirs; and something does.
-pub schema_known : (s : RustSchema) (t : Schema) → ((name : Name) (Y : Shape) → definition (entries_of s.definitions.items) name ≡ Some Y → definition t.table name ≡ Some Y) → LaidOut t → ∥ Knows t (definitions_in s) ∥₁
+pub schema_known : (s : RustSchema) (t : SchemaTable) → ((name : Name) (Y : Shape) → definition (entries_of s.definitions.items) name ≡ Some Y → definition t.table name ≡ Some Y) → LaidOut t → ∥ Knows t (definitions_in s) ∥₁
 schema_known s t has laid = ∥∥₁_map s.arranged (λ a. has_knows (entries_of s.definitions.items) a s.complete.closed t has laid)
 
 pub schema_meaning : (s : RustSchema) → HasMeaning s

@@ -7,7 +7,7 @@ use Rattle.archive_check.specs.Expressions.{shape_of, entries_of}
 use Rattle.archive_check.specs.Layout.{Layout}
 use Rattle.archive_check.specs.Defined.{Reaches, WellFormed}
 use Rattle.archive_check.specs.Definitions.{Definitions, no_definition, defines, both, listed, Knows}
-use Rattle.archive_check.specs.Reads.{Schema}
+use Rattle.archive_check.specs.Reads.{SchemaTable}
 
 -- the shape of its root
 abbrev pub root_of : RustSchema → Shape
@@ -25,7 +25,7 @@ definitions_in s = defined_by (entries_of s.definitions.items)
 -- they give the root a meaning, and some schema knows them
 pub record HasMeaning (s : RustSchema) : Type 0 where
   pub well_formed : WellFormed (listed (definitions_in s)) (root_of s)
-  pub known : ∥ ((t : Schema) × Knows t (definitions_in s)) ∥₁
+  pub known : ∥ ((t : SchemaTable) × Knows t (definitions_in s)) ∥₁
 
 -- The schema is that of a shape and the definitions that come with it: it has those that the shape reaches, and they are well formed.
 pub record IsSchemaOf (s : RustSchema) (X : Shape) (D : Definitions) : Type 0 where

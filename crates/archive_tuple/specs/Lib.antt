@@ -1,3 +1,4 @@
+pub mod Entries
 pub use Rattle.archive_check.specs.Layout
 pub use Rattle.archive_check.specs.Members.PartsLayout
 pub use Rattle.archive_check.specs.SelfCheck

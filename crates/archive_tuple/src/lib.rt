@@ -8,6 +8,8 @@ ghost use Rattle.archive_check.specs.Layout.{up};
 ghost use Rattle.archive_check.specs.Members.PartsLayout.{is_record, record_has_layout, holds_parts};
 ghost use Rattle.archive_check.specs.SelfCheck.Lone.{tuple_check};
 
+pub mod entries;
+
 use archive_check::format::error::Error;
 use archive_check::format::expr::{Defs, Expr};
 use archive_check::format::traits::{

@@ -5,14 +5,14 @@ use Rattle.archive_check.specs.Shape.{Name, Sign, signed, unsigned, Kind, unit, 
 use Rattle.archive_check.specs.Layout.{Layout, up, size_of, align_of}
 use Rattle.archive_check.specs.Definitions.{Definitions, Knows}
 use Rattle.archive_check.specs.Value.{Pointer, Value, number, product, case, list, box, hole, Values, value, pointers}
-use Rattle.archive_check.specs.Reads.{Schema}
+use Rattle.archive_check.specs.Reads.{SchemaTable}
 use Rattle.archive_check.specs.Tour.{Region}
 use Rattle.archive_check.specs.WriterState.{KeyState, WriterState}
 use Rattle.archive_check.specs.declared.format.error.Error.{Error}
 use Rattle.archive_check.specs.declared.format.error.Error.TheVariants.{OutOfMemory, IsizeOverflow, OffsetOverflow, PositionTooLarge, LengthTooLarge, NumberTooLarge, StringTooLong, BufferOverflow, WriterFailed, CyclicSerialize, LayoutTooLarge, UnsortedKeys}
+use Rattle.archive_check.specs.Denotes.{Naming}
 use Rattle.archive_num.specs.Offsets.{distance, IsTooFar}
-use Rattle.archive_types.specs.Plans.{Cursor, Step, lays, meets, disorder, Foreseen, PlanOf, RegionPlan, cursor}
-use Rattle.archive_types.specs.Writing.{Naming}
+use Rattle.archive_types.specs.Plans.{Cursor, Step, lays, meets, disorder, Foreseen, ValuePlan, RegionPlan, cursor}
 
 -- Of the planned bytes the writer, which holds those up to a position and ends at `cap`, was to take `count` more: fewer are free.
 pub record Overflows (reaches : ℕ → Type 0) (old new : WriterState) (count cap position : ℕ) : Type 0 where
@@ -52,7 +52,7 @@ pub data IsOfWriting : Error → Type 0 where
 
 -- a Y that says w lies at an offset in an X that says v
 mutual
-  pub data ValuePart (s : Schema) : Shape → Value → ℕ → Shape → Value → Type 0 where
+  pub data ValuePart (s : SchemaTable) : Shape → Value → ℕ → Shape → Value → Type 0 where
     part_itself : {X : Shape} {v : Value} → ValuePart s X v 0 X v
     part_of_parts : {ps : Parts} {vs : Values} {o : ℕ} {Y : Shape} {w : Value}
         → PartOfParts s 0 ps vs o Y w
@@ -70,7 +70,7 @@ mutual
         → ValuePart s (named name) v o Y w
 
   -- of parts that are laid out one after another from an offset on
-  pub data PartOfParts (s : Schema) : ℕ → Parts → Values → ℕ → Shape → Value → Type 0 where
+  pub data PartOfParts (s : SchemaTable) : ℕ → Parts → Values → ℕ → Shape → Value → Type 0 where
     in_first_part : {at : ℕ} {X : Shape} {ps : Parts} {v : Value} {vs : Values} {o : ℕ} {Y : Shape} {w : Value}
         → ValuePart s X v o Y w
         → PartOfParts s at (part X ps) (value v vs) (up at (align_of s.layouts X) + o) Y w
@@ -79,7 +79,7 @@ mutual
         → PartOfParts s at (part X ps) (value v vs) o Y w
 
   -- of elements
-  pub data PartOfRun (s : Schema) : ℕ → Shape → Values → ℕ → Shape → Value → Type 0 where
+  pub data PartOfRun (s : SchemaTable) : ℕ → Shape → Values → ℕ → Shape → Value → Type 0 where
     in_first_element : {n : ℕ} {X : Shape} {v : Value} {vs : Values} {o : ℕ} {Y : Shape} {w : Value}
         → ValuePart s X v o Y w
         → PartOfRun s (suc n) X (value v vs) o Y w
@@ -88,7 +88,7 @@ mutual
         → PartOfRun s (suc n) X (value v vs) (size_of s.layouts X + o) Y w
 
 -- a Y that says w lies at an offset in a pointee that says v
-pub data PartOfPointee (s : Schema) : Pointee → ℕ → Value → ℕ → Shape → Value → Type 0 where
+pub data PartOfPointee (s : SchemaTable) : Pointee → ℕ → Value → ℕ → Shape → Value → Type 0 where
   part_of_one : {X : Shape} {v : Value} {o : ℕ} {Y : Shape} {w : Value} → ValuePart s X v o Y w → PartOfPointee s (one X) 0 v o Y w
   part_of_run : {n : ℕ} {X : Shape} {vs : Values} {o : ℕ} {Y : Shape} {w : Value} → PartOfRun s n X vs o Y w → PartOfPointee s (run X) n (list vs) o Y w
 
@@ -133,7 +133,7 @@ pub data HindersPartAt : Shape → ℕ → Value → Error → Type 0 where
 
 -- What hinders a step of a plan: a part of what is read in the region; its length is above 4,294,967,295, its end above `usize::MAX`; the key is pending;
 -- or a map's keys don't ascend.
-pub data HindersStep (s : Schema) : Step → Error → Type 0 where
+pub data HindersStep (s : SchemaTable) : Step → Error → Type 0 where
   part_hinders : {r : Region} {v : Value} {o : ℕ} {Y : Shape} {w : Value} {e : Error}
       → PartOfPointee s r.pointee r.length v o Y w
       → HindersPartAt Y (r.begin + o) w e
@@ -144,13 +144,13 @@ pub data HindersStep (s : Schema) : Step → Error → Type 0 where
   order_hinders : HindersStep s disorder UnsortedKeys
 
 -- one of them is hindered
-abbrev pub HindersSome : Schema → List Step → Error → Type 0
+abbrev pub HindersSome : SchemaTable → List Step → Error → Type 0
 HindersSome s C e = (t : Step) × Contains C t × HindersStep s t e
 
 -- What hinders the writing of what v owns, as an X: a step of its plan, or a part of it, wherever it will lie.
 pub record Hinders (D : Definitions) (X : Shape) (keys : List Naming) (v : Value) (a : Cursor) (e : Error) : Type 0 where
   pub named : IsOwnCause e
-  pub cause : Foreseen D keys a (λ s names. PlanOf s names X v a (λ flat C b. HindersSome s C e ⊎ ((o : ℕ) × (Y : Shape) × (w : Value) × ValuePart s X flat o Y w × HindersPart Y w e)))
+  pub cause : Foreseen D keys a (λ s names. ValuePlan s names X v a (λ flat C b. HindersSome s C e ⊎ ((o : ℕ) × (Y : Shape) × (w : Value) × ValuePart s X flat o Y w × HindersPart Y w e)))
 
 -- What hinders the writing of a pointee with its region: a step of its plan.
 pub record HindersRegion (D : Definitions) (P : Pointee) (n : ℕ) (keys : List Naming) (v : Value) (a : Cursor) (e : Error) : Type 0 where
@@ -160,7 +160,7 @@ pub record HindersRegion (D : Definitions) (P : Pointee) (n : ℕ) (keys : List 
 -- What hinders the resolving of a value at p, of which `flat` is to be read there: a part of it.
 pub record HindersAt (D : Definitions) (X : Shape) (flat : Value) (p : ℕ) (e : Error) : Type 0 where
   pub named : IsOwnCause e
-  pub cause : (s : Schema) → Knows s D → (o : ℕ) × (Y : Shape) × (w : Value) × ValuePart s X flat o Y w × HindersPartAt Y (p + o) w e
+  pub cause : (s : SchemaTable) → Knows s D → (o : ℕ) × (Y : Shape) × (w : Value) × ValuePart s X flat o Y w × HindersPartAt Y (p + o) w e
 
 -- and of its own region there: its end is above `usize::MAX`, too
 abbrev pub HindersRegionAt : Definitions → Shape → Layout → Value → ℕ → Error → Type 0
@@ -168,7 +168,7 @@ HindersRegionAt D X L flat p e = ((e ≡ LayoutTooLarge) × (2 ^ 64 ≤ p + L.si
 
 -- the plan goes on to n at least
 abbrev pub PlanReaches : Definitions → Shape → List Naming → Value → Cursor → ℕ → Type 0
-PlanReaches D X keys v a n = Foreseen D keys a (λ s names. PlanOf s names X v a (λ flat C b. n ≤ b.position))
+PlanReaches D X keys v a n = Foreseen D keys a (λ s names. ValuePlan s names X v a (λ flat C b. n ≤ b.position))
 
 -- the plan of a pointee with its region goes on to m at least
 abbrev pub RegionReaches : Definitions → Pointee → ℕ → List Naming → Value → Cursor → ℕ → Type 0

@@ -7,10 +7,11 @@ use Rattle.archive_check.specs.Value.{Value}
 use Rattle.archive_check.specs.WriterState.{WriterState, KeepsKeys}
 use Rattle.archive_check.specs.declared.format.error.Error.{Error}
 use Rattle.archive_check.specs.declared.format.error.Error.TheVariants.{PositionTooLarge, LengthTooLarge, LayoutTooLarge}
+use Rattle.archive_check.specs.Denotes.{Naming}
 use Rattle.archive_write.specs.Written.{padding}
 use Rattle.archive_types.specs.Members.Arrays.{ResolvesRun}
 use Rattle.archive_types.specs.Causes.{Explains}
-use Rattle.archive_types.specs.Writing.{Naming, Resolves}
+use Rattle.archive_types.specs.Writing.{Resolves}
 use Rattle.archive_types.specs.Plans.{Serialized}
 use Rattle.archive_types.specs.Runs.{each_meaning}
 

@@ -6,8 +6,9 @@ use Rattle.archive_check.specs.Definitions.{Definitions}
 use Rattle.archive_check.specs.Value.{Value, box, hole}
 use Rattle.archive_check.specs.WriterState.{WriterState, Pads}
 use Rattle.archive_check.specs.declared.format.error.Error.{Error}
+use Rattle.archive_check.specs.Denotes.{Naming}
 use Rattle.archive_write.specs.Written.{GoesOn}
-use Rattle.archive_types.specs.Writing.{Naming, Puts, to_pointee}
+use Rattle.archive_types.specs.Writing.{Puts, to_pointee}
 use Rattle.archive_types.specs.Plans.{Serialized}
 use Rattle.archive_types.specs.Causes.{IsRefused}
 

@@ -14,9 +14,10 @@ use Rattle.archive_check.specs.declared.format.traits.Keys as Keys
 use Rattle.archive_write.specs.Written.{padding, ExplainsRefusal}
 use Rattle.archive_types.specs.Causes.{Explains, HindersRegionAt, IsRefused}
 use Rattle.archive_check.specs.Words.Formats.{FormatOf}
+use Rattle.archive_check.specs.Denotes.{Naming}
 use Rattle.archive_types.specs.Plans.{Serialized}
 use Rattle.archive_types.specs.Runs.{each_keys, each_meaning}
-use Rattle.archive_types.specs.Writing.{Naming, Puts, vec_flat}
+use Rattle.archive_types.specs.Writing.{Puts, vec_flat}
 use Rattle.archive_types.specs.declared.traits.Archive as Archive
 
 -- each of the pointers is shared

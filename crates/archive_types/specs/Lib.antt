@@ -29,6 +29,7 @@ pub mod Outcomes
 pub mod SourceOutcomes
 pub use Rattle.archive_check.specs.CleanRegions
 pub use Rattle.archive_check.specs.Definitions
+pub use Rattle.archive_check.specs.Denotes
 pub use Rattle.archive_check.specs.Entries
 pub use Rattle.archive_check.specs.Expressions
 pub use Rattle.archive_check.specs.Layout

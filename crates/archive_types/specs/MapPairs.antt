@@ -1,7 +1,7 @@
 -- The entries of maps as pairs of a key and a value: what they mean, and the keys of shared values that they hold.
 use Rattle.std.specs.Prelude.{List, [], ◌++◌}
 use Rattle.archive_check.specs.Value.{Value, product, no_value, value}
-use Rattle.archive_types.specs.Writing.{Naming}
+use Rattle.archive_check.specs.Denotes.{Naming}
 
 -- a pair means the product of what its parts mean
 abbrev pub pair_meaning : {A B : Type 0} → (A → Value) → (B → Value) → A × B → Value

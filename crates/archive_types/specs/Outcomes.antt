@@ -11,6 +11,7 @@ use Rattle.archive_check.specs.Value.{Value, Values, list}
 use Rattle.archive_check.specs.WriterState.{WriterState, KeepsKeys}
 use Rattle.archive_check.specs.declared.format.error.Error.{Error}
 use Rattle.archive_check.specs.declared.format.error.Error.TheVariants.{OutOfMemory}
+use Rattle.archive_check.specs.Denotes.{Naming}
 use Rattle.archive_check.specs.declared.format.traits.Keys as Keys
 use Rattle.archive_check.specs.declared.self_check.parts.CheckedParts as CheckedParts
 use Rattle.archive_types.specs.Causes.{Explains, HindersAt, HindersRegionAt, IsRefused, IsRegionRefused}
@@ -19,7 +20,7 @@ use Rattle.archive_types.specs.Parts.{ResolvesParts, HindersPartsAt}
 use Rattle.archive_types.specs.Words.PlacedParts.{ChangesOnly}
 use Rattle.archive_types.specs.Plans.{Serialized, SerializedRegion}
 use Rattle.archive_types.specs.Runs.{each_keys, each_meaning, each_flat, HindersRunAt, PutsRun}
-use Rattle.archive_types.specs.Writing.{Naming, Puts, Resolves, vec_flat}
+use Rattle.archive_types.specs.Writing.{Puts, Resolves, vec_flat}
 use Rattle.archive_types.specs.declared.place.Place.{Place}
 use Rattle.archive_write.specs.Written.{GoesOn}
 

@@ -3,16 +3,17 @@ use Rattle.std.specs.Prelude.{◌≡◌, ◌⊎◌, ℕ, ◌+◌, ◌<◌, ◌�
 use Rattle.archive_check.specs.Shape.{Shape, Parts}
 use Rattle.archive_check.specs.Definitions.{Definitions, Knows}
 use Rattle.archive_check.specs.Value.{Value, list, Values}
-use Rattle.archive_check.specs.Reads.{Schema, ReadsParts}
+use Rattle.archive_check.specs.Reads.{SchemaTable, ReadsParts}
 use Rattle.archive_check.specs.CleanRegions.{Occurs, IsZeroed, CleanParts}
 use Rattle.archive_check.specs.WriterState.{WriterState}
 use Rattle.archive_check.specs.declared.format.error.Error.{Error}
-use Rattle.archive_types.specs.Writing.{NameMap, Naming, IsKeyed, WritesAll}
+use Rattle.archive_check.specs.Denotes.{Naming}
+use Rattle.archive_types.specs.Writing.{NameMap, IsKeyed, WritesAll}
 use Rattle.archive_types.specs.Plans.{Cursor, cursor, StandsAt, Step, PlansParts, Whatever, Foreseen}
 use Rattle.archive_types.specs.Causes.{Explains, PartOfParts, HindersPart, HindersPartAt, HindersSome, IsOwnCause}
 
 -- a plan of values one after another, of which this holds
-pub record PartsPlan (s : Schema) (names : NameMap) (ps : Parts) (vs : Values) (a : Cursor) (holds : Values → List Step → Cursor → Type 0) : Type 0 where
+pub record PartsPlan (s : SchemaTable) (names : NameMap) (ps : Parts) (vs : Values) (a : Cursor) (holds : Values → List Step → Cursor → Type 0) : Type 0 where
   pub flats : Values
   pub steps : List Step
   pub stop : Cursor
@@ -57,10 +58,10 @@ pub record ZeroedParts (end start p : ℕ) (bytes : List ℕ) : Type 0 where
 
 -- these bytes, which stand at an offset from p, are clean, and read as the parts from there on
 pub record ResolvesParts (D : Definitions) (p at : ℕ) (a : List ℕ) (ps : Parts) (flats : Values) : Type 0 where
-  pub reads : (s : Schema) (bytes : List ℕ) → Knows s D → Occurs bytes (p + at) a → ReadsParts s bytes p at ps flats
-  pub clean : (s : Schema) (bytes : List ℕ) → Knows s D → Occurs bytes (p + at) a → CleanParts s bytes p at ps (p + (at + length a))
+  pub reads : (s : SchemaTable) (bytes : List ℕ) → Knows s D → Occurs bytes (p + at) a → ReadsParts s bytes p at ps flats
+  pub clean : (s : SchemaTable) (bytes : List ℕ) → Knows s D → Occurs bytes (p + at) a → CleanParts s bytes p at ps (p + (at + length a))
 
 -- what hinders the resolving of parts from an offset on, of what stands at p: a part of one of them
 pub record HindersPartsAt (D : Definitions) (ps : Parts) (flats : Values) (p at : ℕ) (e : Error) : Type 0 where
   pub named : IsOwnCause e
-  pub cause : (s : Schema) → Knows s D → (o : ℕ) × (Y : Shape) × (w : Value) × PartOfParts s at ps flats o Y w × HindersPartAt Y (p + o) w e
+  pub cause : (s : SchemaTable) → Knows s D → (o : ℕ) × (Y : Shape) × (w : Value) × PartOfParts s at ps flats o Y w × HindersPartAt Y (p + o) w e

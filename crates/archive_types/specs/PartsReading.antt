@@ -5,7 +5,7 @@ use Rattle.archive_check.specs.declared.format.error.Error.TheVariants.{OutOfMem
 use Rattle.archive_check.specs.Shape.{Shape, one, Parts, no_part, part}
 use Rattle.archive_check.specs.Layout.{Layout, up}
 use Rattle.archive_check.specs.Value.{Value, Values, no_value, value}
-use Rattle.archive_check.specs.Reads.{Schema}
+use Rattle.archive_check.specs.Reads.{SchemaTable}
 use Rattle.archive_check.specs.Within.{IsPart}
 use Rattle.archive_check.specs.Viewed.{Lies}
 use Rattle.archive_check.specs.Denotes.{Naming}
@@ -15,7 +15,7 @@ use Rattle.archive_check.specs.Entries.{KeepsEntries, IsCyclic, ReadsBack}
 
 -- Each of the parts, laid out from an offset on, of what begins at q, lies in an accepted buffer, under some schema that knows the definitions.
 abbrev pub PartsViewed : Definitions → List ℕ → ℕ → ℕ → Parts → Type 0
-PartsViewed D bytes q at ps = ∥ ((s : Schema) × Knows s D × ((r : ℕ) (Y : Shape) → IsPart s q at ps r Y → Lies s bytes r (one Y) 0)) ∥₁
+PartsViewed D bytes q at ps = ∥ ((s : SchemaTable) × Knows s D × ((r : ℕ) (Y : Shape) → IsPart s q at ps r Y → Lies s bytes r (one Y) 0)) ∥₁
 
 -- Each of them was read back where it lies, at the next multiple of its alignment, one after another.
 pub data PartsReadBack (keeps : Bool) (bytes : List ℕ) (q : ℕ) : Definitions → Parts → ℕ → Entries → Entries → Values → List Naming → Type 0 where

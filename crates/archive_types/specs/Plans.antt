@@ -6,11 +6,12 @@ use Rattle.archive_check.specs.Shape.{Name, Kind, Key, Flavor, Shape, leaf, part
 use Rattle.archive_check.specs.Layout.{up}
 use Rattle.archive_check.specs.Definitions.{Definitions, Knows}
 use Rattle.archive_check.specs.Value.{Value, number, product, case, list, text_value, box, null, shared_value, hole, Values, no_value, value}
-use Rattle.archive_check.specs.Reads.{Schema}
+use Rattle.archive_check.specs.Reads.{SchemaTable}
 use Rattle.archive_check.specs.Tour.{Region, pointee_align, region_at}
 use Rattle.archive_check.specs.Tightness.{after}
 use Rattle.archive_check.specs.WriterState.{KeyStates, WriterState, no_keys}
-use Rattle.archive_types.specs.Writing.{NameMap, Naming, AreNamed, to_pointee, to_map, to_shared, Writes, LaysOut, LaysOutShared}
+use Rattle.archive_check.specs.Denotes.{Naming}
+use Rattle.archive_types.specs.Writing.{NameMap, AreNamed, to_pointee, to_map, to_shared, Writes, LaysOut, LaysOutShared}
 use Rattle.archive_types.specs.ValueOrder.{keys_ascend}
 
 -- where a writer stands: how many bytes it holds, and the states of the shared keys
@@ -58,7 +59,7 @@ disorders v = []
 -- each pointer. A rule for each format. Parts and elements come one after another, what a pointee owns before its region; a shared value comes once, and
 -- is pending while what it owns is written.
 mutual
-  pub data Plans (s : Schema) (names : NameMap) : Shape → Value → Cursor → Value → List Step → Cursor → Type 0 where
+  pub data Plans (s : SchemaTable) (names : NameMap) : Shape → Value → Cursor → Value → List Step → Cursor → Type 0 where
     plans_leaf : {kind : Kind} {z : ℤ} {a : Cursor} → Plans s names (leaf kind) (number z) a (number z) [] a
     plans_parts : {ps : Parts} {vs ws : Values} {a b : Cursor} {C : List Step}
         → PlansParts s names ps vs a ws C b
@@ -99,7 +100,7 @@ mutual
         → Plans s names (named name) v a w C b
 
   -- parts come one after another
-  pub data PlansParts (s : Schema) (names : NameMap) : Parts → Values → Cursor → Values → List Step → Cursor → Type 0 where
+  pub data PlansParts (s : SchemaTable) (names : NameMap) : Parts → Values → Cursor → Values → List Step → Cursor → Type 0 where
     plans_no_part : {a : Cursor} → PlansParts s names no_part no_value a no_value [] a
     plans_part : {X : Shape} {ps : Parts} {v w : Value} {vs ws : Values} {a b c : Cursor} {C D : List Step}
         → Plans s names X v a w C b
@@ -107,7 +108,7 @@ mutual
         → PlansParts s names (part X ps) (value v vs) a (value w ws) (C ++ D) c
 
   -- elements come one after another
-  pub data PlansRun (s : Schema) (names : NameMap) : ℕ → Shape → Values → Cursor → Values → List Step → Cursor → Type 0 where
+  pub data PlansRun (s : SchemaTable) (names : NameMap) : ℕ → Shape → Values → Cursor → Values → List Step → Cursor → Type 0 where
     plans_none : {X : Shape} {a : Cursor} → PlansRun s names zero X no_value a no_value [] a
     plans_element : {n : ℕ} {X : Shape} {v w : Value} {vs ws : Values} {a b c : Cursor} {C D : List Step}
         → Plans s names X v a w C b
@@ -115,7 +116,7 @@ mutual
         → PlansRun s names (suc n) X (value v vs) a (value w ws) (C ++ D) c
 
   -- what a pointee owns
-  pub data PlansPointee (s : Schema) (names : NameMap) : Pointee → ℕ → Value → Cursor → Value → List Step → Cursor → Type 0 where
+  pub data PlansPointee (s : SchemaTable) (names : NameMap) : Pointee → ℕ → Value → Cursor → Value → List Step → Cursor → Type 0 where
     plans_one : {X : Shape} {v w : Value} {a b : Cursor} {C : List Step}
         → Plans s names X v a w C b
         → PlansPointee s names (one X) 0 v a w C b
@@ -125,14 +126,14 @@ mutual
     plans_text : {bytes : List ℕ} {a : Cursor} → PlansPointee s names text (length bytes) (text_value bytes) a (text_value bytes) [] a
 
   -- and then its region, which begins at t as soon as it can
-  pub data PlansRegion (s : Schema) (names : NameMap) : Bool → Pointee → ℕ → Value → Cursor → ℕ → List Step → Cursor → Type 0 where
+  pub data PlansRegion (s : SchemaTable) (names : NameMap) : Bool → Pointee → ℕ → Value → Cursor → ℕ → List Step → Cursor → Type 0 where
     plans_region : {is_shared : Bool} {P : Pointee} {n t : ℕ} {v w : Value} {a b : Cursor} {C : List Step}
         → PlansPointee s names P n v a w C b
         → t ≡ up b.position (pointee_align s P)
         → PlansRegion s names is_shared P n v a t (C ++ lays (region_at s t P n is_shared) w ∷ []) (record { position = after (region_at s t P n is_shared); states = b.states })
 
   -- a shared value, by its key: an unknown key's is written and finished, a finished one's stands where it is
-  pub data PlansShared (s : Schema) (names : NameMap) : Flavor → Pointee → ℕ → Cursor → Value → List Step → Cursor → Type 0 where
+  pub data PlansShared (s : SchemaTable) (names : NameMap) : Flavor → Pointee → ℕ → Cursor → Value → List Step → Cursor → Type 0 where
     plans_new : {flavor : Flavor} {P : Pointee} {key n t : ℕ} {v : Value} {a b : Cursor} {C : List Step}
         → a.states key ≡ None
         → get names key ≡ Some (record { flavor = flavor; pointee = P; length = n }, v)
@@ -145,11 +146,11 @@ mutual
     plans_pending : {flavor : Flavor} {P : Pointee} {key : ℕ} {a : Cursor} → a.states key ≡ Some None → PlansShared s names flavor P key a (shared_value key) (meets key ∷ []) a
 
 -- in each schema that knows the definitions, whatever the keys name as they do
-abbrev pub Whatever : Definitions → List Naming → (Schema → NameMap → Type 0) → Type 0
-Whatever D keys f = (s : Schema) (names : NameMap) → Knows s D → AreNamed names keys → f s names
+abbrev pub Whatever : Definitions → List Naming → (SchemaTable → NameMap → Type 0) → Type 0
+Whatever D keys f = (s : SchemaTable) (names : NameMap) → Knows s D → AreNamed names keys → f s names
 
 -- a plan of what v owns, as an X, of which this holds
-pub record PlanOf (s : Schema) (names : NameMap) (X : Shape) (v : Value) (a : Cursor) (holds : Value → List Step → Cursor → Type 0) : Type 0 where
+pub record ValuePlan (s : SchemaTable) (names : NameMap) (X : Shape) (v : Value) (a : Cursor) (holds : Value → List Step → Cursor → Type 0) : Type 0 where
   pub flat : Value
   pub steps : List Step
   pub stop : Cursor
@@ -157,7 +158,7 @@ pub record PlanOf (s : Schema) (names : NameMap) (X : Shape) (v : Value) (a : Cu
   pub such : holds flat steps stop
 
 -- a plan of a pointee, with its region, of which this holds
-pub record RegionPlan (s : Schema) (names : NameMap) (P : Pointee) (n : ℕ) (v : Value) (a : Cursor) (holds : ℕ → List Step → Cursor → Type 0) : Type 0 where
+pub record RegionPlan (s : SchemaTable) (names : NameMap) (P : Pointee) (n : ℕ) (v : Value) (a : Cursor) (holds : ℕ → List Step → Cursor → Type 0) : Type 0 where
   pub begin : ℕ
   pub steps : List Step
   pub stop : Cursor
@@ -169,19 +170,19 @@ abbrev pub AreBelow : Cursor → Type 0
 AreBelow c = (k t : ℕ) → c.states k ≡ Some (Some t) → t < c.position
 
 -- the same of a plan from a on, where the finished keys stand below
-abbrev pub Foreseen : Definitions → List Naming → Cursor → (Schema → NameMap → Type 0) → Type 0
+abbrev pub Foreseen : Definitions → List Naming → Cursor → (SchemaTable → NameMap → Type 0) → Type 0
 Foreseen D keys a f = AreBelow a → Whatever D keys f
 
 -- there is a plan, from wherever a writer stands
 abbrev pub HasPlan : Definitions → Shape → List Naming → Value → Type 0
-HasPlan D X keys v = (a : Cursor) → Whatever D keys (λ s names. PlanOf s names X v a (λ w C b. Unit {0}))
+HasPlan D X keys v = (a : Cursor) → Whatever D keys (λ s names. ValuePlan s names X v a (λ w C b. Unit {0}))
 
 abbrev pub HasRegionPlan : Definitions → Pointee → ℕ → List Naming → Value → Type 0
 HasRegionPlan D P n keys v = (a : Cursor) → Whatever D keys (λ s names. RegionPlan s names P n v a (λ t C b. Unit {0}))
 
 -- It went from a as planned: `flat` is what will be read, and the writer stands where the plan ends.
 abbrev pub GoesAsPlanned : Definitions → Shape → List Naming → Value → Cursor → Value → WriterState → Type 0
-GoesAsPlanned D X keys v a flat new = Foreseen D keys a (λ s names. PlanOf s names X v a (λ w C b. (w ≡ flat) × StandsAt b new))
+GoesAsPlanned D X keys v a flat new = Foreseen D keys a (λ s names. ValuePlan s names X v a (λ w C b. (w ≡ flat) × StandsAt b new))
 
 -- the same of a pointee with its region, which stands at p
 abbrev pub LiesAsPlanned : Definitions → Pointee → ℕ → List Naming → Value → Cursor → ℕ → (Cursor → Type 0) → Type 0

@@ -4,12 +4,13 @@ use Rattle.archive_check.specs.Shape.{Shape}
 use Rattle.archive_check.specs.Layout.{Layout}
 use Rattle.archive_check.specs.Definitions.{Definitions, Knows, HasLayout}
 use Rattle.archive_check.specs.Value.{Value, Values, no_value, value}
-use Rattle.archive_check.specs.Reads.{Schema, ReadsRun}
+use Rattle.archive_check.specs.Reads.{SchemaTable, ReadsRun}
 use Rattle.archive_check.specs.CleanRegions.{Occurs, CleanRun}
 use Rattle.archive_check.specs.WriterState.{WriterState}
 use Rattle.archive_check.specs.declared.format.error.Error.{Error}
 use Rattle.archive_check.specs.declared.format.error.Error.TheVariants.{LayoutTooLarge}
-use Rattle.archive_types.specs.Writing.{NameMap, Naming, WritesAll}
+use Rattle.archive_check.specs.Denotes.{Naming}
+use Rattle.archive_types.specs.Writing.{NameMap, WritesAll}
 use Rattle.archive_types.specs.Plans.{Cursor, cursor, StandsAt, Step, PlansRun, Whatever, Foreseen}
 use Rattle.archive_types.specs.Causes.{Explains, IsOwnCause, PartOfRun, HindersPart, HindersPartAt, HindersSome}
 
@@ -37,7 +38,7 @@ EachBelongs b (x ∷ xs) [] = ⊥
 EachBelongs b (x ∷ xs) (r ∷ rs) = b x r × EachBelongs b xs rs
 
 -- a plan of what n elements own, of which this holds
-pub record RunPlan (s : Schema) (names : NameMap) (n : ℕ) (X : Shape) (vs : Values) (a : Cursor) (holds : Values → List Step → Cursor → Type 0) : Type 0 where
+pub record RunPlan (s : SchemaTable) (names : NameMap) (n : ℕ) (X : Shape) (vs : Values) (a : Cursor) (holds : Values → List Step → Cursor → Type 0) : Type 0 where
   pub flats : Values
   pub steps : List Step
   pub stop : Cursor
@@ -71,14 +72,14 @@ pub record PutsRun (D : Definitions) (old new : WriterState) (X : Shape) (L : La
   pub added : List ℕ
   pub grown : new.bytes ≡ old.bytes ++ added
   pub sized : length added ≡ n * L.size
-  pub reads : (s : Schema) (bytes : List ℕ) → Knows s D → Occurs bytes (length old.bytes) added → ReadsRun s bytes (length old.bytes) n X flats
-  pub clean : (s : Schema) (bytes : List ℕ) → Knows s D → Occurs bytes (length old.bytes) added → CleanRun s bytes (length old.bytes) n X
+  pub reads : (s : SchemaTable) (bytes : List ℕ) → Knows s D → Occurs bytes (length old.bytes) added → ReadsRun s bytes (length old.bytes) n X flats
+  pub clean : (s : SchemaTable) (bytes : List ℕ) → Knows s D → Occurs bytes (length old.bytes) added → CleanRun s bytes (length old.bytes) n X
   pub states : new.states ≡ old.states
 
 -- What hinders the resolving of elements from p on: a part of one of them.
 pub record HindersEachAt (D : Definitions) (X : Shape) (n : ℕ) (flats : Values) (p : ℕ) (e : Error) : Type 0 where
   pub named : IsOwnCause e
-  pub cause : (s : Schema) → Knows s D → (o : ℕ) × (Y : Shape) × (w : Value) × PartOfRun s n X flats o Y w × HindersPartAt Y (p + o) w e
+  pub cause : (s : SchemaTable) → Knows s D → (o : ℕ) × (Y : Shape) × (w : Value) × PartOfRun s n X flats o Y w × HindersPartAt Y (p + o) w e
 
 -- and of their own region there: its end is above `usize::MAX`, too
 abbrev pub HindersRunAt : Definitions → Shape → Layout → ℕ → Values → ℕ → Error → Type 0

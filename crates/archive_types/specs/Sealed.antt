@@ -3,10 +3,10 @@ use Rattle.std.proofs.Common.{◌≡◌, ◌≢◌, ℕ, ℤ, pos, ◌/◌, ◌+
 use Rattle.std.specs.Int.{Width, w8, w16, w32, w64, w128, from_le_bytes}
 use Rattle.archive_check.specs.Shape.{Sign, unsigned, signed, Kind, number as number_kind, non_zero, Shape, Pointee}
 use Rattle.archive_check.specs.Layout.{kind_size}
-use Rattle.archive_check.specs.Leaves.{Leaf, number_leaf, text_leaf, leaves_of, regions_of}
+use Rattle.archive_check.specs.Leaves.{PlacedLeaf, number_leaf, text_leaf, leaves_of, regions_of}
 use Rattle.archive_check.specs.Tour.{Accepted}
 use Rattle.archive_check.specs.Within.{PartOfSome}
-use Rattle.archive_check.specs.Reads.{Schema, bytes_at, IsLegal, kind_number, kind_value, with_sign}
+use Rattle.archive_check.specs.Reads.{SchemaTable, bytes_at, IsLegal, kind_number, kind_value, with_sign}
 use Rattle.archive_check.specs.Readable.{target_from, string_text}
 use Rattle.archive_num.specs.Digits.{is_zero}
 
@@ -16,19 +16,19 @@ pub record Encodes (kind : Kind) (bytes : List ℕ) (z : ℤ) : Type 0 where
   pub says : kind_value kind bytes ≡ z
 
 -- the leaf of a kind that stands at p
-abbrev pub leaf_at : Kind → List ℕ → ℕ → Leaf
+abbrev pub leaf_at : Kind → List ℕ → ℕ → PlacedLeaf
 leaf_at kind bytes p = number_leaf p kind (kind_value kind (bytes_at bytes p (kind_size kind)))
 
 -- wherever P at q, with its length, is a part of an archive, x stands among its leaves
-abbrev pub StandsIn : List ℕ → ℕ → Pointee → ℕ → Leaf → Type 0
-StandsIn bytes q P n x = (s : Schema) (root : ℕ) (X : Shape) (a : Accepted s bytes root X) → PartOfSome s bytes (regions_of a) q P n → Contains (leaves_of a) x
+abbrev pub StandsIn : List ℕ → ℕ → Pointee → ℕ → PlacedLeaf → Type 0
+StandsIn bytes q P n x = (s : SchemaTable) (root : ℕ) (X : Shape) (a : Accepted s bytes root X) → PartOfSome s bytes (regions_of a) q P n → Contains (leaves_of a) x
 
 -- where the text of the string at p begins
 abbrev pub text_begin : List ℕ → ℕ → ℕ
 text_begin bytes p = if (slice_index bytes p / 64) == 2 then target_from bytes p (p + 4) else p
 
 -- its leaf
-abbrev pub string_leaf : List ℕ → ℕ → Leaf
+abbrev pub string_leaf : List ℕ → ℕ → PlacedLeaf
 string_leaf bytes p = text_leaf (text_begin bytes p) (string_text bytes p)
 
 -- the bytes of a value encode it

@@ -7,7 +7,7 @@ use Rattle.std.specs.declared.cmp.Ordering.{Ordering}
 use Rattle.std.specs.declared.cmp.Ordering.TheVariants.{Less, Equal, Greater}
 use Rattle.archive_check.specs.Shape.{Pointee}
 use Rattle.archive_check.specs.Value.{Pointer, Value, number, product, case, list, text_value, box, null, hole, Values, no_value, value}
-use Rattle.archive_check.specs.Reads.{Schema}
+use Rattle.archive_check.specs.Reads.{SchemaTable}
 use Rattle.archive_check.specs.Tour.{Contents, Leads}
 use Rattle.archive_check.specs.Definitions.{Definitions, Knows}
 use Rattle.archive_types.specs.Compared.{Standing, standing}
@@ -43,7 +43,7 @@ keys_ascend (value v (value w vs)) = is_lt (value_cmp (key_of_pair v) (key_of_pa
 
 -- The second value is the first one, with what it leads to in place of each pointer, shared or not.
 mutual
-  pub data Follows (s : Schema) (bytes : List ℕ) : Value → Value → Type 0 where
+  pub data Follows (s : SchemaTable) (bytes : List ℕ) : Value → Value → Type 0 where
     follows_number : {z : ℤ} → Follows s bytes (number z) (number z)
     follows_product : {vs ws : Values} → FollowsAll s bytes vs ws → Follows s bytes (product vs) (product ws)
     follows_case : {tag : ℕ} {vs ws : Values} → FollowsAll s bytes vs ws → Follows s bytes (case tag vs) (case tag ws)
@@ -56,13 +56,13 @@ mutual
         → Follows s bytes v w
         → Follows s bytes (hole p) w
 
-  pub data FollowsAll (s : Schema) (bytes : List ℕ) : Values → Values → Type 0 where
+  pub data FollowsAll (s : SchemaTable) (bytes : List ℕ) : Values → Values → Type 0 where
     follows_no_value : FollowsAll s bytes no_value no_value
     follows_value : {v w : Value} {vs ws : Values} → Follows s bytes v w → FollowsAll s bytes vs ws → FollowsAll s bytes (value v vs) (value w ws)
 
 -- under some schema that knows the definitions, P there says w, each pointer followed
 pub record Means (D : Definitions) (P : Pointee) (a : Standing) (w : Value) : Type 0 where
-  pub schema : Schema
+  pub schema : SchemaTable
   pub value : Value
   pub knows : Knows schema D
   pub contents : Contents schema a.bytes a.pos P a.len value

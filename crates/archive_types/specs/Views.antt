@@ -2,7 +2,7 @@
 use Rattle.std.specs.Prelude.{◌≡◌, ℕ, zero, suc, ◌+◌, ◌*◌, ◌<◌, List, Option, Some, None}
 use Rattle.archive_check.specs.Shape.{Shape, Pointee}
 use Rattle.archive_check.specs.Value.{Value, box, list, Values, no_value, value}
-use Rattle.archive_check.specs.Reads.{Schema}
+use Rattle.archive_check.specs.Reads.{SchemaTable}
 use Rattle.archive_check.specs.Definitions.{Definitions, Knows}
 use Rattle.archive_check.specs.Reached.{Reached}
 use Rattle.archive_check.specs.Viewed.{Viewed}
@@ -28,7 +28,7 @@ element_in k _ = None
 
 -- Whatever an archive says of P at q, Q at r is a part of the archive, and it says of it what stands there in that.
 pub record ShowsPart (D : Definitions) (bytes : List ℕ) (q : ℕ) (P : Pointee) (n : ℕ) (r : ℕ) (Q : Pointee) (m : ℕ) (taken : Value → Option Value) : Type 0 where
-  pub shown : (s : Schema) (root : ℕ) (X : Shape) (w : Value) → Knows s D → Reached s bytes root X q P n w → (u : Value) × (taken w ≡ Some u) × Reached s bytes root X r Q m u
+  pub shown : (s : SchemaTable) (root : ℕ) (X : Shape) (w : Value) → Knows s D → Reached s bytes root X q P n w → (u : Value) × (taken w ≡ Some u) × Reached s bytes root X r Q m u
 
 -- each of n elements of z bytes, from p on, is viewed
 abbrev pub AreViewed : Definitions → List ℕ → ℕ → ℕ → Pointee → ℕ → Type 0

@@ -6,9 +6,9 @@ use Rattle.archive_check.specs.Shape.{Key, Flavor, Shape, Pointee, run, entry_of
 use Rattle.archive_check.specs.Layout.{Layout, up}
 use Rattle.archive_check.specs.Definitions.{Definitions, Knows, HasLayout}
 use Rattle.archive_check.specs.Value.{Pointer, Value, Values, box, hole, pointers, all_pointers}
-use Rattle.archive_check.specs.Reads.{Schema, Reads}
+use Rattle.archive_check.specs.Reads.{SchemaTable, Reads}
 use Rattle.archive_check.specs.Tour.{Region, Contents, Entry, Seen, Tour, pointee_size, pointee_align}
-use Rattle.archive_check.specs.Denotes.{Meaning, Denotes, Same, Fills, FillsAll, rename, rename_all}
+use Rattle.archive_check.specs.Denotes.{Naming, Meaning, Denotes, Same, Fills, FillsAll, rename, rename_all}
 use Rattle.archive_check.specs.Reached.{Names, NamesAmong}
 use Rattle.archive_check.specs.Tightness.{Tight, TightFrom, CleanFrom}
 use Rattle.archive_check.specs.CleanRegions.{Occurs, IsZeroed, CleanValue, CleanPointee, CleanRegions}
@@ -18,10 +18,6 @@ use Rattle.archive_write.specs.Sharing.{IsSet}
 -- what each key names: flavor, pointee and length, and the value
 abbrev pub NameMap : Type 0
 NameMap = FinMap nat_cmp (Entry × Value)
-
--- a key that a value holds, with what it names
-abbrev pub Naming : Type 0
-Naming = ℕ × (Entry × Value)
 
 -- each of these keys names what the map says
 abbrev pub AreNamed : NameMap → List Naming → Type 0
@@ -50,7 +46,7 @@ pub record AreKeys (names : NameMap) (keys : List Naming) : Type 0 where
 
 -- What a writer holds in the end, and what is known of it: its schema, where each key's value lies, and what each key names.
 pub record World : Type 0 where
-  pub schema : Schema
+  pub schema : SchemaTable
   pub bytes : List ℕ
   pub position : ℕ → ℕ
   pub names : NameMap
@@ -135,8 +131,8 @@ pub record WritesAll (definitions : Definitions) (old new : WriterState) (keys :
 
 -- these bytes, at p, are clean and read as the value, with its pointers
 pub record Resolves (definitions : Definitions) (p : ℕ) (a : List ℕ) (X : Shape) (flat : Value) : Type 0 where
-  pub reads : (s : Schema) (bytes : List ℕ) → Knows s definitions → Occurs bytes p a → Reads s bytes p X flat
-  pub clean : (s : Schema) (bytes : List ℕ) → Knows s definitions → Occurs bytes p a → CleanValue s bytes p X
+  pub reads : (s : SchemaTable) (bytes : List ℕ) → Knows s definitions → Occurs bytes p a → Reads s bytes p X flat
+  pub clean : (s : SchemaTable) (bytes : List ℕ) → Knows s definitions → Occurs bytes p a → CleanValue s bytes p X
 
 -- one value was appended
 pub record Puts (definitions : Definitions) (old new : WriterState) (X : Shape) (L : Layout) (flat : Value) : Type 0 where
@@ -155,7 +151,7 @@ pub record ZeroedPlace (size p : ℕ) (bytes : List ℕ) : Type 0 where
 
 -- The value is written with its root there: the buffer is an archive of it, its keys renamed one to one; one without keys is denoted as it is. From
 -- start on it is tight and clean.
-pub record IsWritten (s : Schema) (start : ℕ) (bytes : List ℕ) (root : ℕ) (X : Shape) (names : NameMap) (value : Value) : Type 0 where
+pub record IsWritten (s : SchemaTable) (start : ℕ) (bytes : List ℕ) (root : ℕ) (X : Shape) (names : NameMap) (value : Value) : Type 0 where
   pub meaning : Meaning
   pub denotes : Denotes s bytes root X meaning
   pub same : Same (record { value = value; shared = names }) meaning
@@ -169,7 +165,7 @@ pub record Archives (definitions : Definitions) (old new : List ℕ) (root : ℕ
   pub added : List ℕ
   pub grown : new ≡ old ++ added
   pub root_ends : root + size ≡ length new
-  pub archived : (s : Schema) (names : NameMap) → Knows s definitions → AreKeys names keys → IsWritten s (length old) new root X names value
+  pub archived : (s : SchemaTable) (names : NameMap) → Knows s definitions → AreKeys names keys → IsWritten s (length old) new root X names value
 
 -- the pointer to a pointee of n elements or bytes that has its region for itself
 abbrev pub to_pointee : ℕ → Pointee → ℕ → Pointer
@@ -199,10 +195,10 @@ pub record LaysOut (definitions : Definitions) (old new : WriterState) (keys : L
   pub grown : new.bytes ≡ mid.bytes ++ (zeros ++ region)
   pub zeroed : IsZeroed zeros
   pub at : p ≡ length mid.bytes + length zeros
-  pub aligned : (s : Schema) → Knows s definitions → p ≡ up (length mid.bytes) (pointee_align s P)
-  pub sized : (s : Schema) → Knows s definitions → length region ≡ pointee_size s P n
-  pub contents : (s : Schema) (bytes : List ℕ) → Knows s definitions → Occurs bytes p region → Contents s bytes p P n flat
-  pub clean : (s : Schema) (bytes : List ℕ) → Knows s definitions → Occurs bytes p region → CleanPointee s bytes p P n
+  pub aligned : (s : SchemaTable) → Knows s definitions → p ≡ up (length mid.bytes) (pointee_align s P)
+  pub sized : (s : SchemaTable) → Knows s definitions → length region ≡ pointee_size s P n
+  pub contents : (s : SchemaTable) (bytes : List ℕ) → Knows s definitions → Occurs bytes p region → Contents s bytes p P n flat
+  pub clean : (s : SchemaTable) (bytes : List ℕ) → Knows s definitions → Occurs bytes p region → CleanPointee s bytes p P n
   pub states : new.states ≡ mid.states
 
 -- the pointer to a shared pointee

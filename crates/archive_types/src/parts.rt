@@ -1,6 +1,7 @@
 //! The parts of values: archived one after another and read back. The traits are our own: what a derive of rkyv 0.8.18 writes for each struct, they
 //! say once, for the parts of every record, tuple and variant.
 
+ghost use Rattle.archive_check.specs.Denotes.{Naming};
 ghost use Rattle.std.specs.Prelude.{◌≡◌, ◌<◌, ℕ, length, List, [], ◌++◌, IfOk, OnOk, IfErr};
 ghost use Rattle.archive_check.specs.Shape.{part};
 ghost use Rattle.archive_check.specs.Value.{Values, no_value, product, value};
@@ -8,8 +9,7 @@ ghost use Rattle.archive_types.specs.Members.Keyed.{nothing_keyed, part_keyed};
 ghost use Rattle.archive_types.specs.Parts.{ArePlanned, AreKeyed, ZeroedParts};
 ghost use Rattle.archive_types.specs.Members.PartsPlanned.{no_part_planned, part_planned};
 ghost use Rattle.archive_types.specs.PartsReading.{PartsViewed};
-ghost use Rattle.archive_types.specs.Writing.{Naming};
-ghost use Rattle.archive_types.specs.Words.PartsWritten.{ReadsParts, UnreadParts};
+ghost use Rattle.archive_types.specs.Words.PartsWritten.{ReadsPartsBack, UnreadParts};
 ghost use Rattle.archive_types.specs.Outcomes.{ResolvesAllParts};
 
 mod four_parts;
@@ -183,7 +183,7 @@ pub trait DeserializeParts<T: OwnedParts, D: Entries>: PortableParts {
         deserializer: &mut D,
     ) -> Result<T, Error>
         requires viewed { PartsViewed Self.definitions bytes.now pos start Self.parts }
-        ensures read { IfOk result (ReadsParts Self.CheckedParts bytes.now pos start D.Entries deserializer T.meanings T.keys) }
+        ensures read { IfOk result (ReadsPartsBack Self.CheckedParts bytes.now pos start D.Entries deserializer T.meanings T.keys) }
         ensures refused { IfErr result (UnreadParts Self.CheckedParts bytes.now pos start D.Entries deserializer) };
 }
 

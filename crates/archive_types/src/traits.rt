@@ -1,5 +1,6 @@
 //! What is archived and how, and what is read back. The traits are those of rkyv 0.8.18; their laws are our own.
 
+ghost use Rattle.archive_check.specs.Denotes.{Naming};
 ghost use Rattle.std.specs.Prelude.{◌≡◌, ◌<◌, ◌≤◌, ℕ, length, IfOk, OnOk, IfErr, IfSome, IsErr, List, [], None, false};
 ghost use Rattle.std.specs.Vec.{vec_len, vec_capacity};
 ghost use Rattle.archive_check.specs.Entries.{ReadsBack, RefusesReading};
@@ -13,7 +14,7 @@ ghost use Rattle.archive_types.specs.Words.Seen.{IsPartOf, RefusesPart, ReadsVie
 ghost use Rattle.archive_types.specs.Causes.{HindersAt, IsRefused, IsRegionRefused};
 ghost use Rattle.archive_types.specs.Plans.{HasPlan, HasRegionPlan, Serialized, SerializedRegion};
 ghost use Rattle.archive_types.specs.Runs.{each_keys, each_meaning};
-ghost use Rattle.archive_types.specs.Writing.{Naming, IsKeyed, ZeroedPlace, Resolves};
+ghost use Rattle.archive_types.specs.Writing.{IsKeyed, ZeroedPlace, Resolves};
 ghost use Rattle.archive_write.specs.Written.{GoesOn};
 ghost use Rattle.archive_types.specs.Outcomes.{ResolvesAs, CopiesElements};
 

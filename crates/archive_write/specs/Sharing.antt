@@ -14,9 +14,9 @@ start_answer (Some None) = Pending
 start_answer (Some (Some pos)) = Finished pos
 
 -- the state that it leaves: an unknown key is then pending, a known one stays
-abbrev pub started : KeyState → KeyState
-started None = Some None
-started (Some s) = Some s
+abbrev pub started_key : KeyState → KeyState
+started_key None = Some None
+started_key (Some s) = Some s
 
 -- the states are those of before, but that this key has that state
 abbrev pub IsSet : (ℕ → KeyState) → ℕ → KeyState → (ℕ → KeyState) → Type 0

@@ -6,7 +6,7 @@ use Rattle.std.specs.Prelude.{◌≡◌, ℕ, ◌-◌, List, ◌++◌, length, t
 use Rattle.archive_check.specs.WriterState.{WriterState, KeyState}
 use Rattle.archive_check.specs.declared.format.error.Error.{Error}
 use Rattle.archive_check.specs.declared.format.error.Error.TheVariants.{BufferOverflow}
-use Rattle.archive_write.specs.Sharing.{started, IsSet}
+use Rattle.archive_write.specs.Sharing.{started_key, IsSet}
 use Rattle.archive_write.specs.Written.{IsBeginning, RoomFalls, ExplainsRefusal, padding}
 
 module _ {W : Type 0} (state : W → WriterState) (w : Both (MutBor W) (MutBor W)) where
@@ -28,7 +28,7 @@ module _ {W : Type 0} (state : W → WriterState) (w : Both (MutBor W) (MutBor W
 
 -- the state of a key that is started, the others as they were
 abbrev pub IsStarted : (ℕ → KeyState) → ℕ → (ℕ → KeyState) → Type 0
-IsStarted before key after = IsSet before key (started (before key)) after
+IsStarted before key after = IsSet before key (started_key (before key)) after
 
 -- the n first bytes of a buffer are held: they come first in those held later
 abbrev pub KeepsHeld : ℕ → List ℕ → ℕ → List ℕ → Type 0

@@ -1,5 +1,6 @@
 -- What List means. Written by tools/derive: change the declaration, and run it again.
 use Rattle.archive_core.specs.Definitions.{no_definition}
+use Rattle.archive_core.specs.Denotes.{Naming}
 use Rattle.archive_core.specs.Keyed.{case_keyed, nothing_keyed, part_keyed, number_keyed, box_keyed}
 use Rattle.archive_core.specs.PartsPlanned.{part_planned, no_part_planned}
 use Rattle.archive_core.specs.Planned.{leaf_planned}
@@ -7,7 +8,7 @@ use Rattle.archive_core.specs.PlannedOwners.{boxed_one_planned}
 use Rattle.archive_core.specs.Plans.{HasPlan}
 use Rattle.archive_core.specs.Shape.{boxed, one, leaf, unsigned, variant, number as number_kind}
 use Rattle.archive_core.specs.Value.{Value, case, box, hole, number, value, no_value}
-use Rattle.archive_core.specs.Writing.{Naming, IsKeyed, to_pointee}
+use Rattle.archive_core.specs.Writing.{IsKeyed, to_pointee}
 use Rattle.archive_recursive.specs.Held.{variant_planned, keyed_as, planned_as}
 use Rattle.recursive_types.specs.declared.list.List.{List-F, out-List, roll-List, fold-List, fold-roll-List, ind-List, out-roll-List}
 use Rattle.recursive_types.specs.declared.list.List.TheFolds.{map-List}

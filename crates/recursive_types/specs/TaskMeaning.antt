@@ -2,6 +2,7 @@
 use Rattle.archive_core.specs.Arrays.{array_keys, array_meaning, array_keyed, array_planned}
 use Rattle.archive_core.specs.Choices.{option_shape}
 use Rattle.archive_core.specs.Definitions.{both, no_definition}
+use Rattle.archive_core.specs.Denotes.{Naming}
 use Rattle.archive_core.specs.Digits.{bool_byte}
 use Rattle.archive_core.specs.Keyed.{each_keyed, record_keyed, nothing_keyed, part_keyed, number_keyed, text_keyed}
 use Rattle.archive_core.specs.Options.{option_keys, option_meaning, option_flat, OptionBelongs, option_keyed, option_planned}
@@ -15,7 +16,7 @@ use Rattle.archive_core.specs.Runs.{each_keys, each_meaning, each_flat, EachBelo
 use Rattle.archive_core.specs.Shape.{parts, array, vec, str, run, leaf, bool, char, non_zero, unsigned, signed, part, no_part, number as number_kind}
 use Rattle.archive_core.specs.Strings.{string_flat}
 use Rattle.archive_core.specs.Value.{Value, product, list, hole, number, value, no_value, text_value}
-use Rattle.archive_core.specs.Writing.{Naming, IsKeyed, to_pointee}
+use Rattle.archive_core.specs.Writing.{IsKeyed, to_pointee}
 use Rattle.archive_recursive.specs.Held.{each_mapped, each_mapped_keys, held_keyed, held_planned, keyed_as, planned_as}
 use Rattle.recursive_types.specs.declared.task.Task.{Task-F, out-Task, roll-Task, fold-Task, fold-roll-Task, ind-Task, roll-out-Task}
 use Rattle.recursive_types.specs.declared.task.Task.TheFolds.{map-Task}

@@ -3,7 +3,7 @@ use Rattle.std.specs.Prelude.{◌≡◌, ℕ, zero, suc, is_some, true, codes, r
 use Rattle.archive_core.specs.Shape.{Name, Flavor, Shape, choice, named, one, shared, Variants, no_variant, variant, no_part, part, variant_at}
 use Rattle.archive_core.specs.Layout.{Layout}
 use Rattle.archive_core.specs.Definitions.{Definitions, no_definition, defines, both, Knows, HasLayout}
-use Rattle.archive_core.specs.Reads.{Schema}
+use Rattle.archive_core.specs.Reads.{SchemaTable}
 use Rattle.archive_core.specs.NamedLayout.{name_has_layout}
 use Rattle.archive_core.specs.SharedLaws.{flavor_as}
 
@@ -43,7 +43,7 @@ choice_has_layout = record { solved = λ s k. refl }
 abbrev pub variants_definitions : Definitions
 variants_definitions = both (both loop_definitions no_definition) no_definition
 
-pub knows_variants : (s : Schema) → Knows s loop_definitions → Knows s variants_definitions
+pub knows_variants : (s : SchemaTable) → Knows s loop_definitions → Knows s variants_definitions
 knows_variants s k = record { has = ((k.has, tt), tt); finite = k.finite; laid_out = k.laid_out }
 
 -- the only tag is 0

@@ -2,7 +2,7 @@
 use Rattle.std.proofs.Common.{ℕ, List, [], length, Option, refl, arith}
 use Rattle.archive_check.specs.Shape.{Shape, one}
 use Rattle.archive_check.specs.Value.{Value}
-use Rattle.archive_check.specs.Reads.{Schema, Reads}
+use Rattle.archive_check.specs.Reads.{SchemaTable, Reads}
 use Rattle.archive_check.specs.Tour.{root_region, Contents, contents_one}
 use Rattle.archive_check.specs.Depth.{nesting, AcceptedWithin}
 use Rattle.archive_check.specs.Walk.{enter, walk_one, RootWalk}
@@ -12,10 +12,10 @@ use Rattle.archive_check.proofs.Checks.Walks.{enter_finds}
 use Rattle.archive_check.proofs.Checks.WalksBack.{found_walks}
 
 -- one value is read there
-pub reads_of : {s : Schema} {bytes : List ℕ} {t n : ℕ} {X : Shape} {v : Value} → Contents s bytes t (one X) n v → Reads s bytes t X v
+pub reads_of : {s : SchemaTable} {bytes : List ℕ} {t n : ℕ} {X : Shape} {v : Value} → Contents s bytes t (one X) n v → Reads s bytes t X v
 reads_of (contents_one r) = r
 
-module _ (s : Schema) (bytes : List ℕ) (limit : Option ℕ) (root : ℕ) (X : Shape) where
+module _ (s : SchemaTable) (bytes : List ℕ) (limit : Option ℕ) (root : ℕ) (X : Shape) where
   pub walked : RootWalk s bytes limit root X → AcceptedWithin s bytes limit root X
   walked w =
       let r = enter_finds s bytes w.walk (omega arith) (omega arith) in (

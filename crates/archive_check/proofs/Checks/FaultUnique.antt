@@ -2,14 +2,14 @@
 use Rattle.std.proofs.Common.{◌≡◌, ℕ, refl, List, length, Option, ◌<◌, ◌^◌, arith, sym, ap, ◌∙◌}
 use Rattle.archive_check.specs.Shape.{Shape, Key, Parts, Pointee}
 use Rattle.archive_check.specs.Value.{Pointer}
-use Rattle.archive_check.specs.Reads.{Schema}
+use Rattle.archive_check.specs.Reads.{SchemaTable}
 use Rattle.archive_check.specs.Tour.{Seen, entry}
 use Rattle.archive_check.specs.Trail.{RootTrips, Fault, Trips, trips_leaf, trips_parts, trips_tag, trips_choice, trips_array, trips_boxed, trips_vec, trips_map, trips_inline, trips_short, trips_out_of_line, trips_shared, trips_weak, trips_named, TripsParts, trips_first, trips_later, TripsRun, trips_element, trips_later_element, TripsEntries, trips_key, trips_order, trips_value, trips_later_entry, TripsFollow, trips_unique, trips_before, trips_new, trips_type, trips_length, trips_cycle, TripsEnter, trips_size, trips_range, trips_align, trips_depth, trips_within, TripsContents, trips_one, trips_run, trips_entries, trips_text}
 use Rattle.archive_check.proofs.Tours.ReadingUnique.{pos_one}
 use Rattle.archive_check.proofs.Checks.FaultyNotWalked.{tripped_entries, one_walk, trips_no_walk}
 use Rattle.archive_check.proofs.Maps.Entries.{entry_walk}
 
-module _ (s : Schema) (bytes : List ℕ) where
+module _ (s : SchemaTable) (bytes : List ℕ) where
   mutual
     pub fault_unique : {pending : List ℕ} {depth : Option ℕ} {stop p a : ℕ} {X : Shape} {l : Seen} {e f : Fault} → stop < 2 ^ 64 → Trips s bytes pending depth stop p X a l e → Trips s bytes pending depth stop p X a l f → e ≡ f
     fault_unique room (trips_leaf h) (trips_leaf k) = refl

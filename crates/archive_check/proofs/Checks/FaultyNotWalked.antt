@@ -2,7 +2,7 @@
 use Rattle.std.proofs.Common.{◌≡◌, ℕ, pos, refl, List, length, Option, Some, None, subst, ◌<◌, ◌^◌, Contains, IsTrue, false, arith, sym, ap, ◌∙◌, inl, inr, ◌⊎◌}
 use Rattle.archive_check.specs.Shape.{Shape, Key, entry_of, Parts, Pointee, run, Flavor}
 use Rattle.archive_check.specs.Value.{Pointer}
-use Rattle.archive_check.specs.Reads.{Schema}
+use Rattle.archive_check.specs.Reads.{SchemaTable}
 use Rattle.archive_check.specs.Tour.{Seen, entry}
 use Rattle.archive_check.specs.Walk.{RootWalk, Walk, walk_leaf, walk_parts, walk_choice, walk_array, walk_boxed, walk_vec, walk_map, walk_inline, walk_out_of_line, walk_shared, walk_null, walk_weak, walk_named, WalkParts, walk_no_part, walk_part, WalkRun, walk_none, walk_element, Follow, follow_unique, follow_new, follow_again, Enter, enter, WalkContents, walk_one, walk_run, walk_entries, walk_text}
 use Rattle.archive_check.specs.Depth.{inside}
@@ -20,7 +20,7 @@ no_cycle : (t : ℕ) (pending : List ℕ) (flavor : Flavor) → Contains pending
 no_cycle t pending flavor inside none (inl free) = free inside
 no_cycle t pending flavor inside none (inr cycles) = grind arith
 
-module _ (s : Schema) (bytes : List ℕ) where
+module _ (s : SchemaTable) (bytes : List ℕ) where
   enter_target : {pending : List ℕ} {depth : Option ℕ} {stop t a : ℕ} {p : Pointer} {l : Seen} {b : ℕ} {m : Seen} → Enter s bytes pending depth stop p t a l b m → p.target ≡ pos t
   enter_target (enter e above below aligned allowed w) = e
 
@@ -173,7 +173,7 @@ module _ (s : Schema) (bytes : List ℕ) where
     contents_no_walk room (trips_entries {V = V} t) w = let q = walked_entries V refl w in entries_no_walk room t q.0 q.1
     contents_no_walk room (trips_text h) (walk_text k) = h k
 
-module _ (s : Schema) (bytes : List ℕ) where
+module _ (s : SchemaTable) (bytes : List ℕ) where
   -- what is walked from the root does not trip
   pub root_no_walk : {limit : Option ℕ} {root : ℕ} {X : Shape} {fault : Fault} → length bytes < 2 ^ 64 → RootTrips s bytes limit root X fault → RootWalk s bytes limit root X → ⊥
   root_no_walk small t w = enter_no_walk s bytes small t w.walk

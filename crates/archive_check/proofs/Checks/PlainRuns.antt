@@ -2,7 +2,7 @@
 use Rattle.std.proofs.Common.{◌≡◌, ℕ, zero, suc, ◌+◌, ◌*◌, ◌≤◌, List, length, Option, IsTrue, Bool, true, false, ◌&&◌, arith, refl, ap}
 use Rattle.archive_check.specs.Shape.{Kind, unit, bool, char, number, non_zero, raw_rel, Shape, leaf, parts, choice, array, boxed, vec, sorted_map, str, shared, weak, named, Parts, no_part, part}
 use Rattle.archive_check.specs.Layout.{up, kind_size, align_of, size_of, parts_align, parts_end, variants_align, variants_end}
-use Rattle.archive_check.specs.Reads.{Schema, LaidOut, bytes_at, IsLegalNumber, kind_number}
+use Rattle.archive_check.specs.Reads.{SchemaTable, LaidOut, bytes_at, IsLegalNumber, kind_number}
 use Rattle.archive_check.specs.Tour.{Seen}
 use Rattle.archive_check.specs.Walk.{Walk, walk_leaf, walk_parts, walk_choice, walk_array, walk_boxed, walk_vec, walk_map, walk_inline, walk_out_of_line, walk_shared, walk_null, walk_weak, walk_named, WalkParts, walk_no_part, walk_part, WalkRun, walk_none, walk_element}
 use Rattle.archive_check.specs.Words.PlainData.{is_plain_kind}
@@ -31,7 +31,7 @@ any_number (number sign width) n h = tt
 any_number (non_zero sign width) n h = cc
 any_number (raw_rel sign width) n h = tt
 
-module _ (s : Schema) (laid : LaidOut s) (bytes : List ℕ) {pending : List ℕ} {depth : Option ℕ} {stop start : ℕ} {seen : Seen} where
+module _ (s : SchemaTable) (laid : LaidOut s) (bytes : List ℕ) {pending : List ℕ} {depth : Option ℕ} {stop start : ℕ} {seen : Seen} where
   -- elements that are walked wherever they lie in the buffer
   run_of : (n : ℕ) {X : Shape} (p : ℕ) → ((q : ℕ) → q + size_of s.layouts X ≤ length bytes → Walk s bytes pending depth stop q X start seen start seen) → p + n * size_of s.layouts X ≤ length bytes → WalkRun s bytes pending depth stop p n X start seen start seen
   run_of zero p walk fits = walk_none
@@ -65,7 +65,7 @@ module _ (s : Schema) (laid : LaidOut s) (bytes : List ℕ) {pending : List ℕ}
 abbrev IsLegalHere : ℕ → Seen → ℕ → Seen → Type 0
 IsLegalHere a l b m = (b ≡ a) × (m ≡ l)
 
-module _ (s : Schema) (laid : LaidOut s) (bytes : List ℕ) where
+module _ (s : SchemaTable) (laid : LaidOut s) (bytes : List ℕ) where
   mutual
     pub empty_stays : {pending : List ℕ} {depth : Option ℕ} {stop p : ℕ} {X : Shape} {a : ℕ} {l : Seen} {b : ℕ} {m : Seen} → Walk s bytes pending depth stop p X a l b m → size_of s.layouts X ≡ 0 → IsLegalHere a l b m
     empty_stays (walk_leaf h) e = (refl, refl)

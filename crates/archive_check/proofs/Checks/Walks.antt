@@ -2,23 +2,23 @@
 use Rattle.std.proofs.Common.{◌≡◌, ℕ, refl, List, [], ◌∷◌, ◌++◌, ◌+◌, ◌≤◌, length, Option, None, suc, arith, sym, ap, ◌∙◌}
 use Rattle.archive_check.specs.Shape.{Shape, Key, Parts, Pointee}
 use Rattle.archive_check.specs.Value.{Pointer, Value, Values, pointers, all_pointers}
-use Rattle.archive_check.specs.Reads.{Schema, Reads, reads_leaf, reads_parts, reads_choice, reads_array, reads_boxed, reads_vec, reads_map, reads_inline, reads_out_of_line, reads_shared, reads_null, reads_weak, reads_named, ReadsParts, reads_no_part, reads_part, ReadsRun, reads_none, reads_element}
+use Rattle.archive_check.specs.Reads.{SchemaTable, Reads, reads_leaf, reads_parts, reads_choice, reads_array, reads_boxed, reads_vec, reads_map, reads_inline, reads_out_of_line, reads_shared, reads_null, reads_weak, reads_named, ReadsParts, reads_no_part, reads_part, ReadsRun, reads_none, reads_element}
 use Rattle.archive_check.specs.Tour.{Region, Rising, Seen, Contents, contents_one, contents_run, contents_text, Leads, Tour, tour_end, tour_unique, tour_new, tour_again, region_of}
 use Rattle.archive_check.specs.Walk.{Walk, walk_leaf, walk_parts, walk_choice, walk_array, walk_boxed, walk_vec, walk_map, walk_inline, walk_out_of_line, walk_shared, walk_null, walk_weak, walk_named, WalkParts, walk_no_part, walk_part, WalkRun, walk_none, walk_element, Follow, follow_unique, follow_new, follow_again, Enter, enter, WalkContents, walk_one, walk_run, walk_entries, walk_text}
-use Rattle.archive_check.specs.Keys.{Ordered, in_any_order, in_key_order}
+use Rattle.archive_check.specs.Keys.{IsInOrder, in_any_order, in_key_order}
 use Rattle.archive_check.specs.Depth.{Allows, nesting}
 use Rattle.archive_check.proofs.Checks.Depths.{allows_zero, allows_max, allows_deeper}
 use Rattle.archive_check.proofs.Tours.JoinedTours.{end_of, rising_append, end_of-append, end_of-join, rising_end, rising_tight, tour_append}
 
 -- from start on the pointers have a tour whose regions rise up to stop, the last one ending at later
-pub record Tours (s : Schema) (bytes : List ℕ) (pending : List ℕ) (depth : Option ℕ) (stop : ℕ) (O : List Pointer) (start : ℕ) (seen : Seen) (later : ℕ) (last : Seen) : Type 0 where
+pub record Tours (s : SchemaTable) (bytes : List ℕ) (pending : List ℕ) (depth : Option ℕ) (stop : ℕ) (O : List Pointer) (start : ℕ) (seen : Seen) (later : ℕ) (last : Seen) : Type 0 where
   pub regions : List Region
   pub tour : Tour s bytes pending seen O regions last
   pub rising : Rising start regions stop
   pub ends : end_of start regions ≡ later
   pub nests : Allows depth (nesting tour)
 
-module _ (s : Schema) (bytes : List ℕ) where
+module _ (s : SchemaTable) (bytes : List ℕ) where
   tours_none : {pending : List ℕ} {depth : Option ℕ} {stop start : ℕ} {seen : Seen} → start ≤ stop → Tours s bytes pending depth stop [] start seen start seen
   tours_none h = record { regions = []; tour = tour_end; rising = h; ends = refl; nests = allows_zero _ }
 
@@ -115,7 +115,7 @@ module _ (s : Schema) (bytes : List ℕ) where
         }
 
     pub contents_find : {pending : List ℕ} {depth : Option ℕ} {stop t n a b : ℕ} {o : Option Key} {P : Pointee} {l m : Seen} → WalkContents s bytes pending depth stop t o P n a l b m → stop ≤ length bytes → a ≤ stop
-        → Finds pending depth stop (λ v. Contents s bytes t P n v × Ordered s bytes t n o P) a l b m
+        → Finds pending depth stop (λ v. Contents s bytes t P n v × IsInOrder s bytes t n o P) a l b m
     contents_find (walk_one w) f g = let r = walk_finds w f g in (_, (contents_one (r.1), in_any_order), r.2)
     contents_find (walk_run w) f g = let r = run_finds w f g in (_, (contents_run (r.1), in_any_order), r.2)
     contents_find (walk_entries w h) f g = let r = run_finds w f g in (_, (contents_run (r.1), in_key_order h), r.2)

@@ -4,9 +4,9 @@ use Rattle.std.specs.FinMap.{get, empty, get-empty}
 use Rattle.archive_check.specs.Shape.{Shape}
 use Rattle.archive_check.specs.Layout.{size_of}
 use Rattle.archive_check.specs.Value.{Value, pointers}
-use Rattle.archive_check.specs.Reads.{Schema, LaidOut, Reads}
+use Rattle.archive_check.specs.Reads.{SchemaTable, LaidOut, Reads}
 use Rattle.archive_check.specs.Tour.{root_region, Rising, Contents, Entry, Accepted}
-use Rattle.archive_check.specs.Leaves.{Leaf, leaf_begin, leaves, leaves_of_tour, leaves_of, IsFree, edit, Overwrites, Replaced, StillAccepted}
+use Rattle.archive_check.specs.Leaves.{PlacedLeaf, leaf_begin, leaves, leaves_of_tour, leaves_of, IsFree, edit, Overwrites, Replaced, StillAccepted}
 use Rattle.archive_check.specs.Denotes.{Meaning, Fills, IsSharedValue, Denotes}
 use Rattle.archive_check.specs.Revised.{Revised, revised_value, revised_shared}
 use Rattle.archive_check.proofs.Tours.ReadingUnique.{reads_one, contents_one_value}
@@ -21,14 +21,14 @@ use Rattle.archive_check.proofs.Maps.KeptOrder.{StaysOrdered, free_keeps}
 use Rattle.archive_check.proofs.Editing.RevisedTour.{SameAt, TurnedAt, Known, stay_before, tour_same, Outcome, outcome_turned, outcome_shared, tour_turns}
 
 -- what the map of shared values has at a position that is known
-map_has : (s : Schema) (bytes : List ℕ) (t : ℕ) (e : Entry) (v w : Value) (k : Option Entry) (f : Option (Entry × Value)) → k ≡ Some e → Contents s bytes t e.pointee e.length v → Fills s bytes v w → IsSharedValue s bytes t k f → f ≡ Some (e, w)
+map_has : (s : SchemaTable) (bytes : List ℕ) (t : ℕ) (e : Entry) (v w : Value) (k : Option Entry) (f : Option (Entry × Value)) → k ≡ Some e → Contents s bytes t e.pointee e.length v → Fills s bytes v w → IsSharedValue s bytes t k f → f ≡ Some (e, w)
 map_has s bytes t e v w None f g c h known = cc
 map_has s bytes t e v w (Some d) f g c h (a, z, i, j, eq) =
     let same : e ≡ d = cc in
     let value : v ≡ a = contents_one_value (rw same at c) i in
     let filled : z ≡ w = fills_one s bytes j (rw value at h) in eq ∙ cc (same, filled)
 
-module _ (s : Schema) (laid : LaidOut s) (bytes new b : List ℕ) (x y : Leaf) (o : Overwrites b x y) (d : Edits bytes new (leaf_begin x) b) {root : ℕ} {X : Shape} (a : Accepted s bytes root X) (free : IsFree a x) where
+module _ (s : SchemaTable) (laid : LaidOut s) (bytes new b : List ℕ) (x y : PlacedLeaf) (o : Overwrites b x y) (d : Edits bytes new (leaf_begin x) b) {root : ℕ} {X : Shape} (a : Accepted s bytes root X) (free : IsFree a x) where
   stays : StaysOrdered new a.tour
   stays = free_keeps bytes new b x d (overwrites_size o) a.tour free
 
@@ -40,7 +40,7 @@ module _ (s : Schema) (laid : LaidOut s) (bytes new b : List ℕ) (x y : Leaf) (
   none_known : Known s laid bytes new b x y o d None empty
   none_known t e g other = cc (get-empty {X = Entry} nat_cmp t)
 
-  at_root : {ms : List Leaf} → Replaced x y (leaves_of a) ms → AtRoot
+  at_root : {ms : List PlacedLeaf} → Replaced x y (leaves_of a) ms → AtRoot
   at_root {ms} k = go (split (leaves_of_tour a.tour) k)
     where
       front : Rising 0 a.regions root
@@ -67,7 +67,7 @@ module _ (s : Schema) (laid : LaidOut s) (bytes new b : List ℕ) (x y : Leaf) (
       let (v, w, c, j, l, m) = same e refl in
       map_has s new t e v w (Some e) g refl l m i ∙ sym (map_has s bytes t e v w (Some e) f refl c j h)
 
-  pub revises : {ms : List Leaf} → Replaced x y (leaves_of a) ms → {m n : Meaning} → Denotes s bytes root X m → Denotes s new root X n → Revised x y m n
+  pub revises : {ms : List PlacedLeaf} → Replaced x y (leaves_of a) ms → {m n : Meaning} → Denotes s bytes root X m → Denotes s new root X n → Revised x y m n
   revises {ms} k {m} {n} h i = go (at_root k)
     where
       still : StillAccepted s bytes new root X a ms
@@ -94,7 +94,7 @@ module _ (s : Schema) (laid : LaidOut s) (bytes new b : List ℕ) (x y : Leaf) (
           revised_shared (now_is ∙ sym old) (map_has s bytes t e v p (get a.seen t) (get m.shared t) has c j (before t)) (map_has s new t e u q (get a.seen t) (get n.shared t) has l fn (now t)) turns
           (λ z other. map_same z (get a.seen z) (get m.shared z) (get n.shared z) (before z) (now z) (λ e g. known z e g (λ eq. other (cc eq))))
 
-pub edit_revises : (s : Schema) (laid : LaidOut s) (bytes : List ℕ) {root : ℕ} {X : Shape} (a : Accepted s bytes root X) {b : List ℕ} {x y : Leaf} {ms : List Leaf} → IsFree a x → Replaced x y (leaves_of a) ms → (o : Overwrites b x y)
+pub edit_revises : (s : SchemaTable) (laid : LaidOut s) (bytes : List ℕ) {root : ℕ} {X : Shape} (a : Accepted s bytes root X) {b : List ℕ} {x y : PlacedLeaf} {ms : List PlacedLeaf} → IsFree a x → Replaced x y (leaves_of a) ms → (o : Overwrites b x y)
     → {m n : Meaning} → Denotes s bytes root X m → Denotes s (edit bytes (leaf_begin x) b) root X n → Revised x y m n
 edit_revises s laid bytes a {b} {x} {y} free k o h i =
     revises s laid bytes (edit bytes (leaf_begin x) b) b x y o (edit_edits bytes (leaf_begin x) b (omega (arith, leaf_fits s laid bytes a k, overwrites_size o))) a free k h i

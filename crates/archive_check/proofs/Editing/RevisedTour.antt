@@ -4,11 +4,11 @@ use Rattle.std.specs.FinMap.{get, insert, get-insert}
 use Rattle.std.specs.Cmp.{nat_cmp_total}
 use Rattle.std.specs.Ordering.{eq_by_cmp}
 use Rattle.archive_check.specs.Value.{Pointer, Value, hole, pointers}
-use Rattle.archive_check.specs.Reads.{Schema, LaidOut}
-use Rattle.archive_check.specs.Keys.{order_of, Ordered}
+use Rattle.archive_check.specs.Reads.{SchemaTable, LaidOut}
+use Rattle.archive_check.specs.Keys.{order_of, IsInOrder}
 use Rattle.archive_check.proofs.Maps.KeptOrder.{StaysOrdered}
 use Rattle.archive_check.specs.Tour.{Region, region_of, pointee_size, Rising, Contents, Leads, Entry, Seen, entry, Tour, tour_end, tour_unique, tour_new, tour_again}
-use Rattle.archive_check.specs.Leaves.{Leaf, leaf_begin, leaf_size, leaves_of_contents, leaves_of_tour, Overwrites, Replaced}
+use Rattle.archive_check.specs.Leaves.{PlacedLeaf, leaf_begin, leaf_size, leaves_of_contents, leaves_of_tour, Overwrites, Replaced}
 use Rattle.archive_check.specs.Denotes.{Fills, fills_unique, fills_shared}
 use Rattle.archive_check.proofs.Tours.Seen.{same_key, inserted_has, inserted_keeps}
 use Rattle.archive_check.proofs.Tours.JoinedTours.{rising_le, rising_front, rising_back}
@@ -20,13 +20,13 @@ use Rattle.archive_check.proofs.Editing.EditedArchives.{replaced_none, replaced_
 use Rattle.archive_check.proofs.Editing.RevisedValues.{Same, Turned, SameAll, TurnedOne, turned_here, turned_later, fill_same, fill_turned, fill_altered}
 
 -- what is known of a shared position stays known
-pub tour_grows : {s : Schema} {bytes pending : List ℕ} {seen last : Seen} {O : List Pointer} {C : List Region} → Tour s bytes pending seen O C last → (t : ℕ) (e : Entry) → get seen t ≡ Some e → get last t ≡ Some e
+pub tour_grows : {s : SchemaTable} {bytes pending : List ℕ} {seen last : Seen} {O : List Pointer} {C : List Region} → Tour s bytes pending seen O C last → (t : ℕ) (e : Entry) → get seen t ≡ Some e → get last t ≡ Some e
 tour_grows tour_end q f h = h
 tour_grows (tour_unique e l i j) q f h = tour_grows j q f (tour_grows i q f h)
 tour_grows (tour_new {seen = seen} {p = p} {t = t} {flavor = flavor} e none l i j) q f h = tour_grows j q f (tour_grows i q f (inserted_keeps seen t (entry flavor p) q f none h))
 tour_grows (tour_again e g known free j) q f h = tour_grows j q f h
 
-module _ (s : Schema) (laid : LaidOut s) (bytes new b : List ℕ) (x y : Leaf) (o : Overwrites b x y) (d : Edits bytes new (leaf_begin x) b) where
+module _ (s : SchemaTable) (laid : LaidOut s) (bytes new b : List ℕ) (x y : PlacedLeaf) (o : Overwrites b x y) (d : Edits bytes new (leaf_begin x) b) where
   -- a shared position's value is as before
   abbrev pub SameAt : ℕ → Entry → Type 0
   SameAt t e = (v : Value) × (w : Value) × Contents s bytes t e.pointee e.length v × Fills s bytes v w × Contents s new t e.pointee e.length v × Fills s new v w
@@ -65,7 +65,7 @@ module _ (s : Schema) (laid : LaidOut s) (bytes new b : List ℕ) (x y : Leaf) (
   stay_part : (start stop a c : ℕ) → start ≤ a → c ≤ stop → a ≤ c → Stay start stop → Stay a c
   stay_part start stop a c low high up h = agrees_part bytes new a (c - a) low (omega arith) h
 
-  leads_stay : {p : Pointer} {t : ℕ} {v : Value} → Leads s bytes p t v → Stay t (t + pointee_size s p.pointee p.length) → Ordered s new t p.length (order_of p) p.pointee → Leads s new p t v
+  leads_stay : {p : Pointer} {t : ℕ} {v : Value} → Leads s bytes p t v → Stay t (t + pointee_size s p.pointee p.length) → IsInOrder s new t p.length (order_of p) p.pointee → Leads s new p t v
   leads_stay {p = p} {t = t} h k led = (leads_agree bytes new s laid h (omega (arith, d.whole)) (agrees_part bytes new t (pointee_size s p.pointee p.length) (omega arith) (omega arith) k) led).0
 
   -- where no byte of a tour's regions is another one, no value is
@@ -124,7 +124,7 @@ module _ (s : Schema) (laid : LaidOut s) (bytes new b : List ℕ) (x y : Leaf) (
 
   module _ {inner pending : List ℕ} {first mid last : Seen} {p : Pointer} {O : List Pointer} {t : ℕ} {v : Value} {C D : List Region}
       (h : Leads s bytes p t v) (i : Tour s bytes inner first (pointers v) C mid) (j : Tour s bytes pending mid O D last)
-      (led : Ordered s new t p.length (order_of p) p.pointee) (stays : StaysOrdered new i) (goes_on : StaysOrdered new j)
+      (led : IsInOrder s new t p.length (order_of p) p.pointee) (stays : StaysOrdered new i) (goes_on : StaysOrdered new j)
       (start stop : ℕ) (front : Rising start C t) (back : Rising (t + pointee_size s p.pointee p.length) D stop) where
     -- what stays, where the leaf lies before, in or behind the region
     rest_same : leaf_begin x + leaf_size x ≤ t + pointee_size s p.pointee p.length → SameAll s bytes new x y O × ((but : Option ℕ) → Known but mid → Known but last)
@@ -139,17 +139,17 @@ module _ (s : Schema) (laid : LaidOut s) (bytes new b : List ℕ) (x y : Leaf) (
     leads_before : t + pointee_size s p.pointee p.length ≤ leaf_begin x → Leads s new p t v
     leads_before k = leads_stay h (stay_before t (t + pointee_size s p.pointee p.length) (omega arith) k) led
 
-    in_own : {zs : List Leaf} → Replaced x y (leaves_of_tour i) zs → leaf_begin x + leaf_size x ≤ t
+    in_own : {zs : List PlacedLeaf} → Replaced x y (leaves_of_tour i) zs → leaf_begin x + leaf_size x ≤ t
     in_own k = let there : Between start t x = replaced_has (Between start t) k (tour_between s laid bytes i start t front) in there.1
 
-    in_this : {zs : List Leaf} → Replaced x y (leaves_of_contents h.contents) zs → Between t (t + pointee_size s p.pointee p.length) x
+    in_this : {zs : List PlacedLeaf} → Replaced x y (leaves_of_contents h.contents) zs → Between t (t + pointee_size s p.pointee p.length) x
     in_this k = replaced_has (Between t (t + pointee_size s p.pointee p.length)) k (contents_between s laid bytes h.contents)
 
-    in_rest : {zs : List Leaf} → Replaced x y (leaves_of_tour j) zs → t + pointee_size s p.pointee p.length ≤ leaf_begin x
+    in_rest : {zs : List PlacedLeaf} → Replaced x y (leaves_of_tour j) zs → t + pointee_size s p.pointee p.length ≤ leaf_begin x
     in_rest k = let there : Between (t + pointee_size s p.pointee p.length) stop x = replaced_has (Between (t + pointee_size s p.pointee p.length) stop) k (tour_between s laid bytes j (t + pointee_size s p.pointee p.length) stop back) in there.0
 
-    unique_join : p.sharing ≡ None → {ms : List Leaf} → Split x y (leaves_of_tour i) (leaves_of_contents h.contents ++ leaves_of_tour j) ms
-        → ((zs : List Leaf) → Replaced x y (leaves_of_tour i) zs → Outcome (pointers v) first mid) → ((zs : List Leaf) → Replaced x y (leaves_of_tour j) zs → Outcome O mid last) → Outcome (p ∷ O) first last
+    unique_join : p.sharing ≡ None → {ms : List PlacedLeaf} → Split x y (leaves_of_tour i) (leaves_of_contents h.contents ++ leaves_of_tour j) ms
+        → ((zs : List PlacedLeaf) → Replaced x y (leaves_of_tour i) zs → Outcome (pointers v) first mid) → ((zs : List PlacedLeaf) → Replaced x y (leaves_of_tour j) zs → Outcome O mid last) → Outcome (p ∷ O) first last
     unique_join e (in_first {ns = ns} k f) own rest =
         let q = rest_same (omega (arith, in_own k)) in unique_own e h (leads_behind (in_own k)) j (own ns k) (q.0) (q.1)
     unique_join e (in_later {ns = ns} k f) own rest = go (split (leaves_of_contents h.contents) k)
@@ -168,10 +168,10 @@ module _ (s : Schema) (laid : LaidOut s) (bytes new b : List ℕ) (x y : Leaf) (
 
   module _ {inner pending : List ℕ} {seen mid last : Seen} {p : Pointer} {O : List Pointer} {t : ℕ} {v : Value} {C D : List Region} (en : Entry) (is : en.pointee ≡ p.pointee) (long : en.length ≡ p.length) (this : Same s bytes new x y (hole p))
       (h : Leads s bytes p t v) (i : Tour s bytes inner (insert seen t en) (pointers v) C mid) (j : Tour s bytes pending mid O D last)
-      (led : Ordered s new t p.length (order_of p) p.pointee) (stays : StaysOrdered new i) (goes_on : StaysOrdered new j)
+      (led : IsInOrder s new t p.length (order_of p) p.pointee) (stays : StaysOrdered new i) (goes_on : StaysOrdered new j)
       (start stop : ℕ) (front : Rising start C t) (back : Rising (t + pointee_size s p.pointee p.length) D stop) where
-    shared_join : {ms : List Leaf} → Split x y (leaves_of_tour i) (leaves_of_contents h.contents ++ leaves_of_tour j) ms
-        → ((zs : List Leaf) → Replaced x y (leaves_of_tour i) zs → Outcome (pointers v) (insert seen t en) mid) → ((zs : List Leaf) → Replaced x y (leaves_of_tour j) zs → Outcome O mid last) → Outcome (p ∷ O) seen last
+    shared_join : {ms : List PlacedLeaf} → Split x y (leaves_of_tour i) (leaves_of_contents h.contents ++ leaves_of_tour j) ms
+        → ((zs : List PlacedLeaf) → Replaced x y (leaves_of_tour i) zs → Outcome (pointers v) (insert seen t en) mid) → ((zs : List PlacedLeaf) → Replaced x y (leaves_of_tour j) zs → Outcome O mid last) → Outcome (p ∷ O) seen last
     shared_join (in_first {ns = ns} k f) own rest =
         let ends = in_own h i j led stays goes_on start stop front back k in
         let q = rest_same h i j led stays goes_on start stop front back (omega arith) in
@@ -192,7 +192,7 @@ module _ (s : Schema) (laid : LaidOut s) (bytes new b : List ℕ) (x y : Leaf) (
             let r = fill_same s bytes new x y v (before.0) in
             later this (λ but z. before.1 but (known_same but seen t en (v, r.0, rw (is, long) h.contents, r.1, rw (is, long) (leads_before h i j led stays goes_on start stop front back begins).contents, r.2) z)) (rest zs l)
 
-  pub tour_turns : {pending : List ℕ} {seen last : Seen} {O : List Pointer} {C : List Region} (i : Tour s bytes pending seen O C last) → StaysOrdered new i → (start stop : ℕ) → Rising start C stop → {ms : List Leaf} → Replaced x y (leaves_of_tour i) ms → Outcome O seen last
+  pub tour_turns : {pending : List ℕ} {seen last : Seen} {O : List Pointer} {C : List Region} (i : Tour s bytes pending seen O C last) → StaysOrdered new i → (start stop : ℕ) → Rising start C stop → {ms : List PlacedLeaf} → Replaced x y (leaves_of_tour i) ms → Outcome O seen last
   tour_turns tour_end f start stop rising k = absurd (replaced_none k)
   tour_turns (tour_unique {p = p} {t = t} {C = C} {D = D} e h i j) f start stop rising k =
       let front = rising_front start C (region_of s p t) D stop rising in

@@ -1,12 +1,12 @@
 -- Where a leaf is written over, what its bytes mean changes in that leaf alone.
 use Rattle.std.proofs.Common.{◌≡◌, ◌⊎◌, inl, inr, ℕ, List, [], ◌∷◌, ◌++◌, refl}
 use Rattle.archive_check.specs.Value.{Pointer, Value, Values, number, product, case, list, text_value, box, null, shared_value, hole, no_value, value, pointers, all_pointers}
-use Rattle.archive_check.specs.Reads.{Schema}
-use Rattle.archive_check.specs.Leaves.{Leaf, number_leaf, text_leaf, leaf_value, Altered, altered_here, altered_product, altered_case, altered_list, altered_box, AlteredAmong, altered_first, altered_later}
+use Rattle.archive_check.specs.Reads.{SchemaTable}
+use Rattle.archive_check.specs.Leaves.{PlacedLeaf, number_leaf, text_leaf, leaf_value, Altered, altered_here, altered_product, altered_case, altered_list, altered_box, AlteredAmong, altered_first, altered_later}
 use Rattle.archive_check.specs.Denotes.{Fills, fills_number, fills_product, fills_case, fills_list, fills_text, fills_box, fills_null, fills_shared_value, FillsAll, fills_no_value, fills_value}
 
 -- what is filled of a value before and after
-module _ (s : Schema) (bytes new : List ℕ) (x y : Leaf) where
+module _ (s : SchemaTable) (bytes new : List ℕ) (x y : PlacedLeaf) where
   abbrev pub Same : Value → Type 0
   Same v = (w : Value) × Fills s bytes v w × Fills s new v w
 
@@ -97,7 +97,7 @@ module _ (s : Schema) (bytes new : List ℕ) (x y : Leaf) where
     fill_turned_all no_value h = absurd (none_turned refl h)
     fill_turned_all (value v vs) h = values_join v vs (turned_split (pointers v) (all_pointers vs) h) (λ k. fill_turned v k) (λ k. fill_turned_all vs k)
 
-  leaf_filled : (b : List ℕ) (z : Leaf) → Fills s b (leaf_value z) (leaf_value z)
+  leaf_filled : (b : List ℕ) (z : PlacedLeaf) → Fills s b (leaf_value z) (leaf_value z)
   leaf_filled b (number_leaf p kind n) = fills_number
   leaf_filled b (text_leaf p text) = fills_text
 

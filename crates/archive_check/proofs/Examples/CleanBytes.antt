@@ -4,7 +4,7 @@ use Rattle.std.proofs.lemmas.List.Elements.{All-nil, All-cons, All-contains, Con
 use Rattle.archive_check.specs.Shape.{Shape, str, weak, Pointee, one, run}
 use Rattle.archive_check.specs.Reads.{bytes_at}
 use Rattle.archive_check.specs.Tour.{Region, root_region}
-use Rattle.archive_check.specs.Within.{Within, whole, in_parts, in_choice, in_array, in_named, PartOf, whole_region, in_one, in_run, in_string, PartOfSome}
+use Rattle.archive_check.specs.Within.{Within, whole, in_parts, in_choice, in_array, in_named, PartOfRegion, whole_region, in_one, in_run, in_string, PartOfSome}
 use Rattle.archive_check.specs.Tightness.{owned_part, Clean}
 use Rattle.archive_check.proofs.Examples.Terms.{no_names}
 use Rattle.archive_check.proofs.Examples.Strings.{hi}
@@ -29,7 +29,7 @@ one_same e = cc
 root_pointee : {r : Region} → r ≡ the_root → r.pointee ≡ one str
 root_pointee e = ap (λ x. x.pointee) e
 
-part_of_string : {r : Region} {q n : ℕ} {P : Pointee} {Y : Shape} → PartOf no_names hi r q P n → r ≡ the_root → P ≡ one Y → (q ≡ 0) × (Y ≡ str)
+part_of_string : {r : Region} {q n : ℕ} {P : Pointee} {Y : Shape} → PartOfRegion no_names hi r q P n → r ≡ the_root → P ≡ one Y → (q ≡ 0) × (Y ≡ str)
 part_of_string whole_region e f = (ap (λ x. x.begin) e, one_same (sym f ∙ root_pointee e))
 part_of_string (in_one h w) e f =
     let here = within_string w (one_same (sym h ∙ root_pointee e)) in

@@ -3,7 +3,7 @@ use Rattle.std.proofs.Common.{ℕ, List, [], ◌∷◌, take, pos, refl, arith, 
 use Rattle.std.specs.FinMap.{empty}
 use Rattle.archive_check.specs.Shape.{Name, Shape, array, boxed, vec, choice, named, one, run, no_part, part, no_variant, variant}
 use Rattle.archive_check.specs.Value.{Pointer, case, list, box, hole, no_value, value}
-use Rattle.archive_check.specs.Reads.{Schema, LaidOut, bytes_at, u32_at, i32_at, kind_value, pointer_at, Reads, reads_leaf, reads_choice, reads_boxed, reads_vec, reads_named, reads_no_part, reads_part, reads_none, reads_element}
+use Rattle.archive_check.specs.Reads.{SchemaTable, LaidOut, bytes_at, u32_at, i32_at, kind_value, pointer_at, Reads, reads_leaf, reads_choice, reads_boxed, reads_vec, reads_named, reads_no_part, reads_part, reads_none, reads_element}
 use Rattle.archive_check.specs.Keys.{in_any_order}
 use Rattle.archive_check.specs.Tour.{Region, region_at, root_region, Contents, contents_one, contents_run, Tour, tour_end, tour_unique, Rising, Accepted}
 use Rattle.archive_check.specs.Walk.{walk_leaf, walk_boxed, walk_vec, follow_unique, enter, walk_one, walk_run, RootWalk}
@@ -85,7 +85,7 @@ NoThirdVariant = Refused no_names two_first 0 (option u32) (no_such_variant (cod
 abbrev pub node : Name
 node = codes "ArchivedNode"
 
-abbrev pub nodes : Schema
+abbrev pub nodes : SchemaTable
 nodes = record {
   table = (node, choice node (variant no_part (variant (part (boxed (one (named node))) no_part) no_variant))) ∷ [];
   layouts = λ name. record { size = 8; align = 4 };

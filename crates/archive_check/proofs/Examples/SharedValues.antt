@@ -5,7 +5,7 @@ use Rattle.std.specs.Cmp.{nat_cmp_total}
 use Rattle.std.specs.FinMap.{empty, insert, get, get-insert, get-empty}
 use Rattle.archive_check.specs.Shape.{Name, Flavor, choice, shared, weak, named, Pointee, one, run, no_part, part, no_variant, variant}
 use Rattle.archive_check.specs.Value.{number, case, list, null, shared_value, no_value, value}
-use Rattle.archive_check.specs.Reads.{Schema, LaidOut, bytes_at, u32_at, i32_at, kind_value, reads_leaf, reads_parts, reads_choice, reads_shared, reads_null, reads_named, reads_no_part, reads_part, reads_none, reads_element}
+use Rattle.archive_check.specs.Reads.{SchemaTable, LaidOut, bytes_at, u32_at, i32_at, kind_value, reads_leaf, reads_parts, reads_choice, reads_shared, reads_null, reads_named, reads_no_part, reads_part, reads_none, reads_element}
 use Rattle.archive_check.specs.Keys.{in_any_order}
 use Rattle.archive_check.specs.Tour.{Entry, contents_one, contents_run, tour_end, tour_new, tour_again}
 use Rattle.archive_check.specs.Walk.{walk_leaf, walk_shared, follow_new, enter, walk_one, walk_run}
@@ -82,7 +82,7 @@ WeakNull = Denotes no_names ten_and_null 4 (pair (shared rc (one u32)) (weak rc 
 abbrev pub all_values : Name
 all_values = codes "ArchivedAllValues"
 
-abbrev pub sharing_itself : Flavor → Schema
+abbrev pub sharing_itself : Flavor → SchemaTable
 sharing_itself flavor = record {
   table = (all_values, choice all_values (variant (part (shared flavor (one (named all_values))) no_part) no_variant)) ∷ [];
   layouts = λ name. record { size = 8; align = 4 };

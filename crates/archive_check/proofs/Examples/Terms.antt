@@ -5,7 +5,7 @@ use Rattle.std.specs.FinMap.{empty, get, get-empty}
 use Rattle.archive_check.specs.Shape.{Name, definition, unit, unsigned, signed, number as number_kind, Flavor, Shape, leaf, parts, choice, no_part, part, no_variant, variant}
 use Rattle.archive_check.specs.Layout.{Layout, layout}
 use Rattle.archive_check.specs.Value.{Value, number, product, Values, no_value, value}
-use Rattle.archive_check.specs.Reads.{Schema, LaidOut}
+use Rattle.archive_check.specs.Reads.{SchemaTable, LaidOut}
 use Rattle.archive_check.specs.Tour.{Entry, Accepted}
 use Rattle.archive_check.specs.Trail.{Fault, RootTrips}
 use Rattle.archive_check.specs.Denotes.{IsSharedValue, Denotes}
@@ -41,21 +41,21 @@ option X = choice (codes "ArchivedOption") (variant no_part (variant (part X no_
 abbrev pub rc : Flavor
 rc = record { name = codes "RcFlavor"; cycles = false }
 
-abbrev pub no_names : Schema
+abbrev pub no_names : SchemaTable
 no_names = record { table = []; layouts = λ name. record { size = 0; align = 1 } }
 
 -- The buffer is an archive. It says v, and shares nothing.
-abbrev pub Says : Schema → List ℕ → ℕ → Shape → Value → Type 0
+abbrev pub Says : SchemaTable → List ℕ → ℕ → Shape → Value → Type 0
 Says s bytes root X v = Denotes s bytes root X (record { value = v; shared = empty })
 
 -- The buffer is no archive, and the fault is the first thing that a check without a limit finds.
-abbrev pub Refused : Schema → List ℕ → ℕ → Shape → Fault → Type 0
+abbrev pub Refused : SchemaTable → List ℕ → ℕ → Shape → Fault → Type 0
 Refused s bytes root X fault = RootTrips s bytes None root X fault × (Accepted s bytes root X → ⊥)
 
-pub refused : {s : Schema} {bytes : List ℕ} {root : ℕ} {X : Shape} {fault : Fault} → length bytes < 2 ^ 64 → RootTrips s bytes None root X fault → Refused s bytes root X fault
+pub refused : {s : SchemaTable} {bytes : List ℕ} {root : ℕ} {X : Shape} {fault : Fault} → length bytes < 2 ^ 64 → RootTrips s bytes None root X fault → Refused s bytes root X fault
 refused {s} {bytes} {root} {X} small t = (t, λ a. root_no_walk s bytes small t (walks s bytes None root X (a, tt)))
 
-pub shares_nothing : (s : Schema) (bytes : List ℕ) (t : ℕ) → IsSharedValue s bytes t (get {R = nat_cmp} empty t) (get {R = nat_cmp} empty t)
+pub shares_nothing : (s : SchemaTable) (bytes : List ℕ) (t : ℕ) → IsSharedValue s bytes t (get {R = nat_cmp} empty t) (get {R = nat_cmp} empty t)
 shares_nothing s bytes t = rw (get-empty {X = Entry} nat_cmp t) (rw (get-empty {X = Entry × Value} nat_cmp t) refl)
 
 pub laid_out : LaidOut no_names

@@ -8,7 +8,7 @@ use Rattle.std.proofs.Math.Nat.{mul-le-mul_right}
 use Rattle.std.specs.Int.{Width, w8, w16, w32, w64, w128, byte_len}
 use Rattle.archive_check.specs.Shape.{Kind, unit, bool, char, number, non_zero, raw_rel, Key, leaf_key, str_key, Shape, no_part, part, key_shape, entry_of}
 use Rattle.archive_check.specs.Layout.{Layout, up, kind_size, key_size, key_align, size_of, align_of}
-use Rattle.archive_check.specs.Reads.{Schema}
+use Rattle.archive_check.specs.Reads.{SchemaTable}
 use Rattle.archive_check.specs.Keys.{ComesBehind}
 use Rattle.archive_check.specs.Tour.{Seen}
 use Rattle.archive_check.specs.declared.format.error.Error.{Error}
@@ -74,7 +74,7 @@ next_room z n k at len lt fits = let more : (k + 1) * z ≤ n * z = mul-le-mul_r
 
 module _ (D E : Definitions) (K : Key) (L : Layout) (laid : HasLayout D (key_shape K) L) (V : Shape) (M : Layout) (valued : HasLayout E V M) where
   -- what a key takes, and an entry, under each schema
-  pub entry_sized : (t : Schema) → Knows t (entry_definitions D E) → (L.size ≡ size_of t.layouts (key_shape K)) × (entry_size L M ≡ size_of t.layouts (entry_of K V))
+  pub entry_sized : (t : SchemaTable) → Knows t (entry_definitions D E) → (L.size ≡ size_of t.layouts (key_shape K)) × (entry_size L M ≡ size_of t.layouts (entry_of K V))
   entry_sized t k =
       let left = knows_left t D (both E no_definition) k in
       let right = knows_left t E no_definition (knows_right t D (both E no_definition) k) in
@@ -84,7 +84,7 @@ module _ (D E : Definitions) (K : Key) (L : Layout) (laid : HasLayout D (key_sha
       let y : size_of t.layouts V ≡ M.size = its_size E V M valued t right in
       (sym z, λ i. up (up (up 0 (sym a i) + sym z i) (sym c i) + sym y i) (max (sym a i) (max (sym c i) 1)))
 
-  pub entry_aligned : (t : Schema) → Knows t (entry_definitions D E) → align_of t.layouts (entry_of K V) ≡ entry_align L M
+  pub entry_aligned : (t : SchemaTable) → Knows t (entry_definitions D E) → align_of t.layouts (entry_of K V) ≡ entry_align L M
   entry_aligned t k =
       let left = knows_left t D (both E no_definition) k in
       let right = knows_left t E no_definition (knows_right t D (both E no_definition) k) in
@@ -104,7 +104,7 @@ module _ (direct lone : Bool) (Z size : ℕ) (says : IsTrue (tuple_direct direct
   entry_whole = ap Some entry_exact ∙ sym (small_fits Z few)
 
 -- of a part alone the trail is its own
-only_part : {s : Schema} {b pending : List ℕ} {depth : Option ℕ} {stop p at start : ℕ} {seen : Seen} {X : Shape} {f : Fault} → TripsParts s b pending depth stop p at (part X no_part) start seen f
+only_part : {s : SchemaTable} {b pending : List ℕ} {depth : Option ℕ} {stop p at start : ℕ} {seen : Seen} {X : Shape} {f : Fault} → TripsParts s b pending depth stop p at (part X no_part) start seen f
     → Trips s b pending depth stop (p + up at (align_of s.layouts X)) X start seen f
 only_part (trips_first t) = t
 only_part (trips_later w t) = elim t [ ]
@@ -118,7 +118,7 @@ module _ (D E : Definitions) (K : Key) (L : Layout) (is : L ≡ record { size = 
   pub aligned_first : up 0 L.align ≡ 0
   aligned_first = ap (λ l. up 0 l.align) is ∙ key_first_aligned K
 
-  pub sizes : (t : Schema) → Knows t (entry_definitions D E) → (size ≡ size_of t.layouts (key_shape K)) × (z ≡ size_of t.layouts (entry_of K V))
+  pub sizes : (t : SchemaTable) → Knows t (entry_definitions D E) → (size ≡ size_of t.layouts (key_shape K)) × (z ≡ size_of t.layouts (entry_of K V))
   sizes t k = let both_are = entry_sized D E K L laid V M valued t k in (size_same ∙ both_are.0, z_is ∙ both_are.1)
 
   -- a key, and a value behind it, lie in an entry
@@ -132,7 +132,7 @@ module _ (D E : Definitions) (K : Key) (V : Shape) (b : List ℕ) (R : Way) (bef
   pub key_refused : (e : Error) → Halts D (entries_way b before p (suc n) K V) s1 e → Halts (entry_definitions D E) R s e
   key_refused e = toward_halts D (entry_definitions D E) R (entries_way b before p m K V) (entries_way b before p (suc n) K V) s s1 (λ t. knows_left t D (both E no_definition)) toward e (λ t k pending seen f w. rw count w)
 
-  module _ (size z : ℕ) (sized : (t : Schema) → Knows t (entry_definitions D E) → (size ≡ size_of t.layouts (key_shape K)) × (z ≡ size_of t.layouts (entry_of K V)))
+  module _ (size z : ℕ) (sized : (t : SchemaTable) → Knows t (entry_definitions D E) → (size ≡ size_of t.layouts (key_shape K)) × (z ≡ size_of t.layouts (entry_of K V)))
       (s2 : RangeState) (key : Goes D (shape_way b p (key_shape K)) s1 s2) (behind : ComesBehind K b before p) where
     within : HasLevels s1.depth → HasLevels s2.depth
     within some = rw (key.depth some) some

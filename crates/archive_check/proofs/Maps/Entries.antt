@@ -5,9 +5,9 @@ use Rattle.archive_check.specs.Shape.{Kind, unit, bool, char, number, non_zero, 
 use Rattle.archive_check.specs.Layout.{Layouts, up, kind_align, size_of, align_of}
 pub use Rattle.archive_check.specs.SelfCheck.Maps.{entry_mentions}
 use Rattle.archive_check.specs.Value.{Pointer}
-use Rattle.archive_check.specs.Reads.{Schema}
+use Rattle.archive_check.specs.Reads.{SchemaTable}
 use Rattle.archive_check.specs.Tour.{Seen}
-use Rattle.archive_check.specs.Keys.{order_of, Ordered, in_any_order}
+use Rattle.archive_check.specs.Keys.{order_of, IsInOrder, in_any_order}
 use Rattle.archive_check.specs.Walk.{Walk, walk_parts, walk_no_part, walk_part}
 
 -- a key begins where its entry does
@@ -43,10 +43,10 @@ pub value_at : (names : Layouts) (K : Key) (V : Shape) → up (up 0 (align_of na
 value_at names K V = ap (λ n. up (n + size_of names (key_shape K)) (align_of names V)) (key_first names K) ∙ ap (λ n. up n (align_of names V)) (omega arith)
 
 -- nothing is asked of the order where others may point, too
-pub shared_ordered : {s : Schema} {bytes : List ℕ} {t n : ℕ} (p : Pointer) {flavor : Flavor} → p.sharing ≡ Some flavor → Ordered s bytes t n (order_of p) p.pointee
-shared_ordered {s} {bytes} {t} {n} p e = let none : order_of p ≡ None = ap (λ x. cond (is_some x) None p.order) e in subst (λ o. Ordered s bytes t n o p.pointee) (sym none) in_any_order
+pub shared_ordered : {s : SchemaTable} {bytes : List ℕ} {t n : ℕ} (p : Pointer) {flavor : Flavor} → p.sharing ≡ Some flavor → IsInOrder s bytes t n (order_of p) p.pointee
+shared_ordered {s} {bytes} {t} {n} p e = let none : order_of p ≡ None = ap (λ x. cond (is_some x) None p.order) e in subst (λ o. IsInOrder s bytes t n o p.pointee) (sym none) in_any_order
 
-module _ (s : Schema) (bytes : List ℕ) (K : Key) (V : Shape) where
+module _ (s : SchemaTable) (bytes : List ℕ) (K : Key) (V : Shape) where
   -- the walk of an entry: that of its key, and then that of its value
   pub record EntryWalk (pending : List ℕ) (depth : Option ℕ) (stop p start : ℕ) (seen : Seen) (later : ℕ) (last : Seen) : Type 0 where
     pub mid : ℕ

@@ -7,8 +7,8 @@ use Rattle.std.specs.Cmp.{nat_cmp_total}
 use Rattle.std.specs.Ordering.{eq_by_cmp}
 use Rattle.archive_check.specs.Shape.{Flavor, Kind, Key, leaf_key, str_key, Shape, leaf, str, Pointee, text, key_shape, entry_of}
 use Rattle.archive_check.specs.Value.{Pointer, Value, Values, pointers, all_pointers}
-use Rattle.archive_check.specs.Reads.{Schema, string_at, Reads, reads_leaf, reads_parts, reads_inline, reads_out_of_line, reads_no_part, reads_part, ReadsRun, reads_none, reads_element}
-use Rattle.archive_check.specs.Keys.{order_of, Ordered, in_any_order, in_key_order}
+use Rattle.archive_check.specs.Reads.{SchemaTable, string_at, Reads, reads_leaf, reads_parts, reads_inline, reads_out_of_line, reads_no_part, reads_part, ReadsRun, reads_none, reads_element}
+use Rattle.archive_check.specs.Keys.{order_of, IsInOrder, in_any_order, in_key_order}
 use Rattle.archive_check.specs.Tour.{Region, region_at, region_of, root_region, pointee_size, Contents, contents_one, contents_run, contents_text, Leads, Entry, Seen, entry, Tour, tour_end, tour_unique, tour_new, tour_again, Accepted}
 use Rattle.archive_check.proofs.Elements.{contains_first, contains_later, contains_cases}
 use Rattle.archive_check.proofs.Tours.Seen.{same_key}
@@ -35,7 +35,7 @@ module _ (Q P : Pointer → Type 0) where
   marked_none [] h = tt
   marked_none (p ∷ O) h = (λ e. cc e, λ e. h p, marked_none O h)
 
-module _ (s : Schema) (bytes : List ℕ) where
+module _ (s : SchemaTable) (bytes : List ℕ) where
   leaf_texts : {q : ℕ} {kind : Kind} {v : Value} → Reads s bytes q (leaf kind) v → (p : Pointer) → Contains (pointers v) p → IsText p
   leaf_texts (reads_leaf h) p c = none_in c
 
@@ -58,7 +58,7 @@ module _ (s : Schema) (bytes : List ℕ) where
         (marked_values IsText Any (pointers w) (marks_of_entries vs) (all_pointers vs) (λ p. tt) (entries_texts rs)))
 
   -- the marked pointers of what a region says are keys'
-  pub marks_texts : {t n : ℕ} {o : Option Key} {P : Pointee} {v : Value} → Contents s bytes t P n v → Ordered s bytes t n o P → AllMarked IsText Any (marks o v) (pointers v)
+  pub marks_texts : {t n : ℕ} {o : Option Key} {P : Pointee} {v : Value} → Contents s bytes t P n v → IsInOrder s bytes t n o P → AllMarked IsText Any (marks o v) (pointers v)
   marks_texts {v = v} c in_any_order = marked_none IsText Any (pointers v) (λ p. tt)
   marks_texts (contents_run r) (in_key_order {K = K} {V = V} h) = entries_texts K V r
 
@@ -84,7 +84,7 @@ module _ (s : Schema) (bytes : List ℕ) where
 
     -- the region says something, in its order, and leads to these
     abbrev pub IsClosed : Free → Type 0
-    IsClosed f = (v : Value) × Contents s bytes (f.0).begin (f.0).pointee (f.0).length v × Ordered s bytes (f.0).begin (f.0).length (f.1) (f.0).pointee × AllMarked LeadsKey LeadsFree (marks (f.1) v) (pointers v)
+    IsClosed f = (v : Value) × Contents s bytes (f.0).begin (f.0).pointee (f.0).length v × IsInOrder s bytes (f.0).begin (f.0).length (f.1) (f.0).pointee × AllMarked LeadsKey LeadsFree (marks (f.1) v) (pointers v)
         × ((f.0).size ≡ pointee_size s (f.0).pointee (f.0).length)
 
     abbrev AreClosed : List Free → Type 0

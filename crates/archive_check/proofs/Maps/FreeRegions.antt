@@ -6,7 +6,7 @@ use Rattle.std.proofs.lemmas.List.Elements.{All-nil, All-cons, Contains-append_c
 use Rattle.archive_check.specs.Shape.{Key, Shape, key_shape, entry_of}
 use Rattle.archive_check.specs.Layout.{up, size_of, align_of}
 use Rattle.archive_check.specs.Value.{Pointer, Value, Values, product, list, no_value, value, pointers, all_pointers}
-use Rattle.archive_check.specs.Reads.{Schema, Reads, reads_parts, reads_no_part, reads_part, ReadsRun, reads_none, reads_element}
+use Rattle.archive_check.specs.Reads.{SchemaTable, Reads, reads_parts, reads_no_part, reads_part, ReadsRun, reads_none, reads_element}
 use Rattle.archive_check.specs.Keys.{order_of}
 use Rattle.archive_check.specs.Tour.{Region, region_of, Rising, Seen, Tour, tour_end, tour_unique, tour_new, tour_again}
 use Rattle.archive_check.proofs.Elements.{contains_cases}
@@ -58,7 +58,7 @@ module _ (Q P : Pointer → Type 0) where
   none_marked (p ∷ O) h = All-cons P p O (h.1 refl) (none_marked O (h.2))
 
 -- an entry at q: what its key says and what its value says, with what is so of the pointers in each
-pub record EntryMarked (s : Schema) (bytes : List ℕ) (Q P : Pointer → Type 0) (K : Key) (V : Shape) (q : ℕ) : Type 0 where
+pub record EntryMarked (s : SchemaTable) (bytes : List ℕ) (Q P : Pointer → Type 0) (K : Key) (V : Shape) (q : ℕ) : Type 0 where
   pub key : Value
   pub value : Value
   pub key_reads : Reads s bytes q (key_shape K) key
@@ -66,7 +66,7 @@ pub record EntryMarked (s : Schema) (bytes : List ℕ) (Q P : Pointer → Type 0
   pub keys : All Q (pointers key)
   pub values : All P (pointers value)
 
-module _ (s : Schema) (bytes : List ℕ) (Q P : Pointer → Type 0) (K : Key) (V : Shape) where
+module _ (s : SchemaTable) (bytes : List ℕ) (Q P : Pointer → Type 0) (K : Key) (V : Shape) where
   pub entries_marked : {p n : ℕ} {vs : Values} → ReadsRun s bytes p n (entry_of K V) vs → AllMarked Q P (marks_of_entries vs) (all_pointers vs) → (k q : ℕ) → q ≡ p + k * size_of s.layouts (entry_of K V) → k < n → EntryMarked s bytes Q P K V q
   entries_marked reads_none h k q e below = absurd (omega arith)
   entries_marked {p = p} (reads_element {vs = vs} (reads_parts (reads_part {v = u} r (reads_part {v = w} r' reads_no_part))) rs) h k q e below =
@@ -87,13 +87,13 @@ abbrev pub Free : Type 0
 Free = Region × Option Key
 
 -- the regions that are entered through no key, and those that are entered through one
-abbrev pub free_of : {s : Schema} {bytes pending : List ℕ} {seen last : Seen} {O : List Pointer} {C : List Region} → List Bool → Tour s bytes pending seen O C last → List Free
+abbrev pub free_of : {s : SchemaTable} {bytes pending : List ℕ} {seen last : Seen} {O : List Pointer} {C : List Region} → List Bool → Tour s bytes pending seen O C last → List Free
 free_of M tour_end = []
 free_of {s} M (tour_unique {p = p} {t = t} {v = v} e h i j) = cond (first_mark M) (free_of (later_marks M) j) (free_of (marks (order_of p) v) i ++ (region_of s p t, order_of p) ∷ free_of (later_marks M) j)
 free_of {s} M (tour_new {p = p} {t = t} {v = v} e none h i j) = free_of (marks (order_of p) v) i ++ (region_of s p t, order_of p) ∷ free_of (later_marks M) j
 free_of M (tour_again e t known free j) = free_of (later_marks M) j
 
-abbrev pub keys_of : {s : Schema} {bytes pending : List ℕ} {seen last : Seen} {O : List Pointer} {C : List Region} → List Bool → Tour s bytes pending seen O C last → List Region
+abbrev pub keys_of : {s : SchemaTable} {bytes pending : List ℕ} {seen last : Seen} {O : List Pointer} {C : List Region} → List Bool → Tour s bytes pending seen O C last → List Region
 keys_of M tour_end = []
 keys_of {s} M (tour_unique {p = p} {t = t} {v = v} e h i j) = cond (first_mark M) (region_of s p t ∷ keys_of (later_marks M) j) (keys_of (marks (order_of p) v) i ++ keys_of (later_marks M) j)
 keys_of M (tour_new {p = p} {t = t} {v = v} e none h i j) = keys_of (marks (order_of p) v) i ++ keys_of (later_marks M) j
@@ -196,7 +196,7 @@ key_parted : (r : Region) (G : List Free) (D : List Region) (start stop : ℕ) �
 key_parted r G D start stop low high rest =
     parted_wider G (r ∷ D) r.begin stop start stop low (omega arith) (parted_join [] G (r ∷ []) D r.begin (r.begin + r.size) stop (omega arith) high (only_key r) rest)
 
-module _ (s : Schema) (bytes : List ℕ) where
+module _ (s : SchemaTable) (bytes : List ℕ) where
   pub tour_parted : {pending : List ℕ} {seen last : Seen} {O : List Pointer} {C : List Region} (M : List Bool) (i : Tour s bytes pending seen O C last) (start stop : ℕ) → Rising start C stop → Parted (free_of M i) (keys_of M i) start stop
   tour_parted M tour_end start stop rising = parted_none start stop
   tour_parted M (tour_unique {p = p} {t = t} {v = v} {C = C} {D = D} e h i j) start stop rising =

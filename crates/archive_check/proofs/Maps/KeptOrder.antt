@@ -6,11 +6,11 @@ use Rattle.std.specs.Cmp.Lexicographic.{slice_cmp}
 use Rattle.archive_check.specs.Shape.{Key, leaf_key, str_key, Pointee, one, run, text}
 use Rattle.archive_check.specs.Layout.{kind_size, size_of}
 use Rattle.archive_check.specs.Value.{Pointer}
-use Rattle.archive_check.specs.Reads.{Schema, bytes_at, u32_at, i32_at, kind_value, IsOutOfLine, before_end, decoded_length}
+use Rattle.archive_check.specs.Reads.{SchemaTable, bytes_at, u32_at, i32_at, kind_value, IsOutOfLine, before_end, decoded_length}
 use Rattle.archive_check.specs.Readable.{position, target_from, string_text}
-use Rattle.archive_check.specs.Keys.{order_of, key_cmp, ComesBehind, Ascend, Ordered, in_any_order, in_key_order}
+use Rattle.archive_check.specs.Keys.{order_of, key_cmp, ComesBehind, Ascend, IsInOrder, in_any_order, in_key_order}
 use Rattle.archive_check.specs.Tour.{Region, Seen, Tour, tour_end, tour_unique, tour_new, tour_again}
-use Rattle.archive_check.specs.Leaves.{Leaf, leaf_begin, leaf_size, Beside, IsBesideKey, AreBesideKeys, IsBesideKeysOf, IsFreeOn}
+use Rattle.archive_check.specs.Leaves.{PlacedLeaf, leaf_begin, leaf_size, Beside, IsBesideKey, AreBesideKeys, IsBesideKeysOf, IsFreeOn}
 use Rattle.archive_check.proofs.Tours.EqualBytes.{Agrees, byte_same, u32_same, i32_same}
 use Rattle.archive_check.proofs.Editing.EditedBytes.{Edits}
 
@@ -59,24 +59,24 @@ module _ (bytes new : List ℕ) where
   ascend_same K before q z (suc n) b k h = (behind_same K before q b k.0 h.0, ascend_same K (Some q) (q + z) z n k.0 k.1 h.1)
 
   -- so is each key of what stands at t, if it is in an order
-  abbrev pub OrderStays : Schema → ℕ → ℕ → Option Key → Pointee → Type 0
+  abbrev pub OrderStays : SchemaTable → ℕ → ℕ → Option Key → Pointee → Type 0
   OrderStays s t n (Some K) (run X) = KeysStay K t (size_of s.layouts X) n
   OrderStays s t n _ _ = Unit {0}
 
-  pub order_same : {s : Schema} {t n : ℕ} {o : Option Key} {P : Pointee} → OrderStays s t n o P → Ordered s bytes t n o P → Ordered s new t n o P
+  pub order_same : {s : SchemaTable} {t n : ℕ} {o : Option Key} {P : Pointee} → OrderStays s t n o P → IsInOrder s bytes t n o P → IsInOrder s new t n o P
   order_same k in_any_order = in_any_order
   order_same k (in_key_order h) = in_key_order (ascend_same _ None _ _ _ tt k h)
 
 -- what a tour visits is in its order in the new bytes, too
-abbrev pub StaysOrdered : {s : Schema} {bytes : List ℕ} (new : List ℕ) {pending : List ℕ} {seen last : Seen} {O : List Pointer} {C : List Region} → Tour s bytes pending seen O C last → Type 0
+abbrev pub StaysOrdered : {s : SchemaTable} {bytes : List ℕ} (new : List ℕ) {pending : List ℕ} {seen last : Seen} {O : List Pointer} {C : List Region} → Tour s bytes pending seen O C last → Type 0
 StaysOrdered new tour_end = Unit {0}
-StaysOrdered {s} new (tour_unique {p = p} {t = t} e h i j) = Ordered s new t p.length (order_of p) p.pointee × StaysOrdered new i × StaysOrdered new j
-StaysOrdered {s} new (tour_new {p = p} {t = t} e none h i j) = Ordered s new t p.length (order_of p) p.pointee × StaysOrdered new i × StaysOrdered new j
+StaysOrdered {s} new (tour_unique {p = p} {t = t} e h i j) = IsInOrder s new t p.length (order_of p) p.pointee × StaysOrdered new i × StaysOrdered new j
+StaysOrdered {s} new (tour_new {p = p} {t = t} e none h i j) = IsInOrder s new t p.length (order_of p) p.pointee × StaysOrdered new i × StaysOrdered new j
 StaysOrdered new (tour_again e t known free j) = StaysOrdered new j
 
 -- where bytes are written over a leaf that no key has
 
-module _ (bytes new b : List ℕ) (x : Leaf) (d : Edits bytes new (leaf_begin x) b) (size : length b ≡ leaf_size x) where
+module _ (bytes new b : List ℕ) (x : PlacedLeaf) (d : Edits bytes new (leaf_begin x) b) (size : length b ≡ leaf_size x) where
   beside_agrees : (q n : ℕ) → Beside x q n → Agrees bytes new q n
   beside_agrees q n (inl h) = d.behind q n (omega (arith, h, size))
   beside_agrees q n (inr h) = d.before q n h
@@ -89,13 +89,13 @@ module _ (bytes new b : List ℕ) (x : Leaf) (d : Edits bytes new (leaf_begin x)
   beside_all K q z zero h = tt
   beside_all K q z (suc n) h = (beside_stays K q h.0, beside_all K (q + z) z n h.1)
 
-  order_beside : (s : Schema) (t n : ℕ) (o : Option Key) (P : Pointee) → IsBesideKeysOf s bytes t n o P x → OrderStays bytes new s t n o P
+  order_beside : (s : SchemaTable) (t n : ℕ) (o : Option Key) (P : Pointee) → IsBesideKeysOf s bytes t n o P x → OrderStays bytes new s t n o P
   order_beside s t n None P h = tt
   order_beside s t n (Some K) (one X) h = tt
   order_beside s t n (Some K) (run X) h = beside_all K t (size_of s.layouts X) n h
   order_beside s t n (Some K) text h = tt
 
-  pub free_keeps : {s : Schema} {pending : List ℕ} {seen last : Seen} {O : List Pointer} {C : List Region} (i : Tour s bytes pending seen O C last) → IsFreeOn x i → StaysOrdered new i
+  pub free_keeps : {s : SchemaTable} {pending : List ℕ} {seen last : Seen} {O : List Pointer} {C : List Region} (i : Tour s bytes pending seen O C last) → IsFreeOn x i → StaysOrdered new i
   free_keeps tour_end f = tt
   free_keeps {s} (tour_unique {p = p} {t = t} e h i j) f = (order_same bytes new (order_beside s t p.length (order_of p) p.pointee f.0) h.ordered, free_keeps i f.1, free_keeps j f.2)
   free_keeps {s} (tour_new {p = p} {t = t} e none h i j) f = (order_same bytes new (order_beside s t p.length (order_of p) p.pointee f.0) h.ordered, free_keeps i f.1, free_keeps j f.2)

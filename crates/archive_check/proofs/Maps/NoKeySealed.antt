@@ -7,12 +7,12 @@ use Rattle.std.proofs.lemmas.List.Elements.{All-contains, Contains-append_left, 
 use Rattle.archive_check.specs.Shape.{Key, leaf_key, str_key, Shape, sorted_map, str, Pointee, one, run, text, key_shape, entry_of}
 use Rattle.archive_check.specs.Layout.{up, size_of, align_of}
 use Rattle.archive_check.specs.Value.{Pointer, Value, hole, pointers}
-use Rattle.archive_check.specs.Reads.{Schema, LaidOut, bytes_at, u32_at, before_end, decoded_length, IsOutOfLine, map_at, string_at, Reads, reads_map, reads_inline, reads_out_of_line}
+use Rattle.archive_check.specs.Reads.{SchemaTable, LaidOut, bytes_at, u32_at, before_end, decoded_length, IsOutOfLine, map_at, string_at, Reads, reads_map, reads_inline, reads_out_of_line}
 use Rattle.archive_check.specs.Readable.{position, target_from}
-use Rattle.archive_check.specs.Keys.{order_of, Ordered, in_any_order, in_key_order}
+use Rattle.archive_check.specs.Keys.{order_of, IsInOrder, in_any_order, in_key_order}
 use Rattle.archive_check.specs.Tour.{Region, region_at, region_of, root_region, pointee_size, Contents, contents_one, contents_run, Seen, Tour, tour_end, tour_unique, tour_new, tour_again, Accepted}
-use Rattle.archive_check.specs.Within.{Within, PartOf, whole_region, in_one, in_run, in_string}
-use Rattle.archive_check.specs.Leaves.{Leaf, leaf_begin, leaf_size, Beside, IsBesideKey, AreBesideKeys, IsBesideKeysOf, IsFreeOn, IsFree}
+use Rattle.archive_check.specs.Within.{Within, PartOfRegion, whole_region, in_one, in_run, in_string}
+use Rattle.archive_check.specs.Leaves.{PlacedLeaf, leaf_begin, leaf_size, Beside, IsBesideKey, AreBesideKeys, IsBesideKeysOf, IsFreeOn, IsFree}
 use Rattle.archive_check.specs.ComesTo.{ComesTo, to_root, to_part, to_element, to_text, to_target, to_value}
 use Rattle.archive_check.proofs.Elements.{contains_first, contains_later}
 use Rattle.archive_check.proofs.Tours.ReadingUnique.{contents_one_value, pos_one}
@@ -24,9 +24,9 @@ use Rattle.archive_check.proofs.Maps.Entries.{value_at}
 use Rattle.archive_check.proofs.Maps.FreeRegions.{marks, first_mark, later_marks, AllMarked, none_marked, EntryMarked, entries_marked, Free, free_of, keys_of, Parted, parted_none, region_parted, tour_parted}
 use Rattle.archive_check.proofs.Maps.FreeClosed.{IsText, Any, marks_texts, marked_none, text_leads, LeadsFree, LeadsKey, free_regions, key_regions, accepted_closed}
 
-module _ (s : Schema) (laid : LaidOut s) (bytes : List ℕ) where
+module _ (s : SchemaTable) (laid : LaidOut s) (bytes : List ℕ) where
   -- a part lies in its region
-  part_inside : {r : Region} {q : ℕ} {P : Pointee} {n : ℕ} → PartOf s bytes r q P n → r.size ≡ pointee_size s r.pointee r.length → (r.begin ≤ q) × (q + pointee_size s P n ≤ r.begin + r.size)
+  part_inside : {r : Region} {q : ℕ} {P : Pointee} {n : ℕ} → PartOfRegion s bytes r q P n → r.size ≡ pointee_size s r.pointee r.length → (r.begin ≤ q) × (q + pointee_size s P n ≤ r.begin + r.size)
   part_inside whole_region e = (omega arith, omega (arith, e))
   part_inside {r = r} (in_one {X = X} is w) e = let i = within_inside s laid w in let size = ap (λ P. pointee_size s P r.length) is in (i.0, omega (arith, i.1, e, size))
   part_inside {r = r} (in_run {k = k} {X = X} is below w) e =
@@ -50,8 +50,8 @@ module _ (s : Schema) (laid : LaidOut s) (bytes : List ℕ) where
 
   -- it lies in a region that no key leads to; or, of the entries of a map, in a value
   data FreePart (F : List Free) (q : ℕ) (P : Pointee) (n : ℕ) : Type 0 where
-    in_region : {f : Free} → Contains F f → f.1 ≡ None → PartOf s bytes (f.0) q P n → FreePart F q P n
-    in_entry : {f : Free} {K : Key} {V : Shape} {k : ℕ} → Contains F f → f.1 ≡ Some K → (f.0).pointee ≡ run (entry_of K V) → k < (f.0).length → PartOf s bytes (value_region K V (f.0).begin k) q P n → FreePart F q P n
+    in_region : {f : Free} → Contains F f → f.1 ≡ None → PartOfRegion s bytes (f.0) q P n → FreePart F q P n
+    in_entry : {f : Free} {K : Key} {V : Shape} {k : ℕ} → Contains F f → f.1 ≡ Some K → (f.0).pointee ≡ run (entry_of K V) → k < (f.0).length → PartOfRegion s bytes (value_region K V (f.0).begin k) q P n → FreePart F q P n
 
   part_step : {F : List Free} {q n r : ℕ} {Y Z : Shape} → FreePart F q (one Y) n → Within s bytes q Y r Z → FreePart F r (one Z) 0
   part_step (in_region c o i) w = in_region c o (part_within s bytes i refl w)
@@ -120,7 +120,7 @@ module _ (s : Schema) (laid : LaidOut s) (bytes : List ℕ) where
         (region_parted (root_region s root X) None (free_of [] a.tour) [] (keys_of [] a.tour) [] 0 (length bytes) (omega arith) back (tour_parted s bytes [] a.tour 0 root front) (parted_none (root + size_of s.layouts X) (length bytes)))
 
     -- a leaf that lies in a free part
-    module _ (x : Leaf) {q n : ℕ} {P : Pointee} (part : FreePart (free_regions s bytes a) q P n) (low : q ≤ leaf_begin x) (high : leaf_begin x + leaf_size x ≤ q + pointee_size s P n) where
+    module _ (x : PlacedLeaf) {q n : ℕ} {P : Pointee} (part : FreePart (free_regions s bytes a) q P n) (low : q ≤ leaf_begin x) (high : leaf_begin x + leaf_size x ≤ q + pointee_size s P n) where
       -- it lies in a free region, and of the entries of a map in a value
       data Home (f : Free) : Type 0 where
         home_plain : f.1 ≡ None → Home f
@@ -222,7 +222,7 @@ module _ (s : Schema) (laid : LaidOut s) (bytes : List ℕ) where
           let here : p + 0 * z ≡ p = omega arith in
           (subst (λ q. IsBesideKey K bytes q x) here (h 0 (omega arith)), each_beside K z (p + z) m (λ i below. let there : p + (i + 1) * z ≡ p + z + i * z = omega arith in subst (λ q. IsBesideKey K bytes q x) there (h (i + 1) (omega (arith, below)))))
 
-      beside_by : (g : Free) → Contains (free_regions s bytes a) g → (o : Option Key) (Y : Pointee) → g.1 ≡ o → (g.0).pointee ≡ Y → Ordered s bytes (g.0).begin (g.0).length o Y → IsBesideKeysOf s bytes (g.0).begin (g.0).length o Y x
+      beside_by : (g : Free) → Contains (free_regions s bytes a) g → (o : Option Key) (Y : Pointee) → g.1 ≡ o → (g.0).pointee ≡ Y → IsInOrder s bytes (g.0).begin (g.0).length o Y → IsBesideKeysOf s bytes (g.0).begin (g.0).length o Y x
       beside_by g c o Y e d in_any_order = tt
       beside_by g c o Y e d (in_key_order {K = K} {V = V} h) = each_beside K (size_of s.layouts (entry_of K V)) (g.0).begin (g.0).length (λ i below. beside_key {V = V} c e d i below)
 
@@ -265,5 +265,5 @@ module _ (s : Schema) (laid : LaidOut s) (bytes : List ℕ) where
       part_free = tour_free [] a.tour (marked_none IsText Any (pointers a.value) (λ p. tt)) (λ g m. beside_keys g (Contains-append_left (free_of [] a.tour) ((root_region s root X, None) ∷ []) g m))
 
     -- what seals come to is free to be written over
-    pub come_to_free : (x : Leaf) {q n : ℕ} {P : Pointee} → ComesTo s bytes root X q P n → q ≤ leaf_begin x → leaf_begin x + leaf_size x ≤ q + pointee_size s P n → IsFree a x
+    pub come_to_free : (x : PlacedLeaf) {q n : ℕ} {P : Pointee} → ComesTo s bytes root X q P n → q ≤ leaf_begin x → leaf_begin x + leaf_size x ≤ q + pointee_size s P n → IsFree a x
     come_to_free x h low high = part_free x (comes h) low high

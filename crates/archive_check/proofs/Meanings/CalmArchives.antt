@@ -8,7 +8,7 @@ use Rattle.std.proofs.lemmas.Bool.{cases_eq}
 use Rattle.archive_check.specs.Shape.{Flavor, Shape, Pointee, Parts}
 use Rattle.archive_check.specs.Layout.{up, align_of, size_of, parts_end, parts_align, variants_end, variants_align}
 use Rattle.archive_check.specs.Value.{Pointer, Value, Values, pointers, all_pointers}
-use Rattle.archive_check.specs.Reads.{Schema, LaidOut, Reads, reads_leaf, reads_parts, reads_choice, reads_array, reads_boxed, reads_vec, reads_map, reads_inline, reads_out_of_line, reads_shared, reads_null, reads_weak, reads_named, ReadsParts, reads_no_part, reads_part, ReadsRun, reads_none, reads_element}
+use Rattle.archive_check.specs.Reads.{SchemaTable, LaidOut, Reads, reads_leaf, reads_parts, reads_choice, reads_array, reads_boxed, reads_vec, reads_map, reads_inline, reads_out_of_line, reads_shared, reads_null, reads_weak, reads_named, ReadsParts, reads_no_part, reads_part, ReadsRun, reads_none, reads_element}
 use Rattle.archive_check.specs.Tour.{Region, region_of, root_region, pointee_size, Rising, Contents, contents_one, contents_run, contents_text, Entry, entry, Seen, Tour, tour_end, tour_unique, tour_new, tour_again, Accepted}
 use Rattle.archive_check.specs.Leaves.{regions_of}
 use Rattle.archive_check.specs.Pooled.{Entries}
@@ -23,7 +23,7 @@ use Rattle.archive_check.proofs.Editing.RevisedTour.{tour_grows}
 use Rattle.archive_check.proofs.Meanings.ReachedParts.{LeadsInto, Closed, accepted_closed}
 
 -- what is read with a pointer in it takes a byte or more
-module _ (s : Schema) (laid : LaidOut s) (bytes : List ℕ) where
+module _ (s : SchemaTable) (laid : LaidOut s) (bytes : List ℕ) where
   mutual
     reads_takes : {p : ℕ} {X : Shape} {v : Value} {z : Pointer} → Reads s bytes p X v → Contains (pointers v) z → 1 ≤ size_of s.layouts X
     reads_takes (reads_leaf l) c = absurd (omega (arith, c.1))
@@ -64,7 +64,7 @@ module _ (s : Schema) (laid : LaidOut s) (bytes : List ℕ) where
 pub record MetIn (last : Seen) (p : Pointer) : Type 0 where
   pub met : (t : ℕ) (flavor : Flavor) → p.sharing ≡ Some flavor → p.target ≡ pos t → get last t ≡ Some (entry flavor p)
 
-module _ (s : Schema) (bytes : List ℕ) where
+module _ (s : SchemaTable) (bytes : List ℕ) where
   -- so is each that the region's reading has
   abbrev pub AllMet : Seen → Region → Type 0
   AllMet last r = (v : Value) × Contents s bytes r.begin r.pointee r.length v × All (MetIn last) (pointers v)
@@ -108,11 +108,11 @@ module _ (s : Schema) (bytes : List ℕ) where
       All-append (AllMet a.seen) a.regions (r ∷ []) (h.1) (All-cons (AllMet a.seen) r [] (a.value, contents_one a.flat.reads, h.0) (All-nil (AllMet a.seen)))
 
 -- what the pointer leads to, shared or not, ends by this position
-pub record EndsBy (s : Schema) (stop : ℕ) (p : Pointer) : Type 0 where
+pub record EndsBy (s : SchemaTable) (stop : ℕ) (p : Pointer) : Type 0 where
   pub ends : (t : ℕ) → p.target ≡ pos t → t + pointee_size s p.pointee p.length ≤ stop
 
 -- Of pointers of which each that is allowed has no flavor with cycles, and leads to such alone.
-module _ (s : Schema) (bytes : List ℕ) (Allowed : Pointer → Type 0)
+module _ (s : SchemaTable) (bytes : List ℕ) (Allowed : Pointer → Type 0)
     (calm : (p : Pointer) (flavor : Flavor) → Allowed p → p.sharing ≡ Some flavor → IsTrue flavor.cycles → ⊥)
     (further : (p : Pointer) (t : ℕ) (v : Value) → Allowed p → Contents s bytes t p.pointee p.length v → All Allowed (pointers v)) where
   -- what is seen, and isn't being read, ends by here

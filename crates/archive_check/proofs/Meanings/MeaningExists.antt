@@ -5,18 +5,18 @@ use Rattle.std.specs.Cmp.{nat_cmp_total}
 use Rattle.std.specs.Ordering.{eq_by_cmp}
 use Rattle.archive_check.specs.Shape.{Shape}
 use Rattle.archive_check.specs.Value.{Pointer, Value}
-use Rattle.archive_check.specs.Reads.{Schema}
+use Rattle.archive_check.specs.Reads.{SchemaTable}
 use Rattle.archive_check.specs.Tour.{Region, Entry, Seen, entry, Contents, Tour, tour_end, tour_unique, tour_new, tour_again, Accepted}
 use Rattle.archive_check.specs.Denotes.{Meaning, Fills, IsSharedValue, Denotes}
 use Rattle.archive_check.proofs.Meanings.MeaningUnique.{fill, tour_fills, accepted_fills}
 use Rattle.archive_check.proofs.Tours.Seen.{same_key}
 
 -- the values of the positions that are seen
-record Known (s : Schema) (bytes : List ℕ) (seen : Seen) : Type 0 where
+record Known (s : SchemaTable) (bytes : List ℕ) (seen : Seen) : Type 0 where
   shared : FinMap nat_cmp (Entry × Value)
   knows : (t : ℕ) → IsSharedValue s bytes t (get seen t) (get shared t)
 
-module _ (s : Schema) (bytes : List ℕ) where
+module _ (s : SchemaTable) (bytes : List ℕ) where
   known_at : (q t : ℕ) (e : Entry) (v w : Value) (old : Option Entry) (known : Option (Entry × Value)) → Contents s bytes t e.pointee e.length v → Fills s bytes v w → IsSharedValue s bytes q old known
       → (b : Bool) → eq_by_cmp nat_cmp q t ≡ b → IsSharedValue s bytes q (cond b (Some e) old) (cond b (Some (e, w)) known)
   known_at q t e v w old known c f h true is = (v, w, rw (same_key q t is) c, f, refl)

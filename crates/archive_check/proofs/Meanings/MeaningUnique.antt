@@ -4,12 +4,12 @@ use Rattle.std.specs.FinMap.{get, same_map, nat_cmp-IsAntisymmetric}
 use Rattle.std.specs.Cmp.{nat_cmp_total}
 use Rattle.archive_check.specs.Shape.{Shape}
 use Rattle.archive_check.specs.Value.{Pointer, Value, Values, number, product, case, list, text_value, box, null, shared_value, hole, no_value, value, pointers, all_pointers}
-use Rattle.archive_check.specs.Reads.{Schema}
+use Rattle.archive_check.specs.Reads.{SchemaTable}
 use Rattle.archive_check.specs.Tour.{Entry, Leads, Seen, Region, Tour, tour_end, tour_unique, tour_new, tour_again, Accepted}
 use Rattle.archive_check.specs.Denotes.{Meaning, Fills, fills_number, fills_product, fills_case, fills_list, fills_text, fills_box, fills_null, fills_shared_value, fills_unique, fills_shared, FillsAll, fills_no_value, fills_value, IsSharedValue, Denotes}
 use Rattle.archive_check.proofs.Tours.ReadingUnique.{reads_one, contents_one_value, pos_one, leads_position, leads_value, Alike, tour_one}
 
-module _ (s : Schema) (bytes : List ℕ) where
+module _ (s : SchemaTable) (bytes : List ℕ) where
   mutual
     pub fills_one : {v w x : Value} → Fills s bytes v w → Fills s bytes v x → w ≡ x
     fills_one fills_number fills_number = refl
@@ -51,14 +51,14 @@ module _ (s : Schema) (bytes : List ℕ) where
       λ i. record { value = values i; shared = maps i }
 
 -- each pointer leads to something that can be filled
-abbrev pub Filled : Schema → List ℕ → Value → Type 0
+abbrev pub Filled : SchemaTable → List ℕ → Value → Type 0
 Filled s bytes v = (w : Value) × Fills s bytes v w
 
-abbrev pub AllFilled : Schema → List ℕ → List Pointer → Type 0
+abbrev pub AllFilled : SchemaTable → List ℕ → List Pointer → Type 0
 AllFilled s bytes [] = Unit {0}
 AllFilled s bytes (p ∷ O) = Filled s bytes (hole p) × AllFilled s bytes O
 
-module _ (s : Schema) (bytes : List ℕ) where
+module _ (s : SchemaTable) (bytes : List ℕ) where
   first_filled : (O P : List Pointer) → AllFilled s bytes (O ++ P) → AllFilled s bytes O
   first_filled [] P h = tt
   first_filled (p ∷ O) P h = (h.0, first_filled O P (h.1))

@@ -5,7 +5,7 @@ use Rattle.std.specs.Cmp.{nat_cmp_total}
 use Rattle.std.specs.Ordering.{eq_by_cmp}
 use Rattle.archive_check.specs.Shape.{Shape, Parts, Pointee, Flavor}
 use Rattle.archive_check.specs.Value.{Pointer, Value, Values, hole, pointers, all_pointers}
-use Rattle.archive_check.specs.Reads.{Schema, Reads, reads_leaf, reads_parts, reads_choice, reads_array, reads_boxed, reads_vec, reads_map, reads_inline, reads_out_of_line, reads_shared, reads_null, reads_weak, reads_named, ReadsParts, reads_no_part, reads_part, ReadsRun, reads_none, reads_element}
+use Rattle.archive_check.specs.Reads.{SchemaTable, Reads, reads_leaf, reads_parts, reads_choice, reads_array, reads_boxed, reads_vec, reads_map, reads_inline, reads_out_of_line, reads_shared, reads_null, reads_weak, reads_named, ReadsParts, reads_no_part, reads_part, ReadsRun, reads_none, reads_element}
 use Rattle.archive_check.specs.Tour.{Region, Contents, contents_one, contents_run, contents_text, Leads, Entry, Seen, entry, Tour, tour_end, tour_unique, tour_new, tour_again}
 use Rattle.archive_check.specs.Denotes.{Fills, fills_number, fills_product, fills_case, fills_list, fills_text, fills_box, fills_null, fills_shared_value, fills_unique, fills_shared, FillsAll, fills_no_value, fills_value}
 use Rattle.archive_check.specs.Reached.{Names, names_itself, names_product, names_case, names_list, names_box, NamesAmong, names_first, names_later}
@@ -20,7 +20,7 @@ hole_no_names (names_case n) e = cc
 hole_no_names (names_list n) e = cc
 hole_no_names (names_box n) e = cc
 
-module _ (s : Schema) (bytes : List ℕ) where
+module _ (s : SchemaTable) (bytes : List ℕ) where
   -- bytes say no names
   mutual
     pub reads_no_names : {p t : ℕ} {X : Shape} {v : Value} → Reads s bytes p X v → Names t v → ⊥

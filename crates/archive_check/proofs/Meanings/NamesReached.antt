@@ -5,7 +5,7 @@ use Rattle.std.specs.Cmp.{nat_cmp_total}
 use Rattle.std.specs.Ordering.{eq_by_cmp}
 use Rattle.archive_check.specs.Shape.{Shape, one}
 use Rattle.archive_check.specs.Value.{Pointer, Value, Values, hole, shared_value, value, pointers, all_pointers}
-use Rattle.archive_check.specs.Reads.{Schema}
+use Rattle.archive_check.specs.Reads.{SchemaTable}
 use Rattle.archive_check.specs.Tour.{Region, Contents, Entry, Seen, entry, Tour, tour_end, tour_unique, tour_new, tour_again}
 use Rattle.archive_check.specs.Denotes.{Meaning, Fills, fills_number, fills_product, fills_case, fills_list, fills_text, fills_box, fills_null, fills_shared_value, fills_unique, fills_shared, FillsAll, fills_no_value, fills_value, IsSharedValue, Denotes}
 use Rattle.archive_check.specs.Reached.{Names, names_itself, names_product, names_case, names_list, names_box, NamesAmong, names_first, names_later, LeadsTo, leads_at_once, leads_through, ReachedMeaning}
@@ -32,7 +32,7 @@ by_name : {shared : Shared} {t : ℕ} {e : Entry} {w : Value} {u : ℕ} → get 
 by_name k (leads_at_once n) = leads_through (leads_at_once names_itself) k n
 by_name k (leads_through l j n) = leads_through (by_name k l) j n
 
-module _ (s : Schema) (bytes : List ℕ) where
+module _ (s : SchemaTable) (bytes : List ℕ) where
   -- an entry of the map, where its position was seen
   pub record Says (shared : Shared) (t : ℕ) (e : Entry) : Type 0 where
     pub read : Value

@@ -3,7 +3,7 @@ use Rattle.std.proofs.Common.{◌≡◌, ℕ, List, Option, Some, None, refl, sy
 use Rattle.std.specs.FinMap.{get, same_map, nat_cmp-IsAntisymmetric}
 use Rattle.std.specs.Cmp.{nat_cmp_total}
 use Rattle.archive_check.specs.Shape.{Shape, Pointee}
-use Rattle.archive_check.specs.Reads.{Schema}
+use Rattle.archive_check.specs.Reads.{SchemaTable}
 use Rattle.archive_check.specs.Value.{Value}
 use Rattle.archive_check.specs.Tour.{Accepted}
 use Rattle.archive_check.specs.Denotes.{Meaning}
@@ -21,7 +21,7 @@ same_option None None to from = refl
 same_option None (Some y) to from = from y refl
 same_option (Some x) b to from = sym (to x refl)
 
-module _ (s : Schema) (bytes : List ℕ) where
+module _ (s : SchemaTable) (bytes : List ℕ) where
   pub reached_meaning_one : {root : ℕ} {X : Shape} {p n : ℕ} {P : Pointee} {m o : Meaning} → ReachedMeaning s bytes root X p P n m → ReachedMeaning s bytes root X p P n o → m ≡ o
   reached_meaning_one {m = m} {o = o} h k =
       let values : m.value ≡ o.value = reached_one s bytes h.reached k.reached in

@@ -7,10 +7,10 @@ use Rattle.std.specs.Ordering.{eq_by_cmp}
 use Rattle.archive_check.specs.Shape.{Name, Flavor, Shape, parts, choice, array, str, named, Pointee, one, run, text, Parts, Variants, definition, variant_at}
 use Rattle.archive_check.specs.Layout.{size_of}
 use Rattle.archive_check.specs.Value.{Pointer, Value, Values, hole, pointers, all_pointers}
-use Rattle.archive_check.specs.Reads.{Schema, bytes_at, IsOutOfLine, before_end, Reads, reads_parts, reads_choice, reads_array, reads_inline, reads_out_of_line, reads_named, ReadsParts, reads_part, ReadsRun, reads_none, reads_element}
+use Rattle.archive_check.specs.Reads.{SchemaTable, bytes_at, IsOutOfLine, before_end, Reads, reads_parts, reads_choice, reads_array, reads_inline, reads_out_of_line, reads_named, ReadsParts, reads_part, ReadsRun, reads_none, reads_element}
 use Rattle.archive_check.specs.Tour.{Region, region_at, region_of, root_region, pointee_size, Contents, contents_one, contents_run, contents_text, Leads, Entry, Seen, entry, Tour, tour_end, tour_unique, tour_new, tour_again, Accepted}
 use Rattle.archive_check.specs.Leaves.{regions_of}
-use Rattle.archive_check.specs.Within.{IsPart, first_part, later_part, Within, whole, in_parts, in_choice, in_array, in_named, PartOf, whole_region, in_one, in_run, in_string, PartOfSome}
+use Rattle.archive_check.specs.Within.{IsPart, first_part, later_part, Within, whole, in_parts, in_choice, in_array, in_named, PartOfRegion, whole_region, in_one, in_run, in_string, PartOfSome}
 use Rattle.archive_check.specs.Denotes.{Meaning, Denotes, fills_unique, fills_shared}
 use Rattle.archive_check.specs.Reached.{Reached}
 use Rattle.archive_check.proofs.Tours.ReadingUnique.{contents_one_value}
@@ -23,7 +23,7 @@ use Rattle.archive_check.proofs.Maps.Entries.{shared_ordered}
 abbrev Among : List Region → List Region → Type 0
 Among C D = (r : Region) → Contains C r → Contains D r
 
-module _ (s : Schema) (bytes : List ℕ) where
+module _ (s : SchemaTable) (bytes : List ℕ) where
   -- the pointer leads to one of the regions, and can be filled
   abbrev pub LeadsInto : List Region → Pointer → Type 0
   LeadsInto C q = (t : ℕ) × (v : Value) × Leads s bytes q t v × Contains C (region_of s q t) × Filled s bytes (hole q)
@@ -141,7 +141,7 @@ module _ (s : Schema) (bytes : List ℕ) where
   string_step {q = q} (contents_one (reads_inline o u)) inline = (_, contents_text (rw (inline_bytes bytes q) u), λ z c. c)
   string_step (contents_one (reads_out_of_line o long)) inline = absurd (inline o)
 
-  pub part_of_reads : {r : Region} {q : ℕ} {P : Pointee} {n : ℕ} {v : Value} → PartOf s bytes r q P n → Contents s bytes r.begin r.pointee r.length v → SubContents q P n (pointers v)
+  pub part_of_reads : {r : Region} {q : ℕ} {P : Pointee} {n : ℕ} {v : Value} → PartOfRegion s bytes r q P n → Contents s bytes r.begin r.pointee r.length v → SubContents q P n (pointers v)
   part_of_reads {v = v} whole_region c = (v, c, λ z h. h)
   part_of_reads (in_one e w) c = one_step (rw e at c) w
   part_of_reads (in_run e below w) c = run_step (rw e at c) below w
@@ -197,13 +197,13 @@ module _ (s : Schema) (bytes : List ℕ) where
   within_trans w (in_array v below) = in_array (within_trans w v) below
   within_trans w (in_named v d) = in_named (within_trans w v) d
 
-  pub part_within : {r : Region} {q : ℕ} {P : Pointee} {n : ℕ} {Y : Shape} {z : ℕ} {Z : Shape} → PartOf s bytes r q P n → P ≡ one Y → Within s bytes q Y z Z → PartOf s bytes r z (one Z) 0
+  pub part_within : {r : Region} {q : ℕ} {P : Pointee} {n : ℕ} {Y : Shape} {z : ℕ} {Z : Shape} → PartOfRegion s bytes r q P n → P ≡ one Y → Within s bytes q Y z Z → PartOfRegion s bytes r z (one Z) 0
   part_within whole_region same w = in_one same w
   part_within {Y = Y} (in_one {Y = V} e v) same w = let here : V ≡ Y = cc in in_one e (within_trans (rw here at v) w)
   part_within {Y = Y} (in_run {Y = V} e below v) same w = let here : V ≡ Y = cc in in_run e below (within_trans (rw here at v) w)
   part_within (in_string i inline) same w = cc
 
-  pub part_element : {r : Region} {q : ℕ} {P : Pointee} {n : ℕ} {Y : Shape} {k : ℕ} → PartOf s bytes r q P n → P ≡ run Y → k < n → PartOf s bytes r (q + k * size_of s.layouts Y) (one Y) 0
+  pub part_element : {r : Region} {q : ℕ} {P : Pointee} {n : ℕ} {Y : Shape} {k : ℕ} → PartOfRegion s bytes r q P n → P ≡ run Y → k < n → PartOfRegion s bytes r (q + k * size_of s.layouts Y) (one Y) 0
   part_element whole_region same below = in_run same below whole
   part_element (in_one e v) same below = cc
   part_element (in_run e under v) same below = cc

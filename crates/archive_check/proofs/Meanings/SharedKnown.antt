@@ -4,7 +4,7 @@ use Rattle.std.specs.FinMap.{get}
 use Rattle.std.proofs.lemmas.List.Elements.{All-contains}
 use Rattle.archive_check.specs.Shape.{Flavor, Shape, Pointee}
 use Rattle.archive_check.specs.Value.{Pointer, Value, pointers}
-use Rattle.archive_check.specs.Reads.{Schema}
+use Rattle.archive_check.specs.Reads.{SchemaTable}
 use Rattle.archive_check.specs.Tour.{entry, Contents, Accepted}
 use Rattle.archive_check.specs.Denotes.{Meaning, Fills, Denotes}
 use Rattle.archive_check.specs.Leaves.{regions_of}
@@ -20,7 +20,7 @@ use Rattle.archive_check.proofs.Tours.Seen.{same_some}
 use Rattle.archive_check.proofs.Viewing.Viewed.{lies_reached, reached_lies}
 use Rattle.archive_check.proofs.Meanings.CalmArchives.{MetIn, AllMet, accepted_met}
 
-module _ (s : Schema) (bytes : List ℕ) where
+module _ (s : SchemaTable) (bytes : List ℕ) where
   pub shared_known : {q n t : ℕ} {P : Pointee} {v u w : Value} {p : Pointer} {flavor : Flavor} {m : Meaning} (l : Lies s bytes q P n) → Denotes s bytes l.root l.shape m → Contents s bytes q P n v
       → Contains (pointers v) p → p.sharing ≡ Some flavor → p.target ≡ pos t → Contents s bytes t p.pointee p.length u → Fills s bytes u w → get m.shared t ≡ Some (entry flavor p, w)
   shared_known {t = t} {v = v} {u = u} {w = w} {p = p} {flavor = flavor} {m = m} l d c i e there h f =

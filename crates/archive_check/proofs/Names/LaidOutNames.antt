@@ -56,17 +56,17 @@ module _ (table : Table) where
   reaches_next (reaches_through h d r) e g = reaches_through h d (reaches_next r e g)
 
 -- nothing is in order; and so is what is, with one more name whose definition holds only names that stand there
-pub data Ordered (table : Table) : List Name → Type 0 where
-  ordered_none : Ordered table []
+pub data DefinedInOrder (table : Table) : List Name → Type 0 where
+  ordered_none : DefinedInOrder table []
   ordered_next : {names : List Name} (name : Name) {X : Shape}
-      → Ordered table names
+      → DefinedInOrder table names
       → definition table name ≡ Some X
       → ((m : Name) → Holds m X → Contains names m)
-      → Ordered table (names ++ name ∷ [])
+      → DefinedInOrder table (names ++ name ∷ [])
 
 module _ (table : Table) where
   -- a name in order can be laid out in as many rounds as there are names
-  pub ordered_placed : {names : List Name} → Ordered table names → (name : Name) → Contains names name → Placed table (length names) name
+  pub ordered_placed : {names : List Name} → DefinedInOrder table names → (name : Name) → Contains names name → Placed table (length names) name
   ordered_placed ordered_none q c = absurd (omega (arith, c.1))
   ordered_placed (ordered_next {names = names} name {X = X} o e only) q c =
       let more : length (names ++ name ∷ []) ≡ suc (length names) = omega (arith, length-append names (name ∷ [])) in
@@ -75,7 +75,7 @@ module _ (table : Table) where
       (Contains-push_cases names name q c)
 
   -- so it doesn't lead to itself
-  pub ordered_never : {names : List Name} → Ordered table names → (name : Name) → Contains names name → LeadsTo table name name → ⊥
+  pub ordered_never : {names : List Name} → DefinedInOrder table names → (name : Name) → Contains names name → LeadsTo table name name → ⊥
   ordered_never {names = names} o name c = placed_never table (length names) name (ordered_placed o name c)
 
 -- the names of the definitions

@@ -3,7 +3,7 @@ use Rattle.std.proofs.Common.{◌≡◌, ◌≢◌, ◌↔◌, ℕ, zero, suc, r
 use Rattle.archive_check.specs.Shape.{Name, Shape, Key, key_shape, entry_of, Pointee, one, run, text, Parts, part, Variants, variant, no_variant, variant_at, definition, vec, sorted_map}
 use Rattle.archive_check.specs.Layout.{up, size_of, align_of}
 use Rattle.archive_check.specs.Value.{Pointer}
-use Rattle.archive_check.specs.Reads.{Schema}
+use Rattle.archive_check.specs.Reads.{SchemaTable}
 use Rattle.archive_check.specs.Tour.{Seen, pointee_size, pointee_align}
 use Rattle.archive_check.specs.Keys.{order_of, ComesBehind, Ascend}
 use Rattle.archive_check.proofs.Maps.Entries.{entry_mentions}
@@ -16,11 +16,11 @@ use Rattle.archive_check.proofs.Names.SameLayouts.{align_same, size_same}
 use Rattle.archive_check.proofs.Names.LaidOutNames.{reaches_next}
 
 -- the schemas say the same of the name
-pub record SameName (s s' : Schema) (name : Name) : Type 0 where
+pub record SameName (s s' : SchemaTable) (name : Name) : Type 0 where
   pub definition_is : definition s.table name ≡ definition s'.table name
   pub layout_is : s.layouts name ≡ s'.layouts name
 
-module _ (s s' : Schema) (X : Shape) where
+module _ (s s' : SchemaTable) (X : Shape) where
   -- the names here are reached from X
   abbrev pub Known : Shape → Type 0
   Known Y = (n : Name) → Mentions n Y → Reaches s.table n X
@@ -257,7 +257,7 @@ module _ (s s' : Schema) (X : Shape) where
     root_again : {limit : Option ℕ} {root : ℕ} → RootWalk s bytes limit root X → RootWalk s' bytes limit root X
     root_again w = record { later = w.later; last = w.last; walk = enter_same w.walk root_known }
 
-module _ (s s' : Schema) (X : Shape) (same : (name : Name) → Reaches s.table name X → SameName s s' name) where
+module _ (s s' : SchemaTable) (X : Shape) (same : (name : Name) → Reaches s.table name X → SameName s s' name) where
   -- both schemas reach the same names
   reached_back : {name : Name} {Y : Shape} → Reaches s'.table name Y → Known s s' X Y → Reaches s.table name X
   reached_back (reaches m) k = k _ m

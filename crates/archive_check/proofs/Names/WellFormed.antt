@@ -9,7 +9,7 @@ use Rattle.archive_check.specs.MissingNames.{missing, Collected, Arranged}
 use Rattle.archive_check.proofs.Names.Named.{names_decided, definition_here, definition_other}
 use Rattle.archive_check.proofs.Names.MissingNames.{IsDefined, held_defined, mentioned_defined}
 use Rattle.archive_check.proofs.Elements.{contains_cases, contains_later}
-use Rattle.archive_check.proofs.Names.LaidOutNames.{Ordered, ordered_none, ordered_next, ordered_never, names_of, names_of-push, names_of-nil, defined_named}
+use Rattle.archive_check.proofs.Names.LaidOutNames.{DefinedInOrder, ordered_none, ordered_next, ordered_never, names_of, names_of-push, names_of-nil, defined_named}
 
 -- a definition that is found stands in the table, and one that stands there is found, or another one
 pub found_stands : (table : Table) (n : Name) (X : Shape) → definition table n ≡ Some X → Contains table (n, X)
@@ -71,12 +71,12 @@ module _ (old new : Table) (h : Arranged old new) where
     named_before : (m : Name) → Holds m here.1 → Contains (names_of (take k new)) m
     named_before m i = let (Y, e) = held_defined (take k new) false m i (h.earlier k here.0 here.1 l here_stands) in defined_named (take k new) m Y e
 
-  ordered_to : (k : ℕ) → k ≤ length new → Ordered new (names_of (take k new))
+  ordered_to : (k : ℕ) → k ≤ length new → DefinedInOrder new (names_of (take k new))
   ordered_to zero l = rw names_of-nil ordered_none
   ordered_to (suc k) l =
       rw (one_more k l) (ordered_next (here k l).0 (ordered_to k (omega arith)) (h.once (here k l).0 (here k l).1 (Contains-get_or new k ([], str) l)) (named_before k l))
 
-  pub arranged_ordered : Ordered new (names_of new)
+  pub arranged_ordered : DefinedInOrder new (names_of new)
   arranged_ordered = rw (ap names_of (take_all (length new) new (omega arith))) at (ordered_to (length new) (omega arith))
 
   -- and no name in it holds itself

@@ -8,7 +8,7 @@ use Rattle.std.proofs.lemmas.List.Elements.{All-nil, All-cons, All-append, All-c
 use Rattle.archive_check.specs.Shape.{Shape, Pointee, one}
 use Rattle.archive_check.specs.Layout.{up, size_of}
 use Rattle.archive_check.specs.Value.{Value, pointers}
-use Rattle.archive_check.specs.Reads.{Schema, LaidOut}
+use Rattle.archive_check.specs.Reads.{SchemaTable, LaidOut}
 use Rattle.archive_check.specs.Tour.{Region, root_region, pointee_size, pointee_align, Rising, contents_one, Entry, Accepted}
 use Rattle.archive_check.specs.Leaves.{regions_of}
 use Rattle.archive_check.specs.LittleEndian.{AreBytes}
@@ -25,17 +25,17 @@ use Rattle.archive_check.proofs.OneList.Readings.{part_of_alike, text_of_alike}
 use Rattle.archive_check.proofs.OneList.OwnBytes.{byte_there, Trimmed, own_bytes}
 
 -- each part of these regions fits the buffer
-abbrev AllFit : Schema → List ℕ → List Region → Type 0
+abbrev AllFit : SchemaTable → List ℕ → List Region → Type 0
 AllFit s bytes C = (q : ℕ) (P : Pointee) (n : ℕ) → PartOfSome s bytes C q P n → q + pointee_size s P n ≤ length bytes
 
 -- a part of a clean buffer is trimmed
-trimmed : (s : Schema) (bytes : List ℕ) (start : ℕ) (C : List Region) (q : ℕ) (Y : Shape) → Clean s bytes start C → start ≤ q → PartOfSome s bytes C q (one Y) 0 → Trimmed bytes q Y
+trimmed : (s : SchemaTable) (bytes : List ℕ) (start : ℕ) (C : List Region) (q : ℕ) (Y : Shape) → Clean s bytes start C → start ≤ q → PartOfSome s bytes C q (one Y) 0 → Trimmed bytes q Y
 trimmed s bytes start C q Y clean low h = record {
   strings = λ e out i least few. clean.strings q i low (subst (λ Z. PartOfSome s bytes C q (one Z) 0) e h) out least few;
   nulls = λ flavor P e null. clean.nulls q flavor P low (subst (λ Z. PartOfSome s bytes C q (one Z) 0) e h) null;
 }
 
-module _ (s : Schema) (laid : LaidOut s) where
+module _ (s : SchemaTable) (laid : LaidOut s) where
   -- what belongs to something in one buffer is the same byte in the other
   owned_same : (a b : List ℕ) (start : ℕ) (C : List Region) → AreBytes a → AreBytes b → All (Alike s a b) C → AllFit s a C → length a ≡ length b → All (λ r. start ≤ r.begin) C → Clean s a start C → Clean s b start C
       → (i : ℕ) → Owned s a C i → slice_index a i ≡ slice_index b i
@@ -68,7 +68,7 @@ rising_above : (low start : ℕ) (C : List Region) (stop : ℕ) → low ≤ star
 rising_above low start [] stop le h = All-nil (λ r. low ≤ r.begin)
 rising_above low start (r ∷ C) stop le h = All-cons (λ r. low ≤ r.begin) r C (omega arith) (rising_above low (r.begin + r.size) C stop (omega arith) (h.2))
 
-module _ (s : Schema) (laid : LaidOut s) (a b : List ℕ) (h : AreBytes a) (k : AreBytes b) where
+module _ (s : SchemaTable) (laid : LaidOut s) (a b : List ℕ) (h : AreBytes a) (k : AreBytes b) where
   first_bytes : (start i : ℕ) → take start a ≡ take start b → i < start → slice_index a i ≡ slice_index b i
   first_bytes start i e less = sym (get_or-take start a i 0 less) ∙ ap (λ x. slice_index x i) e ∙ get_or-take start b i 0 less
 

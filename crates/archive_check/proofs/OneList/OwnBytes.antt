@@ -6,7 +6,7 @@ use Rattle.std.proofs.lemmas.List.Elements.{All-take, All-drop}
 use Rattle.archive_check.specs.Shape.{signed, Flavor, Key, entry_of, Shape, str, weak, Pointee, one, run, text}
 use Rattle.archive_check.specs.Layout.{kind_size, size_of, pointer_size}
 use Rattle.archive_check.specs.Value.{Value}
-use Rattle.archive_check.specs.Reads.{Schema, bytes_at, u32_at, i32_at, IsOutOfLine, before_end, decoded_length, length_at, pointer_at, map_at, string_at, Reads, reads_leaf, reads_parts, reads_choice, reads_array, reads_boxed, reads_vec, reads_map, reads_inline, reads_out_of_line, reads_shared, reads_null, reads_weak, reads_named}
+use Rattle.archive_check.specs.Reads.{SchemaTable, bytes_at, u32_at, i32_at, IsOutOfLine, before_end, decoded_length, length_at, pointer_at, map_at, string_at, Reads, reads_leaf, reads_parts, reads_choice, reads_array, reads_boxed, reads_vec, reads_map, reads_inline, reads_out_of_line, reads_shared, reads_null, reads_weak, reads_named}
 use Rattle.archive_check.specs.LittleEndian.{little_number, AreBytes}
 use Rattle.archive_check.specs.Tightness.{own_size}
 use Rattle.archive_check.proofs.format.BytesAt.{byte_in}
@@ -97,7 +97,7 @@ module _ (a b : List ℕ) where
       (cases_lt i n)
 
   -- its own bytes are the same in both
-  pub own_bytes : {s : Schema} {p : ℕ} {Y : Shape} {v w : Value} → AreBytes a → AreBytes b → Reads s a p Y v → Reads s b p Y w → v ≡ w → p + size_of s.layouts Y ≤ length a → p + size_of s.layouts Y ≤ length b → Trimmed a p Y → Trimmed b p Y
+  pub own_bytes : {s : SchemaTable} {p : ℕ} {Y : Shape} {v w : Value} → AreBytes a → AreBytes b → Reads s a p Y v → Reads s b p Y w → v ≡ w → p + size_of s.layouts Y ≤ length a → p + size_of s.layouts Y ≤ length b → Trimmed a p Y → Trimmed b p Y
       → (i : ℕ) → p ≤ i → i < p + own_size Y → slice_index a i ≡ slice_index b i
   own_bytes h k (reads_leaf {p = p} {kind = kind} l) (reads_leaf m) e fits room t u i low high =
       byte_there a b p (kind_size kind) i low high (encoding_unique kind (bytes_at a p (kind_size kind)) (bytes_at b p (kind_size kind)) l m (few a p (kind_size kind) h) (few b p (kind_size kind) k) (cc))

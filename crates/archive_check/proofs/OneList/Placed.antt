@@ -4,7 +4,7 @@ use Rattle.std.proofs.lemmas.Bool.Decides.{nat_tests}
 use Rattle.std.specs.FinMap.{get, insert}
 use Rattle.archive_check.specs.Shape.{Flavor}
 use Rattle.archive_check.specs.Value.{Pointer, Value, pointers}
-use Rattle.archive_check.specs.Reads.{Schema}
+use Rattle.archive_check.specs.Reads.{SchemaTable}
 use Rattle.archive_check.specs.Tour.{Region, region_at, region_of, Leads, Entry, entry, Seen, Tour, tour_end, tour_unique, tour_new, tour_again}
 use Rattle.archive_check.specs.Denotes.{Fills}
 use Rattle.archive_check.specs.Tightness.{after, Tight}
@@ -23,7 +23,7 @@ pub record Placed (to : ℕ → ℕ) (final : Seen) (C D : List Region) (seen la
   pub related : Related to final last other
   pub kept : (t : ℕ) (e : Entry) → get last t ≡ Some e → (get seen t ≡ Some e) ⊎ (to t ≡ t)
 
-same_region : (s : Schema) (p q : Pointer) {t u : ℕ} → t ≡ u → p.pointee ≡ q.pointee → p.length ≡ q.length → p.sharing ≡ q.sharing → region_of s p t ≡ region_of s q u
+same_region : (s : SchemaTable) (p q : Pointer) {t u : ℕ} → t ≡ u → p.pointee ≡ q.pointee → p.length ≡ q.length → p.sharing ≡ q.sharing → region_of s p t ≡ region_of s q u
 same_region s p q e f g h = λ i. region_at s (e i) (f i) (g i) (is_some (h i))
 
 module _ (to : ℕ → ℕ) (final : Seen) where
@@ -69,7 +69,7 @@ pub record Begun (to : ℕ → ℕ) (final ending : Seen) (start m n : ℕ) (C D
   pub grows : (t : ℕ) (e : Entry) → get last t ≡ Some e → get final t ≡ Some e
   pub spreads : (t : ℕ) (e : Entry) → get other t ≡ Some e → get ending t ≡ Some e
 
-module _ (s : Schema) (a b : List ℕ) (to : ℕ → ℕ) (final ending : Seen) (known : KnownAlike s a b to final ending) (apart : (t u : ℕ) (e f : Entry) → get final t ≡ Some e → get final u ≡ Some f → to t ≡ to u → t ≡ u) where
+module _ (s : SchemaTable) (a b : List ℕ) (to : ℕ → ℕ) (final ending : Seen) (known : KnownAlike s a b to final ending) (apart : (t u : ℕ) (e f : Entry) → get final t ≡ Some e → get final u ≡ Some f → to t ≡ to u → t ≡ u) where
   abbrev Begins : ℕ → ℕ → ℕ → List Region → List Region → Seen → Seen → Seen → Seen → Type 0
   Begins = Begun to final ending
 

@@ -3,20 +3,20 @@ use Rattle.std.proofs.Common.{◌≡◌, ℕ, zero, suc, ◌+◌, ◌*◌, ◌<�
 use Rattle.archive_check.specs.Shape.{Name, Shape, parts, choice, array, named, Pointee, one, run, text, Parts, Variants, definition, variant_at}
 use Rattle.archive_check.specs.Layout.{size_of}
 use Rattle.archive_check.specs.Value.{Value, Values}
-use Rattle.archive_check.specs.Reads.{Schema, bytes_at, Reads, reads_parts, reads_choice, reads_array, reads_named, ReadsParts, reads_part, ReadsRun, reads_none, reads_element}
+use Rattle.archive_check.specs.Reads.{SchemaTable, bytes_at, Reads, reads_parts, reads_choice, reads_array, reads_named, ReadsParts, reads_part, ReadsRun, reads_none, reads_element}
 use Rattle.archive_check.specs.Tour.{Region, Contents, contents_one, contents_run, contents_text}
-use Rattle.archive_check.specs.Within.{IsPart, first_part, later_part, Within, whole, in_parts, in_choice, in_array, in_named, PartOf, whole_region, in_one, in_run, in_string}
+use Rattle.archive_check.specs.Within.{IsPart, first_part, later_part, Within, whole, in_parts, in_choice, in_array, in_named, PartOfRegion, whole_region, in_one, in_run, in_string}
 use Rattle.archive_check.proofs.OneList.Tours.{Alike}
 
 -- X at p is read in both buffers, and says the same
-pub record ReadAlike (s : Schema) (a b : List ℕ) (p : ℕ) (X : Shape) : Type 0 where
+pub record ReadAlike (s : SchemaTable) (a b : List ℕ) (p : ℕ) (X : Shape) : Type 0 where
   pub value : Value
   pub other : Value
   pub left : Reads s a p X value
   pub right : Reads s b p X other
   pub same : value ≡ other
 
-module _ (s : Schema) (a b : List ℕ) where
+module _ (s : SchemaTable) (a b : List ℕ) where
   alike : {p : ℕ} {X : Shape} {v w : Value} → Reads s a p X v → Reads s b p X w → v ≡ w → ReadAlike s a b p X
   alike {v = v} {w = w} h k e = record { value = v; other = w; left = h; right = k; same = e }
 
@@ -70,7 +70,7 @@ module _ (s : Schema) (a b : List ℕ) where
   same_shape e = cc
 
   -- a part of a region is read in both, and lies there in both
-  pub part_of_alike : {r : Region} {q n : ℕ} {P : Pointee} {Y : Shape} → PartOf s a r q P n → P ≡ one Y → Alike s a b r → ReadAlike s a b q Y × PartOf s b r q P n
+  pub part_of_alike : {r : Region} {q n : ℕ} {P : Pointee} {Y : Shape} → PartOfRegion s a r q P n → P ≡ one Y → Alike s a b r → ReadAlike s a b q Y × PartOfRegion s b r q P n
   part_of_alike whole_region e h = (one_alike (rw e at h.left) (rw e at h.right) h.same, whole_region)
   part_of_alike {q = q} (in_one f w) e h =
       let (k, there) = within_alike w (one_alike (rw f at h.left) (rw f at h.right) h.same) in (subst (ReadAlike s a b q) (same_shape e) k, in_one f there)

@@ -5,7 +5,7 @@ use Rattle.std.specs.FinMap.{get}
 use Rattle.archive_check.specs.Shape.{Flavor, Pointee}
 use Rattle.archive_check.specs.Layout.{up}
 use Rattle.archive_check.specs.Value.{Pointer, Value, pointers}
-use Rattle.archive_check.specs.Reads.{Schema}
+use Rattle.archive_check.specs.Reads.{SchemaTable}
 use Rattle.archive_check.specs.Tour.{Region, region_of, pointee_align, Contents, Leads, Entry, entry, Seen, Tour, tour_end, tour_unique, tour_new, tour_again}
 use Rattle.archive_check.specs.Denotes.{Fills}
 use Rattle.archive_check.specs.Tightness.{after, Tight}
@@ -24,7 +24,7 @@ tight_next start [] m n h k = h ∙ sym k
 tight_next start (r ∷ C) m n h k = tight_next (after r) C m n (h.1) (k.1)
 
 -- P at q says the same in both buffers
-pub record SaidAlike (s : Schema) (a b : List ℕ) (q : ℕ) (P : Pointee) (n : ℕ) : Type 0 where
+pub record SaidAlike (s : SchemaTable) (a b : List ℕ) (q : ℕ) (P : Pointee) (n : ℕ) : Type 0 where
   pub value : Value
   pub other : Value
   pub left : Contents s a q P n value
@@ -32,17 +32,17 @@ pub record SaidAlike (s : Schema) (a b : List ℕ) (q : ℕ) (P : Pointee) (n : 
   pub same : value ≡ other
 
 -- so does what the region holds
-abbrev pub Alike : Schema → List ℕ → List ℕ → Region → Type 0
+abbrev pub Alike : SchemaTable → List ℕ → List ℕ → Region → Type 0
 Alike s a b r = SaidAlike s a b r.begin r.pointee r.length
 
 -- two tours follow the same pointers, visit the same regions, which say the same in both buffers, and meet the same shared positions
-pub record SameTours (s : Schema) (a b : List ℕ) (O Q : List Pointer) (C D : List Region) (last other : Seen) : Type 0 where
+pub record SameTours (s : SchemaTable) (a b : List ℕ) (O Q : List Pointer) (C D : List Region) (last other : Seen) : Type 0 where
   pub followed : O ≡ Q
   pub visited : C ≡ D
   pub met : last ≡ other
   pub alike : All (Alike s a b) C
 
-module _ (s : Schema) (a b : List ℕ) (to : ℕ → ℕ) where
+module _ (s : SchemaTable) (a b : List ℕ) (to : ℕ → ℕ) where
   -- shared positions that both maps have, the second one under other names, are known as the same, and filled alike
   abbrev pub KnownAlike : Seen → Seen → Type 0
   KnownAlike final ending = (t u : ℕ) (e f : Entry) → u ≡ to t → get final t ≡ Some e → get ending u ≡ Some f

@@ -2,7 +2,7 @@
 use Rattle.std.proofs.Common.{◌≡◌, ℕ, suc, ◌+◌, ◌<◌, ◌≤◌, ℤ, pos, List, [], ◌∷◌, ◌++◌, length, Some, None, arith, refl, sym, ap, ap₂, ◌∙◌}
 use Rattle.archive_check.specs.Shape.{Flavor, Key, entry_of, Shape, Pointee, one, run, text, Parts}
 use Rattle.archive_check.specs.Value.{Pointer, Value, Values, number, product, case, list, text_value, box, null, shared_value, hole, no_value, value, pointers, all_pointers}
-use Rattle.archive_check.specs.Reads.{Schema, bytes_at, u32_at, before_end, decoded_length, length_at, pointer_at, map_at, string_at, Reads, reads_leaf, reads_parts, reads_choice, reads_array, reads_boxed, reads_vec, reads_map, reads_inline, reads_out_of_line, reads_shared, reads_null, reads_weak, reads_named, ReadsParts, reads_no_part, reads_part, ReadsRun, reads_none, reads_element}
+use Rattle.archive_check.specs.Reads.{SchemaTable, bytes_at, u32_at, before_end, decoded_length, length_at, pointer_at, map_at, string_at, Reads, reads_leaf, reads_parts, reads_choice, reads_array, reads_boxed, reads_vec, reads_map, reads_inline, reads_out_of_line, reads_shared, reads_null, reads_weak, reads_named, ReadsParts, reads_no_part, reads_part, ReadsRun, reads_none, reads_element}
 use Rattle.archive_check.specs.Tour.{Contents, contents_one, contents_run, contents_text, Leads, pointee_size}
 use Rattle.archive_check.specs.Denotes.{rename, rename_all, Fills, fills_number, fills_product, fills_case, fills_list, fills_text, fills_box, fills_null, fills_unique, fills_shared, FillsAll, fills_no_value, fills_value}
 use Rattle.archive_check.proofs.Tours.ReadingUnique.{leads_position, leads_value}
@@ -17,7 +17,7 @@ pub record AllRenamed (to : ℕ → ℕ) (xs ys : Values) : Type 0 where
   pub is : ys ≡ rename_all to xs
 
 -- pointers to the same pointee, one in each buffer, whose holes are filled alike but for names
-pub record Twin (s : Schema) (a b : List ℕ) (to : ℕ → ℕ) (p q : Pointer) : Type 0 where
+pub record Twin (s : SchemaTable) (a b : List ℕ) (to : ℕ → ℕ) (p q : Pointer) : Type 0 where
   pub sharing : p.sharing ≡ q.sharing
   pub order : p.order ≡ q.order
   pub pointee : p.pointee ≡ q.pointee
@@ -29,7 +29,7 @@ pub record Twin (s : Schema) (a b : List ℕ) (to : ℕ → ℕ) (p q : Pointer)
   pub renamed : Renamed to filled other
 
 -- one pair after another
-pub data Twins (s : Schema) (a b : List ℕ) (to : ℕ → ℕ) : List Pointer → List Pointer → Type 0 where
+pub data Twins (s : SchemaTable) (a b : List ℕ) (to : ℕ → ℕ) : List Pointer → List Pointer → Type 0 where
   twins_none : Twins s a b to [] []
   twins_more : {p q : Pointer} {O Q : List Pointer} → Twin s a b to p q → Twins s a b to O Q → Twins s a b to (p ∷ O) (q ∷ Q)
 
@@ -75,7 +75,7 @@ module _ (to : ℕ → ℕ) where
   some_none z = let is = z.is in cc
 
 -- what a value is filled to
-module _ (s : Schema) (bytes : List ℕ) where
+module _ (s : SchemaTable) (bytes : List ℕ) where
   number_filled : {z : _} {x : Value} → Fills s bytes (number z) x → x ≡ number z
   number_filled fills_number = refl
 
@@ -116,7 +116,7 @@ module _ (s : Schema) (bytes : List ℕ) where
   text_says : {t n : ℕ} {v x : Value} → Contents s bytes t text n v → t + n ≤ length bytes → Fills s bytes v x → (b : List ℕ) × (x ≡ text_value b) × (length b ≡ n)
   text_says (contents_text {n = n} u) fits h = (_, text_filled h, bytes_long bytes _ n fits)
 
-module _ (s : Schema) (a b : List ℕ) (to : ℕ → ℕ) where
+module _ (s : SchemaTable) (a b : List ℕ) (to : ℕ → ℕ) where
   twins_append : {O P Q R : List Pointer} → Twins s a b to O Q → Twins s a b to P R → Twins s a b to (O ++ P) (Q ++ R)
   twins_append twins_none k = k
   twins_append (twins_more t h) k = twins_more t (twins_append h k)
@@ -192,7 +192,7 @@ module _ (s : Schema) (a b : List ℕ) (to : ℕ → ℕ) where
   }
 
 -- a string in place is no longer than 8 bytes, and one that stands elsewhere is
-inline_short : (s : Schema) (a b : List ℕ) (p q : ℕ) {x y : Value} → Fills s a (text_value (before_end (bytes_at a p 8))) x → Fills s b (hole (string_at b q)) y
+inline_short : (s : SchemaTable) (a b : List ℕ) (p q : ℕ) {x y : Value} → Fills s a (text_value (before_end (bytes_at a p 8))) x → Fills s b (hole (string_at b q)) y
     → ((t u : List ℕ) → x ≡ text_value t → y ≡ text_value u → t ≡ u) → 8 < decoded_length (u32_at b q) → ⊥
 inline_short s a b p q f g one_text long =
     let e = text_filled s a f in
@@ -202,7 +202,7 @@ inline_short s a b p q f g one_text long =
     let short : length y ≤ 8 = rw same (omega (arith, before_end_le (bytes_at a p 8), bytes_few a p 8)) in
     omega (arith, short, k, long)
 
-module _ (s : Schema) (a b : List ℕ) (to : ℕ → ℕ) where
+module _ (s : SchemaTable) (a b : List ℕ) (to : ℕ → ℕ) where
   -- the pointers in two values are twins, and where they are the same pointers, the values are the same
   abbrev pub Like : Value → Value → Type 0
   Like v w = Twins s a b to (pointers v) (pointers w) × (pointers v ≡ pointers w → v ≡ w)

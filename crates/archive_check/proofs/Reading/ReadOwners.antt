@@ -2,7 +2,7 @@
 use Rattle.std.proofs.Common.{◌≡◌, ⊎_elim, ℕ, pos, List, [], ◌∷◌, Some, None, Contains, arith, refl, sym, ap, ◌∙◌, Bool}
 use Rattle.archive_check.specs.Shape.{Shape, Pointee, boxed, vec, one, run}
 use Rattle.archive_check.specs.Value.{Pointer, Value, box, hole, pointers}
-use Rattle.archive_check.specs.Reads.{Schema, pointer_at, reads_boxed, reads_vec}
+use Rattle.archive_check.specs.Reads.{SchemaTable, pointer_at, reads_boxed, reads_vec}
 use Rattle.archive_check.specs.Tour.{Contents, contents_one}
 use Rattle.archive_check.specs.Denotes.{Meaning, Naming, Fills, fills_box, Denotes}
 use Rattle.archive_check.specs.Definitions.{Definitions, Knows}
@@ -21,12 +21,12 @@ only : (p q : Pointer) → Contains (p ∷ []) q → q ≡ p
 only p q c = ⊎_elim (λ e. sym e) (λ d. absurd (omega (arith, d.1))) (contains_cases p [] q c)
 
 module _ (D : Definitions) (bytes : List ℕ) (q n : ℕ) (P : Pointee) (p : Pointer) (t : ℕ) (around : Value → Value) (unique : p.sharing ≡ None) (there : p.target ≡ pos t)
-    (owns : (s : Schema) (v : Value) → Contents s bytes q P n v → (pointers v ≡ p ∷ []) × ((w : Value) → Fills s bytes (hole p) w → Fills s bytes v (around w))) where
-  has_pointer : (s : Schema) (v : Value) → Contents s bytes q P n v → Contains (pointers v) p
+    (owns : (s : SchemaTable) (v : Value) → Contents s bytes q P n v → (pointers v ≡ p ∷ []) × ((w : Value) → Fills s bytes (hole p) w → Fills s bytes v (around w))) where
+  has_pointer : (s : SchemaTable) (v : Value) → Contents s bytes q P n v → Contains (pointers v) p
   has_pointer s v c = rw (owns s v c).0 (contains_first [] p)
 
   -- what it leads to is reached under the same root
-  target_reached : (s : Schema) (l : Lies s bytes q P n) → (x : Value) × Reached s bytes l.root l.shape t p.pointee p.length x
+  target_reached : (s : SchemaTable) (l : Lies s bytes q P n) → (x : Value) × Reached s bytes l.root l.shape t p.pointee p.length x
   target_reached s l =
       let (w, r) = lies_reached s bytes l in
       let (u, at, x, i) = pointer_reached s bytes r p (has_pointer s r.value r.reads) in
@@ -43,12 +43,12 @@ module _ (D : Definitions) (bytes : List ℕ) (q n : ℕ) (P : Pointee) (p : Poi
   }
 
   module _ {keeps : Bool} (old new : Entries) (w : Value) (keys : List Naming) (h : ReadsBack keeps D bytes t p.pointee p.length old new w keys) where
-    shared_there : AreNamedByPosition old → (s : Schema) (m : Meaning) → Knows s D → (l : Lies s bytes q P n) → Denotes s bytes l.root l.shape m
+    shared_there : AreNamedByPosition old → (s : SchemaTable) (m : Meaning) → Knows s D → (l : Lies s bytes q P n) → Denotes s bytes l.root l.shape m
         → AreRight m.shared old → AreShared m.shared keys × AreRight m.shared new
     unfolding reached_lies
     shared_there named s m k l d right = let (x, i) = target_reached s l in h.shared named s m k (reached_lies s bytes i) d right
 
-    unmet_there : (s : Schema) → Knows s D → Lies s bytes q P n → MeetsOpen s bytes old [] q P n → ⊥
+    unmet_there : (s : SchemaTable) → Knows s D → Lies s bytes q P n → MeetsOpen s bytes old [] q P n → ⊥
     unmet_there s k l (meets_open {v = v} {p = o} c i e at open') = let same : o ≡ p = only p o (rw (owns s v c).0 at i) in cc
     unmet_there s k l (meets_in_unique {t = u} {v = v} {p = o} c i e at m) =
         let same : o ≡ p = only p o (rw (owns s v c).0 at i) in
@@ -60,7 +60,7 @@ module _ (D : Definitions) (bytes : List ℕ) (q n : ℕ) (P : Pointee) (p : Poi
         h.unmet s k (reached_lies s bytes r) (rw (here, pointee, length) at m)
     unmet_there s k l (meets_in_shared {v = v} {p = o} c i e at none m) = let same : o ≡ p = only p o (rw (owns s v c).0 at i) in cc
 
-    closed_there : (s : Schema) → Knows s D → (l : Lies s bytes q P n) → (u : ℕ) (k : Kept) → old u ≡ None → new u ≡ Some (Some k) → IsClosed s bytes l.root l.shape old u
+    closed_there : (s : SchemaTable) → Knows s D → (l : Lies s bytes q P n) → (u : ℕ) (k : Kept) → old u ≡ None → new u ≡ Some (Some k) → IsClosed s bytes l.root l.shape old u
     unfolding reached_lies
     closed_there s k l u x none some = let (y, i) = target_reached s l in h.closed s k (reached_lies s bytes i) u x none some
 
@@ -74,11 +74,11 @@ module _ (D : Definitions) (bytes : List ℕ) (q n : ℕ) (P : Pointee) (p : Poi
       once = h.once;
     }
 
-box_owns : (bytes : List ℕ) (q n : ℕ) (P : Pointee) (s : Schema) (v : Value) → Contents s bytes q (one (boxed P)) n v
+box_owns : (bytes : List ℕ) (q n : ℕ) (P : Pointee) (s : SchemaTable) (v : Value) → Contents s bytes q (one (boxed P)) n v
     → (pointers v ≡ pointer_at bytes q None P ∷ []) × ((w : Value) → Fills s bytes (hole (pointer_at bytes q None P)) w → Fills s bytes v (box w))
 box_owns bytes q n P s v (contents_one reads_boxed) = (refl, λ w f. fills_box f)
 
-vec_owns : (bytes : List ℕ) (q n : ℕ) (X : Shape) (s : Schema) (v : Value) → Contents s bytes q (one (vec X)) n v
+vec_owns : (bytes : List ℕ) (q n : ℕ) (X : Shape) (s : SchemaTable) (v : Value) → Contents s bytes q (one (vec X)) n v
     → (pointers v ≡ pointer_at bytes q None (run X) ∷ []) × ((w : Value) → Fills s bytes (hole (pointer_at bytes q None (run X))) w → Fills s bytes v w)
 vec_owns bytes q n X s v (contents_one reads_vec) = (refl, λ w f. f)
 

@@ -6,7 +6,7 @@ use Rattle.archive_check.specs.Words.Elements.{IsAt}
 use Rattle.archive_check.specs.Shape.{Shape, array, Pointee, one, run}
 use Rattle.archive_check.specs.Layout.{Layout, size_of}
 use Rattle.archive_check.specs.Value.{Pointer, Value, list, pointers, all_pointers, Values, no_value, value}
-use Rattle.archive_check.specs.Reads.{Schema, Reads, ReadsRun, reads_array, reads_none, reads_element}
+use Rattle.archive_check.specs.Reads.{SchemaTable, Reads, ReadsRun, reads_array, reads_none, reads_element}
 use Rattle.archive_check.specs.Tour.{Contents, contents_one, contents_run}
 use Rattle.archive_check.specs.Denotes.{Meaning, Naming, Fills, FillsAll, fills_list, fills_no_value, fills_value, Denotes}
 use Rattle.archive_check.specs.Definitions.{Definitions, Knows, HasLayout}
@@ -35,16 +35,16 @@ last_or_before (z ∷ xs) x (suc k) below = ⊎_elim (λ h. inl (omega (arith, h
 
 -- a part lies wherever the whole does, in the same archive
 pub record IsPart (D : Definitions) (bytes : List ℕ) (q : ℕ) (P : Pointee) (n p : ℕ) (Y : Shape) : Type 0 where
-  pub reached : (s : Schema) → Knows s D → (l : Lies s bytes q P n) → (w : Value) × Reached s bytes l.root l.shape p (one Y) 0 w
+  pub reached : (s : SchemaTable) → Knows s D → (l : Lies s bytes q P n) → (w : Value) × Reached s bytes l.root l.shape p (one Y) 0 w
 
 -- the first of its parts were read back, as these values
 pub record ReadFirst {A : Type 0} (keeps : Bool) (D : Definitions) (bytes : List ℕ) (q : ℕ) (P : Pointee) (n : ℕ) (at : ℕ → ℕ) (Y : ℕ → Shape) (old new : Entries) (meaning : A → Value) (items : List A) (keys : List Naming) : Type 0 where
   pub kept : KeepsEntries old new
   pub says : AreNamedByPosition old → (k : ℕ) (x : A) → IsAt items k x → Says D bytes (at k) (one (Y k)) 0 (meaning x)
-  pub shared : AreNamedByPosition old → (s : Schema) (m : Meaning) → Knows s D → (l : Lies s bytes q P n) → Denotes s bytes l.root l.shape m
+  pub shared : AreNamedByPosition old → (s : SchemaTable) (m : Meaning) → Knows s D → (l : Lies s bytes q P n) → Denotes s bytes l.root l.shape m
       → AreRight m.shared old → AreShared m.shared keys × AreRight m.shared new
-  pub unmet : (s : Schema) → Knows s D → Lies s bytes q P n → (k : ℕ) → k < length items → MeetsOpen s bytes old [] (at k) (one (Y k)) 0 → ⊥
-  pub closed : (s : Schema) → Knows s D → (l : Lies s bytes q P n) → (t : ℕ) (k : Kept) → old t ≡ None → new t ≡ Some (Some k) → IsClosed s bytes l.root l.shape old t
+  pub unmet : (s : SchemaTable) → Knows s D → Lies s bytes q P n → (k : ℕ) → k < length items → MeetsOpen s bytes old [] (at k) (one (Y k)) 0 → ⊥
+  pub closed : (s : SchemaTable) → Knows s D → (l : Lies s bytes q P n) → (t : ℕ) (k : Kept) → old t ≡ None → new t ≡ Some (Some k) → IsClosed s bytes l.root l.shape old t
   pub once : KeepsRead keeps old new keys
 
 module _ {A : Type 0} (D : Definitions) (bytes : List ℕ) (q : ℕ) (P : Pointee) (n : ℕ) (at : ℕ → ℕ) (Y : ℕ → Shape) (meaning : A → Value) where
@@ -75,7 +75,7 @@ module _ {A : Type 0} (D : Definitions) (bytes : List ℕ) (q : ℕ) (P : Pointe
         (λ e. rw (e.0, e.1, ← here, ← this) (g.value (h.kept.named named)))
         (at_last items x y k i)
 
-    shared_all : AreNamedByPosition old → (s : Schema) (m : Meaning) → Knows s D → (l : Lies s bytes q P n) → Denotes s bytes l.root l.shape m → AreRight m.shared old → AreShared m.shared (keys ++ more) × AreRight m.shared new
+    shared_all : AreNamedByPosition old → (s : SchemaTable) (m : Meaning) → Knows s D → (l : Lies s bytes q P n) → Denotes s bytes l.root l.shape m → AreRight m.shared old → AreShared m.shared (keys ++ more) × AreRight m.shared new
     unfolding reached_lies
     shared_all named s m k l d right =
         let first = h.shared named s m k l d right in
@@ -83,7 +83,7 @@ module _ {A : Type 0} (D : Definitions) (bytes : List ℕ) (q : ℕ) (P : Pointe
         let second = g.shared (h.kept.named named) s m k (reached_lies s bytes r) d first.1 in
         (λ key c. ⊎_elim (λ a. first.0 key a) (λ b. second.0 key b) (Contains-append_cases keys more key c), second.1)
 
-    unmet_all : (s : Schema) → Knows s D → Lies s bytes q P n → (k : ℕ) → k < length (items ++ x ∷ []) → MeetsOpen s bytes old [] (at k) (one (Y k)) 0 → ⊥
+    unmet_all : (s : SchemaTable) → Knows s D → Lies s bytes q P n → (k : ℕ) → k < length (items ++ x ∷ []) → MeetsOpen s bytes old [] (at k) (one (Y k)) 0 → ⊥
     unmet_all s kn l k below m = ⊎_elim
         (λ lt. h.unmet s kn l k lt m)
         (λ e. let (w, r) = part.reached s kn l in
@@ -94,7 +94,7 @@ module _ {A : Type 0} (D : Definitions) (bytes : List ℕ) (q : ℕ) (P : Pointe
         g.unmet s kn (reached_lies s bytes r) (hits_meet s bytes (hits_later s bytes l.root l.shape old mid h.kept (h.closed s kn l) l.accepted is b.hits) b.contents b.has))
         (last_or_before items x k below)
 
-    closed_all : (s : Schema) → Knows s D → (l : Lies s bytes q P n) → (t : ℕ) (k : Kept) → old t ≡ None → new t ≡ Some (Some k) → IsClosed s bytes l.root l.shape old t
+    closed_all : (s : SchemaTable) → Knows s D → (l : Lies s bytes q P n) → (t : ℕ) (k : Kept) → old t ≡ None → new t ≡ Some (Some k) → IsClosed s bytes l.root l.shape old t
     unfolding reached_lies
     closed_all s kn l t k none some o f met e there m = by_state (mid t) refl
       where
@@ -122,7 +122,7 @@ module _ {A : Type 0} (D : Definitions) (bytes : List ℕ) (q : ℕ) (P : Pointe
     one_more_read = record { kept = kept_all; says = says_all; shared = shared_all; unmet = unmet_all; closed = closed_all; once = once_all }
 
 -- what is open was open before
-pub met_before : {s : Schema} {bytes : List ℕ} {old mid : Entries} {within : List ℕ} {q n : ℕ} {P : Pointee} → KeepsEntries old mid → MeetsOpen s bytes mid within q P n → MeetsOpen s bytes old within q P n
+pub met_before : {s : SchemaTable} {bytes : List ℕ} {old mid : Entries} {within : List ℕ} {q n : ℕ} {P : Pointee} → KeepsEntries old mid → MeetsOpen s bytes mid within q P n → MeetsOpen s bytes old within q P n
 met_before kept (meets_open {t = t} c i e at o) = meets_open c i e at (⊎_elim (λ pending. inl ((kept.pending t).0 pending)) inr o)
 met_before kept (meets_in_unique c i e at m) = meets_in_unique c i e at (met_before kept m)
 met_before {old = old} kept (meets_in_shared {t = t} c i e at none m) = meets_in_shared c i e at (was_unknown (old t) refl) (met_before kept m)
@@ -139,11 +139,11 @@ each meaning (x ∷ xs) = value (meaning x) (each meaning xs)
 
 -- elements of an X, of this size, one behind another from q on
 module _ (D : Definitions) (bytes : List ℕ) (q : ℕ) (X : Shape) (L : Layout) (laid : HasLayout D X L) (z : ℕ) (size : z ≡ L.size) where
-  its_size : (s : Schema) → Knows s D → size_of s.layouts X ≡ z
+  its_size : (s : SchemaTable) → Knows s D → size_of s.layouts X ≡ z
   its_size s k = ap (λ l. l.size) (laid.solved s k) ∙ sym size
 
   -- each of them is what was said of it, from the element j on
-  each_filled : {A : Type 0} (meaning : A → Value) (s : Schema) → Knows s D → (items : List A) (j p m : ℕ) {vs : Values} → p ≡ q + j * z
+  each_filled : {A : Type 0} (meaning : A → Value) (s : SchemaTable) → Knows s D → (items : List A) (j p m : ℕ) {vs : Values} → p ≡ q + j * z
       → ((k : ℕ) (x : A) (v : Value) (r : ℕ) → IsAt items k x → r ≡ q + (j + k) * z → Reads s bytes r X v → Fills s bytes v (meaning x))
       → length items ≡ m → ReadsRun s bytes p m X vs → FillsAll s bytes vs (each meaning items)
   each_filled meaning s kn [] j p m here says count reads_none = fills_no_value
@@ -157,7 +157,7 @@ module _ (D : Definitions) (bytes : List ℕ) (q : ℕ) (X : Shape) (L : Layout)
       (omega (arith, count)) rs)
 
   -- a pointer of theirs is one of an element
-  from_element : {s : Schema} (k0 : Knows s D) {m : ℕ} (p j : ℕ) {vs : Values} {o : Pointer} → p ≡ q + j * z → ReadsRun s bytes p m X vs → Contains (all_pointers vs) o
+  from_element : {s : SchemaTable} (k0 : Knows s D) {m : ℕ} (p j : ℕ) {vs : Values} {o : Pointer} → p ≡ q + j * z → ReadsRun s bytes p m X vs → Contains (all_pointers vs) o
       → (k : ℕ) × (k < m) × (v : Value) × Reads s bytes (q + (j + k) * z) X v × Contains (pointers v) o
   from_element kn p j here reads_none c = absurd (omega (arith, c.1))
   from_element {s = s} kn p j {o = o} here (reads_element {v = v} {vs = vs} r rs) c =
@@ -169,7 +169,7 @@ module _ (D : Definitions) (bytes : List ℕ) (q : ℕ) (X : Shape) (L : Layout)
       (Contains-append_cases (pointers v) (all_pointers vs) o c)
 
   -- where they are what a part of the archive is
-  module _ (P : Pointee) (n count : ℕ) (runs : (s : Schema) (v : Value) → Contents s bytes q P n v → (vs : Values) × (v ≡ list vs) × ReadsRun s bytes q count X vs)
+  module _ (P : Pointee) (n count : ℕ) (runs : (s : SchemaTable) (v : Value) → Contents s bytes q P n v → (vs : Values) × (v ≡ list vs) × ReadsRun s bytes q count X vs)
       (element : (k : ℕ) → k < count → IsPart D bytes q P n (q + k * z) X) where
     module _ {A : Type 0} {keeps : Bool} (old new : Entries) (meaning : A → Value) (items : List A) (keys : List Naming) (all : length items ≡ count) (h : ReadFirst keeps D bytes q P n (λ k. q + k * z) (λ k. X) old new meaning items keys) where
       says_elements : AreNamedByPosition old → Says D bytes q P n (list (each meaning items))
@@ -184,7 +184,7 @@ module _ (D : Definitions) (bytes : List ℕ) (q : ℕ) (X : Shape) (L : Layout)
             all rs));
       }
 
-      unmet_elements : (s : Schema) → Knows s D → Lies s bytes q P n → MeetsOpen s bytes old [] q P n → ⊥
+      unmet_elements : (s : SchemaTable) → Knows s D → Lies s bytes q P n → MeetsOpen s bytes old [] q P n → ⊥
       unmet_elements s kn l m =
           let b = by_pointer s bytes m in
           let (vs, is, rs) = runs s b.value b.contents in
@@ -211,12 +211,12 @@ module _ (D : Definitions) (bytes : List ℕ) (q : ℕ) (X : Shape) (L : Layout)
     }
 
 -- what is reached there is where the size says
-at_size : {s : Schema} {bytes : List ℕ} {root : ℕ} {Y X : Shape} (q k : ℕ) {a b : ℕ} → a ≡ b → (u : Value) × Reached s bytes root Y (q + k * a) (one X) 0 u → (u : Value) × Reached s bytes root Y (q + k * b) (one X) 0 u
+at_size : {s : SchemaTable} {bytes : List ℕ} {root : ℕ} {Y X : Shape} (q k : ℕ) {a b : ℕ} → a ≡ b → (u : Value) × Reached s bytes root Y (q + k * a) (one X) 0 u → (u : Value) × Reached s bytes root Y (q + k * b) (one X) 0 u
 at_size q k e r = rw (← e) r
 
 -- the elements of a run, and those of an array
 module _ (D : Definitions) (bytes : List ℕ) (q : ℕ) (X : Shape) (L : Layout) (laid : HasLayout D X L) (z : ℕ) (size : z ≡ L.size) where
-  pub run_elements : (n : ℕ) (s : Schema) (v : Value) → Contents s bytes q (run X) n v → (vs : Values) × (v ≡ list vs) × ReadsRun s bytes q n X vs
+  pub run_elements : (n : ℕ) (s : SchemaTable) (v : Value) → Contents s bytes q (run X) n v → (vs : Values) × (v ≡ list vs) × ReadsRun s bytes q n X vs
   run_elements n s v (contents_run {vs = vs} rs) = (vs, refl, rs)
 
   pub run_element : (n k : ℕ) → k < n → IsPart D bytes q (run X) n (q + k * z) X
@@ -225,7 +225,7 @@ module _ (D : Definitions) (bytes : List ℕ) (q : ℕ) (X : Shape) (L : Layout)
         at_size q k (its_size D bytes q X L laid z size s kn) (element_reached s bytes {k = k} (lies_reached s bytes l).1 below);
   }
 
-  pub array_elements : (m n : ℕ) (s : Schema) (v : Value) → Contents s bytes q (one (array m X)) n v → (vs : Values) × (v ≡ list vs) × ReadsRun s bytes q m X vs
+  pub array_elements : (m n : ℕ) (s : SchemaTable) (v : Value) → Contents s bytes q (one (array m X)) n v → (vs : Values) × (v ≡ list vs) × ReadsRun s bytes q m X vs
   array_elements m n s v (contents_one (reads_array {vs = vs} rs)) = (vs, refl, rs)
 
   pub array_element : (m n k : ℕ) → k < m → IsPart D bytes q (one (array m X)) n (q + k * z) X

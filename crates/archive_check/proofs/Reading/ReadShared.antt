@@ -3,7 +3,7 @@ use Rattle.std.proofs.Common.{◌≡◌, ◌≢◌, ◌⊎◌, inl, inr, ⊎_eli
 use Rattle.std.proofs.lemmas.Bool.{cases_eq}
 use Rattle.archive_check.specs.Shape.{Flavor, Shape, Pointee, shared, weak, one}
 use Rattle.archive_check.specs.Value.{Pointer, Value, shared_value, hole, pointers}
-use Rattle.archive_check.specs.Reads.{Schema, i32_at, pointer_at, reads_shared, reads_weak, reads_null}
+use Rattle.archive_check.specs.Reads.{SchemaTable, i32_at, pointer_at, reads_shared, reads_weak, reads_null}
 use Rattle.archive_check.specs.Tour.{Entry, Contents, contents_one}
 use Rattle.archive_check.specs.Denotes.{Meaning, Naming, Denotes, fills_shared}
 use Rattle.archive_check.specs.Definitions.{Definitions, Knows}
@@ -21,7 +21,7 @@ use Rattle.archive_check.proofs.Viewing.Viewed.{lies_reached, lies_reads, reache
 same_kept : {a b : Kept} → Some (Some a) ≡ Some (Some b) → a ≡ b
 same_kept e = same_some (same_some e)
 
-module _ (s : Schema) (bytes : List ℕ) (old started : Entries) (t : ℕ) (here : started t ≡ Some None) (others : (u : ℕ) → (u ≡ t → ⊥) → started u ≡ old u) where
+module _ (s : SchemaTable) (bytes : List ℕ) (old started : Entries) (t : ℕ) (here : started t ≡ Some None) (others : (u : ℕ) → (u ≡ t → ⊥) → started u ≡ old u) where
   -- what is open stays so where t is pending
   moved : {within outside : List ℕ} {q n : ℕ} {P : Pointee} → MeetsOpen s bytes old within q P n → ((u : ℕ) → IsOpen old within u → IsOpen started outside u) → MeetsOpen s bytes started outside q P n
   moved (meets_open {t = u} c i e at o) more = meets_open c i e at (more u o)
@@ -35,14 +35,14 @@ module _ (s : Schema) (bytes : List ℕ) (old started : Entries) (t : ℕ) (here
 
 -- what a shared pointer, or a weak one that isn't null, has in its place
 
-pub shared_there : (bytes : List ℕ) (q n : ℕ) (flavor : Flavor) (P : Pointee) (s : Schema) (v : Value) → Contents s bytes q (one (shared flavor P)) n v → v ≡ hole (pointer_at bytes q (Some flavor) P)
+pub shared_there : (bytes : List ℕ) (q n : ℕ) (flavor : Flavor) (P : Pointee) (s : SchemaTable) (v : Value) → Contents s bytes q (one (shared flavor P)) n v → v ≡ hole (pointer_at bytes q (Some flavor) P)
 shared_there bytes q n flavor P s v (contents_one reads_shared) = refl
 
-pub weak_there : (bytes : List ℕ) (q n : ℕ) (flavor : Flavor) (P : Pointee) → i32_at bytes q ≢ pos 1 → (s : Schema) (v : Value) → Contents s bytes q (one (weak flavor P)) n v → v ≡ hole (pointer_at bytes q (Some flavor) P)
+pub weak_there : (bytes : List ℕ) (q n : ℕ) (flavor : Flavor) (P : Pointee) → i32_at bytes q ≢ pos 1 → (s : SchemaTable) (v : Value) → Contents s bytes q (one (weak flavor P)) n v → v ≡ hole (pointer_at bytes q (Some flavor) P)
 weak_there bytes q n flavor P far s v (contents_one (reads_null e)) = absurd (far e)
 weak_there bytes q n flavor P far s v (contents_one (reads_weak e)) = refl
 
-module _ (s : Schema) (bytes : List ℕ) where
+module _ (s : SchemaTable) (bytes : List ℕ) where
   -- what is open may be more
   wider : {told more : Entries} {within outside : List ℕ} {q n : ℕ} {P : Pointee} → MeetsOpen s bytes told within q P n → ((u : ℕ) → told u ≡ None → more u ≡ None) → ((u : ℕ) → IsOpen told within u → IsOpen more outside u)
       → MeetsOpen s bytes more outside q P n
@@ -86,7 +86,7 @@ module _ (s : Schema) (bytes : List ℕ) where
         let eq : x ≡ u = pos_one (sym there ∙ at) in
         meets_in_shared c i e at (still u) (turns inner (rw eq at reached) (grows within outside u f))
 
-module _ (s : Schema) (bytes : List ℕ) (t : ℕ) (old started : Entries) where
+module _ (s : SchemaTable) (bytes : List ℕ) (t : ℕ) (old started : Entries) where
   -- what is met while t is pending is met within it
   pub meets_within : {q n : ℕ} {P : Pointee} → old t ≡ None → ((u : ℕ) → (u ≡ t → ⊥) → started u ≡ old u) → MeetsOpen s bytes started [] q P n → MeetsOpen s bytes old (t ∷ []) q P n
   meets_within {q = q} {n = n} {P = P} unknown others m = wider s bytes m was_none opened
@@ -110,22 +110,22 @@ module _ (s : Schema) (bytes : List ℕ) (t : ℕ) (old started : Entries) where
       (λ u o. ⊎_elim (λ pending. let no : started u ≡ None = begun u in cc) (λ d. absurd (omega (arith, d.1))) o)
 
 module _ (D : Definitions) (bytes : List ℕ) (q n t : ℕ) (flavor : Flavor) (P : Pointee) (there : (pointer_at bytes q (Some flavor) P).target ≡ pos t)
-    (X : Shape) (is_hole : (s : Schema) (v : Value) → Contents s bytes q (one X) n v → v ≡ hole (pointer_at bytes q (Some flavor) P)) where
+    (X : Shape) (is_hole : (s : SchemaTable) (v : Value) → Contents s bytes q (one X) n v → v ≡ hole (pointer_at bytes q (Some flavor) P)) where
   abbrev p : Pointer
   p = pointer_at bytes q (Some flavor) P
 
-  the_pointer : (s : Schema) (v : Value) (o : Pointer) → Contents s bytes q (one X) n v → Contains (pointers v) o → o ≡ p
+  the_pointer : (s : SchemaTable) (v : Value) (o : Pointer) → Contents s bytes q (one X) n v → Contains (pointers v) o → o ≡ p
   the_pointer s v o c i =
       let j : Contains (p ∷ []) o = rw (is_hole s v c) at i in
       ⊎_elim (λ e. sym e) (λ d. absurd (omega (arith, d.1))) (contains_cases p [] o j)
 
-  has_pointer : (s : Schema) (v : Value) → Contents s bytes q (one X) n v → Contains (pointers v) p
+  has_pointer : (s : SchemaTable) (v : Value) → Contents s bytes q (one X) n v → Contains (pointers v) p
   has_pointer s v c = rw (is_hole s v c) (contains_first [] p)
 
   leads_there : (o : Pointer) (u : ℕ) → o ≡ p → o.target ≡ pos u → u ≡ t
   leads_there o u same at = pos_one (sym at ∙ ap (λ (z : Pointer). z.target) same ∙ there)
 
-  target_reached : (s : Schema) (l : Lies s bytes q (one X) n) → (x : Value) × Reached s bytes l.root l.shape t P p.length x
+  target_reached : (s : SchemaTable) (l : Lies s bytes q (one X) n) → (x : Value) × Reached s bytes l.root l.shape t P p.length x
   target_reached s l =
       let (w, r) = lies_reached s bytes l in
       let (u, at, x, i) = pointer_reached s bytes r p (has_pointer s r.value r.reads) in
@@ -133,7 +133,7 @@ module _ (D : Definitions) (bytes : List ℕ) (q n t : ℕ) (flavor : Flavor) (P
       (x, rw same at i)
 
   -- what is read of its value, the archive's map has
-  says_keys : {keeps : Bool} (old new : Entries) (own : Flavor) (w : Value) (keys : List Naming) → ReadsBack keeps D bytes t P p.length old new w keys → AreNamedByPosition old → (s : Schema) (m : Meaning) → Knows s D → (l : Lies s bytes q (one X) n)
+  says_keys : {keeps : Bool} (old new : Entries) (own : Flavor) (w : Value) (keys : List Naming) → ReadsBack keeps D bytes t P p.length old new w keys → AreNamedByPosition old → (s : SchemaTable) (m : Meaning) → Knows s D → (l : Lies s bytes q (one X) n)
       → Denotes s bytes l.root l.shape m → AreRight m.shared old → Shares m.shared t (record { flavor = own; pointee = P; length = p.length }) w × AreShared m.shared keys × AreRight m.shared new
   unfolding reached_lies
   says_keys old new own w keys h named s m knows l d right =
@@ -147,7 +147,7 @@ module _ (D : Definitions) (bytes : List ℕ) (q n t : ℕ) (flavor : Flavor) (P
 
   -- one that was finished before is as it was kept
   module _ (old : Entries) (k : Kept) (known : old t ≡ Some (Some k)) where
-    again_unmet : (s : Schema) → MeetsOpen s bytes old [] q (one X) n → ⊥
+    again_unmet : (s : SchemaTable) → MeetsOpen s bytes old [] q (one X) n → ⊥
     again_unmet s (meets_open {t = u} {v = v} {p = o} c i e at (inl pending)) = let is : u ≡ t = leads_there o u (the_pointer s v o c i) at in let no : old t ≡ Some None = rw is at pending in cc
     again_unmet s (meets_open c i e at (inr within)) = omega (arith, within.1)
     again_unmet s (meets_in_unique {v = v} {p = o} c i e at m) = let same = the_pointer s v o c i in cc
@@ -228,7 +228,7 @@ module _ (D : Definitions) (bytes : List ℕ) (q n t : ℕ) (flavor : Flavor) (P
       | inr n ↦ h.kept.named (named_started named) u k (sym (rest u n) ∙ is)
     ]
 
-    shared_after : AreNamedByPosition old → (s : Schema) (m : Meaning) → Knows s D → (l : Lies s bytes q (one X) n) → Denotes s bytes l.root l.shape m
+    shared_after : AreNamedByPosition old → (s : SchemaTable) (m : Meaning) → Knows s D → (l : Lies s bytes q (one X) n) → Denotes s bytes l.root l.shape m
         → AreRight m.shared old → AreShared m.shared ((t, (e, w)) ∷ keys) × AreRight m.shared new
     shared_after named s m knows l d right =
         let (known, among, kept_right) = says_keys started mid own w keys h (named_started named) s m knows l d (right_started m right) in (
@@ -247,14 +247,14 @@ module _ (D : Definitions) (bytes : List ℕ) (q n t : ℕ) (flavor : Flavor) (P
     pending_not z pending eq = let no : old t ≡ Some None = rw eq at pending in cc
 
     -- what it leads to meets no open position, itself among them
-    inside_unmet : (s : Schema) → Knows s D → Lies s bytes q (one X) n → MeetsOpen s bytes old (t ∷ []) t P p.length → ⊥
+    inside_unmet : (s : SchemaTable) → Knows s D → Lies s bytes q (one X) n → MeetsOpen s bytes old (t ∷ []) t P p.length → ⊥
     inside_unmet s knows l inside =
         let (x, r) = target_reached s l in
         h.unmet s knows (reached_lies s bytes r) (moved s bytes old started t here others inside (λ z open'. ⊎_elim
         (λ pending. inl (others z (pending_not z pending) ∙ pending))
         (λ c. inl (⊎_elim (λ eq. rw (← eq) here) (λ d. absurd (omega (arith, d.1))) (contains_cases t [] z c))) open'))
 
-    unmet_after : (s : Schema) → Knows s D → Lies s bytes q (one X) n → MeetsOpen s bytes old [] q (one X) n → ⊥
+    unmet_after : (s : SchemaTable) → Knows s D → Lies s bytes q (one X) n → MeetsOpen s bytes old [] q (one X) n → ⊥
     unmet_after s knows l (meets_open {t = u} {v = v} {p = o} c i f at (inl pending)) = let is : u ≡ t = leads_there o u (the_pointer s v o c i) at in let no : old t ≡ Some None = rw is at pending in cc
     unmet_after s knows l (meets_open c i f at (inr within)) = omega (arith, within.1)
     unmet_after s knows l (meets_in_unique {v = v} {p = o} c i f at m) =
@@ -267,7 +267,7 @@ module _ (D : Definitions) (bytes : List ℕ) (q n t : ℕ) (flavor : Flavor) (P
         inside_unmet s knows l (rw (is, pointee, length) at m)
 
     -- nor does another one that is finished meanwhile lead to an open position
-    closed_after : (s : Schema) → Knows s D → (l : Lies s bytes q (one X) n) → (u : ℕ) (k : Kept) → old u ≡ None → new u ≡ Some (Some k) → IsClosed s bytes l.root l.shape old u
+    closed_after : (s : SchemaTable) → Knows s D → (l : Lies s bytes q (one X) n) → (u : ℕ) (k : Kept) → old u ≡ None → new u ≡ Some (Some k) → IsClosed s bytes l.root l.shape old u
     unfolding reached_lies
     closed_after s knows l u k none some o f met e at m = elim (cases_eq u t) [
       | inl eq ↦ (
@@ -345,7 +345,7 @@ module _ (D : Definitions) (bytes : List ℕ) (q n t : ℕ) (flavor : Flavor) (P
     }
 
     module _ {keeps : Bool} (none_kept : keeps ≡ false) (own : Flavor) (w : Value) (keys : List Naming) (h : ReadsBack keeps D bytes t P p.length started mid w keys) where
-      unmet_alone : (s : Schema) → Knows s D → Lies s bytes q (one X) n → MeetsOpen s bytes old [] q (one X) n → ⊥
+      unmet_alone : (s : SchemaTable) → Knows s D → Lies s bytes q (one X) n → MeetsOpen s bytes old [] q (one X) n → ⊥
       unmet_alone s knows l (meets_open {t = u} c i f at (inl pending)) = let no : old u ≡ None = nothing u in cc
       unmet_alone s knows l (meets_open c i f at (inr within)) = omega (arith, within.1)
       unmet_alone s knows l (meets_in_unique {v = v} {p = o} c i f at m) =
@@ -362,7 +362,7 @@ module _ (D : Definitions) (bytes : List ℕ) (q n t : ℕ) (flavor : Flavor) (P
           (λ z g met e to. shared_agree s bytes l k (has_pointer s y k) refl there met e to) around r
           (λ z d. ⊎_elim (λ eq. inr (sym eq)) (λ d. absurd (omega (arith, d.1))) (contains_cases t [] z d)))
 
-      shared_alone : (s : Schema) (m : Meaning) → Knows s D → (l : Lies s bytes q (one X) n) → Denotes s bytes l.root l.shape m
+      shared_alone : (s : SchemaTable) (m : Meaning) → Knows s D → (l : Lies s bytes q (one X) n) → Denotes s bytes l.root l.shape m
           → AreShared m.shared ((t, (record { flavor = own; pointee = P; length = p.length }, w)) ∷ keys) × AreRight m.shared new
       shared_alone s m knows l d =
           let (known, among, x) = says_keys started mid own w keys h still_named s m knows l d (λ u k is. let no : started u ≡ None = begun u in cc) in (

@@ -2,14 +2,14 @@
 use Rattle.std.proofs.Common.{◌≡◌, ℕ, zero, suc, ◌*◌, ◌+◌, min, List, Option, arith, ⊎_elim}
 use Rattle.std.proofs.lemmas.Bool.{cases_lt}
 use Rattle.archive_check.specs.Shape.{Shape, array}
-use Rattle.archive_check.specs.Reads.{Schema}
+use Rattle.archive_check.specs.Reads.{SchemaTable}
 use Rattle.archive_check.specs.Tour.{Seen}
 use Rattle.archive_check.specs.Walk.{walk_array}
 use Rattle.archive_check.specs.Trail.{trips_array}
 use Rattle.archive_check.specs.Outcomes.{Outcome, done, refused}
 use Rattle.archive_check.specs.SelfCheck.Ways.{shape_way, run_way}
 
-pub array_way : (s : Schema) (bytes : List ℕ) (pending : List ℕ) (depth : Option ℕ) (stop start : ℕ) (seen : Seen) (p n : ℕ) (X : Shape) (o : Outcome)
+pub array_way : (s : SchemaTable) (bytes : List ℕ) (pending : List ℕ) (depth : Option ℕ) (stop start : ℕ) (seen : Seen) (p n : ℕ) (X : Shape) (o : Outcome)
     → run_way bytes p n X s pending depth stop start seen o → shape_way bytes p (array n X) s pending depth stop start seen o
 array_way s bytes pending depth stop start seen p n X (done l k) w = walk_array w
 array_way s bytes pending depth stop start seen p n X (refused f) w = trips_array w

@@ -2,7 +2,7 @@
 use Rattle.std.proofs.Common.{◌≡◌, ℕ, refl, ap, ◌+◌, List}
 use Rattle.archive_check.specs.Shape.{Shape, Parts, part}
 use Rattle.archive_check.specs.Layout.{up, size_of, align_of, Layout}
-use Rattle.archive_check.specs.Reads.{Schema}
+use Rattle.archive_check.specs.Reads.{SchemaTable}
 use Rattle.archive_check.specs.declared.format.error.Error.{Error}
 use Rattle.archive_check.specs.context.Ranges.{RangeState}
 use Rattle.archive_check.specs.Definitions.{Definitions, both, Knows, HasLayout}
@@ -13,11 +13,11 @@ use Rattle.archive_check.proofs.SelfCheck.Layouts.{its_size, its_align}
 use Rattle.archive_check.proofs.SelfCheck.Steps.{part_way, part_stop}
 
 module _ (D E : Definitions) (X : Shape) (L : Layout) (laid : HasLayout D X L) (ps : Parts) (b : List ℕ) (base start offset size : ℕ) (o_is : offset ≡ up start L.align) (s : RangeState) where
-  here_is : (t : Schema) → Knows t (both D E) → base + offset ≡ base + up start (align_of t.layouts X)
+  here_is : (t : SchemaTable) → Knows t (both D E) → base + offset ≡ base + up start (align_of t.layouts X)
   here_is t k = rw (its_align D X L laid L.align refl t (knows_left t D E k)) (ap (λ n. base + n) o_is)
 
   module _ (s_is : size ≡ L.size) (s1 : RangeState) (goes : Goes D (shape_way b (base + offset) X) s s1) where
-    after_is : (t : Schema) → Knows t (both D E) → offset + size ≡ up start (align_of t.layouts X) + size_of t.layouts X
+    after_is : (t : SchemaTable) → Knows t (both D E) → offset + size ≡ up start (align_of t.layouts X) + size_of t.layouts X
     after_is t k = rw (its_align D X L laid L.align refl t (knows_left t D E k), its_size D X L laid t (knows_left t D E k), o_is, s_is) refl
 
     past_first : Toward (both D E) (parts_way b base start (part X ps)) (parts_way b base (offset + size) ps) s s1

@@ -3,7 +3,7 @@ use Rattle.std.proofs.Common.{◌≡◌, ℕ, sym, ap, ◌∙◌, ◌+◌, ◌�
 use Rattle.archive_check.specs.declared.format.error.Error.{Error}
 use Rattle.archive_check.specs.declared.context.range.Region.{Region}
 use Rattle.archive_check.specs.Value.{Pointer}
-use Rattle.archive_check.specs.Reads.{Schema}
+use Rattle.archive_check.specs.Reads.{SchemaTable}
 use Rattle.archive_check.specs.context.Ranges.{RangeState, one_more, pop_answer, popped}
 use Rattle.archive_check.specs.Tour.{Seen, region_of, pointee_size, pointee_align}
 use Rattle.archive_check.specs.Keys.{order_of}
@@ -22,10 +22,10 @@ use Rattle.archive_check.proofs.Checks.Depths.{levels_allow}
 
 -- a region of N bytes, aligned so, whatever schema knows the definitions
 module _ (D : Definitions) (bytes : List ℕ) (p : Pointer) (N align : ℕ)
-    (sized : (t : Schema) → Knows t D → pointee_size t p.pointee p.length ≡ N)
-    (aligned : (t : Schema) → Knows t D → pointee_align t p.pointee ≡ align)
+    (sized : (t : SchemaTable) → Knows t D → pointee_size t p.pointee p.length ≡ N)
+    (aligned : (t : SchemaTable) → Knows t D → pointee_align t p.pointee ≡ align)
     (s : RangeState) where
-  trips_not : (size : Option ℕ) (f : Fault) → size ≡ fits N → NotEntered s p.target align size f → (t : Schema) → Knows t D → (pending : List ℕ) (seen : Seen) → TripsEnter t bytes pending s.depth s.end p s.start seen f
+  trips_not : (size : Option ℕ) (f : Fault) → size ≡ fits N → NotEntered s p.target align size f → (t : SchemaTable) → Knows t D → (pending : List ℕ) (seen : Seen) → TripsEnter t bytes pending s.depth s.end p s.start seen f
   trips_not _ _ e not_sized t k pending seen = trips_size {stop = s.end} {start = s.start} {p = p} (omega (arith, none_is (sym e), sized t k))
   trips_not _ _ e (not_within {n = n} out) t k pending seen =
       let same : pointee_size t p.pointee p.length ≡ n = sized t k ∙ some_is (sym e) in
@@ -46,7 +46,7 @@ module _ (D : Definitions) (bytes : List ℕ) (p : Pointer) (N align : ℕ)
     within : HasLevels s.depth → HasLevels s'.depth
     within some = rw h.depth (levels_inside s.depth some h.deep)
 
-    room : (t : Schema) → Knows t D → r.begin + (region_of t p r.begin).size ≤ s.end
+    room : (t : SchemaTable) → Knows t D → r.begin + (region_of t p r.begin).size ≤ s.end
     room t k = omega (arith, sized t k, some_is (sym is), h.lands.below)
 
     -- what the region holds is gone through, and it is left
@@ -69,7 +69,7 @@ module _ (D : Definitions) (bytes : List ℕ) (p : Pointer) (N align : ℕ)
         absurd (not_taken s1 r.outer_start e fails fine)
 
     -- what the region holds is refused
-    trips_inner : HasLevels s.depth → (f : Fault) (t : Schema) → Knows t D → (pending : List ℕ) (seen : Seen) → contents_way bytes r.begin (order_of p) p.pointee p.length t pending s'.depth s'.end s'.start seen (refused f) → TripsEnter t bytes pending s.depth s.end p s.start seen f
+    trips_inner : HasLevels s.depth → (f : Fault) (t : SchemaTable) → Knows t D → (pending : List ℕ) (seen : Seen) → contents_way bytes r.begin (order_of p) p.pointee p.length t pending s'.depth s'.end s'.start seen (refused f) → TripsEnter t bytes pending s.depth s.end p s.start seen f
     trips_inner some f t k pending seen w =
         let al : pointee_align t p.pointee ≡ align = aligned t k in
         trips_within {p = p} h.lands.target h.lands.above (room t k) (rw al h.lands.aligned) (levels_allow s.depth some.levels h.deep) (rw (h.depth, h.end, h.start) at w)

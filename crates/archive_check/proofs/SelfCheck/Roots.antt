@@ -3,7 +3,7 @@ use Rattle.std.proofs.Common.{◌≡◌, ℕ, refl, sym, inr, ◌<◌, ◌^◌, 
 use Rattle.std.specs.FinMap.{empty}
 use Rattle.archive_check.specs.declared.format.error.Error.{Error}
 use Rattle.archive_check.specs.Shape.{Shape}
-use Rattle.archive_check.specs.Reads.{Schema}
+use Rattle.archive_check.specs.Reads.{SchemaTable}
 use Rattle.archive_check.specs.Tour.{root_pointer, Seen}
 use Rattle.archive_check.specs.Trail.{Fault, TripsEnter, RootTrips}
 use Rattle.archive_check.specs.Walk.{Enter, enter, RootWalk}
@@ -20,12 +20,12 @@ use Rattle.archive_check.proofs.Archives.{some_knows, refusal_no_archive}
 use Rattle.archive_check.proofs.Checks.RangeLevels.{fresh_levels}
 
 -- the root is entered where it is said to lie
-entered_root : (s : Schema) (bytes : List ℕ) (limit : Option ℕ) (root : ℕ) (X : Shape) {t : ℕ} {last : Seen} {later : ℕ} → Enter s bytes [] limit (length bytes) (root_pointer root X) t 0 empty later last → RootWalk s bytes limit root X
+entered_root : (s : SchemaTable) (bytes : List ℕ) (limit : Option ℕ) (root : ℕ) (X : Shape) {t : ℕ} {last : Seen} {later : ℕ} → Enter s bytes [] limit (length bytes) (root_pointer root X) t 0 empty later last → RootWalk s bytes limit root X
 entered_root s bytes limit root X (enter {t = t} target above below aligned allowed w) =
     let same : t ≡ root = sym (pos_one target) in
     record { later = _; last = _; walk = enter {t = root} refl (rw same at above) (rw same at below) (rw same at aligned) allowed (rw same at w) }
 
-root_trips : (t : Schema) (bytes : List ℕ) (root : ℕ) (X : Shape) (s : RangeState) (met : Positions) → IsWhole s met bytes → (f : Fault) → TripsEnter t bytes [] s.depth s.end (root_pointer root X) s.start empty f → RootTrips t bytes s.depth root X f
+root_trips : (t : SchemaTable) (bytes : List ℕ) (root : ℕ) (X : Shape) (s : RangeState) (met : Positions) → IsWhole s met bytes → (f : Fault) → TripsEnter t bytes [] s.depth s.end (root_pointer root X) s.start empty f → RootTrips t bytes s.depth root X f
 root_trips t bytes root X s met whole f w = rw (whole.start, whole.end) at w
 
 pub goes_levels : (D : Definitions) (W : Way) (s s' : RangeState) → Goes D W s s' → KeepsLevels s s'

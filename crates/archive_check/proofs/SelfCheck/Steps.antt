@@ -3,7 +3,7 @@ use Rattle.std.proofs.Common.{◌≡◌, ℕ, suc, refl, ◌+◌, ◌<◌, List,
 use Rattle.archive_check.specs.Shape.{Shape, Key, parts, boxed, vec, sorted_map, key_shape, entry_of, str, Pointee, one, run, Parts, part}
 use Rattle.archive_check.specs.Layout.{up, size_of, align_of}
 use Rattle.archive_check.specs.Value.{Pointer}
-use Rattle.archive_check.specs.Reads.{Schema, u32_at, IsOutOfLine, decoded_length, pointer_at, map_at, string_at}
+use Rattle.archive_check.specs.Reads.{SchemaTable, u32_at, IsOutOfLine, decoded_length, pointer_at, map_at, string_at}
 use Rattle.archive_check.specs.Keys.{ComesBehind}
 use Rattle.archive_check.specs.Tour.{Seen}
 use Rattle.archive_check.specs.Walk.{walk_parts, walk_boxed, walk_vec, walk_map, walk_out_of_line, walk_part, walk_none, walk_element, follow_unique, walk_one, walk_run, walk_entries}
@@ -12,7 +12,7 @@ use Rattle.archive_check.specs.Outcomes.{Outcome, done, refused}
 use Rattle.archive_check.specs.SelfCheck.Ways.{shape_way, parts_way, run_way, enter_way}
 use Rattle.archive_check.specs.SelfCheck.Regions.{follow_way, contents_way, entries_way}
 
-module _ (bytes : List ℕ) (s : Schema) (pending : List ℕ) (depth : Option ℕ) (stop start : ℕ) (seen : Seen) where
+module _ (bytes : List ℕ) (s : SchemaTable) (pending : List ℕ) (depth : Option ℕ) (stop start : ℕ) (seen : Seen) where
   -- one value, and a run, in their regions
   pub one_way : (t n : ℕ) (X : Shape) (o : Outcome) → shape_way bytes t X s pending depth stop start seen o → contents_way bytes t None (one X) n s pending depth stop start seen o
   one_way t n X (done l k) w = walk_one w

@@ -1,7 +1,7 @@
 -- The variants of a choice.
 use Rattle.std.proofs.Common.{◌≡◌, ℕ, zero, suc, refl, ◌-◌, ◌<◌, arith, List, slice_index, Option, Some, None}
 use Rattle.archive_check.specs.Shape.{Name, Parts, Variants, variant, variant_at, choice}
-use Rattle.archive_check.specs.Reads.{Schema}
+use Rattle.archive_check.specs.Reads.{SchemaTable}
 use Rattle.archive_check.specs.Tour.{Seen}
 use Rattle.archive_check.specs.Walk.{walk_choice}
 use Rattle.archive_check.specs.Trail.{no_such_variant, trips_choice, trips_tag}
@@ -15,7 +15,7 @@ use Rattle.archive_check.proofs.SelfCheck.Ways.{goes_from, halts_from}
 use Rattle.archive_check.proofs.SelfCheck.Parts.{knows_left, knows_right}
 
 -- a variant of several
-pub choice_way : (bytes : List ℕ) (s : Schema) (pending : List ℕ) (depth : Option ℕ) (stop start : ℕ) (seen : Seen) (p : ℕ) (name : Name) (vs : Variants) (ps : Parts) (o : Outcome) → variant_at vs (slice_index bytes p) ≡ Some ps
+pub choice_way : (bytes : List ℕ) (s : SchemaTable) (pending : List ℕ) (depth : Option ℕ) (stop start : ℕ) (seen : Seen) (p : ℕ) (name : Name) (vs : Variants) (ps : Parts) (o : Outcome) → variant_at vs (slice_index bytes p) ≡ Some ps
     → parts_way bytes p 1 ps s pending depth stop start seen o → shape_way bytes p (choice name vs) s pending depth stop start seen o
 choice_way bytes s pending depth stop start seen p name vs ps (done l k) is w = walk_choice is w
 choice_way bytes s pending depth stop start seen p name vs ps (refused f) is w = trips_choice is w

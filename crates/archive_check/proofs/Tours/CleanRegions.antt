@@ -3,19 +3,19 @@ use Rattle.std.proofs.Common.{◌≡◌, inl, inr, ℕ, zero, suc, pos, ◌+◌,
 use Rattle.std.proofs.lemmas.Bool.{cases_lt}
 use Rattle.archive_check.specs.Shape.{Name, Flavor, Shape, parts, choice, array, str, weak, named, Pointee, one, run, text, Parts, Variants, definition, variant_at}
 use Rattle.archive_check.specs.Layout.{up, size_of, align_of, Solves}
-use Rattle.archive_check.specs.Reads.{Schema, i32_at, length_at, IsOutOfLine}
+use Rattle.archive_check.specs.Reads.{SchemaTable, i32_at, length_at, IsOutOfLine}
 use Rattle.archive_check.specs.Tour.{Region, pointee_size}
-use Rattle.archive_check.specs.Within.{IsPart, first_part, later_part, Within, whole, in_parts, in_choice, in_array, in_named, PartOf, whole_region, in_one, in_run, in_string, PartOfSome}
+use Rattle.archive_check.specs.Within.{IsPart, first_part, later_part, Within, whole, in_parts, in_choice, in_array, in_named, PartOfRegion, whole_region, in_one, in_run, in_string, PartOfSome}
 use Rattle.archive_check.specs.Tightness.{after, Tight, own_size, Owned, owned_part, owned_text, Clean}
 use Rattle.archive_check.specs.CleanRegions.{IsFilled, CleanValue, clean_leaf, clean_parts, clean_choice, clean_array, clean_boxed, clean_vec, clean_map, clean_inline, clean_out_of_line, clean_shared, clean_null, clean_weak, clean_named, CleanParts, clean_no_part, clean_part, CleanRun, clean_none, clean_element, CleanPointee, clean_one, clean_run, clean_text, CleanRegions}
 use Rattle.archive_check.proofs.Meanings.ReachedParts.{within_trans}
 use Rattle.archive_check.proofs.Elements.{contains_first, contains_later}
 
-abbrev pub AreSized : Schema → List Region → Type 0
+abbrev pub AreSized : SchemaTable → List Region → Type 0
 AreSized s [] = Unit {0}
 AreSized s (r ∷ C) = (r.size ≡ pointee_size s r.pointee r.length) × AreSized s C
 
-module _ (s : Schema) (bytes : List ℕ) where
+module _ (s : SchemaTable) (bytes : List ℕ) where
   -- each part of what is clean is clean
 
   part_clean : {p at stop q : ℕ} {ps : Parts} {Y : Shape} → CleanParts s bytes p at ps stop → IsPart s p at ps q Y → CleanValue s bytes q Y
@@ -97,7 +97,7 @@ module _ (s : Schema) (bytes : List ℕ) where
           ]
 
     pointee_zero : (i : ℕ) (r : Region) (P : Pointee) → r.pointee ≡ P → CleanPointee s bytes r.begin P r.length → r.begin ≤ i → i < r.begin + pointee_size s P r.length
-        → ((q : ℕ) (Y : Shape) → PartOf s bytes r q (one Y) 0 → q ≤ i → i < q + own_size Y → ⊥) → (P ≡ text → ⊥) → slice_index bytes i ≡ 0
+        → ((q : ℕ) (Y : Shape) → PartOfRegion s bytes r q (one Y) 0 → q ≤ i → i < q + own_size Y → ⊥) → (P ≡ text → ⊥) → slice_index bytes i ≡ 0
     pointee_zero i r (one X) is (clean_one h) above below free other = clean_zero i h above below (λ q Y w. free q Y (in_one is w))
     pointee_zero i r (run X) is (clean_run h) above below free other = run_zero i r.length 0 h above below (λ k less. λ q Y w. free q Y (in_run is less w))
     pointee_zero i r text is clean_text above below free other = absurd (other refl)
@@ -133,7 +133,7 @@ module _ (s : Schema) (bytes : List ℕ) where
     clean_of_run : {t n : ℕ} {X : Shape} → CleanPointee s bytes t (run X) n → CleanRun s bytes t n X
     clean_of_run (clean_run h) = h
 
-    part_of_clean : {r : Region} {q n : ℕ} {P : Pointee} {Y : Shape} → CleanPointee s bytes r.begin r.pointee r.length → PartOf s bytes r q P n → P ≡ one Y → CleanValue s bytes q Y
+    part_of_clean : {r : Region} {q n : ℕ} {P : Pointee} {Y : Shape} → CleanPointee s bytes r.begin r.pointee r.length → PartOfRegion s bytes r q P n → P ≡ one Y → CleanValue s bytes q Y
     part_of_clean h whole_region e = clean_of_one (rw e at h)
     part_of_clean {Y = Y} h (in_one {Y = Z} e w) f = let same : Z ≡ Y = cc in rw same at (clean_within (clean_of_one (rw e at h)) w)
     part_of_clean {Y = Y} h (in_run {Y = Z} e less w) f = let same : Z ≡ Y = cc in rw same at (clean_within (run_clean (clean_of_run (rw e at h)) less) w)

@@ -5,8 +5,8 @@ use Rattle.std.proofs.lemmas.List.{drop-take, drop-drop, take-take}
 use Rattle.archive_check.specs.Shape.{Flavor, Key, entry_of, Shape, leaf, choice, boxed, vec, sorted_map, str, shared, weak, Pointee, one, run, text, Parts}
 use Rattle.archive_check.specs.Layout.{up, align_of, parts_align, variants_align, size_of, parts_end, variants_end, pointer_size}
 use Rattle.archive_check.specs.Value.{Value, Values, number, case, text_value, box, hole}
-use Rattle.archive_check.specs.Reads.{Schema, LaidOut, bytes_at, u32_at, i32_at, IsLegal, kind_value, before_end, decoded_length, length_at, pointer_at, map_at, string_at, Reads, reads_leaf, reads_parts, reads_choice, reads_array, reads_boxed, reads_vec, reads_map, reads_inline, reads_out_of_line, reads_shared, reads_null, reads_weak, reads_named, ReadsParts, reads_no_part, reads_part, ReadsRun, reads_none, reads_element}
-use Rattle.archive_check.specs.Leaves.{Leaf, number_leaf, text_leaf, leaves, leaves_of_parts, leaves_of_run}
+use Rattle.archive_check.specs.Reads.{SchemaTable, LaidOut, bytes_at, u32_at, i32_at, IsLegal, kind_value, before_end, decoded_length, length_at, pointer_at, map_at, string_at, Reads, reads_leaf, reads_parts, reads_choice, reads_array, reads_boxed, reads_vec, reads_map, reads_inline, reads_out_of_line, reads_shared, reads_null, reads_weak, reads_named, ReadsParts, reads_no_part, reads_part, ReadsRun, reads_none, reads_element}
+use Rattle.archive_check.specs.Leaves.{PlacedLeaf, number_leaf, text_leaf, leaves, leaves_of_parts, leaves_of_run}
 use Rattle.archive_check.proofs.Tours.PartsInside.{up_le, pointer_few, positive, parts_end_le, variant_end_le}
 use Rattle.archive_check.proofs.Names.PositiveAlignments.{parts_align_pos, variants_align_pos}
 
@@ -61,9 +61,9 @@ module _ (bytes new : List ℕ) where
       let target = i32_same (p + 4) (omega arith) (omega arith) h in let length = u32_same p (omega arith) (omega arith) h in
       λ i. record { target = pos p +ℤ target i; sharing = None; order = None; pointee = text; length = decoded_length (length i) }
 
-  module _ (s : Schema) (laid : LaidOut s) where
+  module _ (s : SchemaTable) (laid : LaidOut s) where
     -- the bytes read so, with these leaves
-    abbrev pub ReadsWith : ℕ → Shape → Value → List Leaf → Type 0
+    abbrev pub ReadsWith : ℕ → Shape → Value → List PlacedLeaf → Type 0
     ReadsWith p X v xs = (r : Reads s new p X v) × (leaves r ≡ xs)
 
     mutual

@@ -2,22 +2,22 @@
 use Rattle.std.proofs.Common.{◌≡◌, refl, ap₂, ℕ, List, [], ◌∷◌, ◌-◌, ◌++◌, length, ◌+◌, ◌≤◌, arith, sym, subst, IsUtf8}
 use Rattle.archive_check.specs.Shape.{Pointee}
 use Rattle.archive_check.specs.Value.{Pointer, Value, text_value}
-use Rattle.archive_check.specs.Reads.{Schema, LaidOut}
-use Rattle.archive_check.specs.Keys.{order_of, Ordered}
+use Rattle.archive_check.specs.Reads.{SchemaTable, LaidOut}
+use Rattle.archive_check.specs.Keys.{order_of, IsInOrder}
 use Rattle.archive_check.proofs.Maps.KeptOrder.{StaysOrdered}
 use Rattle.archive_check.specs.Tour.{Region, Rising, pointee_size, Contents, contents_one, contents_run, contents_text, Leads, Seen, Tour, tour_end, tour_unique, tour_new, tour_again, region_of}
 use Rattle.archive_check.specs.Leaves.{text_leaf, leaves_of_contents, leaves_of_tour}
 use Rattle.archive_check.proofs.Tours.JoinedTours.{rising_le, rising_front, rising_back}
 use Rattle.archive_check.proofs.Tours.EqualBytes.{Agrees, agrees_part, reads_agree, run_agree}
 
-module _ (bytes new : List ℕ) (s : Schema) (laid : LaidOut s) where
+module _ (bytes new : List ℕ) (s : SchemaTable) (laid : LaidOut s) where
   pub contents_agree : {t n : ℕ} {P : Pointee} {v : Value} (h : Contents s bytes t P n v) → Agrees bytes new t (pointee_size s P n) → (k : Contents s new t P n v) × (leaves_of_contents k ≡ leaves_of_contents h)
   contents_agree (contents_one r) h = let q = reads_agree bytes new s laid r h in (contents_one (q.0), q.1)
   contents_agree (contents_run r) h = let q = run_agree bytes new s laid r h in (contents_run (q.0), q.1)
   contents_agree {t = t} (contents_text {n = n} u) h =
       subst (λ b. (k : Contents s new t Pointee.text n (text_value b)) × (leaves_of_contents k ≡ text_leaf t b ∷ [])) h.same (contents_text (subst IsUtf8 (sym h.same) u), refl)
 
-  pub leads_agree : {p : Pointer} {t : ℕ} {v : Value} (h : Leads s bytes p t v) → length bytes ≤ length new → Agrees bytes new t (pointee_size s p.pointee p.length) → Ordered s new t p.length (order_of p) p.pointee
+  pub leads_agree : {p : Pointer} {t : ℕ} {v : Value} (h : Leads s bytes p t v) → length bytes ≤ length new → Agrees bytes new t (pointee_size s p.pointee p.length) → IsInOrder s new t p.length (order_of p) p.pointee
       → (k : Leads s new p t v) × (leaves_of_contents k.contents ≡ leaves_of_contents h.contents)
   leads_agree h room same o = let q = contents_agree h.contents same in (record { target = h.target; fits = omega (arith, h.fits); contents = q.0; ordered = o }, q.1)
 

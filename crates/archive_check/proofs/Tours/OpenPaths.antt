@@ -2,7 +2,7 @@
 use Rattle.std.proofs.Common.{◌≡◌, ◌⊎◌, inl, inr, ⊎_elim, ℕ, pos, List, [], ◌∷◌, Some, None, Contains, arith, refl, sym, ◌∙◌}
 use Rattle.archive_check.specs.Shape.{Flavor, Shape, Pointee}
 use Rattle.archive_check.specs.Value.{Pointer, Value, pointers}
-use Rattle.archive_check.specs.Reads.{Schema}
+use Rattle.archive_check.specs.Reads.{SchemaTable}
 use Rattle.archive_check.specs.Tour.{Contents, Accepted}
 use Rattle.archive_check.specs.Pooled.{Kept, EntryState, Entries}
 use Rattle.archive_check.specs.Reached.{Reached}
@@ -17,16 +17,16 @@ abbrev pub SharedTo : Pointer → ℕ → Type 0
 SharedTo p t = (flavor : Flavor) × (p.sharing ≡ Some flavor) × (p.target ≡ pos t)
 
 -- the pointer leads to t, and is followed
-abbrev pub Follows : Entries → Pointer → ℕ → Type 0
-Follows told p t = (p.target ≡ pos t) × ((p.sharing ≡ None) ⊎ ((flavor : Flavor) × (p.sharing ≡ Some flavor) × (told t ≡ None)))
+abbrev pub IsFollowed : Entries → Pointer → ℕ → Type 0
+IsFollowed told p t = (p.target ≡ pos t) × ((p.sharing ≡ None) ⊎ ((flavor : Flavor) × (p.sharing ≡ Some flavor) × (told t ≡ None)))
 
 -- following the one pointer, the other one is met, or it is that one
-pub data Path (s : Schema) (bytes : List ℕ) (told : Entries) : Pointer → Pointer → Type 0 where
+pub data Path (s : SchemaTable) (bytes : List ℕ) (told : Entries) : Pointer → Pointer → Type 0 where
   path_here : {p : Pointer} → Path s bytes told p p
-  path_on : {p o r : Pointer} {t : ℕ} {v : Value} → Follows told p t → Contents s bytes t p.pointee p.length v → Contains (pointers v) o → Path s bytes told o r → Path s bytes told p r
+  path_on : {p o r : Pointer} {t : ℕ} {v : Value} → IsFollowed told p t → Contents s bytes t p.pointee p.length v → Contains (pointers v) o → Path s bytes told o r → Path s bytes told p r
 
 -- one is met that leads to an open position
-pub record Stuck (s : Schema) (bytes : List ℕ) (told : Entries) (within : List ℕ) (p : Pointer) : Type 0 where
+pub record Stuck (s : SchemaTable) (bytes : List ℕ) (told : Entries) (within : List ℕ) (p : Pointer) : Type 0 where
   pub last : Pointer
   pub at : ℕ
   pub path : Path s bytes told p last
@@ -34,7 +34,7 @@ pub record Stuck (s : Schema) (bytes : List ℕ) (told : Entries) (within : List
   pub is_open : IsOpen told within at
 
 -- one is met that leads to an unknown position, and following it another one that does
-pub record Loop (s : Schema) (bytes : List ℕ) (told : Entries) (p : Pointer) : Type 0 where
+pub record Loop (s : SchemaTable) (bytes : List ℕ) (told : Entries) (p : Pointer) : Type 0 where
   pub last : Pointer
   pub at : ℕ
   pub value : Value
@@ -48,18 +48,18 @@ pub record Loop (s : Schema) (bytes : List ℕ) (told : Entries) (p : Pointer) :
   pub round : Path s bytes told next back
   pub again : SharedTo back at
 
-abbrev pub Hits : Schema → List ℕ → Entries → List ℕ → Pointer → Type 0
+abbrev pub Hits : SchemaTable → List ℕ → Entries → List ℕ → Pointer → Type 0
 Hits s bytes told within p = Stuck s bytes told within p ⊎ Loop s bytes told p
 
-module _ (s : Schema) (bytes : List ℕ) where
+module _ (s : SchemaTable) (bytes : List ℕ) where
   -- one step more in front
-  stuck_on : {told : Entries} {within : List ℕ} {p o : Pointer} {t : ℕ} {v : Value} → Follows told p t → Contents s bytes t p.pointee p.length v → Contains (pointers v) o → Stuck s bytes told within o → Stuck s bytes told within p
+  stuck_on : {told : Entries} {within : List ℕ} {p o : Pointer} {t : ℕ} {v : Value} → IsFollowed told p t → Contents s bytes t p.pointee p.length v → Contains (pointers v) o → Stuck s bytes told within o → Stuck s bytes told within p
   stuck_on f c i h = record { last = h.last; at = h.at; path = path_on f c i h.path; to = h.to; is_open = h.is_open }
 
-  loop_on : {told : Entries} {p o : Pointer} {t : ℕ} {v : Value} → Follows told p t → Contents s bytes t p.pointee p.length v → Contains (pointers v) o → Loop s bytes told o → Loop s bytes told p
+  loop_on : {told : Entries} {p o : Pointer} {t : ℕ} {v : Value} → IsFollowed told p t → Contents s bytes t p.pointee p.length v → Contains (pointers v) o → Loop s bytes told o → Loop s bytes told p
   loop_on f c i h = record { last = h.last; at = h.at; value = h.value; next = h.next; back = h.back; path = path_on f c i h.path; to = h.to; unknown = h.unknown; contents = h.contents; has = h.has; round = h.round; again = h.again }
 
-  hits_on : {told : Entries} {within : List ℕ} {p o : Pointer} {t : ℕ} {v : Value} → Follows told p t → Contents s bytes t p.pointee p.length v → Contains (pointers v) o → Hits s bytes told within o → Hits s bytes told within p
+  hits_on : {told : Entries} {within : List ℕ} {p o : Pointer} {t : ℕ} {v : Value} → IsFollowed told p t → Contents s bytes t p.pointee p.length v → Contains (pointers v) o → Hits s bytes told within o → Hits s bytes told within p
   hits_on f c i h = ⊎_elim (λ st. inl (stuck_on f c i st)) (λ lp. inr (loop_on f c i lp)) h
 
   -- behind a pointer to an unknown position t
@@ -154,7 +154,7 @@ module _ (s : Schema) (bytes : List ℕ) where
         pub known : mid at ≡ Some (Some entry)
         pub rest : Path s bytes old last o
 
-      newly_on : {p o r : Pointer} {t : ℕ} {v : Value} → Follows old p t → Contents s bytes t p.pointee p.length v → Contains (pointers v) o → Newly o r → Newly p r
+      newly_on : {p o r : Pointer} {t : ℕ} {v : Value} → IsFollowed old p t → Contents s bytes t p.pointee p.length v → Contains (pointers v) o → Newly o r → Newly p r
       newly_on f c i h = record { last = h.last; at = h.at; entry = h.entry; path = path_on f c i h.path; to = h.to; unknown = h.unknown; known = h.known; rest = h.rest }
 
       still_unknown : (t : ℕ) (b : EntryState) → mid t ≡ b → old t ≡ None → (mid t ≡ None) ⊎ ((k : Kept) × (mid t ≡ Some (Some k)))

@@ -3,7 +3,7 @@ use Rattle.std.proofs.Common.{◌≡◌, ℕ, zero, suc, List, ◌+◌, ◌*◌,
 use Rattle.std.proofs.Math.Nat.{mul-le-mul_right}
 use Rattle.archive_check.specs.Shape.{Shape, Pointee, one, run, text, Parts, no_part, part, Variants, no_variant, variant, variant_at}
 use Rattle.archive_check.specs.Layout.{up, align_of, parts_align, variants_align, size_of, parts_end, variants_end, pointer_size}
-use Rattle.archive_check.specs.Reads.{Schema, LaidOut}
+use Rattle.archive_check.specs.Reads.{SchemaTable, LaidOut}
 use Rattle.archive_check.specs.Within.{IsPart, first_part, later_part, Within, whole, in_parts, in_choice, in_array, in_named}
 use Rattle.archive_check.proofs.Names.PositiveAlignments.{align_pos, parts_align_pos, variants_align_pos}
 
@@ -16,7 +16,7 @@ pointer_few (one X) = omega arith
 pointer_few (run X) = omega arith
 pointer_few text = omega arith
 
-module _ (s : Schema) (laid : LaidOut s) where
+module _ (s : SchemaTable) (laid : LaidOut s) where
   pub positive : (X : Shape) → 1 ≤ align_of s.layouts X
   positive = align_pos s.layouts laid.aligned
 

@@ -5,21 +5,21 @@ use Rattle.std.proofs.lemmas.List.Elements.{All-nil, All-cons, All-append, All-c
 use Rattle.archive_check.specs.Shape.{Shape, Parts, part, Pointee}
 use Rattle.archive_check.specs.Layout.{up, kind_size, align_of, size_of, parts_align, parts_end, variants_align, variants_end}
 use Rattle.archive_check.specs.Value.{Pointer, Value, Values}
-use Rattle.archive_check.specs.Reads.{Schema, LaidOut, bytes_at, before_end, Reads, reads_leaf, reads_parts, reads_choice, reads_array, reads_boxed, reads_vec, reads_map, reads_inline, reads_out_of_line, reads_shared, reads_null, reads_weak, reads_named, ReadsParts, reads_no_part, reads_part, ReadsRun, reads_none, reads_element}
+use Rattle.archive_check.specs.Reads.{SchemaTable, LaidOut, bytes_at, before_end, Reads, reads_leaf, reads_parts, reads_choice, reads_array, reads_boxed, reads_vec, reads_map, reads_inline, reads_out_of_line, reads_shared, reads_null, reads_weak, reads_named, ReadsParts, reads_no_part, reads_part, ReadsRun, reads_none, reads_element}
 use Rattle.archive_check.specs.Tour.{Region, region_of, root_region, pointee_size, Rising, Contents, contents_one, contents_run, contents_text, Seen, Tour, tour_end, tour_unique, tour_new, tour_again, Accepted}
-use Rattle.archive_check.specs.Leaves.{Leaf, text_leaf, leaf_begin, leaf_size, leaves, leaves_of_parts, leaves_of_run, leaves_of_contents, leaves_of_tour, leaves_of, regions_of, Disjoint, PairwiseDisjoint, LiesIn, LiesInOne}
+use Rattle.archive_check.specs.Leaves.{PlacedLeaf, text_leaf, leaf_begin, leaf_size, leaves, leaves_of_parts, leaves_of_run, leaves_of_contents, leaves_of_tour, leaves_of, regions_of, Disjoint, PairwiseDisjoint, LiesIn, LiesInOne}
 use Rattle.archive_check.proofs.Tours.PartsInside.{up_le, positive, parts_end_le, variant_end_le}
 use Rattle.archive_check.proofs.Elements.{contains_cases}
 use Rattle.archive_check.proofs.Names.PositiveAlignments.{parts_align_pos, variants_align_pos}
 
 -- the leaf lies between two positions
-abbrev pub Between : ℕ → ℕ → Leaf → Type 0
+abbrev pub Between : ℕ → ℕ → PlacedLeaf → Type 0
 Between a b x = (a ≤ leaf_begin x) × (leaf_begin x + leaf_size x ≤ b)
 
-pub between_more : (a b c d : ℕ) → c ≤ a → b ≤ d → (xs : List Leaf) → All (Between a b) xs → All (Between c d) xs
+pub between_more : (a b c d : ℕ) → c ≤ a → b ≤ d → (xs : List PlacedLeaf) → All (Between a b) xs → All (Between c d) xs
 between_more a b c d low high xs h = λ k x l. let here : Between a b (slice_index_or xs k x) = h k x l in omega arith
 
-between_one : (a b : ℕ) (x : Leaf) → Between a b x → All (Between a b) (x ∷ [])
+between_one : (a b : ℕ) (x : PlacedLeaf) → Between a b x → All (Between a b) (x ∷ [])
 between_one a b x h = All-cons (Between a b) x [] h (All-nil (Between a b))
 
 pub before_end_le : (b : List ℕ) → length (before_end b) ≤ length b
@@ -34,7 +34,7 @@ pub bytes_few : (bytes : List ℕ) (p n : ℕ) → length (bytes_at bytes p n) �
 unfolding bytes_at
 bytes_few bytes p n = omega (arith, length-take n (drop p bytes))
 
-module _ (s : Schema) (laid : LaidOut s) (bytes : List ℕ) where
+module _ (s : SchemaTable) (laid : LaidOut s) (bytes : List ℕ) where
   mutual
     pub leaves_between : {p : ℕ} {X : Shape} {v : Value} (r : Reads s bytes p X v) → All (Between p (p + size_of s.layouts X)) (leaves r)
     leaves_between (reads_leaf {p = p} {kind = kind} h) = between_one p (p + kind_size kind) _ (omega arith)
@@ -74,19 +74,19 @@ module _ (s : Schema) (laid : LaidOut s) (bytes : List ℕ) where
   contents_between {t = t} (contents_text {n = n} u) = between_one t (t + n) (text_leaf t (bytes_at bytes t n)) (omega (arith, bytes_few bytes t n))
 
   -- a leaf lies in one of the regions
-  abbrev pub InSome : List Region → Leaf → Type 0
+  abbrev pub InSome : List Region → PlacedLeaf → Type 0
   InSome C x = (r : Region) × Contains C r × LiesIn x r
 
-  in_left : (C D : List Region) (xs : List Leaf) → All (InSome C) xs → All (InSome (C ++ D)) xs
+  in_left : (C D : List Region) (xs : List PlacedLeaf) → All (InSome C) xs → All (InSome (C ++ D)) xs
   in_left C D xs h = λ k x l. let (r, c, i) = h k x l in (r, Contains-append_left C D r c, i)
 
-  in_right : (C D : List Region) (xs : List Leaf) → All (InSome D) xs → All (InSome (C ++ D)) xs
+  in_right : (C D : List Region) (xs : List PlacedLeaf) → All (InSome D) xs → All (InSome (C ++ D)) xs
   in_right C D xs h = λ k x l. let (r, c, i) = h k x l in (r, Contains-append_right C D r c, i)
 
-  in_this : (r : Region) (xs : List Leaf) → All (Between r.begin (r.begin + r.size)) xs → All (InSome (r ∷ [])) xs
+  in_this : (r : Region) (xs : List PlacedLeaf) → All (Between r.begin (r.begin + r.size)) xs → All (InSome (r ∷ [])) xs
   in_this r xs h = λ k x l. (r, Contains-push [] r, h k x l)
 
-  in_region : (C : List Region) (r : Region) (D : List Region) (xs ys zs : List Leaf) → All (InSome C) xs → All (Between r.begin (r.begin + r.size)) ys → All (InSome D) zs → All (InSome (C ++ r ∷ D)) (xs ++ (ys ++ zs))
+  in_region : (C : List Region) (r : Region) (D : List Region) (xs ys zs : List PlacedLeaf) → All (InSome C) xs → All (Between r.begin (r.begin + r.size)) ys → All (InSome D) zs → All (InSome (C ++ r ∷ D)) (xs ++ (ys ++ zs))
   in_region C r D xs ys zs h i j =
       All-append (InSome (C ++ r ∷ D)) xs (ys ++ zs) (in_left C (r ∷ D) xs h)
       (in_right C (r ∷ D) (ys ++ zs) (All-append (InSome (r ∷ D)) ys zs (in_left (r ∷ []) D ys (in_this r ys i)) (in_right (r ∷ []) D zs j)))
@@ -140,16 +140,16 @@ one_has (x ∷ C) apart i r q c d h j = go (contains_cases x C r c) (contains_ca
     go (inr c) (inr d) rest = rest c d
 
 -- the leaves of a tour lie where its regions do
-pub tour_between : (s : Schema) (laid : LaidOut s) (bytes : List ℕ) {pending : List ℕ} {seen last : Seen} {O : List Pointer} {C : List Region} (i : Tour s bytes pending seen O C last) (a b : ℕ) → Rising a C b → All (Between a b) (leaves_of_tour i)
+pub tour_between : (s : SchemaTable) (laid : LaidOut s) (bytes : List ℕ) {pending : List ℕ} {seen last : Seen} {O : List Pointer} {C : List Region} (i : Tour s bytes pending seen O C last) (a b : ℕ) → Rising a C b → All (Between a b) (leaves_of_tour i)
 tour_between s laid bytes {C = C} i a b h = λ k x l.
     let (r, c, j) = tour_in s laid bytes i k x l in
     let here : Lies a b r = All-contains (Lies a b) C r (rising_lies a C b h) c in omega arith
 
-module _ (s : Schema) (laid : LaidOut s) (bytes : List ℕ) (root : ℕ) (X : Shape) (a : Accepted s bytes root X) where
+module _ (s : SchemaTable) (laid : LaidOut s) (bytes : List ℕ) (root : ℕ) (X : Shape) (a : Accepted s bytes root X) where
   pub regions_apart : PairwiseDisjoint (regions_of a)
   regions_apart = rising_disjoint 0 (regions_of a) (length bytes) a.rising
 
-  pub leaf_in_one : (x : Leaf) → Contains (leaves_of a) x → 1 ≤ leaf_size x → LiesInOne (regions_of a) x
+  pub leaf_in_one : (x : PlacedLeaf) → Contains (leaves_of a) x → 1 ≤ leaf_size x → LiesInOne (regions_of a) x
   leaf_in_one x c some =
       let (r, d, i) = All-contains (InSome s laid bytes (regions_of a)) (leaves_of a) x (accepted_in s laid bytes a) c in
       (r, d, i, λ q e j. one_has (regions_of a) regions_apart (leaf_begin x) r q d e (omega arith) (omega arith))

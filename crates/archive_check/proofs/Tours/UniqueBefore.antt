@@ -3,10 +3,10 @@ use Rattle.std.proofs.Common.{◌≡◌, ℕ, ◌+◌, ◌≤◌, pos, List, [],
 use Rattle.std.proofs.lemmas.List.Elements.{All-nil, All-cons, All-append, All-contains}
 use Rattle.archive_check.specs.Shape.{Shape, Pointee}
 use Rattle.archive_check.specs.Value.{Pointer, Value, pointers}
-use Rattle.archive_check.specs.Reads.{Schema, LaidOut}
+use Rattle.archive_check.specs.Reads.{SchemaTable, LaidOut}
 use Rattle.archive_check.specs.Tour.{Region, region_of, root_region, pointee_size, Rising, Contents, contents_one, Leads, Seen, Tour, tour_end, tour_unique, tour_new, tour_again, Accepted}
 use Rattle.archive_check.specs.Leaves.{regions_of}
-use Rattle.archive_check.specs.Within.{PartOf, whole_region, in_one, in_run, in_string}
+use Rattle.archive_check.specs.Within.{PartOfRegion, whole_region, in_one, in_run, in_string}
 use Rattle.archive_check.specs.Viewed.{Lies}
 use Rattle.archive_check.proofs.Meanings.ReachedParts.{part_of_reads}
 use Rattle.archive_check.proofs.Tours.JoinedTours.{rising_front, rising_back, rising_le}
@@ -14,10 +14,10 @@ use Rattle.archive_check.proofs.Tours.ReadingUnique.{contents_one_value, pos_one
 use Rattle.archive_check.proofs.Tours.PartsInside.{within_inside}
 
 -- the pointer, where it is unique, leads to what ends by this position
-pub record EndsBy (s : Schema) (stop : ℕ) (p : Pointer) : Type 0 where
+pub record EndsBy (s : SchemaTable) (stop : ℕ) (p : Pointer) : Type 0 where
   pub ends : (t : ℕ) → p.sharing ≡ None → p.target ≡ pos t → t + pointee_size s p.pointee p.length ≤ stop
 
-module _ (s : Schema) (bytes : List ℕ) where
+module _ (s : SchemaTable) (bytes : List ℕ) where
   -- what is read in the region leads, uniquely, to what ends by its begin
   abbrev Owns : Region → Type 0
   Owns r = (v : Value) × Contents s bytes r.begin r.pointee r.length v × All (EndsBy s r.begin) (pointers v)
@@ -56,7 +56,7 @@ module _ (s : Schema) (bytes : List ℕ) where
       All-append Owns a.regions (r ∷ []) (own.1) (All-cons Owns r [] (a.value, contents_one a.flat.reads, own.0) (All-nil Owns))
 
   -- a part lies where its region begins, or behind
-  pub part_after : LaidOut s → {r : Region} {q : ℕ} {P : Pointee} {n : ℕ} → PartOf s bytes r q P n → r.begin ≤ q
+  pub part_after : LaidOut s → {r : Region} {q : ℕ} {P : Pointee} {n : ℕ} → PartOfRegion s bytes r q P n → r.begin ≤ q
   part_after laid whole_region = omega arith
   part_after laid (in_one e w) = omega (arith, within_inside s laid w)
   part_after laid (in_run e below w) = omega (arith, within_inside s laid w)

@@ -5,10 +5,10 @@ use Rattle.std.proofs.lemmas.List.Elements.{All-nil, All-cons, All-append, All-c
 use Rattle.archive_check.specs.Shape.{Shape, Pointee, one}
 use Rattle.archive_check.specs.Layout.{size_of}
 use Rattle.archive_check.specs.Value.{Pointer, Value, pointers}
-use Rattle.archive_check.specs.Reads.{Schema, LaidOut, bytes_at}
+use Rattle.archive_check.specs.Reads.{SchemaTable, LaidOut, bytes_at}
 use Rattle.archive_check.specs.Tour.{Region, region_of, root_region, pointee_size, Contents, Leads, Seen, Tour, tour_end, tour_unique, tour_new, tour_again, Accepted}
 use Rattle.archive_check.specs.Leaves.{regions_of}
-use Rattle.archive_check.specs.Within.{PartOf, whole_region, in_one, in_run, in_string}
+use Rattle.archive_check.specs.Within.{PartOfRegion, whole_region, in_one, in_run, in_string}
 use Rattle.archive_check.specs.Denotes.{Meaning, Denotes}
 use Rattle.archive_check.specs.Reached.{Reached}
 use Rattle.archive_check.specs.Definitions.{Definitions, Knows}
@@ -19,7 +19,7 @@ use Rattle.archive_check.proofs.Meanings.MeaningUnique.{fills_one}
 use Rattle.archive_check.proofs.Tours.PartsInside.{within_inside}
 use Rattle.archive_check.proofs.Tours.RegionsApart.{before_end_le, bytes_few}
 
-module _ (s : Schema) (bytes : List ℕ) where
+module _ (s : SchemaTable) (bytes : List ℕ) where
   -- the region's pointee lies in the buffer
   abbrev Fits : Region → Type 0
   Fits r = r.begin + pointee_size s r.pointee r.length ≤ length bytes
@@ -39,7 +39,7 @@ module _ (s : Schema) (bytes : List ℕ) where
   same_size : {P Q : Pointee} (n : ℕ) → P ≡ Q → pointee_size s P n ≡ pointee_size s Q n
   same_size n e = rw e refl
 
-  part_fits : LaidOut s → {r : Region} {q : ℕ} {P : Pointee} {n : ℕ} → PartOf s bytes r q P n → Fits r → q + pointee_size s P n ≤ length bytes
+  part_fits : LaidOut s → {r : Region} {q : ℕ} {P : Pointee} {n : ℕ} → PartOfRegion s bytes r q P n → Fits r → q + pointee_size s P n ≤ length bytes
   part_fits laid whole_region f = f
   part_fits laid {r = r} (in_one e w) f = omega (arith, within_inside s laid w, same_size r.length e, f)
   part_fits laid {r = r} (in_run {k = k} {X = X} e below w) f =
@@ -80,9 +80,9 @@ module _ (s : Schema) (bytes : List ℕ) where
 -- of views
 
 -- what is said of a part is what is reached there
-pub reached_says : (D : Definitions) (bytes : List ℕ) (q : ℕ) (P : Pointee) (n : ℕ) (w : Value) (s : Schema) (u : Value) {root : ℕ} {X : Shape} → Says D bytes q P n w → Knows s D → Reached s bytes root X q P n u → u ≡ w
+pub reached_says : (D : Definitions) (bytes : List ℕ) (q : ℕ) (P : Pointee) (n : ℕ) (w : Value) (s : SchemaTable) (u : Value) {root : ℕ} {X : Shape} → Says D bytes q P n w → Knows s D → Reached s bytes root X q P n u → u ≡ w
 reached_says D bytes q P n w s u h k r = fills_one s bytes r.filled (h.fills s r.value k (reached_lies s bytes r) r.reads)
 
 -- so what a whole buffer's root says is what the buffer denotes
-pub root_says : (D : Definitions) (bytes : List ℕ) (root : ℕ) (X : Shape) (w : Value) (s : Schema) (m : Meaning) → Says D bytes root (one X) 0 w → Knows s D → Denotes s bytes root X m → m.value ≡ w
+pub root_says : (D : Definitions) (bytes : List ℕ) (root : ℕ) (X : Shape) (w : Value) (s : SchemaTable) (m : Meaning) → Says D bytes root (one X) 0 w → Knows s D → Denotes s bytes root X m → m.value ≡ w
 root_says D bytes root X w s m h k d = reached_says D bytes root (one X) 0 w s m.value h k (root_reached s bytes d)

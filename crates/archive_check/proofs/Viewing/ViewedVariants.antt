@@ -6,7 +6,7 @@ use mathlib.Core.Bool.{Bool-set}
 use Rattle.archive_check.specs.Shape.{Name, Shape, choice, named, one, Variants, no_variant, variant, part, no_part, variant_at, definition}
 use Rattle.archive_check.specs.Layout.{Layouts, Layout, up, align_of, variants_end, variants_align}
 use Rattle.archive_check.specs.Value.{Value}
-use Rattle.archive_check.specs.Reads.{Schema, reads_choice}
+use Rattle.archive_check.specs.Reads.{SchemaTable, reads_choice}
 use Rattle.archive_check.specs.Tour.{Contents, contents_one}
 use Rattle.archive_check.specs.Within.{IsPart, first_part, whole, in_choice, in_named}
 use Rattle.archive_check.specs.Definitions.{Definitions, Knows, HasLayout}
@@ -21,7 +21,7 @@ ends_behind_tag l no_variant = omega arith
 ends_behind_tag l (variant ps vs) = omega (arith, ends_behind_tag l vs)
 
 -- the tag lies in the buffer
-tag_lies : {s : Schema} {D : Definitions} {bytes : List ℕ} {q n : ℕ} {name : Name} {vs : Variants} → Knows s D → Lies s bytes q (one (choice name vs)) n → q < length bytes
+tag_lies : {s : SchemaTable} {D : Definitions} {bytes : List ℕ} {q n : ℕ} {name : Name} {vs : Variants} → Knows s D → Lies s bytes q (one (choice name vs)) n → q < length bytes
 tag_lies {s = s} {bytes = bytes} {vs = vs} k l =
     omega (arith, lies_fits s bytes k.laid_out l, ends_behind_tag s.layouts vs, up_le (variants_end s.layouts vs) (variants_align s.layouts vs) (variants_align_pos s.layouts vs))
 
@@ -29,7 +29,7 @@ pub tag_fits : (D : Definitions) (bytes : List ℕ) (q n : ℕ) (name : Name) (v
 tag_fits D bytes q n name vs v = ∥∥₁_elim v le_prop (λ (s, k, l). tag_lies k l)
 
 -- and names a variant
-known_tag : {s : Schema} {bytes : List ℕ} {q n : ℕ} {name : Name} {vs : Variants} {v : Value} → Contents s bytes q (one (choice name vs)) n v → is_some (variant_at vs (slice_index bytes q)) ≡ true
+known_tag : {s : SchemaTable} {bytes : List ℕ} {q n : ℕ} {name : Name} {vs : Variants} {v : Value} → Contents s bytes q (one (choice name vs)) n v → is_some (variant_at vs (slice_index bytes q)) ≡ true
 known_tag (contents_one (reads_choice e rs)) = rw e refl
 
 pub tag_known : (D : Definitions) (bytes : List ℕ) (q n : ℕ) (name : Name) (vs : Variants) → Viewed D bytes q (one (choice name vs)) n → is_some (variant_at vs (slice_index bytes q)) ≡ true
@@ -37,12 +37,12 @@ tag_known D bytes q n name vs v = ∥∥₁_elim v (Bool-set _ _) (λ (s, k, l).
 
 -- the part of a variant with one part is a view of its own
 
-module _ (D E : Definitions) (known : (s : Schema) → Knows s D → Knows s E) (name : Name) (vs : Variants) (tag : ℕ) (X : Shape) (is : variant_at vs tag ≡ Some (part X no_part)) (L : Layout) (layout : HasLayout E X L)
+module _ (D E : Definitions) (known : (s : SchemaTable) → Knows s D → Knows s E) (name : Name) (vs : Variants) (tag : ℕ) (X : Shape) (is : variant_at vs tag ≡ Some (part X no_part)) (L : Layout) (layout : HasLayout E X L)
     (bytes : List ℕ) (q n offset : ℕ) (there : offset ≡ up 1 L.align) (first : slice_index bytes q ≡ tag) where
-  pub case_begins : (s : Schema) → Knows s D → up 1 (align_of s.layouts X) ≡ offset
+  pub case_begins : (s : SchemaTable) → Knows s D → up 1 (align_of s.layouts X) ≡ offset
   case_begins s k = rw (ap (λ (l : Layout). l.align) (layout.solved s (known s k))) (sym there)
 
-  pub case_lies : (s : Schema) → Knows s D → (l : Lies s bytes q (one (choice name vs)) n) → Lies s bytes (q + offset) (one X) 0
+  pub case_lies : (s : SchemaTable) → Knows s D → (l : Lies s bytes q (one (choice name vs)) n) → Lies s bytes (q + offset) (one X) 0
   case_lies s k l =
       let (w, r) = lies_reached s bytes l in
       let e : variant_at vs (slice_index bytes q) ≡ Some (part X no_part) = rw first is in
@@ -55,12 +55,12 @@ module _ (D E : Definitions) (known : (s : Schema) → Knows s D → Knows s E) 
 
 -- what a name stands for is a view of its own, too
 
-pub definition_lies : (s : Schema) (bytes : List ℕ) (q n : ℕ) (name : Name) (X : Shape) → definition s.table name ≡ Some X → Lies s bytes q (one (named name)) n → Lies s bytes q (one X) 0
+pub definition_lies : (s : SchemaTable) (bytes : List ℕ) (q n : ℕ) (name : Name) (X : Shape) → definition s.table name ≡ Some X → Lies s bytes q (one (named name)) n → Lies s bytes q (one X) 0
 definition_lies s bytes q n name X d l =
     let (w, r) = lies_reached s bytes l in
     let (u, i) = within_reached s bytes r (in_named whole d) in
     reached_lies s bytes i
 
-pub definition_viewed : (D : Definitions) (name : Name) (X : Shape) → ((s : Schema) → Knows s D → definition s.table name ≡ Some X) → (bytes : List ℕ) (q n : ℕ)
+pub definition_viewed : (D : Definitions) (name : Name) (X : Shape) → ((s : SchemaTable) → Knows s D → definition s.table name ≡ Some X) → (bytes : List ℕ) (q n : ℕ)
     → Viewed D bytes q (one (named name)) n → Viewed D bytes q (one X) 0
 definition_viewed D name X has bytes q n v = ∥∥₁_map v (λ (s, k, l). (s, k, definition_lies s bytes q n name X (has s k) l))

@@ -2,12 +2,12 @@
 use Rattle.std.proofs.Common.{◌≡◌, ◌≢◌, ◌∙◌, ap, subst, refl, zero, suc, arith}
 use Rattle.archive_check.specs.Shape.{Name, unit, Shape, leaf, named, bool}
 use Rattle.archive_check.specs.Layout.{Layout, layout}
-use Rattle.archive_check.specs.Reads.{Schema}
+use Rattle.archive_check.specs.Reads.{SchemaTable}
 use Rattle.archive_check.specs.Defined.{Holds, held, mentions_held, holds_name, Involves, involves}
 use Rattle.archive_check.specs.Definitions.{defines, both, listed, Knows, NoOthers, HasLayout}
 
 -- the name has the layout of its definition
-pub name_has_layout : (name : Name) (X : Shape) (L : Layout) → ((s : Schema) → Knows s (defines name X) → layout s.layouts X ≡ L) → HasLayout (defines name X) (named name) L
+pub name_has_layout : (name : Name) (X : Shape) (L : Layout) → ((s : SchemaTable) → Knows s (defines name X) → layout s.layouts X ≡ L) → HasLayout (defines name X) (named name) L
 name_has_layout name X L h = record { solved = λ s k. k.laid_out.solves name X k.has ∙ h s k }
 
 -- and no definition is brought but its own, which it reaches

@@ -4,7 +4,7 @@ use Rattle.std.proofs.lemmas.Bool.{cases_lt}
 use Rattle.std.proofs.lemmas.List.Elements.{Contains-append_left, Contains-append_right}
 use Rattle.archive_check.specs.Shape.{Name, Shape, parts, named, Parts, no_part, part, definition}
 use Rattle.archive_check.specs.Layout.{Layout, Layouts, up, size_of, align_of, parts_align, parts_end}
-use Rattle.archive_check.specs.Reads.{Schema, LaidOut}
+use Rattle.archive_check.specs.Reads.{SchemaTable, LaidOut}
 use Rattle.archive_check.specs.Within.{IsPart, first_part, later_part}
 use Rattle.archive_check.specs.Definitions.{Definitions, no_definition, defines, both, listed, Knows, HasLayout, IsAlign}
 use Rattle.archive_check.specs.SelfCheck.Regions.{align_some}
@@ -32,44 +32,44 @@ first_or first later zero = first
 first_or first later (suc i) = later i
 
 -- where the part with this index begins, laid out one behind another from an offset on
-abbrev pub offset_at : Layouts → ℕ → Parts → ℕ → ℕ
-offset_at names at no_part i = at
-offset_at names at (part X ps) zero = up at (align_of names X)
-offset_at names at (part X ps) (suc i) = offset_at names (up at (align_of names X) + size_of names X) ps i
+abbrev pub offset_of_part : Layouts → ℕ → Parts → ℕ → ℕ
+offset_of_part names at no_part i = at
+offset_of_part names at (part X ps) zero = up at (align_of names X)
+offset_of_part names at (part X ps) (suc i) = offset_of_part names (up at (align_of names X) + size_of names X) ps i
 
 -- Of what is laid out from an offset on: its greatest alignment, where it ends, and where each part begins.
 pub record PartsLaidOut (D : Definitions) (ps : Parts) (align : ℕ) (end : ℕ → ℕ) (begin : ℕ → ℕ → ℕ) : Type 0 where
-  pub aligned : (s : Schema) → Knows s D → parts_align s.layouts ps ≡ align
-  pub ends : (s : Schema) → Knows s D → (n : ℕ) → parts_end s.layouts n ps ≡ end n
-  pub begins : (s : Schema) → Knows s D → (p n i : ℕ) (Y : Shape) → part_at ps i ≡ Some Y → IsPart s p n ps (p + begin n i) Y
-  pub offsets : (s : Schema) → Knows s D → (n i : ℕ) → offset_at s.layouts n ps i ≡ begin n i
+  pub aligned : (s : SchemaTable) → Knows s D → parts_align s.layouts ps ≡ align
+  pub ends : (s : SchemaTable) → Knows s D → (n : ℕ) → parts_end s.layouts n ps ≡ end n
+  pub begins : (s : SchemaTable) → Knows s D → (p n i : ℕ) (Y : Shape) → part_at ps i ≡ Some Y → IsPart s p n ps (p + begin n i) Y
+  pub offsets : (s : SchemaTable) → Knows s D → (n i : ℕ) → offset_of_part s.layouts n ps i ≡ begin n i
 
 -- the sizes of the parts
 abbrev pub HaveSizes : Definitions → Parts → (ℕ → ℕ) → Type 0
-HaveSizes D ps sizes = (s : Schema) → Knows s D → (i : ℕ) (Y : Shape) → part_at ps i ≡ Some Y → size_of s.layouts Y ≡ sizes i
+HaveSizes D ps sizes = (s : SchemaTable) → Knows s D → (i : ℕ) (Y : Shape) → part_at ps i ≡ Some Y → size_of s.layouts Y ≡ sizes i
 
 -- under the schema, X is a Y, or a name that stands for it
-pub data StandsFor (s : Schema) (Y : Shape) : Shape → Type 0 where
+pub data StandsFor (s : SchemaTable) (Y : Shape) : Shape → Type 0 where
   for_itself : StandsFor s Y Y
   by_name : {name : Name} → definition s.table name ≡ Some Y → StandsFor s Y (named name)
 
 -- an X with the definitions D is a record of these parts, whose definitions E are known where its own are
 pub record IsRecord (D : Definitions) (X : Shape) (E : Definitions) (ps : Parts) : Type 0 where
-  pub stands : (s : Schema) → Knows s D → StandsFor s (parts ps) X
-  pub known : (s : Schema) → Knows s D → Knows s E
+  pub stands : (s : SchemaTable) → Knows s D → StandsFor s (parts ps) X
+  pub known : (s : SchemaTable) → Knows s D → Knows s E
 
 -- who knows both knows each
-pub knows_left : (s : Schema) (D E : Definitions) → Knows s (both D E) → Knows s D
+pub knows_left : (s : SchemaTable) (D E : Definitions) → Knows s (both D E) → Knows s D
 knows_left s D E k = record { has = k.has.0; finite = λ n X c. k.finite n X (Contains-append_left (listed D) (listed E) (n, X) c); laid_out = k.laid_out }
 
-pub knows_right : (s : Schema) (D E : Definitions) → Knows s (both D E) → Knows s E
+pub knows_right : (s : SchemaTable) (D E : Definitions) → Knows s (both D E) → Knows s E
 knows_right s D E k = record { has = k.has.1; finite = λ n X c. k.finite n X (Contains-append_right (listed D) (listed E) (n, X) c); laid_out = k.laid_out }
 
-pub knows_none : (s : Schema) → LaidOut s → Knows s no_definition
+pub knows_none : (s : SchemaTable) → LaidOut s → Knows s no_definition
 knows_none s laid = record { has = tt; finite = λ n X c. absurd (omega (arith, c.1)); laid_out = laid }
 
 -- who knows those of all parts knows those of each
-pub knows_at : (s : Schema) (D : Definitions) (i : ℕ) → Knows s D → Knows s (definitions_at D i)
+pub knows_at : (s : SchemaTable) (D : Definitions) (i : ℕ) → Knows s D → Knows s (definitions_at D i)
 knows_at s (both D E) zero k = knows_left s D E k
 knows_at s (both D E) (suc i) k = knows_at s E i (knows_right s D E k)
 knows_at s no_definition i k = knows_none s k.laid_out
@@ -87,13 +87,13 @@ pub no_part_laid_out : PartsLaidOut no_definition no_part 1 (λ n. n) (λ n i. n
 no_part_laid_out = record { aligned = λ s k. refl; ends = λ s k n. refl; begins = λ s k p n i Y none. absurd (cc none); offsets = λ s k n i. refl }
 
 module _ (D E : Definitions) (X : Shape) (L : Layout) (laid : HasLayout D X L) (ps : Parts) (a : ℕ) (end : ℕ → ℕ) (begin : ℕ → ℕ → ℕ) (others : PartsLaidOut E ps a end begin) where
-  part_size : (s : Schema) → Knows s (both D E) → size_of s.layouts X ≡ L.size
+  part_size : (s : SchemaTable) → Knows s (both D E) → size_of s.layouts X ≡ L.size
   part_size s k = ap (λ l. l.size) (laid.solved s (knows_left s D E k))
 
-  part_align : (s : Schema) → Knows s (both D E) → align_of s.layouts X ≡ L.align
+  part_align : (s : SchemaTable) → Knows s (both D E) → align_of s.layouts X ≡ L.align
   part_align s k = ap (λ l. l.align) (laid.solved s (knows_left s D E k))
 
-  part_begins : (s : Schema) → Knows s (both D E) → (p n i : ℕ) (Y : Shape) → part_at (part X ps) i ≡ Some Y
+  part_begins : (s : SchemaTable) → Knows s (both D E) → (p n i : ℕ) (Y : Shape) → part_at (part X ps) i ≡ Some Y
       → IsPart s p n (part X ps) (p + first_or (up n L.align) (begin (up n L.align + L.size)) i) Y
   part_begins s k p n zero Y e =
       let same : X ≡ Y = cc e in
@@ -102,7 +102,7 @@ module _ (D E : Definitions) (X : Shape) (L : Layout) (laid : HasLayout D X L) (
   part_begins s k p n (suc i) Y e =
       later_part (rw (part_align s k, part_size s k) (others.begins s (knows_right s D E k) p (up n L.align + L.size) i Y e))
 
-  part_offsets : (s : Schema) → Knows s (both D E) → (n i : ℕ) → offset_at s.layouts n (part X ps) i ≡ first_or (up n L.align) (begin (up n L.align + L.size)) i
+  part_offsets : (s : SchemaTable) → Knows s (both D E) → (n i : ℕ) → offset_of_part s.layouts n (part X ps) i ≡ first_or (up n L.align) (begin (up n L.align + L.size)) i
   part_offsets s k n zero = ap (up n) (part_align s k)
   part_offsets s k n (suc i) = rw (part_align s k, part_size s k) (others.offsets s (knows_right s D E k) (up n L.align + L.size) i)
 

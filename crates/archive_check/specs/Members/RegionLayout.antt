@@ -2,7 +2,7 @@
 use Rattle.std.specs.Prelude.{◌≡◌, ◌⊎◌, ℕ, ◌<◌, ◌≤◌, ◌^◌, min}
 use Rattle.archive_check.specs.declared.format.layout.Layout.{Layout as RustLayout}
 use Rattle.archive_check.specs.Shape.{Pointee, one, run, text}
-use Rattle.archive_check.specs.Reads.{Schema}
+use Rattle.archive_check.specs.Reads.{SchemaTable}
 use Rattle.archive_check.specs.Definitions.{Definitions, Knows}
 use Rattle.archive_check.specs.Tour.{pointee_size, pointee_align}
 
@@ -14,13 +14,13 @@ IsSingle text n = ⊥
 
 -- The layout of a region; a size of usize::MAX stands for all that are greater, too, which only a single value's can be.
 pub record IsRegionLayout (D : Definitions) (P : Pointee) (n : ℕ) (l : RustLayout) : Type 0 where
-  pub size : (s : Schema) → Knows s D → l.size ≡ min (pointee_size s P n) 18446744073709551615
-  pub align : (s : Schema) → Knows s D → l.align ≡ pointee_align s P
-  pub few : (s : Schema) → Knows s D → (pointee_size s P n < 2 ^ 64) ⊎ IsSingle P n
+  pub size : (s : SchemaTable) → Knows s D → l.size ≡ min (pointee_size s P n) 18446744073709551615
+  pub align : (s : SchemaTable) → Knows s D → l.align ≡ pointee_align s P
+  pub few : (s : SchemaTable) → Knows s D → (pointee_size s P n < 2 ^ 64) ⊎ IsSingle P n
 
 -- the region takes more than usize::MAX
 abbrev pub IsLargeRegion : Definitions → Pointee → ℕ → Type 0
-IsLargeRegion D P n = (s : Schema) → Knows s D → 2 ^ 64 ≤ pointee_size s P n
+IsLargeRegion D P n = (s : SchemaTable) → Knows s D → 2 ^ 64 ≤ pointee_size s P n
 
 -- and has no layout: it is no single value's
 abbrev pub HasNoLayout : Definitions → Pointee → ℕ → Type 0

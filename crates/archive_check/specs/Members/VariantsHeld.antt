@@ -2,14 +2,14 @@
 use Rattle.std.proofs.Common.{◌≡◌, ℕ, zero, suc, ◌+◌, ◌≤◌, max, Some, arith}
 use Rattle.archive_check.specs.Shape.{Shape, Parts, Variants, no_variant, variant}
 use Rattle.archive_check.specs.Layout.{size_of}
-use Rattle.archive_check.specs.Reads.{Schema}
+use Rattle.archive_check.specs.Reads.{SchemaTable}
 use Rattle.archive_check.specs.Definitions.{Definitions, no_definition, both, Knows}
 use Rattle.archive_check.specs.Members.PartsLayout.{HaveSizes, knows_left, knows_right}
 use Rattle.archive_check.specs.Members.VariantsLayout.{payload_at, first_variant_or}
 
 -- The part with an index, of the variant with a tag, has this size under each schema that knows the definitions.
 abbrev pub HavePayloadSizes : Definitions → Variants → (ℕ → ℕ → ℕ) → Type 0
-HavePayloadSizes D vs sizes = (s : Schema) → Knows s D → (tag i : ℕ) (Y : Shape) → payload_at vs tag i ≡ Some Y → size_of s.layouts Y ≡ sizes tag i
+HavePayloadSizes D vs sizes = (s : SchemaTable) → Knows s D → (tag i : ℕ) (Y : Shape) → payload_at vs tag i ≡ Some Y → size_of s.layouts Y ≡ sizes tag i
 
 pub no_payload_sized : HavePayloadSizes no_definition no_variant (λ tag i. 0)
 no_payload_sized s k tag i Y none = absurd (cc none)

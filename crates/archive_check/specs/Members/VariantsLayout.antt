@@ -2,11 +2,11 @@
 use Rattle.std.proofs.Common.{◌≡◌, ℕ, zero, suc, max, Option, None, refl, arith}
 use Rattle.archive_check.specs.Shape.{Name, Shape, choice, named, parts, Parts, Variants, no_variant, variant}
 use Rattle.archive_check.specs.Layout.{Layouts, up, variants_align, variants_end}
-use Rattle.archive_check.specs.Reads.{Schema}
+use Rattle.archive_check.specs.Reads.{SchemaTable}
 use Rattle.archive_check.specs.Defined.{holds_parts, holds_choice, holds_variant, holds_other, Mentions, mentions_held, mentions_parts, mentions_choice, mentions_variant, mentions_other}
 use Rattle.archive_check.specs.Definitions.{Definitions, no_definition, defines, both, Knows, NoOthers, HasLayout}
 use Rattle.archive_check.specs.Members.NoOthers.{around_reached, both_reached}
-use Rattle.archive_check.specs.Members.PartsLayout.{part_at, offset_at, definitions_at, knows_none, knows_at, knows_left, knows_right, PartsLaidOut, StandsFor, by_name}
+use Rattle.archive_check.specs.Members.PartsLayout.{part_at, offset_of_part, definitions_at, knows_none, knows_at, knows_left, knows_right, PartsLaidOut, StandsFor, by_name}
 
 -- the part with this index of the variant with this tag
 abbrev pub payload_at : Variants → ℕ → ℕ → Option Shape
@@ -28,7 +28,7 @@ joined_variants (variant ps vs) ws = variant ps (joined_variants vs ws)
 -- where the part with this index begins, in the variant with this tag
 abbrev pub payload_offset : Layouts → Variants → ℕ → ℕ → ℕ
 payload_offset names no_variant tag i = 1
-payload_offset names (variant ps vs) zero i = offset_at names 1 ps i
+payload_offset names (variant ps vs) zero i = offset_of_part names 1 ps i
 payload_offset names (variant ps vs) (suc tag) i = payload_offset names vs tag i
 
 -- the offsets in the first variant, or in one of those that come later
@@ -38,26 +38,26 @@ first_variant_or first later (suc tag) = later tag
 
 -- Of variants behind a tag: their greatest alignment, their greatest end, and where each part of each begins.
 pub record VariantsLaidOut (D : Definitions) (vs : Variants) (align end : ℕ) (begin : ℕ → ℕ → ℕ) : Type 0 where
-  pub aligned : (s : Schema) → Knows s D → variants_align s.layouts vs ≡ align
-  pub ends : (s : Schema) → Knows s D → variants_end s.layouts vs ≡ end
-  pub offsets : (s : Schema) → Knows s D → (tag i : ℕ) → payload_offset s.layouts vs tag i ≡ begin tag i
+  pub aligned : (s : SchemaTable) → Knows s D → variants_align s.layouts vs ≡ align
+  pub ends : (s : SchemaTable) → Knows s D → variants_end s.layouts vs ≡ end
+  pub offsets : (s : SchemaTable) → Knows s D → (tag i : ℕ) → payload_offset s.layouts vs tag i ≡ begin tag i
 
 -- an X with the definitions D is a choice of this name with these variants, whose definitions E are known where its own are
 pub record IsChoice (D : Definitions) (X : Shape) (name : Name) (E : Definitions) (vs : Variants) : Type 0 where
-  pub stands : (s : Schema) → Knows s D → StandsFor s (choice name vs) X
-  pub known : (s : Schema) → Knows s D → Knows s E
+  pub stands : (s : SchemaTable) → Knows s D → StandsFor s (choice name vs) X
+  pub known : (s : SchemaTable) → Knows s D → Knows s E
 
 -- variants under a name of their own
 pub is_named_choice : (name : Name) (D : Definitions) (vs : Variants) → IsChoice (both (defines name (choice name vs)) D) (named name) name D vs
 is_named_choice name D vs = record { stands = λ s k. by_name k.has.0; known = λ s k. knows_right s (defines name (choice name vs)) D k }
 
 -- under a name whose definition is the only one that is brought, as where the choice holds itself
-pub is_recursive_choice : (name : Name) (E : Definitions) (vs : Variants) → ((s : Schema) → Knows s (defines name (choice name vs)) → Knows s E)
+pub is_recursive_choice : (name : Name) (E : Definitions) (vs : Variants) → ((s : SchemaTable) → Knows s (defines name (choice name vs)) → Knows s E)
     → IsChoice (defines name (choice name vs)) (named name) name E vs
 is_recursive_choice name E vs known = record { stands = λ s k. by_name k.has; known = known }
 
 -- who knows those of all variants knows those of each part
-pub knows_payload : (s : Schema) (D : Definitions) (tag i : ℕ) → Knows s D → Knows s (payload_definitions D tag i)
+pub knows_payload : (s : SchemaTable) (D : Definitions) (tag i : ℕ) → Knows s D → Knows s (payload_definitions D tag i)
 knows_payload s (both D E) zero i k = knows_at s D i (knows_left s D E k)
 knows_payload s (both D E) (suc tag) i k = knows_payload s E tag i (knows_right s D E k)
 knows_payload s no_definition tag i k = knows_none s k.laid_out
@@ -67,7 +67,7 @@ pub no_variant_laid_out : VariantsLaidOut no_definition no_variant 1 1 (λ tag i
 no_variant_laid_out = record { aligned = λ s k. refl; ends = λ s k. refl; offsets = λ s k tag i. refl }
 
 module _ (D E : Definitions) (ps : Parts) (a : ℕ) (end : ℕ → ℕ) (begin : ℕ → ℕ → ℕ) (first : PartsLaidOut D ps a end begin) (vs : Variants) (b last : ℕ) (later : ℕ → ℕ → ℕ) (others : VariantsLaidOut E vs b last later) where
-  variant_offsets : (s : Schema) → Knows s (both D E) → (tag i : ℕ) → payload_offset s.layouts (variant ps vs) tag i ≡ first_variant_or (begin 1) later tag i
+  variant_offsets : (s : SchemaTable) → Knows s (both D E) → (tag i : ℕ) → payload_offset s.layouts (variant ps vs) tag i ≡ first_variant_or (begin 1) later tag i
   variant_offsets s k zero i = first.offsets s (knows_left s D E k) 1 i
   variant_offsets s k (suc tag) i = others.offsets s (knows_right s D E k) tag i
 

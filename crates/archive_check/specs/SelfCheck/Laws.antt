@@ -6,7 +6,7 @@ use Rattle.std.proofs.lemmas.Bool.Decides.{nat_tests}
 use Rattle.std.specs.Int.{w8, w16, w32, w64, w128}
 use Rattle.archive_check.specs.Shape.{Name, Kind, unit, bool, char, number, non_zero, raw_rel, Shape, leaf, named, Table, definition}
 use Rattle.archive_check.specs.Layout.{kind_size}
-use Rattle.archive_check.specs.Reads.{Schema}
+use Rattle.archive_check.specs.Reads.{SchemaTable}
 use Rattle.archive_check.specs.Tour.{Seen}
 use Rattle.archive_check.specs.Outcomes.{Outcome, done, refused}
 use Rattle.archive_check.specs.Walk.{walk_named}
@@ -18,8 +18,8 @@ use Rattle.archive_check.specs.MissingNames.{missing}
 use Rattle.archive_check.specs.SelfCheck.Orders.{IsOrder}
 
 -- under the schema, what comes of a Y comes of the X in its place
-abbrev pub Leads : Schema → Shape → Shape → Type 0
-Leads t Y X = (bytes : List ℕ) (p : ℕ) (pending : List ℕ) (depth : Option ℕ) (stop start : ℕ) (seen : Seen) (o : Outcome) → shape_way bytes p Y t pending depth stop start seen o → shape_way bytes p X t pending depth stop start seen o
+abbrev pub ChecksAs : SchemaTable → Shape → Shape → Type 0
+ChecksAs t Y X = (bytes : List ℕ) (p : ℕ) (pending : List ℕ) (depth : Option ℕ) (stop start : ℕ) (seen : Seen) (o : Outcome) → shape_way bytes p Y t pending depth stop start seen o → shape_way bytes p X t pending depth stop start seen o
 
 -- A check of a Y, in n bytes and with the definitions E, is one of an X of `size` bytes, whose definitions D give it a meaning; they are none where the
 -- check says that it is nameless.
@@ -28,8 +28,8 @@ pub record IsCheckOf (D : Definitions) (X : Shape) (size : ℕ) (E : Definitions
   pub small : fits size ≡ Some size
   pub order : Table
   pub ordered : IsOrder D X order
-  pub known : (t : Schema) → Knows t D → Knows t E
-  pub leads : (t : Schema) → Knows t D → Leads t Y X
+  pub known : (t : SchemaTable) → Knows t D → Knows t E
+  pub leads : (t : SchemaTable) → Knows t D → ChecksAs t Y X
   pub plain : IsTrue nameless → listed D ≡ []
 
 -- a type that says no has no law to show
@@ -80,6 +80,6 @@ pub leaf_check : {nameless : Bool} (kind : Kind) → IsCheckOf no_definition (le
 leaf_check kind = plain_check (leaf kind) (kind_size kind) (leaf_fits kind) refl
 
 -- what comes of a name's definition comes of the name
-pub named_leads : (t : Schema) (name : Name) (X : Shape) → definition t.table name ≡ Some X → Leads t X (named name)
-named_leads t name X d bytes p pending depth stop start seen (done l k) w = walk_named d w
-named_leads t name X d bytes p pending depth stop start seen (refused f) w = trips_named d w
+pub named_checks_as : (t : SchemaTable) (name : Name) (X : Shape) → definition t.table name ≡ Some X → ChecksAs t X (named name)
+named_checks_as t name X d bytes p pending depth stop start seen (done l k) w = walk_named d w
+named_checks_as t name X d bytes p pending depth stop start seen (refused f) w = trips_named d w

@@ -3,7 +3,7 @@ use Rattle.std.specs.Prelude.{◌≡◌, ℕ, Bool, true}
 use Rattle.std.proofs.Common.{refl, ◌∙◌}
 use Rattle.archive_check.specs.Shape.{Shape, boxed, vec, Pointee, one, run, text, Table}
 use Rattle.archive_check.specs.Layout.{pointer_size}
-use Rattle.archive_check.specs.Reads.{Schema}
+use Rattle.archive_check.specs.Reads.{SchemaTable}
 use Rattle.archive_check.specs.Walk.{walk_boxed, walk_vec}
 use Rattle.archive_check.specs.Trail.{trips_boxed, trips_vec}
 use Rattle.archive_check.specs.Outcomes.{done, refused}
@@ -11,7 +11,7 @@ use Rattle.archive_check.specs.Defined.{mentions_boxed, mentions_vec, mentions_o
 use Rattle.archive_check.specs.Definitions.{Definitions, no_definition, NoOthers}
 use Rattle.archive_check.specs.Members.NoOthers.{around_reached}
 use Rattle.archive_check.specs.SelfCheck.Orders.{IsOrder}
-use Rattle.archive_check.specs.SelfCheck.Laws.{IsCheckOf, Leads, own_check, plain_check, no_more}
+use Rattle.archive_check.specs.SelfCheck.Laws.{IsCheckOf, ChecksAs, own_check, plain_check, no_more}
 use Rattle.archive_check.specs.MissingNames.{missing}
 
 -- an order of what lies there is one of the owner, which mentions the same names
@@ -29,9 +29,9 @@ module _ (D : Definitions) (X : Shape) (size : ℕ) (E : Definitions) (Y : Shape
   one_check P is c = rw is (own_check D (boxed (one X)) 4 c.order nameless refl (owned_order D X (boxed (one X)) c.order refl c.ordered) c.plain)
 
   -- what comes of a vector comes of a box of a slice
-  vec_leads : (t : Schema) → Leads t (vec X) (boxed (run X))
-  vec_leads t bytes p pending depth stop start seen (done l k) (walk_vec w) = walk_boxed w
-  vec_leads t bytes p pending depth stop start seen (refused f) (trips_vec w) = trips_boxed w
+  vec_checks_as : (t : SchemaTable) → ChecksAs t (vec X) (boxed (run X))
+  vec_checks_as t bytes p pending depth stop start seen (done l k) (walk_vec w) = walk_boxed w
+  vec_checks_as t bytes p pending depth stop start seen (refused f) (trips_vec w) = trips_boxed w
 
   -- so it is checked as a vector
   pub run_check : IsCheckOf D X size E Y n nameless → IsCheckOf D (boxed (run X)) 8 D (vec X) 8 nameless
@@ -41,7 +41,7 @@ module _ (D : Definitions) (X : Shape) (size : ℕ) (E : Definitions) (Y : Shape
     order = c.order;
     ordered = owned_order D X (boxed (run X)) c.order refl c.ordered;
     known = λ t k. k;
-    leads = λ t k. vec_leads t;
+    leads = λ t k. vec_checks_as t;
     plain = c.plain;
   }
 

@@ -4,7 +4,7 @@ use Rattle.std.specs.Prelude.{◌≡◌, ℕ, ◌+◌, ◌*◌, ◌<◌, ℤ, Li
 use Rattle.archive_check.specs.declared.format.error.Error.{Error}
 use Rattle.archive_check.specs.Shape.{Shape, Pointee, Parts, Variants, variant_at}
 use Rattle.archive_check.specs.Value.{Pointer}
-use Rattle.archive_check.specs.Reads.{Schema}
+use Rattle.archive_check.specs.Reads.{SchemaTable}
 use Rattle.archive_check.specs.context.Ranges.{RangeState}
 use Rattle.archive_check.specs.Tour.{Seen}
 use Rattle.archive_check.specs.Walk.{Walk, WalkParts, WalkRun, Enter}
@@ -16,7 +16,7 @@ use Rattle.archive_check.specs.context.FreshContexts.{HasLevels}
 
 -- a way through an archive, under a schema: by what is pending, the levels left, the range's end and start, what is seen, and the outcome
 abbrev pub Way : Type 1
-Way = Schema → List ℕ → Option ℕ → ℕ → ℕ → Seen → Outcome → Type 0
+Way = SchemaTable → List ℕ → Option ℕ → ℕ → ℕ → Seen → Outcome → Type 0
 
 -- the X at p: the walk through it, or the trail to a fault in it
 abbrev pub shape_way : List ℕ → ℕ → Shape → Way
@@ -46,11 +46,11 @@ enter_way bytes p s pending depth stop start seen (refused f) = TripsEnter s byt
 pub record Goes (D : Definitions) (W : Way) (s s' : RangeState) : Type 0 where
   pub end : s'.end ≡ s.end
   pub depth : HasLevels s.depth → s'.depth ≡ s.depth
-  pub runs : HasLevels s.depth → (t : Schema) → Knows t D → (pending : List ℕ) (seen : Seen) → W t pending s.depth s.end s.start seen (done s'.start seen)
+  pub runs : HasLevels s.depth → (t : SchemaTable) → Knows t D → (pending : List ℕ) (seen : Seen) → W t pending s.depth s.end s.start seen (done s'.start seen)
 
 -- The way comes to a fault, the same one under each schema, with this refusal.
 abbrev pub Halts : Definitions → Way → RangeState → Error → Type 0
-Halts D W s e = HasLevels s.depth → (f : Fault) × IsFor f e × ((t : Schema) → Knows t D → (pending : List ℕ) (seen : Seen) → W t pending s.depth s.end s.start seen (refused f))
+Halts D W s e = HasLevels s.depth → (f : Fault) × IsFor f e × ((t : SchemaTable) → Knows t D → (pending : List ℕ) (seen : Seen) → W t pending s.depth s.end s.start seen (refused f))
 
 -- The first n of these, z bytes apart from p on, are gone through wherever a check of them stands, and leave its range as it is.
 abbrev pub AreGood : Definitions → List ℕ → ℕ → ℕ → Shape → ℕ → Type 0

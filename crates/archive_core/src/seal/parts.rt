@@ -8,7 +8,7 @@ ghost use Rattle.archive_check.specs.Shape.{array, one, run, text, boxed, shared
 ghost use Rattle.archive_core.specs.SealedOptions.{IsSealOfOption, SealsValue};
 ghost use Rattle.archive_core.specs.SealsWritten.{IsSealOf, SealsPart};
 ghost use Rattle.archive_types.specs.Members.SharedLaws.{flavor_as};
-ghost use Rattle.archive_types.specs.Words.SharedWriting.{flavor_of, weak_to};
+ghost use Rattle.archive_types.specs.Words.SharedWriting.{flavor_of_type, weak_to};
 
 use super::{Seal, Spot};
 use archive_types::boxed::ArchivedBox;
@@ -56,8 +56,8 @@ impl<'a, T: PortablePointee, F: Flavor> Seal<'a, ArchivedRc<T, F>> {
     /// (`get_seal_unchecked`); here the whole buffer is borrowed for writing, so no other pointer
     /// to the value can be used meanwhile.
     pub fn get_seal(self) -> Seal<'a, T>
-        requires { IsSealOf T.definitions (one (shared (flavor_of F.Flavor) T.pointee)) self }
-        ensures { SealsPart T.definitions (one (shared (flavor_of F.Flavor) T.pointee))
+        requires { IsSealOf T.definitions (one (shared (flavor_of_type F.Flavor) T.pointee)) self }
+        ensures { SealsPart T.definitions (one (shared (flavor_of_type F.Flavor) T.pointee))
             T.definitions T.pointee (target_from self.entry.bytes.now self.entry.pos self.entry.pos)
             (length_at self.entry.bytes.now self.entry.pos T.pointee) self.entry result }
     {

@@ -3,7 +3,7 @@
 ghost use Rattle.std.specs.Prelude.{◌≡◌, ◌+◌, ◌<◌, ◌≤◌, ℕ, length, OnSome, IfSome, IfNone, Option, Some, None, false, IsTrue};
 ghost use Rattle.archive_check.specs.Shape.{Name, Shape, choice, named, boxed, one};
 ghost use Rattle.archive_check.specs.Layout.{Layout};
-ghost use Rattle.archive_check.specs.Reads.{Schema};
+ghost use Rattle.archive_check.specs.Reads.{SchemaTable};
 ghost use Rattle.archive_check.specs.Definitions.{HasLayout, IsAlign, Knows, defines};
 ghost use Rattle.archive_check.specs.SelfCheck.Ways.{Halts, shape_way};
 ghost use Rattle.archive_check.specs.context.Pushes.{Spends};
@@ -48,7 +48,7 @@ pub trait Chain {
 
     ghost laid_out: { HasLayout (defines name (choice name (Self.Variants.variants (named name)))) (named name) layout };
 
-    ghost known: { (s : Schema) → Knows s (defines name (choice name (Self.Variants.variants (named name)))) → Knows s Self.Variants.definitions };
+    ghost known: { (s : SchemaTable) → Knows s (defines name (choice name (Self.Variants.variants (named name)))) → Knows s Self.Variants.definitions };
 
     // It holds them.
     ghost holds: { Self.Variants.end ≤ layout.size };

@@ -14,12 +14,12 @@ use Rattle.archive_check.specs.declared.context.positions.SharedType.{SharedType
 use Rattle.archive_schema.specs.declared.check.Checker.{Checker}
 use Rattle.archive_check.specs.Shape.{Shape, leaf, bool, choice, boxed, shared, named, one, Parts, no_part, part, Variants, no_variant, variant, variant_at, definition}
 use Rattle.archive_check.specs.Layout.{size_of}
-use Rattle.archive_check.specs.Reads.{Schema}
+use Rattle.archive_check.specs.Reads.{SchemaTable}
 use Rattle.archive_check.specs.Expressions.{flavor_of}
 use Rattle.archive_check.specs.Words.Elements.{IsAt, span}
 use Rattle.archive_schema.specs.check.Runs.{Takes}
 use Rattle.archive_schema.specs.plan.SoundPlans.{PartsWithin, NodeKindFits, SpanFits, IsSound}
-use Rattle.archive_schema.specs.plan.Represents.{StandsFor, stands, stands_named, PartsStand, parts_over, parts_more, Sized, points_one, Made, made_leaf, made_choice, made_boxed, made_shared}
+use Rattle.archive_schema.specs.plan.Represents.{NodeStandsFor, stands, stands_named, PartsStand, parts_over, parts_more, Sized, points_one, Made, made_leaf, made_choice, made_boxed, made_shared}
 use Rattle.archive_schema.specs.check.PlanChecks.{PlanOf}
 
 module _ (name : Bor (List ℕ)) (flavor : FlavorInfo) where
@@ -32,7 +32,7 @@ module _ (name : Bor (List ℕ)) (flavor : FlavorInfo) where
   abbrev either : Variants
   either = variant no_part (variant own (variant common no_variant))
 
-  abbrev lists : Schema
+  abbrev lists : SchemaTable
   lists = record { table = (name.now, choice name.now either) ∷ []; layouts = λ n. record { size = 8; align = 4 } }
 
   abbrev bool_node : Node
@@ -108,7 +108,7 @@ module _ (name : Bor (List ℕ)) (flavor : FlavorInfo) where
     defined : definition lists.table name.now ≡ Some (choice name.now either)
     defined = let same : bytes_eq name.now name.now ≡ true = (bytes_eq-Decides name.now name.now).1 refl in rw same refl
 
-    list_stands : StandsFor lists shape_at (named name.now) 3
+    list_stands : NodeStandsFor lists shape_at (named name.now) 3
     list_stands = stands_named defined (stands refl)
 
     variant_stands : (tag : ℕ) (x : Span) → 0 + tag < 3 → IsAt m.variants.now (0 + tag) x → (ps : Parts) × (variant_at either tag ≡ Some ps) × PartsStand lists shape_at m x.first x.last 1 ps

@@ -6,7 +6,7 @@ use Rattle.archive_check.specs.declared.format.error.Error.TheVariants.{OutOfMem
 use Rattle.archive_schema.specs.declared.plan.PointeeKind.TheVariants.{One}
 use Rattle.archive_schema.specs.declared.check.Checker.{Checker}
 use Rattle.archive_check.specs.Shape.{Shape}
-use Rattle.archive_check.specs.Reads.{Schema}
+use Rattle.archive_check.specs.Reads.{SchemaTable}
 use Rattle.archive_check.specs.Tour.{root_pointer, Seen}
 use Rattle.archive_check.specs.Trail.{Fault, RootTrips}
 use Rattle.archive_check.specs.Walk.{Enter, enter, RootWalk}
@@ -24,7 +24,7 @@ use Rattle.archive_check.proofs.Checks.FaultyNotWalked.{root_no_walk}
 use Rattle.archive_check.proofs.Checks.RangeLevels.{fresh_levels}
 use Rattle.archive_schema.proofs.plan.Represented.{enter_says}
 
-module _ (s : Schema) (bytes : List ℕ) (limit : Option ℕ) (root : ℕ) (X : Shape) where
+module _ (s : SchemaTable) (bytes : List ℕ) (limit : Option ℕ) (root : ℕ) (X : Shape) where
   -- the root is entered where it is said to lie
   entered_root : {t : ℕ} {last : Seen} {later : ℕ} → Enter s bytes [] limit (length bytes) (root_pointer root X) t 0 empty later last → RootWalk s bytes limit root X
   entered_root (enter {t = t} target above below aligned allowed w) =
@@ -55,7 +55,7 @@ module _ (m : Checker) (j root : ℕ) (r : RangeState) (met : Positions) (sound 
       let here = enter_says s plan.shapes m plan.represents sound None refl 0 (rw (whole.start, whole.end) at v.2) plan.points refl (omega arith) in
       walked s m.bytes.now r.depth root X (entered_root s m.bytes.now r.depth root X here.1)
 
-  refused_trips : (f : Fault) → RootRuns (refused f) → IsWhole r met m.bytes.now → (s : Schema) (X : Shape) → PlanOf m j s X → RootTrips s m.bytes.now r.depth root X f
+  refused_trips : (f : Fault) → RootRuns (refused f) → IsWhole r met m.bytes.now → (s : SchemaTable) (X : Shape) → PlanOf m j s X → RootTrips s m.bytes.now r.depth root X f
   refused_trips f run whole s X plan = enter_says s plan.shapes m plan.represents sound None refl 0 (rw (whole.start, whole.end) at run) plan.points refl (omega arith)
 
   fresh_refuses : (error : Error) → (HasLevels r.depth → (f : Fault) × IsFor f error × (IsFresh r met → RootRuns (refused f))) → IsWhole r met m.bytes.now → PlanRefuses m j r.depth root error

@@ -9,19 +9,19 @@ use Rattle.archive_schema.specs.declared.check.Checker.{Checker}
 use Rattle.archive_schema.specs.declared.plan.growing.NamedNode.{NamedNode}
 use Rattle.archive_check.specs.Shape.{Shape}
 use Rattle.archive_check.specs.Layout.{Layouts, size_of, align_of}
-use Rattle.archive_check.specs.Reads.{Schema}
+use Rattle.archive_check.specs.Reads.{SchemaTable}
 use Rattle.archive_check.specs.Words.Elements.{IsAt}
 use Rattle.archive_schema.specs.plan.SoundPlans.{NodeKindFits}
-use Rattle.archive_schema.specs.plan.Represents.{StandsFor, stands, Made}
+use Rattle.archive_schema.specs.plan.Represents.{NodeStandsFor, stands, Made}
 use Rattle.archive_check.specs.Words.BoundedSizes.{fits}
-use Rattle.archive_schema.specs.plan.PlanGrowth.{PlanLists, Goes, Grows, IsPushed, nothing_to_check, IsMade}
-use Rattle.archive_schema.specs.plan.Compiled.{Follows, Below, NamesSized, SoundTo, Settled, Given, MadeTo, Adds, Compiled}
+use Rattle.archive_schema.specs.plan.PlanGrowth.{PlanLists, IsPrefix, Grows, IsPushed, nothing_to_check, IsMade}
+use Rattle.archive_schema.specs.plan.Compiled.{GrowsInto, Below, NamesSized, SoundTo, Settled, Given, MadeTo, Adds, Compiled}
 use Rattle.archive_schema.specs.plan.NodeCounts.{count_of}
 use Rattle.archive_check.specs.Measure.{measure_of}
 use Rattle.archive_schema.specs.plan.Compilable.{Can, AllKnown}
 use Rattle.archive_schema.specs.plan.CompileQueue.{Wait, Waits, measure_of_waits}
 use Rattle.archive_check.proofs.BoundedSizes.{some_is}
-use Rattle.archive_schema.proofs.plan.GrowingPlans.{at_more, goes_refl, goes_trans, grows_refl, grows_trans, pushed_grows, pushed_count, pushed_at, pushed_is}
+use Rattle.archive_schema.proofs.plan.GrowingPlans.{at_more, prefix_refl, prefix_trans, grows_refl, grows_trans, pushed_grows, pushed_count, pushed_at, pushed_is}
 use Rattle.archive_check.proofs.Elements.{at_behind, at_end, same_at}
 
 -- the shapes of nodes are those of the first, and of the others
@@ -34,11 +34,11 @@ given_second {shapes} {from} {ys} xs to e g = record { are = λ k X h. let i : t
 pub given_last : {shapes : ℕ → Shape} {from : ℕ} {X : Shape} (xs : List Shape) (j : ℕ) → j ≡ from + length xs → Given shapes from (xs ++ X ∷ []) → shapes j ≡ X
 given_last {shapes} {from} {X} xs j e g = ap shapes e ∙ g.are (length xs) X (at_end xs X)
 
-pub knows_settled : {names : List NamedNode} {ws : List Wait} {s : Schema} {shapes : ℕ → Shape} {m : Checker} (done : ℕ) → Settled names ws s shapes m → NamesSized names s.layouts done m
+pub knows_settled : {names : List NamedNode} {ws : List Wait} {s : SchemaTable} {shapes : ℕ → Shape} {m : Checker} (done : ℕ) → Settled names ws s shapes m → NamesSized names s.layouts done m
 knows_settled done t name j e h = t.sized name j e
 
 -- fewer wait
-pub settled_less : {names : List NamedNode} {us ws : List Wait} {s : Schema} {shapes : ℕ → Shape} {m : Checker} → Goes ws us → Settled names us s shapes m → Settled names ws s shapes m
+pub settled_less : {names : List NamedNode} {us ws : List Wait} {s : SchemaTable} {shapes : ℕ → Shape} {m : Checker} → IsPrefix ws us → Settled names us s shapes m → Settled names ws s shapes m
 settled_less g t = record {
   laid_out = t.laid_out;
   waits_sized = λ k x at. t.waits_sized k x (at_more g at);
@@ -47,16 +47,16 @@ settled_less g t = record {
   stand = t.stand;
 }
 
-below_less : {names : List NamedNode} {us ws : List Wait} {m : Checker} → Goes ws us → Below names us m → Below names ws m
+below_less : {names : List NamedNode} {us ws : List Wait} {m : Checker} → IsPrefix ws us → Below names us m → Below names ws m
 below_less g t = record { names_below = t.names_below; waits_below = λ k x at. t.waits_below k x (at_more g at) }
 
 pub adds_refl : (names : List NamedNode) (v : Waits) (a : PlanLists) → Adds names [] v v a a
-adds_refl names v a = record { grows = grows_refl a; waits_go = goes_refl v.items; reserved = λ base r. r; count = omega arith; sound = λ m g w c. c; made = λ s shapes m g t given h. h }
+adds_refl names v a = record { grows = grows_refl a; waits_go = prefix_refl v.items; reserved = λ base r. r; count = omega arith; sound = λ m g w c. c; made = λ s shapes m g t given h. h }
 
 pub adds_trans : {names : List NamedNode} {g h : List Shape} {v w u : Waits} {a b c : PlanLists} → Adds names g v w a b → Adds names h w u b c → Adds names (g ++ h) v u a c
 adds_trans {g = g} {h = h} f k = record {
   grows = grows_trans f.grows k.grows;
-  waits_go = goes_trans f.waits_go k.waits_go;
+  waits_go = prefix_trans f.waits_go k.waits_go;
   reserved = λ base r. k.reserved base (f.reserved base r);
   count = omega (arith, f.count, k.count, length-append g h);
   sound = λ m r w c. k.sound m r w (f.sound m (grows_trans k.grows r) (below_less k.waits_go w) c);
@@ -75,7 +75,7 @@ adds_same f r e = record {
 }
 
 -- one node more
-module _ {b c : PlanLists} {size : Option ℕ} {align j : ℕ} {kind : NodeKind} (p : IsPushed b c size align kind j) (m : Checker) (g : Follows c m) where
+module _ {b c : PlanLists} {size : Option ℕ} {align j : ℕ} {kind : NodeKind} (p : IsPushed b c size align kind j) (m : Checker) (g : GrowsInto c m) where
   new_node : (i : ℕ) (node : Node) → i < length c.nodes → length b.nodes ≤ i → IsAt m.nodes.now i node → (i ≡ length b.nodes) × (node ≡ p.node)
   new_node i node lt le at =
       let e : i ≡ length b.nodes = omega (arith, lt, le, pushed_count p) in
@@ -92,7 +92,7 @@ module _ {b c : PlanLists} {size : Option ℕ} {align j : ℕ} {kind : NodeKind}
         (cases_lt i (length b.nodes));
   }
 
-  push_made : {s : Schema} {shapes : ℕ → Shape} (X : Shape) → shapes (length b.nodes) ≡ X → size ≡ fits (size_of s.layouts X) → ((z : ℕ) → size ≡ Some z → Made s shapes m kind X)
+  push_made : {s : SchemaTable} {shapes : ℕ → Shape} (X : Shape) → shapes (length b.nodes) ≡ X → size ≡ fits (size_of s.layouts X) → ((z : ℕ) → size ≡ Some z → Made s shapes m kind X)
       → (size ≡ Some 0 → kind ≡ Free) → MadeTo s shapes m (length b.nodes) → MadeTo s shapes m (length c.nodes)
   push_made {s} {shapes} X is lay make empty k = record {
     made = λ i node z lt at e. ⊎_elim
@@ -111,9 +111,9 @@ module _ {b c : PlanLists} {size : Option ℕ} {align j : ℕ} {kind : NodeKind}
 
 module _ {names : List NamedNode} {gives : List Shape} {v w : Waits} {a b c : PlanLists} (f : Adds names gives v w a b) where
   pub adds_push : {size : Option ℕ} {align j : ℕ} {kind : NodeKind} (X : Shape) → IsPushed b c size align kind j
-      → ((m : Checker) → Follows c m → Below names w.items m → (z : ℕ) → size ≡ Some z → NodeKindFits m (length b.nodes) z kind)
-      → ((s : Schema) (shapes : ℕ → Shape) (m : Checker) → Follows c m → Settled names w.items s shapes m → size ≡ fits (size_of s.layouts X))
-      → ((s : Schema) (shapes : ℕ → Shape) (m : Checker) → Follows c m → Settled names w.items s shapes m → Given shapes (length a.nodes) gives → MadeTo s shapes m (length b.nodes) → (z : ℕ) → size ≡ Some z → Made s shapes m kind X)
+      → ((m : Checker) → GrowsInto c m → Below names w.items m → (z : ℕ) → size ≡ Some z → NodeKindFits m (length b.nodes) z kind)
+      → ((s : SchemaTable) (shapes : ℕ → Shape) (m : Checker) → GrowsInto c m → Settled names w.items s shapes m → size ≡ fits (size_of s.layouts X))
+      → ((s : SchemaTable) (shapes : ℕ → Shape) (m : Checker) → GrowsInto c m → Settled names w.items s shapes m → Given shapes (length a.nodes) gives → MadeTo s shapes m (length b.nodes) → (z : ℕ) → size ≡ Some z → Made s shapes m kind X)
       → (size ≡ Some 0 → kind ≡ Free)
       → Adds names (gives ++ X ∷ []) v w a c
   adds_push X p sound lay make empty = record {
@@ -130,9 +130,9 @@ module _ {names : List NamedNode} {gives : List Shape} {v w : Waits} {a b c : Pl
 
   pub compiled_push : {done : ℕ} {size : Option ℕ} {align j : ℕ} {kind : NodeKind} (X : Shape) → IsPushed b c size align kind j → length gives + 1 ≡ count_of X → measure_of_waits w.items ≤ measure_of_waits v.items + measure_of X
       → (AllKnown names v.items → Can names done X → AllKnown names w.items)
-      → ((m : Checker) (l : Layouts) → Follows c m → NamesSized names l done m → (size ≡ fits (size_of l X)) × (align ≡ align_of l X))
-      → ((m : Checker) → Follows c m → Below names w.items m → (z : ℕ) → size ≡ Some z → NodeKindFits m (length b.nodes) z kind)
-      → ((s : Schema) (shapes : ℕ → Shape) (m : Checker) → Follows c m → Settled names w.items s shapes m → Given shapes (length a.nodes) gives → MadeTo s shapes m (length b.nodes) → (z : ℕ) → size ≡ Some z → Made s shapes m kind X)
+      → ((m : Checker) (l : Layouts) → GrowsInto c m → NamesSized names l done m → (size ≡ fits (size_of l X)) × (align ≡ align_of l X))
+      → ((m : Checker) → GrowsInto c m → Below names w.items m → (z : ℕ) → size ≡ Some z → NodeKindFits m (length b.nodes) z kind)
+      → ((s : SchemaTable) (shapes : ℕ → Shape) (m : Checker) → GrowsInto c m → Settled names w.items s shapes m → Given shapes (length a.nodes) gives → MadeTo s shapes m (length b.nodes) → (z : ℕ) → size ≡ Some z → Made s shapes m kind X)
       → (size ≡ Some 0 → kind ≡ Free)
       → Compiled names done X v w a c j
   compiled_push {done = done} {j = j} X p count few known lay sound make empty =
@@ -170,10 +170,10 @@ some_positive (suc z) e n = omega arith
 module _ {names : List NamedNode} {gives : List Shape} {v w : Waits} {a b c : PlanLists} (f : Adds names gives v w a b) where
   pub compiled_made : {done : ℕ} {size : Option ℕ} {align j : ℕ} {free : Bool} {kind : NodeKind} (X : Shape) → IsMade b c size align free kind j → length gives + 1 ≡ count_of X → measure_of_waits w.items ≤ measure_of_waits v.items + measure_of X
       → (AllKnown names v.items → Can names done X → AllKnown names w.items)
-      → ((m : Checker) (l : Layouts) → Follows c m → NamesSized names l done m → (size ≡ fits (size_of l X)) × (align ≡ align_of l X))
-      → ((m : Checker) → Follows c m → Below names w.items m → (z : ℕ) → size ≡ Some z → 0 < z → NodeKindFits m (length b.nodes) z kind)
-      → ((s : Schema) (shapes : ℕ → Shape) (m : Checker) → Follows c m → Settled names w.items s shapes m → Given shapes (length a.nodes) gives → MadeTo s shapes m (length b.nodes) → (z : ℕ) → size ≡ Some z → (free ≡ true) ⊎ (z ≡ 0) → Made s shapes m Free X)
-      → ((s : Schema) (shapes : ℕ → Shape) (m : Checker) → Follows c m → Settled names w.items s shapes m → Given shapes (length a.nodes) gives → (z : ℕ) → size ≡ Some z → 0 < z → Made s shapes m kind X)
+      → ((m : Checker) (l : Layouts) → GrowsInto c m → NamesSized names l done m → (size ≡ fits (size_of l X)) × (align ≡ align_of l X))
+      → ((m : Checker) → GrowsInto c m → Below names w.items m → (z : ℕ) → size ≡ Some z → 0 < z → NodeKindFits m (length b.nodes) z kind)
+      → ((s : SchemaTable) (shapes : ℕ → Shape) (m : Checker) → GrowsInto c m → Settled names w.items s shapes m → Given shapes (length a.nodes) gives → MadeTo s shapes m (length b.nodes) → (z : ℕ) → size ≡ Some z → (free ≡ true) ⊎ (z ≡ 0) → Made s shapes m Free X)
+      → ((s : SchemaTable) (shapes : ℕ → Shape) (m : Checker) → GrowsInto c m → Settled names w.items s shapes m → Given shapes (length a.nodes) gives → (z : ℕ) → size ≡ Some z → 0 < z → Made s shapes m kind X)
       → Compiled names done X v w a c j
   compiled_made {size = size} {free = free} {kind = kind} X p count few known lay sound make_free make = compiled_push f X p.pushed count few known lay
       (λ m g w z e. made_node_kind free size kind p.made p.made_is (λ q. NodeKindFits m (length b.nodes) z q) (λ h. tt) (λ n. sound m g w z e (some_positive z e n)))
@@ -183,9 +183,9 @@ module _ {names : List NamedNode} {gives : List Shape} {v w : Waits} {a b c : Pl
       (λ e. made_node_kind free size kind p.made p.made_is (λ q. q ≡ Free) (λ h. refl) (λ n. absurd (n e)))
 
 -- an expression's node stands for it
-pub stands_of : {names : List NamedNode} {done : ℕ} {X : Shape} {v w : Waits} {a b : PlanLists} {j : ℕ} {s : Schema} {shapes : ℕ → Shape} {m : Checker}
-    → (c : Compiled names done X v w a b j) → Settled names w.items s shapes m → Given shapes (length a.nodes) c.gives → StandsFor s shapes X j
+pub stands_of : {names : List NamedNode} {done : ℕ} {X : Shape} {v w : Waits} {a b : PlanLists} {j : ℕ} {s : SchemaTable} {shapes : ℕ → Shape} {m : Checker}
+    → (c : Compiled names done X v w a b j) → Settled names w.items s shapes m → Given shapes (length a.nodes) c.gives → NodeStandsFor s shapes X j
 stands_of {j = j} {s = s} {shapes = shapes} c t given = ⊎_elim
-    (λ h. subst (λ Y. StandsFor s shapes Y j) (sym h.1) (t.stand h.0 j h.2))
+    (λ h. subst (λ Y. NodeStandsFor s shapes Y j) (sym h.1) (t.stand h.0 j h.2))
     (λ h. stands (h.2 shapes given))
     c.root

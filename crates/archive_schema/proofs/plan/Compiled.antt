@@ -10,7 +10,7 @@ use Rattle.archive_schema.specs.declared.plan.growing.LaidRange.{LaidRange}
 use Rattle.archive_check.specs.Shape.{Name, Kind, Shape, leaf, parts, choice, array, named, Parts, Variants}
 use Rattle.archive_check.specs.Layout.{Layouts, up, size_of, align_of, kind_size, kind_align, parts_end, variants_end}
 use Rattle.archive_check.specs.Words.PlainData.{is_plain_kind}
-use Rattle.archive_check.specs.Reads.{Schema}
+use Rattle.archive_check.specs.Reads.{SchemaTable}
 use Rattle.archive_check.specs.Walk.{walk_parts, walk_array, walk_none}
 use Rattle.archive_check.specs.Expressions.{kind_of}
 use Rattle.archive_check.specs.Words.Elements.{IsAt, span}
@@ -20,11 +20,11 @@ use Rattle.archive_schema.specs.plan.SoundPlans.{PartsWithin, SpanFits, ArrayFit
 use Rattle.archive_schema.specs.plan.Represents.{Made, made_free, made_leaf, made_record, made_choice, made_array}
 use Rattle.archive_schema.specs.plan.CompileQueue.{Waits}
 use Rattle.archive_schema.specs.plan.PlanGrowth.{node_of, PlanLists, IsMade}
-use Rattle.archive_schema.specs.plan.Compiled.{Follows, NamesSized, Settled, Given, MadeTo, Compiled, IsPartWithin, CompiledParts, CompiledVariants}
+use Rattle.archive_schema.specs.plan.Compiled.{GrowsInto, NamesSized, Settled, Given, MadeTo, Compiled, IsPartWithin, CompiledParts, CompiledVariants}
 use Rattle.archive_schema.proofs.plan.Compilable.{can_parts, can_choice, can_array}
 use Rattle.archive_check.proofs.Checks.PlainRuns.{plain_walk}
 use Rattle.archive_check.proofs.BoundedSizes.{fits_some, some_is, rounded_fits, rounded_some, times_none, times_fits}
-use Rattle.archive_schema.proofs.plan.GrowingPlans.{at_more, goes_longer, grows_trans, pushed_grows}
+use Rattle.archive_schema.proofs.plan.GrowingPlans.{at_more, prefix_longer, grows_trans, pushed_grows}
 use Rattle.archive_check.proofs.Elements.{same_at, at_dropped, at_taken}
 use Rattle.archive_schema.proofs.plan.AddedNodes.{knows_settled, adds_refl, compiled_made, stands_of}
 use Rattle.archive_schema.proofs.plan.FreeWalks.{kind_few, empty_plain, AnyBytes, any_stands, any_parts, any_run}
@@ -70,7 +70,7 @@ pub span_wider : {m : Checker} {i k z y a b : ℕ} → i ≤ k → z ≤ y → S
 span_wider {m} {i} {k} {z} {y} {a} {b} h w s = record { last = s.last; few = s.few; within = within_wider m i k z y h w (span m.parts.now a b) s.within }
 
 module _ {names : List NamedNode} {done : ℕ} {v w : Waits} {a b : PlanLists} where
-  parts_are_free : {ps : Parts} {laid : LaidRange} {s : Schema} {shapes : ℕ → Shape} {m : Checker} {z e : ℕ} → (f : CompiledParts names done 0 ps v w a b laid) → Follows b m → MadeTo s shapes m (length b.nodes)
+  parts_are_free : {ps : Parts} {laid : LaidRange} {s : SchemaTable} {shapes : ℕ → Shape} {m : Checker} {z e : ℕ} → (f : CompiledParts names done 0 ps v w a b laid) → GrowsInto b m → MadeTo s shapes m (length b.nodes)
       → laid.end ≡ Some e → e ≤ z → (laid.free ≡ true) ⊎ (z ≡ 0)
       → (k : ℕ) (x : PlanPart) → laid.first ≤ k → k < laid.last → IsAt m.parts.now k x → IsNode m x.node Free × (x.node < length b.nodes)
   parts_are_free {m = m} f g made end le (inl h) k x from to at = (f.parts_free h m g k x from to at, (f.parts_fit m g _ end k x from to at).earlier)
@@ -92,7 +92,7 @@ module _ {names : List NamedNode} {done : ℕ} {v w : Waits} {a b c : PlanLists}
       (es ∙ ap (λ o. rounded o laid.align) k.0 ∙ rounded_fits (parts_end l 0 ps) laid.align f.positive ∙ ap (λ x. fits (up (parts_end l 0 ps) x)) k.1, k.1))
       (λ m g w z e pos. let q = split z e in (
         pos,
-        span_within (omega (arith, f.last, goes_longer grown.parts, goes_longer g.parts)) f.few
+        span_within (omega (arith, f.last, prefix_longer grown.parts, prefix_longer g.parts)) f.few
             (λ k x from to at. fits_wider (omega arith) q.2 (f.parts_fit m (grows_trans grown g) q.0 q.1 k x from to at)),
       ))
       (λ s shapes m g t given k z e h. let q = split z e in
@@ -115,7 +115,7 @@ module _ {names : List NamedNode} {done : ℕ} {v w : Waits} {a b c : PlanLists}
       (λ m g w z e pos. let q = split z e in
       record {
         tag = pos;
-        last = omega (arith, f.last, goes_longer grown.variants, goes_longer g.variants);
+        last = omega (arith, f.last, prefix_longer grown.variants, prefix_longer g.variants);
         few = f.few;
         fits = λ k x from to at. span_wider (omega arith) q.2 (f.variants_fit m (grows_trans grown g) q.0 q.1 k x from to at);
       })
@@ -124,15 +124,15 @@ module _ {names : List NamedNode} {done : ℕ} {v w : Waits} {a b c : PlanLists}
 
 -- elements
 module _ {names : List NamedNode} {done : ℕ} {v w : Waits} {a b : PlanLists} {X : Shape} {element : ℕ} (f : Compiled names done X v w a b element) {here : Node} (at : IsAt b.nodes element here) where
-  element_sized : (m : Checker) (l : Layouts) → Follows b m → NamesSized names l done m → (here.size ≡ fits (size_of l X)) × (here.align ≡ align_of l X)
+  element_sized : (m : Checker) (l : Layouts) → GrowsInto b m → NamesSized names l done m → (here.size ≡ fits (size_of l X)) × (here.align ≡ align_of l X)
   element_sized m l g k = let q = f.lays m l g k in let same = same_at (at_more g.nodes at) q.at in (ap (λ (w : Node). w.size) same ∙ q.size_is, ap (λ (w : Node). w.align) same ∙ q.align_is)
 
-  array_fits : (m : Checker) → Follows b m → (size : Option ℕ) (n z : ℕ) → here.size ≡ size → n < 18446744073709551616 → times size n ≡ Some z → 0 < z → ArrayFits m (length b.nodes) z n element
+  array_fits : (m : Checker) → GrowsInto b m → (size : Option ℕ) (n z : ℕ) → here.size ≡ size → n < 18446744073709551616 → times size n ≡ Some z → 0 < z → ArrayFits m (length b.nodes) z n element
   array_fits m g None zero z i few e pos = absurd (let same : 0 ≡ z = cc in omega (arith, same))
   array_fits m g None (suc n) z i few e pos = absurd (let q = times_none (suc n) (omega arith) in cc)
   array_fits m g (Some y) n z i few e pos = record { element = y; earlier = at.below; few = few; takes = record { node = here; at = at_more g.nodes at; size_is = i }; within = omega (arith, mul_comm n y, some_is e) }
 
-  element_free : {s : Schema} {shapes : ℕ → Shape} {m : Checker} → Follows b m → Settled names w.items s shapes m → Given shapes (length a.nodes) f.gives → MadeTo s shapes m (length b.nodes)
+  element_free : {s : SchemaTable} {shapes : ℕ → Shape} {m : Checker} → GrowsInto b m → Settled names w.items s shapes m → Given shapes (length a.nodes) f.gives → MadeTo s shapes m (length b.nodes)
       → (size : Option ℕ) (free : Bool) (n z : ℕ) → here.size ≡ size → times size n ≡ Some z → (free ≡ true → here.kind ≡ Free) → (free ≡ true) ⊎ (z ≡ 0) → Made s shapes m Free (array n X)
   element_free g t given k size free zero z i e kind h = made_free (λ bytes pending depth stop p start seen le. walk_array walk_none)
   element_free g t given k None free (suc n) z i e kind h = absurd (let q = times_none (suc n) (omega arith) in cc)
@@ -144,7 +144,7 @@ module _ {names : List NamedNode} {done : ℕ} {v w : Waits} {a b : PlanLists} {
       let any_element : AnyBytes s X (size_of s.layouts X) = subst (λ w. AnyBytes s X w) (sym is_size) any in
       made_free (λ bytes pending depth stop p start seen le. walk_array (any_run any_element (suc n) bytes pending depth stop p start seen le))
 
-  element_takes : {s : Schema} {shapes : ℕ → Shape} {m : Checker} → Follows b m → Settled names w.items s shapes m → (size : Option ℕ) (n z : ℕ) → here.size ≡ size → times size n ≡ Some z → 0 < z → Takes m element (size_of s.layouts X)
+  element_takes : {s : SchemaTable} {shapes : ℕ → Shape} {m : Checker} → GrowsInto b m → Settled names w.items s shapes m → (size : Option ℕ) (n z : ℕ) → here.size ≡ size → times size n ≡ Some z → 0 < z → Takes m element (size_of s.layouts X)
   element_takes {s} {shapes} {m} g t None zero z i e pos = absurd (let same : 0 ≡ z = cc in omega (arith, same))
   element_takes {s} {shapes} {m} g t None (suc n) z i e pos = absurd (let q = times_none (suc n) (omega arith) in cc)
   element_takes {s} {shapes} {m} g t (Some y) n z i e pos =

@@ -8,14 +8,14 @@ use Rattle.archive_check.specs.Expressions.{shape_of}
 use Rattle.archive_check.specs.Measure.{measure_of}
 use Rattle.archive_schema.specs.plan.NodeCounts.{count_of}
 use Rattle.archive_check.specs.Words.Elements.{IsAt}
-use Rattle.archive_schema.specs.plan.PlanGrowth.{node_of, PlanLists, no_lists, Goes}
+use Rattle.archive_schema.specs.plan.PlanGrowth.{node_of, PlanLists, no_lists, IsPrefix}
 use Rattle.archive_schema.specs.plan.CompileQueue.{Wait, Waits, no_waits, waits_in, wait_shapes, measure_of_waits}
 use Rattle.archive_schema.specs.plan.Compilable.{Can}
 use Rattle.std.proofs.lemmas.List.{take-append-drop, length-take-le}
 use Rattle.archive_schema.specs.plan.Compiled.{Compiled}
 use Rattle.archive_schema.specs.plan.NodeNumbers.{def_shapes, start_of, IsDefinitionNode}
 use Rattle.archive_schema.specs.plan.Planned.{CompiledFrom, Chained, CanFinish, Finishes, FinishesTo}
-use Rattle.archive_schema.proofs.plan.GrowingPlans.{at_less, at_more, goes_longer, grows_refl, grows_trans}
+use Rattle.archive_schema.proofs.plan.GrowingPlans.{at_less, at_more, prefix_longer, grows_refl, grows_trans}
 use Rattle.archive_check.proofs.Elements.{at_last, at_end}
 use Rattle.archive_schema.proofs.plan.AddedNodes.{given_first, given_second, adds_refl, adds_trans}
 use Rattle.archive_schema.proofs.plan.NodeNumbers.{def_count, def_shapes-append, start_next, start_prefix, node_of_first}
@@ -114,7 +114,7 @@ pub waits_count : (xs : List Waiting) → length (waits_in xs) ≡ length xs
 waits_count [] = refl
 waits_count (x ∷ xs) = ap suc (waits_count xs)
 
-pub later_take : {vs ws : List Wait} (i : ℕ) (x : Wait) → Goes vs ws → IsAt vs i x → take (i + 1) ws ≡ take i vs ++ x ∷ []
+pub later_take : {vs ws : List Wait} (i : ℕ) (x : Wait) → IsPrefix vs ws → IsAt vs i x → take (i + 1) ws ≡ take i vs ++ x ∷ []
 later_take {vs} {ws} i x g at = ap (take (i + 1)) g.is ∙ take_more vs g.more (i + 1) (omega (arith, at.below)) ∙ take_next vs i x at
 
 pub waits_next : {names : List NamedNode} {base : ℕ} {v w : Waits} {b c : PlanLists} {j : ℕ} (Xs : List Shape) (i : ℕ) (x : Wait) → Chained names (Xs ++ wait_shapes (take i v.items)) base v b → IsAt v.items i x
@@ -169,7 +169,7 @@ pub finishes_next : {names : List NamedNode} {u v w : Waits} {a b c : PlanLists}
 finishes_next i x r at f = record {
   can_to = λ c. let o = r.can_to c in record {
     known = f.known o.known (record { known = (o.known.each i x at).shape_known; placed = λ name j h e. o.below name j e });
-    below = λ name j e. omega (arith, o.below name j e, goes_longer f.adds.grows.nodes);
+    below = λ name j e. omega (arith, o.below name j e, prefix_longer f.adds.grows.nodes);
   };
   grows_to = grows_trans r.grows_to f.adds.grows;
   chained_to = λ Xs base k. waits_next Xs i x (r.chained_to Xs base k) at f;

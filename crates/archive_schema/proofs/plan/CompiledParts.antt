@@ -12,20 +12,20 @@ use Rattle.archive_schema.specs.declared.plan.growing.LaidVariants.{LaidVariants
 use Rattle.archive_schema.specs.declared.plan.growing.LaidRange.{LaidRange}
 use Rattle.archive_check.specs.Shape.{Shape, Parts, no_part, part, Variants, no_variant, variant, variant_at}
 use Rattle.archive_check.specs.Layout.{Layouts, up, size_of, align_of, parts_end, parts_align, variants_end}
-use Rattle.archive_check.specs.Reads.{Schema}
+use Rattle.archive_check.specs.Reads.{SchemaTable}
 use Rattle.archive_check.specs.Words.Elements.{IsAt}
 use Rattle.archive_schema.specs.check.Runs.{IsNode, Takes}
 use Rattle.archive_schema.specs.plan.SoundPlans.{SpanFits}
-use Rattle.archive_schema.specs.plan.Represents.{StandsFor, PartsStand, parts_over, parts_more}
+use Rattle.archive_schema.specs.plan.Represents.{NodeStandsFor, PartsStand, parts_over, parts_more}
 use Rattle.archive_check.specs.Words.BoundedSizes.{fits, rounded}
 use Rattle.archive_schema.specs.plan.BoundedSizes.{sum_of, greater_of}
 use Rattle.archive_schema.specs.plan.CompileQueue.{Waits}
 use Rattle.archive_schema.specs.plan.PlanGrowth.{PlanLists, IsPartAdded, IsVariantAdded, PartsLaid, VariantsLaid}
 use Rattle.archive_schema.specs.plan.Shallow.{is_free}
-use Rattle.archive_schema.specs.plan.Compiled.{Follows, NamesSized, Settled, Given, Compiled, IsPartWithin, RowIs, CompiledParts, IsVariant, SpansAre, CompiledVariants}
+use Rattle.archive_schema.specs.plan.Compiled.{GrowsInto, NamesSized, Settled, Given, Compiled, IsPartWithin, RowIs, CompiledParts, VariantStands, SpansAre, CompiledVariants}
 use Rattle.archive_check.proofs.BoundedSizes.{fits_some, some_is, rounded_fits, rounded_some}
 use Rattle.archive_schema.proofs.plan.BoundedSizes.{sum_fits, sum_some, greater_fits, greater_some}
-use Rattle.archive_schema.proofs.plan.GrowingPlans.{at_more, at_less, goes_longer, grows_trans, extended_grows, part_at, part_of, span_of}
+use Rattle.archive_schema.proofs.plan.GrowingPlans.{at_more, at_less, prefix_longer, grows_trans, extended_grows, part_at, part_of, span_of}
 use Rattle.archive_check.proofs.Elements.{at_last, at_end, same_at}
 use Rattle.archive_schema.proofs.plan.AddedNodes.{given_first, given_second, settled_less, knows_settled, adds_refl, adds_trans, adds_same, stands_of}
 use Rattle.archive_schema.proofs.plan.Compilable.{can_first, can_later, can_variant, can_others}
@@ -73,7 +73,7 @@ module _ {names : List NamedNode} {done start : ℕ} {all rest : Parts} {v w u :
       let old = rounded_some row.extent.end here.align s.0 here.positive (sym p.offset_is ∙ s.2) in
       (s.0, s.1, old.0, s.2, s.3, s.4, old.1, old.2, old.3, p.begins s.0 s.2)
 
-  here_sized : (m : Checker) (l : Layouts) → Follows c m → NamesSized names l done m → (here.size ≡ fits (size_of l X)) × (here.align ≡ align_of l X)
+  here_sized : (m : Checker) (l : Layouts) → GrowsInto c m → NamesSized names l done m → (here.size ≡ fits (size_of l X)) × (here.align ≡ align_of l X)
   here_sized m l g k = let q = f.lays m l g k in let same = same_at (at_more g.nodes at) q.at in (ap (λ (w : Node). w.size) same ∙ q.size_is, ap (λ (w : Node). w.align) same ∙ q.align_is)
 
   -- a part of the longer row is an old one, or the new one
@@ -82,7 +82,7 @@ module _ {names : List NamedNode} {done start : ℕ} {all rest : Parts} {v w u :
       let i : IsAt (row.parts.items ++ p.last ∷ []) k x = subst (λ t. IsAt t k x) p.parts_are h in
       ⊎_elim (λ lt. inl (at_less (record { more = p.last ∷ []; is = refl }) lt i)) (λ q. inr q.1) (at_last row.parts.items p.last x k i)
 
-  next_fits : (m : Checker) → Follows c m → (e : ℕ) → next.extent.end ≡ Some e → (k : ℕ) (x : PlanPart) → IsAt next.parts.items k x → IsPartWithin m (length c.nodes) e x
+  next_fits : (m : Checker) → GrowsInto c m → (e : ℕ) → next.extent.end ≡ Some e → (k : ℕ) (x : PlanPart) → IsAt next.parts.items k x → IsPartWithin m (length c.nodes) e x
   next_fits m g e q k x h =
       let s = next_split e q in
       ⊎_elim
@@ -91,7 +91,7 @@ module _ {names : List NamedNode} {done start : ℕ} {all rest : Parts} {v w u :
       (record { size = s.1; earlier = omega (arith, p.node_is, f.below); takes = record { node = here; at = subst (λ i. IsAt m.nodes.now i here) (sym p.node_is) (at_more g.nodes at); size_is = s.4 }; within = omega (arith, s.5, s.9) }))
       (row_cases k x h)
 
-  next_free : next.free ≡ true → (m : Checker) → Follows c m → (k : ℕ) (x : PlanPart) → IsAt next.parts.items k x → IsNode m x.node Free
+  next_free : next.free ≡ true → (m : Checker) → GrowsInto c m → (k : ℕ) (x : PlanPart) → IsAt next.parts.items k x → IsNode m x.node Free
   next_free h m g k x i =
       let w = both_free row.free here.kind (sym p.free_is ∙ h) in
       ⊎_elim
@@ -99,7 +99,7 @@ module _ {names : List NamedNode} {done start : ℕ} {all rest : Parts} {v w u :
       (λ j. subst (λ (t : PlanPart). IsNode m t.node Free) (sym j) (record { node = here; at = subst (λ i. IsAt m.nodes.now i here) (sym p.node_is) (at_more g.nodes at); kind_is = w.1 }))
       (row_cases k x i)
 
-  next_lays : (m : Checker) (l : Layouts) → Follows c m → NamesSized names l done m
+  next_lays : (m : Checker) (l : Layouts) → GrowsInto c m → NamesSized names l done m
       → ((at : ℕ) × (next.extent.end ≡ fits at) × (parts_end l start all ≡ parts_end l at rest)) × (parts_align l all ≡ max next.extent.align (parts_align l rest))
   next_lays m l g n =
       let before = r.lays m l (grows_trans f.adds.grows g) n in
@@ -113,7 +113,7 @@ module _ {names : List NamedNode} {done start : ℕ} {all rest : Parts} {v w u :
         omega (arith, before.1, al, p.align_is),
       )
 
-  next_stand : (s : Schema) (shapes : ℕ → Shape) (m : Checker) → Follows c m → Settled names u.items s shapes m → Given shapes (length a.nodes) (r.gives ++ f.gives)
+  next_stand : (s : SchemaTable) (shapes : ℕ → Shape) (m : Checker) → GrowsInto c m → Settled names u.items s shapes m → Given shapes (length a.nodes) (r.gives ++ f.gives)
       → (e : ℕ) → next.extent.end ≡ Some e → (first last : ℕ) → ((k : ℕ) (x : PlanPart) → IsAt next.parts.items k x → IsAt m.parts.now (first + k) x) → first + length next.parts.items ≤ last
       → PartsStand s shapes m (first + length next.parts.items) last e rest → PartsStand s shapes m first last start all
   next_stand s shapes m g t given e q first last placed room tail =
@@ -124,7 +124,7 @@ module _ {names : List NamedNode} {done start : ℕ} {all rest : Parts} {v w u :
       let size : size_of s.layouts X ≡ w.1 = some_is (sym lays.0 ∙ w.4) in
       let offset : w.0 ≡ up w.2 (align_of s.layouts X) = w.8 ∙ ap (λ x. up w.2 x) lays.1 in
       let there : IsAt m.parts.now (first + k) p.last = placed k p.last (subst (λ xs. IsAt xs k p.last) (sym p.parts_are) (at_end row.parts.items p.last)) in
-      let stands : StandsFor s shapes X p.last.node = subst (λ i. StandsFor s shapes X i) (sym p.node_is) (stands_of f t (given_second r.gives (length b.nodes) r.adds.count given)) in
+      let stands : NodeStandsFor s shapes X p.last.node = subst (λ i. NodeStandsFor s shapes X i) (sym p.node_is) (stands_of f t (given_second r.gives (length b.nodes) r.adds.count given)) in
       let takes : Takes m p.last.node (size_of s.layouts X) = record { node = here; at = subst (λ i. IsAt m.nodes.now i here) (sym p.node_is) (at_more g.nodes at); size_is = w.4 ∙ ap Some (sym size) } in
       let behind : first + length next.parts.items ≡ first + k + 1 = omega (arith, longer) in
       let ends : e ≡ up w.2 (align_of s.layouts X) + size_of s.layouts X = sym w.5 ∙ ap₂ (λ x y. x + y) offset (sym size) in
@@ -155,10 +155,10 @@ module _ {names : List NamedNode} {done start : ℕ} {all : Parts} {v w : Waits}
   laid_length : laid.last ≡ laid.first + length row.parts.items
   laid_length = omega (arith, p.last_is, p.first_is, ap length p.extended.parts_are, length-append c.parts row.parts.items)
 
-  laid_part : (m : Checker) → Follows d m → (k : ℕ) (x : PlanPart) → laid.first ≤ k → k < laid.last → IsAt m.parts.now k x → IsAt row.parts.items (k - length c.parts) x
+  laid_part : (m : Checker) → GrowsInto d m → (k : ℕ) (x : PlanPart) → laid.first ≤ k → k < laid.last → IsAt m.parts.now k x → IsAt row.parts.items (k - length c.parts) x
   laid_part m g k x from to at = part_of p.extended k x (omega (arith, from, p.first_is)) (at_less g.parts (omega (arith, to, p.last_is)) at)
 
-  laid_at : (m : Checker) → Follows d m → (k : ℕ) (x : PlanPart) → IsAt row.parts.items k x → IsAt m.parts.now (laid.first + k) x
+  laid_at : (m : Checker) → GrowsInto d m → (k : ℕ) (x : PlanPart) → IsAt row.parts.items k x → IsAt m.parts.now (laid.first + k) x
   laid_at m g k x at = let e : length c.parts + k ≡ laid.first + k = omega (arith, p.first_is) in subst (λ i. IsAt m.parts.now i x) e (at_more g.parts (part_at p.extended k x at))
 
   -- the row stands behind the plan's parts
@@ -211,21 +211,21 @@ module _ {names : List NamedNode} {done : ℕ} {all rest : Variants} {v w u : Wa
       let i : IsAt (spans.items.items ++ p.span ∷ []) k x = subst (λ t. IsAt t k x) p.items_are h in
       ⊎_elim (λ lt. inl (at_less (record { more = p.span ∷ []; is = refl }) lt i)) (λ q. inr q) (at_last spans.items.items p.span x k i)
 
-  spans_fit : (m : Checker) → Follows c m → (e : ℕ) → next.extent.end ≡ Some e → (k : ℕ) (x : Span) → IsAt next.items.items k x → SpanFits m (length c.nodes) e x.first x.last
+  spans_fit : (m : Checker) → GrowsInto c m → (e : ℕ) → next.extent.end ≡ Some e → (k : ℕ) (x : Span) → IsAt next.items.items k x → SpanFits m (length c.nodes) e x.first x.last
   spans_fit m g e q k x h =
       let s = spans_split e q in
       ⊎_elim
       (λ i. span_wider (omega (arith, f.adds.count)) (omega (arith, s.4)) (r.row_fits m (grows_trans f.adds.grows g) s.0 s.2 k x i))
       (λ i.
-      let fit : SpanFits m (length c.nodes) e laid.first laid.last = span_within (omega (arith, f.last, goes_longer g.parts)) f.few
+      let fit : SpanFits m (length c.nodes) e laid.first laid.last = span_within (omega (arith, f.last, prefix_longer g.parts)) f.few
       (λ k x from to at. fits_wider (omega arith) (omega (arith, s.4)) (f.parts_fit m g s.1 s.3 k x from to at)) in
       let there : SpanFits m (length c.nodes) e p.span.first p.span.last =
       subst (λ y. SpanFits m (length c.nodes) e p.span.first y) (sym p.last_is) (subst (λ y. SpanFits m (length c.nodes) e y laid.last) (sym p.first_is) fit) in
       subst (λ (t : Span). SpanFits m (length c.nodes) e t.first t.last) (sym i.1) there)
       (spans_cases k x h)
 
-  spans_stand : (s : Schema) (shapes : ℕ → Shape) (m : Checker) → Follows c m → Settled names u.items s shapes m → Given shapes (length a.nodes) (r.gives ++ f.gives)
-      → (e : ℕ) → next.extent.end ≡ Some e → (k : ℕ) (x : Span) → IsAt next.items.items k x → IsVariant s shapes m all k x
+  spans_stand : (s : SchemaTable) (shapes : ℕ → Shape) (m : Checker) → GrowsInto c m → Settled names u.items s shapes m → Given shapes (length a.nodes) (r.gives ++ f.gives)
+      → (e : ℕ) → next.extent.end ≡ Some e → (k : ℕ) (x : Span) → IsAt next.items.items k x → VariantStands s shapes m all k x
   spans_stand s shapes m g t given e q k x h =
       let w = spans_split e q in
       ⊎_elim
@@ -262,7 +262,7 @@ module _ {names : List NamedNode} {done : ℕ} {all : Variants} {v w : Waits} {a
   spans_length : laid.last ≡ laid.first + length spans.items.items
   spans_length = omega (arith, p.last_is, p.first_is, ap length p.extended.variants_are, length-append c.variants spans.items.items)
 
-  laid_span : (m : Checker) → Follows d m → (k : ℕ) (x : Span) → laid.first ≤ k → k < laid.last → IsAt m.variants.now k x → IsAt spans.items.items (k - length c.variants) x
+  laid_span : (m : Checker) → GrowsInto d m → (k : ℕ) (x : Span) → laid.first ≤ k → k < laid.last → IsAt m.variants.now k x → IsAt spans.items.items (k - length c.variants) x
   laid_span m g k x from to at = span_of p.extended k x (omega (arith, from, p.first_is)) (at_less g.variants (omega (arith, to, p.last_is)) at)
 
   -- the variants stand behind the plan's

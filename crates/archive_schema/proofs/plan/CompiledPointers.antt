@@ -12,7 +12,7 @@ use Rattle.archive_schema.specs.declared.check.Checker.{Checker}
 use Rattle.archive_schema.specs.declared.plan.growing.NamedNode.{NamedNode}
 use Rattle.archive_check.specs.Shape.{unsigned, number, Shape, leaf, boxed, vec, sorted_map, str, shared, weak, Pointee, one, run, text}
 use Rattle.archive_check.specs.Layout.{Layouts, size_of, align_of}
-use Rattle.archive_check.specs.Reads.{Schema}
+use Rattle.archive_check.specs.Reads.{SchemaTable}
 use Rattle.archive_check.specs.Expressions.{flavor_of, key_of, pointee_of}
 use Rattle.archive_check.specs.Words.Elements.{IsAt}
 use Rattle.archive_schema.specs.check.Runs.{pointer_bytes}
@@ -23,12 +23,12 @@ use Rattle.archive_check.specs.Measure.{measure_of}
 use Rattle.archive_schema.specs.plan.Compilable.{Can, AllKnown}
 use Rattle.archive_schema.specs.plan.CompileQueue.{Waits, measure_of_waits}
 use Rattle.archive_schema.specs.plan.PlanGrowth.{PlanLists, IsPushed, IsTypeAdded}
-use Rattle.archive_schema.specs.plan.Compiled.{counted, Follows, Below, Settled, Given, Adds, Compiled, CompiledPointeeKind, CompiledPointee}
+use Rattle.archive_schema.specs.plan.Compiled.{counted, GrowsInto, Below, Settled, Given, Adds, Compiled, CompiledPointeeKind, CompiledPointee}
 use Rattle.archive_schema.specs.plan.NodeCounts.{count_of}
 use Rattle.archive_schema.proofs.plan.Compilable.{can_one, can_run, can_boxed, can_vec, can_map, can_shared, can_weak}
 use Rattle.archive_check.proofs.Checks.PlainRuns.{plain_walk}
 use Rattle.archive_check.proofs.BoundedSizes.{fits_some}
-use Rattle.archive_schema.proofs.plan.GrowingPlans.{at_more, goes_longer, grows_trans, pushed_grows, pushed_at, pushed_is, type_added_grows, type_added_at}
+use Rattle.archive_schema.proofs.plan.GrowingPlans.{at_more, prefix_longer, grows_trans, pushed_grows, pushed_at, pushed_is, type_added_grows, type_added_at}
 use Rattle.archive_schema.proofs.plan.AddedNodes.{adds_refl, adds_same, adds_push, compiled_push}
 
 -- what a pointer leads to, as one value or as a run of them
@@ -61,11 +61,11 @@ abbrev byte : Shape
 byte = leaf (number unsigned w8)
 
 module _ {a b : PlanLists} {i : ℕ} (p : IsPushed a b (Some 1) 1 Free i) where
-  byte_sized : (m : Checker) → Follows b m → Sized m i 1 1
+  byte_sized : (m : Checker) → GrowsInto b m → Sized m i 1 1
   byte_sized m g = record { node = p.node; at = at_more g.nodes (pushed_at p); size_is = p.size_is ∙ sym (fits_some 1 (omega arith)); align_is = p.align_is }
 
-  byte_below : (m : Checker) → Follows b m → i < length m.nodes.now
-  byte_below m g = omega (arith, pushed_is p, goes_longer g.nodes)
+  byte_below : (m : Checker) → GrowsInto b m → i < length m.nodes.now
+  byte_below m g = omega (arith, pushed_is p, prefix_longer g.nodes)
 
 module _ {names : List NamedNode} {v : Waits} {a b : PlanLists} {i : ℕ} (p : IsPushed a b (Some 1) 1 Free i) where
   pub adds_byte : Adds names (byte ∷ []) v v a b
@@ -84,8 +84,8 @@ target_few (Entries key) = (omega arith, omega arith)
 module _ {names : List NamedNode} {gives : List Shape} {v w : Waits} {a b c : PlanLists} (f : Adds names gives v w a b) where
   compiled_pointer : {done : ℕ} {j : ℕ} {kind : NodeKind} (X : Shape) (size : ℕ) → IsPushed b c (Some size) 4 kind j → length gives + 1 ≡ count_of X → measure_of_waits w.items ≤ measure_of_waits v.items + measure_of X → (AllKnown names v.items → Can names done X → AllKnown names w.items) → 4 ≤ size → size ≤ 8
       → ((l : Layouts) → (size_of l X ≡ size) × (align_of l X ≡ 4))
-      → ((m : Checker) → Follows c m → Below names w.items m → (z : ℕ) → size ≤ z → NodeKindFits m (length b.nodes) z kind)
-      → ((s : Schema) (shapes : ℕ → Shape) (m : Checker) → Follows c m → Settled names w.items s shapes m → Given shapes (length a.nodes) gives → Made s shapes m kind X)
+      → ((m : Checker) → GrowsInto c m → Below names w.items m → (z : ℕ) → size ≤ z → NodeKindFits m (length b.nodes) z kind)
+      → ((s : SchemaTable) (shapes : ℕ → Shape) (m : Checker) → GrowsInto c m → Settled names w.items s shapes m → Given shapes (length a.nodes) gives → Made s shapes m kind X)
       → Compiled names done X v w a c j
   compiled_pointer X size p count few known least most lay sound make = compiled_push f X p count few known
       (λ m l g k. let q = lay l in (sym (fits_some size (omega arith)) ∙ ap fits (sym q.0), sym q.1))
@@ -121,14 +121,14 @@ module _ {names : List NamedNode} {v w : Waits} {a b c : PlanLists} {i k : ℕ} 
   shared_adds : Adds names t.gives v w a c
   shared_adds = adds_same t.adds (type_added_grows q) q.nodes
 
-  module _ (m : Checker) (g : Follows c m) where
-    over : Follows b m
+  module _ (m : Checker) (g : GrowsInto c m) where
+    over : GrowsInto b m
     over = grows_trans (type_added_grows q) g
 
     shared_type_at : IsAt m.shared_types.now k shared_type
     shared_type_at = at_more g.shared_types (type_added_at q)
 
-    shared_type_points : {s : Schema} {shapes : ℕ → Shape} → Settled names w.items s shapes m → Given shapes (length a.nodes) t.gives → Points s shapes m target None i (pointee_of shared_type.pointee)
+    shared_type_points : {s : SchemaTable} {shapes : ℕ → Shape} → Settled names w.items s shapes m → Given shapes (length a.nodes) t.gives → Points s shapes m target None i (pointee_of shared_type.pointee)
     shared_type_points {s} {shapes} u given = subst (λ Q. Points s shapes m target None i Q) (sym ep) (t.points s shapes m over u given)
 
   module _ {done : ℕ} {d : PlanLists} {j : ℕ} where

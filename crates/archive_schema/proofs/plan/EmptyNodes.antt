@@ -10,7 +10,7 @@ use Rattle.archive_schema.specs.declared.check.Checker.{Checker}
 use Rattle.archive_check.specs.Shape.{Kind, unit, bool, char, number, non_zero, raw_rel, Key, leaf_key, str_key, key_shape}
 use Rattle.archive_check.specs.Layout.{kind_size, key_size}
 use Rattle.archive_check.specs.Keys.{ComesBehind}
-use Rattle.archive_check.specs.Reads.{Schema, bytes_at, IsLegalNumber, kind_number, kind_value}
+use Rattle.archive_check.specs.Reads.{SchemaTable, bytes_at, IsLegalNumber, kind_number, kind_value}
 use Rattle.archive_check.specs.Tour.{Seen}
 use Rattle.archive_check.specs.Walk.{Walk, walk_leaf}
 use Rattle.archive_check.specs.Expressions.{kind_of}
@@ -56,7 +56,7 @@ unfolding bytes_at
 empty_text bytes t n e = rw e IsUtf8-nil
 
 -- a key that takes nothing is a unit, and comes behind no other
-pub empty_key : (s : Schema) (bytes : List ℕ) {pending : List ℕ} {depth : Option ℕ} {stop p start : ℕ} {seen : Seen} (K : Key) → key_size K ≡ 0 → Walk s bytes pending depth stop p (key_shape K) start seen start seen
+pub empty_key : (s : SchemaTable) (bytes : List ℕ) {pending : List ℕ} {depth : Option ℕ} {stop p start : ℕ} {seen : Seen} (K : Key) → key_size K ≡ 0 → Walk s bytes pending depth stop p (key_shape K) start seen start seen
 empty_key s bytes {p = p} (leaf_key kind) none = walk_leaf (record { size = empty_length bytes p (kind_size kind) none; number = empty_number kind (kind_number kind (bytes_at bytes p (kind_size kind))) none })
 empty_key s bytes str_key none = absurd (omega arith)
 

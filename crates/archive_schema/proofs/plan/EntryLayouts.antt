@@ -7,7 +7,7 @@ use Rattle.archive_check.specs.Expressions.{key_of}
 use Rattle.archive_check.specs.Shape.{Key, leaf_key, str_key, Shape, key_shape, entry_of}
 use Rattle.archive_check.specs.Layout.{Layouts, up, key_size, key_align, size_of, align_of}
 use Rattle.archive_check.specs.Words.BoundedSizes.{fits, rounded}
-use Rattle.archive_check.specs.Reads.{Schema}
+use Rattle.archive_check.specs.Reads.{SchemaTable}
 use Rattle.archive_check.specs.Tour.{Seen}
 use Rattle.archive_check.specs.Walk.{Walk, walk_parts, walk_no_part, walk_part}
 use Rattle.archive_schema.specs.plan.BoundedSizes.{sum_of}
@@ -43,7 +43,7 @@ value_sized key node e = by_size (value_begin key node.align) node.size (max (ke
     by_size None None align e = cc
 
 -- the walk of a key and that of a value are the walk of the entry
-pub walk_entry : (s : Schema) (bytes : List ℕ) (K : Key) (V : Shape) {pending : List ℕ} {depth : Option ℕ} {stop p start mid later : ℕ} {seen known last : Seen} → Walk s bytes pending depth stop p (key_shape K) start seen mid known
+pub walk_entry : (s : SchemaTable) (bytes : List ℕ) (K : Key) (V : Shape) {pending : List ℕ} {depth : Option ℕ} {stop p start mid later : ℕ} {seen known last : Seen} → Walk s bytes pending depth stop p (key_shape K) start seen mid known
     → Walk s bytes pending depth stop (p + up (size_of s.layouts (key_shape K)) (align_of s.layouts V)) V mid known later last → Walk s bytes pending depth stop p (entry_of K V) start seen later last
 walk_entry s bytes K V {pending} {depth} {stop} {p} {start} {mid} {later} {seen} {known} {last} k v =
     walk_parts (walk_part (subst (λ q. Walk s bytes pending depth stop q (key_shape K) start seen mid known) (sym (key_at s.layouts K p)) k)

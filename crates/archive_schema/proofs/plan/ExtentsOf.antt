@@ -9,7 +9,7 @@ use Rattle.archive_schema.specs.declared.plan.extents.Extent.{Extent}
 use Rattle.archive_schema.specs.declared.shape.Schema.{Schema as RustSchema}
 use Rattle.archive_check.specs.Shape.{Name, Shape, named, Pointee, one, run, text, Parts, no_part, part, Variants, no_variant, variant}
 use Rattle.archive_check.specs.Layout.{Layouts, up, pointer_size, size_of, align_of, parts_end, parts_align, variants_end, variants_align}
-use Rattle.archive_check.specs.Reads.{Schema, LaidOut}
+use Rattle.archive_check.specs.Reads.{SchemaTable, LaidOut}
 use Rattle.archive_check.specs.Words.Elements.{IsAt}
 use Rattle.archive_check.specs.Expressions.{entries_of}
 use Rattle.archive_check.specs.Words.BoundedSizes.{fits, rounded}
@@ -100,7 +100,7 @@ module _ (s : RustSchema) (name : Name) where
 
     pub name_extent : {node : Node} {e : Extent} → IsAt s.plan.nodes.items j node → e.end ≡ node.size → e.align ≡ node.align → HasExtent s (named name) e
     name_extent {node} {e} at q a t knows =
-        let own : Schema = record { table = entries_of s.definitions.items; layouts = t.layouts } in
+        let own : SchemaTable = record { table = entries_of s.definitions.items; layouts = t.layouts } in
         let laid : LaidOut own = own_laid_out (entries_of s.definitions.items) t knows in
         record {
           end_is = q ∙ ∥∥₁_elim s.named (hlevel (props, ℕ_set)) (λ h. h.sizes own refl laid name j node is at);

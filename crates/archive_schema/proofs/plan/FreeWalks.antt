@@ -8,12 +8,12 @@ use Rattle.archive_schema.specs.declared.check.Checker.{Checker}
 use Rattle.archive_check.specs.Shape.{Kind, unit, bool, char, number, non_zero, raw_rel, Shape, Parts}
 use Rattle.archive_check.specs.Layout.{up, kind_size, size_of, align_of, parts_end}
 use Rattle.archive_check.specs.Words.PlainData.{is_plain_kind}
-use Rattle.archive_check.specs.Reads.{Schema, LaidOut}
+use Rattle.archive_check.specs.Reads.{SchemaTable, LaidOut}
 use Rattle.archive_check.specs.Tour.{Seen}
 use Rattle.archive_check.specs.Walk.{Walk, walk_named, WalkParts, walk_no_part, walk_part, WalkRun, walk_none, walk_element}
 use Rattle.archive_check.specs.Words.Elements.{IsAt}
 use Rattle.archive_schema.specs.check.Runs.{IsNode}
-use Rattle.archive_schema.specs.plan.Represents.{StandsFor, stands, stands_named, PartsStand, parts_over, parts_more, Made, made_free}
+use Rattle.archive_schema.specs.plan.Represents.{NodeStandsFor, stands, stands_named, PartsStand, parts_over, parts_more, Made, made_free}
 use Rattle.archive_schema.specs.plan.Compiled.{MadeTo}
 use Rattle.archive_check.proofs.Tours.PartsInside.{parts_end_le}
 use Rattle.archive_check.proofs.Elements.{same_at}
@@ -43,14 +43,14 @@ empty_plain (non_zero s w) h = absurd (omega (arith, (few_bytes w).0))
 empty_plain (raw_rel s w) h = refl
 
 -- any z bytes are walked as an X
-abbrev pub AnyBytes : Schema → Shape → ℕ → Type 0
+abbrev pub AnyBytes : SchemaTable → Shape → ℕ → Type 0
 AnyBytes s X z = (bytes pending : List ℕ) (depth : Option ℕ) (stop p start : ℕ) (seen : Seen) → p + z ≤ length bytes → Walk s bytes pending depth stop p X start seen start seen
 
-free_walks : {s : Schema} {shapes : ℕ → Shape} {m : Checker} {X : Shape} → Made s shapes m Free X → AnyBytes s X (size_of s.layouts X)
+free_walks : {s : SchemaTable} {shapes : ℕ → Shape} {m : Checker} {X : Shape} → Made s shapes m Free X → AnyBytes s X (size_of s.layouts X)
 free_walks (made_free w) = w
 
-module _ {s : Schema} {shapes : ℕ → Shape} {m : Checker} {n : ℕ} (made : MadeTo s shapes m n) where
-  pub any_stands : {X : Shape} {j : ℕ} → StandsFor s shapes X j → j < n → (node : Node) (z : ℕ) → IsAt m.nodes.now j node → node.kind ≡ Free → node.size ≡ Some z → AnyBytes s X z
+module _ {s : SchemaTable} {shapes : ℕ → Shape} {m : Checker} {n : ℕ} (made : MadeTo s shapes m n) where
+  pub any_stands : {X : Shape} {j : ℕ} → NodeStandsFor s shapes X j → j < n → (node : Node) (z : ℕ) → IsAt m.nodes.now j node → node.kind ≡ Free → node.size ≡ Some z → AnyBytes s X z
   any_stands {j = j} (stands e) lt node z at free size =
       let q = made.made j node z lt at size in
       subst (λ Y. AnyBytes s Y z) e (subst (λ y. AnyBytes s (shapes j) y) q.0 (free_walks (subst (λ w. Made s shapes m w (shapes j)) free q.1)))
@@ -69,7 +69,7 @@ module _ {s : Schema} {shapes : ℕ → Shape} {m : Checker} {n : ℕ} (made : M
       walk_part (any_stands st f.1 f.0.node (size_of s.layouts X) f.0.at f.0.kind_is size bytes pending depth stop (p + up at (align_of s.layouts X)) start seen within)
       (any_parts laid rest (λ k y from to h. free k y (omega arith) to h) bytes pending depth stop p start seen le)
 
-pub any_run : {s : Schema} {X : Shape} → AnyBytes s X (size_of s.layouts X) → (n : ℕ) (bytes pending : List ℕ) (depth : Option ℕ) (stop p start : ℕ) (seen : Seen)
+pub any_run : {s : SchemaTable} {X : Shape} → AnyBytes s X (size_of s.layouts X) → (n : ℕ) (bytes pending : List ℕ) (depth : Option ℕ) (stop p start : ℕ) (seen : Seen)
     → p + n * size_of s.layouts X ≤ length bytes → WalkRun s bytes pending depth stop p n X start seen start seen
 any_run w zero bytes pending depth stop p start seen le = walk_none
 any_run {s} {X} w (suc n) bytes pending depth stop p start seen le =

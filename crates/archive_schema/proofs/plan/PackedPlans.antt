@@ -10,7 +10,7 @@ use Rattle.archive_schema.specs.declared.check.Checker.{Checker}
 use Rattle.archive_check.specs.Shape.{Shape, Table, Parts}
 use Rattle.archive_check.specs.Expressions.{entries_of}
 use Rattle.archive_check.specs.Layout.{align_of, parts_align, variants_align, size_of, parts_end, variants_end}
-use Rattle.archive_check.specs.Reads.{Schema, LaidOut}
+use Rattle.archive_check.specs.Reads.{SchemaTable, LaidOut}
 use Rattle.archive_check.specs.Words.Elements.{IsAt, span}
 use Rattle.archive_schema.specs.check.Runs.{Takes}
 use Rattle.archive_schema.specs.plan.SoundPlans.{NodeKindFits, IsSound}
@@ -47,7 +47,7 @@ variant_least nodes parts variants a b n x lt at = each_few nodes parts (span va
 span_none : (xs : List Part) (a b : ℕ) → b ≤ a → span xs a b ≡ []
 span_none xs a b le = let none : b - a ≡ 0 = omega arith in rw none refl
 
-module _ (s : Schema) (laid : LaidOut s) (shapes : ℕ → Shape) (m : Checker) where
+module _ (s : SchemaTable) (laid : LaidOut s) (shapes : ℕ → Shape) (m : Checker) where
   -- parts that are laid out one behind another
   parts_few : {a b at : ℕ} {ps : Parts} → b ≤ length m.parts.now → PartsStand s shapes m a b at ps → parts_size m.nodes.now (span m.parts.now a b) + at ≤ parts_end s.layouts at ps
   parts_few {a = a} {b = b} le (parts_over ge) = rw (span_none m.parts.now a b ge) (omega arith)
@@ -98,7 +98,7 @@ pub plan_packed : (defs : List Def) (X : Shape) (plan : Plan) (j : ℕ) → Arra
 plan_packed defs X plan j order is =
     let m = checker_of plan in
     let of : IsOf m plan = record { nodes = refl; parts = refl; variants = refl; shared_types = refl } in
-    let s : Schema = record { table = entries_of defs; layouts = rounds (entries_of defs) (length (names_of (entries_of defs))) } in
+    let s : SchemaTable = record { table = entries_of defs; layouts = rounds (entries_of defs) (length (names_of (entries_of defs))) } in
     let laid = arranged_laid (entries_of defs) order in
     let p = is.plan_of m s of refl laid in
     packed s laid p.shapes m (is.sound m of) p.represents

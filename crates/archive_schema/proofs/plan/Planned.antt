@@ -11,17 +11,17 @@ use Rattle.archive_check.specs.Shape.{Name, Shape, leaf, unit, named, definition
 use Rattle.archive_check.specs.Layout.{Layouts, layout, size_of, align_of}
 use Rattle.archive_check.specs.Expressions.{shape_of, entries_of}
 use Rattle.archive_schema.specs.plan.NodeCounts.{count_of}
-use Rattle.archive_check.specs.Reads.{Schema, LaidOut}
+use Rattle.archive_check.specs.Reads.{SchemaTable, LaidOut}
 use Rattle.archive_check.specs.Words.Elements.{IsAt}
-use Rattle.archive_schema.specs.plan.Represents.{StandsFor, stands, stands_named, Sized, points_one}
+use Rattle.archive_schema.specs.plan.Represents.{NodeStandsFor, stands, stands_named, Sized, points_one}
 use Rattle.archive_check.specs.Words.BoundedSizes.{fits}
 use Rattle.archive_schema.specs.plan.PlanGrowth.{node_of, PlanLists, lists_of, Grows}
 use Rattle.archive_schema.specs.plan.CompileQueue.{Wait, Waits, wait_shapes, Reserved}
 use Rattle.archive_schema.specs.plan.Compilable.{Can}
-use Rattle.archive_schema.specs.plan.Compiled.{Follows, Below, NamesSized, Settled, Given, SoundTo, MadeTo, Compiled}
+use Rattle.archive_schema.specs.plan.Compiled.{GrowsInto, Below, NamesSized, Settled, Given, SoundTo, MadeTo, Compiled}
 use Rattle.archive_schema.specs.plan.NodeNumbers.{def_shapes, start_of, FirstAt, IsNumbered}
 use Rattle.archive_schema.specs.plan.Planned.{IsOf, IsPlan, HasNames, InOrder, CompiledFrom, Chained, CanFinish, Finishes}
-use Rattle.archive_schema.proofs.plan.GrowingPlans.{same_goes, at_more, goes_longer, grows_trans}
+use Rattle.archive_schema.proofs.plan.GrowingPlans.{same_prefix, at_more, prefix_longer, grows_trans}
 use Rattle.archive_check.proofs.Elements.{same_at, some_at, at_behind, at_end}
 use Rattle.archive_schema.proofs.plan.NodeNumbers.{def_at, def_count, can_chain, can_root, all_before, start_next, start_later, start_prefix, start_behind, first_at, definition_is, numbered_known}
 use Rattle.archive_schema.proofs.plan.CompiledChain.{root_same, compiled_same, chained_next}
@@ -45,16 +45,16 @@ wait_node base (y ∷ ws) next r (suc k) x h =
     let q = wait_node (base + count_of y.shape) ws next r.2 k x (record { below = omega (arith, h.below); is = h.is }) in (omega (arith, q.0), omega (arith, q.1))
 
 -- what was compiled and is no name stands for its shape
-kept_stands : {names : List NamedNode} {X : Shape} {start : ℕ} {w : Waits} {b : PlanLists} {gives : List Shape} {s : Schema} {shapes : ℕ → Shape} {j : ℕ} → (c : CompiledFrom names X start w b gives) → Given shapes 0 gives
-    → j ≡ c.node → j + 1 ≡ start + count_of X → start ≤ j → StandsFor s shapes X j
+kept_stands : {names : List NamedNode} {X : Shape} {start : ℕ} {w : Waits} {b : PlanLists} {gives : List Shape} {s : SchemaTable} {shapes : ℕ → Shape} {j : ℕ} → (c : CompiledFrom names X start w b gives) → Given shapes 0 gives
+    → j ≡ c.node → j + 1 ≡ start + count_of X → start ≤ j → NodeStandsFor s shapes X j
 kept_stands {X = X} {s = s} {shapes = shapes} c given same last from = ⊎_elim
     (λ w. absurd (omega (arith, last, from, ap count_of w.1)))
-    (λ w. subst (λ i. StandsFor s shapes X i) (sym same) (stands (w.2 shapes (c.given shapes given))))
+    (λ w. subst (λ i. NodeStandsFor s shapes X i) (sym same) (stands (w.2 shapes (c.given shapes given))))
     c.compiled.root
 
-root_stands : {names : List NamedNode} {X : Shape} {start : ℕ} {w : Waits} {ws : List Wait} {b : PlanLists} {gives : List Shape} {s : Schema} {shapes : ℕ → Shape} {m : Checker} → (c : CompiledFrom names X start w b gives) → Settled names ws s shapes m → Given shapes 0 gives → StandsFor s shapes X c.node
+root_stands : {names : List NamedNode} {X : Shape} {start : ℕ} {w : Waits} {ws : List Wait} {b : PlanLists} {gives : List Shape} {s : SchemaTable} {shapes : ℕ → Shape} {m : Checker} → (c : CompiledFrom names X start w b gives) → Settled names ws s shapes m → Given shapes 0 gives → NodeStandsFor s shapes X c.node
 root_stands {s = s} {shapes = shapes} c t given = ⊎_elim
-    (λ h. subst (λ Y. StandsFor s shapes Y c.node) (sym h.1) (t.stand h.0 c.node h.2))
+    (λ h. subst (λ Y. NodeStandsFor s shapes Y c.node) (sym h.1) (t.stand h.0 c.node h.2))
     (λ h. stands (h.2 shapes (c.given shapes given)))
     c.compiled.root
 
@@ -109,16 +109,16 @@ module _ {names : List NamedNode} {defs : List Def} {w : Waits} {base : ℕ} {b 
   defined_at : {name : Name} {q j : ℕ} → FirstAt names name q j → (d : Def) × IsAt defs q d
   defined_at {name} {q} f = some_at defs q (omega (arith, f.at.below, num.count))
 
-  module _ (m : Checker) (g : Follows b m) where
+  module _ (m : Checker) (g : GrowsInto b m) where
     all_below : Below names w.items m
     all_below = record {
       names_below = λ name j e.
           let c = root_kept in
-          omega (arith, all_before num name j e, c.starts, c.compiled.adds.count, goes_longer c.grows.nodes, goes_longer g.nodes);
-      waits_below = λ k x at. let c = wait_kept k x at in omega (arith, wait_same k x at, c.compiled.below, goes_longer c.grows.nodes, goes_longer g.nodes);
+          omega (arith, all_before num name j e, c.starts, c.compiled.adds.count, prefix_longer c.grows.nodes, prefix_longer g.nodes);
+      waits_below = λ k x at. let c = wait_kept k x at in omega (arith, wait_same k x at, c.compiled.below, prefix_longer c.grows.nodes, prefix_longer g.nodes);
     }
 
-    module _ (s : Schema) (table : s.table ≡ entries_of defs) (laid : LaidOut s) where
+    module _ (s : SchemaTable) (table : s.table ≡ entries_of defs) (laid : LaidOut s) where
       definition_at : {name : Name} {q j : ℕ} → FirstAt names name q j → (d : Def) → IsAt defs q d → definition s.table name ≡ Some (shape_of d.expr)
       definition_at {name} {q} {j} f d at = ap (λ t. definition t name) table ∙ definition_is defs names num.name_is name q j d f at
 
@@ -161,15 +161,15 @@ module _ {names : List NamedNode} {defs : List Def} {w : Waits} {base : ℕ} {b 
           name_sized (length defs) (all_laid (length defs) (omega arith)) (suc f.0) name f.0 j (omega arith) f.1 (all_before num name j e)
 
       module _ (shapes : ℕ → Shape) (given : Given shapes 0 chain.gives) where
-        name_stands : (r : ℕ) (name : Name) (q j : ℕ) → q < r → FirstAt names name q j → StandsFor s shapes (named name) j
+        name_stands : (r : ℕ) (name : Name) (q j : ℕ) → q < r → FirstAt names name q j → NodeStandsFor s shapes (named name) j
         name_stands zero name q j lt f = absurd (omega (arith, lt))
         name_stands (suc r) name q j lt f =
             let d = defined_at f in
             let is = definition_at f d.0 d.1 in
             let c = def_kept q d.0 d.1 in
             let same = root_same q (start_of (def_shapes defs) q) (shape_of d.0.expr) f.known.node c.compiled c.starts (num.root_is q d.0 f.known d.1 f.at) in
-            subst (λ i. StandsFor s shapes (named name) i) f.node_is (⊎_elim
-            (λ k. stands_named is (subst (λ Y. StandsFor s shapes Y f.known.node) (sym k.1) (name_stands r k.0 k.2.0 f.known.node (omega (arith, lt, k.2.1)) k.2.2)))
+            subst (λ i. NodeStandsFor s shapes (named name) i) f.node_is (⊎_elim
+            (λ k. stands_named is (subst (λ Y. NodeStandsFor s shapes Y f.known.node) (sym k.1) (name_stands r k.0 k.2.0 f.known.node (omega (arith, lt, k.2.1)) k.2.2)))
             (λ k. stands_named is (kept_stands c given same k.0 k.1))
             (num.root_is q d.0 f.known d.1 f.at))
 
@@ -189,8 +189,8 @@ shape_at Xs i = slice_index_or Xs i (leaf unit)
 all_given : (Xs : List Shape) → Given (shape_at Xs) 0 Xs
 all_given Xs = record { are = λ k X at. let e : 0 + k ≡ k = omega arith in ap (shape_at Xs) e ∙ get_or_default Xs k (leaf unit) X at.below ∙ sym at.is }
 
-plan_follows : (m : Checker) (plan : Plan) → IsOf m plan → Follows (lists_of plan) m
-plan_follows m plan o = record { nodes = same_goes o.nodes; parts = same_goes o.parts; variants = same_goes o.variants; shared_types = same_goes o.shared_types }
+plan_grows_into : (m : Checker) (plan : Plan) → IsOf m plan → GrowsInto (lists_of plan) m
+plan_grows_into m plan o = record { nodes = same_prefix o.nodes; parts = same_prefix o.parts; variants = same_prefix o.variants; shared_types = same_prefix o.shared_types }
 
 -- the plan of all
 pub planned : {names : List NamedNode} {defs : List Def} {w v u : Waits} {base j : ℕ} {b c : PlanLists} (X : Shape) (plan : Plan) → IsNumbered defs names (length defs) → Chained names (all_shapes defs X w) base w (lists_of plan)
@@ -200,14 +200,14 @@ planned {defs = defs} {w = w} {base = base} {j = j} {b = b} X plan num chain bas
     let kept = root_kept X num chain base_is in
     let same : j ≡ kept.node = compiled_same X root kept.compiled (starts ∙ sym kept.starts) in
     record {
-      below = omega (arith, root.below, goes_longer grows.nodes);
+      below = omega (arith, root.below, prefix_longer grows.nodes);
       sound = λ m o.
-          let g = plan_follows m plan o in
+          let g = plan_grows_into m plan o in
           let none : SoundTo m 0 = record { fits = λ i node z lt at e. absurd (omega (arith, lt)) } in
           let all = chain.adds.sound m g (all_below X num chain base_is m g) none in
           record { fits = λ i node z at e. all.fits i node z (omega (arith, at.below, ap length o.nodes)) at e };
       plan_of = λ m s o table laid.
-          let g = plan_follows m plan o in
+          let g = plan_grows_into m plan o in
           let shapes : ℕ → Shape = shape_at chain.gives in
           let given = all_given chain.gives in
           let t = settled X num chain base_is m g s table laid shapes given in
@@ -217,7 +217,7 @@ planned {defs = defs} {w = w} {base = base} {j = j} {b = b} X plan num chain bas
             shapes = shapes;
             represents = record { made = λ i node z at e. all.made i node z (omega (arith, at.below, ap length o.nodes)) at e };
             points = points_one (root.lays m s.layouts (grows_trans grows g) (λ name i n below. t.sized name i n))
-                (subst (λ i. StandsFor s shapes X i) (sym same) (root_stands kept t given));
+                (subst (λ i. NodeStandsFor s shapes X i) (sym same) (root_stands kept t given));
           };
     }
 
@@ -237,7 +237,7 @@ names_planned : {names : List NamedNode} {defs : List Def} {w : Waits} {base : �
     → base ≡ start_of (def_shapes defs) (length defs) + count_of X → HasNames defs names plan
 names_planned {names} {defs} X plan num chain base_is =
     let m = checker_of plan in
-    let g : Follows (lists_of plan) m = plan_follows m plan (record { nodes = refl; parts = refl; variants = refl; shared_types = refl }) in
+    let g : GrowsInto (lists_of plan) m = plan_grows_into m plan (record { nodes = refl; parts = refl; variants = refl; shared_types = refl }) in
     record {
       known = numbered_known defs names num.count num.name_is;
       there = λ name j e. (all_below X num chain base_is m g).names_below name j e;
@@ -264,7 +264,7 @@ module _ {names : List NamedNode} {defs : List Def} {base : ℕ} {v : Waits} {b 
   pub finish_can : {u : Waits} {c : PlanLists} {j : ℕ} → Compiled names (length b.nodes) X v u b c j → CanFinish names u c
   finish_can root = record {
     known = root.known (chain.all_known (can_chain num o.definitions)) (root_can refl);
-    below = λ name j e. omega (arith, all_before num name j e, root_begins, goes_longer root.adds.grows.nodes);
+    below = λ name j e. omega (arith, all_before num name j e, root_begins, prefix_longer root.adds.grows.nodes);
   }
 
 pub all_named : {names : List NamedNode} {defs : List Def} {v u w : Waits} {base j : ℕ} {b c : PlanLists} (X : Shape) (plan : Plan) → IsNumbered defs names (length defs) → Chained names (def_shapes defs) base v b

@@ -15,7 +15,7 @@ use Rattle.archive_check.specs.Shape.{Key, key_shape, entry_of, str, Flavor, Sha
 use Rattle.archive_check.specs.Layout.{kind_size, key_size, up, size_of, align_of}
 use Rattle.archive_check.specs.Keys.{ComesBehind, Ascend}
 use Rattle.archive_check.specs.Value.{Pointer}
-use Rattle.archive_check.specs.Reads.{Schema, bytes_at, u32_at, i32_at, IsLegal, kind_number, IsOutOfLine, decoded_length, length_at, string_at}
+use Rattle.archive_check.specs.Reads.{SchemaTable, bytes_at, u32_at, i32_at, IsLegal, kind_number, IsOutOfLine, decoded_length, length_at, string_at}
 use Rattle.archive_check.specs.Depth.{Allows, inside}
 use Rattle.archive_check.specs.Tour.{Seen, Entry, pointee_size, pointee_align}
 use Rattle.archive_check.specs.Trail.{Fault, too_large, outside, unaligned, too_deep, cyclic, other_type, other_length, illegal, no_such_variant, unsorted, Trips, trips_leaf, trips_parts, trips_tag, trips_choice, trips_array, trips_boxed, trips_vec, trips_map, trips_inline, trips_short, trips_out_of_line, trips_shared, trips_weak, trips_named, TripsParts, trips_first, trips_later, TripsRun, trips_element, trips_later_element, TripsEntries, trips_key, trips_order, trips_value, trips_later_entry, TripsFollow, trips_unique, trips_before, trips_new, trips_type, trips_length, trips_cycle, TripsEnter, trips_size, trips_range, trips_align, trips_depth, trips_within, TripsContents, trips_one, trips_run, trips_entries, trips_text}
@@ -26,7 +26,7 @@ use Rattle.archive_schema.specs.check.Runs.{pointee_count, pointee_length, entry
 use Rattle.archive_check.specs.Words.Elements.{IsAt}
 use Rattle.archive_check.specs.Outcomes.{Outcome, done, refused}
 use Rattle.archive_schema.specs.plan.SoundPlans.{IsSound}
-use Rattle.archive_schema.specs.plan.Represents.{StandsFor, stands, stands_named, PartsStand, parts_over, parts_more, Sized, Points, points_one, points_run, points_entries, points_text, Made, made_free, made_leaf, made_record, made_choice, made_array, made_boxed, made_vec, made_map, made_str, made_shared, made_weak, Represents, OutcomeSays}
+use Rattle.archive_schema.specs.plan.Represents.{NodeStandsFor, stands, stands_named, PartsStand, parts_over, parts_more, Sized, Points, points_one, points_run, points_entries, points_text, Made, made_free, made_leaf, made_record, made_choice, made_array, made_boxed, made_vec, made_map, made_str, made_shared, made_weak, Represents, OutcomeSays}
 use Rattle.archive_check.proofs.Tours.ReadingUnique.{pos_one}
 use Rattle.archive_schema.proofs.plan.EmptyNodes.{Nothing, empty_number, empty_length, empty_kind, empty_text, empty_key, empty_order}
 use Rattle.archive_schema.proofs.plan.EntryLayouts.{key_takes, value_sized, walk_entry, entry_fits, empty_parts}
@@ -60,12 +60,12 @@ leading sharing order where_to P l = record { target = where_to; sharing = shari
 abbrev pub sorted : SharedType → ℤ → ℕ → Pointer
 sorted shared_type where_to l = leading (Some (flavor_of shared_type.flavor)) None where_to (pointee_of shared_type.pointee) l
 
-module _ (s : Schema) (shapes : ℕ → Shape) (m : Checker) where
-  pub stands_walk : {X : Shape} {j : ℕ} {pending : List ℕ} {depth : Option ℕ} {stop p start later : ℕ} {seen last : Seen} → StandsFor s shapes X j → Walk s m.bytes.now pending depth stop p (shapes j) start seen later last → Walk s m.bytes.now pending depth stop p X start seen later last
+module _ (s : SchemaTable) (shapes : ℕ → Shape) (m : Checker) where
+  pub stands_walk : {X : Shape} {j : ℕ} {pending : List ℕ} {depth : Option ℕ} {stop p start later : ℕ} {seen last : Seen} → NodeStandsFor s shapes X j → Walk s m.bytes.now pending depth stop p (shapes j) start seen later last → Walk s m.bytes.now pending depth stop p X start seen later last
   stands_walk (stands e) w = rw e at w
   stands_walk (stands_named d h) w = walk_named d (stands_walk h w)
 
-  pub stands_trips : {X : Shape} {j : ℕ} {pending : List ℕ} {depth : Option ℕ} {stop p start : ℕ} {seen : Seen} {e : Fault} → StandsFor s shapes X j → Trips s m.bytes.now pending depth stop p (shapes j) start seen e → Trips s m.bytes.now pending depth stop p X start seen e
+  pub stands_trips : {X : Shape} {j : ℕ} {pending : List ℕ} {depth : Option ℕ} {stop p start : ℕ} {seen : Seen} {e : Fault} → NodeStandsFor s shapes X j → Trips s m.bytes.now pending depth stop p (shapes j) start seen e → Trips s m.bytes.now pending depth stop p X start seen e
   stands_trips (stands e) w = rw e at w
   stands_trips (stands_named d h) w = trips_named d (stands_trips h w)
 
@@ -107,7 +107,7 @@ module _ (s : Schema) (shapes : ℕ → Shape) (m : Checker) where
   record_case : {X : Shape} {a b : ℕ} (pending : List ℕ) (depth : Option ℕ) (stop p start : ℕ) (seen : Seen) (o : Outcome) → Made s shapes m (Record a b) X → ((ps : Parts) → PartsStand s shapes m a b 0 ps → PartsSay 0 ps pending depth stop p start seen o) → ShapeSays X pending depth stop p start seen o
   record_case pending depth stop p start seen o (made_record h) says = says_map o (λ a k w. walk_parts w) (λ e t. trips_parts t) (says _ h)
 
-  part_case : {X : Shape} {j mid : ℕ} {pending : List ℕ} {depth : Option ℕ} {stop start : ℕ} {seen known : Seen} (ps : Parts) (at p : ℕ) (o : Outcome) → StandsFor s shapes X j → Walk s m.bytes.now pending depth stop (p + up at (align_of s.layouts X)) (shapes j) start seen mid known → PartsSay (up at (align_of s.layouts X) + size_of s.layouts X) ps pending depth stop p mid known o → PartsSay at (part X ps) pending depth stop p start seen o
+  part_case : {X : Shape} {j mid : ℕ} {pending : List ℕ} {depth : Option ℕ} {stop start : ℕ} {seen known : Seen} (ps : Parts) (at p : ℕ) (o : Outcome) → NodeStandsFor s shapes X j → Walk s m.bytes.now pending depth stop (p + up at (align_of s.layouts X)) (shapes j) start seen mid known → PartsSay (up at (align_of s.layouts X) + size_of s.layouts X) ps pending depth stop p mid known o → PartsSay at (part X ps) pending depth stop p start seen o
   part_case ps at p o st w rest = says_map o (λ a k ws. walk_part (stands_walk st w) ws) (λ e t. trips_later (stands_walk st w) t) rest
 
   choice_case : {X : Shape} {a b tag : ℕ} {name : Bor (List ℕ)} {x : Span} (pending : List ℕ) (depth : Option ℕ) (stop p start : ℕ) (seen : Seen) (o : Outcome) → Made s shapes m (Choice name a b) X → tag ≡ slice_index m.bytes.now p → a + tag < b → IsAt m.variants.now (a + tag) x → ((ps : Parts) → PartsStand s shapes m x.first x.last 1 ps → PartsSay 1 ps pending depth stop p start seen o) → ShapeSays X pending depth stop p start seen o
@@ -119,24 +119,24 @@ module _ (s : Schema) (shapes : ℕ → Shape) (m : Checker) where
   tag_case : {X : Shape} {a b p : ℕ} {name : Bor (List ℕ)} {pending : List ℕ} {depth : Option ℕ} {stop start : ℕ} {seen : Seen} → Made s shapes m (Choice name a b) X → b ≤ a + slice_index m.bytes.now p → Trips s m.bytes.now pending depth stop p X start seen (no_such_variant name.now (slice_index m.bytes.now p))
   tag_case (made_choice f g) le = trips_tag (g _ le)
 
-  array_case : {X : Shape} {n j : ℕ} (pending : List ℕ) (depth : Option ℕ) (stop p start : ℕ) (seen : Seen) (o : Outcome) → Made s shapes m (Array n j) X → ((Y : Shape) → StandsFor s shapes Y j → Takes m j (size_of s.layouts Y) → RunSays n Y pending depth stop p start seen o) → ShapeSays X pending depth stop p start seen o
+  array_case : {X : Shape} {n j : ℕ} (pending : List ℕ) (depth : Option ℕ) (stop p start : ℕ) (seen : Seen) (o : Outcome) → Made s shapes m (Array n j) X → ((Y : Shape) → NodeStandsFor s shapes Y j → Takes m j (size_of s.layouts Y) → RunSays n Y pending depth stop p start seen o) → ShapeSays X pending depth stop p start seen o
   array_case pending depth stop p start seen o (made_array st t) says = says_map o (λ a k w. walk_array w) (λ e t. trips_array t) (says _ st t)
 
   none_case : {X : Shape} {pending : List ℕ} {depth : Option ℕ} {stop p start : ℕ} {seen : Seen} (n : ℕ) → n ≡ 0 → WalkRun s m.bytes.now pending depth stop p n X start seen start seen
   none_case n e = rw e walk_none
 
-  element_case : {X : Shape} {j z mid : ℕ} {pending : List ℕ} {depth : Option ℕ} {stop start : ℕ} {seen known : Seen} (n p : ℕ) (o : Outcome) → 0 < n → StandsFor s shapes X j → size_of s.layouts X ≡ z → Walk s m.bytes.now pending depth stop p (shapes j) start seen mid known → RunSays (n - 1) X pending depth stop (p + z) mid known o → RunSays n X pending depth stop p start seen o
+  element_case : {X : Shape} {j z mid : ℕ} {pending : List ℕ} {depth : Option ℕ} {stop start : ℕ} {seen known : Seen} (n p : ℕ) (o : Outcome) → 0 < n → NodeStandsFor s shapes X j → size_of s.layouts X ≡ z → Walk s m.bytes.now pending depth stop p (shapes j) start seen mid known → RunSays (n - 1) X pending depth stop (p + z) mid known o → RunSays n X pending depth stop p start seen o
   element_case zero p o lt st e w rest = absurd (omega arith)
   element_case {X = X} (suc n) p o lt st e w rest =
       let less : suc n - 1 ≡ n = omega arith in
       says_map o (λ a k ws. walk_element (stands_walk st w) (rw (less, ← e) at ws)) (λ f t. trips_later_element (stands_walk st w) (rw (less, ← e) at t)) rest
 
-  element_stop_case : {X : Shape} {j : ℕ} {pending : List ℕ} {depth : Option ℕ} {stop start : ℕ} {seen : Seen} {e : Fault} (n p : ℕ) → 0 < n → StandsFor s shapes X j → Trips s m.bytes.now pending depth stop p (shapes j) start seen e → TripsRun s m.bytes.now pending depth stop p n X start seen e
+  element_stop_case : {X : Shape} {j : ℕ} {pending : List ℕ} {depth : Option ℕ} {stop start : ℕ} {seen : Seen} {e : Fault} (n p : ℕ) → 0 < n → NodeStandsFor s shapes X j → Trips s m.bytes.now pending depth stop p (shapes j) start seen e → TripsRun s m.bytes.now pending depth stop p n X start seen e
   element_stop_case zero p lt st w = absurd (omega arith)
   element_stop_case (suc n) p lt st w = trips_element (stands_trips st w)
 
   -- any bytes are such elements
-  free_run : {X : Shape} {j : ℕ} {pending : List ℕ} {depth : Option ℕ} {stop start : ℕ} {seen : Seen} (n p : ℕ) → StandsFor s shapes X j → Made s shapes m Free (shapes j) → size_of s.layouts (shapes j) ≡ size_of s.layouts X → p + n * size_of s.layouts X ≤ length m.bytes.now → WalkRun s m.bytes.now pending depth stop p n X start seen start seen
+  free_run : {X : Shape} {j : ℕ} {pending : List ℕ} {depth : Option ℕ} {stop start : ℕ} {seen : Seen} (n p : ℕ) → NodeStandsFor s shapes X j → Made s shapes m Free (shapes j) → size_of s.layouts (shapes j) ≡ size_of s.layouts X → p + n * size_of s.layouts X ≤ length m.bytes.now → WalkRun s m.bytes.now pending depth stop p n X start seen start seen
   free_run zero p st made e room = walk_none
   free_run {X = X} (suc n) p st made e room = walk_element (stands_walk st (free_case made (omega (arith, e)))) (free_run n (p + size_of s.layouts X) st made e (omega arith))
 
@@ -264,7 +264,7 @@ module _ (s : Schema) (shapes : ℕ → Shape) (m : Checker) where
   run_case : (X : Shape) (pending : List ℕ) (depth : Option ℕ) (t start : ℕ) (seen : Seen) (l : ℕ) (o : Outcome) → RunSays l X pending depth t t start seen o → ContentsSay None (run X) l t pending depth start seen o
   run_case X pending depth t start seen l o h = says_map o (λ a k w. walk_run w) (λ e t. trips_run t) h
 
-  one_case : {X : Shape} {j : ℕ} (pending : List ℕ) (depth : Option ℕ) (t start : ℕ) (seen : Seen) (l : ℕ) (o : Outcome) → StandsFor s shapes X j → NodeSays pending depth t j t start seen o → ContentsSay None (one X) l t pending depth start seen o
+  one_case : {X : Shape} {j : ℕ} (pending : List ℕ) (depth : Option ℕ) (t start : ℕ) (seen : Seen) (l : ℕ) (o : Outcome) → NodeStandsFor s shapes X j → NodeSays pending depth t j t start seen o → ContentsSay None (one X) l t pending depth start seen o
   one_case pending depth t start seen l o st h = says_map o (λ a k w. walk_one (stands_walk st w)) (λ e t. trips_one (stands_trips st t)) h
 
   -- entries: a walk of them and that their keys ascend, or a fault
@@ -317,18 +317,18 @@ module _ (s : Schema) (shapes : ℕ → Shape) (m : Checker) where
       leaf_case (rw is at made) (record { size = empty_length m.bytes.now p (kind_size (kind_of leaf_kind)) none; number = empty_number (kind_of leaf_kind) (kind_number (kind_of leaf_kind) (bytes_at m.bytes.now p (kind_size (kind_of leaf_kind)))) none })
 
   module _ (r : Represents s shapes m) (sound : IsSound m) where
-    empty_walk : {X : Shape} {j align : ℕ} {pending : List ℕ} {depth : Option ℕ} {stop p start : ℕ} {seen : Seen} → StandsFor s shapes X j → Sized m j (size_of s.layouts X) align → size_of s.layouts X ≡ 0 → p ≤ length m.bytes.now → Walk s m.bytes.now pending depth stop p X start seen start seen
+    empty_walk : {X : Shape} {j align : ℕ} {pending : List ℕ} {depth : Option ℕ} {stop p start : ℕ} {seen : Seen} → NodeStandsFor s shapes X j → Sized m j (size_of s.layouts X) align → size_of s.layouts X ≡ 0 → p ≤ length m.bytes.now → Walk s m.bytes.now pending depth stop p X start seen start seen
     empty_walk {j = j} st k e room =
         let t = sized_takes k (omega (arith, e)) in
         let size_is = t.size_is ∙ ap Some e in
         let made = r.made j t.node 0 t.at size_is in
         stands_walk st (empty_node t.node.kind (empty_kind m j t.node.kind (sound.fits j t.node 0 t.at size_is)) made.1 (omega (arith, made.0, room)))
 
-    empty_run : {X : Shape} {j align : ℕ} {pending : List ℕ} {depth : Option ℕ} {stop start : ℕ} {seen : Seen} (n p : ℕ) → StandsFor s shapes X j → Sized m j (size_of s.layouts X) align → size_of s.layouts X ≡ 0 → p ≤ length m.bytes.now → WalkRun s m.bytes.now pending depth stop p n X start seen start seen
+    empty_run : {X : Shape} {j align : ℕ} {pending : List ℕ} {depth : Option ℕ} {stop start : ℕ} {seen : Seen} (n p : ℕ) → NodeStandsFor s shapes X j → Sized m j (size_of s.layouts X) align → size_of s.layouts X ≡ 0 → p ≤ length m.bytes.now → WalkRun s m.bytes.now pending depth stop p n X start seen start seen
     empty_run zero p st k e room = walk_none
     empty_run (suc n) p st k e room = walk_element (empty_walk st k e room) (empty_run n _ st k e (omega (arith, e)))
 
-    empty_some : {X : Shape} {j align : ℕ} {pending : List ℕ} {depth : Option ℕ} {stop start : ℕ} {seen : Seen} (n p : ℕ) → StandsFor s shapes X j → Sized m j (size_of s.layouts X) align → n * size_of s.layouts X ≡ 0 → p ≤ length m.bytes.now → WalkRun s m.bytes.now pending depth stop p n X start seen start seen
+    empty_some : {X : Shape} {j align : ℕ} {pending : List ℕ} {depth : Option ℕ} {stop start : ℕ} {seen : Seen} (n p : ℕ) → NodeStandsFor s shapes X j → Sized m j (size_of s.layouts X) align → n * size_of s.layouts X ≡ 0 → p ≤ length m.bytes.now → WalkRun s m.bytes.now pending depth stop p n X start seen start seen
     empty_some zero p st k e room = walk_none
     empty_some {X = X} (suc n) p st k e room = empty_run (suc n) p st k (eq_of_mul-eq-mul_left (suc n) (omega arith) (size_of s.layouts X) 0 (e ∙ sym (mul-zero (suc n)))) room
 
@@ -339,11 +339,11 @@ module _ (s : Schema) (shapes : ℕ → Shape) (m : Checker) where
     empty_case {t = t} l plain points_text e room = walk_text (empty_text m.bytes.now t l e)
 
     -- entries without a byte: a key and a value that are there, and a second key that isn't behind the first
-    empty_entry : {V : Shape} {j align : ℕ} {pending : List ℕ} {depth : Option ℕ} {stop p start : ℕ} {seen : Seen} (K : Key) → (key_size K ≡ 0) × (size_of s.layouts V ≡ 0) × (up (size_of s.layouts (key_shape K)) (align_of s.layouts V) ≡ 0) → StandsFor s shapes V j → Sized m j (size_of s.layouts V) align → p ≤ length m.bytes.now
+    empty_entry : {V : Shape} {j align : ℕ} {pending : List ℕ} {depth : Option ℕ} {stop p start : ℕ} {seen : Seen} (K : Key) → (key_size K ≡ 0) × (size_of s.layouts V ≡ 0) × (up (size_of s.layouts (key_shape K)) (align_of s.layouts V) ≡ 0) → NodeStandsFor s shapes V j → Sized m j (size_of s.layouts V) align → p ≤ length m.bytes.now
         → Walk s m.bytes.now pending depth stop p (entry_of K V) start seen start seen
     empty_entry {V = V} K none st k room = walk_entry s m.bytes.now K V (empty_key s m.bytes.now K none.0) (rw none.2 (empty_walk st k none.1 (omega (arith, room))))
 
-    lone_case : {V : Shape} {j : ℕ} {pending : List ℕ} {depth : Option ℕ} {t start : ℕ} {seen : Seen} (K : Key) (l : ℕ) → l ≤ 1 → l * size_of s.layouts (entry_of K V) ≡ 0 → StandsFor s shapes V j → Sized m j (size_of s.layouts V) (align_of s.layouts V) → t ≤ length m.bytes.now
+    lone_case : {V : Shape} {j : ℕ} {pending : List ℕ} {depth : Option ℕ} {t start : ℕ} {seen : Seen} (K : Key) (l : ℕ) → l ≤ 1 → l * size_of s.layouts (entry_of K V) ≡ 0 → NodeStandsFor s shapes V j → Sized m j (size_of s.layouts V) (align_of s.layouts V) → t ≤ length m.bytes.now
         → WalkContents s m.bytes.now pending depth t t (Some K) (run (entry_of K V)) l start seen start seen
     lone_case K zero few e st k room = walk_entries walk_none tt
     lone_case {V = V} K (suc zero) few e st k room =
@@ -351,7 +351,7 @@ module _ (s : Schema) (shapes : ℕ → Shape) (m : Checker) where
         walk_entries (walk_element (empty_entry K none st k room) walk_none) (tt, tt)
     lone_case K (suc (suc l)) few e st k room = absurd (omega arith)
 
-    equal_case : {V : Shape} {j : ℕ} {pending : List ℕ} {depth : Option ℕ} {t start : ℕ} {seen : Seen} (K : Key) (l : ℕ) → 1 < l → l * size_of s.layouts (entry_of K V) ≡ 0 → StandsFor s shapes V j → Sized m j (size_of s.layouts V) (align_of s.layouts V) → t ≤ length m.bytes.now
+    equal_case : {V : Shape} {j : ℕ} {pending : List ℕ} {depth : Option ℕ} {t start : ℕ} {seen : Seen} (K : Key) (l : ℕ) → 1 < l → l * size_of s.layouts (entry_of K V) ≡ 0 → NodeStandsFor s shapes V j → Sized m j (size_of s.layouts V) (align_of s.layouts V) → t ≤ length m.bytes.now
         → TripsContents s m.bytes.now pending depth t t (Some K) (run (entry_of K V)) l start seen unsorted
     equal_case K zero many e st k room = absurd (omega arith)
     equal_case K (suc zero) many e st k room = absurd (omega arith)
@@ -395,7 +395,7 @@ module _ (s : Schema) (shapes : ℕ → Shape) (m : Checker) where
       order_says V (order_wrong v wrong) le = λ n. trips_order (key_says v le) wrong
       order_says V (order_kept v behind) le = (key_says v le, behind)
 
-      pub entries_say : {pending : List ℕ} {depth : Option ℕ} {stop j n p start : ℕ} {before : Option ℕ} {seen : Seen} {key : KeyExpr} {V : Shape} {o : Outcome} → EntriesRun m pending depth stop key j before n p start seen o → StandsFor s shapes V j → Sized m j (size_of s.layouts V) (align_of s.layouts V) → stop ≤ length m.bytes.now → EntriesSay n (key_of key) V before pending depth stop p start seen o
+      pub entries_say : {pending : List ℕ} {depth : Option ℕ} {stop j n p start : ℕ} {before : Option ℕ} {seen : Seen} {key : KeyExpr} {V : Shape} {o : Outcome} → EntriesRun m pending depth stop key j before n p start seen o → NodeStandsFor s shapes V j → Sized m j (size_of s.layouts V) (align_of s.layouts V) → stop ≤ length m.bytes.now → EntriesSay n (key_of key) V before pending depth stop p start seen o
       entries_say (entries_end {n = n} {before = before} {key = key} e) st k le = entries_none (key_of key) before n e
       entries_say {V = V} (entries_key {n = n} lt v) st k le = entries_key_case n lt (order_says V v le)
       entries_say {V = V} (entries_value {n = n} lt v takes w) st k le =
@@ -428,7 +428,7 @@ module _ (s : Schema) (shapes : ℕ → Shape) (m : Checker) where
           let w = node_says v (rw (← ap (λ q. q.node) same) at t) room in
           trips_first (stands_trips st (rw (same, off) at w))
 
-      pub elements_say : {X : Shape} {pending : List ℕ} {depth : Option ℕ} {stop j n p start : ℕ} {seen : Seen} {o : Outcome} → ElementsRun m pending depth stop j n p start seen o → StandsFor s shapes X j → Takes m j (size_of s.layouts X) → stop ≤ length m.bytes.now → RunSays n X pending depth stop p start seen o
+      pub elements_say : {X : Shape} {pending : List ℕ} {depth : Option ℕ} {stop j n p start : ℕ} {seen : Seen} {o : Outcome} → ElementsRun m pending depth stop j n p start seen o → NodeStandsFor s shapes X j → Takes m j (size_of s.layouts X) → stop ≤ length m.bytes.now → RunSays n X pending depth stop p start seen o
       elements_say (elements_end {n = n} e) st t le = none_case n e
       elements_say (elements_next {n = n} {p = p} {o = o} lt t' v vs) st t le =
           element_case n p o lt st (take_same t t') (node_says v t le) (elements_say vs st t le)

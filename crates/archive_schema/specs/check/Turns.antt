@@ -66,12 +66,12 @@ Turn k m entry c w result =
     TurnsFrom m (Listing m) (cost_at m (with_entry entry (stage_before k c w))) (with_entry entry (stage_before k c w)) (stage_behind k c w) result w.exit.now.fault
 
 -- a call enters a region
-abbrev pub Enters : {A : Type 0} → Context.Ghosts A → Checker → PointeeKind → ℕ → ℕ → ℤ → Both (MutBor A) (MutBor A) → Both (MutBor Worklist) (MutBor Worklist) → Option (Unit {0}) → Type 0
-Enters k m target j n z c w result = ComesInto m target j n z (stage_before k c w) (stage_behind k c w) result w.exit.now.fault
+abbrev pub TurnEnters : {A : Type 0} → Context.Ghosts A → Checker → PointeeKind → ℕ → ℕ → ℤ → Both (MutBor A) (MutBor A) → Both (MutBor Worklist) (MutBor Worklist) → Option (Unit {0}) → Type 0
+TurnEnters k m target j n z c w result = ComesInto m target j n z (stage_before k c w) (stage_behind k c w) result w.exit.now.fault
 
 -- a call follows the shared pointer at p
-abbrev pub Follows : {A : Type 0} → Context.Ghosts A → Checker → ℕ → PointeeKind → ℕ → ℕ → Both (MutBor A) (MutBor A) → Both (MutBor Worklist) (MutBor Worklist) → Option (Unit {0}) → Type 0
-Follows g m k target j p c w result =
+abbrev pub TurnFollows : {A : Type 0} → Context.Ghosts A → Checker → ℕ → PointeeKind → ℕ → ℕ → Both (MutBor A) (MutBor A) → Both (MutBor Worklist) (MutBor Worklist) → Option (Unit {0}) → Type 0
+TurnFollows g m k target j p c w result =
     TurnsFrom m (Following m k target j p) (2 + (region_cost m (stage_before g c w) + cost_at m (stage_before g c w))) (stage_before g c w) (stage_behind g c w) result w.exit.now.fault
 
 -- in a context that met nothing, this comes of the root node at a position

@@ -4,7 +4,7 @@ use Rattle.archive_schema.specs.declared.plan.extents.Extent.{Extent}
 use Rattle.archive_schema.specs.declared.shape.Schema.{Schema as RustSchema}
 use Rattle.archive_check.specs.Shape.{Shape, Parts, Variants}
 use Rattle.archive_check.specs.Layout.{Layouts, size_of, align_of, parts_end, parts_align, variants_end, variants_align}
-use Rattle.archive_check.specs.Reads.{Schema}
+use Rattle.archive_check.specs.Reads.{SchemaTable}
 use Rattle.archive_check.specs.Definitions.{Knows}
 use Rattle.archive_schema.specs.Schemas.{definitions_in}
 use Rattle.archive_check.specs.Words.BoundedSizes.{fits}
@@ -16,15 +16,15 @@ pub record Ends (e : Extent) (end align : ℕ) : Type 0 where
 
 -- under whatever knows the schema's definitions, X takes so much
 abbrev pub HasExtent : RustSchema → Shape → Extent → Type 0
-HasExtent s X e = (t : Schema) → Knows t (definitions_in s) → Ends e (size_of t.layouts X) (align_of t.layouts X)
+HasExtent s X e = (t : SchemaTable) → Knows t (definitions_in s) → Ends e (size_of t.layouts X) (align_of t.layouts X)
 
 -- so do parts, from an offset on
 abbrev pub PartsHaveExtent : RustSchema → ℕ → Parts → Extent → Type 0
-PartsHaveExtent s start ps e = (t : Schema) → Knows t (definitions_in s) → Ends e (parts_end t.layouts start ps) (parts_align t.layouts ps)
+PartsHaveExtent s start ps e = (t : SchemaTable) → Knows t (definitions_in s) → Ends e (parts_end t.layouts start ps) (parts_align t.layouts ps)
 
 -- and variants, behind their tag
 abbrev pub VariantsHaveExtent : RustSchema → Variants → Extent → Type 0
-VariantsHaveExtent s vs e = (t : Schema) → Knows t (definitions_in s) → Ends e (variants_end t.layouts vs) (variants_align t.layouts vs)
+VariantsHaveExtent s vs e = (t : SchemaTable) → Knows t (definitions_in s) → Ends e (variants_end t.layouts vs) (variants_align t.layouts vs)
 
 -- parts laid out so far, from an offset on, and those that are left
 pub record PartsSoFar (l : Layouts) (start : ℕ) (all rest : Parts) (e : Extent) : Type 0 where

@@ -45,16 +45,16 @@ abbrev pub no_lists : PlanLists
 no_lists = record { nodes = []; parts = []; variants = []; shared_types = [] }
 
 -- one list goes on from another
-pub record Goes {A : Type 0} (xs ys : List A) : Type 0 where
+pub record IsPrefix {A : Type 0} (xs ys : List A) : Type 0 where
   pub more : List A
   pub is : ys ≡ xs ++ more
 
 -- so do all of a plan's
 pub record Grows (a b : PlanLists) : Type 0 where
-  pub nodes : Goes a.nodes b.nodes
-  pub parts : Goes a.parts b.parts
-  pub variants : Goes a.variants b.variants
-  pub shared_types : Goes a.shared_types b.shared_types
+  pub nodes : IsPrefix a.nodes b.nodes
+  pub parts : IsPrefix a.parts b.parts
+  pub variants : IsPrefix a.variants b.variants
+  pub shared_types : IsPrefix a.shared_types b.shared_types
 
 -- one node more
 pub record IsPushed (a b : PlanLists) (size : Option ℕ) (align : ℕ) (kind : NodeKind) (j : ℕ) : Type 0 where
@@ -81,7 +81,7 @@ pub record IsTypeAdded (a b : PlanLists) (shared_type : SharedType) (k : ℕ) : 
   pub is : k ≡ length a.shared_types
 
 -- one shared type more, of this flavor and this pointee
-pub record IsCopied (a b : PlanLists) (flavor : FlavorInfo) (P : Pointee) (k : ℕ) : Type 0 where
+pub record IsTypeCopied (a b : PlanLists) (flavor : FlavorInfo) (P : Pointee) (k : ℕ) : Type 0 where
   pub shared_type : SharedType
   pub sorted : IsTypeAdded a b shared_type k
   pub flavor_is : shared_type.flavor ≡ flavor

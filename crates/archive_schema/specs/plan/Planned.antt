@@ -11,7 +11,7 @@ use Rattle.archive_schema.specs.declared.plan.Node.{Node}
 use Rattle.archive_check.specs.Shape.{Name, Shape, definition}
 use Rattle.archive_check.specs.Expressions.{shape_of, entries_of}
 use Rattle.archive_check.specs.Defined.{Holds, Mentions}
-use Rattle.archive_check.specs.Reads.{Schema, LaidOut}
+use Rattle.archive_check.specs.Reads.{SchemaTable, LaidOut}
 use Rattle.archive_check.specs.Words.Elements.{IsAt}
 use Rattle.archive_schema.specs.plan.SoundPlans.{IsSound}
 use Rattle.archive_schema.specs.check.PlanChecks.{PlanOf}
@@ -33,7 +33,7 @@ pub record IsOf (m : Checker) (plan : Plan) : Type 0 where
 pub record IsPlan (defs : List Def) (X : Shape) (plan : Plan) (j : ℕ) : Type 0 where
   pub below : j < length plan.nodes.items
   pub sound : (m : Checker) → IsOf m plan → IsSound m
-  pub plan_of : (m : Checker) (s : Schema) → IsOf m plan → s.table ≡ entries_of defs → LaidOut s → PlanOf m j s X
+  pub plan_of : (m : Checker) (s : SchemaTable) → IsOf m plan → s.table ≡ entries_of defs → LaidOut s → PlanOf m j s X
 
 -- each name that a definition mentions is defined, and each that it holds, and stands behind no pointer, before it
 pub record DefsInOrder (defs : List Def) : Type 0 where
@@ -58,8 +58,8 @@ pub record CanFinish (names : List NamedNode) (w : Waits) (b : PlanLists) : Type
 pub record HasNames (defs : List Def) (names : List NamedNode) (plan : Plan) : Type 0 where
   pub known : (name : Name) → is_some (node_of names name) ≡ is_some (definition (entries_of defs) name)
   pub there : (name : Name) (j : ℕ) → node_of names name ≡ Some j → j < length plan.nodes.items
-  pub sizes : (s : Schema) → s.table ≡ entries_of defs → LaidOut s → (name : Name) (j : ℕ) (node : Node) → node_of names name ≡ Some j → IsAt plan.nodes.items j node → node.size ≡ fits (s.layouts name).size
-  pub aligns : (s : Schema) → s.table ≡ entries_of defs → LaidOut s → (name : Name) (j : ℕ) (node : Node) → node_of names name ≡ Some j → IsAt plan.nodes.items j node → node.align ≡ (s.layouts name).align
+  pub sizes : (s : SchemaTable) → s.table ≡ entries_of defs → LaidOut s → (name : Name) (j : ℕ) (node : Node) → node_of names name ≡ Some j → IsAt plan.nodes.items j node → node.size ≡ fits (s.layouts name).size
+  pub aligns : (s : SchemaTable) → s.table ≡ entries_of defs → LaidOut s → (name : Name) (j : ℕ) (node : Node) → node_of names name ≡ Some j → IsAt plan.nodes.items j node → node.align ≡ (s.layouts name).align
 
 -- X was compiled from the node `start` on, on the way to the plan
 pub record CompiledFrom (names : List NamedNode) (X : Shape) (start : ℕ) (w : Waits) (b : PlanLists) (gives : List Shape) : Type 0 where

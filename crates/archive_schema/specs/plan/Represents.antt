@@ -14,7 +14,7 @@ use Rattle.archive_check.specs.declared.context.positions.SharedType.{SharedType
 use Rattle.archive_schema.specs.declared.check.Checker.{Checker}
 use Rattle.archive_check.specs.Shape.{Name, Key, Shape, leaf, parts, choice, array, boxed, vec, sorted_map, entry_of, str, shared, weak, named, Pointee, one, run, text, Parts, no_part, part, Variants, definition, variant_at}
 use Rattle.archive_check.specs.Layout.{up, size_of, align_of}
-use Rattle.archive_check.specs.Reads.{Schema}
+use Rattle.archive_check.specs.Reads.{SchemaTable}
 use Rattle.archive_check.specs.Tour.{Seen}
 use Rattle.archive_check.specs.Trail.{Fault}
 use Rattle.archive_check.specs.Walk.{Walk}
@@ -24,15 +24,15 @@ use Rattle.archive_schema.specs.check.Runs.{Takes}
 use Rattle.archive_check.specs.Outcomes.{Outcome, done, refused}
 
 -- a node stands for a shape; a name for its definition's node
-pub data StandsFor (s : Schema) (shapes : ℕ → Shape) : Shape → ℕ → Type 0 where
-  stands : {X : Shape} {j : ℕ} → shapes j ≡ X → StandsFor s shapes X j
-  stands_named : {name : Name} {X : Shape} {j : ℕ} → definition s.table name ≡ Some X → StandsFor s shapes X j → StandsFor s shapes (named name) j
+pub data NodeStandsFor (s : SchemaTable) (shapes : ℕ → Shape) : Shape → ℕ → Type 0 where
+  stands : {X : Shape} {j : ℕ} → shapes j ≡ X → NodeStandsFor s shapes X j
+  stands_named : {name : Name} {X : Shape} {j : ℕ} → definition s.table name ≡ Some X → NodeStandsFor s shapes X j → NodeStandsFor s shapes (named name) j
 
 -- the parts from a to b, laid out from an offset on
-pub data PartsStand (s : Schema) (shapes : ℕ → Shape) (m : Checker) : ℕ → ℕ → ℕ → Parts → Type 0 where
+pub data PartsStand (s : SchemaTable) (shapes : ℕ → Shape) (m : Checker) : ℕ → ℕ → ℕ → Parts → Type 0 where
   parts_over : {a b at : ℕ} → b ≤ a → PartsStand s shapes m a b at no_part
   parts_more : {a b at : ℕ} {x : PlanPart} {X : Shape} {ps : Parts}
-      → a < b → IsAt m.parts.now a x → x.offset ≡ up at (align_of s.layouts X) → StandsFor s shapes X x.node → Takes m x.node (size_of s.layouts X)
+      → a < b → IsAt m.parts.now a x → x.offset ≡ up at (align_of s.layouts X) → NodeStandsFor s shapes X x.node → Takes m x.node (size_of s.layouts X)
       → PartsStand s shapes m (a + 1) b (up at (align_of s.layouts X) + size_of s.layouts X) ps
       → PartsStand s shapes m a b at (part X ps)
 
@@ -44,13 +44,13 @@ pub record Sized (m : Checker) (j size align : ℕ) : Type 0 where
   pub align_is : node.align ≡ align
 
 -- what a pointer leads to, and in which order: entries, whose values have the node j, by their keys
-pub data Points (s : Schema) (shapes : ℕ → Shape) (m : Checker) : PointeeKind → Option Key → ℕ → Pointee → Type 0 where
-  points_one : {j : ℕ} {X : Shape} → Sized m j (size_of s.layouts X) (align_of s.layouts X) → StandsFor s shapes X j → Points s shapes m One None j (one X)
-  points_run : {j : ℕ} {X : Shape} → Sized m j (size_of s.layouts X) (align_of s.layouts X) → StandsFor s shapes X j → Points s shapes m Run None j (run X)
-  points_entries : {j : ℕ} {key : KeyExpr} {V : Shape} → Sized m j (size_of s.layouts V) (align_of s.layouts V) → StandsFor s shapes V j → Points s shapes m (Entries key) (Some (key_of key)) j (run (entry_of (key_of key) V))
+pub data Points (s : SchemaTable) (shapes : ℕ → Shape) (m : Checker) : PointeeKind → Option Key → ℕ → Pointee → Type 0 where
+  points_one : {j : ℕ} {X : Shape} → Sized m j (size_of s.layouts X) (align_of s.layouts X) → NodeStandsFor s shapes X j → Points s shapes m One None j (one X)
+  points_run : {j : ℕ} {X : Shape} → Sized m j (size_of s.layouts X) (align_of s.layouts X) → NodeStandsFor s shapes X j → Points s shapes m Run None j (run X)
+  points_entries : {j : ℕ} {key : KeyExpr} {V : Shape} → Sized m j (size_of s.layouts V) (align_of s.layouts V) → NodeStandsFor s shapes V j → Points s shapes m (Entries key) (Some (key_of key)) j (run (entry_of (key_of key) V))
   points_text : {j : ℕ} → Points s shapes m Text None j text
 
-pub data Made (s : Schema) (shapes : ℕ → Shape) (m : Checker) : NodeKind → Shape → Type 0 where
+pub data Made (s : SchemaTable) (shapes : ℕ → Shape) (m : Checker) : NodeKind → Shape → Type 0 where
   -- any bytes are an X, and hold no pointer
   made_free : {X : Shape}
       → ((bytes pending : List ℕ) (depth : Option ℕ) (stop p start : ℕ) (seen : Seen) → p + size_of s.layouts X ≤ length bytes → Walk s bytes pending depth stop p X start seen start seen)
@@ -61,7 +61,7 @@ pub data Made (s : Schema) (shapes : ℕ → Shape) (m : Checker) : NodeKind →
       → ((tag : ℕ) (x : Span) → a + tag < b → IsAt m.variants.now (a + tag) x → (ps : Parts) × (variant_at vs tag ≡ Some ps) × PartsStand s shapes m x.first x.last 1 ps)
       → ((tag : ℕ) → b ≤ a + tag → variant_at vs tag ≡ None)
       → Made s shapes m (Choice name a b) (choice name.now vs)
-  made_array : {n j : ℕ} {X : Shape} → StandsFor s shapes X j → Takes m j (size_of s.layouts X) → Made s shapes m (Array n j) (array n X)
+  made_array : {n j : ℕ} {X : Shape} → NodeStandsFor s shapes X j → Takes m j (size_of s.layouts X) → Made s shapes m (Array n j) (array n X)
   made_boxed : {target : PointeeKind} {j : ℕ} {P : Pointee} → Points s shapes m target None j P → Made s shapes m (PointerNode target j) (boxed P)
   made_vec : {j : ℕ} {X : Shape} → Points s shapes m Run None j (run X) → Made s shapes m (PointerNode Run j) (vec X)
   made_map : {j : ℕ} {key : KeyExpr} {V : Shape} → Points s shapes m (Entries key) (Some (key_of key)) j (run (entry_of (key_of key) V)) → Made s shapes m (PointerNode (Entries key) j) (sorted_map (key_of key) V)
@@ -70,7 +70,7 @@ pub data Made (s : Schema) (shapes : ℕ → Shape) (m : Checker) : NodeKind →
   made_weak : {k j : ℕ} {target : PointeeKind} {shared_type : SharedType} → IsAt m.shared_types.now k shared_type → Points s shapes m target None j (pointee_of shared_type.pointee) → Made s shapes m (Weak k target j) (weak (flavor_of shared_type.flavor) (pointee_of shared_type.pointee))
 
 -- each node that can be entered stands for its shape
-pub record Represents (s : Schema) (shapes : ℕ → Shape) (m : Checker) : Type 0 where
+pub record Represents (s : SchemaTable) (shapes : ℕ → Shape) (m : Checker) : Type 0 where
   pub made : (i : ℕ) (node : Node) (z : ℕ) → IsAt m.nodes.now i node → node.size ≡ Some z → (size_of s.layouts (shapes i) ≡ z) × Made s shapes m node.kind (shapes i)
 
 -- what an outcome means

@@ -8,7 +8,7 @@ ghost use Rattle.archive_schema.specs.check.LoopInvariant.{PointeeFits, Ready};
 ghost use Rattle.archive_schema.specs.check.Through.{PassesHeld};
 ghost use Rattle.archive_schema.specs.check.Entered.{EntersRegion, LeavesRegion};
 ghost use Rattle.archive_schema.specs.check.Paid.{Pays};
-ghost use Rattle.archive_schema.specs.check.Turns.{IsCheckable, Enters};
+ghost use Rattle.archive_schema.specs.check.Turns.{IsCheckable, TurnEnters};
 
 use crate::check::Checker;
 use crate::check::worklist::Worklist;
@@ -162,7 +162,7 @@ impl Checker<'_> {
         requires plan { IsCheckable self.now }
         requires ready { Ready self.now (C.state context.old) (list_of work.old) }
         requires pointee { PointeeFits self.now target pointee count }
-        ensures enters { Enters C.Context self.now target pointee count position context work
+        ensures enters { TurnEnters C.Context self.now target pointee count position context work
             result }
         ensures pays { Pays C.Context self.now 4 context work }
     {
@@ -197,7 +197,7 @@ impl Checker<'_> {
         requires plan { IsCheckable self.now }
         requires ready { Ready self.now (C.state context.old) (list_of work.old) }
         requires pointee { PointeeFits self.now target pointee count }
-        ensures enters { Enters C.Context self.now target pointee count position context work
+        ensures enters { TurnEnters C.Context self.now target pointee count position context work
             result }
         ensures pays { Pays C.Context self.now 4 context work }
     {

@@ -9,7 +9,7 @@ ghost use Rattle.archive_check.specs.context.FreshContexts.{KeepsLevels};
 ghost use Rattle.archive_check.specs.context.Pushes.{FewPushed};
 ghost use Rattle.archive_schema.specs.plan.PackedPlans.{size_at};
 ghost use Rattle.archive_schema.specs.check.Paid.{Pays, bytes_of, bytes_of_parts};
-ghost use Rattle.archive_schema.specs.check.Turns.{IsCheckable, Turn, Follows, PassesRoot, StopsInRoot};
+ghost use Rattle.archive_schema.specs.check.Turns.{IsCheckable, Turn, TurnFollows, PassesRoot, StopsInRoot};
 
 use crate::check::Checker;
 use crate::check::regions::leave_region;
@@ -47,7 +47,7 @@ impl Checker<'_> {
         requires within { at + pointer_bytes target ≤ length self.now.bytes.now }
         requires shared_type { shared_type < length self.now.shared_types.now }
         requires pointee { pointee < length self.now.nodes.now }
-        ensures follows { Follows C.Context self.now shared_type target pointee at context work result }
+        ensures follows { TurnFollows C.Context self.now shared_type target pointee at context work result }
         ensures pays { Pays C.Context self.now 4 context work }
     {
         let count = self.count(target, at);

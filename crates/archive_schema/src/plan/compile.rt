@@ -6,7 +6,7 @@
 ghost use Rattle.std.specs.Prelude.{◌≡◌, ◌≤◌, IfOk, true, false, length};
 ghost use Rattle.archive_check.specs.Expressions.{shape_of, flavor_of, key_of, pointee_of, shapes_in, variants_in};
 ghost use Rattle.archive_check.specs.Shape.{parts as record_of, choice, array, boxed, vec, sorted_map};
-ghost use Rattle.archive_schema.specs.plan.PlanGrowth.{lists_of, IsCopied};
+ghost use Rattle.archive_schema.specs.plan.PlanGrowth.{lists_of, IsTypeCopied};
 ghost use Rattle.archive_schema.specs.plan.Compilable.{Can, CanParts, CanVariants, CanPoint, CanWait};
 ghost use Rattle.archive_schema.specs.plan.Compiled.{counted, IsCompiled, IsCompiledAnywhere, IsCountedAnywhere, IsStringCompiled, IsPointeeCompiled, ArePartsCompiled, AreVariantsCompiled};
 
@@ -58,7 +58,7 @@ fn copy_shared_type(
     flavor: FlavorInfo,
     pointee: &Pointee,
 ) -> Result<usize, AllocError>
-    ensures { IfOk result (λ k. IsCopied (lists_of plan.old) (lists_of plan.new) flavor (pointee_of pointee.now) k) }
+    ensures { IfOk result (λ k. IsTypeCopied (lists_of plan.old) (lists_of plan.new) flavor (pointee_of pointee.now) k) }
 {
     let copy = pointee.clone()?;
     push_shared_type(plan, flavor, copy)

@@ -6,7 +6,7 @@ use Rattle.std.proofs.lemmas.Bool.{cases_eq}
 use Rattle.std.proofs.lemmas.List.Elements.{All-nil, All-cons, All-append, All-contains, Contains-append_left, Contains-append_right}
 use Rattle.archive_check.specs.Shape.{Flavor, Shape}
 use Rattle.archive_check.specs.Value.{Pointer, Value, number, product, case, list, text_value, box, null, shared_value, hole, Values, no_value, value, pointers, all_pointers}
-use Rattle.archive_check.specs.Reads.{Schema}
+use Rattle.archive_check.specs.Reads.{SchemaTable}
 use Rattle.archive_check.proofs.Maps.Entries.{shared_ordered}
 use Rattle.archive_check.specs.Tour.{Region, region_of, root_region, Contents, contents_one, Leads, Entry, entry, Seen, Tour, tour_end, tour_unique, tour_new, tour_again, Accepted}
 use Rattle.archive_check.specs.Leaves.{regions_of}
@@ -18,10 +18,10 @@ use Rattle.archive_check.proofs.Tours.Seen.{same_some, inserted_has, inserted_ap
 use Rattle.archive_types.specs.ValueOrder.{Follows, FollowsAll, follows_number, follows_product, follows_case, follows_list, follows_text, follows_box, follows_null, follows_pointer, follows_no_value, follows_value}
 
 -- it is, with each pointer followed, a value
-abbrev pub Followed : Schema → List ℕ → Value → Type 0
+abbrev pub Followed : SchemaTable → List ℕ → Value → Type 0
 Followed s bytes v = (w : Value) × Follows s bytes v w
 
-module _ (s : Schema) (bytes : List ℕ) where
+module _ (s : SchemaTable) (bytes : List ℕ) where
   -- so is what has no name in it, where each of its pointers is
   mutual
     pub follow : (v : Value) → ((t : ℕ) → Names t v → ⊥) → ((p : Pointer) → Contains (pointers v) p → Followed s bytes (hole p)) → Followed s bytes v
@@ -43,7 +43,7 @@ module _ (s : Schema) (bytes : List ℕ) where
         (_, follows_value (r.1) (q.1))
 
 -- Of pointers of which each that is allowed has no flavor with cycles, and leads to such alone.
-module _ (s : Schema) (bytes : List ℕ) (Allowed : Pointer → Type 0)
+module _ (s : SchemaTable) (bytes : List ℕ) (Allowed : Pointer → Type 0)
     (calm : (p : Pointer) (flavor : Flavor) → Allowed p → p.sharing ≡ Some flavor → IsTrue flavor.cycles → ⊥)
     (further : (p : Pointer) (t : ℕ) (v : Value) → Allowed p → Contents s bytes t p.pointee p.length v → All Allowed (pointers v)) where
   -- each allowed one is followed

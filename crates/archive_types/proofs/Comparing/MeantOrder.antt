@@ -5,7 +5,7 @@ use Rattle.std.specs.declared.cmp.Ordering.{Ordering}
 use Rattle.std.proofs.lemmas.List.Elements.{All-contains, Contains-append_left, Contains-append_right}
 use Rattle.archive_check.specs.Shape.{Flavor, Pointee}
 use Rattle.archive_check.specs.Value.{Pointer, Value, Values, product, case, list, box, value, pointers, all_pointers}
-use Rattle.archive_check.specs.Reads.{Schema}
+use Rattle.archive_check.specs.Reads.{SchemaTable}
 use Rattle.archive_check.specs.Tour.{Contents, Leads}
 use Rattle.archive_check.specs.Leaves.{regions_of}
 use Rattle.archive_check.specs.Definitions.{Definitions, Knows}
@@ -22,7 +22,7 @@ use Rattle.archive_types.proofs.Comparing.FollowedPointers.{Followed, follow, Ow
 use Rattle.archive_types.proofs.Comparing.OneReading.{contents_again, leads_again}
 
 -- what follows is one value, in one schema
-module _ (s : Schema) (bytes : List ℕ) where
+module _ (s : SchemaTable) (bytes : List ℕ) where
   mutual
     follows_one : {v w x : Value} → Follows s bytes v w → Follows s bytes v x → w ≡ x
     follows_one follows_number follows_number = refl
@@ -46,24 +46,24 @@ module _ (D : Definitions) (P : Pointee) (h : IsAcyclicPointee D P) (bytes : Lis
   abbrev calm : Flavor → Bool
   calm flavor = not flavor.cycles
 
-  abbrev Allowed : (s : Schema) → Knows s D → Pointer → Type 0
+  abbrev Allowed : (s : SchemaTable) → Knows s D → Pointer → Type 0
   Allowed s k = Right calm D h.definitions s k.has bytes
 
   -- each pointer in it is allowed
-  abbrev AllAllowed : (s : Schema) → Knows s D → Value → Type 0
+  abbrev AllAllowed : (s : SchemaTable) → Knows s D → Value → Type 0
   AllAllowed s k v = (p : Pointer) → Contains (pointers v) p → Allowed s k p
 
-  never : (s : Schema) (k : Knows s D) (p : Pointer) (flavor : Flavor) → Allowed s k p → p.sharing ≡ Some flavor → IsTrue flavor.cycles → ⊥
+  never : (s : SchemaTable) (k : Knows s D) (p : Pointer) (flavor : Flavor) → Allowed s k p → p.sharing ≡ Some flavor → IsTrue flavor.cycles → ⊥
   never s k p flavor ok e cycles = no_cycles flavor (ok.0 flavor e) cycles
 
-  further : (s : Schema) (k : Knows s D) (p : Pointer) (t : ℕ) (v : Value) → Allowed s k p → Contents s bytes t p.pointee p.length v → All (Allowed s k) (pointers v)
+  further : (s : SchemaTable) (k : Knows s D) (p : Pointer) (t : ℕ) (v : Value) → Allowed s k p → Contents s bytes t p.pointee p.length v → All (Allowed s k) (pointers v)
   further s k p t v ok c = contents_right calm D h.definitions s k.has bytes c (ok.1)
 
-  all_allowed : (s : Schema) (k : Knows s D) {q n : ℕ} {v : Value} → Contents s bytes q P n v → AllAllowed s k v
+  all_allowed : (s : SchemaTable) (k : Knows s D) {q n : ℕ} {v : Value} → Contents s bytes q P n v → AllAllowed s k v
   all_allowed s k {v = v} c p i = All-contains (Allowed s k) (pointers v) p (contents_right calm D h.definitions s k.has bytes c h.shape) i
 
   -- what lies in an accepted buffer is read there, and followed
-  lies_followed : (s : Schema) (k : Knows s D) {q n : ℕ} → Lies s bytes q P n → (v : Value) × Contents s bytes q P n v × Followed s bytes v
+  lies_followed : (s : SchemaTable) (k : Knows s D) {q n : ℕ} → Lies s bytes q P n → (v : Value) × Contents s bytes q P n v × Followed s bytes v
   lies_followed s k l =
       let (r, c, i) = l.part in
       let owned = accepted_followed s bytes (Allowed s k) (never s k) (further s k) l.accepted in
@@ -72,7 +72,7 @@ module _ (D : Definitions) (P : Pointee) (h : IsAcyclicPointee D P) (bytes : Lis
       (v, m, follow s bytes v (λ t n. contents_no_names s bytes m n) (λ p j. own p (f p j) (all_allowed s k m p j)))
 
   -- and followed so in each other schema that knows the definitions
-  module _ (s s' : Schema) (k : Knows s D) (l : Knows s' D) where
+  module _ (s s' : SchemaTable) (k : Knows s D) (l : Knows s' D) where
     mutual
       follows_again : {v w : Value} → Follows s bytes v w → AllAllowed s k v → Follows s' bytes v w
       follows_again follows_number ok = follows_number

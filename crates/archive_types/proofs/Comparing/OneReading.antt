@@ -4,8 +4,8 @@ use Rattle.std.proofs.lemmas.Bool.{and_parts}
 use Rattle.archive_check.specs.Shape.{Name, Key, Flavor, Shape, Pointee, one, run, text, Parts, part, Variants, variant, entry_of, definition}
 use Rattle.archive_check.specs.Layout.{up, size_of, align_of}
 use Rattle.archive_check.specs.Value.{Pointer, Value, Values, value}
-use Rattle.archive_check.specs.Reads.{Schema, Reads, reads_leaf, reads_parts, reads_choice, reads_array, reads_boxed, reads_vec, reads_map, reads_inline, reads_out_of_line, reads_shared, reads_null, reads_weak, reads_named, ReadsParts, reads_no_part, reads_part, ReadsRun, reads_none, reads_element}
-use Rattle.archive_check.specs.Keys.{Ascend, Ordered, in_any_order, in_key_order}
+use Rattle.archive_check.specs.Reads.{SchemaTable, Reads, reads_leaf, reads_parts, reads_choice, reads_array, reads_boxed, reads_vec, reads_map, reads_inline, reads_out_of_line, reads_shared, reads_null, reads_weak, reads_named, ReadsParts, reads_no_part, reads_part, ReadsRun, reads_none, reads_element}
+use Rattle.archive_check.specs.Keys.{Ascend, IsInOrder, in_any_order, in_key_order}
 use Rattle.archive_check.specs.Tour.{Contents, contents_one, contents_run, contents_text, pointee_size, Leads}
 use Rattle.archive_check.specs.Defined.{Holds, holds_name, holds_parts, holds_choice, holds_array, PartsHold, holds_first, holds_later, VariantsHold, holds_variant, holds_other}
 use Rattle.archive_check.specs.Definitions.{Definitions, listed, Knows}
@@ -58,7 +58,7 @@ module _ (right : Flavor → Bool) (D : Definitions) where
     variants_defined (holds_other {ps = ps} {vs = vs} k) h = variants_defined k (other_right ps vs h)
 
   -- two schemas that know the definitions
-  module _ (each : (name : Name) (Y : Shape) → Contains (listed D) (name, Y) → Right Y) (s s' : Schema) (k : Knows s D) (l : Knows s' D) where
+  module _ (each : (name : Name) (Y : Shape) → Contains (listed D) (name, Y) → Right Y) (s s' : SchemaTable) (k : Knows s D) (l : Knows s' D) where
     -- what a defined name stands for, in the one and in the other
     there : (n : Name) (Y : Shape) → definition (listed D) n ≡ Some Y → definition s.table n ≡ Some Y
     there n Y e = has_each s D k.has n Y (found_stands (listed D) n Y e)
@@ -147,7 +147,7 @@ module _ (right : Flavor → Bool) (D : Definitions) where
       contents_again (contents_run r) h = contents_run (run_again r h)
       contents_again (contents_text u) h = contents_text u
 
-      ordered_again : {t n : ℕ} {o : Option Key} {P : Pointee} → Ordered s bytes t n o P → IsTrue (pointee_has_flavors right (listed D) P) → Ordered s' bytes t n o P
+      ordered_again : {t n : ℕ} {o : Option Key} {P : Pointee} → IsInOrder s bytes t n o P → IsTrue (pointee_has_flavors right (listed D) P) → IsInOrder s' bytes t n o P
       ordered_again in_any_order h = in_any_order
       ordered_again {t = t} {n = n} (in_key_order {K = K} {V = V} g) h = let z = same_size (entry_of K V) h in in_key_order (subst (λ m. Ascend K bytes None t m n) z g)
 

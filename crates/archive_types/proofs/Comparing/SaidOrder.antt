@@ -6,7 +6,7 @@ use Rattle.std.specs.declared.cmp.Ordering.{Ordering}
 use Rattle.archive_check.specs.Shape.{Pointee}
 use Rattle.archive_check.specs.Definitions.{Definitions}
 use Rattle.archive_check.specs.Value.{Value, Values}
-use Rattle.archive_check.specs.Reads.{Schema}
+use Rattle.archive_check.specs.Reads.{SchemaTable}
 use Rattle.archive_check.specs.Denotes.{Fills, fills_number, fills_product, fills_case, fills_list, fills_text, fills_box, fills_null, fills_shared_value, fills_unique, fills_shared, FillsAll, fills_no_value, fills_value}
 use Rattle.archive_check.specs.Reached.{NamesAmong, names_itself, names_product, names_case, names_list, names_box, names_first, names_later}
 use Rattle.archive_check.specs.Viewed.{Viewed, Says}
@@ -16,7 +16,7 @@ use Rattle.archive_types.specs.SaidOrder.{SharesNothing}
 use Rattle.archive_types.specs.ValueOrder.{value_cmp, Follows, FollowsAll, follows_number, follows_product, follows_case, follows_list, follows_text, follows_box, follows_null, follows_pointer, follows_no_value, follows_value, Means, OrdersValues}
 
 mutual
-  follows_said : (s : Schema) (bytes : List ℕ) {v w : Value} → Fills s bytes v w → SharesNothing w → Follows s bytes v w
+  follows_said : (s : SchemaTable) (bytes : List ℕ) {v w : Value} → Fills s bytes v w → SharesNothing w → Follows s bytes v w
   follows_said s bytes fills_number h = follows_number
   follows_said s bytes (fills_product f) h = follows_product (all_said s bytes f (λ t n. h t (names_product n)))
   follows_said s bytes (fills_case f) h = follows_case (all_said s bytes f (λ t n. h t (names_case n)))
@@ -28,7 +28,7 @@ mutual
   follows_said s bytes (fills_unique own leads f) h = follows_pointer leads (follows_said s bytes f h)
   follows_said s bytes (fills_shared {t = t} e is) h = absurd (h t names_itself)
 
-  all_said : (s : Schema) (bytes : List ℕ) {vs ws : Values} → FillsAll s bytes vs ws → ((t : ℕ) → NamesAmong t ws → ⊥) → FollowsAll s bytes vs ws
+  all_said : (s : SchemaTable) (bytes : List ℕ) {vs ws : Values} → FillsAll s bytes vs ws → ((t : ℕ) → NamesAmong t ws → ⊥) → FollowsAll s bytes vs ws
   all_said s bytes fills_no_value h = follows_no_value
   all_said s bytes (fills_value f g) h = follows_value (follows_said s bytes f (λ t n. h t (names_first n))) (all_said s bytes g (λ t n. h t (names_later n)))
 

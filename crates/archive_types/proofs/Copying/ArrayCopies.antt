@@ -10,16 +10,16 @@ use Rattle.archive_check.specs.Layout.{Layout, size_of}
 use Rattle.archive_check.specs.Definitions.{Definitions, HasLayout, IsAlign}
 use Rattle.archive_check.specs.SelfCheck.Arrays.{array_layout, array_has_layout}
 use Rattle.archive_check.specs.Value.{Value, list}
-use Rattle.archive_check.specs.Reads.{Schema, Reads, ReadsRun, reads_none, reads_element, reads_array}
+use Rattle.archive_check.specs.Reads.{SchemaTable, Reads, ReadsRun, reads_none, reads_element, reads_array}
 use Rattle.archive_check.specs.CleanRegions.{CleanRun, clean_none, clean_element, clean_array}
 use Rattle.archive_check.specs.WriterState.{WriterState}
 use Rattle.archive_check.specs.declared.format.error.Error.{Error}
+use Rattle.archive_check.specs.Denotes.{Naming}
 use Rattle.archive_types.specs.Members.Arrays.{are, they_are, value_if, array_meaning, array_keys}
 use Rattle.archive_types.specs.Causes.{IsRegionRefused}
 use Rattle.archive_types.specs.Copies.{OwnsNothing, EachOwnsNothing, AreCopied, IsCopyRefused, copies_from, copies_to}
 use Rattle.archive_types.specs.Plans.{Serialized, SerializedRegion}
 use Rattle.archive_types.specs.Runs.{each_keys, each_meaning}
-use Rattle.archive_types.specs.Writing.{Naming}
 use Rattle.archive_types.proofs.Writing.Arrays.{serialized_array}
 use Rattle.archive_types.proofs.Copying.Copies.{serialized_as_each_is, copied_stored, copied_unstored}
 
@@ -45,7 +45,7 @@ module _ {A : Type 0} (D : Definitions) (X : Shape) (k : A → List Naming) (m :
   first_own [] ys h = (tt, h)
   first_own (x ∷ xs) ys h = (let q = first_own xs ys h.1 in ((h.0, q.0), q.1))
 
-  module _ (s : Schema) (bytes : List ℕ) where
+  module _ (s : SchemaTable) (bytes : List ℕ) where
     -- elements that are read, or clean, in front of others
 
     reads_front : (xs ys : List A) (p : ℕ) → ReadsRun s bytes p (length (xs ++ ys)) X (each_meaning m (xs ++ ys))
@@ -73,7 +73,7 @@ module _ {A : Type 0} (D : Definitions) (X : Shape) (k : A → List Naming) (m :
     arrays_own [] each h = tt
     arrays_own (x ∷ xss) each h = (let q = first_own x (flat xss) h in (array_own x each.0 q.0, arrays_own xss each.1 q.1))
 
-    module _ (s : Schema) (bytes : List ℕ) where
+    module _ (s : SchemaTable) (bytes : List ℕ) where
       arrays_read : (xss : List (List A)) → Whole n xss → (p : ℕ) → ReadsRun s bytes p (length (flat xss)) X (each_meaning m (flat xss))
           → ReadsRun s bytes p (length xss) (array n X) (each_meaning (array_meaning n m) xss)
       arrays_read [] each p h = reads_none

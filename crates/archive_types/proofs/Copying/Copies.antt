@@ -15,7 +15,7 @@ use Rattle.archive_check.specs.Value.{Value, Values, list}
 use Rattle.archive_check.specs.Reads.{reads_none}
 use Rattle.archive_check.specs.CleanRegions.{clean_none}
 use Rattle.archive_check.specs.WriterState.{WriterState, KeepsKeys}
-use Rattle.archive_types.specs.Writing.{Naming, Puts}
+use Rattle.archive_types.specs.Writing.{Puts}
 use Rattle.archive_types.specs.Members.Arrays.{ResolvesRun}
 use Rattle.archive_types.specs.Plans.{cursor, SerializedRegion}
 use Rattle.archive_types.specs.Members.PlannedOwners.{run_plan}
@@ -23,6 +23,7 @@ use Rattle.archive_types.specs.Runs.{each_keys, each_meaning, SerializedRun, ser
 use Rattle.archive_types.specs.Copies.{each_bytes, IsCopied, EachCopied, OwnsNothing, EachOwnsNothing, AreCopied, copies_from, copies_to, behind_zeros, IsUnwritten, IsCopyRefused, AreCopiesRefused, TakesCopy}
 use Rattle.archive_check.specs.declared.format.error.Error.{Error}
 use Rattle.archive_check.specs.declared.format.error.Error.TheVariants.{OutOfMemory, PositionTooLarge, LengthTooLarge, LayoutTooLarge}
+use Rattle.archive_check.specs.Denotes.{Naming}
 use Rattle.archive_write.specs.Written.{GoesOn, ExplainsRefusal, padding}
 use Rattle.archive_types.specs.Causes.{Explains, no_memory, no_room, device_failed, own_cause, of_layout, end_hinders, IsRegionRefused}
 use Rattle.archive_types.proofs.Writing.Appending.{size_is, align_is}

@@ -9,9 +9,9 @@ use Rattle.std.specs.declared.cmp.Ordering.TheVariants.{Less}
 use Rattle.archive_check.specs.Shape.{Kind, Key, leaf_key, str_key, Shape, leaf, str, sorted_map, Pointee, one, run, text, key_shape, entry_of}
 use Rattle.archive_check.specs.Layout.{Layout, kind_size, size_of}
 use Rattle.archive_check.specs.Value.{Value, number, text_value}
-use Rattle.archive_check.specs.Reads.{Schema, bytes_at, u32_at, kind_value, string_at, map_at, reads_leaf, reads_inline, reads_out_of_line}
+use Rattle.archive_check.specs.Reads.{SchemaTable, bytes_at, u32_at, kind_value, string_at, map_at, reads_leaf, reads_inline, reads_out_of_line}
 use Rattle.archive_check.specs.Readable.{position, target_from, string_text}
-use Rattle.archive_check.specs.Keys.{key_cmp, Ascend, Ordered, in_any_order, in_key_order}
+use Rattle.archive_check.specs.Keys.{key_cmp, Ascend, IsInOrder, in_any_order, in_key_order}
 use Rattle.archive_check.specs.Tour.{Contents, contents_one, contents_text}
 use Rattle.archive_check.specs.Within.{first_part, whole, in_parts}
 use Rattle.archive_check.specs.Definitions.{Definitions, no_definition, both, Knows, HasLayout}
@@ -42,11 +42,11 @@ ascend_next K bytes before q z (suc (suc n)) (suc i) a below =
     rw (here, there) (ascend_next K bytes (Some q) (q + z) z (suc n) i a.1 (omega arith))
 
 -- those of elements with an order do
-abbrev AscendOf : Schema → List ℕ → ℕ → ℕ → Option Key → Pointee → Type 0
+abbrev AscendOf : SchemaTable → List ℕ → ℕ → ℕ → Option Key → Pointee → Type 0
 AscendOf s bytes t n (Some K) (run X) = Ascend K bytes None t (size_of s.layouts X) n
 AscendOf s bytes t n o P = Unit {0}
 
-ordered_ascend : {s : Schema} {bytes : List ℕ} {t n : ℕ} {o : Option Key} {P : Pointee} → Ordered s bytes t n o P
+ordered_ascend : {s : SchemaTable} {bytes : List ℕ} {t n : ℕ} {o : Option Key} {P : Pointee} → IsInOrder s bytes t n o P
     → AscendOf s bytes t n o P
 ordered_ascend in_any_order = tt
 ordered_ascend (in_key_order h) = h
@@ -61,7 +61,7 @@ pub key_compared : (K : Key) (bytes : List ℕ) (p q : ℕ)
 key_compared (leaf_key kind) bytes p q = refl
 key_compared str_key bytes p q = refl
 
-module _ (s : Schema) (bytes : List ℕ) (D : Definitions) (k : Knows s D) where
+module _ (s : SchemaTable) (bytes : List ℕ) (D : Definitions) (k : Knows s D) where
   leaf_meant : (kind : Kind) (p : ℕ) {v : Value} → Contents s bytes p (one (leaf kind)) 0 v
       → Means D (one (leaf kind)) (standing bytes p 0) (key_value (leaf_key kind) bytes p)
   leaf_meant kind p (contents_one (reads_leaf l)) = record {
@@ -91,7 +91,7 @@ module _ (s : Schema) (bytes : List ℕ) (D : Definitions) (k : Knows s D) where
       rw same at m
 
 -- under a schema in which the map lies in an accepted buffer
-module _ (V : Shape) (K : Key) (s : Schema) (bytes : List ℕ) (q n : ℕ) (l : Lies s bytes q (one (sorted_map K V)) n) where
+module _ (V : Shape) (K : Key) (s : SchemaTable) (bytes : List ℕ) (q n : ℕ) (l : Lies s bytes q (one (sorted_map K V)) n) where
   abbrev first : ℕ
   first = target_from bytes q q
 
@@ -135,7 +135,7 @@ module _ (D F : Definitions) (V : Shape) (K : Key) (L : Layout) (laid : HasLayou
   abbrev key : ℕ → Standing
   key i = standing bytes (target_from bytes q q + i * entry_size L M) 0
 
-  module _ (s : Schema) (k : Knows s (entry_definitions D F)) (l : Lies s bytes q (one (sorted_map K V)) n) where
+  module _ (s : SchemaTable) (k : Knows s (entry_definitions D F)) (l : Lies s bytes q (one (sorted_map K V)) n) where
     means : (i : ℕ) → i < u32_at bytes (q + 4)
         → Means D (one (key_shape K)) (key i) (key_value K bytes (target_from bytes q q + i * entry_size L M))
     means i below =

@@ -10,7 +10,7 @@ use Rattle.archive_check.specs.declared.format.error.Error.{Error}
 use Rattle.archive_check.specs.Shape.{Key, leaf_key, str_key, Shape, str, sorted_map, Pointee, one, run, text, parts, part, no_part, key_shape, entry_of}
 use Rattle.archive_check.specs.Layout.{size_of}
 use Rattle.archive_check.specs.Value.{Value, Values, no_value, value, product, list, text_value, hole, pointers}
-use Rattle.archive_check.specs.Reads.{Schema, Reads, ReadsRun, bytes_at, u32_at, string_at, map_at, before_end, decoded_length, reads_leaf, reads_inline, reads_out_of_line, reads_map, reads_parts, reads_part, reads_no_part, reads_none, reads_element}
+use Rattle.archive_check.specs.Reads.{SchemaTable, Reads, ReadsRun, bytes_at, u32_at, string_at, map_at, before_end, decoded_length, reads_leaf, reads_inline, reads_out_of_line, reads_map, reads_parts, reads_part, reads_no_part, reads_none, reads_element}
 use Rattle.archive_check.specs.Readable.{position, target_from}
 use Rattle.archive_check.specs.Keys.{Ascend}
 use Rattle.archive_check.specs.Tour.{Contents, contents_one, contents_run, contents_text}
@@ -30,7 +30,7 @@ use Rattle.archive_types.proofs.Maps.InsertedPairs.{inserted_in_order}
 use Rattle.archive_types.proofs.Maps.AscendingKeys.{key_value, key_compared, map_followed}
 use Rattle.archive_types.proofs.Viewing.PartsShown.{map_has, map_shown}
 
-map_owns : (bytes : List ℕ) (q n : ℕ) (K : Key) (V : Shape) (s : Schema) (v : Value)
+map_owns : (bytes : List ℕ) (q n : ℕ) (K : Key) (V : Shape) (s : SchemaTable) (v : Value)
     → Contents s bytes q (one (sorted_map K V)) n v
     → (pointers v ≡ map_at bytes q K V ∷ []) × ((w : Value) → Fills s bytes (hole (map_at bytes q K V)) w → Fills s bytes v w)
 map_owns bytes q n K V s v (contents_one reads_map) = (refl, λ w f. f)
@@ -71,7 +71,7 @@ read_instead D bytes q n P old new w x keys names same h = record {
 }
 
 -- what a key is filled with
-module _ (s : Schema) (bytes : List ℕ) where
+module _ (s : SchemaTable) (bytes : List ℕ) where
   text_filled : {t n : ℕ} {v w : Value} → Contents s bytes t text n v → Fills s bytes v w
       → w ≡ text_value (bytes_at bytes t n)
   text_filled (contents_text u) fills_text = refl

@@ -6,7 +6,8 @@ use Rattle.archive_check.specs.Value.{Value, box, hole}
 use Rattle.archive_check.specs.WriterState.{WriterState}
 use Rattle.archive_check.specs.declared.format.error.Error.{Error}
 use Rattle.archive_check.specs.declared.format.error.Error.TheVariants.{PositionTooLarge}
-use Rattle.archive_types.specs.Writing.{Naming, to_pointee}
+use Rattle.archive_check.specs.Denotes.{Naming}
+use Rattle.archive_types.specs.Writing.{to_pointee}
 use Rattle.archive_types.specs.Plans.{cursor, Serialized, serialized, SerializedRegion, serialized_region}
 use Rattle.archive_types.specs.Members.PlannedOwners.{box_plan, vec_plan}
 use Rattle.archive_types.specs.Causes.{own_cause, of_position, part_itself, owner_box, owner_vec, stands_too_far, IsRefused, IsRegionRefused}

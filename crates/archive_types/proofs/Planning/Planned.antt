@@ -8,7 +8,7 @@ use Rattle.archive_check.specs.Shape.{Kind, number as number_kind, signed, unsig
 use Rattle.archive_check.specs.Layout.{Layout, up, size_of, align_of}
 use Rattle.archive_check.specs.Definitions.{Definitions, Knows, HasLayout, IsAlign}
 use Rattle.archive_check.specs.Value.{Value, number, text_value, hole}
-use Rattle.archive_check.specs.Reads.{Schema}
+use Rattle.archive_check.specs.Reads.{SchemaTable}
 use Rattle.archive_check.specs.Tour.{region_at}
 use Rattle.archive_check.specs.WriterState.{WriterState, KeepsKeys, Pads}
 use Rattle.archive_check.specs.declared.format.error.Error.{Error}
@@ -16,6 +16,7 @@ use Rattle.archive_check.specs.declared.format.error.Error.TheVariants.{NumberTo
 use Rattle.archive_check.proofs.Elements.{contains_first}
 use Rattle.archive_check.proofs.Tours.PartsInside.{up_le}
 use Rattle.archive_check.proofs.Names.PositiveAlignments.{align_pos}
+use Rattle.archive_check.specs.Denotes.{Naming}
 use Rattle.archive_write.specs.Written.{GoesOn, padding, ExplainsRefusal}
 use Rattle.archive_write.proofs.Padding.{padded}
 use Rattle.archive_num.specs.Offsets.{distance, IsTooFar}
@@ -23,8 +24,8 @@ use Rattle.archive_types.specs.Strings.{to_text, string_flat}
 use Rattle.archive_types.specs.Members.Planned.{text_region}
 use Rattle.archive_types.specs.Members.PlannedOwners.{one_plan}
 use Rattle.archive_types.specs.TextPlans.{HindersStringAt}
-use Rattle.archive_types.specs.Writing.{NameMap, Naming, AreNamed, Puts}
-use Rattle.archive_types.specs.Plans.{Cursor, cursor, AreBelow, StandsAt, Step, lays, plans_leaf, plans_inline, plans_out_of_line, PlanOf, RegionPlan, Serialized, serialized, SerializedRegion, serialized_region}
+use Rattle.archive_types.specs.Writing.{NameMap, AreNamed, Puts}
+use Rattle.archive_types.specs.Plans.{Cursor, cursor, AreBelow, StandsAt, Step, lays, plans_leaf, plans_inline, plans_out_of_line, ValuePlan, RegionPlan, Serialized, serialized, SerializedRegion, serialized_region}
 use Rattle.archive_types.specs.Causes.{Explains, own_cause, of_isize, of_offset, of_position, of_length, of_number, of_string, of_layout, IsOwnCause, ValuePart, HindersPartAt, part_itself, part_of_one, owner_string, IsTooWide, stands_too_far, too_wide, text_too_long, anywhere, too_far_from_here, part_hinders, length_hinders, end_hinders, HindersRegion, HindersAt, HindersRegionAt, RegionReaches, IsRefused, IsRegionRefused}
 use Rattle.archive_types.proofs.Writing.Appending.{size_is, align_is, writes_number, lays_one}
 use Rattle.archive_types.proofs.Planning.Causes.{explains_write, explains_sooner, explains_later}
@@ -79,9 +80,9 @@ serialized_inline D w bs t few = serialized (writes_inline D w bs t few)
     (λ below s names k n. record { flat = text_value bs; steps = []; stop = cursor w; plans = plans_inline few; such = (sym (flat_inline bs t few), is_here w) })
 
 -- a plan of a string's text is one of the string
-string_plan : (s : Schema) (names : NameMap) (bs : List ℕ) (a : Cursor) (holds : ℕ → List Step → Cursor → Type 0) (such : Value → List Step → Cursor → Type 0) → 8 < length bs
+string_plan : (s : SchemaTable) (names : NameMap) (bs : List ℕ) (a : Cursor) (holds : ℕ → List Step → Cursor → Type 0) (such : Value → List Step → Cursor → Type 0) → 8 < length bs
     → ((t : ℕ) (C : List Step) (b : Cursor) → holds t C b → such (hole (to_text t (length bs))) C b)
-    → RegionPlan s names text (length bs) (text_value bs) a holds → PlanOf s names str (text_value bs) a such
+    → RegionPlan s names text (length bs) (text_value bs) a holds → ValuePlan s names str (text_value bs) a such
 string_plan s names bs a holds such long f h = record {
   flat = hole (to_text h.begin (length bs));
   steps = h.steps;
@@ -206,8 +207,8 @@ module _ (D : Definitions) (X : Shape) (ks : List Naming) (v : Value) where
       ])
       (λ m x below s names l n. plan below s names l n _ (λ q t here is. omega (arith, here, x, size_is layout s l))) refused
     where
-      plan : AreBelow (cursor old) → (s : Schema) (names : NameMap) → Knows s D → AreNamed names ks → (such : ℕ → List Step → Cursor → Type 0)
-          → ((q : PlanOf s names X v (cursor old) (λ w C b. (w ≡ flat) × StandsAt b mid)) (t : ℕ) → t ≡ length low.bytes → q.flat ≡ flat
+      plan : AreBelow (cursor old) → (s : SchemaTable) (names : NameMap) → Knows s D → AreNamed names ks → (such : ℕ → List Step → Cursor → Type 0)
+          → ((q : ValuePlan s names X v (cursor old) (λ w C b. (w ≡ flat) × StandsAt b mid)) (t : ℕ) → t ≡ length low.bytes → q.flat ≡ flat
           → such t (q.steps ++ lays (region_at s t (one X) 0 false) q.flat ∷ []) (record { position = t + size_of s.layouts X; states = q.stop.states }))
           → RegionPlan s names (one X) 0 v (cursor old) such
       plan below s names l n such f =

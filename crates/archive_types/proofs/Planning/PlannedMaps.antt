@@ -8,7 +8,8 @@ use Rattle.archive_check.specs.WriterState.{WriterState}
 use Rattle.archive_check.specs.declared.format.error.Error.{Error}
 use Rattle.archive_check.specs.declared.format.error.Error.TheVariants.{PositionTooLarge, LengthTooLarge, UnsortedKeys}
 use Rattle.archive_check.proofs.Elements.{contains_first}
-use Rattle.archive_types.specs.Writing.{Naming, to_map}
+use Rattle.archive_check.specs.Denotes.{Naming}
+use Rattle.archive_types.specs.Writing.{to_map}
 use Rattle.archive_types.specs.ValueOrder.{keys_ascend}
 use Rattle.archive_types.specs.Plans.{cursor, Step, disorder, disorders, Serialized, serialized, SerializedRegion, serialized_region, HasRegionPlan}
 use Rattle.archive_types.specs.Members.PlannedMaps.{map_plan}

@@ -5,14 +5,15 @@ use Rattle.archive_check.specs.Shape.{Shape, parts, Parts, no_part, part}
 use Rattle.archive_check.specs.Layout.{up, size_of, align_of}
 use Rattle.archive_check.specs.Definitions.{Definitions, no_definition, both, Knows}
 use Rattle.archive_check.specs.Value.{Value, product, Values, no_value, value}
-use Rattle.archive_check.specs.Reads.{Schema, LaidOut}
+use Rattle.archive_check.specs.Reads.{SchemaTable, LaidOut}
 use Rattle.archive_check.specs.WriterState.{KeyStates, WriterState}
 use Rattle.archive_check.specs.declared.format.error.Error.{Error}
 use Rattle.archive_write.specs.Written.{GoesOn}
-use Rattle.archive_types.specs.Writing.{NameMap, Naming, AreNamed, World, Covers, Writes, WritesAll}
-use Rattle.archive_types.specs.Plans.{Cursor, cursor, StandsAt, Step, PlansParts, plans_no_part, plans_part, plans_parts, Plans, AreBelow, Whatever, Foreseen, PlanOf, HasPlan, Serialized, serialized}
+use Rattle.archive_types.specs.Writing.{NameMap, AreNamed, World, Covers, Writes, WritesAll}
+use Rattle.archive_types.specs.Plans.{Cursor, cursor, StandsAt, Step, PlansParts, plans_no_part, plans_part, plans_parts, Plans, AreBelow, Whatever, Foreseen, ValuePlan, HasPlan, Serialized, serialized}
 use Rattle.archive_types.specs.Causes.{Explains, ValuePart, PartOfParts, part_of_parts, in_first_part, in_later_part, HindersPart, HindersSome, IsOwnCause, Hinders, PlanReaches, IsRefused}
 use Rattle.archive_check.specs.Members.PartsLayout.{StandsFor, for_itself, by_name, IsRecord, knows_left, knows_right}
+use Rattle.archive_check.specs.Denotes.{Naming}
 use Rattle.archive_types.specs.Parts.{PartsPlan, HavePlan, SerializedParts, serialized_parts, HindersParts, PartsReach, ArePartsRefused}
 use Rattle.archive_types.specs.Members.Sides.{named_left, named_right}
 use Rattle.archive_types.specs.Members.PartsPlanned.{part_plan, product_plan, standing_plan}
@@ -26,7 +27,7 @@ pub is_at_same : (b : Cursor) (w : WriterState) → StandsAt b w → b ≡ curso
 is_at_same b w h = λ i. record { position = sym h.position i; states = λ k. sym (h.keys k) i }
 
 -- and the keys that are finished then stand below it
-pub below_later : (s : Schema) → LaidOut s → (names : NameMap) {X : Shape} {v w : Value} {a b : Cursor} {C : List Step} (mid : WriterState) → Plans s names X v a w C b → StandsAt b mid → AreBelow a
+pub below_later : (s : SchemaTable) → LaidOut s → (names : NameMap) {X : Shape} {v w : Value} {a b : Cursor} {C : List Step} (mid : WriterState) → Plans s names X v a w C b → StandsAt b mid → AreBelow a
     → AreBelow (cursor mid)
 below_later s l names {b = b} mid plans at below = subst AreBelow (is_at_same b mid at) (plans_below s l names plans below)
 
@@ -124,7 +125,7 @@ module _ (D : Definitions) (X : Shape) (E : Definitions) (ps : Parts) (is : IsRe
   pub serialized_record : (ws : Values) (old new : WriterState) → SerializedParts E ps ks vs ws old new → Serialized D X ks (product vs) (product ws) old new
   serialized_record ws old new h = serialized_standing (product ws) old new (serialized_product E ps ks vs ws old new h)
 
-  standing_cause : (s : Schema) (C : List Step) (flat : Value) (e : Error) → StandsFor s (parts ps) X
+  standing_cause : (s : SchemaTable) (C : List Step) (flat : Value) (e : Error) → StandsFor s (parts ps) X
       → HindersSome s C e ⊎ ((o : ℕ) × (Y : Shape) × (w : Value) × ValuePart s (parts ps) flat o Y w × HindersPart Y w e)
       → HindersSome s C e ⊎ ((o : ℕ) × (Y : Shape) × (w : Value) × ValuePart s X flat o Y w × HindersPart Y w e)
   standing_cause s C flat e stands (inl h) = inl h

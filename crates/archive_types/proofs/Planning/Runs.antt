@@ -5,13 +5,14 @@ use Rattle.std.proofs.lemmas.List.Elements.{Contains-append_left, Contains-appen
 use Rattle.archive_check.specs.Shape.{Shape}
 use Rattle.archive_check.specs.Definitions.{Definitions, both, listed, Knows}
 use Rattle.archive_check.specs.Value.{Value, Values, no_value, value}
-use Rattle.archive_check.specs.Reads.{Schema}
+use Rattle.archive_check.specs.Reads.{SchemaTable}
 use Rattle.archive_check.specs.WriterState.{WriterState}
 use Rattle.archive_check.specs.declared.format.error.Error.{Error}
+use Rattle.archive_check.specs.Denotes.{Naming}
 use Rattle.archive_write.specs.Written.{GoesOn}
-use Rattle.archive_types.specs.Writing.{NameMap, Naming, World, Covers, WritesAll}
+use Rattle.archive_types.specs.Writing.{NameMap, World, Covers, WritesAll}
 use Rattle.archive_types.specs.Members.Sides.{named_left, named_right}
-use Rattle.archive_types.specs.Plans.{Cursor, cursor, StandsAt, Step, plans_none, plans_element, PlanOf, HasPlan, Serialized, serialized}
+use Rattle.archive_types.specs.Plans.{Cursor, cursor, StandsAt, Step, plans_none, plans_element, ValuePlan, HasPlan, Serialized, serialized}
 use Rattle.archive_types.specs.Causes.{in_first_element, in_later_element, IsRefused}
 use Rattle.archive_types.specs.Runs.{each_meaning, each_flat, each_keys, EachBelongs, RunPlan, HasRunPlan, SerializedRun, serialized_run, IsRunRefused}
 use Rattle.archive_types.specs.Members.PlannedOwners.{each_planned}
@@ -22,7 +23,7 @@ use Rattle.archive_types.proofs.Planning.PlansForward.{run_forward}
 
 -- what is twice the same is so once
 
-knows_twice : (s : Schema) (D : Definitions) → Knows s D → Knows s (both D D)
+knows_twice : (s : SchemaTable) (D : Definitions) → Knows s D → Knows s (both D D)
 knows_twice s D k = record { has = (k.has, k.has); finite = λ name X c. elim (Contains-append_cases (listed D) (listed D) (name, X) c) [ inl d ↦ k.finite name X d | inr d ↦ k.finite name X d ]; laid_out = k.laid_out }
 
 covers_twice : (w : World) (D : Definitions) (told : List ℕ) (states : _) (keys : List Naming) → Covers w D told states keys → Covers w (both D D) told states keys
@@ -44,12 +45,12 @@ module _ (D : Definitions) (X : Shape) where
   serialized_none w = serialized_run (writes_none D w) (λ below s names k m. record { flats = no_value; steps = []; stop = cursor w; plans = plans_none; such = (refl, record { position = refl; keys = λ j. refl }) })
 
   module _ (n : ℕ) (ks ls : List Naming) (v : Value) (vs : Values) where
-    element_plan : (s : Schema) (names : NameMap) (a : Cursor) (holds : Value → List Step → Cursor → Type 0) (rest such : Values → List Step → Cursor → Type 0) → (q : PlanOf s names X v a holds)
+    element_plan : (s : SchemaTable) (names : NameMap) (a : Cursor) (holds : Value → List Step → Cursor → Type 0) (rest such : Values → List Step → Cursor → Type 0) → (q : ValuePlan s names X v a holds)
         → (r : RunPlan s names n X vs q.stop rest) → such (value q.flat r.flats) (q.steps ++ r.steps) r.stop → RunPlan s names (suc n) X (value v vs) a such
     element_plan s names a holds rest such q r h = record { flats = value q.flat r.flats; steps = q.steps ++ r.steps; stop = r.stop; plans = plans_element q.plans r.plans; such = h }
 
     -- others planned from where the writer stands are planned from where the plan ends
-    from_stop : (s : Schema) (names : NameMap) (mid : WriterState) (b : Cursor) (such : Values → List Step → Cursor → Type 0) → StandsAt b mid → RunPlan s names n X vs (cursor mid) such → RunPlan s names n X vs b such
+    from_stop : (s : SchemaTable) (names : NameMap) (mid : WriterState) (b : Cursor) (such : Values → List Step → Cursor → Type 0) → StandsAt b mid → RunPlan s names n X vs (cursor mid) such → RunPlan s names n X vs b such
     from_stop s names mid b such at r = subst (λ c. RunPlan s names n X vs c such) (sym (is_at_same b mid at)) r
 
     pub serialized_element : (w : Value) (ws : Values) (old mid new : WriterState) → Serialized D X ks v w old mid → SerializedRun D X n ls vs ws mid new

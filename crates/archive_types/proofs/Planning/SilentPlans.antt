@@ -4,7 +4,7 @@ use Rattle.std.specs.Prelude.{is_some}
 use Rattle.std.proofs.lemmas.List.Elements.{Contains-append_left, Contains-append_right}
 use Rattle.archive_check.specs.Shape.{Shape, Parts, Pointee, Flavor}
 use Rattle.archive_check.specs.Value.{Pointer, Value, Values, shared_value, pointers, all_pointers}
-use Rattle.archive_check.specs.Reads.{Schema, LaidOut}
+use Rattle.archive_check.specs.Reads.{SchemaTable, LaidOut}
 use Rattle.archive_check.specs.Tour.{Region, Seen, Tour, tour_end, tour_unique, tour_new, tour_again, region_of, pointee_size, pointee_align}
 use Rattle.archive_check.specs.Denotes.{Fills, fills_number, fills_product, fills_case, fills_list, fills_text, fills_box, fills_null, fills_shared_value, fills_unique, fills_shared, FillsAll, fills_no_value, fills_value}
 use Rattle.archive_check.specs.Reached.{names_itself, names_product, names_case, names_list, names_box, names_first, names_later}
@@ -48,7 +48,7 @@ tight_grows a (q ∷ C) r D b p e h =
     omega (arith, begins, ends, tight_grows (after q) C r D b p.1 e h.1)
 
 -- the tour of shared pointers that ends where it begins meets none anew, whatever the bytes
-pub shared_tour : (s : Schema) (l : LaidOut s) {bytes pending : List ℕ} {seen last : Seen} {O : List Pointer} {C : List Region} → Tour s bytes pending seen O C last
+pub shared_tour : (s : SchemaTable) (l : LaidOut s) {bytes pending : List ℕ} {seen last : Seen} {O : List Pointer} {C : List Region} → Tour s bytes pending seen O C last
     → AllShared O → (a b : ℕ) → Tight a C b → b ≤ a → (others : List ℕ) → Tour s others pending seen O [] seen
 shared_tour s l tour_end shared a b h le others = tour_end
 shared_tour s l (tour_unique {p = p} {ps = ps} own leads i j) shared a b h le others = absurd (not_shared p ps own shared)
@@ -60,7 +60,7 @@ shared_tour s l (tour_again {p = p} {ps = ps} e t known free j) shared a b h le 
 
 -- what fills shared pointers does so whatever the bytes
 mutual
-  pub fills_elsewhere : (s : Schema) (others : List ℕ) {bytes : List ℕ} {v w : Value} → Fills s bytes v w → AllShared (pointers v) → Fills s others v w
+  pub fills_elsewhere : (s : SchemaTable) (others : List ℕ) {bytes : List ℕ} {v w : Value} → Fills s bytes v w → AllShared (pointers v) → Fills s others v w
   fills_elsewhere s others fills_number h = fills_number
   fills_elsewhere s others (fills_product f) h = fills_product (all_elsewhere s others f h)
   fills_elsewhere s others (fills_case f) h = fills_case (all_elsewhere s others f h)
@@ -72,7 +72,7 @@ mutual
   fills_elsewhere s others (fills_unique {p = p} own leads f) h = absurd (not_shared p [] own h)
   fills_elsewhere s others (fills_shared e t) h = fills_shared e t
 
-  pub all_elsewhere : (s : Schema) (others : List ℕ) {bytes : List ℕ} {vs ws : Values} → FillsAll s bytes vs ws → AllShared (all_pointers vs) → FillsAll s others vs ws
+  pub all_elsewhere : (s : SchemaTable) (others : List ℕ) {bytes : List ℕ} {vs ws : Values} → FillsAll s bytes vs ws → AllShared (all_pointers vs) → FillsAll s others vs ws
   all_elsewhere s others fills_no_value h = fills_no_value
   all_elsewhere s others (fills_value {v = v} {vs = vs} f g) h =
       fills_value (fills_elsewhere s others f (shared_left (pointers v) (all_pointers vs) h)) (all_elsewhere s others g (shared_right (pointers v) (all_pointers vs) h))
@@ -82,11 +82,11 @@ mutual
 abbrev cursor_at : ℕ → KeyStates → Cursor
 cursor_at q states = record { position = q; states = states }
 
-region_begins : (s : Schema) (l : LaidOut s) (names : NameMap) {P : Pointee} {n t : ℕ} {v : Value} {a b : Cursor} {C : List Step} → PlansRegion s names true P n v a t C b → a.position ≤ t
+region_begins : (s : SchemaTable) (l : LaidOut s) (names : NameMap) {P : Pointee} {n t : ℕ} {v : Value} {a b : Cursor} {C : List Step} → PlansRegion s names true P n v a t C b → a.position ≤ t
 region_begins s l names (plans_region {P = P} {b = b} h here) = omega (arith, here, pointee_forward s l names h, up_le b.position (pointee_align s P) (pointee_align_low s l P))
 
 mutual
-  pub plans_anywhere : (s : Schema) (l : LaidOut s) (names : NameMap) {X : Shape} {v w : Value} {a b : Cursor} {C : List Step} → Plans s names X v a w C b → b.position ≤ a.position
+  pub plans_anywhere : (s : SchemaTable) (l : LaidOut s) (names : NameMap) {X : Shape} {v w : Value} {a b : Cursor} {C : List Step} → Plans s names X v a w C b → b.position ≤ a.position
       → AreFinished a.states v → AllShared (pointers w) → (b.states ≡ a.states) × ((q : ℕ) → Plans s names X v (cursor_at q a.states) w [] (cursor_at q a.states))
   plans_anywhere s l names plans_leaf le f h = (refl, λ q. plans_leaf)
   plans_anywhere s l names (plans_parts i) le f h = (let r = parts_anywhere s l names i le (λ k n. f k (names_product n)) h in (r.0, λ q. plans_parts (r.1 q)))
@@ -102,7 +102,7 @@ mutual
   plans_anywhere s l names (plans_weak i) le f h = (let r = key_anywhere s l names i le f in (r.0, λ q. plans_weak (r.1 q)))
   plans_anywhere s l names (plans_named is i) le f h = (let r = plans_anywhere s l names i le f h in (r.0, λ q. plans_named is (r.1 q)))
 
-  pub parts_anywhere : (s : Schema) (l : LaidOut s) (names : NameMap) {ps : Parts} {vs ws : Values} {a b : Cursor} {C : List Step} → PlansParts s names ps vs a ws C b → b.position ≤ a.position
+  pub parts_anywhere : (s : SchemaTable) (l : LaidOut s) (names : NameMap) {ps : Parts} {vs ws : Values} {a b : Cursor} {C : List Step} → PlansParts s names ps vs a ws C b → b.position ≤ a.position
       → AllFinished a.states vs → AllShared (all_pointers ws) → (b.states ≡ a.states) × ((q : ℕ) → PlansParts s names ps vs (cursor_at q a.states) ws [] (cursor_at q a.states))
   parts_anywhere s l names plans_no_part le f h = (refl, λ q. plans_no_part)
   parts_anywhere s l names (plans_part {X = X} {ps = ps} {v = v} {w = w} {vs = vs} {ws = ws} {a = a} {b = b} {c = c} i j) le f h =
@@ -110,7 +110,7 @@ mutual
       let later = parts_anywhere s l names j (omega (arith, le, plans_forward s l names i)) (subst (λ z. AllFinished z vs) (sym first.0) (λ k n. f k (names_later n))) (shared_right (pointers w) (all_pointers ws) h) in
       (later.0 ∙ first.0, λ q. plans_part (first.1 q) (subst (λ z. PlansParts s names ps vs (cursor_at q z) ws [] (cursor_at q z)) first.0 (later.1 q)))
 
-  pub run_anywhere : (s : Schema) (l : LaidOut s) (names : NameMap) {n : ℕ} {X : Shape} {vs ws : Values} {a b : Cursor} {C : List Step} → PlansRun s names n X vs a ws C b → b.position ≤ a.position
+  pub run_anywhere : (s : SchemaTable) (l : LaidOut s) (names : NameMap) {n : ℕ} {X : Shape} {vs ws : Values} {a b : Cursor} {C : List Step} → PlansRun s names n X vs a ws C b → b.position ≤ a.position
       → AllFinished a.states vs → AllShared (all_pointers ws) → (b.states ≡ a.states) × ((q : ℕ) → PlansRun s names n X vs (cursor_at q a.states) ws [] (cursor_at q a.states))
   run_anywhere s l names plans_none le f h = (refl, λ q. plans_none)
   run_anywhere s l names (plans_element {n = n} {X = X} {v = v} {w = w} {vs = vs} {ws = ws} {a = a} {b = b} {c = c} i j) le f h =
@@ -118,7 +118,7 @@ mutual
       let later = run_anywhere s l names j (omega (arith, le, plans_forward s l names i)) (subst (λ z. AllFinished z vs) (sym first.0) (λ k n. f k (names_later n))) (shared_right (pointers w) (all_pointers ws) h) in
       (later.0 ∙ first.0, λ q. plans_element (first.1 q) (subst (λ z. PlansRun s names n X vs (cursor_at q z) ws [] (cursor_at q z)) first.0 (later.1 q)))
 
-  pub key_anywhere : (s : Schema) (l : LaidOut s) (names : NameMap) {flavor : Flavor} {P : Pointee} {key : ℕ} {w : Value} {a b : Cursor} {C : List Step} → PlansShared s names flavor P key a w C b → b.position ≤ a.position
+  pub key_anywhere : (s : SchemaTable) (l : LaidOut s) (names : NameMap) {flavor : Flavor} {P : Pointee} {key : ℕ} {w : Value} {a b : Cursor} {C : List Step} → PlansShared s names flavor P key a w C b → b.position ≤ a.position
       → AreFinished a.states (shared_value key) → (b.states ≡ a.states) × ((q : ℕ) → PlansShared s names flavor P key (cursor_at q a.states) w [] (cursor_at q a.states))
   key_anywhere s l names (plans_new {key = key} {a = a} none is i) le f = absurd (omega (arith, le, region_begins s l names i, region_ends s names i))
   key_anywhere s l names (plans_finished here is) le f = (refl, λ q. plans_finished here is)

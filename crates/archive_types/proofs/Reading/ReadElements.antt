@@ -4,7 +4,7 @@ use Rattle.archive_check.specs.declared.format.error.Error.{Error}
 use Rattle.archive_check.specs.Shape.{Shape, Pointee, one}
 use Rattle.archive_check.specs.Layout.{Layout}
 use Rattle.archive_check.specs.Value.{Value, list, Values, value}
-use Rattle.archive_check.specs.Reads.{Schema, ReadsRun}
+use Rattle.archive_check.specs.Reads.{SchemaTable, ReadsRun}
 use Rattle.archive_check.specs.Tour.{Contents}
 use Rattle.archive_check.specs.Denotes.{Naming}
 use Rattle.archive_check.specs.Definitions.{Definitions, HasLayout}
@@ -26,7 +26,7 @@ keys_more keys (y ∷ ys) x = append_assoc (keys y) (each_keys keys ys) (keys x)
 
 -- what stands here is so many elements, one behind another
 pub record HasElements (D : Definitions) (X : Shape) (L : Layout) (bytes : List ℕ) (q : ℕ) (P : Pointee) (n count : ℕ) : Type 0 where
-  pub all : (s : Schema) (v : Value) → Contents s bytes q P n v → (vs : Values) × (v ≡ list vs) × ReadsRun s bytes q count X vs
+  pub all : (s : SchemaTable) (v : Value) → Contents s bytes q P n v → (vs : Values) × (v ≡ list vs) × ReadsRun s bytes q count X vs
   pub element : (k : ℕ) → k < count → IsPart D bytes q P n (q + k * L.size) X
 
 -- these are the first of them, read back

@@ -7,7 +7,7 @@ use Rattle.archive_check.specs.declared.format.error.Error.{Error}
 use Rattle.archive_check.specs.Shape.{Shape, parts, named, Pointee, one, Parts, no_part, part}
 use Rattle.archive_check.specs.Layout.{Layout, up, size_of, align_of}
 use Rattle.archive_check.specs.Value.{Pointer, Value, product, pointers, all_pointers, Values, no_value, value}
-use Rattle.archive_check.specs.Reads.{Schema, Reads, reads_parts, reads_named, ReadsParts, reads_no_part, reads_part}
+use Rattle.archive_check.specs.Reads.{SchemaTable, Reads, reads_parts, reads_named, ReadsParts, reads_no_part, reads_part}
 use Rattle.archive_check.specs.Tour.{Contents, contents_one}
 use Rattle.archive_check.specs.Denotes.{Meaning, Naming, Fills, fills_product, FillsAll, fills_no_value, fills_value, Denotes}
 use Rattle.archive_check.specs.Definitions.{Definitions, both, Knows, HasLayout}
@@ -36,20 +36,20 @@ keeps_both old mid new h g = record {
 }
 
 -- where a part begins, and where those behind it are laid out from, as a schema has it
-begins_there : (s : Schema) (A E : Definitions) (X : Shape) (L : Layout) → HasLayout A X L → Knows s (both A E) → (at : ℕ) → up at (align_of s.layouts X) ≡ up at L.align
+begins_there : (s : SchemaTable) (A E : Definitions) (X : Shape) (L : Layout) → HasLayout A X L → Knows s (both A E) → (at : ℕ) → up at (align_of s.layouts X) ≡ up at L.align
 begins_there s A E X L laid k at = ap (up at) (align_is laid s (knows_left s A E k))
 
-goes_there : (s : Schema) (A E : Definitions) (X : Shape) (L : Layout) → HasLayout A X L → Knows s (both A E) → (at : ℕ) → up at (align_of s.layouts X) + size_of s.layouts X ≡ up at L.align + L.size
+goes_there : (s : SchemaTable) (A E : Definitions) (X : Shape) (L : Layout) → HasLayout A X L → Knows s (both A E) → (at : ℕ) → up at (align_of s.layouts X) + size_of s.layouts X ≡ up at L.align + L.size
 goes_there s A E X L laid k at = rw (begins_there s A E X L laid k at, size_is laid s (knows_left s A E k)) refl
 
 -- parts of what lies at q
 module _ (D : Definitions) (bytes : List ℕ) (q : ℕ) (P : Pointee) (n : ℕ) where
   pub record Tail (E : Definitions) (ps : Parts) (at : ℕ) : Type 0 where
-    pub knows : (s : Schema) → Knows s D → Knows s E
-    pub reached : (s : Schema) → Knows s D → (l : Lies s bytes q P n) → (r : ℕ) (Y : Shape) → IsPart s q at ps r Y → (u : Value) × Reached s bytes l.root l.shape r (one Y) 0 u
+    pub knows : (s : SchemaTable) → Knows s D → Knows s E
+    pub reached : (s : SchemaTable) → Knows s D → (l : Lies s bytes q P n) → (r : ℕ) (Y : Shape) → IsPart s q at ps r Y → (u : Value) × Reached s bytes l.root l.shape r (one Y) 0 u
 
   module _ {A E : Definitions} {X : Shape} {ps : Parts} {L : Layout} {at : ℕ} (laid : HasLayout A X L) (t : Tail (both A E) (part X ps) at) where
-    first_reached : (s : Schema) → Knows s D → (l : Lies s bytes q P n) → (u : Value) × Reached s bytes l.root l.shape (q + up at L.align) (one X) 0 u
+    first_reached : (s : SchemaTable) → Knows s D → (l : Lies s bytes q P n) → (u : Value) × Reached s bytes l.root l.shape (q + up at L.align) (one X) 0 u
     first_reached s k l = subst (λ o. (u : Value) × Reached s bytes l.root l.shape (q + o) (one X) 0 u) (begins_there s A E X L laid (t.knows s k) at) (t.reached s k l _ X first_part)
 
     rest : Tail E ps (up at L.align + L.size)
@@ -61,12 +61,12 @@ module _ (D : Definitions) (bytes : List ℕ) (q : ℕ) (P : Pointee) (n : ℕ) 
   -- these were read back, as these values
   pub record TailRead (keeps : Bool) (ps : Parts) (at : ℕ) (old new : Entries) (ws : Values) (keys : List Naming) : Type 0 where
     pub kept : KeepsEntries old new
-    pub fills : AreNamedByPosition old → (s : Schema) (vs : Values) → Knows s D → Lies s bytes q P n → ReadsParts s bytes q at ps vs → FillsAll s bytes vs ws
-    pub shared : AreNamedByPosition old → (s : Schema) (m : Meaning) → Knows s D → (l : Lies s bytes q P n) → Denotes s bytes l.root l.shape m
+    pub fills : AreNamedByPosition old → (s : SchemaTable) (vs : Values) → Knows s D → Lies s bytes q P n → ReadsParts s bytes q at ps vs → FillsAll s bytes vs ws
+    pub shared : AreNamedByPosition old → (s : SchemaTable) (m : Meaning) → Knows s D → (l : Lies s bytes q P n) → Denotes s bytes l.root l.shape m
         → AreRight m.shared old → AreShared m.shared keys × AreRight m.shared new
-    pub unmet : (s : Schema) (vs : Values) → Knows s D → (l : Lies s bytes q P n) → ReadsParts s bytes q at ps vs
+    pub unmet : (s : SchemaTable) (vs : Values) → Knows s D → (l : Lies s bytes q P n) → ReadsParts s bytes q at ps vs
         → (p : Pointer) → Contains (all_pointers vs) p → IsMet s bytes l.root l.shape p → Hits s bytes old [] p → ⊥
-    pub closed : (s : Schema) → Knows s D → (l : Lies s bytes q P n) → (t : ℕ) (k : Kept) → old t ≡ None → new t ≡ Some (Some k) → IsClosed s bytes l.root l.shape old t
+    pub closed : (s : SchemaTable) → Knows s D → (l : Lies s bytes q P n) → (t : ℕ) (k : Kept) → old t ≡ None → new t ≡ Some (Some k) → IsClosed s bytes l.root l.shape old t
     pub once : KeepsRead keeps old new keys
 
   none_read : {keeps : Bool} (at : ℕ) (told : Entries) → TailRead keeps no_part at told told no_value []
@@ -79,30 +79,30 @@ module _ (D : Definitions) (bytes : List ℕ) (q : ℕ) (P : Pointee) (n : ℕ) 
     once = λ on by complete. (λ key c. absurd (omega (arith, c.1)), complete);
   }
     where
-      no_value_fills : {s : Schema} {vs : Values} → ReadsParts s bytes q at no_part vs → FillsAll s bytes vs no_value
+      no_value_fills : {s : SchemaTable} {vs : Values} → ReadsParts s bytes q at no_part vs → FillsAll s bytes vs no_value
       no_value_fills reads_no_part = fills_no_value
 
-      no_pointer : {s : Schema} {vs : Values} {p : Pointer} → ReadsParts s bytes q at no_part vs → Contains (all_pointers vs) p → ⊥
+      no_pointer : {s : SchemaTable} {vs : Values} {p : Pointer} → ReadsParts s bytes q at no_part vs → Contains (all_pointers vs) p → ⊥
       no_pointer reads_no_part c = omega (arith, c.1)
 
   -- one part, and then the others
   module _ {keeps : Bool} {A E : Definitions} {X : Shape} {ps : Parts} {L : Layout} {at : ℕ} (laid : HasLayout A X L) (t : Tail (both A E) (part X ps) at) (old mid new : Entries) (v : Value) (vs : Values) (ks ls : List Naming)
       (h : ReadsBack keeps A bytes (q + up at L.align) (one X) 0 old mid v ks) (g : TailRead keeps ps (up at L.align + L.size) mid new vs ls) where
-    knows_first : (s : Schema) → Knows s D → Knows s A
+    knows_first : (s : SchemaTable) → Knows s D → Knows s A
     knows_first s k = knows_left s A E (t.knows s k)
 
-    read_first : (s : Schema) → Knows s D → {u : Value} → Reads s bytes (q + up at (align_of s.layouts X)) X u → Reads s bytes (q + up at L.align) X u
+    read_first : (s : SchemaTable) → Knows s D → {u : Value} → Reads s bytes (q + up at (align_of s.layouts X)) X u → Reads s bytes (q + up at L.align) X u
     read_first s k {u = u} r = subst (λ o. Reads s bytes (q + o) X u) (begins_there s A E X L laid (t.knows s k) at) r
 
-    read_rest : (s : Schema) → Knows s D → {us : Values} → ReadsParts s bytes q (up at (align_of s.layouts X) + size_of s.layouts X) ps us → ReadsParts s bytes q (up at L.align + L.size) ps us
+    read_rest : (s : SchemaTable) → Knows s D → {us : Values} → ReadsParts s bytes q (up at (align_of s.layouts X) + size_of s.layouts X) ps us → ReadsParts s bytes q (up at L.align + L.size) ps us
     read_rest s k {us = us} r = subst (λ o. ReadsParts s bytes q o ps us) (goes_there s A E X L laid (t.knows s k) at) r
 
-    fills_both : AreNamedByPosition old → (s : Schema) (us : Values) → Knows s D → Lies s bytes q P n → ReadsParts s bytes q at (part X ps) us → FillsAll s bytes us (value v vs)
+    fills_both : AreNamedByPosition old → (s : SchemaTable) (us : Values) → Knows s D → Lies s bytes q P n → ReadsParts s bytes q at (part X ps) us → FillsAll s bytes us (value v vs)
     fills_both by s us k l (reads_part {v = u} {vs = rs} r others) =
         let (w, i) = first_reached laid t s k l in
         fills_value ((h.value by).fills s u (knows_first s k) (reached_lies s bytes i) (contents_one (read_first s k r))) (g.fills (h.kept.named by) s rs k l (read_rest s k others))
 
-    shared_both : AreNamedByPosition old → (s : Schema) (m : Meaning) → Knows s D → (l : Lies s bytes q P n) → Denotes s bytes l.root l.shape m → AreRight m.shared old → AreShared m.shared (ks ++ ls) × AreRight m.shared new
+    shared_both : AreNamedByPosition old → (s : SchemaTable) (m : Meaning) → Knows s D → (l : Lies s bytes q P n) → Denotes s bytes l.root l.shape m → AreRight m.shared old → AreShared m.shared (ks ++ ls) × AreRight m.shared new
     unfolding reached_lies
     shared_both by s m k l d right =
         let (w, i) = first_reached laid t s k l in
@@ -110,17 +110,17 @@ module _ (D : Definitions) (bytes : List ℕ) (q : ℕ) (P : Pointee) (n : ℕ) 
         let second = g.shared (h.kept.named by) s m k l d first.1 in
         (λ key c. ⊎_elim (λ a. first.0 key a) (λ b. second.0 key b) (Contains-append_cases ks ls key c), second.1)
 
-    closed_first : (s : Schema) → Knows s D → (l : Lies s bytes q P n) → (o : ℕ) (x : Kept) → old o ≡ None → mid o ≡ Some (Some x) → IsClosed s bytes l.root l.shape old o
+    closed_first : (s : SchemaTable) → Knows s D → (l : Lies s bytes q P n) → (o : ℕ) (x : Kept) → old o ≡ None → mid o ≡ Some (Some x) → IsClosed s bytes l.root l.shape old o
     unfolding reached_lies
     closed_first s k l o x none some = let (w, i) = first_reached laid t s k l in h.closed s (knows_first s k) (reached_lies s bytes i) o x none some
 
-    unmet_both : (s : Schema) (us : Values) → Knows s D → (l : Lies s bytes q P n) → ReadsParts s bytes q at (part X ps) us → (p : Pointer) → Contains (all_pointers us) p → IsMet s bytes l.root l.shape p → Hits s bytes old [] p → ⊥
+    unmet_both : (s : SchemaTable) (us : Values) → Knows s D → (l : Lies s bytes q P n) → ReadsParts s bytes q at (part X ps) us → (p : Pointer) → Contains (all_pointers us) p → IsMet s bytes l.root l.shape p → Hits s bytes old [] p → ⊥
     unmet_both s us k l (reads_part {v = u} {vs = rs} r others) p c met hits = ⊎_elim
         (λ a. let (w, i) = first_reached laid t s k l in h.unmet s (knows_first s k) (reached_lies s bytes i) (hits_meet s bytes hits (contents_one (read_first s k r)) a))
         (λ b. g.unmet s rs k l (read_rest s k others) p b met (hits_later s bytes l.root l.shape old mid h.kept (closed_first s k l) l.accepted met hits))
         (Contains-append_cases (pointers u) (all_pointers rs) p c)
 
-    closed_both : (s : Schema) → Knows s D → (l : Lies s bytes q P n) → (o : ℕ) (x : Kept) → old o ≡ None → new o ≡ Some (Some x) → IsClosed s bytes l.root l.shape old o
+    closed_both : (s : SchemaTable) → Knows s D → (l : Lies s bytes q P n) → (o : ℕ) (x : Kept) → old o ≡ None → new o ≡ Some (Some x) → IsClosed s bytes l.root l.shape old o
     closed_both s k l o x none some p f met e there m = by_state (mid o) refl
       where
         by_state : (b : EntryState) → mid o ≡ b → ⊥
@@ -149,13 +149,13 @@ module _ (D : Definitions) (bytes : List ℕ) (q : ℕ) (P : Pointee) (n : ℕ) 
   tail_read t (part_read_back {old = old} {mid = mid} {new = new} {v = v} {vs = vs} {ks = ks} {ls = ls} laid h r) = both_read laid t old mid new v vs ks ls h (tail_read (rest laid t) r)
 
   -- a pointer of theirs meets an open position
-  pub record TailMeets (s : Schema) (vs : Values) (told : Entries) : Type 0 where
+  pub record TailMeets (s : SchemaTable) (vs : Values) (told : Entries) : Type 0 where
     pub pointer : Pointer
     pub has : Contains (all_pointers vs) pointer
     pub hits : Hits s bytes told [] pointer
 
   pub tail_meets : {E : Definitions} {ps : Parts} {at : ℕ} {mid : Entries} (old : Entries) → KeepsEntries old mid → Tail E ps at → PartsCyclic bytes q E ps at mid
-      → (s : Schema) (vs : Values) → Knows s D → Lies s bytes q P n → ReadsParts s bytes q at ps vs → TailMeets s vs old
+      → (s : SchemaTable) (vs : Values) → Knows s D → Lies s bytes q P n → ReadsParts s bytes q at ps vs → TailMeets s vs old
   tail_meets old kept t (first_cyclic {D = A} {E = E} {X = X} {L = L} {at = at} laid c) s us k l (reads_part {v = u} {vs = rs} r others) =
       let (w, i) = first_reached laid t s k l in
       let b = by_pointer s bytes (met_before kept (c.meets s (knows_left s A E (t.knows s k)) (reached_lies s bytes i))) in
@@ -168,22 +168,22 @@ module _ (D : Definitions) (bytes : List ℕ) (q : ℕ) (P : Pointee) (n : ℕ) 
       record { pointer = m.pointer; has = Contains-append_right (pointers u) (all_pointers rs) m.pointer m.has; hits = m.hits }
 
 -- what is read of a record
-pub record IsProduct (s : Schema) (bytes : List ℕ) (q : ℕ) (ps : Parts) (v : Value) : Type 0 where
+pub record IsProduct (s : SchemaTable) (bytes : List ℕ) (q : ℕ) (ps : Parts) (v : Value) : Type 0 where
   pub values : Values
   pub is : v ≡ product values
   pub reads : ReadsParts s bytes q 0 ps values
 
-product_reads : {s : Schema} {bytes : List ℕ} {q : ℕ} {ps : Parts} {v : Value} → Reads s bytes q (parts ps) v → IsProduct s bytes q ps v
+product_reads : {s : SchemaTable} {bytes : List ℕ} {q : ℕ} {ps : Parts} {v : Value} → Reads s bytes q (parts ps) v → IsProduct s bytes q ps v
 product_reads (reads_parts {vs = vs} rs) = record { values = vs; is = refl; reads = rs }
 
-record_reads : {s : Schema} {bytes : List ℕ} {q : ℕ} {ps : Parts} {X : Shape} {v : Value} → StandsFor s (parts ps) X → Reads s bytes q X v → IsProduct s bytes q ps v
+record_reads : {s : SchemaTable} {bytes : List ℕ} {q : ℕ} {ps : Parts} {X : Shape} {v : Value} → StandsFor s (parts ps) X → Reads s bytes q X v → IsProduct s bytes q ps v
 record_reads for_itself r = product_reads r
 record_reads {ps = ps} (by_name d) (reads_named {X = Y} e r) = let same : Y ≡ parts ps = cc in product_reads (rw same at r)
 
-pub record_contents : {s : Schema} {bytes : List ℕ} {q n : ℕ} {ps : Parts} {X : Shape} {v : Value} → StandsFor s (parts ps) X → Contents s bytes q (one X) n v → IsProduct s bytes q ps v
+pub record_contents : {s : SchemaTable} {bytes : List ℕ} {q n : ℕ} {ps : Parts} {X : Shape} {v : Value} → StandsFor s (parts ps) X → Contents s bytes q (one X) n v → IsProduct s bytes q ps v
 record_contents st (contents_one r) = record_reads st r
 
-pub record_within : {s : Schema} {bytes : List ℕ} {q r : ℕ} {ps : Parts} {X Y : Shape} → StandsFor s (parts ps) X → IsPart s q 0 ps r Y → Within s bytes q X r Y
+pub record_within : {s : SchemaTable} {bytes : List ℕ} {q r : ℕ} {ps : Parts} {X Y : Shape} → StandsFor s (parts ps) X → IsPart s q 0 ps r Y → Within s bytes q X r Y
 record_within for_itself i = in_parts whole i
 record_within (by_name d) i = in_parts (in_named whole d) i
 
@@ -205,10 +205,10 @@ module _ (D : Definitions) (X : Shape) (E : Definitions) (ps : Parts) (is : IsRe
     all_read : TailRead D bytes q (one X) n keeps ps 0 old new vs keys
     all_read = tail_read D bytes q (one X) n whole_tail h
 
-    fills_record : AreNamedByPosition old → (s : Schema) (v : Value) → Knows s D → Lies s bytes q (one X) n → Contents s bytes q (one X) n v → Fills s bytes v (product vs)
+    fills_record : AreNamedByPosition old → (s : SchemaTable) (v : Value) → Knows s D → Lies s bytes q (one X) n → Contents s bytes q (one X) n v → Fills s bytes v (product vs)
     fills_record by s v k l c = let p = record_contents (is.stands s k) c in rw p.is (fills_product (all_read.fills by s p.values k l p.reads))
 
-    unmet_record : (s : Schema) → Knows s D → (l : Lies s bytes q (one X) n) → MeetsOpen s bytes old [] q (one X) n → ⊥
+    unmet_record : (s : SchemaTable) → Knows s D → (l : Lies s bytes q (one X) n) → MeetsOpen s bytes old [] q (one X) n → ⊥
     unmet_record s k l m =
         let b = by_pointer s bytes m in
         let p = record_contents (is.stands s k) b.contents in
@@ -247,7 +247,7 @@ module _ (D : Definitions) (X : Shape) (E : Definitions) (ps : Parts) (is : IsRe
 
 -- one part, and others behind it, as they are viewed
 module _ (D E : Definitions) (X : Shape) (L : Layout) (laid : HasLayout D X L) (ps : Parts) (bytes : List ℕ) (q at : ℕ) (v : PartsViewed (both D E) bytes q at (part X ps)) where
-  first_lies : (s : Schema) → Knows s (both D E) → ((r : ℕ) (Y : Shape) → IsPart s q at (part X ps) r Y → Lies s bytes r (one Y) 0) → Lies s bytes (q + up at L.align) (one X) 0
+  first_lies : (s : SchemaTable) → Knows s (both D E) → ((r : ℕ) (Y : Shape) → IsPart s q at (part X ps) r Y → Lies s bytes r (one Y) 0) → Lies s bytes (q + up at L.align) (one X) 0
   first_lies s k all = subst (λ o. Lies s bytes (q + o) (one X) 0) (begins_there s D E X L laid k at) (all _ X first_part)
 
   pub first_viewed : Viewed D bytes (q + up at L.align) (one X) 0

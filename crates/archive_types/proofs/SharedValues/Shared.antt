@@ -7,7 +7,7 @@ use Rattle.archive_check.specs.Definitions.{Definitions}
 use Rattle.archive_check.specs.Value.{Value, hole, shared_value, pointers}
 use Rattle.archive_check.specs.Keys.{in_any_order}
 use Rattle.archive_check.specs.Tour.{Region, Leads, Entry, entry, Seen, tour_end, tour_new, tour_again, region_of, pointee_size, pointee_align}
-use Rattle.archive_check.specs.Denotes.{Fills, fills_shared, rename}
+use Rattle.archive_check.specs.Denotes.{Naming, Fills, fills_shared, rename}
 use Rattle.archive_check.specs.Reached.{names_itself}
 use Rattle.archive_check.specs.Tightness.{after}
 use Rattle.archive_check.specs.CleanRegions.{Occurs, AreZero, IsZeroed, CleanPointee}
@@ -17,7 +17,7 @@ use Rattle.archive_check.proofs.Tours.StandingBytes.{stands_fits, stands_zero, s
 use Rattle.archive_check.proofs.Tours.Tightness.{tight_append, clean_regions_append}
 use Rattle.archive_check.proofs.Elements.{contains_cases, contains_later}
 use Rattle.archive_check.proofs.Tours.Seen.{same_some, inserted_has, inserted_apart}
-use Rattle.archive_types.specs.Writing.{Naming, World, Covers, Known, Unseen, Found, Appends, FinishesKeys, AreFinished, Writes, LaysOutShared, to_shared}
+use Rattle.archive_types.specs.Writing.{World, Covers, Known, Unseen, Found, Appends, FinishesKeys, AreFinished, Writes, LaysOutShared, to_shared}
 use Rattle.archive_types.proofs.SharedValues.KeyStates.{set_here, set_other}
 use Rattle.archive_types.proofs.Writing.Appending.{longer, finishes_nothing, finishes_wider}
 use Rattle.archive_types.proofs.Writing.Denoting.{one_value, one_entry}

@@ -9,31 +9,32 @@ use Rattle.archive_check.specs.WriterState.{KeyState, KeyStates, WriterState, Ke
 use Rattle.archive_check.specs.declared.format.error.Error.{Error}
 use Rattle.archive_check.specs.declared.format.error.Error.TheVariants.{CyclicSerialize}
 use Rattle.archive_write.specs.Written.{GoesOn}
-use Rattle.archive_write.specs.Sharing.{IsSet, KeepsKnown, started, start_answer}
+use Rattle.archive_write.specs.Sharing.{IsSet, KeepsKnown, started_key, start_answer}
 use Rattle.archive_check.specs.context.PositionStates.{finish_answer}
+use Rattle.archive_check.specs.Denotes.{Naming}
 use Rattle.archive_write.specs.declared.sharing.SharingState.{SharingState}
 use Rattle.archive_write.specs.declared.sharing.SharingState.TheVariants.{Started, Pending}
-use Rattle.archive_types.specs.Writing.{Naming, LaysOut}
+use Rattle.archive_types.specs.Writing.{LaysOut}
 use Rattle.archive_types.specs.Plans.{cursor, begun, StandsAt, LiesAsPlanned, SerializedRegion, serialized_region, SerializedShared, serialized_shared}
 use Rattle.archive_types.specs.Causes.{Explains, own_cause, HindersRegion, HindersShared, RegionReaches, IsRegionRefused}
 use Rattle.archive_types.proofs.SharedValues.KeyStates.{set_here, set_other}
 use Rattle.archive_types.proofs.Planning.Causes.{goes_kept, explains_later}
 
 -- where a new key's value is begun
-pub begun_cursor : (old mid : WriterState) (key : ℕ) → old.states key ≡ None → KeepsBytes old mid → IsSet old.states key (started (old.states key)) mid.states
+pub begun_cursor : (old mid : WriterState) (key : ℕ) → old.states key ≡ None → KeepsBytes old mid → IsSet old.states key (started_key (old.states key)) mid.states
     → cursor mid ≡ begun (cursor old) key
 begun_cursor old mid key unknown same set =
-    let states : mid.states ≡ update nat_eq old.states key (Some None) = (λ i k. (set k ∙ ap (λ s. update nat_eq old.states key (started s) k) unknown) i) in
+    let states : mid.states ≡ update nat_eq old.states key (Some None) = (λ i k. (set k ∙ ap (λ s. update nat_eq old.states key (started_key s) k) unknown) i) in
     (λ i. record { position = length (same.0 i); states = states i })
 
 but_states : (a b : WriterState) → KeepsBytes a b → b ≡ record a { states = b.states }
 but_states a b (bytes, room, failures) = λ i. record { bytes = bytes i; room = room i; failures = failures i; states = b.states }
 
 -- it goes on from where the key was unknown
-pub begun_goes : (old mid : WriterState) (key : ℕ) → old.states key ≡ None → KeepsBytes old mid → IsSet old.states key (started (old.states key)) mid.states → GoesOn old mid
+pub begun_goes : (old mid : WriterState) (key : ℕ) → old.states key ≡ None → KeepsBytes old mid → IsSet old.states key (started_key (old.states key)) mid.states → GoesOn old mid
 begun_goes old mid key unknown same set = goes_kept old mid same (λ k x is. elim (cases_eq k key) [
   | inl eq ↦ (let none : old.states k ≡ None = rw eq unknown in cc)
-  | inr n ↦ set_other old.states mid.states key (started (old.states key)) set k n ∙ is
+  | inr n ↦ set_other old.states mid.states key (started_key (old.states key)) set k n ∙ is
 ])
 
 module _ (D : Definitions) (P : Pointee) (n : ℕ) (ks : List Naming) (v : Value) (key : ℕ) where
@@ -43,7 +44,7 @@ module _ (D : Definitions) (P : Pointee) (n : ℕ) (ks : List Naming) (v : Value
   abbrev Reached : WriterState → ℕ → Type 0
   Reached old = RegionReaches D P n ks v (begun (cursor old) key)
 
-  pub shared_hindered : (old mid new : WriterState) (e : Error) → old.states key ≡ None → KeepsBytes old mid → IsSet old.states key (started (old.states key)) mid.states
+  pub shared_hindered : (old mid new : WriterState) (e : Error) → old.states key ≡ None → KeepsBytes old mid → IsSet old.states key (started_key (old.states key)) mid.states
       → GoesOn mid new → IsRegionRefused D P n ks v mid new e → Explains (Hindered old) (Reached old) old new e
   shared_hindered old mid new e unknown same set g h =
       let at = begun_cursor old mid key unknown same set in
@@ -55,7 +56,7 @@ module _ (D : Definitions) (P : Pointee) (n : ℕ) (ks : List Naming) (v : Value
   shared_pending old mid new is = own_cause (inl (refl, is))
 
   -- what an unknown key names was laid out, and the key finished there
-  pub laid_shared : (p : ℕ) (old mid low new : WriterState) → old.states key ≡ None → KeepsBytes old mid → IsSet old.states key (started (old.states key)) mid.states
+  pub laid_shared : (p : ℕ) (old mid low new : WriterState) → old.states key ≡ None → KeepsBytes old mid → IsSet old.states key (started_key (old.states key)) mid.states
       → SerializedRegion D P n ks v p mid low → KeepsBytes low new → IsSet low.states key (Some (Some p)) new.states → SerializedShared D P n key ks v p old new
   laid_shared p old mid low new unknown same set (serialized_region lays planned) like finish = serialized_shared
       (record {
@@ -96,8 +97,8 @@ pending_known (Some None) a e f = refl
 pending_known (Some (Some p)) a e f = cc
 
 -- a key that was started, and stayed so, is finished
-pub finished_served : (f g h : KeyStates) (key : ℕ) (r : Result (Unit {0}) Error) (e : Error) → f key ≡ None → IsSet f key (started (f key)) g → KeepsKnown g h → r ≡ finish_answer is_some (h key) → r ≡ Err e → ⊥
+pub finished_served : (f g h : KeyStates) (key : ℕ) (r : Result (Unit {0}) Error) (e : Error) → f key ≡ None → IsSet f key (started_key (f key)) g → KeepsKnown g h → r ≡ finish_answer is_some (h key) → r ≡ Err e → ⊥
 finished_served f g h key r e unknown set kept answer is =
-    let here : g key ≡ Some None = set_here f g key (started (f key)) set ∙ ap started unknown in
+    let here : g key ≡ Some None = set_here f g key (started_key (f key)) set ∙ ap started_key unknown in
     let there : h key ≡ Some None = kept key None here in
     let served : r ≡ Ok tt = answer ∙ ap (finish_answer is_some) there in cc

@@ -3,14 +3,15 @@ use Rattle.std.proofs.Common.{◌≡◌, inl, inr, ℕ, ◌+◌, ◌<◌, List, 
 use Rattle.archive_check.specs.Shape.{Flavor, shared, Pointee}
 use Rattle.archive_check.specs.Definitions.{Definitions}
 use Rattle.archive_check.specs.Value.{Value, hole, shared_value}
-use Rattle.archive_check.specs.Reads.{Schema}
+use Rattle.archive_check.specs.Reads.{SchemaTable}
 use Rattle.archive_check.specs.Tour.{Entry, pointee_size}
 use Rattle.archive_check.specs.CleanRegions.{IsZeroed}
 use Rattle.archive_check.specs.WriterState.{WriterState}
 use Rattle.archive_check.specs.declared.format.error.Error.{Error}
 use Rattle.archive_check.specs.declared.format.error.Error.TheVariants.{CyclicSerialize}
 use Rattle.archive_check.proofs.Elements.{contains_first}
-use Rattle.archive_types.specs.Writing.{Naming, to_shared}
+use Rattle.archive_check.specs.Denotes.{Naming}
+use Rattle.archive_types.specs.Writing.{to_shared}
 use Rattle.archive_types.specs.Members.SharedLaws.{as_shared}
 use Rattle.archive_types.specs.Plans.{cursor, begun, ended, meets, plans_shared, plans_new, plans_finished, plans_pending, Serialized, serialized, SerializedShared, serialized_shared}
 use Rattle.archive_types.specs.Causes.{own_cause, of_key, key_hinders, IsRefused}

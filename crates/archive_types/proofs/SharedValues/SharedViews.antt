@@ -9,7 +9,7 @@ use Rattle.archive_check.specs.Shape.{Flavor, Shape, shared, weak, Pointee, one}
 use Rattle.archive_check.specs.Layout.{pointer_size}
 use Rattle.archive_check.specs.Definitions.{Definitions, Knows}
 use Rattle.archive_check.specs.Value.{Value, Pointer, hole, null, shared_value, pointers}
-use Rattle.archive_check.specs.Reads.{Schema, i32_at, length_at, pointer_at, reads_shared, reads_weak, reads_null}
+use Rattle.archive_check.specs.Reads.{SchemaTable, i32_at, length_at, pointer_at, reads_shared, reads_weak, reads_null}
 use Rattle.archive_check.specs.Tour.{Contents, contents_one}
 use Rattle.archive_check.specs.Denotes.{Fills, fills_shared, fills_null}
 use Rattle.archive_check.specs.Readable.{position, target_from}
@@ -18,11 +18,11 @@ use Rattle.archive_check.proofs.Elements.{contains_first}
 use Rattle.archive_check.proofs.Viewing.Viewed.{lies_fits, lies_reads, lies_leads}
 
 -- what a pointer that is read there leads to
-pub record LeadsFrom (s : Schema) (bytes : List ℕ) (q : ℕ) (P : Pointee) : Type 0 where
+pub record LeadsFrom (s : SchemaTable) (bytes : List ℕ) (q : ℕ) (P : Pointee) : Type 0 where
   pub lands : pos q +ℤ i32_at bytes q ≡ pos (target_from bytes q q)
   pub there : Lies s bytes (target_from bytes q q) P (length_at bytes q P)
 
-leads_from : (s : Schema) (bytes : List ℕ) (q n : ℕ) (X : Shape) (P : Pointee) (sharing : _) → Lies s bytes q (one X) n → Contents s bytes q (one X) n (hole (pointer_at bytes q sharing P)) → LeadsFrom s bytes q P
+leads_from : (s : SchemaTable) (bytes : List ℕ) (q n : ℕ) (X : Shape) (P : Pointee) (sharing : _) → Lies s bytes q (one X) n → Contents s bytes q (one X) n (hole (pointer_at bytes q sharing P)) → LeadsFrom s bytes q P
 leads_from s bytes q n X P sharing l c =
     let p : Pointer = pointer_at bytes q sharing P in
     let (t, at, i) = lies_leads s bytes l c p (contains_first [] p) in
@@ -30,14 +30,14 @@ leads_from s bytes q n X P sharing l c =
     let both : (pos q +ℤ i32_at bytes q ≡ pos (target_from bytes q q)) × Lies s bytes (target_from bytes q q) P (length_at bytes q P) = rw there (refl, i) in
     record { lands = both.0; there = both.1 }
 
-pub shared_hole : {s : Schema} {bytes : List ℕ} {q n : ℕ} {flavor : Flavor} {P : Pointee} {v : Value} → Contents s bytes q (one (shared flavor P)) n v → v ≡ hole (pointer_at bytes q (Some flavor) P)
+pub shared_hole : {s : SchemaTable} {bytes : List ℕ} {q n : ℕ} {flavor : Flavor} {P : Pointee} {v : Value} → Contents s bytes q (one (shared flavor P)) n v → v ≡ hole (pointer_at bytes q (Some flavor) P)
 shared_hole (contents_one reads_shared) = refl
 
-pub weak_hole : {s : Schema} {bytes : List ℕ} {q n : ℕ} {flavor : Flavor} {P : Pointee} {v : Value} → i32_at bytes q ≢ pos 1 → Contents s bytes q (one (weak flavor P)) n v → v ≡ hole (pointer_at bytes q (Some flavor) P)
+pub weak_hole : {s : SchemaTable} {bytes : List ℕ} {q n : ℕ} {flavor : Flavor} {P : Pointee} {v : Value} → i32_at bytes q ≢ pos 1 → Contents s bytes q (one (weak flavor P)) n v → v ≡ hole (pointer_at bytes q (Some flavor) P)
 weak_hole far (contents_one (reads_null e)) = absurd (far e)
 weak_hole far (contents_one (reads_weak e)) = refl
 
-weak_null : {s : Schema} {bytes : List ℕ} {q n : ℕ} {flavor : Flavor} {P : Pointee} {v : Value} → i32_at bytes q ≡ pos 1 → Contents s bytes q (one (weak flavor P)) n v → v ≡ null
+weak_null : {s : SchemaTable} {bytes : List ℕ} {q n : ℕ} {flavor : Flavor} {P : Pointee} {v : Value} → i32_at bytes q ≡ pos 1 → Contents s bytes q (one (weak flavor P)) n v → v ≡ null
 weak_null is (contents_one (reads_null e)) = refl
 weak_null is (contents_one (reads_weak e)) = absurd (e is)
 
@@ -54,10 +54,10 @@ module _ (D : Definitions) (bytes : List ℕ) (q n : ℕ) (flavor : Flavor) (P :
   pub weak_fits : Viewed D bytes q (one (weak flavor P)) n → q + pointer_size P ≤ length bytes
   weak_fits v = ∥∥₁_elim v le_prop (λ (s, k, l). lies_fits s bytes k.laid_out l)
 
-  shared_leads : (s : Schema) → Lies s bytes q (one (shared flavor P)) n → LeadsFrom s bytes q P
+  shared_leads : (s : SchemaTable) → Lies s bytes q (one (shared flavor P)) n → LeadsFrom s bytes q P
   shared_leads s l = let (v, c) = lies_reads s bytes l in leads_from s bytes q n (shared flavor P) P (Some flavor) l (rw (shared_hole c) at c)
 
-  weak_leads : i32_at bytes q ≢ pos 1 → (s : Schema) → Lies s bytes q (one (weak flavor P)) n → LeadsFrom s bytes q P
+  weak_leads : i32_at bytes q ≢ pos 1 → (s : SchemaTable) → Lies s bytes q (one (weak flavor P)) n → LeadsFrom s bytes q P
   weak_leads far s l = let (v, c) = lies_reads s bytes l in leads_from s bytes q n (weak flavor P) P (Some flavor) l (rw (weak_hole far c) at c)
 
   pub shared_shown : Viewed D bytes q (one (shared flavor P)) n → PointerShown D bytes q P

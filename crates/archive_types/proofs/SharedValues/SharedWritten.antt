@@ -6,9 +6,9 @@ use Rattle.std.proofs.lemmas.List.Elements.{Contains-append_left, Contains-appen
 use Rattle.archive_check.specs.Shape.{Flavor, Shape, shared, weak, Pointee}
 use Rattle.archive_check.specs.Definitions.{Definitions}
 use Rattle.archive_check.specs.Value.{Pointer, Value, hole, null, shared_value}
-use Rattle.archive_check.specs.Reads.{Schema}
+use Rattle.archive_check.specs.Reads.{SchemaTable}
 use Rattle.archive_check.specs.Tour.{Region, region_at}
-use Rattle.archive_check.specs.Denotes.{fills_null}
+use Rattle.archive_check.specs.Denotes.{Naming, fills_null}
 use Rattle.archive_check.specs.CleanRegions.{IsZeroed}
 use Rattle.archive_check.specs.WriterState.{KeyState, WriterState, KeepsBytes, KeepsKeys}
 use Rattle.archive_check.specs.declared.format.error.Error.{Error}
@@ -16,9 +16,9 @@ use Rattle.archive_check.specs.declared.format.error.Error.TheVariants.{CyclicSe
 use Rattle.archive_check.proofs.Elements.{contains_first, contains_cases}
 use Rattle.archive_write.specs.Written.{GoesOn, ExplainsRefusal}
 use Rattle.archive_write.specs.Sharing.{known_answer}
-use Rattle.archive_types.specs.Writing.{NameMap, Naming, to_shared}
+use Rattle.archive_types.specs.Writing.{NameMap, to_shared}
 use Rattle.archive_types.specs.Members.SharedLaws.{naming_of, as_shared, as_weak}
-use Rattle.archive_types.specs.Plans.{Cursor, cursor, begun, ended, StandsAt, Step, lays, plans_shared, plans_null, plans_new, PlanOf, RegionPlan, Serialized, serialized, SerializedShared, serialized_shared}
+use Rattle.archive_types.specs.Plans.{Cursor, cursor, begun, ended, StandsAt, Step, lays, plans_shared, plans_null, plans_new, ValuePlan, RegionPlan, Serialized, serialized, SerializedShared, serialized_shared}
 use Rattle.archive_types.specs.Causes.{Explains, own_cause, of_position, of_length, ValuePart, part_itself, IsOwner, owner_shared, owner_weak, HindersPart, stands_too_far, IsSharedOwner, shared_owner, weak_owner, shared_too_long, HindersStep, part_hinders, length_hinders, end_hinders, HindersSome, Hinders, HindersRegion, HindersShared, PlanReaches, RegionReaches, IsRefused}
 use Rattle.archive_types.proofs.Planning.Causes.{explains_sooner, explains_later, explains_write}
 use Rattle.archive_types.proofs.Planning.PlansForward.{begun_below}
@@ -28,12 +28,12 @@ use Rattle.archive_types.proofs.SharedValues.SharedPlans.{behind_empty, serializ
 
 -- what hinders a region of its own hinders the shared one
 
-moved_step : (s : Schema) (t n : ℕ) (P : Pointee) (w : Value) (e : Error) → HindersStep s (lays (region_at s t P n false) w) e → HindersStep s (lays (region_at s t P n true) w) e
+moved_step : (s : SchemaTable) (t n : ℕ) (P : Pointee) (w : Value) (e : Error) → HindersStep s (lays (region_at s t P n false) w) e → HindersStep s (lays (region_at s t P n true) w) e
 moved_step s t n P w e (part_hinders {o = o} {Y = Y} {w = u} p h) = part_hinders {r = region_at s t P n true} {o = o} {Y = Y} {w = u} p h
 moved_step s t n P w e (length_hinders l) = length_hinders {r = region_at s t P n true} l
 moved_step s t n P w e (end_hinders l) = end_hinders {r = region_at s t P n true} l
 
-moved_steps : (s : Schema) (C : List Step) (t n : ℕ) (P : Pointee) (w : Value) (e : Error) → HindersSome s (C ++ lays (region_at s t P n false) w ∷ []) e → HindersSome s (C ++ lays (region_at s t P n true) w ∷ []) e
+moved_steps : (s : SchemaTable) (C : List Step) (t n : ℕ) (P : Pointee) (w : Value) (e : Error) → HindersSome s (C ++ lays (region_at s t P n false) w ∷ []) e → HindersSome s (C ++ lays (region_at s t P n true) w ∷ []) e
 moved_steps s C t n P w e (x, c, h) =
     let there : Step = lays (region_at s t P n true) w in
     ⊎_elim
@@ -102,7 +102,7 @@ module _ (D : Definitions) (P : Pointee) (n : ℕ) (ks : List Naming) (v : Value
     planned_byte : length mid.bytes ≡ p → PlanReaches D (shared flavor P) all (shared_value key) (cursor old) (p + 1)
     planned_byte here below s names k m = by_state (old.states key) refl
       where
-        with_new : old.states key ≡ None → SerializedShared D P n key ks v p old mid → PlanOf s names (shared flavor P) (shared_value key) (cursor old) (λ flat C b. p + 1 ≤ b.position)
+        with_new : old.states key ≡ None → SerializedShared D P n key ks v p old mid → ValuePlan s names (shared flavor P) (shared_value key) (cursor old) (λ flat C b. p + 1 ≤ b.position)
         with_new none (serialized_shared laid planned) =
             let q = planned (begun_below (cursor old) key below) s names k m.1 in
             let r = as_shared s names q.plans in
@@ -115,7 +115,7 @@ module _ (D : Definitions) (P : Pointee) (n : ℕ) (ks : List Naming) (v : Value
               such = omega (arith, r.end, a_byte q.begin r.size p empty q.such.0);
             }
 
-        by_state : (state : KeyState) → old.states key ≡ state → PlanOf s names (shared flavor P) (shared_value key) (cursor old) (λ flat C b. p + 1 ≤ b.position)
+        by_state : (state : KeyState) → old.states key ≡ state → ValuePlan s names (shared flavor P) (shared_value key) (cursor old) (λ flat C b. p + 1 ≤ b.position)
         by_state None none = with_new none (laid none)
         by_state (Some None) pending = (let f = known None pending in cc)
         by_state (Some (Some t)) done =
@@ -174,7 +174,7 @@ weak_serialized D flavor P ks v flat old new (serialized writes planned) = seria
     let q = planned below s names k m in
     record { flat = q.flat; steps = q.steps; stop = q.stop; plans = as_weak q.plans; such = q.such }))
 
-weak_part : {s : Schema} {flavor : Flavor} {P : Pointee} {v : Value} {o : ℕ} {Y : Shape} {w : Value} {e : Error} → ValuePart s (shared flavor P) v o Y w → HindersPart Y w e
+weak_part : {s : SchemaTable} {flavor : Flavor} {P : Pointee} {v : Value} {o : ℕ} {Y : Shape} {w : Value} {e : Error} → ValuePart s (shared flavor P) v o Y w → HindersPart Y w e
     → (Z : Shape) × ValuePart s (weak flavor P) v o Z w × HindersPart Z w e
 weak_part {flavor = flavor} {P = P} part_itself (stands_too_far owner_shared there far) = (weak flavor P, part_itself, stands_too_far owner_weak there far)
 weak_part {flavor = flavor} {P = P} part_itself (shared_too_long shared_owner long) = (weak flavor P, part_itself, shared_too_long weak_owner long)

@@ -4,11 +4,11 @@ use Rattle.std.proofs.Math.Logic.{∥∥₁_map, ∥∥₁_elim}
 use Rattle.std.specs.Coded.{le_prop}
 use Rattle.archive_check.specs.Shape.{Shape, Pointee, one, Parts}
 use Rattle.archive_check.specs.Value.{Value, product, Values}
-use Rattle.archive_check.specs.Reads.{Schema, Reads, ReadsParts}
+use Rattle.archive_check.specs.Reads.{SchemaTable, Reads, ReadsParts}
 use Rattle.archive_check.specs.Tour.{contents_one}
 use Rattle.archive_check.specs.Denotes.{Fills, fills_product}
 use Rattle.archive_check.specs.Definitions.{Definitions, Knows}
-use Rattle.archive_check.specs.Members.PartsLayout.{part_at, definitions_at, offset_at, knows_at, PartsLaidOut, IsRecord}
+use Rattle.archive_check.specs.Members.PartsLayout.{part_at, definitions_at, offset_of_part, knows_at, PartsLaidOut, IsRecord}
 use Rattle.archive_check.specs.Viewed.{Lies, Viewed}
 use Rattle.archive_check.specs.Within.{IsPart}
 use Rattle.archive_check.proofs.Meanings.MeaningUnique.{fills_one}
@@ -20,13 +20,13 @@ use Rattle.archive_types.specs.Views.{ShowsPart}
 use Rattle.archive_types.proofs.Viewing.ChoicesShown.{filled_part}
 use Rattle.archive_types.proofs.Reading.ReadRecords.{record_contents, record_within}
 
-product_filled : {s : Schema} {bytes : List ℕ} {q : ℕ} {ps : Parts} {vs : Values} {w : Value} (i : ℕ) (Y : Shape) → part_at ps i ≡ Some Y → ReadsParts s bytes q 0 ps vs → Fills s bytes (product vs) w
-    → (x u : Value) × Reads s bytes (q + offset_at s.layouts 0 ps i) Y x × Fills s bytes x u × (field_in i w ≡ Some u)
+product_filled : {s : SchemaTable} {bytes : List ℕ} {q : ℕ} {ps : Parts} {vs : Values} {w : Value} (i : ℕ) (Y : Shape) → part_at ps i ≡ Some Y → ReadsParts s bytes q 0 ps vs → Fills s bytes (product vs) w
+    → (x u : Value) × Reads s bytes (q + offset_of_part s.layouts 0 ps i) Y x × Fills s bytes x u × (field_in i w ≡ Some u)
 product_filled i Y e rs (fills_product fs) = filled_part i Y e rs fs
 
 module _ (D : Definitions) (X : Shape) (E : Definitions) (ps : Parts) (is : IsRecord D X E ps) (bytes : List ℕ) (q n : ℕ) (P : Pointee) (one_is : P ≡ one X) (a : ℕ) (end : ℕ → ℕ) (begin : ℕ → ℕ → ℕ)
     (laid : PartsLaidOut E ps a end begin) (i : ℕ) (Y : Shape) (at : part_at ps i ≡ Some Y) where
-  field_lies : (s : Schema) → Knows s D → Lies s bytes q P n → Lies s bytes (q + begin 0 i) (one Y) 0
+  field_lies : (s : SchemaTable) → Knows s D → Lies s bytes q P n → Lies s bytes (q + begin 0 i) (one Y) 0
   field_lies s k l =
       let (w, r) = lies_reached s bytes (rw one_is at l) in
       let there : IsPart s q 0 ps (q + begin 0 i) Y = laid.begins s (is.known s k) q 0 i Y at in

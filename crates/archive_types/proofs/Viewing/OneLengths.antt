@@ -7,10 +7,10 @@ use Rattle.archive_check.specs.Shape.{Shape, Parts, Pointee, one, run, text, ent
 use Rattle.archive_check.specs.Layout.{has_length}
 use Rattle.archive_check.specs.Definitions.{Definitions}
 use Rattle.archive_check.specs.Value.{Pointer, Value, Values, value, pointers, all_pointers}
-use Rattle.archive_check.specs.Reads.{Schema, length_at, pointer_at, string_at, Reads, reads_leaf, reads_parts, reads_choice, reads_array, reads_boxed, reads_vec, reads_map, reads_inline, reads_out_of_line, reads_shared, reads_null, reads_weak, reads_named, ReadsParts, reads_no_part, reads_part, ReadsRun, reads_none, reads_element}
+use Rattle.archive_check.specs.Reads.{SchemaTable, length_at, pointer_at, string_at, Reads, reads_leaf, reads_parts, reads_choice, reads_array, reads_boxed, reads_vec, reads_map, reads_inline, reads_out_of_line, reads_shared, reads_null, reads_weak, reads_named, ReadsParts, reads_no_part, reads_part, ReadsRun, reads_none, reads_element}
 use Rattle.archive_check.specs.Tour.{Region, region_of, root_region, Contents, contents_one, contents_run, contents_text, Seen, Tour, tour_end, tour_unique, tour_new, tour_again, Accepted}
 use Rattle.archive_check.specs.Leaves.{regions_of}
-use Rattle.archive_check.specs.Within.{PartOf, whole_region, in_one, in_run, in_string}
+use Rattle.archive_check.specs.Within.{PartOfRegion, whole_region, in_one, in_run, in_string}
 use Rattle.archive_check.specs.Viewed.{Lies, Viewed}
 
 -- of one value the length is 0
@@ -28,7 +28,7 @@ length_of_one bytes p (one X) e = refl
 length_of_one bytes p (run X) e = cc
 length_of_one bytes p text e = cc
 
-module _ (s : Schema) (bytes : List ℕ) where
+module _ (s : SchemaTable) (bytes : List ℕ) where
   hole_of_length : (p : Pointer) → IsOfLength p → All IsOfLength (p ∷ [])
   hole_of_length p h = All-cons IsOfLength p [] h (All-nil IsOfLength)
 
@@ -75,7 +75,7 @@ module _ (s : Schema) (bytes : List ℕ) where
   accepted_lengths : {root : ℕ} {X : Shape} (a : Accepted s bytes root X) → All RegionOfLength (regions_of a)
   accepted_lengths {root = root} {X = X} a = with_region a.regions (root_region s root X) [] (tour_lengths a.tour (reads_lengths a.flat.reads)) (λ e. refl) (All-nil RegionOfLength)
 
-  part_length : {r : Region} {q n : ℕ} {P : Pointee} → PartOf s bytes r q P n → RegionOfLength r → IsOneLength P n
+  part_length : {r : Region} {q n : ℕ} {P : Pointee} → PartOfRegion s bytes r q P n → RegionOfLength r → IsOneLength P n
   part_length whole_region h = h
   part_length (in_one e w) h = λ one. refl
   part_length (in_run e below w) h = λ one. refl

@@ -8,7 +8,7 @@ use Rattle.std.proofs.lemmas.List.Elements.{Contains-push}
 use Rattle.archive_check.specs.Shape.{Key, Shape, boxed, vec, sorted_map, Pointee, one, run, entry_of}
 use Rattle.archive_check.specs.Layout.{Layout, size_of, pointer_size}
 use Rattle.archive_check.specs.Value.{Pointer, Value, box, list, hole, pointers, Values}
-use Rattle.archive_check.specs.Reads.{Schema, i32_at, u32_at, length_at, pointer_at, map_at, Reads, reads_boxed, reads_vec, reads_map, ReadsRun, reads_none, reads_element}
+use Rattle.archive_check.specs.Reads.{SchemaTable, i32_at, u32_at, length_at, pointer_at, map_at, Reads, reads_boxed, reads_vec, reads_map, ReadsRun, reads_none, reads_element}
 use Rattle.archive_check.specs.Tour.{Contents, contents_one, contents_run}
 use Rattle.archive_check.specs.Denotes.{Fills, fills_box, fills_list, fills_unique, fills_shared, FillsAll, fills_no_value, fills_value}
 use Rattle.archive_check.specs.Definitions.{Definitions, Knows, HasLayout}
@@ -22,7 +22,7 @@ use Rattle.archive_check.proofs.Viewing.Viewed.{lies_fits, lies_reads, lies_lead
 use Rattle.archive_types.specs.Views.{boxed_in, itself, value_at, element_in, ShowsPart}
 
 -- what a unique pointer's hole is filled with is what is reached there
-hole_says : {s : Schema} {bytes : List ℕ} {root t : ℕ} {X : Shape} {p : Pointer} {w u : Value} → Fills s bytes (hole p) w → p.sharing ≡ None → p.target ≡ pos t → Reached s bytes root X t p.pointee p.length u → w ≡ u
+hole_says : {s : SchemaTable} {bytes : List ℕ} {root t : ℕ} {X : Shape} {p : Pointer} {w u : Value} → Fills s bytes (hole p) w → p.sharing ≡ None → p.target ≡ pos t → Reached s bytes root X t p.pointee p.length u → w ≡ u
 hole_says {s = s} {bytes = bytes} {t = t} (fills_unique {t = r} {v = v} e leads f) none at i =
     let same : r ≡ t = pos_one (sym leads.target ∙ at) in
     let one : v ≡ i.value = contents_one_value (rw same at leads.contents) i.reads in
@@ -40,8 +40,8 @@ abbrev owned_at : List ℕ → ℕ → Option Key → Pointee → Pointer
 owned_at bytes q o P = record { target = pos q +ℤ i32_at bytes q; sharing = None; order = o; pointee = P; length = length_at bytes q P }
 
 -- W owns a P by the pointer at q, of which its value is made
-module _ (D : Definitions) (bytes : List ℕ) (q n : ℕ) (W : Shape) (o : Option Key) (P : Pointee) (has : (s : Schema) (v : Value) → Contents s bytes q (one W) n v → Contains (pointers v) (owned_at bytes q o P)) where
-  leads : (s : Schema) → Knows s D → Lies s bytes q (one W) n → (pos q +ℤ i32_at bytes q ≡ pos (target_from bytes q q)) × Lies s bytes (target_from bytes q q) P (length_at bytes q P)
+module _ (D : Definitions) (bytes : List ℕ) (q n : ℕ) (W : Shape) (o : Option Key) (P : Pointee) (has : (s : SchemaTable) (v : Value) → Contents s bytes q (one W) n v → Contains (pointers v) (owned_at bytes q o P)) where
+  leads : (s : SchemaTable) → Knows s D → Lies s bytes q (one W) n → (pos q +ℤ i32_at bytes q ≡ pos (target_from bytes q q)) × Lies s bytes (target_from bytes q q) P (length_at bytes q P)
   leads s k l =
       let (v, c) = lies_reads s bytes l in
       let (t, e, i) = lies_leads s bytes l c (owned_at bytes q o P) (has s v c) in
@@ -56,7 +56,7 @@ module _ (D : Definitions) (bytes : List ℕ) (q n : ℕ) (W : Shape) (o : Optio
   }
 
   owner_shows : (taken : Value → Option Value) (around : Value → Value) → ((u : Value) → taken (around u) ≡ Some u)
-      → ((s : Schema) (v w : Value) → Contents s bytes q (one W) n v → Fills s bytes v w → (u : Value) × (w ≡ around u) × Fills s bytes (hole (owned_at bytes q o P)) u)
+      → ((s : SchemaTable) (v w : Value) → Contents s bytes q (one W) n v → Fills s bytes v w → (u : Value) × (w ≡ around u) × Fills s bytes (hole (owned_at bytes q o P)) u)
       → ShowsPart D bytes q (one W) n (target_from bytes q q) P (length_at bytes q P) taken
   owner_shows taken around back filled = record {
     shown = λ s root X w k r.
@@ -67,22 +67,22 @@ module _ (D : Definitions) (bytes : List ℕ) (q n : ℕ) (W : Shape) (o : Optio
         (x, ap taken is ∙ back x, rw (there, same) i);
   }
 
-pub box_has : (bytes : List ℕ) (q n : ℕ) (P : Pointee) (s : Schema) (v : Value) → Contents s bytes q (one (boxed P)) n v → Contains (pointers v) (pointer_at bytes q None P)
+pub box_has : (bytes : List ℕ) (q n : ℕ) (P : Pointee) (s : SchemaTable) (v : Value) → Contents s bytes q (one (boxed P)) n v → Contains (pointers v) (pointer_at bytes q None P)
 box_has bytes q n P s v (contents_one reads_boxed) = Contains-push [] (pointer_at bytes q None P)
 
-box_filled : (bytes : List ℕ) (q n : ℕ) (P : Pointee) (s : Schema) (v w : Value) → Contents s bytes q (one (boxed P)) n v → Fills s bytes v w → (u : Value) × (w ≡ box u) × Fills s bytes (hole (pointer_at bytes q None P)) u
+box_filled : (bytes : List ℕ) (q n : ℕ) (P : Pointee) (s : SchemaTable) (v w : Value) → Contents s bytes q (one (boxed P)) n v → Fills s bytes v w → (u : Value) × (w ≡ box u) × Fills s bytes (hole (pointer_at bytes q None P)) u
 box_filled bytes q n P s v w (contents_one reads_boxed) (fills_box {w = u} f) = (u, refl, f)
 
-vec_has : (bytes : List ℕ) (q n : ℕ) (X : Shape) (s : Schema) (v : Value) → Contents s bytes q (one (vec X)) n v → Contains (pointers v) (pointer_at bytes q None (run X))
+vec_has : (bytes : List ℕ) (q n : ℕ) (X : Shape) (s : SchemaTable) (v : Value) → Contents s bytes q (one (vec X)) n v → Contains (pointers v) (pointer_at bytes q None (run X))
 vec_has bytes q n X s v (contents_one reads_vec) = Contains-push [] (pointer_at bytes q None (run X))
 
-vec_filled : (bytes : List ℕ) (q n : ℕ) (X : Shape) (s : Schema) (v w : Value) → Contents s bytes q (one (vec X)) n v → Fills s bytes v w → (u : Value) × (w ≡ u) × Fills s bytes (hole (pointer_at bytes q None (run X))) u
+vec_filled : (bytes : List ℕ) (q n : ℕ) (X : Shape) (s : SchemaTable) (v w : Value) → Contents s bytes q (one (vec X)) n v → Fills s bytes v w → (u : Value) × (w ≡ u) × Fills s bytes (hole (pointer_at bytes q None (run X))) u
 vec_filled bytes q n X s v w (contents_one reads_vec) f = (w, refl, f)
 
-pub map_has : (bytes : List ℕ) (q n : ℕ) (K : Key) (V : Shape) (s : Schema) (v : Value) → Contents s bytes q (one (sorted_map K V)) n v → Contains (pointers v) (map_at bytes q K V)
+pub map_has : (bytes : List ℕ) (q n : ℕ) (K : Key) (V : Shape) (s : SchemaTable) (v : Value) → Contents s bytes q (one (sorted_map K V)) n v → Contains (pointers v) (map_at bytes q K V)
 map_has bytes q n K V s v (contents_one reads_map) = Contains-push [] (map_at bytes q K V)
 
-map_filled : (bytes : List ℕ) (q n : ℕ) (K : Key) (V : Shape) (s : Schema) (v w : Value) → Contents s bytes q (one (sorted_map K V)) n v → Fills s bytes v w → (u : Value) × (w ≡ u) × Fills s bytes (hole (map_at bytes q K V)) u
+map_filled : (bytes : List ℕ) (q n : ℕ) (K : Key) (V : Shape) (s : SchemaTable) (v w : Value) → Contents s bytes q (one (sorted_map K V)) n v → Fills s bytes v w → (u : Value) × (w ≡ u) × Fills s bytes (hole (map_at bytes q K V)) u
 map_filled bytes q n K V s v w (contents_one reads_map) f = (w, refl, f)
 
 module _ (D : Definitions) (bytes : List ℕ) (q n : ℕ) where
@@ -118,7 +118,7 @@ module _ (D : Definitions) (bytes : List ℕ) (q n : ℕ) where
 
   -- a slice of an X
   module _ (X : Shape) (L : Layout) (laid : HasLayout D X L) where
-    sized : (s : Schema) → Knows s D → size_of s.layouts X ≡ L.size
+    sized : (s : SchemaTable) → Knows s D → size_of s.layouts X ≡ L.size
     sized s k = ap (λ l. l.size) (laid.solved s k)
 
     pub run_within : Viewed D bytes q (run X) n → q + n * L.size ≤ length bytes
@@ -129,21 +129,21 @@ module _ (D : Definitions) (bytes : List ℕ) (q n : ℕ) where
       pub element_within : Viewed D bytes q (run X) n → q + k * L.size + L.size ≤ length bytes
       element_within v = let h = run_within v in let more : (k + 1) * L.size ≤ n * L.size = mul-le-mul_right L.size (omega arith) in omega (arith, h, more)
 
-      element_lies : (s : Schema) → Knows s D → Lies s bytes q (run X) n → Lies s bytes (q + k * L.size) (one X) 0
+      element_lies : (s : SchemaTable) → Knows s D → Lies s bytes q (run X) n → Lies s bytes (q + k * L.size) (one X) 0
       element_lies s kn l = let (u, r) = element_reached s bytes {k = k} (lies_reached s bytes l).1 below in let here = sized s kn in rw here at (reached_lies s bytes r)
 
       pub element_viewed : (P : Pointee) → P ≡ one X → Viewed D bytes q (run X) n → Viewed D bytes (q + k * L.size) P 0
       element_viewed P is v = rw is (∥∥₁_map v (λ (s, kn, l). (s, kn, element_lies s kn l)))
 
       -- what is read there, and what it is filled with
-      pub filled_at : {s : Schema} {p m : ℕ} {vs ws : Values} (i : ℕ) → i < m → ReadsRun s bytes p m X vs → FillsAll s bytes vs ws → (v u : Value) × Reads s bytes (p + i * size_of s.layouts X) X v × Fills s bytes v u × (value_at i ws ≡ Some u)
+      pub filled_at : {s : SchemaTable} {p m : ℕ} {vs ws : Values} (i : ℕ) → i < m → ReadsRun s bytes p m X vs → FillsAll s bytes vs ws → (v u : Value) × Reads s bytes (p + i * size_of s.layouts X) X v × Fills s bytes v u × (value_at i ws ≡ Some u)
       filled_at i less reads_none fs = absurd (omega arith)
       filled_at {s = s} zero less (reads_element {p = p} {v = v} r rs) (fills_value {w = w} f fs) = let here : p + 0 * size_of s.layouts X ≡ p = omega arith in (v, w, rw here r, f, refl)
       filled_at {s = s} (suc i) less (reads_element {p = p} r rs) (fills_value f fs) =
           let (v, u, h, g, e) = filled_at i (omega arith) rs fs in
           let there : p + suc i * size_of s.layouts X ≡ p + size_of s.layouts X + i * size_of s.layouts X = omega arith in (v, u, rw there h, g, e)
 
-      run_filled : {s : Schema} {v w : Value} → Contents s bytes q (run X) n v → Fills s bytes v w → (x u : Value) × Reads s bytes (q + k * size_of s.layouts X) X x × Fills s bytes x u × (element_in k w ≡ Some u)
+      run_filled : {s : SchemaTable} {v w : Value} → Contents s bytes q (run X) n v → Fills s bytes v w → (x u : Value) × Reads s bytes (q + k * size_of s.layouts X) X x × Fills s bytes x u × (element_in k w ≡ Some u)
       run_filled (contents_run rs) (fills_list fs) = filled_at k below rs fs
 
       pub element_shows : (P : Pointee) → P ≡ one X → ShowsPart D bytes q (run X) n (q + k * L.size) P 0 (element_in k)
@@ -157,12 +157,12 @@ module _ (D : Definitions) (bytes : List ℕ) (q n : ℕ) where
             (u, e ∙ ap Some same, here);
       })
         where
-          at_size : (s : Schema) (root : ℕ) (Y : Shape) (u : Value) {a b : ℕ} → a ≡ b → Reached s bytes root Y (q + k * a) (one X) 0 u → Reached s bytes root Y (q + k * b) (one X) 0 u
+          at_size : (s : SchemaTable) (root : ℕ) (Y : Shape) (u : Value) {a b : ℕ} → a ≡ b → Reached s bytes root Y (q + k * a) (one X) 0 u → Reached s bytes root Y (q + k * b) (one X) 0 u
           at_size s root Y u e r = rw (← e) r
 
 -- one value lies in the buffer
 pub one_within : (D : Definitions) (bytes : List ℕ) (q : ℕ) (X : Shape) (L : Layout) → HasLayout D X L → (P : Pointee) → P ≡ one X → Viewed D bytes q P 0 → q + L.size ≤ length bytes
 one_within D bytes q X L laid P is v =
     let w : Viewed D bytes q (one X) 0 = rw is at v in
-    let sized : (s : Schema) → Knows s D → size_of s.layouts X ≡ L.size = λ s k. ap (λ l. l.size) (laid.solved s k) in
+    let sized : (s : SchemaTable) → Knows s D → size_of s.layouts X ≡ L.size = λ s k. ap (λ l. l.size) (laid.solved s k) in
     ∥∥₁_elim w le_prop (λ (s, k, l). let h = lies_fits s bytes k.laid_out l in rw (sized s k) at h)

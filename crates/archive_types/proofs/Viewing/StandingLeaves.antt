@@ -5,28 +5,28 @@ use Rattle.std.proofs.lemmas.List.Elements.{All-nil, All-cons, All-append, All-c
 use Rattle.archive_check.specs.Shape.{Name, Kind, Shape, leaf, parts, choice, array, str, named, Pointee, one, run, text, Parts, Variants, definition, variant_at}
 use Rattle.archive_check.specs.Layout.{size_of}
 use Rattle.archive_check.specs.Value.{Pointer, Value, Values, hole, pointers}
-use Rattle.archive_check.specs.Reads.{Schema, bytes_at, u32_at, i32_at, IsOutOfLine, before_end, decoded_length, string_at, Reads, reads_leaf, reads_parts, reads_choice, reads_array, reads_inline, reads_out_of_line, reads_named, ReadsParts, reads_part, ReadsRun, reads_none, reads_element}
+use Rattle.archive_check.specs.Reads.{SchemaTable, bytes_at, u32_at, i32_at, IsOutOfLine, before_end, decoded_length, string_at, Reads, reads_leaf, reads_parts, reads_choice, reads_array, reads_inline, reads_out_of_line, reads_named, ReadsParts, reads_part, ReadsRun, reads_none, reads_element}
 use Rattle.archive_check.specs.Tour.{Region, region_of, root_region, Contents, contents_one, contents_run, contents_text, Seen, Tour, tour_end, tour_unique, tour_new, tour_again, Accepted}
-use Rattle.archive_check.specs.Leaves.{Leaf, text_leaf, leaves, leaves_of_parts, leaves_of_run, leaves_of_contents, leaves_of_tour, leaves_of, regions_of}
-use Rattle.archive_check.specs.Within.{IsPart, first_part, later_part, Within, whole, in_parts, in_choice, in_array, in_named, PartOf, whole_region, in_one, in_run, in_string, PartOfSome}
+use Rattle.archive_check.specs.Leaves.{PlacedLeaf, text_leaf, leaves, leaves_of_parts, leaves_of_run, leaves_of_contents, leaves_of_tour, leaves_of, regions_of}
+use Rattle.archive_check.specs.Within.{IsPart, first_part, later_part, Within, whole, in_parts, in_choice, in_array, in_named, PartOfRegion, whole_region, in_one, in_run, in_string, PartOfSome}
 use Rattle.archive_check.proofs.Editing.Texts.{inline_bytes}
 use Rattle.archive_check.proofs.Meanings.ReachedParts.{LeadsInto, Closed, part_of_reads, accepted_closed}
 use Rattle.archive_check.specs.Readable.{position, target_from}
 use Rattle.archive_types.specs.Sealed.{leaf_at, string_leaf}
 
 -- each leaf of the first list is one of the second
-abbrev Among : List Leaf → List Leaf → Type 0
-Among xs ys = (x : Leaf) → Contains xs x → Contains ys x
+abbrev Among : List PlacedLeaf → List PlacedLeaf → Type 0
+Among xs ys = (x : PlacedLeaf) → Contains xs x → Contains ys x
 
-module _ (s : Schema) (bytes : List ℕ) where
+module _ (s : SchemaTable) (bytes : List ℕ) where
   -- what is read of a part, with its leaves among these
-  abbrev Sub : ℕ → Shape → List Leaf → Type 0
+  abbrev Sub : ℕ → Shape → List PlacedLeaf → Type 0
   Sub q Y ys = (w : Value) × (k : Reads s bytes q Y w) × Among (leaves k) ys
 
-  abbrev SubContents : ℕ → Pointee → ℕ → List Leaf → Type 0
+  abbrev SubContents : ℕ → Pointee → ℕ → List PlacedLeaf → Type 0
   SubContents q P n ys = (w : Value) × (k : Contents s bytes q P n w) × Among (leaves_of_contents k) ys
 
-  onward : {q : ℕ} {Y : Shape} (xs ys : List Leaf) → Sub q Y xs → Among xs ys → Sub q Y ys
+  onward : {q : ℕ} {Y : Shape} (xs ys : List PlacedLeaf) → Sub q Y xs → Among xs ys → Sub q Y ys
   onward xs ys (w, k, f) g = (w, k, λ x c. g x (f x c))
 
   part_leaves : {p at q : ℕ} {ps : Parts} {vs : Values} {Y : Shape} → IsPart s p at ps q Y → (r : ReadsParts s bytes p at ps vs) → Sub q Y (leaves_of_parts r)
@@ -73,7 +73,7 @@ module _ (s : Schema) (bytes : List ℕ) where
   string_step (contents_one (reads_out_of_line o long)) inline = absurd (inline o)
 
   -- so of what lies in a region
-  part_of_leaves : {r : Region} {q : ℕ} {P : Pointee} {n : ℕ} {v : Value} → PartOf s bytes r q P n → (c : Contents s bytes r.begin r.pointee r.length v) → SubContents q P n (leaves_of_contents c)
+  part_of_leaves : {r : Region} {q : ℕ} {P : Pointee} {n : ℕ} {v : Value} → PartOfRegion s bytes r q P n → (c : Contents s bytes r.begin r.pointee r.length v) → SubContents q P n (leaves_of_contents c)
   part_of_leaves {v = v} whole_region c = (v, c, λ x h. h)
   part_of_leaves {r = r} {v = v} (in_one {q = q} {Y = Y} e w) c =
       subst (λ P. (d : Contents s bytes r.begin P r.length v) → SubContents q (one Y) 0 (leaves_of_contents d)) (sym e) (λ d. one_step w d) c
@@ -82,13 +82,13 @@ module _ (s : Schema) (bytes : List ℕ) where
   part_of_leaves (in_string i inline) c = let (w, h, f) = part_of_leaves i c in let (u, k, g) = string_step h inline in (u, k, λ x d. f x (g x d))
 
   -- the region says something, and its leaves are among these
-  abbrev Covered : List Leaf → Region → Type 0
+  abbrev Covered : List PlacedLeaf → Region → Type 0
   Covered ys r = (v : Value) × (c : Contents s bytes r.begin r.pointee r.length v) × Among (leaves_of_contents c) ys
 
-  around : (ys : List Leaf) (C : List Region) (r : Region) (D : List Region) → All (Covered ys) C → Covered ys r → All (Covered ys) D → All (Covered ys) (C ++ r ∷ D)
+  around : (ys : List PlacedLeaf) (C : List Region) (r : Region) (D : List Region) → All (Covered ys) C → Covered ys r → All (Covered ys) D → All (Covered ys) (C ++ r ∷ D)
   around ys C r D h i j = All-append (Covered ys) C (r ∷ D) h (All-cons (Covered ys) r D i j)
 
-  tour_covered : {pending : List ℕ} {seen last : Seen} {O : List Pointer} {C : List Region} (i : Tour s bytes pending seen O C last) (ys : List Leaf) → Among (leaves_of_tour i) ys → All (Covered ys) C
+  tour_covered : {pending : List ℕ} {seen last : Seen} {O : List Pointer} {C : List Region} (i : Tour s bytes pending seen O C last) (ys : List PlacedLeaf) → Among (leaves_of_tour i) ys → All (Covered ys) C
   tour_covered tour_end ys f = All-nil (Covered ys)
   tour_covered (tour_unique {p = p} {t = t} {v = v} {C = C} {D = D} e l i j) ys f =
       around ys C (region_of s p t) D

@@ -4,7 +4,7 @@ use Rattle.std.proofs.lemmas.List.Elements.{Contains-push}
 use Rattle.archive_check.specs.Shape.{Name, Flavor, Shape, choice, shared, weak, Pointee, one, Variants, part, no_part, variant_at}
 use Rattle.archive_check.specs.Layout.{Layout, up}
 use Rattle.archive_check.specs.Value.{Pointer, Value, hole, pointers}
-use Rattle.archive_check.specs.Reads.{Schema, i32_at, length_at, pointer_at}
+use Rattle.archive_check.specs.Reads.{SchemaTable, i32_at, length_at, pointer_at}
 use Rattle.archive_check.specs.Tour.{Contents, Accepted}
 use Rattle.archive_check.specs.Leaves.{regions_of}
 use Rattle.archive_check.specs.Within.{IsPart, first_part, whole, in_choice, PartOfSome}
@@ -19,7 +19,7 @@ use Rattle.archive_types.specs.Standing.{View, view, StandsWith}
 use Rattle.archive_types.specs.Views.{ShowsPart}
 
 -- what is reached is a part, whatever the tour
-reached_part : {s : Schema} {bytes : List ℕ} {root q n : ℕ} {X : Shape} {P : Pointee} {w : Value} (a : Accepted s bytes root X) → Reached s bytes root X q P n w → PartOfSome s bytes (regions_of a) q P n
+reached_part : {s : SchemaTable} {bytes : List ℕ} {root q n : ℕ} {X : Shape} {P : Pointee} {w : Value} (a : Accepted s bytes root X) → Reached s bytes root X q P n w → PartOfSome s bytes (regions_of a) q P n
 reached_part {s = s} {bytes = bytes} a r = let same : r.accepted.regions ≡ a.regions = (tours_one s bytes a r.accepted).0 in rw same at r.part
 
 -- what a part shows stands with it
@@ -32,7 +32,7 @@ shown_with D bytes q P n r Q m taken shows = record {
 }
 
 -- so does what a pointer leads to
-pub pointer_with : (D : Definitions) (bytes : List ℕ) (q n : ℕ) (W : Shape) (p : Pointer) (r : ℕ) → ((t : ℕ) → p.target ≡ pos t → t ≡ r) → ((s : Schema) (v : Value) → Contents s bytes q (one W) n v → v ≡ hole p)
+pub pointer_with : (D : Definitions) (bytes : List ℕ) (q n : ℕ) (W : Shape) (p : Pointer) (r : ℕ) → ((t : ℕ) → p.target ≡ pos t → t ≡ r) → ((s : SchemaTable) (v : Value) → Contents s bytes q (one W) n v → v ≡ hole p)
     → StandsWith D bytes (view q (one W) n) (view r p.pointee p.length)
 pointer_with D bytes q n W p r there is = record {
   stands = λ s root X k a h.
@@ -50,7 +50,7 @@ pub weak_with : (D : Definitions) (bytes : List ℕ) (q n : ℕ) (flavor : Flavo
 weak_with D bytes q n flavor P far = pointer_with D bytes q n (weak flavor P) (pointer_at bytes q (Some flavor) P) (target_from bytes q q) (λ t e. ap position (sym e)) (λ s v c. weak_hole far c)
 
 -- and the part of a variant with one part
-pub case_with : (D E : Definitions) (known : (s : Schema) → Knows s D → Knows s E) (name : Name) (vs : Variants) (tag : ℕ) (X : Shape) (is : variant_at vs tag ≡ Some (part X no_part)) (L : Layout) (layout : HasLayout E X L)
+pub case_with : (D E : Definitions) (known : (s : SchemaTable) → Knows s D → Knows s E) (name : Name) (vs : Variants) (tag : ℕ) (X : Shape) (is : variant_at vs tag ≡ Some (part X no_part)) (L : Layout) (layout : HasLayout E X L)
     (bytes : List ℕ) (q n offset : ℕ) (there : offset ≡ up 1 L.align) (first : slice_index bytes q ≡ tag) → StandsWith D bytes (view q (one (choice name vs)) n) (view (q + offset) (one X) 0)
 case_with D E known name vs tag X is L layout bytes q n offset there first = record {
   stands = λ s root Y k a h.

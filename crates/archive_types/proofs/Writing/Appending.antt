@@ -6,10 +6,10 @@ use Rattle.archive_check.specs.Shape.{Key, Shape, Pointee, one}
 use Rattle.archive_check.specs.Layout.{Layout, up, size_of, align_of}
 use Rattle.archive_check.specs.Definitions.{Definitions, both, Knows, HasLayout}
 use Rattle.archive_check.specs.Value.{Pointer, Value, number, Values, value, no_value, product, case, box, hole, pointers}
-use Rattle.archive_check.specs.Reads.{Schema}
-use Rattle.archive_check.specs.Keys.{Ordered, in_any_order}
+use Rattle.archive_check.specs.Reads.{SchemaTable}
+use Rattle.archive_check.specs.Keys.{IsInOrder, in_any_order}
 use Rattle.archive_check.specs.Tour.{Region, Contents, contents_one, Leads, Entry, Seen, tour_end, tour_unique, pointee_size, pointee_align, region_of}
-use Rattle.archive_check.specs.Denotes.{Fills, rename, fills_number, fills_box, fills_unique, fills_product, fills_case, fills_no_value, fills_value}
+use Rattle.archive_check.specs.Denotes.{Naming, Fills, rename, fills_number, fills_box, fills_unique, fills_product, fills_case, fills_no_value, fills_value}
 use Rattle.archive_check.specs.Reached.{Names, names_product, names_case, names_box, names_first, names_later}
 use Rattle.archive_check.specs.Tightness.{after}
 use Rattle.archive_check.specs.CleanRegions.{Occurs, AreZero, CleanPointee, clean_one}
@@ -18,14 +18,14 @@ use Rattle.archive_check.proofs.Tours.JoinedTours.{tour_append}
 use Rattle.archive_check.proofs.Tours.StandingBytes.{stands_fits, stands_zero, zero_nowhere, stands_begun}
 use Rattle.archive_check.proofs.Tours.Tightness.{tight_append, clean_regions_append}
 pub use Rattle.archive_types.specs.Members.Sides.{knows_left, knows_right, named_left, named_right}
-use Rattle.archive_types.specs.Writing.{Naming, World, Covers, Known, Unseen, Found, Appends, FinishesKeys, AreFinished, AllFinished, Writes, WritesAll, Puts, LaysOut, to_pointee}
+use Rattle.archive_types.specs.Writing.{World, Covers, Known, Unseen, Found, Appends, FinishesKeys, AreFinished, AllFinished, Writes, WritesAll, Puts, LaysOut, to_pointee}
 
 -- the layout, in a schema that knows the definitions
 
-pub size_is : {D : Definitions} {X : Shape} {L : Layout} → HasLayout D X L → (s : Schema) → Knows s D → size_of s.layouts X ≡ L.size
+pub size_is : {D : Definitions} {X : Shape} {L : Layout} → HasLayout D X L → (s : SchemaTable) → Knows s D → size_of s.layouts X ≡ L.size
 size_is h s k = ap (λ l. l.size) (h.solved s k)
 
-pub align_is : {D : Definitions} {X : Shape} {L : Layout} → HasLayout D X L → (s : Schema) → Knows s D → align_of s.layouts X ≡ L.align
+pub align_is : {D : Definitions} {X : Shape} {L : Layout} → HasLayout D X L → (s : SchemaTable) → Knows s D → align_of s.layouts X ≡ L.align
 align_is h s k = ap (λ l. l.align) (h.solved s k)
 
 -- a world that holds what is written later holds what was written before
@@ -219,7 +219,7 @@ to_ordered t o P n = record { target = pos t; sharing = None; order = o; pointee
 
 -- the region of a pointee, and what it owns before it; it has to be in the order that its pointer asks for
 pub writes_ordered : (D : Definitions) (old new : WriterState) (ks : List Naming) (p : ℕ) (o : Option Key) (P : Pointee) (n : ℕ) (x : Value) → (h : LaysOut D old new ks p P n x)
-    → ((w : World) → Contents w.schema w.bytes p P n h.flat → Fills w.schema w.bytes h.flat (rename w.position x) → Ordered w.schema w.bytes p n o P)
+    → ((w : World) → Contents w.schema w.bytes p P n h.flat → Fills w.schema w.bytes h.flat (rename w.position x) → IsInOrder w.schema w.bytes p n o P)
     → Writes D old new ks (hole (to_ordered p o P n)) x
 writes_ordered D old new ks p o P n x h ordered =
     let m = h.owned in

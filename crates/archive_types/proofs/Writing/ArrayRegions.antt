@@ -8,8 +8,9 @@ use Rattle.archive_check.specs.SelfCheck.Arrays.{array_layout, array_has_layout}
 use Rattle.archive_check.specs.Value.{Value, Values, list}
 use Rattle.archive_check.specs.WriterState.{WriterState, Pads}
 use Rattle.archive_check.specs.declared.format.error.Error.{Error}
+use Rattle.archive_check.specs.Denotes.{Naming}
 use Rattle.archive_write.specs.Written.{GoesOn, padding, ExplainsRefusal}
-use Rattle.archive_types.specs.Writing.{Naming, Puts}
+use Rattle.archive_types.specs.Writing.{Puts}
 use Rattle.archive_types.specs.Plans.{SerializedRegion}
 use Rattle.archive_types.specs.Causes.{Explains, HindersRegionAt, IsRegionRefused}
 use Rattle.archive_types.specs.Runs.{each_keys, each_meaning, SerializedRun, IsRunRefused, PutsRun, HindersRunAt}

@@ -6,12 +6,13 @@ use Rattle.archive_check.specs.Shape.{Shape, array}
 use Rattle.archive_check.specs.Layout.{Layout, size_of}
 use Rattle.archive_check.specs.Definitions.{Definitions, Knows, HasLayout}
 use Rattle.archive_check.specs.Value.{Value, Values, list, no_value, value}
-use Rattle.archive_check.specs.Reads.{Schema, reads_array, reads_none, reads_element}
+use Rattle.archive_check.specs.Reads.{SchemaTable, reads_array, reads_none, reads_element}
 use Rattle.archive_check.specs.CleanRegions.{IsZeroed, clean_array, clean_none, clean_element}
 use Rattle.archive_check.specs.WriterState.{WriterState}
 use Rattle.archive_check.specs.declared.format.error.Error.{Error}
 use Rattle.archive_check.proofs.Tours.StandingBytes.{stands_front, stands_back}
-use Rattle.archive_types.specs.Writing.{Naming, Resolves, ZeroedPlace}
+use Rattle.archive_check.specs.Denotes.{Naming}
+use Rattle.archive_types.specs.Writing.{Resolves, ZeroedPlace}
 use Rattle.archive_types.specs.Plans.{Serialized, serialized, plans_array}
 use Rattle.archive_types.specs.Causes.{IsRefused, HindersAt, part_of_array}
 use Rattle.archive_types.specs.Runs.{each_meaning, each_flat, each_keys, EachBelongs, SerializedRun, serialized_run, IsRunRefused, HindersEachAt}
@@ -69,7 +70,7 @@ pub resolves_element : (D : Definitions) (X : Shape) (L : Layout) → HasLayout 
     → Resolves D p a X v → length a ≡ L.size → q ≡ p + L.size → ResolvesRun D q rest n X vs → ResolvesRun D p (a ++ rest) (suc n) X (value v vs)
 resolves_element D X L layout p q a rest n v vs h sized next i =
     let at : q ≡ p + length a = next ∙ ap (λ z. p + z) (sym sized) in
-    let here : (s : Schema) → Knows s D → q ≡ p + size_of s.layouts X = λ s k. next ∙ ap (λ z. p + z) (sym (size_is layout s k)) in
+    let here : (s : SchemaTable) → Knows s D → q ≡ p + size_of s.layouts X = λ s k. next ∙ ap (λ z. p + z) (sym (size_is layout s k)) in
     record {
       reads = λ s bytes k stands. reads_element (h.reads s bytes k (stands_front bytes p a rest stands)) (rw (← here s k) (i.reads s bytes k (stands_back bytes p q a rest at stands)));
       clean = λ s bytes k stands. clean_element (h.clean s bytes k (stands_front bytes p a rest stands)) (rw (← here s k) (i.clean s bytes k (stands_back bytes p q a rest at stands)));

@@ -4,14 +4,14 @@ use Rattle.std.specs.Ordering.{nat_cmp}
 use Rattle.std.specs.FinMap.{FinMap, get}
 use Rattle.archive_check.specs.Value.{Value}
 use Rattle.archive_check.specs.Tour.{Entry, Seen}
-use Rattle.archive_check.specs.Denotes.{IsSharedValue, Same, rename}
+use Rattle.archive_check.specs.Denotes.{Naming, IsSharedValue, Same, rename}
 use Rattle.archive_check.specs.Reached.{Names, LeadsTo, leads_at_once, leads_through}
 use Rattle.archive_check.specs.WriterState.{KeyStates}
 use Rattle.archive_check.proofs.Tours.ReadingUnique.{contents_one_value}
 use Rattle.archive_check.proofs.Meanings.MeaningUnique.{fills_one}
 use Rattle.archive_check.proofs.Meanings.SameMeanings.{rename_again, rename_stays}
 use Rattle.archive_check.proofs.Tours.Seen.{same_some}
-use Rattle.archive_types.specs.Writing.{NameMap, Naming, AreNamed, HasKeys, LeadsToKey, key_at_once, key_through, IsKeyed, AreKeys, World, Found, AreFinished}
+use Rattle.archive_types.specs.Writing.{NameMap, AreNamed, HasKeys, LeadsToKey, key_at_once, key_through, IsKeyed, AreKeys, World, Found, AreFinished}
 
 -- keys
 

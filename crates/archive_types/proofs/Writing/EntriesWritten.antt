@@ -11,11 +11,11 @@ use Rattle.archive_check.specs.Shape.{Key, leaf_key, str_key, Shape, sorted_map,
 use Rattle.archive_check.specs.Layout.{kind_size, size_of}
 use Rattle.archive_check.specs.Definitions.{Definitions}
 use Rattle.archive_check.specs.Value.{Pointer, Value, number, product, case, list, text_value, box, null, shared_value, hole, Values, no_value, value}
-use Rattle.archive_check.specs.Reads.{Schema, Reads, reads_leaf, reads_parts, reads_map, reads_inline, reads_out_of_line, reads_part, ReadsRun, reads_none, reads_element, bytes_at, u32_at, string_at, map_at, before_end, decoded_length, kind_value}
+use Rattle.archive_check.specs.Reads.{SchemaTable, Reads, reads_leaf, reads_parts, reads_map, reads_inline, reads_out_of_line, reads_part, ReadsRun, reads_none, reads_element, bytes_at, u32_at, string_at, map_at, before_end, decoded_length, kind_value}
 use Rattle.archive_check.specs.Readable.{position, target_from, string_text}
-use Rattle.archive_check.specs.Keys.{key_cmp, ComesBehind, Ascend, Ordered, in_key_order}
+use Rattle.archive_check.specs.Keys.{key_cmp, ComesBehind, Ascend, IsInOrder, in_key_order}
 use Rattle.archive_check.specs.Tour.{Contents, contents_run, contents_text, Leads}
-use Rattle.archive_check.specs.Denotes.{Fills, fills_number, fills_product, fills_list, fills_text, fills_unique, fills_shared, FillsAll, fills_value, rename, rename_all}
+use Rattle.archive_check.specs.Denotes.{Naming, Fills, fills_number, fills_product, fills_list, fills_text, fills_unique, fills_shared, FillsAll, fills_value, rename, rename_all}
 use Rattle.archive_check.specs.CleanRegions.{Occurs, clean_map}
 use Rattle.archive_check.specs.WriterState.{WriterState}
 use Rattle.archive_check.specs.declared.format.error.Error.{Error}
@@ -23,7 +23,7 @@ use Rattle.archive_check.proofs.Maps.Entries.{key_at}
 use Rattle.archive_check.proofs.Tours.StandingBytes.{stands_front, stands_back}
 use Rattle.archive_num.specs.Offsets.{distance, IsTooFar}
 use Rattle.archive_num.specs.OwnerBytes.{owner_bytes}
-use Rattle.archive_types.specs.Writing.{Naming, Writes, LaysOut, Resolves, to_map}
+use Rattle.archive_types.specs.Writing.{Writes, LaysOut, Resolves, to_map}
 use Rattle.archive_types.specs.ValueOrder.{value_cmp, key_of_pair, keys_ascend}
 use Rattle.archive_types.specs.Causes.{owner_map, HindersAt}
 use Rattle.archive_types.proofs.Writing.Appending.{writes_ordered}
@@ -41,26 +41,26 @@ by_values str_key bytes p q = refl
 
 -- what is read of a key fills to what it says
 
-text_filled : {s : Schema} {bytes : List ℕ} {q n : ℕ} {v w : Value} → Contents s bytes q text n v → Fills s bytes v w → w ≡ text_value (bytes_at bytes q n)
+text_filled : {s : SchemaTable} {bytes : List ℕ} {q n : ℕ} {v w : Value} → Contents s bytes q text n v → Fills s bytes v w → w ≡ text_value (bytes_at bytes q n)
 text_filled (contents_text u) fills_text = refl
 
-leads_filled : {s : Schema} {bytes : List ℕ} {p : Pointer} {t : ℕ} {v w : Value} → p.pointee ≡ text → Leads s bytes p t v → Fills s bytes v w → w ≡ text_value (bytes_at bytes t p.length)
+leads_filled : {s : SchemaTable} {bytes : List ℕ} {p : Pointer} {t : ℕ} {v w : Value} → p.pointee ≡ text → Leads s bytes p t v → Fills s bytes v w → w ≡ text_value (bytes_at bytes t p.length)
 leads_filled e l f = text_filled (rw e at l.contents) f
 
-outside_filled : (q : ℕ) {s : Schema} {bytes : List ℕ} {w : Value} → Fills s bytes (hole (string_at bytes q)) w → w ≡ text_value (bytes_at bytes (target_from bytes q (q + 4)) (decoded_length (u32_at bytes q)))
+outside_filled : (q : ℕ) {s : SchemaTable} {bytes : List ℕ} {w : Value} → Fills s bytes (hole (string_at bytes q)) w → w ≡ text_value (bytes_at bytes (target_from bytes q (q + 4)) (decoded_length (u32_at bytes q)))
 outside_filled q {bytes = bytes} (fills_unique {t = t} own l f) =
     let there : t ≡ target_from bytes q (q + 4) = sym (ap position l.target) in
     leads_filled refl l f ∙ ap (λ r. text_value (bytes_at bytes r (decoded_length (u32_at bytes q)))) there
 outside_filled q (fills_shared e there) = cc
 
-string_filled : {s : Schema} {bytes : List ℕ} {q : ℕ} {v w : Value} (b : Bool) → nat_eq (slice_index bytes q / 64) 2 ≡ b → Reads s bytes q str v → Fills s bytes v w
+string_filled : {s : SchemaTable} {bytes : List ℕ} {q : ℕ} {v w : Value} (b : Bool) → nat_eq (slice_index bytes q / 64) 2 ≡ b → Reads s bytes q str v → Fills s bytes v w
     → w ≡ text_value (if b then bytes_at bytes (target_from bytes q (q + 4)) (decoded_length (u32_at bytes q)) else before_end (bytes_at bytes q 8))
 string_filled true e (reads_inline o u) f = absurd (o (grind (arith, nat_tests)))
 string_filled {q = q} true e (reads_out_of_line o u) f = outside_filled q f
 string_filled false e (reads_inline o u) fills_text = refl
 string_filled false e (reads_out_of_line o u) f = absurd (grind (arith, nat_tests, o))
 
-key_filled : (K : Key) {s : Schema} {bytes : List ℕ} {q : ℕ} {v w : Value} → Reads s bytes q (key_shape K) v → Fills s bytes v w → w ≡ key_value K bytes q
+key_filled : (K : Key) {s : SchemaTable} {bytes : List ℕ} {q : ℕ} {v w : Value} → Reads s bytes q (key_shape K) v → Fills s bytes v w → w ≡ key_value K bytes q
 key_filled (leaf_key kind) (reads_leaf l) fills_number = refl
 key_filled str_key {bytes = bytes} {q = q} r f = string_filled (nat_eq (slice_index bytes q / 64) 2) refl r f
 
@@ -114,7 +114,7 @@ later_ascend : (w : Value) (ws : Values) → keys_ascend (value w ws) ≡ true �
 later_ascend w no_value h = refl
 later_ascend w (value x xs) h = (and_parts _ _ h).1
 
-module _ (s : Schema) (bytes : List ℕ) (K : Key) (V : Shape) (f : ℕ → ℕ) where
+module _ (s : SchemaTable) (bytes : List ℕ) (K : Key) (V : Shape) (f : ℕ → ℕ) where
   -- the key of an entry, whose value is as written but for the names
   entry_key : {q : ℕ} {v : Value} (w : Value) → Reads s bytes q (entry_of K V) v → Fills s bytes v (rename f w) → key_of_pair w ≡ key_value K bytes q
   entry_key {q = q} w r g = key_back K bytes q f (key_of_pair w) (sym (key_renamed f w) ∙ of_filled r g)
@@ -144,7 +144,7 @@ module _ (s : Schema) (bytes : List ℕ) (K : Key) (V : Shape) (f : ℕ → ℕ)
       let e : key_of_pair w ≡ key_value K bytes q = entry_key w r g in
       (comes_behind before q w ws e i, entries_ascend (Some q) ws rs gs (next_above q w ws e h) (later_ascend w ws h))
 
-  entries_ordered : {t n : ℕ} {v : Value} (ws : Values) → Contents s bytes t (run (entry_of K V)) n v → Fills s bytes v (list (rename_all f ws)) → keys_ascend ws ≡ true → Ordered s bytes t n (Some K) (run (entry_of K V))
+  entries_ordered : {t n : ℕ} {v : Value} (ws : Values) → Contents s bytes t (run (entry_of K V)) n v → Fills s bytes v (list (rename_all f ws)) → keys_ascend ws ≡ true → IsInOrder s bytes t n (Some K) (run (entry_of K V))
   entries_ordered ws (contents_run r) (fills_list g) h = in_key_order (entries_ascend None ws r g tt h)
 
 -- entries whose keys ascend are written as a map's

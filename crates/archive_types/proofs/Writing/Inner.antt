@@ -7,8 +7,9 @@ use Rattle.archive_check.specs.Value.{Value}
 use Rattle.archive_check.specs.WriterState.{WriterState, Pads}
 use Rattle.archive_check.specs.declared.format.error.Error.{Error}
 use Rattle.archive_check.specs.declared.format.error.Error.TheVariants.{PositionTooLarge}
+use Rattle.archive_check.specs.Denotes.{Naming}
 use Rattle.archive_write.specs.Written.{GoesOn, ExplainsRefusal, padding}
-use Rattle.archive_types.specs.Writing.{Naming, Puts}
+use Rattle.archive_types.specs.Writing.{Puts}
 use Rattle.archive_types.specs.Causes.{Explains, HindersRegionAt, IsOwnCause, of_layout, IsOfWriting}
 use Rattle.archive_types.specs.Inner.{IsBoxed, IsPutAt, IsNotBoxed}
 use Rattle.archive_types.proofs.Planning.Causes.{goes_both, explains_write, explains_named}

@@ -7,16 +7,16 @@ use Rattle.archive_check.specs.Shape.{Shape, run, vec}
 use Rattle.archive_check.specs.Layout.{Layout}
 use Rattle.archive_check.specs.Definitions.{Definitions, HasLayout, Knows}
 use Rattle.archive_check.specs.Value.{Pointer, Value, list, hole, Values, no_value, value, pointers, all_pointers}
-use Rattle.archive_check.specs.Reads.{Schema}
+use Rattle.archive_check.specs.Reads.{SchemaTable}
 use Rattle.archive_check.specs.Tour.{Seen, Tour, tour_end}
-use Rattle.archive_check.specs.Denotes.{Fills, FillsAll, fills_no_value, fills_value, rename, rename_all}
+use Rattle.archive_check.specs.Denotes.{Naming, Fills, FillsAll, fills_no_value, fills_value, rename, rename_all}
 use Rattle.archive_check.specs.WriterState.{KeyState, KeyStates, WriterState, Pads}
 use Rattle.archive_check.specs.declared.format.error.Error.{Error}
 use Rattle.archive_check.proofs.Elements.{contains_first, contains_later}
 use Rattle.archive_check.proofs.Tours.JoinedTours.{tour_append}
 use Rattle.archive_write.specs.Written.{IsBeginning}
-use Rattle.archive_types.specs.Writing.{NameMap, Naming, AreNamed, World, Covers, Known, AreFinished, AllFinished, FinishesKeys, Writes, WritesAll, Puts, to_pointee}
-use Rattle.archive_types.specs.Plans.{cursor, AreBelow, Plans, PlansRun, plans_none, plans_element, PlanOf, StandsAt, Serialized, serialized}
+use Rattle.archive_types.specs.Writing.{NameMap, AreNamed, World, Covers, Known, AreFinished, AllFinished, FinishesKeys, Writes, WritesAll, Puts, to_pointee}
+use Rattle.archive_types.specs.Plans.{cursor, AreBelow, Plans, PlansRun, plans_none, plans_element, ValuePlan, StandsAt, Serialized, serialized}
 use Rattle.archive_types.specs.Runs.{each_keys, each_meaning, SerializedRun, serialized_run, PutsRun}
 use Rattle.archive_types.specs.Members.Sides.{named_left, named_right}
 use Rattle.archive_types.specs.ItemsWritten.{AllShared, OwnNoRegion, ItemWritten, ItemRefused, ItemsWritten, no_item, one_item, ItemsLaid, ItemsRefused, one_refused}
@@ -58,14 +58,14 @@ record LeadsBack (D : Definitions) (X : Shape) (keys : List Naming) (v flat : Va
   tour : (w : World) (pending : List ℕ) (seen : Seen) → Covers w D first.bytes first.states keys → Known w first.states (length first.bytes) seen pending
       → Tour w.schema w.bytes pending seen (pointers flat) [] seen
   fills : (w : World) → Covers w D first.bytes first.states keys → Fills w.schema w.bytes flat (rename w.position v)
-  plans : (s : Schema) (names : NameMap) → AreBelow (cursor first) → Knows s D → AreNamed names keys → Plans s names X v (cursor first) flat [] (cursor first)
+  plans : (s : SchemaTable) (names : NameMap) → AreBelow (cursor first) → Knows s D → AreNamed names keys → Plans s names X v (cursor first) flat [] (cursor first)
 
 record LeadBack (D : Definitions) (X : Shape) (n : ℕ) (keys : List Naming) (vs flats : Values) (first : WriterState) : Type 0 where
   finished : AllFinished first.states vs
   tour : (w : World) (pending : List ℕ) (seen : Seen) → Covers w D first.bytes first.states keys → Known w first.states (length first.bytes) seen pending
       → Tour w.schema w.bytes pending seen (all_pointers flats) [] seen
   fills : (w : World) → Covers w D first.bytes first.states keys → FillsAll w.schema w.bytes flats (rename_all w.position vs)
-  plans : (s : Schema) (names : NameMap) → AreBelow (cursor first) → Knows s D → AreNamed names keys → PlansRun s names n X vs (cursor first) flats [] (cursor first)
+  plans : (s : SchemaTable) (names : NameMap) → AreBelow (cursor first) → Knows s D → AreNamed names keys → PlansRun s names n X vs (cursor first) flats [] (cursor first)
 
 -- the world, as it was when these bytes were told
 abbrev told : World → List ℕ → World

@@ -3,7 +3,7 @@ use Rattle.std.proofs.Common.{◌≡◌, ℕ, ◌+◌, List, [], length, refl, a
 use Rattle.archive_check.specs.Shape.{one, parts, no_part}
 use Rattle.archive_check.specs.Definitions.{Definitions, no_definition}
 use Rattle.archive_check.specs.Value.{Value, product, no_value, pointers}
-use Rattle.archive_check.specs.Reads.{Schema, ReadsParts, reads_parts, reads_no_part}
+use Rattle.archive_check.specs.Reads.{SchemaTable, ReadsParts, reads_parts, reads_no_part}
 use Rattle.archive_check.specs.Tour.{Contents, contents_one}
 use Rattle.archive_check.specs.Denotes.{fills_product, fills_no_value}
 use Rattle.archive_check.specs.CleanRegions.{clean_parts, clean_no_part}
@@ -31,10 +31,10 @@ resolves_empty_product D p a = record {
 pub empty_product_copied : (D : Definitions) → IsCopied D (parts no_part) 0 (product no_value) []
 empty_product_copied D = record { sized = refl; resolved = λ p. resolves_empty_product D p [] }
 
-no_value_there : {s : Schema} {bytes : List ℕ} {q : ℕ} {vs : _} → ReadsParts s bytes q 0 no_part vs → vs ≡ no_value
+no_value_there : {s : SchemaTable} {bytes : List ℕ} {q : ℕ} {vs : _} → ReadsParts s bytes q 0 no_part vs → vs ≡ no_value
 no_value_there reads_no_part = refl
 
-empty_contents : (s : Schema) (bytes : List ℕ) (q n : ℕ) (v : Value) → Contents s bytes q (one (parts no_part)) n v → v ≡ product no_value
+empty_contents : (s : SchemaTable) (bytes : List ℕ) (q n : ℕ) (v : Value) → Contents s bytes q (one (parts no_part)) n v → v ≡ product no_value
 empty_contents s bytes q n v (contents_one (reads_parts rs)) = ap (λ vs. product vs) (no_value_there rs)
 
 pub empty_product_read_back : {keeps : Bool} (D : Definitions) (bytes : List ℕ) (q n : ℕ) (old new : Entries) → new ≡ old → ReadsBack keeps D bytes q (one (parts no_part)) n old new (product no_value) []

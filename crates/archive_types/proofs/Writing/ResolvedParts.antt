@@ -5,7 +5,7 @@ use Rattle.archive_check.specs.Layout.{Layout, up, size_of, align_of}
 use Rattle.archive_check.specs.Definitions.{Definitions, no_definition, both, Knows, HasLayout}
 use Rattle.archive_check.specs.Members.PartsLayout.{StandsFor, for_itself, by_name, IsRecord, knows_left, knows_right}
 use Rattle.archive_check.specs.Value.{Value, product, Values, no_value, value}
-use Rattle.archive_check.specs.Reads.{Schema, LaidOut, Reads, reads_parts, reads_named, reads_no_part, reads_part}
+use Rattle.archive_check.specs.Reads.{SchemaTable, LaidOut, Reads, reads_parts, reads_named, reads_no_part, reads_part}
 use Rattle.archive_check.specs.CleanRegions.{Occurs, IsZeroed, CleanValue, CleanParts, clean_parts, clean_named, clean_no_part, clean_part}
 use Rattle.archive_check.specs.declared.format.error.Error.{Error}
 use Rattle.archive_check.proofs.Tours.StandingBytes.{stands_front, stands_back, stands_zero}
@@ -67,19 +67,19 @@ module _ (D E : Definitions) (X : Shape) (L : Layout) (laid : HasLayout D X L) (
 
 -- what stands for a record
 
-pub standing_reads : (s : Schema) (bytes : List ℕ) (p : ℕ) (Y X : Shape) (v : Value) → StandsFor s Y X → Reads s bytes p Y v → Reads s bytes p X v
+pub standing_reads : (s : SchemaTable) (bytes : List ℕ) (p : ℕ) (Y X : Shape) (v : Value) → StandsFor s Y X → Reads s bytes p Y v → Reads s bytes p X v
 standing_reads s bytes p Y X v for_itself h = h
 standing_reads s bytes p Y X v (by_name d) h = reads_named d h
 
-pub standing_clean : (s : Schema) (bytes : List ℕ) (p : ℕ) (Y X : Shape) → StandsFor s Y X → CleanValue s bytes p Y → CleanValue s bytes p X
+pub standing_clean : (s : SchemaTable) (bytes : List ℕ) (p : ℕ) (Y X : Shape) → StandsFor s Y X → CleanValue s bytes p Y → CleanValue s bytes p X
 standing_clean s bytes p Y X for_itself h = h
 standing_clean s bytes p Y X (by_name d) h = clean_named d h
 
-pub standing_part : (s : Schema) (Z X : Shape) (v : Value) (o : ℕ) (Y : Shape) (w : Value) → StandsFor s Z X → ValuePart s Z v o Y w → ValuePart s X v o Y w
+pub standing_part : (s : SchemaTable) (Z X : Shape) (v : Value) (o : ℕ) (Y : Shape) (w : Value) → StandsFor s Z X → ValuePart s Z v o Y w → ValuePart s X v o Y w
 standing_part s Z X v o Y w for_itself h = h
 standing_part s Z X v o Y w (by_name d) h = part_of_named d h
 
-pub standing_size : (s : Schema) → LaidOut s → (Y X : Shape) → StandsFor s Y X → size_of s.layouts X ≡ size_of s.layouts Y
+pub standing_size : (s : SchemaTable) → LaidOut s → (Y X : Shape) → StandsFor s Y X → size_of s.layouts X ≡ size_of s.layouts Y
 standing_size s laid Y X for_itself = refl
 standing_size s laid Y X (by_name {name = name} d) = ap (λ (l : Layout). l.size) (laid.solves name Y d)
 

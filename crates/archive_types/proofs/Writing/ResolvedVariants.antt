@@ -6,7 +6,7 @@ use Rattle.archive_check.specs.Shape.{Name, Shape, choice, Variants, part, no_pa
 use Rattle.archive_check.specs.Layout.{Layout, up, size_of, align_of}
 use Rattle.archive_check.specs.Definitions.{Definitions, Knows, HasLayout}
 use Rattle.archive_check.specs.Value.{Value, case, no_value}
-use Rattle.archive_check.specs.Reads.{Schema, bytes_at, Reads, reads_choice, reads_part, reads_no_part}
+use Rattle.archive_check.specs.Reads.{SchemaTable, bytes_at, Reads, reads_choice, reads_part, reads_no_part}
 use Rattle.archive_check.specs.CleanRegions.{Occurs, AreZero, IsZeroed, CleanValue, clean_choice, clean_part, clean_no_part}
 use Rattle.archive_check.proofs.Tours.StandingBytes.{stands_index}
 use Rattle.archive_types.specs.Writing.{Resolves}
@@ -35,16 +35,16 @@ stands_zeros B p lo hi a few z h = record {
 pub first_stands : (B : List ℕ) (p tag : ℕ) (a : List ℕ) → 0 < length a → slice_index a 0 ≡ tag → Occurs B p a → slice_index B p ≡ tag
 first_stands B p tag a some is h = ap (slice_index B) (sym (add-zero p)) ∙ stands_index B p 0 a some h ∙ is
 
-module _ (D E : Definitions) (known : (s : Schema) → Knows s D → Knows s E) (name : Name) (vs : Variants) (tag : ℕ) (X : Shape) (is : variant_at vs tag ≡ Some (part X no_part)) (L C : Layout) (inner : HasLayout E X L)
+module _ (D E : Definitions) (known : (s : SchemaTable) → Knows s D → Knows s E) (name : Name) (vs : Variants) (tag : ℕ) (X : Shape) (is : variant_at vs tag ≡ Some (part X no_part)) (L C : Layout) (inner : HasLayout E X L)
     (outer : HasLayout D (choice name vs) C) (p offset size : ℕ) (flat : Value) (a : List ℕ) (there : offset ≡ up 1 L.align) (positive : 0 < offset) (same : size ≡ L.size) (sized : length a ≡ C.size)
     (h : HoldsCase E p tag offset size X flat a) where
-  begins : (s : Schema) → Knows s D → up 1 (align_of s.layouts X) ≡ offset
+  begins : (s : SchemaTable) → Knows s D → up 1 (align_of s.layouts X) ≡ offset
   begins s k = rw (align_is inner s (known s k)) (sym there)
 
-  ends : (s : Schema) → Knows s D → up 1 (align_of s.layouts X) + size_of s.layouts X ≡ offset + size
+  ends : (s : SchemaTable) → Knows s D → up 1 (align_of s.layouts X) + size_of s.layouts X ≡ offset + size
   ends s k = rw (begins s k, size_is inner s (known s k), same) refl
 
-  part_stands : (s : Schema) (bytes : List ℕ) → Knows s D → Occurs bytes p a → Occurs bytes (p + offset) (bytes_at a offset size)
+  part_stands : (s : SchemaTable) (bytes : List ℕ) → Knows s D → Occurs bytes p a → Occurs bytes (p + offset) (bytes_at a offset size)
   part_stands s bytes k stands = stands_within bytes p offset size a h.fits stands
 
   pub resolves_case : Resolves D p a (choice name vs) (case_of tag flat)

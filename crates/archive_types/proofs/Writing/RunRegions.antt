@@ -8,9 +8,9 @@ use Rattle.archive_check.specs.Shape.{Shape, run}
 use Rattle.archive_check.specs.Layout.{Layout, up, size_of, align_of}
 use Rattle.archive_check.specs.Definitions.{Definitions, Knows, HasLayout, IsAlign}
 use Rattle.archive_check.specs.Value.{Value, list, Values, no_value, value}
-use Rattle.archive_check.specs.Reads.{Schema, reads_none, reads_element}
+use Rattle.archive_check.specs.Reads.{SchemaTable, reads_none, reads_element}
 use Rattle.archive_check.specs.Tour.{region_at, contents_run}
-use Rattle.archive_check.specs.Denotes.{fills_list}
+use Rattle.archive_check.specs.Denotes.{Naming, fills_list}
 use Rattle.archive_check.specs.Reached.{names_list}
 use Rattle.archive_check.specs.CleanRegions.{clean_none, clean_element, clean_run}
 use Rattle.archive_check.specs.WriterState.{WriterState, KeyStates, KeepsKeys, Pads}
@@ -22,7 +22,7 @@ use Rattle.archive_check.proofs.Names.PositiveAlignments.{align_pos}
 use Rattle.archive_check.proofs.Tours.StandingBytes.{stands_front, stands_back}
 use Rattle.archive_write.specs.Written.{GoesOn, padding, ExplainsRefusal}
 use Rattle.archive_write.proofs.Padding.{padded}
-use Rattle.archive_types.specs.Writing.{NameMap, Naming, AreNamed, AreFinished, AllFinished, Writes, WritesAll, Puts, LaysOut}
+use Rattle.archive_types.specs.Writing.{NameMap, AreNamed, AreFinished, AllFinished, Writes, WritesAll, Puts, LaysOut}
 use Rattle.archive_types.specs.Plans.{Cursor, cursor, AreBelow, StandsAt, Step, lays, SerializedRegion, serialized_region, RegionPlan}
 use Rattle.archive_types.specs.Causes.{Explains, own_cause, of_layout, of_length, PartOfRun, in_first_element, in_later_element, part_of_run, HindersPartAt, anywhere, part_hinders, length_hinders, end_hinders, HindersAt, HindersRegionAt, HindersRegion, RegionReaches, IsRegionRefused}
 use Rattle.archive_types.specs.Runs.{each_flat, EachBelongs, RunPlan, HasRunPlan, SerializedRun, serialized_run, IsRunRefused, PutsRun, HindersEachAt, HindersRunAt}
@@ -40,7 +40,7 @@ pub puts_element : (D : Definitions) (old mid new : WriterState) (X : Shape) (L 
     → Puts D old mid X L v → PutsRun D mid new X L n vs → PutsRun D old new X L (suc n) (value v vs)
 puts_element D old mid new X L n v vs h i =
     let at : length mid.bytes ≡ length old.bytes + length h.added = ap length h.grown ∙ length-append old.bytes h.added in
-    let here : (s : Schema) → Knows s D → length mid.bytes ≡ length old.bytes + size_of s.layouts X
+    let here : (s : SchemaTable) → Knows s D → length mid.bytes ≡ length old.bytes + size_of s.layouts X
     = λ s k. at ∙ ap (λ z. length old.bytes + z) (h.sized ∙ sym (size_is h.layout s k)) in
     record {
       layout = h.layout;
@@ -276,7 +276,7 @@ module _ (D : Definitions) (X : Shape) (n : ℕ) (ks : List Naming) (vs : Values
       ])
       (λ p x below s names l m. plan below s names l m _ (λ q t here is. (let size : n * size_of s.layouts X ≡ n * L.size = ap (λ z. n * z) (size_is layout s l) in omega (arith, here, x, size)))) refused
     where
-      plan : AreBelow (cursor old) → (s : Schema) (names : NameMap) → Knows s D → AreNamed names ks → (such : ℕ → List Step → Cursor → Type 0)
+      plan : AreBelow (cursor old) → (s : SchemaTable) (names : NameMap) → Knows s D → AreNamed names ks → (such : ℕ → List Step → Cursor → Type 0)
           → ((q : RunPlan s names n X vs (cursor old) (λ us C b. (us ≡ ws) × StandsAt b mid)) (t : ℕ) → t ≡ length low.bytes → q.flats ≡ ws
           → such t (q.steps ++ lays (region_at s t (run X) n false) (list q.flats) ∷ []) (record { position = t + n * size_of s.layouts X; states = q.stop.states }))
           → RegionPlan s names (run X) n (list vs) (cursor old) such

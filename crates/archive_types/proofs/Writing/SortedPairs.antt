@@ -1,17 +1,17 @@
--- Pairs of a key and a value whose keys ascend: found by a test of neighbours, and those of a `BTreeMap`. And what stands for pairs means what they do.
-use Rattle.std.proofs.Common.{◌≡◌, ℕ, ◌+◌, ◌≤◌, List, [], ◌∷◌, ◌++◌, length, drop, map, Bool, true, ◌&&◌, arith, refl, sym, ap, ◌∙◌}
+-- Pairs of a key and a value whose keys ascend: as a test of neighbours finds, and those of a `BTreeMap`. And what stands for pairs means what they do.
+use Rattle.std.proofs.Common.{◌≡◌, List, [], ◌∷◌, ◌++◌, map, Bool, true, ◌&&◌, refl, sym, ap, ◌∙◌}
 use Rattle.std.specs.Ordering.{is_lt}
 use Rattle.std.specs.declared.cmp.Ordering.{Ordering}
 use Rattle.std.specs.declared.cmp.Ordering.TheVariants.{Less}
 use Rattle.std.specs.List.Sorted.{IsStrictlySortedBy}
 use Rattle.std.specs.Map.{keys_of}
-use Rattle.std.proofs.lemmas.List.{length-drop}
 use Rattle.std.proofs.lemmas.Map.Keys.{sorted_head, sorted_tail}
 use Rattle.archive_check.specs.Value.{Value, value}
+use Rattle.archive_check.specs.Denotes.{Naming}
+use Rattle.archive_tuple.specs.Entries.{entries_ascend}
 use Rattle.archive_types.specs.MapPairs.{pair_meaning}
 use Rattle.archive_types.specs.Runs.{each_keys, each_meaning}
 use Rattle.archive_types.specs.ValueOrder.{value_cmp, keys_ascend}
-use Rattle.archive_types.specs.Writing.{Naming}
 
 module _ {A B : Type 0} (R : A → A → Ordering) (m : A → Value) (n : B → Value) (law : (x y : A) → R x y ≡ value_cmp (m x) (m y)) where
   -- whether their keys ascend
@@ -22,14 +22,11 @@ module _ {A B : Type 0} (R : A → A → Ordering) (m : A → Value) (n : B → 
   two_first : (x y : A × B) (es : List (A × B)) → pairs_ascend (x ∷ y ∷ es) ≡ (is_lt (R x.0 y.0) && pairs_ascend (y ∷ es))
   two_first x y es = ap (λ r. is_lt r && pairs_ascend (y ∷ es)) (sym (law x.0 y.0))
 
-  -- one alone ascends
-  one_ascends : (es : List (A × B)) → length es ≤ 1 → pairs_ascend es ≡ true
-  one_ascends [] few = refl
-  one_ascends (x ∷ []) few = refl
-  one_ascends (x ∷ y ∷ es) few = absurd (omega (arith, few))
-
-  pub last_ascends : (all : List (A × B)) (i : ℕ) → length all ≤ i + 1 → pairs_ascend (drop i all) ≡ true
-  last_ascends all i few = one_ascends (drop i all) (omega (arith, length-drop i all, few))
+  -- as a test of their keys answers
+  pub ascends_as_meant : (es : List (A × B)) → entries_ascend R es ≡ pairs_ascend es
+  ascends_as_meant [] = refl
+  ascends_as_meant (x ∷ []) = refl
+  ascends_as_meant (x ∷ y ∷ es) = ap (λ b. is_lt (R x.0 y.0) && b) (ascends_as_meant (y ∷ es)) ∙ sym (two_first x y es)
 
   -- those of a `BTreeMap` do
   pub map_ascends : (es : List (A × B)) → IsStrictlySortedBy R (keys_of es) → pairs_ascend es ≡ true

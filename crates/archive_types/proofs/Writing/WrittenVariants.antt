@@ -5,11 +5,12 @@ use Rattle.archive_check.specs.Shape.{Name, Shape, choice, named, Variants, part
 use Rattle.archive_check.specs.Layout.{Layout, up, align_of}
 use Rattle.archive_check.specs.Definitions.{Definitions, Knows, HasLayout}
 use Rattle.archive_check.specs.Value.{Value, case, no_value}
-use Rattle.archive_check.specs.Reads.{Schema, reads_named}
+use Rattle.archive_check.specs.Reads.{SchemaTable, reads_named}
 use Rattle.archive_check.specs.CleanRegions.{clean_named}
 use Rattle.archive_check.specs.WriterState.{WriterState}
 use Rattle.archive_check.specs.declared.format.error.Error.{Error}
-use Rattle.archive_types.specs.Writing.{Naming, World, Covers, Writes, Resolves}
+use Rattle.archive_check.specs.Denotes.{Naming}
+use Rattle.archive_types.specs.Writing.{World, Covers, Writes, Resolves}
 use Rattle.archive_types.specs.Plans.{cursor, Serialized, serialized}
 use Rattle.archive_types.specs.Causes.{part_of_choice, in_first_part, part_of_named, HindersPartAt, HindersAt, IsRefused}
 use Rattle.archive_types.specs.Members.Variants.{case_of, case_plan, empty_plan, named_plan}
@@ -19,7 +20,7 @@ use Rattle.archive_types.proofs.Planning.Planned.{is_here}
 
 -- under more definitions
 
-module _ (D E : Definitions) (known : (s : Schema) → Knows s D → Knows s E) where
+module _ (D E : Definitions) (known : (s : SchemaTable) → Knows s D → Knows s E) where
   covers_less : (w : World) (told : List ℕ) (states : _) (keys : List Naming) → Covers w D told states keys → Covers w E told states keys
   covers_less w told states keys h = record { knows = known w.schema h.knows; rest = h.rest; begins = h.begins; placed = h.placed; named = h.named }
 
@@ -35,7 +36,7 @@ module _ (D E : Definitions) (known : (s : Schema) → Knows s D → Knows s E) 
 
 -- a variant with one part, by what is known of the part
 
-module _ (D E : Definitions) (known : (s : Schema) → Knows s D → Knows s E) (name : Name) (vs : Variants) (tag : ℕ) (X : Shape) (is : variant_at vs tag ≡ Some (part X no_part)) (keys : List Naming) (v : Value) where
+module _ (D E : Definitions) (known : (s : SchemaTable) → Knows s D → Knows s E) (name : Name) (vs : Variants) (tag : ℕ) (X : Shape) (is : variant_at vs tag ≡ Some (part X no_part)) (keys : List Naming) (v : Value) where
   pub serialized_case : (flat : Value) (old new : WriterState) → Serialized E X keys v flat old new → Serialized D (choice name vs) keys (case_of tag v) (case_of tag flat) old new
   serialized_case flat old new (serialized writes planned) = serialized (writes_case D old new keys tag flat v (writes_more D E known old new keys flat v writes))
       (λ below s names k n. (let q = planned below s names (known s k) n in case_plan name vs tag X is v s names (cursor old) _ _ q (ap (case_of tag) q.such.0, q.such.1)))
@@ -54,7 +55,7 @@ module _ (D E : Definitions) (known : (s : Schema) → Knows s D → Knows s E) 
       (λ m x below s names k n. (let q = x below s names (known s k) n in case_plan name vs tag X is v s names (cursor old) _ _ q q.such)) h
 
 -- what hinders the part where it lies hinders the variant
-pub case_hindered_at : (D E : Definitions) (known : (s : Schema) → Knows s D → Knows s E) (name : Name) (vs : Variants) (tag : ℕ) (X : Shape) (is : variant_at vs tag ≡ Some (part X no_part)) (L : Layout) → HasLayout E X L
+pub case_hindered_at : (D E : Definitions) (known : (s : SchemaTable) → Knows s D → Knows s E) (name : Name) (vs : Variants) (tag : ℕ) (X : Shape) (is : variant_at vs tag ≡ Some (part X no_part)) (L : Layout) → HasLayout E X L
     → (flat : Value) (p offset : ℕ) (e : Error) → offset ≡ up 1 L.align → HindersAt E X flat (p + offset) e → HindersAt D (choice name vs) (case_of tag flat) p e
 case_hindered_at D E known name vs tag X is L layout flat p offset e there h = record {
   named = h.named;
@@ -73,7 +74,7 @@ serialized_empty_case D name vs tag is w = serialized (writes_empty_case D w tag
 
 -- a name, by its definition
 
-module _ (D : Definitions) (name : Name) (X : Shape) (has : (s : Schema) → Knows s D → definition s.table name ≡ Some X) where
+module _ (D : Definitions) (name : Name) (X : Shape) (has : (s : SchemaTable) → Knows s D → definition s.table name ≡ Some X) where
   pub serialized_named : (keys : List Naming) (v flat : Value) (old new : WriterState) → Serialized D X keys v flat old new → Serialized D (named name) keys v flat old new
   serialized_named keys v flat old new (serialized writes planned) = serialized writes
       (λ below s names k n. named_plan s names name X v (cursor old) _ (has s k) (planned below s names k n))

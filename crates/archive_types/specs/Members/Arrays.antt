@@ -5,11 +5,12 @@ use Rattle.std.proofs.Common.{refl, sym, ap, ◌∙◌, arith}
 use Rattle.archive_check.specs.Shape.{Shape, array, text}
 use Rattle.archive_check.specs.Definitions.{Definitions, Knows}
 use Rattle.archive_check.specs.Value.{Value, Values, list, null, shared_value}
-use Rattle.archive_check.specs.Reads.{Schema, ReadsRun}
+use Rattle.archive_check.specs.Reads.{SchemaTable, ReadsRun}
 use Rattle.archive_check.specs.CleanRegions.{Occurs, CleanRun}
 use Rattle.archive_check.specs.Tour.{Entry}
 use Rattle.archive_check.specs.Reached.{Names, names_itself}
-use Rattle.archive_types.specs.Writing.{Naming, NameMap, AreNamed, HasKeys, key_at_once, IsKeyed}
+use Rattle.archive_check.specs.Denotes.{Naming}
+use Rattle.archive_types.specs.Writing.{NameMap, AreNamed, HasKeys, key_at_once, IsKeyed}
 use Rattle.archive_types.specs.Plans.{plans_array, HasPlan}
 use Rattle.archive_types.specs.Runs.{each_meaning, each_keys, HasRunPlan}
 use Rattle.archive_types.specs.Members.PlannedOwners.{each_planned}
@@ -47,8 +48,8 @@ array_keys n k xs = keys_if (are xs n) (each_keys k xs)
 
 -- these bytes, at p, are clean and read as n elements
 pub record ResolvesRun (D : Definitions) (p : ℕ) (a : List ℕ) (n : ℕ) (X : Shape) (flats : Values) : Type 0 where
-  pub reads : (s : Schema) (bytes : List ℕ) → Knows s D → Occurs bytes p a → ReadsRun s bytes p n X flats
-  pub clean : (s : Schema) (bytes : List ℕ) → Knows s D → Occurs bytes p a → CleanRun s bytes p n X
+  pub reads : (s : SchemaTable) (bytes : List ℕ) → Knows s D → Occurs bytes p a → ReadsRun s bytes p n X flats
+  pub clean : (s : SchemaTable) (bytes : List ℕ) → Knows s D → Occurs bytes p a → CleanRun s bytes p n X
 
 -- the laws
 

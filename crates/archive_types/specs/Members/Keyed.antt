@@ -3,7 +3,8 @@ use Rattle.std.proofs.Common.{ℕ, ℤ, List, [], ◌∷◌, ◌++◌, arith, in
 use Rattle.std.proofs.lemmas.List.Elements.{Contains-append_left, Contains-append_right, Contains-append_cases}
 use Rattle.archive_check.specs.Value.{Value, number, text_value, product, case, list, box, Values, no_value, value}
 use Rattle.archive_check.specs.Reached.{Names, names_product, names_case, names_list, names_box, names_first, names_later}
-use Rattle.archive_types.specs.Writing.{Naming, HasKeys, LeadsToKey, key_at_once, key_through, IsKeyed}
+use Rattle.archive_check.specs.Denotes.{Naming}
+use Rattle.archive_types.specs.Writing.{HasKeys, LeadsToKey, key_at_once, key_through, IsKeyed}
 use Rattle.archive_types.specs.Runs.{each_keys, each_meaning}
 
 pub keyed_by_none : (v : Value) → HasKeys [] v → IsKeyed [] v

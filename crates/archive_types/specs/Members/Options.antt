@@ -5,8 +5,9 @@ use Rattle.archive_check.specs.Shape.{Shape}
 use Rattle.archive_check.specs.Definitions.{Definitions}
 use Rattle.archive_check.specs.Value.{Value, case, no_value}
 use Rattle.archive_check.specs.Reached.{Names, names_case}
+use Rattle.archive_check.specs.Denotes.{Naming}
 use Rattle.archive_enum.specs.Choices.{option_shape}
-use Rattle.archive_types.specs.Writing.{Naming, IsKeyed}
+use Rattle.archive_types.specs.Writing.{IsKeyed}
 use Rattle.archive_types.specs.Plans.{HasPlan}
 use Rattle.archive_types.specs.Members.Keyed.{keyed_by_none}
 use Rattle.archive_types.specs.Members.Variants.{case_of, one_keyed, case_planned, empty_planned}

@@ -10,7 +10,7 @@ use Rattle.std.specs.declared.cmp.Ordering.TheVariants.{Less, Equal, Greater}
 use Rattle.archive_check.specs.Shape.{Key, Shape, parts, sorted_map, one, run, no_part, part, key_shape, entry_of}
 use Rattle.archive_check.specs.Layout.{Layout, up, size_of, align_of}
 use Rattle.archive_check.specs.Value.{Value, product, list, hole, no_value, value}
-use Rattle.archive_check.specs.Reads.{Schema, u32_at, map_at, reads_parts, reads_part, reads_no_part, reads_map}
+use Rattle.archive_check.specs.Reads.{SchemaTable, u32_at, map_at, reads_parts, reads_part, reads_no_part, reads_map}
 use Rattle.archive_check.specs.Readable.{position, target_from}
 use Rattle.archive_check.specs.Tour.{Contents, contents_one}
 use Rattle.archive_check.specs.Definitions.{Definitions, no_definition, both, Knows, HasLayout}
@@ -101,7 +101,7 @@ record PairMeans (D E : Definitions) (X Y : Shape) (k l : Layout) (a : Standing)
   second_means : Means E (one Y) (second_of k l a) second
 
 module _ (D E : Definitions) (X Y : Shape) (k l : Layout) (laid : HasLayout D X k) (other : HasLayout E Y l) where
-  pair_is : (s : Schema) (bytes : List ℕ) (q m n : ℕ) {v w : Value} → Knows s (both D (both E no_definition))
+  pair_is : (s : SchemaTable) (bytes : List ℕ) (q m n : ℕ) {v w : Value} → Knows s (both D (both E no_definition))
       → Contents s bytes q (one (parts (part X (part Y no_part)))) n v → Follows s bytes v w
       → PairMeans D E X Y k l (standing bytes q m) w
   pair_is s bytes q m n knows (contents_one (reads_parts (reads_part {v = u} r (reads_part {v = x} t reads_no_part)))) (follows_product (follows_value {w = w} f (follows_value {w = y} g follows_no_value))) =
@@ -142,14 +142,14 @@ module _ (D E : Definitions) (X Y : Shape) (k l : Layout) (laid : HasLayout D X 
 
 -- maps: by their pairs
 
-map_led : (D : Definitions) (K : Key) (V : Shape) (s : Schema) (bytes : List ℕ) (q : ℕ) (w : Value) → Knows s D
+map_led : (D : Definitions) (K : Key) (V : Shape) (s : SchemaTable) (bytes : List ℕ) (q : ℕ) (w : Value) → Knows s D
     → Follows s bytes (hole (map_at bytes q K V)) w
     → Means D (run (entry_of K V)) (standing bytes (target_from bytes q q) (u32_at bytes (q + 4))) w
 map_led D K V s bytes q w k (follows_pointer {t = t} {v = v} l f) =
     let there : t ≡ target_from bytes q q = sym (ap position l.target) in
     record { schema = s; value = v; knows = k; contents = rw there at l.contents; follows = f }
 
-map_is : (D : Definitions) (K : Key) (V : Shape) (s : Schema) (bytes : List ℕ) (q m n : ℕ) (v w : Value) → Knows s D
+map_is : (D : Definitions) (K : Key) (V : Shape) (s : SchemaTable) (bytes : List ℕ) (q m n : ℕ) (v w : Value) → Knows s D
     → Contents s bytes q (one (sorted_map K V)) n v → Follows s bytes v w
     → Means D (run (entry_of K V)) (slice_of (standing bytes q m)) w
 map_is D K V s bytes q m n _ w k (contents_one reads_map) f = map_led D K V s bytes q w k f

@@ -12,7 +12,7 @@ use Rattle.std.specs.declared.cmp.Ordering.TheVariants.{Less, Equal, Greater}
 use Rattle.archive_check.specs.Shape.{Sign, Kind, number as number_kind, non_zero, Flavor, Shape, leaf, boxed, vec, str, shared, Pointee, one, run, text, Parts, no_part, part, no_variant, variant, variant_at}
 use Rattle.archive_check.specs.Layout.{Layout, up, kind_size, size_of, align_of}
 use Rattle.archive_check.specs.Value.{Pointer, Value, number, case, list, text_value, box, hole, Values, no_value, value}
-use Rattle.archive_check.specs.Reads.{Schema, Reads, ReadsParts, ReadsRun, bytes_at, u32_at, i32_at, length_at, pointer_at, string_at, IsOutOfLine, before_end, decoded_length, IsLegal, kind_value, reads_leaf, reads_choice, reads_boxed, reads_vec, reads_inline, reads_out_of_line, reads_shared, reads_part, reads_no_part, reads_none, reads_element}
+use Rattle.archive_check.specs.Reads.{SchemaTable, Reads, ReadsParts, ReadsRun, bytes_at, u32_at, i32_at, length_at, pointer_at, string_at, IsOutOfLine, before_end, decoded_length, IsLegal, kind_value, reads_leaf, reads_choice, reads_boxed, reads_vec, reads_inline, reads_out_of_line, reads_shared, reads_part, reads_no_part, reads_none, reads_element}
 use Rattle.archive_check.specs.Tour.{Contents, contents_one, contents_run, contents_text, Leads}
 use Rattle.archive_check.specs.Readable.{position, target_from, string_text}
 use Rattle.archive_check.specs.Definitions.{Definitions, Knows, HasLayout, IsAlign, both}
@@ -34,10 +34,10 @@ as_native_pointee D P Q meaning R e h = rw (← e) h
 
 -- leaves
 
-leaf_is : {s : Schema} {bytes : List ℕ} {q n : ℕ} {kind : Kind} {v w : Value} → Contents s bytes q (one (leaf kind)) n v → Follows s bytes v w → w ≡ number (kind_value kind (bytes_at bytes q (kind_size kind)))
+leaf_is : {s : SchemaTable} {bytes : List ℕ} {q n : ℕ} {kind : Kind} {v w : Value} → Contents s bytes q (one (leaf kind)) n v → Follows s bytes v w → w ≡ number (kind_value kind (bytes_at bytes q (kind_size kind)))
 leaf_is (contents_one (reads_leaf l)) follows_number = refl
 
-leaf_legal : {s : Schema} {bytes : List ℕ} {q n : ℕ} {kind : Kind} {v : Value} → Contents s bytes q (one (leaf kind)) n v → IsLegal kind (bytes_at bytes q (kind_size kind))
+leaf_legal : {s : SchemaTable} {bytes : List ℕ} {q n : ℕ} {kind : Kind} {v : Value} → Contents s bytes q (one (leaf kind)) n v → IsLegal kind (bytes_at bytes q (kind_size kind))
 leaf_legal (contents_one (reads_leaf l)) = l
 
 module _ {X : Type 0} (value_of : X → ℤ) (number_of : List ℕ → X) (R : X → X → Ordering) (D : Definitions) (kind : Kind) (count : ℕ) (size : kind_size kind ≡ count)
@@ -68,7 +68,7 @@ non_zero_size sign width kind count e size = rw e at size
 
 -- texts
 
-text_is : {s : Schema} {bytes : List ℕ} {q n : ℕ} {v w : Value} → Contents s bytes q text n v → Follows s bytes v w → w ≡ text_value (bytes_at bytes q n)
+text_is : {s : SchemaTable} {bytes : List ℕ} {q n : ℕ} {v w : Value} → Contents s bytes q text n v → Follows s bytes v w → w ≡ text_value (bytes_at bytes q n)
 text_is (contents_text u) follows_text = refl
 
 pub text_means : (D : Definitions) (a : Standing) (w : Value) → Means D text a w → w ≡ text_value (bytes_at a.bytes a.pos a.len)
@@ -79,15 +79,15 @@ texts_ordered D a b v w m n = rw (text_means D a v m, text_means D b w n) refl
 
 -- strings, wherever their texts stand
 
-leads_text : {s : Schema} {bytes : List ℕ} {p : Pointer} {t : ℕ} {v w : Value} → p.pointee ≡ text → Leads s bytes p t v → Follows s bytes v w → w ≡ text_value (bytes_at bytes t p.length)
+leads_text : {s : SchemaTable} {bytes : List ℕ} {p : Pointer} {t : ℕ} {v w : Value} → p.pointee ≡ text → Leads s bytes p t v → Follows s bytes v w → w ≡ text_value (bytes_at bytes t p.length)
 leads_text {s = s} {bytes = bytes} {p = p} {t = t} {v = v} e l f = text_is (rw e at l.contents) f
 
-outside_is : (q : ℕ) {s : Schema} {bytes : List ℕ} {w : Value} → Follows s bytes (hole (string_at bytes q)) w → w ≡ text_value (bytes_at bytes (target_from bytes q (q + 4)) (decoded_length (u32_at bytes q)))
+outside_is : (q : ℕ) {s : SchemaTable} {bytes : List ℕ} {w : Value} → Follows s bytes (hole (string_at bytes q)) w → w ≡ text_value (bytes_at bytes (target_from bytes q (q + 4)) (decoded_length (u32_at bytes q)))
 outside_is q {bytes = bytes} (follows_pointer {t = t} l f) =
     let there : t ≡ target_from bytes q (q + 4) = sym (ap position l.target) in
     leads_text refl l f ∙ ap (λ r. text_value (bytes_at bytes r (decoded_length (u32_at bytes q)))) there
 
-string_is : {s : Schema} {bytes : List ℕ} {q n : ℕ} {v w : Value} (b : Bool) → nat_eq (slice_index bytes q / 64) 2 ≡ b → Contents s bytes q (one str) n v → Follows s bytes v w
+string_is : {s : SchemaTable} {bytes : List ℕ} {q n : ℕ} {v w : Value} (b : Bool) → nat_eq (slice_index bytes q / 64) 2 ≡ b → Contents s bytes q (one str) n v → Follows s bytes v w
     → w ≡ text_value (if b then bytes_at bytes (target_from bytes q (q + 4)) (decoded_length (u32_at bytes q)) else before_end (bytes_at bytes q 8))
 string_is true e (contents_one (reads_inline o u)) f = absurd (o (grind (arith, nat_tests)))
 string_is {q = q} true e (contents_one (reads_out_of_line o u)) f = outside_is q f
@@ -103,13 +103,13 @@ strings_ordered D a b v w m n = rw (string_means D a v m, string_means D b w n) 
 -- slices
 
 module _ (D : Definitions) (X : Shape) (L : Layout) (layout : HasLayout D X L) where
-  element_size : (s : Schema) → Knows s D → size_of s.layouts X ≡ L.size
+  element_size : (s : SchemaTable) → Knows s D → size_of s.layouts X ≡ L.size
   element_size s k = ap (λ (l : Layout). l.size) (layout.solved s k)
 
-  next_place : (s : Schema) → Knows s D → (p i q : ℕ) → q ≡ p + i * L.size → q + size_of s.layouts X ≡ p + (i + 1) * L.size
+  next_place : (s : SchemaTable) → Knows s D → (p i q : ℕ) → q ≡ p + i * L.size → q + size_of s.layouts X ≡ p + (i + 1) * L.size
   next_place s k p i q e = rw (element_size s k, e) (omega arith)
 
-  module _ (R : Standing → Standing → Ordering) (by_value : OrdersValues D (one X) R) (a b : List ℕ) (s t : Schema) (k : Knows s D) (l : Knows t D) where
+  module _ (R : Standing → Standing → Ordering) (by_value : OrdersValues D (one X) R) (a b : List ℕ) (s t : SchemaTable) (k : Knows s D) (l : Knows t D) where
     runs_ordered : {n m p q : ℕ} {vs ws us xs : Values} (f g i : ℕ) → p ≡ f + i * L.size → q ≡ g + i * L.size → ReadsRun s a p n X vs → FollowsAll s a vs us → ReadsRun t b q m X ws → FollowsAll t b ws xs
         → slice_cmp R (elements_from a f L.size i n) (elements_from b g L.size i m) ≡ values_cmp us xs
     runs_ordered f g i c d reads_none follows_no_value reads_none follows_no_value = refl
@@ -124,7 +124,7 @@ module _ (D : Definitions) (X : Shape) (L : Layout) (layout : HasLayout D X L) w
         ) refl
 
   module _ (R : Standing → Standing → Ordering) (by_value : OrdersValues D (one X) R) where
-    lists_ordered : {s t : Schema} {a b : List ℕ} {p q n m : ℕ} {v w v' w' : Value} → Knows s D → Knows t D → Contents s a p (run X) n v → Follows s a v v' → Contents t b q (run X) m w → Follows t b w w'
+    lists_ordered : {s t : SchemaTable} {a b : List ℕ} {p q n m : ℕ} {v w v' w' : Value} → Knows s D → Knows t D → Contents s a p (run X) n v → Follows s a v v' → Contents t b q (run X) m w → Follows t b w w'
         → slice_cmp R (elements_from a p L.size 0 n) (elements_from b q L.size 0 m) ≡ value_cmp v' w'
     lists_ordered {s = s} {t = t} {a = a} {b = b} {p = p} {q = q} k l (contents_run rs) (follows_list hs) (contents_run us) (follows_list js) =
         runs_ordered R by_value a b s t k l p q 0 (omega arith) (omega arith) rs hs us js
@@ -134,7 +134,7 @@ module _ (D : Definitions) (X : Shape) (L : Layout) (layout : HasLayout D X L) w
 
   -- a slice and one of the machine
 
-  module _ {U : Type 0} (meaning : U → Value) (R : Standing → U → Ordering) (by_value : OrdersNative D (one X) meaning R) (a : List ℕ) (s : Schema) (k : Knows s D) where
+  module _ {U : Type 0} (meaning : U → Value) (R : Standing → U → Ordering) (by_value : OrdersNative D (one X) meaning R) (a : List ℕ) (s : SchemaTable) (k : Knows s D) where
     run_ordered : (f i : ℕ) (us : List U) {n p : ℕ} {vs ws : Values} → p ≡ f + i * L.size → ReadsRun s a p n X vs → FollowsAll s a vs ws → slice_cmp R (elements_from a f L.size i n) us ≡ values_cmp ws (each_meaning meaning us)
     run_ordered f i [] c reads_none follows_no_value = refl
     run_ordered f i (u ∷ us) c reads_none follows_no_value = refl
@@ -144,7 +144,7 @@ module _ (D : Definitions) (X : Shape) (L : Layout) (layout : HasLayout D X L) w
         rw (by_value (standing a (f + i * L.size) 0) w u first, run_ordered f (i + 1) us (next_place s k f i p c) rs hs) refl
 
   module _ {U : Type 0} (meaning : U → Value) (R : Standing → U → Ordering) (by_value : OrdersNative D (one X) meaning R) where
-    list_ordered : {s : Schema} {a : List ℕ} {p n : ℕ} {v w : Value} (us : List U) → Knows s D → Contents s a p (run X) n v → Follows s a v w
+    list_ordered : {s : SchemaTable} {a : List ℕ} {p n : ℕ} {v w : Value} (us : List U) → Knows s D → Contents s a p (run X) n v → Follows s a v w
         → slice_cmp R (elements_from a p L.size 0 n) us ≡ value_cmp w (list (each_meaning meaning us))
     list_ordered {s = s} {a = a} {p = p} us k (contents_run rs) (follows_list hs) = run_ordered meaning R by_value a s k p 0 us (omega arith) rs hs
 
@@ -153,7 +153,7 @@ module _ (D : Definitions) (X : Shape) (L : Layout) (layout : HasLayout D X L) w
 
 -- pointers: what they lead to
 
-led_to : (D : Definitions) (P : Pointee) (s : Schema) (bytes : List ℕ) (q : ℕ) (sharing : Option Flavor) (w : Value) → Knows s D → Follows s bytes (hole (pointer_at bytes q sharing P)) w → Means D P (standing bytes (target_from bytes q q) (length_at bytes q P)) w
+led_to : (D : Definitions) (P : Pointee) (s : SchemaTable) (bytes : List ℕ) (q : ℕ) (sharing : Option Flavor) (w : Value) → Knows s D → Follows s bytes (hole (pointer_at bytes q sharing P)) w → Means D P (standing bytes (target_from bytes q q) (length_at bytes q P)) w
 led_to D P s bytes q sharing w k (follows_pointer {t = t} {v = v} l f) =
     let there : t ≡ target_from bytes q q = sym (ap position l.target) in
     record { schema = s; value = v; knows = k; contents = rw there at l.contents; follows = f }
@@ -164,7 +164,7 @@ pub record BoxMeans (D : Definitions) (P : Pointee) (a : Standing) (w : Value) :
   pub is : w ≡ box inner
   pub means : Means D P (pointee_at P a) inner
 
-box_is : (D : Definitions) (P : Pointee) (s : Schema) (bytes : List ℕ) (q m n : ℕ) (v w : Value) → Knows s D → Contents s bytes q (one (boxed P)) n v → Follows s bytes v w → BoxMeans D P (standing bytes q m) w
+box_is : (D : Definitions) (P : Pointee) (s : SchemaTable) (bytes : List ℕ) (q m n : ℕ) (v w : Value) → Knows s D → Contents s bytes q (one (boxed P)) n v → Follows s bytes v w → BoxMeans D P (standing bytes q m) w
 box_is D P s bytes q m n _ _ k (contents_one reads_boxed) (follows_box {w = w} f) = record { inner = w; is = refl; means = led_to D P s bytes q None w k f }
 
 pub box_means : (D : Definitions) (P : Pointee) (a : Standing) (w : Value) → Means D (one (boxed P)) a w → BoxMeans D P a w
@@ -176,7 +176,7 @@ boxes_ordered D P R by_value a b v w m n =
     let y = box_means D P b w n in
     rw (x.is, y.is) (by_value _ _ x.inner y.inner x.means y.means)
 
-shared_is : (D : Definitions) (P : Pointee) (flavor : Flavor) (s : Schema) (bytes : List ℕ) (q m n : ℕ) (v w : Value) → Knows s D → Contents s bytes q (one (shared flavor P)) n v → Follows s bytes v w
+shared_is : (D : Definitions) (P : Pointee) (flavor : Flavor) (s : SchemaTable) (bytes : List ℕ) (q m n : ℕ) (v w : Value) → Knows s D → Contents s bytes q (one (shared flavor P)) n v → Follows s bytes v w
     → Means D P (pointee_at P (standing bytes q m)) w
 shared_is D P flavor s bytes q m n _ w k (contents_one reads_shared) f = led_to D P s bytes q (Some flavor) w k f
 
@@ -186,7 +186,7 @@ shared_means D P flavor a w m = shared_is D P flavor m.schema a.bytes a.pos a.le
 pub shared_ordered : (D : Definitions) (P : Pointee) (flavor : Flavor) (R : Standing → Standing → Ordering) → OrdersValues D P R → OrdersValues D (one (shared flavor P)) (on (pointee_at P) R)
 shared_ordered D P flavor R by_value a b v w m n = by_value _ _ v w (shared_means D P flavor a v m) (shared_means D P flavor b w n)
 
-vec_is : (D : Definitions) (X : Shape) (s : Schema) (bytes : List ℕ) (q m n : ℕ) (v w : Value) → Knows s D → Contents s bytes q (one (vec X)) n v → Follows s bytes v w → Means D (run X) (slice_of (standing bytes q m)) w
+vec_is : (D : Definitions) (X : Shape) (s : SchemaTable) (bytes : List ℕ) (q m n : ℕ) (v w : Value) → Knows s D → Contents s bytes q (one (vec X)) n v → Follows s bytes v w → Means D (run X) (slice_of (standing bytes q m)) w
 vec_is D X s bytes q m n _ w k (contents_one reads_vec) f = led_to D (run X) s bytes q None w k f
 
 pub vec_means : (D : Definitions) (X : Shape) (a : Standing) (w : Value) → Means D (one (vec X)) a w → Means D (run X) (slice_of a) w
@@ -203,25 +203,25 @@ then_Equal Equal = refl
 then_Equal Greater = refl
 
 -- what a part with nothing behind it says
-first_means : (D : Definitions) (X : Shape) (L : Layout) → IsAlign L.align → HasLayout D X L → (s : Schema) (bytes : List ℕ) (q : ℕ) {v w : Value} → Knows s D → Reads s bytes (q + up 1 (align_of s.layouts X)) X v → Follows s bytes v w
+first_means : (D : Definitions) (X : Shape) (L : Layout) → IsAlign L.align → HasLayout D X L → (s : SchemaTable) (bytes : List ℕ) (q : ℕ) {v w : Value} → Knows s D → Reads s bytes (q + up 1 (align_of s.layouts X)) X v → Follows s bytes v w
     → Means D (one X) (standing bytes (q + L.align) 0) w
 first_means D X L is layout s bytes q {v = v} k r f =
     let a : align_of s.layouts X ≡ L.align = ap (λ (l : Layout). l.align) (layout.solved s k) in
     let there : q + up 1 (align_of s.layouts X) ≡ q + L.align = rw (a, up_first L.align is) refl in
     record { schema = s; value = v; knows = k; contents = contents_one (rw there at r); follows = f }
 
-nothing_follows : {s : Schema} {bytes : List ℕ} {q n : ℕ} {vs ws : Values} → ReadsParts s bytes q n no_part vs → FollowsAll s bytes vs ws → ws ≡ no_value
+nothing_follows : {s : SchemaTable} {bytes : List ℕ} {q n : ℕ} {vs ws : Values} → ReadsParts s bytes q n no_part vs → FollowsAll s bytes vs ws → ws ≡ no_value
 nothing_follows reads_no_part follows_no_value = refl
 
 -- a variant's one part
-record OnePart (s : Schema) (bytes : List ℕ) (q : ℕ) (X : Shape) (ws : Values) : Type 0 where
+record OnePart (s : SchemaTable) (bytes : List ℕ) (q : ℕ) (X : Shape) (ws : Values) : Type 0 where
   said : Value
   meant : Value
   is : ws ≡ value meant no_value
   reads : Reads s bytes (q + up 1 (align_of s.layouts X)) X said
   follows : Follows s bytes said meant
 
-one_follows : {s : Schema} {bytes : List ℕ} {q : ℕ} {X : Shape} {vs ws : Values} → ReadsParts s bytes q 1 (part X no_part) vs → FollowsAll s bytes vs ws → OnePart s bytes q X ws
+one_follows : {s : SchemaTable} {bytes : List ℕ} {q : ℕ} {X : Shape} {vs ws : Values} → ReadsParts s bytes q 1 (part X no_part) vs → FollowsAll s bytes vs ws → OnePart s bytes q X ws
 one_follows (reads_part {v = v} r reads_no_part) (follows_value {w = w} f follows_no_value) = record { said = v; meant = w; is = refl; reads = r; follows = f }
 
 abbrev parts_of : (o : Option Parts) → Parts
@@ -234,7 +234,7 @@ pub data OptionMeans (D : Definitions) (X : Shape) (L : Layout) (bytes : List �
   some_means : {w : Value} → slice_index bytes q ≡ 1 → Means D (one X) (standing bytes (q + L.align) 0) w → OptionMeans D X L bytes q (case 1 (value w no_value))
 
 module _ (D : Definitions) (X : Shape) (L : Layout) (align : IsAlign L.align) (layout : HasLayout D X L) where
-  option_is : (s : Schema) (bytes : List ℕ) (q tag : ℕ) (ps : Parts) {vs ws : Values} → Knows s D → slice_index bytes q ≡ tag → variant_at (variant no_part (variant (part X no_part) no_variant)) tag ≡ Some ps
+  option_is : (s : SchemaTable) (bytes : List ℕ) (q tag : ℕ) (ps : Parts) {vs ws : Values} → Knows s D → slice_index bytes q ≡ tag → variant_at (variant no_part (variant (part X no_part) no_variant)) tag ≡ Some ps
       → ReadsParts s bytes q 1 ps vs → FollowsAll s bytes vs ws → OptionMeans D X L bytes q (case tag ws)
   option_is s bytes q zero ps k e h rs f =
       let none : ps ≡ no_part = sym (ap parts_of h) in
@@ -245,7 +245,7 @@ module _ (D : Definitions) (X : Shape) (L : Layout) (align : IsAlign L.align) (l
       rw (o.is) (some_means e (first_means D X L align layout s bytes q k o.reads o.follows))
   option_is s bytes q (suc (suc tag)) ps k e h rs f = cc
 
-  option_contents : (s : Schema) (bytes : List ℕ) (q n : ℕ) (v w : Value) → Knows s D → Contents s bytes q (one (option_shape X)) n v → Follows s bytes v w → OptionMeans D X L bytes q w
+  option_contents : (s : SchemaTable) (bytes : List ℕ) (q n : ℕ) (v w : Value) → Knows s D → Contents s bytes q (one (option_shape X)) n v → Follows s bytes v w → OptionMeans D X L bytes q w
   option_contents s bytes q n _ _ k (contents_one (reads_choice {ps = ps} h rs)) (follows_case f) = option_is s bytes q (slice_index bytes q) ps k refl h rs f
 
   pub option_means : (a : Standing) (w : Value) → Means D (one (option_shape X)) a w → OptionMeans D X L a.bytes a.pos w
@@ -286,7 +286,7 @@ pub data ResultMeans (D E : Definitions) (X Y : Shape) (L M : Layout) (bytes : L
   err_means : {w : Value} → slice_index bytes q ≡ 1 → Means E (one Y) (standing bytes (q + M.align) 0) w → ResultMeans D E X Y L M bytes q (case 1 (value w no_value))
 
 module _ (D E : Definitions) (X Y : Shape) (L M : Layout) (value_align : IsAlign L.align) (error_align : IsAlign M.align) (value_layout : HasLayout D X L) (error_layout : HasLayout E Y M) where
-  result_is : (s : Schema) (bytes : List ℕ) (q tag : ℕ) (ps : Parts) {vs ws : Values} → Knows s (both D E) → slice_index bytes q ≡ tag → variant_at (result_variants X Y) tag ≡ Some ps
+  result_is : (s : SchemaTable) (bytes : List ℕ) (q tag : ℕ) (ps : Parts) {vs ws : Values} → Knows s (both D E) → slice_index bytes q ≡ tag → variant_at (result_variants X Y) tag ≡ Some ps
       → ReadsParts s bytes q 1 ps vs → FollowsAll s bytes vs ws → ResultMeans D E X Y L M bytes q (case tag ws)
   result_is s bytes q zero ps k e h rs f =
       let ok : ps ≡ part X no_part = sym (ap parts_of h) in
@@ -298,7 +298,7 @@ module _ (D E : Definitions) (X Y : Shape) (L M : Layout) (value_align : IsAlign
       rw (o.is) (err_means e (first_means E Y M error_align error_layout s bytes q (knows_right s D E k) o.reads o.follows))
   result_is s bytes q (suc (suc tag)) ps k e h rs f = cc
 
-  result_contents : (s : Schema) (bytes : List ℕ) (q n : ℕ) (v w : Value) → Knows s (both D E) → Contents s bytes q (one (result_shape X Y)) n v → Follows s bytes v w → ResultMeans D E X Y L M bytes q w
+  result_contents : (s : SchemaTable) (bytes : List ℕ) (q n : ℕ) (v w : Value) → Knows s (both D E) → Contents s bytes q (one (result_shape X Y)) n v → Follows s bytes v w → ResultMeans D E X Y L M bytes q w
   result_contents s bytes q n _ _ k (contents_one (reads_choice {ps = ps} h rs)) (follows_case f) = result_is s bytes q (slice_index bytes q) ps k refl h rs f
 
   pub result_means : (a : Standing) (w : Value) → Means (both D E) (one (result_shape X Y)) a w → ResultMeans D E X Y L M a.bytes a.pos w

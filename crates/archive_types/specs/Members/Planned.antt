@@ -5,9 +5,10 @@ use Rattle.archive_check.specs.Shape.{Kind, leaf, Shape, str, text}
 use Rattle.archive_check.specs.Layout.{up}
 use Rattle.archive_check.specs.Definitions.{Definitions}
 use Rattle.archive_check.specs.Value.{number, text_value}
-use Rattle.archive_check.specs.Reads.{Schema}
+use Rattle.archive_check.specs.Reads.{SchemaTable}
 use Rattle.archive_check.specs.Tour.{region_at}
-use Rattle.archive_types.specs.Writing.{NameMap, Naming}
+use Rattle.archive_check.specs.Denotes.{Naming}
+use Rattle.archive_types.specs.Writing.{NameMap}
 use Rattle.archive_types.specs.Plans.{Cursor, Step, lays, plans_leaf, plans_inline, plans_out_of_line, plans_text, plans_region, RegionPlan, HasPlan, HasRegionPlan}
 
 pub leaf_planned : (D : Definitions) (X : Shape) (kind : Kind) (keys : List Naming) (z : ℤ) → X ≡ leaf kind → HasPlan D X keys (number z)
@@ -17,7 +18,7 @@ pub up_one : (n : ℕ) → up n 1 ≡ n
 up_one n = omega arith
 
 -- a text's bytes come at once
-pub text_region : (s : Schema) (names : NameMap) (bytes : List ℕ) (a : Cursor) (holds : ℕ → List Step → Cursor → Type 0)
+pub text_region : (s : SchemaTable) (names : NameMap) (bytes : List ℕ) (a : Cursor) (holds : ℕ → List Step → Cursor → Type 0)
     → holds a.position (lays (region_at s a.position text (length bytes) false) (text_value bytes) ∷ []) (record { position = a.position + length bytes; states = a.states })
     → RegionPlan s names text (length bytes) (text_value bytes) a holds
 text_region s names bytes a holds h = record {

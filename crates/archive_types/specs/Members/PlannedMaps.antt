@@ -4,9 +4,10 @@ use Rattle.archive_check.specs.Shape.{Key, Shape, parts, sorted_map, run, part, 
 use Rattle.archive_check.specs.Definitions.{Definitions}
 use Rattle.archive_check.specs.SelfCheck.Maps.{entry_definitions}
 use Rattle.archive_check.specs.Value.{Value, list, hole}
-use Rattle.archive_check.specs.Reads.{Schema}
-use Rattle.archive_types.specs.Writing.{NameMap, Naming, IsKeyed, to_map}
-use Rattle.archive_types.specs.Plans.{Cursor, Step, disorders, plans_map, PlanOf, RegionPlan, HasPlan, HasRegionPlan}
+use Rattle.archive_check.specs.Reads.{SchemaTable}
+use Rattle.archive_check.specs.Denotes.{Naming}
+use Rattle.archive_types.specs.Writing.{NameMap, IsKeyed, to_map}
+use Rattle.archive_types.specs.Plans.{Cursor, Step, disorders, plans_map, ValuePlan, RegionPlan, HasPlan, HasRegionPlan}
 use Rattle.archive_types.specs.Runs.{each_meaning, each_keys}
 use Rattle.archive_types.specs.MapPairs.{pair_meaning, pair_keys}
 use Rattle.archive_types.specs.Members.Keyed.{each_keyed, nothing_keyed, part_keyed, record_keyed}
@@ -15,9 +16,9 @@ use Rattle.archive_types.specs.Members.PartsPlanned.{no_part_planned, part_plann
 use Rattle.archive_types.specs.Members.PlannedOwners.{slice_planned}
 
 module _ (D : Definitions) (K : Key) (V : Shape) (n : ℕ) (ks : List Naming) (v : Value) where
-  pub map_plan : (s : Schema) (names : NameMap) (a : Cursor) (holds : ℕ → List Step → Cursor → Type 0) (such : Value → List Step → Cursor → Type 0)
+  pub map_plan : (s : SchemaTable) (names : NameMap) (a : Cursor) (holds : ℕ → List Step → Cursor → Type 0) (such : Value → List Step → Cursor → Type 0)
       → ((t : ℕ) (C : List Step) (b : Cursor) → holds t C b → such (hole (to_map t K V n)) (disorders v ++ C) b) → RegionPlan s names (run (entry_of K V)) n v a holds
-      → PlanOf s names (sorted_map K V) v a such
+      → ValuePlan s names (sorted_map K V) v a such
   map_plan s names a holds such f h = record { flat = hole (to_map h.begin K V n); steps = disorders v ++ h.steps; stop = h.stop; plans = plans_map h.plans; such = f h.begin h.steps h.stop h.such }
 
   pub map_planned : HasRegionPlan D (run (entry_of K V)) n ks v → HasPlan D (sorted_map K V) ks v

@@ -5,16 +5,17 @@ use Rattle.archive_check.specs.Shape.{Shape, boxed, vec, Pointee, one, run}
 use Rattle.archive_check.specs.Layout.{up, size_of, align_of}
 use Rattle.archive_check.specs.Definitions.{Definitions}
 use Rattle.archive_check.specs.Value.{Value, list, box, hole, Values, no_value, value}
-use Rattle.archive_check.specs.Reads.{Schema}
+use Rattle.archive_check.specs.Reads.{SchemaTable}
 use Rattle.archive_check.specs.Tour.{region_at}
-use Rattle.archive_types.specs.Writing.{NameMap, Naming, to_pointee}
+use Rattle.archive_check.specs.Denotes.{Naming}
+use Rattle.archive_types.specs.Writing.{NameMap, to_pointee}
 use Rattle.archive_types.specs.Members.Sides.{named_left, named_right}
-use Rattle.archive_types.specs.Plans.{Cursor, Step, lays, plans_boxed, plans_vec, plans_none, plans_element, plans_one, plans_run, plans_region, PlanOf, RegionPlan, HasPlan, HasRegionPlan}
+use Rattle.archive_types.specs.Plans.{Cursor, Step, lays, plans_boxed, plans_vec, plans_none, plans_element, plans_one, plans_run, plans_region, ValuePlan, RegionPlan, HasPlan, HasRegionPlan}
 use Rattle.archive_types.specs.Runs.{RunPlan, HasRunPlan, each_meaning, each_keys}
 
 -- one value in a region of its own
 module _ (D : Definitions) (X : Shape) (ks : List Naming) (v : Value) where
-  pub one_plan : (s : Schema) (names : NameMap) (a : Cursor) (holds : Value → List Step → Cursor → Type 0) (such : ℕ → List Step → Cursor → Type 0) → (q : PlanOf s names X v a holds) → (t : ℕ) → t ≡ up q.stop.position (align_of s.layouts X)
+  pub one_plan : (s : SchemaTable) (names : NameMap) (a : Cursor) (holds : Value → List Step → Cursor → Type 0) (such : ℕ → List Step → Cursor → Type 0) → (q : ValuePlan s names X v a holds) → (t : ℕ) → t ≡ up q.stop.position (align_of s.layouts X)
       → such t (q.steps ++ lays (region_at s t (one X) 0 false) q.flat ∷ []) (record { position = t + size_of s.layouts X; states = q.stop.states }) → RegionPlan s names (one X) 0 v a such
   one_plan s names a holds such q t here h = record {
     begin = t;
@@ -37,7 +38,7 @@ is_long e = absurd (true≢false e)
 
 -- elements in one
 module _ (D : Definitions) (X : Shape) (n : ℕ) (ks : List Naming) (vs : Values) where
-  pub run_plan : (s : Schema) (names : NameMap) (a : Cursor) (holds : Values → List Step → Cursor → Type 0) (such : ℕ → List Step → Cursor → Type 0) → (q : RunPlan s names n X vs a holds) → (t : ℕ) → t ≡ up q.stop.position (align_of s.layouts X)
+  pub run_plan : (s : SchemaTable) (names : NameMap) (a : Cursor) (holds : Values → List Step → Cursor → Type 0) (such : ℕ → List Step → Cursor → Type 0) → (q : RunPlan s names n X vs a holds) → (t : ℕ) → t ≡ up q.stop.position (align_of s.layouts X)
       → such t (q.steps ++ lays (region_at s t (run X) n false) (list q.flats) ∷ []) (record { position = t + n * size_of s.layouts X; states = q.stop.states }) → RegionPlan s names (run X) n (list vs) a such
   run_plan s names a holds such q t here h = record {
     begin = t;
@@ -67,8 +68,8 @@ module _ (D : Definitions) (X : Shape) where
 
 -- the owner of a region: what it owns is laid out, and it points there
 module _ (D : Definitions) (P : Pointee) (n : ℕ) (ks : List Naming) (v : Value) where
-  pub box_plan : (s : Schema) (names : NameMap) (a : Cursor) (holds : ℕ → List Step → Cursor → Type 0) (such : Value → List Step → Cursor → Type 0)
-      → ((t : ℕ) (C : List Step) (b : Cursor) → holds t C b → such (box (hole (to_pointee t P n))) C b) → RegionPlan s names P n v a holds → PlanOf s names (boxed P) (box v) a such
+  pub box_plan : (s : SchemaTable) (names : NameMap) (a : Cursor) (holds : ℕ → List Step → Cursor → Type 0) (such : Value → List Step → Cursor → Type 0)
+      → ((t : ℕ) (C : List Step) (b : Cursor) → holds t C b → such (box (hole (to_pointee t P n))) C b) → RegionPlan s names P n v a holds → ValuePlan s names (boxed P) (box v) a such
   box_plan s names a holds such f h = record { flat = box (hole (to_pointee h.begin P n)); steps = h.steps; stop = h.stop; plans = plans_boxed h.plans; such = f h.begin h.steps h.stop h.such }
 
   pub box_planned : HasRegionPlan D P n ks v → HasPlan D (boxed P) ks (box v)
@@ -79,8 +80,8 @@ pub boxed_one_planned : (D : Definitions) (P : Pointee) (X : Shape) → P ≡ on
 boxed_one_planned D P X is ks v h = rw is (box_planned D (one X) 0 ks v (one_planned D X ks v h))
 
 module _ (D : Definitions) (X : Shape) (n : ℕ) (ks : List Naming) (v : Value) where
-  pub vec_plan : (s : Schema) (names : NameMap) (a : Cursor) (holds : ℕ → List Step → Cursor → Type 0) (such : Value → List Step → Cursor → Type 0)
-      → ((t : ℕ) (C : List Step) (b : Cursor) → holds t C b → such (hole (to_pointee t (run X) n)) C b) → RegionPlan s names (run X) n v a holds → PlanOf s names (vec X) v a such
+  pub vec_plan : (s : SchemaTable) (names : NameMap) (a : Cursor) (holds : ℕ → List Step → Cursor → Type 0) (such : Value → List Step → Cursor → Type 0)
+      → ((t : ℕ) (C : List Step) (b : Cursor) → holds t C b → such (hole (to_pointee t (run X) n)) C b) → RegionPlan s names (run X) n v a holds → ValuePlan s names (vec X) v a such
   vec_plan s names a holds such f h = record { flat = hole (to_pointee h.begin (run X) n); steps = h.steps; stop = h.stop; plans = plans_vec h.plans; such = f h.begin h.steps h.stop h.such }
 
   pub vec_planned : HasRegionPlan D (run X) n ks v → HasPlan D (vec X) ks v

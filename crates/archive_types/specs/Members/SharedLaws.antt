@@ -5,13 +5,14 @@ use Rattle.archive_check.specs.Defined.{Holds, Mentions, mentions_held, mentions
 use Rattle.archive_check.specs.Definitions.{Definitions, NoOthers}
 use Rattle.archive_check.specs.Members.NoOthers.{around_reached}
 use Rattle.archive_check.specs.Value.{Value, null, shared_value, hole}
-use Rattle.archive_check.specs.Reads.{Schema}
+use Rattle.archive_check.specs.Reads.{SchemaTable}
 use Rattle.archive_check.specs.Tour.{pointee_size, region_at}
 use Rattle.archive_check.specs.Reached.{Names, names_itself}
 use Rattle.archive_check.specs.WriterState.{KeyState}
 use Rattle.archive_check.proofs.Elements.{contains_first, contains_later, contains_cases}
-use Rattle.archive_types.specs.Writing.{NameMap, Naming, HasKeys, LeadsToKey, key_at_once, key_through, IsKeyed, to_shared}
-use Rattle.archive_types.specs.Plans.{Cursor, begun, ended, Step, lays, meets, Plans, plans_shared, plans_null, plans_weak, PlansRegion, plans_region, plans_new, plans_finished, plans_pending, PlanOf, HasPlan, HasRegionPlan}
+use Rattle.archive_check.specs.Denotes.{Naming}
+use Rattle.archive_types.specs.Writing.{NameMap, HasKeys, LeadsToKey, key_at_once, key_through, IsKeyed, to_shared}
+use Rattle.archive_types.specs.Plans.{Cursor, begun, ended, Step, lays, meets, Plans, plans_shared, plans_null, plans_weak, PlansRegion, plans_region, plans_new, plans_finished, plans_pending, ValuePlan, HasPlan, HasRegionPlan}
 use Rattle.archive_types.specs.Members.Keyed.{keyed_by_none}
 
 -- a flavor, by its name and whether it allows cycles
@@ -72,7 +73,7 @@ weak_keyed keys meaning h (Some x) = h x
 -- plans
 
 -- The plan of a region of its own is that of a shared one, but for the byte behind an empty one.
-pub record AsShared (s : Schema) (names : NameMap) (P : Pointee) (n : ℕ) (v : Value) (a : Cursor) (t : ℕ) (C : List Step) (b : Cursor) : Type 0 where
+pub record AsShared (s : SchemaTable) (names : NameMap) (P : Pointee) (n : ℕ) (v : Value) (a : Cursor) (t : ℕ) (C : List Step) (b : Cursor) : Type 0 where
   pub before : List Step
   pub last : Value
   pub was : C ≡ before ++ lays (region_at s t P n false) last ∷ []
@@ -83,7 +84,7 @@ pub record AsShared (s : Schema) (names : NameMap) (P : Pointee) (n : ℕ) (v : 
   pub end : stop.position ≡ t + cond (true && nat_eq size 0) 1 size
   pub states : stop.states ≡ b.states
 
-pub as_shared : (s : Schema) (names : NameMap) {P : Pointee} {n t : ℕ} {v : Value} {a b : Cursor} {C : List Step} → PlansRegion s names false P n v a t C b → AsShared s names P n v a t C b
+pub as_shared : (s : SchemaTable) (names : NameMap) {P : Pointee} {n t : ℕ} {v : Value} {a b : Cursor} {C : List Step} → PlansRegion s names false P n v a t C b → AsShared s names P n v a t C b
 as_shared s names (plans_region {P = P} {n = n} {w = w} {C = C} h at) =
     record { before = C; last = w; was = refl; stop = _; plans = plans_region h at; size = pointee_size s P n; position = refl; end = refl; states = refl }
 
@@ -91,7 +92,7 @@ module _ (D : Definitions) (P : Pointee) (n : ℕ) (ks : List Naming) (v : Value
   pub shared_planned : HasRegionPlan D P n ks v → HasPlan D (shared flavor P) (naming_of key flavor P n v ∷ ks) (shared_value key)
   shared_planned h a s names k m = by_state (a.states key) refl
     where
-      by_state : (state : KeyState) → a.states key ≡ state → PlanOf s names (shared flavor P) (shared_value key) a (λ w C b. Unit {0})
+      by_state : (state : KeyState) → a.states key ≡ state → ValuePlan s names (shared flavor P) (shared_value key) a (λ w C b. Unit {0})
       by_state None is =
           let q = h (begun a key) s names k m.1 in
           let r = as_shared s names q.plans in
@@ -99,7 +100,7 @@ module _ (D : Definitions) (P : Pointee) (n : ℕ) (ks : List Naming) (v : Value
       by_state (Some None) is = record { flat = shared_value key; steps = meets key ∷ []; stop = a; plans = plans_shared (plans_pending is); such = tt }
       by_state (Some (Some t)) is = record { flat = hole (to_shared t flavor P n); steps = []; stop = a; plans = plans_shared (plans_finished is m.0); such = tt }
 
-pub as_weak : {s : Schema} {names : NameMap} {flavor : Flavor} {P : Pointee} {v w : Value} {a b : Cursor} {C : List Step} → Plans s names (shared flavor P) v a w C b → Plans s names (weak flavor P) v a w C b
+pub as_weak : {s : SchemaTable} {names : NameMap} {flavor : Flavor} {P : Pointee} {v w : Value} {a b : Cursor} {C : List Step} → Plans s names (shared flavor P) v a w C b → Plans s names (weak flavor P) v a w C b
 as_weak (plans_shared h) = plans_weak h
 
 pub weak_planned : {A : Type 0} (D : Definitions) (flavor : Flavor) (P : Pointee) (keys : A → List Naming) (meaning : A → Value) → ((x : A) → HasPlan D (shared flavor P) (keys x) (meaning x)) → (o : Option A)

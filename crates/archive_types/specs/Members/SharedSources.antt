@@ -3,7 +3,8 @@ use Rattle.std.specs.Prelude.{◌≡◌, ℕ, List, ◌∷◌, false, codes}
 use Rattle.archive_check.specs.Shape.{Flavor, Shape, Pointee, one, shared}
 use Rattle.archive_check.specs.Definitions.{Definitions}
 use Rattle.archive_check.specs.Value.{Value, shared_value, hole}
-use Rattle.archive_types.specs.Writing.{Naming, IsKeyed, to_shared}
+use Rattle.archive_check.specs.Denotes.{Naming}
+use Rattle.archive_types.specs.Writing.{IsKeyed, to_shared}
 use Rattle.archive_types.specs.Members.PlannedOwners.{pointee_planned}
 use Rattle.archive_types.specs.Plans.{HasPlan, HasRegionPlan}
 use Rattle.archive_types.specs.Members.SharedLaws.{flavor_as, naming_of, shared_keyed, shared_planned}

@@ -3,10 +3,11 @@ use Rattle.std.specs.Prelude.{◌≡◌, ℕ, ◌+◌, ◌<◌, ◌≤◌, List,
 use Rattle.archive_check.specs.Shape.{Name, Shape, choice, named, Variants, part, no_part, variant_at, definition}
 use Rattle.archive_check.specs.Definitions.{Definitions, Knows}
 use Rattle.archive_check.specs.Value.{Value, case, value, no_value}
-use Rattle.archive_check.specs.Reads.{Schema, bytes_at}
+use Rattle.archive_check.specs.Reads.{SchemaTable, bytes_at}
 use Rattle.archive_check.specs.Reached.{Names, names_case, names_first, names_later}
-use Rattle.archive_types.specs.Writing.{NameMap, Naming, Resolves, IsKeyed, LeadsToKey, key_at_once, key_through}
-use Rattle.archive_types.specs.Plans.{Cursor, Step, plans_choice, plans_named, plans_part, plans_no_part, PlanOf, HasPlan}
+use Rattle.archive_check.specs.Denotes.{Naming}
+use Rattle.archive_types.specs.Writing.{NameMap, Resolves, IsKeyed, LeadsToKey, key_at_once, key_through}
+use Rattle.archive_types.specs.Plans.{Cursor, Step, plans_choice, plans_named, plans_part, plans_no_part, ValuePlan, HasPlan}
 
 -- the variant with this tag and one value
 abbrev pub case_of : ℕ → Value → Value
@@ -38,8 +39,8 @@ one_keyed keys tag v h = record { value = λ k n. h.value k (name_inside tag k v
 
 -- of a variant with one part, by the part's
 module _ (name : Name) (vs : Variants) (tag : ℕ) (X : Shape) (is : variant_at vs tag ≡ Some (part X no_part)) (v : Value) where
-  pub case_plan : (s : Schema) (names : NameMap) (a : Cursor) (holds such : Value → List Step → Cursor → Type 0) → (q : PlanOf s names X v a holds)
-      → such (case_of tag q.flat) (q.steps ++ []) q.stop → PlanOf s names (choice name vs) (case_of tag v) a such
+  pub case_plan : (s : SchemaTable) (names : NameMap) (a : Cursor) (holds such : Value → List Step → Cursor → Type 0) → (q : ValuePlan s names X v a holds)
+      → such (case_of tag q.flat) (q.steps ++ []) q.stop → ValuePlan s names (choice name vs) (case_of tag v) a such
   case_plan s names a holds such q h = record {
     flat = case_of tag q.flat;
     steps = q.steps ++ [];
@@ -48,22 +49,22 @@ module _ (name : Name) (vs : Variants) (tag : ℕ) (X : Shape) (is : variant_at 
     such = h;
   }
 
-  pub case_planned : (D E : Definitions) (known : (s : Schema) → Knows s D → Knows s E) (keys : List Naming) → HasPlan E X keys v → HasPlan D (choice name vs) keys (case_of tag v)
+  pub case_planned : (D E : Definitions) (known : (s : SchemaTable) → Knows s D → Knows s E) (keys : List Naming) → HasPlan E X keys v → HasPlan D (choice name vs) keys (case_of tag v)
   case_planned D E known keys h a s names k n = case_plan s names a (λ w C b. Unit {0}) (λ w C b. Unit {0}) (h a s names (known s k) n) tt
 
 -- of a variant with none
 module _ (name : Name) (vs : Variants) (tag : ℕ) (is : variant_at vs tag ≡ Some no_part) where
-  pub empty_plan : (s : Schema) (names : NameMap) (a : Cursor) (such : Value → List Step → Cursor → Type 0) → such (case tag no_value) [] a → PlanOf s names (choice name vs) (case tag no_value) a such
+  pub empty_plan : (s : SchemaTable) (names : NameMap) (a : Cursor) (such : Value → List Step → Cursor → Type 0) → such (case tag no_value) [] a → ValuePlan s names (choice name vs) (case tag no_value) a such
   empty_plan s names a such h = record { flat = case tag no_value; steps = []; stop = a; plans = plans_choice is plans_no_part; such = h }
 
   pub empty_planned : (D : Definitions) (keys : List Naming) → HasPlan D (choice name vs) keys (case tag no_value)
   empty_planned D keys a s names k n = empty_plan s names a (λ w C b. Unit {0}) tt
 
 -- of a name, by its definition's
-pub named_plan : (s : Schema) (names : NameMap) (name : Name) (X : Shape) (v : Value) (a : Cursor) (holds : Value → List Step → Cursor → Type 0) → definition s.table name ≡ Some X
-    → PlanOf s names X v a holds → PlanOf s names (named name) v a holds
+pub named_plan : (s : SchemaTable) (names : NameMap) (name : Name) (X : Shape) (v : Value) (a : Cursor) (holds : Value → List Step → Cursor → Type 0) → definition s.table name ≡ Some X
+    → ValuePlan s names X v a holds → ValuePlan s names (named name) v a holds
 named_plan s names name X v a holds is q = record { flat = q.flat; steps = q.steps; stop = q.stop; plans = plans_named is q.plans; such = q.such }
 
-pub named_planned : (D : Definitions) (name : Name) (X : Shape) (keys : List Naming) (v : Value) → ((s : Schema) → Knows s D → definition s.table name ≡ Some X)
+pub named_planned : (D : Definitions) (name : Name) (X : Shape) (keys : List Naming) (v : Value) → ((s : SchemaTable) → Knows s D → definition s.table name ≡ Some X)
     → HasPlan D X keys v → HasPlan D (named name) keys v
 named_planned D name X keys v has h a s names k n = named_plan s names name X v a (λ w C b. Unit {0}) (has s k) (h a s names k n)

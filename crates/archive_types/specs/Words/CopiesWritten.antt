@@ -30,12 +30,12 @@ module _ {S : Type 0} (position : S → ℕ) (k : Keys.Ghosts S) (w : Both (MutB
   ElementsRefused L n = AreCopiesRefused L n (position w.entry.now) (k.state w.entry.now) (k.state w.exit.now)
 
   -- nothing refuses it
-  abbrev pub Takes : Bool → Layout → ℕ → Type 0
-  Takes takes_memory L n = TakesCopy (IsTrue takes_memory) (copies_to L n (position w.entry.now)) (k.state w.entry.now) (k.state w.exit.now)
+  abbrev pub TakesCopies : Bool → Layout → ℕ → Type 0
+  TakesCopies takes_memory L n = TakesCopy (IsTrue takes_memory) (copies_to L n (position w.entry.now)) (k.state w.entry.now) (k.state w.exit.now)
 
   -- so a vector of them succeeds, where a pointer can say their number and their position
   abbrev pub CopiesSucceed : Bool → Layout → ℕ → {R : Type 0} → Result R Error → Type 0
-  CopiesSucceed takes_memory L n result = Takes takes_memory L n → n ≤ 4294967295 → copies_from L (position w.entry.now) ≤ 4294967295 → IsOk result
+  CopiesSucceed takes_memory L n result = TakesCopies takes_memory L n → n ≤ 4294967295 → copies_from L (position w.entry.now) ≤ 4294967295 → IsOk result
 
 -- zeros came up to the values' alignment, and then these bytes
 abbrev pub AddedAligned : {S : Type 0} → Layout → List ℕ → Keys.Ghosts S → Both (MutBor S) (MutBor S) → Type 0

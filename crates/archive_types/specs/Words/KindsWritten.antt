@@ -8,8 +8,8 @@ use Rattle.archive_check.specs.declared.format.error.Error.{Error}
 use Rattle.archive_check.specs.declared.format.traits.Keys as Keys
 use Rattle.archive_types.specs.Copies.{OwnsNothing, IsCopied, EachCopied}
 use Rattle.archive_check.specs.Words.Formats.{FormatOf}
+use Rattle.archive_check.specs.Denotes.{Naming}
 use Rattle.archive_types.specs.TextPlans.{ExplainsTextRefusal, ExplainsStringRefusal}
-use Rattle.archive_types.specs.Writing.{Naming}
 
 -- why a text isn't written, by the one write that it takes
 abbrev pub NoTextSince : {S : Type 0} → List ℕ → (S → ℕ) → Keys.Ghosts S → Both (MutBor S) (MutBor S) → Error → Type 0

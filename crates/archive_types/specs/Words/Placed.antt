@@ -8,12 +8,12 @@ use Rattle.archive_check.specs.Shape.{Pointee}
 use Rattle.archive_check.specs.Value.{Value}
 use Rattle.archive_check.specs.declared.format.error.Error.{Error}
 use Rattle.archive_check.specs.declared.format.error.Error.TheVariants.{LengthTooLarge}
+use Rattle.archive_check.specs.Denotes.{Naming}
 use Rattle.archive_check.specs.declared.format.traits.ArchivePointee as ArchivePointee
 use Rattle.archive_check.specs.declared.format.traits.Keys as Keys
 use Rattle.archive_num.specs.Offsets.{distance, IsTooFar}
 use Rattle.archive_num.specs.OwnerBytes.{owner_bytes, HindersPointerAt}
 use Rattle.archive_types.specs.Plans.{HasRegionPlan}
-use Rattle.archive_types.specs.Writing.{Naming}
 use Rattle.archive_types.specs.declared.place.Place.{Place}
 use Rattle.archive_write.specs.Written.{ExplainsRefusal}
 

@@ -7,22 +7,22 @@ use Rattle.archive_check.specs.Shape.{Flavor, Pointee, one, weak}
 use Rattle.archive_check.specs.WriterState.{KeepsBytes, KeepsKeys}
 use Rattle.archive_check.specs.declared.format.error.Error.{Error}
 use Rattle.archive_check.specs.declared.format.error.Error.TheVariants.{CyclicSerialize}
+use Rattle.archive_check.specs.Denotes.{Naming}
 use Rattle.archive_check.specs.declared.format.traits.ArchivePointee as ArchivePointee
 use Rattle.archive_check.specs.declared.format.traits.Keys as Keys
 use Rattle.archive_types.specs.Causes.{Explains, HindersRegion, HindersShared, RegionReaches}
 use Rattle.archive_types.specs.Plans.{SerializedShared, begun, cursor}
 use Rattle.archive_types.specs.Members.SharedLaws.{flavor_as, naming_of}
-use Rattle.archive_types.specs.Writing.{Naming}
 use Rattle.archive_types.specs.declared.rc.Flavor as FlavorOf
 use Rattle.archive_types.specs.declared.traits.ArchiveUnsized as ArchiveUnsized
 
 -- the flavor of a type
-abbrev pub flavor_of : {F : Type 0} → FlavorOf.Ghosts F → Flavor
-flavor_of f = flavor_as f.name f.ALLOW_CYCLES
+abbrev pub flavor_of_type : {F : Type 0} → FlavorOf.Ghosts F → Flavor
+flavor_of_type f = flavor_as f.name f.ALLOW_CYCLES
 
 -- a weak pointer of it to P
 abbrev pub weak_to : {F : Type 0} → FlavorOf.Ghosts F → Pointee → Pointee
-weak_to f P = one (weak (flavor_of f) P)
+weak_to f P = one (weak (flavor_of_type f) P)
 
 -- nothing was written where the key is pending, and the keys stayed
 abbrev pub AnswersPending : {T S : Type 0} → ℕ → Result T Error → Keys.Ghosts S → Both (MutBor S) (MutBor S) → Type 0
@@ -57,4 +57,4 @@ UnstoredUnder key u g v k w e =
 module _ {F P M U A N : Type 0} (f : FlavorOf.Ghosts F) (g : ArchivePointee.Ghosts P M) (u : ArchiveUnsized.Ghosts U A N) where
   -- the keys of a source under a key: its own, with what it names, and those in the source
   abbrev pub keys_under : ℕ → U → List Naming
-  keys_under key v = naming_of key (flavor_of f) g.pointee (u.source_length v) (u.meaning v) ∷ u.keys v
+  keys_under key v = naming_of key (flavor_of_type f) g.pointee (u.source_length v) (u.meaning v) ∷ u.keys v

@@ -21,6 +21,7 @@ use crate::traits::{Archive, MapKey, Portable, Serialize};
 use archive_check::format::error::Error;
 use archive_num::FixedUsize;
 use archive_num::owners::emplace_long_owner;
+use archive_tuple::entries::is_ascending;
 use archive_write::ser::{ResolverAlloc, Writer};
 use std::marker::Model;
 
@@ -54,16 +55,7 @@ impl SortedMapResolver {
 pub(super) fn are_sorted<A: SortedKey, B: Archive>(entries: &[(A, B)]) -> bool
     ensures { result ≡ keys_ascend (each_meaning (pair_meaning A.meaning B.meaning) entries.now) }
 {
-    let Some(last) = entries.len().checked_sub(1) else {
-        return true;
-    };
-    for index in 0..last {
-        let order = entries[index].0.cmp(&entries[index + 1].0);
-        if !order.is_lt() {
-            return false;
-        }
-    }
-    true
+    is_ascending(entries)
 }
 
 // Writes what the entries of a map own, in order, and then all of them as one region. Their keys ascend, and a pointer can say how many there are.

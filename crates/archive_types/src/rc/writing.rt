@@ -13,7 +13,7 @@ ghost use Rattle.archive_num.specs.OwnerBytes.{owner_bytes};
 ghost use Rattle.archive_types.specs.Words.Placed.{IsTooFarFrom};
 ghost use Rattle.archive_types.specs.Plans.{Serialized};
 ghost use Rattle.archive_types.specs.Members.SharedLaws.{flavor_as, naming_of, weak_value, weak_keys, weak_count, weak_flat};
-ghost use Rattle.archive_types.specs.Words.SharedWriting.{AnswersPending, flavor_of, keys_under};
+ghost use Rattle.archive_types.specs.Words.SharedWriting.{AnswersPending, flavor_of_type, keys_under};
 ghost use Rattle.archive_types.specs.Writing.{Resolves, to_shared, shared_flat};
 ghost use Rattle.archive_write.specs.Written.{GoesOn};
 ghost use Rattle.archive_types.specs.Outcomes.{ResolvesAs, SerializesTo, SerializesAs};
@@ -67,10 +67,10 @@ pub fn write_shared<F: Flavor, U: SerializeUnsized<S>, S: Sharing + Writer>(
     value: &U,
     writer: &mut S,
 ) -> Result<usize, Error>
-    ensures outcome { SerializesTo U.Archived.definitions (shared (flavor_of F.Flavor) U.Archived.pointee)
+    ensures outcome { SerializesTo U.Archived.definitions (shared (flavor_of_type F.Flavor) U.Archived.pointee)
         (keys_under F.Flavor U.Archived.ArchivePointee U.ArchiveUnsized key value.now)
         (shared_value key)
-        (shared_flat (flavor_of F.Flavor) U.Archived.pointee (U.source_length value.now))
+        (shared_flat (flavor_of_type F.Flavor) U.Archived.pointee (U.source_length value.now))
         (λ _. ⊤) (S.state writer.old) (S.state writer.new) result }
     ensures pending { AnswersPending key result S.Keys writer }
 {
@@ -135,7 +135,7 @@ where
         ensures outcome { SerializesAs ⟦<Self as Portable>⟧
             (keys_under F.Flavor T.ArchivePointee U.ArchiveUnsized key value.now)
             (shared_value key)
-            (shared_flat (flavor_of F.Flavor) T.pointee (U.source_length value.now))
+            (shared_flat (flavor_of_type F.Flavor) T.pointee (U.source_length value.now))
             (λ _. U.source_length value.now ≤ 4294967295) S.Keys serializer result }
         ensures pending { AnswersPending key result S.Keys serializer }
     {
@@ -162,7 +162,7 @@ where
         requires one_value { has_length T.pointee ≡ false → U.source_length value.now ≡ 0 }
         requires held { U.source_length value.now ≤ 4294967295 }
         ensures outcome { ResolvesAs ⟦<Self as Portable>⟧ place
-            (shared_flat (flavor_of F.Flavor) T.pointee (U.source_length value.now) resolver) result }
+            (shared_flat (flavor_of_type F.Flavor) T.pointee (U.source_length value.now) resolver) result }
         ensures cause { IfErr result (IsTooFarFrom place resolver) }
     {
         let Place { bytes, pos, .. } = place;
@@ -199,7 +199,7 @@ where
         ensures outcome { SerializesAs ⟦<Self as Portable>⟧
             (weak_keys (λ u. keys_under F.Flavor T.ArchivePointee U.ArchiveUnsized key u.now) value.entry)
             (weak_value (λ u. shared_value key) value.entry)
-            (weak_flat (flavor_of F.Flavor) T.pointee (weak_count (λ u. U.source_length u.now) value.entry))
+            (weak_flat (flavor_of_type F.Flavor) T.pointee (weak_count (λ u. U.source_length u.now) value.entry))
             (λ _. weak_count (λ u. U.source_length u.now) value.entry ≤ 4294967295) S.Keys
             serializer result }
         ensures null { value.entry ≡ None → IsOk result × (S.state serializer.new ≡ S.state serializer.old) }
@@ -227,7 +227,7 @@ where
         requires one_value { has_length T.pointee ≡ false → weak_count (λ u. U.source_length u.now) value ≡ 0 }
         requires held { weak_count (λ u. U.source_length u.now) value ≤ 4294967295 }
         ensures outcome { ResolvesAs ⟦<Self as Portable>⟧ place
-            (weak_flat (flavor_of F.Flavor) T.pointee
+            (weak_flat (flavor_of_type F.Flavor) T.pointee
             (weak_count (λ u. U.source_length u.now) value.entry) resolver) result }
         ensures null { resolver ≡ None → IsOk result × (place.exit.0.now ≡ owner_bytes (has_length T.pointee) (whole 1) 0) }
     {

@@ -5,7 +5,7 @@ ghost use Rattle.archive_check.specs.WriterState.{KeepsKeys};
 ghost use Rattle.archive_types.specs.Copies.{each_bytes, copies_from};
 ghost use Rattle.archive_types.specs.Words.KindsWritten.{OwnsNothingAs, EachCopiedAs};
 ghost use Rattle.archive_write.specs.Written.{GoesOn};
-ghost use Rattle.archive_types.specs.Words.CopiesWritten.{AllCopied, PiecesUnwritten, CopyRefused, CopiesRefused, Takes, AddedAligned};
+ghost use Rattle.archive_types.specs.Words.CopiesWritten.{AllCopied, PiecesUnwritten, CopyRefused, CopiesRefused, TakesCopies, AddedAligned};
 ghost use Rattle.archive_types.specs.Words.Placed.{BytesAdded, WriteRefused};
 ghost use Rattle.archive_types.specs.Outcomes.{WritesElements, CopiesElements};
 
@@ -268,7 +268,7 @@ fn copy_together<S: Writer + Keys, T: Copied>(
     ensures position { IfOk result (λ p. p ≡ copies_from T.CopiedAs.layout (S.position serializer.old)) }
     ensures cause { IfErr result (CopiesRefused S.position S.Keys serializer T.CopiedAs.layout (length values.now)) }
     ensures memory { IsErrOf result Error.OutOfMemory → IsTrue S.takes_memory }
-    ensures succeeds { Takes S.position S.Keys serializer S.takes_memory T.CopiedAs.layout (length values.now) → IsOk result }
+    ensures succeeds { TakesCopies S.position S.Keys serializer S.takes_memory T.CopiedAs.layout (length values.now) → IsOk result }
     ensures keys { OnOk result (KeepsKeys (S.state serializer.old).states (S.state serializer.new).states) }
 {
     serializer.align_for_run::<T::CopiedAs>(values.len())?;
@@ -292,7 +292,7 @@ pub fn copy_slice<S: Writer + Keys, T: CopiedSource>(
     ensures position { IfOk result (λ p. p ≡ copies_from T.Archived.layout (S.position serializer.old)) }
     ensures cause { IfErr result (CopiesRefused S.position S.Keys serializer T.Archived.layout (length values.now)) }
     ensures memory { IsErrOf result Error.OutOfMemory → IsTrue S.takes_memory }
-    ensures succeeds { Takes S.position S.Keys serializer S.takes_memory T.Archived.layout (length values.now) → IsOk result }
+    ensures succeeds { TakesCopies S.position S.Keys serializer S.takes_memory T.Archived.layout (length values.now) → IsOk result }
 {
     let size = T::copied_size();
     copy_together(values, size, 1, serializer)
@@ -336,7 +336,7 @@ pub fn copy_arrays<S: Writer + Keys, T: CopiedSource, const N: usize>(
     ensures goes_on { GoesOn (S.state serializer.old) (S.state serializer.new) }
     ensures cause { IfErr result (CopiesRefused S.position S.Keys serializer T.Archived.layout (length arrays.now * N)) }
     ensures memory { IsErrOf result Error.OutOfMemory → IsTrue S.takes_memory }
-    ensures succeeds { Takes S.position S.Keys serializer S.takes_memory T.Archived.layout
+    ensures succeeds { TakesCopies S.position S.Keys serializer S.takes_memory T.Archived.layout
         (length arrays.now * N) → IsOk result }
 {
     copy_slice(arrays.as_flattened(), serializer)

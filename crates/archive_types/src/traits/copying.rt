@@ -1,10 +1,10 @@
 // Values that are copied in bulk.
 
+ghost use Rattle.archive_check.specs.Denotes.{Naming};
 ghost use Rattle.std.specs.Prelude.{◌≡◌, ◌*◌, ◌≤◌, ℕ, List, length, true, false};
 ghost use Rattle.archive_check.specs.Value.{Value};
 ghost use Rattle.archive_types.specs.Copies.{each_bytes, IsCopied, EachCopied, OwnsNothing};
 ghost use Rattle.archive_types.specs.Words.KindsWritten.{OwnsNothingAs, IsCopiedAs, EachCopiedAs};
-ghost use Rattle.archive_types.specs.Writing.{Naming};
 
 use super::{Archive, Portable};
 use std::marker::PhantomData;
