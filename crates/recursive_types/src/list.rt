@@ -45,8 +45,9 @@ use archive_core::traits::{
 use archive_core::view::{RawView, Ref};
 use archive_recursive::{
     BoxAt, Chain, ChainBack, ChainCheck, ChainSource, ReadHead, Rest, WrittenHead, choice_of,
-    define_name, part_of_variant, read_chain, read_part, resolve_named_case_0, resolve_named_case_2,
-    seal_of_payload, serialize_chain, serialize_part, tag_of_choice, tag_of_view, view_of_payload,
+    define_name, part_of_variant, read_chain, read_part, resolve_named_case_0,
+    resolve_named_case_2, seal_of_payload, serialize_chain, serialize_part, tag_of_choice,
+    tag_of_view, view_of_payload,
 };
 use std::alloc::Global;
 
@@ -180,9 +181,7 @@ impl Archive for List {
     {
         let Place { bytes, pos, .. } = place;
         match self {
-            List::Nil => {
-                resolve_named_case_0::<ArchivedList>(0, (), Place::new(pos, bytes))
-            }
+            List::Nil => { resolve_named_case_0::<ArchivedList>(0, (), Place::new(pos, bytes)) }
             List::Cons(a0, _a1) => {
                 let ListResolver::Cons(kept) = resolver else {
                     unreachable!();
@@ -363,7 +362,11 @@ pub enum ListFront {
 }
 
 // Reads `Nil` back.
-fn read_list_nil<D: Entries>(_alloc: Global, part: RawView<'_>, _deserializer: &mut D) -> Result<List, Error>
+fn read_list_nil<D: Entries>(
+    _alloc: Global,
+    part: RawView<'_>,
+    _deserializer: &mut D,
+) -> Result<List, Error>
     requires viewed { IsPartOf ⟦<ArchivedList as ArchivePointee>⟧ part }
     requires tag { part_tag part ≡ 0 }
     ensures read { IfOk result (Read ⟦<ArchivedList as ArchivePointee>⟧ part D.Entries _deserializer
@@ -375,7 +378,11 @@ fn read_list_nil<D: Entries>(_alloc: Global, part: RawView<'_>, _deserializer: &
 }
 
 // Reads the parts of `Cons` before its box back.
-fn read_list_cons<D: Entries>(alloc: Global, part: RawView<'_>, deserializer: &mut D) -> Result<ReadHead<List, ListFront>, Error>
+fn read_list_cons<D: Entries>(
+    alloc: Global,
+    part: RawView<'_>,
+    deserializer: &mut D,
+) -> Result<ReadHead<List, ListFront>, Error>
     requires viewed { IsPartOf ⟦<ArchivedList as ArchivePointee>⟧ part }
     requires tag { part_tag part ≡ 1 }
     ensures read { IfOk result (HeadIsRead ⟦<ArchivedList as Portable>⟧ part D.Entries deserializer

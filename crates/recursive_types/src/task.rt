@@ -250,7 +250,10 @@ impl Archive for Task {
 
 // Writes what each of the values owns, in order.
 #[cycle(serialize_task)]
-fn serialize_each_task<S: Writer + Keys + ResolverAlloc<Alloc = Global>>(values: &[Task], serializer: &mut S) -> Result<Vec<<Task as Archive>::Resolver, S::Alloc>, Error>
+fn serialize_each_task<S: Writer + Keys + ResolverAlloc<Alloc = Global>>(
+    values: &[Task],
+    serializer: &mut S,
+) -> Result<Vec<<Task as Archive>::Resolver, S::Alloc>, Error>
     ensures serialized { IfOk result (λ rs. SerializedRun task_definitions task_shape
         (length values.now) (each_keys ⟦<Task as Archive>⟧.keys values.now)
         (each_meaning ⟦<Task as Archive>⟧.meaning values.now)
@@ -278,7 +281,10 @@ fn serialize_each_task<S: Writer + Keys + ResolverAlloc<Alloc = Global>>(values:
 
 // Writes what a vector owns.
 #[cycle(serialize_task)]
-fn serialize_vec_task<S: Writer + Keys + ResolverAlloc<Alloc = Global>>(value: &Vec<Task>, serializer: &mut S) -> Result<VecResolver, Error>
+fn serialize_vec_task<S: Writer + Keys + ResolverAlloc<Alloc = Global>>(
+    value: &Vec<Task>,
+    serializer: &mut S,
+) -> Result<VecResolver, Error>
     ensures serialized { IfOk result (λ r. Serialized task_definitions (vec task_shape)
         (⟦<Vec<Task> as Archive>⟧.keys value.now) (⟦<Vec<Task> as Archive>⟧.meaning value.now)
         (⟦<Vec<Task> as Archive>⟧.flat value.now r) (S.state serializer.old)
@@ -305,7 +311,10 @@ fn serialize_vec_task<S: Writer + Keys + ResolverAlloc<Alloc = Global>>(value: &
 
 // Writes what a value owns, part by part.
 #[cycle(serialize_task)]
-fn serialize_task<S: Writer + Keys + ResolverAlloc<Alloc = Global>>(value: &Task, serializer: &mut S) -> Result<TaskResolver, Error>
+fn serialize_task<S: Writer + Keys + ResolverAlloc<Alloc = Global>>(
+    value: &Task,
+    serializer: &mut S,
+) -> Result<TaskResolver, Error>
     ensures serialized { IfOk result (λ r. Serialized task_definitions task_shape
         (⟦<Task as Archive>⟧.keys value.now) (⟦<Task as Archive>⟧.meaning value.now)
         (⟦<Task as Archive>⟧.flat value.now r) (S.state serializer.old) (S.state serializer.new)) }
@@ -343,7 +352,9 @@ fn serialize_task<S: Writer + Keys + ResolverAlloc<Alloc = Global>>(value: &Task
         Ok(a6) => a6,
         Err(error) => return Err(error),
     };
-    Ok(TaskResolver { kept: (a0, (a1, (a2, (a3, (a4, (a5, (a6, ()))))))) })
+    Ok(TaskResolver {
+        kept: (a0, (a1, (a2, (a3, (a4, (a5, (a6, ()))))))),
+    })
 }
 
 impl<S: Writer + Keys + ResolverAlloc<Alloc = Global>> Serialize<S> for Task {
@@ -384,7 +395,11 @@ impl<S: Writer + Keys + ResolverAlloc<Alloc = Global>> SerializeUnsized<S> for T
 
 // Reads a vector back.
 #[cycle(read_task)]
-fn read_vec_task<D: Entries>(alloc: Global, part: RawView<'_>, deserializer: &mut D) -> Result<Vec<Task>, Error>
+fn read_vec_task<D: Entries>(
+    alloc: Global,
+    part: RawView<'_>,
+    deserializer: &mut D,
+) -> Result<Vec<Task>, Error>
     requires { IsPartOf ⟦<ArchivedVec<ArchivedTask> as ArchivePointee>⟧ part }
     ensures read { IfOk result (Read ⟦<ArchivedVec<ArchivedTask> as ArchivePointee>⟧ part D.Entries
         deserializer ⟦<Vec<Task> as Archive>⟧) }
@@ -403,7 +418,11 @@ fn read_vec_task<D: Entries>(alloc: Global, part: RawView<'_>, deserializer: &mu
 
 // Reads a value back, part by part.
 #[cycle(read_task)]
-fn read_task<D: Entries>(alloc: Global, part: RawView<'_>, deserializer: &mut D) -> Result<Task, Error>
+fn read_task<D: Entries>(
+    alloc: Global,
+    part: RawView<'_>,
+    deserializer: &mut D,
+) -> Result<Task, Error>
     requires { IsPartOf ⟦<ArchivedTask as ArchivePointee>⟧ part }
     ensures read { IfOk result (Read ⟦<ArchivedTask as ArchivePointee>⟧ part D.Entries deserializer
         ⟦<Task as Archive>⟧) }
@@ -611,10 +630,9 @@ impl<'a> TaskSeal<'a> for Seal<'a, ArchivedTask> {
             ⟦<ArchivedOption<ArchivedTuple2<ArchivedU16, ArchivedI64>> as ArchivePointee>⟧.pointee
             (self.entry.pos + 8) 0 self.entry result }
     {
-        seal_of_field::<
-            ArchivedTask,
-            ArchivedOption<ArchivedTuple2<ArchivedU16, ArchivedI64>>,
-        >(self, 1, 8)
+        seal_of_field::<ArchivedTask, ArchivedOption<ArchivedTuple2<ArchivedU16, ArchivedI64>>>(
+            self, 1, 8,
+        )
     }
 
     fn owner_mut(self) -> Seal<'a, ArchivedResult<ArchivedString, u8>>

@@ -6,6 +6,8 @@ mod assertions;
 #[cfg(test)]
 mod bytes;
 #[cfg(test)]
+mod damaged;
+#[cfg(test)]
 mod long;
 #[cfg(test)]
 mod wide;

@@ -1,8 +1,7 @@
 // Lists of any length on a machine stack of 8 MiB: made, written, validated, read back and dropped by loops.
 
-use crate::assertions::{assert_holds, assert_refused, assert_same};
+use crate::assertions::{assert_holds, assert_same};
 use archive_core::api::{access, from_bytes, to_bytes};
-use archive_core::error::Error;
 use recursive_types::list::{ArchivedList, List};
 use std::alloc::{AllocError, Global};
 use std::process::Abort;
@@ -41,10 +40,14 @@ fn length(list: &List) -> usize {
 
 #[test]
 fn million_boxes(rt: HostRuntime) {
-    let list = list_of_length(rt.alloc(), 10_000).expect(&rt, "a list");
+    let list = list_of_length(rt.alloc(), 1_000_000).expect(&rt, "a list");
     let bytes = written(&rt, rt.alloc(), &list);
-    assert_same(&rt, "bytes", bytes.len(), 120_012);
-    assert_holds(&rt, "is validated", is_archive(rt.alloc(), bytes.as_slice()));
+    assert_same(&rt, "bytes", bytes.len(), 12_000_012);
+    assert_holds(
+        &rt,
+        "is validated",
+        is_archive(rt.alloc(), bytes.as_slice()),
+    );
     let back = read(&rt, rt.alloc(), bytes.as_slice());
-    assert_same(&rt, "numbers", length(&back), 10_000);
+    assert_same(&rt, "numbers", length(&back), 1_000_000);
 }
