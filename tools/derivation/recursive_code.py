@@ -470,11 +470,7 @@ fn serialize_each_{it.word(item)}<{it.writer}>(values: &[{its}], serializer: &mu
     let alloc = serializer.resolver_alloc();
     let mut resolvers = Vec::with_capacity(alloc, values.len())?;
     for value in values {{
-        let resolver = match serialize_{it.word(item)}(value, serializer) {{
-            Ok(resolver) => resolver,
-            Err(error) => return Err(error),
-        }};
-        resolvers.push(resolver).map_err(AllocError::from)?;
+{element_written(it, item)}        resolvers.push(resolver).map_err(AllocError::from)?;
     }}
     Ok(resolvers)
 }}
@@ -496,6 +492,27 @@ fn serialize_{name}<{it.writer}>(value: &{T}, serializer: &mut S) -> Result<VecR
         Err(error) => Err(error),
     }}
 }}
+"""
+
+
+def element_written(it, item):
+    """The lines that write what an element of a vector owns. A box's value is written where the vector is gone over: of a function that is passed the box the
+    toolchain doesn't see that it ends."""
+    if it.terms.is_member(item):
+        return f"""        let resolver = match serialize_{it.word(item)}(value, serializer) {{
+            Ok(resolver) => resolver,
+            Err(error) => return Err(error),
+        }};
+"""
+    return f"""        let inner = &**value;
+        let kept = match serialize_{it.word(item.args[0])}(inner, serializer) {{
+            Ok(kept) => kept,
+            Err(error) => return Err(error),
+        }};
+        let resolver = match serialize_inner(inner, kept, serializer) {{
+            Ok(resolver) => resolver,
+            Err(error) => return Err(error),
+        }};
 """
 
 

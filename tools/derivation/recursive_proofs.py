@@ -280,21 +280,24 @@ def option_written(it, type, answers):
 def vec_written(it, type, answers):
     item = type.args[0]
     w = it.word(item)
-    each, inner = f"serialize_each_{w}", f"serialize_{w}"
-    D, X, n = it.terms.definitions(item), it.terms.shape(item), it.terms.n_of(item)
+    each = f"serialize_each_{w}"
+    D, X, t = it.terms.definitions(item), it.terms.shape(item), it.terms
+    flat, belongs = (functions_of(it, which, item) for which in ("flat", "belongs"))
+    steps = Element(it, item)
     state = "(g.S.Keys.state l.initial.serializer) (g.S.Keys.state l.serializer)"
     answers.invariant(
         each, f"invariant-{each}-loop-value",
-        f"record {{ continues : Continues {D} {X} {n}_keys {n}_meaning {n}_flat {n}_belongs {state} l.values (drop l.value-index l.values) l.resolvers.items }}",
+        f"record {{ continues : Continues {D} {X} {t.said(item)} {flat} {belongs} {state} l.values (drop l.value-index l.values) l.resolvers.items }}",
     )
     kept = "c.loop-value.invariant.continues"
     answers.answer(each, "returns-in_err-resolvers-clause-refused", "err_by c.from_residual.result OutOfMemory _ c.from_residual.ensures.1 no_memory")
-    answers.answer(each, "returns-in-Err-clause-goes_on", f"goes_both _ _ _ {kept}.goes c.{inner}.ensures.goes_on")
     at = "_ _ _ _ _ _ _ _ _ _ c.loop-value.value-index"
-    answers.answer(each, "returns-in-Err-clause-refused", f"continues_broken {at} _ _ _ c.loop-value-test.true c.value-item.is {n}_planned {kept} c.{inner}.ensures.goes_on c.in-Err.ensures.refused")
-    answers.answer(each, "returns-in_err-map_err-clause-goes_on", f"goes_both _ _ _ {kept}.goes c.{inner}.ensures.goes_on")
+    for err, goes, refused in steps.refusals:
+        answers.answer(each, f"returns-{err}-clause-goes_on", f"goes_both _ _ _ {kept}.goes {goes}")
+        answers.answer(each, f"returns-{err}-clause-refused", f"continues_broken {at} _ _ _ c.loop-value-test.true c.value-item.is {t.plan(item)} {kept} {goes} {refused}")
+    answers.answer(each, "returns-in_err-map_err-clause-goes_on", f"goes_both _ _ _ {kept}.goes {steps.goes}")
     answers.answer(each, "returns-in_err-map_err-clause-refused", "err_by c.from_residual-in_err-map_err.result OutOfMemory _ c.from_residual-in_err-map_err.ensures.1 no_memory")
-    step = f"continues_step {at} _ _ _ _ c.loop-value-test.true c.value-item.is (grind (arith, common_steps)) {kept} c.in-Ok.ensures.serialized c.in-Ok.ensures.same_value c.{inner}.ensures.goes_on"
+    step = f"continues_step {at} _ _ _ _ c.loop-value-test.true c.value-item.is (grind (arith, common_steps)) {kept} {steps.serialized} {steps.belongs} {steps.goes}"
     answers.answer(each, "loop-value-preserved", f"record {{ continues = {step} }}")
     end = f"_ _ _ _ _ _ _ _ _ _ _ (drop_of_length-le _ c.loop-value-test.false) {kept}"
     answers.answer(each, "returns-clause-serialized", f"continues_end {end}")
@@ -302,14 +305,40 @@ def vec_written(it, type, answers):
     vec_owner_written(it, type, answers)
 
 
+def functions_of(it, which, item):
+    """What is read in the place of an element of a vector, or which resolvers are its own, as a function."""
+    return f"{it.terms.n_of(item)}_{which}" if it.terms.is_member(item) else f"(λ y r. {getattr(it.terms, which)(item, 'y', 'r')})"
+
+
+class Element:
+    """What is known of the calls that write an element of a vector: those that fail, and that none does."""
+
+    def __init__(self, it, item):
+        D, X = it.terms.definitions(item), it.terms.shape(item if it.terms.is_member(item) else item.args[0])
+        inner = f"serialize_{it.word(item if it.terms.is_member(item) else item.args[0])}"
+        first = f"c.{inner}.ensures.goes_on"
+        self.goes, self.serialized, self.belongs = first, "c.in-Ok.ensures.serialized", "c.in-Ok.ensures.same_value"
+        self.refusals = [("in-Err", first, "c.in-Err.ensures.refused")]
+        if not it.terms.is_member(item):
+            self.goes, self.belongs = f"(goes_both _ _ _ {first} c.serialize_inner.ensures.goes_on)", "tt"
+            same = "let same : c.deref-inner.result.now ≡ c.value-item.result.value = grind (arith, common_steps) in rw (← same)"
+            since = f"since _ {first} {self.serialized}"
+            self.refusals = [
+                ("in-Err", first, f"({same} (box_refused {D} (one {X}) 0 _ _ _ _ _ (one_owned {D} {X} _ _ _ _ _ c.in-Err.ensures.refused)))"),
+                ("in-Err-serialize_inner", self.goes, f"({same} (c.in-Err-serialize_inner.ensures.refused.{since}))"),
+            ]
+            self.serialized = f"({same} (c.in-Ok-serialize_inner.ensures.boxed.{since}))"
+
+
 def vec_owner_written(it, type, answers):
     item = type.args[0]
     each, function = f"serialize_each_{it.word(item)}", f"serialize_{it.word(type)}"
-    D, X, n = it.terms.definitions(item), it.terms.shape(item), it.terms.n_of(item)
+    D, X, t = it.terms.definitions(item), it.terms.shape(item), it.terms
+    k, m = (t.own(which)[item.own.name] if t.is_member(item) else t.function(which, item, t.own(which)) for which in ("keys", "meaning"))
     value = "c.args.value.now"
-    plans = f"(each_planned {D} {X} {n}_keys {n}_meaning {n}_planned {value}.items)"
-    whole = f"{D} {X} (length {value}.items) (each_keys {n}_keys {value}.items)"
-    meaning = f"(list (each_meaning {n}_meaning {value}.items))"
+    plans = f"(each_planned {D} {X} {k} {m} {t.plan(item)} {value}.items)"
+    whole = f"{D} {X} (length {value}.items) (each_keys {k} {value}.items)"
+    meaning = f"(list (each_meaning {m} {value}.items))"
     goes = f"(goes_both _ _ _ c.{each}.ensures.goes_on c.serialize_inner_slice.ensures.goes_on)"
     as_items = "rw c.as_slice-items.ensures.value at"
     long = (
@@ -317,9 +346,9 @@ def vec_owner_written(it, type, answers):
     )
     answers.answer(
         function, "returns-then-len-clause-refused",
-        f"(let long : 4294967295 < length {value}.items = {long} in vec_refused {whole} {meaning} _ _ _ (long_run_refused {whole} (each_meaning {n}_meaning {value}.items) _ _ {plans} long))",
+        f"(let long : 4294967295 < length {value}.items = {long} in vec_refused {whole} {meaning} _ _ _ (long_run_refused {whole} (each_meaning {m} {value}.items) _ _ {plans} long))",
     )
-    answers.answer(function, "returns-in-Err-clause-refused", f"vec_refused {whole} {meaning} _ _ _ (run_owned {whole} (each_meaning {n}_meaning {value}.items) _ _ _ ({as_items} c.in-Err.ensures.refused))")
+    answers.answer(function, "returns-in-Err-clause-refused", f"vec_refused {whole} {meaning} _ _ _ (run_owned {whole} (each_meaning {m} {value}.items) _ _ _ ({as_items} c.in-Err.ensures.refused))")
     listed = f"({as_items} c.in-Ok-serialize_inner_slice.ensures.listed).since _ c.{each}.ensures.goes_on ({as_items} c.in-Ok.ensures.serialized)"
     unlisted = f"({as_items} c.in-Err-serialize_inner_slice.ensures.refused).since _ c.{each}.ensures.goes_on ({as_items} c.in-Ok.ensures.serialized)"
     answers.answer(function, "returns-in-Ok-serialize_inner_slice-clause-serialized", listed)
@@ -445,10 +474,16 @@ def option_read(it, type, answers):
 
 def vec_read(it, type, answers):
     item = type.args[0]
-    w, n = it.word(item), it.terms.n_of(item)
+    w, t = it.word(item), it.terms
     function = f"read_{it.word(type)}"
-    D, X, L, laid = it.terms.definitions(item), it.terms.shape(item), f"{n}_layout", f"{n}_has_layout"
-    its = f"{n}_meaning {n}_keys"
+    D, X = t.definitions(item), t.shape(item)
+    if t.is_member(item):
+        n = t.n_of(item)
+        L, laid, its = f"{n}_layout", f"{n}_has_layout", f"{n}_meaning {n}_keys"
+    else:
+        size, align = it.formats.layout(item)
+        L, laid = f"(record {{ size = {size}; align = {align} }})", "(record { solved = λ s k. refl })"
+        its = " ".join(t.function(which, item, t.own(which)) for which in ("meaning", "keys"))
     answers.invariant(
         "", f"invariant-{function}-loop-index",
         "(length l.items.items ≡ l.index) × (vec_len l.items ≡ l.index) × (l.list.len ≤ vec_capacity l.items)"

@@ -67,7 +67,7 @@ def check_owner(it: Declaration, type: Type, line: int):
     if type.name not in ("Box", "Option", "Vec") or type.own is not None:
         raise Refused(it.path, line, f"`{type.name}` around `{it.name}` isn't written yet; a `Box<{it.name}>`, an `Option<Box<{it.name}>>` or a `Vec<{it.name}>` is")
     item = type.args[0]
-    if type.name == "Option" and item.name == "Box" and item.own is None:
+    if type.name in ("Option", "Vec") and item.name == "Box" and item.own is None:
         item = item.args[0]
     if not any(item.own is other for other in it.family):
         raise Refused(it.path, line, f"this {'option' if type.name == 'Option' else f'`{type.name}` of pointers'} to `{it.name}` isn't written yet; a `Box<{it.name}>`, an `Option<Box<{it.name}>>` or a `Vec<{it.name}>` is")

@@ -272,6 +272,21 @@ def sources(it):
     return each_type(it.family, lambda other: other.source)
 
 
+def still_mapped(it, item, which, x):
+    """What is said of a vector whose elements were mapped."""
+    if it.terms.is_member(item):
+        return f"(each_{which} (λ v. v) (map {it.terms.own(which)[item.name]} {x}.items))"
+    return f"(each_{which} {it.terms.function(which, item, '(λ v. v)')} (map _ {x}.items))"
+
+
+def mapped(it, item, which, x):
+    """That it is what is said of the elements."""
+    keys, own = "" if which == "meaning" else "_keys", it.terms.own(which)
+    if it.terms.is_member(item):
+        return f"each_mapped{keys} {own[item.name]} {x}.items"
+    return f"each_alike{keys} _ {it.terms.function(which, item, '(λ v. v)')} {it.terms.function(which, item, own)} (λ x. refl) {x}.items"
+
+
 def rolled(it, which, type, word):
     """What is said of a value that is made of a layer."""
     n, N, own = it.n, it.name, it.terms.own(which)
@@ -281,9 +296,8 @@ def rolled(it, which, type, word):
         out = f"{fold(it, which, type, 'fold-roll')} {pattern}"
         for j in lists:
             # those before it are the value's own already, those behind it are still mapped
-            terms = {i: "vs" if i == j else f"(each_{which} (λ v. v) (map {own[case.types[i].args[0].name]} {values[i]}.items))" for i in lists if i >= j}
-            equation = f"{'each_mapped' if which == 'meaning' else 'each_mapped_keys'} {own[case.types[j].args[0].name]} {values[j]}.items"
-            out += f" ∙ ap (λ vs. {said_of(it, case, which, own, terms, values)}) ({equation})"
+            terms = {i: "vs" if i == j else still_mapped(it, case.types[i].args[0], which, values[i]) for i in lists if i >= j}
+            out += f" ∙ ap (λ vs. {said_of(it, case, which, own, terms, values)}) ({mapped(it, case.types[j].args[0], which, values[j])})"
         return out
 
     claim = f"{n}_{which} (roll-{N} {{0}}) ≡ {n}_{which}_layer {each_type(it.family, lambda other: f'{other.n}_{which}')} {{0}}"
@@ -422,6 +436,8 @@ def held_keys(it, type, x):
         return held_keys(it, type.args[0], f"{x}.value")
     if t.is_option(type):
         return "[]" if x == "None" else held_keys(it, type.args[0], something(x))
+    if t.leads_back(type) and not t.is_member(type.args[0]):
+        return "_"
     if t.leads_back(type):
         return f"(each_keys {t.n_of(type.args[0])}_keys (map (λ e. e.0) {x}.items))"
     return t.keys(type, x, "")
@@ -435,6 +451,8 @@ def held_meaning(it, type, x):
         return f"(box {held_meaning(it, type.args[0], f'{x}.value')})"
     if t.is_option(type):
         return "(case 0 no_value)" if x == "None" else f"(case_of 1 {held_meaning(it, type.args[0], something(x))})"
+    if t.leads_back(type) and not t.is_member(type.args[0]):
+        return "_"
     if t.leads_back(type):
         return f"(list (each_meaning {t.n_of(type.args[0])}_meaning (map (λ e. e.0) {x}.items)))"
     return t.meaning(type, x, "")

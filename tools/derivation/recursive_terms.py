@@ -108,8 +108,9 @@ class Terms:
             return f"(box_keyed _ _ {self.keyed(item, f'{x}.value')})"
         if type.name == "Option":
             return "none_keyed" if x == "None" else f"(some_keyed _ _ {self.keyed(item, something(x))})"
-        n = self.n_of(item)
-        return f"(held_keyed {n}_keys {n}_meaning {x}.items)"
+        if not self.is_member(item):
+            return f"(held_each_keyed _ {self.said(item)} (λ e. {self.keyed(item, 'e')}) {x}.items)"
+        return f"(held_keyed {self.said(item)} {x}.items)"
 
     def planned(self, type, x, held):
         """A proof that there is a plan of a part; `held` where each value of the type itself has the law beside it."""
@@ -126,10 +127,20 @@ class Terms:
         if type.name == "Option":
             k, m = (self.function(which, item, self.own(which)) for which in ("keys", "meaning"))
             return f"(option_planned {D} {X} {k} {m} (λ y. {self.planned(item, 'y', False)}) {x})"
-        n = self.n_of(item)
+        its = f"held_planned {self.said(item)} {D} {X} {x}.items"
+        if not self.is_member(item):
+            its = f"held_each_planned _ {self.said(item)} {D} {X} (λ e. {self.planned(item, 'e', True)}) {x}.items"
         if held:
-            return f"(vec_planned {D} {X} _ _ _ (run_region_planned {D} {X} _ _ _ (held_planned {n}_keys {n}_meaning {D} {X} {x}.items)))"
-        return f"(vec_planned {D} {X} _ _ _ (slice_planned {D} {X} {n}_keys {n}_meaning {n}_planned {x}.items))"
+            return f"(vec_planned {D} {X} _ _ _ (run_region_planned {D} {X} _ _ _ ({its})))"
+        return f"(vec_planned {D} {X} _ _ _ (slice_planned {D} {X} {self.said(item)} {self.plan(item)} {x}.items))"
+
+    def said(self, item):
+        """The keys and the meaning of the elements of a vector, as functions."""
+        return " ".join(self.function(which, item, self.own(which)) if not self.is_member(item) else self.own(which)[item.own.name] for which in ("keys", "meaning"))
+
+    def plan(self, item):
+        """The plan of each element of a vector, as a function."""
+        return f"{self.n_of(item)}_planned" if self.is_member(item) else f"(λ y. {self.planned(item, 'y', False)})"
 
     # ---- parts one after another ----
 
@@ -231,6 +242,7 @@ PRELUDE = {
     "archive_core.specs.Strings": "string_flat",
     "archive_core.specs.Writing": "IsKeyed to_pointee",
     "archive_recursive.specs.Held": "member_has_layout knows_both each_mapped each_mapped_keys held_keyed held_planned variant_planned keyed_as planned_as",
+    "archive_recursive.specs.HeldLists": "each_alike each_alike_keys held_each_keyed held_each_planned",
     "archive_recursive.specs.HeldOptions": "none_keyed some_keyed none_planned some_planned",
     "archive_recursive.specs.Hollow": "option_at",
 }

@@ -1,6 +1,7 @@
 pub mod ChainSteps
 pub mod Chains
 pub mod Held
+pub mod HeldLists
 pub mod HeldOptions
 pub mod Hollow
 pub use Rattle.archive_check.specs.Definitions

@@ -12,3 +12,5 @@ pub mod DirMeaning
 pub mod DirShape
 pub mod TaskMeaning
 pub mod TaskShape
+pub mod KnotMeaning
+pub mod KnotShape

@@ -3,6 +3,7 @@
 
 pub mod dir;
 pub mod expr;
+pub mod knot;
 pub mod list;
 pub mod outline;
 pub mod rose;

@@ -1,8 +1,9 @@
 // Recursive values with fields of many kinds, byte for byte: written, validated and read back.
 
-use crate::assertions::{assert_written, value_of};
+use crate::assertions::{assert_read, assert_written, value_of};
 use archive_core::core_impls::OwnedArray;
 use archive_core::primitive::NonZero;
+use recursive_types::knot::Knot;
 use recursive_types::task::Task;
 use std::alloc::{AllocError, Global};
 use std::process::Abort;
@@ -48,4 +49,21 @@ fn task(rt: HostRuntime) {
     assert_written(&rt, rt.alloc(), &task, TASK);
     let back: Task = value_of(&rt, rt.alloc(), TASK);
     assert_written(&rt, rt.alloc(), &back, TASK);
+}
+
+fn knots(alloc: Global) -> Result<Knot, AllocError> {
+    let word = Box::new(alloc, Knot::Word(String::from_str(alloc, "a")?))?;
+    let none = Box::new(alloc, Knot::Others(Vec::new(alloc)))?;
+    Ok(Knot::Others(vec![in alloc; word, none]?))
+}
+
+// The word at 0 with its text in place, the knot of no others at 12, the two boxes at 24, and the knot of both at 32.
+const KNOTS: &[u8] =
+    b"\0\0\0\0a\xff\xff\xff\xff\xff\xff\xff\x01\0\0\0\xfc\xff\xff\xff\0\0\0\0\xe8\xff\xff\xff\xf0\xff\xff\xff\x01\0\0\0\xf4\xff\xff\xff\x02\0\0\0";
+
+#[test]
+fn tree_of_boxes(rt: HostRuntime) {
+    let knots = knots(rt.alloc()).expect(&rt, "a knot");
+    assert_written(&rt, rt.alloc(), &knots, KNOTS);
+    assert_read(&rt, rt.alloc(), KNOTS, &knots);
 }
