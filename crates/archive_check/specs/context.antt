@@ -6,6 +6,7 @@ pub mod PositionStates
 pub mod FreshContexts
 pub mod SharedPositions
 pub mod RecalledPositions
+pub mod FirstPositions
 pub mod InSubtree
 pub mod Validators
 pub mod Contexts

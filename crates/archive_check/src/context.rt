@@ -6,6 +6,7 @@ ghost use Rattle.archive_check.specs.Shape.{Flavor, Pointee};
 ghost use Rattle.archive_check.specs.context.PositionStates.{Positions, IsStartAnswer, IsFinishedAnswer, NoneFinishedAs, Starts, finish_answer, finished, entry_as};
 ghost use Rattle.archive_check.specs.context.Ranges.{RangeState, subtree_answer, pushed, pop_answer, popped};
 
+mod first;
 pub mod positions;
 pub mod range;
 mod recalled;

@@ -60,7 +60,7 @@ fn is_same_flavor(kept: &FlavorInfo, flavor: &FlavorInfo) -> bool
 // Whether a type is this one, as written.
 #[inline(always)]
 #[tactic(auto, using(crate::proofs::context::SharedPositions::same_type))]
-fn is_of(shared_type: &SharedType, flavor: &FlavorInfo, pointee: &Pointee) -> bool
+pub(crate) fn is_of(shared_type: &SharedType, flavor: &FlavorInfo, pointee: &Pointee) -> bool
     ensures { IsTrue result ↔ IsType shared_type.now (flavor_of flavor.now) (pointee_of pointee.now) }
 {
     is_same_pointee(&shared_type.pointee, pointee) && is_same_flavor(&shared_type.flavor, flavor)
@@ -68,7 +68,7 @@ fn is_of(shared_type: &SharedType, flavor: &FlavorInfo, pointee: &Pointee) -> bo
 
 impl SharedPosition {
     // What is answered where this position, whose type is `shared_type`, is started again.
-    fn answer(
+    pub(crate) fn answer(
         &self,
         shared_type: &SharedType,
         flavor: &FlavorInfo,

@@ -1,9 +1,11 @@
 //! Contexts of a check that are made of one for the range and one for the shared positions.
 
-ghost use Rattle.std.specs.Prelude.{◌≡◌, ◌≢◌, Some, None, OnOk, OnErr};
+ghost use Rattle.std.specs.Prelude.{◌≡◌, ◌≢◌, Some, None, OnOk, OnErr, IsSome};
+ghost use Rattle.std.specs.Option.{ForSome};
 ghost use Rattle.archive_check.specs.context.FreshContexts.{IsWhole, IsWholeIn};
 ghost use Rattle.archive_check.specs.context.PositionStates.{IsStartAnswer, Starts, entry_as};
 
+use crate::context::first::FirstPosition;
 use crate::context::positions::SharedValidator;
 use crate::context::{ArchiveContext, ArchiveValidator, Context, SharedContext, ValidationState};
 use crate::format::error::Error;
@@ -99,7 +101,9 @@ impl<A: Context, S: SharedContext> SharedContext for Validator<A, S> {
 pub struct HighValidator<'a> {
     range: ArchiveValidator<'a>,
     alloc: Global,
-    // Made at the first shared position, since many archives have none.
+    // The first shared position is kept alone, and takes no memory but where its pointee does. Many archives have no other.
+    first: Option<FirstPosition>,
+    // Made at the second one.
     positions: Option<Box<SharedValidator>>,
 }
 
@@ -128,6 +132,7 @@ impl<'a> HighValidator<'a> {
         HighValidator {
             range: ArchiveValidator::with_max_depth(bytes, depth),
             alloc,
+            first: None,
             positions: None,
         }
     }
@@ -150,12 +155,39 @@ impl<'a> HighValidator<'a> {
         length: usize,
     ) -> Result<ValidationState, Error>
         requires none { self.old.positions ≡ None }
-        ensures answer { IsStartAnswer (positions_met self.old.positions position) (entry_as flavor.now pointee.now length) result }
-        ensures started { OnOk result (Starts (λ v. positions_met v.positions) self position flavor pointee length) }
-        ensures unchanged { OnErr result (positions_met self.new.positions ≡ positions_met self.old.positions) }
+        requires no_first { self.old.first ≡ None }
+        ensures answer { IsStartAnswer (positions_met self.old.first self.old.positions position) (entry_as flavor.now pointee.now length) result }
+        ensures started { OnOk result (Starts (λ v. positions_met v.first v.positions) self position flavor pointee length) }
+        ensures unchanged { OnErr result (positions_met self.new.first self.new.positions ≡ positions_met self.old.first self.old.positions) }
         ensures range { self.new.range ≡ self.old.range }
     {
-        let mut positions = Box::new(self.alloc, SharedValidator::new(self.alloc))?;
+        let first = FirstPosition::start(flavor, pointee, position, length)?;
+        self.first = Some(first);
+        Ok(ValidationState::Started)
+    }
+
+    // Starts a position other than the first one, which is listed with it.
+    #[cold]
+    #[inline(never)]
+    fn start_second(
+        &mut self,
+        flavor: &FlavorInfo,
+        pointee: &Pointee,
+        position: i128,
+        length: usize,
+    ) -> Result<ValidationState, Error>
+        requires none { self.old.positions ≡ None }
+        requires first { IsSome self.old.first }
+        requires elsewhere { ForSome self.old.first (λ f. f.position ≢ position) }
+        ensures answer { IsStartAnswer (positions_met self.old.first self.old.positions position) (entry_as flavor.now pointee.now length) result }
+        ensures started { OnOk result (Starts (λ v. positions_met v.first v.positions) self position flavor pointee length) }
+        ensures unchanged { OnErr result (positions_met self.new.first self.new.positions ≡ positions_met self.old.first self.old.positions) }
+        ensures range { self.new.range ≡ self.old.range }
+    {
+        let Some(first) = &self.first else {
+            unreachable!();
+        };
+        let mut positions = first.to_list(self.alloc)?;
         let answer = positions.start_shared(flavor, pointee, position, length);
         self.positions = Some(positions);
         answer
@@ -167,7 +199,7 @@ impl Context for HighValidator<'_> {
 
     ghost state = { λ v. v.range };
 
-    ghost positions = { λ v. positions_met v.positions };
+    ghost positions = { λ v. positions_met v.first v.positions };
 }
 
 impl ArchiveContext for HighValidator<'_> {
@@ -187,7 +219,7 @@ impl ArchiveContext for HighValidator<'_> {
 impl SharedContext for HighValidator<'_> {
     ghost use Rattle.archive_check.specs.context.Validators.{numbered_met};
 
-    ghost numbered = { λ v. numbered_met v.positions };
+    ghost numbered = { λ v. numbered_met v.first v.positions };
 
     fn start_shared(
         &mut self,
@@ -199,21 +231,27 @@ impl SharedContext for HighValidator<'_> {
         if let Some(positions) = &mut self.positions {
             return positions.start_shared(flavor, pointee, position, length);
         }
-        self.start_first(flavor, pointee, position, length)
+        match &self.first {
+            Some(first) if first.position == position => first.answer(flavor, pointee, length),
+            Some(_) => self.start_second(flavor, pointee, position, length),
+            None => self.start_first(flavor, pointee, position, length),
+        }
     }
 
     fn type_number(&self, flavor: &FlavorInfo, pointee: &Pointee) -> Option<usize> {
-        match &self.positions {
-            Some(positions) => positions.type_number(flavor, pointee),
-            None => None,
+        match (&self.positions, &self.first) {
+            (Some(positions), _) => positions.type_number(flavor, pointee),
+            (None, Some(first)) => first.type_number(flavor, pointee),
+            (None, None) => None,
         }
     }
 
     #[inline(always)]
     fn is_finished_as(&self, number: usize, position: i128, length: usize) -> bool {
-        match &self.positions {
-            Some(positions) => positions.is_finished_as(number, position, length),
-            None => false,
+        match (&self.positions, &self.first) {
+            (Some(positions), _) => positions.is_finished_as(number, position, length),
+            (None, Some(first)) => first.is_finished_at(position, length),
+            (None, None) => false,
         }
     }
 
@@ -223,9 +261,10 @@ impl SharedContext for HighValidator<'_> {
         pointee: &Pointee,
         position: i128,
     ) -> Result<(), Error> {
-        match &mut self.positions {
-            Some(positions) => positions.finish_shared(flavor, pointee, position),
-            None => Err(Error::NotStarted),
+        match (&mut self.positions, &mut self.first) {
+            (Some(positions), _) => positions.finish_shared(flavor, pointee, position),
+            (None, Some(first)) => first.finish(position),
+            (None, None) => Err(Error::NotStarted),
         }
     }
 }
