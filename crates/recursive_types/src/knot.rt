@@ -90,7 +90,10 @@ fn knot_others_expressions(alloc: Global) -> Result<Vec<Expr>, Error>
     ensures shapes { IfOk result (λ list. shapes_in list.items ≡ knot_others_parts) }
     ensures refused { IfErr result (λ e. e ≡ OutOfMemory) }
 {
-    let a0 = Expr::Vec(Box::new(alloc, Expr::Box(Box::new(alloc, Pointee::One(Expr::Named("ArchivedKnot")))?))?);
+    let a0 = Expr::Vec(Box::new(
+        alloc,
+        Expr::Box(Box::new(alloc, Pointee::One(Expr::Named("ArchivedKnot")))?),
+    )?);
     Ok(vec![in alloc; a0]?)
 }
 
@@ -217,7 +220,10 @@ impl Archive for Knot {
 
 // Writes what each of the values owns, in order.
 #[cycle(serialize_knot)]
-fn serialize_each_box_knot<S: Writer + Keys + ResolverAlloc>(values: &[Box<Knot>], serializer: &mut S) -> Result<Vec<<Box<Knot> as Archive>::Resolver, S::Alloc>, Error>
+fn serialize_each_box_knot<S: Writer + Keys + ResolverAlloc>(
+    values: &[Box<Knot>],
+    serializer: &mut S,
+) -> Result<Vec<<Box<Knot> as Archive>::Resolver, S::Alloc>, Error>
     ensures serialized { IfOk result (λ rs. SerializedRun knot_definitions (boxed (one knot_shape))
         (length values.now) (each_keys ⟦<Box<Knot> as Archive>⟧.keys values.now)
         (each_meaning ⟦<Box<Knot> as Archive>⟧.meaning values.now)
@@ -250,7 +256,10 @@ fn serialize_each_box_knot<S: Writer + Keys + ResolverAlloc>(values: &[Box<Knot>
 
 // Writes what a vector owns.
 #[cycle(serialize_knot)]
-fn serialize_vec_box_knot<S: Writer + Keys + ResolverAlloc>(value: &Vec<Box<Knot>>, serializer: &mut S) -> Result<VecResolver, Error>
+fn serialize_vec_box_knot<S: Writer + Keys + ResolverAlloc>(
+    value: &Vec<Box<Knot>>,
+    serializer: &mut S,
+) -> Result<VecResolver, Error>
     ensures serialized { IfOk result (λ r. Serialized knot_definitions
         (vec (boxed (one knot_shape))) (⟦<Vec<Box<Knot>> as Archive>⟧.keys value.now)
         (⟦<Vec<Box<Knot>> as Archive>⟧.meaning value.now)
@@ -328,7 +337,10 @@ fn serialize_knot_others<S: Writer + Keys + ResolverAlloc>(
 
 // Writes what a value owns.
 #[cycle(serialize_knot)]
-fn serialize_knot<S: Writer + Keys + ResolverAlloc>(value: &Knot, serializer: &mut S) -> Result<KnotResolver, Error>
+fn serialize_knot<S: Writer + Keys + ResolverAlloc>(
+    value: &Knot,
+    serializer: &mut S,
+) -> Result<KnotResolver, Error>
     ensures serialized { IfOk result (λ r. Serialized knot_definitions knot_shape
         (⟦<Knot as Archive>⟧.keys value.now) (⟦<Knot as Archive>⟧.meaning value.now)
         (⟦<Knot as Archive>⟧.flat value.now r) (S.state serializer.old) (S.state serializer.new)) }
@@ -388,7 +400,11 @@ impl<S: Writer + Keys + ResolverAlloc> SerializeUnsized<S> for Knot {
 
 // Reads a box back.
 #[cycle(read_knot)]
-fn read_box_knot<D: Entries>(alloc: Global, part: RawView<'_>, deserializer: &mut D) -> Result<Box<Knot>, Error>
+fn read_box_knot<D: Entries>(
+    alloc: Global,
+    part: RawView<'_>,
+    deserializer: &mut D,
+) -> Result<Box<Knot>, Error>
     requires { IsPartOf ⟦<ArchivedBox<ArchivedKnot> as ArchivePointee>⟧ part }
     ensures read { IfOk result (Read ⟦<ArchivedBox<ArchivedKnot> as ArchivePointee>⟧ part D.Entries
         deserializer ⟦<Box<Knot> as Archive>⟧) }
@@ -403,12 +419,15 @@ fn read_box_knot<D: Entries>(alloc: Global, part: RawView<'_>, deserializer: &mu
 
 // Reads a vector back.
 #[cycle(read_knot)]
-fn read_vec_box_knot<D: Entries>(alloc: Global, part: RawView<'_>, deserializer: &mut D) -> Result<Vec<Box<Knot>>, Error>
+fn read_vec_box_knot<D: Entries>(
+    alloc: Global,
+    part: RawView<'_>,
+    deserializer: &mut D,
+) -> Result<Vec<Box<Knot>>, Error>
     requires { IsPartOf ⟦<ArchivedVec<ArchivedBox<ArchivedKnot>> as ArchivePointee>⟧ part }
     ensures read { IfOk result (Read ⟦<ArchivedVec<ArchivedBox<ArchivedKnot>> as ArchivePointee>⟧
         part D.Entries deserializer ⟦<Vec<Box<Knot>> as Archive>⟧) }
-    ensures
-        refused { IfErr result
+    ensures refused { IfErr result
         (RefusesPart ⟦<ArchivedVec<ArchivedBox<ArchivedKnot>> as ArchivePointee>⟧ part D.Entries
         deserializer) }
 {
@@ -423,7 +442,11 @@ fn read_vec_box_knot<D: Entries>(alloc: Global, part: RawView<'_>, deserializer:
 }
 
 // Reads `Word` back.
-fn read_knot_word<D: Entries>(alloc: Global, part: RawView<'_>, deserializer: &mut D) -> Result<Knot, Error>
+fn read_knot_word<D: Entries>(
+    alloc: Global,
+    part: RawView<'_>,
+    deserializer: &mut D,
+) -> Result<Knot, Error>
     requires viewed { IsPartOf ⟦<ArchivedKnot as ArchivePointee>⟧ part }
     requires tag { part_tag part ≡ 0 }
     ensures read { IfOk result (Read ⟦<ArchivedKnot as ArchivePointee>⟧ part D.Entries deserializer
@@ -438,7 +461,11 @@ fn read_knot_word<D: Entries>(alloc: Global, part: RawView<'_>, deserializer: &m
 
 // Reads `Others` back.
 #[cycle(read_knot)]
-fn read_knot_others<D: Entries>(alloc: Global, part: RawView<'_>, deserializer: &mut D) -> Result<Knot, Error>
+fn read_knot_others<D: Entries>(
+    alloc: Global,
+    part: RawView<'_>,
+    deserializer: &mut D,
+) -> Result<Knot, Error>
     requires viewed { IsPartOf ⟦<ArchivedKnot as ArchivePointee>⟧ part }
     requires tag { part_tag part ≡ 1 }
     ensures read { IfOk result (Read ⟦<ArchivedKnot as ArchivePointee>⟧ part D.Entries deserializer
@@ -453,7 +480,11 @@ fn read_knot_others<D: Entries>(alloc: Global, part: RawView<'_>, deserializer: 
 
 // Reads a value back.
 #[cycle(read_knot)]
-fn read_knot<D: Entries>(alloc: Global, part: RawView<'_>, deserializer: &mut D) -> Result<Knot, Error>
+fn read_knot<D: Entries>(
+    alloc: Global,
+    part: RawView<'_>,
+    deserializer: &mut D,
+) -> Result<Knot, Error>
     requires { IsPartOf ⟦<ArchivedKnot as ArchivePointee>⟧ part }
     ensures read { IfOk result (Read ⟦<ArchivedKnot as ArchivePointee>⟧ part D.Entries deserializer
         ⟦<Knot as Archive>⟧) }

@@ -40,14 +40,14 @@ fn length(list: &List) -> usize {
 
 #[test]
 fn million_boxes(rt: HostRuntime) {
-    let list = list_of_length(rt.alloc(), 1_000).expect(&rt, "a list");
+    let list = list_of_length(rt.alloc(), 1_000_000).expect(&rt, "a list");
     let bytes = written(&rt, rt.alloc(), &list);
-    assert_same(&rt, "bytes", bytes.len(), 12_012);
+    assert_same(&rt, "bytes", bytes.len(), 12_000_012);
     assert_holds(
         &rt,
         "is validated",
         is_archive(rt.alloc(), bytes.as_slice()),
     );
     let back = read(&rt, rt.alloc(), bytes.as_slice());
-    assert_same(&rt, "numbers", length(&back), 1_000);
+    assert_same(&rt, "numbers", length(&back), 1_000_000);
 }
