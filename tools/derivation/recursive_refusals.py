@@ -63,14 +63,14 @@ def check_plain(it: Declaration, type: Type, line: int):
 
 
 def check_owner(it: Declaration, type: Type, line: int):
-    """What leads back is a box, an option of a box, or a vector of the type itself."""
+    """What leads back is a box, an option of a box, or a vector of the type itself or of boxes."""
     if type.name not in ("Box", "Option", "Vec") or type.own is not None:
-        raise Refused(it.path, line, f"`{type.name}` around `{it.name}` isn't written yet; a `Box<{it.name}>`, an `Option<Box<{it.name}>>` or a `Vec<{it.name}>` is")
+        raise Refused(it.path, line, f"`{type.name}` around `{it.name}` isn't written yet; a `Box<{it.name}>`, an `Option<Box<{it.name}>>`, a `Vec<{it.name}>` or a `Vec<Box<{it.name}>>` is")
     item = type.args[0]
     if type.name in ("Option", "Vec") and item.name == "Box" and item.own is None:
         item = item.args[0]
     if not any(item.own is other for other in it.family):
-        raise Refused(it.path, line, f"this {'option' if type.name == 'Option' else f'`{type.name}` of pointers'} to `{it.name}` isn't written yet; a `Box<{it.name}>`, an `Option<Box<{it.name}>>` or a `Vec<{it.name}>` is")
+        raise Refused(it.path, line, f"this {'option' if type.name == 'Option' else f'`{type.name}` of pointers'} to `{it.name}` isn't written yet; a `Box<{it.name}>`, an `Option<Box<{it.name}>>`, a `Vec<{it.name}>` or a `Vec<Box<{it.name}>>` is")
 
 
 def leads_back(it: Declaration, type: Type) -> bool:
