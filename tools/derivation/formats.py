@@ -107,8 +107,8 @@ class Formats:
         self.uses.setdefault(path, set()).update(names)
 
     def ghost(self, path, *names):
-        """Names of a file of specs of the library; `std.` begins one of the standard library."""
-        path = path if path.startswith("std.") else f"archive_core.specs.{path}"
+        """Names of a file of specs of `archive_core`; the name of another crate begins one of it."""
+        path = path if path.startswith(("std.", "archive_compare.")) else f"archive_core.specs.{path}"
         self.ghosts.setdefault(path, set()).update(names)
 
     def refuse(self, type, text):
@@ -341,9 +341,9 @@ class Formats:
     def law_lines(self):
         """The lines of an impl that bring in the laws named since the last call. Within the impl, since at the head of the file they would go in a circle."""
         lines = []
-        for (crate, module, name), laws in sorted(self.laws.items()):
-            path = ".".join((crate, "specs", "contracts") + tuple(module) + (f"{name}Archive", "TheImpl", "Laws"))
-            those = ", ".join(f"{law}-law as {law}_of_{snake(name)}" for law in sorted(laws))
+        for (crate, module, impl), laws in sorted(self.laws.items()):
+            path = ".".join((crate, "specs", "contracts") + tuple(module) + (impl, "TheImpl", "Laws"))
+            those = ", ".join(f"{law}-law as {name}" for law, name in sorted(laws))
             lines.append(f"    ghost use Rattle.{path}.{{{those}}};\n")
         self.laws = {}
         return "".join(lines) + "\n" if lines else ""
@@ -352,8 +352,12 @@ class Formats:
         return self.law_of(type.own, which)
 
     def law_of(self, own, which):
-        self.laws.setdefault((own.crate, tuple(own.module), own.name), set()).add(which)
-        return f"{which}_of_{snake(own.name)}"
+        return self.impl_law(own, f"{own.name}Archive", which, f"{which}_of_{snake(own.name)}")
+
+    def impl_law(self, own, impl, law, name):
+        """A law of an impl that was written for a declared type, under this name."""
+        self.laws.setdefault((own.crate, tuple(own.module), impl), set()).add((law, name))
+        return name
 
     def keyed(self, type, x):
         """A proof that the keys of `x` are those that its meaning leads to."""

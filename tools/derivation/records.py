@@ -1,5 +1,6 @@
 """The impls of a struct without type parameters."""
 
+from . import compared
 from .common import (
     Source,
     archive_pointee,
@@ -75,6 +76,7 @@ def text(formats, declaration):
         read(record),
         views(record),
         seals(record),
+        compared.record(record),
     ]
     return "\n".join(piece for piece in pieces if piece)
 

@@ -1,5 +1,6 @@
 """The impls of an enum without type parameters."""
 
+from . import compared
 from .common import (
     Source,
     archive_pointee,
@@ -111,6 +112,7 @@ def text(formats, declaration):
         read(choice),
         views(choice),
         seals(choice),
+        compared.choice(choice),
     ]
     return "\n".join(piece for piece in pieces if piece)
 

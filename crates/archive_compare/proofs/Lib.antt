@@ -1,0 +1,2 @@
+mod CasesViewed
+pub use Rattle.archive_types.proofs.Reading.ReadRecords
