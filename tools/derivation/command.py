@@ -28,6 +28,9 @@ keys that are whole numbers, `char` or `String`; of the library `BoxSlice`, `Box
 A field `x` is shown by the call `x()` of a view and by `x_mut()` of a seal, the field 0 of a tuple struct by `field_0()`. A field that is named as a call
 that each view has (`pos`, `part`, `field`, `eq`, `hash`, ..) is shown by `pos_field()` and `pos_field_mut()`.
 
+A line `// text: SCHEMA` has a constant of this name written, the text of these types and of those that they name, by which the crate `archive_inspect` names
+their fields and variants.
+
 The archived type of `Point` is `ArchivedPoint`. A line `// name: Spot` above a declaration gives it the name `Spot` in place of that.
 
 Status: 0; 1 where --check finds a difference, with the first line that differs; 2 where a file can't be archived, with a line that says why and what to

@@ -2,7 +2,7 @@
 
 import re
 
-from . import generics, records, recursive, variants
+from . import generics, records, recursive, texts, variants
 from .formats import USERS, Formats
 from .layout import use
 from .model import MARK
@@ -12,7 +12,7 @@ def written(module):
     """What follows the head of `module`: the marker, and the impls of each declaration."""
     formats = Formats(module)
     body = "\n".join(form(declaration)(formats, declaration) for declaration in module.declarations)
-    return f"{MARK}\n\n{ghosts(formats, body)}\n{imports(formats, body)}\n{body}"
+    return f"{MARK}\n\n{ghosts(formats, body)}\n{imports(formats, body)}\n{texts.text(module)}{body}"
 
 
 def proofs(module):

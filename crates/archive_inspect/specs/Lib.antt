@@ -1,4 +1,6 @@
+pub mod Described
 pub mod Explained
+pub mod Leaves
 pub mod Points
 pub mod Ways
 pub use Rattle.archive_check.specs.Archives

@@ -240,3 +240,28 @@ class Arguments(RepositoryTest):
             status, said = self.run_command(*arguments)
             self.assertEqual(status, 2)
             self.assertTrue(said.startswith("tools/derive [--check] FILE.rt .."))
+
+    def test_a_text_where_it_is_asked_for(self):
+        path = self.put("// text: EVENT_TEXT\n" + POINT + EVENT)
+        self.assertEqual(self.run_command(path), (0, ""))
+        text = "struct Point { x: i32, name: String }\nenum Event { Quit, Key(char), Move { x: i32, y: Point } }"
+        self.assertIn(f'pub const EVENT_TEXT: &str = "{text}";', self.text(path))
+        self.assertEqual(self.run_command("--check", path), (0, ""))
+
+    def test_a_text_of_types_of_another_file(self):
+        point = self.put(POINT, "point")
+        path = self.put("// text: LINE_TEXT\nuse crate::point::Point;\n#[derive(Drop)]\npub struct Line(Point, Vec<(u8, Point)>);\n", "line")
+        self.assertEqual(self.run_command(point, path), (0, ""))
+        text = "struct Point { x: i32, name: String }\nstruct Line(Point, Vec<(u8, Point)>);"
+        self.assertIn(f'pub const LINE_TEXT: &str = "{text}";', self.text(path))
+
+    def test_no_text(self):
+        for head, why in [
+            ("// text: text\n" + POINT, "`text` is no name of a new constant; write `// text: SCHEMA`"),
+            ("// text: POINT_TEXT\npub struct Pair<T> { one: T, other: T }\n", "`Pair` has type parameters, which a schema text has not; remove the line `// text:`"),
+            ("// text: POINT\n" + POINT, "`POINT`, which differs from `Point` only in case, is written by tools/derive; give this one another name"),
+        ]:
+            with self.subTest(head):
+                status, said = self.run_command(self.put(head))
+                self.assertEqual(status, 2)
+                self.assertIn(why, said)
