@@ -1,4 +1,16 @@
-"""What the impls of structs and of enums have in common."""
+"""What the impls of structs and of enums have in common.
+
+The laws of another derived type are imported within the impl that cites them: at the head of the file they make "import cycle: ..StepsArchive.TheImpl.Laws
+→ ..StepsArchive.TheImpl". The resolvers of another declared type are passed one by one if that type holds an option, a result, an array or a tuple. Passed
+as one, "it was not told which modules hold the type `archive_types::vec::sources::VecResolver`: this is a bug in rattle":
+
+    pub struct Outer { kept: (Inner, ()) }        // Inner { kept: (Option<VecResolver>, ()) }
+
+    fn resolve(value: &Value, resolver: Outer) -> Result<(), Error> {
+        let Outer { kept } = resolver;
+        resolve_1::<Value>(value, kept)           // with let (first, ()) = kept; and (first, ()) it is proved
+    }
+"""
 
 from .formats import ALIGNS
 from .layout import WIDTH, flat, implementation, lay, one_line, pair, statement
@@ -183,6 +195,31 @@ def own_check(source, body):
     }}
 }}
 """
+
+
+def in_turn(formats):
+    """Two texts of an impl of `Archive`: that slices of the type aren't written in bulk, and the calls that say so."""
+    formats.use("archive_core::error", "Error")
+    formats.use("archive_core::ser", "Writer")
+    formats.use("archive_core::traits", "CopyOptimization", "Keys")
+    formats.ghost("std.specs.Prelude", "None")
+    return (
+        "    ghost in_bulk = { None };\n",
+        """    #[inline(always)]
+    fn copy_optimization() -> CopyOptimization<Self> {
+        CopyOptimization::disable()
+    }
+
+    #[inline(always)]
+    fn serialize_copied<S: Writer + Keys>(
+        _values: &[Self],
+        _together: usize,
+        _serializer: &mut S,
+    ) -> Result<Option<usize>, Error> {
+        Ok(None)
+    }
+""",
+    )
 
 
 def resolve_head(source):

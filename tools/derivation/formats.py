@@ -92,6 +92,15 @@ def substituted(type, by):
     return replace(type, args=[substituted(arg, by) for arg in type.args], text="")
 
 
+def without(type, family):
+    """The type, or where it leads to one of these, the arguments that don't."""
+    if any(type.own is it for it in family):
+        return []
+    if any(part is not arg for arg in type.args for part in without(arg, family) or [None]):
+        return [part for arg in type.args for part in without(arg, family)]
+    return [type]
+
+
 class Formats:
     """What a module says of types. It gathers the names that the module has to bring in."""
 
@@ -289,9 +298,10 @@ class Formats:
         """Whether the type, or one that it holds, is one of these."""
         if type.name in names and type.own is None:
             return True
-        if type.own is not None and not type.own.recursive and any(self.any_of(field, names) for field in self.fields(type)):
-            return True
-        return any(self.any_of(arg, names) for arg in type.args)
+        held = self.fields(type) if type.own is not None else []
+        if type.own is not None and type.own.recursive:
+            held = [part for it in type.own.family for field in it.all_fields() for part in without(field.type, type.own.family)]
+        return any(self.any_of(part, names) for part in held + type.args)
 
     def holds(self, type, names, inside):
         """Whether the type holds another declared one, and that one of these, both behind no pointer; `inside` that one already."""
@@ -341,9 +351,9 @@ class Formats:
     def law_lines(self):
         """The lines of an impl that bring in the laws named since the last call. Within the impl, since at the head of the file they would go in a circle."""
         lines = []
-        for (crate, module, name), laws in sorted(self.laws.items()):
-            path = ".".join((crate, "specs", "contracts") + tuple(module) + (f"{name}Archive", "TheImpl", "Laws"))
-            those = ", ".join(f"{law}-law as {law}_of_{snake(name)}" for law in sorted(laws))
+        for (crate, module, impl), laws in sorted(self.laws.items()):
+            path = ".".join((crate, "specs", "contracts") + tuple(module) + (impl, "TheImpl", "Laws"))
+            those = ", ".join(f"{law}-law as {name}" for law, name in sorted(laws))
             lines.append(f"    ghost use Rattle.{path}.{{{those}}};\n")
         self.laws = {}
         return "".join(lines) + "\n" if lines else ""
@@ -352,8 +362,12 @@ class Formats:
         return self.law_of(type.own, which)
 
     def law_of(self, own, which):
-        self.laws.setdefault((own.crate, tuple(own.module), own.name), set()).add(which)
-        return f"{which}_of_{snake(own.name)}"
+        return self.impl_law(own, f"{own.name}Archive", which, f"{which}_of_{snake(own.name)}")
+
+    def impl_law(self, own, impl, law, name):
+        """A law of an impl that was written for a declared type, under this name."""
+        self.laws.setdefault((own.crate, tuple(own.module), impl), set()).add((law, name))
+        return name
 
     def keyed(self, type, x):
         """A proof that the keys of `x` are those that its meaning leads to."""

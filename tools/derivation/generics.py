@@ -1,6 +1,6 @@
 """The impls of a struct with type parameters, or that holds a recursive type: a tuple whose fields have names."""
 
-from .common import doc_lines, infix, resolve_head
+from .common import doc_lines, in_turn, infix, resolve_head
 from .layout import Generic, Group, flat, implementation, literal, pair, signature, statement
 from .model import Refused
 
@@ -112,6 +112,7 @@ def archive(made):
     archived = statement(4, "type Archived = ", Group("ArchivedTuple<", [pair(made.formats_of)], ">"), ";")
     call = Generic("resolve_record", ["Self", made.parts, "Self::Archived"], ["self", "resolver", "Place::new(pos, bytes)"])
     laws = (f.product_keyed(made.types, values)[1:-1], f.product_planned(made.types, values)[1:-1])
+    told, calls = in_turn(f)
     return f"""{head(made, made.bound("Archive"), "Archive", [])}
 {f.law_lines()}{archived}
     type Resolver = <{made.parts} as SourceParts<Self>>::Resolvers;
@@ -124,6 +125,7 @@ def archive(made):
 
     ghost belongs = {{ λ v r. {parts}.belongs v r }};
 
+{told}
     ghost keyed = {{ λ v. {laws[0]} }};
 
     ghost planned = {{ λ v. {laws[1]} }};
@@ -131,7 +133,8 @@ def archive(made):
 {resolve_head(made)}    {{
         let Place {{ bytes, pos, .. }} = place;
 {statement(8, "", call, "")}    }}
-}}
+
+{calls}}}
 """
 
 

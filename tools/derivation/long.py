@@ -1,4 +1,10 @@
-"""Fields one after another: up to eight by calls by their number, more as a nest of four at once."""
+"""Fields one after another: up to eight by calls by their number, more as a nest of four at once.
+
+The evidence of a call with a flat list of fields (`serialize_record_4` and its kin) is linear in the fields. Reading goes by the nest: by number, with a
+bound `A::Archived: Deserialize<A, R>` a field, it "stopped at the step limit (50000000 steps a task, the default)" at three. The front end doesn't take
+sixteen fields in pairs, but in fours; a struct of ten fields is proved. A variant would lend its fields in a struct of references: that compiled and ran,
+and all but `resolve` was proved.
+"""
 
 from .layout import fours, implementation, literal, pair, statement
 

@@ -1,11 +1,13 @@
 """The impls of a struct without type parameters."""
 
+from . import compared
 from .common import (
     Source,
     archive_pointee,
     chain,
     deserialize,
     doc_lines,
+    in_turn,
     infix,
     kept_of,
     ok_arm,
@@ -75,6 +77,7 @@ def text(formats, declaration):
         read(record),
         views(record),
         seals(record),
+        compared.record(record),
     ]
     return "\n".join(piece for piece in pieces if piece)
 
@@ -146,6 +149,7 @@ def archive(record):
     call = Generic(f"resolve_record_{record.count}", record.rust + [record.archived], arguments)
     if is_long(types):
         call = Generic("resolve_record", ["Self", f"{record.name}Fields", record.archived], ["self", kept, "Place::new(pos, bytes)"])
+    told, calls = in_turn(f)
     return f"""impl Archive for {record.name} {{
 {f.law_lines()}    type Archived = {record.archived};
 
@@ -159,6 +163,7 @@ def archive(record):
 
     ghost belongs = {{ λ v r. {belongs} }};
 
+{told}
     ghost keyed = {{ λ v. record_keyed {keyed} }};
 
     ghost planned = {{ λ v. plain_record_planned {record.defined} {record.parts} _ _ {planned} refl }};
@@ -166,7 +171,8 @@ def archive(record):
 {resolve_head(record)}    {{
         let Place {{ bytes, pos, .. }} = place;
 {taken}{statement(8, "", call, "")}    }}
-}}
+
+{calls}}}
 """
 
 

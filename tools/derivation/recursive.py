@@ -1,6 +1,6 @@
 """Types that hold themselves behind boxes and vectors: what is known of such a declaration, and the files that are written for it."""
 
-from . import recursive_code, recursive_proofs, recursive_specs
+from . import recursive_chains, recursive_code, recursive_proofs, recursive_specs
 from .formats import Formats, layout_of, snake
 from .model import Type
 from .recursive_terms import Terms
@@ -59,8 +59,10 @@ class Recursive:
         self.source = f"{declaration.name}-Source"  # the type as antt has it, under a name that nothing else has
         self.written = WRITTEN
         self.itself = Type(declaration.name, own=declaration)
+        self.writer = f"S: {formats.writer_bound([self.itself], whole=True).replace('Writer', 'Writer + Keys')}"
         self.is_record = declaration.kind == "struct"
         self.is_alone = len(declaration.family) == 1
+        self.is_chain = recursive_chains.is_chain(declaration, self.terms.leads_back)
         # under which names the variants of layers, of a value and of its resolver are brought in
         several = sum(its.kind == "enum" for its in declaration.family) > 1
         self.layer, self.its, self.kept = "Layer", *(f"{word}{declaration.name}" if several else word for word in ("Its", "Kept"))
@@ -111,14 +113,10 @@ class Recursive:
         """A type as antt has it; `held` has what stands in place of each type of the family, by its name."""
         if held and self.terms.is_member(type):
             return held[type.name]
-        if type.own is not None:
+        if not self.terms.leads_back(type):
+            return self.terms.plain.antt(type)
+        if self.terms.is_member(type):
             return f"{type.name}-Source"
-        if type.name[0] == "u" and type.name[1:].isdigit() or type.name == "char":
-            return "ℕ"
-        if type.name[0] == "i":
-            return "ℤ"
-        if type.name == "String":
-            return "(String Global)"
         if type.name == "Option":
             return f"(Option {self.antt(type.args[0], held)})"
         return f"({type.name} {self.antt(type.args[0], held)} Global)"
@@ -126,7 +124,18 @@ class Recursive:
     def plain_types(self, body):
         """The lines that bring in the types of plain parts that `tools/derive` wrote."""
         lines = ""
-        for name, own in sorted({type.name: type.own for case in self.cases for type in case.types if type.own is not None and not self.terms.is_member(type)}.items()):
+        found = {}
+
+        def go(type):
+            if type.own is not None and not self.terms.is_member(type):
+                found[type.name] = type.own
+            for arg in type.args:
+                go(arg)
+
+        for case in self.cases:
+            for type in case.types:
+                go(type)
+        for name, own in sorted(found.items()):
             if f"{name}-Source" in body:
                 lines += f"use Rattle.{'.'.join((own.crate, 'specs', 'declared') + tuple(own.module))}.{name}.{{{name} as {name}-Source}}\n"
         return lines

@@ -1,10 +1,20 @@
-"""The module of a recursive type: its format, and the functions that write and read it, which call each other."""
+"""The module of a recursive type: its format, and the functions that write and read it, which call each other.
+
+There is one for each owner of the type and each variant, since with impls of `Box` and `Vec` the impls to pass would not end. A value is resolved with
+hollow parts in place of what it holds (`BoxAt`, `OptionAt`, `VecAt`), which are written before, so resolving doesn't recurse; a hollow part means a name
+that names two things, so no law says anything of it. Reading terminates since what a pointer leads to ends before the pointer (`before_box`). A variant
+with several recursive fields is written where the value is matched: of a call that takes them all, the toolchain sees only that the first becomes
+smaller; it measures an option as its box, so these are written together. What a value means is the toolchain's fold of the type; types that contain each
+other have one, in which the toolchain puts enums before structs and each in the order of their names.
+"""
 
 import re
 
 from . import records, variants
-from .common import chain, doc_lines, infix
+from . import recursive_chains as chains
+from .common import chain, doc_lines, in_turn, infix
 from .formats import snake
+from .recursive_reads import by_match
 from .layout import Generic, Group, call, flat, implementation, literal, pair, signature, statement
 
 SERIALIZED = """    ensures serialized {{ IfOk result (λ r. Serialized {D} {X} (⟦<{T} as Archive>⟧.keys {v}.now)
@@ -19,12 +29,17 @@ READ = """    requires {{ IsPartOf ⟦<{X} as ArchivePointee>⟧ part }}
     ensures read {{ IfOk result (Read ⟦<{X} as ArchivePointee>⟧ part D.Entries deserializer ⟦<{T} as Archive>⟧) }}
     ensures refused {{ IfErr result (RefusesPart ⟦<{X} as ArchivePointee>⟧ part D.Entries deserializer) }}
 """
-WRITER = "S: Writer + Keys + ResolverAlloc"
 
 
 def text(it):
     bring(it)
-    pieces = [types(it), pointee(it), stands_for(it), portable(it), view_of(it), resolver(it), archive(it), writing(it), serialize(it), region(it), reading(it), deserialize(it)]
+    pieces = [types(it), pointee(it), stands_for(it), portable(it), view_of(it), resolver(it), archive(it)]
+    if it.is_chain:
+        chains.refuse_derived_drop(it.declaration)
+        chains.bring(it)
+        pieces += [chains.check(it), chains.drop(it), chains.writing(it), region(it), chains.reading(it), deserialize(it)]
+    else:
+        pieces += [writing(it), serialize(it), region(it), reading(it), deserialize(it)]
     pieces += [accessors(it, records.views, variants.views), accessors(it, records.seals, variants.seals)]
     return "\n".join(piece for piece in pieces if piece)
 
@@ -38,8 +53,8 @@ def bring(it):
     f.use("archive_core::ser", "ResolverAlloc", "Writer", "serialize_one")
     f.use("archive_core::boxed", "BoxResolver", "serialize_inner")
     f.use("archive_core::vec", "VecResolver")
-    f.use("archive_recursive", "BoxAt", "OptionAt", "VecAt", "before_box", "before_vec", "choice_of", "define_name", "option_expression", "part_of_record", "part_of_variant", "read_part", "record_of")
-    f.use("archive_recursive", "serialize_inner_slice", "serialize_part", "tag_of_choice")
+    f.use("archive_core::recursive", "BoxAt", "OptionAt", "VecAt", "before_box", "before_vec", "choice_of", "define_name", "option_expression", "part_of_record", "part_of_variant", "read_part", "record_of")
+    f.use("archive_core::recursive", "serialize_inner_slice", "serialize_part", "tag_of_choice")
     f.use("archive_core::traits", "Archive", "ArchivePointee", "ArchiveUnsized", "Choice", "Deserialize", "Entries", "Keys", "Portable", "Record", "Serialize", "SerializeUnsized")
     f.use("archive_core::view", "RawView", "Ref")
     f.use("std::alloc", "AllocError", "Global")
@@ -50,7 +65,7 @@ def bring(it):
     f.ghost("Definitions", "Extended", "ExplainsConflict", "defines")
     f.ghost("Shape", "one", "boxed", "vec")
     f.ghost("Choices", "option_shape")
-    f.ghosts.setdefault("archive_recursive.specs.Hollow", set()).add("option_at")
+    f.ghost("Hollow", "option_at")
     f.ghost("Value", "case", "product", "value", "no_value")
     f.ghost("Error.TheVariants", "OutOfMemory")
     f.ghost("Seen", "IsPartOf", "RefusesPart", "ReadsPart", "part_tag")
@@ -79,7 +94,7 @@ def types(it):
             lines.append(statement(0, f"type {word(it, case)}Parts = ", pair(case.archived), ";"))
     if not it.is_record:
         lines.append(statement(0, f"type {it.name}Variants = ", pair([f"{word(it, case)}Parts" if case.count else "()" for case in it.cases]), ";"))
-    return f"""/// An archived `{it.name}`: {it.size} bytes at a multiple of {it.align}. It is validated by its schema.
+    return f"""/// An archived `{it.name}`: {it.size} bytes at a multiple of {it.align}. It {'validates itself' if it.is_chain else 'is validated by its schema'}.
 pub struct {it.archived};
 
 {chr(10).join(lines)}"""
@@ -192,12 +207,13 @@ def portable(it):
         define = DEFINING.format(n=n, archived=it.archived).replace("\n    ", "\n        ")
     else:
         define = f"\n        define_{it.family.n}_family(alloc, defs)\n"
+    check, checks = (f"ChainCheck<{it.name}Chain>", f"λ _. {n}_checked") if it.is_chain else ("BySchema", "λ direct. by_schema direct")
     return f"""impl Portable for {it.archived} {{
     ghost shape = {{ {n}_shape }};
 
     ghost layout = {{ {n}_layout }};
 
-    type Check = BySchema;
+    type Check = {check};
 
     ghost is_one = {{ refl }};
 
@@ -207,7 +223,7 @@ def portable(it):
 
     ghost no_others = {{ {n}_no_others }};
 
-    ghost checks = {{ λ direct. by_schema direct }};
+    ghost checks = {{ {checks} }};
 
     fn size() -> usize {{
         {it.size}
@@ -319,9 +335,10 @@ def archive(it):
         rust, values, lines = hollows(it, case)
         body = f"        let {it.resolver} {{ kept }} = resolver;\n" + "".join(statement(8, before, made, ";") for before, made in lines)
         body += statement(8, "", Generic(f"resolve_named_record_{case.count}", rust + [it.archived], values + ["kept", "Place::new(pos, bytes)"]), "")
-        it.formats.use("archive_recursive", f"resolve_named_record_{case.count}")
+        it.formats.use("archive_core::recursive", f"resolve_named_record_{case.count}")
     else:
         body = "        match self {\n" + "".join(resolve_arm(it, case) for case in it.cases) + "        }\n"
+    told, calls = in_turn(it.formats)
     return f"""impl Archive for {it.name} {{
     ghost use Rattle.{it.declaration.crate}.specs.{it.family.name}Meaning.{{{', '.join(names)}}};
 
@@ -337,6 +354,7 @@ def archive(it):
 
     ghost belongs = {{ {n}_belongs }};
 
+{told}
     ghost keyed = {{ {n}_keyed }};
 
     ghost planned = {{ {n}_planned }};
@@ -353,12 +371,13 @@ def archive(it):
     {{
         let Place {{ bytes, pos, .. }} = place;
 {body}    }}
-}}
+
+{calls}}}
 """
 
 
 def resolve_arm(it, case):
-    it.formats.use("archive_recursive", f"resolve_named_case_{case.count}")
+    it.formats.use("archive_core::recursive", f"resolve_named_case_{case.count}")
     rust, values, lines = hollows(it, case)
     names = [name if not back or type.name == "Vec" else f"_{name}" for name, type, back in zip(case.names, case.types, case.leads_back)]
     call_ = Generic(f"resolve_named_case_{case.count}", rust + [it.archived], [str(case.tag)] + values + ["kept" if case.count else "()", "Place::new(pos, bytes)"])
@@ -412,7 +431,7 @@ def owner_writing(it, type):
     if type.name == "Box":
         return f"""// Writes what a box owns.
 #[cycle(serialize_{it.family.n})]
-fn serialize_{name}<{WRITER}>(value: &{T}, serializer: &mut S) -> Result<BoxResolver, Error>
+fn serialize_{name}<{it.writer}>(value: &{T}, serializer: &mut S) -> Result<BoxResolver, Error>
 {contract(it, type, "value")}{{
     let inner = &**value;
     let kept = match serialize_{it.word(item)}(inner, serializer) {{
@@ -428,7 +447,7 @@ fn serialize_{name}<{WRITER}>(value: &{T}, serializer: &mut S) -> Result<BoxReso
     if type.name == "Option":
         return f"""// Writes what an option owns.
 #[cycle(serialize_{it.family.n})]
-fn serialize_{name}<{WRITER}>(value: &{T}, serializer: &mut S) -> Result<{kept(it, type)}, Error>
+fn serialize_{name}<{it.writer}>(value: &{T}, serializer: &mut S) -> Result<{kept(it, type)}, Error>
 {contract(it, type, "value")}{{
     match value {{
         None => Ok(None),
@@ -450,7 +469,7 @@ fn serialize_{name}<{WRITER}>(value: &{T}, serializer: &mut S) -> Result<{kept(i
     run = f"{D} {X} (length values.now) (each_keys ⟦<{its} as Archive>⟧.keys values.now)\n        (each_meaning ⟦<{its} as Archive>⟧.meaning values.now)"
     return f"""// Writes what each of the values owns, in order.
 #[cycle(serialize_{it.family.n})]
-fn serialize_each_{it.word(item)}<{WRITER}>(values: &[{its}], serializer: &mut S) -> Result<Vec<<{its} as Archive>::Resolver, S::Alloc>, Error>
+fn serialize_each_{it.word(item)}<{it.writer}>(values: &[{its}], serializer: &mut S) -> Result<Vec<<{its} as Archive>::Resolver, S::Alloc>, Error>
     ensures serialized {{ IfOk result (λ rs. SerializedRun {run}
         (each_flat ⟦<{its} as Archive>⟧.flat values.now rs.items) (S.state serializer.old)
         (S.state serializer.new)) }}
@@ -462,18 +481,14 @@ fn serialize_each_{it.word(item)}<{WRITER}>(values: &[{its}], serializer: &mut S
     let alloc = serializer.resolver_alloc();
     let mut resolvers = Vec::with_capacity(alloc, values.len())?;
     for value in values {{
-        let resolver = match serialize_{it.word(item)}(value, serializer) {{
-            Ok(resolver) => resolver,
-            Err(error) => return Err(error),
-        }};
-        resolvers.push(resolver).map_err(AllocError::from)?;
+{element_written(it, item)}        resolvers.push(resolver).map_err(AllocError::from)?;
     }}
     Ok(resolvers)
 }}
 
 // Writes what a vector owns.
 #[cycle(serialize_{it.family.n})]
-fn serialize_{name}<{WRITER}>(value: &{T}, serializer: &mut S) -> Result<VecResolver, Error>
+fn serialize_{name}<{it.writer}>(value: &{T}, serializer: &mut S) -> Result<VecResolver, Error>
 {contract(it, type, "value")}{{
     if value.len() > u32::MAX as usize {{
         return Err(Error::LengthTooLarge);
@@ -488,6 +503,27 @@ fn serialize_{name}<{WRITER}>(value: &{T}, serializer: &mut S) -> Result<VecReso
         Err(error) => Err(error),
     }}
 }}
+"""
+
+
+def element_written(it, item):
+    """The lines that write what an element of a vector owns. A box's value is written where the vector is gone over: of a function that is passed the box the
+    toolchain doesn't see that it ends."""
+    if it.terms.is_member(item):
+        return f"""        let resolver = match serialize_{it.word(item)}(value, serializer) {{
+            Ok(resolver) => resolver,
+            Err(error) => return Err(error),
+        }};
+"""
+    return f"""        let inner = &**value;
+        let kept = match serialize_{it.word(item.args[0])}(inner, serializer) {{
+            Ok(kept) => kept,
+            Err(error) => return Err(error),
+        }};
+        let resolver = match serialize_inner(inner, kept, serializer) {{
+            Ok(resolver) => resolver,
+            Err(error) => return Err(error),
+        }};
 """
 
 
@@ -515,7 +551,7 @@ def case_writing(it, case):
     n = it.n
     D, X, states = f"{n}_definitions", f"{n}_shape", "(S.state serializer.old) (S.state serializer.new)"
     head = signature(
-        f"fn serialize_{case.n}", [WRITER], [f"{name}: &{rust}" for name, rust in zip(case.names, case.rust)] + ["serializer: &mut S"], Group("Result<", [kept_of(it, case), "Error"], ">")
+        f"fn serialize_{case.n}", [it.writer], [f"{name}: &{rust}" for name, rust in zip(case.names, case.rust)] + ["serializer: &mut S"], Group("Result<", [kept_of(it, case), "Error"], ">")
     )
     cycle = f"#[cycle(serialize_{it.family.n})]\n" if any(case.leads_back) else ""
     return f"""// Writes what the parts of `{case.name}` own, in order.
@@ -555,7 +591,7 @@ def choice_writing(it):
 """
     return f"""// Writes what a value owns.
 #[cycle(serialize_{it.family.n})]
-fn serialize_{it.n}<{WRITER}>(value: &{it.name}, serializer: &mut S) -> Result<{it.resolver}, Error>
+fn serialize_{it.n}<{it.writer}>(value: &{it.name}, serializer: &mut S) -> Result<{it.resolver}, Error>
 {contract(it, it.itself, "value")}{{
     match value {{
 {arms}    }}
@@ -568,7 +604,7 @@ def record_writing(it):
     values = [f"&value.{field.name}" for field in case.fields]
     return f"""// Writes what a value owns, part by part.
 #[cycle(serialize_{it.family.n})]
-fn serialize_{it.n}<{WRITER}>(value: &{it.name}, serializer: &mut S) -> Result<{it.resolver}, Error>
+fn serialize_{it.n}<{it.writer}>(value: &{it.name}, serializer: &mut S) -> Result<{it.resolver}, Error>
 {contract(it, it.itself, "value")}{{
 {parts_written(it, case, values)}    Ok({it.resolver} {{ kept: {flat(pair(case.names))} }})
 }}
@@ -576,7 +612,7 @@ fn serialize_{it.n}<{WRITER}>(value: &{it.name}, serializer: &mut S) -> Result<{
 
 
 def serialize(it):
-    return f"""impl<{WRITER}> Serialize<S> for {it.name} {{
+    return f"""impl<{it.writer}> Serialize<S> for {it.name} {{
     fn serialize(&self, serializer: &mut S) -> Result<Self::Resolver, Error> {{
         serialize_{it.n}(self, serializer)
     }}
@@ -610,7 +646,7 @@ impl ArchiveUnsized for {it.name} {{
     }}
 }}
 
-impl<{WRITER}> SerializeUnsized<S> for {it.name} {{
+impl<{it.writer}> SerializeUnsized<S> for {it.name} {{
     fn serialize_unsized(&self, serializer: &mut S) -> Result<usize, Error> {{
         serialize_one(self, serializer)
     }}
@@ -682,6 +718,10 @@ def parts_read(it, case):
         else:
             where = Generic("part_of_variant", [it.archived, X], ["part", str(case.tag), str(i), str(offset)])
         lines += statement(4, f"let p{i} = ", where, ";")
+        if by_match(type):
+            read = Generic("read_part", [X, T, "D"], ["alloc", f"p{i}", "deserializer"])
+            lines += statement(4, f"let {name} = match ", read, " {") + f"        Ok({name}) => {name},\n        Err(error) => return Err(error),\n    }};\n"
+            continue
         read = call(f"read_{it.word(type)}", ["alloc", f"p{i}", "deserializer"], "?") if back else Generic("read_part", [X, T, "D"], ["alloc", f"p{i}", "deserializer"], "?")
         lines += statement(4, f"let {name} = ", read, ";")
     return lines
@@ -719,6 +759,7 @@ def record_reading(it):
 
 
 def deserialize(it):
+    read = f"read_chain::<{it.archived}, {it.name}, D>(alloc, part, deserializer)" if it.is_chain else f"read_{it.n}(alloc, part, deserializer)"
     return f"""impl<D: Entries> Deserialize<{it.name}, D> for {it.archived} {{
     fn deserialize_part(
         alloc: Global,
@@ -729,7 +770,7 @@ def deserialize(it):
         ensures read {{ IfOk result (Read ⟦<Self as ArchivePointee>⟧ part D.Entries deserializer ⟦<{it.name} as Archive>⟧) }}
         ensures refused {{ IfErr result (RefusesPart ⟦<Self as ArchivePointee>⟧ part D.Entries deserializer) }}
     {{
-        read_{it.n}(alloc, part, deserializer)
+        {read}
     }}
 }}
 """
@@ -749,7 +790,7 @@ CALLS = {
 def accessors(it, of_record, of_choice):
     """The accessors of other types, by the calls that know of names."""
     f = it.formats
-    f.use("archive_recursive", "seal_of_field", "seal_of_payload", "tag_of_view", "view_of_field", "view_of_payload")
+    f.use("archive_core::recursive", "seal_of_field", "seal_of_payload", "tag_of_view", "view_of_field", "view_of_payload")
     whole = records.Record(f, it.declaration) if it.is_record else variants.Choice(f, it.declaration)
     text_ = of_record(whole) if it.is_record else of_choice(whole)
     for name, other in CALLS.items():

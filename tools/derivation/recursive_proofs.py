@@ -1,7 +1,9 @@
 """The proofs of the functions that write and read a recursive type: answers to the goals that the check leaves, which are named after the code."""
 
+from . import recursive_chain_proofs as chains
 from . import recursive_code
 from .formats import snake
+from .recursive_reads import Reads
 from .recursive_specs import owns
 from .recursive_terms import brought
 
@@ -15,22 +17,23 @@ CITED = {
     "std.specs.Prelude": "",
     "archive_core.specs.Causes": "no_memory",
     "archive_core.specs.Error.TheVariants": "OutOfMemory",
-    "archive_recursive.specs.Held": "keyed_as planned_as written_as refused_as read_as",
+    "archive_core.specs.Chains": "written_up_to_as",
+    "archive_core.specs.Held": "keyed_as planned_as written_as refused_as read_as",
     "archive_core.specs.PlannedOwners": "each_planned",
     "archive_core.specs.PartsReading": "part_read_back no_part_read_back",
-    "archive_recursive.proofs.Causes": "err_by err_from goes_both goes_nowhere",
-    "archive_recursive.proofs.OwnChoices": "serialized_variant variant_refused",
-    "archive_recursive.proofs.Owners": "box_refused vec_refused",
-    "archive_recursive.proofs.OwnersRead": "box_read box_unread vec_read vec_unread",
-    "archive_recursive.proofs.Planned": "one_owned",
-    "archive_recursive.proofs.PlannedParts": "serialized_no_part serialized_part serialized_record record_refused first_refused later_refused",
-    "archive_recursive.proofs.ReadChoices": "variant_read_back variant_refuses",
-    "archive_recursive.proofs.ReadElements": "FirstElements all_have elements_more elements_all element_refused",
-    "archive_recursive.proofs.ReadRecords": "record_read_back record_refuses first_refuses later_refuses",
-    "archive_recursive.proofs.Runs": "Continues continues_step continues_broken continues_end belongs_end",
-    "archive_recursive.proofs.ReadVariants": "case_read_back case_refuses empty_case_read_back",
-    "archive_recursive.proofs.RunRegions": "run_owned long_run_refused",
-    "archive_recursive.proofs.WrittenVariants": "serialized_case serialized_empty_case case_refused",
+    "archive_core.proofs.Causes": "err_by err_from goes_both goes_nowhere",
+    "archive_core.proofs.OwnChoices": "serialized_variant variant_refused",
+    "archive_core.proofs.Owners": "box_refused vec_refused",
+    "archive_core.proofs.OwnersRead": "box_read box_unread vec_read vec_unread",
+    "archive_core.proofs.Planned": "one_owned",
+    "archive_core.proofs.PlannedParts": "serialized_no_part serialized_part serialized_record record_refused first_refused later_refused",
+    "archive_core.proofs.ReadChoices": "variant_read_back variant_refuses",
+    "archive_core.proofs.ReadElements": "FirstElements all_have elements_more elements_all element_refused",
+    "archive_core.proofs.ReadRecords": "record_read_back record_refuses first_refuses later_refuses",
+    "archive_core.proofs.Runs": "Continues continues_step continues_broken continues_end belongs_end",
+    "archive_core.proofs.ReadVariants": "case_read_back case_refuses empty_case_read_back",
+    "archive_core.proofs.RunRegions": "run_owned long_run_refused",
+    "archive_core.proofs.WrittenVariants": "serialized_case serialized_empty_case case_refused",
 }
 
 
@@ -69,7 +72,7 @@ def head(family, body):
     crate = family.crate
     meaning, shape, more = [], [], list(CITED.items())
     for it in family.members:
-        meaning += [f"{it.n}_{w}" for w in ("meaning", "keys", "flat", "belongs", "keyed", "planned", "means", "means_roll", "has_keys", "has_keys_roll")]
+        meaning += [f"{it.n}_{w}" for w in ("meaning", "keys", "flat", "belongs", "keyed", "planned", "means", "means_roll", "has_keys", "has_keys_roll", "kept_is", "front_is")]
         meaning += [f"{case.n}_{w}" for case in it.cases for w in ("means", "has_keys", "opens")]
         shape += [f"{it.n}_{w}" for w in ("layout", "has_layout")] + it.shape_names()
         more.append((family.declared(it.name), f"out-{it.name}"))
@@ -277,21 +280,24 @@ def option_written(it, type, answers):
 def vec_written(it, type, answers):
     item = type.args[0]
     w = it.word(item)
-    each, inner = f"serialize_each_{w}", f"serialize_{w}"
-    D, X, n = it.terms.definitions(item), it.terms.shape(item), it.terms.n_of(item)
+    each = f"serialize_each_{w}"
+    D, X, t = it.terms.definitions(item), it.terms.shape(item), it.terms
+    flat, belongs = (functions_of(it, which, item) for which in ("flat", "belongs"))
+    steps = Element(it, item)
     state = "(g.S.Keys.state l.initial.serializer) (g.S.Keys.state l.serializer)"
     answers.invariant(
         each, f"invariant-{each}-loop-value",
-        f"record {{ continues : Continues {D} {X} {n}_keys {n}_meaning {n}_flat {n}_belongs {state} l.values (drop l.value-index l.values) l.resolvers.items }}",
+        f"record {{ continues : Continues {D} {X} {t.said(item)} {flat} {belongs} {state} l.values (drop l.value-index l.values) l.resolvers.items }}",
     )
     kept = "c.loop-value.invariant.continues"
     answers.answer(each, "returns-in_err-resolvers-clause-refused", "err_by c.from_residual.result OutOfMemory _ c.from_residual.ensures.1 no_memory")
-    answers.answer(each, "returns-in-Err-clause-goes_on", f"goes_both _ _ _ {kept}.goes c.{inner}.ensures.goes_on")
     at = "_ _ _ _ _ _ _ _ _ _ c.loop-value.value-index"
-    answers.answer(each, "returns-in-Err-clause-refused", f"continues_broken {at} _ _ _ c.loop-value-test.true c.value-item.is {n}_planned {kept} c.{inner}.ensures.goes_on c.in-Err.ensures.refused")
-    answers.answer(each, "returns-in_err-map_err-clause-goes_on", f"goes_both _ _ _ {kept}.goes c.{inner}.ensures.goes_on")
+    for err, goes, refused in steps.refusals:
+        answers.answer(each, f"returns-{err}-clause-goes_on", f"goes_both _ _ _ {kept}.goes {goes}")
+        answers.answer(each, f"returns-{err}-clause-refused", f"continues_broken {at} _ _ _ c.loop-value-test.true c.value-item.is {t.plan(item)} {kept} {goes} {refused}")
+    answers.answer(each, "returns-in_err-map_err-clause-goes_on", f"goes_both _ _ _ {kept}.goes {steps.goes}")
     answers.answer(each, "returns-in_err-map_err-clause-refused", "err_by c.from_residual-in_err-map_err.result OutOfMemory _ c.from_residual-in_err-map_err.ensures.1 no_memory")
-    step = f"continues_step {at} _ _ _ _ c.loop-value-test.true c.value-item.is (grind (arith, common_steps)) {kept} c.in-Ok.ensures.serialized c.in-Ok.ensures.same_value c.{inner}.ensures.goes_on"
+    step = f"continues_step {at} _ _ _ _ c.loop-value-test.true c.value-item.is (grind (arith, common_steps)) {kept} {steps.serialized} {steps.belongs} {steps.goes}"
     answers.answer(each, "loop-value-preserved", f"record {{ continues = {step} }}")
     end = f"_ _ _ _ _ _ _ _ _ _ _ (drop_of_length-le _ c.loop-value-test.false) {kept}"
     answers.answer(each, "returns-clause-serialized", f"continues_end {end}")
@@ -299,14 +305,40 @@ def vec_written(it, type, answers):
     vec_owner_written(it, type, answers)
 
 
+def functions_of(it, which, item):
+    """What is read in the place of an element of a vector, or which resolvers are its own, as a function."""
+    return f"{it.terms.n_of(item)}_{which}" if it.terms.is_member(item) else f"(λ y r. {getattr(it.terms, which)(item, 'y', 'r')})"
+
+
+class Element:
+    """What is known of the calls that write an element of a vector: those that fail, and that none does."""
+
+    def __init__(self, it, item):
+        D, X = it.terms.definitions(item), it.terms.shape(item if it.terms.is_member(item) else item.args[0])
+        inner = f"serialize_{it.word(item if it.terms.is_member(item) else item.args[0])}"
+        first = f"c.{inner}.ensures.goes_on"
+        self.goes, self.serialized, self.belongs = first, "c.in-Ok.ensures.serialized", "c.in-Ok.ensures.same_value"
+        self.refusals = [("in-Err", first, "c.in-Err.ensures.refused")]
+        if not it.terms.is_member(item):
+            self.goes, self.belongs = f"(goes_both _ _ _ {first} c.serialize_inner.ensures.goes_on)", "tt"
+            same = "let same : c.deref-inner.result.now ≡ c.value-item.result.value = grind (arith, common_steps) in rw (← same)"
+            since = f"since _ {first} {self.serialized}"
+            self.refusals = [
+                ("in-Err", first, f"({same} (box_refused {D} (one {X}) 0 _ _ _ _ _ (one_owned {D} {X} _ _ _ _ _ c.in-Err.ensures.refused)))"),
+                ("in-Err-serialize_inner", self.goes, f"({same} (c.in-Err-serialize_inner.ensures.refused.{since}))"),
+            ]
+            self.serialized = f"({same} (c.in-Ok-serialize_inner.ensures.boxed.{since}))"
+
+
 def vec_owner_written(it, type, answers):
     item = type.args[0]
     each, function = f"serialize_each_{it.word(item)}", f"serialize_{it.word(type)}"
-    D, X, n = it.terms.definitions(item), it.terms.shape(item), it.terms.n_of(item)
+    D, X, t = it.terms.definitions(item), it.terms.shape(item), it.terms
+    k, m = (t.own(which)[item.own.name] if t.is_member(item) else t.function(which, item, t.own(which)) for which in ("keys", "meaning"))
     value = "c.args.value.now"
-    plans = f"(each_planned {D} {X} {n}_keys {n}_meaning {n}_planned {value}.items)"
-    whole = f"{D} {X} (length {value}.items) (each_keys {n}_keys {value}.items)"
-    meaning = f"(list (each_meaning {n}_meaning {value}.items))"
+    plans = f"(each_planned {D} {X} {k} {m} {t.plan(item)} {value}.items)"
+    whole = f"{D} {X} (length {value}.items) (each_keys {k} {value}.items)"
+    meaning = f"(list (each_meaning {m} {value}.items))"
     goes = f"(goes_both _ _ _ c.{each}.ensures.goes_on c.serialize_inner_slice.ensures.goes_on)"
     as_items = "rw c.as_slice-items.ensures.value at"
     long = (
@@ -314,9 +346,9 @@ def vec_owner_written(it, type, answers):
     )
     answers.answer(
         function, "returns-then-len-clause-refused",
-        f"(let long : 4294967295 < length {value}.items = {long} in vec_refused {whole} {meaning} _ _ _ (long_run_refused {whole} (each_meaning {n}_meaning {value}.items) _ _ {plans} long))",
+        f"(let long : 4294967295 < length {value}.items = {long} in vec_refused {whole} {meaning} _ _ _ (long_run_refused {whole} (each_meaning {m} {value}.items) _ _ {plans} long))",
     )
-    answers.answer(function, "returns-in-Err-clause-refused", f"vec_refused {whole} {meaning} _ _ _ (run_owned {whole} (each_meaning {n}_meaning {value}.items) _ _ _ ({as_items} c.in-Err.ensures.refused))")
+    answers.answer(function, "returns-in-Err-clause-refused", f"vec_refused {whole} {meaning} _ _ _ (run_owned {whole} (each_meaning {m} {value}.items) _ _ _ ({as_items} c.in-Err.ensures.refused))")
     listed = f"({as_items} c.in-Ok-serialize_inner_slice.ensures.listed).since _ c.{each}.ensures.goes_on ({as_items} c.in-Ok.ensures.serialized)"
     unlisted = f"({as_items} c.in-Err-serialize_inner_slice.ensures.refused).since _ c.{each}.ensures.goes_on ({as_items} c.in-Ok.ensures.serialized)"
     answers.answer(function, "returns-in-Ok-serialize_inner_slice-clause-serialized", listed)
@@ -442,10 +474,16 @@ def option_read(it, type, answers):
 
 def vec_read(it, type, answers):
     item = type.args[0]
-    w, n = it.word(item), it.terms.n_of(item)
+    w, t = it.word(item), it.terms
     function = f"read_{it.word(type)}"
-    D, X, L, laid = it.terms.definitions(item), it.terms.shape(item), f"{n}_layout", f"{n}_has_layout"
-    its = f"{n}_meaning {n}_keys"
+    D, X = t.definitions(item), t.shape(item)
+    if t.is_member(item):
+        n = t.n_of(item)
+        L, laid, its = f"{n}_layout", f"{n}_has_layout", f"{n}_meaning {n}_keys"
+    else:
+        size, align = it.formats.layout(item)
+        L, laid = f"(record {{ size = {size}; align = {align} }})", "(record { solved = λ s k. refl })"
+        its = " ".join(t.function(which, item, t.own(which)) for which in ("meaning", "keys"))
     answers.invariant(
         "", f"invariant-{function}-loop-index",
         "(length l.items.items ≡ l.index) × (vec_len l.items ≡ l.index) × (l.list.len ≤ vec_capacity l.items)"
@@ -478,12 +516,12 @@ def vec_read(it, type, answers):
     )
 
 
-def signed(case):
+def signed_values(values):
     """What makes of a number with a sign, as a body has it, the number that was read."""
     out, steps = "", []
-    for name, type in zip(case.names, case.types):
+    for type, name, value in values:
         if type.name in ("i8", "i16", "i32", "i64", "i128") and type.own is None:
-            width, value = f"w{type.name[1:]}", f"c.in_ok-{name}.{name}"
+            width = f"w{type.name[1:]}"
             out += f"let fits_{name} : SFits {width} {value} = search rules in "
             steps.append(f"to_z-of_z {width} {value} fits_{name}")
     return f"{out}rw ({', '.join(steps)}) " if steps else ""
@@ -493,7 +531,8 @@ def parts_read(it, case, answers, function):
     """The answers on parts that are read one after another."""
     where = "part_of_record" if it.is_record else "part_of_variant"
     told = ["rw (" + ", ".join(f"c.{where}-p{i}.ensures.{clause}" for clause in ("buffer", "position", "length")) + ") at " for i in range(case.count)]
-    values = [f"c.in_ok-{name}.{name}" for name in case.names]
+    reads = Reads(case.names, case.types)
+    values = reads.values
     parts = Parts(it, case, values)
     laid = "(record { solved = λ s k. refl })"
     sizes = [it.formats.layout(type) for type in case.types]
@@ -506,26 +545,26 @@ def parts_read(it, case, answers, function):
         E, P, _, _ = parts.rest(at + 1)
         head = f"{D} {E} {X} {layouts[at]} {laid} {P} _ _ {starts[at]} _ _"
         if at == i:
-            return f"(first_refuses {head} ({told[i]}c.in_err-{case.names[i]}.ensures.refused))"
-        return f"(later_refuses {head} _ c.in_ok-{case.names[at]}.ensures.read.kept {refused(i, at + 1)})"
+            return f"(first_refuses {head} ({told[i]}c.{reads.errs[i]}.ensures.refused))"
+        return f"(later_refuses {head} _ c.{reads.oks[at]}.ensures.read.kept {refused(i, at + 1)})"
 
     def read(at=0):
         if at == case.count:
             return "no_part_read_back"
         _, _, K, _ = parts.first(at)
         _, _, L, _ = parts.rest(at + 1)
-        return f"(part_read_back {{L = {layouts[at]}}} {{ks = {K}}} {{ls = {L}}} {laid} ({told[at]}c.in_ok-{case.names[at]}.ensures.read) {read(at + 1)})"
+        return f"(part_read_back {{L = {layouts[at]}}} {{ks = {K}}} {{ls = {L}}} {laid} ({told[at]}c.{reads.oks[at]}.ensures.read) {read(at + 1)})"
 
     lemma = "record_refuses" if it.is_record else "variant_refuses"
-    for i, name in enumerate(case.names):
-        answers.answer(function, f"returns-in_err-{name}-clause-refused", error_by(case.names, i, f"({lemma} {whole_of(it, case)} _ _ _ {first}_ _ {refused(i)})"))
+    for i, err in enumerate(reads.errs):
+        answers.answer(function, f"returns-{err}-clause-refused", reads.refused(i, f"({lemma} {whole_of(it, case)} _ _ _ {first}_ _ {refused(i)})"))
     if it.is_record:
         made = "(record { " + "; ".join(f"{field.name} = {value}" for field, value in zip(case.fields, values)) + " })"
         body = f"read_as ({it.n}_has_keys_roll {made}) ({it.n}_means_roll {made}) (record_read_back {whole_of(it, case)} _ _ _ _ _ _ _ {read()})"
     else:
         its = "".join(f" {value}" for value in values)
         body = f"read_as ({case.n}_has_keys{its}) ({case.n}_means{its}) (variant_read_back {whole_of(it, case)} _ _ _ {first}_ _ _ _ {read()})"
-    lets = signed(case)
+    lets = signed_values(zip(case.types, case.names, values))
     answers.answer(function, "returns-clause-read", f"({lets}({body}))" if lets else body)
 
 
@@ -541,6 +580,9 @@ def files(family):
     out = {}
     for it in family.members:
         out.update(defining(it))
+    if family.first.is_chain:
+        out.update(chains.files(family.first))
+        return out
     out.update(writing(family))
     out.update(reading(family))
     return out

@@ -1,5 +1,6 @@
 """The definitions that stand beside the modules of recursive types: what they look like, and what their values mean. A family has one file of each."""
 
+from . import recursive_chain_specs as chains
 from .formats import ALIGNS
 from .recursive_terms import brought, brought_owns, something
 
@@ -19,12 +20,18 @@ REACHED = [
 ]
 
 
+# What plain parts and lists speak of beside the rest.
+SPOKEN = [("std.specs.Prelude", "false ◌∷◌ ◌<◌ ◌^◌ Bool Result")]
+
+
 def shape(family):
     """What the archived types look like: their names, and what the names stand for."""
     lines = of_each(family, named) + of_each(family, stood_for)
     lines += of_each(family, defined) + of_each(family, stands)
+    if family.first.is_chain:
+        lines += chains.shape(family.first, knows_parts)
     body = "\n".join(lines)
-    more = [] if family.first.is_alone else REACHED
+    more = SPOKEN + ([] if family.first.is_alone else REACHED)
     return f"-- What an archived {' and an archived '.join(it.name for it in family.members)} looks like. {family.first.written}\n{brought(body, more)}{owns(family, body)}\n{body}"
 
 
@@ -138,7 +145,7 @@ def knows(it, known):
 
 
 def knows_parts(it, types):
-    return knows(it, ["k" if it.terms.leads_back(type) else "(knows_none s k.laid_out)" for type in types])
+    return knows(it, ["k" if it.terms.leads_back(type) else it.terms.plain.known(type) for type in types])
 
 
 def stands(it):
@@ -181,9 +188,11 @@ def meaning(family):
             lines.append(rolled(it, which, type, word))
             lines.append(opened(it, which, word))
     lines += of_each(family, flats)
+    if family.first.is_chain:
+        lines += chains.meaning(family.first)
     lines += laws(family)
     body = "\n".join(lines)
-    more = [(family.declared(family.ordered[0].name, "TheFolds"), " ".join(f"map-{it.name}" for it in family.members)), ("std.proofs.Common", PRELUDE_COMMON)]
+    more = SPOKEN + [(family.declared(family.ordered[0].name, "TheFolds"), " ".join(f"map-{it.name}" for it in family.members)), ("std.proofs.Common", PRELUDE_COMMON)]
     aliases = ""
     for it in family.members:
         N = it.name
@@ -193,6 +202,8 @@ def meaning(family):
         if not it.is_record:
             paths = [(family.declared(family.ordered[0].name, "TheOpen"), it.layer), (family.declared(N, "TheVariants"), it.its), (family.declared(it.resolver, "TheVariants"), it.kept)]
             aliases += "".join(line for path, alias in paths if (line := f"use Rattle.{path} as {alias}\n") not in aliases)
+    if family.first.is_chain:
+        aliases += chains.aliases(family.first)
     names = [w for it in family.members for w in it.shape_names() if w in body]
     shape_ = f"use Rattle.{family.crate}.specs.{family.name}Shape.{{{', '.join(names)}}}\n"
     return f"-- What {' and '.join(it.name for it in family.members)} mean{'s' if len(family.members) == 1 else ''}. {family.first.written}\n{brought(body, more)}{shape_}{aliases}{owns(family, body)}\n{body}"
@@ -261,6 +272,21 @@ def sources(it):
     return each_type(it.family, lambda other: other.source)
 
 
+def still_mapped(it, item, which, x):
+    """What is said of a vector whose elements were mapped."""
+    if it.terms.is_member(item):
+        return f"(each_{which} (λ v. v) (map {it.terms.own(which)[item.name]} {x}.items))"
+    return f"(each_{which} {it.terms.function(which, item, '(λ v. v)')} (map _ {x}.items))"
+
+
+def mapped(it, item, which, x):
+    """That it is what is said of the elements."""
+    keys, own = "" if which == "meaning" else "_keys", it.terms.own(which)
+    if it.terms.is_member(item):
+        return f"each_mapped{keys} {own[item.name]} {x}.items"
+    return f"each_alike{keys} _ {it.terms.function(which, item, '(λ v. v)')} {it.terms.function(which, item, own)} (λ x. refl) {x}.items"
+
+
 def rolled(it, which, type, word):
     """What is said of a value that is made of a layer."""
     n, N, own = it.n, it.name, it.terms.own(which)
@@ -270,9 +296,8 @@ def rolled(it, which, type, word):
         out = f"{fold(it, which, type, 'fold-roll')} {pattern}"
         for j in lists:
             # those before it are the value's own already, those behind it are still mapped
-            terms = {i: "vs" if i == j else f"(each_{which} (λ v. v) (map {own[case.types[i].args[0].name]} {values[i]}.items))" for i in lists if i >= j}
-            equation = f"{'each_mapped' if which == 'meaning' else 'each_mapped_keys'} {own[case.types[j].args[0].name]} {values[j]}.items"
-            out += f" ∙ ap (λ vs. {said_of(it, case, which, own, terms, values)}) ({equation})"
+            terms = {i: "vs" if i == j else still_mapped(it, case.types[i].args[0], which, values[i]) for i in lists if i >= j}
+            out += f" ∙ ap (λ vs. {said_of(it, case, which, own, terms, values)}) ({mapped(it, case.types[j].args[0], which, values[j])})"
         return out
 
     claim = f"{n}_{which} (roll-{N} {{0}}) ≡ {n}_{which}_layer {each_type(it.family, lambda other: f'{other.n}_{which}')} {{0}}"
@@ -411,6 +436,8 @@ def held_keys(it, type, x):
         return held_keys(it, type.args[0], f"{x}.value")
     if t.is_option(type):
         return "[]" if x == "None" else held_keys(it, type.args[0], something(x))
+    if t.leads_back(type) and not t.is_member(type.args[0]):
+        return "_"
     if t.leads_back(type):
         return f"(each_keys {t.n_of(type.args[0])}_keys (map (λ e. e.0) {x}.items))"
     return t.keys(type, x, "")
@@ -424,6 +451,8 @@ def held_meaning(it, type, x):
         return f"(box {held_meaning(it, type.args[0], f'{x}.value')})"
     if t.is_option(type):
         return "(case 0 no_value)" if x == "None" else f"(case_of 1 {held_meaning(it, type.args[0], something(x))})"
+    if t.leads_back(type) and not t.is_member(type.args[0]):
+        return "_"
     if t.leads_back(type):
         return f"(list (each_meaning {t.n_of(type.args[0])}_meaning (map (λ e. e.0) {x}.items)))"
     return t.meaning(type, x, "")

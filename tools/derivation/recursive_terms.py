@@ -4,21 +4,17 @@ A part is plain (a number, a text, another type that `tools/derive` wrote), the 
 is one at a value, which is a term itself: `meaning(type, "a0", m)`, where `m` is the meaning of the type itself.
 """
 
-from .formats import INTEGERS, snake
+from .formats import snake
+from .recursive_plain import Plain
 
-# Plain parts: shape, what a value means, what is read in its place, and which resolvers are its own.
-LEAVES = {
-    **{f"u{n}": (f"leaf (number_kind unsigned w{n})", "number (pos {x})") for n in (8, 16, 32, 64, 128)},
-    **{f"i{n}": (f"leaf (number_kind signed w{n})", "number {x}") for n in (8, 16, 32, 64, 128)},
-    "char": ("leaf char", "number (pos {x})"),
-}
 class Terms:
     """The terms of a recursive type. It gathers what a file has to bring in."""
 
     def __init__(self, declaration):
         self.declaration = declaration
         self.n = snake(declaration.name)
-        self.owns = {}  # a plain part's declaration, by its name
+        self.plain = Plain()
+        self.owns = self.plain.owns  # plain parts that `tools/derive` wrote
 
     def is_member(self, type):
         """Whether it is the type itself, or another of its family."""
@@ -39,30 +35,18 @@ class Terms:
         """Whether it is an option of a box that leads back."""
         return type.name == "Option" and self.leads_back(type)
 
-    def format_of(self, type):
-        self.owns[type.name] = type.own
-        return f"(format_of_{snake(type.name)}.ghosts)"
-
-    def source_of(self, type):
-        self.owns[type.name] = type.own
-        return f"(source_of_{snake(type.name)}.ghosts)"
-
     # ---- formats ----
 
     def shape(self, type):
         if self.is_member(type):
             return f"{self.n_of(type)}_shape"
-        if type.own is not None:
-            return f"{self.format_of(type)}.shape"
-        if type.name in LEAVES:
-            return f"({LEAVES[type.name][0]})"
-        if type.name == "String":
-            return "str"
+        if not self.leads_back(type):
+            return self.plain.shape(type)
         item = self.shape(type.args[0])
         return {"Box": f"(boxed (one {item}))", "Option": f"(option_shape {item})", "Vec": f"(vec {item})"}[type.name]
 
     def definitions(self, type):
-        return f"{self.n}_definitions" if self.leads_back(type) else "no_definition"
+        return f"{self.n}_definitions" if self.leads_back(type) else self.plain.definitions(type)
 
     # ---- values ----
 
@@ -73,12 +57,8 @@ class Terms:
     def meaning(self, type, x, m):
         if self.is_member(type):
             return f"({said(m, type)} {x})"
-        if type.own is not None:
-            return f"({self.source_of(type)}.meaning {x})"
-        if type.name in LEAVES:
-            return f"({LEAVES[type.name][1].format(x=x)})"
-        if type.name == "String":
-            return f"(text_value (string_bytes {x}))"
+        if not self.leads_back(type):
+            return self.plain.meaning(type, x)
         item = type.args[0]
         if type.name == "Box":
             return f"(box {self.meaning(item, f'{x}.value', m)})"
@@ -89,10 +69,8 @@ class Terms:
     def keys(self, type, x, k):
         if self.is_member(type):
             return f"({said(k, type)} {x})"
-        if type.own is not None:
-            return f"({self.source_of(type)}.keys {x})"
-        if type.name in LEAVES or type.name == "String":
-            return "[]"
+        if not self.leads_back(type):
+            return self.plain.keys(type, x)
         item = type.args[0]
         if type.name == "Box":
             return self.keys(item, f"{x}.value", k)
@@ -101,12 +79,8 @@ class Terms:
         return f"(each_keys {self.function('keys', item, k)} {x}.items)"
 
     def flat(self, type, x, r):
-        if type.own is not None:
-            return f"({self.source_of(type)}.flat {x} {r})"
-        if type.name in LEAVES:
-            return self.meaning(type, x, "")
-        if type.name == "String":
-            return f"(string_flat (string_bytes {x}) {r})"
+        if not self.leads_back(type):
+            return self.plain.flat(type, x, r)
         item = self.shape(type.args[0])
         if type.name == "Box":
             return f"(box (hole (to_pointee {r} (one {item}) 0)))"
@@ -115,12 +89,10 @@ class Terms:
         return f"(hole (to_pointee {r} (run {item}) (length {x}.items)))"
 
     def belongs(self, type, x, r):
-        if type.own is not None:
-            return f"({self.source_of(type)}.belongs {x} {r})"
-        if type.name in LEAVES or type.name in ("Box", "Option"):
+        if not self.leads_back(type):
+            return self.plain.belongs(type, x, r)
+        if type.name in ("Box", "Option"):
             return "⊤"
-        if type.name == "String":
-            return f"(length (string_bytes {x}) ≤ 1073741823)"
         return f"(length {x}.items ≤ 4294967295)"
 
     # ---- laws ----
@@ -129,30 +101,23 @@ class Terms:
         """A proof that the keys of a part are those that its meaning leads to, where each value of the type itself has the law beside it."""
         if self.is_member(type):
             return f"{x}.1"
-        if type.own is not None:
-            return f"(keyed_of_{snake(type.name)} {x})" if self.source_of(type) else ""
-        if type.name in LEAVES:
-            return "(number_keyed _)"
-        if type.name == "String":
-            return f"(text_keyed (string_bytes {x}))"
+        if not self.leads_back(type):
+            return self.plain.keyed(type, x)
         item = type.args[0]
         if type.name == "Box":
             return f"(box_keyed _ _ {self.keyed(item, f'{x}.value')})"
         if type.name == "Option":
             return "none_keyed" if x == "None" else f"(some_keyed _ _ {self.keyed(item, something(x))})"
-        n = self.n_of(item)
-        return f"(held_keyed {n}_keys {n}_meaning {x}.items)"
+        if not self.is_member(item):
+            return f"(held_each_keyed _ {self.said(item)} (λ e. {self.keyed(item, 'e')}) {x}.items)"
+        return f"(held_keyed {self.said(item)} {x}.items)"
 
     def planned(self, type, x, held):
         """A proof that there is a plan of a part; `held` where each value of the type itself has the law beside it."""
         if self.is_member(type):
             return f"{x}.1" if held else f"({self.n_of(type)}_planned {x})"
-        if type.own is not None:
-            return f"(planned_of_{snake(type.name)} {x})" if self.source_of(type) else ""
-        if type.name in LEAVES:
-            return "(leaf_planned no_definition _ _ [] _ refl)"
-        if type.name == "String":
-            return f"(string_planned no_definition [] (string_bytes {x}))"
+        if not self.leads_back(type):
+            return self.plain.planned(type, x)
         item = type.args[0]
         D, X = f"{self.n}_definitions", self.shape(item)
         if type.name == "Box":
@@ -162,10 +127,20 @@ class Terms:
         if type.name == "Option":
             k, m = (self.function(which, item, self.own(which)) for which in ("keys", "meaning"))
             return f"(option_planned {D} {X} {k} {m} (λ y. {self.planned(item, 'y', False)}) {x})"
-        n = self.n_of(item)
+        its = f"held_planned {self.said(item)} {D} {X} {x}.items"
+        if not self.is_member(item):
+            its = f"held_each_planned _ {self.said(item)} {D} {X} (λ e. {self.planned(item, 'e', True)}) {x}.items"
         if held:
-            return f"(vec_planned {D} {X} _ _ _ (run_region_planned {D} {X} _ _ _ (held_planned {n}_keys {n}_meaning {D} {X} {x}.items)))"
-        return f"(vec_planned {D} {X} _ _ _ (slice_planned {D} {X} {n}_keys {n}_meaning {n}_planned {x}.items))"
+            return f"(vec_planned {D} {X} _ _ _ (run_region_planned {D} {X} _ _ _ ({its})))"
+        return f"(vec_planned {D} {X} _ _ _ (slice_planned {D} {X} {self.said(item)} {self.plan(item)} {x}.items))"
+
+    def said(self, item):
+        """The keys and the meaning of the elements of a vector, as functions."""
+        return " ".join(self.function(which, item, self.own(which)) if not self.is_member(item) else self.own(which)[item.own.name] for which in ("keys", "meaning"))
+
+    def plan(self, item):
+        """The plan of each element of a vector, as a function."""
+        return f"{self.n_of(item)}_planned" if self.is_member(item) else f"(λ y. {self.planned(item, 'y', False)})"
 
     # ---- parts one after another ----
 
@@ -238,30 +213,38 @@ def something(x):
 
 PRELUDE = {
     "std.specs.Prelude": "ℕ List [] ◌++◌ ◌≡◌ ◌≤◌ refl pos length map string_bytes codes ⊤ Option None Some",
+    "archive_core.specs.Digits": "bool_byte",
+    "std.specs.Int.RustNames": "FitsSigned",
     "std.specs.Int": "w8 w16 w32 w64 w128",
     "std.proofs.Common": "ap subst sym ◌∙◌ inl inr",
-    "archive_core.specs.Definitions": "Definitions defines both no_definition HasLayout IsAlign NoOthers",
+    "archive_core.specs.Definitions": "Definitions defines both no_definition HasLayout IsAlign Knows NoOthers",
     "archive_core.specs.Denotes": "Naming",
     "archive_core.specs.Layout": "Layout",
     "archive_core.specs.NamedLayout": "name_has_layout name_reached",
     "archive_core.specs.PartsLayout": "IsRecord by_name knows_none",
     "archive_core.specs.Variants": "case_of",
     "archive_core.specs.VariantsLayout": "IsChoice is_recursive_choice",
-    "archive_core.specs.Shape": "Name Shape Parts Variants named choice parts boxed vec str one run leaf char unsigned signed part no_part variant no_variant",
+    "archive_core.specs.Shape": "Name Shape Parts Variants named choice parts boxed array vec str one run leaf bool char non_zero unsigned signed part no_part variant no_variant",
     "archive_core.specs.Value": "Value Values case product list box hole number value no_value text_value",
-    "archive_core.specs.Keyed": "case_keyed record_keyed nothing_keyed part_keyed number_keyed text_keyed box_keyed",
+    "archive_core.specs.Keyed": "each_keyed case_keyed record_keyed nothing_keyed part_keyed number_keyed text_keyed box_keyed",
     "archive_core.specs.Choices": "option_shape",
-    "archive_core.specs.Options": "option_keys option_meaning option_planned",
+    "archive_core.specs.Options": "option_keys option_meaning option_flat OptionBelongs option_keyed option_planned",
+    "archive_core.specs.Results": "result_keys result_meaning result_flat ResultBelongs result_keyed result_planned",
+    "archive_core.specs.ResultShapes": "result_shape",
+    "archive_core.specs.Arrays": "array_keys array_meaning array_keyed array_planned",
     "archive_core.specs.Planned": "leaf_planned string_planned",
     "archive_core.specs.PlannedOwners": "boxed_one_planned vec_planned run_region_planned slice_planned",
-    "archive_core.specs.PartsPlanned": "part_planned no_part_planned record_planned",
+    "archive_core.specs.PartsPlanned": "part_planned no_part_planned product_planned record_planned",
     "archive_core.specs.Plans": "HasPlan",
-    "archive_core.specs.Runs": "each_keys each_meaning HasRunPlan",
+    "archive_core.specs.Reads": "SchemaTable",
+    "archive_core.specs.SelfCheck.Laws": "IsCheckOf by_schema own_check",
+    "archive_core.specs.Runs": "each_keys each_meaning each_flat EachBelongs HasRunPlan",
     "archive_core.specs.Strings": "string_flat",
     "archive_core.specs.Writing": "IsKeyed to_pointee",
-    "archive_recursive.specs.Held": "member_has_layout knows_both each_mapped each_mapped_keys held_keyed held_planned variant_planned keyed_as planned_as",
-    "archive_recursive.specs.HeldOptions": "none_keyed some_keyed none_planned some_planned",
-    "archive_recursive.specs.Hollow": "option_at",
+    "archive_core.specs.Held": "member_has_layout knows_both each_mapped each_mapped_keys held_keyed held_planned variant_planned keyed_as planned_as",
+    "archive_core.specs.HeldLists": "each_alike each_alike_keys held_each_keyed held_each_planned",
+    "archive_core.specs.HeldOptions": "none_keyed some_keyed none_planned some_planned",
+    "archive_core.specs.Hollow": "option_at",
 }
 RENAMED = {"number_kind": ("archive_core.specs.Shape", "number")}
 

@@ -1,11 +1,13 @@
 """The impls of an enum without type parameters."""
 
+from . import compared
 from .common import (
     Source,
     archive_pointee,
     chain,
     deserialize,
     doc_lines,
+    in_turn,
     infix,
     kept_of,
     ok_arm,
@@ -111,6 +113,7 @@ def text(formats, declaration):
         read(choice),
         views(choice),
         seals(choice),
+        compared.choice(choice),
     ]
     return "\n".join(piece for piece in pieces if piece)
 
@@ -200,6 +203,7 @@ def archive(choice):
 
     arms = "".join(resolve_arm(choice, case) for case in choice.cases)
     laws = (choice.elim("", keyed), choice.elim("", planned))
+    told, calls = in_turn(f)
     brought = (f.law_lines() + choice.brought(own=choice.name, Kept=choice.resolver)).replace("\n\n    ghost", "\n    ghost")
     return f"""impl Archive for {choice.name} {{
 {brought}    type Archived = {choice.archived};
@@ -214,6 +218,7 @@ def archive(choice):
 
     ghost belongs = {{ λ v r. {choice.elim("v", belongs)} }};
 
+{told}
     ghost keyed = {{ {laws[0]} }};
 
     ghost planned = {{ {laws[1]} }};
@@ -223,7 +228,8 @@ def archive(choice):
         match self {{
 {arms}        }}
     }}
-}}
+
+{calls}}}
 """
 
 

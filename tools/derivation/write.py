@@ -1,4 +1,9 @@
-"""The text of the module that follows the marker of a file: the impls of its declarations."""
+"""The text of the module that follows the marker of a file: the impls of its declarations.
+
+What is written is nominal and closed: a struct without fields for the archived type, a resolver and check of its own, concrete impls. So a caller passes
+one constant for such a type; with a nest as `Check` or `Resolver`, a record of records of records is rejected ("the impls to pass for `i16: Ord` do not
+end, or are too many"). Shapes have no names, so no two definitions clash.
+"""
 
 import re
 

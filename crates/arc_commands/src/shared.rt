@@ -1,6 +1,6 @@
 //! Pairs of shared and weak pointers: records of two fields, each under a name of its own.
 
-ghost use Rattle.std.specs.Prelude.{◌≡◌, codes, length, OnOk, IfErr};
+ghost use Rattle.std.specs.Prelude.{◌≡◌, codes, length, OnOk, IfErr, None};
 ghost use Rattle.archive_core.specs.PartsLayout.{is_named_record};
 ghost use Rattle.archive_core.specs.SelfCheck.Laws.{by_schema};
 ghost use Rattle.archive_core.specs.Shape.{Name};
@@ -20,7 +20,7 @@ use archive_core::record::{resolve_record, serialize_record};
 use archive_core::self_check::BySchema;
 use archive_core::ser::Writer;
 use archive_core::slice::ArchivedSlice;
-use archive_core::traits::{Archive, Keys, Portable, Serialize};
+use archive_core::traits::{Archive, CopyOptimization, Keys, Portable, Serialize};
 use std::alloc::Global;
 use std::marker::PhantomData;
 use std::rc::Rc;
@@ -173,6 +173,8 @@ impl<A: Archive, B: Archive> Archive for TwoRcOf<A, B> {
 
     ghost belongs = { λ v r. ⟦<Parts<A, B> as SourceParts<Self>>⟧.belongs v r };
 
+    ghost in_bulk = { None };
+
     ghost keyed = { λ v. record_keyed (part_keyed (A.keyed v.first) (part_keyed (B.keyed v.second) nothing_keyed)) };
 
     ghost planned = { λ v. record_planned _ _ _ _ _ _ (is_named_record _ _ _) (part_planned _ _ _ _ (A.planned v.first)
@@ -190,6 +192,20 @@ impl<A: Archive, B: Archive> Archive for TwoRcOf<A, B> {
     {
         let Place { bytes, pos, .. } = place;
         resolve_record::<Self, Parts<A, B>, Self::Archived>(self, resolver, Place::new(pos, bytes))
+    }
+
+    #[inline(always)]
+    fn copy_optimization() -> CopyOptimization<Self> {
+        CopyOptimization::disable()
+    }
+
+    #[inline(always)]
+    fn serialize_copied<S: Writer + Keys>(
+        _values: &[Self],
+        _together: usize,
+        _serializer: &mut S,
+    ) -> Result<Option<usize>, Error> {
+        Ok(None)
     }
 }
 

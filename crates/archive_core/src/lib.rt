@@ -2,16 +2,18 @@
 #![tactic(auto)]
 
 pub mod api;
+pub mod compared;
 pub mod core_impls;
+pub mod fields;
 pub mod own;
 pub mod pooling;
 pub mod rc;
+pub mod recursive;
 pub mod seal;
 pub mod view;
 
 pub use archive_check::format::error;
 pub use archive_check::{context as validation, laws, self_check};
-pub use archive_fields::fields;
 pub use archive_schema::shape;
 pub use archive_types::{
     array, boxed, choice, compare, map, option, parts, place, primitive, record, rel_ptr, result,

@@ -17,6 +17,7 @@ mod nested;
 mod recursive;
 mod variants;
 
+pub use crate::recursive::choice_of;
 use archive_check::format::error::Error;
 use archive_check::format::expr::{Defs, Expr};
 use archive_check::self_check::SelfCheck;
@@ -30,7 +31,7 @@ use archive_types::traits::{
 use archive_types::view::RawView;
 pub use choices::{ArchivedChoice, NamedChoice};
 pub use nested::{FromNested, Nested, resolve_nested, serialize_nested};
-pub use recursive::{ArchivedRecursive, NamedRecursive, RecursiveChoice, choice_of};
+pub use recursive::{ArchivedRecursive, NamedRecursive, RecursiveChoice};
 use std::alloc::Global;
 use std::marker::PhantomData;
 pub use variants::{deserialize_variant, resolve_variant, serialize_variant};

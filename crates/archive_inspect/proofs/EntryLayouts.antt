@@ -1,5 +1,5 @@
 -- What an entry of a map takes, by its key and its value.
-use Rattle.std.proofs.Common.{◌≡◌, ℕ, refl, ap, ap₂, ◌∙◌, ◌+◌, ◌<◌, max, arith}
+use Rattle.std.proofs.Common.{◌≡◌, refl, ap, ap₂, ◌∙◌, ◌+◌, ◌<◌, max, arith}
 use Rattle.archive_check.specs.Shape.{Key, leaf_key, str_key, Shape, key_shape, entry_of}
 use Rattle.archive_check.specs.Layout.{Layouts, up, key_size, key_align, size_of, align_of}
 use Rattle.archive_check.proofs.Maps.Entries.{value_at}

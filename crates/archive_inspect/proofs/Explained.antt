@@ -1,5 +1,5 @@
 -- What a check of a whole buffer answers, as what is explained of it.
-use Rattle.std.proofs.Common.{◌≡◌, ◌≢◌, inl, inr, ⊎_elim, ap, ◌∙◌, subst, ℕ, pos, List, Result, Option, Some, None, Ok, Err}
+use Rattle.std.proofs.Common.{◌≡◌, ◌≢◌, inl, inr, ⊎_elim, ap, ◌∙◌, subst, ℕ, pos, List, Result, Option, None, Ok, Err}
 use Rattle.std.proofs.lemmas.Option.{IfSome_then}
 use Rattle.archive_inspect.specs.declared.explain.Explanation.{Explanation}
 use Rattle.archive_check.specs.declared.format.error.Error.{Error}

@@ -1,5 +1,5 @@
 -- What is refused where a way leads.
-use Rattle.std.proofs.Common.{◌≡◌, ◌≢◌, ℕ, zero, suc, ℤ, ◌+◌, ◌*◌, ◌%◌, ◌<◌, ◌≤◌, ◌^◌, max, pos, List, [], ◌∷◌, ◌++◌, length, refl, sym, ap, ◌∙◌, subst, arith, Option, Some, None, Bor}
+use Rattle.std.proofs.Common.{◌≡◌, ◌≢◌, ℕ, zero, suc, ℤ, ◌+◌, ◌*◌, ◌%◌, ◌<◌, ◌≤◌, ◌^◌, max, pos, List, [], ◌∷◌, ◌++◌, length, refl, sym, ap, ◌∙◌, subst, arith, Some, Bor}
 use Rattle.archive_check.specs.declared.format.error.Error.{Error}
 use Rattle.archive_check.specs.declared.format.error.Error.TheVariants.{LayoutTooLarge, InvalidSubtreePointer, UnalignedPointer, InvalidDiscriminant, InvalidUtf8, InvalidStringRepr, UnsortedKeys}
 use Rattle.archive_check.specs.declared.format.expr.Kind.{Kind as KindExpr}
@@ -17,11 +17,11 @@ use Rattle.archive_check.proofs.Tours.PartsInside.{up_le}
 use Rattle.archive_inspect.proofs.EntryLayouts.{entry_layout}
 use Rattle.archive_check.specs.Expressions.{kind_of}
 use Rattle.archive_check.specs.Value.{Pointer}
-use Rattle.archive_check.specs.Tour.{region_of, root_pointer, pointee_size, pointee_align}
+use Rattle.archive_check.specs.Tour.{root_pointer, pointee_size, pointee_align}
 use Rattle.archive_check.specs.Trail.{Fault, too_large, outside, unaligned, illegal, no_such_variant, no_text, no_string, unsorted}
 use Rattle.archive_check.specs.Words.Faults.{IsFor}
-use Rattle.archive_schema.specs.Schemas.{definitions_in, root_of, layout_of}
-use Rattle.archive_inspect.specs.Ways.{a_value, steps_key, RegionFails, fails_size, fails_range, fails_align, SharingFails, FailsAt, fails_leaf, fails_tag, fails_inline, fails_coded, fails_text, fails_region, fails_sharing, FaultBy, fault_there, fault_of_root, fault_of_order}
+use Rattle.archive_schema.specs.Schemas.{root_of, layout_of}
+use Rattle.archive_inspect.specs.Ways.{a_value, steps_key, RegionFails, fails_size, fails_range, fails_align, SharingFails, fails_leaf, fails_tag, fails_inline, fails_coded, fails_text, fails_region, fails_sharing, fault_there, fault_of_root, fault_of_order}
 use Rattle.archive_inspect.specs.Points.{end_of_way, Under, LeadsToPoint, EntryAmong, IsHeldBy, held_element, held_value, unit_layout, RegionTakes, RegionAligned, RegionIsLarge, RegionRefused, PointsFrom, points_from, LeafFails, TextFails, fails_elsewhere, fails_here, StringFails, TagFails, SharedAt, KeyFails, PointRefused, RefusedBy}
 
 no_steps : (xs : List RouteStep) → length xs ≡ 0 → xs ≡ []

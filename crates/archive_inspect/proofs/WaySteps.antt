@@ -1,5 +1,5 @@
 -- The steps that the program takes are by the rules of reading.
-use Rattle.std.proofs.Common.{◌≡◌, ◌≢◌, ℕ, zero, suc, ◌+◌, ◌*◌, ◌<◌, ◌≤◌, max, pos, ◌+ℤ◌, List, [], ◌∷◌, ◌++◌, length, get_or, refl, sym, ap, ap₂, ◌∙◌, subst, arith, Option, Some, None, option_map, slice_index, Vec, Global, Bor}
+use Rattle.std.proofs.Common.{◌≡◌, ◌≢◌, ℕ, suc, ◌+◌, ◌*◌, ◌<◌, max, pos, ◌+ℤ◌, List, [], ◌∷◌, ◌++◌, length, refl, sym, ap, ap₂, ◌∙◌, subst, arith, Some, None, option_map, slice_index, Bor}
 use Rattle.archive_inspect.specs.declared.route.RouteStep.{RouteStep}
 use Rattle.archive_inspect.specs.declared.route.RouteStep.TheVariants.{Part, Only, Variant, Element, Key as KeyStep, Value as ValueStep, Target, Text as TextStep}
 use Rattle.archive_inspect.specs.declared.ways.Point.{Point}
@@ -11,15 +11,15 @@ use Rattle.archive_check.specs.declared.format.layout.Layout.{Layout as RustLayo
 use Rattle.archive_check.specs.declared.format.expr.Key.{Key as KeyExpr}
 use Rattle.archive_schema.specs.declared.shape.Schema.{Schema as RustSchema}
 use Rattle.archive_check.specs.declared.format.expr.Expr.{Expr}
-use Rattle.archive_check.specs.Shape.{Name, Key, Flavor, Shape, parts, choice, array, boxed, vec, sorted_map, str, shared, weak, named, Pointee, one, run, text, Parts, no_part, part, Variants, variant_at, key_shape, entry_of, definition}
+use Rattle.archive_check.specs.Shape.{Name, Key, Flavor, Shape, parts, choice, array, boxed, vec, sorted_map, str, shared, weak, Pointee, one, run, text, Parts, no_part, part, Variants, variant_at, key_shape, entry_of}
 use Rattle.archive_check.specs.Layout.{Layout, layout, up, key_size, key_align, size_of, align_of}
-use Rattle.archive_check.specs.Expressions.{shape_of, shapes_in, variants_in, key_of, flavor_of}
+use Rattle.archive_check.specs.Expressions.{shape_of, shapes_in, key_of, flavor_of}
 use Rattle.archive_check.specs.Value.{Pointer}
-use Rattle.archive_check.specs.Reads.{SchemaTable, u32_at, i32_at, IsOutOfLine, decoded_length, pointer_at, map_at, string_at}
-use Rattle.archive_check.specs.Definitions.{Knows, HasLayout}
+use Rattle.archive_check.specs.Reads.{SchemaTable, u32_at, i32_at, IsOutOfLine, decoded_length, pointer_at, string_at}
+use Rattle.archive_check.specs.Definitions.{HasLayout}
 use Rattle.archive_schema.specs.Schemas.{definitions_in, root_of, layout_of}
 use Rattle.archive_inspect.proofs.EntryLayouts.{key_takes, entry_layout}
-use Rattle.archive_inspect.specs.Ways.{WayEnd, a_value, a_payload, a_text, IsPartNumbered, numbered_first, numbered_later, PointsBy, points_box, points_vec, points_map, points_string, points_shared, points_weak, StepsTo, steps_part, steps_variant, steps_payload, steps_only, steps_array, steps_element, steps_target, steps_text, steps_key, steps_value, LeadsBy, leads_root, leads_named, leads_on}
+use Rattle.archive_inspect.specs.Ways.{WayEnd, a_value, a_payload, a_text, IsPartNumbered, numbered_first, numbered_later, PointsBy, points_box, points_vec, points_map, points_string, points_shared, points_weak, steps_part, steps_variant, steps_payload, steps_only, steps_array, steps_element, steps_target, steps_text, steps_key, steps_value, LeadsBy, leads_root, leads_named, leads_on}
 use Rattle.archive_inspect.specs.Points.{end_of_way, pointed_of, pointed_order, pointer_told, IsRunAt, Under, MeantBy, means_itself, means_more, MeansEnd, means_value, means_so, MeansThere, EndsNext, EntrySizes, PartAmong, ElementAmong, EntryAmong, PointsFrom, points_from, StepsBetween, LeadsToPoint}
 
 -- the pointers that the program reads

@@ -1,9 +1,12 @@
+pub mod Described
 pub mod Explained
+pub mod Leaves
 pub mod Points
 pub mod Ways
 pub use Rattle.archive_check.specs.Archives
 pub use Rattle.archive_check.specs.Expressions
 pub use Rattle.archive_check.specs.declared.format.error.Error
+pub use Rattle.archive_schema.specs.declared.shape.Schema
 pub use Rattle.archive_schema.specs.Given
 pub use Rattle.archive_schema.specs.Schemas
 pub use Rattle.archive_check.specs.Definitions

@@ -1,5 +1,5 @@
 -- What the program keeps of a way that it goes: what it leads to, and pointers on it.
-use Rattle.std.specs.Prelude.{◌≡◌, ◌≢◌, ◌⊎◌, ℕ, suc, ℤ, ◌+◌, ◌*◌, ◌<◌, ◌≤◌, ◌^◌, pos, ◌+ℤ◌, List, slice_index, Option, Some, None, option_map, IsUtf8}
+use Rattle.std.specs.Prelude.{◌≡◌, ℕ, suc, ◌+◌, ◌*◌, ◌<◌, ◌≤◌, ◌^◌, pos, ◌+ℤ◌, List, ◌++◌, slice_index, Option, Some, None, option_map, IsUtf8}
 use Rattle.archive_check.specs.declared.format.error.Error.{Error}
 use Rattle.archive_check.specs.declared.format.expr.Kind.{Kind as KindExpr}
 use Rattle.archive_inspect.specs.declared.route.RouteStep.{RouteStep}
@@ -117,6 +117,10 @@ pub data PointsFrom (bytes : List ℕ) (a : Point) (P : Pointer) : Type 0 where
 -- the steps lead there from the root
 abbrev pub LeadsToPoint : RustSchema → List ℕ → ℕ → List RouteStep → Point → Type 0
 LeadsToPoint f bytes root steps a = Under f (λ s. LeadsBy s bytes root (root_of f) steps a.at (end_of_way a.thing))
+
+-- The steps lead on from one point to another: whatever way leads to the first, goes on by them to the second.
+abbrev pub LeadsOn : RustSchema → List ℕ → Point → List RouteStep → Point → Type 0
+LeadsOn f bytes a steps b = (root : ℕ) (before : List RouteStep) → LeadsToPoint f bytes root before a → LeadsToPoint f bytes root (before ++ steps) b
 
 -- what each element of a pointee takes: a text is of single bytes
 abbrev pub unit_layout : SchemaTable → Pointee → Layout

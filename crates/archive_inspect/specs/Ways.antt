@@ -1,5 +1,5 @@
 -- Ways through an archive: from its root to what lies in it, each step a rule of reading; and which test is false where a way leads.
-use Rattle.std.specs.Prelude.{◌≡◌, ◌≢◌, ◌⊎◌, ℕ, suc, ◌+◌, ◌*◌, ◌%◌, ◌<◌, ◌≤◌, ◌^◌, pos, List, [], ◌∷◌, ◌++◌, slice_index, Option, Some, None, false, IsUtf8}
+use Rattle.std.specs.Prelude.{◌≡◌, ◌≢◌, ℕ, suc, ◌+◌, ◌*◌, ◌%◌, ◌<◌, ◌≤◌, ◌^◌, pos, List, [], ◌∷◌, ◌++◌, slice_index, Some, None, false, IsUtf8}
 use Rattle.std.specs.Borrow.{Bor}
 use Rattle.archive_inspect.specs.declared.route.RouteStep.{RouteStep}
 use Rattle.archive_inspect.specs.declared.route.RouteStep.TheVariants.{Part, Only, Variant, Element, Key as KeyStep, Value as ValueStep, Target, Text as TextStep}

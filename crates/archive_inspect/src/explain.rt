@@ -8,6 +8,7 @@ ghost use Rattle.archive_schema.specs.Schemas.{IsSchemaOf, definitions_in, root_
 
 use crate::form::Form;
 use crate::route::{Route, route_of};
+use crate::text::parse;
 use crate::walk::Walker;
 use crate::walk::faults::{FirstFault, Stop};
 use crate::ways::faults::is_refused_by;
@@ -62,8 +63,8 @@ pub fn explain(alloc: Global, form: &Form, bytes: &[u8]) -> Result<Option<Explan
 }
 
 /// Why the bytes are no archive of a `T` whose root lies at their end: none if they are one. The
-/// refusal is that of `access`. Parts and variants have numbers for names in the way: `explain` by
-/// the form of a text, as of the declaration of `T`, has their names.
+/// refusal is that of `access`. Parts and variants have numbers for names in the way: `explain_by`
+/// has their names.
 ///
 /// Errors:
 /// - `OutOfMemory`: memory from `alloc` is refused.
@@ -74,6 +75,41 @@ pub fn explain_as<T: Portable>(alloc: Global, bytes: &[u8]) -> Result<Option<Exp
     ensures refused { IfErr result (λ e. ExplainsNoSchema T.shape T.definitions e) }
 {
     let form = Form::of::<T>(alloc)?;
+    explained_as::<T>(alloc, form, bytes)
+}
+
+/// The same with the names of a text, such as `tools/derive` writes of a type by `// text: NAME`.
+/// If the text isn't one of `T`, the way has numbers.
+///
+/// Errors: as `explain_as` has them.
+pub fn explain_by<T: Portable>(
+    alloc: Global,
+    text: &str,
+    bytes: &[u8],
+) -> Result<Option<Explanation>, Error>
+    ensures explained { IfOk result (ExplainsBuffer T.definitions bytes.now
+        (root_in bytes.now T.layout) T.shape) }
+    ensures refused { IfErr result (λ e. ExplainsNoSchema T.shape T.definitions e) }
+{
+    let form = Form::of::<T>(alloc)?;
+    match parse(alloc, text) {
+        Ok(written) => explained_as::<T>(alloc, form.with_names_of(written), bytes),
+        Err(error) if error.is_out_of_memory() => Err(Error::OutOfMemory),
+        Err(_) => explained_as::<T>(alloc, form, bytes),
+    }
+}
+
+// What is explained by a form of `T`.
+fn explained_as<T: Portable>(
+    alloc: Global,
+    form: Form,
+    bytes: &[u8],
+) -> Result<Option<Explanation>, Error>
+    requires { IsSchemaOf form.schema T.shape T.definitions }
+    ensures explained { IfOk result (ExplainsBuffer T.definitions bytes.now
+        (root_in bytes.now T.layout) T.shape) }
+    ensures refused { IfErr result (λ e. ExplainsNoSchema T.shape T.definitions e) }
+{
     let answer = check_as::<T>(alloc, &form, bytes);
     let root = root_position::<T>(bytes.len());
     let explanation = explained(alloc, &form, bytes, root, answer)?;

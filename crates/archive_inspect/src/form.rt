@@ -83,6 +83,23 @@ impl Form {
         }
     }
 
+    /// The same form with the names of another one, if both have one schema.
+    pub fn with_names_of(self, other: Form) -> Form
+        ensures { result.schema ≡ self.schema }
+    {
+        if !self.has_schema_of(&other) {
+            return self;
+        }
+        let Form { labels, types, .. } = other;
+        self.with_labels(labels, types)
+    }
+
+    // Whether both have one root and the same definitions.
+    fn has_schema_of(&self, other: &Form) -> bool {
+        self.schema.root() == other.schema.root()
+            && are_same(self.schema.definitions(), other.schema.definitions())
+    }
+
     /// The schema.
     pub fn schema(&self) -> &Schema
         ensures { result.now ≡ self.now.schema }
@@ -136,6 +153,10 @@ impl Form {
         }
         None
     }
+}
+
+fn are_same<T: PartialEq>(one: &[T], other: &[T]) -> bool {
+    one == other
 }
 
 // The expression that a name stands for.

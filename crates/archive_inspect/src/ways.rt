@@ -2,15 +2,15 @@
 //! leads to the fault.
 
 ghost use Rattle.std.specs.Prelude.{◌≡◌, IfSome};
-ghost use Rattle.archive_inspect.specs.Points.{MeansThere, LeadsToPoint};
+ghost use Rattle.archive_inspect.specs.Points.{MeansThere, LeadsOn, LeadsToPoint};
 
 pub mod entries;
 pub mod faults;
-mod kinds;
-mod layouts;
+pub mod kinds;
+pub mod layouts;
 pub mod pointing;
-mod regions;
-mod steps;
+pub mod regions;
+pub mod steps;
 
 use crate::form::Form;
 use crate::route::RouteStep;
@@ -53,7 +53,24 @@ fn meant<'a>(form: &'a Form, point: Point<'a>) -> Point<'a>
     }
 }
 
-/// Where the steps lead from a root: none if one of them isn't by the rules of reading.
+/// Where the steps lead from a point: none if one of them isn't by the rules of reading.
+pub fn follow_from<'a>(
+    form: &'a Form,
+    bytes: &[u8],
+    start: Point<'a>,
+    steps: &[RouteStep],
+) -> Option<Point<'a>>
+    ensures { IfSome result (LeadsOn form.now.schema bytes.now start.entry steps.now) }
+{
+    let mut point = start;
+    for step in steps {
+        let next = step_from(form, bytes, point, *step)?;
+        point = meant(form, next);
+    }
+    Some(point)
+}
+
+/// Where the steps lead from a root.
 pub fn follow<'a>(
     form: &'a Form,
     bytes: &[u8],
@@ -66,10 +83,5 @@ pub fn follow<'a>(
         at: root,
         thing: Thing::Value(form.schema().root()),
     };
-    let mut point = meant(form, start);
-    for step in steps {
-        let next = step_from(form, bytes, point, *step)?;
-        point = meant(form, next);
-    }
-    Some(point)
+    follow_from(form, bytes, meant(form, start), steps)
 }

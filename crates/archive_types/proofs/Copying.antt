@@ -2,3 +2,4 @@
 pub mod Copies
 pub mod ArrayCopies
 pub mod CopiedLeaves
+pub mod BulkWritten

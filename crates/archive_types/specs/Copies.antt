@@ -1,5 +1,5 @@
 -- Values that are copied: each owns nothing, and has its bytes wherever it stands. What copying them appends, and why it is refused.
-use Rattle.std.specs.Prelude.{◌≡◌, ◌⊎◌, ℕ, ◌+◌, ◌*◌, ◌^◌, ◌<◌, ◌≤◌, List, [], ◌∷◌, ◌++◌, length, replicate, IfSome}
+use Rattle.std.specs.Prelude.{◌≡◌, ◌⊎◌, ℕ, zero, suc, Option, None, Some, ◌+◌, ◌*◌, ◌^◌, ◌<◌, ◌≤◌, List, [], ◌∷◌, ◌++◌, length, replicate, IfSome}
 use Rattle.archive_check.specs.Shape.{Shape}
 use Rattle.archive_check.specs.Layout.{Layout}
 use Rattle.archive_check.specs.Definitions.{Definitions}
@@ -19,6 +19,12 @@ use Rattle.archive_types.specs.Runs.{each_meaning}
 abbrev pub each_bytes : {A : Type 0} → (A → List ℕ) → List A → List ℕ
 each_bytes b [] = []
 each_bytes b (x ∷ xs) = b x ++ each_bytes b xs
+
+-- arrays of so many bytes are written in bulk as their elements are, if they have any
+abbrev pub array_in_bulk : {A : Type 0} → ℕ → Option (A → List ℕ) → Option (List A → List ℕ)
+array_in_bulk zero b = None
+array_in_bulk (suc n) None = None
+array_in_bulk (suc n) (Some b) = Some (each_bytes b)
 
 -- these bytes, so many, read as the value wherever they stand
 pub record IsCopied (D : Definitions) (X : Shape) (size : ℕ) (v : Value) (bytes : List ℕ) : Type 0 where
@@ -67,6 +73,11 @@ IsUnwritten end old new = Explains (λ e. ⊥) (λ n. n ≤ end) old new
 -- Why a copy that goes up to an end was refused: the end is above `usize::MAX`, or the bytes weren't written.
 abbrev pub IsCopyRefused : ℕ → WriterState → WriterState → Error → Type 0
 IsCopyRefused end old new = Explains (λ e. (e ≡ LayoutTooLarge) × (2 ^ 64 ≤ end)) (λ n. n ≤ end) old new
+
+-- Why the values of a slice aren't copied: their number, which a pointer can't say, or an end above `usize::MAX`; or they weren't written.
+abbrev pub IsSliceRefused : Layout → ℕ → ℕ → WriterState → WriterState → Error → Type 0
+IsSliceRefused L count p old new = Explains (λ e. ((e ≡ LengthTooLarge) × (4294967295 < count)) ⊎ ((e ≡ LayoutTooLarge) × (2 ^ 64 ≤ copies_to L count p)))
+    (λ n. n ≤ copies_to L count p) old new
 
 -- Why copies aren't written as a vector's elements: a length or a position that a pointer can't say, or an end above `usize::MAX`.
 abbrev pub HindersCopies : Layout → ℕ → ℕ → Error → Type 0

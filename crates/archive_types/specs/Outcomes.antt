@@ -87,7 +87,8 @@ pub record CopiesElements {T M S : Type 0} (keys : T → List Naming) (meaning :
   pub in_bulk : IfOk result (λ o. IfSome o (λ p. (p ≡ copies_from f.layout (length (k.state w.entry.now).bytes))
       × AreCopied f.definitions f.shape f.layout keys meaning xs (k.state w.entry.now) (k.state w.exit.now)))
   pub untouched : IfOk result (λ o. o ≡ None → k.state w.exit.now ≡ k.state w.entry.now)
-  pub goes_on : GoesOn (k.state w.entry.now) (k.state w.exit.now)
+  pub goes_on : IfOk result (λ o. IfSome o (λ p. GoesOn (k.state w.entry.now) (k.state w.exit.now)))
+  pub fails_on : IfErr result (λ e. GoesOn (k.state w.entry.now) (k.state w.exit.now))
   pub refused : IfErr result (IsRegionRefused f.definitions (run f.shape) (length xs) (each_keys keys xs) (list (each_meaning meaning xs)) (k.state w.entry.now) (k.state w.exit.now))
   pub not_in_bulk : IfErr result (λ e. EachOwnsNothing f.definitions f.shape keys meaning xs
       × IsCopyRefused (copies_to f.layout (length xs) (length (k.state w.entry.now).bytes)) (k.state w.entry.now) (k.state w.exit.now) e)

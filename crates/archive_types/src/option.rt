@@ -1,6 +1,6 @@
 //! Options: how they are archived, viewed and read back.
 
-ghost use Rattle.std.specs.Prelude.{◌≡◌, ◌+◌, ◌<◌, length, slice_index, OnOk, IfOk, IfErr, IfSome, MatchOption, refl};
+ghost use Rattle.std.specs.Prelude.{◌≡◌, ◌+◌, ◌<◌, length, slice_index, OnOk, IfOk, IfErr, IfSome, MatchOption, refl, None};
 ghost use Rattle.archive_check.specs.Shape.{one};
 ghost use Rattle.archive_check.specs.Viewed.{Viewed};
 ghost use Rattle.archive_check.specs.Entries.{ReadsBack, RefusesReading};
@@ -17,8 +17,8 @@ ghost use Rattle.archive_types.specs.Outcomes.{ResolvesAs};
 use crate::place::Place;
 use crate::ser::serialize_one;
 use crate::traits::{
-    Archive, ArchivePointee, ArchiveUnsized, Deserialize, Entries, Keys, Portable, Serialize,
-    SerializeUnsized,
+    Archive, ArchivePointee, ArchiveUnsized, CopyOptimization, Deserialize, Entries, Keys,
+    Portable, Serialize, SerializeUnsized,
 };
 use crate::variants::resolve_case;
 use crate::view::{RawView, Ref};
@@ -40,6 +40,8 @@ impl<T: Archive> Archive for Option<T> {
     ghost keys = { option_keys T.keys };
 
     ghost belongs = { OptionBelongs T.belongs };
+
+    ghost in_bulk = { None };
 
     ghost keyed = { option_keyed T.keys T.meaning T.keyed };
 
@@ -65,6 +67,20 @@ impl<T: Archive> Archive for Option<T> {
             unreachable!();
         };
         resolve_case(1, value, resolver, pos, bytes)
+    }
+
+    #[inline(always)]
+    fn copy_optimization() -> CopyOptimization<Self> {
+        CopyOptimization::disable()
+    }
+
+    #[inline(always)]
+    fn serialize_copied<S: Writer + Keys>(
+        _values: &[Self],
+        _together: usize,
+        _serializer: &mut S,
+    ) -> Result<Option<usize>, Error> {
+        Ok(None)
     }
 }
 

@@ -1,6 +1,6 @@
 // `PhantomData`: a record of nothing.
 
-ghost use Rattle.std.specs.Prelude.{◌≡◌, ⊤, refl, [], length, IfOk, OnOk, IfErr, IsOk};
+ghost use Rattle.std.specs.Prelude.{◌≡◌, ⊤, refl, [], length, IfOk, OnOk, IfErr, IsOk, Some};
 ghost use Rattle.archive_check.specs.Shape.{one, parts, no_part};
 ghost use Rattle.archive_check.specs.Definitions.{no_definition};
 ghost use Rattle.archive_check.specs.Entries.{ReadsBack};
@@ -43,6 +43,8 @@ impl<T> Archive for PhantomData<T> {
     ghost keys = { λ _. [] };
 
     ghost belongs = { λ _ _. ⊤ };
+
+    ghost in_bulk = { Some (λ _. []) };
 
     ghost keyed = { λ _. empty_product_keyed };
 

@@ -1,6 +1,6 @@
 //! Results: how they are archived, viewed and read back.
 
-ghost use Rattle.std.specs.Prelude.{◌≡◌, ◌+◌, ◌<◌, length, slice_index, OnOk, IfOk, IfErr, MatchResult, IfSome, MatchOption, refl};
+ghost use Rattle.std.specs.Prelude.{◌≡◌, ◌+◌, ◌<◌, length, slice_index, OnOk, IfOk, IfErr, MatchResult, IfSome, MatchOption, refl, None};
 ghost use Rattle.archive_check.specs.Shape.{one};
 ghost use Rattle.archive_check.specs.Definitions.{both};
 ghost use Rattle.archive_check.specs.Viewed.{Viewed};
@@ -17,8 +17,8 @@ ghost use Rattle.archive_types.specs.Outcomes.{ResolvesAs};
 use crate::place::Place;
 use crate::ser::serialize_one;
 use crate::traits::{
-    Archive, ArchivePointee, ArchiveUnsized, Deserialize, Entries, Keys, Portable, Serialize,
-    SerializeUnsized,
+    Archive, ArchivePointee, ArchiveUnsized, CopyOptimization, Deserialize, Entries, Keys,
+    Portable, Serialize, SerializeUnsized,
 };
 use crate::variants::resolve_case;
 use crate::view::{RawView, Ref};
@@ -40,6 +40,8 @@ impl<T: Archive, E: Archive> Archive for Result<T, E> {
     ghost keys = { result_keys T.keys E.keys };
 
     ghost belongs = { ResultBelongs T.belongs E.belongs };
+
+    ghost in_bulk = { None };
 
     ghost keyed = { result_keyed T.keys E.keys T.meaning E.meaning T.keyed E.keyed };
 
@@ -70,6 +72,20 @@ impl<T: Archive, E: Archive> Archive for Result<T, E> {
                 resolve_case(1, error, resolver, pos, bytes)
             }
         }
+    }
+
+    #[inline(always)]
+    fn copy_optimization() -> CopyOptimization<Self> {
+        CopyOptimization::disable()
+    }
+
+    #[inline(always)]
+    fn serialize_copied<S: Writer + Keys>(
+        _values: &[Self],
+        _together: usize,
+        _serializer: &mut S,
+    ) -> Result<Option<usize>, Error> {
+        Ok(None)
     }
 }
 

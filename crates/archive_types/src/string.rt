@@ -1,6 +1,6 @@
 //! Strings and texts.
 
-ghost use Rattle.std.specs.Prelude.{◌≡◌, ◌++◌, ◌+◌, ◌<◌, ◌≤◌, ℕ, [], OnOk, IfOk, IfErr, IsOk, IsErrOf, FitsSigned, length, refl, string_bytes};
+ghost use Rattle.std.specs.Prelude.{◌≡◌, ◌++◌, ◌+◌, ◌<◌, ◌≤◌, ℕ, [], OnOk, IfOk, IfErr, IsOk, IsErrOf, FitsSigned, length, refl, string_bytes, None};
 ghost use Rattle.std.specs.Int.{w32};
 ghost use Rattle.std.proofs.Common.{inl, inr};
 ghost use Rattle.archive_check.specs.Shape.{str as str_shape, str_key, boxed, one, text};
@@ -39,8 +39,8 @@ use crate::place::Place;
 use crate::primitive::ArchivedUsize;
 use crate::ser::serialize_one;
 use crate::traits::{
-    Archive, ArchivePointee, ArchiveUnsized, Deserialize, DeserializeUnsized, Entries, Keys,
-    LayoutRaw, MapKey, Portable, PortablePointee, Serialize, SerializeUnsized,
+    Archive, ArchivePointee, ArchiveUnsized, CopyOptimization, Deserialize, DeserializeUnsized,
+    Entries, Keys, LayoutRaw, MapKey, Portable, PortablePointee, Serialize, SerializeUnsized,
 };
 use crate::view::{RawView, Ref};
 use archive_check::format::error::Error;
@@ -329,6 +329,8 @@ impl Archive for String {
 
     ghost belongs = { λ s _. length (string_bytes s) ≤ 1073741823 };
 
+    ghost in_bulk = { None };
+
     ghost keyed = { λ s. text_keyed (string_bytes s) };
 
     ghost planned = { λ s. string_planned no_definition [] (string_bytes s) };
@@ -349,6 +351,20 @@ impl Archive for String {
     {
         let Place { bytes, pos, .. } = place;
         ArchivedString::resolve_from_str(self.as_str(), resolver, Place::new(pos, bytes))
+    }
+
+    #[inline(always)]
+    fn copy_optimization() -> CopyOptimization<Self> {
+        CopyOptimization::disable()
+    }
+
+    #[inline(always)]
+    fn serialize_copied<S: Writer + Keys>(
+        _values: &[Self],
+        _together: usize,
+        _serializer: &mut S,
+    ) -> Result<Option<usize>, Error> {
+        Ok(None)
     }
 }
 

@@ -1,7 +1,7 @@
 //! What is archived and how, and what is read back. The traits are those of rkyv 0.8.18; their laws are our own.
 
 ghost use Rattle.archive_check.specs.Denotes.{Naming};
-ghost use Rattle.std.specs.Prelude.{◌≡◌, ◌<◌, ◌≤◌, ℕ, length, IfOk, OnOk, IfErr, IfSome, IsErr, List, [], None, false};
+ghost use Rattle.std.specs.Prelude.{◌≡◌, ◌<◌, ◌≤◌, ◌↔◌, ℕ, length, Option, IfOk, OnOk, IfErr, IfSome, IsErr, IsSome, IsTrue, List, [], None, false};
 ghost use Rattle.std.specs.Vec.{vec_len, vec_capacity};
 ghost use Rattle.archive_check.specs.Entries.{ReadsBack, RefusesReading};
 ghost use Rattle.archive_check.specs.Layout.{has_length};
@@ -9,6 +9,7 @@ ghost use Rattle.archive_check.specs.Shape.{run};
 ghost use Rattle.archive_check.specs.Value.{Value, list};
 ghost use Rattle.archive_check.specs.Viewed.{Viewed};
 ghost use Rattle.archive_check.specs.declared.format.error.Error.TheVariants.{LengthTooLarge};
+ghost use Rattle.archive_types.specs.Words.CopiesWritten.{CopiesInBulk};
 ghost use Rattle.archive_types.specs.Words.Placed.{IsPlanned};
 ghost use Rattle.archive_types.specs.Words.Seen.{IsPartOf, RefusesPart, ReadsView, RefusesView};
 ghost use Rattle.archive_types.specs.Causes.{HindersAt, IsRefused, IsRegionRefused};
@@ -72,6 +73,9 @@ pub trait Archive {
     // The resolver is one of this value.
     ghost belongs: { Self → Self.Resolver → Type 0 };
 
+    // Where slices of such values are written in bulk: the bytes of each value. Most are not.
+    ghost in_bulk: { Option (Self → List ℕ) };
+
     /// Writes the value's own bytes over `place`. The caller must ensure that these are zeros, as
     /// many as the archived type has, that their end fits `usize`, and that `resolver` is one of
     /// this value.
@@ -88,26 +92,23 @@ pub trait Archive {
         requires same_value { belongs self.now resolver }
         ensures { ResolvesAs Self.Archived.Portable place (flat self.now resolver) result };
 
-    /// Whether slices of such values are written in bulk, by `serialize_copied`. Off by default. As in rkyv 0.8.18, where it is a constant.
-    #[inline(always)]
-    fn copy_optimization() -> CopyOptimization<Self> {
-        CopyOptimization::disable()
-    }
+    /// Whether slices of such values are written in bulk, by `serialize_copied`. As in rkyv 0.8.18,
+    /// where it is a constant.
+    fn copy_optimization() -> CopyOptimization<Self>
+        ensures { IsTrue result.is_enabled ↔ IsSome in_bulk };
 
     /// Writes `values` in bulk as a region, `together` of them always in one piece, and returns its
-    /// position in bytes, or `None` if it wrote nothing, as by default. A `Copied` type implements
-    /// it by `slice::copy_groups`. Fails as `copy_slice` does.
-    #[tactic(auto, using(crate::proofs::Planning::Causes::goes_nowhere))]
-    #[inline(always)]
+    /// position in bytes, or `None` if it wrote nothing. A `Copied` type implements it by
+    /// `slice::copy_groups`, others return `None`. Fails as `copy_slice` does.
     fn serialize_copied<S: Writer + Keys>(
-        _values: &[Self],
-        _together: usize,
-        _serializer: &mut S,
+        values: &[Self],
+        together: usize,
+        serializer: &mut S,
     ) -> Result<Option<usize>, Error>
-        ensures { CopiesElements keys meaning Self.Archived.Portable _values.now S.Keys _serializer result }
-    {
-        Ok(None)
-    }
+        ensures outcome { CopiesElements keys meaning Self.Archived.Portable values.now S.Keys serializer
+            result }
+        ensures exact { CopiesInBulk in_bulk together Self.Archived.layout values.now S.Keys serializer
+            S.takes_memory result };
 
     // Its keys are those that its meaning leads to.
     ghost keyed: { (v : Self) → IsKeyed (keys v) (meaning v) };

@@ -1,7 +1,7 @@
 //! A record of three fields of any types, archived under the name of its format: what rkyv's derive would write for each struct. With the fields'
 //! types as parameters it is proved once for all of them.
 
-ghost use Rattle.std.specs.Prelude.{◌≡◌, length, OnOk, IfErr};
+ghost use Rattle.std.specs.Prelude.{◌≡◌, length, OnOk, IfErr, None};
 ghost use Rattle.archive_core.specs.PartsLayout.{is_named_record};
 ghost use Rattle.archive_core.specs.Value.{product};
 ghost use Rattle.archive_core.specs.Keyed.{nothing_keyed, part_keyed, record_keyed};
@@ -15,7 +15,7 @@ use archive_core::parts::SourceParts;
 use archive_core::place::Place;
 use archive_core::record::{resolve_record, serialize_record};
 use archive_core::ser::Writer;
-use archive_core::traits::{Archive, ArchivePointee, Keys, Portable, Serialize};
+use archive_core::traits::{Archive, ArchivePointee, CopyOptimization, Keys, Portable, Serialize};
 use std::marker::PhantomData;
 
 /// A record of three fields, whose archived form has the name and the parts of `F`.
@@ -91,6 +91,8 @@ impl<
 
     ghost belongs = { λ v r. ⟦<Fields<A, B, C> as SourceParts<RecordOf<F, A, B, C>>>⟧.belongs v r };
 
+    ghost in_bulk = { None };
+
     ghost keyed = { λ v. record_keyed (part_keyed (A.keyed v.first) (part_keyed (B.keyed v.second) (part_keyed (C.keyed v.third) nothing_keyed))) };
 
     ghost planned = { λ v. record_planned _ _ _ _ _ _ (is_named_record _ _ _) (part_planned _ _ _ _ (A.planned v.first)
@@ -113,6 +115,20 @@ impl<
             resolver,
             Place::new(pos, bytes),
         )
+    }
+
+    #[inline(always)]
+    fn copy_optimization() -> CopyOptimization<Self> {
+        CopyOptimization::disable()
+    }
+
+    #[inline(always)]
+    fn serialize_copied<S: Writer + Keys>(
+        _values: &[Self],
+        _together: usize,
+        _serializer: &mut S,
+    ) -> Result<Option<usize>, Error> {
+        Ok(None)
     }
 }
 

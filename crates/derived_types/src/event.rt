@@ -38,7 +38,7 @@ ghost use Rattle.archive_core.specs.Sources.{Read};
 ghost use Rattle.archive_core.specs.Value.{case, no_value, value};
 ghost use Rattle.archive_core.specs.Writing.{ZeroedPlace};
 ghost use Rattle.std.proofs.Common.{inl, inr, lit≤};
-ghost use Rattle.std.specs.Prelude.{IfErr, IfOk, [], codes, refl, string_bytes, true, ℕ, ◌++◌, ◌+◌, ◌≡◌};
+ghost use Rattle.std.specs.Prelude.{IfErr, IfOk, None, [], codes, refl, string_bytes, true, ℕ, ◌++◌, ◌+◌, ◌≡◌};
 
 use archive_core::error::Error;
 use archive_core::fields::{
@@ -53,8 +53,8 @@ use archive_core::ser::{ResolverAlloc, Writer, serialize_one};
 use archive_core::shape::{Defs, Expr};
 use archive_core::string::ArchivedString;
 use archive_core::traits::{
-    Archive, ArchivePointee, ArchiveUnsized, Choice, Deserialize, Entries, Portable, Serialize,
-    SerializeUnsized, expr_of_choice,
+    Archive, ArchivePointee, ArchiveUnsized, Choice, CopyOptimization, Deserialize, Entries, Keys,
+    Portable, Serialize, SerializeUnsized, expr_of_choice,
 };
 use archive_core::validation::ArchiveContext;
 use archive_core::vec::ArchivedVec;
@@ -289,6 +289,8 @@ impl Archive for Event {
       ]
     ] };
 
+    ghost in_bulk = { None };
+
     ghost keyed = { elim [
       | EventQuit ↦ case_keyed _ 0 _ nothing_keyed
       | EventKey a0 ↦ case_keyed _ 1 _ (part_keyed (number_keyed _) nothing_keyed)
@@ -367,6 +369,20 @@ impl Archive for Event {
                 resolve_case_1::<Vec<u32>, ArchivedEvent>(4, a0, kept, Place::new(pos, bytes))
             }
         }
+    }
+
+    #[inline(always)]
+    fn copy_optimization() -> CopyOptimization<Self> {
+        CopyOptimization::disable()
+    }
+
+    #[inline(always)]
+    fn serialize_copied<S: Writer + Keys>(
+        _values: &[Self],
+        _together: usize,
+        _serializer: &mut S,
+    ) -> Result<Option<usize>, Error> {
+        Ok(None)
     }
 }
 

@@ -81,7 +81,7 @@ ghost use Rattle.archive_core.specs.Sources.{Read};
 ghost use Rattle.archive_core.specs.Value.{list, no_value, product, text_value, value};
 ghost use Rattle.archive_core.specs.Writing.{ZeroedPlace};
 ghost use Rattle.std.proofs.Common.{inl, inr, lit≤};
-ghost use Rattle.std.specs.Prelude.{IfErr, IfOk, [], length, refl, string_bytes, true, ◌++◌, ◌+◌, ◌≡◌};
+ghost use Rattle.std.specs.Prelude.{IfErr, IfOk, None, [], length, refl, string_bytes, true, ◌++◌, ◌+◌, ◌≡◌};
 
 use crate::pair::ArchivedPair;
 use crate::spot::ArchivedSpot;
@@ -107,8 +107,8 @@ use archive_core::shape::{Defs, Expr};
 use archive_core::slice::ArchivedSlice;
 use archive_core::string::{ArchivedStr, ArchivedString};
 use archive_core::traits::{
-    Archive, ArchivePointee, ArchiveUnsized, Deserialize, Entries, Portable, Record, Serialize,
-    SerializeUnsized, expr_of_record,
+    Archive, ArchivePointee, ArchiveUnsized, CopyOptimization, Deserialize, Entries, Keys,
+    Portable, Record, Serialize, SerializeUnsized, expr_of_record,
 };
 use archive_core::validation::ArchiveContext;
 use archive_core::vec::ArchivedVec;
@@ -280,6 +280,8 @@ impl Archive for Numbers {
         × (⟦<bool as Archive>⟧.belongs v.so r.kept.1.1.1.1.0
         × (⟦<() as Archive>⟧.belongs v.nothing r.kept.1.1.1.1.1.0 × Unit {0}))))) };
 
+    ghost in_bulk = { None };
+
     ghost keyed = { λ v. record_keyed (part_keyed (number_keyed _)
         (part_keyed (number_keyed _) (part_keyed (number_keyed _)
         (part_keyed (number_keyed _) (part_keyed (number_keyed _)
@@ -329,6 +331,20 @@ impl Archive for Numbers {
             kept,
             Place::new(pos, bytes),
         )
+    }
+
+    #[inline(always)]
+    fn copy_optimization() -> CopyOptimization<Self> {
+        CopyOptimization::disable()
+    }
+
+    #[inline(always)]
+    fn serialize_copied<S: Writer + Keys>(
+        _values: &[Self],
+        _together: usize,
+        _serializer: &mut S,
+    ) -> Result<Option<usize>, Error> {
+        Ok(None)
     }
 }
 
@@ -746,6 +762,8 @@ impl Archive for Owners {
         × (⟦<(u8, String) as Archive>⟧.belongs v.both r.kept.1.1.1.0
         × (⟦<PhantomData<u64> as Archive>⟧.belongs v.of r.kept.1.1.1.1.0 × Unit {0})))) };
 
+    ghost in_bulk = { None };
+
     ghost keyed = { λ v. record_keyed (part_keyed (result_keyed ⟦<u8 as Archive>⟧.keys
         ⟦<String as Archive>⟧.keys ⟦<u8 as Archive>⟧.meaning ⟦<String as Archive>⟧.meaning
         (λ x. number_keyed _) (λ x. text_keyed (string_bytes x)) v.outcome)
@@ -828,6 +846,20 @@ impl Archive for Owners {
             kept,
             Place::new(pos, bytes),
         )
+    }
+
+    #[inline(always)]
+    fn copy_optimization() -> CopyOptimization<Self> {
+        CopyOptimization::disable()
+    }
+
+    #[inline(always)]
+    fn serialize_copied<S: Writer + Keys>(
+        _values: &[Self],
+        _together: usize,
+        _serializer: &mut S,
+    ) -> Result<Option<usize>, Error> {
+        Ok(None)
     }
 }
 
@@ -1208,6 +1240,8 @@ impl Archive for Lists {
         × (⟦<Vec<Option<Spot>> as Archive>⟧.belongs v.spots r.kept.1.0
         × (⟦<Pair<u64, Spot> as Archive>⟧.belongs v.pair r.kept.1.1.0 × Unit {0})) };
 
+    ghost in_bulk = { None };
+
     ghost keyed = { λ v. record_keyed (part_keyed (array_keyed 4 ⟦<i16 as Archive>⟧.keys
         ⟦<i16 as Archive>⟧.meaning (λ x. number_keyed _) v.four)
         (part_keyed (each_keyed ⟦<Option<Spot> as Archive>⟧.keys ⟦<Option<Spot> as Archive>⟧.meaning
@@ -1267,6 +1301,20 @@ impl Archive for Lists {
             kept,
             Place::new(pos, bytes),
         )
+    }
+
+    #[inline(always)]
+    fn copy_optimization() -> CopyOptimization<Self> {
+        CopyOptimization::disable()
+    }
+
+    #[inline(always)]
+    fn serialize_copied<S: Writer + Keys>(
+        _values: &[Self],
+        _together: usize,
+        _serializer: &mut S,
+    ) -> Result<Option<usize>, Error> {
+        Ok(None)
     }
 }
 
@@ -1540,6 +1588,8 @@ impl Archive for Empty {
 
     ghost belongs = { λ v r. Unit {0} };
 
+    ghost in_bulk = { None };
+
     ghost keyed = { λ v. record_keyed nothing_keyed };
 
     ghost planned = { λ v. plain_record_planned no_definition no_part _ _ no_part_planned refl };
@@ -1556,6 +1606,20 @@ impl Archive for Empty {
     {
         let Place { bytes, pos, .. } = place;
         resolve_record_0::<ArchivedEmpty>(resolver, Place::new(pos, bytes))
+    }
+
+    #[inline(always)]
+    fn copy_optimization() -> CopyOptimization<Self> {
+        CopyOptimization::disable()
+    }
+
+    #[inline(always)]
+    fn serialize_copied<S: Writer + Keys>(
+        _values: &[Self],
+        _together: usize,
+        _serializer: &mut S,
+    ) -> Result<Option<usize>, Error> {
+        Ok(None)
     }
 }
 
@@ -1737,6 +1801,8 @@ impl Archive for Unnamed {
     ghost belongs = { λ v r. ⟦<u8 as Archive>⟧.belongs v.0 r.kept.0
         × (⟦<String as Archive>⟧.belongs v.1 r.kept.1.0 × Unit {0}) };
 
+    ghost in_bulk = { None };
+
     ghost keyed = { λ v. record_keyed (part_keyed (number_keyed _)
         (part_keyed (text_keyed (string_bytes v.1)) nothing_keyed)) };
 
@@ -1767,6 +1833,20 @@ impl Archive for Unnamed {
             kept,
             Place::new(pos, bytes),
         )
+    }
+
+    #[inline(always)]
+    fn copy_optimization() -> CopyOptimization<Self> {
+        CopyOptimization::disable()
+    }
+
+    #[inline(always)]
+    fn serialize_copied<S: Writer + Keys>(
+        _values: &[Self],
+        _together: usize,
+        _serializer: &mut S,
+    ) -> Result<Option<usize>, Error> {
+        Ok(None)
     }
 }
 

@@ -6,6 +6,7 @@ pub mod event;
 pub mod kinds;
 pub mod pair;
 pub mod point;
+pub mod ranked;
 pub mod spot;
 pub mod stock;
 pub mod track;

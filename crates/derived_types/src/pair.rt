@@ -22,7 +22,7 @@ ghost use Rattle.archive_core.specs.Seen.{ShowsValueOf};
 ghost use Rattle.archive_core.specs.Shape.{no_part, part};
 ghost use Rattle.archive_core.specs.Value.{no_value, product, value};
 ghost use Rattle.archive_core.specs.Writing.{ZeroedPlace};
-ghost use Rattle.std.specs.Prelude.{[], length, refl, ◌++◌, ◌+◌, ◌≡◌};
+ghost use Rattle.std.specs.Prelude.{None, [], length, refl, ◌++◌, ◌+◌, ◌≡◌};
 
 use archive_core::core_impls::ArchivedTuple;
 use archive_core::error::Error;
@@ -33,7 +33,8 @@ use archive_core::record::{resolve_record, serialize_record};
 use archive_core::seal::Seal;
 use archive_core::ser::{ResolverAlloc, Writer, serialize_one};
 use archive_core::traits::{
-    Archive, ArchivePointee, ArchiveUnsized, Portable, PortableParts, Serialize, SerializeUnsized,
+    Archive, ArchivePointee, ArchiveUnsized, CopyOptimization, Keys, Portable, PortableParts,
+    Serialize, SerializeUnsized,
 };
 use archive_core::view::Ref;
 
@@ -72,6 +73,8 @@ impl<A: Archive, B: Archive> Archive for Pair<A, B> {
 
     ghost belongs = { λ v r. ⟦<PairFields<A, B> as SourceParts<Self>>⟧.belongs v r };
 
+    ghost in_bulk = { None };
+
     ghost keyed = { λ v. record_keyed (part_keyed (A.keyed v.left)
         (part_keyed (B.keyed v.right) nothing_keyed)) };
 
@@ -100,6 +103,20 @@ impl<A: Archive, B: Archive> Archive for Pair<A, B> {
             resolver,
             Place::new(pos, bytes),
         )
+    }
+
+    #[inline(always)]
+    fn copy_optimization() -> CopyOptimization<Self> {
+        CopyOptimization::disable()
+    }
+
+    #[inline(always)]
+    fn serialize_copied<S: Writer + Keys>(
+        _values: &[Self],
+        _together: usize,
+        _serializer: &mut S,
+    ) -> Result<Option<usize>, Error> {
+        Ok(None)
     }
 }
 

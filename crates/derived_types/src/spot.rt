@@ -61,7 +61,7 @@ ghost use Rattle.archive_core.specs.Sources.{Read};
 ghost use Rattle.archive_core.specs.Value.{no_value, product, value};
 ghost use Rattle.archive_core.specs.Writing.{ZeroedPlace};
 ghost use Rattle.std.proofs.Common.{inl, inr, lit≤};
-ghost use Rattle.std.specs.Prelude.{IfErr, IfOk, [], length, refl, true, ◌++◌, ◌+◌, ◌≡◌};
+ghost use Rattle.std.specs.Prelude.{IfErr, IfOk, None, [], length, refl, true, ◌++◌, ◌+◌, ◌≡◌};
 
 use crate::event::ArchivedEvent;
 use archive_core::boxed::ArchivedBox;
@@ -78,8 +78,8 @@ use archive_core::self_check::{RecordCheck, SelfCheck};
 use archive_core::ser::{ResolverAlloc, Writer, serialize_one};
 use archive_core::shape::{Defs, Expr};
 use archive_core::traits::{
-    Archive, ArchivePointee, ArchiveUnsized, Deserialize, Entries, Portable, Record, Serialize,
-    SerializeUnsized, expr_of_record,
+    Archive, ArchivePointee, ArchiveUnsized, CopyOptimization, Deserialize, Entries, Keys,
+    Portable, Record, Serialize, SerializeUnsized, expr_of_record,
 };
 use archive_core::validation::ArchiveContext;
 use archive_core::vec::ArchivedVec;
@@ -206,6 +206,8 @@ impl Archive for Spot {
     ghost belongs = { λ v r. ⟦<u16 as Archive>⟧.belongs v.right r.kept.0
         × (⟦<i16 as Archive>⟧.belongs v.up r.kept.1.0 × Unit {0}) };
 
+    ghost in_bulk = { None };
+
     ghost keyed = { λ v. record_keyed (part_keyed (number_keyed _)
         (part_keyed (number_keyed _) nothing_keyed)) };
 
@@ -237,6 +239,20 @@ impl Archive for Spot {
             kept,
             Place::new(pos, bytes),
         )
+    }
+
+    #[inline(always)]
+    fn copy_optimization() -> CopyOptimization<Self> {
+        CopyOptimization::disable()
+    }
+
+    #[inline(always)]
+    fn serialize_copied<S: Writer + Keys>(
+        _values: &[Self],
+        _together: usize,
+        _serializer: &mut S,
+    ) -> Result<Option<usize>, Error> {
+        Ok(None)
     }
 }
 
@@ -487,6 +503,8 @@ impl Archive for Line {
     ghost belongs = { λ v r. ⟦<Spot as Archive>⟧.belongs v.from r.kept.0
         × (⟦<Spot as Archive>⟧.belongs v.to r.kept.1.0 × Unit {0}) };
 
+    ghost in_bulk = { None };
+
     ghost keyed = { λ v. record_keyed (part_keyed (keyed_of_spot v.from)
         (part_keyed (keyed_of_spot v.to) nothing_keyed)) };
 
@@ -517,6 +535,20 @@ impl Archive for Line {
             kept,
             Place::new(pos, bytes),
         )
+    }
+
+    #[inline(always)]
+    fn copy_optimization() -> CopyOptimization<Self> {
+        CopyOptimization::disable()
+    }
+
+    #[inline(always)]
+    fn serialize_copied<S: Writer + Keys>(
+        _values: &[Self],
+        _together: usize,
+        _serializer: &mut S,
+    ) -> Result<Option<usize>, Error> {
+        Ok(None)
     }
 }
 
@@ -803,6 +835,8 @@ impl Archive for Drawing {
         × (⟦<Option<Box<Line>> as Archive>⟧.belongs v.last r.kept.1.1.0
         × (⟦<Event as Archive>⟧.belongs v.event r.kept.1.1.1.0 × Unit {0}))) };
 
+    ghost in_bulk = { None };
+
     ghost keyed = { λ v. record_keyed (part_keyed (keyed_of_line v.first)
         (part_keyed (each_keyed ⟦<Line as Archive>⟧.keys ⟦<Line as Archive>⟧.meaning keyed_of_line
         v.lines.items) (part_keyed (option_keyed ⟦<Box<Line> as Archive>⟧.keys
@@ -855,6 +889,20 @@ impl Archive for Drawing {
             kept,
             Place::new(pos, bytes),
         )
+    }
+
+    #[inline(always)]
+    fn copy_optimization() -> CopyOptimization<Self> {
+        CopyOptimization::disable()
+    }
+
+    #[inline(always)]
+    fn serialize_copied<S: Writer + Keys>(
+        _values: &[Self],
+        _together: usize,
+        _serializer: &mut S,
+    ) -> Result<Option<usize>, Error> {
+        Ok(None)
     }
 }
 
@@ -1173,6 +1221,8 @@ impl Archive for Atlas {
     ghost belongs = { λ v r. ⟦<Vec<Drawing> as Archive>⟧.belongs v.drawings r.kept.0
         × (⟦<u8 as Archive>⟧.belongs v.pages r.kept.1.0 × Unit {0}) };
 
+    ghost in_bulk = { None };
+
     ghost keyed = { λ v. record_keyed (part_keyed (each_keyed ⟦<Drawing as Archive>⟧.keys
         ⟦<Drawing as Archive>⟧.meaning keyed_of_drawing v.drawings.items)
         (part_keyed (number_keyed _) nothing_keyed)) };
@@ -1207,6 +1257,20 @@ impl Archive for Atlas {
             kept,
             Place::new(pos, bytes),
         )
+    }
+
+    #[inline(always)]
+    fn copy_optimization() -> CopyOptimization<Self> {
+        CopyOptimization::disable()
+    }
+
+    #[inline(always)]
+    fn serialize_copied<S: Writer + Keys>(
+        _values: &[Self],
+        _together: usize,
+        _serializer: &mut S,
+    ) -> Result<Option<usize>, Error> {
+        Ok(None)
     }
 }
 

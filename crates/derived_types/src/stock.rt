@@ -31,7 +31,7 @@ ghost use Rattle.archive_core.specs.Sources.{Read};
 ghost use Rattle.archive_core.specs.Value.{no_value, product, value};
 ghost use Rattle.archive_core.specs.Writing.{ZeroedPlace};
 ghost use Rattle.std.proofs.Common.{inl, inr, lit≤};
-ghost use Rattle.std.specs.Prelude.{IfErr, IfOk, [], length, refl, string_bytes, true, ◌++◌, ◌+◌, ◌≡◌};
+ghost use Rattle.std.specs.Prelude.{IfErr, IfOk, None, [], length, refl, string_bytes, true, ◌++◌, ◌+◌, ◌≡◌};
 
 use crate::spot::ArchivedSpot;
 use archive_core::error::Error;
@@ -46,8 +46,8 @@ use archive_core::ser::{ResolverAlloc, Writer, serialize_one};
 use archive_core::shape::{Defs, Expr};
 use archive_core::string::ArchivedString;
 use archive_core::traits::{
-    Archive, ArchivePointee, ArchiveUnsized, Deserialize, Entries, MapKey, Portable, Record,
-    Serialize, SerializeUnsized, expr_of_record,
+    Archive, ArchivePointee, ArchiveUnsized, CopyOptimization, Deserialize, Entries, Keys, MapKey,
+    Portable, Record, Serialize, SerializeUnsized, expr_of_record,
 };
 use archive_core::validation::ArchiveContext;
 use archive_core::view::{RawView, Ref};
@@ -187,6 +187,8 @@ impl Archive for Stock {
     ghost belongs = { λ v r. ⟦<BTreeMap<String, u32> as Archive>⟧.belongs v.prices r.kept.0
         × (⟦<BTreeMap<u16, Spot> as Archive>⟧.belongs v.places r.kept.1.0 × Unit {0}) };
 
+    ghost in_bulk = { None };
+
     ghost keyed = { λ v. record_keyed (part_keyed (pairs_keyed ⟦<String as Archive>⟧.keys
         ⟦<u32 as Archive>⟧.keys ⟦<String as Archive>⟧.meaning ⟦<u32 as Archive>⟧.meaning
         (λ x. text_keyed (string_bytes x)) (λ x. number_keyed _) v.prices.entries)
@@ -236,6 +238,20 @@ impl Archive for Stock {
             kept,
             Place::new(pos, bytes),
         )
+    }
+
+    #[inline(always)]
+    fn copy_optimization() -> CopyOptimization<Self> {
+        CopyOptimization::disable()
+    }
+
+    #[inline(always)]
+    fn serialize_copied<S: Writer + Keys>(
+        _values: &[Self],
+        _together: usize,
+        _serializer: &mut S,
+    ) -> Result<Option<usize>, Error> {
+        Ok(None)
     }
 }
 

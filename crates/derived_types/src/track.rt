@@ -56,7 +56,7 @@ ghost use Rattle.archive_core.specs.Sources.{Read};
 ghost use Rattle.archive_core.specs.Value.{case, list, no_value, product, shared_value, text_value, value};
 ghost use Rattle.archive_core.specs.Writing.{ZeroedPlace};
 ghost use Rattle.std.proofs.Common.{inl, inr, lit≤};
-ghost use Rattle.std.specs.Prelude.{IfErr, IfOk, [], codes, length, refl, ℕ, ◌++◌, ◌+◌, ◌≡◌};
+ghost use Rattle.std.specs.Prelude.{IfErr, IfOk, None, [], codes, length, refl, ℕ, ◌++◌, ◌+◌, ◌≡◌};
 ghost use Rattle.std.specs.Rc.{rc_slice_items, rc_str_bytes};
 
 use crate::spot::ArchivedLine;
@@ -80,8 +80,8 @@ use archive_core::sharing::Sharing;
 use archive_core::slice::ArchivedSlice;
 use archive_core::string::ArchivedStr;
 use archive_core::traits::{
-    Archive, ArchivePointee, ArchiveUnsized, Choice, Deserialize, Portable, Record, Serialize,
-    SerializeUnsized, expr_of_choice, expr_of_record,
+    Archive, ArchivePointee, ArchiveUnsized, Choice, CopyOptimization, Deserialize, Keys, Portable,
+    Record, Serialize, SerializeUnsized, expr_of_choice, expr_of_record,
 };
 use archive_core::view::{RawView, Ref};
 use std::alloc::Global;
@@ -186,6 +186,8 @@ impl Archive for Track {
     ghost belongs = { λ v r. ⟦<Shared<Line> as Archive>⟧.belongs v.line r.kept.0
         × (⟦<Option<Box<Line>> as Archive>⟧.belongs v.other r.kept.1.0 × Unit {0}) };
 
+    ghost in_bulk = { None };
+
     ghost keyed = { λ v. record_keyed (part_keyed (rc_keyed v.line.key
         ⟦<ArchivedLine as ArchivePointee>⟧.pointee 0 (⟦<Line as Archive>⟧.meaning
         v.line.value.value) (⟦<Line as Archive>⟧.keys v.line.value.value)
@@ -231,6 +233,20 @@ impl Archive for Track {
             kept,
             Place::new(pos, bytes),
         )
+    }
+
+    #[inline(always)]
+    fn copy_optimization() -> CopyOptimization<Self> {
+        CopyOptimization::disable()
+    }
+
+    #[inline(always)]
+    fn serialize_copied<S: Writer + Keys>(
+        _values: &[Self],
+        _together: usize,
+        _serializer: &mut S,
+    ) -> Result<Option<usize>, Error> {
+        Ok(None)
     }
 }
 
@@ -485,6 +501,8 @@ impl Archive for Runs {
         × (⟦<SharedStr as Archive>⟧.belongs v.text r.kept.1.0
         × (⟦<WeakShared<Line> as Archive>⟧.belongs v.weak r.kept.1.1.0 × Unit {0})) };
 
+    ghost in_bulk = { None };
+
     ghost keyed = { λ v. record_keyed (part_keyed (rc_keyed v.lines.key
         (run ⟦<ArchivedLine as Portable>⟧.shape) (length (rc_slice_items v.lines.value))
         (list (each_meaning ⟦<Line as Archive>⟧.meaning (rc_slice_items v.lines.value)))
@@ -548,6 +566,20 @@ impl Archive for Runs {
             kept,
             Place::new(pos, bytes),
         )
+    }
+
+    #[inline(always)]
+    fn copy_optimization() -> CopyOptimization<Self> {
+        CopyOptimization::disable()
+    }
+
+    #[inline(always)]
+    fn serialize_copied<S: Writer + Keys>(
+        _values: &[Self],
+        _together: usize,
+        _serializer: &mut S,
+    ) -> Result<Option<usize>, Error> {
+        Ok(None)
     }
 }
 
@@ -861,6 +893,8 @@ impl Archive for Either {
       ]
     ] };
 
+    ghost in_bulk = { None };
+
     ghost keyed = { elim [
       | EitherAlone a0 ↦ case_keyed _ 0 _ (part_keyed (number_keyed _) nothing_keyed)
       | EitherTogether a0 a1 ↦ case_keyed _ 1 _ (part_keyed
@@ -919,6 +953,20 @@ impl Archive for Either {
                 )
             }
         }
+    }
+
+    #[inline(always)]
+    fn copy_optimization() -> CopyOptimization<Self> {
+        CopyOptimization::disable()
+    }
+
+    #[inline(always)]
+    fn serialize_copied<S: Writer + Keys>(
+        _values: &[Self],
+        _together: usize,
+        _serializer: &mut S,
+    ) -> Result<Option<usize>, Error> {
+        Ok(None)
     }
 }
 

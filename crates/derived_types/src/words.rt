@@ -43,7 +43,7 @@ ghost use Rattle.archive_core.specs.Sources.{Read};
 ghost use Rattle.archive_core.specs.Value.{case, no_value, product, value};
 ghost use Rattle.archive_core.specs.Writing.{ZeroedPlace};
 ghost use Rattle.std.proofs.Common.{inl, lit≤};
-ghost use Rattle.std.specs.Prelude.{IfErr, IfOk, [], codes, length, refl, true, ℕ, ◌++◌, ◌+◌, ◌≡◌};
+ghost use Rattle.std.specs.Prelude.{IfErr, IfOk, None, [], codes, length, refl, true, ℕ, ◌++◌, ◌+◌, ◌≡◌};
 
 use archive_core::error::Error;
 use archive_core::fields::{
@@ -57,8 +57,8 @@ use archive_core::self_check::{RecordCheck, SelfCheck, check_choice};
 use archive_core::ser::{ResolverAlloc, Writer, serialize_one};
 use archive_core::shape::{Defs, Expr};
 use archive_core::traits::{
-    Archive, ArchivePointee, ArchiveUnsized, Choice, Deserialize, Entries, Portable, Record,
-    Serialize, SerializeUnsized, expr_of_choice, expr_of_record,
+    Archive, ArchivePointee, ArchiveUnsized, Choice, CopyOptimization, Deserialize, Entries, Keys,
+    Portable, Record, Serialize, SerializeUnsized, expr_of_choice, expr_of_record,
 };
 use archive_core::validation::ArchiveContext;
 use archive_core::view::{RawView, Ref};
@@ -203,6 +203,8 @@ impl Archive for Words {
         × (⟦<u8 as Archive>⟧.belongs v.pos r.kept.1.1.0
         × (⟦<u8 as Archive>⟧.belongs v.len r.kept.1.1.1.0 × Unit {0}))) };
 
+    ghost in_bulk = { None };
+
     ghost keyed = { λ v. record_keyed (part_keyed (number_keyed _)
         (part_keyed (number_keyed _) (part_keyed (number_keyed _)
         (part_keyed (number_keyed _) nothing_keyed)))) };
@@ -241,6 +243,20 @@ impl Archive for Words {
             kept,
             Place::new(pos, bytes),
         )
+    }
+
+    #[inline(always)]
+    fn copy_optimization() -> CopyOptimization<Self> {
+        CopyOptimization::disable()
+    }
+
+    #[inline(always)]
+    fn serialize_copied<S: Writer + Keys>(
+        _values: &[Self],
+        _together: usize,
+        _serializer: &mut S,
+    ) -> Result<Option<usize>, Error> {
+        Ok(None)
     }
 }
 
@@ -584,6 +600,8 @@ impl Archive for Level {
       ]
     ] };
 
+    ghost in_bulk = { None };
+
     ghost keyed = { elim [
       | LevelNone ↦ case_keyed _ 0 _ nothing_keyed
       | LevelSome ↦ case_keyed _ 1 _ nothing_keyed
@@ -620,6 +638,20 @@ impl Archive for Level {
                 resolve_case_1::<Words, ArchivedLevel>(2, a0, kept, Place::new(pos, bytes))
             }
         }
+    }
+
+    #[inline(always)]
+    fn copy_optimization() -> CopyOptimization<Self> {
+        CopyOptimization::disable()
+    }
+
+    #[inline(always)]
+    fn serialize_copied<S: Writer + Keys>(
+        _values: &[Self],
+        _together: usize,
+        _serializer: &mut S,
+    ) -> Result<Option<usize>, Error> {
+        Ok(None)
     }
 }
 

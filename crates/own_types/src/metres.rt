@@ -1,6 +1,6 @@
 //! A length in metres: an own type, of which slices are written in bulk.
 
-ghost use Rattle.std.specs.Prelude.{◌≡◌, ⊤, refl, [], pos, length, OnOk, IfErr};
+ghost use Rattle.std.specs.Prelude.{◌≡◌, ⊤, refl, [], pos, length, OnOk, IfErr, Some};
 ghost use Rattle.std.specs.Int.{w32};
 ghost use Rattle.archive_core.specs.Definitions.{no_definition};
 ghost use Rattle.archive_core.specs.LittleEndian.{little_bytes};
@@ -41,6 +41,8 @@ impl Archive for Metres {
     ghost keys = { λ _. [] };
 
     ghost belongs = { λ _ _. ⊤ };
+
+    ghost in_bulk = { Some (λ m. little_bytes 4 m.number) };
 
     ghost keyed = { λ m. number_keyed (pos m.number) };
 

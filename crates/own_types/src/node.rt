@@ -1,6 +1,6 @@
 //! A list of boxes in boxes: an own type that holds itself.
 
-ghost use Rattle.std.specs.Prelude.{◌≡◌, [], length, refl, ⊤, OnOk, IfErr};
+ghost use Rattle.std.specs.Prelude.{◌≡◌, [], length, refl, ⊤, OnOk, IfErr, None};
 ghost use Rattle.std.proofs.Common.{inl, inr, lit≤};
 ghost use Rattle.archive_core.specs.VariantsLayout.{is_recursive_choice};
 ghost use Rattle.archive_core.specs.Value.{box};
@@ -20,7 +20,9 @@ use archive_core::own::{
 use archive_core::place::Place;
 use archive_core::ser::{ResolverAlloc, Writer, serialize_one};
 use archive_core::shape::{Expr, Pointee};
-use archive_core::traits::{Archive, ArchiveUnsized, Keys, Portable, Serialize, SerializeUnsized};
+use archive_core::traits::{
+    Archive, ArchiveUnsized, CopyOptimization, Keys, Portable, Serialize, SerializeUnsized,
+};
 use std::alloc::{AllocError, Global};
 
 /// Nothing, or a box of the rest.
@@ -113,6 +115,8 @@ impl Archive for Node {
 
     ghost belongs = { λ _ _. ⊤ };
 
+    ghost in_bulk = { None };
+
     ghost keyed = { λ n. nest_keyed (node_nest n) };
 
     ghost planned = { λ n. nest_planned (node_nest n) };
@@ -132,6 +136,20 @@ impl Archive for Node {
             None => resolve_nested::<ArchivedNode>(0, None, Place::new(pos, bytes)),
             Some(rest) => resolve_nested::<ArchivedNode>(1, Some(rest), Place::new(pos, bytes)),
         }
+    }
+
+    #[inline(always)]
+    fn copy_optimization() -> CopyOptimization<Self> {
+        CopyOptimization::disable()
+    }
+
+    #[inline(always)]
+    fn serialize_copied<S: Writer + Keys>(
+        _values: &[Self],
+        _together: usize,
+        _serializer: &mut S,
+    ) -> Result<Option<usize>, Error> {
+        Ok(None)
     }
 }
 

@@ -1,6 +1,6 @@
 //! A record of three fields: an own type with a name.
 
-ghost use Rattle.std.specs.Prelude.{◌≡◌, codes, length, refl, OnOk, IfErr};
+ghost use Rattle.std.specs.Prelude.{◌≡◌, codes, length, refl, OnOk, IfErr, None};
 ghost use Rattle.archive_core.specs.PartsLayout.{is_named_record};
 ghost use Rattle.archive_core.specs.SelfCheck.Laws.{by_schema};
 ghost use Rattle.archive_core.specs.Value.{product};
@@ -20,7 +20,9 @@ use archive_core::record::{resolve_record, serialize_record};
 use archive_core::self_check::BySchema;
 use archive_core::ser::{ResolverAlloc, Writer, serialize_one};
 use archive_core::string::ArchivedString;
-use archive_core::traits::{Archive, ArchiveUnsized, Keys, Portable, Serialize, SerializeUnsized};
+use archive_core::traits::{
+    Archive, ArchiveUnsized, CopyOptimization, Keys, Portable, Serialize, SerializeUnsized,
+};
 use archive_core::vec::ArchivedVec;
 use std::marker::PhantomData;
 
@@ -103,6 +105,8 @@ impl<A: Archive, B: Archive, C: Archive> Archive for TestOf<A, B, C> {
 
     ghost belongs = { λ v r. ⟦<Parts<A, B, C> as SourceParts<Self>>⟧.belongs v r };
 
+    ghost in_bulk = { None };
+
     ghost keyed = { λ v. record_keyed (part_keyed (A.keyed v.number) (part_keyed (B.keyed v.text) (part_keyed (C.keyed v.list) nothing_keyed))) };
 
     ghost planned = { λ v. record_planned _ _ _ _ _ _ (is_named_record _ _ _) (part_planned _ _ _ _ (A.planned v.number)
@@ -125,6 +129,20 @@ impl<A: Archive, B: Archive, C: Archive> Archive for TestOf<A, B, C> {
             resolver,
             Place::new(pos, bytes),
         )
+    }
+
+    #[inline(always)]
+    fn copy_optimization() -> CopyOptimization<Self> {
+        CopyOptimization::disable()
+    }
+
+    #[inline(always)]
+    fn serialize_copied<S: Writer + Keys>(
+        _values: &[Self],
+        _together: usize,
+        _serializer: &mut S,
+    ) -> Result<Option<usize>, Error> {
+        Ok(None)
     }
 }
 

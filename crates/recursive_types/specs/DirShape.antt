@@ -1,11 +1,11 @@
 -- What an archived Dir and an archived Entry looks like. Written by tools/derive: change the declaration, and run it again.
 use Rattle.archive_core.specs.Defined.{Involves, involves, involves_through, mentions_held, mentions_first, mentions_later, mentions_parts, mentions_variant, mentions_other, mentions_choice, mentions_boxed, mentions_one, mentions_vec, holds_name}
 use Rattle.archive_core.specs.Definitions.{Definitions, defines, both, no_definition, HasLayout, IsAlign, NoOthers, listed}
+use Rattle.archive_core.specs.Held.{member_has_layout, knows_both}
 use Rattle.archive_core.specs.Layout.{Layout}
 use Rattle.archive_core.specs.PartsLayout.{IsRecord, by_name, knows_none}
 use Rattle.archive_core.specs.Shape.{Name, Shape, Parts, Variants, named, choice, parts, boxed, vec, str, one, leaf, unsigned, part, no_part, variant, no_variant, number as number_kind}
 use Rattle.archive_core.specs.VariantsLayout.{IsChoice}
-use Rattle.archive_recursive.specs.Held.{member_has_layout, knows_both}
 use Rattle.std.proofs.Common.{ap, subst, inl, inr, zero, suc, arith}
 use Rattle.std.specs.Int.{w64}
 use Rattle.std.specs.Prelude.{refl, codes}

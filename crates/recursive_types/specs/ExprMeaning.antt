@@ -1,6 +1,7 @@
 -- What Expr means. Written by tools/derive: change the declaration, and run it again.
 use Rattle.archive_core.specs.Definitions.{no_definition}
 use Rattle.archive_core.specs.Denotes.{Naming}
+use Rattle.archive_core.specs.Held.{each_mapped, each_mapped_keys, held_keyed, held_planned, variant_planned, keyed_as, planned_as}
 use Rattle.archive_core.specs.Keyed.{case_keyed, nothing_keyed, part_keyed, number_keyed, text_keyed, box_keyed}
 use Rattle.archive_core.specs.PartsPlanned.{part_planned, no_part_planned}
 use Rattle.archive_core.specs.Planned.{leaf_planned, string_planned}
@@ -11,7 +12,6 @@ use Rattle.archive_core.specs.Shape.{boxed, vec, str, one, run, leaf, signed, va
 use Rattle.archive_core.specs.Strings.{string_flat}
 use Rattle.archive_core.specs.Value.{Value, case, list, box, hole, number, value, no_value, text_value}
 use Rattle.archive_core.specs.Writing.{IsKeyed, to_pointee}
-use Rattle.archive_recursive.specs.Held.{each_mapped, each_mapped_keys, held_keyed, held_planned, variant_planned, keyed_as, planned_as}
 use Rattle.recursive_types.specs.declared.expr.Expr.{Expr-F, out-Expr, roll-Expr, fold-Expr, fold-roll-Expr, ind-Expr, out-roll-Expr}
 use Rattle.recursive_types.specs.declared.expr.Expr.TheFolds.{map-Expr}
 use Rattle.recursive_types.specs.declared.expr.ExprResolver.{ExprResolver}

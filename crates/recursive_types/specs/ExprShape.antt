@@ -1,11 +1,11 @@
 -- What an archived Expr looks like. Written by tools/derive: change the declaration, and run it again.
 use Rattle.archive_core.specs.Definitions.{Definitions, defines, both, no_definition, HasLayout, IsAlign, NoOthers}
+use Rattle.archive_core.specs.Held.{knows_both}
 use Rattle.archive_core.specs.Layout.{Layout}
 use Rattle.archive_core.specs.NamedLayout.{name_has_layout, name_reached}
 use Rattle.archive_core.specs.PartsLayout.{knows_none}
 use Rattle.archive_core.specs.Shape.{Name, Shape, Parts, Variants, named, choice, boxed, vec, str, one, leaf, signed, part, no_part, variant, no_variant, number as number_kind}
 use Rattle.archive_core.specs.VariantsLayout.{IsChoice, is_recursive_choice}
-use Rattle.archive_recursive.specs.Held.{knows_both}
 use Rattle.std.proofs.Common.{inl, inr}
 use Rattle.std.specs.Int.{w64}
 use Rattle.std.specs.Prelude.{refl, codes}

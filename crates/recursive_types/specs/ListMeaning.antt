@@ -1,6 +1,7 @@
 -- What List means. Written by tools/derive: change the declaration, and run it again.
 use Rattle.archive_core.specs.Definitions.{no_definition}
 use Rattle.archive_core.specs.Denotes.{Naming}
+use Rattle.archive_core.specs.Held.{variant_planned, keyed_as, planned_as}
 use Rattle.archive_core.specs.Keyed.{case_keyed, nothing_keyed, part_keyed, number_keyed, box_keyed}
 use Rattle.archive_core.specs.PartsPlanned.{part_planned, no_part_planned}
 use Rattle.archive_core.specs.Planned.{leaf_planned}
@@ -9,18 +10,21 @@ use Rattle.archive_core.specs.Plans.{HasPlan}
 use Rattle.archive_core.specs.Shape.{boxed, one, leaf, unsigned, variant, number as number_kind}
 use Rattle.archive_core.specs.Value.{Value, case, box, hole, number, value, no_value}
 use Rattle.archive_core.specs.Writing.{IsKeyed, to_pointee}
-use Rattle.archive_recursive.specs.Held.{variant_planned, keyed_as, planned_as}
 use Rattle.recursive_types.specs.declared.list.List.{List-F, out-List, roll-List, fold-List, fold-roll-List, ind-List, out-roll-List}
 use Rattle.recursive_types.specs.declared.list.List.TheFolds.{map-List}
 use Rattle.recursive_types.specs.declared.list.ListResolver.{ListResolver}
 use Rattle.std.proofs.Common.{ap, subst, sym, ◌∙◌, Box, Global}
 use Rattle.std.specs.Int.{w32}
-use Rattle.std.specs.Prelude.{ℕ, List, [], ◌++◌, ◌≡◌, refl, pos, ⊤}
+use Rattle.std.specs.Prelude.{ℕ, List, [], ◌++◌, ◌≡◌, refl, pos, ⊤, Option, None, Some}
 use Rattle.recursive_types.specs.ListShape.{list_name, list_shape, list_definitions, list_variants, list_variant_definitions, list_has_variants, list_nil_parts, list_nil_definitions, list_cons_parts, list_cons_definitions}
 use Rattle.recursive_types.specs.declared.list.List.{List as List-Source}
 use Rattle.recursive_types.specs.declared.list.List.TheOpen as Layer
 use Rattle.recursive_types.specs.declared.list.List.TheVariants as Its
 use Rattle.recursive_types.specs.declared.list.ListResolver.TheVariants as Kept
+use Rattle.recursive_types.specs.declared.list.ListKept.{ListKept}
+use Rattle.recursive_types.specs.declared.list.ListKept.TheVariants as Open
+use Rattle.recursive_types.specs.declared.list.ListFront.{ListFront}
+use Rattle.recursive_types.specs.declared.list.ListFront.TheVariants as Front
 
 abbrev pub list_meaning_layer : {A : Type 0} → (A → Value) → List-F A → Value
 list_meaning_layer m Layer.Nil = case 0 no_value
@@ -78,6 +82,32 @@ list_nil_opens = ap out-List (sym Its.rolls-Nil) ∙ out-roll-List Layer.Nil
 
 pub list_cons_opens : (a0 : ℕ) (a1 : (Box List-Source Global)) → out-List (Its.Cons a0 a1) ≡ (Layer.Cons a0 a1)
 list_cons_opens a0 a1 = ap out-List (sym (Its.rolls-Cons a0 a1)) ∙ out-roll-List (Layer.Cons a0 a1)
+
+-- what its box holds
+abbrev pub list_rest_layer : List-F List-Source → Option List-Source
+list_rest_layer Layer.Nil = None
+list_rest_layer (Layer.Cons a0 a1) = Some a1.value
+
+abbrev pub list_rest : List-Source → Option List-Source
+list_rest v = list_rest_layer (out-List v)
+
+-- the resolver, by what is kept and where the box's value stands
+abbrev pub list_closed : ListKept → ℕ → ListResolver
+list_closed (Open.Cons s) t = Kept.Cons (s.0, (t, tt))
+
+-- what a value means, by what stands before its box and what the box holds; and its keys
+abbrev pub list_around : ListFront → Value → Value
+list_around (Front.Cons a0) m = case 1 (value (number (pos a0)) (value (box m) no_value))
+
+abbrev pub list_keys_around : ListFront → List Naming → List Naming
+list_keys_around (Front.Cons a0) k = [] ++ (k ++ [])
+
+-- it is of the one variant that has a box
+pub list_kept_is : (x : ListKept) → x ≡ Open.Cons (elim x [ Open.Cons s ↦ s ])
+list_kept_is (Open.Cons s) = refl
+
+pub list_front_is : (x : ListFront) → x ≡ Front.Cons (elim x [ Front.Cons a0 ↦ a0 ])
+list_front_is (Front.Cons a0) = refl
 
 list_keyed_layer : (y : List-F ((t : List-Source) × IsKeyed (list_keys t) (list_meaning t))) → IsKeyed (list_keys (roll-List (map-List ((t : List-Source) × IsKeyed (list_keys t) (list_meaning t)) List-Source (λ e. e.0) y))) (list_meaning (roll-List (map-List ((t : List-Source) × IsKeyed (list_keys t) (list_meaning t)) List-Source (λ e. e.0) y)))
 list_keyed_layer Layer.Nil = keyed_as (list_has_keys_roll _) (list_means_roll _) (case_keyed _ 0 _ nothing_keyed)

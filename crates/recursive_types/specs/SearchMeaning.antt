@@ -2,6 +2,9 @@
 use Rattle.archive_core.specs.Choices.{option_shape}
 use Rattle.archive_core.specs.Definitions.{no_definition}
 use Rattle.archive_core.specs.Denotes.{Naming}
+use Rattle.archive_core.specs.Held.{keyed_as, planned_as}
+use Rattle.archive_core.specs.HeldOptions.{none_keyed, some_keyed, none_planned, some_planned}
+use Rattle.archive_core.specs.Hollow.{option_at}
 use Rattle.archive_core.specs.Keyed.{record_keyed, nothing_keyed, part_keyed, number_keyed, box_keyed}
 use Rattle.archive_core.specs.Options.{option_keys, option_meaning}
 use Rattle.archive_core.specs.PartsPlanned.{part_planned, no_part_planned, record_planned}
@@ -12,9 +15,6 @@ use Rattle.archive_core.specs.Shape.{boxed, one, leaf, unsigned, number as numbe
 use Rattle.archive_core.specs.Value.{Value, case, product, box, number, value, no_value}
 use Rattle.archive_core.specs.Variants.{case_of}
 use Rattle.archive_core.specs.Writing.{IsKeyed}
-use Rattle.archive_recursive.specs.Held.{keyed_as, planned_as}
-use Rattle.archive_recursive.specs.HeldOptions.{none_keyed, some_keyed, none_planned, some_planned}
-use Rattle.archive_recursive.specs.Hollow.{option_at}
 use Rattle.recursive_types.specs.declared.search.Search.{Search-F, out-Search, roll-Search, fold-Search, fold-roll-Search, ind-Search, roll-out-Search}
 use Rattle.recursive_types.specs.declared.search.Search.TheFolds.{map-Search}
 use Rattle.recursive_types.specs.declared.search.SearchResolver.{SearchResolver}

@@ -1,11 +1,11 @@
 -- What an archived Search looks like. Written by tools/derive: change the declaration, and run it again.
 use Rattle.archive_core.specs.Choices.{option_shape}
 use Rattle.archive_core.specs.Definitions.{Definitions, defines, both, no_definition, HasLayout, IsAlign, NoOthers}
+use Rattle.archive_core.specs.Held.{knows_both}
 use Rattle.archive_core.specs.Layout.{Layout}
 use Rattle.archive_core.specs.NamedLayout.{name_has_layout, name_reached}
 use Rattle.archive_core.specs.PartsLayout.{IsRecord, by_name, knows_none}
 use Rattle.archive_core.specs.Shape.{Name, Shape, Parts, named, parts, boxed, one, leaf, unsigned, part, no_part, number as number_kind}
-use Rattle.archive_recursive.specs.Held.{knows_both}
 use Rattle.std.proofs.Common.{inl, inr}
 use Rattle.std.specs.Int.{w32}
 use Rattle.std.specs.Prelude.{refl, codes}

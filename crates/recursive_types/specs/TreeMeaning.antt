@@ -1,6 +1,7 @@
 -- What Tree means. Written by tools/derive: change the declaration, and run it again.
 use Rattle.archive_core.specs.Definitions.{no_definition}
 use Rattle.archive_core.specs.Denotes.{Naming}
+use Rattle.archive_core.specs.Held.{each_mapped, each_mapped_keys, held_keyed, held_planned, keyed_as, planned_as}
 use Rattle.archive_core.specs.Keyed.{record_keyed, nothing_keyed, part_keyed, number_keyed}
 use Rattle.archive_core.specs.PartsPlanned.{part_planned, no_part_planned, record_planned}
 use Rattle.archive_core.specs.Planned.{leaf_planned}
@@ -10,7 +11,6 @@ use Rattle.archive_core.specs.Runs.{each_keys, each_meaning}
 use Rattle.archive_core.specs.Shape.{vec, run, leaf, unsigned, number as number_kind}
 use Rattle.archive_core.specs.Value.{Value, product, list, hole, number, value, no_value}
 use Rattle.archive_core.specs.Writing.{IsKeyed, to_pointee}
-use Rattle.archive_recursive.specs.Held.{each_mapped, each_mapped_keys, held_keyed, held_planned, keyed_as, planned_as}
 use Rattle.recursive_types.specs.declared.tree.Tree.{Tree-F, out-Tree, roll-Tree, fold-Tree, fold-roll-Tree, ind-Tree, roll-out-Tree}
 use Rattle.recursive_types.specs.declared.tree.Tree.TheFolds.{map-Tree}
 use Rattle.recursive_types.specs.declared.tree.TreeResolver.{TreeResolver}

@@ -42,29 +42,29 @@ ghost use Rattle.archive_core.specs.Writing.{ZeroedPlace};
 ghost use Rattle.archive_core.specs.Written.{GoesOn};
 ghost use Rattle.recursive_types.specs.DirShape.{dir_definitions, dir_has_layout, dir_has_parts, dir_is_align, dir_layout, dir_name, dir_no_others, dir_parts, dir_shape, dir_stands_for, entry_definitions, entry_file_parts, entry_has_layout, entry_has_variants, entry_is_align, entry_layout, entry_name, entry_no_others, entry_shape, entry_stands_for, entry_sub_parts};
 ghost use Rattle.std.proofs.Common.{lit≤};
-ghost use Rattle.std.specs.Prelude.{IfErr, IfOk, OnOk, [], length, refl, ℕ, ◌++◌, ◌+◌, ◌≡◌, ◌≤◌};
+ghost use Rattle.std.specs.Prelude.{IfErr, IfOk, None, OnOk, [], length, refl, ℕ, ◌++◌, ◌+◌, ◌≡◌, ◌≤◌};
 
 use archive_core::boxed::{ArchivedBox, BoxResolver, serialize_inner};
 use archive_core::error::Error;
 use archive_core::place::Place;
 use archive_core::primitive::ArchivedU64;
+use archive_core::recursive::{
+    BoxAt, VecAt, before_box, before_vec, choice_of, define_name, part_of_record, part_of_variant,
+    read_part, record_of, resolve_named_case_1, resolve_named_record_2, seal_of_field,
+    seal_of_payload, serialize_inner_slice, serialize_part, tag_of_choice, tag_of_view,
+    view_of_field, view_of_payload,
+};
 use archive_core::seal::Seal;
 use archive_core::self_check::BySchema;
 use archive_core::ser::{ResolverAlloc, Writer, serialize_one};
 use archive_core::shape::{Defs, Expr, Pointee};
 use archive_core::string::ArchivedString;
 use archive_core::traits::{
-    Archive, ArchivePointee, ArchiveUnsized, Choice, Deserialize, Entries, Keys, Portable, Record,
-    Serialize, SerializeUnsized,
+    Archive, ArchivePointee, ArchiveUnsized, Choice, CopyOptimization, Deserialize, Entries, Keys,
+    Portable, Record, Serialize, SerializeUnsized,
 };
 use archive_core::vec::{ArchivedVec, VecResolver};
 use archive_core::view::{RawView, Ref};
-use archive_recursive::{
-    BoxAt, VecAt, before_box, before_vec, choice_of, define_name, part_of_record, part_of_variant,
-    read_part, record_of, resolve_named_case_1, resolve_named_record_2, seal_of_field,
-    seal_of_payload, serialize_inner_slice, serialize_part, tag_of_choice, tag_of_view,
-    view_of_field, view_of_payload,
-};
 use std::alloc::{AllocError, Global};
 
 /// An archived `Dir`: 16 bytes at a multiple of 4. It is validated by its schema.
@@ -182,6 +182,8 @@ impl Archive for Dir {
 
     ghost belongs = { dir_belongs };
 
+    ghost in_bulk = { None };
+
     ghost keyed = { dir_keyed };
 
     ghost planned = { dir_planned };
@@ -205,6 +207,20 @@ impl Archive for Dir {
             kept,
             Place::new(pos, bytes),
         )
+    }
+
+    #[inline(always)]
+    fn copy_optimization() -> CopyOptimization<Self> {
+        CopyOptimization::disable()
+    }
+
+    #[inline(always)]
+    fn serialize_copied<S: Writer + Keys>(
+        _values: &[Self],
+        _together: usize,
+        _serializer: &mut S,
+    ) -> Result<Option<usize>, Error> {
+        Ok(None)
     }
 }
 
@@ -604,6 +620,8 @@ impl Archive for Entry {
 
     ghost belongs = { entry_belongs };
 
+    ghost in_bulk = { None };
+
     ghost keyed = { entry_keyed };
 
     ghost planned = { entry_planned };
@@ -639,6 +657,20 @@ impl Archive for Entry {
                 )
             }
         }
+    }
+
+    #[inline(always)]
+    fn copy_optimization() -> CopyOptimization<Self> {
+        CopyOptimization::disable()
+    }
+
+    #[inline(always)]
+    fn serialize_copied<S: Writer + Keys>(
+        _values: &[Self],
+        _together: usize,
+        _serializer: &mut S,
+    ) -> Result<Option<usize>, Error> {
+        Ok(None)
     }
 }
 

@@ -32,28 +32,28 @@ ghost use Rattle.archive_core.specs.Writing.{ZeroedPlace};
 ghost use Rattle.archive_core.specs.Written.{GoesOn};
 ghost use Rattle.recursive_types.specs.ExprShape.{expr_add_parts, expr_call_parts, expr_definitions, expr_has_layout, expr_has_variants, expr_is_align, expr_layout, expr_name, expr_no_others, expr_num_parts, expr_shape, expr_stands_for};
 ghost use Rattle.std.proofs.Common.{lit≤};
-ghost use Rattle.std.specs.Prelude.{IfErr, IfOk, [], length, refl, ℕ, ◌++◌, ◌+◌, ◌≡◌, ◌≤◌};
+ghost use Rattle.std.specs.Prelude.{IfErr, IfOk, None, [], length, refl, ℕ, ◌++◌, ◌+◌, ◌≡◌, ◌≤◌};
 
 use archive_core::boxed::{ArchivedBox, BoxResolver, serialize_inner};
 use archive_core::error::Error;
 use archive_core::place::Place;
 use archive_core::primitive::ArchivedI64;
+use archive_core::recursive::{
+    BoxAt, VecAt, before_box, before_vec, choice_of, define_name, part_of_variant, read_part,
+    resolve_named_case_1, resolve_named_case_2, seal_of_payload, serialize_inner_slice,
+    serialize_part, tag_of_choice, tag_of_view, view_of_payload,
+};
 use archive_core::seal::Seal;
 use archive_core::self_check::BySchema;
 use archive_core::ser::{ResolverAlloc, Writer, serialize_one};
 use archive_core::shape::{Defs, Expr as CoreExpr, Pointee};
 use archive_core::string::ArchivedString;
 use archive_core::traits::{
-    Archive, ArchivePointee, ArchiveUnsized, Choice, Deserialize, Entries, Keys, Portable,
-    Serialize, SerializeUnsized,
+    Archive, ArchivePointee, ArchiveUnsized, Choice, CopyOptimization, Deserialize, Entries, Keys,
+    Portable, Serialize, SerializeUnsized,
 };
 use archive_core::vec::{ArchivedVec, VecResolver};
 use archive_core::view::{RawView, Ref};
-use archive_recursive::{
-    BoxAt, VecAt, before_box, before_vec, choice_of, define_name, part_of_variant, read_part,
-    resolve_named_case_1, resolve_named_case_2, seal_of_payload, serialize_inner_slice,
-    serialize_part, tag_of_choice, tag_of_view, view_of_payload,
-};
 use std::alloc::{AllocError, Global};
 
 /// An archived `Expr`: 24 bytes at a multiple of 8. It is validated by its schema.
@@ -196,6 +196,8 @@ impl Archive for Expr {
 
     ghost belongs = { expr_belongs };
 
+    ghost in_bulk = { None };
+
     ghost keyed = { expr_keyed };
 
     ghost planned = { expr_planned };
@@ -246,6 +248,20 @@ impl Archive for Expr {
                 )
             }
         }
+    }
+
+    #[inline(always)]
+    fn copy_optimization() -> CopyOptimization<Self> {
+        CopyOptimization::disable()
+    }
+
+    #[inline(always)]
+    fn serialize_copied<S: Writer + Keys>(
+        _values: &[Self],
+        _together: usize,
+        _serializer: &mut S,
+    ) -> Result<Option<usize>, Error> {
+        Ok(None)
     }
 }
 

@@ -1,7 +1,7 @@
 //! A list with a payload.
 
 /// A list of numbers.
-#[derive(Debug, PartialEq, Drop)]
+#[derive(Debug, PartialEq)]
 pub enum List {
     /// No more.
     Nil,
@@ -13,45 +13,45 @@ pub enum List {
 
 ghost use Rattle.archive_core.specs.CallOutcomes.{ResolvesAs};
 ghost use Rattle.archive_core.specs.Causes.{IsRefused};
+ghost use Rattle.archive_core.specs.Chains.{HeadIsRead, IsWrittenUpTo};
 ghost use Rattle.archive_core.specs.Definitions.{no_definition};
 ghost use Rattle.archive_core.specs.Error.TheVariants.{OutOfMemory};
 ghost use Rattle.archive_core.specs.Expressions.{shape_of, shapes_in};
 ghost use Rattle.archive_core.specs.Payloads.{payload_in};
 ghost use Rattle.archive_core.specs.PlannedOwners.{one_planned};
-ghost use Rattle.archive_core.specs.Plans.{Serialized};
 ghost use Rattle.archive_core.specs.SealsWritten.{IsSealOf, SealsPart, seal_tag};
 ghost use Rattle.archive_core.specs.Seen.{IsPartOf, RefusesPart, ShowsValueOf, part_tag, tag_of};
-ghost use Rattle.archive_core.specs.SelfCheck.Laws.{by_schema};
-ghost use Rattle.archive_core.specs.Shape.{boxed, one, part, parts, variant, vec};
+ghost use Rattle.archive_core.specs.Shape.{one, part, parts, variant, vec};
 ghost use Rattle.archive_core.specs.Sources.{Read};
 ghost use Rattle.archive_core.specs.Value.{case, no_value, value};
 ghost use Rattle.archive_core.specs.Writing.{ZeroedPlace};
 ghost use Rattle.archive_core.specs.Written.{GoesOn};
-ghost use Rattle.recursive_types.specs.ListShape.{list_cons_parts, list_definitions, list_has_layout, list_has_variants, list_is_align, list_layout, list_name, list_no_others, list_shape, list_stands_for};
+ghost use Rattle.recursive_types.specs.ListMeaning.{list_around, list_keys_around};
+ghost use Rattle.recursive_types.specs.ListShape.{list_chain_known, list_checked, list_cons_parts, list_definitions, list_has_layout, list_has_variants, list_is_align, list_layout, list_name, list_no_others, list_shape, list_stands_for};
 ghost use Rattle.std.proofs.Common.{lit≤};
-ghost use Rattle.std.specs.Prelude.{IfErr, IfOk, [], refl, ℕ, ◌++◌, ◌+◌, ◌≡◌, ◌≤◌};
+ghost use Rattle.std.specs.Prelude.{IfErr, IfOk, None, Some, [], refl, ℕ, ◌++◌, ◌+◌, ◌≡◌, ◌≤◌};
 
-use archive_core::boxed::{ArchivedBox, BoxResolver, serialize_inner};
+use archive_core::boxed::{ArchivedBox, BoxResolver};
 use archive_core::error::Error;
 use archive_core::place::Place;
 use archive_core::primitive::ArchivedU32;
+use archive_core::recursive::{
+    BoxAt, Chain, ChainBack, ChainCheck, ChainSource, ReadHead, Rest, WrittenHead, choice_of,
+    define_name, part_of_variant, read_chain, read_part, resolve_named_case_0,
+    resolve_named_case_2, seal_of_payload, serialize_chain, serialize_part, tag_of_choice,
+    tag_of_view, view_of_payload,
+};
 use archive_core::seal::Seal;
-use archive_core::self_check::BySchema;
 use archive_core::ser::{ResolverAlloc, Writer, serialize_one};
 use archive_core::shape::{Defs, Expr, Pointee};
 use archive_core::traits::{
-    Archive, ArchivePointee, ArchiveUnsized, Choice, Deserialize, Entries, Keys, Portable,
-    Serialize, SerializeUnsized,
+    Archive, ArchivePointee, ArchiveUnsized, Choice, CopyOptimization, Deserialize, Entries, Keys,
+    Portable, Serialize, SerializeUnsized,
 };
 use archive_core::view::{RawView, Ref};
-use archive_recursive::{
-    BoxAt, before_box, choice_of, define_name, part_of_variant, read_part, resolve_named_case_0,
-    resolve_named_case_2, seal_of_payload, serialize_part, tag_of_choice, tag_of_view,
-    view_of_payload,
-};
 use std::alloc::Global;
 
-/// An archived `List`: 12 bytes at a multiple of 4. It is validated by its schema.
+/// An archived `List`: 12 bytes at a multiple of 4. It validates itself.
 pub struct ArchivedList;
 
 type ListConsParts = (ArchivedU32, (ArchivedBox<ArchivedList>, ()));
@@ -98,7 +98,7 @@ impl Portable for ArchivedList {
 
     ghost layout = { list_layout };
 
-    type Check = BySchema;
+    type Check = ChainCheck<ListChain>;
 
     ghost is_one = { refl };
 
@@ -108,7 +108,7 @@ impl Portable for ArchivedList {
 
     ghost no_others = { list_no_others };
 
-    ghost checks = { λ direct. by_schema direct };
+    ghost checks = { λ _. list_checked };
 
     fn size() -> usize {
         12
@@ -165,6 +165,8 @@ impl Archive for List {
 
     ghost belongs = { list_belongs };
 
+    ghost in_bulk = { None };
+
     ghost keyed = { list_keyed };
 
     ghost planned = { list_planned };
@@ -197,51 +199,90 @@ impl Archive for List {
             }
         }
     }
-}
 
-// Writes what a box owns.
-#[cycle(serialize_list)]
-fn serialize_box_list<S: Writer + Keys + ResolverAlloc>(
-    value: &Box<List>,
-    serializer: &mut S,
-) -> Result<BoxResolver, Error>
-    ensures serialized { IfOk result (λ r. Serialized list_definitions (boxed (one list_shape))
-        (⟦<Box<List> as Archive>⟧.keys value.now) (⟦<Box<List> as Archive>⟧.meaning value.now)
-        (⟦<Box<List> as Archive>⟧.flat value.now r) (S.state serializer.old)
-        (S.state serializer.new)) }
-    ensures same_value { IfOk result (λ r. ⟦<Box<List> as Archive>⟧.belongs value.now r) }
-    ensures goes_on { GoesOn (S.state serializer.old) (S.state serializer.new) }
-    ensures refused { IfErr result (IsRefused list_definitions (boxed (one list_shape))
-        (⟦<Box<List> as Archive>⟧.keys value.now) (⟦<Box<List> as Archive>⟧.meaning value.now)
-        (S.state serializer.old) (S.state serializer.new)) }
-{
-    let inner = &**value;
-    let kept = match serialize_list(inner, serializer) {
-        Ok(kept) => kept,
-        Err(error) => return Err(error),
-    };
-    match serialize_inner(inner, kept, serializer) {
-        Ok(at) => Ok(at),
-        Err(error) => Err(error),
+    #[inline(always)]
+    fn copy_optimization() -> CopyOptimization<Self> {
+        CopyOptimization::disable()
+    }
+
+    #[inline(always)]
+    fn serialize_copied<S: Writer + Keys>(
+        _values: &[Self],
+        _together: usize,
+        _serializer: &mut S,
+    ) -> Result<Option<usize>, Error> {
+        Ok(None)
     }
 }
 
-// Writes what the parts of `Cons` own, in order.
-#[cycle(serialize_list)]
+/// What the check of an archived `List` goes by.
+pub struct ListChain;
+
+impl Chain for ListChain {
+    ghost name = { list_name };
+
+    ghost layout = { list_layout };
+
+    type Variants = ((), ((ArchivedU32, Rest), ()));
+
+    ghost is_align = { list_is_align };
+
+    ghost laid_out = { list_has_layout };
+
+    ghost known = { list_chain_known };
+
+    ghost holds = { lit≤ tt };
+
+    ghost some = { lit≤ tt };
+
+    fn name() -> &'static str {
+        "ArchivedList"
+    }
+
+    fn size() -> usize {
+        12
+    }
+
+    fn align() -> usize {
+        4
+    }
+}
+
+/// By a loop, so that a long list takes no machine stack.
+impl Drop for List {
+    fn drop(mut self) {
+        loop {
+            match self {
+                List::Nil => return,
+                List::Cons(_, rest) => self = Box::into_inner(rest),
+            }
+        }
+    }
+}
+
+/// What is kept of a `List` until what its box holds is written.
+#[derive(Drop)]
+pub enum ListKept {
+    /// Of `Cons`.
+    Cons((<u32 as Archive>::Resolver, ())),
+}
+
+// Writes what the parts of `Cons` before its box own, in order.
 fn serialize_list_cons<S: Writer + Keys + ResolverAlloc>(
     a0: &u32,
     a1: &Box<List>,
     serializer: &mut S,
-) -> Result<(<u32 as Archive>::Resolver, (BoxResolver, ())), Error>
-    ensures serialized { IfOk result (λ r. Serialized list_definitions list_shape
+) -> Result<(<u32 as Archive>::Resolver, ()), Error>
+    ensures written { IfOk result (λ r. IsWrittenUpTo list_definitions list_shape
         (⟦<u32 as Archive>⟧.keys a0.now ++ (⟦<Box<List> as Archive>⟧.keys a1.now ++ []))
         (case 1 (value (⟦<u32 as Archive>⟧.meaning a0.now)
         (value (⟦<Box<List> as Archive>⟧.meaning a1.now) no_value)))
-        (case 1 (value (⟦<u32 as Archive>⟧.flat a0.now r.0)
-        (value (⟦<Box<List> as Archive>⟧.flat a1.now r.1.0) no_value))) (S.state serializer.old)
+        (λ t. case 1 (value (⟦<u32 as Archive>⟧.flat a0.now r.0)
+        (value (⟦<Box<List> as Archive>⟧.flat a1.now t) no_value)))
+        (λ t. ⟦<u32 as Archive>⟧.belongs a0.now r.0 × (⟦<Box<List> as Archive>⟧.belongs a1.now t
+        × Unit {0})) (⟦<List as Archive>⟧.keys a1.now.value)
+        (⟦<List as Archive>⟧.meaning a1.now.value) (S.state serializer.old)
         (S.state serializer.new)) }
-    ensures same_values { IfOk result (λ r. ⟦<u32 as Archive>⟧.belongs a0.now r.0
-        × (⟦<Box<List> as Archive>⟧.belongs a1.now r.1.0 × Unit {0})) }
     ensures goes_on { GoesOn (S.state serializer.old) (S.state serializer.new) }
     ensures refused { IfErr result (IsRefused list_definitions list_shape
         (⟦<u32 as Archive>⟧.keys a0.now ++ (⟦<Box<List> as Archive>⟧.keys a1.now ++ []))
@@ -249,44 +290,53 @@ fn serialize_list_cons<S: Writer + Keys + ResolverAlloc>(
         (value (⟦<Box<List> as Archive>⟧.meaning a1.now) no_value))) (S.state serializer.old)
         (S.state serializer.new)) }
 {
+    let _rest = a1;
     let a0 = match serialize_part(a0, serializer) {
         Ok(a0) => a0,
         Err(error) => return Err(error),
     };
-    let a1 = match serialize_box_list(a1, serializer) {
-        Ok(a1) => a1,
-        Err(error) => return Err(error),
-    };
-    Ok((a0, (a1, ())))
+    Ok((a0, ()))
 }
 
-// Writes what a value owns.
-#[cycle(serialize_list)]
-fn serialize_list<S: Writer + Keys + ResolverAlloc>(
-    value: &List,
-    serializer: &mut S,
-) -> Result<ListResolver, Error>
-    ensures serialized { IfOk result (λ r. Serialized list_definitions list_shape
-        (⟦<List as Archive>⟧.keys value.now) (⟦<List as Archive>⟧.meaning value.now)
-        (⟦<List as Archive>⟧.flat value.now r) (S.state serializer.old) (S.state serializer.new)) }
-    ensures same_value { IfOk result (λ r. ⟦<List as Archive>⟧.belongs value.now r) }
-    ensures goes_on { GoesOn (S.state serializer.old) (S.state serializer.new) }
-    ensures refused { IfErr result (IsRefused list_definitions list_shape
-        (⟦<List as Archive>⟧.keys value.now) (⟦<List as Archive>⟧.meaning value.now)
-        (S.state serializer.old) (S.state serializer.new)) }
-{
-    match value {
-        List::Nil => Ok(ListResolver::Nil),
-        List::Cons(a0, a1) => match serialize_list_cons(a0, a1, serializer) {
-            Ok(kept) => Ok(ListResolver::Cons(kept)),
-            Err(error) => Err(error),
-        },
+impl<S: Writer + Keys + ResolverAlloc> ChainSource<S> for List {
+    ghost use Rattle.recursive_types.specs.ListMeaning.{list_rest, list_closed};
+
+    type Kept = ListKept;
+
+    ghost rest = { list_rest };
+
+    ghost closed = { list_closed };
+
+    fn rest(&self) -> Option<&Self> {
+        match self {
+            List::Nil => None,
+            List::Cons(_a0, a1) => Some(&**a1),
+        }
+    }
+
+    fn serialize_head(
+        &self,
+        serializer: &mut S,
+    ) -> Result<WrittenHead<Self::Resolver, Self::Kept>, Error> {
+        match self {
+            List::Nil => Ok(WrittenHead::Whole(ListResolver::Nil)),
+            List::Cons(a0, a1) => match serialize_list_cons(a0, a1, serializer) {
+                Ok(kept) => Ok(WrittenHead::Open(ListKept::Cons(kept))),
+                Err(error) => Err(error),
+            },
+        }
+    }
+
+    fn close(kept: Self::Kept, at: BoxResolver) -> Self::Resolver {
+        match kept {
+            ListKept::Cons((r0, ())) => ListResolver::Cons((r0, (at, ()))),
+        }
     }
 }
 
 impl<S: Writer + Keys + ResolverAlloc> Serialize<S> for List {
     fn serialize(&self, serializer: &mut S) -> Result<Self::Resolver, Error> {
-        serialize_list(self, serializer)
+        serialize_chain(self, serializer)
     }
 }
 
@@ -320,23 +370,11 @@ impl<S: Writer + Keys + ResolverAlloc> SerializeUnsized<S> for List {
     }
 }
 
-// Reads a box back.
-#[cycle(read_list)]
-fn read_box_list<D: Entries>(
-    alloc: Global,
-    part: RawView<'_>,
-    deserializer: &mut D,
-) -> Result<Box<List>, Error>
-    requires { IsPartOf ⟦<ArchivedBox<ArchivedList> as ArchivePointee>⟧ part }
-    ensures read { IfOk result (Read ⟦<ArchivedBox<ArchivedList> as ArchivePointee>⟧ part D.Entries
-        deserializer ⟦<Box<List> as Archive>⟧) }
-    ensures refused { IfErr result (RefusesPart ⟦<ArchivedBox<ArchivedList> as ArchivePointee>⟧ part
-        D.Entries deserializer) }
-{
-    let view: Ref<'_, ArchivedBox<ArchivedList>> = Ref::at(part);
-    let value = read_list(alloc, before_box(view).part(), deserializer)?;
-    let whole = Box::new(alloc, value)?;
-    Ok(whole)
+/// What stands before the box of a `List`.
+#[derive(Drop)]
+pub enum ListFront {
+    /// Of `Cons`.
+    Cons(u32),
 }
 
 // Reads `Nil` back.
@@ -355,43 +393,61 @@ fn read_list_nil<D: Entries>(
     Ok(List::Nil)
 }
 
-// Reads `Cons` back.
-#[cycle(read_list)]
+// Reads the parts of `Cons` before its box back.
 fn read_list_cons<D: Entries>(
     alloc: Global,
     part: RawView<'_>,
     deserializer: &mut D,
-) -> Result<List, Error>
+) -> Result<ReadHead<List, ListFront>, Error>
     requires viewed { IsPartOf ⟦<ArchivedList as ArchivePointee>⟧ part }
     requires tag { part_tag part ≡ 1 }
-    ensures read { IfOk result (Read ⟦<ArchivedList as ArchivePointee>⟧ part D.Entries deserializer
-        ⟦<List as Archive>⟧) }
+    ensures read { IfOk result (HeadIsRead ⟦<ArchivedList as Portable>⟧ part D.Entries deserializer
+        ⟦<List as Archive>⟧ list_around list_keys_around) }
     ensures refused { IfErr result (RefusesPart ⟦<ArchivedList as ArchivePointee>⟧ part D.Entries
         deserializer) }
 {
     let p0 = part_of_variant::<ArchivedList, ArchivedU32>(part, 1, 0, 4);
     let a0 = read_part::<ArchivedU32, u32, D>(alloc, p0, deserializer)?;
     let p1 = part_of_variant::<ArchivedList, ArchivedBox<ArchivedList>>(part, 1, 1, 8);
-    let a1 = read_box_list(alloc, p1, deserializer)?;
-    Ok(List::Cons(a0, a1))
+    Ok(ReadHead::Open(ListFront::Cons(a0), p1.pos))
 }
 
-// Reads a value back.
-#[cycle(read_list)]
-fn read_list<D: Entries>(
-    alloc: Global,
-    part: RawView<'_>,
-    deserializer: &mut D,
-) -> Result<List, Error>
-    requires { IsPartOf ⟦<ArchivedList as ArchivePointee>⟧ part }
-    ensures read { IfOk result (Read ⟦<ArchivedList as ArchivePointee>⟧ part D.Entries deserializer
-        ⟦<List as Archive>⟧) }
-    ensures refused { IfErr result (RefusesPart ⟦<ArchivedList as ArchivePointee>⟧ part D.Entries
-        deserializer) }
-{
-    match tag_of_choice::<ArchivedList>(part) {
-        0 => read_list_nil(alloc, part, deserializer),
-        _ => read_list_cons(alloc, part, deserializer),
+impl<D: Entries> ChainBack<ArchivedList, D> for List {
+    type Front = ListFront;
+
+    ghost around = { list_around };
+
+    ghost keys_around = { list_keys_around };
+
+    fn read_head(
+        alloc: Global,
+        part: RawView<'_>,
+        deserializer: &mut D,
+    ) -> Result<ReadHead<Self, Self::Front>, Error>
+        requires { IsPartOf ⟦<ArchivedList as ArchivePointee>⟧ part }
+        ensures read { IfOk result (HeadIsRead ⟦<ArchivedList as Portable>⟧ part D.Entries
+            deserializer ⟦<List as Archive>⟧ list_around list_keys_around) }
+        ensures refused { IfErr result (RefusesPart ⟦<ArchivedList as ArchivePointee>⟧ part
+            D.Entries deserializer) }
+    {
+        match tag_of_choice::<ArchivedList>(part) {
+            0 => match read_list_nil(alloc, part, deserializer) {
+                Ok(value) => Ok(ReadHead::Whole(value)),
+                Err(error) => Err(error),
+            },
+            _ => read_list_cons(alloc, part, deserializer),
+        }
+    }
+
+    fn around(front: Self::Front, rest: Box<Self>) -> Self
+        ensures meaning { ⟦<Self as Archive>⟧.meaning result
+            ≡ list_around front (⟦<Self as Archive>⟧.meaning rest.value) }
+        ensures keys { ⟦<Self as Archive>⟧.keys result ≡ list_keys_around front
+            (⟦<Self as Archive>⟧.keys rest.value) }
+    {
+        match front {
+            ListFront::Cons(a0) => List::Cons(a0, rest),
+        }
     }
 }
 
@@ -407,7 +463,7 @@ impl<D: Entries> Deserialize<List, D> for ArchivedList {
         ensures refused { IfErr result (RefusesPart ⟦<Self as ArchivePointee>⟧ part D.Entries
             deserializer) }
     {
-        read_list(alloc, part, deserializer)
+        read_chain::<ArchivedList, List, D>(alloc, part, deserializer)
     }
 }
 

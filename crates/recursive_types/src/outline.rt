@@ -27,7 +27,7 @@ ghost use Rattle.archive_core.specs.Seen.{ShowsValueOf};
 ghost use Rattle.archive_core.specs.Shape.{no_part, part};
 ghost use Rattle.archive_core.specs.Value.{no_value, product, value};
 ghost use Rattle.archive_core.specs.Writing.{ZeroedPlace};
-ghost use Rattle.std.specs.Prelude.{[], length, refl, string_bytes, ◌++◌, ◌+◌, ◌≡◌};
+ghost use Rattle.std.specs.Prelude.{None, [], length, refl, string_bytes, ◌++◌, ◌+◌, ◌≡◌};
 
 use crate::tree::ArchivedTree;
 use archive_core::core_impls::ArchivedTuple;
@@ -40,7 +40,8 @@ use archive_core::seal::Seal;
 use archive_core::ser::{ResolverAlloc, Writer, serialize_one};
 use archive_core::string::ArchivedString;
 use archive_core::traits::{
-    Archive, ArchivePointee, ArchiveUnsized, Portable, PortableParts, Serialize, SerializeUnsized,
+    Archive, ArchivePointee, ArchiveUnsized, CopyOptimization, Keys, Portable, PortableParts,
+    Serialize, SerializeUnsized,
 };
 use archive_core::vec::ArchivedVec;
 use archive_core::view::Ref;
@@ -103,6 +104,8 @@ impl Archive for Outline {
 
     ghost belongs = { λ v r. ⟦<OutlineFields as SourceParts<Self>>⟧.belongs v r };
 
+    ghost in_bulk = { None };
+
     ghost keyed = { λ v. record_keyed (part_keyed (text_keyed (string_bytes v.title))
         (part_keyed (keyed_of_tree v.chapters) (part_keyed
         (each_keyed ⟦<Tree as Archive>⟧.keys ⟦<Tree as Archive>⟧.meaning keyed_of_tree
@@ -148,6 +151,20 @@ impl Archive for Outline {
             resolver,
             Place::new(pos, bytes),
         )
+    }
+
+    #[inline(always)]
+    fn copy_optimization() -> CopyOptimization<Self> {
+        CopyOptimization::disable()
+    }
+
+    #[inline(always)]
+    fn serialize_copied<S: Writer + Keys>(
+        _values: &[Self],
+        _together: usize,
+        _serializer: &mut S,
+    ) -> Result<Option<usize>, Error> {
+        Ok(None)
     }
 }
 

@@ -25,25 +25,25 @@ ghost use Rattle.archive_core.specs.Writing.{ZeroedPlace};
 ghost use Rattle.archive_core.specs.Written.{GoesOn};
 ghost use Rattle.recursive_types.specs.RoseShape.{rose_definitions, rose_has_layout, rose_has_parts, rose_is_align, rose_layout, rose_no_others, rose_parts, rose_shape, rose_stands_for};
 ghost use Rattle.std.proofs.Common.{lit≤};
-ghost use Rattle.std.specs.Prelude.{IfErr, IfOk, length, refl, ◌+◌, ◌≡◌, ◌≤◌};
+ghost use Rattle.std.specs.Prelude.{IfErr, IfOk, None, length, refl, ◌+◌, ◌≡◌, ◌≤◌};
 
 use archive_core::error::Error;
 use archive_core::place::Place;
 use archive_core::primitive::ArchivedU32;
+use archive_core::recursive::{
+    VecAt, before_vec, define_name, part_of_record, read_part, record_of, resolve_named_record_2,
+    seal_of_field, serialize_inner_slice, serialize_part, view_of_field,
+};
 use archive_core::seal::Seal;
 use archive_core::self_check::BySchema;
 use archive_core::ser::{ResolverAlloc, Writer, serialize_one};
 use archive_core::shape::{Defs, Expr};
 use archive_core::traits::{
-    Archive, ArchivePointee, ArchiveUnsized, Deserialize, Entries, Keys, Portable, Record,
-    Serialize, SerializeUnsized,
+    Archive, ArchivePointee, ArchiveUnsized, CopyOptimization, Deserialize, Entries, Keys,
+    Portable, Record, Serialize, SerializeUnsized,
 };
 use archive_core::vec::{ArchivedVec, VecResolver};
 use archive_core::view::{RawView, Ref};
-use archive_recursive::{
-    VecAt, before_vec, define_name, part_of_record, read_part, record_of, resolve_named_record_2,
-    seal_of_field, serialize_inner_slice, serialize_part, view_of_field,
-};
 use std::alloc::{AllocError, Global};
 
 /// An archived `Rose`: 12 bytes at a multiple of 4. It is validated by its schema.
@@ -151,6 +151,8 @@ impl Archive for Rose {
 
     ghost belongs = { rose_belongs };
 
+    ghost in_bulk = { None };
+
     ghost keyed = { rose_keyed };
 
     ghost planned = { rose_planned };
@@ -174,6 +176,20 @@ impl Archive for Rose {
             kept,
             Place::new(pos, bytes),
         )
+    }
+
+    #[inline(always)]
+    fn copy_optimization() -> CopyOptimization<Self> {
+        CopyOptimization::disable()
+    }
+
+    #[inline(always)]
+    fn serialize_copied<S: Writer + Keys>(
+        _values: &[Self],
+        _together: usize,
+        _serializer: &mut S,
+    ) -> Result<Option<usize>, Error> {
+        Ok(None)
     }
 }
 

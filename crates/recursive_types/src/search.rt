@@ -20,6 +20,7 @@ ghost use Rattle.archive_core.specs.Definitions.{no_definition};
 ghost use Rattle.archive_core.specs.Error.TheVariants.{OutOfMemory};
 ghost use Rattle.archive_core.specs.Expressions.{shape_of, shapes_in};
 ghost use Rattle.archive_core.specs.Fields.{field_in};
+ghost use Rattle.archive_core.specs.Hollow.{option_at};
 ghost use Rattle.archive_core.specs.PlannedOwners.{one_planned};
 ghost use Rattle.archive_core.specs.Plans.{Serialized};
 ghost use Rattle.archive_core.specs.SealsWritten.{IsSealOf, SealsPart};
@@ -30,29 +31,28 @@ ghost use Rattle.archive_core.specs.Sources.{Read};
 ghost use Rattle.archive_core.specs.Value.{value};
 ghost use Rattle.archive_core.specs.Writing.{ZeroedPlace};
 ghost use Rattle.archive_core.specs.Written.{GoesOn};
-ghost use Rattle.archive_recursive.specs.Hollow.{option_at};
 ghost use Rattle.recursive_types.specs.SearchShape.{search_definitions, search_has_layout, search_has_parts, search_is_align, search_layout, search_no_others, search_parts, search_shape, search_stands_for};
 ghost use Rattle.std.proofs.Common.{lit≤};
-ghost use Rattle.std.specs.Prelude.{IfErr, IfOk, Some, length, refl, ⊤, ◌+◌, ◌≡◌, ◌≤◌};
+ghost use Rattle.std.specs.Prelude.{IfErr, IfOk, None, Some, length, refl, ⊤, ◌+◌, ◌≡◌, ◌≤◌};
 
 use archive_core::boxed::{ArchivedBox, BoxResolver, serialize_inner};
 use archive_core::error::Error;
 use archive_core::option::ArchivedOption;
 use archive_core::place::Place;
 use archive_core::primitive::ArchivedU32;
+use archive_core::recursive::{
+    OptionAt, before_box, define_name, option_expression, part_of_record, read_part, record_of,
+    resolve_named_record_3, seal_of_field, serialize_part, view_of_field,
+};
 use archive_core::seal::Seal;
 use archive_core::self_check::BySchema;
 use archive_core::ser::{ResolverAlloc, Writer, serialize_one};
 use archive_core::shape::{Defs, Expr, Pointee};
 use archive_core::traits::{
-    Archive, ArchivePointee, ArchiveUnsized, Deserialize, Entries, Keys, Portable, Record,
-    Serialize, SerializeUnsized,
+    Archive, ArchivePointee, ArchiveUnsized, CopyOptimization, Deserialize, Entries, Keys,
+    Portable, Record, Serialize, SerializeUnsized,
 };
 use archive_core::view::{RawView, Ref};
-use archive_recursive::{
-    OptionAt, before_box, define_name, option_expression, part_of_record, read_part, record_of,
-    resolve_named_record_3, seal_of_field, serialize_part, view_of_field,
-};
 use std::alloc::Global;
 
 /// An archived `Search`: 20 bytes at a multiple of 4. It is validated by its schema.
@@ -176,6 +176,8 @@ impl Archive for Search {
 
     ghost belongs = { search_belongs };
 
+    ghost in_bulk = { None };
+
     ghost keyed = { search_keyed };
 
     ghost planned = { search_planned };
@@ -200,6 +202,20 @@ impl Archive for Search {
             OptionAt<ArchivedSearch>,
             ArchivedSearch,
         >(&h0, &self.value, &h2, kept, Place::new(pos, bytes))
+    }
+
+    #[inline(always)]
+    fn copy_optimization() -> CopyOptimization<Self> {
+        CopyOptimization::disable()
+    }
+
+    #[inline(always)]
+    fn serialize_copied<S: Writer + Keys>(
+        _values: &[Self],
+        _together: usize,
+        _serializer: &mut S,
+    ) -> Result<Option<usize>, Error> {
+        Ok(None)
     }
 }
 

@@ -20,6 +20,8 @@ mod owners;
 #[cfg(test)]
 mod points;
 #[cfg(test)]
+mod ranks;
+#[cfg(test)]
 mod runs;
 #[cfg(test)]
 mod spots;

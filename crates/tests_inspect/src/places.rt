@@ -16,13 +16,13 @@ fn assert_covered(rt: &impl Abort, alloc: Global, text: &str, archive: &[u8]) ->
     let Some(entries) = describe(alloc, &form, archive)? else {
         panic!(rt; "no archive")
     };
-    let mut end = 0i128;
+    let mut end = 0usize;
     for entry in &entries {
         assert_same(rt, text, entry.position, end);
         assert!(rt; entry.size > 0);
         end = end.saturating_add(entry.size);
     }
-    assert_same(rt, text, end, archive.len() as i128);
+    assert_same(rt, text, end, archive.len());
     Ok(())
 }
 

@@ -1,6 +1,6 @@
 // More entries than a map can have.
 
-ghost use Rattle.std.specs.Prelude.{◌≡◌, ⊤, refl, [], pos, length, OnOk, IfErr};
+ghost use Rattle.std.specs.Prelude.{◌≡◌, ⊤, refl, [], pos, length, OnOk, IfErr, None};
 ghost use Rattle.archive_core.specs.CallOutcomes.{ResolvesAs};
 ghost use Rattle.archive_core.specs.Definitions.{no_definition};
 ghost use Rattle.archive_core.specs.Keyed.{number_keyed};
@@ -16,7 +16,7 @@ use archive_core::error::Error;
 use archive_core::map::{SortedEntries, SortedKey};
 use archive_core::place::Place;
 use archive_core::ser::Writer;
-use archive_core::traits::{Archive, Keys, Portable, Serialize};
+use archive_core::traits::{Archive, CopyOptimization, Keys, Portable, Serialize};
 use std::alloc::Global;
 use std::process::Abort;
 
@@ -37,6 +37,8 @@ impl Archive for One {
 
     ghost belongs = { λ _ _. ⊤ };
 
+    ghost in_bulk = { None };
+
     ghost keyed = { λ _. number_keyed (pos 1) };
 
     ghost planned = { λ _. leaf_planned no_definition (leaf (number_kind unsigned w8)) (number_kind unsigned w8) [] (pos 1) refl };
@@ -49,6 +51,20 @@ impl Archive for One {
     {
         let Place { bytes, pos, .. } = place;
         1u8.resolve((), Place::new(pos, bytes))
+    }
+
+    #[inline(always)]
+    fn copy_optimization() -> CopyOptimization<Self> {
+        CopyOptimization::disable()
+    }
+
+    #[inline(always)]
+    fn serialize_copied<S: Writer + Keys>(
+        _values: &[Self],
+        _together: usize,
+        _serializer: &mut S,
+    ) -> Result<Option<usize>, Error> {
+        Ok(None)
     }
 }
 

@@ -21,7 +21,7 @@ pub(crate) fn list_of(alloc: Global, numbers: &[u32]) -> Result<List, AllocError
 }
 
 // The end of the list at 0, the last node at 12, and the first one at 24: a tag, the number four bytes behind it, and the offset of the box.
-const TWO: &[u8] =
+pub(crate) const TWO: &[u8] =
     b"\0\0\0\0\0\0\0\0\0\0\0\0\x01\0\0\0\x02\0\0\0\xec\xff\xff\xff\x01\0\0\0\x01\0\0\0\xec\xff\xff\xff";
 
 #[test]

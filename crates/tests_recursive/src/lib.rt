@@ -5,3 +5,7 @@
 mod assertions;
 #[cfg(test)]
 mod bytes;
+#[cfg(test)]
+mod damaged;
+#[cfg(test)]
+mod long;

@@ -6,7 +6,7 @@ from derivation.files import naming
 
 from .repository import RepositoryTest
 
-LIST = "#[derive(Drop)]\npub enum List { Nil, Cons(u32, Box<List>) }\n"
+LIST = "pub enum List { Nil, Cons(u32, Box<List>) }\n"
 TREE = "#[derive(Drop)]\npub struct Tree { pub value: i64, pub children: Vec<Tree> }\n"
 FAMILY = "#[derive(Drop)]\npub struct Dir { name: String, entries: Vec<Entry> }\n#[derive(Drop)]\npub enum Entry { File(u64), Sub(Box<Dir>) }\n"
 
@@ -21,9 +21,29 @@ class Recursive(RepositoryTest):
         self.assertEqual(self.beside("specs", "Lib.antt"), "pub mod ListMeaning\npub mod ListShape\n")
         self.assertIn("list_name = codes \"ArchivedList\"", self.beside("specs", "ListShape.antt"))
         self.assertIn("case 1 (value (number (pos a0)) (value (box (m a1.value)) no_value))", self.beside("specs", "ListMeaning.antt"))
-        for cycle in ("+serialize_list", "+read_list"):
-            self.assertIn("pub ", self.beside("proofs", "types", cycle, "Answers.antt"))
+        for method in ("ChainSource/serialize_head", "ChainBackArchivedList/around"):
+            self.assertIn("pub ", self.beside("proofs", "types", f"List{method}", "Answers.antt"))
         self.assertEqual(self.run_command("--check", path), (0, ""))
+
+    def test_a_list_goes_by_loops(self):
+        path = self.put(LIST)
+        self.assertEqual(self.run_command(path), (0, ""))
+        text = self.text(path)
+        for word in ("type Check = ChainCheck<ListChain>;", "serialize_chain(self, serializer)", "read_chain::<ArchivedList, List, D>", "impl Drop for List {"):
+            self.assertIn(word, text)
+        self.assertNotIn("#[cycle", text)
+
+    def test_what_has_more_than_a_box_at_its_end_is_recursive(self):
+        for declared in ("Cons(Box<List>, u32)", "Cons(Box<List>, Box<List>)", "Cons(u32, Option<Box<List>>)", "Cons(u32, Vec<List>)"):
+            path = self.put(f"#[derive(Drop)]\npub enum List {{ Nil, {declared} }}\n")
+            self.assertEqual(self.run_command(path), (0, ""))
+            self.assertIn("#[cycle(serialize_list)]", self.text(path))
+
+    def test_a_list_is_not_dropped_by_recursion(self):
+        path = self.put("#[derive(Debug, Drop)]\n" + LIST)
+        status, text = self.run_command(path)
+        self.assertEqual(status, 2)
+        self.assertIn("`List` is a list, which is dropped by a loop that tools/derive writes; leave `Drop` out of its derive", text)
 
     def test_two_files_of_one_run_are_both_named(self):
         paths = [self.put(LIST, "list"), self.put(TREE, "tree")]

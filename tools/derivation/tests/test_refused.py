@@ -68,6 +68,7 @@ DECLARATIONS = [
     ("struct A { x: Vec<Option<Vec<Option<Vec<Option<u8>>>>>> }", "1: `Vec<Option<Vec<Option<Vec<Option<u8>>>>>>` is too deep for the toolchain; put a part of it into a struct"),
     (f"struct A {{ {LIST.join(f'f{i}: Vec<Option<Vec<u8>>>' for i in range(5))} }}", "5: `Vec<Option<Vec<u8>>>` is too deep for the toolchain beside the fields before it; put a part of it into a struct"),
     (f"enum A {{\n{LIST.join(f'V{i}(u8)' for i in range(31))} }}", "32: `A` has more variants up to here than the toolchain follows; put some into an enum of their own"),
+    (f"enum A {{\n{LIST.join(f'V{i}(u8, u8, u8, u8)' for i in range(15))} }}", "14: `A` has more variants up to here than the toolchain follows; put some into an enum of their own"),
     ("struct A<T = u8>(T);", "1: `T` has a default; write the type at each use instead"),
     (f"struct A {{\n{LIST.join(f'f{i}: u8' for i in range(MOST + 1))} }}", f"{MOST + 2}: `A` has {MOST + 1} fields, and {MOST} are the most; put some into a struct of their own"),
     ("struct A { x: u8, X: u8 }", "1: the fields `X` and `x` differ only in case; give one of them another name"),

@@ -12,7 +12,8 @@ ghost use Rattle.archive_types.specs.SourceOutcomes.{WritesUnsized};
 
 use super::{HighSerializer, serialize_whole};
 use archive_check::format::error::Error;
-use archive_types::ser::Writer;
+use archive_types::ser::{Serializer, Writer, serialize_one};
+use archive_types::sharing::Share;
 use archive_types::traits::{Keys, Serialize, SerializeUnsized};
 use std::alloc::{Allocator, Global};
 
@@ -28,9 +29,9 @@ pub fn to_bytes_in_with_alloc<
 >(alloc: Global, value: &T, writer: W, resolvers: A) -> Result<W, Error>
     ensures { AppendsTaken T.Archive T.Archived.Portable value.now W.Keys writer result }
 {
-    let (writer, root) = serialize_whole(alloc, resolvers, value, writer);
-    root?;
-    Ok(writer)
+    let mut serializer = Serializer::new(writer, resolvers, Share::new(alloc));
+    serialize_one(value, &mut serializer)?;
+    Ok(serializer.into_writer())
 }
 
 /// As `to_bytes`, with memory for resolvers from `resolvers`; all else comes from `alloc`. As in rkyv 0.8.18.

@@ -1,15 +1,15 @@
 // User-defined recursive types: their format, stated once for all of them.
 
-ghost use Rattle.std.specs.Prelude.{◌≡◌, ◌≤◌, IfOk, IfErr, OnOk, min, refl};
-ghost use Rattle.archive_check.specs.Words.AddedDefinitions.{AreAdded};
-ghost use Rattle.archive_check.specs.Definitions.{ExplainsConflict, HasLayout, IsAlign, defines};
-ghost use Rattle.archive_check.specs.Expressions.{shape_of, table_of, variants_in};
+ghost use Rattle.std.specs.Prelude.{◌≡◌, ◌≤◌, IfOk, min, refl};
+ghost use Rattle.archive_check.specs.Definitions.{HasLayout, IsAlign, defines};
+ghost use Rattle.archive_check.specs.Expressions.{shape_of};
 ghost use Rattle.archive_check.specs.Layout.{Layout};
 ghost use Rattle.archive_check.specs.Members.NamedLayout.{name_has_layout, name_reached};
 ghost use Rattle.archive_check.specs.SelfCheck.Laws.{by_schema};
-ghost use Rattle.archive_check.specs.Shape.{Name, Shape, choice, named, one};
+ghost use Rattle.archive_check.specs.Shape.{Name, Shape, named, one};
 ghost use Rattle.archive_check.specs.Members.VariantsLayout.{IsChoice};
 
+use crate::recursive::define_name;
 use archive_check::format::error::Error;
 use archive_check::format::expr::{Defs, Expr};
 use archive_check::self_check::BySchema;
@@ -146,22 +146,4 @@ impl<N: RecursiveChoice> Choice for ArchivedRecursive<N> {
     ghost has_variants = { N.has_variants };
 
     ghost holds = { N.holds };
-}
-
-// Adds the definition of a name.
-#[tactic(auto, using(archive_check::proofs::format::AddedDefinitions::adding))]
-fn define_name(name: &'static str, definition: Expr, defs: &mut Defs) -> Result<(), Error>
-    ensures added { OnOk result (AreAdded defs (defines name.now (shape_of definition))) }
-    ensures refused { IfErr result (ExplainsConflict (table_of defs.old) (defines name.now (shape_of definition))) }
-{
-    defs.add(name, definition)?;
-    Ok(())
-}
-
-/// An expression of a choice with this name and these variants, each by the expressions of its
-/// parts: the definition of a recursive enum. Our own.
-pub fn choice_of(name: &'static str, variants: Vec<Vec<Expr>>) -> Expr
-    ensures { shape_of result ≡ choice name.now (variants_in variants.items) }
-{
-    Expr::Choice(name, variants)
 }

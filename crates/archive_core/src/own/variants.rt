@@ -3,7 +3,7 @@
 ghost use Rattle.std.specs.Prelude.{◌≡◌, ◌+◌, ◌<◌, ◌≤◌, Some, IfOk, OnOk, IfErr, length};
 ghost use Rattle.archive_check.specs.Shape.{variant_at};
 ghost use Rattle.archive_check.specs.Value.{case};
-ghost use Rattle.archive_fields.specs.OwnChoices.{variant_definitions};
+ghost use Rattle.archive_core.specs.fields.OwnChoices.{variant_definitions};
 ghost use Rattle.archive_types.specs.Words.Seen.{part_tag, IsPartOf, RefusesPart, ReadsVariant};
 ghost use Rattle.archive_types.specs.Writing.{ZeroedPlace};
 ghost use Rattle.archive_write.specs.Written.{GoesOn};

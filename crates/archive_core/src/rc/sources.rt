@@ -1,6 +1,6 @@
 // Shared values as sources, with the keys that name them.
 
-ghost use Rattle.std.specs.Prelude.{◌≡◌, ⊤, IfOk, OnOk, IfErr, length, refl};
+ghost use Rattle.std.specs.Prelude.{◌≡◌, ⊤, IfOk, OnOk, IfErr, length, refl, None};
 ghost use Rattle.archive_check.specs.Layout.{pointer_size};
 ghost use Rattle.archive_check.specs.Shape.{one, shared};
 ghost use Rattle.archive_check.specs.Value.{shared_value};
@@ -21,7 +21,8 @@ use archive_types::rc::{ArchivedRc, RcFlavor, RcResolver, write_pointer, write_s
 use archive_types::ser::{ResolverAlloc, Writer, serialize_one};
 use archive_types::sharing::Sharing;
 use archive_types::traits::{
-    Archive, ArchivePointee, ArchiveUnsized, Portable, Serialize, SerializeUnsized,
+    Archive, ArchivePointee, ArchiveUnsized, CopyOptimization, Keys, Portable, Serialize,
+    SerializeUnsized,
 };
 pub use long::{SharedSlice, SharedStr};
 use std::marker::PhantomData;
@@ -101,6 +102,8 @@ impl<T: Archive> Archive for Shared<T> {
 
     ghost belongs = { λ _ _. ⊤ };
 
+    ghost in_bulk = { None };
+
     ghost keyed = { λ s. rc_keyed s.key T.Archived.pointee 0 (T.meaning s.value.value) (T.keys s.value.value) (T.keyed s.value.value) };
 
     ghost planned = { λ s. rc_one_planned T.Archived.definitions s.key T.Archived.pointee T.Archived.shape T.Archived.is_one
@@ -119,6 +122,20 @@ impl<T: Archive> Archive for Shared<T> {
     {
         let Place { bytes, pos, .. } = place;
         write_pointer::<T::Archived>(resolver.pos as usize, 0, pos, bytes)
+    }
+
+    #[inline(always)]
+    fn copy_optimization() -> CopyOptimization<Self> {
+        CopyOptimization::disable()
+    }
+
+    #[inline(always)]
+    fn serialize_copied<S: Writer + Keys>(
+        _values: &[Self],
+        _together: usize,
+        _serializer: &mut S,
+    ) -> Result<Option<usize>, Error> {
+        Ok(None)
     }
 }
 

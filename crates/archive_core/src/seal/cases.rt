@@ -3,11 +3,11 @@
 ghost use Rattle.std.specs.Prelude.{◌≡◌, ◌+◌, Some, true};
 ghost use Rattle.archive_check.specs.Definitions.{no_definition};
 ghost use Rattle.archive_core.specs.SealsWritten.{IsSealOf, SealsPart, seal_tag};
-ghost use Rattle.archive_fields.specs.FieldsAt.{FieldBegins, field_at};
-ghost use Rattle.archive_fields.specs.Plain.{BeginsAt, are_none, part_in};
+ghost use Rattle.archive_core.specs.fields.FieldsAt.{FieldBegins, field_at};
+ghost use Rattle.archive_core.specs.fields.Plain.{BeginsAt, are_none, part_in};
 
 use super::{Seal, Spot};
-use archive_fields::fields::{part_in_case, part_in_record};
+use crate::fields::{part_in_case, part_in_record};
 use archive_types::traits::Portable;
 
 /// A seal of a field of a variant, which begins at `offset`. The caller must ensure that the seal

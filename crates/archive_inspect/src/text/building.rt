@@ -3,8 +3,8 @@
 use crate::form::labels::{Labels, VariantLabels};
 use crate::text::known::SHARED;
 use crate::text::mistakes::{Mistake, Wrong};
-use crate::text::parser::{Read, ReadParts};
-use archive_check::format::expr::{Expr, Key, Pointee};
+use crate::text::parser::{Read, ReadParts, leaf};
+use archive_check::format::expr::{Expr, Key, Kind, Pointee};
 use std::alloc::Global;
 
 // What a pointer leads to.
@@ -170,6 +170,17 @@ fn pair(mut arguments: Vec<Argument>, at: usize) -> Result<(Read, Argument), Wro
     }
 }
 
+// A number that isn't 0.
+fn non_zero(at: usize, number: Read) -> Result<Read, Wrong> {
+    match number.expr {
+        Expr::Leaf(Kind::Number(integer)) => Ok(leaf(Kind::NonZero(integer))),
+        _ => Err(Wrong {
+            at,
+            mistake: Mistake::Expected("a number's type between `<` and `>`"),
+        }),
+    }
+}
+
 // A sorted map, whose keys are leaves or strings.
 fn map(alloc: Global, at: usize, key: Read, value: Read) -> Result<Read, Wrong> {
     let key = match key.expr {
@@ -222,6 +233,7 @@ pub(super) fn built_of(
         }),
         "BoxStr" if arguments.is_empty() => Target::Text.boxed(alloc),
         "SharedStr" if arguments.is_empty() => Target::Text.shared(alloc),
+        "NonZero" => non_zero(at, only(arguments, at)?.sized(at)?),
         "Option" => option(alloc, only(arguments, at)?.sized(at)?),
         "Vec" => only(arguments, at)?.sized(at)?.vector(alloc),
         "Box" => only(arguments, at)?.boxed(alloc),

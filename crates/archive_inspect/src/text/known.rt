@@ -41,6 +41,8 @@ pub(super) fn leaf_of(word: &str) -> Option<Kind> {
     match word {
         "bool" => Some(Kind::Bool),
         "char" => Some(Kind::Char),
+        "FixedUsize" => Some(Kind::Number(IntegerKind::U32)),
+        "FixedIsize" => Some(Kind::Number(IntegerKind::I32)),
         _ => match word.bytes().next() {
             Some(b'a'..=b'z') => Some(Kind::Number(integer_of(word)?)),
             _ => non_zero_of(word),

@@ -59,6 +59,13 @@ pub struct SchemaError {
     pub mistake: Mistake,
 }
 
+impl SchemaError {
+    /// Whether memory was refused, so that nothing is known of the text.
+    pub fn is_out_of_memory(self) -> bool {
+        matches!(self.mistake, Mistake::OutOfMemory)
+    }
+}
+
 // The same, with a position in bytes.
 #[derive(Drop, Clone, Copy)]
 pub(super) struct Wrong {

@@ -1,7 +1,16 @@
 //! The values of leaves.
 
-use crate::walk::bytes::bytes_at;
+ghost use Rattle.std.specs.Int.{byte_len};
+ghost use Rattle.std.specs.Prelude.{◌≡◌, ◌+◌, ◌<◌, ◌≤◌, pos, length, slice_index, IfSome};
+ghost use Rattle.archive_check.specs.Expressions.{kind_of, integer_of};
+ghost use Rattle.archive_check.specs.Reads.{bytes_at};
+ghost use Rattle.archive_inspect.specs.declared.walk.leaves.Leaf.TheVariants.{Bool};
+ghost use Rattle.archive_inspect.specs.Leaves.{told_number, number_read, integer_read, IsLeafRead};
+
+use crate::ways::pointing::has_bytes;
+use archive_check::format::bytes::read_u32;
 use archive_check::format::expr::{IntegerKind, Kind};
+use archive_check::format::leaf::is_legal;
 use std::fmt;
 
 /// The value of a leaf.
@@ -41,106 +50,66 @@ pub fn number_in(bytes: &[u8]) -> u128 {
     number
 }
 
-// A number of so many bytes as one with a sign, in two's complement.
-fn signed(number: u128, size: usize) -> i128 {
-    let bits = size.saturating_mul(8);
-    if bits >= 128 {
-        return i128::from_le_bytes(number.to_le_bytes());
-    }
-    let half = 1i128
-        .checked_shl(bits.saturating_sub(1) as u32)
-        .unwrap_or(0);
-    let value = i128::try_from(number).unwrap_or(0);
-    if value >= half {
-        value.saturating_sub(half).saturating_sub(half)
-    } else {
-        value
-    }
+// The bytes at a position, so many as the array has.
+#[tactic(auto, unfolding(archive_check::specs::Reads::bytes_at))]
+fn raw_at<const N: usize>(bytes: &[u8], at: usize) -> [u8; N]
+    requires { at + N ≤ length bytes.now }
+    ensures { result ≡ bytes_at bytes.now at N }
+{
+    let mut raw = [0; N];
+    raw.copy_from_slice(&bytes[at..at + N]);
+    raw
 }
 
-// The number in some bytes.
-fn number_of(integer: IntegerKind, bytes: &[u8]) -> Leaf {
-    let number = number_in(bytes);
+// The number at a position.
+fn integer_at(integer: IntegerKind, bytes: &[u8], at: usize) -> Leaf
+    requires { at + byte_len (integer_of integer).1 ≤ length bytes.now }
+    ensures { told_number result ≡ integer_read (integer_of integer).0 (integer_of integer).1
+        bytes.now at }
+{
     match integer {
-        IntegerKind::U8
-        | IntegerKind::U16
-        | IntegerKind::U32
-        | IntegerKind::U64
-        | IntegerKind::U128 => Leaf::Unsigned(number),
-        IntegerKind::I8
-        | IntegerKind::I16
-        | IntegerKind::I32
-        | IntegerKind::I64
-        | IntegerKind::I128 => Leaf::Signed(signed(number, bytes.len())),
+        IntegerKind::U8 => Leaf::Unsigned(u8::from_le_bytes(raw_at(bytes, at)) as u128),
+        IntegerKind::I8 => Leaf::Signed(i8::from_le_bytes(raw_at(bytes, at)) as i128),
+        IntegerKind::U16 => Leaf::Unsigned(u16::from_le_bytes(raw_at(bytes, at)) as u128),
+        IntegerKind::I16 => Leaf::Signed(i16::from_le_bytes(raw_at(bytes, at)) as i128),
+        IntegerKind::U32 => Leaf::Unsigned(u32::from_le_bytes(raw_at(bytes, at)) as u128),
+        IntegerKind::I32 => Leaf::Signed(i32::from_le_bytes(raw_at(bytes, at)) as i128),
+        IntegerKind::U64 => Leaf::Unsigned(u64::from_le_bytes(raw_at(bytes, at)) as u128),
+        IntegerKind::I64 => Leaf::Signed(i64::from_le_bytes(raw_at(bytes, at)) as i128),
+        IntegerKind::U128 => Leaf::Unsigned(u128::from_le_bytes(raw_at(bytes, at))),
+        IntegerKind::I128 => Leaf::Signed(i128::from_le_bytes(raw_at(bytes, at))),
     }
 }
 
-/// The value of these bytes: none if they are none of the kind.
-pub fn leaf_of(kind: Kind, bytes: &[u8]) -> Option<Leaf> {
+// Whether the bool at a position is true.
+fn is_true(bytes: &[u8], at: usize) -> bool
+    requires fits { at + 1 ≤ length bytes.now }
+    requires legal { slice_index bytes.now at < 2 }
+    ensures { told_number (Bool result) ≡ pos (slice_index bytes.now at) }
+{
+    if bytes[at] == 0 {
+        return false;
+    }
+    true
+}
+
+/// The value of the leaf of the kind at a position: none if it doesn't lie in the buffer, or its
+/// bytes are none of the kind.
+pub fn leaf_from(kind: Kind, bytes: &[u8], at: usize) -> Option<Leaf>
+    ensures { IfSome result (IsLeafRead (kind_of kind) bytes.now at) }
+{
+    if !has_bytes(bytes, at, kind.size()) || !is_legal(kind, bytes, at) {
+        return None;
+    }
     match kind {
         Kind::Unit => Some(Leaf::Unit),
-        Kind::Bool => match number_in(bytes) {
-            0 => Some(Leaf::Bool(false)),
-            1 => Some(Leaf::Bool(true)),
-            _ => None,
-        },
+        Kind::Bool => Some(Leaf::Bool(is_true(bytes, at))),
         Kind::Char => {
-            let code = u32::try_from(number_in(bytes)).ok()?;
-            Some(Leaf::Char(char::from_u32(code)?))
+            let code = char::from_u32(read_u32(bytes, at))?;
+            Some(Leaf::Char(code))
         }
-        Kind::Number(integer) | Kind::RawRel(integer) => Some(number_of(integer, bytes)),
-        Kind::NonZero(integer) => {
-            if number_in(bytes) == 0 {
-                return None;
-            }
-            Some(number_of(integer, bytes))
-        }
-    }
-}
-
-/// The bytes of a leaf at a position, if they lie in the buffer.
-pub fn leaf_bytes(bytes: &[u8], kind: Kind, at: i128) -> Option<&[u8]> {
-    bytes_at(bytes, at, kind.size() as i128)
-}
-
-/// A kind as Rust writes it, of leaves.
-pub fn kind_name(kind: Kind) -> &'static str {
-    match kind {
-        Kind::Unit => "()",
-        Kind::Bool => "bool",
-        Kind::Char => "char",
-        Kind::Number(integer) => integer_name(integer),
-        Kind::NonZero(integer) => non_zero_name(integer),
-        Kind::RawRel(_) => "an offset",
-    }
-}
-
-fn integer_name(integer: IntegerKind) -> &'static str {
-    match integer {
-        IntegerKind::U8 => "u8",
-        IntegerKind::I8 => "i8",
-        IntegerKind::U16 => "u16",
-        IntegerKind::I16 => "i16",
-        IntegerKind::U32 => "u32",
-        IntegerKind::I32 => "i32",
-        IntegerKind::U64 => "u64",
-        IntegerKind::I64 => "i64",
-        IntegerKind::U128 => "u128",
-        IntegerKind::I128 => "i128",
-    }
-}
-
-fn non_zero_name(integer: IntegerKind) -> &'static str {
-    match integer {
-        IntegerKind::U8 => "NonZeroU8",
-        IntegerKind::I8 => "NonZeroI8",
-        IntegerKind::U16 => "NonZeroU16",
-        IntegerKind::I16 => "NonZeroI16",
-        IntegerKind::U32 => "NonZeroU32",
-        IntegerKind::I32 => "NonZeroI32",
-        IntegerKind::U64 => "NonZeroU64",
-        IntegerKind::I64 => "NonZeroI64",
-        IntegerKind::U128 => "NonZeroU128",
-        IntegerKind::I128 => "NonZeroI128",
+        Kind::Number(integer) => Some(integer_at(integer, bytes, at)),
+        Kind::NonZero(integer) => Some(integer_at(integer, bytes, at)),
+        Kind::RawRel(integer) => Some(integer_at(integer, bytes, at)),
     }
 }

@@ -2,12 +2,13 @@
 
 use crate::form::labels::{Labels, PartLabels};
 use crate::walk::bytes::{
-    byte_at, coded_length, inline_text, is_out_of_line, number_at, target_at, text_target_at,
+    byte_at, coded_length, inline_text, is_out_of_line, number_at, start_of, target_at,
+    text_target_at,
 };
 use crate::walk::entering::text_in;
 use crate::walk::faults::{FirstFault, Reason, Stop};
 use crate::walk::frames::{Frame, Held, OpenParts, Place};
-use crate::walk::leaves::{leaf_bytes, leaf_of, number_in};
+use crate::walk::leaves::{leaf_from, number_in};
 use crate::walk::met::{Meeting, Met};
 use crate::walk::{Count, Event, Next, Region, Visited, Walker, What};
 use archive_check::format::expr::{Expr, FlavorInfo, Kind, Pointee};
@@ -120,12 +121,17 @@ impl<'a> Walker<'a> {
         place: Place<'a>,
         kind: Kind,
     ) -> Result<Option<Event<'a>>, Stop> {
-        let Some(bytes) = leaf_bytes(self.bytes, kind, place.at) else {
+        let bytes = self.bytes;
+        let size = kind.size();
+        let Some(start) = start_of(bytes, place.at, size) else {
             return Err(nowhere(place));
         };
-        match leaf_of(kind, bytes) {
-            Some(leaf) => Walker::found(place, bytes.len() as i128, What::Leaf(leaf)),
-            None => Err(fault_at(place.at, bytes.len() as i128, illegal(kind, bytes))),
+        match leaf_from(kind, bytes, start) {
+            Some(leaf) => Walker::found(place, size as i128, What::Leaf(leaf)),
+            None => {
+                let reason = illegal(kind, &bytes[start..start + size]);
+                Err(fault_at(place.at, size as i128, reason))
+            }
         }
     }
 

@@ -12,25 +12,21 @@ ghost use Rattle.archive_schema.specs.Schemas.{root_of};
 use crate::form::Form;
 use crate::route::RouteStep;
 use crate::ways::entries::entry_from;
-use crate::ways::kinds::{choice_of, is_string, map_of, variant_of};
+use crate::ways::kinds::{choice_of, is_string, kind_at, map_of, variant_of};
 use crate::ways::pointing::{Pointed, Pointing, has_bytes, place_of};
 use crate::ways::regions::is_region_refused;
 use crate::ways::steps::pointing_at;
 use crate::ways::{Point, Thing, follow};
 use archive_check::format::bytes::{inline_length, is_out_of_line, is_text, read_coded_length};
 use archive_check::format::error::Error;
-use archive_check::format::expr::{Expr, FlavorInfo, Key, Kind};
+use archive_check::format::expr::{FlavorInfo, Key, Kind};
 use archive_check::format::leaf::is_legal;
 
 // The kind of leaf that lies at a point, if its bytes are none.
 fn illegal_at(bytes: &[u8], point: Point<'_>) -> Option<Kind>
     ensures { IfSome result (LeafFails bytes.now point.entry) }
 {
-    let kind = match point.thing {
-        Thing::Value(Expr::Leaf(kind)) => *kind,
-        Thing::Key(Key::Leaf(kind)) => kind,
-        _ => return None,
-    };
+    let kind = kind_at(point)?;
     if has_bytes(bytes, point.at, kind.size()) && !is_legal(kind, bytes, point.at) {
         Some(kind)
     } else {

@@ -1,13 +1,13 @@
 //! What lies at a point, by kind.
 
 ghost use Rattle.std.specs.Prelude.{◌≡◌, ℕ, Some, None, IsTrue, IfSome, IfNone};
-ghost use Rattle.archive_check.specs.Expressions.{shape_of, shapes_in, variants_in, key_of};
-ghost use Rattle.archive_check.specs.Shape.{parts, choice, array, sorted_map, str, variant_at};
+ghost use Rattle.archive_check.specs.Expressions.{shape_of, shapes_in, variants_in, key_of, kind_of, flavor_of, pointee_of};
+ghost use Rattle.archive_check.specs.Shape.{leaf, parts, choice, array, sorted_map, str, weak, variant_at};
 ghost use Rattle.archive_inspect.specs.Points.{end_of_way};
 ghost use Rattle.archive_inspect.specs.Ways.{a_value, a_payload};
 
 use crate::ways::{Point, Thing};
-use archive_check::format::expr::{Expr, Key};
+use archive_check::format::expr::{Expr, FlavorInfo, Key, Kind, Pointee};
 
 /// The expression of the value at a point.
 pub fn expr_of<'a>(point: Point<'a>) -> Option<&'a Expr>
@@ -81,6 +81,28 @@ pub fn is_string(point: Point<'_>) -> bool
     ensures { IsTrue result → end_of_way point.entry.thing ≡ a_value str }
 {
     matches!(point.thing, Thing::Value(Expr::Str) | Thing::Key(Key::Str))
+}
+
+/// The kind of the leaf there.
+pub fn kind_at(point: Point<'_>) -> Option<Kind>
+    ensures { IfSome result (λ kind. end_of_way point.entry.thing ≡ a_value (leaf (kind_of kind))) }
+{
+    match point.thing {
+        Thing::Value(Expr::Leaf(kind)) => Some(*kind),
+        Thing::Key(Key::Leaf(kind)) => Some(kind),
+        _ => None,
+    }
+}
+
+/// The flavor and the pointee of the weak pointer there.
+pub fn weak_of<'a>(point: Point<'a>) -> Option<(FlavorInfo, &'a Pointee)>
+    ensures { IfSome result (λ w. end_of_way point.entry.thing ≡ a_value
+        (weak (flavor_of w.0) (pointee_of w.1.now))) }
+{
+    match point.thing {
+        Thing::Value(Expr::Weak(flavor, pointee)) => Some((*flavor, pointee)),
+        _ => None,
+    }
 }
 
 /// The parts of the variant of this number.

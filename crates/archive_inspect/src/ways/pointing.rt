@@ -39,7 +39,7 @@ pub struct Pointing<'a> {
 }
 
 // Whether so many bytes from a position on lie in the buffer.
-pub(super) fn has_bytes(bytes: &[u8], at: usize, size: usize) -> bool
+pub(crate) fn has_bytes(bytes: &[u8], at: usize, size: usize) -> bool
     ensures { IsTrue result → at + size ≤ length bytes.now }
 {
     match at.checked_add(size) {

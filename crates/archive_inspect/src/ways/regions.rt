@@ -15,8 +15,8 @@ use archive_check::format::error::Error;
 use archive_check::format::expr::Expr;
 use archive_check::format::layout::Layout;
 
-// What each element takes that a pointer leads to: a text is of single bytes.
-fn unit_of(form: &Form, pointed: Pointed<'_>) -> Option<Layout>
+/// What each element takes that a pointer leads to: a text is of single bytes.
+pub fn unit_of(form: &Form, pointed: Pointed<'_>) -> Option<Layout>
     ensures { IfSome result (λ l. Under form.now.schema
         (λ s. unit_layout s (pointed_of pointed.entry) ≡ taken l)) }
 {

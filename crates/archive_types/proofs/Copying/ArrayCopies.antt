@@ -31,7 +31,7 @@ flat xss = flat_map (λ x. x) xss
 abbrev pub Whole : {A : Type 0} → ℕ → List (List A) → Type 0
 Whole n xss = AllByRecursion (λ x. length x ≡ n) xss
 
-flat_length : {A : Type 0} (n : ℕ) (xss : List (List A)) → Whole n xss → length (flat xss) ≡ length xss * n
+pub flat_length : {A : Type 0} (n : ℕ) (xss : List (List A)) → Whole n xss → length (flat xss) ≡ length xss * n
 flat_length n [] h = omega arith
 flat_length n (x ∷ xss) h = omega (arith, length-append x (flat xss), h.0, flat_length n xss h.1, suc-mul (length xss) n)
 

@@ -1,6 +1,6 @@
 // The elements of an array as they are read back.
 
-ghost use Rattle.std.specs.Prelude.{◌≡◌, ◌↔◌, List, length, OnOk, IfErr, IfSome, IsSome};
+ghost use Rattle.std.specs.Prelude.{◌≡◌, ◌↔◌, List, length, OnOk, IfErr, IfSome, IsSome, None};
 ghost use Rattle.archive_check.specs.Value.{list};
 ghost use Rattle.archive_types.specs.Members.Arrays.{array_meaning, array_keys, array_keyed, array_planned};
 ghost use Rattle.archive_types.specs.Runs.{each_flat, EachBelongs};
@@ -85,6 +85,8 @@ impl<T: Archive, const N: usize> Archive for OwnedArray<T, N> {
 
     ghost belongs = { λ v r. EachBelongs T.belongs v r.items };
 
+    ghost in_bulk = { None };
+
     ghost keyed = { array_keyed N T.keys T.meaning T.keyed };
 
     ghost planned = { array_planned N T.Archived.definitions T.Archived.shape T.keys T.meaning T.planned };
@@ -109,7 +111,6 @@ impl<T: Archive, const N: usize> Archive for OwnedArray<T, N> {
         CopyOptimization::disable()
     }
 
-    #[tactic(auto, using(crate::proofs::Planning::Causes::goes_nowhere))]
     #[inline(always)]
     fn serialize_copied<S: Writer + Keys>(
         _values: &[OwnedArray<T, N>],

@@ -1,7 +1,8 @@
 // Arrays as sources: what each element owns, and then all elements where the array lies.
 
-ghost use Rattle.std.specs.Prelude.{◌≡◌, ◌*◌, length, None, OnOk, IfOk, IfErr, All};
+ghost use Rattle.std.specs.Prelude.{◌≡◌, ◌≤◌, ◌*◌, ◌^◌, ◌↔◌, length, IsTrue, OnOk, IfOk, IfErr, All};
 ghost use Rattle.archive_check.specs.Value.{list};
+ghost use Rattle.archive_types.specs.Copies.{array_in_bulk};
 ghost use Rattle.archive_types.specs.Members.Arrays.{array_meaning, array_keys, array_keyed, array_planned, ResolvesRun};
 ghost use Rattle.archive_types.specs.Runs.{each_flat, EachBelongs, HindersEachAt};
 ghost use Rattle.archive_types.specs.Writing.{ZeroedPlace};
@@ -10,7 +11,7 @@ ghost use Rattle.archive_types.specs.Outcomes.{ResolvesAs};
 
 use crate::place::Place;
 use crate::ser::resolve_into;
-use crate::slice::{PIECE, serialize_each};
+use crate::slice::serialize_each;
 use crate::traits::{Archive, CopyOptimization, Keys, Portable, Serialize};
 use archive_check::format::error::Error;
 use archive_write::ser::{ResolverAlloc, Writer};
@@ -69,6 +70,22 @@ pub fn each_is_whole<T, const N: usize>(arrays: &[[T; N]])
     }
 }
 
+// Whether so many arrays of `len` have more elements than can be counted.
+#[inline(always)]
+fn uncountable(count: usize, len: usize) -> bool
+    ensures { IsTrue result ↔ (2 ^ 64 ≤ count * len) }
+{
+    count.checked_mul(len).is_none()
+}
+
+// How many elements always lie in one piece, if as many arrays of `len` do.
+#[inline(always)]
+fn joined(together: usize, len: usize) -> usize
+    ensures { result ≤ together * len }
+{
+    together.saturating_mul(len)
+}
+
 /// As in rkyv 0.8.18, where the resolvers are an array. They are kept in a vector here, in memory of the global allocator.
 impl<T: Archive, const N: usize> Archive for [T; N] {
     type Archived = [T::Archived; N];
@@ -82,6 +99,8 @@ impl<T: Archive, const N: usize> Archive for [T; N] {
     ghost keys = { array_keys N T.keys };
 
     ghost belongs = { λ v r. EachBelongs T.belongs v r.items };
+
+    ghost in_bulk = { array_in_bulk (N * T.Archived.layout.size) T.in_bulk };
 
     ghost keyed = { array_keyed N T.keys T.meaning T.keyed };
 
@@ -103,11 +122,10 @@ impl<T: Archive, const N: usize> Archive for [T; N] {
 
     #[inline(always)]
     fn copy_optimization() -> CopyOptimization<[T; N]> {
-        let is_small = T::Archived::size().saturating_mul(N) <= PIECE;
-        CopyOptimization::enable_if(is_small && T::copy_optimization().is_enabled())
+        let has_bytes = T::Archived::size() > 0 && N > 0;
+        CopyOptimization::enable_if(has_bytes && T::copy_optimization().is_enabled())
     }
 
-    #[tactic(auto, using(crate::proofs::Planning::Causes::goes_nowhere))]
     #[inline(always)]
     fn serialize_copied<S: Writer + Keys>(
         values: &[[T; N]],
@@ -115,14 +133,10 @@ impl<T: Archive, const N: usize> Archive for [T; N] {
         serializer: &mut S,
     ) -> Result<Option<usize>, Error> {
         each_is_whole(values);
-        if values.len().checked_mul(N).is_none() {
+        if uncountable(values.len(), N) {
             return Ok(None);
         }
-        T::serialize_copied(
-            values.as_flattened(),
-            together.saturating_mul(N),
-            serializer,
-        )
+        T::serialize_copied(values.as_flattened(), joined(together, N), serializer)
     }
 }
 

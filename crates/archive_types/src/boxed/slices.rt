@@ -1,6 +1,6 @@
 // Boxes of slices and of texts, as sources.
 
-ghost use Rattle.std.specs.Prelude.{◌≡◌, ◌<◌, ◌≤◌, IfOk, OnOk, IfErr, IsErrOf, [], length, true, refl, string_bytes};
+ghost use Rattle.std.specs.Prelude.{◌≡◌, ◌<◌, ◌≤◌, IfOk, OnOk, IfErr, IsErrOf, [], length, true, refl, string_bytes, None};
 ghost use Rattle.archive_check.specs.Definitions.{no_definition};
 ghost use Rattle.archive_check.specs.Shape.{boxed, one, run, text as text_pointee};
 ghost use Rattle.archive_check.specs.Value.{box, hole, list, text_value};
@@ -11,6 +11,7 @@ ghost use Rattle.archive_types.specs.Causes.{HindersAt, IsRefused};
 ghost use Rattle.archive_types.specs.Members.Keyed.{box_keyed, each_keyed, text_keyed};
 ghost use Rattle.archive_num.specs.Offsets.{distance, IsTooFar};
 ghost use Rattle.archive_num.specs.OwnerBytes.{owner_bytes};
+ghost use Rattle.archive_types.specs.Words.CopiesWritten.{OwnedInBulk};
 ghost use Rattle.archive_types.specs.Words.Placed.{PointsTo, AtOnce};
 ghost use Rattle.archive_types.specs.Members.Planned.{text_planned};
 ghost use Rattle.archive_types.specs.Members.PlannedOwners.{box_planned, one_planned, slice_planned};
@@ -30,8 +31,8 @@ use crate::ser::serialize_one;
 use crate::slice::{ArchivedSlice, read_elements, serialize_slice};
 use crate::string::{ArchivedStr, Text};
 use crate::traits::{
-    Archive, ArchivePointee, ArchiveUnsized, Deserialize, DeserializeUnsized, Entries, Portable,
-    Serialize, SerializeUnsized,
+    Archive, ArchivePointee, ArchiveUnsized, CopyOptimization, Deserialize, DeserializeUnsized,
+    Entries, Keys, Portable, Serialize, SerializeUnsized,
 };
 use crate::view::{RawView, Ref};
 use archive_check::format::error::Error;
@@ -66,6 +67,8 @@ impl<T: Archive> Archive for BoxSlice<T> {
 
     ghost belongs = { λ b _. length b.items.items ≤ 4294967295 };
 
+    ghost in_bulk = { None };
+
     ghost keyed = { λ b. box_keyed (each_keys T.keys b.items.items) (list (each_meaning T.meaning b.items.items)) (each_keyed T.keys T.meaning T.keyed b.items.items) };
 
     ghost planned = { λ b. box_planned T.Archived.definitions (run T.Archived.shape) (length b.items.items) (each_keys T.keys b.items.items) (list (each_meaning T.meaning b.items.items))
@@ -90,6 +93,20 @@ impl<T: Archive> Archive for BoxSlice<T> {
             Place::new(pos, bytes),
         )
     }
+
+    #[inline(always)]
+    fn copy_optimization() -> CopyOptimization<Self> {
+        CopyOptimization::disable()
+    }
+
+    #[inline(always)]
+    fn serialize_copied<S: Writer + Keys>(
+        _values: &[Self],
+        _together: usize,
+        _serializer: &mut S,
+    ) -> Result<Option<usize>, Error> {
+        Ok(None)
+    }
 }
 
 impl<S: Writer + ResolverAlloc, T: Serialize<S>> Serialize<S> for BoxSlice<T> {
@@ -102,6 +119,8 @@ impl<S: Writer + ResolverAlloc, T: Serialize<S>> Serialize<S> for BoxSlice<T> {
         ensures outcome { Serializes ⟦<Self as Archive>⟧ ⟦<Self::Archived as Portable>⟧ self.now S.Keys serializer
             result }
         ensures too_long { 4294967295 < length self.now.items.items → AtOnce result LengthTooLarge S.Keys serializer }
+        ensures in_bulk { OwnedInBulk T.in_bulk S.position S.Keys serializer S.takes_memory T.Archived.layout
+            self.now.items.items result }
     {
         let pos = serialize_slice(self.items.as_slice(), serializer)?;
         let pos = position_of(pos)?;
@@ -168,6 +187,8 @@ impl Archive for BoxStr {
 
     ghost belongs = { λ b _. length (string_bytes b.text) ≤ 4294967295 };
 
+    ghost in_bulk = { None };
+
     ghost keyed = { λ b. box_keyed [] (text_value (string_bytes b.text)) (text_keyed (string_bytes b.text)) };
 
     ghost planned = { λ b. box_planned no_definition text_pointee (length (string_bytes b.text)) [] (text_value (string_bytes b.text)) (text_planned no_definition [] (string_bytes b.text)) };
@@ -190,6 +211,20 @@ impl Archive for BoxStr {
             self.text.len() as FixedUsize,
             Place::new(pos, bytes),
         )
+    }
+
+    #[inline(always)]
+    fn copy_optimization() -> CopyOptimization<Self> {
+        CopyOptimization::disable()
+    }
+
+    #[inline(always)]
+    fn serialize_copied<S: Writer + Keys>(
+        _values: &[Self],
+        _together: usize,
+        _serializer: &mut S,
+    ) -> Result<Option<usize>, Error> {
+        Ok(None)
     }
 }
 

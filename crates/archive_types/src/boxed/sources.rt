@@ -1,6 +1,6 @@
 // Boxes as sources: what they own as a region, and the pointer to it.
 
-ghost use Rattle.std.specs.Prelude.{◌≡◌, ◌⊎◌, ◌<◌, ◌≤◌, ℕ, ⊤, IfOk, OnOk, IfErr, FitsSigned, length, false, refl};
+ghost use Rattle.std.specs.Prelude.{◌≡◌, ◌⊎◌, ◌<◌, ◌≤◌, ℕ, ⊤, IfOk, OnOk, IfErr, FitsSigned, length, false, refl, None};
 ghost use Rattle.std.specs.Int.{w32};
 ghost use Rattle.archive_check.specs.Shape.{boxed};
 ghost use Rattle.archive_check.specs.Layout.{pointer_size, has_length};
@@ -23,7 +23,8 @@ use crate::place::Place;
 use crate::rel_ptr::Metadata;
 use crate::ser::serialize_one;
 use crate::traits::{
-    Archive, ArchiveUnsized, Portable, PortablePointee, Serialize, SerializeUnsized,
+    Archive, ArchiveUnsized, CopyOptimization, Keys, Portable, PortablePointee, Serialize,
+    SerializeUnsized,
 };
 use archive_check::format::error::Error;
 use archive_num::FixedUsize;
@@ -130,6 +131,8 @@ impl<T: Archive> Archive for Box<T> {
 
     ghost belongs = { λ _ _. ⊤ };
 
+    ghost in_bulk = { None };
+
     ghost keyed = { λ b. box_keyed (T.keys b.value) (T.meaning b.value) (T.keyed b.value) };
 
     ghost planned = { λ b. boxed_one_planned T.Archived.definitions T.Archived.pointee T.Archived.shape T.Archived.is_one (T.keys b.value) (T.meaning b.value) (T.planned b.value) };
@@ -148,6 +151,20 @@ impl<T: Archive> Archive for Box<T> {
     {
         let Place { bytes, pos, .. } = place;
         ArchivedBox::<T::Archived>::resolve_from_raw_parts(resolver, 0, Place::new(pos, bytes))
+    }
+
+    #[inline(always)]
+    fn copy_optimization() -> CopyOptimization<Self> {
+        CopyOptimization::disable()
+    }
+
+    #[inline(always)]
+    fn serialize_copied<S: Writer + Keys>(
+        _values: &[Self],
+        _together: usize,
+        _serializer: &mut S,
+    ) -> Result<Option<usize>, Error> {
+        Ok(None)
     }
 }
 

@@ -1,6 +1,6 @@
 // `BTreeMap` as a source of sorted maps: its entries, in the order of the keys.
 
-ghost use Rattle.std.specs.Prelude.{◌≡◌, ◌<◌, ◌≤◌, IfErr, IfOk, OnOk, length, map, true, refl};
+ghost use Rattle.std.specs.Prelude.{◌≡◌, ◌<◌, ◌≤◌, IfErr, IfOk, OnOk, length, map, true, refl, None};
 ghost use Rattle.std.specs.BTreeMap.{btree_map_len};
 ghost use Rattle.archive_check.specs.SelfCheck.Maps.{entry_definitions};
 ghost use Rattle.archive_check.specs.Shape.{sorted_map};
@@ -24,7 +24,9 @@ use crate::parts::{PartOf, SourceParts};
 use crate::place::Place;
 use crate::record::{resolve_record, serialize_record};
 use crate::ser::serialize_one;
-use crate::traits::{Archive, ArchiveUnsized, Keys, MapKey, Portable, Serialize, SerializeUnsized};
+use crate::traits::{
+    Archive, ArchiveUnsized, CopyOptimization, Keys, MapKey, Portable, Serialize, SerializeUnsized,
+};
 use crate::tuples::{Part0, Part1};
 use archive_check::format::error::Error;
 use archive_tuple::ArchivedTuple2;
@@ -75,6 +77,8 @@ impl<'a, A: Archive, B: Archive> Archive for Entry<'a, A, B> {
 
     ghost belongs = { λ e r. ⟦<EntryParts as SourceParts<Entry<'a, A, B>>>⟧.belongs e r };
 
+    ghost in_bulk = { None };
+
     ghost keyed = { λ e. record_keyed (part_keyed (A.keyed e.key.now) (part_keyed (B.keyed e.value.now) nothing_keyed)) };
 
     ghost planned = { λ e. product_planned _ _ _ _ (part_planned _ _ _ _ (A.planned e.key.now) (part_planned _ _ _ _ (B.planned e.value.now) no_part_planned)) };
@@ -91,6 +95,20 @@ impl<'a, A: Archive, B: Archive> Archive for Entry<'a, A, B> {
     {
         let Place { bytes, pos, .. } = place;
         resolve_record::<Self, EntryParts, Self::Archived>(self, resolver, Place::new(pos, bytes))
+    }
+
+    #[inline(always)]
+    fn copy_optimization() -> CopyOptimization<Self> {
+        CopyOptimization::disable()
+    }
+
+    #[inline(always)]
+    fn serialize_copied<S: Writer + Keys>(
+        _values: &[Self],
+        _together: usize,
+        _serializer: &mut S,
+    ) -> Result<Option<usize>, Error> {
+        Ok(None)
     }
 }
 
@@ -132,6 +150,8 @@ where
 
     ghost belongs = { λ m _. btree_map_len m ≤ 4294967295 };
 
+    ghost in_bulk = { None };
+
     ghost keyed = { λ m. pairs_keyed K.keys V.keys K.meaning V.meaning K.keyed V.keyed m.entries };
 
     ghost planned = { λ m. map_of_pairs_planned K.keys V.keys K.meaning V.meaning K.Archived.definitions V.Archived.definitions K.Archived.shape V.Archived.shape
@@ -156,6 +176,20 @@ where
             resolver,
             Place::new(pos, bytes),
         )
+    }
+
+    #[inline(always)]
+    fn copy_optimization() -> CopyOptimization<Self> {
+        CopyOptimization::disable()
+    }
+
+    #[inline(always)]
+    fn serialize_copied<S: Writer + Keys>(
+        _values: &[Self],
+        _together: usize,
+        _serializer: &mut S,
+    ) -> Result<Option<usize>, Error> {
+        Ok(None)
     }
 }
 

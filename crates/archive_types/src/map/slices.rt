@@ -1,6 +1,6 @@
 // Borrowed slices of pairs as sources of sorted maps.
 
-ghost use Rattle.std.specs.Prelude.{◌≡◌, ◌<◌, ◌≤◌, IfErr, OnOk, length, true, false, refl};
+ghost use Rattle.std.specs.Prelude.{◌≡◌, ◌<◌, ◌≤◌, IfErr, OnOk, length, true, false, refl, None};
 ghost use Rattle.archive_check.specs.SelfCheck.Maps.{entry_definitions};
 ghost use Rattle.archive_check.specs.Shape.{sorted_map};
 ghost use Rattle.archive_check.specs.Value.{list};
@@ -19,7 +19,9 @@ ghost use Rattle.archive_types.specs.Writing.{map_flat, ZeroedPlace};
 use super::{ArchivedSortedMap, SortedKey, SortedMapResolver};
 use crate::place::Place;
 use crate::ser::serialize_one;
-use crate::traits::{Archive, ArchiveUnsized, MapKey, Portable, Serialize, SerializeUnsized};
+use crate::traits::{
+    Archive, ArchiveUnsized, CopyOptimization, Keys, MapKey, Portable, Serialize, SerializeUnsized,
+};
 use archive_check::format::error::Error;
 use archive_write::ser::{ResolverAlloc, Writer};
 
@@ -45,6 +47,8 @@ where
     ghost keys = { λ s. each_keys (pair_keys K.keys V.keys) s.entries.now };
 
     ghost belongs = { λ s _. length s.entries.now ≤ 4294967295 };
+
+    ghost in_bulk = { None };
 
     ghost keyed = { λ s. pairs_keyed K.keys V.keys K.meaning V.meaning K.keyed V.keyed
         s.entries.now };
@@ -72,6 +76,20 @@ where
             resolver,
             Place::new(pos, bytes),
         )
+    }
+
+    #[inline(always)]
+    fn copy_optimization() -> CopyOptimization<Self> {
+        CopyOptimization::disable()
+    }
+
+    #[inline(always)]
+    fn serialize_copied<S: Writer + Keys>(
+        _values: &[Self],
+        _together: usize,
+        _serializer: &mut S,
+    ) -> Result<Option<usize>, Error> {
+        Ok(None)
     }
 }
 

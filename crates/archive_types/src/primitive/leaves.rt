@@ -1,6 +1,6 @@
 // One implementation archives all leaves.
 
-ghost use Rattle.std.specs.Prelude.{◌≡◌, ⊤, ℕ, ℤ, List, [], length, refl, IfOk, OnOk, IfErr, IsOk};
+ghost use Rattle.std.specs.Prelude.{◌≡◌, ⊤, ℕ, ℤ, List, [], length, refl, IfOk, OnOk, IfErr, IsOk, Some};
 ghost use Rattle.std.proofs.Common.{sym, ◌∙◌};
 ghost use Rattle.archive_check.specs.Definitions.{Definitions};
 ghost use Rattle.archive_check.specs.Layout.{kind_size};
@@ -139,6 +139,8 @@ impl<L: Leaf> Archive for L {
     ghost keys = { λ n. [] };
 
     ghost belongs = { λ _ _. ⊤ };
+
+    ghost in_bulk = { Some L.leaf_bytes };
 
     ghost keyed = { λ n. number_keyed (L.leaf_number n) };
 

@@ -1,6 +1,6 @@
 // `usize` and `isize` as sources: 32 bits, and refused where they need more.
 
-ghost use Rattle.std.specs.Prelude.{◌≡◌, ◌<◌, ◌^◌, pos, length, refl, IfOk, IfErr, IsOk, ⊤, [], OnOk};
+ghost use Rattle.std.specs.Prelude.{◌≡◌, ◌<◌, ◌^◌, pos, length, refl, IfOk, IfErr, IsOk, ⊤, [], OnOk, None};
 ghost use Rattle.std.specs.Int.{w32, cast_signed, cast_unsigned};
 ghost use Rattle.std.specs.Int.RustNames.{FitsSigned};
 ghost use Rattle.archive_check.specs.Shape.{leaf, one, number, signed, unsigned};
@@ -26,8 +26,8 @@ ghost use Rattle.archive_types.specs.SourceOutcomes.{Serializes};
 use crate::place::Place;
 use crate::ser::serialize_one;
 use crate::traits::{
-    Archive, ArchivePointee, ArchiveUnsized, Deserialize, Entries, Keys, Portable, Serialize,
-    SerializeUnsized,
+    Archive, ArchivePointee, ArchiveUnsized, CopyOptimization, Deserialize, Entries, Keys,
+    Portable, Serialize, SerializeUnsized,
 };
 use crate::view::{RawView, Ref};
 use archive_check::format::error::Error;
@@ -48,6 +48,8 @@ impl Archive for usize {
 
     ghost belongs = { λ n _. n < 2 ^ 32 };
 
+    ghost in_bulk = { None };
+
     ghost keyed = { λ n. number_keyed (pos n) };
 
     ghost planned = { λ n. leaf_planned no_definition (leaf (number unsigned w32)) (number unsigned w32) [] (pos n) refl };
@@ -64,6 +66,20 @@ impl Archive for usize {
         let Place { bytes, .. } = place;
         (*self as FixedUsize).write_to(bytes);
         Ok(())
+    }
+
+    #[inline(always)]
+    fn copy_optimization() -> CopyOptimization<Self> {
+        CopyOptimization::disable()
+    }
+
+    #[inline(always)]
+    fn serialize_copied<S: Writer + Keys>(
+        _values: &[Self],
+        _together: usize,
+        _serializer: &mut S,
+    ) -> Result<Option<usize>, Error> {
+        Ok(None)
     }
 }
 
@@ -141,6 +157,8 @@ impl Archive for isize {
 
     ghost belongs = { λ n _. FitsSigned w32 n };
 
+    ghost in_bulk = { None };
+
     ghost keyed = { λ n. number_keyed n };
 
     ghost planned = { λ n. leaf_planned no_definition (leaf (number signed w32)) (number signed w32) [] n refl };
@@ -157,6 +175,20 @@ impl Archive for isize {
         let Place { bytes, .. } = place;
         (*self as FixedIsize).write_to(bytes);
         Ok(())
+    }
+
+    #[inline(always)]
+    fn copy_optimization() -> CopyOptimization<Self> {
+        CopyOptimization::disable()
+    }
+
+    #[inline(always)]
+    fn serialize_copied<S: Writer + Keys>(
+        _values: &[Self],
+        _together: usize,
+        _serializer: &mut S,
+    ) -> Result<Option<usize>, Error> {
+        Ok(None)
     }
 }
 

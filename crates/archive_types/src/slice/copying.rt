@@ -1,11 +1,11 @@
 // Slices of values that are copied: their bytes are written a piece at a time.
 
-ghost use Rattle.std.specs.Prelude.{◌≡◌, ◌+◌, ◌*◌, ◌^◌, ◌++◌, ◌<◌, ◌≤◌, IfOk, OnOk, IfErr, IsOk, IsErrOf, IsTrue, IsFalse, length, take, None};
+ghost use Rattle.std.specs.Prelude.{◌≡◌, ◌+◌, ◌*◌, ◌^◌, ◌++◌, ◌<◌, ◌≤◌, IfOk, OnOk, IfErr, IsOk, IsErrOf, IsTrue, IsFalse, length, take, Some};
 ghost use Rattle.archive_check.specs.WriterState.{KeepsKeys};
 ghost use Rattle.archive_types.specs.Copies.{each_bytes, copies_from};
 ghost use Rattle.archive_types.specs.Words.KindsWritten.{OwnsNothingAs, EachCopiedAs};
 ghost use Rattle.archive_write.specs.Written.{GoesOn};
-ghost use Rattle.archive_types.specs.Words.CopiesWritten.{AllCopied, PiecesUnwritten, CopyRefused, CopiesRefused, TakesCopies, AddedAligned};
+ghost use Rattle.archive_types.specs.Words.CopiesWritten.{AllCopied, PiecesUnwritten, CopyRefused, CopiesRefused, TakesCopies, AddedAligned, CopiesInBulk};
 ghost use Rattle.archive_types.specs.Words.Placed.{BytesAdded, WriteRefused};
 ghost use Rattle.archive_types.specs.Outcomes.{WritesElements, CopiesElements};
 
@@ -301,15 +301,16 @@ pub fn copy_slice<S: Writer + Keys, T: CopiedSource>(
 /// As `copy_slice`, with `together` values always in one piece, as those of an array. Writes
 /// nothing and returns `None` if these have more than 1,024 bytes. It is the `serialize_copied` of
 /// a type of yours. Our own.
-#[tactic(auto, using(crate::proofs::Planning::Causes::goes_nowhere))]
 #[inline(always)]
 pub fn copy_groups<S: Writer + Keys, T: Copied>(
     values: &[T],
     together: usize,
     serializer: &mut S,
 ) -> Result<Option<usize>, Error>
-    ensures { CopiesElements T.copied_keys T.copied_meaning T.CopiedAs.Portable values.now S.Keys
+    ensures outcome { CopiesElements T.copied_keys T.copied_meaning T.CopiedAs.Portable values.now S.Keys
         serializer result }
+    ensures exact { CopiesInBulk (Some T.copied_bytes) together T.CopiedAs.layout values.now S.Keys serializer
+        S.takes_memory result }
 {
     let size = T::copied_size();
     let together = together.max(1);

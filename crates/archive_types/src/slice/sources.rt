@@ -6,6 +6,7 @@ ghost use Rattle.archive_check.specs.Value.{list};
 ghost use Rattle.archive_check.specs.declared.format.error.Error.TheVariants.{LengthTooLarge};
 ghost use Rattle.archive_types.specs.Causes.{IsRegionRefused};
 ghost use Rattle.archive_types.specs.Members.Keyed.{each_keyed};
+ghost use Rattle.archive_types.specs.Words.CopiesWritten.{SliceInBulk};
 ghost use Rattle.archive_types.specs.Words.Placed.{AtOnce};
 ghost use Rattle.archive_types.specs.Members.PlannedOwners.{is_long, slice_planned};
 ghost use Rattle.archive_types.specs.Plans.{SerializedRegion};
@@ -88,16 +89,23 @@ pub(crate) fn serialize_slice<S: Writer + ResolverAlloc, T: Serialize<S>>(
     ensures outcome { WritesElements T.keys T.meaning T.Archived.Portable values.now S.Keys serializer result }
     ensures held { OnOk result (length values.now ≤ 4294967295) }
     ensures too_long { 4294967295 < length values.now → AtOnce result LengthTooLarge S.Keys serializer }
+    ensures in_bulk { SliceInBulk T.in_bulk S.position S.Keys serializer S.takes_memory T.Archived.layout
+        values.now result }
 {
     if values.len() > u32::MAX as usize {
         return Err(Error::LengthTooLarge);
     }
-    if T::copy_optimization().is_enabled() {
-        if let Some(pos) = T::serialize_copied(values, 1, serializer)? {
-            return Ok(pos);
-        }
+    if !T::copy_optimization().is_enabled() {
+        return serialize_in_turn(values, serializer);
     }
-    serialize_in_turn(values, serializer)
+    let copied = T::serialize_copied(values, 1, serializer)?;
+    if copied.is_none() {
+        return serialize_in_turn(values, serializer);
+    }
+    let Some(pos) = copied else {
+        unreachable!();
+    };
+    Ok(pos)
 }
 
 impl<'a, T: Archive> ArchiveUnsized for Slice<'a, T> {
@@ -136,6 +144,8 @@ impl<'a, S: Writer + ResolverAlloc, T: Serialize<S>> SerializeUnsized<S> for Sli
             S.Keys serializer result }
         ensures held { OnOk result (length self.now.slice.now ≤ 4294967295) }
         ensures too_long { 4294967295 < length self.now.slice.now → AtOnce result LengthTooLarge S.Keys serializer }
+        ensures in_bulk { SliceInBulk T.in_bulk S.position S.Keys serializer S.takes_memory T.Archived.layout
+            self.now.slice.now result }
     {
         serialize_slice(self.slice, serializer)
     }

@@ -1,6 +1,6 @@
 // Tuples as sources.
 
-ghost use Rattle.std.specs.Prelude.{◌≡◌, length, OnOk, IfErr};
+ghost use Rattle.std.specs.Prelude.{◌≡◌, length, OnOk, IfErr, None};
 ghost use Rattle.archive_check.specs.Value.{product};
 ghost use Rattle.archive_types.specs.Causes.{HindersAt};
 ghost use Rattle.archive_types.specs.Members.Keyed.{nothing_keyed, part_keyed, record_keyed};
@@ -12,7 +12,7 @@ use super::parts::{Parts1, Parts2, Parts3};
 use crate::parts::SourceParts;
 use crate::place::Place;
 use crate::record::{resolve_record, serialize_record};
-use crate::traits::{Archive, ArchivePointee, Keys, Portable, Serialize};
+use crate::traits::{Archive, ArchivePointee, CopyOptimization, Keys, Portable, Serialize};
 use archive_check::format::error::Error;
 use archive_tuple::{ArchivedTuple1, ArchivedTuple2, ArchivedTuple3};
 use archive_write::ser::Writer;
@@ -30,6 +30,8 @@ impl<A: Archive> Archive for (A,) {
 
     ghost belongs = { λ v r. ⟦<Parts1 as SourceParts<(A,)>>⟧.belongs v r };
 
+    ghost in_bulk = { None };
+
     ghost keyed = { λ v. record_keyed (part_keyed (A.keyed v.0) nothing_keyed) };
 
     ghost planned = { λ v. product_planned _ _ _ _ (part_planned _ _ _ _ (A.planned v.0) no_part_planned) };
@@ -46,6 +48,20 @@ impl<A: Archive> Archive for (A,) {
     {
         let Place { bytes, pos, .. } = place;
         resolve_record::<Self, Parts1, Self::Archived>(self, resolver, Place::new(pos, bytes))
+    }
+
+    #[inline(always)]
+    fn copy_optimization() -> CopyOptimization<Self> {
+        CopyOptimization::disable()
+    }
+
+    #[inline(always)]
+    fn serialize_copied<S: Writer + Keys>(
+        _values: &[Self],
+        _together: usize,
+        _serializer: &mut S,
+    ) -> Result<Option<usize>, Error> {
+        Ok(None)
     }
 }
 
@@ -68,6 +84,8 @@ impl<A: Archive, B: Archive> Archive for (A, B) {
 
     ghost belongs = { λ v r. ⟦<Parts2 as SourceParts<(A, B)>>⟧.belongs v r };
 
+    ghost in_bulk = { None };
+
     ghost keyed = { λ v. record_keyed (part_keyed (A.keyed v.0) (part_keyed (B.keyed v.1) nothing_keyed)) };
 
     ghost planned = { λ v. product_planned _ _ _ _ (part_planned _ _ _ _ (A.planned v.0) (part_planned _ _ _ _ (B.planned v.1) no_part_planned)) };
@@ -84,6 +102,20 @@ impl<A: Archive, B: Archive> Archive for (A, B) {
     {
         let Place { bytes, pos, .. } = place;
         resolve_record::<Self, Parts2, Self::Archived>(self, resolver, Place::new(pos, bytes))
+    }
+
+    #[inline(always)]
+    fn copy_optimization() -> CopyOptimization<Self> {
+        CopyOptimization::disable()
+    }
+
+    #[inline(always)]
+    fn serialize_copied<S: Writer + Keys>(
+        _values: &[Self],
+        _together: usize,
+        _serializer: &mut S,
+    ) -> Result<Option<usize>, Error> {
+        Ok(None)
     }
 }
 
@@ -106,6 +138,8 @@ impl<A: Archive, B: Archive, C: Archive> Archive for (A, B, C) {
 
     ghost belongs = { λ v r. ⟦<Parts3 as SourceParts<(A, B, C)>>⟧.belongs v r };
 
+    ghost in_bulk = { None };
+
     ghost keyed = { λ v. record_keyed (part_keyed (A.keyed v.0) (part_keyed (B.keyed v.1) (part_keyed (C.keyed v.2) nothing_keyed))) };
 
     ghost planned = { λ v. product_planned _ _ _ _ (part_planned _ _ _ _ (A.planned v.0) (part_planned _ _ _ _ (B.planned v.1) (part_planned _ _ _ _ (C.planned v.2) no_part_planned))) };
@@ -122,6 +156,20 @@ impl<A: Archive, B: Archive, C: Archive> Archive for (A, B, C) {
     {
         let Place { bytes, pos, .. } = place;
         resolve_record::<Self, Parts3, Self::Archived>(self, resolver, Place::new(pos, bytes))
+    }
+
+    #[inline(always)]
+    fn copy_optimization() -> CopyOptimization<Self> {
+        CopyOptimization::disable()
+    }
+
+    #[inline(always)]
+    fn serialize_copied<S: Writer + Keys>(
+        _values: &[Self],
+        _together: usize,
+        _serializer: &mut S,
+    ) -> Result<Option<usize>, Error> {
+        Ok(None)
     }
 }
 

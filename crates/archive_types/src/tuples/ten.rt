@@ -1,6 +1,6 @@
 // Tuples of ten.
 
-ghost use Rattle.std.specs.Prelude.{◌≡◌, length, OnOk, IfErr, refl};
+ghost use Rattle.std.specs.Prelude.{◌≡◌, length, OnOk, IfErr, refl, None};
 ghost use Rattle.std.proofs.Common.{rules};
 ghost use Rattle.archive_check.specs.Value.{product};
 ghost use Rattle.archive_types.specs.Members.PartsPlanned.{whole_planned, whole_keyed};
@@ -14,7 +14,8 @@ use crate::place::Place;
 use crate::record::{resolve_record, serialize_record};
 use crate::ser::serialize_one;
 use crate::traits::{
-    Archive, ArchiveUnsized, FourParts, Keys, Portable, Serialize, SerializeUnsized,
+    Archive, ArchiveUnsized, CopyOptimization, FourParts, Keys, Portable, Serialize,
+    SerializeUnsized,
 };
 use archive_check::format::error::Error;
 use archive_tuple::ArchivedTuple;
@@ -36,6 +37,8 @@ where
 
     ghost belongs = { λ v r. ⟦<Parts10 as SourceParts<Self>>⟧.belongs v r };
 
+    ghost in_bulk = { None };
+
     ghost keyed = { whole_keyed ⟦<Parts10 as SourceParts<Self>>⟧.keys ⟦<Parts10 as SourceParts<Self>>⟧.meanings (Prim.search rules) };
 
     ghost planned = { whole_planned ⟦<Parts10 as SourceParts<Self>>⟧.keys ⟦<Parts10 as SourceParts<Self>>⟧.meanings (Prim.search rules) };
@@ -52,6 +55,20 @@ where
     {
         let Place { bytes, pos, .. } = place;
         resolve_record::<Self, Parts10, Self::Archived>(self, resolver, Place::new(pos, bytes))
+    }
+
+    #[inline(always)]
+    fn copy_optimization() -> CopyOptimization<Self> {
+        CopyOptimization::disable()
+    }
+
+    #[inline(always)]
+    fn serialize_copied<S: Writer + Keys>(
+        _values: &[Self],
+        _together: usize,
+        _serializer: &mut S,
+    ) -> Result<Option<usize>, Error> {
+        Ok(None)
     }
 }
 

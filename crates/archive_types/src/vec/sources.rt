@@ -1,6 +1,6 @@
 // Vectors as sources: their elements as one region, and the pointer to it.
 
-ghost use Rattle.std.specs.Prelude.{◌≡◌, ◌<◌, ◌≤◌, ℕ, IfOk, OnOk, IfErr, IsErrOf, FitsSigned, length, true, refl};
+ghost use Rattle.std.specs.Prelude.{◌≡◌, ◌<◌, ◌≤◌, ℕ, IfOk, OnOk, IfErr, IsErrOf, FitsSigned, length, true, refl, None};
 ghost use Rattle.std.specs.Int.{w32};
 ghost use Rattle.archive_check.specs.Shape.{vec as vec_shape, run};
 ghost use Rattle.archive_check.specs.Value.{list, hole};
@@ -9,6 +9,7 @@ ghost use Rattle.archive_types.specs.Causes.{HindersAt, IsRefused};
 ghost use Rattle.archive_types.specs.Members.Keyed.{each_keyed};
 ghost use Rattle.archive_num.specs.Offsets.{distance, IsTooFar};
 ghost use Rattle.archive_num.specs.OwnerBytes.{owner_bytes};
+ghost use Rattle.archive_types.specs.Words.CopiesWritten.{OwnedInBulk};
 ghost use Rattle.archive_types.specs.Words.Placed.{IsTooFarFrom, PointsTo, AtOnce};
 ghost use Rattle.archive_types.specs.Members.PlannedOwners.{one_planned, vec_planned, slice_planned};
 ghost use Rattle.archive_types.specs.Plans.{Serialized};
@@ -23,7 +24,9 @@ use crate::owner_pointers::position_of;
 use crate::place::Place;
 use crate::ser::serialize_one;
 use crate::slice::serialize_slice;
-use crate::traits::{Archive, ArchiveUnsized, Portable, Serialize, SerializeUnsized};
+use crate::traits::{
+    Archive, ArchiveUnsized, CopyOptimization, Keys, Portable, Serialize, SerializeUnsized,
+};
 use archive_check::format::error::Error;
 use archive_num::FixedUsize;
 use archive_num::owners::emplace_long_owner;
@@ -77,6 +80,8 @@ impl<T: Portable> ArchivedVec<T> {
             (list (each_meaning U.meaning value.now)) (vec_flat T.shape (length value.now))
             (λ _. length value.now ≤ 4294967295) S.Keys serializer result }
         ensures too_long { 4294967295 < length value.now → AtOnce result LengthTooLarge S.Keys serializer }
+        ensures in_bulk { OwnedInBulk U.in_bulk S.position S.Keys serializer S.takes_memory T.layout value.now
+            result }
     {
         let pos = serialize_slice(value, serializer)?;
         let pos = position_of(pos)?;
@@ -138,6 +143,8 @@ impl<T: Archive> Archive for Vec<T> {
 
     ghost belongs = { λ v _. length v.items ≤ 4294967295 };
 
+    ghost in_bulk = { None };
+
     ghost keyed = { λ v. each_keyed T.keys T.meaning T.keyed v.items };
 
     ghost planned = { λ v. vec_planned T.Archived.definitions T.Archived.shape (length v.items) (each_keys T.keys v.items) (list (each_meaning T.meaning v.items))
@@ -159,6 +166,20 @@ impl<T: Archive> Archive for Vec<T> {
         let Place { bytes, pos, .. } = place;
         ArchivedVec::<T::Archived>::resolve_from_len(self.len(), resolver, Place::new(pos, bytes))
     }
+
+    #[inline(always)]
+    fn copy_optimization() -> CopyOptimization<Self> {
+        CopyOptimization::disable()
+    }
+
+    #[inline(always)]
+    fn serialize_copied<S: Writer + Keys>(
+        _values: &[Self],
+        _together: usize,
+        _serializer: &mut S,
+    ) -> Result<Option<usize>, Error> {
+        Ok(None)
+    }
 }
 
 impl<S: Writer + ResolverAlloc, T: Serialize<S>> Serialize<S> for Vec<T> {
@@ -168,6 +189,8 @@ impl<S: Writer + ResolverAlloc, T: Serialize<S>> Serialize<S> for Vec<T> {
         ensures outcome { Serializes ⟦<Self as Archive>⟧ ⟦<Self::Archived as Portable>⟧ self.now S.Keys serializer
             result }
         ensures too_long { 4294967295 < length self.now.items → AtOnce result LengthTooLarge S.Keys serializer }
+        ensures in_bulk { OwnedInBulk T.in_bulk S.position S.Keys serializer S.takes_memory T.Archived.layout
+            self.now.items result }
     {
         ArchivedVec::<T::Archived>::serialize_from_slice(self.as_slice(), serializer)
     }

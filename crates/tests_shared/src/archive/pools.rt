@@ -1,5 +1,6 @@
 // Shared values are read back, by pools and without one.
 
+use crate::archive::pairs::shared;
 use crate::assertions::{assert_holds, assert_same, read, read_unless, viewed};
 use archive_core::api::{HighDeserializer, deserialize_using};
 use archive_core::error::Error;
@@ -98,6 +99,33 @@ fn a_pool_gives_one_value_for_a_position(rt: HostRuntime) {
     let mut pool: HighDeserializer<Shared<u32>> = Pool::new(rt.alloc());
     let numbers = read_pooled(&rt, rt.alloc(), &mut pool).expect(&rt, "a list");
     assert_two(&rt, &numbers, true);
+}
+
+// So many positions are started and finished, each with a number of its own.
+fn assert_numbers(rt: &impl Abort, alloc: Global, positions: u8) {
+    let mut pool: Pool<Shared<u32>> = Pool::new(alloc);
+    for index in 0..positions {
+        assert_pending(rt, &mut pool, 610 * usize::from(index));
+    }
+    for index in 0..positions {
+        let number = shared(rt, alloc, 0, u32::from(index));
+        let done = pool.finish_pooling(610 * usize::from(index), number);
+        assert_holds(rt, "pending", done.is_ok());
+    }
+    for index in 0..positions {
+        let state = pool.start_pooling(610 * usize::from(index));
+        let PoolingState::Finished(number) = state.expect(rt, "memory") else {
+            panic!(rt; "not finished")
+        };
+        assert_same(rt, "the number", *number.value, u32::from(index));
+    }
+}
+
+#[test]
+fn positions_in_a_pool_are_told_apart(rt: HostRuntime) {
+    for positions in [1, 2, 10, 17] {
+        assert_numbers(&rt, rt.alloc(), positions);
+    }
 }
 
 // The first number of the list is read back once more, with the key 0, and is the very number of both pointers.

@@ -1,6 +1,6 @@
 // Shared slices and texts.
 
-ghost use Rattle.std.specs.Prelude.{◌≡◌, ◌≤◌, [], IfOk, OnOk, IfErr, length, refl};
+ghost use Rattle.std.specs.Prelude.{◌≡◌, ◌≤◌, [], IfOk, OnOk, IfErr, length, refl, None};
 ghost use Rattle.std.specs.Rc.{rc_str_bytes, rc_slice_items};
 ghost use Rattle.archive_check.specs.Definitions.{no_definition};
 ghost use Rattle.archive_check.specs.Shape.{run, shared, text};
@@ -23,7 +23,9 @@ use archive_types::ser::{ResolverAlloc, Writer, serialize_one};
 use archive_types::sharing::Sharing;
 use archive_types::slice::{ArchivedSlice, Slice};
 use archive_types::string::{ArchivedStr, Text};
-use archive_types::traits::{Archive, ArchiveUnsized, Portable, Serialize, SerializeUnsized};
+use archive_types::traits::{
+    Archive, ArchiveUnsized, CopyOptimization, Keys, Portable, Serialize, SerializeUnsized,
+};
 use std::rc::{RcSlice, RcStr};
 
 /// A shared text, with the key that names it. Our own: it stands for `Rc<str>` of rkyv 0.8.18, which goes by the address.
@@ -57,6 +59,8 @@ impl Archive for SharedStr {
 
     ghost belongs = { λ s _. length (rc_str_bytes s.value) ≤ 4294967295 };
 
+    ghost in_bulk = { None };
+
     ghost keyed = { λ s. rc_keyed s.key text (length (rc_str_bytes s.value)) (text_value (rc_str_bytes s.value)) [] (text_keyed (rc_str_bytes s.value)) };
 
     ghost planned = { λ s. rc_planned no_definition s.key text (length (rc_str_bytes s.value)) (text_value (rc_str_bytes s.value)) []
@@ -81,6 +85,20 @@ impl Archive for SharedStr {
             resolver,
             Place::new(pos, bytes),
         )
+    }
+
+    #[inline(always)]
+    fn copy_optimization() -> CopyOptimization<Self> {
+        CopyOptimization::disable()
+    }
+
+    #[inline(always)]
+    fn serialize_copied<S: Writer + Keys>(
+        _values: &[Self],
+        _together: usize,
+        _serializer: &mut S,
+    ) -> Result<Option<usize>, Error> {
+        Ok(None)
     }
 }
 
@@ -138,6 +156,8 @@ impl<T: Archive> Archive for SharedSlice<T> {
 
     ghost belongs = { λ s _. length (rc_slice_items s.value) ≤ 4294967295 };
 
+    ghost in_bulk = { None };
+
     ghost keyed = { λ s. rc_keyed s.key (run T.Archived.shape) (length (rc_slice_items s.value)) (list (each_meaning T.meaning (rc_slice_items s.value)))
         (each_keys T.keys (rc_slice_items s.value)) (each_keyed T.keys T.meaning T.keyed (rc_slice_items s.value)) };
 
@@ -164,6 +184,20 @@ impl<T: Archive> Archive for SharedSlice<T> {
             resolver,
             Place::new(pos, bytes),
         )
+    }
+
+    #[inline(always)]
+    fn copy_optimization() -> CopyOptimization<Self> {
+        CopyOptimization::disable()
+    }
+
+    #[inline(always)]
+    fn serialize_copied<S: Writer + Keys>(
+        _values: &[Self],
+        _together: usize,
+        _serializer: &mut S,
+    ) -> Result<Option<usize>, Error> {
+        Ok(None)
     }
 }
 

@@ -19,7 +19,9 @@ use archive_types::place::Place;
 use archive_types::rc::{ArchivedRcWeak, RcFlavor, RcWeakResolver, write_null, write_pointer};
 use archive_types::ser::{ResolverAlloc, Writer, serialize_one};
 use archive_types::sharing::Sharing;
-use archive_types::traits::{Archive, ArchiveUnsized, Portable, Serialize, SerializeUnsized};
+use archive_types::traits::{
+    Archive, ArchiveUnsized, CopyOptimization, Keys, Portable, Serialize, SerializeUnsized,
+};
 
 /// A weak pointer to a shared value, or to none. Our own: it stands for `rc::Weak` of rkyv 0.8.18, which is null where its value is gone.
 #[derive(Drop)]
@@ -40,6 +42,8 @@ impl<T: Archive> Archive for WeakShared<T> {
     ghost keys = { λ w. weak_keys (λ s. rc_keys s.key T.Archived.pointee 0 (T.meaning s.value.value) (T.keys s.value.value)) w.value };
 
     ghost belongs = { λ _ _. ⊤ };
+
+    ghost in_bulk = { None };
 
     ghost keyed = { λ w. weak_keyed (λ s. rc_keys s.key T.Archived.pointee 0 (T.meaning s.value.value) (T.keys s.value.value)) (λ s. shared_value s.key)
         (λ s. rc_keyed s.key T.Archived.pointee 0 (T.meaning s.value.value) (T.keys s.value.value) (T.keyed s.value.value)) w.value };
@@ -69,6 +73,20 @@ impl<T: Archive> Archive for WeakShared<T> {
             return Err(Error::OffsetOverflow);
         }
         write_pointer::<T::Archived>(target, 0, pos, bytes)
+    }
+
+    #[inline(always)]
+    fn copy_optimization() -> CopyOptimization<Self> {
+        CopyOptimization::disable()
+    }
+
+    #[inline(always)]
+    fn serialize_copied<S: Writer + Keys>(
+        _values: &[Self],
+        _together: usize,
+        _serializer: &mut S,
+    ) -> Result<Option<usize>, Error> {
+        Ok(None)
     }
 }
 

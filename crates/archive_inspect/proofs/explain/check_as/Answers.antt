@@ -1,4 +1,4 @@
-use Rattle.std.proofs.Common.{arith, sym, subst}
+use Rattle.std.proofs.Common.{arith, sym}
 use Rattle.archive_schema.specs.Schemas.{IsSchemaOf}
 use Rattle.archive_schema.proofs.Archives.{answers_type}
 use Rattle.archive_inspect.proofs.explain.check_as.Goals as goal

@@ -1,15 +1,15 @@
 -- Written by tools/derive: change the declaration, and run it again.
+use Rattle.archive_core.proofs.Causes.{err_by}
+use Rattle.archive_core.proofs.OwnersRead.{box_read, box_unread, vec_read, vec_unread}
+use Rattle.archive_core.proofs.ReadChoices.{variant_read_back, variant_refuses}
+use Rattle.archive_core.proofs.ReadElements.{all_have, elements_more, elements_all, element_refused}
+use Rattle.archive_core.proofs.ReadRecords.{record_read_back, record_refuses, first_refuses, later_refuses}
 use Rattle.archive_core.specs.Definitions.{both, no_definition}
+use Rattle.archive_core.specs.Held.{read_as}
 use Rattle.archive_core.specs.PartsReading.{part_read_back, no_part_read_back}
 use Rattle.archive_core.specs.Runs.{each_keys}
 use Rattle.archive_core.specs.Shape.{boxed, vec, str, one, run, part, no_part}
 use Rattle.archive_core.specs.Value.{value}
-use Rattle.archive_recursive.proofs.Causes.{err_by}
-use Rattle.archive_recursive.proofs.OwnersRead.{box_read, box_unread, vec_read, vec_unread}
-use Rattle.archive_recursive.proofs.ReadChoices.{variant_read_back, variant_refuses}
-use Rattle.archive_recursive.proofs.ReadElements.{all_have, elements_more, elements_all, element_refused}
-use Rattle.archive_recursive.proofs.ReadRecords.{record_read_back, record_refuses, first_refuses, later_refuses}
-use Rattle.archive_recursive.specs.Held.{read_as}
 use Rattle.recursive_types.specs.DirMeaning.{dir_keys, dir_means_roll, dir_has_keys_roll, entry_meaning, entry_keys, entry_sub_means, entry_sub_has_keys}
 use Rattle.recursive_types.specs.DirShape.{dir_shape, dir_definitions, dir_parts, dir_part_definitions, dir_has_parts, entry_layout, entry_has_layout, entry_name, entry_shape, entry_definitions, entry_variants, entry_variant_definitions, entry_has_variants, entry_sub_parts, entry_sub_definitions}
 use Rattle.std.proofs.Common.{inl, ◌≡◌, ◌<◌, ◌+◌, ◌++◌, ◌∷◌, [], length, refl, arith, pos}

@@ -1,20 +1,20 @@
 -- Written by tools/derive: change the declaration, and run it again.
+use Rattle.archive_core.proofs.Causes.{err_by, goes_both}
+use Rattle.archive_core.proofs.OwnChoices.{serialized_variant, variant_refused}
+use Rattle.archive_core.proofs.Owners.{box_refused, vec_refused}
+use Rattle.archive_core.proofs.Planned.{one_owned}
+use Rattle.archive_core.proofs.PlannedParts.{serialized_no_part, serialized_part, serialized_record, record_refused, first_refused, later_refused}
+use Rattle.archive_core.proofs.RunRegions.{run_owned, long_run_refused}
+use Rattle.archive_core.proofs.Runs.{continues_step, continues_broken, continues_end, belongs_end}
 use Rattle.archive_core.specs.Causes.{no_memory}
 use Rattle.archive_core.specs.Definitions.{both, no_definition}
 use Rattle.archive_core.specs.Error.TheVariants.{OutOfMemory}
+use Rattle.archive_core.specs.Held.{written_as, refused_as}
 use Rattle.archive_core.specs.PartsPlanned.{part_planned, no_part_planned}
 use Rattle.archive_core.specs.PlannedOwners.{vec_planned, slice_planned, each_planned}
 use Rattle.archive_core.specs.Runs.{each_keys, each_meaning}
 use Rattle.archive_core.specs.Shape.{boxed, vec, str, one, part, no_part}
 use Rattle.archive_core.specs.Value.{list, box, value, no_value, text_value}
-use Rattle.archive_recursive.proofs.Causes.{err_by, goes_both}
-use Rattle.archive_recursive.proofs.OwnChoices.{serialized_variant, variant_refused}
-use Rattle.archive_recursive.proofs.Owners.{box_refused, vec_refused}
-use Rattle.archive_recursive.proofs.Planned.{one_owned}
-use Rattle.archive_recursive.proofs.PlannedParts.{serialized_no_part, serialized_part, serialized_record, record_refused, first_refused, later_refused}
-use Rattle.archive_recursive.proofs.RunRegions.{run_owned, long_run_refused}
-use Rattle.archive_recursive.proofs.Runs.{continues_step, continues_broken, continues_end, belongs_end}
-use Rattle.archive_recursive.specs.Held.{written_as, refused_as}
 use Rattle.recursive_types.specs.DirMeaning.{dir_meaning, dir_keys, dir_means, dir_has_keys, entry_meaning, entry_keys, entry_planned, entry_file_means, entry_file_has_keys, entry_file_opens, entry_sub_means, entry_sub_has_keys, entry_sub_opens}
 use Rattle.recursive_types.specs.DirShape.{dir_shape, dir_definitions, dir_parts, dir_part_definitions, dir_has_parts, entry_name, entry_shape, entry_definitions, entry_variants, entry_variant_definitions, entry_has_variants, entry_sub_parts, entry_sub_definitions}
 use Rattle.recursive_types.specs.declared.dir.Dir.{out-Dir}

@@ -1,5 +1,5 @@
 -- Written by tools/derive: change the declaration, and run it again.
-use Rattle.archive_recursive.proofs.Runs.{Continues}
+use Rattle.archive_core.proofs.Runs.{Continues}
 use Rattle.recursive_types.specs.DirMeaning.{entry_meaning, entry_keys, entry_flat, entry_belongs}
 use Rattle.recursive_types.specs.DirShape.{dir_definitions, entry_shape}
 use Rattle.std.proofs.Common.{drop}

@@ -1,11 +1,11 @@
 -- Written by tools/derive: change the declaration, and run it again.
+use Rattle.archive_core.proofs.Causes.{err_by}
+use Rattle.archive_core.proofs.ReadChoices.{variant_read_back, variant_refuses}
+use Rattle.archive_core.proofs.ReadRecords.{first_refuses}
 use Rattle.archive_core.specs.Definitions.{no_definition}
+use Rattle.archive_core.specs.Held.{read_as}
 use Rattle.archive_core.specs.PartsReading.{part_read_back, no_part_read_back}
 use Rattle.archive_core.specs.Shape.{leaf, unsigned, no_part, number as number_kind}
-use Rattle.archive_recursive.proofs.Causes.{err_by}
-use Rattle.archive_recursive.proofs.ReadChoices.{variant_read_back, variant_refuses}
-use Rattle.archive_recursive.proofs.ReadRecords.{first_refuses}
-use Rattle.archive_recursive.specs.Held.{read_as}
 use Rattle.recursive_types.specs.DirMeaning.{entry_file_means, entry_file_has_keys}
 use Rattle.recursive_types.specs.DirShape.{entry_name, entry_shape, entry_definitions, entry_variants, entry_variant_definitions, entry_has_variants, entry_file_parts, entry_file_definitions}
 use Rattle.std.proofs.Common.{[], length, refl}

@@ -1,10 +1,10 @@
 -- Written by tools/derive: change the declaration, and run it again.
+use Rattle.archive_core.proofs.OwnChoices.{serialized_variant, variant_refused}
+use Rattle.archive_core.proofs.PlannedParts.{serialized_no_part, serialized_part, first_refused}
 use Rattle.archive_core.specs.Definitions.{no_definition}
 use Rattle.archive_core.specs.PartsPlanned.{no_part_planned}
 use Rattle.archive_core.specs.Shape.{leaf, unsigned, no_part, number as number_kind}
 use Rattle.archive_core.specs.Value.{number, no_value}
-use Rattle.archive_recursive.proofs.OwnChoices.{serialized_variant, variant_refused}
-use Rattle.archive_recursive.proofs.PlannedParts.{serialized_no_part, serialized_part, first_refused}
 use Rattle.recursive_types.specs.DirShape.{entry_name, entry_shape, entry_definitions, entry_variants, entry_variant_definitions, entry_has_variants, entry_file_parts, entry_file_definitions}
 use Rattle.std.proofs.Common.{[], refl, pos}
 use Rattle.std.specs.Int.{w64}

@@ -1,15 +1,15 @@
 -- Written by tools/derive: change the declaration, and run it again.
+use Rattle.archive_core.proofs.Causes.{err_by}
+use Rattle.archive_core.proofs.OwnersRead.{box_read, box_unread, vec_read, vec_unread}
+use Rattle.archive_core.proofs.ReadChoices.{variant_read_back, variant_refuses}
+use Rattle.archive_core.proofs.ReadElements.{all_have, elements_more, elements_all, element_refused}
+use Rattle.archive_core.proofs.ReadRecords.{first_refuses, later_refuses}
 use Rattle.archive_core.specs.Definitions.{both, no_definition}
+use Rattle.archive_core.specs.Held.{read_as}
 use Rattle.archive_core.specs.PartsReading.{part_read_back, no_part_read_back}
 use Rattle.archive_core.specs.Runs.{each_keys}
 use Rattle.archive_core.specs.Shape.{boxed, vec, str, one, run, part, no_part}
 use Rattle.archive_core.specs.Value.{value}
-use Rattle.archive_recursive.proofs.Causes.{err_by}
-use Rattle.archive_recursive.proofs.OwnersRead.{box_read, box_unread, vec_read, vec_unread}
-use Rattle.archive_recursive.proofs.ReadChoices.{variant_read_back, variant_refuses}
-use Rattle.archive_recursive.proofs.ReadElements.{all_have, elements_more, elements_all, element_refused}
-use Rattle.archive_recursive.proofs.ReadRecords.{first_refuses, later_refuses}
-use Rattle.archive_recursive.specs.Held.{read_as}
 use Rattle.recursive_types.specs.ExprMeaning.{expr_meaning, expr_keys, expr_add_means, expr_add_has_keys, expr_call_means, expr_call_has_keys}
 use Rattle.recursive_types.specs.ExprShape.{expr_layout, expr_has_layout, expr_name, expr_shape, expr_definitions, expr_variants, expr_variant_definitions, expr_has_variants, expr_add_parts, expr_add_definitions, expr_call_parts, expr_call_definitions}
 use Rattle.std.proofs.Common.{inl, ◌≡◌, ◌<◌, ◌+◌, ◌++◌, ◌∷◌, [], length, refl, arith, pos}

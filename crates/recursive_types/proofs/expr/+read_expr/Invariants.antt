@@ -1,7 +1,7 @@
 -- Written by tools/derive: change the declaration, and run it again.
+use Rattle.archive_core.proofs.ReadElements.{FirstElements}
 use Rattle.archive_core.specs.Shape.{run, part}
 use Rattle.archive_core.specs.Value.{list}
-use Rattle.archive_recursive.proofs.ReadElements.{FirstElements}
 use Rattle.recursive_types.specs.ExprMeaning.{expr_meaning, expr_keys}
 use Rattle.recursive_types.specs.ExprShape.{expr_layout, expr_shape, expr_definitions}
 use Rattle.std.proofs.Common.{◌≡◌, ◌≤◌, ◌+◌, ◌*◌, length, pos}

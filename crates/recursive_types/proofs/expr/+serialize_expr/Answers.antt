@@ -1,20 +1,20 @@
 -- Written by tools/derive: change the declaration, and run it again.
+use Rattle.archive_core.proofs.Causes.{err_by, goes_both}
+use Rattle.archive_core.proofs.OwnChoices.{serialized_variant, variant_refused}
+use Rattle.archive_core.proofs.Owners.{box_refused, vec_refused}
+use Rattle.archive_core.proofs.Planned.{one_owned}
+use Rattle.archive_core.proofs.PlannedParts.{serialized_no_part, serialized_part, first_refused, later_refused}
+use Rattle.archive_core.proofs.RunRegions.{run_owned, long_run_refused}
+use Rattle.archive_core.proofs.Runs.{continues_step, continues_broken, continues_end, belongs_end}
 use Rattle.archive_core.specs.Causes.{no_memory}
 use Rattle.archive_core.specs.Definitions.{both, no_definition}
 use Rattle.archive_core.specs.Error.TheVariants.{OutOfMemory}
+use Rattle.archive_core.specs.Held.{written_as, refused_as}
 use Rattle.archive_core.specs.PartsPlanned.{part_planned, no_part_planned}
 use Rattle.archive_core.specs.PlannedOwners.{boxed_one_planned, vec_planned, slice_planned, each_planned}
 use Rattle.archive_core.specs.Runs.{each_keys, each_meaning}
 use Rattle.archive_core.specs.Shape.{boxed, vec, str, one, part, no_part}
 use Rattle.archive_core.specs.Value.{list, box, value, no_value, text_value}
-use Rattle.archive_recursive.proofs.Causes.{err_by, goes_both}
-use Rattle.archive_recursive.proofs.OwnChoices.{serialized_variant, variant_refused}
-use Rattle.archive_recursive.proofs.Owners.{box_refused, vec_refused}
-use Rattle.archive_recursive.proofs.Planned.{one_owned}
-use Rattle.archive_recursive.proofs.PlannedParts.{serialized_no_part, serialized_part, first_refused, later_refused}
-use Rattle.archive_recursive.proofs.RunRegions.{run_owned, long_run_refused}
-use Rattle.archive_recursive.proofs.Runs.{continues_step, continues_broken, continues_end, belongs_end}
-use Rattle.archive_recursive.specs.Held.{written_as, refused_as}
 use Rattle.recursive_types.specs.ExprMeaning.{expr_meaning, expr_keys, expr_planned, expr_num_means, expr_num_has_keys, expr_num_opens, expr_add_means, expr_add_has_keys, expr_add_opens, expr_call_means, expr_call_has_keys, expr_call_opens}
 use Rattle.recursive_types.specs.ExprShape.{expr_name, expr_shape, expr_definitions, expr_variants, expr_variant_definitions, expr_has_variants, expr_add_parts, expr_add_definitions, expr_call_parts, expr_call_definitions}
 use Rattle.std.proofs.Common.{◌≡◌, ◌<◌, ◌++◌, [], length, refl, arith, string_bytes}

@@ -1,5 +1,5 @@
 -- Written by tools/derive: change the declaration, and run it again.
-use Rattle.archive_recursive.proofs.Runs.{Continues}
+use Rattle.archive_core.proofs.Runs.{Continues}
 use Rattle.recursive_types.specs.ExprMeaning.{expr_meaning, expr_keys, expr_flat, expr_belongs}
 use Rattle.recursive_types.specs.ExprShape.{expr_shape, expr_definitions}
 use Rattle.std.proofs.Common.{drop}

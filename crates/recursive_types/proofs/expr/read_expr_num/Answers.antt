@@ -1,11 +1,11 @@
 -- Written by tools/derive: change the declaration, and run it again.
+use Rattle.archive_core.proofs.Causes.{err_by}
+use Rattle.archive_core.proofs.ReadChoices.{variant_read_back, variant_refuses}
+use Rattle.archive_core.proofs.ReadRecords.{first_refuses}
 use Rattle.archive_core.specs.Definitions.{no_definition}
+use Rattle.archive_core.specs.Held.{read_as}
 use Rattle.archive_core.specs.PartsReading.{part_read_back, no_part_read_back}
 use Rattle.archive_core.specs.Shape.{leaf, signed, no_part, number as number_kind}
-use Rattle.archive_recursive.proofs.Causes.{err_by}
-use Rattle.archive_recursive.proofs.ReadChoices.{variant_read_back, variant_refuses}
-use Rattle.archive_recursive.proofs.ReadRecords.{first_refuses}
-use Rattle.archive_recursive.specs.Held.{read_as}
 use Rattle.recursive_types.specs.ExprMeaning.{expr_num_means, expr_num_has_keys}
 use Rattle.recursive_types.specs.ExprShape.{expr_name, expr_shape, expr_definitions, expr_variants, expr_variant_definitions, expr_has_variants, expr_num_parts, expr_num_definitions}
 use Rattle.std.proofs.Common.{[], length, refl, rules}

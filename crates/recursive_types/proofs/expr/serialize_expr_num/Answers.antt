@@ -1,10 +1,10 @@
 -- Written by tools/derive: change the declaration, and run it again.
+use Rattle.archive_core.proofs.OwnChoices.{serialized_variant, variant_refused}
+use Rattle.archive_core.proofs.PlannedParts.{serialized_no_part, serialized_part, first_refused}
 use Rattle.archive_core.specs.Definitions.{no_definition}
 use Rattle.archive_core.specs.PartsPlanned.{no_part_planned}
 use Rattle.archive_core.specs.Shape.{leaf, signed, no_part, number as number_kind}
 use Rattle.archive_core.specs.Value.{number, no_value}
-use Rattle.archive_recursive.proofs.OwnChoices.{serialized_variant, variant_refused}
-use Rattle.archive_recursive.proofs.PlannedParts.{serialized_no_part, serialized_part, first_refused}
 use Rattle.recursive_types.specs.ExprShape.{expr_name, expr_shape, expr_definitions, expr_variants, expr_variant_definitions, expr_has_variants, expr_num_parts, expr_num_definitions}
 use Rattle.std.proofs.Common.{[], refl}
 use Rattle.std.specs.Int.{w64}

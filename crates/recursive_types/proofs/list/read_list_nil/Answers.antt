@@ -1,7 +1,7 @@
 -- Written by tools/derive: change the declaration, and run it again.
+use Rattle.archive_core.proofs.ReadChoices.{variant_read_back}
+use Rattle.archive_core.specs.Held.{read_as}
 use Rattle.archive_core.specs.PartsReading.{no_part_read_back}
-use Rattle.archive_recursive.proofs.ReadChoices.{variant_read_back}
-use Rattle.archive_recursive.specs.Held.{read_as}
 use Rattle.recursive_types.specs.ListMeaning.{list_nil_means, list_nil_has_keys}
 use Rattle.recursive_types.specs.ListShape.{list_name, list_shape, list_definitions, list_variants, list_variant_definitions, list_has_variants, list_nil_parts, list_nil_definitions}
 use Rattle.std.proofs.Common.{refl}

@@ -1,13 +1,13 @@
 -- Written by tools/derive: change the declaration, and run it again.
+use Rattle.archive_core.proofs.Causes.{err_by}
+use Rattle.archive_core.proofs.OwnersRead.{vec_read, vec_unread}
+use Rattle.archive_core.proofs.ReadElements.{all_have, elements_more, elements_all, element_refused}
+use Rattle.archive_core.proofs.ReadRecords.{record_read_back, record_refuses, first_refuses, later_refuses}
 use Rattle.archive_core.specs.Definitions.{both, no_definition}
+use Rattle.archive_core.specs.Held.{read_as}
 use Rattle.archive_core.specs.PartsReading.{part_read_back, no_part_read_back}
 use Rattle.archive_core.specs.Runs.{each_keys}
 use Rattle.archive_core.specs.Shape.{vec, one, run, leaf, unsigned, part, no_part, number as number_kind}
-use Rattle.archive_recursive.proofs.Causes.{err_by}
-use Rattle.archive_recursive.proofs.OwnersRead.{vec_read, vec_unread}
-use Rattle.archive_recursive.proofs.ReadElements.{all_have, elements_more, elements_all, element_refused}
-use Rattle.archive_recursive.proofs.ReadRecords.{record_read_back, record_refuses, first_refuses, later_refuses}
-use Rattle.archive_recursive.specs.Held.{read_as}
 use Rattle.recursive_types.specs.RoseMeaning.{rose_meaning, rose_keys, rose_means_roll, rose_has_keys_roll}
 use Rattle.recursive_types.specs.RoseShape.{rose_layout, rose_has_layout, rose_shape, rose_definitions, rose_parts, rose_part_definitions, rose_has_parts}
 use Rattle.std.proofs.Common.{inl, ◌≡◌, ◌<◌, ◌+◌, ◌++◌, ◌∷◌, [], length, refl, arith, pos}

@@ -1,7 +1,7 @@
 -- Written by tools/derive: change the declaration, and run it again.
+use Rattle.archive_core.proofs.ReadElements.{FirstElements}
 use Rattle.archive_core.specs.Shape.{run, part}
 use Rattle.archive_core.specs.Value.{list}
-use Rattle.archive_recursive.proofs.ReadElements.{FirstElements}
 use Rattle.recursive_types.specs.RoseMeaning.{rose_meaning, rose_keys}
 use Rattle.recursive_types.specs.RoseShape.{rose_layout, rose_shape, rose_definitions}
 use Rattle.std.proofs.Common.{◌≡◌, ◌≤◌, ◌+◌, ◌*◌, length, pos}

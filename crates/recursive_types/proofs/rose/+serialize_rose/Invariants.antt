@@ -1,5 +1,5 @@
 -- Written by tools/derive: change the declaration, and run it again.
-use Rattle.archive_recursive.proofs.Runs.{Continues}
+use Rattle.archive_core.proofs.Runs.{Continues}
 use Rattle.recursive_types.specs.RoseMeaning.{rose_meaning, rose_keys, rose_flat, rose_belongs}
 use Rattle.recursive_types.specs.RoseShape.{rose_shape, rose_definitions}
 use Rattle.std.proofs.Common.{drop}

@@ -1,15 +1,15 @@
 -- Written by tools/derive: change the declaration, and run it again.
+use Rattle.archive_core.proofs.Causes.{err_by}
+use Rattle.archive_core.proofs.OwnersRead.{box_read, box_unread}
+use Rattle.archive_core.proofs.ReadRecords.{record_read_back, record_refuses, first_refuses, later_refuses}
+use Rattle.archive_core.proofs.ReadVariants.{case_read_back, case_refuses, empty_case_read_back}
 use Rattle.archive_core.specs.Choices.{option_shape}
 use Rattle.archive_core.specs.Definitions.{both, no_definition}
+use Rattle.archive_core.specs.Held.{read_as}
 use Rattle.archive_core.specs.Options.{option_keys}
 use Rattle.archive_core.specs.PartsReading.{part_read_back, no_part_read_back}
 use Rattle.archive_core.specs.Shape.{boxed, one, leaf, unsigned, part, no_part, number as number_kind}
 use Rattle.archive_core.specs.Value.{value}
-use Rattle.archive_recursive.proofs.Causes.{err_by}
-use Rattle.archive_recursive.proofs.OwnersRead.{box_read, box_unread}
-use Rattle.archive_recursive.proofs.ReadRecords.{record_read_back, record_refuses, first_refuses, later_refuses}
-use Rattle.archive_recursive.proofs.ReadVariants.{case_read_back, case_refuses, empty_case_read_back}
-use Rattle.archive_recursive.specs.Held.{read_as}
 use Rattle.recursive_types.specs.SearchMeaning.{search_keys, search_means_roll, search_has_keys_roll}
 use Rattle.recursive_types.specs.SearchShape.{search_shape, search_definitions, search_parts, search_part_definitions, search_has_parts}
 use Rattle.std.proofs.Common.{◌≡◌, ◌++◌, [], length, refl, arith, pos}

@@ -1,18 +1,18 @@
 -- Written by tools/derive: change the declaration, and run it again.
+use Rattle.archive_core.proofs.Causes.{goes_both}
+use Rattle.archive_core.proofs.Owners.{box_refused}
+use Rattle.archive_core.proofs.Planned.{one_owned}
+use Rattle.archive_core.proofs.PlannedParts.{serialized_no_part, serialized_part, serialized_record, record_refused, first_refused, later_refused}
+use Rattle.archive_core.proofs.WrittenVariants.{serialized_case, serialized_empty_case, case_refused}
 use Rattle.archive_core.specs.Choices.{option_shape}
 use Rattle.archive_core.specs.Definitions.{both, no_definition}
+use Rattle.archive_core.specs.Held.{written_as, refused_as}
 use Rattle.archive_core.specs.Options.{option_keys, option_meaning, option_planned}
 use Rattle.archive_core.specs.PartsPlanned.{part_planned, no_part_planned}
 use Rattle.archive_core.specs.Planned.{leaf_planned}
 use Rattle.archive_core.specs.PlannedOwners.{boxed_one_planned}
 use Rattle.archive_core.specs.Shape.{boxed, one, leaf, unsigned, part, no_part, number as number_kind}
 use Rattle.archive_core.specs.Value.{box, number, value, no_value}
-use Rattle.archive_recursive.proofs.Causes.{goes_both}
-use Rattle.archive_recursive.proofs.Owners.{box_refused}
-use Rattle.archive_recursive.proofs.Planned.{one_owned}
-use Rattle.archive_recursive.proofs.PlannedParts.{serialized_no_part, serialized_part, serialized_record, record_refused, first_refused, later_refused}
-use Rattle.archive_recursive.proofs.WrittenVariants.{serialized_case, serialized_empty_case, case_refused}
-use Rattle.archive_recursive.specs.Held.{written_as, refused_as}
 use Rattle.recursive_types.specs.SearchMeaning.{search_meaning, search_keys, search_planned, search_means, search_has_keys}
 use Rattle.recursive_types.specs.SearchShape.{search_shape, search_definitions, search_parts, search_part_definitions, search_has_parts}
 use Rattle.recursive_types.specs.declared.search.Search.{out-Search}

@@ -1,7 +1,7 @@
 -- Written by tools/derive: change the declaration, and run it again.
+use Rattle.archive_core.proofs.ReadElements.{FirstElements}
 use Rattle.archive_core.specs.Shape.{run, part}
 use Rattle.archive_core.specs.Value.{list}
-use Rattle.archive_recursive.proofs.ReadElements.{FirstElements}
 use Rattle.recursive_types.specs.TreeMeaning.{tree_meaning, tree_keys}
 use Rattle.recursive_types.specs.TreeShape.{tree_layout, tree_shape, tree_definitions}
 use Rattle.std.proofs.Common.{◌≡◌, ◌≤◌, ◌+◌, ◌*◌, length, pos}

@@ -1,18 +1,18 @@
 -- Written by tools/derive: change the declaration, and run it again.
+use Rattle.archive_core.proofs.Causes.{err_by, goes_both}
+use Rattle.archive_core.proofs.Owners.{vec_refused}
+use Rattle.archive_core.proofs.PlannedParts.{serialized_no_part, serialized_part, serialized_record, record_refused, first_refused, later_refused}
+use Rattle.archive_core.proofs.RunRegions.{run_owned, long_run_refused}
+use Rattle.archive_core.proofs.Runs.{continues_step, continues_broken, continues_end, belongs_end}
 use Rattle.archive_core.specs.Causes.{no_memory}
 use Rattle.archive_core.specs.Definitions.{both, no_definition}
 use Rattle.archive_core.specs.Error.TheVariants.{OutOfMemory}
+use Rattle.archive_core.specs.Held.{written_as, refused_as}
 use Rattle.archive_core.specs.PartsPlanned.{part_planned, no_part_planned}
 use Rattle.archive_core.specs.PlannedOwners.{vec_planned, slice_planned, each_planned}
 use Rattle.archive_core.specs.Runs.{each_keys, each_meaning}
 use Rattle.archive_core.specs.Shape.{vec, leaf, unsigned, part, no_part, number as number_kind}
 use Rattle.archive_core.specs.Value.{list, number, value, no_value}
-use Rattle.archive_recursive.proofs.Causes.{err_by, goes_both}
-use Rattle.archive_recursive.proofs.Owners.{vec_refused}
-use Rattle.archive_recursive.proofs.PlannedParts.{serialized_no_part, serialized_part, serialized_record, record_refused, first_refused, later_refused}
-use Rattle.archive_recursive.proofs.RunRegions.{run_owned, long_run_refused}
-use Rattle.archive_recursive.proofs.Runs.{continues_step, continues_broken, continues_end, belongs_end}
-use Rattle.archive_recursive.specs.Held.{written_as, refused_as}
 use Rattle.recursive_types.specs.TreeMeaning.{tree_meaning, tree_keys, tree_planned, tree_means, tree_has_keys}
 use Rattle.recursive_types.specs.TreeShape.{tree_shape, tree_definitions, tree_parts, tree_part_definitions, tree_has_parts}
 use Rattle.recursive_types.specs.declared.tree.Tree.{out-Tree}

@@ -1,5 +1,5 @@
 -- Written by tools/derive: change the declaration, and run it again.
-use Rattle.archive_recursive.proofs.Runs.{Continues}
+use Rattle.archive_core.proofs.Runs.{Continues}
 use Rattle.recursive_types.specs.TreeMeaning.{tree_meaning, tree_keys, tree_flat, tree_belongs}
 use Rattle.recursive_types.specs.TreeShape.{tree_shape, tree_definitions}
 use Rattle.std.proofs.Common.{drop}

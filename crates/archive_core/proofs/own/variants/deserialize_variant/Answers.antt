@@ -1,6 +1,6 @@
 use Rattle.std.proofs.Common.{refl}
 use Rattle.archive_types.proofs.Planning.Causes.{err_from}
-use Rattle.archive_fields.proofs.ReadChoices.{variant_viewed, variant_read, variant_refuses}
+use Rattle.archive_core.proofs.fields.ReadChoices.{variant_viewed, variant_read, variant_refuses}
 use Rattle.archive_core.proofs.own.variants.deserialize_variant.Goals as goal
 
 pub deserialize_parts-requires : goal.deserialize_parts-requires

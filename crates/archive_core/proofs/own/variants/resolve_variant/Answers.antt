@@ -1,7 +1,7 @@
 use Rattle.std.proofs.Common.{rules, ◌≡◌, ◌+◌, ◌-◌, ◌<◌, ◌∷◌, length, drop, slice_set, arith}
 use Rattle.std.proofs.lemmas.List.{length-take, length-drop, length-set}
 use Rattle.archive_types.proofs.Planning.Causes.{err_from}
-use Rattle.archive_fields.proofs.OwnChoices.{resolves_variant, variant_hindered, tagged_whole}
+use Rattle.archive_core.proofs.fields.OwnChoices.{resolves_variant, variant_hindered, tagged_whole}
 use Rattle.archive_types.proofs.Writing.ResolvedVariants.{on_ok}
 use Rattle.archive_core.proofs.own.variants.resolve_variant.Goals as goal
 

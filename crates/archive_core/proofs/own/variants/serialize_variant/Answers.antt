@@ -1,6 +1,6 @@
 use Rattle.std.proofs.Common.{rules}
 use Rattle.archive_types.proofs.Planning.Causes.{err_from}
-use Rattle.archive_fields.proofs.OwnChoices.{variant_serialized_if, variant_refused}
+use Rattle.archive_core.proofs.fields.OwnChoices.{variant_serialized_if, variant_refused}
 use Rattle.archive_core.proofs.own.variants.serialize_variant.Goals as goal
 
 pub returns : goal.returns

@@ -1,7 +1,7 @@
 use Rattle.std.proofs.Common.{rules, refl}
 use Rattle.archive_check.specs.Definitions.{no_definition}
-use Rattle.archive_fields.specs.Plain.{knows_plain}
-use Rattle.archive_fields.proofs.Ties.{part_of, part_here, plain_in}
+use Rattle.archive_core.specs.fields.Plain.{knows_plain}
+use Rattle.archive_core.proofs.fields.Ties.{part_of, part_here, plain_in}
 use Rattle.archive_core.proofs.SealedParts.{comes_on, behind_comes, sealed_part}
 use Rattle.archive_core.proofs.seal.cases.sealed_part_in_case.Goals as goal
 

@@ -1,8 +1,8 @@
 use Rattle.std.proofs.Common.{rules, refl}
 use Rattle.archive_check.specs.Definitions.{no_definition}
-use Rattle.archive_fields.specs.Plain.{knows_plain}
-use Rattle.archive_fields.proofs.ShownFields.{field_of}
-use Rattle.archive_fields.proofs.Ties.{plain_record_of}
+use Rattle.archive_core.specs.fields.Plain.{knows_plain}
+use Rattle.archive_core.proofs.fields.ShownFields.{field_of}
+use Rattle.archive_core.proofs.fields.Ties.{plain_record_of}
 use Rattle.archive_core.proofs.SealedParts.{comes_on, offset_comes, sealed_part}
 use Rattle.archive_core.proofs.seal.cases.sealed_part_in_record.Goals as goal
 

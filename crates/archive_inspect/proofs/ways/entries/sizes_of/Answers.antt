@@ -1,4 +1,4 @@
-use Rattle.std.proofs.Common.{arith, rules}
+use Rattle.std.proofs.Common.{rules}
 use Rattle.archive_inspect.proofs.WaySteps.{entry_sizes}
 use Rattle.archive_inspect.proofs.ways.entries.sizes_of.Goals as goal
 

@@ -1,4 +1,3 @@
-use Rattle.std.proofs.Common.{refl}
 use Rattle.archive_check.specs.Trail.{other_type, other_length, cyclic}
 use Rattle.archive_inspect.specs.Ways.{fails_type, fails_length, fails_cycle}
 use Rattle.archive_inspect.proofs.Refused.{leaf_refused, text_refused, string_refused, tag_refused, shared_refused}

@@ -1,4 +1,4 @@
-use Rattle.std.proofs.Common.{◌≡◌, ◌++◌, ◌∷◌, [], sym, ap, ◌∙◌, take, length, ◌+◌, ◌<◌, arith}
+use Rattle.std.proofs.Common.{◌++◌, ◌∷◌, [], sym, ap, ◌∙◌, take, length, ◌+◌, ◌<◌, arith}
 use Rattle.std.proofs.lemmas.List.{take_more, take_all}
 use Rattle.archive_inspect.proofs.Refused.{refused_order}
 use Rattle.archive_inspect.proofs.ways.faults.is_unsorted_there.Goals as goal

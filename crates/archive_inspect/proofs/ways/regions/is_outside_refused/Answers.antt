@@ -1,4 +1,4 @@
-use Rattle.std.proofs.Common.{arith, rules, sym}
+use Rattle.std.proofs.Common.{rules}
 use Rattle.archive_inspect.proofs.Refused.{region_outside}
 use Rattle.archive_inspect.proofs.ways.regions.is_outside_refused.Goals as goal
 

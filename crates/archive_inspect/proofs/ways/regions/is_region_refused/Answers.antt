@@ -1,4 +1,3 @@
-use Rattle.std.proofs.Common.{arith, rules, sym}
 use Rattle.archive_inspect.proofs.Refused.{region_large}
 use Rattle.archive_inspect.proofs.ways.regions.is_region_refused.Goals as goal
 

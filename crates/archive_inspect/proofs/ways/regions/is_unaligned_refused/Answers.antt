@@ -1,4 +1,4 @@
-use Rattle.std.proofs.Common.{arith, rules, sym}
+use Rattle.std.proofs.Common.{rules}
 use Rattle.archive_inspect.proofs.Refused.{region_unaligned}
 use Rattle.archive_inspect.proofs.ways.regions.is_unaligned_refused.Goals as goal
 

@@ -1,4 +1,4 @@
-use Rattle.std.proofs.Common.{arith, rules, refl}
+use Rattle.std.proofs.Common.{refl}
 use Rattle.std.proofs.lemmas.Option.{IfSome_then}
 use Rattle.archive_inspect.proofs.WaySteps.{array_step, element_step}
 use Rattle.archive_inspect.proofs.ways.steps.to_element.Goals as goal

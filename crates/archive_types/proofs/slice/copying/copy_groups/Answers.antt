@@ -4,8 +4,8 @@ use Rattle.archive_types.proofs.Planning.Causes.{err_by}
 use Rattle.archive_types.proofs.Copying.Copies.{are_copied, each_owns_nothing}
 use Rattle.archive_types.proofs.slice.copying.copy_groups.Goals as goal
 
-pub returns : goal.returns
-returns g c = record {
+pub returns-clause-outcome : goal.returns-clause-outcome
+returns-clause-outcome g c = record {
   serialized = search rules;
   in_bulk = (
     c.in_ok-pos.ensures.position ∙ ap (copies_from g.T.CopiedAs.Portable.layout) (g.met.S.Writer.position_law _),
@@ -14,16 +14,18 @@ returns g c = record {
   );
   untouched = search rules;
   goes_on = search rules;
+  fails_on = search rules;
   refused = search rules;
   not_in_bulk = search rules;
 }
 
-pub returns-in_err-pos : goal.returns-in_err-pos
-returns-in_err-pos g c = record {
+pub returns-in_err-pos-clause-outcome : goal.returns-in_err-pos-clause-outcome
+returns-in_err-pos-clause-outcome g c = record {
   serialized = search rules;
   in_bulk = search rules;
   untouched = search rules;
   goes_on = search rules;
+  fails_on = search rules;
   refused = search rules;
   not_in_bulk = err_by c.from_residual.result c.in_err-pos.field-0.0 _ c.from_residual.ensures.1 (
     each_owns_nothing _ _ _ _ c.copied_size-size.ensures.owns_nothing _,

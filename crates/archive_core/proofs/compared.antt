@@ -1,0 +1,2 @@
+-- Lemmas on variants that are viewed, by their tags.
+pub mod CasesViewed

@@ -1,0 +1,8 @@
+-- Lemmas on fields by their number, and on the variants that have them.
+pub mod FrontFields
+pub mod OwnChoices
+pub mod ReadChoices
+pub mod Shown
+pub mod ShownFields
+pub mod Ties
+pub mod Viewing

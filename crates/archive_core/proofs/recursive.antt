@@ -1,0 +1,6 @@
+-- Lemmas on the calls that write, check and read back recursive types.
+pub mod Links
+pub mod EndsBefore
+pub mod RecordAs
+pub mod ChainsWritten
+pub mod ChainsRead

@@ -1,0 +1,6 @@
+-- What is said of the calls that write, check and read back recursive types.
+pub mod ChainSteps
+pub mod Chains
+pub mod Held
+pub mod HeldOptions
+pub mod Hollow

@@ -1,0 +1,49 @@
+// The names of archived types, and what they stand for.
+
+ghost use Rattle.std.specs.Prelude.{◌≡◌, OnOk, IfOk, IfErr};
+ghost use Rattle.archive_check.specs.Words.AddedDefinitions.{AreAdded};
+ghost use Rattle.archive_check.specs.Definitions.{ExplainsConflict, defines};
+ghost use Rattle.archive_check.specs.Expressions.{shape_of, shapes_in, table_of, variants_in};
+ghost use Rattle.archive_check.specs.Shape.{choice, parts};
+ghost use Rattle.archive_check.specs.declared.format.error.Error.TheVariants.{OutOfMemory};
+ghost use Rattle.archive_enum.specs.Choices.{option_shape};
+
+use archive_check::format::error::Error;
+use archive_check::format::expr::{Defs, Expr};
+use std::alloc::Global;
+
+/// Adds the definition of a name. Fails with the error of `Defs::add`: of memory, or of a name that stands for something else already.
+#[tactic(auto, using(archive_check::proofs::format::AddedDefinitions::adding))]
+pub fn define_name(name: &'static str, definition: Expr, defs: &mut Defs) -> Result<(), Error>
+    ensures added { OnOk result (AreAdded defs (defines name.now (shape_of definition))) }
+    ensures refused { IfErr result (ExplainsConflict (table_of defs.old) (defines name.now (shape_of definition))) }
+{
+    defs.add(name, definition)?;
+    Ok(())
+}
+
+/// The expression of a record of parts with these expressions.
+pub fn record_of(list: Vec<Expr>) -> Expr
+    ensures { shape_of result ≡ parts (shapes_in list.items) }
+{
+    Expr::Record(list)
+}
+
+/// The expression of an option of values with this one.
+pub fn option_expression(alloc: Global, item: Expr) -> Result<Expr, Error>
+    ensures shape { IfOk result (λ e. shape_of e ≡ option_shape (shape_of item)) }
+    ensures refused { IfErr result (λ e. e ≡ OutOfMemory) }
+{
+    let none = vec![in alloc]?;
+    let some = vec![in alloc; item]?;
+    let variants = vec![in alloc; none, some]?;
+    Ok(choice_of("ArchivedOption", variants))
+}
+
+/// An expression of a choice with this name and these variants, each by the expressions of its
+/// parts: the definition of a recursive enum. Our own.
+pub fn choice_of(name: &'static str, variants: Vec<Vec<Expr>>) -> Expr
+    ensures { shape_of result ≡ choice name.now (variants_in variants.items) }
+{
+    Expr::Choice(name, variants)
+}

@@ -1,0 +1,76 @@
+// Damaged lists: validated by loops, and by their schema, which says the same of each.
+
+use crate::assertions::{assert_refused, assert_same};
+use crate::bytes::TWO;
+use archive_core::api::{HighValidator, access};
+use archive_core::error::Error;
+use archive_core::shape::Schema;
+use recursive_types::list::ArchivedList;
+use std::alloc::{AllocError, Global};
+use std::process::Abort;
+
+// The archive of two numbers, with a byte of it changed.
+fn changed(alloc: Global, at: usize, byte: u8) -> Result<Vec<u8>, AllocError> {
+    let mut bytes = Vec::with_capacity(alloc, TWO.len())?;
+    for (index, one) in TWO.iter().enumerate() {
+        bytes.push(if index == at { byte } else { *one })?;
+    }
+    Ok(bytes)
+}
+
+fn refusal_by_schema(alloc: Global, schema: &Schema, bytes: &[u8]) -> Option<Error> {
+    let mut context = HighValidator::new(alloc, bytes);
+    schema.check(bytes, 24, &mut context).err()
+}
+
+fn refusal(alloc: Global, bytes: &[u8]) -> Option<Error> {
+    access::<ArchivedList>(alloc, bytes).err()
+}
+
+fn assert_alike(rt: &impl Abort, alloc: Global, schema: &Schema, at: usize, byte: u8) {
+    let bytes = changed(alloc, at, byte).expect(rt, "bytes");
+    let found = refusal(alloc, bytes.as_slice());
+    let wanted = refusal_by_schema(alloc, schema, bytes.as_slice());
+    assert_same(rt, "both checks", found, wanted);
+}
+
+#[test]
+fn each_byte_changed(rt: HostRuntime) {
+    let schema = Schema::of::<ArchivedList>(rt.alloc()).expect(&rt, "a schema");
+    for at in 0..TWO.len() {
+        for byte in [0, 1, 2, 4, 12, 0xe8, 0xec, 0xf8, 0xff] {
+            assert_alike(&rt, rt.alloc(), &schema, at, byte);
+        }
+    }
+}
+
+fn assert_damaged(rt: &impl Abort, alloc: Global, at: usize, byte: u8, refusal: Error) {
+    let bytes = changed(alloc, at, byte).expect(rt, "bytes");
+    assert_refused::<ArchivedList>(rt, "a damaged list", alloc, bytes.as_slice(), refusal);
+}
+
+// The region of a node at this position, where a list may lie before `end`.
+fn outside(position: i128, end: usize) -> Error {
+    Error::InvalidSubtreePointer {
+        position,
+        size: 12,
+        start: 0,
+        end,
+    }
+}
+
+// A box that leads to its own node, behind it, and that of the inner node to this one; and a tag that no variant has.
+#[test]
+fn list_within_itself(rt: HostRuntime) {
+    assert_damaged(&rt, rt.alloc(), 32, 0xf8, outside(24, 24));
+    assert_damaged(&rt, rt.alloc(), 20, 0xf8, outside(12, 12));
+}
+
+#[test]
+fn tag_of_no_variant(rt: HostRuntime) {
+    let refusal = Error::InvalidDiscriminant {
+        name: "ArchivedList",
+        value: 2,
+    };
+    assert_damaged(&rt, rt.alloc(), 12, 2, refusal);
+}

@@ -1,0 +1,224 @@
+"""Terms of antt on plain parts of recursive types, which lead to no value of the type: numbers, texts, other types that `tools/derive` wrote, and options,
+results, tuples, arrays, vectors and boxes of these.
+
+A term is one at a value, which is a term itself.
+"""
+
+from .formats import snake
+
+# Leaves: shape, what a value means, and the type that antt has for it.
+LEAVES = {
+    **{f"u{n}": (f"leaf (number_kind unsigned w{n})", "number (pos {x})", "ℕ") for n in (8, 16, 32, 64, 128)},
+    **{f"i{n}": (f"leaf (number_kind signed w{n})", "number {x}", "ℤ") for n in (8, 16, 32, 64, 128)},
+    "usize": ("leaf (number_kind unsigned w32)", "number (pos {x})", "ℕ"),
+    "isize": ("leaf (number_kind signed w32)", "number {x}", "ℤ"),
+    "char": ("leaf char", "number (pos {x})", "ℕ"),
+    "bool": ("leaf bool", "number (pos (bool_byte {x}))", "Bool"),
+}
+# Which resolvers are a leaf's own, where not all are.
+OWN_RESOLVERS = {"usize": "({x} < 2 ^ 32)", "isize": "(FitsSigned w32 {x})"}
+
+
+def product(words, end="no_value", head="value"):
+    out = end
+    for word in reversed(words):
+        out = f"({head} {word} {out})"
+    return out
+
+
+class Plain:
+    """The terms of plain parts. It gathers what a file has to bring in."""
+
+    def __init__(self):
+        self.owns = {}  # a plain part's declaration, by its name
+
+    def format_of(self, type):
+        self.owns[type.name] = type.own
+        return f"(format_of_{snake(type.name)}.ghosts)"
+
+    def source_of(self, type):
+        self.owns[type.name] = type.own
+        return f"(source_of_{snake(type.name)}.ghosts)"
+
+    # ---- types and formats ----
+
+    def antt(self, type):
+        if type.own is not None:
+            return f"{type.name}-Source"
+        if type.name in LEAVES:
+            return LEAVES[type.name][2]
+        if type.name == "NonZero":
+            return self.antt(type.args[0])
+        args = [self.antt(arg) for arg in type.args]
+        if type.name == "String":
+            return "(String Global)"
+        if type.name == "tuple":
+            return f"({' × '.join(args)})"
+        if type.name in ("Option", "Result"):
+            return f"({type.name} {' '.join(args)})"
+        return f"(List {args[0]})" if type.name == "OwnedArray" else f"({type.name} {args[0]} Global)"
+
+    def shape(self, type):
+        if type.own is not None:
+            return f"{self.format_of(type)}.shape"
+        if type.name in LEAVES:
+            return f"({LEAVES[type.name][0]})"
+        if type.name == "NonZero":
+            return self.shape(type.args[0]).replace("number_kind", "non_zero")
+        if type.name == "String":
+            return "str"
+        args = [self.shape(arg) for arg in type.args]
+        if type.name == "tuple":
+            return f"(parts {product(args, 'no_part', 'part')})"
+        if type.name == "Result":
+            return f"(result_shape {args[0]} {args[1]})"
+        shapes = {"Box": "(boxed (one {}))", "Option": "(option_shape {})", "Vec": "(vec {})", "OwnedArray": f"(array {type.length} {{}})"}
+        return shapes[type.name].format(args[0])
+
+    def definitions(self, type):
+        if type.own is None and type.name == "Result":
+            return f"(both {self.definitions(type.args[0])} {self.definitions(type.args[1])})"
+        if type.own is None and type.name == "tuple":
+            return product([self.definitions(arg) for arg in type.args], "no_definition", "both")
+        return self.definitions(type.args[0]) if type.own is None and type.args else "no_definition"
+
+    def known(self, type):
+        """A proof that its definitions, which are none, are known."""
+        nothing = "(knows_none s k.laid_out)"
+        if type.own is None and type.name == "Result":
+            return f"(knows_both s _ _ {self.known(type.args[0])} {self.known(type.args[1])})"
+        if type.own is None and type.name == "tuple":
+            return product([self.known(arg) for arg in type.args], nothing, "knows_both s _ _")
+        return self.known(type.args[0]) if type.own is None and type.args else nothing
+
+    # ---- values ----
+
+    def as_function(self, which, type):
+        return f"(λ y. {getattr(self, which)(type, 'y')})"
+
+    def as_two(self, which, type):
+        return f"(λ y s. {getattr(self, which)(type, 'y', 's')})"
+
+    def meaning(self, type, x):
+        if type.own is not None:
+            return f"({self.source_of(type)}.meaning {x})"
+        if type.name in LEAVES:
+            return f"({LEAVES[type.name][1].format(x=x)})"
+        if type.name == "NonZero":
+            return self.meaning(type.args[0], x)
+        if type.name == "String":
+            return f"(text_value (string_bytes {x}))"
+        if type.name == "tuple":
+            return f"(product {product([self.meaning(arg, f'{x}.{i}') for i, arg in enumerate(type.args)])})"
+        if type.name == "Box":
+            return f"(box {self.meaning(type.args[0], f'{x}.value')})"
+        each = [self.as_function("meaning", arg) for arg in type.args]
+        if type.name == "Vec":
+            return f"(list (each_meaning {each[0]} {x}.items))"
+        heads = {"Option": "option_meaning", "Result": "result_meaning", "OwnedArray": f"array_meaning {type.length}"}
+        return f"({heads[type.name]} {' '.join(each)} {x})"
+
+    def keys(self, type, x):
+        if type.own is not None:
+            return f"({self.source_of(type)}.keys {x})"
+        if type.name in LEAVES or type.name in ("NonZero", "String"):
+            return "[]"
+        if type.name == "tuple":
+            out = "[]"
+            for i, arg in reversed(list(enumerate(type.args))):
+                out = f"({self.keys(arg, f'{x}.{i}')} ++ {out})"
+            return out
+        if type.name == "Box":
+            return self.keys(type.args[0], f"{x}.value")
+        each = [self.as_function("keys", arg) for arg in type.args]
+        if type.name == "Vec":
+            return f"(each_keys {each[0]} {x}.items)"
+        heads = {"Option": "option_keys", "Result": "result_keys", "OwnedArray": f"array_keys {type.length}"}
+        return f"({heads[type.name]} {' '.join(each)} {x})"
+
+    def flat(self, type, x, r):
+        if type.own is not None:
+            return f"({self.source_of(type)}.flat {x} {r})"
+        if type.name in LEAVES or type.name == "NonZero":
+            return self.meaning(type, x)
+        if type.name == "String":
+            return f"(string_flat (string_bytes {x}) {r})"
+        if type.name == "tuple":
+            return f"(product {product([self.flat(arg, f'{x}.{i}', r + '.1' * i + '.0') for i, arg in enumerate(type.args)])})"
+        if type.name == "Box":
+            return f"(box (hole (to_pointee {r} (one {self.shape(type.args[0])}) 0)))"
+        if type.name == "Vec":
+            return f"(hole (to_pointee {r} (run {self.shape(type.args[0])}) (length {x}.items)))"
+        each = [self.as_two("flat", arg) for arg in type.args]
+        if type.name == "OwnedArray":
+            return f"(list (each_flat {each[0]} {x} {r}.items))"
+        return f"({'option_flat' if type.name == 'Option' else 'result_flat'} {' '.join(each)} {x} {r})"
+
+    def belongs(self, type, x, r):
+        if type.own is not None:
+            return f"({self.source_of(type)}.belongs {x} {r})"
+        if type.name in LEAVES:
+            return OWN_RESOLVERS.get(type.name, "⊤").format(x=x)
+        if type.name in ("Box", "NonZero"):
+            return "⊤"
+        if type.name == "String":
+            return f"(length (string_bytes {x}) ≤ 1073741823)"
+        if type.name == "tuple":
+            out = "Unit {0}"
+            for i, arg in reversed(list(enumerate(type.args))):
+                out = f"({self.belongs(arg, f'{x}.{i}', r + '.1' * i + '.0')} × {out})"
+            return out
+        if type.name == "Vec":
+            return f"(length {x}.items ≤ 4294967295)"
+        each = [self.as_two("belongs", arg) for arg in type.args]
+        if type.name == "OwnedArray":
+            return f"(EachBelongs {each[0]} {x} {r}.items)"
+        return f"({'OptionBelongs' if type.name == 'Option' else 'ResultBelongs'} {' '.join(each)} {x} {r})"
+
+    # ---- laws ----
+
+    def keyed(self, type, x):
+        if type.own is not None:
+            return f"(keyed_of_{snake(type.name)} {x})" if self.source_of(type) else ""
+        if type.name in LEAVES or type.name == "NonZero":
+            return "(number_keyed _)"
+        if type.name == "String":
+            return f"(text_keyed (string_bytes {x}))"
+        if type.name == "tuple":
+            return f"(record_keyed {product([self.keyed(arg, f'{x}.{i}') for i, arg in enumerate(type.args)], 'nothing_keyed', 'part_keyed')})"
+        if type.name == "Box":
+            return f"(box_keyed _ _ {self.keyed(type.args[0], f'{x}.value')})"
+        said = " ".join(self.as_function(which, arg) for which in ("keys", "meaning", "keyed") for arg in type.args)
+        if type.name == "Vec":
+            return f"(each_keyed {said} {x}.items)"
+        heads = {"Option": "option_keyed", "Result": "result_keyed", "OwnedArray": f"array_keyed {type.length}"}
+        return f"({heads[type.name]} {said} {x})"
+
+    def planned(self, type, x):
+        if type.own is not None:
+            return f"(planned_of_{snake(type.name)} {x})" if self.source_of(type) else ""
+        if type.name in LEAVES or type.name == "NonZero":
+            return "(leaf_planned no_definition _ _ [] _ refl)"
+        if type.name == "String":
+            return f"(string_planned no_definition [] (string_bytes {x}))"
+        if type.name == "tuple":
+            return f"(product_planned _ _ _ _ {self.parts_plan(type.args, [f'{x}.{i}' for i in range(len(type.args))])})"
+        D, X = ([getattr(self, which)(arg) for arg in type.args] for which in ("definitions", "shape"))
+        if type.name == "Box":
+            y = f"{x}.value"
+            return f"(boxed_one_planned {D[0]} (one {X[0]}) {X[0]} refl {self.keys(type.args[0], y)} {self.meaning(type.args[0], y)} {self.planned(type.args[0], y)})"
+        said = " ".join(self.as_function(which, arg) for which in ("keys", "meaning") for arg in type.args)
+        each = " ".join(self.as_function("planned", arg) for arg in type.args)
+        if type.name == "Result":
+            return f"(result_planned {said} {' '.join(D + X)} {each} {x})"
+        if type.name == "Vec":
+            return f"(vec_planned {D[0]} {X[0]} _ _ _ (slice_planned {D[0]} {X[0]} {said} {each} {x}.items))"
+        head = "option_planned" if type.name == "Option" else f"array_planned {type.length}"
+        return f"({head} {D[0]} {X[0]} {said} {each} {x})"
+
+    def parts_plan(self, types, values):
+        """A plan of parts one after another, with all that it speaks of."""
+        out = "no_part_planned"
+        for type, x in reversed(list(zip(types, values))):
+            out = f"(part_planned {self.definitions(type)} {self.shape(type)} {self.keys(type, x)} {self.meaning(type, x)} {self.planned(type, x)} {out})"
+        return out
