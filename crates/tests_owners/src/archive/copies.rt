@@ -215,9 +215,10 @@ fn a_full_buffer_takes_no_part_of_an_array(rt: HostRuntime) {
 }
 
 #[test]
-fn small_arrays_are_copied_and_no_large_ones(rt: HostRuntime) {
+fn arrays_that_have_bytes_are_copied(rt: HostRuntime) {
     assert_holds(&rt, "a small array", is_copied::<[u16; 3]>());
-    assert_holds(&rt, "no large one", !is_copied::<[u8; 1025]>());
+    assert_holds(&rt, "a large one", is_copied::<[u8; 1025]>());
+    assert_holds(&rt, "an array without a byte", !is_copied::<[(); 3]>());
 }
 
 // Where values are copied.
