@@ -99,5 +99,6 @@ def written_files() -> List[str]:
 def differences(paths: List[str]) -> List[Tuple[str, str, str]]:
     """The files that aren't as they should be: path, text, and where they differ."""
     done = [(it, files.wanted(it)) for it in read.modules(paths)]
-    found = [(path, text, files.difference(it, path, text)) for it, wanted in done for path, text in wanted.items()]
+    kept = {path for _, wanted in done for path, text in wanted.items() if text}
+    found = [(path, text, files.difference(it, path, text)) for it, wanted in done for path, text in wanted.items() if text or path not in kept]
     return [it for it in found if it[2]]

@@ -2,7 +2,7 @@
 
 import os
 import shutil
-from typing import Dict, List, Optional, Tuple
+from typing import Dict, List, Optional, Sequence, Tuple
 
 from . import renames, write
 from .clashes import check_clashes
@@ -22,20 +22,21 @@ def wanted(module: Module) -> Dict[str, str]:
     check_clashes(module, written)
     out = {module.path: above(module) + clauses(written).replace("\n", module.newline)}
     crate = crate_folder(module)
-    out.update({path: "" for path in proofs_there(module, crate)})
+    out.update({path: "" for path in proofs_there(module, crate) + specs_there(module, crate)})
     out.update({os.path.normpath(os.path.join(crate, path)): text for path, text in write.proofs(module).items()})
-    named = [os.path.basename(path)[:-len(".antt")] for path in out if os.path.dirname(path) == os.path.join(crate, "specs")]
-    if named:
+    specs = {os.path.basename(path)[:-len(".antt")]: text for path, text in out.items() if os.path.dirname(path) == os.path.join(crate, "specs")}
+    if specs:
         path = os.path.join(crate, "specs", "Lib.antt")
-        out[path] = naming(text_of(path) if os.path.isfile(path) else "", sorted(named))
+        gone = [name for name, text in specs.items() if not text]
+        out[path] = naming(text_of(path) if os.path.isfile(path) else "", sorted(name for name in specs if name not in gone), gone)
     return out
 
 
-def naming(lib: str, names: List[str]) -> str:
-    """The list of a crate's definitions, which names these files as well."""
-    lines = lib.splitlines()
+def naming(lib: str, names: List[str], gone: Sequence[str] = ()) -> str:
+    """The list of a crate's definitions, which names these files as well, and those no longer."""
+    lines = [line for line in lib.splitlines() if line not in {f"pub mod {name}" for name in gone}]
     lines += [line for line in (f"pub mod {name}" for name in names) if line not in lines]
-    return "\n".join(lines) + "\n"
+    return "".join(f"{line}\n" for line in lines)
 
 
 def crate_folder(module: Module) -> str:
@@ -58,6 +59,22 @@ def proofs_there(module: Module, crate: str) -> List[str]:
     return found
 
 
+def specs_there(module: Module, crate: str) -> List[str]:
+    """The files of definitions that were written for the module before, of recursive types."""
+    folder, found = os.path.join(crate, "specs"), []
+    for file in sorted(os.listdir(folder)) if os.path.isdir(folder) else []:
+        name = file[:-len("Meaning.antt")]
+        home = f".specs.declared.{'.'.join(module.module)}.{name}Resolver."
+        if file.endswith("Meaning.antt") and home in text_of(os.path.join(folder, file)):
+            found += [path for path in (os.path.join(folder, f"{name}{it}.antt") for it in ("Meaning", "Shape")) if is_written(path)]
+    return found
+
+
+def is_written(path: str) -> bool:
+    """Whether the command wrote the file, as its first line says."""
+    return os.path.isfile(path) and text_of(path).split("\n")[0].endswith(PROOF_BEGINS[len("-- "):])
+
+
 def above(module: Module) -> str:
     """What is above the marker: it begins a line, and an empty one is before it."""
     head, end = module.head, module.newline
@@ -67,11 +84,12 @@ def above(module: Module) -> str:
 
 
 def with_lines_of(path: str, text: str) -> str:
-    """A list of definitions with those lines as well that another file of the same run brought to it."""
+    """A list of definitions with those lines as well that another file of the same run brought to it, but none of a file that was removed."""
     if os.path.basename(path) != "Lib.antt" or not os.path.isfile(path):
         return text
-    now = text_of(path).splitlines()
-    return "\n".join(now + [line for line in text.splitlines() if line not in now]) + "\n"
+    names = [line[len("pub mod "):] for line in text_of(path).splitlines() if line.startswith("pub mod ")]
+    gone = [it for it in names if not any(os.path.exists(os.path.join(os.path.dirname(path), file)) for file in (f"{it}.antt", it))]
+    return naming(text_of(path), [line[len("pub mod "):] for line in text.splitlines() if line.startswith("pub mod ")], gone)
 
 
 # ---- what differs ----
