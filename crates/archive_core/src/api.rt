@@ -34,10 +34,11 @@ pub use kept::Access;
 use std::alloc::{Allocator, Global};
 pub use using::{serialize_using, to_bytes_in_with_alloc, to_bytes_with_alloc};
 
-/// What the calls that write a whole archive hand to its value: a writer, an allocator and the keys of this archive. As in rkyv 0.8.18.
+/// The serializer of `to_bytes` and its kin: a writer, an allocator and shared keys. As in rkyv
+/// 0.8.18.
 pub type HighSerializer<W, A> = Serializer<W, A, Share>;
 
-/// What the calls that read a whole archive back may be handed, where it shares values of one type: a pool of them. As in rkyv 0.8.18.
+/// The deserializer for `from_bytes` if values of one type are shared: a pool. As in rkyv 0.8.18.
 pub type HighDeserializer<T> = Pool<T>;
 
 /// The position of the root of an archive of `len` bytes: `len` less the size of a `T`, or 0 if
@@ -63,9 +64,9 @@ fn serialize_whole<
     (serializer.into_writer(), root)
 }
 
-/// Appends an archive of `value` to what `writer` holds, its root at the end, and returns the
-/// writer. Memory comes from `alloc`. After a failure the writer is gone: lend it to
-/// `to_bytes_into` to know what it holds then.
+/// Appends an archive of `value` to what `writer` holds, and returns the writer. Memory comes from
+/// `alloc`. After a failure the writer is gone: lend it to `to_bytes_into` to know what it holds
+/// then.
 ///
 /// Errors:
 /// - `OutOfMemory`: memory is refused.
@@ -96,10 +97,9 @@ fn append_whole<W: Writer + Drop, T: Serialize<HighSerializer<W, Global>>>(
     serialize_whole(alloc, alloc, value, writer)
 }
 
-/// Appends an archive of `value` to what `writer` holds, its root at the end, and returns the
-/// root's position in bytes. Memory comes from `alloc`. Existing bytes stay, after a failure too,
-/// and an error of the writer is explained by what it holds then. Fails as `to_bytes_in` does. Our
-/// own.
+/// Appends an archive of `value` to what `writer` holds, and returns its root's position in bytes.
+/// Memory comes from `alloc`. Existing bytes stay, after a failure too, and an error of the writer
+/// is explained by what it holds then. Fails as `to_bytes_in` does. Our own.
 #[inline(always)]
 pub fn to_bytes_into<W: Writer + Drop, T: Serialize<HighSerializer<W, Global>>>(
     alloc: Global,
@@ -261,10 +261,9 @@ pub fn access_with_context<'a, T: Portable, C: ArchiveContext + SharedContext>(
     access_pos_with_context(alloc, bytes, root_position::<T>(bytes.len()), context)
 }
 
-/// Checks that `bytes` are an archive of a `T`, its root at the end, and reads it back: the result
-/// is the value that the archive denotes, its shared values named by their positions.
-/// `deserializer` is `()` if nothing is shared, else one that knows no position yet. Memory comes
-/// from `alloc`.
+/// Validates an archive of a `T`, whose root lies at the end, and reads its value back. This is the
+/// value that the archive denotes, its shared values named by their positions. `deserializer` is
+/// `()` if nothing is shared, else one that knows no position yet. Memory comes from `alloc`.
 ///
 /// Errors, besides those of `access`:
 /// - `CyclicDeserialize`: only if a shared position is met that is still being read; so never if
@@ -282,9 +281,9 @@ where
     <T::Archived as Deserialize<T, D>>::deserialize(alloc, root, deserializer)
 }
 
-/// Reads back what `view` shows, with a `deserializer` that may have met shared positions of this
-/// buffer before, each finished one named by its position: the result means what the archive says
-/// there. Memory comes from `alloc`.
+/// Reads back what `view` shows, with a `deserializer` that may know shared positions of this
+/// buffer. If it names each value that it has finished by its position, the result means what the
+/// archive says there. Memory comes from `alloc`.
 ///
 /// Errors:
 /// - `OutOfMemory`: memory is refused.
@@ -301,8 +300,8 @@ pub fn deserialize_using<T: Archive, U: Deserialize<T, D>, D: Entries>(
     U::deserialize(alloc, view, deserializer)
 }
 
-/// Reads back what `view` shows, with a `deserializer` that knows no position yet, `()` if nothing
-/// is shared: the result means what the archive says there, its shared values named by their
+/// Reads back what `view` shows. `deserializer` is `()` if nothing is shared, else one that knows
+/// no position yet. The result means what the archive says there, its shared values named by their
 /// positions. Memory comes from `alloc`.
 ///
 /// Errors:

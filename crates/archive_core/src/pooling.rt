@@ -131,14 +131,15 @@ pub trait PoolingExt<T: Pooled>: Pooling<T> {
 
 impl<T: Pooled, D: Pooling<T>> PoolingExt<T> for D {}
 
-/// The shared values of one buffer that were read back, one for each position. As in rkyv 0.8.18, with values of one type.
+/// The shared values of one buffer that were read back, one for each position. Make a new one for
+/// another buffer, and after a failure. As in rkyv 0.8.18, with values of one type.
 #[derive(Drop)]
 pub struct Pool<T> {
     values: HashMap<usize, Option<T>>,
 }
 
 impl<T: Pooled> Pool<T> {
-    /// Knows no position. Memory comes from `alloc` with the first one.
+    /// A pool that knows no position. Memory comes from `alloc` with the first one.
     pub fn new(alloc: Global) -> Pool<T>
         ensures { NoEntries (⟦<Pool<T> as Entries>⟧.entry_of result) }
     {
@@ -147,8 +148,8 @@ impl<T: Pooled> Pool<T> {
         }
     }
 
-    /// Knows no position, and has room for `capacity` of them. Fails with `OutOfMemory` if memory
-    /// from `alloc` is refused.
+    /// A pool that knows no position, with room for `capacity` of them. Fails with `OutOfMemory` if
+    /// memory from `alloc` is refused.
     pub fn with_capacity(alloc: Global, capacity: usize) -> Result<Pool<T>, Error>
         ensures fresh { IfOk result (λ p. NoEntries (⟦<Pool<T> as Entries>⟧.entry_of p)) }
         ensures room { IfOk result (λ p. capacity ≤ spare p.values) }

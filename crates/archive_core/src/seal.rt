@@ -24,7 +24,7 @@ use std::marker::PhantomData;
 
 /// Where a validated part lies, without its bytes: a position and a length. It is copied freely and
 /// borrows nothing. A view returns it (`spot`), and with the bytes it gives a view again, or a seal
-/// if seals come to it: so not where it is a key of a map.
+/// if it is no key of a map.
 ///
 /// ```
 /// let spot = access::<ArchivedU32>(alloc, bytes.as_slice())?.spot();

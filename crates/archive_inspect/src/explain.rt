@@ -78,8 +78,9 @@ pub fn explain_as<T: Portable>(alloc: Global, bytes: &[u8]) -> Result<Option<Exp
     explained_as::<T>(alloc, form, bytes)
 }
 
-/// The same with the names of a text, such as `tools/derive` writes of a type by `// text: NAME`.
-/// If the text isn't one of `T`, the way has numbers.
+/// The same with the names of a text, such as `tools/derive` writes of a file by `// text: NAME`.
+/// The text's root, which is its last type if it names no other, must be `T`, else the way has
+/// numbers.
 ///
 /// Errors: as `explain_as` has them.
 pub fn explain_by<T: Portable>(

@@ -22,9 +22,9 @@ use archive_types::view::{RawView, Ref};
 use std::alloc::Global;
 use std::marker::PhantomData;
 
-/// Accesses archives whose root is a `T`, any number of them, with the work for the type done once:
-/// it keeps the schema of `T`, or nothing if `T` validates itself. Each call promises what the call
-/// of that name in `api` does.
+/// Accesses any number of archives of a `T`, with the work for the type done once. It keeps the
+/// schema of `T`, or nothing if `T` validates itself. Each call promises what the call of that name
+/// in `api` does.
 ///
 /// ```
 /// let messages: Access<ArchivedVec<ArchivedString>> = Access::new(alloc)?;
@@ -44,8 +44,8 @@ pub struct Access<T: Portable> {
 }
 
 impl<T: Portable> Access<T> {
-    /// Makes what checks of a `T` need, for which memory comes from `alloc` as well. Never fails if
-    /// `T` validates itself. Our own.
+    /// Does the work for the type. Memory comes from `alloc`, for the checks as well. Never fails
+    /// if `T` validates itself. Our own.
     ///
     /// Errors:
     /// - `OutOfMemory`: memory is refused.

@@ -28,8 +28,9 @@ use archive_types::traits::{
 };
 use std::rc::{RcSlice, RcStr};
 
-/// A shared text, with the key that names it. Our own: it stands for `Rc<str>` of rkyv 0.8.18, which goes by the address.
-#[derive(Drop)]
+/// A shared text, with the key that names it, as of a `Shared`. Our own: it stands for `Rc<str>` of
+/// rkyv 0.8.18, which goes by the address.
+#[derive(Debug, PartialEq, Drop)]
 pub struct SharedStr {
     /// The key: it should name one value.
     pub key: u64,
@@ -37,8 +38,9 @@ pub struct SharedStr {
     pub value: RcStr,
 }
 
-/// A shared slice, with the key that names it. Our own: it stands for `Rc<[T]>` of rkyv 0.8.18, which goes by the address.
-#[derive(Drop)]
+/// A shared slice, with the key that names it, as of a `Shared`. Our own: it stands for `Rc<[T]>`
+/// of rkyv 0.8.18, which goes by the address.
+#[derive(Debug, PartialEq, Drop)]
 pub struct SharedSlice<T> {
     /// The key: it should name one value.
     pub key: u64,

@@ -23,10 +23,11 @@ use archive_types::traits::{
     Archive, ArchiveUnsized, CopyOptimization, Keys, Portable, Serialize, SerializeUnsized,
 };
 
-/// A weak pointer to a shared value, or to none. Our own: it stands for `rc::Weak` of rkyv 0.8.18, which is null where its value is gone.
-#[derive(Drop)]
+/// A weak pointer in an archive: to a shared value, or null. In memory it keeps the value. Our own:
+/// it stands for `rc::Weak` of rkyv 0.8.18, which is null once its value is gone.
+#[derive(Debug, PartialEq, Drop)]
 pub struct WeakShared<T> {
-    /// What it leads to.
+    /// The value, or `None` for a null.
     pub value: Option<Shared<T>>,
 }
 
