@@ -1,4 +1,4 @@
-// The second program of README.md, line by line: `tools/documents` compares the two.
+// A shared value is read back by a crate whose line in crates.txt is that of README.md.
 
 use archive_core::api::{from_bytes, to_bytes};
 use archive_core::pooling::Pool;
