@@ -20,6 +20,9 @@ from .common import (
 )
 from .formats import layout_of, snake
 from .layout import Generic, Group, WIDTH, ended, flat, implementation, lay, literal, pair, signature, statement
+from .loads import Loads
+from .long import nest
+from .made import WRITTEN, Made
 
 
 class Case:
@@ -46,6 +49,7 @@ class Case:
         self.binders = [f"a{i}" for i in range(self.count)]
         self.names = self.binders
         self.word = f"{choice.name}{self.name}"
+        self.by_fours = Loads().go_by_fours(self.types)
 
     def pattern(self, values=()):
         """The variant with a name for each field, or with these values."""
@@ -121,9 +125,11 @@ def text(formats, declaration):
 def enum(choice):
     lines = []
     for case in choice.cases:
+        if case.by_fours:
+            choice.formats.use("archive_core::traits", "FourParts")
         if case.count:
-            lines.append(statement(0, f"type {case.word}Parts = ", pair(case.archived), ";"))
-            lines.append(statement(0, f"type {case.word}Owned = ", pair(case.read), ";"))
+            lines.append(statement(0, f"type {case.word}Parts = ", nest(case.archived, case.by_fours), ";"))
+            lines.append(statement(0, f"type {case.word}Owned = ", nest(case.read, case.by_fours), ";"))
     parts = [f"{case.word}Parts" if case.count else "()" for case in choice.cases]
     lines.append(statement(0, f"type {choice.name}Variants = ", pair(parts), ";"))
     return f"""/// An archived `{choice.name}`: {choice.size} bytes at a multiple of {choice.align}.
@@ -234,9 +240,9 @@ def archive(choice):
 
 
 def resolve_arm(choice, case):
-    place = "Place::new(pos, bytes)"
+    kept, place = kept_of(choice.formats, case.types), "Place::new(pos, bytes)"
     pattern = flat(case.pattern())
-    call = Generic(f"resolve_case_{case.count}", case.rust + [choice.archived], [str(case.tag)] + case.names + [kept_of(choice.formats, case.types), place])
+    call = Generic(f"resolve_case_{case.count}", case.rust + [choice.archived], [str(case.tag)] + case.names + [kept, place])
     if not case.count:
         one = f"            {pattern} => {flat(call)},\n"
         if len(one) <= WIDTH + 1:
@@ -290,8 +296,33 @@ def read(choice):
         its = [f"{case.word}Parts", f"{case.word}Owned"] if case.count else ["()", "()"]
         call = Generic("read_case", ["Self"] + its + ["D"], [str(case.tag), "alloc", "part", "deserializer"])
         tag = "_" if case is choice.cases[-1] else str(case.tag)
-        arms.append(match_arm(tag, call, flat(pair(case.names)), case.built()))
-    return deserialize(choice, f"        match known_tag::<Self>(part) {{\n{''.join(arms)}        }}\n")
+        if case.by_fours:
+            arms.append(match_arm(tag, call, "values", f"{made_of(case).name}(values)"))
+        else:
+            arms.append(match_arm(tag, call, flat(pair(case.names)), case.built()))
+    made = "".join(f"{made_of(case).text(case.names, case.built())}\n" for case in choice.cases if case.by_fours)
+    return made + deserialize(choice, f"        match known_tag::<Self>(part) {{\n{''.join(arms)}        }}\n")
+
+
+def made_of(case):
+    """The function that makes a variant of the values of its fields, where they are in fours."""
+    choice = case.choice
+    name = f"{snake(choice.name)}_{snake(case.name)}_of"
+    return Made(choice.formats, case.types, case.by_fours, name, choice.name, f"{case.word}Owned", f"case {case.tag}", f"{choice.name}::{case.name}")
+
+
+def proofs(formats, declaration):
+    """The proofs that are written beside the module, by their paths in the crate."""
+    choice = Choice(formats, declaration)
+    module = "/".join(declaration.module)
+    dotted = ".".join((declaration.crate, "proofs") + tuple(declaration.module))
+    out = {}
+    for case in choice.cases:
+        made = made_of(case) if case.by_fours else None
+        answers = made and made.answers(dotted)
+        if answers:
+            out[f"proofs/{module}/{made.name}/Answers.antt"] = answers
+    return out
 
 
 def views(choice):

@@ -1,6 +1,7 @@
 //! Types as a user declares them, with what tools/derive writes for them. The tests are in tests_derived.
 #![tactic(auto)]
 
+pub mod book;
 pub mod entry;
 pub mod event;
 pub mod kinds;

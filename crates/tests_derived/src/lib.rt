@@ -4,6 +4,8 @@
 #[cfg(test)]
 mod assertions;
 #[cfg(test)]
+mod books;
+#[cfg(test)]
 mod drawings;
 #[cfg(test)]
 mod entries;
