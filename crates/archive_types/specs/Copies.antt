@@ -1,5 +1,5 @@
 -- Values that are copied: each owns nothing, and has its bytes wherever it stands. What copying them appends, and why it is refused.
-use Rattle.std.specs.Prelude.{◌≡◌, ◌⊎◌, ℕ, zero, suc, Option, None, Some, ◌+◌, ◌*◌, ◌^◌, ◌<◌, ◌≤◌, List, [], ◌∷◌, ◌++◌, length, replicate, IfSome}
+use Rattle.std.specs.Prelude.{◌≡◌, ◌⊎◌, ℕ, zero, suc, Option, None, Some, ◌+◌, ◌-◌, ◌*◌, ◌^◌, ◌<◌, ◌≤◌, List, [], ◌∷◌, ◌++◌, length, replicate, IfSome}
 use Rattle.archive_check.specs.Shape.{Shape}
 use Rattle.archive_check.specs.Layout.{Layout}
 use Rattle.archive_check.specs.Definitions.{Definitions}
@@ -20,11 +20,16 @@ abbrev pub each_bytes : {A : Type 0} → (A → List ℕ) → List A → List �
 each_bytes b [] = []
 each_bytes b (x ∷ xs) = b x ++ each_bytes b xs
 
--- arrays of so many bytes are written in bulk as their elements are, if they have any
+-- arrays of so many bytes, of which so many are more than 1,024, are written in bulk as their elements are, if they have any and no more
+abbrev pub small_in_bulk : {A : Type 0} → ℕ → ℕ → Option (A → List ℕ) → Option (List A → List ℕ)
+small_in_bulk zero more b = None
+small_in_bulk (suc n) (suc more) b = None
+small_in_bulk (suc n) zero None = None
+small_in_bulk (suc n) zero (Some b) = Some (each_bytes b)
+
+-- so arrays of 1 to 1,024 bytes are
 abbrev pub array_in_bulk : {A : Type 0} → ℕ → Option (A → List ℕ) → Option (List A → List ℕ)
-array_in_bulk zero b = None
-array_in_bulk (suc n) None = None
-array_in_bulk (suc n) (Some b) = Some (each_bytes b)
+array_in_bulk n b = small_in_bulk n (n - 1024) b
 
 -- these bytes, so many, read as the value wherever they stand
 pub record IsCopied (D : Definitions) (X : Shape) (size : ℕ) (v : Value) (bytes : List ℕ) : Type 0 where

@@ -1,5 +1,5 @@
 -- Values that are written in bulk: as a slice's, as an owner's elements, and arrays as all their elements.
-use Rattle.std.proofs.Common.{◌≡◌, ℕ, ◌+◌, ◌*◌, ◌<◌, ◌≤◌, ◌^◌, List, length, refl, sym, ap, subst, ◌∙◌, arith, Bool, true, false, inl, inr, ⊎_elim, zero, suc, Option, Some, None, Result, Ok, Err, IfOk, IfErr, OnOk, IsOk, IsErrAnd}
+use Rattle.std.proofs.Common.{◌≡◌, ℕ, ◌+◌, ◌-◌, ◌*◌, ◌<◌, ◌≤◌, ◌^◌, List, length, refl, sym, ap, subst, ◌∙◌, arith, Bool, true, false, inl, inr, ⊎_elim, zero, suc, Option, Some, None, Result, Ok, Err, IfOk, IfErr, OnOk, IsOk, IsErrAnd}
 use Rattle.std.specs.Prelude.{IsErrOf, IsTrue, IsSome, IfSome, is_some}
 use Rattle.std.specs.List.{All}
 use Rattle.std.proofs.lemmas.List.Elements.{recursion_from_All}
@@ -10,7 +10,7 @@ use Rattle.archive_check.specs.WriterState.{WriterState}
 use Rattle.archive_check.specs.declared.format.error.Error.{Error}
 use Rattle.archive_check.specs.declared.format.error.Error.TheVariants.{OutOfMemory, PositionTooLarge, LengthTooLarge}
 use Rattle.archive_types.specs.Causes.{own_cause}
-use Rattle.archive_types.specs.Copies.{each_bytes, array_in_bulk, behind_zeros, IsCopyRefused, IsSliceRefused, AreCopiesRefused, copies_from, copies_to}
+use Rattle.archive_types.specs.Copies.{each_bytes, small_in_bulk, array_in_bulk, behind_zeros, IsCopyRefused, IsSliceRefused, AreCopiesRefused, copies_from, copies_to}
 use Rattle.archive_types.specs.Words.CopiesWritten.{CopiesAll, WritesInBulk, SliceWritesInBulk, OwnerWritesInBulk}
 use Rattle.archive_write.specs.Written.{GoesOn}
 use Rattle.archive_types.proofs.Planning.Causes.{explains_sooner}
@@ -118,12 +118,13 @@ module _ {A : Type 0} (L : Layout) (xs : List A) (p : ℕ) (old new : WriterStat
 -- arrays of n, which have so many bytes
 module _ {A : Type 0} (L : Layout) (n : ℕ) (xss : List (List A)) (old new : WriterState) (takes_memory : Bool) where
   -- are written in bulk as all their elements are
-  by_bytes : (z : ℕ) → (o : Option (A → List ℕ)) (r : Result (Option ℕ) Error) (ys : List A) (together joined : ℕ) → ys ≡ flat xss → All (λ x. length x ≡ n) xss → joined ≤ together * n
+  by_bytes : (z more : ℕ) → (o : Option (A → List ℕ)) (r : Result (Option ℕ) Error) (ys : List A) (together joined : ℕ) → ys ≡ flat xss → All (λ x. length x ≡ n) xss → joined ≤ together * n
       → Copies o joined L ys old new takes_memory r
-      → IfSome (array_in_bulk z o) (λ bytes. together * (n * L.size) ≤ 1024 → length xss * (n * L.size) < 2 ^ 64 → CopiesAll bytes (array_layout n L) xss old new takes_memory r)
-  by_bytes zero o r ys together joined same all less h = tt
-  by_bytes (suc z) None r ys together joined same all less h = tt
-  by_bytes (suc z) (Some b) r ys together joined same all less h = λ small counted.
+      → IfSome (small_in_bulk z more o) (λ bytes. together * (n * L.size) ≤ 1024 → length xss * (n * L.size) < 2 ^ 64 → CopiesAll bytes (array_layout n L) xss old new takes_memory r)
+  by_bytes zero more o r ys together joined same all less h = tt
+  by_bytes (suc z) (suc more) o r ys together joined same all less h = tt
+  by_bytes (suc z) zero None r ys together joined same all less h = tt
+  by_bytes (suc z) zero (Some b) r ys together joined same all less h = λ small counted.
       let each : Whole n xss = recursion_from_All (λ x. length x ≡ n) xss all in
       let fewer : joined * L.size ≤ together * n * L.size = mul-le-mul_right L.size less in
       let many : length ys * L.size ≡ length xss * (n * L.size) = ap (λ zs. length zs * L.size) same ∙ ap (λ c. c * L.size) (flat_length n xss each) ∙ mul_assoc (length xss) n L.size in
@@ -136,22 +137,23 @@ module _ {A : Type 0} (L : Layout) (n : ℕ) (xss : List (List A)) (old new : Wr
 
   pub arrays_in_bulk : (o : Option (A → List ℕ)) (r : Result (Option ℕ) Error) (ys : List A) (together joined : ℕ) → ys ≡ flat xss → All (λ x. length x ≡ n) xss → joined ≤ together * n
       → Copies o joined L ys old new takes_memory r → Copies (array_in_bulk (n * L.size) o) together (array_layout n L) xss old new takes_memory r
-  arrays_in_bulk o r ys together joined same all less h = by_bytes (n * L.size) o r ys together joined same all less h
+  arrays_in_bulk o r ys together joined same all less h = by_bytes (n * L.size) (n * L.size - 1024) o r ys together joined same all less h
 
   -- and can be counted, if their bytes can
   has_bytes : (z size : ℕ) → suc z ≡ n * size → 1 ≤ size
   has_bytes z zero e = absurd (omega (arith, e))
   has_bytes z (suc s) e = omega arith
 
-  uncounted_by : (z : ℕ) → z ≡ n * L.size → (o : Option (A → List ℕ)) (r : Result (Option ℕ) Error) (together : ℕ) → 2 ^ 64 ≤ length xss * n
-      → IfSome (array_in_bulk z o) (λ bytes. together * (n * L.size) ≤ 1024 → length xss * (n * L.size) < 2 ^ 64 → CopiesAll bytes (array_layout n L) xss old new takes_memory r)
-  uncounted_by zero size o r together more = tt
-  uncounted_by (suc z) size None r together more = tt
-  uncounted_by (suc z) size (Some b) r together more = λ small counted.
+  uncounted_by : (z more : ℕ) → z ≡ n * L.size → (o : Option (A → List ℕ)) (r : Result (Option ℕ) Error) (together : ℕ) → 2 ^ 64 ≤ length xss * n
+      → IfSome (small_in_bulk z more o) (λ bytes. together * (n * L.size) ≤ 1024 → length xss * (n * L.size) < 2 ^ 64 → CopiesAll bytes (array_layout n L) xss old new takes_memory r)
+  uncounted_by zero more size o r together many = tt
+  uncounted_by (suc z) (suc more) size o r together many = tt
+  uncounted_by (suc z) zero size None r together many = tt
+  uncounted_by (suc z) zero size (Some b) r together many = λ small counted.
       let one : 1 ≤ L.size = has_bytes z L.size size in
       let most : length xss * n * 1 ≤ length xss * n * L.size = mul-le-mul_left (length xss * n) one in
-      absurd (omega (arith, more, counted, most, mul_assoc (length xss) n L.size))
+      absurd (omega (arith, many, counted, most, mul_assoc (length xss) n L.size))
 
   pub uncounted_in_bulk : (o : Option (A → List ℕ)) (r : Result (Option ℕ) Error) (together : ℕ) → 2 ^ 64 ≤ length xss * n
       → Copies (array_in_bulk (n * L.size) o) together (array_layout n L) xss old new takes_memory r
-  uncounted_in_bulk o r together more = uncounted_by (n * L.size) refl o r together more
+  uncounted_in_bulk o r together more = uncounted_by (n * L.size) (n * L.size - 1024) refl o r together more

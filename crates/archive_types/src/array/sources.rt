@@ -11,7 +11,7 @@ ghost use Rattle.archive_types.specs.Outcomes.{ResolvesAs};
 
 use crate::place::Place;
 use crate::ser::resolve_into;
-use crate::slice::serialize_each;
+use crate::slice::{PIECE, serialize_each};
 use crate::traits::{Archive, CopyOptimization, Keys, Portable, Serialize};
 use archive_check::format::error::Error;
 use archive_write::ser::{ResolverAlloc, Writer};
@@ -124,8 +124,9 @@ impl<T: Archive, const N: usize> Archive for [T; N] {
 
     #[inline(always)]
     fn copy_optimization() -> CopyOptimization<[T; N]> {
-        let has_bytes = T::Archived::size() > 0 && N > 0;
-        CopyOptimization::enable_if(has_bytes && T::copy_optimization().is_enabled())
+        let size = <[T::Archived; N]>::size();
+        let is_small = 0 < size && size <= PIECE;
+        CopyOptimization::enable_if(is_small && T::copy_optimization().is_enabled())
     }
 
     #[inline(always)]

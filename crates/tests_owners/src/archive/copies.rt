@@ -215,10 +215,11 @@ fn a_full_buffer_takes_no_part_of_an_array(rt: HostRuntime) {
 }
 
 #[test]
-fn arrays_that_have_bytes_are_copied(rt: HostRuntime) {
+fn arrays_of_1_to_1024_bytes_are_copied(rt: HostRuntime) {
     assert_holds(&rt, "a small array", is_copied::<[u16; 3]>());
-    assert_holds(&rt, "a large one", is_copied::<[u8; 1025]>());
-    assert_holds(&rt, "an array without a byte", !is_copied::<[(); 3]>());
+    assert_holds(&rt, "the largest", is_copied::<[u8; 1024]>());
+    assert_holds(&rt, "no large one", !is_copied::<[u8; 1025]>());
+    assert_holds(&rt, "none without a byte", !is_copied::<[(); 3]>());
 }
 
 // Where values are copied.
