@@ -304,6 +304,7 @@ pub fn access_with_context<'a, T: Portable, C: ArchiveContext + SharedContext>(
 /// Errors, besides those of `access`:
 /// - `CyclicDeserialize`: only if a shared position is met that is still being read; so never if
 ///   the type shares nothing.
+#[inline(always)]
 pub fn from_bytes<T: Archive, D: Entries>(
     alloc: Global,
     bytes: &[u8],
@@ -325,6 +326,7 @@ where
 /// - `OutOfMemory`: memory is refused.
 /// - `CyclicDeserialize`: only if a shared position is met that is still being read, from before
 ///   this call too.
+#[inline(always)]
 pub fn deserialize_using<T: Archive, U: Deserialize<T, D>, D: Entries>(
     alloc: Global,
     view: Ref<'_, U>,
@@ -343,6 +345,7 @@ pub fn deserialize_using<T: Archive, U: Deserialize<T, D>, D: Entries>(
 /// Errors:
 /// - `OutOfMemory`: memory is refused.
 /// - `CyclicDeserialize`: only if a shared position is met that is still being read.
+#[inline(always)]
 pub fn deserialize<T: Archive, U: Deserialize<T, D>, D: Entries>(
     alloc: Global,
     view: Ref<'_, U>,

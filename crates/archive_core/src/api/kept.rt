@@ -150,6 +150,7 @@ impl<T: Portable> Access<T> {
     /// Errors, besides those of `access`:
     /// - `CyclicDeserialize`: only if a shared position is met that is still being read; so never
     ///   if the type shares nothing.
+    #[inline(always)]
     pub fn from_bytes<U: Archive<Archived = T>, D: Entries>(
         &self,
         bytes: &[u8],
