@@ -386,6 +386,7 @@ impl SelfCheck for ArchivedBook {
         true
     }
 
+    #[inline(always)]
     fn check_at<C: ArchiveContext>(
         bytes: &[u8],
         at: usize,
@@ -618,6 +619,7 @@ impl Archive for Book {
         (⟦<Event as Archive>⟧.keys v.event) (⟦<Event as Archive>⟧.meaning v.event)
         (planned_of_event v.event) no_part_planned)))))))))))))))) refl };
 
+    #[inline(always)]
     fn resolve(
         &self,
         resolver: Self::Resolver,
@@ -625,8 +627,10 @@ impl Archive for Book {
     ) -> Result<(), Error>
         requires zeroed { ZeroedPlace 88 place.pos place.bytes.now }
         requires same_value { ⟦<Self as Archive>⟧.belongs self.now resolver }
-        ensures { ResolvesAs ⟦<Self::Archived as Portable>⟧ place
-            (⟦<Self as Archive>⟧.flat self.now resolver) result }
+        ensures {
+            ResolvesAs ⟦<Self::Archived as Portable>⟧ place
+                (⟦<Self as Archive>⟧.flat self.now resolver) result
+        }
     {
         let Place { bytes, pos, .. } = place;
         let BookResolver { kept } = resolver;
@@ -649,6 +653,7 @@ impl Archive for Book {
 }
 
 impl<S: Writer + ResolverAlloc> Serialize<S> for Book {
+    #[inline(always)]
     fn serialize(&self, serializer: &mut S) -> Result<Self::Resolver, Error> {
         match serialize_record::<Self, BookFields, ArchivedBook, S>(self, serializer) {
             Ok(kept) => Ok(BookResolver { kept }),
@@ -686,12 +691,14 @@ impl ArchiveUnsized for Book {
         (part ⟦<ArchivedEvent as Portable>⟧.shape no_part)))))))))))))))))
         (⟦<Book as Archive>⟧.keys v) (⟦<Book as Archive>⟧.meaning v) (planned_of_book v) };
 
+    #[inline(always)]
     fn archived_metadata(&self) -> Result<(), Error> {
         Ok(())
     }
 }
 
 impl<S: Writer + ResolverAlloc> SerializeUnsized<S> for Book {
+    #[inline(always)]
     fn serialize_unsized(&self, serializer: &mut S) -> Result<usize, Error> {
         serialize_one(self, serializer)
     }
@@ -781,6 +788,7 @@ fn book_of(values: BookOwned) -> Book
 }
 
 impl<D: Entries> Deserialize<Book, D> for ArchivedBook {
+    #[inline(always)]
     fn deserialize_part(
         alloc: Global,
         part: RawView<'_>,
