@@ -1,7 +1,7 @@
 //! Whole archives: written, checked, read back and edited where they lie. The calls are those of rkyv 0.8.18, with an allocator handed in. Positions are in bytes from the
 //! buffer's first one.
 
-ghost use Rattle.std.specs.Prelude.{◌≡◌, ◌⊎◌, ◌≤◌, ◌-◌, None, length, IfOk, OnOk, IfErr, ℕ, []};
+ghost use Rattle.std.specs.Prelude.{◌≡◌, ◌⊎◌, ◌≤◌, ◌-◌, None, length, IfOk, OnOk, IfErr, IsTrue, ℕ, []};
 ghost use Rattle.archive_check.specs.context.FreshContexts.{KeepsLevels, IsWhole};
 ghost use Rattle.archive_check.specs.context.Pushes.{FewPushed};
 ghost use Rattle.archive_check.specs.Archives.{IsAnswerable, Answers, root_in};
@@ -20,7 +20,7 @@ mod using;
 
 use crate::pooling::Pool;
 pub use archive_check::context::HighValidator;
-use archive_check::context::{ArchiveContext, SharedContext};
+use archive_check::context::{ArchiveContext, ArchiveValidator, SharedContext};
 use archive_check::format::error::Error;
 use archive_check::self_check::{SelfCheck, check_root};
 use archive_schema::shape::Schema;
@@ -181,6 +181,39 @@ pub fn check_pos_with_context<T: Portable, C: ArchiveContext + SharedContext>(
     check_by_schema::<T, C>(alloc, bytes, pos, context)
 }
 
+// `access_pos` of a type that validates itself. Its check meets no shared position, so the context
+// has no place for one: to make and to drop that would take longer than the check of a number.
+#[inline(always)]
+fn access_direct<'a, T: Portable>(bytes: &'a [u8], pos: usize) -> Result<Ref<'a, T>, Error>
+    requires { IsTrue T.Check.direct }
+    ensures answer { Answers T.definitions bytes.now None pos T.shape result }
+    ensures buffer { IfOk result (λ r. r.bytes.now ≡ bytes.now) }
+    ensures position { IfOk result (λ r. r.pos ≡ pos) }
+    ensures whole { IfOk result (λ r. r.len ≡ 0) }
+{
+    let mut context = ArchiveValidator::new(bytes);
+    if let Err(error) = check_root::<T, ArchiveValidator<'_>>(bytes, pos, &mut context) {
+        return Err(error);
+    }
+    Ok(Ref::at(RawView { bytes, pos, len: 0 }))
+}
+
+// `access_pos` by the schema of `T`. It is a call, as `check_by_schema` is.
+#[inline(never)]
+fn access_by_schema<'a, T: Portable>(
+    alloc: Global,
+    bytes: &'a [u8],
+    pos: usize,
+) -> Result<Ref<'a, T>, Error>
+    ensures answer { Answers T.definitions bytes.now None pos T.shape result }
+    ensures buffer { IfOk result (λ r. r.bytes.now ≡ bytes.now) }
+    ensures position { IfOk result (λ r. r.pos ≡ pos) }
+    ensures whole { IfOk result (λ r. r.len ≡ 0) }
+{
+    let mut context = HighValidator::new(alloc, bytes);
+    access_pos_with_context::<T, HighValidator<'_>>(alloc, bytes, pos, &mut context)
+}
+
 /// Checks that `bytes` are an archive whose root, a `T`, lies at `pos`, and returns the root's
 /// view. Memory comes from `alloc`.
 ///
@@ -200,8 +233,10 @@ pub fn access_pos<'a, T: Portable>(
     ensures position { IfOk result (λ r. r.pos ≡ pos) }
     ensures whole { IfOk result (λ r. r.len ≡ 0) }
 {
-    let mut context = HighValidator::new(alloc, bytes);
-    access_pos_with_context::<T, HighValidator<'_>>(alloc, bytes, pos, &mut context)
+    if T::Check::is_direct() {
+        return access_direct(bytes, pos);
+    }
+    access_by_schema(alloc, bytes, pos)
 }
 
 /// Checks that `bytes` are an archive whose root, a `T`, lies at the end, and returns the root's
@@ -269,6 +304,7 @@ pub fn access_with_context<'a, T: Portable, C: ArchiveContext + SharedContext>(
 /// Errors, besides those of `access`:
 /// - `CyclicDeserialize`: only if a shared position is met that is still being read; so never if
 ///   the type shares nothing.
+#[inline(always)]
 pub fn from_bytes<T: Archive, D: Entries>(
     alloc: Global,
     bytes: &[u8],
@@ -290,6 +326,7 @@ where
 /// - `OutOfMemory`: memory is refused.
 /// - `CyclicDeserialize`: only if a shared position is met that is still being read, from before
 ///   this call too.
+#[inline(always)]
 pub fn deserialize_using<T: Archive, U: Deserialize<T, D>, D: Entries>(
     alloc: Global,
     view: Ref<'_, U>,
@@ -308,6 +345,7 @@ pub fn deserialize_using<T: Archive, U: Deserialize<T, D>, D: Entries>(
 /// Errors:
 /// - `OutOfMemory`: memory is refused.
 /// - `CyclicDeserialize`: only if a shared position is met that is still being read.
+#[inline(always)]
 pub fn deserialize<T: Archive, U: Deserialize<T, D>, D: Entries>(
     alloc: Global,
     view: Ref<'_, U>,

@@ -13,6 +13,7 @@ ghost use Rattle.archive_schema.specs.Schemas.{IsSchemaOf};
 ghost use Rattle.archive_core.specs.WholeArchives.{ReadsArchive};
 ghost use Rattle.archive_schema.specs.ContextAnswers.{AnswersIn};
 
+use super::access_direct;
 use archive_check::context::{ArchiveContext, HighValidator, SharedContext};
 use archive_check::format::error::Error;
 use archive_check::self_check::{SelfCheck, check_root};
@@ -102,7 +103,22 @@ impl<T: Portable> Access<T> {
     /// Errors:
     /// - `OutOfMemory`: memory is refused.
     /// - the first fault of the bytes, in the order that docs/FORMAT.md gives.
+    #[inline(always)]
     pub fn access_pos<'a>(&self, bytes: &'a [u8], pos: usize) -> Result<Ref<'a, T>, Error>
+        ensures answer { Answers T.definitions bytes.now None pos T.shape result }
+        ensures buffer { IfOk result (λ r. r.bytes.now ≡ bytes.now) }
+        ensures position { IfOk result (λ r. r.pos ≡ pos) }
+        ensures whole { IfOk result (λ r. r.len ≡ 0) }
+    {
+        if T::Check::is_direct() {
+            return access_direct(bytes, pos);
+        }
+        self.access_by_schema(bytes, pos)
+    }
+
+    // `access_pos` by the schema that is kept. It is a call, so that callers have little in line besides the check of a type that validates itself.
+    #[inline(never)]
+    fn access_by_schema<'a>(&self, bytes: &'a [u8], pos: usize) -> Result<Ref<'a, T>, Error>
         ensures answer { Answers T.definitions bytes.now None pos T.shape result }
         ensures buffer { IfOk result (λ r. r.bytes.now ≡ bytes.now) }
         ensures position { IfOk result (λ r. r.pos ≡ pos) }
@@ -117,6 +133,7 @@ impl<T: Portable> Access<T> {
 
     /// Checks that `bytes` are an archive whose root lies at the end, and returns the root's view.
     /// Fails as `access_pos` does. Our own.
+    #[inline(always)]
     pub fn access<'a>(&self, bytes: &'a [u8]) -> Result<Ref<'a, T>, Error>
         ensures answer { Answers T.definitions bytes.now None (root_in bytes.now T.layout) T.shape result }
         ensures buffer { IfOk result (λ r. r.bytes.now ≡ bytes.now) }
@@ -133,6 +150,7 @@ impl<T: Portable> Access<T> {
     /// Errors, besides those of `access`:
     /// - `CyclicDeserialize`: only if a shared position is met that is still being read; so never
     ///   if the type shares nothing.
+    #[inline(always)]
     pub fn from_bytes<U: Archive<Archived = T>, D: Entries>(
         &self,
         bytes: &[u8],
