@@ -185,6 +185,7 @@ def own_check(source, body):
         true
     }}
 
+    #[inline(always)]
     fn check_at<C: ArchiveContext>(
         bytes: &[u8],
         at: usize,
@@ -223,7 +224,8 @@ def in_turn(formats):
 
 
 def resolve_head(source):
-    return f"""    fn resolve(
+    return f"""    #[inline(always)]
+    fn resolve(
         &self,
         resolver: Self::Resolver,
         place: Place<'_, Self::Archived>,
@@ -241,6 +243,7 @@ def deserialize(source, body):
     bound = source.formats.reader_bound(source.all_types)
     name = source.name
     return f"""{implementation([f"D: {bound}"], "Deserialize", [name, "D"], source.archived)}
+    #[inline(always)]
     fn deserialize_part(
         alloc: Global,
         part: RawView<'_>,
@@ -279,12 +282,14 @@ impl ArchiveUnsized for {source.name} {{
 
     ghost planned = {{ λ v. one_planned no_definition ({source.shape}) ({its}.keys v) ({its}.meaning v) ({planned} v) }};
 
+    #[inline(always)]
     fn archived_metadata(&self) -> Result<(), Error> {{
         Ok(())
     }}
 }}
 
 {implementation([f"S: {f.writer_bound(source.all_types, whole=True)}"], "SerializeUnsized", ["S"], source.name)}
+    #[inline(always)]
     fn serialize_unsized(&self, serializer: &mut S) -> Result<usize, Error> {{
         serialize_one(self, serializer)
     }}

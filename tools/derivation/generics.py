@@ -142,6 +142,7 @@ def serialize(made):
     bound = made.formats.writer_bound(made.types)
     call = Generic("serialize_record", ["Self", made.parts, "Self::Archived", "S"], ["self", "serializer"])
     return f"""{head(made, made.bound("Serialize<S>", after=[f"S: {bound}"]), "Serialize", ["S"])}
+    #[inline(always)]
     fn serialize(&self, serializer: &mut S) -> Result<Self::Resolver, Error> {{
 {statement(8, "", call, "")}    }}
 }}
@@ -172,12 +173,14 @@ def region(made):
 
     ghost planned = {{ λ v. one_planned _ _ _ _ {laws[1]} }};
 
+    #[inline(always)]
     fn archived_metadata(&self) -> Result<(), Error> {{
         Ok(())
     }}
 }}
 
 {head(made, made.bound("Serialize<S>", after=[f"S: {bound}"]), "SerializeUnsized", ["S"])}
+    #[inline(always)]
     fn serialize_unsized(&self, serializer: &mut S) -> Result<usize, Error> {{
         serialize_one(self, serializer)
     }}

@@ -190,6 +190,7 @@ def serialize(record):
     else:
         body = statement(8, "", call, "")
     return f"""{implementation([f"S: {bound}"], "Serialize", ["S"], record.name)}
+    #[inline(always)]
     fn serialize(&self, serializer: &mut S) -> Result<Self::Resolver, Error> {{
 {body}    }}
 }}

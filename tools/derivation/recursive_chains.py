@@ -152,6 +152,7 @@ def head_writing(it, case):
     head = signature(f"fn serialize_{case.n}", [it.writer], arguments, Group("Result<", [kept_of(it, case), "Error"], ">"))
     body = code.parts_written(it, front(case), names[:-1])
     return f"""// Writes what the parts of `{case.name}` before its box own, in order.
+#[inline(always)]
 {head}
     ensures written {{ IfOk result (λ r. IsWrittenUpTo {D} {X} ({keys}) (case {case.tag} {meanings}) (λ t. case {case.tag} {flats}) (λ t. {belongs})
         ({its}.keys {last}.now.value) ({its}.meaning {last}.now.value) {states}) }}
@@ -200,11 +201,13 @@ def source(it):
 
     ghost closed = {{ {n}_closed }};
 
+    #[inline(always)]
     fn rest(&self) -> Option<&Self> {{
         match self {{
 {rests}        }}
     }}
 
+    #[inline(always)]
     fn serialize_head(
         &self,
         serializer: &mut S,
@@ -213,6 +216,7 @@ def source(it):
 {heads}        }}
     }}
 
+    #[inline(always)]
     fn close(kept: Self::Kept, at: BoxResolver) -> Self::Resolver {{
         match kept {{
 {closes}        }}
@@ -253,6 +257,7 @@ def close(it, case, resolver):
 
 def serialize(it):
     return f"""impl<{it.writer}> Serialize<S> for {it.name} {{
+    #[inline(always)]
     fn serialize(&self, serializer: &mut S) -> Result<Self::Resolver, Error> {{
         serialize_chain(self, serializer)
     }}
@@ -317,6 +322,7 @@ def back(it):
 
     ghost keys_around = {{ {n}_keys_around }};
 
+    #[inline(always)]
     fn read_head(
         alloc: Global,
         part: RawView<'_>,
@@ -328,6 +334,7 @@ def back(it):
 {heads}        }}
     }}
 
+    #[inline(always)]
     fn around(front: Self::Front, rest: Box<Self>) -> Self
         ensures meaning {{ ⟦<Self as Archive>⟧.meaning result ≡ {n}_around front (⟦<Self as Archive>⟧.meaning rest.value) }}
         ensures keys {{ ⟦<Self as Archive>⟧.keys result ≡ {n}_keys_around front (⟦<Self as Archive>⟧.keys rest.value) }}

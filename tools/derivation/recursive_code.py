@@ -359,6 +359,7 @@ def archive(it):
 
     ghost planned = {{ {n}_planned }};
 
+    #[inline(always)]
     fn resolve(
         &self,
         resolver: Self::Resolver,
@@ -613,6 +614,7 @@ fn serialize_{it.n}<{it.writer}>(value: &{it.name}, serializer: &mut S) -> Resul
 
 def serialize(it):
     return f"""impl<{it.writer}> Serialize<S> for {it.name} {{
+    #[inline(always)]
     fn serialize(&self, serializer: &mut S) -> Result<Self::Resolver, Error> {{
         serialize_{it.n}(self, serializer)
     }}
@@ -641,12 +643,14 @@ impl ArchiveUnsized for {it.name} {{
 
     ghost planned = {{ λ v. one_planned {n}_definitions {n}_shape ({its}.keys v) ({its}.meaning v) ({planned} v) }};
 
+    #[inline(always)]
     fn archived_metadata(&self) -> Result<(), Error> {{
         Ok(())
     }}
 }}
 
 impl<{it.writer}> SerializeUnsized<S> for {it.name} {{
+    #[inline(always)]
     fn serialize_unsized(&self, serializer: &mut S) -> Result<usize, Error> {{
         serialize_one(self, serializer)
     }}
@@ -668,7 +672,7 @@ def reading(it):
 
 
 def reader(it, name, T, contract_, body, said, cycle=True):
-    mark = f"#[cycle(read_{it.family.n})]\n" if cycle else ""
+    mark = f"#[cycle(read_{it.family.n})]\n" if cycle else "#[inline(always)]\n"
     return f"""// {said}
 {mark}fn read_{name}<D: Entries>(alloc: Global, part: RawView<'_>, deserializer: &mut D) -> Result<{T}, Error>
 {contract_}{{
@@ -761,6 +765,7 @@ def record_reading(it):
 def deserialize(it):
     read = f"read_chain::<{it.archived}, {it.name}, D>(alloc, part, deserializer)" if it.is_chain else f"read_{it.n}(alloc, part, deserializer)"
     return f"""impl<D: Entries> Deserialize<{it.name}, D> for {it.archived} {{
+    #[inline(always)]
     fn deserialize_part(
         alloc: Global,
         part: RawView<'_>,

@@ -274,6 +274,7 @@ def serialize(choice):
         made = f"{choice.resolver}::{case.name}" + ("(kept)" if case.count else "")
         arms.append(match_arm(case.pattern(), call, "kept" if case.count else "()", made))
     return f"""{implementation([f"S: {bound}"], "Serialize", ["S"], choice.name)}
+    #[inline(always)]
     fn serialize(&self, serializer: &mut S) -> Result<Self::Resolver, Error> {{
         match self {{
 {"".join(arms)}        }}

@@ -148,6 +148,7 @@ impl SelfCheck for ArchivedTurn {
         true
     }
 
+    #[inline(always)]
     fn check_at<C: ArchiveContext>(
         bytes: &[u8],
         at: usize,
@@ -241,6 +242,7 @@ impl Archive for Turn {
           no_part_planned) refl
     ] };
 
+    #[inline(always)]
     fn resolve(
         &self,
         resolver: Self::Resolver,
@@ -284,6 +286,7 @@ impl Archive for Turn {
 }
 
 impl<S: Writer + ResolverAlloc> Serialize<S> for Turn {
+    #[inline(always)]
     fn serialize(&self, serializer: &mut S) -> Result<Self::Resolver, Error> {
         match self {
             Turn::Left(a0) => match serialize_case_1::<u16, ArchivedTurn, S>(0, a0, serializer) {
@@ -319,18 +322,21 @@ impl ArchiveUnsized for Turn {
         (variant (part ⟦<ArchivedU16 as Portable>⟧.shape no_part) no_variant)))
         (⟦<Turn as Archive>⟧.keys v) (⟦<Turn as Archive>⟧.meaning v) (planned_of_turn v) };
 
+    #[inline(always)]
     fn archived_metadata(&self) -> Result<(), Error> {
         Ok(())
     }
 }
 
 impl<S: Writer + ResolverAlloc> SerializeUnsized<S> for Turn {
+    #[inline(always)]
     fn serialize_unsized(&self, serializer: &mut S) -> Result<usize, Error> {
         serialize_one(self, serializer)
     }
 }
 
 impl<D: Entries> Deserialize<Turn, D> for ArchivedTurn {
+    #[inline(always)]
     fn deserialize_part(
         alloc: Global,
         part: RawView<'_>,
@@ -521,6 +527,7 @@ impl SelfCheck for ArchivedSteps {
         true
     }
 
+    #[inline(always)]
     fn check_at<C: ArchiveContext>(
         bytes: &[u8],
         at: usize,
@@ -579,6 +586,7 @@ impl Archive for Steps {
         (⟦<u16 as Archive>⟧.meaning v.second) (leaf_planned no_definition _ _ [] _ refl)
         no_part_planned)) refl };
 
+    #[inline(always)]
     fn resolve(
         &self,
         resolver: Self::Resolver,
@@ -615,6 +623,7 @@ impl Archive for Steps {
 }
 
 impl<S: Writer + ResolverAlloc> Serialize<S> for Steps {
+    #[inline(always)]
     fn serialize(&self, serializer: &mut S) -> Result<Self::Resolver, Error> {
         match serialize_record_2::<u16, u16, ArchivedSteps, S>(
             &self.first,
@@ -647,18 +656,21 @@ impl ArchiveUnsized for Steps {
         (part ⟦<ArchivedU16 as Portable>⟧.shape (part ⟦<ArchivedU16 as Portable>⟧.shape no_part)))
         (⟦<Steps as Archive>⟧.keys v) (⟦<Steps as Archive>⟧.meaning v) (planned_of_steps v) };
 
+    #[inline(always)]
     fn archived_metadata(&self) -> Result<(), Error> {
         Ok(())
     }
 }
 
 impl<S: Writer + ResolverAlloc> SerializeUnsized<S> for Steps {
+    #[inline(always)]
     fn serialize_unsized(&self, serializer: &mut S) -> Result<usize, Error> {
         serialize_one(self, serializer)
     }
 }
 
 impl<D: Entries> Deserialize<Steps, D> for ArchivedSteps {
+    #[inline(always)]
     fn deserialize_part(
         alloc: Global,
         part: RawView<'_>,

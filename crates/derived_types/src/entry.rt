@@ -127,6 +127,7 @@ impl SelfCheck for ArchivedEntry {
         true
     }
 
+    #[inline(always)]
     fn check_at<C: ArchiveContext>(
         bytes: &[u8],
         at: usize,
@@ -189,6 +190,7 @@ impl Archive for Entry {
         ⟦<ArchivedEvent as Portable>⟧.shape (⟦<Event as Archive>⟧.keys v.event)
         (⟦<Event as Archive>⟧.meaning v.event) (planned_of_event v.event) no_part_planned)) refl };
 
+    #[inline(always)]
     fn resolve(
         &self,
         resolver: Self::Resolver,
@@ -225,6 +227,7 @@ impl Archive for Entry {
 }
 
 impl<S: Writer + ResolverAlloc> Serialize<S> for Entry {
+    #[inline(always)]
     fn serialize(&self, serializer: &mut S) -> Result<Self::Resolver, Error> {
         match serialize_record_2::<u64, Event, ArchivedEntry, S>(
             &self.seconds,
@@ -257,18 +260,21 @@ impl ArchiveUnsized for Entry {
         (part ⟦<ArchivedU64 as Portable>⟧.shape (part ⟦<ArchivedEvent as Portable>⟧.shape no_part)))
         (⟦<Entry as Archive>⟧.keys v) (⟦<Entry as Archive>⟧.meaning v) (planned_of_entry v) };
 
+    #[inline(always)]
     fn archived_metadata(&self) -> Result<(), Error> {
         Ok(())
     }
 }
 
 impl<S: Writer + ResolverAlloc> SerializeUnsized<S> for Entry {
+    #[inline(always)]
     fn serialize_unsized(&self, serializer: &mut S) -> Result<usize, Error> {
         serialize_one(self, serializer)
     }
 }
 
 impl<D: Entries> Deserialize<Entry, D> for ArchivedEntry {
+    #[inline(always)]
     fn deserialize_part(
         alloc: Global,
         part: RawView<'_>,

@@ -178,6 +178,7 @@ impl SelfCheck for ArchivedEvent {
         true
     }
 
+    #[inline(always)]
     fn check_at<C: ArchiveContext>(
         bytes: &[u8],
         at: usize,
@@ -331,6 +332,7 @@ impl Archive for Event {
           (λ x. leaf_planned no_definition _ _ [] _ refl) a0.items)) no_part_planned) refl
     ] };
 
+    #[inline(always)]
     fn resolve(
         &self,
         resolver: Self::Resolver,
@@ -387,6 +389,7 @@ impl Archive for Event {
 }
 
 impl<S: Writer + ResolverAlloc> Serialize<S> for Event {
+    #[inline(always)]
     fn serialize(&self, serializer: &mut S) -> Result<Self::Resolver, Error> {
         match self {
             Event::Quit => match serialize_case_0::<ArchivedEvent, S>(0, serializer) {
@@ -443,18 +446,21 @@ impl ArchiveUnsized for Event {
         (variant (part ⟦<ArchivedVec<ArchivedU32> as Portable>⟧.shape no_part) no_variant))))))
         (⟦<Event as Archive>⟧.keys v) (⟦<Event as Archive>⟧.meaning v) (planned_of_event v) };
 
+    #[inline(always)]
     fn archived_metadata(&self) -> Result<(), Error> {
         Ok(())
     }
 }
 
 impl<S: Writer + ResolverAlloc> SerializeUnsized<S> for Event {
+    #[inline(always)]
     fn serialize_unsized(&self, serializer: &mut S) -> Result<usize, Error> {
         serialize_one(self, serializer)
     }
 }
 
 impl<D: Entries> Deserialize<Event, D> for ArchivedEvent {
+    #[inline(always)]
     fn deserialize_part(
         alloc: Global,
         part: RawView<'_>,

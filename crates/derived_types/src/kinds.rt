@@ -209,6 +209,7 @@ impl SelfCheck for ArchivedNumbers {
         true
     }
 
+    #[inline(always)]
     fn check_at<C: ArchiveContext>(
         bytes: &[u8],
         at: usize,
@@ -309,6 +310,7 @@ impl Archive for Numbers {
         (⟦<() as Archive>⟧.meaning v.nothing) (leaf_planned no_definition _ _ [] _ refl)
         no_part_planned)))))) refl };
 
+    #[inline(always)]
     fn resolve(
         &self,
         resolver: Self::Resolver,
@@ -349,6 +351,7 @@ impl Archive for Numbers {
 }
 
 impl<S: Writer + ResolverAlloc> Serialize<S> for Numbers {
+    #[inline(always)]
     fn serialize(&self, serializer: &mut S) -> Result<Self::Resolver, Error> {
         match serialize_record_6::<NonZero<u32>, usize, isize, i128, bool, (), ArchivedNumbers, S>(
             &self.some,
@@ -387,18 +390,21 @@ impl ArchiveUnsized for Numbers {
         (part ⟦<bool as Portable>⟧.shape (part ⟦<() as Portable>⟧.shape no_part)))))))
         (⟦<Numbers as Archive>⟧.keys v) (⟦<Numbers as Archive>⟧.meaning v) (planned_of_numbers v) };
 
+    #[inline(always)]
     fn archived_metadata(&self) -> Result<(), Error> {
         Ok(())
     }
 }
 
 impl<S: Writer + ResolverAlloc> SerializeUnsized<S> for Numbers {
+    #[inline(always)]
     fn serialize_unsized(&self, serializer: &mut S) -> Result<usize, Error> {
         serialize_one(self, serializer)
     }
 }
 
 impl<D: Entries> Deserialize<Numbers, D> for ArchivedNumbers {
+    #[inline(always)]
     fn deserialize_part(
         alloc: Global,
         part: RawView<'_>,
@@ -691,6 +697,7 @@ impl SelfCheck for ArchivedOwners {
         true
     }
 
+    #[inline(always)]
     fn check_at<C: ArchiveContext>(
         bytes: &[u8],
         at: usize,
@@ -818,6 +825,7 @@ impl Archive for Owners {
         (⟦<PhantomData<u64> as Archive>⟧.meaning v.of) empty_product_planned no_part_planned)))))
         refl };
 
+    #[inline(always)]
     fn resolve(
         &self,
         resolver: Self::Resolver,
@@ -864,6 +872,7 @@ impl Archive for Owners {
 }
 
 impl<S: Writer + ResolverAlloc> Serialize<S> for Owners {
+    #[inline(always)]
     fn serialize(&self, serializer: &mut S) -> Result<Self::Resolver, Error> {
         match serialize_record_5::<
             Result<u8, String>,
@@ -911,18 +920,21 @@ impl ArchiveUnsized for Owners {
         (part ⟦<PhantomData<u64> as Portable>⟧.shape no_part)))))) (⟦<Owners as Archive>⟧.keys v)
         (⟦<Owners as Archive>⟧.meaning v) (planned_of_owners v) };
 
+    #[inline(always)]
     fn archived_metadata(&self) -> Result<(), Error> {
         Ok(())
     }
 }
 
 impl<S: Writer + ResolverAlloc> SerializeUnsized<S> for Owners {
+    #[inline(always)]
     fn serialize_unsized(&self, serializer: &mut S) -> Result<usize, Error> {
         serialize_one(self, serializer)
     }
 }
 
 impl<D: Entries> Deserialize<Owners, D> for ArchivedOwners {
+    #[inline(always)]
     fn deserialize_part(
         alloc: Global,
         part: RawView<'_>,
@@ -1183,6 +1195,7 @@ impl SelfCheck for ArchivedLists {
         true
     }
 
+    #[inline(always)]
     fn check_at<C: ArchiveContext>(
         bytes: &[u8],
         at: usize,
@@ -1282,6 +1295,7 @@ impl Archive for Lists {
         (⟦<Spot as Archive>⟧.meaning v.pair.right) (planned_of_spot v.pair.right) no_part_planned)))
         no_part_planned))) refl };
 
+    #[inline(always)]
     fn resolve(
         &self,
         resolver: Self::Resolver,
@@ -1319,6 +1333,7 @@ impl Archive for Lists {
 }
 
 impl<S: Writer + ResolverAlloc<Alloc = Global>> Serialize<S> for Lists {
+    #[inline(always)]
     fn serialize(&self, serializer: &mut S) -> Result<Self::Resolver, Error> {
         match serialize_record_3::<
             OwnedArray<i16, 4>,
@@ -1356,18 +1371,21 @@ impl ArchiveUnsized for Lists {
         (part ⟦<ArchivedPair<ArchivedU64, ArchivedSpot> as Portable>⟧.shape no_part))))
         (⟦<Lists as Archive>⟧.keys v) (⟦<Lists as Archive>⟧.meaning v) (planned_of_lists v) };
 
+    #[inline(always)]
     fn archived_metadata(&self) -> Result<(), Error> {
         Ok(())
     }
 }
 
 impl<S: Writer + ResolverAlloc<Alloc = Global>> SerializeUnsized<S> for Lists {
+    #[inline(always)]
     fn serialize_unsized(&self, serializer: &mut S) -> Result<usize, Error> {
         serialize_one(self, serializer)
     }
 }
 
 impl<D: Entries> Deserialize<Lists, D> for ArchivedLists {
+    #[inline(always)]
     fn deserialize_part(
         alloc: Global,
         part: RawView<'_>,
@@ -1557,6 +1575,7 @@ impl SelfCheck for ArchivedEmpty {
         true
     }
 
+    #[inline(always)]
     fn check_at<C: ArchiveContext>(
         bytes: &[u8],
         at: usize,
@@ -1594,6 +1613,7 @@ impl Archive for Empty {
 
     ghost planned = { λ v. plain_record_planned no_definition no_part _ _ no_part_planned refl };
 
+    #[inline(always)]
     fn resolve(
         &self,
         resolver: Self::Resolver,
@@ -1624,6 +1644,7 @@ impl Archive for Empty {
 }
 
 impl<S: Writer + ResolverAlloc> Serialize<S> for Empty {
+    #[inline(always)]
     fn serialize(&self, serializer: &mut S) -> Result<Self::Resolver, Error> {
         serialize_record_0::<ArchivedEmpty, S>(serializer)
     }
@@ -1648,18 +1669,21 @@ impl ArchiveUnsized for Empty {
     ghost planned = { λ v. one_planned no_definition (parts no_part) (⟦<Empty as Archive>⟧.keys v)
         (⟦<Empty as Archive>⟧.meaning v) (planned_of_empty v) };
 
+    #[inline(always)]
     fn archived_metadata(&self) -> Result<(), Error> {
         Ok(())
     }
 }
 
 impl<S: Writer + ResolverAlloc> SerializeUnsized<S> for Empty {
+    #[inline(always)]
     fn serialize_unsized(&self, serializer: &mut S) -> Result<usize, Error> {
         serialize_one(self, serializer)
     }
 }
 
 impl<D: Entries> Deserialize<Empty, D> for ArchivedEmpty {
+    #[inline(always)]
     fn deserialize_part(
         alloc: Global,
         part: RawView<'_>,
@@ -1756,6 +1780,7 @@ impl SelfCheck for ArchivedUnnamed {
         true
     }
 
+    #[inline(always)]
     fn check_at<C: ArchiveContext>(
         bytes: &[u8],
         at: usize,
@@ -1815,6 +1840,7 @@ impl Archive for Unnamed {
         (⟦<String as Archive>⟧.keys v.1) (⟦<String as Archive>⟧.meaning v.1)
         (string_planned no_definition [] (string_bytes v.1)) no_part_planned)) refl };
 
+    #[inline(always)]
     fn resolve(
         &self,
         resolver: Self::Resolver,
@@ -1851,6 +1877,7 @@ impl Archive for Unnamed {
 }
 
 impl<S: Writer + ResolverAlloc> Serialize<S> for Unnamed {
+    #[inline(always)]
     fn serialize(&self, serializer: &mut S) -> Result<Self::Resolver, Error> {
         match serialize_record_2::<u8, String, ArchivedUnnamed, S>(&self.0, &self.1, serializer) {
             Ok(kept) => Ok(UnnamedResolver { kept }),
@@ -1879,18 +1906,21 @@ impl ArchiveUnsized for Unnamed {
         (part ⟦<u8 as Portable>⟧.shape (part ⟦<ArchivedString as Portable>⟧.shape no_part)))
         (⟦<Unnamed as Archive>⟧.keys v) (⟦<Unnamed as Archive>⟧.meaning v) (planned_of_unnamed v) };
 
+    #[inline(always)]
     fn archived_metadata(&self) -> Result<(), Error> {
         Ok(())
     }
 }
 
 impl<S: Writer + ResolverAlloc> SerializeUnsized<S> for Unnamed {
+    #[inline(always)]
     fn serialize_unsized(&self, serializer: &mut S) -> Result<usize, Error> {
         serialize_one(self, serializer)
     }
 }
 
 impl<D: Entries> Deserialize<Unnamed, D> for ArchivedUnnamed {
+    #[inline(always)]
     fn deserialize_part(
         alloc: Global,
         part: RawView<'_>,

@@ -86,6 +86,7 @@ impl<A: Archive, B: Archive> Archive for Pair<A, B> {
         (A.planned v.left) (part_planned B.Archived.definitions B.Archived.shape (B.keys v.right)
         (B.meaning v.right) (B.planned v.right) no_part_planned)) };
 
+    #[inline(always)]
     fn resolve(
         &self,
         resolver: Self::Resolver,
@@ -121,6 +122,7 @@ impl<A: Archive, B: Archive> Archive for Pair<A, B> {
 }
 
 impl<A: Serialize<S>, B: Serialize<S>, S: Writer + ResolverAlloc> Serialize<S> for Pair<A, B> {
+    #[inline(always)]
     fn serialize(&self, serializer: &mut S) -> Result<Self::Resolver, Error> {
         serialize_record::<Self, PairFields<A, B>, Self::Archived, S>(self, serializer)
     }
@@ -150,6 +152,7 @@ impl<A: Archive, B: Archive> ArchiveUnsized for Pair<A, B> {
         (part_planned B.Archived.definitions B.Archived.shape (B.keys v.right) (B.meaning v.right)
         (B.planned v.right) no_part_planned))) };
 
+    #[inline(always)]
     fn archived_metadata(&self) -> Result<(), Error> {
         Ok(())
     }
@@ -157,6 +160,7 @@ impl<A: Archive, B: Archive> ArchiveUnsized for Pair<A, B> {
 
 impl<A: Serialize<S>, B: Serialize<S>, S: Writer + ResolverAlloc> SerializeUnsized<S>
     for Pair<A, B> {
+    #[inline(always)]
     fn serialize_unsized(&self, serializer: &mut S) -> Result<usize, Error> {
         serialize_one(self, serializer)
     }

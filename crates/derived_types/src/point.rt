@@ -141,6 +141,7 @@ impl SelfCheck for ArchivedPoint {
         true
     }
 
+    #[inline(always)]
     fn check_at<C: ArchiveContext>(
         bytes: &[u8],
         at: usize,
@@ -225,6 +226,7 @@ impl Archive for Point {
         ⟦<String as Archive>⟧.meaning (λ x. string_planned no_definition [] (string_bytes x))
         v.tags.items)) no_part_planned)))) refl };
 
+    #[inline(always)]
     fn resolve(
         &self,
         resolver: Self::Resolver,
@@ -263,6 +265,7 @@ impl Archive for Point {
 }
 
 impl<S: Writer + ResolverAlloc> Serialize<S> for Point {
+    #[inline(always)]
     fn serialize(&self, serializer: &mut S) -> Result<Self::Resolver, Error> {
         match serialize_record_4::<i32, i32, String, Vec<String>, ArchivedPoint, S>(
             &self.x, &self.y, &self.name, &self.tags, serializer,
@@ -295,18 +298,21 @@ impl ArchiveUnsized for Point {
         ⟦<ArchivedVec<ArchivedString> as Portable>⟧.shape no_part))))) (⟦<Point as Archive>⟧.keys v)
         (⟦<Point as Archive>⟧.meaning v) (planned_of_point v) };
 
+    #[inline(always)]
     fn archived_metadata(&self) -> Result<(), Error> {
         Ok(())
     }
 }
 
 impl<S: Writer + ResolverAlloc> SerializeUnsized<S> for Point {
+    #[inline(always)]
     fn serialize_unsized(&self, serializer: &mut S) -> Result<usize, Error> {
         serialize_one(self, serializer)
     }
 }
 
 impl<D: Entries> Deserialize<Point, D> for ArchivedPoint {
+    #[inline(always)]
     fn deserialize_part(
         alloc: Global,
         part: RawView<'_>,

@@ -187,6 +187,7 @@ impl SelfCheck for ArchivedLabel {
         true
     }
 
+    #[inline(always)]
     fn check_at<C: ArchiveContext>(
         bytes: &[u8],
         at: usize,
@@ -302,6 +303,7 @@ impl Archive for Label {
           no_part_planned)) refl
     ] };
 
+    #[inline(always)]
     fn resolve(
         &self,
         resolver: Self::Resolver,
@@ -355,6 +357,7 @@ impl Archive for Label {
 }
 
 impl<S: Writer + ResolverAlloc> Serialize<S> for Label {
+    #[inline(always)]
     fn serialize(&self, serializer: &mut S) -> Result<Self::Resolver, Error> {
         match self {
             Label::None => match serialize_case_0::<ArchivedLabel, S>(0, serializer) {
@@ -400,18 +403,21 @@ impl ArchiveUnsized for Label {
         (part ⟦<ArchivedI32 as Portable>⟧.shape no_part)) no_variant))))
         (⟦<Label as Archive>⟧.keys v) (⟦<Label as Archive>⟧.meaning v) (planned_of_label v) };
 
+    #[inline(always)]
     fn archived_metadata(&self) -> Result<(), Error> {
         Ok(())
     }
 }
 
 impl<S: Writer + ResolverAlloc> SerializeUnsized<S> for Label {
+    #[inline(always)]
     fn serialize_unsized(&self, serializer: &mut S) -> Result<usize, Error> {
         serialize_one(self, serializer)
     }
 }
 
 impl<D: Entries> Deserialize<Label, D> for ArchivedLabel {
+    #[inline(always)]
     fn deserialize_part(
         alloc: Global,
         part: RawView<'_>,
@@ -714,6 +720,7 @@ impl SelfCheck for ArchivedScores {
         true
     }
 
+    #[inline(always)]
     fn check_at<C: ArchiveContext>(
         bytes: &[u8],
         at: usize,
@@ -848,6 +855,7 @@ impl Archive for Scores {
         ⟦<Label as Archive>⟧.meaning planned_of_label x.items)) v.labels) no_part_planned))))
         refl };
 
+    #[inline(always)]
     fn resolve(
         &self,
         resolver: Self::Resolver,
@@ -892,6 +900,7 @@ impl Archive for Scores {
 }
 
 impl<S: Writer + ResolverAlloc> Serialize<S> for Scores {
+    #[inline(always)]
     fn serialize(&self, serializer: &mut S) -> Result<Self::Resolver, Error> {
         match serialize_record_4::<
             Result<char, bool>,
@@ -936,18 +945,21 @@ impl ArchiveUnsized for Scores {
         (part ⟦<ArchivedOption<ArchivedVec<ArchivedLabel>> as Portable>⟧.shape no_part)))))
         (⟦<Scores as Archive>⟧.keys v) (⟦<Scores as Archive>⟧.meaning v) (planned_of_scores v) };
 
+    #[inline(always)]
     fn archived_metadata(&self) -> Result<(), Error> {
         Ok(())
     }
 }
 
 impl<S: Writer + ResolverAlloc> SerializeUnsized<S> for Scores {
+    #[inline(always)]
     fn serialize_unsized(&self, serializer: &mut S) -> Result<usize, Error> {
         serialize_one(self, serializer)
     }
 }
 
 impl<D: Entries> Deserialize<Scores, D> for ArchivedScores {
+    #[inline(always)]
     fn deserialize_part(
         alloc: Global,
         part: RawView<'_>,

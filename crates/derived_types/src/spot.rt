@@ -164,6 +164,7 @@ impl SelfCheck for ArchivedSpot {
         true
     }
 
+    #[inline(always)]
     fn check_at<C: ArchiveContext>(
         bytes: &[u8],
         at: usize,
@@ -221,6 +222,7 @@ impl Archive for Spot {
         (⟦<i16 as Archive>⟧.meaning v.up) (leaf_planned no_definition _ _ [] _ refl)
         no_part_planned)) refl };
 
+    #[inline(always)]
     fn resolve(
         &self,
         resolver: Self::Resolver,
@@ -257,6 +259,7 @@ impl Archive for Spot {
 }
 
 impl<S: Writer + ResolverAlloc> Serialize<S> for Spot {
+    #[inline(always)]
     fn serialize(&self, serializer: &mut S) -> Result<Self::Resolver, Error> {
         match serialize_record_2::<u16, i16, ArchivedSpot, S>(&self.right, &self.up, serializer) {
             Ok(kept) => Ok(SpotResolver { kept }),
@@ -285,18 +288,21 @@ impl ArchiveUnsized for Spot {
         (part ⟦<ArchivedU16 as Portable>⟧.shape (part ⟦<ArchivedI16 as Portable>⟧.shape no_part)))
         (⟦<Spot as Archive>⟧.keys v) (⟦<Spot as Archive>⟧.meaning v) (planned_of_spot v) };
 
+    #[inline(always)]
     fn archived_metadata(&self) -> Result<(), Error> {
         Ok(())
     }
 }
 
 impl<S: Writer + ResolverAlloc> SerializeUnsized<S> for Spot {
+    #[inline(always)]
     fn serialize_unsized(&self, serializer: &mut S) -> Result<usize, Error> {
         serialize_one(self, serializer)
     }
 }
 
 impl<D: Entries> Deserialize<Spot, D> for ArchivedSpot {
+    #[inline(always)]
     fn deserialize_part(
         alloc: Global,
         part: RawView<'_>,
@@ -456,6 +462,7 @@ impl SelfCheck for ArchivedLine {
         true
     }
 
+    #[inline(always)]
     fn check_at<C: ArchiveContext>(
         bytes: &[u8],
         at: usize,
@@ -517,6 +524,7 @@ impl Archive for Line {
         (⟦<Spot as Archive>⟧.keys v.to) (⟦<Spot as Archive>⟧.meaning v.to) (planned_of_spot v.to)
         no_part_planned)) refl };
 
+    #[inline(always)]
     fn resolve(
         &self,
         resolver: Self::Resolver,
@@ -553,6 +561,7 @@ impl Archive for Line {
 }
 
 impl<S: Writer + ResolverAlloc> Serialize<S> for Line {
+    #[inline(always)]
     fn serialize(&self, serializer: &mut S) -> Result<Self::Resolver, Error> {
         match serialize_record_2::<Spot, Spot, ArchivedLine, S>(&self.from, &self.to, serializer) {
             Ok(kept) => Ok(LineResolver { kept }),
@@ -581,18 +590,21 @@ impl ArchiveUnsized for Line {
         (part ⟦<ArchivedSpot as Portable>⟧.shape (part ⟦<ArchivedSpot as Portable>⟧.shape no_part)))
         (⟦<Line as Archive>⟧.keys v) (⟦<Line as Archive>⟧.meaning v) (planned_of_line v) };
 
+    #[inline(always)]
     fn archived_metadata(&self) -> Result<(), Error> {
         Ok(())
     }
 }
 
 impl<S: Writer + ResolverAlloc> SerializeUnsized<S> for Line {
+    #[inline(always)]
     fn serialize_unsized(&self, serializer: &mut S) -> Result<usize, Error> {
         serialize_one(self, serializer)
     }
 }
 
 impl<D: Entries> Deserialize<Line, D> for ArchivedLine {
+    #[inline(always)]
     fn deserialize_part(
         alloc: Global,
         part: RawView<'_>,
@@ -770,6 +782,7 @@ impl SelfCheck for ArchivedDrawing {
         true
     }
 
+    #[inline(always)]
     fn check_at<C: ArchiveContext>(
         bytes: &[u8],
         at: usize,
@@ -869,6 +882,7 @@ impl Archive for Drawing {
         (⟦<Event as Archive>⟧.keys v.event) (⟦<Event as Archive>⟧.meaning v.event)
         (planned_of_event v.event) no_part_planned)))) refl };
 
+    #[inline(always)]
     fn resolve(
         &self,
         resolver: Self::Resolver,
@@ -907,6 +921,7 @@ impl Archive for Drawing {
 }
 
 impl<S: Writer + ResolverAlloc> Serialize<S> for Drawing {
+    #[inline(always)]
     fn serialize(&self, serializer: &mut S) -> Result<Self::Resolver, Error> {
         match serialize_record_4::<Line, Vec<Line>, Option<Box<Line>>, Event, ArchivedDrawing, S>(
             &self.first,
@@ -944,18 +959,21 @@ impl ArchiveUnsized for Drawing {
         (part ⟦<ArchivedEvent as Portable>⟧.shape no_part))))) (⟦<Drawing as Archive>⟧.keys v)
         (⟦<Drawing as Archive>⟧.meaning v) (planned_of_drawing v) };
 
+    #[inline(always)]
     fn archived_metadata(&self) -> Result<(), Error> {
         Ok(())
     }
 }
 
 impl<S: Writer + ResolverAlloc> SerializeUnsized<S> for Drawing {
+    #[inline(always)]
     fn serialize_unsized(&self, serializer: &mut S) -> Result<usize, Error> {
         serialize_one(self, serializer)
     }
 }
 
 impl<D: Entries> Deserialize<Drawing, D> for ArchivedDrawing {
+    #[inline(always)]
     fn deserialize_part(
         alloc: Global,
         part: RawView<'_>,
@@ -1173,6 +1191,7 @@ impl SelfCheck for ArchivedAtlas {
         true
     }
 
+    #[inline(always)]
     fn check_at<C: ArchiveContext>(
         bytes: &[u8],
         at: usize,
@@ -1239,6 +1258,7 @@ impl Archive for Atlas {
         (⟦<u8 as Archive>⟧.keys v.pages) (⟦<u8 as Archive>⟧.meaning v.pages)
         (leaf_planned no_definition _ _ [] _ refl) no_part_planned)) refl };
 
+    #[inline(always)]
     fn resolve(
         &self,
         resolver: Self::Resolver,
@@ -1275,6 +1295,7 @@ impl Archive for Atlas {
 }
 
 impl<S: Writer + ResolverAlloc> Serialize<S> for Atlas {
+    #[inline(always)]
     fn serialize(&self, serializer: &mut S) -> Result<Self::Resolver, Error> {
         match serialize_record_2::<Vec<Drawing>, u8, ArchivedAtlas, S>(
             &self.drawings,
@@ -1308,18 +1329,21 @@ impl ArchiveUnsized for Atlas {
         (part ⟦<u8 as Portable>⟧.shape no_part))) (⟦<Atlas as Archive>⟧.keys v)
         (⟦<Atlas as Archive>⟧.meaning v) (planned_of_atlas v) };
 
+    #[inline(always)]
     fn archived_metadata(&self) -> Result<(), Error> {
         Ok(())
     }
 }
 
 impl<S: Writer + ResolverAlloc> SerializeUnsized<S> for Atlas {
+    #[inline(always)]
     fn serialize_unsized(&self, serializer: &mut S) -> Result<usize, Error> {
         serialize_one(self, serializer)
     }
 }
 
 impl<D: Entries> Deserialize<Atlas, D> for ArchivedAtlas {
+    #[inline(always)]
     fn deserialize_part(
         alloc: Global,
         part: RawView<'_>,

@@ -137,6 +137,7 @@ impl SelfCheck for ArchivedStock {
         true
     }
 
+    #[inline(always)]
     fn check_at<C: ArchiveContext>(
         bytes: &[u8],
         at: usize,
@@ -220,6 +221,7 @@ impl Archive for Stock {
         (λ x. leaf_planned no_definition _ _ [] _ refl) planned_of_spot
         ⟦<ArchivedU16 as MapKey>⟧.key refl v.places.entries) no_part_planned)) refl };
 
+    #[inline(always)]
     fn resolve(
         &self,
         resolver: Self::Resolver,
@@ -256,6 +258,7 @@ impl Archive for Stock {
 }
 
 impl<S: Writer + ResolverAlloc> Serialize<S> for Stock {
+    #[inline(always)]
     fn serialize(&self, serializer: &mut S) -> Result<Self::Resolver, Error> {
         match serialize_record_2::<BTreeMap<String, u32>, BTreeMap<u16, Spot>, ArchivedStock, S>(
             &self.prices,
@@ -289,18 +292,21 @@ impl ArchiveUnsized for Stock {
         (part ⟦<ArchivedSortedMap<ArchivedU16, ArchivedSpot> as Portable>⟧.shape no_part)))
         (⟦<Stock as Archive>⟧.keys v) (⟦<Stock as Archive>⟧.meaning v) (planned_of_stock v) };
 
+    #[inline(always)]
     fn archived_metadata(&self) -> Result<(), Error> {
         Ok(())
     }
 }
 
 impl<S: Writer + ResolverAlloc> SerializeUnsized<S> for Stock {
+    #[inline(always)]
     fn serialize_unsized(&self, serializer: &mut S) -> Result<usize, Error> {
         serialize_one(self, serializer)
     }
 }
 
 impl<D: Entries> Deserialize<Stock, D> for ArchivedStock {
+    #[inline(always)]
     fn deserialize_part(
         alloc: Global,
         part: RawView<'_>,

@@ -215,6 +215,7 @@ impl Archive for Track {
         (⟦<Line as Archive>⟧.meaning x.value) (planned_of_line x.value)) v.other) no_part_planned))
         refl };
 
+    #[inline(always)]
     fn resolve(
         &self,
         resolver: Self::Resolver,
@@ -251,6 +252,7 @@ impl Archive for Track {
 }
 
 impl<S: Sharing + Writer + ResolverAlloc> Serialize<S> for Track {
+    #[inline(always)]
     fn serialize(&self, serializer: &mut S) -> Result<Self::Resolver, Error> {
         match serialize_record_2::<Shared<Line>, Option<Box<Line>>, ArchivedTrack, S>(
             &self.line,
@@ -284,18 +286,21 @@ impl ArchiveUnsized for Track {
         (part ⟦<ArchivedOption<ArchivedBox<ArchivedLine>> as Portable>⟧.shape no_part)))
         (⟦<Track as Archive>⟧.keys v) (⟦<Track as Archive>⟧.meaning v) (planned_of_track v) };
 
+    #[inline(always)]
     fn archived_metadata(&self) -> Result<(), Error> {
         Ok(())
     }
 }
 
 impl<S: Sharing + Writer + ResolverAlloc> SerializeUnsized<S> for Track {
+    #[inline(always)]
     fn serialize_unsized(&self, serializer: &mut S) -> Result<usize, Error> {
         serialize_one(self, serializer)
     }
 }
 
 impl<D: Pooling<Shared<Line>>> Deserialize<Track, D> for ArchivedTrack {
+    #[inline(always)]
     fn deserialize_part(
         alloc: Global,
         part: RawView<'_>,
@@ -547,6 +552,7 @@ impl Archive for Runs {
         (⟦<Line as Archive>⟧.meaning s.value.value) (⟦<Line as Archive>⟧.keys s.value.value)
         (planned_of_line s.value.value)) v.weak.value) no_part_planned))) refl };
 
+    #[inline(always)]
     fn resolve(
         &self,
         resolver: Self::Resolver,
@@ -584,6 +590,7 @@ impl Archive for Runs {
 }
 
 impl<S: Sharing + Writer + ResolverAlloc> Serialize<S> for Runs {
+    #[inline(always)]
     fn serialize(&self, serializer: &mut S) -> Result<Self::Resolver, Error> {
         match serialize_record_3::<SharedSlice<Line>, SharedStr, WeakShared<Line>, ArchivedRuns, S>(
             &self.lines,
@@ -619,12 +626,14 @@ impl ArchiveUnsized for Runs {
         (part ⟦<ArchivedRcWeak<ArchivedLine, RcFlavor> as Portable>⟧.shape no_part))))
         (⟦<Runs as Archive>⟧.keys v) (⟦<Runs as Archive>⟧.meaning v) (planned_of_runs v) };
 
+    #[inline(always)]
     fn archived_metadata(&self) -> Result<(), Error> {
         Ok(())
     }
 }
 
 impl<S: Sharing + Writer + ResolverAlloc> SerializeUnsized<S> for Runs {
+    #[inline(always)]
     fn serialize_unsized(&self, serializer: &mut S) -> Result<usize, Error> {
         serialize_one(self, serializer)
     }
@@ -634,6 +643,7 @@ impl<D: Pooling<SharedSlice<Line>> + Pooling<SharedStr> + Pooling<Shared<Line>>>
     Runs,
     D,
 > for ArchivedRuns {
+    #[inline(always)]
     fn deserialize_part(
         alloc: Global,
         part: RawView<'_>,
@@ -922,6 +932,7 @@ impl Archive for Either {
           no_part_planned)) refl
     ] };
 
+    #[inline(always)]
     fn resolve(
         &self,
         resolver: Self::Resolver,
@@ -971,6 +982,7 @@ impl Archive for Either {
 }
 
 impl<S: Sharing + Writer + ResolverAlloc> Serialize<S> for Either {
+    #[inline(always)]
     fn serialize(&self, serializer: &mut S) -> Result<Self::Resolver, Error> {
         match self {
             Either::Alone(a0) => match serialize_case_1::<u8, ArchivedEither, S>(
@@ -1015,18 +1027,21 @@ impl ArchiveUnsized for Either {
         (part ⟦<u8 as Portable>⟧.shape no_part)) no_variant))) (⟦<Either as Archive>⟧.keys v)
         (⟦<Either as Archive>⟧.meaning v) (planned_of_either v) };
 
+    #[inline(always)]
     fn archived_metadata(&self) -> Result<(), Error> {
         Ok(())
     }
 }
 
 impl<S: Sharing + Writer + ResolverAlloc> SerializeUnsized<S> for Either {
+    #[inline(always)]
     fn serialize_unsized(&self, serializer: &mut S) -> Result<usize, Error> {
         serialize_one(self, serializer)
     }
 }
 
 impl<D: Pooling<Shared<Line>>> Deserialize<Either, D> for ArchivedEither {
+    #[inline(always)]
     fn deserialize_part(
         alloc: Global,
         part: RawView<'_>,

@@ -147,6 +147,7 @@ impl SelfCheck for ArchivedWords {
         true
     }
 
+    #[inline(always)]
     fn check_at<C: ArchiveContext>(
         bytes: &[u8],
         at: usize,
@@ -223,6 +224,7 @@ impl Archive for Words {
         (⟦<u8 as Archive>⟧.meaning v.len) (leaf_planned no_definition _ _ [] _ refl)
         no_part_planned)))) refl };
 
+    #[inline(always)]
     fn resolve(
         &self,
         resolver: Self::Resolver,
@@ -261,6 +263,7 @@ impl Archive for Words {
 }
 
 impl<S: Writer + ResolverAlloc> Serialize<S> for Words {
+    #[inline(always)]
     fn serialize(&self, serializer: &mut S) -> Result<Self::Resolver, Error> {
         match serialize_record_4::<u8, u8, u8, u8, ArchivedWords, S>(
             &self.data,
@@ -296,18 +299,21 @@ impl ArchiveUnsized for Words {
         (part ⟦<u8 as Portable>⟧.shape (part ⟦<u8 as Portable>⟧.shape no_part)))))
         (⟦<Words as Archive>⟧.keys v) (⟦<Words as Archive>⟧.meaning v) (planned_of_words v) };
 
+    #[inline(always)]
     fn archived_metadata(&self) -> Result<(), Error> {
         Ok(())
     }
 }
 
 impl<S: Writer + ResolverAlloc> SerializeUnsized<S> for Words {
+    #[inline(always)]
     fn serialize_unsized(&self, serializer: &mut S) -> Result<usize, Error> {
         serialize_one(self, serializer)
     }
 }
 
 impl<D: Entries> Deserialize<Words, D> for ArchivedWords {
+    #[inline(always)]
     fn deserialize_part(
         alloc: Global,
         part: RawView<'_>,
@@ -527,6 +533,7 @@ impl SelfCheck for ArchivedLevel {
         true
     }
 
+    #[inline(always)]
     fn check_at<C: ArchiveContext>(
         bytes: &[u8],
         at: usize,
@@ -617,6 +624,7 @@ impl Archive for Level {
           (⟦<Words as Archive>⟧.meaning a0) (planned_of_words a0) no_part_planned) refl
     ] };
 
+    #[inline(always)]
     fn resolve(
         &self,
         resolver: Self::Resolver,
@@ -656,6 +664,7 @@ impl Archive for Level {
 }
 
 impl<S: Writer + ResolverAlloc> Serialize<S> for Level {
+    #[inline(always)]
     fn serialize(&self, serializer: &mut S) -> Result<Self::Resolver, Error> {
         match self {
             Level::None => match serialize_case_0::<ArchivedLevel, S>(0, serializer) {
@@ -695,18 +704,21 @@ impl ArchiveUnsized for Level {
         no_part) no_variant)))) (⟦<Level as Archive>⟧.keys v) (⟦<Level as Archive>⟧.meaning v)
         (planned_of_level v) };
 
+    #[inline(always)]
     fn archived_metadata(&self) -> Result<(), Error> {
         Ok(())
     }
 }
 
 impl<S: Writer + ResolverAlloc> SerializeUnsized<S> for Level {
+    #[inline(always)]
     fn serialize_unsized(&self, serializer: &mut S) -> Result<usize, Error> {
         serialize_one(self, serializer)
     }
 }
 
 impl<D: Entries> Deserialize<Level, D> for ArchivedLevel {
+    #[inline(always)]
     fn deserialize_part(
         alloc: Global,
         part: RawView<'_>,

@@ -48,6 +48,7 @@ impl Archive for Metres {
 
     ghost planned = { λ m. leaf_planned no_definition (leaf (number_kind unsigned w32)) (number_kind unsigned w32) [] (pos m.number) refl };
 
+    #[inline(always)]
     fn resolve(&self, _resolver: (), place: Place<'_, ArchivedU32>) -> Result<(), Error>
         requires zeroed { ZeroedPlace 4 place.pos place.bytes.now }
         requires same_value { ⊤ }
@@ -96,6 +97,7 @@ impl CopiedSource for Metres {
 }
 
 impl<S: Writer + Keys> Serialize<S> for Metres {
+    #[inline(always)]
     fn serialize(&self, serializer: &mut S) -> Result<(), Error> {
         self.number.serialize(serializer)
     }

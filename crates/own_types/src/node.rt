@@ -121,6 +121,7 @@ impl Archive for Node {
 
     ghost planned = { λ n. nest_planned (node_nest n) };
 
+    #[inline(always)]
     fn resolve(
         &self,
         resolver: Option<BoxResolver>,
@@ -158,6 +159,7 @@ impl Nested<ArchivedNode> for Node {
 
     ghost no_keys = { λ _. refl };
 
+    #[inline(always)]
     fn inner(&self) -> (u8, Option<&Node>) {
         match self {
             Node::Nil => (0, None),
@@ -167,6 +169,7 @@ impl Nested<ArchivedNode> for Node {
 }
 
 impl<S: Writer + Keys + ResolverAlloc> Serialize<S> for Node {
+    #[inline(always)]
     fn serialize(&self, serializer: &mut S) -> Result<Option<BoxResolver>, Error> {
         serialize_nested::<ArchivedNode, Node, S>(self, serializer)
     }
@@ -208,6 +211,7 @@ impl FromNested<NodeFormat> for Node {
 
     ghost no_keys = { λ _. refl };
 
+    #[inline(always)]
     fn empty(tag: u8) -> Option<Node> {
         if tag == 0 {
             return Some(Node::Nil);
@@ -215,6 +219,7 @@ impl FromNested<NodeFormat> for Node {
         None
     }
 
+    #[inline(always)]
     fn around(_tag: u8, inner: Box<Node>) -> Node
         requires { HoldsBox 0 node_variants _tag }
         ensures { node_meaning result ≡ case_of _tag (box (node_meaning inner.value)) }

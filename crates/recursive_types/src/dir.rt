@@ -188,6 +188,7 @@ impl Archive for Dir {
 
     ghost planned = { dir_planned };
 
+    #[inline(always)]
     fn resolve(
         &self,
         resolver: Self::Resolver,
@@ -314,6 +315,7 @@ fn serialize_dir<S: Writer + Keys + ResolverAlloc>(
 }
 
 impl<S: Writer + Keys + ResolverAlloc> Serialize<S> for Dir {
+    #[inline(always)]
     fn serialize(&self, serializer: &mut S) -> Result<Self::Resolver, Error> {
         serialize_dir(self, serializer)
     }
@@ -338,12 +340,14 @@ impl ArchiveUnsized for Dir {
     ghost planned = { λ v. one_planned dir_definitions dir_shape (⟦<Dir as Archive>⟧.keys v)
         (⟦<Dir as Archive>⟧.meaning v) (planned_of_dir v) };
 
+    #[inline(always)]
     fn archived_metadata(&self) -> Result<(), Error> {
         Ok(())
     }
 }
 
 impl<S: Writer + Keys + ResolverAlloc> SerializeUnsized<S> for Dir {
+    #[inline(always)]
     fn serialize_unsized(&self, serializer: &mut S) -> Result<usize, Error> {
         serialize_one(self, serializer)
     }
@@ -396,6 +400,7 @@ fn read_dir<D: Entries>(
 }
 
 impl<D: Entries> Deserialize<Dir, D> for ArchivedDir {
+    #[inline(always)]
     fn deserialize_part(
         alloc: Global,
         part: RawView<'_>,
@@ -626,6 +631,7 @@ impl Archive for Entry {
 
     ghost planned = { entry_planned };
 
+    #[inline(always)]
     fn resolve(
         &self,
         resolver: Self::Resolver,
@@ -776,6 +782,7 @@ fn serialize_entry<S: Writer + Keys + ResolverAlloc>(
 }
 
 impl<S: Writer + Keys + ResolverAlloc> Serialize<S> for Entry {
+    #[inline(always)]
     fn serialize(&self, serializer: &mut S) -> Result<Self::Resolver, Error> {
         serialize_entry(self, serializer)
     }
@@ -800,12 +807,14 @@ impl ArchiveUnsized for Entry {
     ghost planned = { λ v. one_planned entry_definitions entry_shape (⟦<Entry as Archive>⟧.keys v)
         (⟦<Entry as Archive>⟧.meaning v) (planned_of_entry v) };
 
+    #[inline(always)]
     fn archived_metadata(&self) -> Result<(), Error> {
         Ok(())
     }
 }
 
 impl<S: Writer + Keys + ResolverAlloc> SerializeUnsized<S> for Entry {
+    #[inline(always)]
     fn serialize_unsized(&self, serializer: &mut S) -> Result<usize, Error> {
         serialize_one(self, serializer)
     }
@@ -831,6 +840,7 @@ fn read_box_dir<D: Entries>(
 }
 
 // Reads `File` back.
+#[inline(always)]
 fn read_entry_file<D: Entries>(
     alloc: Global,
     part: RawView<'_>,
@@ -887,6 +897,7 @@ fn read_entry<D: Entries>(
 }
 
 impl<D: Entries> Deserialize<Entry, D> for ArchivedEntry {
+    #[inline(always)]
     fn deserialize_part(
         alloc: Global,
         part: RawView<'_>,

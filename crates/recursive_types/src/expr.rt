@@ -202,6 +202,7 @@ impl Archive for Expr {
 
     ghost planned = { expr_planned };
 
+    #[inline(always)]
     fn resolve(
         &self,
         resolver: Self::Resolver,
@@ -448,6 +449,7 @@ fn serialize_expr<S: Writer + Keys + ResolverAlloc>(
 }
 
 impl<S: Writer + Keys + ResolverAlloc> Serialize<S> for Expr {
+    #[inline(always)]
     fn serialize(&self, serializer: &mut S) -> Result<Self::Resolver, Error> {
         serialize_expr(self, serializer)
     }
@@ -472,12 +474,14 @@ impl ArchiveUnsized for Expr {
     ghost planned = { λ v. one_planned expr_definitions expr_shape (⟦<Expr as Archive>⟧.keys v)
         (⟦<Expr as Archive>⟧.meaning v) (planned_of_expr v) };
 
+    #[inline(always)]
     fn archived_metadata(&self) -> Result<(), Error> {
         Ok(())
     }
 }
 
 impl<S: Writer + Keys + ResolverAlloc> SerializeUnsized<S> for Expr {
+    #[inline(always)]
     fn serialize_unsized(&self, serializer: &mut S) -> Result<usize, Error> {
         serialize_one(self, serializer)
     }
@@ -526,6 +530,7 @@ fn read_vec_expr<D: Entries>(
 }
 
 // Reads `Num` back.
+#[inline(always)]
 fn read_expr_num<D: Entries>(
     alloc: Global,
     part: RawView<'_>,
@@ -606,6 +611,7 @@ fn read_expr<D: Entries>(
 }
 
 impl<D: Entries> Deserialize<Expr, D> for ArchivedExpr {
+    #[inline(always)]
     fn deserialize_part(
         alloc: Global,
         part: RawView<'_>,

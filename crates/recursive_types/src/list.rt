@@ -171,6 +171,7 @@ impl Archive for List {
 
     ghost planned = { list_planned };
 
+    #[inline(always)]
     fn resolve(
         &self,
         resolver: Self::Resolver,
@@ -268,6 +269,7 @@ pub enum ListKept {
 }
 
 // Writes what the parts of `Cons` before its box own, in order.
+#[inline(always)]
 fn serialize_list_cons<S: Writer + Keys + ResolverAlloc>(
     a0: &u32,
     a1: &Box<List>,
@@ -307,6 +309,7 @@ impl<S: Writer + Keys + ResolverAlloc> ChainSource<S> for List {
 
     ghost closed = { list_closed };
 
+    #[inline(always)]
     fn rest(&self) -> Option<&Self> {
         match self {
             List::Nil => None,
@@ -314,6 +317,7 @@ impl<S: Writer + Keys + ResolverAlloc> ChainSource<S> for List {
         }
     }
 
+    #[inline(always)]
     fn serialize_head(
         &self,
         serializer: &mut S,
@@ -327,6 +331,7 @@ impl<S: Writer + Keys + ResolverAlloc> ChainSource<S> for List {
         }
     }
 
+    #[inline(always)]
     fn close(kept: Self::Kept, at: BoxResolver) -> Self::Resolver {
         match kept {
             ListKept::Cons((r0, ())) => ListResolver::Cons((r0, (at, ()))),
@@ -335,6 +340,7 @@ impl<S: Writer + Keys + ResolverAlloc> ChainSource<S> for List {
 }
 
 impl<S: Writer + Keys + ResolverAlloc> Serialize<S> for List {
+    #[inline(always)]
     fn serialize(&self, serializer: &mut S) -> Result<Self::Resolver, Error> {
         serialize_chain(self, serializer)
     }
@@ -359,12 +365,14 @@ impl ArchiveUnsized for List {
     ghost planned = { λ v. one_planned list_definitions list_shape (⟦<List as Archive>⟧.keys v)
         (⟦<List as Archive>⟧.meaning v) (planned_of_list v) };
 
+    #[inline(always)]
     fn archived_metadata(&self) -> Result<(), Error> {
         Ok(())
     }
 }
 
 impl<S: Writer + Keys + ResolverAlloc> SerializeUnsized<S> for List {
+    #[inline(always)]
     fn serialize_unsized(&self, serializer: &mut S) -> Result<usize, Error> {
         serialize_one(self, serializer)
     }
@@ -378,6 +386,7 @@ pub enum ListFront {
 }
 
 // Reads `Nil` back.
+#[inline(always)]
 fn read_list_nil<D: Entries>(
     _alloc: Global,
     part: RawView<'_>,
@@ -394,6 +403,7 @@ fn read_list_nil<D: Entries>(
 }
 
 // Reads the parts of `Cons` before its box back.
+#[inline(always)]
 fn read_list_cons<D: Entries>(
     alloc: Global,
     part: RawView<'_>,
@@ -419,6 +429,7 @@ impl<D: Entries> ChainBack<ArchivedList, D> for List {
 
     ghost keys_around = { list_keys_around };
 
+    #[inline(always)]
     fn read_head(
         alloc: Global,
         part: RawView<'_>,
@@ -439,6 +450,7 @@ impl<D: Entries> ChainBack<ArchivedList, D> for List {
         }
     }
 
+    #[inline(always)]
     fn around(front: Self::Front, rest: Box<Self>) -> Self
         ensures meaning { ⟦<Self as Archive>⟧.meaning result
             ≡ list_around front (⟦<Self as Archive>⟧.meaning rest.value) }
@@ -452,6 +464,7 @@ impl<D: Entries> ChainBack<ArchivedList, D> for List {
 }
 
 impl<D: Entries> Deserialize<List, D> for ArchivedList {
+    #[inline(always)]
     fn deserialize_part(
         alloc: Global,
         part: RawView<'_>,

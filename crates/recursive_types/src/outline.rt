@@ -134,6 +134,7 @@ impl Archive for Outline {
         ⟦<ArchivedTree as Portable>⟧.shape ⟦<Tree as Archive>⟧.keys ⟦<Tree as Archive>⟧.meaning
         planned_of_tree v.others.items)) no_part_planned))) };
 
+    #[inline(always)]
     fn resolve(
         &self,
         resolver: Self::Resolver,
@@ -169,6 +170,7 @@ impl Archive for Outline {
 }
 
 impl<S: Writer + ResolverAlloc> Serialize<S> for Outline {
+    #[inline(always)]
     fn serialize(&self, serializer: &mut S) -> Result<Self::Resolver, Error> {
         serialize_record::<Self, OutlineFields, Self::Archived, S>(self, serializer)
     }
@@ -221,12 +223,14 @@ impl ArchiveUnsized for Outline {
         ⟦<ArchivedTree as Portable>⟧.shape ⟦<Tree as Archive>⟧.keys ⟦<Tree as Archive>⟧.meaning
         planned_of_tree v.others.items)) no_part_planned)))) };
 
+    #[inline(always)]
     fn archived_metadata(&self) -> Result<(), Error> {
         Ok(())
     }
 }
 
 impl<S: Writer + ResolverAlloc> SerializeUnsized<S> for Outline {
+    #[inline(always)]
     fn serialize_unsized(&self, serializer: &mut S) -> Result<usize, Error> {
         serialize_one(self, serializer)
     }

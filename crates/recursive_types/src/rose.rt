@@ -157,6 +157,7 @@ impl Archive for Rose {
 
     ghost planned = { rose_planned };
 
+    #[inline(always)]
     fn resolve(
         &self,
         resolver: Self::Resolver,
@@ -283,6 +284,7 @@ fn serialize_rose<S: Writer + Keys + ResolverAlloc>(
 }
 
 impl<S: Writer + Keys + ResolverAlloc> Serialize<S> for Rose {
+    #[inline(always)]
     fn serialize(&self, serializer: &mut S) -> Result<Self::Resolver, Error> {
         serialize_rose(self, serializer)
     }
@@ -307,12 +309,14 @@ impl ArchiveUnsized for Rose {
     ghost planned = { λ v. one_planned rose_definitions rose_shape (⟦<Rose as Archive>⟧.keys v)
         (⟦<Rose as Archive>⟧.meaning v) (planned_of_rose v) };
 
+    #[inline(always)]
     fn archived_metadata(&self) -> Result<(), Error> {
         Ok(())
     }
 }
 
 impl<S: Writer + Keys + ResolverAlloc> SerializeUnsized<S> for Rose {
+    #[inline(always)]
     fn serialize_unsized(&self, serializer: &mut S) -> Result<usize, Error> {
         serialize_one(self, serializer)
     }
@@ -362,6 +366,7 @@ fn read_rose<D: Entries>(
 }
 
 impl<D: Entries> Deserialize<Rose, D> for ArchivedRose {
+    #[inline(always)]
     fn deserialize_part(
         alloc: Global,
         part: RawView<'_>,

@@ -182,6 +182,7 @@ impl Archive for Search {
 
     ghost planned = { search_planned };
 
+    #[inline(always)]
     fn resolve(
         &self,
         resolver: Self::Resolver,
@@ -286,6 +287,7 @@ fn serialize_search<S: Writer + Keys + ResolverAlloc>(
 }
 
 impl<S: Writer + Keys + ResolverAlloc> Serialize<S> for Search {
+    #[inline(always)]
     fn serialize(&self, serializer: &mut S) -> Result<Self::Resolver, Error> {
         serialize_search(self, serializer)
     }
@@ -310,12 +312,14 @@ impl ArchiveUnsized for Search {
     ghost planned = { λ v. one_planned search_definitions search_shape
         (⟦<Search as Archive>⟧.keys v) (⟦<Search as Archive>⟧.meaning v) (planned_of_search v) };
 
+    #[inline(always)]
     fn archived_metadata(&self) -> Result<(), Error> {
         Ok(())
     }
 }
 
 impl<S: Writer + Keys + ResolverAlloc> SerializeUnsized<S> for Search {
+    #[inline(always)]
     fn serialize_unsized(&self, serializer: &mut S) -> Result<usize, Error> {
         serialize_one(self, serializer)
     }
@@ -395,6 +399,7 @@ fn read_search<D: Entries>(
 }
 
 impl<D: Entries> Deserialize<Search, D> for ArchivedSearch {
+    #[inline(always)]
     fn deserialize_part(
         alloc: Global,
         part: RawView<'_>,

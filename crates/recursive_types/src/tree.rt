@@ -162,6 +162,7 @@ impl Archive for Tree {
 
     ghost planned = { tree_planned };
 
+    #[inline(always)]
     fn resolve(
         &self,
         resolver: Self::Resolver,
@@ -288,6 +289,7 @@ fn serialize_tree<S: Writer + Keys + ResolverAlloc>(
 }
 
 impl<S: Writer + Keys + ResolverAlloc> Serialize<S> for Tree {
+    #[inline(always)]
     fn serialize(&self, serializer: &mut S) -> Result<Self::Resolver, Error> {
         serialize_tree(self, serializer)
     }
@@ -312,12 +314,14 @@ impl ArchiveUnsized for Tree {
     ghost planned = { λ v. one_planned tree_definitions tree_shape (⟦<Tree as Archive>⟧.keys v)
         (⟦<Tree as Archive>⟧.meaning v) (planned_of_tree v) };
 
+    #[inline(always)]
     fn archived_metadata(&self) -> Result<(), Error> {
         Ok(())
     }
 }
 
 impl<S: Writer + Keys + ResolverAlloc> SerializeUnsized<S> for Tree {
+    #[inline(always)]
     fn serialize_unsized(&self, serializer: &mut S) -> Result<usize, Error> {
         serialize_one(self, serializer)
     }
@@ -370,6 +374,7 @@ fn read_tree<D: Entries>(
 }
 
 impl<D: Entries> Deserialize<Tree, D> for ArchivedTree {
+    #[inline(always)]
     fn deserialize_part(
         alloc: Global,
         part: RawView<'_>,

@@ -42,6 +42,7 @@ fn begin_of<T: Portable>(start: usize) -> usize
 }
 
 // Writes the first of several fields over zeros, and answers where it ends.
+#[inline(always)]
 pub(super) fn resolve_front<T: Archive>(
     value: &T,
     resolver: T::Resolver,
@@ -73,6 +74,7 @@ pub(super) fn resolve_front<T: Archive>(
 
 /// Writes what no field owns, which is nothing.
 #[tactic(auto, using(archive_types::proofs::Planning::PlannedParts::serialized_no_part, archive_types::proofs::Planning::Causes::goes_nowhere))]
+#[inline(always)]
 pub fn serialize_0<S: Writer + Keys>(_serializer: &mut S) -> Result<(), Error>
     ensures serialized { IfOk result (λ r. SerializedParts no_definition no_part [] no_value
         no_value (S.state _serializer.old) (S.state _serializer.new)) }
@@ -84,6 +86,7 @@ pub fn serialize_0<S: Writer + Keys>(_serializer: &mut S) -> Result<(), Error>
 }
 
 /// Leaves zeros where there is no field.
+#[inline(always)]
 pub fn resolve_0(resolvers: (), pos: usize, start: usize, bytes: &mut [u8]) -> Result<(), Error>
     requires zeroed { ZeroedParts start start pos bytes.old }
     ensures resolved { OnOk result (ResolvesParts no_definition pos start bytes.new no_part

@@ -11,6 +11,7 @@ use archive_types::traits::Portable;
 use archive_types::view::{RawView, Ref};
 
 /// The view of a field of a record, which begins at `offset`.
+#[inline(always)]
 pub fn part_in_record<'a, X: Portable, U: Portable>(
     view: Ref<'a, X>,
     i: usize,

@@ -19,6 +19,7 @@ use archive_types::place::Place;
 use archive_types::traits::{Archive, Portable};
 
 /// Writes a variant of no field over zeros: its tag, and behind it the fields.
+#[inline(always)]
 pub fn resolve_case_0<X: Portable>(tag: u8, resolvers: (), place: Place<'_, X>) -> Result<(), Error>
     requires nothing { X.definitions ≡ no_definition }
     requires variant { variant_in X.shape tag ≡ Some no_part }
@@ -39,6 +40,7 @@ pub fn resolve_case_0<X: Portable>(tag: u8, resolvers: (), place: Place<'_, X>) 
 }
 
 /// Writes a variant of one field over zeros: its tag, and behind it the fields.
+#[inline(always)]
 pub fn resolve_case_1<A: Archive, X: Portable>(
     tag: u8,
     a: &A,
@@ -65,6 +67,7 @@ pub fn resolve_case_1<A: Archive, X: Portable>(
 }
 
 /// Writes a variant of 2 fields over zeros: its tag, and behind it the fields.
+#[inline(always)]
 pub fn resolve_case_2<A: Archive, B: Archive, X: Portable>(
     tag: u8,
     a: &A,
@@ -97,6 +100,7 @@ pub fn resolve_case_2<A: Archive, B: Archive, X: Portable>(
 }
 
 /// Writes a variant of 3 fields over zeros: its tag, and behind it the fields.
+#[inline(always)]
 pub fn resolve_case_3<A: Archive, B: Archive, C: Archive, X: Portable>(
     tag: u8,
     a: &A,
@@ -131,6 +135,7 @@ pub fn resolve_case_3<A: Archive, B: Archive, C: Archive, X: Portable>(
 }
 
 /// Writes a variant of 4 fields over zeros: its tag, and behind it the fields.
+#[inline(always)]
 pub fn resolve_case_4<A: Archive, B: Archive, C: Archive, D: Archive, X: Portable>(
     tag: u8,
     a: &A,
@@ -171,6 +176,7 @@ pub fn resolve_case_4<A: Archive, B: Archive, C: Archive, D: Archive, X: Portabl
 }
 
 /// Writes a variant of 5 fields over zeros: its tag, and behind it the fields.
+#[inline(always)]
 pub fn resolve_case_5<A: Archive, B: Archive, C: Archive, D: Archive, E: Archive, X: Portable>(
     tag: u8,
     a: &A,
@@ -217,6 +223,7 @@ pub fn resolve_case_5<A: Archive, B: Archive, C: Archive, D: Archive, E: Archive
 }
 
 /// Writes a variant of 6 fields over zeros: its tag, and behind it the fields.
+#[inline(always)]
 pub fn resolve_case_6<
     A: Archive,
     B: Archive,
@@ -279,6 +286,7 @@ pub fn resolve_case_6<
 }
 
 /// Writes a variant of 7 fields over zeros: its tag, and behind it the fields.
+#[inline(always)]
 pub fn resolve_case_7<
     A: Archive,
     B: Archive,
@@ -348,6 +356,7 @@ pub fn resolve_case_7<
 }
 
 /// Writes a variant of 8 fields over zeros: its tag, and behind it the fields.
+#[inline(always)]
 pub fn resolve_case_8<
     A: Archive,
     B: Archive,

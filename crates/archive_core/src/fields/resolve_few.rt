@@ -13,6 +13,7 @@ use archive_check::format::error::Error;
 use archive_types::traits::Archive;
 
 /// Writes one field over zeros, which are at the offset `start` of what begins at `pos`: each at the next multiple of its alignment.
+#[inline(always)]
 pub fn resolve_1<A: Archive>(
     a: &A,
     resolvers: (A::Resolver, ()),
@@ -37,6 +38,7 @@ pub fn resolve_1<A: Archive>(
 }
 
 /// Writes 2 fields over zeros, which are at the offset `start` of what begins at `pos`: each at the next multiple of its alignment.
+#[inline(always)]
 pub fn resolve_2<A: Archive, B: Archive>(
     a: &A,
     b: &B,
@@ -66,6 +68,7 @@ pub fn resolve_2<A: Archive, B: Archive>(
 }
 
 /// Writes 3 fields over zeros, which are at the offset `start` of what begins at `pos`: each at the next multiple of its alignment.
+#[inline(always)]
 pub fn resolve_3<A: Archive, B: Archive, C: Archive>(
     a: &A,
     b: &B,
@@ -99,6 +102,7 @@ pub fn resolve_3<A: Archive, B: Archive, C: Archive>(
 }
 
 /// Writes 4 fields over zeros, which are at the offset `start` of what begins at `pos`: each at the next multiple of its alignment.
+#[inline(always)]
 pub fn resolve_4<A: Archive, B: Archive, C: Archive, D: Archive>(
     a: &A,
     b: &B,
@@ -138,6 +142,7 @@ pub fn resolve_4<A: Archive, B: Archive, C: Archive, D: Archive>(
 }
 
 /// Writes 5 fields over zeros, which are at the offset `start` of what begins at `pos`: each at the next multiple of its alignment.
+#[inline(always)]
 pub fn resolve_5<A: Archive, B: Archive, C: Archive, D: Archive, E: Archive>(
     a: &A,
     b: &B,
@@ -185,6 +190,7 @@ pub fn resolve_5<A: Archive, B: Archive, C: Archive, D: Archive, E: Archive>(
 }
 
 /// Writes 6 fields over zeros, which are at the offset `start` of what begins at `pos`: each at the next multiple of its alignment.
+#[inline(always)]
 pub fn resolve_6<A: Archive, B: Archive, C: Archive, D: Archive, E: Archive, F: Archive>(
     a: &A,
     b: &B,
@@ -241,6 +247,7 @@ pub fn resolve_6<A: Archive, B: Archive, C: Archive, D: Archive, E: Archive, F: 
 }
 
 /// Writes 7 fields over zeros, which are at the offset `start` of what begins at `pos`: each at the next multiple of its alignment.
+#[inline(always)]
 pub fn resolve_7<
     A: Archive,
     B: Archive,
@@ -324,6 +331,7 @@ pub fn resolve_7<
 }
 
 /// Writes 8 fields over zeros, which are at the offset `start` of what begins at `pos`: each at the next multiple of its alignment.
+#[inline(always)]
 pub fn resolve_8<
     A: Archive,
     B: Archive,

@@ -19,6 +19,7 @@ use archive_types::place::Place;
 use archive_types::traits::{Archive, Portable};
 
 /// Writes a record of no field over zeros.
+#[inline(always)]
 pub fn resolve_record_0<X: Portable>(resolvers: (), place: Place<'_, X>) -> Result<(), Error>
     requires nothing { X.definitions ≡ no_definition }
     requires parts { X.shape ≡ parts no_part }
@@ -37,6 +38,7 @@ pub fn resolve_record_0<X: Portable>(resolvers: (), place: Place<'_, X>) -> Resu
 }
 
 /// Writes a record of one field over zeros.
+#[inline(always)]
 pub fn resolve_record_1<A: Archive, X: Portable>(
     a: &A,
     resolvers: (A::Resolver, ()),
@@ -59,6 +61,7 @@ pub fn resolve_record_1<A: Archive, X: Portable>(
 }
 
 /// Writes a record of 2 fields over zeros.
+#[inline(always)]
 pub fn resolve_record_2<A: Archive, B: Archive, X: Portable>(
     a: &A,
     b: &B,
@@ -87,6 +90,7 @@ pub fn resolve_record_2<A: Archive, B: Archive, X: Portable>(
 }
 
 /// Writes a record of 3 fields over zeros.
+#[inline(always)]
 pub fn resolve_record_3<A: Archive, B: Archive, C: Archive, X: Portable>(
     a: &A,
     b: &B,
@@ -118,6 +122,7 @@ pub fn resolve_record_3<A: Archive, B: Archive, C: Archive, X: Portable>(
 }
 
 /// Writes a record of 4 fields over zeros.
+#[inline(always)]
 pub fn resolve_record_4<A: Archive, B: Archive, C: Archive, D: Archive, X: Portable>(
     a: &A,
     b: &B,
@@ -155,6 +160,7 @@ pub fn resolve_record_4<A: Archive, B: Archive, C: Archive, D: Archive, X: Porta
 }
 
 /// Writes a record of 5 fields over zeros.
+#[inline(always)]
 pub fn resolve_record_5<A: Archive, B: Archive, C: Archive, D: Archive, E: Archive, X: Portable>(
     a: &A,
     b: &B,
@@ -197,6 +203,7 @@ pub fn resolve_record_5<A: Archive, B: Archive, C: Archive, D: Archive, E: Archi
 }
 
 /// Writes a record of 6 fields over zeros.
+#[inline(always)]
 pub fn resolve_record_6<
     A: Archive,
     B: Archive,
@@ -256,6 +263,7 @@ pub fn resolve_record_6<
 }
 
 /// Writes a record of 7 fields over zeros.
+#[inline(always)]
 pub fn resolve_record_7<
     A: Archive,
     B: Archive,
@@ -322,6 +330,7 @@ pub fn resolve_record_7<
 }
 
 /// Writes a record of 8 fields over zeros.
+#[inline(always)]
 pub fn resolve_record_8<
     A: Archive,
     B: Archive,

@@ -20,6 +20,7 @@ use archive_types::traits::{Keys, Portable, Serialize};
 use archive_write::ser::Writer;
 
 /// Writes what a variant of no field owns, one after another, and answers the resolvers.
+#[inline(always)]
 pub fn serialize_case_0<X: Portable, S: Writer + Keys>(
     tag: u8,
     serializer: &mut S,
@@ -38,6 +39,7 @@ pub fn serialize_case_0<X: Portable, S: Writer + Keys>(
 }
 
 /// Writes what a variant of one field owns, one after another, and answers the resolvers.
+#[inline(always)]
 pub fn serialize_case_1<A: Serialize<S>, X: Portable, S: Writer + Keys>(
     tag: u8,
     a: &A,
@@ -59,6 +61,7 @@ pub fn serialize_case_1<A: Serialize<S>, X: Portable, S: Writer + Keys>(
 }
 
 /// Writes what a variant of 2 fields owns, one after another, and answers the resolvers.
+#[inline(always)]
 pub fn serialize_case_2<A: Serialize<S>, B: Serialize<S>, X: Portable, S: Writer + Keys>(
     tag: u8,
     a: &A,
@@ -87,6 +90,7 @@ pub fn serialize_case_2<A: Serialize<S>, B: Serialize<S>, X: Portable, S: Writer
 }
 
 /// Writes what a variant of 3 fields owns, one after another, and answers the resolvers.
+#[inline(always)]
 pub fn serialize_case_3<
     A: Serialize<S>,
     B: Serialize<S>,
@@ -124,6 +128,7 @@ pub fn serialize_case_3<
 }
 
 /// Writes what a variant of 4 fields owns, one after another, and answers the resolvers.
+#[inline(always)]
 pub fn serialize_case_4<
     A: Serialize<S>,
     B: Serialize<S>,
@@ -166,6 +171,7 @@ pub fn serialize_case_4<
 }
 
 /// Writes what a variant of 5 fields owns, one after another, and answers the resolvers.
+#[inline(always)]
 pub fn serialize_case_5<
     A: Serialize<S>,
     B: Serialize<S>,
@@ -218,6 +224,7 @@ pub fn serialize_case_5<
 }
 
 /// Writes what a variant of 6 fields owns, one after another, and answers the resolvers.
+#[inline(always)]
 pub fn serialize_case_6<
     A: Serialize<S>,
     B: Serialize<S>,
@@ -281,6 +288,7 @@ pub fn serialize_case_6<
 }
 
 /// Writes what a variant of 7 fields owns, one after another, and answers the resolvers.
+#[inline(always)]
 pub fn serialize_case_7<
     A: Serialize<S>,
     B: Serialize<S>,
@@ -350,6 +358,7 @@ pub fn serialize_case_7<
 }
 
 /// Writes what a variant of 8 fields owns, one after another, and answers the resolvers.
+#[inline(always)]
 pub fn serialize_case_8<
     A: Serialize<S>,
     B: Serialize<S>,

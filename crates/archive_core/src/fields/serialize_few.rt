@@ -14,6 +14,7 @@ use archive_types::traits::{Keys, Serialize};
 use archive_write::ser::Writer;
 
 /// Writes what one field owns, and answers its resolver.
+#[inline(always)]
 pub fn serialize_1<A: Serialize<S>, S: Writer + Keys>(
     a: &A,
     serializer: &mut S,
@@ -35,6 +36,7 @@ pub fn serialize_1<A: Serialize<S>, S: Writer + Keys>(
 }
 
 /// Writes what 2 fields own, one after another, and answers their resolvers.
+#[inline(always)]
 pub fn serialize_2<A: Serialize<S>, B: Serialize<S>, S: Writer + Keys>(
     a: &A,
     b: &B,
@@ -62,6 +64,7 @@ pub fn serialize_2<A: Serialize<S>, B: Serialize<S>, S: Writer + Keys>(
 }
 
 /// Writes what 3 fields own, one after another, and answers their resolvers.
+#[inline(always)]
 pub fn serialize_3<A: Serialize<S>, B: Serialize<S>, C: Serialize<S>, S: Writer + Keys>(
     a: &A,
     b: &B,
@@ -94,6 +97,7 @@ pub fn serialize_3<A: Serialize<S>, B: Serialize<S>, C: Serialize<S>, S: Writer 
 }
 
 /// Writes what 4 fields own, one after another, and answers their resolvers.
+#[inline(always)]
 pub fn serialize_4<
     A: Serialize<S>,
     B: Serialize<S>,
@@ -138,6 +142,7 @@ pub fn serialize_4<
 }
 
 /// Writes what 5 fields own, one after another, and answers their resolvers.
+#[inline(always)]
 pub fn serialize_5<
     A: Serialize<S>,
     B: Serialize<S>,
@@ -193,6 +198,7 @@ pub fn serialize_5<
 }
 
 /// Writes what 6 fields own, one after another, and answers their resolvers.
+#[inline(always)]
 pub fn serialize_6<
     A: Serialize<S>,
     B: Serialize<S>,
@@ -258,6 +264,7 @@ pub fn serialize_6<
 }
 
 /// Writes what 7 fields own, one after another, and answers their resolvers.
+#[inline(always)]
 pub fn serialize_7<
     A: Serialize<S>,
     B: Serialize<S>,
@@ -333,6 +340,7 @@ pub fn serialize_7<
 }
 
 /// Writes what 8 fields own, one after another, and answers their resolvers.
+#[inline(always)]
 pub fn serialize_8<
     A: Serialize<S>,
     B: Serialize<S>,

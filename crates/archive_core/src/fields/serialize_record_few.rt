@@ -20,6 +20,7 @@ use archive_types::traits::{Keys, Portable, Serialize};
 use archive_write::ser::Writer;
 
 /// Writes what a record of no field owns, one after another, and answers the resolvers.
+#[inline(always)]
 pub fn serialize_record_0<X: Portable, S: Writer + Keys>(serializer: &mut S) -> Result<(), Error>
     requires nothing { X.definitions ≡ no_definition }
     requires parts { X.shape ≡ parts no_part }
@@ -35,6 +36,7 @@ pub fn serialize_record_0<X: Portable, S: Writer + Keys>(serializer: &mut S) -> 
 }
 
 /// Writes what a record of one field owns, one after another, and answers the resolvers.
+#[inline(always)]
 pub fn serialize_record_1<A: Serialize<S>, X: Portable, S: Writer + Keys>(
     a: &A,
     serializer: &mut S,
@@ -55,6 +57,7 @@ pub fn serialize_record_1<A: Serialize<S>, X: Portable, S: Writer + Keys>(
 }
 
 /// Writes what a record of 2 fields owns, one after another, and answers the resolvers.
+#[inline(always)]
 pub fn serialize_record_2<A: Serialize<S>, B: Serialize<S>, X: Portable, S: Writer + Keys>(
     a: &A,
     b: &B,
@@ -81,6 +84,7 @@ pub fn serialize_record_2<A: Serialize<S>, B: Serialize<S>, X: Portable, S: Writ
 }
 
 /// Writes what a record of 3 fields owns, one after another, and answers the resolvers.
+#[inline(always)]
 pub fn serialize_record_3<
     A: Serialize<S>,
     B: Serialize<S>,
@@ -116,6 +120,7 @@ pub fn serialize_record_3<
 }
 
 /// Writes what a record of 4 fields owns, one after another, and answers the resolvers.
+#[inline(always)]
 pub fn serialize_record_4<
     A: Serialize<S>,
     B: Serialize<S>,
@@ -157,6 +162,7 @@ pub fn serialize_record_4<
 }
 
 /// Writes what a record of 5 fields owns, one after another, and answers the resolvers.
+#[inline(always)]
 pub fn serialize_record_5<
     A: Serialize<S>,
     B: Serialize<S>,
@@ -208,6 +214,7 @@ pub fn serialize_record_5<
 }
 
 /// Writes what a record of 6 fields owns, one after another, and answers the resolvers.
+#[inline(always)]
 pub fn serialize_record_6<
     A: Serialize<S>,
     B: Serialize<S>,
@@ -270,6 +277,7 @@ pub fn serialize_record_6<
 }
 
 /// Writes what a record of 7 fields owns, one after another, and answers the resolvers.
+#[inline(always)]
 pub fn serialize_record_7<
     A: Serialize<S>,
     B: Serialize<S>,
@@ -338,6 +346,7 @@ pub fn serialize_record_7<
 }
 
 /// Writes what a record of 8 fields owns, one after another, and answers the resolvers.
+#[inline(always)]
 pub fn serialize_record_8<
     A: Serialize<S>,
     B: Serialize<S>,

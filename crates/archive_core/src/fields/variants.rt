@@ -14,6 +14,7 @@ use archive_types::view::{RawView, Ref};
 use std::alloc::Global;
 
 /// The tag that a view shows, which names one of the variants.
+#[inline(always)]
 pub fn tag_in<X: Portable>(view: Ref<'_, X>) -> u8
     requires nothing { X.definitions ≡ no_definition }
     requires choice { is_choice X.shape ≡ true }
@@ -25,6 +26,7 @@ pub fn tag_in<X: Portable>(view: Ref<'_, X>) -> u8
 }
 
 /// The tag of a choice, which names one of its variants.
+#[inline(always)]
 pub fn known_tag<X: Portable>(part: RawView<'_>) -> u8
     requires nothing { X.definitions ≡ no_definition }
     requires choice { is_choice X.shape ≡ true }
@@ -37,6 +39,7 @@ pub fn known_tag<X: Portable>(part: RawView<'_>) -> u8
 }
 
 /// Reads back the fields of the variant with this tag. The caller must ensure that `part` shows it.
+#[inline(always)]
 pub fn read_case<X: Portable, P: DeserializeParts<T, D>, T: OwnedParts, D: Entries>(
     tag: u8,
     alloc: Global,
@@ -58,6 +61,7 @@ pub fn read_case<X: Portable, P: DeserializeParts<T, D>, T: OwnedParts, D: Entri
 
 /// The view of a field of a variant, which begins at `offset`. The caller must ensure that
 /// the view shows this tag.
+#[inline(always)]
 pub fn part_in_case<'a, X: Portable, U: Portable>(
     view: Ref<'a, X>,
     tag: u8,

@@ -15,6 +15,7 @@ use std::alloc::Allocator;
 /// Writes the region of values that were serialized one after another, and returns the resolver of a vector of them. The caller must ensure that each
 /// resolver is one of its value. Fails as the resolving of a value does, with `PositionTooLarge` where the region begins above 4,294,967,295, with
 /// `LayoutTooLarge` where it would end above `usize::MAX`, with `OutOfMemory`, or as the writer fails.
+#[inline(always)]
 pub fn serialize_inner_slice<S: Writer + ResolverAlloc, T: Archive, B: Allocator + Drop>(
     values: &[T],
     resolvers: Vec<T::Resolver, B>,

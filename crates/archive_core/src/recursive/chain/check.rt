@@ -80,6 +80,7 @@ impl<F: Chain> SelfCheck for ChainCheck<F> {
         false
     }
 
+    #[inline(always)]
     fn check_at<C: ArchiveContext>(
         bytes: &[u8],
         at: usize,
@@ -150,6 +151,7 @@ pub struct Depth {
 }
 
 // Checks the enum at `at`, which is a region of its own, and each that boxes lead to, and leaves none of these regions.
+#[inline(always)]
 fn descend<F: Chain, C: ArchiveContext>(
     bytes: &[u8],
     at: usize,

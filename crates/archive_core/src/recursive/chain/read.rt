@@ -56,6 +56,7 @@ pub trait ChainBack<X: Portable, D: Entries>: Archive + Drop {
 
 /// The value that the part shows, read back with no recursion: what stands before each box is kept in a vector. Fails as `Deserialize::deserialize_part`
 /// does.
+#[inline(always)]
 pub fn read_chain<X: Portable, T: ChainBack<X, D>, D: Entries>(
     alloc: Global,
     part: RawView<'_>,

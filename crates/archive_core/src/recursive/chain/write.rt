@@ -52,6 +52,7 @@ pub trait ChainSource<S: Writer + Keys>: Archive {
 
 /// Writes what `value` owns, with no recursion: a reference and what is kept of the parts before it
 /// for each box, in memory of the serializer's. Fails as `Serialize::serialize` does.
+#[inline(always)]
 pub fn serialize_chain<T: ChainSource<S>, S: Writer + Keys + ResolverAlloc>(
     value: &T,
     serializer: &mut S,

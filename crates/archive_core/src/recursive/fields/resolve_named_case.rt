@@ -18,6 +18,7 @@ use archive_types::place::Place;
 use archive_types::traits::{Archive, Choice, Portable};
 
 /// Writes a variant of no field over zeros: its tag, and behind it the fields.
+#[inline(always)]
 pub fn resolve_named_case_0<X: Choice>(
     tag: u8,
     resolvers: (),
@@ -41,6 +42,7 @@ pub fn resolve_named_case_0<X: Choice>(
 }
 
 /// Writes a variant of one field over zeros: its tag, and behind it the fields.
+#[inline(always)]
 pub fn resolve_named_case_1<A: Archive, X: Choice>(
     tag: u8,
     a: &A,
@@ -67,6 +69,7 @@ pub fn resolve_named_case_1<A: Archive, X: Choice>(
 }
 
 /// Writes a variant of 2 fields over zeros: its tag, and behind it the fields.
+#[inline(always)]
 pub fn resolve_named_case_2<A: Archive, B: Archive, X: Choice>(
     tag: u8,
     a: &A,
@@ -98,6 +101,7 @@ pub fn resolve_named_case_2<A: Archive, B: Archive, X: Choice>(
 }
 
 /// Writes a variant of 3 fields over zeros: its tag, and behind it the fields.
+#[inline(always)]
 pub fn resolve_named_case_3<A: Archive, B: Archive, C: Archive, X: Choice>(
     tag: u8,
     a: &A,
@@ -132,6 +136,7 @@ pub fn resolve_named_case_3<A: Archive, B: Archive, C: Archive, X: Choice>(
 }
 
 /// Writes a variant of 4 fields over zeros: its tag, and behind it the fields.
+#[inline(always)]
 pub fn resolve_named_case_4<A: Archive, B: Archive, C: Archive, D: Archive, X: Choice>(
     tag: u8,
     a: &A,
@@ -172,6 +177,7 @@ pub fn resolve_named_case_4<A: Archive, B: Archive, C: Archive, D: Archive, X: C
 }
 
 /// Writes a variant of 5 fields over zeros: its tag, and behind it the fields.
+#[inline(always)]
 pub fn resolve_named_case_5<A: Archive, B: Archive, C: Archive, D: Archive, E: Archive, X: Choice>(
     tag: u8,
     a: &A,
@@ -218,6 +224,7 @@ pub fn resolve_named_case_5<A: Archive, B: Archive, C: Archive, D: Archive, E: A
 }
 
 /// Writes a variant of 6 fields over zeros: its tag, and behind it the fields.
+#[inline(always)]
 pub fn resolve_named_case_6<
     A: Archive,
     B: Archive,
@@ -280,6 +287,7 @@ pub fn resolve_named_case_6<
 }
 
 /// Writes a variant of 7 fields over zeros: its tag, and behind it the fields.
+#[inline(always)]
 pub fn resolve_named_case_7<
     A: Archive,
     B: Archive,

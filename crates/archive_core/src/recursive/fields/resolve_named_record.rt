@@ -17,6 +17,7 @@ use archive_types::place::Place;
 use archive_types::traits::{Archive, Portable, Record};
 
 /// Writes a record of no field over zeros.
+#[inline(always)]
 pub fn resolve_named_record_0<X: Record>(resolvers: (), place: Place<'_, X>) -> Result<(), Error>
     requires parts { X.Parts.parts ≡ no_part }
     requires definitions { X.Parts.definitions ≡ no_definition }
@@ -34,6 +35,7 @@ pub fn resolve_named_record_0<X: Record>(resolvers: (), place: Place<'_, X>) -> 
 }
 
 /// Writes a record of one field over zeros.
+#[inline(always)]
 pub fn resolve_named_record_1<A: Archive, X: Record>(
     a: &A,
     resolvers: (A::Resolver, ()),
@@ -55,6 +57,7 @@ pub fn resolve_named_record_1<A: Archive, X: Record>(
 }
 
 /// Writes a record of 2 fields over zeros.
+#[inline(always)]
 pub fn resolve_named_record_2<A: Archive, B: Archive, X: Record>(
     a: &A,
     b: &B,
@@ -82,6 +85,7 @@ pub fn resolve_named_record_2<A: Archive, B: Archive, X: Record>(
 }
 
 /// Writes a record of 3 fields over zeros.
+#[inline(always)]
 pub fn resolve_named_record_3<A: Archive, B: Archive, C: Archive, X: Record>(
     a: &A,
     b: &B,
@@ -112,6 +116,7 @@ pub fn resolve_named_record_3<A: Archive, B: Archive, C: Archive, X: Record>(
 }
 
 /// Writes a record of 4 fields over zeros.
+#[inline(always)]
 pub fn resolve_named_record_4<A: Archive, B: Archive, C: Archive, D: Archive, X: Record>(
     a: &A,
     b: &B,
@@ -148,6 +153,7 @@ pub fn resolve_named_record_4<A: Archive, B: Archive, C: Archive, D: Archive, X:
 }
 
 /// Writes a record of 5 fields over zeros.
+#[inline(always)]
 pub fn resolve_named_record_5<
     A: Archive,
     B: Archive,
@@ -196,6 +202,7 @@ pub fn resolve_named_record_5<
 }
 
 /// Writes a record of 6 fields over zeros.
+#[inline(always)]
 pub fn resolve_named_record_6<
     A: Archive,
     B: Archive,
@@ -254,6 +261,7 @@ pub fn resolve_named_record_6<
 }
 
 /// Writes a record of 7 fields over zeros.
+#[inline(always)]
 pub fn resolve_named_record_7<
     A: Archive,
     B: Archive,
