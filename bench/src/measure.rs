@@ -140,6 +140,16 @@ pub fn deep(format: usize, operation: usize) -> i32 {
     }
 }
 
+/// Carries one operation on one set out so often, for whoever counts its instructions: the set and the operation by their places in the tables.
+pub fn one(format: usize, set: usize, operation: usize, count: usize) {
+    let (set, limited) = SETS[set];
+    let operation = set.operations()[operation];
+    if let Task::Ready(mut ready) = Format::ALL[format].task(set, operation, limited) {
+        let answer = (ready.run)(count);
+        println!("{}, {}: {answer}", set.title(), operation.title());
+    }
+}
+
 /// Times one operation on one set in these formats, in turns.
 pub fn row(
     set: Set,
