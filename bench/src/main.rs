@@ -126,7 +126,12 @@ fn main() {
         }
         ["one", format, set, operation, count] => {
             let number = |it: &str| it.parse().expect("a number");
-            measure::one(number(format), number(set), number(operation), number(count))
+            measure::one(
+                number(format),
+                number(set),
+                number(operation),
+                number(count),
+            )
         }
         ["heap"] => on_a_large_stack(measure::heap),
         ["large", rows] => print!("{}", measure::said_by_child(&["large-child", rows])),
