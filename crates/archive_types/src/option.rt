@@ -111,12 +111,14 @@ impl<T: Archive> ArchiveUnsized for Option<T> {
     ghost planned = { λ o. one_planned T.Archived.definitions (option_shape T.Archived.shape) (option_keys T.keys o) (option_meaning T.meaning o)
         (option_planned T.Archived.definitions T.Archived.shape T.keys T.meaning T.planned o) };
 
+    #[inline(always)]
     fn archived_metadata(&self) -> Result<(), Error> {
         Ok(())
     }
 }
 
 impl<T: Serialize<S>, S: Writer + ResolverAlloc> SerializeUnsized<S> for Option<T> {
+    #[inline(always)]
     fn serialize_unsized(&self, serializer: &mut S) -> Result<usize, Error> {
         serialize_one(self, serializer)
     }

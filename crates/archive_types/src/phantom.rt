@@ -51,6 +51,7 @@ impl<T> Archive for PhantomData<T> {
     ghost planned = { λ _. empty_product_planned };
 
     #[tactic(auto, using(crate::proofs::Writing::Nothing::resolves_empty_product))]
+    #[inline(always)]
     fn resolve(&self, _resolver: (), place: Place<'_, PhantomData<T>>) -> Result<(), Error>
         requires zeroed { ZeroedPlace 0 place.pos place.bytes.now }
         requires same_value { ⊤ }
@@ -101,6 +102,7 @@ impl<T> CopiedSource for PhantomData<T> {
 
 impl<T, S: Writer + Keys> Serialize<S> for PhantomData<T> {
     #[tactic(auto, using(crate::proofs::Writing::Nothing::serialized_empty_product, crate::proofs::Planning::Causes::goes_nowhere))]
+    #[inline(always)]
     fn serialize(&self, _serializer: &mut S) -> Result<(), Error>
         ensures outcome { Serializes ⟦<Self as Archive>⟧ ⟦<Self::Archived as Portable>⟧ self.now S.Keys
             _serializer result }
@@ -127,12 +129,14 @@ impl<T> ArchiveUnsized for PhantomData<T> {
 
     ghost planned = { λ _. one_planned no_definition (parts no_part) [] (product no_value) empty_product_planned };
 
+    #[inline(always)]
     fn archived_metadata(&self) -> Result<(), Error> {
         Ok(())
     }
 }
 
 impl<T, S: Writer + ResolverAlloc> SerializeUnsized<S> for PhantomData<T> {
+    #[inline(always)]
     fn serialize_unsized(&self, serializer: &mut S) -> Result<usize, Error> {
         serialize_one(self, serializer)
     }

@@ -47,6 +47,7 @@ impl<T: Archive, E: Archive> Archive for Result<T, E> {
 
     ghost planned = { result_planned T.keys E.keys T.meaning E.meaning T.Archived.definitions E.Archived.definitions T.Archived.shape E.Archived.shape T.planned E.planned };
 
+    #[inline(always)]
     fn resolve(
         &self,
         resolver: Result<T::Resolver, E::Resolver>,
@@ -90,6 +91,7 @@ impl<T: Archive, E: Archive> Archive for Result<T, E> {
 }
 
 impl<T: Serialize<S>, E: Serialize<S>, S: Writer + Keys> Serialize<S> for Result<T, E> {
+    #[inline(always)]
     fn serialize(&self, serializer: &mut S) -> Result<Result<T::Resolver, E::Resolver>, Error> {
         match self {
             Ok(value) => Ok(Ok(value.serialize(serializer)?)),
@@ -116,6 +118,7 @@ impl<T: Archive, E: Archive> ArchiveUnsized for Result<T, E> {
         (result_meaning T.meaning E.meaning r)
         (result_planned T.keys E.keys T.meaning E.meaning T.Archived.definitions E.Archived.definitions T.Archived.shape E.Archived.shape T.planned E.planned r) };
 
+    #[inline(always)]
     fn archived_metadata(&self) -> Result<(), Error> {
         Ok(())
     }
@@ -123,6 +126,7 @@ impl<T: Archive, E: Archive> ArchiveUnsized for Result<T, E> {
 
 impl<T: Serialize<S>, E: Serialize<S>, S: Writer + ResolverAlloc> SerializeUnsized<S>
     for Result<T, E> {
+    #[inline(always)]
     fn serialize_unsized(&self, serializer: &mut S) -> Result<usize, Error> {
         serialize_one(self, serializer)
     }

@@ -204,6 +204,7 @@ impl<'a> ArchiveUnsized for Text<'a> {
 
     ghost planned = { λ t. text_planned no_definition [] t.text.now };
 
+    #[inline(always)]
     fn archived_metadata(&self) -> Result<ArchivedUsize, Error> {
         let Ok(len) = u32::try_from(self.text.len()) else {
             return Err(Error::LengthTooLarge);
@@ -399,12 +400,14 @@ impl ArchiveUnsized for String {
 
     ghost planned = { λ s. one_planned no_definition str_shape [] (text_value (string_bytes s)) (string_planned no_definition [] (string_bytes s)) };
 
+    #[inline(always)]
     fn archived_metadata(&self) -> Result<(), Error> {
         Ok(())
     }
 }
 
 impl<S: Writer + ResolverAlloc> SerializeUnsized<S> for String {
+    #[inline(always)]
     fn serialize_unsized(&self, serializer: &mut S) -> Result<usize, Error> {
         serialize_one(self, serializer)
     }

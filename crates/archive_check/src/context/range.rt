@@ -24,6 +24,7 @@ pub struct Region {
 }
 
 // Whether a position is a multiple of an alignment: by a mask where that is a power of two, since a division is slow.
+#[inline(always)]
 fn is_multiple(position: usize, align: usize) -> bool
     requires { 0 < align }
     ensures { IsTrue result ↔ position % align ≡ 0 }
@@ -32,6 +33,21 @@ fn is_multiple(position: usize, align: usize) -> bool
         return position & (align - 1) == 0;
     }
     position % align == 0
+}
+
+// The refusal of a region that doesn't lie within the range from `start` to `end`. It takes these by value: were the range lent to a call, it would lie in
+// memory wherever it is used.
+#[cold]
+#[inline(never)]
+fn outside(position: i128, size: usize, start: usize, end: usize) -> Error
+    ensures { result ≡ Error.InvalidSubtreePointer position size start end }
+{
+    Error::InvalidSubtreePointer {
+        position,
+        size,
+        start,
+        end,
+    }
 }
 
 /// The range of one buffer, with the levels that are left and a count of the regions that were entered. As in rkyv 0.8.18, but for the count.
@@ -79,18 +95,6 @@ impl<'a> ArchiveValidator<'a> {
     {
         self.pushes
     }
-
-    // The refusal of a region that doesn't lie within the range.
-    fn outside(&self, position: i128, size: usize) -> Error
-        ensures { result ≡ Error.InvalidSubtreePointer position size self.now.start self.now.end }
-    {
-        Error::InvalidSubtreePointer {
-            position,
-            size,
-            start: self.start,
-            end: self.end,
-        }
-    }
 }
 
 impl Context for ArchiveValidator<'_> {
@@ -100,13 +104,14 @@ impl Context for ArchiveValidator<'_> {
 }
 
 impl ArchiveContext for ArchiveValidator<'_> {
+    #[inline(always)]
     fn check_subtree_ptr(&mut self, position: i128, layout: &Layout) -> Result<(), Error> {
         if position < 0 || position > usize::MAX as i128 {
-            return Err(self.outside(position, layout.size));
+            return Err(outside(position, layout.size, self.start, self.end));
         }
         let root = position as usize;
         if root < self.start || root > self.end || layout.size > self.end - root {
-            return Err(self.outside(position, layout.size));
+            return Err(outside(position, layout.size, self.start, self.end));
         }
         if !is_multiple(root, layout.align) {
             return Err(Error::UnalignedPointer {
@@ -117,6 +122,7 @@ impl ArchiveContext for ArchiveValidator<'_> {
         Ok(())
     }
 
+    #[inline(always)]
     fn push_subtree_range(&mut self, root: usize, end: usize) -> Result<Range<usize>, Error> {
         if let Some(depth) = &mut self.depth {
             if *depth == 1 {
@@ -135,6 +141,7 @@ impl ArchiveContext for ArchiveValidator<'_> {
         Ok(outer)
     }
 
+    #[inline(always)]
     fn pop_subtree_range(&mut self, range: Range<usize>) -> Result<(), Error> {
         if range.start < self.end {
             return Err(Error::RangePoppedOutOfOrder);

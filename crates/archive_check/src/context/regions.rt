@@ -21,8 +21,8 @@ fn index_of(position: i128) -> usize
 }
 
 // Stops the check at a region that is refused. The context is asked once more for the reason, so that no wide answer is kept where regions are entered.
-#[cold]
-#[inline(never)]
+// It stands in its callers, since a context that is lent to no call needs no place in memory.
+#[inline(always)]
 fn refuse_region<C: ArchiveContext>(
     position: i128,
     layout: &Layout,
@@ -40,8 +40,7 @@ fn refuse_region<C: ArchiveContext>(
 }
 
 // Stops the check at a range that isn't taken back, likewise.
-#[cold]
-#[inline(never)]
+#[inline(always)]
 fn refuse_range<C: ArchiveContext>(start: usize, end: usize, refusal: &mut Error, context: &mut C)
     requires { is_err (pop_answer (C.state context.old) start) ≡ true }
     ensures refused { pop_answer (C.state context.old) start ≡ Err refusal.new }

@@ -49,14 +49,17 @@ impl<A: Context, S: Context> Context for Validator<A, S> {
 }
 
 impl<A: ArchiveContext, S: Context> ArchiveContext for Validator<A, S> {
+    #[inline(always)]
     fn check_subtree_ptr(&mut self, position: i128, layout: &Layout) -> Result<(), Error> {
         self.archive.check_subtree_ptr(position, layout)
     }
 
+    #[inline(always)]
     fn push_subtree_range(&mut self, root: usize, end: usize) -> Result<Range<usize>, Error> {
         self.archive.push_subtree_range(root, end)
     }
 
+    #[inline(always)]
     fn pop_subtree_range(&mut self, range: Range<usize>) -> Result<(), Error> {
         self.archive.pop_subtree_range(range)
     }
@@ -203,14 +206,17 @@ impl Context for HighValidator<'_> {
 }
 
 impl ArchiveContext for HighValidator<'_> {
+    #[inline(always)]
     fn check_subtree_ptr(&mut self, position: i128, layout: &Layout) -> Result<(), Error> {
         self.range.check_subtree_ptr(position, layout)
     }
 
+    #[inline(always)]
     fn push_subtree_range(&mut self, root: usize, end: usize) -> Result<Range<usize>, Error> {
         self.range.push_subtree_range(root, end)
     }
 
+    #[inline(always)]
     fn pop_subtree_range(&mut self, range: Range<usize>) -> Result<(), Error> {
         self.range.pop_subtree_range(range)
     }

@@ -18,6 +18,7 @@ use crate::format::bytes::{
 use crate::format::expr::{IntegerKind, Key, Kind};
 
 // The number in the byte at `p`.
+#[inline(always)]
 fn read_u8(bytes: &[u8], p: usize) -> u8
     requires { p + 1 ≤ length bytes.now }
     ensures { result ≡ from_le_bytes w8 (bytes_at bytes.now p 1) }
@@ -28,6 +29,7 @@ fn read_u8(bytes: &[u8], p: usize) -> u8
 }
 
 // The signed number in the byte at `p`.
+#[inline(always)]
 fn read_i8(bytes: &[u8], p: usize) -> i8
     requires { p + 1 ≤ length bytes.now }
     ensures { result ≡ cast_signed w8 (from_le_bytes w8 (bytes_at bytes.now p 1)) }
@@ -38,6 +40,7 @@ fn read_i8(bytes: &[u8], p: usize) -> i8
 }
 
 // The signed number in the two bytes at `p`.
+#[inline(always)]
 fn read_i16(bytes: &[u8], p: usize) -> i16
     requires { p + 2 ≤ length bytes.now }
     ensures { result ≡ cast_signed w16 (from_le_bytes w16 (bytes_at bytes.now p 2)) }
@@ -48,6 +51,7 @@ fn read_i16(bytes: &[u8], p: usize) -> i16
 }
 
 // The signed number in the eight bytes at `p`.
+#[inline(always)]
 fn read_i64(bytes: &[u8], p: usize) -> i64
     requires { p + 8 ≤ length bytes.now }
     ensures { result ≡ cast_signed w64 (from_le_bytes w64 (bytes_at bytes.now p 8)) }
@@ -58,6 +62,7 @@ fn read_i64(bytes: &[u8], p: usize) -> i64
 }
 
 // The signed number in the sixteen bytes at `p`.
+#[inline(always)]
 fn read_i128(bytes: &[u8], p: usize) -> i128
     requires { p + 16 ≤ length bytes.now }
     ensures { result ≡ cast_signed w128 (from_le_bytes w128 (bytes_at bytes.now p 16)) }
@@ -68,6 +73,7 @@ fn read_i128(bytes: &[u8], p: usize) -> i128
 }
 
 // Whether the number at `first` is below the one at `second`.
+#[inline(always)]
 fn numbers_ascend(integer: IntegerKind, bytes: &[u8], first: usize, second: usize) -> bool
     requires front { first + byte_len (integer_of integer).1 ≤ length bytes.now }
     requires back { second + byte_len (integer_of integer).1 ≤ length bytes.now }
@@ -90,6 +96,7 @@ fn numbers_ascend(integer: IntegerKind, bytes: &[u8], first: usize, second: usiz
 }
 
 // Whether the leaf at `first` is below the one at `second`, by their values.
+#[inline(always)]
 fn leaves_ascend(kind: Kind, bytes: &[u8], first: usize, second: usize) -> bool
     requires front { first + kind_size (kind_of kind) ≤ length bytes.now }
     requires back { second + kind_size (kind_of kind) ≤ length bytes.now }
@@ -108,6 +115,7 @@ fn leaves_ascend(kind: Kind, bytes: &[u8], first: usize, second: usize) -> bool
 }
 
 // As many of the `n` bytes at `p` as lie in the buffer.
+#[inline(always)]
 fn bytes_within(bytes: &[u8], p: usize, n: usize) -> &[u8]
     ensures { result.now ≡ bytes_at bytes.now p n }
 {
@@ -117,6 +125,7 @@ fn bytes_within(bytes: &[u8], p: usize, n: usize) -> &[u8]
 }
 
 // The text that the out-of-line string at `p` leads to, as much of it as lies in the buffer.
+#[inline(always)]
 fn text_elsewhere(bytes: &[u8], p: usize) -> &[u8]
     requires { p + 8 ≤ length bytes.now }
     ensures { result.now ≡ bytes_at bytes.now (target_from bytes.now p (p + 4)) (decoded_length (u32_at bytes.now p)) }
@@ -131,6 +140,7 @@ fn text_elsewhere(bytes: &[u8], p: usize) -> &[u8]
 
 /// The text of the string at `p`, wherever it stands: as much of it as lies in the buffer. Asks that the string's eight bytes do. It isn't tested to be
 /// UTF-8.
+#[inline(always)]
 pub fn key_text(bytes: &[u8], p: usize) -> &[u8]
     requires { p + 8 ≤ length bytes.now }
     ensures { result.now ≡ string_text bytes.now p }
@@ -164,6 +174,7 @@ impl Key {
 
     /// Whether the key at `first` is below the one at `second`: leaves by their values, strings by the bytes of their texts. Asks that both lie in the
     /// buffer.
+    #[inline(always)]
     pub fn ascends(self, bytes: &[u8], first: usize, second: usize) -> bool
         requires front { first + key_size (key_of self) ≤ length bytes.now }
         requires back { second + key_size (key_of self) ≤ length bytes.now }
@@ -176,6 +187,7 @@ impl Key {
     }
 
     /// Whether the key at `at` comes behind the one at `before`, if there is one. Asks that both lie in the buffer.
+    #[inline(always)]
     pub fn comes_behind(self, bytes: &[u8], before: Option<usize>, at: usize) -> bool
         requires front { IfSome before (λ p. p + key_size (key_of self) ≤ length bytes.now) }
         requires back { at + key_size (key_of self) ≤ length bytes.now }

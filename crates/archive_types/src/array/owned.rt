@@ -91,6 +91,7 @@ impl<T: Archive, const N: usize> Archive for OwnedArray<T, N> {
 
     ghost planned = { array_planned N T.Archived.definitions T.Archived.shape T.keys T.meaning T.planned };
 
+    #[inline(always)]
     fn resolve(
         &self,
         resolver: Vec<T::Resolver>,
@@ -124,6 +125,7 @@ impl<T: Archive, const N: usize> Archive for OwnedArray<T, N> {
 impl<T: Serialize<S>, S: Writer + ResolverAlloc<Alloc = Global>, const N: usize> Serialize<S>
     for OwnedArray<T, N> {
     /// Writes what each element owns, in order. Memory for their resolvers comes from the serializer's allocator, the global one.
+    #[inline(always)]
     fn serialize(&self, serializer: &mut S) -> Result<Vec<T::Resolver>, Error> {
         let alloc = serializer.resolver_alloc();
         serialize_each(alloc, self.as_slice(), serializer)

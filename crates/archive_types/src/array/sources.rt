@@ -18,6 +18,7 @@ use archive_write::ser::{ResolverAlloc, Writer};
 use std::alloc::Global;
 
 // Resolves each of the values, in order, over the bytes of all of them, which stand at `pos`. Asks for zeros there, and for a resolver of each value.
+#[inline(always)]
 pub(super) fn resolve_elements<T: Archive>(
     values: &[T],
     resolvers: Vec<T::Resolver>,
@@ -106,6 +107,7 @@ impl<T: Archive, const N: usize> Archive for [T; N] {
 
     ghost planned = { array_planned N T.Archived.definitions T.Archived.shape T.keys T.meaning T.planned };
 
+    #[inline(always)]
     fn resolve(
         &self,
         resolver: Vec<T::Resolver>,
@@ -144,6 +146,7 @@ impl<T: Archive, const N: usize> Archive for [T; N] {
 impl<T: Serialize<S>, S: Writer + ResolverAlloc<Alloc = Global>, const N: usize> Serialize<S>
     for [T; N] {
     /// Writes what each element owns, in order. Memory for their resolvers comes from the serializer's allocator, the global one.
+    #[inline(always)]
     fn serialize(&self, serializer: &mut S) -> Result<Vec<T::Resolver>, Error> {
         let alloc = serializer.resolver_alloc();
         serialize_each(alloc, self, serializer)

@@ -25,12 +25,14 @@ impl<T: Archive, const N: usize> ArchiveUnsized for [T; N] {
 
     ghost planned = { λ v. one_planned _ _ _ _ (array_planned N T.Archived.definitions T.Archived.shape T.keys T.meaning T.planned v) };
 
+    #[inline(always)]
     fn archived_metadata(&self) -> Result<(), Error> {
         Ok(())
     }
 }
 
 impl<T: Serialize<S>, S: Writer + ResolverAlloc, const N: usize> SerializeUnsized<S> for [T; N] {
+    #[inline(always)]
     fn serialize_unsized(&self, serializer: &mut S) -> Result<usize, Error> {
         serialize_in_turn(self, serializer)
     }
@@ -51,6 +53,7 @@ impl<T: Archive, const N: usize> ArchiveUnsized for OwnedArray<T, N> {
 
     ghost planned = { λ v. one_planned _ _ _ _ (array_planned N T.Archived.definitions T.Archived.shape T.keys T.meaning T.planned v) };
 
+    #[inline(always)]
     fn archived_metadata(&self) -> Result<(), Error> {
         Ok(())
     }
@@ -58,6 +61,7 @@ impl<T: Archive, const N: usize> ArchiveUnsized for OwnedArray<T, N> {
 
 impl<T: Serialize<S>, S: Writer + ResolverAlloc, const N: usize> SerializeUnsized<S>
     for OwnedArray<T, N> {
+    #[inline(always)]
     fn serialize_unsized(&self, serializer: &mut S) -> Result<usize, Error> {
         serialize_in_turn(self.as_slice(), serializer)
     }

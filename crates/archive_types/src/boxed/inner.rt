@@ -30,6 +30,7 @@ use std::alloc::Allocator;
 /// - `PositionTooLarge`: the region lies above 4,294,967,295.
 /// - `LayoutTooLarge`: it would end above `usize::MAX`.
 /// - those of the value's `resolve`, of memory and of the writer.
+#[inline(always)]
 pub fn serialize_inner<S: Writer + ResolverAlloc, T: Archive>(
     value: &T,
     resolver: T::Resolver,
@@ -43,6 +44,7 @@ pub fn serialize_inner<S: Writer + ResolverAlloc, T: Archive>(
 }
 
 // The same with memory for a large region from `alloc`.
+#[inline(always)]
 fn write_inner<A: Allocator + Drop, S: Writer, T: Archive>(
     alloc: A,
     value: &T,
@@ -62,6 +64,7 @@ fn write_inner<A: Allocator + Drop, S: Writer, T: Archive>(
 /// the tag, and the box four bytes behind it. The caller must ensure that there are at least eight
 /// zeros, whose end fits `usize`. Fails with `IsizeOverflow` or `OffsetOverflow` if the offset
 /// doesn't fit. Our own.
+#[inline(always)]
 pub fn resolve_inner<T: Portable>(
     tag: u8,
     resolver: BoxResolver,
@@ -84,6 +87,7 @@ pub fn resolve_inner<T: Portable>(
 }
 
 // Writes a box of one value over four bytes that stand at `pos`.
+#[inline(always)]
 fn resolve_box<T: Portable>(
     resolver: BoxResolver,
     pos: usize,

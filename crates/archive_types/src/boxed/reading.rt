@@ -16,6 +16,7 @@ use std::alloc::Global;
 
 impl<T: PortablePointee + Deserialize<U, D>, U: Archive + Drop, D: Entries> Deserialize<Box<U>, D>
     for ArchivedBox<T> {
+    #[inline(always)]
     fn deserialize_part(
         alloc: Global,
         part: RawView<'_>,

@@ -74,6 +74,7 @@ impl<T: Archive> Archive for BoxSlice<T> {
     ghost planned = { λ b. box_planned T.Archived.definitions (run T.Archived.shape) (length b.items.items) (each_keys T.keys b.items.items) (list (each_meaning T.meaning b.items.items))
         (slice_planned T.Archived.definitions T.Archived.shape T.keys T.meaning T.planned b.items.items) };
 
+    #[inline(always)]
     fn resolve(
         &self,
         resolver: BoxResolver,
@@ -115,6 +116,7 @@ impl<S: Writer + ResolverAlloc, T: Serialize<S>> Serialize<S> for BoxSlice<T> {
     /// elements, with `PositionTooLarge` if they lie above 4,294,967,295, and else as
     /// `serialize_unsized` of a `Slice` does.
     #[tactic(auto, using(crate::proofs::Planning::Owners::serialized_box, crate::proofs::Planning::Owners::box_refused, crate::proofs::Planning::Owners::far_box_refused))]
+    #[inline(always)]
     fn serialize(&self, serializer: &mut S) -> Result<BoxResolver, Error>
         ensures outcome { Serializes ⟦<Self as Archive>⟧ ⟦<Self::Archived as Portable>⟧ self.now S.Keys serializer
             result }
@@ -146,12 +148,14 @@ impl<T: Archive> ArchiveUnsized for BoxSlice<T> {
         (box_planned T.Archived.definitions (run T.Archived.shape) (length b.items.items) (each_keys T.keys b.items.items) (list (each_meaning T.meaning b.items.items))
         (slice_planned T.Archived.definitions T.Archived.shape T.keys T.meaning T.planned b.items.items)) };
 
+    #[inline(always)]
     fn archived_metadata(&self) -> Result<(), Error> {
         Ok(())
     }
 }
 
 impl<S: Writer + ResolverAlloc, T: Serialize<S>> SerializeUnsized<S> for BoxSlice<T> {
+    #[inline(always)]
     fn serialize_unsized(&self, serializer: &mut S) -> Result<usize, Error> {
         serialize_one(self, serializer)
     }
@@ -193,6 +197,7 @@ impl Archive for BoxStr {
 
     ghost planned = { λ b. box_planned no_definition text_pointee (length (string_bytes b.text)) [] (text_value (string_bytes b.text)) (text_planned no_definition [] (string_bytes b.text)) };
 
+    #[inline(always)]
     fn resolve(
         &self,
         resolver: BoxResolver,
@@ -233,6 +238,7 @@ impl<S: Writer + ResolverAlloc> Serialize<S> for BoxStr {
     /// written, exactly if it is longer than 4,294,967,295 bytes, with `PositionTooLarge` if it
     /// lies above 4,294,967,295, and else as the writer does.
     #[tactic(auto, using(crate::proofs::Planning::Owners::serialized_box, crate::proofs::Planning::Owners::box_refused, crate::proofs::Planning::Owners::far_box_refused))]
+    #[inline(always)]
     fn serialize(&self, serializer: &mut S) -> Result<BoxResolver, Error>
         ensures outcome { Serializes ⟦<Self as Archive>⟧ ⟦<Self::Archived as Portable>⟧ self.now S.Keys serializer
             result }
@@ -264,12 +270,14 @@ impl ArchiveUnsized for BoxStr {
     ghost planned = { λ b. one_planned no_definition (boxed text_pointee) [] (box (text_value (string_bytes b.text)))
         (box_planned no_definition text_pointee (length (string_bytes b.text)) [] (text_value (string_bytes b.text)) (text_planned no_definition [] (string_bytes b.text))) };
 
+    #[inline(always)]
     fn archived_metadata(&self) -> Result<(), Error> {
         Ok(())
     }
 }
 
 impl<S: Writer + ResolverAlloc> SerializeUnsized<S> for BoxStr {
+    #[inline(always)]
     fn serialize_unsized(&self, serializer: &mut S) -> Result<usize, Error> {
         serialize_one(self, serializer)
     }

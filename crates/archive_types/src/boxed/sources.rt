@@ -49,6 +49,7 @@ impl Model for BoxResolver {
 impl BoxResolver {
     /// The resolver of a box of what is at `pos`, in bytes from the first one. The caller must
     /// ensure that it fits 32 bits. As in rkyv 0.8.18, where it may be any.
+    #[inline(always)]
     pub fn from_pos(pos: usize) -> BoxResolver
         requires { pos ≤ 4294967295 }
         ensures { result ≡ pos }
@@ -62,6 +63,7 @@ impl<T: PortablePointee> ArchivedBox<T> {
     /// `PositionTooLarge` if the region lies above 4,294,967,295, and as `serialize_unsized` of
     /// `value` does.
     #[tactic(auto, using(crate::proofs::Planning::Owners::serialized_box, crate::proofs::Planning::Owners::box_refused, crate::proofs::Planning::Owners::far_box_refused))]
+    #[inline(always)]
     pub fn serialize_from_ref<S: Writer, U: SerializeUnsized<S, Archived = T>>(
         value: &U,
         serializer: &mut S,
@@ -79,6 +81,7 @@ impl<T: PortablePointee> ArchivedBox<T> {
     /// is one value. Fails with `IsizeOverflow` or `OffsetOverflow` exactly if the offset doesn't
     /// fit; they are then unchanged. rkyv 0.8.18 takes the pointer's metadata, and panics there.
     #[tactic(auto, using(crate::proofs::Writing::OwnersWritten::resolves_box, crate::proofs::Writing::OwnersWritten::box_hindered_at))]
+    #[inline(always)]
     pub fn resolve_from_raw_parts(
         resolver: BoxResolver,
         count: FixedUsize,
@@ -97,6 +100,7 @@ impl<T: PortablePointee> ArchivedBox<T> {
 
     /// The same with the length of `value`. Fails with `LengthTooLarge` exactly if that is above
     /// 4,294,967,295.
+    #[inline(always)]
     pub fn resolve_from_ref<U: ArchiveUnsized<Archived = T>>(
         value: &U,
         resolver: BoxResolver,
@@ -137,6 +141,7 @@ impl<T: Archive> Archive for Box<T> {
 
     ghost planned = { λ b. boxed_one_planned T.Archived.definitions T.Archived.pointee T.Archived.shape T.Archived.is_one (T.keys b.value) (T.meaning b.value) (T.planned b.value) };
 
+    #[inline(always)]
     fn resolve(
         &self,
         resolver: BoxResolver,
@@ -173,6 +178,7 @@ impl<S: Writer + ResolverAlloc, T: Serialize<S>> Serialize<S> for Box<T> {
     /// `PositionTooLarge` if it lies above 4,294,967,295, with `LayoutTooLarge` if it would end
     /// above `usize::MAX`, as the value does, and as the trait says it.
     #[tactic(auto, using(crate::proofs::Planning::Owners::serialized_boxed_one, crate::proofs::Planning::Owners::boxed_one_refused, crate::proofs::Planning::Owners::far_boxed_one_refused))]
+    #[inline(always)]
     fn serialize(&self, serializer: &mut S) -> Result<BoxResolver, Error> {
         let pos = serialize_one(&**self, serializer)?;
         let pos = position_of(pos)?;
@@ -197,12 +203,14 @@ impl<T: Archive> ArchiveUnsized for Box<T> {
     ghost planned = { λ b. one_planned T.Archived.definitions (boxed T.Archived.pointee) (T.keys b.value) (box (T.meaning b.value))
         (boxed_one_planned T.Archived.definitions T.Archived.pointee T.Archived.shape T.Archived.is_one (T.keys b.value) (T.meaning b.value) (T.planned b.value)) };
 
+    #[inline(always)]
     fn archived_metadata(&self) -> Result<(), Error> {
         Ok(())
     }
 }
 
 impl<S: Writer + ResolverAlloc, T: Serialize<S>> SerializeUnsized<S> for Box<T> {
+    #[inline(always)]
     fn serialize_unsized(&self, serializer: &mut S) -> Result<usize, Error> {
         serialize_one(self, serializer)
     }

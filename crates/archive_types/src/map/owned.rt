@@ -46,6 +46,7 @@ impl<'a, A: Archive, B> PartOf<Entry<'a, A, B>> for Part0 {
 
     ghost part = { λ e. e.key.now };
 
+    #[inline(always)]
     fn part_of<'b>(whole: &'b Entry<'a, A, B>) -> &'b A {
         whole.key
     }
@@ -56,6 +57,7 @@ impl<'a, A, B: Archive> PartOf<Entry<'a, A, B>> for Part1 {
 
     ghost part = { λ e. e.value.now };
 
+    #[inline(always)]
     fn part_of<'b>(whole: &'b Entry<'a, A, B>) -> &'b B {
         whole.value
     }
@@ -83,6 +85,7 @@ impl<'a, A: Archive, B: Archive> Archive for Entry<'a, A, B> {
 
     ghost planned = { λ e. product_planned _ _ _ _ (part_planned _ _ _ _ (A.planned e.key.now) (part_planned _ _ _ _ (B.planned e.value.now) no_part_planned)) };
 
+    #[inline(always)]
     fn resolve(
         &self,
         resolver: (A::Resolver, (B::Resolver, ())),
@@ -113,6 +116,7 @@ impl<'a, A: Archive, B: Archive> Archive for Entry<'a, A, B> {
 }
 
 impl<'a, A: Serialize<S>, B: Serialize<S>, S: Writer + Keys> Serialize<S> for Entry<'a, A, B> {
+    #[inline(always)]
     fn serialize(&self, serializer: &mut S) -> Result<(A::Resolver, (B::Resolver, ())), Error> {
         serialize_record::<Self, EntryParts, Self::Archived, S>(self, serializer)
     }
@@ -239,6 +243,7 @@ where
         (map_of_pairs_planned K.keys V.keys K.meaning V.meaning K.Archived.definitions V.Archived.definitions K.Archived.shape V.Archived.shape
         K.planned V.planned K.Archived.key K.Archived.is_key m.entries) };
 
+    #[inline(always)]
     fn archived_metadata(&self) -> Result<(), Error> {
         Ok(())
     }
@@ -249,6 +254,7 @@ impl<S: Writer + ResolverAlloc, K: SortedKey + Serialize<S>, V: Serialize<S>> Se
 where
     K::Archived: MapKey,
 {
+    #[inline(always)]
     fn serialize_unsized(&self, serializer: &mut S) -> Result<usize, Error> {
         serialize_one(self, serializer)
     }

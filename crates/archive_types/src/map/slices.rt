@@ -142,6 +142,7 @@ where
         V.Archived.definitions K.Archived.shape V.Archived.shape K.planned V.planned K.Archived.key
         K.Archived.is_key s.entries.now) };
 
+    #[inline(always)]
     fn archived_metadata(&self) -> Result<(), Error> {
         Ok(())
     }
@@ -153,6 +154,7 @@ impl<'a, S: Writer + ResolverAlloc, K: SortedKey + Serialize<S>, V: Serialize<S>
 where
     K::Archived: MapKey,
 {
+    #[inline(always)]
     fn serialize_unsized(&self, serializer: &mut S) -> Result<usize, Error> {
         serialize_one(self, serializer)
     }

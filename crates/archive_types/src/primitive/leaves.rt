@@ -205,6 +205,7 @@ impl<L: Leaf> ArchiveUnsized for L {
     ghost planned = { λ n. pointee_planned L.LeafFormat.definitions L.LeafFormat.pointee L.LeafFormat.shape L.LeafFormat.is_one [] (number (L.leaf_number n))
         (leaf_planned L.LeafFormat.definitions L.LeafFormat.shape L.leaf_kind [] (L.leaf_number n) L.leaf_shape) };
 
+    #[inline(always)]
     fn archived_metadata(&self) -> Result<ArchivedMetadata<L>, Error> {
         Ok(L::leaf_metadata())
     }
@@ -212,6 +213,7 @@ impl<L: Leaf> ArchiveUnsized for L {
 
 impl<L: Leaf, S: Writer + ResolverAlloc> SerializeUnsized<S> for L {
     #[tactic(auto, using(crate::proofs::Planning::Owners::serialized_pointee, crate::proofs::Planning::Owners::pointee_refused))]
+    #[inline(always)]
     fn serialize_unsized(&self, serializer: &mut S) -> Result<usize, Error> {
         serialize_one(self, serializer)
     }

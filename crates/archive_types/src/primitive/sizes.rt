@@ -55,6 +55,7 @@ impl Archive for usize {
     ghost planned = { λ n. leaf_planned no_definition (leaf (number unsigned w32)) (number unsigned w32) [] (pos n) refl };
 
     #[tactic(auto, using(crate::proofs::Writing::Resolving::resolves_usize))]
+    #[inline(always)]
     fn resolve(&self, _resolver: (), place: Place<'_, ArchivedUsize>) -> Result<(), Error>
         requires zeroed { ZeroedPlace 4 place.pos place.bytes.now }
         requires same_value { self.now < 2 ^ 32 }
@@ -87,6 +88,7 @@ impl<S: Writer + Keys> Serialize<S> for usize {
     /// Writes nothing. Fails with `NumberTooLarge` exactly if the number doesn't fit 32 bits
     /// without a sign. rkyv 0.8.18 truncates it.
     #[tactic(auto, using(crate::proofs::Planning::Causes::goes_nowhere, crate::proofs::Planning::Planned::usize_refused))]
+    #[inline(always)]
     fn serialize(&self, _serializer: &mut S) -> Result<(), Error>
         ensures outcome { Serializes ⟦<Self as Archive>⟧ ⟦<Self::Archived as Portable>⟧ self.now S.Keys
             _serializer result }
@@ -116,12 +118,14 @@ impl ArchiveUnsized for usize {
 
     ghost planned = { λ n. one_planned no_definition (leaf (number unsigned w32)) [] (number_value (pos n)) (leaf_planned no_definition (leaf (number unsigned w32)) (number unsigned w32) [] (pos n) refl) };
 
+    #[inline(always)]
     fn archived_metadata(&self) -> Result<(), Error> {
         Ok(())
     }
 }
 
 impl<S: Writer + ResolverAlloc> SerializeUnsized<S> for usize {
+    #[inline(always)]
     fn serialize_unsized(&self, serializer: &mut S) -> Result<usize, Error> {
         serialize_one(self, serializer)
     }
@@ -164,6 +168,7 @@ impl Archive for isize {
     ghost planned = { λ n. leaf_planned no_definition (leaf (number signed w32)) (number signed w32) [] n refl };
 
     #[tactic(auto, using(crate::proofs::Writing::Resolving::resolves_isize))]
+    #[inline(always)]
     fn resolve(&self, _resolver: (), place: Place<'_, ArchivedIsize>) -> Result<(), Error>
         requires zeroed { ZeroedPlace 4 place.pos place.bytes.now }
         requires same_value { FitsSigned w32 self.now }
@@ -196,6 +201,7 @@ impl<S: Writer + Keys> Serialize<S> for isize {
     /// Writes nothing. Fails with `NumberTooLarge` exactly if the number doesn't fit 32 bits with a
     /// sign. rkyv 0.8.18 truncates it.
     #[tactic(auto, using(crate::proofs::Planning::Causes::goes_nowhere, crate::proofs::Planning::Planned::isize_refused))]
+    #[inline(always)]
     fn serialize(&self, _serializer: &mut S) -> Result<(), Error>
         ensures outcome { Serializes ⟦<Self as Archive>⟧ ⟦<Self::Archived as Portable>⟧ self.now S.Keys
             _serializer result }
@@ -225,12 +231,14 @@ impl ArchiveUnsized for isize {
 
     ghost planned = { λ n. one_planned no_definition (leaf (number signed w32)) [] (number_value n) (leaf_planned no_definition (leaf (number signed w32)) (number signed w32) [] n refl) };
 
+    #[inline(always)]
     fn archived_metadata(&self) -> Result<(), Error> {
         Ok(())
     }
 }
 
 impl<S: Writer + ResolverAlloc> SerializeUnsized<S> for isize {
+    #[inline(always)]
     fn serialize_unsized(&self, serializer: &mut S) -> Result<usize, Error> {
         serialize_one(self, serializer)
     }

@@ -13,6 +13,7 @@ use crate::ser::run_fits;
 use crate::traits::{Copied, CopiedSource, Keys};
 use archive_check::format::error::Error;
 use archive_write::ser::{Writer, WriterExt};
+use core::mem::replace_with;
 
 /// As many bytes as are written at once, at most, and as a value has that is copied.
 pub(crate) const PIECE: usize = 1024;
@@ -140,8 +141,8 @@ fn copy_blocks<W: Writer, T: Copied, const N: usize>(values: &[T], writer: &mut 
     done
 }
 
-// Writes as many of the values by blocks as the writer has the room for at hand; answers how many. It stands apart, so that its callers stay small.
-#[inline(never)]
+// Writes as many of the values by blocks as the writer has the room for at hand; answers how many.
+#[inline(always)]
 fn copy_at_once<W: Writer, T: Copied>(values: &[T], writer: &mut W) -> usize
     ensures within { result ≤ length values.now }
     ensures copied { BytesAdded (each_bytes T.copied_bytes (take result values.now)) W.Keys writer }
@@ -151,6 +152,20 @@ fn copy_at_once<W: Writer, T: Copied>(values: &[T], writer: &mut W) -> usize
 {
     let large = copy_blocks::<W, T, LARGE_BLOCK>(values, writer);
     large + copy_blocks::<W, T, BLOCK>(&values[large..], writer)
+}
+
+// The writer behind them, and how many they are. It stands apart, so that its callers stay small, and takes the writer itself: one that is lent to a call
+// lies in memory.
+#[inline(never)]
+fn with_blocks<W: Writer, T: Copied>(mut writer: W, values: &[T]) -> (W, usize)
+    ensures within { result.1 ≤ length values.now }
+    ensures copied { (W.state result.0).bytes ≡ (W.state writer).bytes ++ each_bytes T.copied_bytes (take result.1 values.now) }
+    ensures read { EachCopiedAs T.CopiedAs.Portable T.copied_meaning T.copied_bytes (take result.1 values.now) }
+    ensures goes_on { GoesOn (W.state writer) (W.state result.0) }
+    ensures keys { KeepsKeys (W.state writer).states (W.state result.0).states }
+{
+    let done = copy_at_once(values, &mut writer);
+    (writer, done)
 }
 
 // The same of values that may be written one by one, where they have as many bytes as a block; else nothing is written.
@@ -169,7 +184,7 @@ fn copy_first<W: Writer, T: Copied>(
     ensures keys { KeepsKeys (W.state writer.old).states (W.state writer.new).states }
 {
     if together == 1 && BLOCK <= values.len() * size {
-        return copy_at_once(values, writer);
+        return replace_with(writer, values, with_blocks::<W, T>);
     }
     0
 }

@@ -43,6 +43,7 @@ where
 
     ghost planned = { whole_planned ⟦<Parts8 as SourceParts<Self>>⟧.keys ⟦<Parts8 as SourceParts<Self>>⟧.meanings (Prim.search rules) };
 
+    #[inline(always)]
     fn resolve(
         &self,
         resolver: Self::Resolver,
@@ -76,6 +77,7 @@ impl<A, B, C, D, E, F, G, H, S: Writer + Keys> Serialize<S> for (A, B, C, D, E, 
 where
     Parts8: SerializeParts<Self, S>,
 {
+    #[inline(always)]
     fn serialize(&self, serializer: &mut S) -> Result<Self::Resolver, Error> {
         serialize_record::<Self, Parts8, Self::Archived, S>(self, serializer)
     }
@@ -100,6 +102,7 @@ where
 
     ghost planned = { λ v. one_planned _ _ _ _ (whole_planned ⟦<Parts8 as SourceParts<Self>>⟧.keys ⟦<Parts8 as SourceParts<Self>>⟧.meanings (Prim.search rules) v) };
 
+    #[inline(always)]
     fn archived_metadata(&self) -> Result<(), Error> {
         Ok(())
     }
@@ -110,6 +113,7 @@ impl<A, B, C, D, E, F, G, H, S: Writer + ResolverAlloc> SerializeUnsized<S>
 where
     Parts8: SerializeParts<Self, S>,
 {
+    #[inline(always)]
     fn serialize_unsized(&self, serializer: &mut S) -> Result<usize, Error> {
         serialize_one(self, serializer)
     }
@@ -152,6 +156,7 @@ impl<A: Archive, B, C, D, E, F, G, H> PartOf<(A, B, C, D, E, F, G, H)> for Part0
 
     ghost part = { λ v. v.0 };
 
+    #[inline(always)]
     fn part_of(whole: &(A, B, C, D, E, F, G, H)) -> &A {
         &whole.0
     }
@@ -162,6 +167,7 @@ impl<A, B: Archive, C, D, E, F, G, H> PartOf<(A, B, C, D, E, F, G, H)> for Part1
 
     ghost part = { λ v. v.1 };
 
+    #[inline(always)]
     fn part_of(whole: &(A, B, C, D, E, F, G, H)) -> &B {
         &whole.1
     }
@@ -172,6 +178,7 @@ impl<A, B, C: Archive, D, E, F, G, H> PartOf<(A, B, C, D, E, F, G, H)> for Part2
 
     ghost part = { λ v. v.2 };
 
+    #[inline(always)]
     fn part_of(whole: &(A, B, C, D, E, F, G, H)) -> &C {
         &whole.2
     }
@@ -182,6 +189,7 @@ impl<A, B, C, D: Archive, E, F, G, H> PartOf<(A, B, C, D, E, F, G, H)> for Part3
 
     ghost part = { λ v. v.3 };
 
+    #[inline(always)]
     fn part_of(whole: &(A, B, C, D, E, F, G, H)) -> &D {
         &whole.3
     }
@@ -192,6 +200,7 @@ impl<A, B, C, D, E: Archive, F, G, H> PartOf<(A, B, C, D, E, F, G, H)> for Part4
 
     ghost part = { λ v. v.4 };
 
+    #[inline(always)]
     fn part_of(whole: &(A, B, C, D, E, F, G, H)) -> &E {
         &whole.4
     }
@@ -202,6 +211,7 @@ impl<A, B, C, D, E, F: Archive, G, H> PartOf<(A, B, C, D, E, F, G, H)> for Part5
 
     ghost part = { λ v. v.5 };
 
+    #[inline(always)]
     fn part_of(whole: &(A, B, C, D, E, F, G, H)) -> &F {
         &whole.5
     }
@@ -212,6 +222,7 @@ impl<A, B, C, D, E, F, G: Archive, H> PartOf<(A, B, C, D, E, F, G, H)> for Part6
 
     ghost part = { λ v. v.6 };
 
+    #[inline(always)]
     fn part_of(whole: &(A, B, C, D, E, F, G, H)) -> &G {
         &whole.6
     }
@@ -222,6 +233,7 @@ impl<A, B, C, D, E, F, G, H: Archive> PartOf<(A, B, C, D, E, F, G, H)> for Part7
 
     ghost part = { λ v. v.7 };
 
+    #[inline(always)]
     fn part_of(whole: &(A, B, C, D, E, F, G, H)) -> &H {
         &whole.7
     }

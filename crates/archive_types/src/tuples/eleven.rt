@@ -45,6 +45,7 @@ where
 
     ghost planned = { whole_planned ⟦<Parts11 as SourceParts<Self>>⟧.keys ⟦<Parts11 as SourceParts<Self>>⟧.meanings (Prim.search rules) };
 
+    #[inline(always)]
     fn resolve(
         &self,
         resolver: Self::Resolver,
@@ -79,6 +80,7 @@ impl<A, B, C, D, E, F, G, H, I, J, K, S: Writer + Keys> Serialize<S>
 where
     Parts11: SerializeParts<Self, S>,
 {
+    #[inline(always)]
     fn serialize(&self, serializer: &mut S) -> Result<Self::Resolver, Error> {
         serialize_record::<Self, Parts11, Self::Archived, S>(self, serializer)
     }
@@ -103,6 +105,7 @@ where
 
     ghost planned = { λ v. one_planned _ _ _ _ (whole_planned ⟦<Parts11 as SourceParts<Self>>⟧.keys ⟦<Parts11 as SourceParts<Self>>⟧.meanings (Prim.search rules) v) };
 
+    #[inline(always)]
     fn archived_metadata(&self) -> Result<(), Error> {
         Ok(())
     }
@@ -113,6 +116,7 @@ impl<A, B, C, D, E, F, G, H, I, J, K, S: Writer + ResolverAlloc> SerializeUnsize
 where
     Parts11: SerializeParts<Self, S>,
 {
+    #[inline(always)]
     fn serialize_unsized(&self, serializer: &mut S) -> Result<usize, Error> {
         serialize_one(self, serializer)
     }
@@ -158,6 +162,7 @@ impl<A: Archive, B, C, D, E, F, G, H, I, J, K> PartOf<(A, B, C, D, E, F, G, H, I
 
     ghost part = { λ v. v.0 };
 
+    #[inline(always)]
     fn part_of(whole: &(A, B, C, D, E, F, G, H, I, J, K)) -> &A {
         &whole.0
     }
@@ -168,6 +173,7 @@ impl<A, B: Archive, C, D, E, F, G, H, I, J, K> PartOf<(A, B, C, D, E, F, G, H, I
 
     ghost part = { λ v. v.1 };
 
+    #[inline(always)]
     fn part_of(whole: &(A, B, C, D, E, F, G, H, I, J, K)) -> &B {
         &whole.1
     }
@@ -178,6 +184,7 @@ impl<A, B, C: Archive, D, E, F, G, H, I, J, K> PartOf<(A, B, C, D, E, F, G, H, I
 
     ghost part = { λ v. v.2 };
 
+    #[inline(always)]
     fn part_of(whole: &(A, B, C, D, E, F, G, H, I, J, K)) -> &C {
         &whole.2
     }
@@ -188,6 +195,7 @@ impl<A, B, C, D: Archive, E, F, G, H, I, J, K> PartOf<(A, B, C, D, E, F, G, H, I
 
     ghost part = { λ v. v.3 };
 
+    #[inline(always)]
     fn part_of(whole: &(A, B, C, D, E, F, G, H, I, J, K)) -> &D {
         &whole.3
     }
@@ -198,6 +206,7 @@ impl<A, B, C, D, E: Archive, F, G, H, I, J, K> PartOf<(A, B, C, D, E, F, G, H, I
 
     ghost part = { λ v. v.4 };
 
+    #[inline(always)]
     fn part_of(whole: &(A, B, C, D, E, F, G, H, I, J, K)) -> &E {
         &whole.4
     }
@@ -208,6 +217,7 @@ impl<A, B, C, D, E, F: Archive, G, H, I, J, K> PartOf<(A, B, C, D, E, F, G, H, I
 
     ghost part = { λ v. v.5 };
 
+    #[inline(always)]
     fn part_of(whole: &(A, B, C, D, E, F, G, H, I, J, K)) -> &F {
         &whole.5
     }
@@ -218,6 +228,7 @@ impl<A, B, C, D, E, F, G: Archive, H, I, J, K> PartOf<(A, B, C, D, E, F, G, H, I
 
     ghost part = { λ v. v.6 };
 
+    #[inline(always)]
     fn part_of(whole: &(A, B, C, D, E, F, G, H, I, J, K)) -> &G {
         &whole.6
     }
@@ -228,6 +239,7 @@ impl<A, B, C, D, E, F, G, H: Archive, I, J, K> PartOf<(A, B, C, D, E, F, G, H, I
 
     ghost part = { λ v. v.7 };
 
+    #[inline(always)]
     fn part_of(whole: &(A, B, C, D, E, F, G, H, I, J, K)) -> &H {
         &whole.7
     }
@@ -238,6 +250,7 @@ impl<A, B, C, D, E, F, G, H, I: Archive, J, K> PartOf<(A, B, C, D, E, F, G, H, I
 
     ghost part = { λ v. v.8 };
 
+    #[inline(always)]
     fn part_of(whole: &(A, B, C, D, E, F, G, H, I, J, K)) -> &I {
         &whole.8
     }
@@ -248,6 +261,7 @@ impl<A, B, C, D, E, F, G, H, I, J: Archive, K> PartOf<(A, B, C, D, E, F, G, H, I
 
     ghost part = { λ v. v.9 };
 
+    #[inline(always)]
     fn part_of(whole: &(A, B, C, D, E, F, G, H, I, J, K)) -> &J {
         &whole.9
     }
@@ -259,6 +273,7 @@ impl<A, B, C, D, E, F, G, H, I, J, K: Archive> PartOf<(A, B, C, D, E, F, G, H, I
 
     ghost part = { λ v. v.10 };
 
+    #[inline(always)]
     fn part_of(whole: &(A, B, C, D, E, F, G, H, I, J, K)) -> &K {
         &whole.10
     }

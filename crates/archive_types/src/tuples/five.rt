@@ -43,6 +43,7 @@ where
 
     ghost planned = { whole_planned ⟦<Parts5 as SourceParts<Self>>⟧.keys ⟦<Parts5 as SourceParts<Self>>⟧.meanings (Prim.search rules) };
 
+    #[inline(always)]
     fn resolve(
         &self,
         resolver: Self::Resolver,
@@ -76,6 +77,7 @@ impl<A, B, C, D, E, S: Writer + Keys> Serialize<S> for (A, B, C, D, E)
 where
     Parts5: SerializeParts<Self, S>,
 {
+    #[inline(always)]
     fn serialize(&self, serializer: &mut S) -> Result<Self::Resolver, Error> {
         serialize_record::<Self, Parts5, Self::Archived, S>(self, serializer)
     }
@@ -100,6 +102,7 @@ where
 
     ghost planned = { λ v. one_planned _ _ _ _ (whole_planned ⟦<Parts5 as SourceParts<Self>>⟧.keys ⟦<Parts5 as SourceParts<Self>>⟧.meanings (Prim.search rules) v) };
 
+    #[inline(always)]
     fn archived_metadata(&self) -> Result<(), Error> {
         Ok(())
     }
@@ -109,6 +112,7 @@ impl<A, B, C, D, E, S: Writer + ResolverAlloc> SerializeUnsized<S> for (A, B, C,
 where
     Parts5: SerializeParts<Self, S>,
 {
+    #[inline(always)]
     fn serialize_unsized(&self, serializer: &mut S) -> Result<usize, Error> {
         serialize_one(self, serializer)
     }
@@ -141,6 +145,7 @@ impl<A: Archive, B, C, D, E> PartOf<(A, B, C, D, E)> for Part0 {
 
     ghost part = { λ v. v.0 };
 
+    #[inline(always)]
     fn part_of(whole: &(A, B, C, D, E)) -> &A {
         &whole.0
     }
@@ -151,6 +156,7 @@ impl<A, B: Archive, C, D, E> PartOf<(A, B, C, D, E)> for Part1 {
 
     ghost part = { λ v. v.1 };
 
+    #[inline(always)]
     fn part_of(whole: &(A, B, C, D, E)) -> &B {
         &whole.1
     }
@@ -161,6 +167,7 @@ impl<A, B, C: Archive, D, E> PartOf<(A, B, C, D, E)> for Part2 {
 
     ghost part = { λ v. v.2 };
 
+    #[inline(always)]
     fn part_of(whole: &(A, B, C, D, E)) -> &C {
         &whole.2
     }
@@ -171,6 +178,7 @@ impl<A, B, C, D: Archive, E> PartOf<(A, B, C, D, E)> for Part3 {
 
     ghost part = { λ v. v.3 };
 
+    #[inline(always)]
     fn part_of(whole: &(A, B, C, D, E)) -> &D {
         &whole.3
     }
@@ -181,6 +189,7 @@ impl<A, B, C, D, E: Archive> PartOf<(A, B, C, D, E)> for Part4 {
 
     ghost part = { λ v. v.4 };
 
+    #[inline(always)]
     fn part_of(whole: &(A, B, C, D, E)) -> &E {
         &whole.4
     }

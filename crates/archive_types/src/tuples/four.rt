@@ -43,6 +43,7 @@ where
 
     ghost planned = { whole_planned ⟦<Parts4 as SourceParts<Self>>⟧.keys ⟦<Parts4 as SourceParts<Self>>⟧.meanings (Prim.search rules) };
 
+    #[inline(always)]
     fn resolve(
         &self,
         resolver: Self::Resolver,
@@ -76,6 +77,7 @@ impl<A, B, C, D, S: Writer + Keys> Serialize<S> for (A, B, C, D)
 where
     Parts4: SerializeParts<Self, S>,
 {
+    #[inline(always)]
     fn serialize(&self, serializer: &mut S) -> Result<Self::Resolver, Error> {
         serialize_record::<Self, Parts4, Self::Archived, S>(self, serializer)
     }
@@ -100,6 +102,7 @@ where
 
     ghost planned = { λ v. one_planned _ _ _ _ (whole_planned ⟦<Parts4 as SourceParts<Self>>⟧.keys ⟦<Parts4 as SourceParts<Self>>⟧.meanings (Prim.search rules) v) };
 
+    #[inline(always)]
     fn archived_metadata(&self) -> Result<(), Error> {
         Ok(())
     }
@@ -109,6 +112,7 @@ impl<A, B, C, D, S: Writer + ResolverAlloc> SerializeUnsized<S> for (A, B, C, D)
 where
     Parts4: SerializeParts<Self, S>,
 {
+    #[inline(always)]
     fn serialize_unsized(&self, serializer: &mut S) -> Result<usize, Error> {
         serialize_one(self, serializer)
     }
@@ -136,6 +140,7 @@ impl<A: Archive, B, C, D> PartOf<(A, B, C, D)> for Part0 {
 
     ghost part = { λ v. v.0 };
 
+    #[inline(always)]
     fn part_of(whole: &(A, B, C, D)) -> &A {
         &whole.0
     }
@@ -146,6 +151,7 @@ impl<A, B: Archive, C, D> PartOf<(A, B, C, D)> for Part1 {
 
     ghost part = { λ v. v.1 };
 
+    #[inline(always)]
     fn part_of(whole: &(A, B, C, D)) -> &B {
         &whole.1
     }
@@ -156,6 +162,7 @@ impl<A, B, C: Archive, D> PartOf<(A, B, C, D)> for Part2 {
 
     ghost part = { λ v. v.2 };
 
+    #[inline(always)]
     fn part_of(whole: &(A, B, C, D)) -> &C {
         &whole.2
     }
@@ -166,6 +173,7 @@ impl<A, B, C, D: Archive> PartOf<(A, B, C, D)> for Part3 {
 
     ghost part = { λ v. v.3 };
 
+    #[inline(always)]
     fn part_of(whole: &(A, B, C, D)) -> &D {
         &whole.3
     }

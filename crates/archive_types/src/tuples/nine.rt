@@ -43,6 +43,7 @@ where
 
     ghost planned = { whole_planned ⟦<Parts9 as SourceParts<Self>>⟧.keys ⟦<Parts9 as SourceParts<Self>>⟧.meanings (Prim.search rules) };
 
+    #[inline(always)]
     fn resolve(
         &self,
         resolver: Self::Resolver,
@@ -76,6 +77,7 @@ impl<A, B, C, D, E, F, G, H, I, S: Writer + Keys> Serialize<S> for (A, B, C, D, 
 where
     Parts9: SerializeParts<Self, S>,
 {
+    #[inline(always)]
     fn serialize(&self, serializer: &mut S) -> Result<Self::Resolver, Error> {
         serialize_record::<Self, Parts9, Self::Archived, S>(self, serializer)
     }
@@ -100,6 +102,7 @@ where
 
     ghost planned = { λ v. one_planned _ _ _ _ (whole_planned ⟦<Parts9 as SourceParts<Self>>⟧.keys ⟦<Parts9 as SourceParts<Self>>⟧.meanings (Prim.search rules) v) };
 
+    #[inline(always)]
     fn archived_metadata(&self) -> Result<(), Error> {
         Ok(())
     }
@@ -110,6 +113,7 @@ impl<A, B, C, D, E, F, G, H, I, S: Writer + ResolverAlloc> SerializeUnsized<S>
 where
     Parts9: SerializeParts<Self, S>,
 {
+    #[inline(always)]
     fn serialize_unsized(&self, serializer: &mut S) -> Result<usize, Error> {
         serialize_one(self, serializer)
     }
@@ -153,6 +157,7 @@ impl<A: Archive, B, C, D, E, F, G, H, I> PartOf<(A, B, C, D, E, F, G, H, I)> for
 
     ghost part = { λ v. v.0 };
 
+    #[inline(always)]
     fn part_of(whole: &(A, B, C, D, E, F, G, H, I)) -> &A {
         &whole.0
     }
@@ -163,6 +168,7 @@ impl<A, B: Archive, C, D, E, F, G, H, I> PartOf<(A, B, C, D, E, F, G, H, I)> for
 
     ghost part = { λ v. v.1 };
 
+    #[inline(always)]
     fn part_of(whole: &(A, B, C, D, E, F, G, H, I)) -> &B {
         &whole.1
     }
@@ -173,6 +179,7 @@ impl<A, B, C: Archive, D, E, F, G, H, I> PartOf<(A, B, C, D, E, F, G, H, I)> for
 
     ghost part = { λ v. v.2 };
 
+    #[inline(always)]
     fn part_of(whole: &(A, B, C, D, E, F, G, H, I)) -> &C {
         &whole.2
     }
@@ -183,6 +190,7 @@ impl<A, B, C, D: Archive, E, F, G, H, I> PartOf<(A, B, C, D, E, F, G, H, I)> for
 
     ghost part = { λ v. v.3 };
 
+    #[inline(always)]
     fn part_of(whole: &(A, B, C, D, E, F, G, H, I)) -> &D {
         &whole.3
     }
@@ -193,6 +201,7 @@ impl<A, B, C, D, E: Archive, F, G, H, I> PartOf<(A, B, C, D, E, F, G, H, I)> for
 
     ghost part = { λ v. v.4 };
 
+    #[inline(always)]
     fn part_of(whole: &(A, B, C, D, E, F, G, H, I)) -> &E {
         &whole.4
     }
@@ -203,6 +212,7 @@ impl<A, B, C, D, E, F: Archive, G, H, I> PartOf<(A, B, C, D, E, F, G, H, I)> for
 
     ghost part = { λ v. v.5 };
 
+    #[inline(always)]
     fn part_of(whole: &(A, B, C, D, E, F, G, H, I)) -> &F {
         &whole.5
     }
@@ -213,6 +223,7 @@ impl<A, B, C, D, E, F, G: Archive, H, I> PartOf<(A, B, C, D, E, F, G, H, I)> for
 
     ghost part = { λ v. v.6 };
 
+    #[inline(always)]
     fn part_of(whole: &(A, B, C, D, E, F, G, H, I)) -> &G {
         &whole.6
     }
@@ -223,6 +234,7 @@ impl<A, B, C, D, E, F, G, H: Archive, I> PartOf<(A, B, C, D, E, F, G, H, I)> for
 
     ghost part = { λ v. v.7 };
 
+    #[inline(always)]
     fn part_of(whole: &(A, B, C, D, E, F, G, H, I)) -> &H {
         &whole.7
     }
@@ -233,6 +245,7 @@ impl<A, B, C, D, E, F, G, H, I: Archive> PartOf<(A, B, C, D, E, F, G, H, I)> for
 
     ghost part = { λ v. v.8 };
 
+    #[inline(always)]
     fn part_of(whole: &(A, B, C, D, E, F, G, H, I)) -> &I {
         &whole.8
     }

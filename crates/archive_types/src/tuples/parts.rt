@@ -122,6 +122,7 @@ impl<A: Archive> PartOf<(A,)> for Part0 {
 
     ghost part = { λ v. v.0 };
 
+    #[inline(always)]
     fn part_of(whole: &(A,)) -> &A {
         &whole.0
     }
@@ -132,6 +133,7 @@ impl<A: Archive, B> PartOf<(A, B)> for Part0 {
 
     ghost part = { λ v. v.0 };
 
+    #[inline(always)]
     fn part_of(whole: &(A, B)) -> &A {
         &whole.0
     }
@@ -142,6 +144,7 @@ impl<A, B: Archive> PartOf<(A, B)> for Part1 {
 
     ghost part = { λ v. v.1 };
 
+    #[inline(always)]
     fn part_of(whole: &(A, B)) -> &B {
         &whole.1
     }
@@ -152,6 +155,7 @@ impl<A: Archive, B, C> PartOf<(A, B, C)> for Part0 {
 
     ghost part = { λ v. v.0 };
 
+    #[inline(always)]
     fn part_of(whole: &(A, B, C)) -> &A {
         &whole.0
     }
@@ -162,6 +166,7 @@ impl<A, B: Archive, C> PartOf<(A, B, C)> for Part1 {
 
     ghost part = { λ v. v.1 };
 
+    #[inline(always)]
     fn part_of(whole: &(A, B, C)) -> &B {
         &whole.1
     }
@@ -172,6 +177,7 @@ impl<A, B, C: Archive> PartOf<(A, B, C)> for Part2 {
 
     ghost part = { λ v. v.2 };
 
+    #[inline(always)]
     fn part_of(whole: &(A, B, C)) -> &C {
         &whole.2
     }

@@ -16,6 +16,7 @@ impl<P: PortableParts, T: FromParts, D: Entries> Deserialize<T, D> for ArchivedT
 where
     P: DeserializeParts<T::Owned, D>,
 {
+    #[inline(always)]
     fn deserialize_part(alloc: Global, part: RawView<'_>, deserializer: &mut D) -> Result<T, Error>
         requires { IsPartOf ⟦<Self as ArchivePointee>⟧ part }
         ensures read { IfOk result (Read ⟦<Self as ArchivePointee>⟧ part D.Entries deserializer T.Archive) }
@@ -29,6 +30,7 @@ where
 impl<A: Archive + Drop> FromParts for (A,) {
     type Owned = (A, ());
 
+    #[inline(always)]
     fn from_parts(values: (A, ())) -> (A,) {
         let (a, ()) = values;
         (a,)
@@ -38,6 +40,7 @@ impl<A: Archive + Drop> FromParts for (A,) {
 impl<A: Archive + Drop, B: Archive + Drop> FromParts for (A, B) {
     type Owned = (A, (B, ()));
 
+    #[inline(always)]
     fn from_parts(values: (A, (B, ()))) -> (A, B) {
         let (a, (b, ())) = values;
         (a, b)
@@ -47,6 +50,7 @@ impl<A: Archive + Drop, B: Archive + Drop> FromParts for (A, B) {
 impl<A: Archive + Drop, B: Archive + Drop, C: Archive + Drop> FromParts for (A, B, C) {
     type Owned = (A, (B, (C, ())));
 
+    #[inline(always)]
     fn from_parts(values: (A, (B, (C, ())))) -> (A, B, C) {
         let (a, (b, (c, ()))) = values;
         (a, b, c)

@@ -43,6 +43,7 @@ where
 
     ghost planned = { whole_planned ⟦<Parts7 as SourceParts<Self>>⟧.keys ⟦<Parts7 as SourceParts<Self>>⟧.meanings (Prim.search rules) };
 
+    #[inline(always)]
     fn resolve(
         &self,
         resolver: Self::Resolver,
@@ -76,6 +77,7 @@ impl<A, B, C, D, E, F, G, S: Writer + Keys> Serialize<S> for (A, B, C, D, E, F, 
 where
     Parts7: SerializeParts<Self, S>,
 {
+    #[inline(always)]
     fn serialize(&self, serializer: &mut S) -> Result<Self::Resolver, Error> {
         serialize_record::<Self, Parts7, Self::Archived, S>(self, serializer)
     }
@@ -100,6 +102,7 @@ where
 
     ghost planned = { λ v. one_planned _ _ _ _ (whole_planned ⟦<Parts7 as SourceParts<Self>>⟧.keys ⟦<Parts7 as SourceParts<Self>>⟧.meanings (Prim.search rules) v) };
 
+    #[inline(always)]
     fn archived_metadata(&self) -> Result<(), Error> {
         Ok(())
     }
@@ -109,6 +112,7 @@ impl<A, B, C, D, E, F, G, S: Writer + ResolverAlloc> SerializeUnsized<S> for (A,
 where
     Parts7: SerializeParts<Self, S>,
 {
+    #[inline(always)]
     fn serialize_unsized(&self, serializer: &mut S) -> Result<usize, Error> {
         serialize_one(self, serializer)
     }
@@ -143,6 +147,7 @@ impl<A: Archive, B, C, D, E, F, G> PartOf<(A, B, C, D, E, F, G)> for Part0 {
 
     ghost part = { λ v. v.0 };
 
+    #[inline(always)]
     fn part_of(whole: &(A, B, C, D, E, F, G)) -> &A {
         &whole.0
     }
@@ -153,6 +158,7 @@ impl<A, B: Archive, C, D, E, F, G> PartOf<(A, B, C, D, E, F, G)> for Part1 {
 
     ghost part = { λ v. v.1 };
 
+    #[inline(always)]
     fn part_of(whole: &(A, B, C, D, E, F, G)) -> &B {
         &whole.1
     }
@@ -163,6 +169,7 @@ impl<A, B, C: Archive, D, E, F, G> PartOf<(A, B, C, D, E, F, G)> for Part2 {
 
     ghost part = { λ v. v.2 };
 
+    #[inline(always)]
     fn part_of(whole: &(A, B, C, D, E, F, G)) -> &C {
         &whole.2
     }
@@ -173,6 +180,7 @@ impl<A, B, C, D: Archive, E, F, G> PartOf<(A, B, C, D, E, F, G)> for Part3 {
 
     ghost part = { λ v. v.3 };
 
+    #[inline(always)]
     fn part_of(whole: &(A, B, C, D, E, F, G)) -> &D {
         &whole.3
     }
@@ -183,6 +191,7 @@ impl<A, B, C, D, E: Archive, F, G> PartOf<(A, B, C, D, E, F, G)> for Part4 {
 
     ghost part = { λ v. v.4 };
 
+    #[inline(always)]
     fn part_of(whole: &(A, B, C, D, E, F, G)) -> &E {
         &whole.4
     }
@@ -193,6 +202,7 @@ impl<A, B, C, D, E, F: Archive, G> PartOf<(A, B, C, D, E, F, G)> for Part5 {
 
     ghost part = { λ v. v.5 };
 
+    #[inline(always)]
     fn part_of(whole: &(A, B, C, D, E, F, G)) -> &F {
         &whole.5
     }
@@ -203,6 +213,7 @@ impl<A, B, C, D, E, F, G: Archive> PartOf<(A, B, C, D, E, F, G)> for Part6 {
 
     ghost part = { λ v. v.6 };
 
+    #[inline(always)]
     fn part_of(whole: &(A, B, C, D, E, F, G)) -> &G {
         &whole.6
     }

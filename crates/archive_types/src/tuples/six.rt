@@ -43,6 +43,7 @@ where
 
     ghost planned = { whole_planned ⟦<Parts6 as SourceParts<Self>>⟧.keys ⟦<Parts6 as SourceParts<Self>>⟧.meanings (Prim.search rules) };
 
+    #[inline(always)]
     fn resolve(
         &self,
         resolver: Self::Resolver,
@@ -76,6 +77,7 @@ impl<A, B, C, D, E, F, S: Writer + Keys> Serialize<S> for (A, B, C, D, E, F)
 where
     Parts6: SerializeParts<Self, S>,
 {
+    #[inline(always)]
     fn serialize(&self, serializer: &mut S) -> Result<Self::Resolver, Error> {
         serialize_record::<Self, Parts6, Self::Archived, S>(self, serializer)
     }
@@ -100,6 +102,7 @@ where
 
     ghost planned = { λ v. one_planned _ _ _ _ (whole_planned ⟦<Parts6 as SourceParts<Self>>⟧.keys ⟦<Parts6 as SourceParts<Self>>⟧.meanings (Prim.search rules) v) };
 
+    #[inline(always)]
     fn archived_metadata(&self) -> Result<(), Error> {
         Ok(())
     }
@@ -109,6 +112,7 @@ impl<A, B, C, D, E, F, S: Writer + ResolverAlloc> SerializeUnsized<S> for (A, B,
 where
     Parts6: SerializeParts<Self, S>,
 {
+    #[inline(always)]
     fn serialize_unsized(&self, serializer: &mut S) -> Result<usize, Error> {
         serialize_one(self, serializer)
     }
@@ -142,6 +146,7 @@ impl<A: Archive, B, C, D, E, F> PartOf<(A, B, C, D, E, F)> for Part0 {
 
     ghost part = { λ v. v.0 };
 
+    #[inline(always)]
     fn part_of(whole: &(A, B, C, D, E, F)) -> &A {
         &whole.0
     }
@@ -152,6 +157,7 @@ impl<A, B: Archive, C, D, E, F> PartOf<(A, B, C, D, E, F)> for Part1 {
 
     ghost part = { λ v. v.1 };
 
+    #[inline(always)]
     fn part_of(whole: &(A, B, C, D, E, F)) -> &B {
         &whole.1
     }
@@ -162,6 +168,7 @@ impl<A, B, C: Archive, D, E, F> PartOf<(A, B, C, D, E, F)> for Part2 {
 
     ghost part = { λ v. v.2 };
 
+    #[inline(always)]
     fn part_of(whole: &(A, B, C, D, E, F)) -> &C {
         &whole.2
     }
@@ -172,6 +179,7 @@ impl<A, B, C, D: Archive, E, F> PartOf<(A, B, C, D, E, F)> for Part3 {
 
     ghost part = { λ v. v.3 };
 
+    #[inline(always)]
     fn part_of(whole: &(A, B, C, D, E, F)) -> &D {
         &whole.3
     }
@@ -182,6 +190,7 @@ impl<A, B, C, D, E: Archive, F> PartOf<(A, B, C, D, E, F)> for Part4 {
 
     ghost part = { λ v. v.4 };
 
+    #[inline(always)]
     fn part_of(whole: &(A, B, C, D, E, F)) -> &E {
         &whole.4
     }
@@ -192,6 +201,7 @@ impl<A, B, C, D, E, F: Archive> PartOf<(A, B, C, D, E, F)> for Part5 {
 
     ghost part = { λ v. v.5 };
 
+    #[inline(always)]
     fn part_of(whole: &(A, B, C, D, E, F)) -> &F {
         &whole.5
     }

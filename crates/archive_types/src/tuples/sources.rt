@@ -36,6 +36,7 @@ impl<A: Archive> Archive for (A,) {
 
     ghost planned = { λ v. product_planned _ _ _ _ (part_planned _ _ _ _ (A.planned v.0) no_part_planned) };
 
+    #[inline(always)]
     fn resolve(
         &self,
         resolver: (A::Resolver, ()),
@@ -66,6 +67,7 @@ impl<A: Archive> Archive for (A,) {
 }
 
 impl<A: Serialize<S>, S: Writer + Keys> Serialize<S> for (A,) {
+    #[inline(always)]
     fn serialize(&self, serializer: &mut S) -> Result<(A::Resolver, ()), Error> {
         serialize_record::<Self, Parts1, Self::Archived, S>(self, serializer)
     }
@@ -90,6 +92,7 @@ impl<A: Archive, B: Archive> Archive for (A, B) {
 
     ghost planned = { λ v. product_planned _ _ _ _ (part_planned _ _ _ _ (A.planned v.0) (part_planned _ _ _ _ (B.planned v.1) no_part_planned)) };
 
+    #[inline(always)]
     fn resolve(
         &self,
         resolver: (A::Resolver, (B::Resolver, ())),
@@ -120,6 +123,7 @@ impl<A: Archive, B: Archive> Archive for (A, B) {
 }
 
 impl<A: Serialize<S>, B: Serialize<S>, S: Writer + Keys> Serialize<S> for (A, B) {
+    #[inline(always)]
     fn serialize(&self, serializer: &mut S) -> Result<(A::Resolver, (B::Resolver, ())), Error> {
         serialize_record::<Self, Parts2, Self::Archived, S>(self, serializer)
     }
@@ -144,6 +148,7 @@ impl<A: Archive, B: Archive, C: Archive> Archive for (A, B, C) {
 
     ghost planned = { λ v. product_planned _ _ _ _ (part_planned _ _ _ _ (A.planned v.0) (part_planned _ _ _ _ (B.planned v.1) (part_planned _ _ _ _ (C.planned v.2) no_part_planned))) };
 
+    #[inline(always)]
     fn resolve(
         &self,
         resolver: (A::Resolver, (B::Resolver, (C::Resolver, ()))),
@@ -175,6 +180,7 @@ impl<A: Archive, B: Archive, C: Archive> Archive for (A, B, C) {
 
 impl<A: Serialize<S>, B: Serialize<S>, C: Serialize<S>, S: Writer + Keys> Serialize<S>
     for (A, B, C) {
+    #[inline(always)]
     fn serialize(
         &self,
         serializer: &mut S,

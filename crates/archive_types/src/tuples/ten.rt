@@ -43,6 +43,7 @@ where
 
     ghost planned = { whole_planned ⟦<Parts10 as SourceParts<Self>>⟧.keys ⟦<Parts10 as SourceParts<Self>>⟧.meanings (Prim.search rules) };
 
+    #[inline(always)]
     fn resolve(
         &self,
         resolver: Self::Resolver,
@@ -76,6 +77,7 @@ impl<A, B, C, D, E, F, G, H, I, J, S: Writer + Keys> Serialize<S> for (A, B, C, 
 where
     Parts10: SerializeParts<Self, S>,
 {
+    #[inline(always)]
     fn serialize(&self, serializer: &mut S) -> Result<Self::Resolver, Error> {
         serialize_record::<Self, Parts10, Self::Archived, S>(self, serializer)
     }
@@ -100,6 +102,7 @@ where
 
     ghost planned = { λ v. one_planned _ _ _ _ (whole_planned ⟦<Parts10 as SourceParts<Self>>⟧.keys ⟦<Parts10 as SourceParts<Self>>⟧.meanings (Prim.search rules) v) };
 
+    #[inline(always)]
     fn archived_metadata(&self) -> Result<(), Error> {
         Ok(())
     }
@@ -110,6 +113,7 @@ impl<A, B, C, D, E, F, G, H, I, J, S: Writer + ResolverAlloc> SerializeUnsized<S
 where
     Parts10: SerializeParts<Self, S>,
 {
+    #[inline(always)]
     fn serialize_unsized(&self, serializer: &mut S) -> Result<usize, Error> {
         serialize_one(self, serializer)
     }
@@ -154,6 +158,7 @@ impl<A: Archive, B, C, D, E, F, G, H, I, J> PartOf<(A, B, C, D, E, F, G, H, I, J
 
     ghost part = { λ v. v.0 };
 
+    #[inline(always)]
     fn part_of(whole: &(A, B, C, D, E, F, G, H, I, J)) -> &A {
         &whole.0
     }
@@ -164,6 +169,7 @@ impl<A, B: Archive, C, D, E, F, G, H, I, J> PartOf<(A, B, C, D, E, F, G, H, I, J
 
     ghost part = { λ v. v.1 };
 
+    #[inline(always)]
     fn part_of(whole: &(A, B, C, D, E, F, G, H, I, J)) -> &B {
         &whole.1
     }
@@ -174,6 +180,7 @@ impl<A, B, C: Archive, D, E, F, G, H, I, J> PartOf<(A, B, C, D, E, F, G, H, I, J
 
     ghost part = { λ v. v.2 };
 
+    #[inline(always)]
     fn part_of(whole: &(A, B, C, D, E, F, G, H, I, J)) -> &C {
         &whole.2
     }
@@ -184,6 +191,7 @@ impl<A, B, C, D: Archive, E, F, G, H, I, J> PartOf<(A, B, C, D, E, F, G, H, I, J
 
     ghost part = { λ v. v.3 };
 
+    #[inline(always)]
     fn part_of(whole: &(A, B, C, D, E, F, G, H, I, J)) -> &D {
         &whole.3
     }
@@ -194,6 +202,7 @@ impl<A, B, C, D, E: Archive, F, G, H, I, J> PartOf<(A, B, C, D, E, F, G, H, I, J
 
     ghost part = { λ v. v.4 };
 
+    #[inline(always)]
     fn part_of(whole: &(A, B, C, D, E, F, G, H, I, J)) -> &E {
         &whole.4
     }
@@ -204,6 +213,7 @@ impl<A, B, C, D, E, F: Archive, G, H, I, J> PartOf<(A, B, C, D, E, F, G, H, I, J
 
     ghost part = { λ v. v.5 };
 
+    #[inline(always)]
     fn part_of(whole: &(A, B, C, D, E, F, G, H, I, J)) -> &F {
         &whole.5
     }
@@ -214,6 +224,7 @@ impl<A, B, C, D, E, F, G: Archive, H, I, J> PartOf<(A, B, C, D, E, F, G, H, I, J
 
     ghost part = { λ v. v.6 };
 
+    #[inline(always)]
     fn part_of(whole: &(A, B, C, D, E, F, G, H, I, J)) -> &G {
         &whole.6
     }
@@ -224,6 +235,7 @@ impl<A, B, C, D, E, F, G, H: Archive, I, J> PartOf<(A, B, C, D, E, F, G, H, I, J
 
     ghost part = { λ v. v.7 };
 
+    #[inline(always)]
     fn part_of(whole: &(A, B, C, D, E, F, G, H, I, J)) -> &H {
         &whole.7
     }
@@ -234,6 +246,7 @@ impl<A, B, C, D, E, F, G, H, I: Archive, J> PartOf<(A, B, C, D, E, F, G, H, I, J
 
     ghost part = { λ v. v.8 };
 
+    #[inline(always)]
     fn part_of(whole: &(A, B, C, D, E, F, G, H, I, J)) -> &I {
         &whole.8
     }
@@ -244,6 +257,7 @@ impl<A, B, C, D, E, F, G, H, I, J: Archive> PartOf<(A, B, C, D, E, F, G, H, I, J
 
     ghost part = { λ v. v.9 };
 
+    #[inline(always)]
     fn part_of(whole: &(A, B, C, D, E, F, G, H, I, J)) -> &J {
         &whole.9
     }

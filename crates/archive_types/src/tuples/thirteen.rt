@@ -46,6 +46,7 @@ where
 
     ghost planned = { whole_planned ⟦<Parts13 as SourceParts<Self>>⟧.keys ⟦<Parts13 as SourceParts<Self>>⟧.meanings (Prim.search rules) };
 
+    #[inline(always)]
     fn resolve(
         &self,
         resolver: Self::Resolver,
@@ -80,6 +81,7 @@ impl<A, B, C, D, E, F, G, H, I, J, K, L, M, S: Writer + Keys> Serialize<S>
 where
     Parts13: SerializeParts<Self, S>,
 {
+    #[inline(always)]
     fn serialize(&self, serializer: &mut S) -> Result<Self::Resolver, Error> {
         serialize_record::<Self, Parts13, Self::Archived, S>(self, serializer)
     }
@@ -105,6 +107,7 @@ where
 
     ghost planned = { λ v. one_planned _ _ _ _ (whole_planned ⟦<Parts13 as SourceParts<Self>>⟧.keys ⟦<Parts13 as SourceParts<Self>>⟧.meanings (Prim.search rules) v) };
 
+    #[inline(always)]
     fn archived_metadata(&self) -> Result<(), Error> {
         Ok(())
     }
@@ -115,6 +118,7 @@ impl<A, B, C, D, E, F, G, H, I, J, K, L, M, S: Writer + ResolverAlloc> Serialize
 where
     Parts13: SerializeParts<Self, S>,
 {
+    #[inline(always)]
     fn serialize_unsized(&self, serializer: &mut S) -> Result<usize, Error> {
         serialize_one(self, serializer)
     }
@@ -170,6 +174,7 @@ impl<A: Archive, B, C, D, E, F, G, H, I, J, K, L, M> PartOf<(A, B, C, D, E, F, G
 
     ghost part = { λ v. v.0 };
 
+    #[inline(always)]
     fn part_of(whole: &(A, B, C, D, E, F, G, H, I, J, K, L, M)) -> &A {
         &whole.0
     }
@@ -181,6 +186,7 @@ impl<A, B: Archive, C, D, E, F, G, H, I, J, K, L, M> PartOf<(A, B, C, D, E, F, G
 
     ghost part = { λ v. v.1.0 };
 
+    #[inline(always)]
     fn part_of(whole: &(A, B, C, D, E, F, G, H, I, J, K, L, M)) -> &B {
         &whole.1
     }
@@ -192,6 +198,7 @@ impl<A, B, C: Archive, D, E, F, G, H, I, J, K, L, M> PartOf<(A, B, C, D, E, F, G
 
     ghost part = { λ v. v.1.1.0 };
 
+    #[inline(always)]
     fn part_of(whole: &(A, B, C, D, E, F, G, H, I, J, K, L, M)) -> &C {
         &whole.2
     }
@@ -203,6 +210,7 @@ impl<A, B, C, D: Archive, E, F, G, H, I, J, K, L, M> PartOf<(A, B, C, D, E, F, G
 
     ghost part = { λ v. v.1.1.1.0 };
 
+    #[inline(always)]
     fn part_of(whole: &(A, B, C, D, E, F, G, H, I, J, K, L, M)) -> &D {
         &whole.3
     }
@@ -214,6 +222,7 @@ impl<A, B, C, D, E: Archive, F, G, H, I, J, K, L, M> PartOf<(A, B, C, D, E, F, G
 
     ghost part = { λ v. v.1.1.1.1.0 };
 
+    #[inline(always)]
     fn part_of(whole: &(A, B, C, D, E, F, G, H, I, J, K, L, M)) -> &E {
         &whole.4
     }
@@ -225,6 +234,7 @@ impl<A, B, C, D, E, F: Archive, G, H, I, J, K, L, M> PartOf<(A, B, C, D, E, F, G
 
     ghost part = { λ v. v.1.1.1.1.1.0 };
 
+    #[inline(always)]
     fn part_of(whole: &(A, B, C, D, E, F, G, H, I, J, K, L, M)) -> &F {
         &whole.5
     }
@@ -236,6 +246,7 @@ impl<A, B, C, D, E, F, G: Archive, H, I, J, K, L, M> PartOf<(A, B, C, D, E, F, G
 
     ghost part = { λ v. v.1.1.1.1.1.1.0 };
 
+    #[inline(always)]
     fn part_of(whole: &(A, B, C, D, E, F, G, H, I, J, K, L, M)) -> &G {
         &whole.6
     }
@@ -247,6 +258,7 @@ impl<A, B, C, D, E, F, G, H: Archive, I, J, K, L, M> PartOf<(A, B, C, D, E, F, G
 
     ghost part = { λ v. v.1.1.1.1.1.1.1.0 };
 
+    #[inline(always)]
     fn part_of(whole: &(A, B, C, D, E, F, G, H, I, J, K, L, M)) -> &H {
         &whole.7
     }
@@ -258,6 +270,7 @@ impl<A, B, C, D, E, F, G, H, I: Archive, J, K, L, M> PartOf<(A, B, C, D, E, F, G
 
     ghost part = { λ v. v.1.1.1.1.1.1.1.1.0 };
 
+    #[inline(always)]
     fn part_of(whole: &(A, B, C, D, E, F, G, H, I, J, K, L, M)) -> &I {
         &whole.8
     }
@@ -269,6 +282,7 @@ impl<A, B, C, D, E, F, G, H, I, J: Archive, K, L, M> PartOf<(A, B, C, D, E, F, G
 
     ghost part = { λ v. v.1.1.1.1.1.1.1.1.1.0 };
 
+    #[inline(always)]
     fn part_of(whole: &(A, B, C, D, E, F, G, H, I, J, K, L, M)) -> &J {
         &whole.9
     }
@@ -280,6 +294,7 @@ impl<A, B, C, D, E, F, G, H, I, J, K: Archive, L, M> PartOf<(A, B, C, D, E, F, G
 
     ghost part = { λ v. v.1.1.1.1.1.1.1.1.1.1.0 };
 
+    #[inline(always)]
     fn part_of(whole: &(A, B, C, D, E, F, G, H, I, J, K, L, M)) -> &K {
         &whole.10
     }
@@ -291,6 +306,7 @@ impl<A, B, C, D, E, F, G, H, I, J, K, L: Archive, M> PartOf<(A, B, C, D, E, F, G
 
     ghost part = { λ v. v.1.1.1.1.1.1.1.1.1.1.1.0 };
 
+    #[inline(always)]
     fn part_of(whole: &(A, B, C, D, E, F, G, H, I, J, K, L, M)) -> &L {
         &whole.11
     }
@@ -302,6 +318,7 @@ impl<A, B, C, D, E, F, G, H, I, J, K, L, M: Archive> PartOf<(A, B, C, D, E, F, G
 
     ghost part = { λ v. v.1.1.1.1.1.1.1.1.1.1.1.1.0 };
 
+    #[inline(always)]
     fn part_of(whole: &(A, B, C, D, E, F, G, H, I, J, K, L, M)) -> &M {
         &whole.12
     }

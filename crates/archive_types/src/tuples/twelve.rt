@@ -45,6 +45,7 @@ where
 
     ghost planned = { whole_planned ⟦<Parts12 as SourceParts<Self>>⟧.keys ⟦<Parts12 as SourceParts<Self>>⟧.meanings (Prim.search rules) };
 
+    #[inline(always)]
     fn resolve(
         &self,
         resolver: Self::Resolver,
@@ -79,6 +80,7 @@ impl<A, B, C, D, E, F, G, H, I, J, K, L, S: Writer + Keys> Serialize<S>
 where
     Parts12: SerializeParts<Self, S>,
 {
+    #[inline(always)]
     fn serialize(&self, serializer: &mut S) -> Result<Self::Resolver, Error> {
         serialize_record::<Self, Parts12, Self::Archived, S>(self, serializer)
     }
@@ -103,6 +105,7 @@ where
 
     ghost planned = { λ v. one_planned _ _ _ _ (whole_planned ⟦<Parts12 as SourceParts<Self>>⟧.keys ⟦<Parts12 as SourceParts<Self>>⟧.meanings (Prim.search rules) v) };
 
+    #[inline(always)]
     fn archived_metadata(&self) -> Result<(), Error> {
         Ok(())
     }
@@ -113,6 +116,7 @@ impl<A, B, C, D, E, F, G, H, I, J, K, L, S: Writer + ResolverAlloc> SerializeUns
 where
     Parts12: SerializeParts<Self, S>,
 {
+    #[inline(always)]
     fn serialize_unsized(&self, serializer: &mut S) -> Result<usize, Error> {
         serialize_one(self, serializer)
     }
@@ -167,6 +171,7 @@ impl<A: Archive, B, C, D, E, F, G, H, I, J, K, L> PartOf<(A, B, C, D, E, F, G, H
 
     ghost part = { λ v. v.0 };
 
+    #[inline(always)]
     fn part_of(whole: &(A, B, C, D, E, F, G, H, I, J, K, L)) -> &A {
         &whole.0
     }
@@ -178,6 +183,7 @@ impl<A, B: Archive, C, D, E, F, G, H, I, J, K, L> PartOf<(A, B, C, D, E, F, G, H
 
     ghost part = { λ v. v.1 };
 
+    #[inline(always)]
     fn part_of(whole: &(A, B, C, D, E, F, G, H, I, J, K, L)) -> &B {
         &whole.1
     }
@@ -189,6 +195,7 @@ impl<A, B, C: Archive, D, E, F, G, H, I, J, K, L> PartOf<(A, B, C, D, E, F, G, H
 
     ghost part = { λ v. v.2 };
 
+    #[inline(always)]
     fn part_of(whole: &(A, B, C, D, E, F, G, H, I, J, K, L)) -> &C {
         &whole.2
     }
@@ -200,6 +207,7 @@ impl<A, B, C, D: Archive, E, F, G, H, I, J, K, L> PartOf<(A, B, C, D, E, F, G, H
 
     ghost part = { λ v. v.3 };
 
+    #[inline(always)]
     fn part_of(whole: &(A, B, C, D, E, F, G, H, I, J, K, L)) -> &D {
         &whole.3
     }
@@ -211,6 +219,7 @@ impl<A, B, C, D, E: Archive, F, G, H, I, J, K, L> PartOf<(A, B, C, D, E, F, G, H
 
     ghost part = { λ v. v.4 };
 
+    #[inline(always)]
     fn part_of(whole: &(A, B, C, D, E, F, G, H, I, J, K, L)) -> &E {
         &whole.4
     }
@@ -222,6 +231,7 @@ impl<A, B, C, D, E, F: Archive, G, H, I, J, K, L> PartOf<(A, B, C, D, E, F, G, H
 
     ghost part = { λ v. v.5 };
 
+    #[inline(always)]
     fn part_of(whole: &(A, B, C, D, E, F, G, H, I, J, K, L)) -> &F {
         &whole.5
     }
@@ -233,6 +243,7 @@ impl<A, B, C, D, E, F, G: Archive, H, I, J, K, L> PartOf<(A, B, C, D, E, F, G, H
 
     ghost part = { λ v. v.6 };
 
+    #[inline(always)]
     fn part_of(whole: &(A, B, C, D, E, F, G, H, I, J, K, L)) -> &G {
         &whole.6
     }
@@ -244,6 +255,7 @@ impl<A, B, C, D, E, F, G, H: Archive, I, J, K, L> PartOf<(A, B, C, D, E, F, G, H
 
     ghost part = { λ v. v.7 };
 
+    #[inline(always)]
     fn part_of(whole: &(A, B, C, D, E, F, G, H, I, J, K, L)) -> &H {
         &whole.7
     }
@@ -255,6 +267,7 @@ impl<A, B, C, D, E, F, G, H, I: Archive, J, K, L> PartOf<(A, B, C, D, E, F, G, H
 
     ghost part = { λ v. v.8 };
 
+    #[inline(always)]
     fn part_of(whole: &(A, B, C, D, E, F, G, H, I, J, K, L)) -> &I {
         &whole.8
     }
@@ -266,6 +279,7 @@ impl<A, B, C, D, E, F, G, H, I, J: Archive, K, L> PartOf<(A, B, C, D, E, F, G, H
 
     ghost part = { λ v. v.9 };
 
+    #[inline(always)]
     fn part_of(whole: &(A, B, C, D, E, F, G, H, I, J, K, L)) -> &J {
         &whole.9
     }
@@ -277,6 +291,7 @@ impl<A, B, C, D, E, F, G, H, I, J, K: Archive, L> PartOf<(A, B, C, D, E, F, G, H
 
     ghost part = { λ v. v.10 };
 
+    #[inline(always)]
     fn part_of(whole: &(A, B, C, D, E, F, G, H, I, J, K, L)) -> &K {
         &whole.10
     }
@@ -288,6 +303,7 @@ impl<A, B, C, D, E, F, G, H, I, J, K, L: Archive> PartOf<(A, B, C, D, E, F, G, H
 
     ghost part = { λ v. v.11 };
 
+    #[inline(always)]
     fn part_of(whole: &(A, B, C, D, E, F, G, H, I, J, K, L)) -> &L {
         &whole.11
     }

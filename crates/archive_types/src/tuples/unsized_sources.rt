@@ -26,12 +26,14 @@ impl<A: Archive> ArchiveUnsized for (A,) {
 
     ghost planned = { λ v. one_planned _ _ _ _ (product_planned _ _ _ _ (part_planned _ _ _ _ (A.planned v.0) no_part_planned)) };
 
+    #[inline(always)]
     fn archived_metadata(&self) -> Result<(), Error> {
         Ok(())
     }
 }
 
 impl<A: Serialize<S>, S: Writer + ResolverAlloc> SerializeUnsized<S> for (A,) {
+    #[inline(always)]
     fn serialize_unsized(&self, serializer: &mut S) -> Result<usize, Error> {
         serialize_one(self, serializer)
     }
@@ -52,12 +54,14 @@ impl<A: Archive, B: Archive> ArchiveUnsized for (A, B) {
 
     ghost planned = { λ v. one_planned _ _ _ _ (product_planned _ _ _ _ (part_planned _ _ _ _ (A.planned v.0) (part_planned _ _ _ _ (B.planned v.1) no_part_planned))) };
 
+    #[inline(always)]
     fn archived_metadata(&self) -> Result<(), Error> {
         Ok(())
     }
 }
 
 impl<A: Serialize<S>, B: Serialize<S>, S: Writer + ResolverAlloc> SerializeUnsized<S> for (A, B) {
+    #[inline(always)]
     fn serialize_unsized(&self, serializer: &mut S) -> Result<usize, Error> {
         serialize_one(self, serializer)
     }
@@ -78,6 +82,7 @@ impl<A: Archive, B: Archive, C: Archive> ArchiveUnsized for (A, B, C) {
 
     ghost planned = { λ v. one_planned _ _ _ _ (product_planned _ _ _ _ (part_planned _ _ _ _ (A.planned v.0) (part_planned _ _ _ _ (B.planned v.1) (part_planned _ _ _ _ (C.planned v.2) no_part_planned)))) };
 
+    #[inline(always)]
     fn archived_metadata(&self) -> Result<(), Error> {
         Ok(())
     }
@@ -86,6 +91,7 @@ impl<A: Archive, B: Archive, C: Archive> ArchiveUnsized for (A, B, C) {
 impl<A: Serialize<S>, B: Serialize<S>, C: Serialize<S>, S: Writer + ResolverAlloc> SerializeUnsized<
     S,
 > for (A, B, C) {
+    #[inline(always)]
     fn serialize_unsized(&self, serializer: &mut S) -> Result<usize, Error> {
         serialize_one(self, serializer)
     }

@@ -214,12 +214,14 @@ impl<T: Archive> ArchiveUnsized for Vec<T> {
         (vec_planned T.Archived.definitions T.Archived.shape (length v.items) (each_keys T.keys v.items) (list (each_meaning T.meaning v.items))
         (slice_planned T.Archived.definitions T.Archived.shape T.keys T.meaning T.planned v.items)) };
 
+    #[inline(always)]
     fn archived_metadata(&self) -> Result<(), Error> {
         Ok(())
     }
 }
 
 impl<S: Writer + ResolverAlloc, T: Serialize<S>> SerializeUnsized<S> for Vec<T> {
+    #[inline(always)]
     fn serialize_unsized(&self, serializer: &mut S) -> Result<usize, Error> {
         serialize_one(self, serializer)
     }

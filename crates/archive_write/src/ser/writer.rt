@@ -128,6 +128,27 @@ fn with_bytes<A: Allocator>(mut list: Vec<u8, A>, bytes: &[u8]) -> (Vec<u8, A>, 
     (list, written)
 }
 
+// The same where the list hasn't the room: it asks for memory. It takes the list itself: were the place of the list lent to a call, all of a serializer
+// would lie in memory. (That of `replace_with` is inlined where this isn't marked as cold.)
+#[inline(never)]
+fn with_growth<A: Allocator>(mut list: Vec<u8, A>, bytes: &[u8]) -> (Vec<u8, A>, bool)
+    ensures written { IsTrue result.1 → result.0.items ≡ list.items ++ bytes.now }
+    ensures untouched { IsFalse result.1 → result.0.items ≡ list.items }
+{
+    let grown = list.extend_from_slice(bytes).is_ok();
+    (list, grown)
+}
+
+// The list, with room for so many bytes more. Where memory for it is refused, the writes ask for what they need themselves. It takes the list itself, as
+// `with_growth` does.
+#[inline(never)]
+fn with_room<A: Allocator>(mut list: Vec<u8, A>, n: usize) -> (Vec<u8, A>, ())
+    ensures { result.0.items ≡ list.items }
+{
+    let _ = list.reserve(n);
+    (list, ())
+}
+
 /// A vector has no limit but memory. Fails with `OutOfMemory` alone, and then unchanged.
 impl<A: Allocator> Writer for Vec<u8, A> {
     ghost takes_memory = { true };
@@ -147,6 +168,12 @@ impl<A: Allocator> Writer for Vec<u8, A> {
         ensures unchanged { OnErr result (self.new.items ≡ self.old.items) }
         ensures out_of_memory { IfErr result (λ e. e ≡ Error.OutOfMemory) }
     {
+        if self.capacity() - self.len() < bytes.len() {
+            if replace_with(self, bytes, with_growth) {
+                return Ok(());
+            }
+            return Err(Error::OutOfMemory);
+        }
         Ok(self.extend_from_slice(bytes)?)
     }
 
@@ -155,9 +182,8 @@ impl<A: Allocator> Writer for Vec<u8, A> {
         replace_with(self, bytes, with_bytes)
     }
 
-    // Where memory for the room is refused, the writes ask for what they need themselves.
     #[inline(always)]
     fn make_room(&mut self, n: usize) {
-        let _ = self.reserve(n);
+        replace_with(self, n, with_room);
     }
 }
