@@ -1,7 +1,8 @@
 //! Times the project beside its peers, in one process and in turns, and writes RESULTS.md, results.svg and the table in the README, unless the tree has
 //! changes that aren't committed.
 //! `driver` does all; `driver goals` times what the goals speak of and prints their table alone; `driver large ROWS` says what one archive of so many
-//! rows takes; `driver one FORMAT SET OPERATION COUNT` carries one operation out so often, for callgrind. `driver deep FORMAT OPERATION`, `driver heap` and `driver large-child ROWS` are what it starts as children.
+//! rows takes; `driver one FORMAT SET OPERATION COUNT`, by their places in the tables, carries one operation out so often, for callgrind. `driver deep
+//! FORMAT OPERATION`, `driver heap` and `driver large-child ROWS` are what it starts as children.
 
 mod archives;
 mod chart;
@@ -125,7 +126,12 @@ fn main() {
         }
         ["one", format, set, operation, count] => {
             let number = |it: &str| it.parse().expect("a number");
-            measure::one(number(format), number(set), number(operation), number(count))
+            measure::one(
+                number(format),
+                number(set),
+                number(operation),
+                number(count),
+            )
         }
         ["heap"] => on_a_large_stack(measure::heap),
         ["large", rows] => print!("{}", measure::said_by_child(&["large-child", rows])),

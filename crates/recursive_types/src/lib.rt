@@ -4,7 +4,6 @@
 pub mod dir;
 pub mod expr;
 pub mod list;
-pub mod nest;
 pub mod outline;
 pub mod rose;
 pub mod search;
