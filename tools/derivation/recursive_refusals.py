@@ -55,14 +55,26 @@ def check_part(it: Declaration, type: Type, line: int):
 
 
 def check_owner(it: Declaration, type: Type, line: int):
-    """What leads back is a box, an option of a box, or a vector of the type itself."""
+    """What leads back is a box, an option of one, or a vector of the type itself or of boxes."""
+    is_option = is_named(type, "Option") and is_box(it, type.args[0])
+    if is_box(it, type) or is_option or is_named(type, "Vec") and (is_member(it, type.args[0]) or is_box(it, type.args[0])):
+        return
+    written = f"a `Box<{it.name}>`, an `Option<Box<{it.name}>>`, a `Vec<{it.name}>` or a `Vec<Box<{it.name}>>` is"
     if type.name not in ("Box", "Option", "Vec") or type.own is not None:
-        raise Refused(it.path, line, f"`{type.name}` around `{it.name}` isn't written yet; a `Box<{it.name}>`, an `Option<Box<{it.name}>>` or a `Vec<{it.name}>` is")
-    item = type.args[0]
-    if type.name == "Option" and item.name == "Box" and item.own is None:
-        item = item.args[0]
-    if not any(item.own is other for other in it.family):
-        raise Refused(it.path, line, f"this {'option' if type.name == 'Option' else f'`{type.name}` of pointers'} to `{it.name}` isn't written yet; a `Box<{it.name}>`, an `Option<Box<{it.name}>>` or a `Vec<{it.name}>` is")
+        raise Refused(it.path, line, f"`{type.name}` around `{it.name}` isn't written yet; {written}")
+    raise Refused(it.path, line, f"this {'option' if type.name == 'Option' else f'`{type.name}` of pointers'} to `{it.name}` isn't written yet; {written}")
+
+
+def is_named(type: Type, name: str) -> bool:
+    return type.name == name and type.own is None
+
+
+def is_member(it: Declaration, type: Type) -> bool:
+    return any(type.own is other for other in it.family)
+
+
+def is_box(it: Declaration, type: Type) -> bool:
+    return is_named(type, "Box") and is_member(it, type.args[0])
 
 
 def leads_back(it: Declaration, type: Type) -> bool:

@@ -45,6 +45,15 @@ class Recursive(RepositoryTest):
         self.assertEqual(status, 2)
         self.assertIn("`List` is a list, which is dropped by a loop that tools/derive writes; leave `Drop` out of its derive", text)
 
+    def test_what_boxes_of_a_vector_hold_is_written_where_they_are_gone_over(self):
+        path = self.put("#[derive(Drop)]\npub enum Knot { Word(String), Others(Vec<Box<Knot>>) }\n")
+        self.assertEqual(self.run_command(path), (0, ""))
+        text = self.text(path)
+        self.assertIn("fn serialize_each_box_knot<", text)
+        self.assertNotIn("fn serialize_box_knot<", text)
+        self.assertIn("fn read_box_knot<", text)
+        self.assertIn("(list (each_meaning (λ y. (box (m y.value))) a0.items))", self.beside("specs", "KnotMeaning.antt"))
+
     def test_two_files_of_one_run_are_both_named(self):
         paths = [self.put(LIST, "list"), self.put(TREE, "tree")]
         self.assertEqual(self.run_command(*paths), (0, ""))
