@@ -3,6 +3,8 @@ pub mod Described
 pub mod EntryLayouts
 pub mod Explained
 pub mod LeafReads
+pub mod Opened
 pub mod Refused
+pub mod Searched
 pub mod Variants
 pub mod WaySteps

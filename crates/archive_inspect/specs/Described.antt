@@ -1,5 +1,5 @@
 -- What is told of an archive: what lies where, byte after byte.
-use Rattle.std.specs.Prelude.{◌≡◌, ◌⊎◌, ℕ, ◌+◌, ◌<◌, pos, List, [], ◌∷◌, ◌++◌, length, slice_index, Some, All, Contains}
+use Rattle.std.specs.Prelude.{◌≡◌, ◌⊎◌, ℕ, ℤ, ◌+◌, ◌<◌, pos, List, [], ◌∷◌, ◌++◌, length, slice_index, Some, All, Contains}
 use Rattle.std.specs.Borrow.{Bor}
 use Rattle.archive_inspect.specs.declared.describe.Content.{Content}
 use Rattle.archive_inspect.specs.declared.describe.Content.TheVariants.{Leaf as LeafContent, Text as TextContent, Tag as TagContent, Pointer as PointerContent, Again as AgainContent, Null as NullContent, Unused}
@@ -16,11 +16,13 @@ use Rattle.archive_schema.specs.declared.shape.Schema.{Schema as RustSchema}
 use Rattle.archive_check.specs.Archives.{IsArchive, root_in}
 use Rattle.archive_check.specs.Definitions.{HasLayout}
 use Rattle.archive_check.specs.Layout.{Layout, kind_size, size_of}
+use Rattle.archive_check.specs.Leaves.{PlacedLeaf, number_leaf, text_leaf, leaf_size, leaves_of}
 use Rattle.archive_check.specs.Reads.{SchemaTable, bytes_at, i32_at, IsOutOfLine, before_end}
 use Rattle.archive_check.specs.Shape.{Name, Kind, Flavor, Shape, leaf, choice, str, weak, Pointee, one, run, text, Parts, Variants, variant_at}
+use Rattle.archive_check.specs.Tour.{Accepted}
 use Rattle.archive_check.specs.Value.{Pointer}
 use Rattle.archive_schema.specs.Schemas.{root_of, definitions_in}
-use Rattle.archive_inspect.specs.Leaves.{IsLeafRead}
+use Rattle.archive_inspect.specs.Leaves.{told_number, IsLeafRead}
 use Rattle.archive_inspect.specs.Ways.{WayEnd, a_value, a_text, PointsBy}
 use Rattle.archive_inspect.specs.Points.{end_of_way, unit_layout, Under, LeadsToPoint}
 
@@ -106,11 +108,30 @@ pub data Tiles : List Piece → ℕ → Type 0 where
 abbrev pub ArePartsOrUnused : List Piece → List Piece → Type 0
 ArePartsOrUnused parts pieces = (x : Piece) → Contains pieces x → Contains parts x ⊎ (x.content ≡ Unused)
 
--- What is described is an archive. Each piece is a part of it or unused, and each byte lies in one of them.
+-- a piece is this leaf: it lies there, and has its value
+pub data IsPieceOf (y : Piece) : PlacedLeaf → Type 0 where
+  piece_of_number : {p : ℕ} {kind : Kind} {z : ℤ} {l : Leaf}
+      → y.position ≡ p
+      → y.size ≡ kind_size kind
+      → y.content ≡ LeafContent l
+      → told_number l ≡ z
+      → IsPieceOf y (number_leaf p kind z)
+  piece_of_text : {p : ℕ} {u : List ℕ} {t : Bor (List ℕ)}
+      → y.position ≡ p
+      → y.content ≡ TextContent t
+      → t.now ≡ u
+      → IsPieceOf y (text_leaf p u)
+
+-- each of the leaves that has bytes is one of the pieces
+abbrev pub AreToldBy : List Piece → List PlacedLeaf → Type 0
+AreToldBy pieces = All (λ x. 0 < leaf_size x → (y : Piece) × Contains pieces y × IsPieceOf y x)
+
+-- What is described is an archive. Each piece is a part of it or unused, each byte lies in one of them, and each leaf that has bytes is one.
 pub record DescribesArchive (f : RustSchema) (bytes : List ℕ) (root : ℕ) (pieces : List Piece) : Type 0 where
   pub archive : IsArchive (definitions_in f) bytes root (root_of f)
   pub each : All (IsPiece f bytes root) pieces
   pub tiled : Tiles pieces (length bytes)
+  pub leaves : Under f (λ s. (a : Accepted s bytes root (root_of f)) → AreToldBy pieces (leaves_of a))
 
 -- the buffer is an archive of the form, its root at the end
 abbrev pub IsWholeArchive : Form → List ℕ → Type 0

@@ -1,6 +1,7 @@
 pub mod Described
 pub mod Explained
 pub mod Leaves
+pub mod Opened
 pub mod Points
 pub mod Ways
 pub use Rattle.archive_check.specs.Archives

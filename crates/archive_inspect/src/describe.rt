@@ -7,8 +7,10 @@ ghost use Rattle.archive_inspect.specs.declared.describe.Piece.{Piece};
 ghost use Rattle.archive_schema.specs.declared.shape.Schema.{Schema};
 
 mod contents;
+mod told;
 
 use crate::describe::contents::content_at;
+use crate::describe::told::tell_all_leaves;
 use crate::form::Form;
 use crate::route::{Route, route_of};
 use crate::walk::faults::Stop;
@@ -323,7 +325,11 @@ pub fn describe<'a>(
         return Ok(None);
     };
     let all = with_gaps(alloc, parts, bytes.len())?;
-    if are_tiles(&all, bytes.len()) {
+    if !are_tiles(&all, bytes.len()) {
+        return Ok(None);
+    }
+    let told = tell_all_leaves(alloc, form, bytes, root, &all)?;
+    if told {
         return Ok(Some(all));
     }
     Ok(None)

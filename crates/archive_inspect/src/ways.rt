@@ -39,8 +39,8 @@ pub struct Point<'a> {
     pub thing: Thing<'a>,
 }
 
-// What the names at a point stand for, at the same position.
-fn meant<'a>(form: &'a Form, point: Point<'a>) -> Point<'a>
+/// What the names at a point stand for, at the same position.
+pub fn meant<'a>(form: &'a Form, point: Point<'a>) -> Point<'a>
     ensures same { result.at ≡ point.entry.at }
     ensures means { MeansThere form.now.schema point.entry.thing result.thing }
 {

@@ -67,7 +67,7 @@ pub(super) fn place_at(bytes: &[u8], at: usize) -> Option<usize>
 }
 
 // The length behind the offset at a position.
-pub(super) fn length_at(bytes: &[u8], at: usize) -> Option<usize>
+pub(crate) fn length_at(bytes: &[u8], at: usize) -> Option<usize>
     ensures { IfSome result (λ n. n ≡ u32_at bytes.now (at + 4)) }
 {
     if !has_bytes(bytes, at, 8) {
