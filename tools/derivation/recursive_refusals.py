@@ -55,11 +55,10 @@ def check_part(it: Declaration, type: Type, line: int):
 
 
 def check_owner(it: Declaration, type: Type, line: int):
-    """What leads back is a box, an option of one, or a vector of the type itself or of boxes."""
-    is_option = is_named(type, "Option") and is_box(it, type.args[0])
-    if is_box(it, type) or is_option or is_named(type, "Vec") and (is_member(it, type.args[0]) or is_box(it, type.args[0])):
+    """What leads back is a box, an option of one, a vector of these or of the type itself, or a box of such a vector."""
+    if is_pointer(it, type) or is_list(it, type) or is_named(type, "Box") and is_list(it, type.args[0]):
         return
-    written = f"a `Box<{it.name}>`, an `Option<Box<{it.name}>>`, a `Vec<{it.name}>` or a `Vec<Box<{it.name}>>` is"
+    written = f"a `Box<{it.name}>`, an `Option<Box<{it.name}>>`, a `Vec` of these or of `{it.name}`, or a `Box` of such a `Vec` is"
     if type.name not in ("Box", "Option", "Vec") or type.own is not None:
         raise Refused(it.path, line, f"`{type.name}` around `{it.name}` isn't written yet; {written}")
     raise Refused(it.path, line, f"this {'option' if type.name == 'Option' else f'`{type.name}` of pointers'} to `{it.name}` isn't written yet; {written}")
@@ -73,8 +72,14 @@ def is_member(it: Declaration, type: Type) -> bool:
     return any(type.own is other for other in it.family)
 
 
-def is_box(it: Declaration, type: Type) -> bool:
-    return is_named(type, "Box") and is_member(it, type.args[0])
+def is_pointer(it: Declaration, type: Type) -> bool:
+    """Whether it is a box of a type of the family, or an option of one."""
+    box = type.args[0] if is_named(type, "Option") else type
+    return is_named(box, "Box") and is_member(it, box.args[0])
+
+
+def is_list(it: Declaration, type: Type) -> bool:
+    return is_named(type, "Vec") and (is_member(it, type.args[0]) or is_pointer(it, type.args[0]))
 
 
 def leads_back(it: Declaration, type: Type) -> bool:

@@ -54,6 +54,21 @@ class Recursive(RepositoryTest):
         self.assertIn("fn read_box_knot<", text)
         self.assertIn("(list (each_meaning (λ y. (box (m y.value))) a0.items))", self.beside("specs", "KnotMeaning.antt"))
 
+    def test_options_in_a_vector_are_told_by_what_is_in_them(self):
+        path = self.put("#[derive(Drop)]\npub struct Bush { id: u8, sides: Vec<Option<Box<Bush>>> }\n")
+        self.assertEqual(self.run_command(path), (0, ""))
+        self.assertIn("resolvers.push(None).map_err(AllocError::from)?;", self.text(path))
+        text = self.beside("specs", "BushMeaning.antt")
+        self.assertIn("options_alike _ (λ (y : (Box Value Global)). (box (y.value))) (λ (y : (Box Bush-Source Global)). (box (bush_meaning y.value))) refl", text)
+        self.assertIn("held_options_keyed _ ", text)
+
+    def test_a_vector_in_a_box_is_written_by_a_function_of_its_own(self):
+        path = self.put("#[derive(Drop)]\npub struct Grove { id: u8, below: Box<Vec<Grove>> }\n")
+        self.assertEqual(self.run_command(path), (0, ""))
+        for word in ("fn serialize_box_vec_grove<", "fn serialize_vec_grove<", "BoxAt<ArchivedVec<ArchivedGrove>>"):
+            self.assertIn(word, self.text(path))
+        self.assertIn("(λ vs. product (value (number (pos t.id)) (value (box (list vs)) no_value)))", self.beside("specs", "GroveMeaning.antt"))
+
     def test_two_files_of_one_run_are_both_named(self):
         paths = [self.put(LIST, "list"), self.put(TREE, "tree")]
         self.assertEqual(self.run_command(*paths), (0, ""))
