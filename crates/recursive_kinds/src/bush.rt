@@ -175,6 +175,7 @@ impl Archive for Bush {
 
     ghost planned = { bush_planned };
 
+    #[inline(always)]
     fn resolve(
         &self,
         resolver: Self::Resolver,
@@ -392,6 +393,7 @@ fn serialize_bush<S: Writer + Keys + ResolverAlloc>(value: &Bush, serializer: &m
 }
 
 impl<S: Writer + Keys + ResolverAlloc> Serialize<S> for Bush {
+    #[inline(always)]
     fn serialize(&self, serializer: &mut S) -> Result<Self::Resolver, Error> {
         serialize_bush(self, serializer)
     }
@@ -416,12 +418,14 @@ impl ArchiveUnsized for Bush {
     ghost planned = { λ v. one_planned bush_definitions bush_shape (⟦<Bush as Archive>⟧.keys v)
         (⟦<Bush as Archive>⟧.meaning v) (planned_of_bush v) };
 
+    #[inline(always)]
     fn archived_metadata(&self) -> Result<(), Error> {
         Ok(())
     }
 }
 
 impl<S: Writer + Keys + ResolverAlloc> SerializeUnsized<S> for Bush {
+    #[inline(always)]
     fn serialize_unsized(&self, serializer: &mut S) -> Result<usize, Error> {
         serialize_one(self, serializer)
     }
@@ -548,6 +552,7 @@ fn read_bush<D: Entries>(alloc: Global, part: RawView<'_>, deserializer: &mut D)
 }
 
 impl<D: Entries> Deserialize<Bush, D> for ArchivedBush {
+    #[inline(always)]
     fn deserialize_part(
         alloc: Global,
         part: RawView<'_>,
