@@ -45,8 +45,8 @@ use archive_core::self_check::BySchema;
 use archive_core::ser::{ResolverAlloc, Writer, serialize_one};
 use archive_core::shape::{Defs, Expr, Pointee};
 use archive_core::traits::{
-    Archive, ArchivePointee, ArchiveUnsized, CopyOptimization, Deserialize, Entries, Keys, Portable,
-    Record, Serialize, SerializeUnsized,
+    Archive, ArchivePointee, ArchiveUnsized, CopyOptimization, Deserialize, Entries, Keys,
+    Portable, Record, Serialize, SerializeUnsized,
 };
 use archive_core::vec::{ArchivedVec, VecResolver};
 use archive_core::view::{RawView, Ref};
@@ -77,7 +77,10 @@ fn knot_expressions(alloc: Global) -> Result<Vec<Expr>, Error>
     ensures refused { IfErr result (λ e. e ≡ OutOfMemory) }
 {
     let a0 = <ArchivedU32 as Portable>::expr(alloc)?;
-    let a1 = Expr::Vec(Box::new(alloc, Expr::Box(Box::new(alloc, Pointee::One(Expr::Named("ArchivedKnot")))?))?);
+    let a1 = Expr::Vec(Box::new(
+        alloc,
+        Expr::Box(Box::new(alloc, Pointee::One(Expr::Named("ArchivedKnot")))?),
+    )?);
     Ok(vec![in alloc; a0, a1]?)
 }
 
@@ -202,7 +205,10 @@ impl Archive for Knot {
 
 // Writes what each of the values owns, in order.
 #[cycle(serialize_knot)]
-fn serialize_each_box_knot<S: Writer + Keys + ResolverAlloc>(values: &[Box<Knot>], serializer: &mut S) -> Result<Vec<<Box<Knot> as Archive>::Resolver, S::Alloc>, Error>
+fn serialize_each_box_knot<S: Writer + Keys + ResolverAlloc>(
+    values: &[Box<Knot>],
+    serializer: &mut S,
+) -> Result<Vec<<Box<Knot> as Archive>::Resolver, S::Alloc>, Error>
     ensures serialized { IfOk result (λ rs. SerializedRun knot_definitions (boxed (one knot_shape))
         (length values.now) (each_keys ⟦<Box<Knot> as Archive>⟧.keys values.now)
         (each_meaning ⟦<Box<Knot> as Archive>⟧.meaning values.now)
@@ -235,7 +241,10 @@ fn serialize_each_box_knot<S: Writer + Keys + ResolverAlloc>(values: &[Box<Knot>
 
 // Writes what a vector owns.
 #[cycle(serialize_knot)]
-fn serialize_vec_box_knot<S: Writer + Keys + ResolverAlloc>(value: &Vec<Box<Knot>>, serializer: &mut S) -> Result<VecResolver, Error>
+fn serialize_vec_box_knot<S: Writer + Keys + ResolverAlloc>(
+    value: &Vec<Box<Knot>>,
+    serializer: &mut S,
+) -> Result<VecResolver, Error>
     ensures serialized { IfOk result (λ r. Serialized knot_definitions
         (vec (boxed (one knot_shape))) (⟦<Vec<Box<Knot>> as Archive>⟧.keys value.now)
         (⟦<Vec<Box<Knot>> as Archive>⟧.meaning value.now)
@@ -263,7 +272,10 @@ fn serialize_vec_box_knot<S: Writer + Keys + ResolverAlloc>(value: &Vec<Box<Knot
 
 // Writes what a value owns, part by part.
 #[cycle(serialize_knot)]
-fn serialize_knot<S: Writer + Keys + ResolverAlloc>(value: &Knot, serializer: &mut S) -> Result<KnotResolver, Error>
+fn serialize_knot<S: Writer + Keys + ResolverAlloc>(
+    value: &Knot,
+    serializer: &mut S,
+) -> Result<KnotResolver, Error>
     ensures serialized { IfOk result (λ r. Serialized knot_definitions knot_shape
         (⟦<Knot as Archive>⟧.keys value.now) (⟦<Knot as Archive>⟧.meaning value.now)
         (⟦<Knot as Archive>⟧.flat value.now r) (S.state serializer.old) (S.state serializer.new)) }
@@ -281,7 +293,9 @@ fn serialize_knot<S: Writer + Keys + ResolverAlloc>(value: &Knot, serializer: &m
         Ok(a1) => a1,
         Err(error) => return Err(error),
     };
-    Ok(KnotResolver { kept: (a0, (a1, ())) })
+    Ok(KnotResolver {
+        kept: (a0, (a1, ())),
+    })
 }
 
 impl<S: Writer + Keys + ResolverAlloc> Serialize<S> for Knot {
@@ -325,7 +339,11 @@ impl<S: Writer + Keys + ResolverAlloc> SerializeUnsized<S> for Knot {
 
 // Reads a box back.
 #[cycle(read_knot)]
-fn read_box_knot<D: Entries>(alloc: Global, part: RawView<'_>, deserializer: &mut D) -> Result<Box<Knot>, Error>
+fn read_box_knot<D: Entries>(
+    alloc: Global,
+    part: RawView<'_>,
+    deserializer: &mut D,
+) -> Result<Box<Knot>, Error>
     requires { IsPartOf ⟦<ArchivedBox<ArchivedKnot> as ArchivePointee>⟧ part }
     ensures read { IfOk result (Read ⟦<ArchivedBox<ArchivedKnot> as ArchivePointee>⟧ part D.Entries
         deserializer ⟦<Box<Knot> as Archive>⟧) }
@@ -340,12 +358,15 @@ fn read_box_knot<D: Entries>(alloc: Global, part: RawView<'_>, deserializer: &mu
 
 // Reads a vector back.
 #[cycle(read_knot)]
-fn read_vec_box_knot<D: Entries>(alloc: Global, part: RawView<'_>, deserializer: &mut D) -> Result<Vec<Box<Knot>>, Error>
+fn read_vec_box_knot<D: Entries>(
+    alloc: Global,
+    part: RawView<'_>,
+    deserializer: &mut D,
+) -> Result<Vec<Box<Knot>>, Error>
     requires { IsPartOf ⟦<ArchivedVec<ArchivedBox<ArchivedKnot>> as ArchivePointee>⟧ part }
     ensures read { IfOk result (Read ⟦<ArchivedVec<ArchivedBox<ArchivedKnot>> as ArchivePointee>⟧
         part D.Entries deserializer ⟦<Vec<Box<Knot>> as Archive>⟧) }
-    ensures
-        refused { IfErr result
+    ensures refused { IfErr result
         (RefusesPart ⟦<ArchivedVec<ArchivedBox<ArchivedKnot>> as ArchivePointee>⟧ part D.Entries
         deserializer) }
 {
@@ -361,7 +382,11 @@ fn read_vec_box_knot<D: Entries>(alloc: Global, part: RawView<'_>, deserializer:
 
 // Reads a value back, part by part.
 #[cycle(read_knot)]
-fn read_knot<D: Entries>(alloc: Global, part: RawView<'_>, deserializer: &mut D) -> Result<Knot, Error>
+fn read_knot<D: Entries>(
+    alloc: Global,
+    part: RawView<'_>,
+    deserializer: &mut D,
+) -> Result<Knot, Error>
     requires { IsPartOf ⟦<ArchivedKnot as ArchivePointee>⟧ part }
     ensures read { IfOk result (Read ⟦<ArchivedKnot as ArchivePointee>⟧ part D.Entries deserializer
         ⟦<Knot as Archive>⟧) }
