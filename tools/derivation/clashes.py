@@ -6,13 +6,9 @@ from typing import Dict, Tuple
 from .model import MARK, Module, Refused
 from .parse import parsed
 
-# The type parameters of impls that are written: the deserializer and the serializer.
-PARAMETERS = ("D", "S")
-
 
 def check_clashes(module: Module, written: str):
     """Refuses a file in which a name is declared or brought in that the written part, with all that it brings in, has for another thing."""
-    check_parameters(module)
     below = parsed(module.path, written.replace(MARK, "", 1))
     for name, line in below.twice:
         raise Refused(module.path, line_of(module, name), f"`{name}` would be written twice; give one of the types another name")
@@ -26,15 +22,6 @@ def check_clashes(module: Module, written: str):
             raise Refused(module.path, line_of(module, name), f"`{name}` is written by tools/derive; bring this one in `as` another name")
     check_uses(module, below.uses, module.uses, "use")
     check_uses(module, below.ghost_uses, module.ghost_uses, "ghost use")
-
-
-def check_parameters(module: Module):
-    """Refuses a type or a type parameter that is named as one of the written part, in which it would be another thing."""
-    above = {it.name for declaration in module.declarations for it in declaration.parameters} | set(module.names) | set(module.uses)
-    for name in PARAMETERS:
-        if name in above:
-            line = module.names.get(name) or line_of(module, name)
-            raise Refused(module.path, line, f"`{name}` is a type parameter of what tools/derive writes; give this one another name")
 
 
 def check_uses(module: Module, below: Dict[str, Tuple[str, ...]], above: Dict[str, Tuple[str, ...]], word: str):

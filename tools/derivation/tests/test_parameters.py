@@ -8,7 +8,7 @@ class Parameters(RepositoryTest):
         for name, text, line in [
             ("D", "pub struct D { pub x: u8 }\n", 1),
             ("S", "pub struct A { pub x: u8 }\n\npub enum S { One, Two(A) }\n", 3),
-            ("S", "use crate::other::Spot as S;\npub struct A { pub x: Box<S> }\n", 1),
+            ("S", "use crate::other::Spot as S;\npub struct A { pub x: Box<S> }\n", 2),
             ("D", "pub struct Pair<C, D> { pub left: C, pub right: D }\n", 1),
         ]:
             with self.subTest(text):
@@ -16,7 +16,7 @@ class Parameters(RepositoryTest):
                 path = self.put(text)
                 status, said = self.run_command(path)
                 self.assertEqual(status, 2)
-                self.assertIn(f"types.rt:{line}: `{name}` is a type parameter", said)
+                self.assertIn(f"types.rt:{line}: the written part has a type parameter `{name}`", said)
                 self.assertEqual(self.text(path), text)
 
     def test_other_letters_are_names(self):
