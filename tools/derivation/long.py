@@ -44,18 +44,19 @@ def opened(names, indent):
     return lines + statement(indent, "let ", pair(left), " = rest;")
 
 
-def fields_of(formats, name, whole, rust, values):
-    """Many fields of the struct `whole` as sources, and how each is found: `values` are their names."""
+def fields_of(formats, name, whole, rust, values, lent=False):
+    """Many fields of the struct `whole` as sources, and how each is found: `values` are their names. A struct of lent fields has references."""
     formats.use("archive_core::own", "Field", "HasField")
     formats.use("archive_core::traits", "FourParts")
     those = statement(0, f"type {name} = ", fours([f"Field<{i}, {type}>" for i, type in enumerate(rust)]), ";")
+    now, by = (".now", "") if lent else ("", "&")
     impls = "".join(
         f"""
 {implementation([], "HasField", [str(i), type], whole)}
-    ghost field = {{ λ v. v.{value} }};
+    ghost field = {{ λ v. v.{value}{now} }};
 
     fn field(&self) -> &{type} {{
-        &self.{value}
+        {by}self.{value}
     }}
 }}
 """
@@ -64,3 +65,14 @@ def fields_of(formats, name, whole, rust, values):
     return f"""
 // The fields as sources.
 {those}{impls}"""
+
+
+def lent(formats, name, path, rust):
+    """The fields of a variant, lent: a struct of references."""
+    names = [f"a{i}" for i in range(len(rust))]
+    lines = "".join(f"    {value}: &'a {type},\n" for value, type in zip(names, rust))
+    return f"""// The fields of `{path}`, lent.
+#[derive(Drop)]
+struct {name}Lent<'a> {{
+{lines}}}
+{fields_of(formats, f"{name}Fields", f"{name}Lent<'_>", rust, names, lent=True)}"""

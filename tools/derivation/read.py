@@ -14,7 +14,7 @@ from .names import ALIASES, FLOATS, LIBRARY, PRIMITIVES, STD, STD_MODULES, Found
 from .parse import Declared
 from .items import number_of
 
-MOST_FIELDS = 10
+MOST_FIELDS = 16
 # Of a variant, and of a type that is archived as a tuple with names.
 MOST_FEW = 8
 MOST_PARTS = 13
@@ -212,13 +212,19 @@ class Reader:
 
     def own_type(self, it: Type, found: Found, scope: Scope) -> Type:
         declared = found.declared
+        self.check_is_no_parameter(it, scope)
         self.want_arguments(it, scope, len(declared.declaration.parameters))
         args = [self.type(x, scope) for x in it.args]
         own = self.declaration(declared, found.source)
         return shown(Type(own.name, args, it.line, it.path, own=own))
 
+    def check_is_no_parameter(self, it: Type, scope: Scope):
+        if len(it.path) == 1 and it.name in PARAMETERS:
+            raise self.no_format(it, scope, f"the written part has a type parameter `{it.name}`; give this type another name, or bring it in under one")
+
     def alias_type(self, it: Type, found: Found, scope: Scope) -> Type:
         alias = found.alias
+        self.check_is_no_parameter(it, scope)
         if id(alias) in scope.aliases:
             raise Refused(found.source.path, alias.line, f"the type `{alias.name}` is an alias of itself; write what it stands for")
         self.want_arguments(it, scope, len(alias.parameters))
@@ -273,12 +279,13 @@ def check_shape(it: Declaration):
         for x in fields:
             if x.name == "now" and it.kind == "struct":
                 raise Refused(it.path, x.line, "`now` has a meaning in contracts; choose another name for the field")
-        most = MOST_FIELDS if fields is it.fields and it.kind == "struct" else MOST_FEW
+        most = MOST_FIELDS
         if len(fields) > most:
             raise Refused(it.path, fields[most].line, f"`{of}` has {len(fields)} fields, and {most} are the most; put some into a struct of their own")
-    check_name(it, it.name, it.line)
-    for p in it.parameters:
-        check_name(it, p.name, it.line)
+    for name in [it.name] + [p.name for p in it.parameters]:
+        check_name(it, name, it.line)
+        if name in PARAMETERS:
+            raise Refused(it.path, it.line, f"the written part has a type parameter `{name}`; choose another name")
 
 
 def check_names(it: Declaration, those: Sequence, what: str):
@@ -303,6 +310,8 @@ def check_name(it: Declaration, name: str, line: int):
 
 # Names that the toolchain keeps for itself.
 TAKEN = {"deriving", "TheVariants", "TheLinks", "TheBound", "TheImpl", "TheOwn", "TheLaws", "Prim", "Lib"}
+# Type parameters of what is written.
+PARAMETERS = {"S", "D"}
 # Calls that each view has, of its own or of the traits of std: a field so named is shown by an accessor under another name.
 CALLS = set(
     """pos part field clone clone_from drop eq ne lt le gt ge cmp partial_cmp max min clamp hash cmp_native eq_native compare_said

@@ -21,13 +21,12 @@ from .common import (
 )
 from .formats import layout_of, snake
 from .layout import Generic, Group, flat, implementation, literal, pair, signature, statement
-from .long import fields_of, is_long, nest, opened, places
+from .long import fields_of, is_long, nest
+from .made import WRITTEN, Made
 
 
 # Up to so many fields a value is made where it is read.
 SHORT_RECORD = 6
-SIGNED = ("i8", "i16", "i32", "i64", "i128", "isize")
-WRITTEN = "Written by tools/derive: change the declaration, and run it again."
 
 
 class Record(Source):
@@ -211,21 +210,13 @@ def read(record):
     impl = deserialize(record, f"""{statement(8, "match ", call, " {")}{ok}            Err(error) => Err(error),
         }}
 """)
-    return f"{made_of(record)}\n{impl}" if is_made_apart(record) else impl
+    return f"{made_of(record).text(record.names, record.built())}\n{impl}" if is_made_apart(record) else impl
 
 
 def made_of(record):
-    sources = [f"⟦<{read} as Archive>⟧" for read in record.read]
-    values = [f"values{place}" for place in places(record.count)]
-    meanings = chain("value", [f"({q}.meaning {v})" for q, v in zip(sources, values)], "no_value")
-    keys = infix("++", [f"{q}.keys {v}" for q, v in zip(sources, values)], "[]")
-    return f"""// The `{record.name}` of these values, one after another.
-fn {snake(record.name)}_of(values: {record.name}Owned) -> {record.name}
-    ensures meaning {{ ⟦<{record.name} as Archive>⟧.meaning result ≡ product {meanings} }}
-    ensures keys {{ ⟦<{record.name} as Archive>⟧.keys result ≡ {keys} }}
-{{
-{opened(record.names, 4)}{statement(4, "", record.built(), "")}}}
-"""
+    """The function that makes the record of the values of its fields."""
+    name = f"{snake(record.name)}_of"
+    return Made(record.formats, record.types, name, record.name, f"{record.name}Owned", "product", record.name)
 
 
 def proofs(formats, declaration):
@@ -233,36 +224,17 @@ def proofs(formats, declaration):
     record = Record(formats, declaration)
     if not is_made_apart(record):
         return {}
+    made = made_of(record)
     module = "/".join(declaration.module)
     dotted = ".".join((declaration.crate, "proofs") + tuple(declaration.module))
-    name = f"{snake(record.name)}_of"
     impl = f"{record.archived}Deserialize{record.name}"
-    out = {}
-    signed = [
-        (f"w{8 * formats.layout(type)[0]}", f"c.args.values{place}")
-        for place, type in zip(places(record.count), record.types)
-        if type.name in SIGNED and type.own is None
-    ]
-    if signed:
-        widths = sorted({width for width, _ in signed})
-        lets = "".join(f"    let e{i} : SFits {width} {value} = search rules in\n" for i, (width, value) in enumerate(signed))
-        steps = ", ".join(f"to_z-of_z {width} {value} e{i}" for i, (width, value) in enumerate(signed))
-        out[f"proofs/{module}/{name}/Answers.antt"] = f"""-- {WRITTEN}
-use Rattle.std.proofs.Common.{{◌≡◌, refl, arith, rules}}
-use Rattle.std.proofs.lemmas.Int.{{to_z-of_z}}
-use mir.Syntax.{{{', '.join(widths)}}}
-use mir.Val.{{SFits}}
-use Rattle.{dotted}.{name}.Goals as goal
-
-pub returns-clause-meaning : goal.returns-clause-meaning
-returns-clause-meaning c =
-{lets}    rw ({steps}) refl
-"""
+    answers = made.answers(dotted)
+    out = {f"proofs/{module}/{made.name}/Answers.antt": answers} if answers else {}
     out[f"proofs/{module}/{impl}/deserialize_part/Answers.antt"] = f"""-- {WRITTEN}
 use Rattle.{dotted}.{impl}.deserialize_part.Goals as goal
 
 pub returns-in-Ok-clause-read : goal.returns-in-Ok-clause-read
-returns-in-Ok-clause-read g c = rw (c.{name}.ensures.meaning, c.{name}.ensures.keys) c.in-Ok.ensures.read
+returns-in-Ok-clause-read g c = rw (c.{made.name}.ensures.meaning, c.{made.name}.ensures.keys) c.in-Ok.ensures.read
 """
     return out
 

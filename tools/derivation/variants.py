@@ -20,6 +20,8 @@ from .common import (
 )
 from .formats import layout_of, snake
 from .layout import Generic, Group, WIDTH, ended, flat, implementation, lay, literal, pair, signature, statement
+from .long import is_long, lent, nest
+from .made import WRITTEN, Made
 
 
 class Case:
@@ -46,6 +48,7 @@ class Case:
         self.binders = [f"a{i}" for i in range(self.count)]
         self.names = self.binders
         self.word = f"{choice.name}{self.name}"
+        self.is_long = is_long(self.types)
 
     def pattern(self, values=()):
         """The variant with a name for each field, or with these values."""
@@ -99,9 +102,13 @@ class Choice(Source):
 def text(formats, declaration):
     choice = Choice(formats, declaration)
     for case in choice.cases:
-        formats.use("archive_core::fields", f"serialize_case_{case.count}", f"resolve_case_{case.count}")
+        if case.is_long:
+            formats.use("archive_core::fields", "resolve_case", "serialize_case")
+        else:
+            formats.use("archive_core::fields", f"serialize_case_{case.count}", f"resolve_case_{case.count}")
     pieces = [
         enum(choice),
+        *[lent(formats, case.word, f"{choice.name}::{case.name}", case.rust) for case in choice.cases if case.is_long],
         archive_pointee(choice),
         portable(choice, f'expr_of_choice::<{choice.name}Variants>(alloc, "{choice.archived}")'),
         check_of(choice),
@@ -122,8 +129,8 @@ def enum(choice):
     lines = []
     for case in choice.cases:
         if case.count:
-            lines.append(statement(0, f"type {case.word}Parts = ", pair(case.archived), ";"))
-            lines.append(statement(0, f"type {case.word}Owned = ", pair(case.read), ";"))
+            lines.append(statement(0, f"type {case.word}Parts = ", nest(case.archived), ";"))
+            lines.append(statement(0, f"type {case.word}Owned = ", nest(case.read), ";"))
     parts = [f"{case.word}Parts" if case.count else "()" for case in choice.cases]
     lines.append(statement(0, f"type {choice.name}Variants = ", pair(parts), ";"))
     return f"""/// An archived `{choice.name}`: {choice.size} bytes at a multiple of {choice.align}.
@@ -234,9 +241,11 @@ def archive(choice):
 
 
 def resolve_arm(choice, case):
-    place = "Place::new(pos, bytes)"
+    kept, place = kept_of(choice.formats, case.types), "Place::new(pos, bytes)"
     pattern = flat(case.pattern())
-    call = Generic(f"resolve_case_{case.count}", case.rust + [choice.archived], [str(case.tag)] + case.names + [kept_of(choice.formats, case.types), place])
+    call = Generic(f"resolve_case_{case.count}", case.rust + [choice.archived], [str(case.tag)] + case.names + [kept, place])
+    if case.is_long:
+        call = Generic("resolve_case", [f"{case.word}Lent<'_>", f"{case.word}Fields", choice.archived], [str(case.tag), "&lent", kept, place])
     if not case.count:
         one = f"            {pattern} => {flat(call)},\n"
         if len(one) <= WIDTH + 1:
@@ -246,21 +255,28 @@ def resolve_arm(choice, case):
     other = " else {\n                    unreachable!();\n                }" if len(choice.cases) > 1 else ""
     return f"""            {pattern} => {{
                 {opened}{other};
-{taken_apart(choice.formats, case.types, 16)}{statement(16, "", call, "")}            }}
+{taken_apart(choice.formats, case.types, 16)}{lending(case, 16)}{statement(16, "", call, "")}            }}
 """
 
 
-def match_arm(pattern, call, values, made):
-    """An arm that answers what a call answers, by another name."""
+def lending(case, indent):
+    """The line that lends many fields at once."""
+    if not case.is_long:
+        return ""
+    return statement(indent, "let lent = ", literal(f"{case.word}Lent", case.names), ";")
+
+
+def match_arm(pattern, call, values, made, first=""):
+    """An arm that answers what a call answers, by another name. `first` are lines before the call."""
     before = f"{flat(pattern)} => match "
     whole = lay(call, 12, 12 + len(before), 2)
-    if 12 + len(before) + len(whole.split("\n")[0]) <= WIDTH:
+    if not first and 12 + len(before) + len(whole.split("\n")[0]) <= WIDTH:
         return f"""            {before}{ended(whole, 12, " {")}
 {ok_arm(values, made, 16)}                Err(error) => Err(error),
             }},
 """
     return f"""            {flat(pattern)} => {{
-{statement(16, "match ", call, " {")}{ok_arm(values, made, 20)}                    Err(error) => Err(error),
+{first}{statement(16, "match ", call, " {")}{ok_arm(values, made, 20)}                    Err(error) => Err(error),
                 }}
             }}
 """
@@ -271,8 +287,10 @@ def serialize(choice):
     arms = []
     for case in choice.cases:
         call = Generic(f"serialize_case_{case.count}", case.rust + [choice.archived, "S"], [str(case.tag)] + case.names + ["serializer"])
+        if case.is_long:
+            call = Generic("serialize_case", [f"{case.word}Lent<'_>", f"{case.word}Fields", choice.archived, "S"], [str(case.tag), "&lent", "serializer"])
         made = f"{choice.resolver}::{case.name}" + ("(kept)" if case.count else "")
-        arms.append(match_arm(case.pattern(), call, "kept" if case.count else "()", made))
+        arms.append(match_arm(case.pattern(), call, "kept" if case.count else "()", made, lending(case, 16)))
     return f"""{implementation([f"S: {bound}"], "Serialize", ["S"], choice.name)}
     fn serialize(&self, serializer: &mut S) -> Result<Self::Resolver, Error> {{
         match self {{
@@ -290,8 +308,33 @@ def read(choice):
         its = [f"{case.word}Parts", f"{case.word}Owned"] if case.count else ["()", "()"]
         call = Generic("read_case", ["Self"] + its + ["D"], [str(case.tag), "alloc", "part", "deserializer"])
         tag = "_" if case is choice.cases[-1] else str(case.tag)
-        arms.append(match_arm(tag, call, flat(pair(case.names)), case.built()))
-    return deserialize(choice, f"        match known_tag::<Self>(part) {{\n{''.join(arms)}        }}\n")
+        if case.is_long:
+            arms.append(match_arm(tag, call, "values", f"{made_of(case).name}(values)"))
+        else:
+            arms.append(match_arm(tag, call, flat(pair(case.names)), case.built()))
+    made = "".join(f"{made_of(case).text(case.names, case.built())}\n" for case in choice.cases if case.is_long)
+    return made + deserialize(choice, f"        match known_tag::<Self>(part) {{\n{''.join(arms)}        }}\n")
+
+
+def made_of(case):
+    """The function that makes a long variant of the values of its fields."""
+    choice = case.choice
+    name = f"{snake(choice.name)}_{snake(case.name)}_of"
+    return Made(choice.formats, case.types, name, choice.name, f"{case.word}Owned", f"case {case.tag}", f"{choice.name}::{case.name}")
+
+
+def proofs(formats, declaration):
+    """The proofs that are written beside the module, by their paths in the crate."""
+    choice = Choice(formats, declaration)
+    module = "/".join(declaration.module)
+    dotted = ".".join((declaration.crate, "proofs") + tuple(declaration.module))
+    out = {}
+    for case in choice.cases:
+        made = made_of(case) if case.is_long else None
+        answers = made and made.answers(dotted)
+        if answers:
+            out[f"proofs/{module}/{made.name}/Answers.antt"] = answers
+    return out
 
 
 def views(choice):

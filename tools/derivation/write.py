@@ -25,8 +25,9 @@ def proofs(module):
     formats = Formats(module)
     out = {}
     for declaration in module.declarations:
-        if declaration.kind == "struct" and not declaration.as_tuple and not declaration.recursive:
-            out.update(records.proofs(formats, declaration))
+        if not declaration.as_tuple and not declaration.recursive:
+            its = records if declaration.kind == "struct" else variants
+            out.update(its.proofs(formats, declaration))
     out.update(recursive.files(module))
     return out
 

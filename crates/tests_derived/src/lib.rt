@@ -4,6 +4,8 @@
 #[cfg(test)]
 mod assertions;
 #[cfg(test)]
+mod books;
+#[cfg(test)]
 mod drawings;
 #[cfg(test)]
 mod entries;
@@ -31,5 +33,7 @@ mod stock;
 mod tracks;
 #[cfg(test)]
 mod turns;
+#[cfg(test)]
+mod weathers;
 #[cfg(test)]
 mod words;

@@ -36,7 +36,7 @@ class Compared(RepositoryTest):
 
     def test_a_type_of_others(self):
         derived = "#[derive(Ord)]\n"
-        text = self.written(f"{derived}struct A {{ b: B }}\n{derived}struct B;\n{derived}struct C {{ d: D }}\nstruct D;")
+        text = self.written(f"{derived}struct A {{ b: B }}\n{derived}struct B;\n{derived}struct C {{ d: E }}\nstruct E;")
         self.assertIn("impl Ordered for ArchivedA {", text)
         self.assertIn("ArchivedBOrdered.TheImpl.Laws.{by_value-law as by_value_of_archived_b, ", text)
         self.assertNotIn("impl Ordered for ArchivedC {", text)

@@ -63,7 +63,7 @@ DECLARATIONS = [
     ("struct A<T> { x: T,\ny: (u8, T) }", "2: a tuple in a struct with type parameters is too deep for the toolchain; write a struct without parameters"),
     ("struct W<T>(T);\nstruct A { x: Vec<W<Option<W<u8>>>> }", "2: `W<u8>` in a tuple or a struct with type parameters is too deep for the toolchain; write a struct without"),
     (f"struct A<T> {{ t: T, {LIST.join(f'f{i}: u8' for i in range(FEW))} }}", f"{FEW}: `A` has {FEW + 1} fields, and {FEW} are the most of a struct with type parameters; put some into a struct of their own"),
-    (f"enum A {{ X({LIST.join('u8' for _ in range(FEW + 1))}) }}", f"{FEW + 1}: `A::X` has {FEW + 1} fields, and {FEW} are the most; put some into a struct of their own"),
+    (f"enum A {{ X({LIST.join('u8' for _ in range(MOST + 1))}) }}", f"{MOST + 1}: `A::X` has {MOST + 1} fields, and {MOST} are the most; put some into a struct of their own"),
     (f"struct A {{ {LIST.join(f'f{i}: u8' for i in range(FEW))},\nx: (u8, u8) }}", f"{FEW + 1}: `(u8, u8)` is too much for the toolchain in a struct of more than {FEW} fields; put it into a struct of its own"),
     ("struct A { x: Vec<Option<Vec<Option<Vec<Option<u8>>>>>> }", "1: `Vec<Option<Vec<Option<Vec<Option<u8>>>>>>` is too deep for the toolchain; put a part of it into a struct"),
     (f"struct A {{ {LIST.join(f'f{i}: Vec<Option<Vec<u8>>>' for i in range(5))} }}", "5: `Vec<Option<Vec<u8>>>` is too deep for the toolchain beside the fields before it; put a part of it into a struct"),
@@ -71,6 +71,9 @@ DECLARATIONS = [
     (f"enum A {{\n{LIST.join(f'V{i}(u8, u8, u8, u8)' for i in range(15))} }}", "14: `A` has more variants up to here than the toolchain follows; put some into an enum of their own"),
     ("struct A<T = u8>(T);", "1: `T` has a default; write the type at each use instead"),
     (f"struct A {{\n{LIST.join(f'f{i}: u8' for i in range(MOST + 1))} }}", f"{MOST + 2}: `A` has {MOST + 1} fields, and {MOST} are the most; put some into a struct of their own"),
+    ("struct D { x: u8 }", "1: the written part has a type parameter `D`; choose another name"),
+    ("struct A<S> { x: S }", "1: the written part has a type parameter `S`; choose another name"),
+    ("type S = u8;\nstruct A { x: S }", "2: the written part has a type parameter `S`; give this type another name, or bring it in under one"),
     ("struct A { x: u8, X: u8 }", "1: the fields `X` and `x` differ only in case; give one of them another name"),
     ("struct A { x: u8,\nx: u8 }", "2: the fields `x` are two; give one of them another name"),
     ("enum A { One, one }", "1: the variants `one` and `One` differ only in case; give one of them another name"),
@@ -148,7 +151,7 @@ class Circles(RepositoryTest):
     def test_behind_no_pointer(self):
         for text, names in [
             ("struct A { a: Option<A> }", "A > A"),
-            ("struct A { b: B }\nenum B { C([D; 2]) }\nstruct D { a: (u8, A) }", "A > B > D > A"),
+            ("struct A { b: B }\nenum B { C([E; 2]) }\nstruct E { a: (u8, A) }", "A > B > E > A"),
             ("struct W<T>(T);\nstruct A { x: W<A> }", "A > A"),
             ("struct A(Result<u8, Self>);", "A > A"),
         ]:

@@ -1,0 +1,61 @@
+"""Values of many fields, which a function of their own makes of those of their fields, with a proof that is written beside the module."""
+
+from .common import chain, infix
+from .layout import statement
+from .long import opened, places
+
+SIGNED = ("i8", "i16", "i32", "i64", "i128", "isize")
+WRITTEN = "Written by tools/derive: change the declaration, and run it again."
+
+
+class Made:
+    """What is made, a struct or a variant."""
+
+    def __init__(self, formats, types, name, of, owned, meaning, path):
+        self.formats = formats
+        self.types = types
+        self.read = [formats.read_as(type) for type in types]
+        self.places = places(len(types))
+        self.name = name  # the function's
+        self.of = of  # the type
+        self.owned = owned  # the type of the values
+        self.meaning = meaning  # what the meanings of the fields are the meaning of
+        self.path = path  # as it is written in code
+
+    def text(self, names, built):
+        """The function."""
+        sources = [f"⟦<{read} as Archive>⟧" for read in self.read]
+        values = [f"values{place}" for place in self.places]
+        meanings = chain("value", [f"({q}.meaning {v})" for q, v in zip(sources, values)], "no_value")
+        keys = infix("++", [f"{q}.keys {v}" for q, v in zip(sources, values)], "[]")
+        return f"""// The `{self.path}` of these values, one after another.
+fn {self.name}(values: {self.owned}) -> {self.of}
+    ensures meaning {{ ⟦<{self.of} as Archive>⟧.meaning result ≡ {self.meaning} {meanings} }}
+    ensures keys {{ ⟦<{self.of} as Archive>⟧.keys result ≡ {keys} }}
+{{
+{opened(names, 4)}{statement(4, "", built, "")}}}
+"""
+
+    def answers(self, dotted):
+        """The proof that it means what the values do, where that needs one: the check doesn't see that a signed number is what its bits are."""
+        signed = [
+            (f"w{8 * self.formats.layout(type)[0]}", f"c.args.values{place}")
+            for place, type in zip(self.places, self.types)
+            if type.name in SIGNED and type.own is None
+        ]
+        if not signed:
+            return None
+        widths = sorted({width for width, _ in signed})
+        lets = "".join(f"    let e{i} : SFits {width} {value} = search rules in\n" for i, (width, value) in enumerate(signed))
+        steps = ", ".join(f"to_z-of_z {width} {value} e{i}" for i, (width, value) in enumerate(signed))
+        return f"""-- {WRITTEN}
+use Rattle.std.proofs.Common.{{◌≡◌, refl, arith, rules}}
+use Rattle.std.proofs.lemmas.Int.{{to_z-of_z}}
+use mir.Syntax.{{{', '.join(widths)}}}
+use mir.Val.{{SFits}}
+use Rattle.{dotted}.{self.name}.Goals as goal
+
+pub returns-clause-meaning : goal.returns-clause-meaning
+returns-clause-meaning c =
+{lets}    rw ({steps}) refl
+"""
