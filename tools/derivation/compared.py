@@ -6,6 +6,7 @@ fields. The laws are terms: with a bound on the nest (`where PointParts: Compare
 
 from .formats import ALIGNS, INTEGERS, snake
 from .layout import Generic, statement
+from .loads import Loads
 
 # What a declaration derives whose views are compared.
 ASKING = {"Eq", "PartialOrd", "Ord", "Hash"}
@@ -24,7 +25,12 @@ def is_compared(declaration):
     if declaration.as_tuple or declaration.recursive or not ASKING & set(declaration.derives):
         return False
     lists = [declaration.fields] + [variant.fields for variant in declaration.variants]
-    return all(len(fields) <= MOST and all(can_be(field.type) for field in fields) for fields in lists)
+    return all(len(fields) <= MOST and all(can_be(field.type) for field in fields) and in_pairs(fields) for fields in lists)
+
+
+def in_pairs(fields):
+    """Whether the nest of these fields is one of pairs."""
+    return not Loads().go_by_fours([field.type for field in fields])
 
 
 def can_be(type):

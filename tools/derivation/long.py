@@ -2,8 +2,11 @@
 
 The evidence of a call with a flat list of fields (`serialize_record_4` and its kin) is linear in the fields. Reading goes by the nest: by number, with a
 bound `A::Archived: Deserialize<A, R>` a field, it "stopped at the step limit (50000000 steps a task, the default)" at three. The front end doesn't take
-sixteen fields in pairs, but in fours; a struct of ten fields is proved. A variant would lend its fields in a struct of references: that compiled and ran,
-and all but `resolve` was proved.
+sixteen fields in pairs, but in fours.
+
+A part of a nest is found in each value of the whole, and a variant's fields aren't in each value of an enum. So a variant lends many fields in a struct of
+references. `serialize_case` and `resolve_case` ask for `Portable` of the enum: with `Choice`, whose variants are passed, too, "the impls to pass for
+`char: Eq` do not end, or are too many" at sixteen fields.
 """
 
 from .layout import fours, implementation, literal, pair, statement
@@ -18,23 +21,23 @@ def is_long(parts):
     return len(parts) > MOST_BY_NUMBER
 
 
-def nest(parts):
+def nest(parts, by_fours):
     """Fields as types or as values."""
-    return fours(parts) if is_long(parts) else pair(parts)
+    return fours(parts) if by_fours else pair(parts)
 
 
-def places(count):
+def places(count, by_fours):
     """Where each of so many fields is in the nest of their values."""
-    if count <= MOST_BY_NUMBER:
+    if not by_fours:
         return [f"{'.1' * i}.0" for i in range(count)]
     last = 4 * (count // 4)
     quads = [f"{'.rest' * (i // 4)}.{ORDINALS[i % 4]}" for i in range(last)]
     return quads + [f"{'.rest' * (last // 4)}{'.1' * i}.0" for i in range(count - last)]
 
 
-def opened(names, indent):
+def opened(names, indent, by_fours):
     """The lines that name each of `values`."""
-    if not is_long(names):
+    if not by_fours:
         return statement(indent, "let ", pair(names), " = values;")
     lines, left, whole = "", list(names), "values"
     while len(left) >= 4:
@@ -47,7 +50,6 @@ def opened(names, indent):
 def fields_of(formats, name, whole, rust, values, lent=False):
     """Many fields of the struct `whole` as sources, and how each is found: `values` are their names. A struct of lent fields has references."""
     formats.use("archive_core::own", "Field", "HasField")
-    formats.use("archive_core::traits", "FourParts")
     those = statement(0, f"type {name} = ", fours([f"Field<{i}, {type}>" for i, type in enumerate(rust)]), ";")
     now, by = (".now", "") if lent else ("", "&")
     impls = "".join(

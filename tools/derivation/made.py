@@ -11,11 +11,12 @@ WRITTEN = "Written by tools/derive: change the declaration, and run it again."
 class Made:
     """What is made, a struct or a variant."""
 
-    def __init__(self, formats, types, name, of, owned, meaning, path):
+    def __init__(self, formats, types, by_fours, name, of, owned, meaning, path):
         self.formats = formats
         self.types = types
         self.read = [formats.read_as(type) for type in types]
-        self.places = places(len(types))
+        self.by_fours = by_fours
+        self.places = places(len(types), by_fours)
         self.name = name  # the function's
         self.of = of  # the type
         self.owned = owned  # the type of the values
@@ -33,7 +34,7 @@ fn {self.name}(values: {self.owned}) -> {self.of}
     ensures meaning {{ ⟦<{self.of} as Archive>⟧.meaning result ≡ {self.meaning} {meanings} }}
     ensures keys {{ ⟦<{self.of} as Archive>⟧.keys result ≡ {keys} }}
 {{
-{opened(names, 4)}{statement(4, "", built, "")}}}
+{opened(names, 4, self.by_fours)}{statement(4, "", built, "")}}}
 """
 
     def answers(self, dotted):

@@ -1,21 +1,21 @@
 """Reads declarations: each type of a field is looked up, and what can't be archived is refused, with the file, the line and what to write instead.
 
-The bounds on what the toolchain takes were found by trying. "The impls to pass .. do not end, or are too many" comes for sixteen `(String, String)`, but
-not for sixteen `BTreeMap<String, String>`; for eight `Option<Box<Vec<String>>>`, but not for six; for 40 variants of which 32 have fields, but not for 30
-with fields, nor for 60 without; for `((u8, u16), (u32, u64))`, but not for `((u8, u16), u32)`.
+How much the toolchain takes at once is counted in loads.py.
 """
 
 from typing import Dict, List, Optional, Sequence, Set
 
 from .circles import check_circles
 from .formats import snake, substituted
+from .loads import MOST as MOST_LOAD
+from .loads import MOST_OF_VARIANTS, Loads
 from .model import Declaration, Field, Module, Refused, Type
 from .names import ALIASES, FLOATS, LIBRARY, PRIMITIVES, STD, STD_MODULES, Found, Source, World
 from .parse import Declared
 from .items import number_of
 
 MOST_FIELDS = 16
-# Of a variant, and of a type that is archived as a tuple with names.
+# Of a type that is archived as a tuple with names.
 MOST_FEW = 8
 MOST_PARTS = 13
 MOST_VARIANTS = 256
@@ -366,18 +366,13 @@ def module(reader: Reader, source: Source) -> Module:
     return out
 
 
-# What a call passes of a type grows with how deep the type is, and the toolchain follows only so much ("the impls to pass .. do not end, or are too many").
-# These bounds were found by trying.
-DEEPEST = 5
-MOST_LOAD = 4
-MOST_IN_ENUM = 60
-# Of all variants with fields together, where one counts for two, its first field for one, the second for two, and so on: 29 variants of two fields passed,
-# and 4 of eight. 24 of three didn't, nor did 20 of four, nor 7 of eight; what is between wasn't tried.
-MOST_NESTED_IN_ENUM = 152
+# Tuples nest up to 64 deep, as those of variants do.
+DEEPEST = 60
 
 
 def check_loads(module: Module):
     """Refuses what is too much for the toolchain at once."""
+    loads = Loads()
     for it in module.declarations:
         if it.as_tuple and len(it.fields) > MOST_FEW:
             kind = "with type parameters" if it.parameters else "that holds a recursive type"
@@ -386,41 +381,28 @@ def check_loads(module: Module):
         if it.as_tuple or it.recursive:
             continue
         for fields in [it.fields] + [v.fields for v in it.variants]:
-            check_load(module, fields)
-        load, weight = 0, 0
-        for v in it.variants:
-            load += 2 if v.fields else 1
-            weight += 2 + len(v.fields) * (len(v.fields) + 1) // 2 if v.fields else 0
-            if load > MOST_IN_ENUM or weight > MOST_NESTED_IN_ENUM:
-                raise Refused(module.path, v.line, f"`{it.name}` has more variants up to here than the toolchain follows; put some into an enum of their own")
+            check_load(module, loads, fields)
+        check_variants(module, loads, it)
 
 
-def check_load(module: Module, fields: List[Field]):
-    load = 0
-    for field in fields:
-        its = depth(field.type)
-        load += max(0, its - 2)
-        if len(fields) > MOST_FEW and not is_light(field.type):
-            said = f"`{field.type.text}` is too much for the toolchain in a struct of more than {MOST_FEW} fields; put it into a struct of its own"
-            raise Refused(module.path, field.type.line, said)
-        if its > DEEPEST or load > MOST_LOAD:
-            said = f"`{field.type.text}` is too deep for the toolchain{'' if its > DEEPEST else ' beside the fields before it'}; put a part of it into a struct"
-            raise Refused(module.path, field.type.line, said)
+def check_load(module: Module, loads: Loads, fields: List[Field]):
+    """Refuses the first field with which there is too much in a struct or a variant."""
+    types = [field.type for field in fields]
+    if loads.least_of_fields(types) <= MOST_LOAD:
+        return
+    for count, field in enumerate(fields, 1):
+        if loads.least_of_fields(types[:count]) > MOST_LOAD:
+            what = "beside the fields before it; put some of them" if count > 1 else "; put a part of it"
+            raise Refused(module.path, field.type.line, f"`{field.type.text}` is too deep for the toolchain{' ' if count > 1 else ''}{what} into a struct")
 
 
-def depth(it: Type) -> int:
-    """How deep a type is; a tuple counts for more."""
-    if not it.args or it.name in ("PhantomData", "NonZero") and it.own is None:
-        return 0
-    inner = max(depth(x) for x in it.args)
-    if it.own is not None:
-        return inner + 2
-    return inner + 1 + (1 + (len(it.args) > 4) + 2 * (len(it.args) > 8) if it.name == "tuple" else 0)
-
-
-def is_light(it: Type) -> bool:
-    """Whether sixteen such fields pass: no type in a type, no tuple, no array, no shared slice."""
-    return depth(it) <= 1 and it.name not in ("array", "OwnedArray", "SharedSlice", "SharedStr", "WeakShared")
+def check_variants(module: Module, loads: Loads, it: Declaration):
+    """Refuses the first variant with which there is too much in an enum."""
+    types = []
+    for count, v in enumerate(it.variants, 1):
+        types.append([field.type for field in v.fields])
+        if count + len(v.fields) > DEEPEST or loads.of_variants(types) > MOST_OF_VARIANTS:
+            raise Refused(module.path, v.line, f"`{it.name}` has more variants up to here than the toolchain follows; put some into an enum of their own")
 
 
 def found_in(it: Type, is_it) -> Optional[Type]:

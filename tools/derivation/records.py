@@ -21,6 +21,7 @@ from .common import (
 )
 from .formats import layout_of, snake
 from .layout import Generic, Group, flat, implementation, literal, pair, signature, statement
+from .loads import Loads
 from .long import fields_of, is_long, nest
 from .made import WRITTEN, Made
 
@@ -37,6 +38,7 @@ class Record(Source):
         self.fields = declaration.fields
         self.types = [field.type for field in self.fields]
         self.count = len(self.types)
+        self.by_fours = Loads().go_by_fours(self.types)
         self.formats_of = [formats.archived(type) for type in self.types]
         self.rust = [formats.rust(type) for type in self.types]
         self.read = [formats.read_as(type) for type in self.types]
@@ -83,8 +85,10 @@ def text(formats, declaration):
 
 def struct(record):
     archived = record.archived
-    parts = statement(0, f"type {record.name}Parts = ", nest(record.formats_of), ";")
-    owned = statement(0, f"type {record.name}Owned = ", nest(record.read), ";")
+    parts = statement(0, f"type {record.name}Parts = ", nest(record.formats_of, record.by_fours), ";")
+    if record.by_fours:
+        record.formats.use("archive_core::traits", "FourParts")
+    owned = statement(0, f"type {record.name}Owned = ", nest(record.read, record.by_fours), ";")
     fields = ""
     if is_long(record.types):
         fields = fields_of(record.formats, f"{record.name}Fields", record.name, record.rust, [field.name for field in record.fields])
@@ -197,7 +201,7 @@ def serialize(record):
 
 def is_made_apart(record):
     """Whether a value is made of those of its fields by a function of its own, whose proof is written beside the module."""
-    return record.count > SHORT_RECORD
+    return record.count > SHORT_RECORD or record.by_fours
 
 
 def read(record):
@@ -216,7 +220,7 @@ def read(record):
 def made_of(record):
     """The function that makes the record of the values of its fields."""
     name = f"{snake(record.name)}_of"
-    return Made(record.formats, record.types, name, record.name, f"{record.name}Owned", "product", record.name)
+    return Made(record.formats, record.types, record.by_fours, name, record.name, f"{record.name}Owned", "product", record.name)
 
 
 def proofs(formats, declaration):

@@ -20,6 +20,7 @@ from .common import (
 )
 from .formats import layout_of, snake
 from .layout import Generic, Group, WIDTH, ended, flat, implementation, lay, literal, pair, signature, statement
+from .loads import Loads
 from .long import is_long, lent, nest
 from .made import WRITTEN, Made
 
@@ -49,6 +50,7 @@ class Case:
         self.names = self.binders
         self.word = f"{choice.name}{self.name}"
         self.is_long = is_long(self.types)
+        self.by_fours = Loads().go_by_fours(self.types)
 
     def pattern(self, values=()):
         """The variant with a name for each field, or with these values."""
@@ -128,9 +130,11 @@ def text(formats, declaration):
 def enum(choice):
     lines = []
     for case in choice.cases:
+        if case.by_fours:
+            choice.formats.use("archive_core::traits", "FourParts")
         if case.count:
-            lines.append(statement(0, f"type {case.word}Parts = ", nest(case.archived), ";"))
-            lines.append(statement(0, f"type {case.word}Owned = ", nest(case.read), ";"))
+            lines.append(statement(0, f"type {case.word}Parts = ", nest(case.archived, case.by_fours), ";"))
+            lines.append(statement(0, f"type {case.word}Owned = ", nest(case.read, case.by_fours), ";"))
     parts = [f"{case.word}Parts" if case.count else "()" for case in choice.cases]
     lines.append(statement(0, f"type {choice.name}Variants = ", pair(parts), ";"))
     return f"""/// An archived `{choice.name}`: {choice.size} bytes at a multiple of {choice.align}.
@@ -308,19 +312,19 @@ def read(choice):
         its = [f"{case.word}Parts", f"{case.word}Owned"] if case.count else ["()", "()"]
         call = Generic("read_case", ["Self"] + its + ["D"], [str(case.tag), "alloc", "part", "deserializer"])
         tag = "_" if case is choice.cases[-1] else str(case.tag)
-        if case.is_long:
+        if case.by_fours:
             arms.append(match_arm(tag, call, "values", f"{made_of(case).name}(values)"))
         else:
             arms.append(match_arm(tag, call, flat(pair(case.names)), case.built()))
-    made = "".join(f"{made_of(case).text(case.names, case.built())}\n" for case in choice.cases if case.is_long)
+    made = "".join(f"{made_of(case).text(case.names, case.built())}\n" for case in choice.cases if case.by_fours)
     return made + deserialize(choice, f"        match known_tag::<Self>(part) {{\n{''.join(arms)}        }}\n")
 
 
 def made_of(case):
-    """The function that makes a long variant of the values of its fields."""
+    """The function that makes a variant of the values of its fields, where they are in fours."""
     choice = case.choice
     name = f"{snake(choice.name)}_{snake(case.name)}_of"
-    return Made(choice.formats, case.types, name, choice.name, f"{case.word}Owned", f"case {case.tag}", f"{choice.name}::{case.name}")
+    return Made(choice.formats, case.types, case.by_fours, name, choice.name, f"{case.word}Owned", f"case {case.tag}", f"{choice.name}::{case.name}")
 
 
 def proofs(formats, declaration):
@@ -330,7 +334,7 @@ def proofs(formats, declaration):
     dotted = ".".join((declaration.crate, "proofs") + tuple(declaration.module))
     out = {}
     for case in choice.cases:
-        made = made_of(case) if case.is_long else None
+        made = made_of(case) if case.by_fours else None
         answers = made and made.answers(dotted)
         if answers:
             out[f"proofs/{module}/{made.name}/Answers.antt"] = answers

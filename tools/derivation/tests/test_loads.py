@@ -1,0 +1,81 @@
+"""What the toolchain rejected is too much, and what it took is mostly not."""
+
+from derivation import loads
+
+from .repository import RepositoryTest
+
+# So many fields of a type, in one struct, that the front end rejected, in pairs up to eight.
+REJECTED = [
+    (16, "(String, String)"),
+    (16, "Option<char>"),
+    (16, "BoxSlice<u32>"),
+    (16, "Shared<u32>"),
+    (12, "Shared<u32>"),
+    (12, "WeakShared<u32>"),
+    (10, "SharedSlice<u32>"),
+    (11, "Vec<u32>"),
+    (8, "Option<Box<u32>>"),
+    (8, "Option<Box<Vec<String>>>"),
+    (8, "Vec<Option<u32>>"),
+    (8, "BTreeMap<u32, Vec<u32>>"),
+    (8, "Result<Vec<u32>, Vec<u32>>"),
+    (8, "(u32, u32)"),
+    (3, "Vec<Option<Vec<u32>>>"),
+    (3, "Option<Box<Vec<u32>>>"),
+]
+# That it took, of each the most that is allowed.
+TAKEN = [
+    (16, "u32"),
+    (16, "Vec<String>"),
+    (16, "BTreeMap<String, String>"),
+    (10, "Vec<u32>"),
+    (10, "OwnedArray<u32, 4>"),
+    (9, "BoxSlice<u32>"),
+    (9, "Option<Vec<Option<u8>>>"),
+    (6, "Result<u32, u32>"),
+    (5, "Option<Box<u32>>"),
+    (5, "BTreeMap<u32, u32>"),
+    (5, "Vec<Vec<u32>>"),
+    (5, "(u8, u8, u8, u8, u8)"),
+    (4, "(u8, u32, String)"),
+]
+# So many variants with so many fields of a type that it rejected.
+REJECTED_VARIANTS = [(11, 1, "Option<Box<u32>>"), (33, 8, "String"), (30, 2, "u32")]
+TAKEN_VARIANTS = [(24, 3, "u8"), (20, 4, "u8"), (7, 8, "u8"), (59, 1, "u8"), (19, 3, "Vec<String>")]
+HEAD = """use archive_core::boxed::BoxSlice;
+use archive_core::core_impls::OwnedArray;
+use archive_core::rc::{Shared, SharedSlice, WeakShared};
+use std::collections::BTreeMap;
+"""
+
+
+class LoadsTest(RepositoryTest):
+    def types(self, count, type):
+        """The types of a variant with so many fields."""
+        return [self.declaration(f"{HEAD}struct A {{ x: {type} }}").fields[0].type] * count
+
+    def test_fields(self):
+        all_loads = loads.Loads()
+        for count, type in REJECTED:
+            with self.subTest(type):
+                self.assertGreater(all_loads.of_fields(self.types(count, type), count > 8), loads.MOST)
+        for count, type in TAKEN:
+            with self.subTest(type):
+                self.assertLessEqual(all_loads.least_of_fields(self.types(count, type)), loads.MOST)
+
+    def test_variants(self):
+        all_loads = loads.Loads()
+        for count, fields, type in REJECTED_VARIANTS:
+            with self.subTest(type):
+                self.assertGreater(all_loads.of_variants([self.types(fields, type)] * count), loads.MOST_OF_VARIANTS)
+        for count, fields, type in TAKEN_VARIANTS:
+            with self.subTest(type):
+                self.assertLessEqual(all_loads.of_variants([self.types(fields, type)] * count), loads.MOST_OF_VARIANTS)
+
+    def test_fours_where_pairs_are_too_much(self):
+        path = self.put("pub struct A { " + ", ".join(f"f{i}: Vec<u32>" for i in range(8)) + " }")
+        self.assertEqual(self.run_command(path), (0, ""))
+        written = self.text(path)
+        self.assertIn("type AParts = FourParts<", written)
+        self.assertIn("serialize_record_8::<", written)
+        self.assertIn("Ok(values) => Ok(a_of(values)),", written)
