@@ -29,21 +29,19 @@ TAKEN = [
     (16, "Vec<String>"),
     (16, "BTreeMap<String, String>"),
     (10, "Vec<u32>"),
-    (10, "OwnedArray<u32, 4>"),
     (9, "BoxSlice<u32>"),
     (9, "Option<Vec<Option<u8>>>"),
     (6, "Result<u32, u32>"),
     (5, "Option<Box<u32>>"),
     (5, "BTreeMap<u32, u32>"),
     (5, "Vec<Vec<u32>>"),
-    (5, "(u8, u8, u8, u8, u8)"),
-    (4, "(u8, u32, String)"),
+    (3, "(u8, u8, u8, u8, u8)"),
+    (2, "(u8, u32, String)"),
 ]
 # So many variants with so many fields of a type that it rejected.
 REJECTED_VARIANTS = [(11, 1, "Option<Box<u32>>"), (33, 8, "String"), (30, 2, "u32")]
 TAKEN_VARIANTS = [(24, 3, "u8"), (20, 4, "u8"), (7, 8, "u8"), (59, 1, "u8"), (19, 3, "Vec<String>")]
 HEAD = """use archive_core::boxed::BoxSlice;
-use archive_core::core_impls::OwnedArray;
 use archive_core::rc::{Shared, SharedSlice, WeakShared};
 use std::collections::BTreeMap;
 """
