@@ -98,8 +98,9 @@ class Recursive:
         return found
 
     def is_written(self, type):
-        """Whether a function writes what an owner owns: what is in an option is written with it."""
-        return any(self.word(part) == self.word(type) for it in self.family.members for case in it.cases for part in case.types if self.terms.leads_back(part))
+        """Whether a function writes what an owner owns: what is in an option is written with it, and a vector in a box by a function of its own."""
+        parts = [part for it in self.family.members for case in it.cases for part in case.types if self.terms.leads_back(part)]
+        return any(self.word(part) == self.word(type) for part in parts + [part.args[0] for part in parts if part.name == "Box"])
 
     def word(self, type):
         """What functions of an owner are called by: `box_expr`."""

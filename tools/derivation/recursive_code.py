@@ -481,8 +481,7 @@ fn serialize_each_{it.word(item)}<{it.writer}>(values: &[{its}], serializer: &mu
     let alloc = serializer.resolver_alloc();
     let mut resolvers = Vec::with_capacity(alloc, values.len())?;
     for value in values {{
-{element_written(it, item)}        resolvers.push(resolver).map_err(AllocError::from)?;
-    }}
+{element_written(it, item)}    }}
     Ok(resolvers)
 }}
 
@@ -507,23 +506,41 @@ fn serialize_{name}<{it.writer}>(value: &{T}, serializer: &mut S) -> Result<VecR
 
 
 def element_written(it, item):
-    """The lines that write what an element of a vector owns. A box's value is written where the vector is gone over: of a function that is passed the box the
-    toolchain doesn't see that it ends."""
+    """The lines that write what an element of a vector owns, and keep its resolver. A box's value is written where the vector is gone over: of a function that
+    is passed the box the toolchain doesn't see that it ends."""
+    push = "resolvers.push({}).map_err(AllocError::from)?;"
     if it.terms.is_member(item):
         return f"""        let resolver = match serialize_{it.word(item)}(value, serializer) {{
             Ok(resolver) => resolver,
             Err(error) => return Err(error),
         }};
+        {push.format("resolver")}
 """
-    return f"""        let inner = &**value;
-        let kept = match serialize_{it.word(item.args[0])}(inner, serializer) {{
-            Ok(kept) => kept,
-            Err(error) => return Err(error),
-        }};
-        let resolver = match serialize_inner(inner, kept, serializer) {{
-            Ok(resolver) => resolver,
-            Err(error) => return Err(error),
-        }};
+    if item.name == "Box":
+        return inner_written(it, item, "value", 8) + f"        {push.format('resolver')}\n"
+    return f"""        match value {{
+            None => {{
+                {push.format("None")}
+            }}
+            Some(whole) => {{
+{inner_written(it, item.args[0], "whole", 16)}                {push.format("Some(resolver)")}
+            }}
+        }}
+"""
+
+
+def inner_written(it, box, name, indent):
+    """The lines that write what a box holds, as the region that it owns."""
+    pad = " " * indent
+    return f"""{pad}let inner = &**{name};
+{pad}let kept = match serialize_{it.word(box.args[0])}(inner, serializer) {{
+{pad}    Ok(kept) => kept,
+{pad}    Err(error) => return Err(error),
+{pad}}};
+{pad}let resolver = match serialize_inner(inner, kept, serializer) {{
+{pad}    Ok(resolver) => resolver,
+{pad}    Err(error) => return Err(error),
+{pad}}};
 """
 
 

@@ -280,11 +280,19 @@ def still_mapped(it, item, which, x):
 
 
 def mapped(it, item, which, x):
-    """That it is what is said of the elements."""
+    """That it is what is said of the elements. What is said of an element has its type: antt finds no other."""
     keys, own = "" if which == "meaning" else "_keys", it.terms.own(which)
     if it.terms.is_member(item):
         return f"each_mapped{keys} {own[item.name]} {x}.items"
-    return f"each_alike{keys} _ {it.terms.function(which, item, '(λ v. v)')} {it.terms.function(which, item, own)} (λ x. refl) {x}.items"
+    lemma, nothing = ("options_alike", "refl ") if it.terms.is_option(item) else ("each_alike", "")
+    inner = item.args[0] if nothing else item
+    type = {"meaning": "Value", "keys": "(List Naming)"}[which]
+    held = {other.name: type for other in it.family.ordered}
+
+    def said(m, held_):
+        return f"(λ (y : {it.antt(inner, held_)}). {getattr(it.terms, which)(inner, 'y', m)})".replace("( ", "(")
+
+    return f"{lemma}{keys} _ {said('', held)} {said(own, None)} {nothing}(λ x. refl) {x}.items"
 
 
 def rolled(it, which, type, word):
@@ -292,12 +300,12 @@ def rolled(it, which, type, word):
     n, N, own = it.n, it.name, it.terms.own(which)
 
     def step(case, pattern, values):
-        lists = [i for i, type_ in enumerate(case.types) if it.terms.leads_back(type_) and type_.name == "Vec"]
+        lists = {i: found for i, type_ in enumerate(case.types) if (found := it.terms.list_in(type_, values[i]))}
         out = f"{fold(it, which, type, 'fold-roll')} {pattern}"
-        for j in lists:
+        for j, (vector, x) in lists.items():
             # those before it are the value's own already, those behind it are still mapped
-            terms = {i: "vs" if i == j else still_mapped(it, case.types[i].args[0], which, values[i]) for i in lists if i >= j}
-            out += f" ∙ ap (λ vs. {said_of(it, case, which, own, terms, values)}) ({mapped(it, case.types[j].args[0], which, values[j])})"
+            terms = {i: "vs" if i == j else still_mapped(it, other.args[0], which, y) for i, (other, y) in lists.items() if i >= j}
+            out += f" ∙ ap (λ vs. {said_of(it, case, which, own, terms, values)}) ({mapped(it, vector.args[0], which, x)})"
         return out
 
     claim = f"{n}_{which} (roll-{N} {{0}}) ≡ {n}_{which}_layer {each_type(it.family, lambda other: f'{other.n}_{which}')} {{0}}"

@@ -35,6 +35,14 @@ class Terms:
         """Whether it is an option of a box that leads back."""
         return type.name == "Option" and self.leads_back(type)
 
+    def list_in(self, type, x):
+        """The vector that leads back, of a part that is one or a box of one, with its term; none of other parts."""
+        if not self.leads_back(type) or self.is_member(type):
+            return None
+        if type.name == "Box":
+            return self.list_in(type.args[0], f"{x}.value")
+        return (type, x) if type.name == "Vec" else None
+
     # ---- formats ----
 
     def shape(self, type):
@@ -108,6 +116,8 @@ class Terms:
             return f"(box_keyed _ _ {self.keyed(item, f'{x}.value')})"
         if type.name == "Option":
             return "none_keyed" if x == "None" else f"(some_keyed _ _ {self.keyed(item, something(x))})"
+        if self.is_option(item):
+            return f"(held_options_keyed _ {self.said(item.args[0])} refl (λ e. {self.keyed(item, '(Some e)')}) {x}.items)"
         if not self.is_member(item):
             return f"(held_each_keyed _ {self.said(item)} (λ e. {self.keyed(item, 'e')}) {x}.items)"
         return f"(held_keyed {self.said(item)} {x}.items)"
@@ -128,7 +138,10 @@ class Terms:
             k, m = (self.function(which, item, self.own(which)) for which in ("keys", "meaning"))
             return f"(option_planned {D} {X} {k} {m} (λ y. {self.planned(item, 'y', False)}) {x})"
         its = f"held_planned {self.said(item)} {D} {X} {x}.items"
-        if not self.is_member(item):
+        if self.is_option(item):
+            inner = item.args[0]
+            its = f"held_options_planned _ {self.said(inner)} {D} {self.shape(inner)} refl (λ e. {self.planned(item, '(Some e)', True)}) {x}.items"
+        elif not self.is_member(item):
             its = f"held_each_planned _ {self.said(item)} {D} {X} (λ e. {self.planned(item, 'e', True)}) {x}.items"
         if held:
             return f"(vec_planned {D} {X} _ _ _ (run_region_planned {D} {X} _ _ _ ({its})))"
@@ -161,7 +174,7 @@ class Terms:
         for i, (type, x) in reversed(list(enumerate(zip(types, values)))):
             its = self.meaning(type, x, m)
             if terms and i in terms:
-                its = f"(list {terms[i]})" if type.name == "Vec" else terms[i]
+                its = f"(list {terms[i]})" if type.name == "Vec" else f"(box (list {terms[i]}))"
             out = f"(value {its} {out})"
         return out
 
@@ -242,7 +255,7 @@ PRELUDE = {
     "archive_core.specs.Strings": "string_flat",
     "archive_core.specs.Writing": "IsKeyed to_pointee",
     "archive_core.specs.Held": "member_has_layout knows_both each_mapped each_mapped_keys held_keyed held_planned variant_planned keyed_as planned_as",
-    "archive_core.specs.HeldLists": "each_alike each_alike_keys held_each_keyed held_each_planned",
+    "archive_core.specs.HeldLists": "each_alike each_alike_keys held_each_keyed held_each_planned options_alike options_alike_keys held_options_keyed held_options_planned",
     "archive_core.specs.HeldOptions": "none_keyed some_keyed none_planned some_planned",
     "archive_core.specs.Hollow": "option_at",
 }

@@ -2,5 +2,6 @@
 pub mod ChainSteps
 pub mod Chains
 pub mod Held
+pub mod HeldLists
 pub mod HeldOptions
 pub mod Hollow

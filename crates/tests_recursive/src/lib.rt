@@ -8,4 +8,6 @@ mod bytes;
 #[cfg(test)]
 mod damaged;
 #[cfg(test)]
+mod kinds;
+#[cfg(test)]
 mod long;

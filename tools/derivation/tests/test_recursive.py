@@ -45,6 +45,39 @@ class Recursive(RepositoryTest):
         self.assertEqual(status, 2)
         self.assertIn("`List` is a list, which is dropped by a loop that tools/derive writes; leave `Drop` out of its derive", text)
 
+    def test_what_boxes_of_a_vector_hold_is_written_where_they_are_gone_over(self):
+        path = self.put("#[derive(Drop)]\npub enum Knot { Word(String), Others(Vec<Box<Knot>>) }\n")
+        self.assertEqual(self.run_command(path), (0, ""))
+        text = self.text(path)
+        self.assertIn("fn serialize_each_box_knot<", text)
+        self.assertNotIn("fn serialize_box_knot<", text)
+        self.assertIn("fn read_box_knot<", text)
+        self.assertIn("(list (each_meaning (λ y. (box (m y.value))) a0.items))", self.beside("specs", "KnotMeaning.antt"))
+
+    def test_options_in_a_vector_are_told_by_what_is_in_them(self):
+        path = self.put("#[derive(Drop)]\npub struct Bush { id: u8, sides: Vec<Option<Box<Bush>>> }\n")
+        self.assertEqual(self.run_command(path), (0, ""))
+        self.assertIn("resolvers.push(None).map_err(AllocError::from)?;", self.text(path))
+        text = self.beside("specs", "BushMeaning.antt")
+        self.assertIn("options_alike _ (λ (y : (Box Value Global)). (box (y.value))) (λ (y : (Box Bush-Source Global)). (box (bush_meaning y.value))) refl", text)
+        self.assertIn("held_options_keyed _ ", text)
+
+    def test_a_vector_in_a_box_is_written_by_a_function_of_its_own(self):
+        path = self.put("#[derive(Drop)]\npub struct Grove { id: u8, below: Box<Vec<Grove>> }\n")
+        self.assertEqual(self.run_command(path), (0, ""))
+        for word in ("fn serialize_box_vec_grove<", "fn serialize_vec_grove<", "BoxAt<ArchivedVec<ArchivedGrove>>"):
+            self.assertIn(word, self.text(path))
+        self.assertIn("(λ vs. product (value (number (pos t.id)) (value (box (list vs)) no_value)))", self.beside("specs", "GroveMeaning.antt"))
+
+    def test_plain_fields_are_told_by_what_they_are_made_of(self):
+        fields = "due: Option<(u16, i64)>, owner: Result<String, u8>, done: bool, parts: Vec<Task>"
+        path = self.put(f"#[derive(Drop)]\npub struct Task {{ {fields} }}\n")
+        self.assertEqual(self.run_command(path), (0, ""))
+        text = self.beside("specs", "TaskMeaning.antt")
+        self.assertIn("(option_meaning (λ y. (product (value (number (pos y.0)) (value (number y.1) no_value)))) t.due)", text)
+        self.assertIn("(result_meaning (λ y. (text_value (string_bytes y))) (λ y. (number (pos y))) t.owner)", text)
+        self.assertIn("number (pos (bool_byte t.done))", text)
+
     def test_two_files_of_one_run_are_both_named(self):
         paths = [self.put(LIST, "list"), self.put(TREE, "tree")]
         self.assertEqual(self.run_command(*paths), (0, ""))

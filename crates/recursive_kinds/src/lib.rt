@@ -1,0 +1,6 @@
+//! Recursive types with fields of many kinds as a user declares them, with what tools/derive writes for them. The tests are in tests_recursive.
+#![tactic(auto)]
+
+pub mod bush;
+pub mod knot;
+pub mod task;

@@ -1,0 +1,681 @@
+//! A recursive type with fields of many kinds.
+
+use archive_core::core_impls::OwnedArray;
+use archive_core::primitive::NonZero;
+
+/// A task, with the steps that it is made of.
+#[derive(Debug, Drop)]
+pub struct Task {
+    /// Whether it is done.
+    pub done: bool,
+    /// The day on which it is due, and the hour.
+    pub due: Option<(u32, u8)>,
+    /// What came of it, or why nothing did.
+    pub result: Result<u32, String>,
+    /// Notes.
+    pub notes: Vec<String>,
+    /// How urgent it is.
+    pub rank: NonZero<u8>,
+    /// Where it is to be done.
+    pub place: OwnedArray<i16, 2>,
+    /// What it is made of.
+    pub steps: Vec<Task>,
+}
+
+// Below this line all is written by tools/derive: change what is above it, and run it again.
+
+ghost use Rattle.archive_core.specs.CallOutcomes.{ResolvesAs};
+ghost use Rattle.archive_core.specs.Causes.{IsRefused};
+ghost use Rattle.archive_core.specs.Definitions.{both, no_definition};
+ghost use Rattle.archive_core.specs.Error.TheVariants.{OutOfMemory};
+ghost use Rattle.archive_core.specs.Expressions.{shape_of, shapes_in};
+ghost use Rattle.archive_core.specs.Fields.{field_in};
+ghost use Rattle.archive_core.specs.PlannedOwners.{one_planned};
+ghost use Rattle.archive_core.specs.Plans.{Serialized};
+ghost use Rattle.archive_core.specs.Runs.{EachBelongs, IsRunRefused, SerializedRun, each_flat, each_keys, each_meaning};
+ghost use Rattle.archive_core.specs.SealsWritten.{IsSealOf, SealsPart};
+ghost use Rattle.archive_core.specs.Seen.{IsPartOf, RefusesPart, ShowsValueOf};
+ghost use Rattle.archive_core.specs.SelfCheck.Laws.{by_schema};
+ghost use Rattle.archive_core.specs.Shape.{one, part, parts, vec};
+ghost use Rattle.archive_core.specs.Sources.{Read};
+ghost use Rattle.archive_core.specs.Value.{value};
+ghost use Rattle.archive_core.specs.Writing.{ZeroedPlace};
+ghost use Rattle.archive_core.specs.Written.{GoesOn};
+ghost use Rattle.recursive_kinds.specs.TaskShape.{task_definitions, task_has_layout, task_has_parts, task_is_align, task_layout, task_no_others, task_parts, task_shape, task_stands_for};
+ghost use Rattle.std.proofs.Common.{lit≤};
+ghost use Rattle.std.specs.Prelude.{IfErr, IfOk, None, length, refl, ◌+◌, ◌≡◌, ◌≤◌};
+
+use archive_core::core_impls::ArchivedTuple2;
+use archive_core::error::Error;
+use archive_core::option::ArchivedOption;
+use archive_core::place::Place;
+use archive_core::primitive::{ArchivedI16, ArchivedU32};
+use archive_core::recursive::{
+    VecAt, before_vec, define_name, part_of_record, read_part, record_of, resolve_named_record_7,
+    seal_of_field, serialize_inner_slice, serialize_part, view_of_field,
+};
+use archive_core::result::ArchivedResult;
+use archive_core::seal::Seal;
+use archive_core::self_check::BySchema;
+use archive_core::ser::{ResolverAlloc, Writer, serialize_one};
+use archive_core::shape::{Defs, Expr};
+use archive_core::string::ArchivedString;
+use archive_core::traits::{
+    Archive, ArchivePointee, ArchiveUnsized, CopyOptimization, Deserialize, Entries, Keys, Portable,
+    Record, Serialize, SerializeUnsized,
+};
+use archive_core::vec::{ArchivedVec, VecResolver};
+use archive_core::view::{RawView, Ref};
+use std::alloc::{AllocError, Global};
+
+/// An archived `Task`: 52 bytes at a multiple of 4. It is validated by its schema.
+pub struct ArchivedTask;
+
+type TaskParts = (
+    bool,
+    (
+        ArchivedOption<ArchivedTuple2<ArchivedU32, u8>>,
+        (
+            ArchivedResult<ArchivedU32, ArchivedString>,
+            (
+                ArchivedVec<ArchivedString>,
+                (
+                    NonZero<u8>,
+                    ([ArchivedI16; 2], (ArchivedVec<ArchivedTask>, ())),
+                ),
+            ),
+        ),
+    ),
+);
+
+impl ArchivePointee for ArchivedTask {
+    type ArchivedMetadata = ();
+
+    ghost pointee = { one task_shape };
+
+    ghost definitions = { task_definitions };
+
+    ghost metadata_length = { λ _. 0 };
+
+    fn pointer_metadata(_metadata: &()) -> usize {
+        0
+    }
+}
+
+// The parts of `Task`.
+fn task_expressions(alloc: Global) -> Result<Vec<Expr>, Error>
+    ensures shapes { IfOk result (λ list. shapes_in list.items ≡ task_parts) }
+    ensures refused { IfErr result (λ e. e ≡ OutOfMemory) }
+{
+    let a0 = <bool as Portable>::expr(alloc)?;
+    let a1 = <ArchivedOption<ArchivedTuple2<ArchivedU32, u8>> as Portable>::expr(alloc)?;
+    let a2 = <ArchivedResult<ArchivedU32, ArchivedString> as Portable>::expr(alloc)?;
+    let a3 = <ArchivedVec<ArchivedString> as Portable>::expr(alloc)?;
+    let a4 = <NonZero<u8> as Portable>::expr(alloc)?;
+    let a5 = <[ArchivedI16; 2] as Portable>::expr(alloc)?;
+    let a6 = Expr::Vec(Box::new(alloc, Expr::Named("ArchivedTask"))?);
+    Ok(vec![in alloc; a0, a1, a2, a3, a4, a5, a6]?)
+}
+
+// What the name stands for.
+fn task_expression(alloc: Global) -> Result<Expr, Error>
+    ensures shape { IfOk result (λ e. shape_of e ≡ task_stands_for) }
+    ensures refused { IfErr result (λ e. e ≡ OutOfMemory) }
+{
+    let parts = task_expressions(alloc)?;
+    Ok(record_of(parts))
+}
+
+impl Portable for ArchivedTask {
+    ghost shape = { task_shape };
+
+    ghost layout = { task_layout };
+
+    type Check = BySchema;
+
+    ghost is_one = { refl };
+
+    ghost is_align = { task_is_align };
+
+    ghost has_layout = { task_has_layout };
+
+    ghost no_others = { task_no_others };
+
+    ghost checks = { λ direct. by_schema direct };
+
+    fn size() -> usize {
+        52
+    }
+
+    fn align() -> usize {
+        4
+    }
+
+    fn expr(_alloc: Global) -> Result<Expr, Error> {
+        Ok(Expr::Named("ArchivedTask"))
+    }
+
+    fn define(alloc: Global, defs: &mut Defs) -> Result<(), Error> {
+        let stands_for = match task_expression(alloc) {
+            Ok(stands_for) => stands_for,
+            Err(error) => return Err(error),
+        };
+        define_name("ArchivedTask", stands_for, defs)
+    }
+}
+
+impl Record for ArchivedTask {
+    type Parts = TaskParts;
+
+    ghost has_parts = { task_has_parts };
+
+    ghost holds = { lit≤ tt };
+}
+
+/// What is kept of `Task` from its serialization until it is resolved.
+#[derive(Drop)]
+pub struct TaskResolver {
+    kept: (
+        <bool as Archive>::Resolver,
+        (
+            <Option<(u32, u8)> as Archive>::Resolver,
+            (
+                <Result<u32, String> as Archive>::Resolver,
+                (
+                    <Vec<String> as Archive>::Resolver,
+                    (
+                        <NonZero<u8> as Archive>::Resolver,
+                        (<OwnedArray<i16, 2> as Archive>::Resolver, (VecResolver, ())),
+                    ),
+                ),
+            ),
+        ),
+    ),
+}
+
+impl Archive for Task {
+    ghost use Rattle.recursive_kinds.specs.TaskMeaning.{task_meaning, task_flat, task_keys, task_belongs, task_keyed, task_planned};
+
+    type Archived = ArchivedTask;
+
+    type Resolver = TaskResolver;
+
+    ghost meaning = { task_meaning };
+
+    ghost flat = { task_flat };
+
+    ghost keys = { task_keys };
+
+    ghost belongs = { task_belongs };
+
+    ghost in_bulk = { None };
+
+    ghost keyed = { task_keyed };
+
+    ghost planned = { task_planned };
+
+    fn resolve(
+        &self,
+        resolver: Self::Resolver,
+        place: Place<'_, Self::Archived>,
+    ) -> Result<(), Error>
+        requires zeroed { ZeroedPlace 52 place.pos place.bytes.now }
+        requires same_value { ⟦<Self as Archive>⟧.belongs self.now resolver }
+        ensures { ResolvesAs ⟦<Self::Archived as Portable>⟧ place
+            (⟦<Self as Archive>⟧.flat self.now resolver) result }
+    {
+        let Place { bytes, pos, .. } = place;
+        let TaskResolver { kept } = resolver;
+        let h6: VecAt<ArchivedTask> = VecAt::of(self.steps.len());
+        resolve_named_record_7::<
+            bool,
+            Option<(u32, u8)>,
+            Result<u32, String>,
+            Vec<String>,
+            NonZero<u8>,
+            OwnedArray<i16, 2>,
+            VecAt<ArchivedTask>,
+            ArchivedTask,
+        >(
+            &self.done,
+            &self.due,
+            &self.result,
+            &self.notes,
+            &self.rank,
+            &self.place,
+            &h6,
+            kept,
+            Place::new(pos, bytes),
+        )
+    }
+
+    #[inline(always)]
+    fn copy_optimization() -> CopyOptimization<Self> {
+        CopyOptimization::disable()
+    }
+
+    #[inline(always)]
+    fn serialize_copied<S: Writer + Keys>(
+        _values: &[Self],
+        _together: usize,
+        _serializer: &mut S,
+    ) -> Result<Option<usize>, Error> {
+        Ok(None)
+    }
+}
+
+// Writes what each of the values owns, in order.
+#[cycle(serialize_task)]
+fn serialize_each_task<S: Writer + Keys + ResolverAlloc<Alloc = Global>>(values: &[Task], serializer: &mut S) -> Result<Vec<<Task as Archive>::Resolver, S::Alloc>, Error>
+    ensures serialized { IfOk result (λ rs. SerializedRun task_definitions task_shape
+        (length values.now) (each_keys ⟦<Task as Archive>⟧.keys values.now)
+        (each_meaning ⟦<Task as Archive>⟧.meaning values.now)
+        (each_flat ⟦<Task as Archive>⟧.flat values.now rs.items) (S.state serializer.old)
+        (S.state serializer.new)) }
+    ensures same_values { IfOk result (λ rs. EachBelongs ⟦<Task as Archive>⟧.belongs values.now
+        rs.items) }
+    ensures goes_on { GoesOn (S.state serializer.old) (S.state serializer.new) }
+    ensures refused { IfErr result (IsRunRefused task_definitions task_shape (length values.now)
+        (each_keys ⟦<Task as Archive>⟧.keys values.now)
+        (each_meaning ⟦<Task as Archive>⟧.meaning values.now) (S.state serializer.old)
+        (S.state serializer.new)) }
+{
+    let alloc = serializer.resolver_alloc();
+    let mut resolvers = Vec::with_capacity(alloc, values.len())?;
+    for value in values {
+        let resolver = match serialize_task(value, serializer) {
+            Ok(resolver) => resolver,
+            Err(error) => return Err(error),
+        };
+        resolvers.push(resolver).map_err(AllocError::from)?;
+    }
+    Ok(resolvers)
+}
+
+// Writes what a vector owns.
+#[cycle(serialize_task)]
+fn serialize_vec_task<S: Writer + Keys + ResolverAlloc<Alloc = Global>>(value: &Vec<Task>, serializer: &mut S) -> Result<VecResolver, Error>
+    ensures serialized { IfOk result (λ r. Serialized task_definitions (vec task_shape)
+        (⟦<Vec<Task> as Archive>⟧.keys value.now) (⟦<Vec<Task> as Archive>⟧.meaning value.now)
+        (⟦<Vec<Task> as Archive>⟧.flat value.now r) (S.state serializer.old)
+        (S.state serializer.new)) }
+    ensures same_value { IfOk result (λ r. ⟦<Vec<Task> as Archive>⟧.belongs value.now r) }
+    ensures goes_on { GoesOn (S.state serializer.old) (S.state serializer.new) }
+    ensures refused { IfErr result (IsRefused task_definitions (vec task_shape)
+        (⟦<Vec<Task> as Archive>⟧.keys value.now) (⟦<Vec<Task> as Archive>⟧.meaning value.now)
+        (S.state serializer.old) (S.state serializer.new)) }
+{
+    if value.len() > u32::MAX as usize {
+        return Err(Error::LengthTooLarge);
+    }
+    let items = value.as_slice();
+    let kept = match serialize_each_task(items, serializer) {
+        Ok(kept) => kept,
+        Err(error) => return Err(error),
+    };
+    match serialize_inner_slice(items, kept, serializer) {
+        Ok(at) => Ok(at),
+        Err(error) => Err(error),
+    }
+}
+
+// Writes what a value owns, part by part.
+#[cycle(serialize_task)]
+fn serialize_task<S: Writer + Keys + ResolverAlloc<Alloc = Global>>(value: &Task, serializer: &mut S) -> Result<TaskResolver, Error>
+    ensures serialized { IfOk result (λ r. Serialized task_definitions task_shape
+        (⟦<Task as Archive>⟧.keys value.now) (⟦<Task as Archive>⟧.meaning value.now)
+        (⟦<Task as Archive>⟧.flat value.now r) (S.state serializer.old) (S.state serializer.new)) }
+    ensures same_value { IfOk result (λ r. ⟦<Task as Archive>⟧.belongs value.now r) }
+    ensures goes_on { GoesOn (S.state serializer.old) (S.state serializer.new) }
+    ensures refused { IfErr result (IsRefused task_definitions task_shape
+        (⟦<Task as Archive>⟧.keys value.now) (⟦<Task as Archive>⟧.meaning value.now)
+        (S.state serializer.old) (S.state serializer.new)) }
+{
+    let a0 = match serialize_part(&value.done, serializer) {
+        Ok(a0) => a0,
+        Err(error) => return Err(error),
+    };
+    let a1 = match serialize_part(&value.due, serializer) {
+        Ok(a1) => a1,
+        Err(error) => return Err(error),
+    };
+    let a2 = match serialize_part(&value.result, serializer) {
+        Ok(a2) => a2,
+        Err(error) => return Err(error),
+    };
+    let a3 = match serialize_part(&value.notes, serializer) {
+        Ok(a3) => a3,
+        Err(error) => return Err(error),
+    };
+    let a4 = match serialize_part(&value.rank, serializer) {
+        Ok(a4) => a4,
+        Err(error) => return Err(error),
+    };
+    let a5 = match serialize_part(&value.place, serializer) {
+        Ok(a5) => a5,
+        Err(error) => return Err(error),
+    };
+    let a6 = match serialize_vec_task(&value.steps, serializer) {
+        Ok(a6) => a6,
+        Err(error) => return Err(error),
+    };
+    Ok(TaskResolver { kept: (a0, (a1, (a2, (a3, (a4, (a5, (a6, ()))))))) })
+}
+
+impl<S: Writer + Keys + ResolverAlloc<Alloc = Global>> Serialize<S> for Task {
+    fn serialize(&self, serializer: &mut S) -> Result<Self::Resolver, Error> {
+        serialize_task(self, serializer)
+    }
+}
+
+/// As a region of its own: the value itself.
+impl ArchiveUnsized for Task {
+    ghost use Rattle.recursive_kinds.specs.contracts.task.TaskArchive.TheImpl.Laws.{keyed-law as keyed_of_task, planned-law as planned_of_task};
+
+    type Archived = ArchivedTask;
+
+    ghost source_length = { λ _. 0 };
+
+    ghost meaning = { ⟦<Task as Archive>⟧.meaning };
+
+    ghost keys = { ⟦<Task as Archive>⟧.keys };
+
+    ghost keyed = { keyed_of_task };
+
+    ghost one_length = { λ _ _. refl };
+
+    ghost planned = { λ v. one_planned task_definitions task_shape (⟦<Task as Archive>⟧.keys v)
+        (⟦<Task as Archive>⟧.meaning v) (planned_of_task v) };
+
+    fn archived_metadata(&self) -> Result<(), Error> {
+        Ok(())
+    }
+}
+
+impl<S: Writer + Keys + ResolverAlloc<Alloc = Global>> SerializeUnsized<S> for Task {
+    fn serialize_unsized(&self, serializer: &mut S) -> Result<usize, Error> {
+        serialize_one(self, serializer)
+    }
+}
+
+// Reads a vector back.
+#[cycle(read_task)]
+fn read_vec_task<D: Entries>(alloc: Global, part: RawView<'_>, deserializer: &mut D) -> Result<Vec<Task>, Error>
+    requires { IsPartOf ⟦<ArchivedVec<ArchivedTask> as ArchivePointee>⟧ part }
+    ensures read { IfOk result (Read ⟦<ArchivedVec<ArchivedTask> as ArchivePointee>⟧ part D.Entries
+        deserializer ⟦<Vec<Task> as Archive>⟧) }
+    ensures refused { IfErr result (RefusesPart ⟦<ArchivedVec<ArchivedTask> as ArchivePointee>⟧ part
+        D.Entries deserializer) }
+{
+    let view: Ref<'_, ArchivedVec<ArchivedTask>> = Ref::at(part);
+    let list = before_vec(view);
+    let mut items = Vec::with_capacity(alloc, list.len())?;
+    for index in 0..list.len() {
+        let item = read_task(alloc, list.index(index).part(), deserializer)?;
+        items.push_reserved(item);
+    }
+    Ok(items)
+}
+
+// Reads a value back, part by part.
+#[cycle(read_task)]
+fn read_task<D: Entries>(alloc: Global, part: RawView<'_>, deserializer: &mut D) -> Result<Task, Error>
+    requires { IsPartOf ⟦<ArchivedTask as ArchivePointee>⟧ part }
+    ensures read { IfOk result (Read ⟦<ArchivedTask as ArchivePointee>⟧ part D.Entries deserializer
+        ⟦<Task as Archive>⟧) }
+    ensures refused { IfErr result (RefusesPart ⟦<ArchivedTask as ArchivePointee>⟧ part D.Entries
+        deserializer) }
+{
+    let p0 = part_of_record::<ArchivedTask, bool>(part, 0, 0);
+    let a0 = read_part::<bool, bool, D>(alloc, p0, deserializer)?;
+    let p1 = part_of_record::<ArchivedTask, ArchivedOption<ArchivedTuple2<ArchivedU32, u8>>>(
+        part, 1, 4,
+    );
+    let a1 = read_part::<ArchivedOption<ArchivedTuple2<ArchivedU32, u8>>, Option<(u32, u8)>, D>(
+        alloc,
+        p1,
+        deserializer,
+    )?;
+    let p2 = part_of_record::<ArchivedTask, ArchivedResult<ArchivedU32, ArchivedString>>(
+        part, 2, 16,
+    );
+    let a2 = read_part::<ArchivedResult<ArchivedU32, ArchivedString>, Result<u32, String>, D>(
+        alloc,
+        p2,
+        deserializer,
+    )?;
+    let p3 = part_of_record::<ArchivedTask, ArchivedVec<ArchivedString>>(part, 3, 28);
+    let a3 = read_part::<ArchivedVec<ArchivedString>, Vec<String>, D>(alloc, p3, deserializer)?;
+    let p4 = part_of_record::<ArchivedTask, NonZero<u8>>(part, 4, 36);
+    let a4 = match read_part::<NonZero<u8>, NonZero<u8>, D>(alloc, p4, deserializer) {
+        Ok(a4) => a4,
+        Err(error) => return Err(error),
+    };
+    let p5 = part_of_record::<ArchivedTask, [ArchivedI16; 2]>(part, 5, 38);
+    let a5 = match read_part::<[ArchivedI16; 2], OwnedArray<i16, 2>, D>(alloc, p5, deserializer) {
+        Ok(a5) => a5,
+        Err(error) => return Err(error),
+    };
+    let p6 = part_of_record::<ArchivedTask, ArchivedVec<ArchivedTask>>(part, 6, 44);
+    let a6 = read_vec_task(alloc, p6, deserializer)?;
+    Ok(Task {
+        done: a0,
+        due: a1,
+        result: a2,
+        notes: a3,
+        rank: a4,
+        place: a5,
+        steps: a6,
+    })
+}
+
+impl<D: Entries> Deserialize<Task, D> for ArchivedTask {
+    fn deserialize_part(
+        alloc: Global,
+        part: RawView<'_>,
+        deserializer: &mut D,
+    ) -> Result<Task, Error>
+        requires { IsPartOf ⟦<Self as ArchivePointee>⟧ part }
+        ensures read { IfOk result (Read ⟦<Self as ArchivePointee>⟧ part D.Entries deserializer
+            ⟦<Task as Archive>⟧) }
+        ensures refused { IfErr result (RefusesPart ⟦<Self as ArchivePointee>⟧ part D.Entries
+            deserializer) }
+    {
+        read_task(alloc, part, deserializer)
+    }
+}
+
+/// The fields of an archived `Task`, where they lie.
+pub trait TaskView<'a> {
+    /// Whether it is done.
+    fn done(self) -> Ref<'a, bool>;
+
+    /// The day on which it is due, and the hour.
+    fn due(self) -> Ref<'a, ArchivedOption<ArchivedTuple2<ArchivedU32, u8>>>;
+
+    /// What came of it, or why nothing did.
+    fn result(self) -> Ref<'a, ArchivedResult<ArchivedU32, ArchivedString>>;
+
+    /// Notes.
+    fn notes(self) -> Ref<'a, ArchivedVec<ArchivedString>>;
+
+    /// How urgent it is.
+    fn rank(self) -> Ref<'a, NonZero<u8>>;
+
+    /// Where it is to be done.
+    fn place(self) -> Ref<'a, [ArchivedI16; 2]>;
+
+    /// What it is made of.
+    fn steps(self) -> Ref<'a, ArchivedVec<ArchivedTask>>;
+}
+
+impl<'a> TaskView<'a> for Ref<'a, ArchivedTask> {
+    fn done(self) -> Ref<'a, bool>
+        ensures buffer { result.bytes.now ≡ self.entry.bytes.now }
+        ensures position { result.pos ≡ self.entry.pos + 0 }
+        ensures length { result.len ≡ 0 }
+        ensures shows { ShowsValueOf result self.entry (field_in 0) }
+    {
+        view_of_field::<ArchivedTask, bool>(self, 0, 0)
+    }
+
+    fn due(self) -> Ref<'a, ArchivedOption<ArchivedTuple2<ArchivedU32, u8>>>
+        ensures buffer { result.bytes.now ≡ self.entry.bytes.now }
+        ensures position { result.pos ≡ self.entry.pos + 4 }
+        ensures length { result.len ≡ 0 }
+        ensures shows { ShowsValueOf result self.entry (field_in 1) }
+    {
+        view_of_field::<ArchivedTask, ArchivedOption<ArchivedTuple2<ArchivedU32, u8>>>(self, 1, 4)
+    }
+
+    fn result(self) -> Ref<'a, ArchivedResult<ArchivedU32, ArchivedString>>
+        ensures buffer { result.bytes.now ≡ self.entry.bytes.now }
+        ensures position { result.pos ≡ self.entry.pos + 16 }
+        ensures length { result.len ≡ 0 }
+        ensures shows { ShowsValueOf result self.entry (field_in 2) }
+    {
+        view_of_field::<ArchivedTask, ArchivedResult<ArchivedU32, ArchivedString>>(self, 2, 16)
+    }
+
+    fn notes(self) -> Ref<'a, ArchivedVec<ArchivedString>>
+        ensures buffer { result.bytes.now ≡ self.entry.bytes.now }
+        ensures position { result.pos ≡ self.entry.pos + 28 }
+        ensures length { result.len ≡ 0 }
+        ensures shows { ShowsValueOf result self.entry (field_in 3) }
+    {
+        view_of_field::<ArchivedTask, ArchivedVec<ArchivedString>>(self, 3, 28)
+    }
+
+    fn rank(self) -> Ref<'a, NonZero<u8>>
+        ensures buffer { result.bytes.now ≡ self.entry.bytes.now }
+        ensures position { result.pos ≡ self.entry.pos + 36 }
+        ensures length { result.len ≡ 0 }
+        ensures shows { ShowsValueOf result self.entry (field_in 4) }
+    {
+        view_of_field::<ArchivedTask, NonZero<u8>>(self, 4, 36)
+    }
+
+    fn place(self) -> Ref<'a, [ArchivedI16; 2]>
+        ensures buffer { result.bytes.now ≡ self.entry.bytes.now }
+        ensures position { result.pos ≡ self.entry.pos + 38 }
+        ensures length { result.len ≡ 0 }
+        ensures shows { ShowsValueOf result self.entry (field_in 5) }
+    {
+        view_of_field::<ArchivedTask, [ArchivedI16; 2]>(self, 5, 38)
+    }
+
+    fn steps(self) -> Ref<'a, ArchivedVec<ArchivedTask>>
+        ensures buffer { result.bytes.now ≡ self.entry.bytes.now }
+        ensures position { result.pos ≡ self.entry.pos + 44 }
+        ensures length { result.len ≡ 0 }
+        ensures shows { ShowsValueOf result self.entry (field_in 6) }
+    {
+        view_of_field::<ArchivedTask, ArchivedVec<ArchivedTask>>(self, 6, 44)
+    }
+}
+
+/// The fields of an archived `Task`, sealed where they lie.
+pub trait TaskSeal<'a> {
+    // The seal shows a part of a buffer that was checked.
+    ghost sealed: { Self → Type 0 };
+
+    /// Whether it is done.
+    fn done_mut(self) -> Seal<'a, bool>
+        requires { sealed self };
+
+    /// The day on which it is due, and the hour.
+    fn due_mut(self) -> Seal<'a, ArchivedOption<ArchivedTuple2<ArchivedU32, u8>>>
+        requires { sealed self };
+
+    /// What came of it, or why nothing did.
+    fn result_mut(self) -> Seal<'a, ArchivedResult<ArchivedU32, ArchivedString>>
+        requires { sealed self };
+
+    /// Notes.
+    fn notes_mut(self) -> Seal<'a, ArchivedVec<ArchivedString>>
+        requires { sealed self };
+
+    /// How urgent it is.
+    fn rank_mut(self) -> Seal<'a, NonZero<u8>>
+        requires { sealed self };
+
+    /// Where it is to be done.
+    fn place_mut(self) -> Seal<'a, [ArchivedI16; 2]>
+        requires { sealed self };
+
+    /// What it is made of.
+    fn steps_mut(self) -> Seal<'a, ArchivedVec<ArchivedTask>>
+        requires { sealed self };
+}
+
+impl<'a> TaskSeal<'a> for Seal<'a, ArchivedTask> {
+    ghost sealed = { λ s. IsSealOf task_definitions (one ⟦<ArchivedTask as Portable>⟧.shape) s };
+
+    fn done_mut(self) -> Seal<'a, bool>
+        requires come_to { IsSealOf task_definitions (one ⟦<ArchivedTask as Portable>⟧.shape) self }
+        ensures { SealsPart task_definitions (one ⟦<ArchivedTask as Portable>⟧.shape) no_definition
+            ⟦<bool as ArchivePointee>⟧.pointee (self.entry.pos + 0) 0 self.entry result }
+    {
+        seal_of_field::<ArchivedTask, bool>(self, 0, 0)
+    }
+
+    fn due_mut(self) -> Seal<'a, ArchivedOption<ArchivedTuple2<ArchivedU32, u8>>>
+        requires come_to { IsSealOf task_definitions (one ⟦<ArchivedTask as Portable>⟧.shape) self }
+        ensures { SealsPart task_definitions (one ⟦<ArchivedTask as Portable>⟧.shape)
+            (both no_definition (both no_definition no_definition))
+            ⟦<ArchivedOption<ArchivedTuple2<ArchivedU32, u8>> as ArchivePointee>⟧.pointee
+            (self.entry.pos + 4) 0 self.entry result }
+    {
+        seal_of_field::<ArchivedTask, ArchivedOption<ArchivedTuple2<ArchivedU32, u8>>>(
+            self, 1, 4,
+        )
+    }
+
+    fn result_mut(self) -> Seal<'a, ArchivedResult<ArchivedU32, ArchivedString>>
+        requires come_to { IsSealOf task_definitions (one ⟦<ArchivedTask as Portable>⟧.shape) self }
+        ensures { SealsPart task_definitions (one ⟦<ArchivedTask as Portable>⟧.shape)
+            (both no_definition no_definition)
+            ⟦<ArchivedResult<ArchivedU32, ArchivedString> as ArchivePointee>⟧.pointee
+            (self.entry.pos + 16) 0 self.entry result }
+    {
+        seal_of_field::<ArchivedTask, ArchivedResult<ArchivedU32, ArchivedString>>(
+            self, 2, 16,
+        )
+    }
+
+    fn notes_mut(self) -> Seal<'a, ArchivedVec<ArchivedString>>
+        requires come_to { IsSealOf task_definitions (one ⟦<ArchivedTask as Portable>⟧.shape) self }
+        ensures { SealsPart task_definitions (one ⟦<ArchivedTask as Portable>⟧.shape) no_definition
+            ⟦<ArchivedVec<ArchivedString> as ArchivePointee>⟧.pointee (self.entry.pos + 28) 0
+            self.entry result }
+    {
+        seal_of_field::<ArchivedTask, ArchivedVec<ArchivedString>>(self, 3, 28)
+    }
+
+    fn rank_mut(self) -> Seal<'a, NonZero<u8>>
+        requires come_to { IsSealOf task_definitions (one ⟦<ArchivedTask as Portable>⟧.shape) self }
+        ensures { SealsPart task_definitions (one ⟦<ArchivedTask as Portable>⟧.shape) no_definition
+            ⟦<NonZero<u8> as ArchivePointee>⟧.pointee (self.entry.pos + 36) 0 self.entry result }
+    {
+        seal_of_field::<ArchivedTask, NonZero<u8>>(self, 4, 36)
+    }
+
+    fn place_mut(self) -> Seal<'a, [ArchivedI16; 2]>
+        requires come_to { IsSealOf task_definitions (one ⟦<ArchivedTask as Portable>⟧.shape) self }
+        ensures { SealsPart task_definitions (one ⟦<ArchivedTask as Portable>⟧.shape) no_definition
+            ⟦<[ArchivedI16; 2] as ArchivePointee>⟧.pointee (self.entry.pos + 38) 0 self.entry
+            result }
+    {
+        seal_of_field::<ArchivedTask, [ArchivedI16; 2]>(self, 5, 38)
+    }
+
+    fn steps_mut(self) -> Seal<'a, ArchivedVec<ArchivedTask>>
+        requires come_to { IsSealOf task_definitions (one ⟦<ArchivedTask as Portable>⟧.shape) self }
+        ensures { SealsPart task_definitions (one ⟦<ArchivedTask as Portable>⟧.shape)
+            ⟦<ArchivedTask as ArchivePointee>⟧.definitions
+            ⟦<ArchivedVec<ArchivedTask> as ArchivePointee>⟧.pointee (self.entry.pos + 44) 0
+            self.entry result }
+    {
+        seal_of_field::<ArchivedTask, ArchivedVec<ArchivedTask>>(self, 6, 44)
+    }
+}

@@ -1,0 +1,125 @@
+// Recursive values with fields of many kinds, byte for byte: written, validated and read back; and damaged ones.
+
+use crate::assertions::{assert_read, assert_refused, assert_written, value_of};
+use archive_core::core_impls::OwnedArray;
+use archive_core::error::Error;
+use archive_core::primitive::NonZero;
+use recursive_kinds::knot::{ArchivedKnot, Knot};
+use recursive_kinds::task::{ArchivedTask, Task};
+use std::alloc::{AllocError, Global};
+use std::process::Abort;
+
+fn knot(alloc: Global, id: u32, next: Vec<Box<Knot>>) -> Result<Box<Knot>, AllocError> {
+    Ok(Box::new(alloc, Knot { id, next })?)
+}
+
+fn knots(alloc: Global) -> Result<Knot, AllocError> {
+    let two = knot(alloc, 2, Vec::new(alloc))?;
+    let four = knot(alloc, 4, Vec::new(alloc))?;
+    let three = knot(alloc, 3, vec![in alloc; four]?)?;
+    Ok(Knot {
+        id: 1,
+        next: vec![in alloc; two, three]?,
+    })
+}
+
+// Knot 2 at 0, which leads to none; knot 4 at 12, the box of it at 24, and knot 3 at 28; the two boxes at 40, and knot 1 at 48. A knot is its number,
+// and an offset and a length; a box is an offset.
+const KNOTS: &[u8] =
+    b"\x02\0\0\0\xfc\xff\xff\xff\0\0\0\0\x04\0\0\0\xfc\xff\xff\xff\0\0\0\0\xf4\xff\xff\xff\x03\0\0\0\xf8\xff\xff\xff\x01\0\0\0\xd8\xff\xff\xff\xf0\xff\xff\xff\x01\0\0\0\xf4\xff\xff\xff\x02\0\0\0";
+
+#[test]
+fn tree_of_boxes(rt: HostRuntime) {
+    let knots = knots(rt.alloc()).expect(&rt, "a knot");
+    assert_written(&rt, rt.alloc(), &knots, KNOTS);
+    assert_read(&rt, rt.alloc(), KNOTS, &knots);
+}
+
+fn damaged(alloc: Global, bytes: &[u8], at: usize, byte: u8) -> Result<Vec<u8>, AllocError> {
+    let mut out = Vec::with_capacity(alloc, bytes.len())?;
+    for (index, one) in bytes.iter().enumerate() {
+        out.push(if index == at { byte } else { *one })?;
+    }
+    Ok(out)
+}
+
+fn assert_knots_refused(rt: &impl Abort, alloc: Global, at: usize, byte: u8, refusal: Error) {
+    let bytes = damaged(alloc, KNOTS, at, byte).expect(rt, "bytes");
+    assert_refused::<ArchivedKnot>(rt, "damaged knots", alloc, bytes.as_slice(), refusal);
+}
+
+// The box of knot 4 leads into itself. Knot 2 was left before, so knots may lie behind its 12 bytes.
+#[test]
+fn knot_within_itself(rt: HostRuntime) {
+    let outside = Error::InvalidSubtreePointer {
+        position: 20,
+        size: 12,
+        start: 12,
+        end: 24,
+    };
+    assert_knots_refused(&rt, rt.alloc(), 24, 0xfc, outside);
+}
+
+fn place(rt: &impl Abort, alloc: Global, x: i16, y: i16) -> OwnedArray<i16, 2> {
+    let numbers = vec![in alloc; x, y].expect(rt, "numbers");
+    OwnedArray::from_vec(numbers).expect(rt, "two numbers")
+}
+
+fn step(alloc: Global, place: OwnedArray<i16, 2>) -> Result<Task, AllocError> {
+    Ok(Task {
+        done: true,
+        due: Some((7, 9)),
+        result: Err(String::from_str(alloc, "no")?),
+        notes: Vec::new(alloc),
+        rank: NonZero::from_native(1),
+        place,
+        steps: Vec::new(alloc),
+    })
+}
+
+fn whole(alloc: Global, place: OwnedArray<i16, 2>, step: Task) -> Result<Task, AllocError> {
+    let short = String::from_str(alloc, "abc")?;
+    let long = String::from_str(alloc, "ten bytes.")?;
+    Ok(Task {
+        done: false,
+        due: None,
+        result: Ok(5),
+        notes: vec![in alloc; short, long]?,
+        rank: NonZero::from_native(2),
+        place,
+        steps: vec![in alloc; step]?,
+    })
+}
+
+// The long note's text at 0, the two notes at 12, the step at 28, and the task at 80. Of the 52 bytes of a task the first says whether it is done; the
+// option lies at 4, the result at 16, the notes at 28, the rank at 36, the place at 38, and the steps at 44.
+const TASK: &[u8] =
+    b"ten bytes.\0\0abc\xff\xff\xff\xff\xff\x8a\0\0\0\xec\xff\xff\xff\x01\0\0\0\x01\0\0\0\x07\0\0\0\x09\0\0\0\x01\0\0\0no\xff\xff\xff\xff\xff\xff\xe4\xff\xff\xff\0\0\0\0\x01\0\xff\xff\x02\0\0\0\xd4\xff\xff\xff\0\0\0\0\0\0\0\0\0\0\0\0\0\0\0\0\0\0\0\0\0\0\0\0\x05\0\0\0\0\0\0\0\xa0\xff\xff\xff\x02\0\0\0\x02\0\x03\0\xfc\xff\0\0\xa0\xff\xff\xff\x01\0\0\0";
+
+#[test]
+fn task(rt: HostRuntime) {
+    let inner = step(rt.alloc(), place(&rt, rt.alloc(), -1, 2)).expect(&rt, "a step");
+    let task = whole(rt.alloc(), place(&rt, rt.alloc(), 3, -4), inner).expect(&rt, "a task");
+    assert_written(&rt, rt.alloc(), &task, TASK);
+    let back: Task = value_of(&rt, rt.alloc(), TASK);
+    assert_written(&rt, rt.alloc(), &back, TASK);
+}
+
+fn assert_task_refused(rt: &impl Abort, alloc: Global, at: usize, byte: u8, refusal: Error) {
+    let bytes = damaged(alloc, TASK, at, byte).expect(rt, "bytes");
+    assert_refused::<ArchivedTask>(rt, "a damaged task", alloc, bytes.as_slice(), refusal);
+}
+
+fn no_variant(name: &'static str) -> Error {
+    Error::InvalidDiscriminant { name, value: 2 }
+}
+
+#[test]
+fn damaged_tasks(rt: HostRuntime) {
+    assert_task_refused(&rt, rt.alloc(), 80, 2, Error::InvalidBool);
+    assert_task_refused(&rt, rt.alloc(), 84, 2, no_variant("ArchivedOption"));
+    assert_task_refused(&rt, rt.alloc(), 96, 2, no_variant("ArchivedResult"));
+    assert_task_refused(&rt, rt.alloc(), 116, 0, Error::ZeroNumber);
+    assert_task_refused(&rt, rt.alloc(), 28, 2, Error::InvalidBool);
+    assert_task_refused(&rt, rt.alloc(), 32, 2, no_variant("ArchivedOption"));
+}
