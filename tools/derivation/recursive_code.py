@@ -14,7 +14,7 @@ from . import records, variants
 from . import recursive_chains as chains
 from .common import chain, doc_lines, in_turn, infix
 from .formats import snake
-from .recursive_reads import by_match
+from .recursive_reads import MOST_BY_QUESTION, are_matched
 from .layout import Generic, Group, call, flat, implementation, literal, pair, signature, statement
 
 SERIALIZED = """    ensures serialized {{ IfOk result (λ r. Serialized {D} {X} (⟦<{T} as Archive>⟧.keys {v}.now)
@@ -135,6 +135,14 @@ def expression(it, type):
     return f"Expr::Vec(Box::new(alloc, {item})?)"
 
 
+def expressed(it, name, type, matched):
+    """The lines that make the expression of a part."""
+    made = expression(it, type)
+    if not matched or it.terms.leads_back(type):
+        return statement(4, f"let {name} = ", made, ";")
+    return statement(4, f"let {name} = match ", made[:-1], " {") + f"        Ok({name}) => {name},\n        Err(error) => return Err(error),\n    }};\n"
+
+
 def stands_for(it):
     """What the name stands for, as an expression: of each variant one after another."""
     n = it.n
@@ -142,7 +150,7 @@ def stands_for(it):
     for case in it.cases:
         if not case.count:
             continue
-        lets = "".join(statement(4, f"let {name} = ", expression(it, type), ";") for name, type in zip(case.names, case.types))
+        lets = "".join(expressed(it, name, type, case.count > MOST_BY_QUESTION) for name, type in zip(case.names, case.types))
         out.append(f"""// The parts of `{case.name}`.
 fn {case.n}_expressions(alloc: Global) -> Result<Vec<Expr>, Error>
     ensures shapes {{ IfOk result (λ list. shapes_in list.items ≡ {case.n}_parts) }}
@@ -728,19 +736,20 @@ def owner_reading(it, type):
 
 
 def parts_read(it, case):
-    lines = ""
+    lines, matched = "", are_matched(case.types)
     for i, (name, type, back, X, T, offset) in enumerate(zip(case.names, case.types, case.leads_back, case.archived, case.rust, case.offsets)):
         if it.is_record:
             where = Generic("part_of_record", [it.archived, X], ["part", str(i), str(offset)])
         else:
             where = Generic("part_of_variant", [it.archived, X], ["part", str(case.tag), str(i), str(offset)])
         lines += statement(4, f"let p{i} = ", where, ";")
-        if by_match(type):
-            read = Generic("read_part", [X, T, "D"], ["alloc", f"p{i}", "deserializer"])
-            lines += statement(4, f"let {name} = match ", read, " {") + f"        Ok({name}) => {name},\n        Err(error) => return Err(error),\n    }};\n"
+        behind = "" if matched[i] else "?"
+        its = ["alloc", f"p{i}", "deserializer"]
+        read = call(f"read_{it.word(type)}", its, behind) if back else Generic("read_part", [X, T, "D"], its, behind)
+        if not matched[i]:
+            lines += statement(4, f"let {name} = ", read, ";")
             continue
-        read = call(f"read_{it.word(type)}", ["alloc", f"p{i}", "deserializer"], "?") if back else Generic("read_part", [X, T, "D"], ["alloc", f"p{i}", "deserializer"], "?")
-        lines += statement(4, f"let {name} = ", read, ";")
+        lines += statement(4, f"let {name} = match ", read, " {") + f"        Ok({name}) => {name},\n        Err(error) => return Err(error),\n    }};\n"
     return lines
 
 

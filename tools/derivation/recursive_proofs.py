@@ -297,7 +297,7 @@ def vec_written(it, type, answers):
         answers.answer(each, f"returns-{err}-clause-refused", f"continues_broken {at} _ _ _ c.loop-value-test.true c.value-item.is {t.plan(item)} {kept} {goes} {refused}")
     answers.answer(each, "returns-in_err-map_err-clause-goes_on", f"goes_both _ _ _ {kept}.goes {steps.goes}")
     answers.answer(each, "returns-in_err-map_err-clause-refused", "err_by c.from_residual-in_err-map_err.result OutOfMemory _ c.from_residual-in_err-map_err.ensures.1 no_memory")
-    step = f"continues_step {at} _ _ _ _ c.loop-value-test.true c.value-item.is (grind (arith, common_steps)) {kept} {steps.serialized} {steps.belongs} {steps.goes}"
+    step = f"continues_step {at} _ _ _ {steps.resolver} c.loop-value-test.true c.value-item.is (grind (arith, common_steps)) {kept} {steps.serialized} {steps.belongs} {steps.goes}"
     answers.answer(each, "loop-value-preserved", f"record {{ continues = {step} }}")
     end = f"_ _ _ _ _ _ _ _ _ _ _ (drop_of_length-le _ c.loop-value-test.false) {kept}"
     answers.answer(each, "returns-clause-serialized", f"continues_end {end}")
@@ -307,26 +307,35 @@ def vec_written(it, type, answers):
 
 def functions_of(it, which, item):
     """What is read in the place of an element of a vector, or which resolvers are its own, as a function."""
+    if it.terms.is_option(item):
+        inner = functions_of(it, which, item.args[0])
+        return f"(λ y r. ({'option_flat' if which == 'flat' else 'OptionBelongs'} {inner} y r))"
     return f"{it.terms.n_of(item)}_{which}" if it.terms.is_member(item) else f"(λ y r. {getattr(it.terms, which)(item, 'y', 'r')})"
 
 
 class Element:
-    """What is known of the calls that write an element of a vector: those that fail, and that none does."""
+    """What is known of the calls that write an element of a vector: those that fail, and that none does; and the resolver that it leaves."""
 
     def __init__(self, it, item):
-        D, X = it.terms.definitions(item), it.terms.shape(item if it.terms.is_member(item) else item.args[0])
-        inner = f"serialize_{it.word(item if it.terms.is_member(item) else item.args[0])}"
+        box = item.args[0] if it.terms.is_option(item) else item
+        D, X = it.terms.definitions(item), it.terms.shape(box if it.terms.is_member(box) else box.args[0])
+        inner = f"serialize_{it.word(box if it.terms.is_member(box) else box.args[0])}"
         first = f"c.{inner}.ensures.goes_on"
-        self.goes, self.serialized, self.belongs = first, "c.in-Ok.ensures.serialized", "c.in-Ok.ensures.same_value"
+        self.goes, self.serialized, self.belongs, self.resolver = first, "c.in-Ok.ensures.serialized", "c.in-Ok.ensures.same_value", "_"
         self.refusals = [("in-Err", first, "c.in-Err.ensures.refused")]
-        if not it.terms.is_member(item):
+        if not it.terms.is_member(box):
             self.goes, self.belongs = f"(goes_both _ _ _ {first} c.serialize_inner.ensures.goes_on)", "tt"
-            same = "let same : c.deref-inner.result.now ≡ c.value-item.result.value = grind (arith, common_steps) in rw (← same)"
+            # antt doesn't find it by what is read in the box's place
+            self.resolver = "c.in-Ok-serialize_inner.resolver"
+            whole, is_, around = "c.value-item.result", "", "{}"
+            if it.terms.is_option(item):
+                case = f"{D} {D} (λ s k. k) _ _ 1 {it.terms.shape(box)} refl _ _"
+                whole, is_, around = "c.in-Some.whole", "c.in-Some.is, ", f"(case_refused {case} _ _ _ {{}})"
+            same = f"let same : c.deref-inner.result.now ≡ {whole}.value = grind (arith, common_steps) in rw ({is_}← same)"
             since = f"since _ {first} {self.serialized}"
-            self.refusals = [
-                ("in-Err", first, f"({same} (box_refused {D} (one {X}) 0 _ _ _ _ _ (one_owned {D} {X} _ _ _ _ _ c.in-Err.ensures.refused)))"),
-                ("in-Err-serialize_inner", self.goes, f"({same} (c.in-Err-serialize_inner.ensures.refused.{since}))"),
-            ]
+            owned = f"(box_refused {D} (one {X}) 0 _ _ _ _ _ (one_owned {D} {X} _ _ _ _ _ c.in-Err.ensures.refused))"
+            inner_refused = f"(c.in-Err-serialize_inner.ensures.refused.{since})"
+            self.refusals = [("in-Err", first, f"({same} {around.format(owned)})"), ("in-Err-serialize_inner", self.goes, f"({same} {around.format(inner_refused)})")]
             self.serialized = f"({same} (c.in-Ok-serialize_inner.ensures.boxed.{since}))"
 
 
@@ -531,7 +540,7 @@ def parts_read(it, case, answers, function):
     """The answers on parts that are read one after another."""
     where = "part_of_record" if it.is_record else "part_of_variant"
     told = ["rw (" + ", ".join(f"c.{where}-p{i}.ensures.{clause}" for clause in ("buffer", "position", "length")) + ") at " for i in range(case.count)]
-    reads = Reads(case.names, case.types)
+    reads = Reads(case.names, case.types, [f"read_{it.word(type)}" if back else "read_part" for type, back in zip(case.types, case.leads_back)])
     values = reads.values
     parts = Parts(it, case, values)
     laid = "(record { solved = λ s k. refl })"

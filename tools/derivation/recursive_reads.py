@@ -2,6 +2,8 @@
 
 # Read by a `match`: `?` isn't covered on a `Result` that holds an `Error` and a type with a model.
 MODELS = ("NonZero", "OwnedArray")
+# Of more parts each is read by a `match`: what the check writes out of a `?` is a multiple of that, and grows with the parts before.
+MOST_BY_QUESTION = 3
 
 
 def by_match(type):
@@ -9,18 +11,25 @@ def by_match(type):
     return type.own is None and (type.name in MODELS or type.name in ("Option", "Result", "tuple") and any(map(by_match, type.args)))
 
 
-class Reads:
-    """The calls that read parts, each by its index."""
+def are_matched(types):
+    """Which of parts one after another are read by a `match`."""
+    return [len(types) > MOST_BY_QUESTION or by_match(type) for type in types]
 
-    def __init__(self, names, types):
+
+class Reads:
+    """The calls that read parts, each by its index; `words` are the functions that are called."""
+
+    def __init__(self, names, types, words):
         self.names = names
-        self.matched = [by_match(type) for type in types]
+        self.matched = are_matched(types)
         self.oks, self.errs, self.values, self.residuals = [], [], [], []
-        arms, questions = 0, 0
-        for name, matched in zip(names, self.matched):
+        arms, questions = {}, 0
+        for name, matched, word in zip(names, self.matched, words):
             if matched:
-                behind = "" if not arms else "-read_part" if arms == 1 else f"-read_part-{arms}"
-                arms += 1
+                # the first arm has no more; others are named after the call, from its second on with a number
+                number = arms.get(word, 0) + (1 if arms else 0)
+                behind = "" if not arms else f"-{word}" if number == 1 else f"-{word}-{number}"
+                arms[word] = number
                 self.oks.append(f"in-Ok{behind}")
                 self.errs.append(f"in-Err{behind}")
                 self.residuals.append("")

@@ -1,6 +1,6 @@
 pub mod KnotMeaning
 pub mod KnotShape
-pub mod TaskMeaning
-pub mod TaskShape
 pub mod BushMeaning
 pub mod BushShape
+pub mod FactMeaning
+pub mod FactShape

@@ -3,4 +3,3 @@
 
 pub mod bush;
 pub mod knot;
-pub mod task;

@@ -1,11 +1,10 @@
 // Recursive values with fields of many kinds, byte for byte: written, validated and read back; and damaged ones.
 
-use crate::assertions::{assert_read, assert_refused, assert_written, value_of};
-use archive_core::core_impls::OwnedArray;
+use crate::assertions::{assert_read, assert_refused, assert_written};
 use archive_core::error::Error;
-use archive_core::primitive::NonZero;
+use recursive_kinds::bush::Bush;
 use recursive_kinds::knot::{ArchivedKnot, Knot};
-use recursive_kinds::task::{ArchivedTask, Task};
+use recursive_tasks::task::{ArchivedTask, Task};
 use std::alloc::{AllocError, Global};
 use std::process::Abort;
 
@@ -60,24 +59,49 @@ fn knot_within_itself(rt: HostRuntime) {
     assert_knots_refused(&rt, rt.alloc(), 24, 0xfc, outside);
 }
 
-fn place(rt: &impl Abort, alloc: Global, x: i16, y: i16) -> OwnedArray<i16, 2> {
-    let numbers = vec![in alloc; x, y].expect(rt, "numbers");
-    OwnedArray::from_vec(numbers).expect(rt, "two numbers")
+fn bush(alloc: Global, id: u32) -> Result<Bush, AllocError> {
+    Ok(Bush {
+        id,
+        sides: Vec::new(alloc),
+        others: Box::new(alloc, Vec::new(alloc))?,
+    })
 }
 
-fn step(alloc: Global, place: OwnedArray<i16, 2>) -> Result<Task, AllocError> {
+fn bushes(alloc: Global) -> Result<Bush, AllocError> {
+    let two = Box::new(alloc, bush(alloc, 2)?)?;
+    let three = bush(alloc, 3)?;
+    let others = vec![in alloc; three]?;
+    Ok(Bush {
+        id: 1,
+        sides: vec![in alloc; None, Some(two)]?,
+        others: Box::new(alloc, others)?,
+    })
+}
+
+// The vector that the box of bush 2 holds at 0, which is empty, and bush 2 at 8; the two options at 24, each a tag and a box; the empty vector of bush 3
+// at 40, bush 3 at 48, the vector of it at 64, and bush 1 at 72. A bush is its number, an offset and a length, and a box.
+const BUSHES: &[u8] =
+    b"\0\0\0\0\0\0\0\0\x02\0\0\0\xf4\xff\xff\xff\0\0\0\0\xec\xff\xff\xff\0\0\0\0\0\0\0\0\x01\0\0\0\xe4\xff\xff\xff\0\0\0\0\0\0\0\0\x03\0\0\0\xf4\xff\xff\xff\0\0\0\0\xec\xff\xff\xff\xf0\xff\xff\xff\x01\0\0\0\x01\0\0\0\xcc\xff\xff\xff\x02\0\0\0\xec\xff\xff\xff";
+
+#[test]
+fn options_in_a_vector(rt: HostRuntime) {
+    let bushes = bushes(rt.alloc()).expect(&rt, "a bush");
+    assert_written(&rt, rt.alloc(), &bushes, BUSHES);
+    assert_read(&rt, rt.alloc(), BUSHES, &bushes);
+}
+
+fn step(alloc: Global) -> Result<Task, AllocError> {
     Ok(Task {
         done: true,
         due: Some((7, 9)),
         result: Err(String::from_str(alloc, "no")?),
         notes: Vec::new(alloc),
-        rank: NonZero::from_native(1),
-        place,
         steps: Vec::new(alloc),
     })
 }
 
-fn whole(alloc: Global, place: OwnedArray<i16, 2>, step: Task) -> Result<Task, AllocError> {
+fn whole(alloc: Global) -> Result<Task, AllocError> {
+    let step = step(alloc)?;
     let short = String::from_str(alloc, "abc")?;
     let long = String::from_str(alloc, "ten bytes.")?;
     Ok(Task {
@@ -85,24 +109,20 @@ fn whole(alloc: Global, place: OwnedArray<i16, 2>, step: Task) -> Result<Task, A
         due: None,
         result: Ok(5),
         notes: vec![in alloc; short, long]?,
-        rank: NonZero::from_native(2),
-        place,
         steps: vec![in alloc; step]?,
     })
 }
 
-// The long note's text at 0, the two notes at 12, the step at 28, and the task at 80. Of the 52 bytes of a task the first says whether it is done; the
-// option lies at 4, the result at 16, the notes at 28, the rank at 36, the place at 38, and the steps at 44.
+// The long note's text at 0, the two notes at 12, the step at 28, and the task at 72. Of the 44 bytes of a task the first says whether it is done; the
+// option lies at 4, the result at 16, the notes at 28, and the steps at 36.
 const TASK: &[u8] =
-    b"ten bytes.\0\0abc\xff\xff\xff\xff\xff\x8a\0\0\0\xec\xff\xff\xff\x01\0\0\0\x01\0\0\0\x07\0\0\0\x09\0\0\0\x01\0\0\0no\xff\xff\xff\xff\xff\xff\xe4\xff\xff\xff\0\0\0\0\x01\0\xff\xff\x02\0\0\0\xd4\xff\xff\xff\0\0\0\0\0\0\0\0\0\0\0\0\0\0\0\0\0\0\0\0\0\0\0\0\x05\0\0\0\0\0\0\0\xa0\xff\xff\xff\x02\0\0\0\x02\0\x03\0\xfc\xff\0\0\xa0\xff\xff\xff\x01\0\0\0";
+    b"ten bytes.\0\0abc\xff\xff\xff\xff\xff\x8a\0\0\0\xec\xff\xff\xff\x01\0\0\0\x01\0\0\0\x07\0\0\0\x09\0\0\0\x01\0\0\0no\xff\xff\xff\xff\xff\xff\xe4\xff\xff\xff\0\0\0\0\xdc\xff\xff\xff\0\0\0\0\0\0\0\0\0\0\0\0\0\0\0\0\0\0\0\0\0\0\0\0\x05\0\0\0\0\0\0\0\xa8\xff\xff\xff\x02\0\0\0\xb0\xff\xff\xff\x01\0\0\0";
 
 #[test]
 fn task(rt: HostRuntime) {
-    let inner = step(rt.alloc(), place(&rt, rt.alloc(), -1, 2)).expect(&rt, "a step");
-    let task = whole(rt.alloc(), place(&rt, rt.alloc(), 3, -4), inner).expect(&rt, "a task");
+    let task = whole(rt.alloc()).expect(&rt, "a task");
     assert_written(&rt, rt.alloc(), &task, TASK);
-    let back: Task = value_of(&rt, rt.alloc(), TASK);
-    assert_written(&rt, rt.alloc(), &back, TASK);
+    assert_read(&rt, rt.alloc(), TASK, &task);
 }
 
 fn assert_task_refused(rt: &impl Abort, alloc: Global, at: usize, byte: u8, refusal: Error) {
@@ -116,10 +136,9 @@ fn no_variant(name: &'static str) -> Error {
 
 #[test]
 fn damaged_tasks(rt: HostRuntime) {
-    assert_task_refused(&rt, rt.alloc(), 80, 2, Error::InvalidBool);
-    assert_task_refused(&rt, rt.alloc(), 84, 2, no_variant("ArchivedOption"));
-    assert_task_refused(&rt, rt.alloc(), 96, 2, no_variant("ArchivedResult"));
-    assert_task_refused(&rt, rt.alloc(), 116, 0, Error::ZeroNumber);
+    assert_task_refused(&rt, rt.alloc(), 72, 2, Error::InvalidBool);
+    assert_task_refused(&rt, rt.alloc(), 76, 2, no_variant("ArchivedOption"));
+    assert_task_refused(&rt, rt.alloc(), 88, 2, no_variant("ArchivedResult"));
     assert_task_refused(&rt, rt.alloc(), 28, 2, Error::InvalidBool);
     assert_task_refused(&rt, rt.alloc(), 32, 2, no_variant("ArchivedOption"));
 }

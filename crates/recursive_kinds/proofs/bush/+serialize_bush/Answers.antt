@@ -5,6 +5,7 @@ use Rattle.archive_core.proofs.Planned.{one_owned}
 use Rattle.archive_core.proofs.PlannedParts.{serialized_no_part, serialized_part, serialized_record, record_refused, first_refused, later_refused}
 use Rattle.archive_core.proofs.RunRegions.{run_owned, long_run_refused}
 use Rattle.archive_core.proofs.Runs.{continues_step, continues_broken, continues_end, belongs_end}
+use Rattle.archive_core.proofs.WrittenVariants.{case_refused}
 use Rattle.archive_core.specs.Causes.{no_memory}
 use Rattle.archive_core.specs.Choices.{option_shape}
 use Rattle.archive_core.specs.Definitions.{both, no_definition}
@@ -30,25 +31,25 @@ pub serialize_each_option_box_bush-returns-in_err-resolvers-clause-refused : goa
 serialize_each_option_box_bush-returns-in_err-resolvers-clause-refused g t c = err_by c.from_residual.result OutOfMemory _ c.from_residual.ensures.1 no_memory
 
 pub serialize_each_option_box_bush-returns-in-Err-clause-goes_on : goal.serialize_each_option_box_bush-returns-in-Err-clause-goes_on
-serialize_each_option_box_bush-returns-in-Err-clause-goes_on g t c = goes_both _ _ _ c.loop-value.invariant.continues.goes c.serialize_box_bush.ensures.goes_on
+serialize_each_option_box_bush-returns-in-Err-clause-goes_on g t c = goes_both _ _ _ c.loop-value.invariant.continues.goes c.serialize_bush.ensures.goes_on
 
 pub serialize_each_option_box_bush-returns-in-Err-clause-refused : goal.serialize_each_option_box_bush-returns-in-Err-clause-refused
-serialize_each_option_box_bush-returns-in-Err-clause-refused g t c = continues_broken _ _ _ _ _ _ _ _ _ _ c.loop-value.value-index _ _ _ c.loop-value-test.true c.value-item.is (λ y. (option_planned bush_definitions (boxed (one bush_shape)) (λ y. (bush_keys y.value)) (λ y. (box (bush_meaning y.value))) (λ y. (boxed_one_planned bush_definitions (one bush_shape) bush_shape refl _ _ (bush_planned y.value))) y)) c.loop-value.invariant.continues c.serialize_box_bush.ensures.goes_on (let same : c.deref-inner.result.now ≡ c.value-item.result.value = grind (arith, common_steps) in rw (← same) (box_refused bush_definitions (one (boxed (one bush_shape))) 0 _ _ _ _ _ (one_owned bush_definitions (boxed (one bush_shape)) _ _ _ _ _ c.in-Err.ensures.refused)))
+serialize_each_option_box_bush-returns-in-Err-clause-refused g t c = continues_broken _ _ _ _ _ _ _ _ _ _ c.loop-value.value-index _ _ _ c.loop-value-test.true c.value-item.is (λ y. (option_planned bush_definitions (boxed (one bush_shape)) (λ y. (bush_keys y.value)) (λ y. (box (bush_meaning y.value))) (λ y. (boxed_one_planned bush_definitions (one bush_shape) bush_shape refl _ _ (bush_planned y.value))) y)) c.loop-value.invariant.continues c.serialize_bush.ensures.goes_on (let same : c.deref-inner.result.now ≡ c.in-Some.whole.value = grind (arith, common_steps) in rw (c.in-Some.is, ← same) (case_refused bush_definitions bush_definitions (λ s k. k) _ _ 1 (boxed (one bush_shape)) refl _ _ _ _ _ (box_refused bush_definitions (one bush_shape) 0 _ _ _ _ _ (one_owned bush_definitions bush_shape _ _ _ _ _ c.in-Err.ensures.refused))))
 
 pub serialize_each_option_box_bush-returns-in-Err-serialize_inner-clause-goes_on : goal.serialize_each_option_box_bush-returns-in-Err-serialize_inner-clause-goes_on
-serialize_each_option_box_bush-returns-in-Err-serialize_inner-clause-goes_on g t c = goes_both _ _ _ c.loop-value.invariant.continues.goes (goes_both _ _ _ c.serialize_box_bush.ensures.goes_on c.serialize_inner.ensures.goes_on)
+serialize_each_option_box_bush-returns-in-Err-serialize_inner-clause-goes_on g t c = goes_both _ _ _ c.loop-value.invariant.continues.goes (goes_both _ _ _ c.serialize_bush.ensures.goes_on c.serialize_inner.ensures.goes_on)
 
 pub serialize_each_option_box_bush-returns-in-Err-serialize_inner-clause-refused : goal.serialize_each_option_box_bush-returns-in-Err-serialize_inner-clause-refused
-serialize_each_option_box_bush-returns-in-Err-serialize_inner-clause-refused g t c = continues_broken _ _ _ _ _ _ _ _ _ _ c.loop-value.value-index _ _ _ c.loop-value-test.true c.value-item.is (λ y. (option_planned bush_definitions (boxed (one bush_shape)) (λ y. (bush_keys y.value)) (λ y. (box (bush_meaning y.value))) (λ y. (boxed_one_planned bush_definitions (one bush_shape) bush_shape refl _ _ (bush_planned y.value))) y)) c.loop-value.invariant.continues (goes_both _ _ _ c.serialize_box_bush.ensures.goes_on c.serialize_inner.ensures.goes_on) (let same : c.deref-inner.result.now ≡ c.value-item.result.value = grind (arith, common_steps) in rw (← same) (c.in-Err-serialize_inner.ensures.refused.since _ c.serialize_box_bush.ensures.goes_on c.in-Ok.ensures.serialized))
+serialize_each_option_box_bush-returns-in-Err-serialize_inner-clause-refused g t c = continues_broken _ _ _ _ _ _ _ _ _ _ c.loop-value.value-index _ _ _ c.loop-value-test.true c.value-item.is (λ y. (option_planned bush_definitions (boxed (one bush_shape)) (λ y. (bush_keys y.value)) (λ y. (box (bush_meaning y.value))) (λ y. (boxed_one_planned bush_definitions (one bush_shape) bush_shape refl _ _ (bush_planned y.value))) y)) c.loop-value.invariant.continues (goes_both _ _ _ c.serialize_bush.ensures.goes_on c.serialize_inner.ensures.goes_on) (let same : c.deref-inner.result.now ≡ c.in-Some.whole.value = grind (arith, common_steps) in rw (c.in-Some.is, ← same) (case_refused bush_definitions bush_definitions (λ s k. k) _ _ 1 (boxed (one bush_shape)) refl _ _ _ _ _ (c.in-Err-serialize_inner.ensures.refused.since _ c.serialize_bush.ensures.goes_on c.in-Ok.ensures.serialized)))
 
 pub serialize_each_option_box_bush-returns-in_err-map_err-clause-goes_on : goal.serialize_each_option_box_bush-returns-in_err-map_err-clause-goes_on
-serialize_each_option_box_bush-returns-in_err-map_err-clause-goes_on g t c = goes_both _ _ _ c.loop-value.invariant.continues.goes (goes_both _ _ _ c.serialize_box_bush.ensures.goes_on c.serialize_inner.ensures.goes_on)
+serialize_each_option_box_bush-returns-in_err-map_err-clause-goes_on g t c = goes_both _ _ _ c.loop-value.invariant.continues.goes (goes_both _ _ _ c.serialize_bush.ensures.goes_on c.serialize_inner.ensures.goes_on)
 
 pub serialize_each_option_box_bush-returns-in_err-map_err-clause-refused : goal.serialize_each_option_box_bush-returns-in_err-map_err-clause-refused
 serialize_each_option_box_bush-returns-in_err-map_err-clause-refused g t c = err_by c.from_residual-in_err-map_err.result OutOfMemory _ c.from_residual-in_err-map_err.ensures.1 no_memory
 
 pub serialize_each_option_box_bush-loop-value-preserved : goal.serialize_each_option_box_bush-loop-value-preserved
-serialize_each_option_box_bush-loop-value-preserved g t c = record { continues = continues_step _ _ _ _ _ _ _ _ _ _ c.loop-value.value-index _ _ _ _ c.loop-value-test.true c.value-item.is (grind (arith, common_steps)) c.loop-value.invariant.continues (let same : c.deref-inner.result.now ≡ c.value-item.result.value = grind (arith, common_steps) in rw (← same) (c.in-Ok-serialize_inner.ensures.boxed.since _ c.serialize_box_bush.ensures.goes_on c.in-Ok.ensures.serialized)) tt (goes_both _ _ _ c.serialize_box_bush.ensures.goes_on c.serialize_inner.ensures.goes_on) }
+serialize_each_option_box_bush-loop-value-preserved g t c = record { continues = continues_step _ _ _ _ _ _ _ _ _ _ c.loop-value.value-index _ _ _ c.in-Ok-serialize_inner.resolver c.loop-value-test.true c.value-item.is (grind (arith, common_steps)) c.loop-value.invariant.continues (let same : c.deref-inner.result.now ≡ c.in-Some.whole.value = grind (arith, common_steps) in rw (c.in-Some.is, ← same) (c.in-Ok-serialize_inner.ensures.boxed.since _ c.serialize_bush.ensures.goes_on c.in-Ok.ensures.serialized)) tt (goes_both _ _ _ c.serialize_bush.ensures.goes_on c.serialize_inner.ensures.goes_on) }
 
 pub serialize_each_option_box_bush-returns-clause-serialized : goal.serialize_each_option_box_bush-returns-clause-serialized
 serialize_each_option_box_bush-returns-clause-serialized g t c = continues_end _ _ _ _ _ _ _ _ _ _ _ (drop_of_length-le _ c.loop-value-test.false) c.loop-value.invariant.continues

@@ -46,7 +46,7 @@ pub serialize_each_box_knot-returns-in_err-map_err-clause-refused : goal.seriali
 serialize_each_box_knot-returns-in_err-map_err-clause-refused g t c = err_by c.from_residual-in_err-map_err.result OutOfMemory _ c.from_residual-in_err-map_err.ensures.1 no_memory
 
 pub serialize_each_box_knot-loop-value-preserved : goal.serialize_each_box_knot-loop-value-preserved
-serialize_each_box_knot-loop-value-preserved g t c = record { continues = continues_step _ _ _ _ _ _ _ _ _ _ c.loop-value.value-index _ _ _ _ c.loop-value-test.true c.value-item.is (grind (arith, common_steps)) c.loop-value.invariant.continues (let same : c.deref-inner.result.now ≡ c.value-item.result.value = grind (arith, common_steps) in rw (← same) (c.in-Ok-serialize_inner.ensures.boxed.since _ c.serialize_knot.ensures.goes_on c.in-Ok.ensures.serialized)) tt (goes_both _ _ _ c.serialize_knot.ensures.goes_on c.serialize_inner.ensures.goes_on) }
+serialize_each_box_knot-loop-value-preserved g t c = record { continues = continues_step _ _ _ _ _ _ _ _ _ _ c.loop-value.value-index _ _ _ c.in-Ok-serialize_inner.resolver c.loop-value-test.true c.value-item.is (grind (arith, common_steps)) c.loop-value.invariant.continues (let same : c.deref-inner.result.now ≡ c.value-item.result.value = grind (arith, common_steps) in rw (← same) (c.in-Ok-serialize_inner.ensures.boxed.since _ c.serialize_knot.ensures.goes_on c.in-Ok.ensures.serialized)) tt (goes_both _ _ _ c.serialize_knot.ensures.goes_on c.serialize_inner.ensures.goes_on) }
 
 pub serialize_each_box_knot-returns-clause-serialized : goal.serialize_each_box_knot-returns-clause-serialized
 serialize_each_box_knot-returns-clause-serialized g t c = continues_end _ _ _ _ _ _ _ _ _ _ _ (drop_of_length-le _ c.loop-value-test.false) c.loop-value.invariant.continues

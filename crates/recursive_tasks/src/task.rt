@@ -1,10 +1,7 @@
-//! A recursive type with fields of many kinds.
-
-use archive_core::core_impls::OwnedArray;
-use archive_core::primitive::NonZero;
+//! A recursive struct with fields of many kinds.
 
 /// A task, with the steps that it is made of.
-#[derive(Debug, Drop)]
+#[derive(Debug, PartialEq, Drop)]
 pub struct Task {
     /// Whether it is done.
     pub done: bool,
@@ -14,10 +11,6 @@ pub struct Task {
     pub result: Result<u32, String>,
     /// Notes.
     pub notes: Vec<String>,
-    /// How urgent it is.
-    pub rank: NonZero<u8>,
-    /// Where it is to be done.
-    pub place: OwnedArray<i16, 2>,
     /// What it is made of.
     pub steps: Vec<Task>,
 }
@@ -41,7 +34,7 @@ ghost use Rattle.archive_core.specs.Sources.{Read};
 ghost use Rattle.archive_core.specs.Value.{value};
 ghost use Rattle.archive_core.specs.Writing.{ZeroedPlace};
 ghost use Rattle.archive_core.specs.Written.{GoesOn};
-ghost use Rattle.recursive_kinds.specs.TaskShape.{task_definitions, task_has_layout, task_has_parts, task_is_align, task_layout, task_no_others, task_parts, task_shape, task_stands_for};
+ghost use Rattle.recursive_tasks.specs.TaskShape.{task_definitions, task_has_layout, task_has_parts, task_is_align, task_layout, task_no_others, task_parts, task_shape, task_stands_for};
 ghost use Rattle.std.proofs.Common.{lit≤};
 ghost use Rattle.std.specs.Prelude.{IfErr, IfOk, None, length, refl, ◌+◌, ◌≡◌, ◌≤◌};
 
@@ -49,9 +42,9 @@ use archive_core::core_impls::ArchivedTuple2;
 use archive_core::error::Error;
 use archive_core::option::ArchivedOption;
 use archive_core::place::Place;
-use archive_core::primitive::{ArchivedI16, ArchivedU32};
+use archive_core::primitive::ArchivedU32;
 use archive_core::recursive::{
-    VecAt, before_vec, define_name, part_of_record, read_part, record_of, resolve_named_record_7,
+    VecAt, before_vec, define_name, part_of_record, read_part, record_of, resolve_named_record_5,
     seal_of_field, serialize_inner_slice, serialize_part, view_of_field,
 };
 use archive_core::result::ArchivedResult;
@@ -68,7 +61,7 @@ use archive_core::vec::{ArchivedVec, VecResolver};
 use archive_core::view::{RawView, Ref};
 use std::alloc::{AllocError, Global};
 
-/// An archived `Task`: 52 bytes at a multiple of 4. It is validated by its schema.
+/// An archived `Task`: 44 bytes at a multiple of 4. It is validated by its schema.
 pub struct ArchivedTask;
 
 type TaskParts = (
@@ -77,13 +70,7 @@ type TaskParts = (
         ArchivedOption<ArchivedTuple2<ArchivedU32, u8>>,
         (
             ArchivedResult<ArchivedU32, ArchivedString>,
-            (
-                ArchivedVec<ArchivedString>,
-                (
-                    NonZero<u8>,
-                    ([ArchivedI16; 2], (ArchivedVec<ArchivedTask>, ())),
-                ),
-            ),
+            (ArchivedVec<ArchivedString>, (ArchivedVec<ArchivedTask>, ())),
         ),
     ),
 );
@@ -107,14 +94,24 @@ fn task_expressions(alloc: Global) -> Result<Vec<Expr>, Error>
     ensures shapes { IfOk result (λ list. shapes_in list.items ≡ task_parts) }
     ensures refused { IfErr result (λ e. e ≡ OutOfMemory) }
 {
-    let a0 = <bool as Portable>::expr(alloc)?;
-    let a1 = <ArchivedOption<ArchivedTuple2<ArchivedU32, u8>> as Portable>::expr(alloc)?;
-    let a2 = <ArchivedResult<ArchivedU32, ArchivedString> as Portable>::expr(alloc)?;
-    let a3 = <ArchivedVec<ArchivedString> as Portable>::expr(alloc)?;
-    let a4 = <NonZero<u8> as Portable>::expr(alloc)?;
-    let a5 = <[ArchivedI16; 2] as Portable>::expr(alloc)?;
-    let a6 = Expr::Vec(Box::new(alloc, Expr::Named("ArchivedTask"))?);
-    Ok(vec![in alloc; a0, a1, a2, a3, a4, a5, a6]?)
+    let a0 = match <bool as Portable>::expr(alloc) {
+        Ok(a0) => a0,
+        Err(error) => return Err(error),
+    };
+    let a1 = match <ArchivedOption<ArchivedTuple2<ArchivedU32, u8>> as Portable>::expr(alloc) {
+        Ok(a1) => a1,
+        Err(error) => return Err(error),
+    };
+    let a2 = match <ArchivedResult<ArchivedU32, ArchivedString> as Portable>::expr(alloc) {
+        Ok(a2) => a2,
+        Err(error) => return Err(error),
+    };
+    let a3 = match <ArchivedVec<ArchivedString> as Portable>::expr(alloc) {
+        Ok(a3) => a3,
+        Err(error) => return Err(error),
+    };
+    let a4 = Expr::Vec(Box::new(alloc, Expr::Named("ArchivedTask"))?);
+    Ok(vec![in alloc; a0, a1, a2, a3, a4]?)
 }
 
 // What the name stands for.
@@ -144,7 +141,7 @@ impl Portable for ArchivedTask {
     ghost checks = { λ direct. by_schema direct };
 
     fn size() -> usize {
-        52
+        44
     }
 
     fn align() -> usize {
@@ -181,20 +178,14 @@ pub struct TaskResolver {
             <Option<(u32, u8)> as Archive>::Resolver,
             (
                 <Result<u32, String> as Archive>::Resolver,
-                (
-                    <Vec<String> as Archive>::Resolver,
-                    (
-                        <NonZero<u8> as Archive>::Resolver,
-                        (<OwnedArray<i16, 2> as Archive>::Resolver, (VecResolver, ())),
-                    ),
-                ),
+                (<Vec<String> as Archive>::Resolver, (VecResolver, ())),
             ),
         ),
     ),
 }
 
 impl Archive for Task {
-    ghost use Rattle.recursive_kinds.specs.TaskMeaning.{task_meaning, task_flat, task_keys, task_belongs, task_keyed, task_planned};
+    ghost use Rattle.recursive_tasks.specs.TaskMeaning.{task_meaning, task_flat, task_keys, task_belongs, task_keyed, task_planned};
 
     type Archived = ArchivedTask;
 
@@ -219,21 +210,19 @@ impl Archive for Task {
         resolver: Self::Resolver,
         place: Place<'_, Self::Archived>,
     ) -> Result<(), Error>
-        requires zeroed { ZeroedPlace 52 place.pos place.bytes.now }
+        requires zeroed { ZeroedPlace 44 place.pos place.bytes.now }
         requires same_value { ⟦<Self as Archive>⟧.belongs self.now resolver }
         ensures { ResolvesAs ⟦<Self::Archived as Portable>⟧ place
             (⟦<Self as Archive>⟧.flat self.now resolver) result }
     {
         let Place { bytes, pos, .. } = place;
         let TaskResolver { kept } = resolver;
-        let h6: VecAt<ArchivedTask> = VecAt::of(self.steps.len());
-        resolve_named_record_7::<
+        let h4: VecAt<ArchivedTask> = VecAt::of(self.steps.len());
+        resolve_named_record_5::<
             bool,
             Option<(u32, u8)>,
             Result<u32, String>,
             Vec<String>,
-            NonZero<u8>,
-            OwnedArray<i16, 2>,
             VecAt<ArchivedTask>,
             ArchivedTask,
         >(
@@ -241,9 +230,7 @@ impl Archive for Task {
             &self.due,
             &self.result,
             &self.notes,
-            &self.rank,
-            &self.place,
-            &h6,
+            &h4,
             kept,
             Place::new(pos, bytes),
         )
@@ -266,7 +253,7 @@ impl Archive for Task {
 
 // Writes what each of the values owns, in order.
 #[cycle(serialize_task)]
-fn serialize_each_task<S: Writer + Keys + ResolverAlloc<Alloc = Global>>(values: &[Task], serializer: &mut S) -> Result<Vec<<Task as Archive>::Resolver, S::Alloc>, Error>
+fn serialize_each_task<S: Writer + Keys + ResolverAlloc>(values: &[Task], serializer: &mut S) -> Result<Vec<<Task as Archive>::Resolver, S::Alloc>, Error>
     ensures serialized { IfOk result (λ rs. SerializedRun task_definitions task_shape
         (length values.now) (each_keys ⟦<Task as Archive>⟧.keys values.now)
         (each_meaning ⟦<Task as Archive>⟧.meaning values.now)
@@ -294,7 +281,7 @@ fn serialize_each_task<S: Writer + Keys + ResolverAlloc<Alloc = Global>>(values:
 
 // Writes what a vector owns.
 #[cycle(serialize_task)]
-fn serialize_vec_task<S: Writer + Keys + ResolverAlloc<Alloc = Global>>(value: &Vec<Task>, serializer: &mut S) -> Result<VecResolver, Error>
+fn serialize_vec_task<S: Writer + Keys + ResolverAlloc>(value: &Vec<Task>, serializer: &mut S) -> Result<VecResolver, Error>
     ensures serialized { IfOk result (λ r. Serialized task_definitions (vec task_shape)
         (⟦<Vec<Task> as Archive>⟧.keys value.now) (⟦<Vec<Task> as Archive>⟧.meaning value.now)
         (⟦<Vec<Task> as Archive>⟧.flat value.now r) (S.state serializer.old)
@@ -321,7 +308,7 @@ fn serialize_vec_task<S: Writer + Keys + ResolverAlloc<Alloc = Global>>(value: &
 
 // Writes what a value owns, part by part.
 #[cycle(serialize_task)]
-fn serialize_task<S: Writer + Keys + ResolverAlloc<Alloc = Global>>(value: &Task, serializer: &mut S) -> Result<TaskResolver, Error>
+fn serialize_task<S: Writer + Keys + ResolverAlloc>(value: &Task, serializer: &mut S) -> Result<TaskResolver, Error>
     ensures serialized { IfOk result (λ r. Serialized task_definitions task_shape
         (⟦<Task as Archive>⟧.keys value.now) (⟦<Task as Archive>⟧.meaning value.now)
         (⟦<Task as Archive>⟧.flat value.now r) (S.state serializer.old) (S.state serializer.new)) }
@@ -347,22 +334,14 @@ fn serialize_task<S: Writer + Keys + ResolverAlloc<Alloc = Global>>(value: &Task
         Ok(a3) => a3,
         Err(error) => return Err(error),
     };
-    let a4 = match serialize_part(&value.rank, serializer) {
+    let a4 = match serialize_vec_task(&value.steps, serializer) {
         Ok(a4) => a4,
         Err(error) => return Err(error),
     };
-    let a5 = match serialize_part(&value.place, serializer) {
-        Ok(a5) => a5,
-        Err(error) => return Err(error),
-    };
-    let a6 = match serialize_vec_task(&value.steps, serializer) {
-        Ok(a6) => a6,
-        Err(error) => return Err(error),
-    };
-    Ok(TaskResolver { kept: (a0, (a1, (a2, (a3, (a4, (a5, (a6, ()))))))) })
+    Ok(TaskResolver { kept: (a0, (a1, (a2, (a3, (a4, ()))))) })
 }
 
-impl<S: Writer + Keys + ResolverAlloc<Alloc = Global>> Serialize<S> for Task {
+impl<S: Writer + Keys + ResolverAlloc> Serialize<S> for Task {
     fn serialize(&self, serializer: &mut S) -> Result<Self::Resolver, Error> {
         serialize_task(self, serializer)
     }
@@ -370,7 +349,7 @@ impl<S: Writer + Keys + ResolverAlloc<Alloc = Global>> Serialize<S> for Task {
 
 /// As a region of its own: the value itself.
 impl ArchiveUnsized for Task {
-    ghost use Rattle.recursive_kinds.specs.contracts.task.TaskArchive.TheImpl.Laws.{keyed-law as keyed_of_task, planned-law as planned_of_task};
+    ghost use Rattle.recursive_tasks.specs.contracts.task.TaskArchive.TheImpl.Laws.{keyed-law as keyed_of_task, planned-law as planned_of_task};
 
     type Archived = ArchivedTask;
 
@@ -392,7 +371,7 @@ impl ArchiveUnsized for Task {
     }
 }
 
-impl<S: Writer + Keys + ResolverAlloc<Alloc = Global>> SerializeUnsized<S> for Task {
+impl<S: Writer + Keys + ResolverAlloc> SerializeUnsized<S> for Task {
     fn serialize_unsized(&self, serializer: &mut S) -> Result<usize, Error> {
         serialize_one(self, serializer)
     }
@@ -427,45 +406,53 @@ fn read_task<D: Entries>(alloc: Global, part: RawView<'_>, deserializer: &mut D)
         deserializer) }
 {
     let p0 = part_of_record::<ArchivedTask, bool>(part, 0, 0);
-    let a0 = read_part::<bool, bool, D>(alloc, p0, deserializer)?;
+    let a0 = match read_part::<bool, bool, D>(alloc, p0, deserializer) {
+        Ok(a0) => a0,
+        Err(error) => return Err(error),
+    };
     let p1 = part_of_record::<ArchivedTask, ArchivedOption<ArchivedTuple2<ArchivedU32, u8>>>(
         part, 1, 4,
     );
-    let a1 = read_part::<ArchivedOption<ArchivedTuple2<ArchivedU32, u8>>, Option<(u32, u8)>, D>(
-        alloc,
-        p1,
-        deserializer,
-    )?;
+    let a1 = match read_part::<
+        ArchivedOption<ArchivedTuple2<ArchivedU32, u8>>,
+        Option<(u32, u8)>,
+        D,
+    >(alloc, p1, deserializer)
+    {
+        Ok(a1) => a1,
+        Err(error) => return Err(error),
+    };
     let p2 = part_of_record::<ArchivedTask, ArchivedResult<ArchivedU32, ArchivedString>>(
         part, 2, 16,
     );
-    let a2 = read_part::<ArchivedResult<ArchivedU32, ArchivedString>, Result<u32, String>, D>(
+    let a2 = match read_part::<ArchivedResult<ArchivedU32, ArchivedString>, Result<u32, String>, D>(
         alloc,
         p2,
         deserializer,
-    )?;
+    ) {
+        Ok(a2) => a2,
+        Err(error) => return Err(error),
+    };
     let p3 = part_of_record::<ArchivedTask, ArchivedVec<ArchivedString>>(part, 3, 28);
-    let a3 = read_part::<ArchivedVec<ArchivedString>, Vec<String>, D>(alloc, p3, deserializer)?;
-    let p4 = part_of_record::<ArchivedTask, NonZero<u8>>(part, 4, 36);
-    let a4 = match read_part::<NonZero<u8>, NonZero<u8>, D>(alloc, p4, deserializer) {
+    let a3 = match read_part::<ArchivedVec<ArchivedString>, Vec<String>, D>(
+        alloc,
+        p3,
+        deserializer,
+    ) {
+        Ok(a3) => a3,
+        Err(error) => return Err(error),
+    };
+    let p4 = part_of_record::<ArchivedTask, ArchivedVec<ArchivedTask>>(part, 4, 36);
+    let a4 = match read_vec_task(alloc, p4, deserializer) {
         Ok(a4) => a4,
         Err(error) => return Err(error),
     };
-    let p5 = part_of_record::<ArchivedTask, [ArchivedI16; 2]>(part, 5, 38);
-    let a5 = match read_part::<[ArchivedI16; 2], OwnedArray<i16, 2>, D>(alloc, p5, deserializer) {
-        Ok(a5) => a5,
-        Err(error) => return Err(error),
-    };
-    let p6 = part_of_record::<ArchivedTask, ArchivedVec<ArchivedTask>>(part, 6, 44);
-    let a6 = read_vec_task(alloc, p6, deserializer)?;
     Ok(Task {
         done: a0,
         due: a1,
         result: a2,
         notes: a3,
-        rank: a4,
-        place: a5,
-        steps: a6,
+        steps: a4,
     })
 }
 
@@ -498,12 +485,6 @@ pub trait TaskView<'a> {
 
     /// Notes.
     fn notes(self) -> Ref<'a, ArchivedVec<ArchivedString>>;
-
-    /// How urgent it is.
-    fn rank(self) -> Ref<'a, NonZero<u8>>;
-
-    /// Where it is to be done.
-    fn place(self) -> Ref<'a, [ArchivedI16; 2]>;
 
     /// What it is made of.
     fn steps(self) -> Ref<'a, ArchivedVec<ArchivedTask>>;
@@ -546,31 +527,13 @@ impl<'a> TaskView<'a> for Ref<'a, ArchivedTask> {
         view_of_field::<ArchivedTask, ArchivedVec<ArchivedString>>(self, 3, 28)
     }
 
-    fn rank(self) -> Ref<'a, NonZero<u8>>
+    fn steps(self) -> Ref<'a, ArchivedVec<ArchivedTask>>
         ensures buffer { result.bytes.now ≡ self.entry.bytes.now }
         ensures position { result.pos ≡ self.entry.pos + 36 }
         ensures length { result.len ≡ 0 }
         ensures shows { ShowsValueOf result self.entry (field_in 4) }
     {
-        view_of_field::<ArchivedTask, NonZero<u8>>(self, 4, 36)
-    }
-
-    fn place(self) -> Ref<'a, [ArchivedI16; 2]>
-        ensures buffer { result.bytes.now ≡ self.entry.bytes.now }
-        ensures position { result.pos ≡ self.entry.pos + 38 }
-        ensures length { result.len ≡ 0 }
-        ensures shows { ShowsValueOf result self.entry (field_in 5) }
-    {
-        view_of_field::<ArchivedTask, [ArchivedI16; 2]>(self, 5, 38)
-    }
-
-    fn steps(self) -> Ref<'a, ArchivedVec<ArchivedTask>>
-        ensures buffer { result.bytes.now ≡ self.entry.bytes.now }
-        ensures position { result.pos ≡ self.entry.pos + 44 }
-        ensures length { result.len ≡ 0 }
-        ensures shows { ShowsValueOf result self.entry (field_in 6) }
-    {
-        view_of_field::<ArchivedTask, ArchivedVec<ArchivedTask>>(self, 6, 44)
+        view_of_field::<ArchivedTask, ArchivedVec<ArchivedTask>>(self, 4, 36)
     }
 }
 
@@ -593,14 +556,6 @@ pub trait TaskSeal<'a> {
 
     /// Notes.
     fn notes_mut(self) -> Seal<'a, ArchivedVec<ArchivedString>>
-        requires { sealed self };
-
-    /// How urgent it is.
-    fn rank_mut(self) -> Seal<'a, NonZero<u8>>
-        requires { sealed self };
-
-    /// Where it is to be done.
-    fn place_mut(self) -> Seal<'a, [ArchivedI16; 2]>
         requires { sealed self };
 
     /// What it is made of.
@@ -652,30 +607,13 @@ impl<'a> TaskSeal<'a> for Seal<'a, ArchivedTask> {
         seal_of_field::<ArchivedTask, ArchivedVec<ArchivedString>>(self, 3, 28)
     }
 
-    fn rank_mut(self) -> Seal<'a, NonZero<u8>>
-        requires come_to { IsSealOf task_definitions (one ⟦<ArchivedTask as Portable>⟧.shape) self }
-        ensures { SealsPart task_definitions (one ⟦<ArchivedTask as Portable>⟧.shape) no_definition
-            ⟦<NonZero<u8> as ArchivePointee>⟧.pointee (self.entry.pos + 36) 0 self.entry result }
-    {
-        seal_of_field::<ArchivedTask, NonZero<u8>>(self, 4, 36)
-    }
-
-    fn place_mut(self) -> Seal<'a, [ArchivedI16; 2]>
-        requires come_to { IsSealOf task_definitions (one ⟦<ArchivedTask as Portable>⟧.shape) self }
-        ensures { SealsPart task_definitions (one ⟦<ArchivedTask as Portable>⟧.shape) no_definition
-            ⟦<[ArchivedI16; 2] as ArchivePointee>⟧.pointee (self.entry.pos + 38) 0 self.entry
-            result }
-    {
-        seal_of_field::<ArchivedTask, [ArchivedI16; 2]>(self, 5, 38)
-    }
-
     fn steps_mut(self) -> Seal<'a, ArchivedVec<ArchivedTask>>
         requires come_to { IsSealOf task_definitions (one ⟦<ArchivedTask as Portable>⟧.shape) self }
         ensures { SealsPart task_definitions (one ⟦<ArchivedTask as Portable>⟧.shape)
             ⟦<ArchivedTask as ArchivePointee>⟧.definitions
-            ⟦<ArchivedVec<ArchivedTask> as ArchivePointee>⟧.pointee (self.entry.pos + 44) 0
+            ⟦<ArchivedVec<ArchivedTask> as ArchivePointee>⟧.pointee (self.entry.pos + 36) 0
             self.entry result }
     {
-        seal_of_field::<ArchivedTask, ArchivedVec<ArchivedTask>>(self, 6, 44)
+        seal_of_field::<ArchivedTask, ArchivedVec<ArchivedTask>>(self, 4, 36)
     }
 }

@@ -6,9 +6,9 @@ use Rattle.archive_core.specs.Layout.{Layout}
 use Rattle.archive_core.specs.NamedLayout.{name_has_layout, name_reached}
 use Rattle.archive_core.specs.PartsLayout.{IsRecord, by_name, knows_none}
 use Rattle.archive_core.specs.ResultShapes.{result_shape}
-use Rattle.archive_core.specs.Shape.{Name, Shape, Parts, named, parts, array, vec, str, leaf, bool, non_zero, unsigned, signed, part, no_part, number as number_kind}
+use Rattle.archive_core.specs.Shape.{Name, Shape, Parts, named, parts, vec, str, leaf, bool, unsigned, part, no_part, number as number_kind}
 use Rattle.std.proofs.Common.{inl, inr}
-use Rattle.std.specs.Int.{w8, w16, w32}
+use Rattle.std.specs.Int.{w8, w32}
 use Rattle.std.specs.Prelude.{refl, codes}
 
 abbrev pub task_name : Name
@@ -18,7 +18,7 @@ abbrev pub task_shape : Shape
 task_shape = named task_name
 
 abbrev pub task_parts : Parts
-task_parts = (part (leaf bool) (part (option_shape (parts (part (leaf (number_kind unsigned w32)) (part (leaf (number_kind unsigned w8)) no_part)))) (part (result_shape (leaf (number_kind unsigned w32)) str) (part (vec str) (part (leaf (non_zero unsigned w8)) (part (array 2 (leaf (number_kind signed w16))) (part (vec task_shape) no_part)))))))
+task_parts = (part (leaf bool) (part (option_shape (parts (part (leaf (number_kind unsigned w32)) (part (leaf (number_kind unsigned w8)) no_part)))) (part (result_shape (leaf (number_kind unsigned w32)) str) (part (vec str) (part (vec task_shape) no_part)))))
 
 abbrev pub task_stands_for : Shape
 task_stands_for = parts task_parts
@@ -27,7 +27,7 @@ abbrev pub task_definitions : Definitions
 task_definitions = defines task_name task_stands_for
 
 abbrev pub task_layout : Layout
-task_layout = record { size = 52; align = 4 }
+task_layout = record { size = 44; align = 4 }
 
 pub task_is_align : IsAlign 4
 task_is_align = inr (inr (inl refl))
@@ -39,7 +39,7 @@ pub task_no_others : NoOthers task_definitions task_shape
 task_no_others = name_reached task_name task_stands_for
 
 abbrev pub task_part_definitions : Definitions
-task_part_definitions = (both no_definition (both (both no_definition (both no_definition no_definition)) (both (both no_definition no_definition) (both no_definition (both no_definition (both no_definition (both task_definitions no_definition)))))))
+task_part_definitions = (both no_definition (both (both no_definition (both no_definition no_definition)) (both (both no_definition no_definition) (both no_definition (both task_definitions no_definition)))))
 
 pub task_has_parts : IsRecord task_definitions task_shape task_part_definitions task_parts
-task_has_parts = record { stands = λ s k. by_name k.has; known = λ s k. (knows_both s _ _ (knows_none s k.laid_out) (knows_both s _ _ (knows_both s _ _ (knows_none s k.laid_out) (knows_both s _ _ (knows_none s k.laid_out) (knows_none s k.laid_out))) (knows_both s _ _ (knows_both s _ _ (knows_none s k.laid_out) (knows_none s k.laid_out)) (knows_both s _ _ (knows_none s k.laid_out) (knows_both s _ _ (knows_none s k.laid_out) (knows_both s _ _ (knows_none s k.laid_out) (knows_both s _ _ k (knows_none s k.laid_out)))))))) }
+task_has_parts = record { stands = λ s k. by_name k.has; known = λ s k. (knows_both s _ _ (knows_none s k.laid_out) (knows_both s _ _ (knows_both s _ _ (knows_none s k.laid_out) (knows_both s _ _ (knows_none s k.laid_out) (knows_none s k.laid_out))) (knows_both s _ _ (knows_both s _ _ (knows_none s k.laid_out) (knows_none s k.laid_out)) (knows_both s _ _ (knows_none s k.laid_out) (knows_both s _ _ k (knows_none s k.laid_out)))))) }

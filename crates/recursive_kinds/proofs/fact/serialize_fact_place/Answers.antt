@@ -1,0 +1,19 @@
+-- Written by tools/derive: change the declaration, and run it again.
+use Rattle.archive_core.proofs.OwnChoices.{serialized_variant, variant_refused}
+use Rattle.archive_core.proofs.PlannedParts.{serialized_no_part, serialized_part, first_refused}
+use Rattle.archive_core.specs.Arrays.{array_keys, array_meaning}
+use Rattle.archive_core.specs.Definitions.{no_definition}
+use Rattle.archive_core.specs.PartsPlanned.{no_part_planned}
+use Rattle.archive_core.specs.Shape.{array, leaf, signed, no_part, number as number_kind}
+use Rattle.archive_core.specs.Value.{number, no_value}
+use Rattle.recursive_kinds.specs.FactShape.{fact_name, fact_shape, fact_definitions, fact_variants, fact_variant_definitions, fact_has_variants, fact_place_parts, fact_place_definitions}
+use Rattle.std.proofs.Common.{[], refl}
+use Rattle.std.specs.Int.{w16}
+use Rattle.std.specs.Prelude.{[], refl}
+use Rattle.recursive_kinds.proofs.fact.serialize_fact_place.Goals as goal
+
+pub returns-in-Err-clause-refused : goal.returns-in-Err-clause-refused
+returns-in-Err-clause-refused g c = (variant_refused fact_definitions fact_shape fact_name fact_variant_definitions fact_variants fact_has_variants 5 fact_place_parts refl fact_place_definitions refl _ _ _ _ _ (first_refused no_definition no_definition (array 2 (leaf (number_kind signed w16))) no_part (array_keys 2 (λ y. []) c.args.a0.now) [] (array_meaning 2 (λ y. (number y)) c.args.a0.now) no_value _ _ _ no_part_planned c.in-Err.ensures.refused))
+
+pub returns-clause-serialized : goal.returns-clause-serialized
+returns-clause-serialized g c = (serialized_variant fact_definitions fact_shape fact_name fact_variant_definitions fact_variants fact_has_variants 5 fact_place_parts refl fact_place_definitions refl _ _ _ _ _ (serialized_part no_definition no_definition (array 2 (leaf (number_kind signed w16))) no_part (array_keys 2 (λ y. []) c.args.a0.now) [] (array_meaning 2 (λ y. (number y)) c.args.a0.now) no_value _ _ _ _ _ c.in-Ok.ensures.serialized (serialized_no_part no_definition _)))

@@ -1,0 +1,2 @@
+pub mod TaskMeaning
+pub mod TaskShape

@@ -1,0 +1,4 @@
+//! A recursive struct with fields of many kinds as a user declares it, with what tools/derive writes for it. The tests are in tests_recursive.
+#![tactic(auto)]
+
+pub mod task;
