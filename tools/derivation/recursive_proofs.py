@@ -1,5 +1,7 @@
 """The proofs of the functions that write and read a recursive type: answers to the goals that the check leaves, which are named after the code."""
 
+import re
+
 from . import recursive_chain_proofs as chains
 from . import recursive_code
 from .formats import snake
@@ -45,6 +47,7 @@ class Answers:
         self.folder = folder
         self.items = []
         self.invariants = []
+        self.more = []  # names that the answers bring in beside the rest, with their modules
 
     def answer(self, function, goal, body, args="g c"):
         name = f"{function}-{goal}" if function else goal
@@ -63,11 +66,11 @@ class Answers:
             if items:
                 body = "\n".join(items)
                 path = ".".join([dotted] + self.folder.split("/"))
-                out[f"proofs/{module}/{self.folder}/{name}.antt"] = f"-- {family.first.written}\n{head(family, body)}use {path}.{goals} as goal\n\n{body}"
+                out[f"proofs/{module}/{self.folder}/{name}.antt"] = f"-- {family.first.written}\n{head(family, body, self.more)}use {path}.{goals} as goal\n\n{body}"
         return out
 
 
-def head(family, body):
+def head(family, body, brings):
     """What a file of answers brings in."""
     crate = family.crate
     meaning, shape, more = [], [], list(CITED.items())
@@ -79,7 +82,7 @@ def head(family, body):
     more.append((f"{crate}.specs.{family.name}Shape", " ".join(shape)))
     more.append((f"{crate}.specs.{family.name}Meaning", " ".join(dict.fromkeys(meaning))))
     fits = "use mir.Val.{SFits}\n" if "SFits" in body else ""
-    return brought(body, more) + owns(family, body) + fits
+    return brought(body, more + brings) + owns(family, body) + fits
 
 
 # ---- parts ----
@@ -295,14 +298,46 @@ def vec_written(it, type, answers):
     for err, goes, refused in steps.refusals:
         answers.answer(each, f"returns-{err}-clause-goes_on", f"goes_both _ _ _ {kept}.goes {goes}")
         answers.answer(each, f"returns-{err}-clause-refused", f"continues_broken {at} _ _ _ c.loop-value-test.true c.value-item.is {t.plan(item)} {kept} {goes} {refused}")
-    answers.answer(each, "returns-in_err-map_err-clause-goes_on", f"goes_both _ _ _ {kept}.goes {steps.goes}")
-    answers.answer(each, "returns-in_err-map_err-clause-refused", "err_by c.from_residual-in_err-map_err.result OutOfMemory _ c.from_residual-in_err-map_err.ensures.1 no_memory")
-    step = f"continues_step {at} _ _ _ {steps.resolver} c.loop-value-test.true c.value-item.is (grind (arith, common_steps)) {kept} {steps.serialized} {steps.belongs} {steps.goes}"
-    answers.answer(each, "loop-value-preserved", f"record {{ continues = {step} }}")
+    if t.is_option(item):
+        option_kept(it, item, answers, each, steps, kept, at)
+    else:
+        answers.answer(each, "returns-in_err-map_err-clause-goes_on", f"goes_both _ _ _ {kept}.goes {steps.goes}")
+        answers.answer(each, "returns-in_err-map_err-clause-refused", not_pushed("in_err-map_err"))
+        step = f"continues_step {at} _ _ _ {steps.resolver} c.loop-value-test.true c.value-item.is (grind (arith, common_steps)) {kept} {steps.serialized} {steps.belongs} {steps.goes}"
+        answers.answer(each, "loop-value-preserved", f"record {{ continues = {step} }}")
     end = f"_ _ _ _ _ _ _ _ _ _ _ (drop_of_length-le _ c.loop-value-test.false) {kept}"
     answers.answer(each, "returns-clause-serialized", f"continues_end {end}")
     answers.answer(each, "returns-clause-same_values", f"belongs_end {end}")
     vec_owner_written(it, type, answers)
+
+
+def not_pushed(err):
+    """That the memory for one more resolver was refused."""
+    return f"err_by c.from_residual-{err}.result OutOfMemory _ c.from_residual-{err}.ensures.1 no_memory"
+
+
+def option_kept(it, item, answers, each, steps, kept, at):
+    """The answers on an option whose resolver is kept, in each arm; and where the arms have met, by the arm that was taken."""
+    answers.answer(each, "returns-in_err-resolvers-clause-goes_on", "goes_nowhere _")
+    answers.answer(each, "returns-in_err-map_err-in-None-clause-refused", not_pushed("in_err-map_err-in-None"))
+    answers.answer(each, "returns-in_err-map_err-in-Some-clause-goes_on", f"goes_both _ _ _ {kept}.goes {steps.goes}")
+    answers.answer(each, "returns-in_err-map_err-in-Some-clause-refused", not_pushed("in_err-map_err-in-Some"))
+    D = it.terms.definitions(item)
+    met = "rw (w.serializer-is, w.resolvers-is)"
+
+    def head(resolver, arm):
+        behind = "" if arm == "None" else f"-in-{arm}"
+        calls = f"w.push{behind}.ensures.items, w.map_err{behind}.ensures.variant, w.branch-map_err{behind}.ensures, w.in_ok-map_err-in-{arm}.is"
+        return f"continues_step {at} _ _ _ {resolver} c.loop-value-test.true c.value-item.is (grind (arith, common_steps, {calls})) {kept}"
+
+    nothing = f"{head('None', 'None')} (rw w.in-None.is (serialized_empty_case {D} _ _ 0 refl _)) (rw w.in-None.is tt) (goes_nowhere _)"
+    # in this arm the steps are those of `w`
+    serialized, goes = (re.sub(r"c\.(in-Some|deref-inner|serialize_|in-Ok)", r"w.\1", text) for text in (steps.serialized, steps.goes))
+    some = f"{head('(Some w.in-Ok-serialize_inner.resolver)', 'Some')} {serialized} (rw w.in-Some.is tt) {goes}"
+    arms = [("in-None+in_ok-map_err-in-None", nothing), ("in-Some+in-Ok+in-Ok-serialize_inner+in_ok-map_err-in-Some", some)]
+    cases = " | ".join(f"{each}-{arm} w ↦ {met} ({step})" for arm, step in arms)
+    answers.answer(each, "loop-value-preserved", f"record {{ continues = elim c.match-value.branch [ {cases} ] }}")
+    answers.more.append((f"{it.family.crate}.proofs.{'.'.join(it.family.module)}.+serialize_{it.family.n}.Goals", " ".join(f"{each}-{arm}" for arm, _ in arms)))
 
 
 def functions_of(it, which, item):
@@ -336,7 +371,10 @@ class Element:
             owned = f"(box_refused {D} (one {X}) 0 _ _ _ _ _ (one_owned {D} {X} _ _ _ _ _ c.in-Err.ensures.refused))"
             inner_refused = f"(c.in-Err-serialize_inner.ensures.refused.{since})"
             self.refusals = [("in-Err", first, f"({same} {around.format(owned)})"), ("in-Err-serialize_inner", self.goes, f"({same} {around.format(inner_refused)})")]
-            self.serialized = f"({same} (c.in-Ok-serialize_inner.ensures.boxed.{since}))"
+            written = f"(c.in-Ok-serialize_inner.ensures.boxed.{since})"
+            if it.terms.is_option(item):
+                written = f"(serialized_case {case} _ _ _ {written})"
+            self.serialized = f"({same} {written})"
 
 
 def vec_owner_written(it, type, answers):
