@@ -8,7 +8,6 @@ use bench_own::{derived, nested};
 use bench_sets::run::{run, run_list};
 use bench_sets::sets::{Plain, Row, Small};
 use bench_sets::values::{Each, Given};
-use own_types::node::Node;
 use std::alloc::Global;
 use std::collections::BTreeMap;
 
@@ -105,7 +104,7 @@ pub extern "C" fn archive_bench_list(
     ensures none { count ≡ 0 → result ≡ 0 }
     ensures accepted { operation ≤ 1 → result ≤ count }
 {
-    run::<Node, Given, ()>(alloc, bytes, step, size, count, operation)
+    nested::chain(alloc, bytes, step, size, count, operation)
 }
 
 /// A list of `size` numbers, each in the box of the one before it.

@@ -6,11 +6,34 @@ use archive_core::error::Error;
 use bench_sets::run::run;
 use bench_sets::values::{Values, alone, number};
 use recursive_types::list::List;
+use recursive_types::nest::Nest;
 use recursive_types::tree::Tree;
 use std::alloc::Global;
 
 /// Makes the values of this module.
 pub struct Nested;
+
+// So many boxes, one in another.
+fn chain_of(alloc: Global, size: usize) -> Result<Nest, Error> {
+    let mut nest = Nest::Nil;
+    for _ in 0..size {
+        nest = Nest::Cons(Box::new(alloc, nest)?);
+    }
+    Ok(nest)
+}
+
+impl Values<Nest> for Nested {
+    fn values(alloc: Global, size: usize) -> Result<Vec<Nest>, Error> {
+        alone(alloc, chain_of(alloc, size)?)
+    }
+
+    fn told(value: &Nest) -> usize {
+        match value {
+            Nest::Nil => 0,
+            Nest::Cons(_) => 1,
+        }
+    }
+}
 
 // A list of so many numbers, the last one made first.
 fn list(alloc: Global, size: usize) -> Result<List, Error> {
@@ -76,6 +99,21 @@ impl Values<Tree> for Nested {
     fn told(value: &Tree) -> usize {
         value.children.len()
     }
+}
+
+/// A chain of `size` boxes.
+pub fn chain(
+    alloc: Global,
+    bytes: &[u8],
+    step: usize,
+    size: usize,
+    count: usize,
+    operation: u32,
+) -> usize
+    ensures none { count ≡ 0 → result ≡ 0 }
+    ensures accepted { operation ≤ 1 → result ≤ count }
+{
+    run::<Nest, Nested, ()>(alloc, bytes, step, size, count, operation)
 }
 
 /// A list of `size` numbers, each in the box of the one before it.

@@ -4,7 +4,6 @@ use crate::records::RecordOf;
 use crate::sets::{hello, integers, name};
 use archive_core::error::Error;
 use archive_core::rc::Shared;
-use own_types::node::{Node, node_of};
 use std::alloc::{AllocError, Global};
 use std::collections::BTreeMap;
 use std::marker::PhantomData;
@@ -137,19 +136,6 @@ impl<F> Values<RecordOf<F, u8, String, Vec<i32>>> for Given {
 
     fn told(value: &RecordOf<F, u8, String, Vec<i32>>) -> usize {
         value.second.as_str().len().wrapping_add(value.third.len())
-    }
-}
-
-impl Values<Node> for Given {
-    fn values(alloc: Global, size: usize) -> Result<Vec<Node>, Error> {
-        alone(alloc, node_of(alloc, size)?)
-    }
-
-    fn told(value: &Node) -> usize {
-        match value {
-            Node::Nil => 0,
-            Node::Cons(_) => 1,
-        }
     }
 }
 

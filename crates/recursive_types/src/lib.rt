@@ -4,6 +4,7 @@
 pub mod dir;
 pub mod expr;
 pub mod list;
+pub mod nest;
 pub mod outline;
 pub mod rose;
 pub mod search;
