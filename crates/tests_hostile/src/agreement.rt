@@ -9,6 +9,7 @@ use archive_core::rc::{ArchivedRc, ArchivedRcWeak, RcFlavor};
 use archive_core::traits::{Portable, PortablePointee};
 use archive_core::vec::ArchivedVec;
 use std::alloc::{AllocError, Global};
+use std::ops::Range;
 use std::process::Abort;
 
 // The bytes that others are made: the least, those on both sides of a sign's bit, and the greatest.
@@ -40,19 +41,34 @@ fn assert_edits<T: Portable>(
     }
 }
 
-// The archive is accepted, and each beginning of it is judged alike by both checks; so are the whole and each beginning with a byte made another one.
+// The beginnings of these lengths are judged alike by both checks, and so is each with a byte made another one.
+fn assert_beginnings<T: Portable>(
+    rt: &impl Abort,
+    what: &str,
+    alloc: Global,
+    form: &Form,
+    archive: &[u8],
+    lengths: Range<usize>,
+) {
+    for length in lengths {
+        let Some(beginning) = archive.get(..length) else {
+            break;
+        };
+        assert_agreement::<T>(rt, what, alloc, form, beginning);
+        assert_edits::<T>(rt, what, alloc, form, beginning);
+    }
+}
+
+// The archive is accepted, and all that is made of it is judged alike by both checks, if so many bytes of it are left at least.
 fn assert_archive<T: Portable>(
     rt: &impl Abort,
     what: &str,
     alloc: Global,
     form: &Form,
     archive: &[u8],
+    least: usize,
 ) {
-    for length in 0..archive.len() {
-        let beginning = &archive[..length];
-        assert_agreement::<T>(rt, what, alloc, form, beginning);
-        assert_edits::<T>(rt, what, alloc, form, beginning);
-    }
+    assert_beginnings::<T>(rt, what, alloc, form, archive, least..archive.len());
     assert_edits::<T>(rt, what, alloc, form, archive);
     assert_answer::<T>(rt, what, alloc, form, archive, None);
 }
@@ -61,8 +77,29 @@ fn assert_archive<T: Portable>(
 pub(crate) fn assert_hostile<T: Portable>(rt: &impl Abort, alloc: Global, rows: &[(&str, &[u8])]) {
     let form = form_of::<T>(rt, alloc);
     for (what, archive) in rows {
-        assert_archive::<T>(rt, what, alloc, &form, archive);
+        assert_archive::<T>(rt, what, alloc, &form, archive, 0);
     }
+}
+
+// A long archive has two tests, since a test has a minute: of its beginnings of less than so many bytes, and of the rest.
+pub(crate) fn assert_hostile_cuts<T: Portable>(
+    rt: &impl Abort,
+    alloc: Global,
+    (what, archive): (&str, &[u8]),
+    least: usize,
+) {
+    let form = form_of::<T>(rt, alloc);
+    assert_beginnings::<T>(rt, what, alloc, &form, archive, 0..least);
+}
+
+pub(crate) fn assert_hostile_rest<T: Portable>(
+    rt: &impl Abort,
+    alloc: Global,
+    (what, archive): (&str, &[u8]),
+    least: usize,
+) {
+    let form = form_of::<T>(rt, alloc);
+    assert_archive::<T>(rt, what, alloc, &form, archive, least);
 }
 
 // And of archives of a vector.

@@ -1,11 +1,12 @@
 // What is asserted, proved once: a call of `access` at a type stands in here alone, and `assert_eq!` in one function, since either takes the check seconds.
 
-use crate::oracle::{Form, first_fault};
+use crate::oracle::{Form, Judged, Place, Range, Step, judge, refusal_judged, step_of};
 use archive_core::api::access;
 use archive_core::error::Error;
 use archive_core::shape::Defs;
 use archive_core::traits::Portable;
-use archive_inspect::explain::explain;
+use archive_inspect::describe::{Content, Piece, describe};
+use archive_inspect::explain::{FaultPlace, explain};
 use archive_inspect::form::Form as ExplainedForm;
 use std::alloc::Global;
 use std::fmt::Debug;
@@ -49,15 +50,84 @@ fn refusal_of<T: Portable>(alloc: Global, bytes: &[u8]) -> Option<Error> {
     access::<T>(alloc, bytes).err()
 }
 
-// What is wrong at the place to which the explanation of a refusal leads, if there is one.
-fn fault_explained(alloc: Global, form: &Form, bytes: &[u8]) -> Option<Error> {
-    let explanation = explain(alloc, &form.explained, bytes).ok()??;
-    let place = explanation.place?;
-    Some(place.fault.reason.refusal())
+// The place that is explained, with all of its steps.
+fn place_of(alloc: Global, place: &FaultPlace) -> Option<Place> {
+    let mut steps: Vec<Step> = Vec::new(alloc);
+    for step in &place.way.steps {
+        steps.push(step_of(*step)).ok()?;
+    }
+    let position = place.fault.position;
+    Some(Place { position, steps })
 }
 
-// `access` refuses the bytes with the first fault that the slow check finds, with all its fields, or accepts them where it finds none. What is explained of the
-// bytes leads to the same fault.
+// The fault that is explained, and its place, if there is one.
+fn fault_explained(alloc: Global, form: &Form, bytes: &[u8]) -> (Option<Error>, Option<Place>) {
+    match explain(alloc, &form.explained, bytes) {
+        Ok(Some(explanation)) => match &explanation.place {
+            Some(place) => {
+                let refusal = place.fault.reason.refusal();
+                (Some(refusal), place_of(alloc, place))
+            }
+            None => (None, None),
+        },
+        _ => (None, None),
+    }
+}
+
+// The leaves and texts among pieces.
+fn leaves_among(alloc: Global, pieces: &[Piece<'_>]) -> Option<Vec<Range>> {
+    let mut leaves = Vec::new(alloc);
+    for piece in pieces {
+        if let Content::Leaf(_) | Content::Text(_) = piece.content {
+            let position = piece.position as i128;
+            let size = piece.size as i128;
+            leaves.push(Range { position, size }).ok()?;
+        }
+    }
+    Some(leaves)
+}
+
+// Those that are described: none if the bytes are no archive.
+fn leaves_described(alloc: Global, form: &Form, bytes: &[u8]) -> Option<Vec<Range>> {
+    let pieces = describe(alloc, &form.explained, bytes).ok()??;
+    leaves_among(alloc, &pieces)
+}
+
+// What is explained of the bytes is this fault, and leads to this place.
+fn assert_explained(
+    rt: &impl Abort,
+    what: &str,
+    alloc: Global,
+    form: &Form,
+    bytes: &[u8],
+    refusal: Error,
+    place: Option<Place>,
+) {
+    let (found, found_place) = fault_explained(alloc, form, bytes);
+    assert_judged(rt, what, bytes, found, Some(refusal));
+    assert_same(rt, what, (bytes, found_place), (bytes, place));
+}
+
+// Nothing is explained of the bytes, and what is described of them has these leaves and texts, and no others, in this order.
+fn assert_described(
+    rt: &impl Abort,
+    what: &str,
+    alloc: Global,
+    form: &Form,
+    bytes: &[u8],
+    leaves: Vec<Range>,
+) {
+    assert!(rt;
+        explain(alloc, &form.explained, bytes)
+            .expect(rt, "an answer")
+            .is_none()
+    );
+    let found = leaves_described(alloc, form, bytes);
+    assert_same(rt, what, (bytes, found), (bytes, Some(leaves)));
+}
+
+// `access` refuses the bytes with the first fault that the slow check finds, with all its fields, and what is explained of them is the same fault at the same
+// place; or it accepts them where the slow check does, and what is described of them has the same leaves and texts.
 pub(crate) fn assert_agreement<T: Portable>(
     rt: &impl Abort,
     what: &str,
@@ -65,9 +135,17 @@ pub(crate) fn assert_agreement<T: Portable>(
     form: &Form,
     bytes: &[u8],
 ) {
-    let wanted = first_fault(alloc, form, bytes);
-    assert_judged(rt, what, bytes, refusal_of::<T>(alloc, bytes), wanted);
-    assert_judged(rt, what, bytes, fault_explained(alloc, form, bytes), wanted);
+    let found = refusal_of::<T>(alloc, bytes);
+    match judge(alloc, form, bytes) {
+        Judged::Accepted(leaves) => {
+            assert_judged(rt, what, bytes, found, None);
+            assert_described(rt, what, alloc, form, bytes, leaves);
+        }
+        Judged::Refused(refusal, place) => {
+            assert_judged(rt, what, bytes, found, Some(refusal));
+            assert_explained(rt, what, alloc, form, bytes, refusal, place);
+        }
+    }
 }
 
 // Both answer this.
@@ -79,6 +157,6 @@ pub(crate) fn assert_answer<T: Portable>(
     bytes: &[u8],
     answer: Option<Error>,
 ) {
-    assert_judged(rt, what, bytes, first_fault(alloc, form, bytes), answer);
+    assert_judged(rt, what, bytes, refusal_judged(alloc, form, bytes), answer);
     assert_agreement::<T>(rt, what, alloc, form, bytes);
 }

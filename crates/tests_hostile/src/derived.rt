@@ -1,8 +1,11 @@
 // Archives of types that tools/derive wrote: a struct of structs, enums in a vector, and structs that share.
 
-use crate::agreement::{assert_hostile, assert_hostile_vectors};
+use crate::agreement::{
+    assert_hostile, assert_hostile_cuts, assert_hostile_rest, assert_hostile_vectors,
+};
 use crate::faults::assert_first_faults;
 use archive_core::error::Error;
+use archive_core::vec::ArchivedVec;
 use derived_types::event::ArchivedEvent;
 use derived_types::spot::ArchivedDrawing;
 use derived_types::track::{ArchivedEither, ArchivedRuns, ArchivedTrack};
@@ -29,12 +32,24 @@ const TOGETHER: &[u8] = b"\x01\0\xfe\xff\x03\0\x04\0\x01\0\0\0\xf4\xff\xff\xff\x
 
 #[test]
 fn hostile_structs_of_structs(rt: HostRuntime) {
-    assert_hostile::<ArchivedDrawing>(&rt, rt.alloc(), &[("a drawing", DRAWING)]);
+    assert_hostile_rest::<ArchivedDrawing>(&rt, rt.alloc(), ("a drawing", DRAWING), 48);
+}
+
+#[test]
+fn hostile_cuts_of_structs_of_structs(rt: HostRuntime) {
+    assert_hostile_cuts::<ArchivedDrawing>(&rt, rt.alloc(), ("a drawing", DRAWING), 48);
 }
 
 #[test]
 fn hostile_enums_in_a_vector(rt: HostRuntime) {
-    assert_hostile_vectors::<ArchivedEvent>(&rt, rt.alloc(), &[("three events", EVENTS)]);
+    let alloc = rt.alloc();
+    assert_hostile_rest::<ArchivedVec<ArchivedEvent>>(&rt, alloc, ("three events", EVENTS), 48);
+}
+
+#[test]
+fn hostile_cuts_of_enums_in_a_vector(rt: HostRuntime) {
+    let alloc = rt.alloc();
+    assert_hostile_cuts::<ArchivedVec<ArchivedEvent>>(&rt, alloc, ("three events", EVENTS), 48);
 }
 
 #[test]

@@ -1,6 +1,8 @@
 // Archives of sorted maps, and maps with a fault: keys of every kind, and maps in and over other formats.
 
-use crate::agreement::{assert_hostile, assert_hostile_shared};
+use crate::agreement::{
+    assert_hostile, assert_hostile_cuts, assert_hostile_rest, assert_hostile_shared,
+};
 use crate::marked::{ArchivedMarked, BoolKeys, EmptyEntries, OffsetKeys, UnitKeys};
 use crate::rows::assert_rows;
 use archive_core::boxed::ArchivedBox;
@@ -123,14 +125,30 @@ fn hostile_maps_of_numbers(rt: HostRuntime) {
 fn hostile_maps_of_long_numbers(rt: HostRuntime) {
     let alloc = rt.alloc();
     assert_hostile_maps::<ArchivedU64, ()>(&rt, alloc, &[("eight bytes", LONG_NUMBERS)]);
-    assert_hostile_maps::<ArchivedU128, u8>(&rt, alloc, &[("sixteen", LONGEST_NUMBERS)]);
     assert_hostile_maps::<ArchivedI128, ()>(&rt, alloc, &[("with a sign", LONGEST_SIGNED)]);
+}
+
+type LongestNumbers = ArchivedSortedMap<ArchivedU128, u8>;
+
+#[test]
+fn hostile_maps_of_the_longest_numbers(rt: HostRuntime) {
+    assert_hostile_rest::<LongestNumbers>(&rt, rt.alloc(), ("sixteen", LONGEST_NUMBERS), 54);
+}
+
+#[test]
+fn hostile_cuts_of_the_longest_numbers(rt: HostRuntime) {
+    assert_hostile_cuts::<LongestNumbers>(&rt, rt.alloc(), ("sixteen", LONGEST_NUMBERS), 54);
+}
+
+#[test]
+fn hostile_maps_of_texts_to_numbers(rt: HostRuntime) {
+    let alloc = rt.alloc();
+    assert_hostile_maps::<ArchivedString, ArchivedU32>(&rt, alloc, &[("texts", TEXTS)]);
 }
 
 #[test]
 fn hostile_maps_of_texts(rt: HostRuntime) {
     let alloc = rt.alloc();
-    assert_hostile_maps::<ArchivedString, ArchivedU32>(&rt, alloc, &[("texts", TEXTS)]);
     assert_hostile_maps::<ArchivedString, ()>(&rt, alloc, &[("long texts", LONG_TEXTS)]);
     assert_hostile_maps::<ArchivedString, bool>(&rt, alloc, &[("short texts", SHORT_TEXTS)]);
     assert_hostile_maps::<ArchivedChar, ArchivedU16>(&rt, alloc, &[("chars", CHARS)]);

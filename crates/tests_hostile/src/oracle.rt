@@ -7,6 +7,7 @@ mod layout;
 mod regions;
 mod shared;
 mod tour;
+mod ways;
 
 use archive_core::error::Error;
 use archive_core::shape::{Def, Expr, Kind};
@@ -14,6 +15,7 @@ use archive_inspect::form::Form as ExplainedForm;
 use regions::first_refused;
 use std::alloc::Global;
 use tour::{Fault, Listing, list_regions};
+pub(crate) use ways::{Place, Range, Step, step_of};
 
 // What a type tells of itself: its expression, and the definitions of the names in it; and the form by which its faults are explained.
 #[derive(Drop)]
@@ -39,17 +41,46 @@ fn refusal_of(fault: Fault) -> Error {
     }
 }
 
-// What is wrong with the bytes first, if anything is. A listing that ended for want of memory or of levels has no fault of its own; where each of its regions
-// lies well, it answers 1, which no check here does.
-pub(crate) fn first_fault(alloc: Global, form: &Form, bytes: &[u8]) -> Option<Error> {
+// What the slow check says of some bytes.
+pub(crate) enum Judged {
+    // They are an archive, with these leaves and texts in order of position.
+    Accepted(Vec<Range>),
+    // They have this fault first: its place is none where the listing ended for want of memory or of levels.
+    Refused(Error, Option<Place>),
+}
+
+// The place of the pointer to a region, by the region's number.
+fn pointer_to(listing: Listing, number: usize) -> Option<Place> {
+    listing.pointers.into_iter().nth(number)
+}
+
+// In order of position.
+fn in_order(leaves: Vec<Range>) -> Vec<Range> {
+    let mut ordered = leaves;
+    ordered.sort_unstable_by_key(|leaf| leaf.position);
+    ordered
+}
+
+// What is wrong with the bytes first, and where, if anything is. A listing that ended for want of memory or of levels has no fault of its own; where each of its
+// regions lies well, the refusal is `OutOfMemory`, which no check here has.
+pub(crate) fn judge(alloc: Global, form: &Form, bytes: &[u8]) -> Judged {
     let mut listing = Listing::new(alloc);
     let whole = list_regions(form, bytes, &mut listing).is_some();
-    if let Some(refusal) = first_refused(&listing.regions, bytes.len()) {
-        return Some(refusal);
+    if let Some((number, refusal)) = first_refused(&listing.regions, bytes.len()) {
+        return Judged::Refused(refusal, pointer_to(listing, number));
     }
-    match listing.fault {
-        Some(fault) => Some(refusal_of(fault)),
-        None if whole => None,
-        None => Some(Error::OutOfMemory),
+    let Listing { fault, leaves, .. } = listing;
+    match fault {
+        Some((fault, place)) => Judged::Refused(refusal_of(fault), Some(place)),
+        None if whole => Judged::Accepted(in_order(leaves)),
+        None => Judged::Refused(Error::OutOfMemory, None),
+    }
+}
+
+// The refusal, if there is one.
+pub(crate) fn refusal_judged(alloc: Global, form: &Form, bytes: &[u8]) -> Option<Error> {
+    match judge(alloc, form, bytes) {
+        Judged::Accepted(_) => None,
+        Judged::Refused(refusal, _) => Some(refusal),
     }
 }

@@ -65,12 +65,11 @@ fn refusal_of(regions: &[Region], region: Region, len: usize) -> Option<Error> {
     })
 }
 
-// Why the first region of a list that may not be entered may not be.
-pub(super) fn first_refused(regions: &[Region], len: usize) -> Option<Error> {
-    for region in regions {
-        let refusal = refusal_of(regions, *region, len);
-        if refusal.is_some() {
-            return refusal;
+// The first region of a list that may not be entered, by its number, and why.
+pub(super) fn first_refused(regions: &[Region], len: usize) -> Option<(usize, Error)> {
+    for (number, region) in regions.iter().enumerate() {
+        if let Some(refusal) = refusal_of(regions, *region, len) {
+            return Some((number, refusal));
         }
     }
     None

@@ -12,6 +12,7 @@ use crate::oracle::layout::{
 };
 use crate::oracle::regions::Region;
 use crate::oracle::shared::{Meeting, Met, look_up};
+use crate::oracle::ways::{Place, Range, Step};
 use archive_core::shape::{Def, Expr, FlavorInfo, Key, Kind, Pointee};
 use std::alloc::Global;
 
@@ -41,6 +42,7 @@ struct Archive<'a> {
 // What a region holds.
 #[derive(Clone, Copy)]
 enum Contents<'a> {
+    Root(&'a Expr),
     Value(&'a Expr),
     Elements(&'a Expr, usize),
     Entries(Key, &'a Expr, usize),
@@ -52,7 +54,14 @@ enum Contents<'a> {
 pub(super) struct Listing {
     // In the order in which they were entered.
     pub(super) regions: Vec<Region>,
-    pub(super) fault: Option<Fault>,
+    // The pointers to them, and the ways there.
+    pub(super) pointers: Vec<Place>,
+    // The fault of what a region holds, and where it is.
+    pub(super) fault: Option<(Fault, Place)>,
+    // The leaves and texts that were gone over.
+    pub(super) leaves: Vec<Range>,
+    // The way to what is looked at.
+    steps: Vec<Step>,
     met: Vec<Met>,
     // The number of the region whose contents are gone over.
     inside: Option<usize>,
@@ -64,21 +73,52 @@ impl Listing {
     pub(super) fn new(alloc: Global) -> Listing {
         Listing {
             regions: Vec::new(alloc),
+            pointers: Vec::new(alloc),
             fault: None,
+            leaves: Vec::new(alloc),
+            steps: Vec::new(alloc),
             met: Vec::new(alloc),
             inside: None,
             left: None,
         }
     }
 
-    // The way ends with a fault.
-    fn ends_with(&mut self, fault: Fault) -> Option<()> {
-        self.fault = Some(fault);
+    // What is looked at, at a position.
+    fn place(&self, position: i128) -> Option<Place> {
+        let steps = self.steps.clone().ok()?;
+        Some(Place { position, steps })
+    }
+
+    // A leaf or a text was gone over, which has bytes perhaps.
+    fn told(&mut self, position: i128, size: i128) -> Option<()> {
+        if size == 0 {
+            return Some(());
+        }
+        self.leaves.push(Range { position, size }).ok()
+    }
+
+    // The way goes on by a step.
+    fn step(&mut self, step: Step) -> Option<()> {
+        self.steps.push(step).ok()
+    }
+
+    // It goes back before the last one.
+    fn step_back(&mut self) -> Option<()> {
+        let _ = self.steps.pop();
+        Some(())
+    }
+
+    // The way ends with a fault of what lies at a position.
+    fn ends_with(&mut self, fault: Fault, position: i128) -> Option<()> {
+        let place = self.place(position)?;
+        self.fault = Some((fault, place));
         None
     }
 
-    // A region is entered. The way ends where it doesn't lie in a buffer of so many bytes.
-    fn enter(&mut self, len: usize, position: i128, layout: Layout) -> Option<()> {
+    // A region is entered that a pointer leads to. The way ends where it doesn't lie in a buffer of so many bytes.
+    fn enter(&mut self, len: usize, pointer: i128, position: i128, layout: Layout) -> Option<()> {
+        let place = self.place(pointer)?;
+        self.pointers.push(place).ok()?;
         let region = Region {
             position,
             size: layout.size,
@@ -167,7 +207,7 @@ fn owned_at<'a>(bytes: &[u8], expr: &'a Expr, at: i128) -> Option<(Contents<'a>,
 // What a region takes.
 fn layout_of_contents(definitions: &[Def], contents: Contents<'_>) -> Layout {
     match contents {
-        Contents::Value(expr) => layout_of(definitions, expr),
+        Contents::Root(expr) | Contents::Value(expr) => layout_of(definitions, expr),
         Contents::Elements(element, count) => times(layout_of(definitions, element), count),
         Contents::Entries(key, value, count) => {
             times(layout_of_entry(key, layout_of(definitions, value)), count)
@@ -187,29 +227,47 @@ pub(super) fn list_regions(form: &Form, bytes: &[u8], listing: &mut Listing) -> 
     };
     let size = layout_of(archive.definitions, &form.root).size;
     let root = (bytes.len() as i128).saturating_sub(size).max(0);
-    go_over_region(archive, listing, Contents::Value(&form.root), root, LEVELS)
+    go_over_region(
+        archive,
+        listing,
+        Contents::Root(&form.root),
+        root,
+        root,
+        LEVELS,
+    )
 }
 
-// A region is entered, its contents are gone over, and it is left.
+// A region is entered that a pointer leads to, its contents are gone over, and it is left.
 #[cycle(tour)]
 fn go_over_region(
     archive: Archive<'_>,
     listing: &mut Listing,
     contents: Contents<'_>,
+    pointer: i128,
     position: i128,
     levels: usize,
 ) -> Option<()> {
     let layout = layout_of_contents(archive.definitions, contents);
-    listing.enter(archive.bytes.len(), position, layout)?;
+    listing.enter(archive.bytes.len(), pointer, position, layout)?;
     match contents {
-        Contents::Value(expr) => go_over_value(archive, listing, expr, position, levels)?,
+        Contents::Root(expr) => go_over_value(archive, listing, expr, position, levels)?,
+        Contents::Value(expr) => {
+            listing.step(Step::Target)?;
+            go_over_value(archive, listing, expr, position, levels)?;
+            listing.step_back()?
+        }
         Contents::Elements(element, count) => {
             go_over_elements(archive, listing, element, count, position, levels)?
         }
         Contents::Entries(key, value, count) => {
             go_over_entries(archive, listing, key, value, count, position, levels)?
         }
-        Contents::Text(length) => go_over_text(archive, listing, position, length)?,
+        Contents::Text(length) => {
+            listing.step(Step::Text)?;
+            go_over_text(archive, listing, position, length)?;
+            listing.told(position, length as i128)?;
+            listing.step_back()?
+        }
     }
     listing.leave()
 }
@@ -225,7 +283,7 @@ fn go_over_text(
     if is_text(text) {
         Some(())
     } else {
-        listing.ends_with(Fault::Text)
+        listing.ends_with(Fault::Text, at)
     }
 }
 
@@ -233,9 +291,9 @@ fn go_over_text(
 fn go_over_leaf(archive: Archive<'_>, listing: &mut Listing, kind: Kind, at: i128) -> Option<()> {
     let leaf = bytes_at(archive.bytes, at, size_of_leaf(kind))?;
     if is_legal(kind, leaf) {
-        Some(())
+        listing.told(at, size_of_leaf(kind))
     } else {
-        listing.ends_with(Fault::Leaf(kind))
+        listing.ends_with(Fault::Leaf(kind), at)
     }
 }
 
@@ -259,7 +317,7 @@ fn go_over_value(
         }
         Expr::Box(_) | Expr::Vec(_) | Expr::Map(_, _) => {
             let (contents, target) = owned_at(archive.bytes, expr, at)?;
-            go_over_region(archive, listing, contents, target, levels)
+            go_over_region(archive, listing, contents, at, target, levels)
         }
         Expr::Str => go_over_string(archive, listing, at, levels),
         Expr::Weak(_, _) if number_at(archive.bytes, at) == Some(1) => Some(()),
@@ -284,10 +342,12 @@ fn go_over_parts(
     levels: usize,
 ) -> Option<()> {
     let mut end = start;
-    for part in parts {
+    for (number, part) in parts.iter().enumerate() {
         let layout = layout_of(archive.definitions, part);
         let offset = up(end, layout.align);
+        listing.step(Step::Part(number))?;
         go_over_value(archive, listing, part, at.saturating_add(offset), levels)?;
+        listing.step_back()?;
         end = offset.saturating_add(layout.size);
     }
     Some(())
@@ -305,9 +365,11 @@ fn go_over_choice(
 ) -> Option<()> {
     let tag = byte_at(archive.bytes, at)?;
     let Some(parts) = variants.get(tag as usize) else {
-        return listing.ends_with(Fault::Tag(name, tag));
+        return listing.ends_with(Fault::Tag(name, tag), at);
     };
-    go_over_parts(archive, listing, parts, at, 1, levels)
+    listing.step(Step::Variant(tag))?;
+    go_over_parts(archive, listing, parts, at, 1, levels)?;
+    listing.step_back()
 }
 
 // Elements, one behind another; those of size zero have nothing to go over.
@@ -326,7 +388,9 @@ fn go_over_elements(
     }
     for number in 0..count {
         let offset = times(layout, number).size;
+        listing.step(Step::Element(number))?;
         go_over_value(archive, listing, element, at.saturating_add(offset), levels)?;
+        listing.step_back()?;
     }
     Some(())
 }
@@ -347,18 +411,17 @@ fn go_over_entries(
     let offset = up(layout_of_key(key).size, layout.align);
     for number in 0..count {
         let place = at.saturating_add(times(entry, number).size);
+        listing.step(Step::Key(number))?;
         go_over_key(archive, listing, key, place, levels)?;
         let before = place.saturating_sub(entry.size);
         if number > 0 && !comes_behind(archive.bytes, key, before, place)? {
-            return listing.ends_with(Fault::Order);
+            return listing.ends_with(Fault::Order, place);
         }
-        go_over_value(
-            archive,
-            listing,
-            value,
-            place.saturating_add(offset),
-            levels,
-        )?;
+        listing.step_back()?;
+        listing.step(Step::Value(number))?;
+        let inner = place.saturating_add(offset);
+        go_over_value(archive, listing, value, inner, levels)?;
+        listing.step_back()?;
     }
     Some(())
 }
@@ -387,14 +450,15 @@ fn go_over_string(
 ) -> Option<()> {
     let string = bytes_at(archive.bytes, at, 8)?;
     if !is_out_of_line(byte_at(string, 0)?) {
-        return go_over_text(archive, listing, at, inline_length(string));
+        go_over_text(archive, listing, at, inline_length(string))?;
+        return listing.told(at, 8);
     }
     let length = decoded_length(number_at(string, 0)?);
     if length <= 8 {
-        return listing.ends_with(Fault::CodedLength);
+        return listing.ends_with(Fault::CodedLength, at);
     }
     let target = target_at(string, 4, at)?;
-    go_over_region(archive, listing, Contents::Text(length), target, levels)
+    go_over_region(archive, listing, Contents::Text(length), at, target, levels)
 }
 
 // A shared pointer: its region is entered where its position is met first.
@@ -411,7 +475,7 @@ fn go_over_shared(
     let target = target_at(archive.bytes, at, at)?;
     match look_up(&listing.met, target, flavor, pointee, length) {
         Meeting::Again => Some(()),
-        Meeting::Refused(fault) => listing.ends_with(fault),
+        Meeting::Refused(fault) => listing.ends_with(fault, at),
         Meeting::First => {
             let number = listing.met.len();
             listing.meet(target, flavor, pointee, length)?;
@@ -419,6 +483,7 @@ fn go_over_shared(
                 archive,
                 listing,
                 contents_of(pointee, length),
+                at,
                 target,
                 levels,
             )?;
