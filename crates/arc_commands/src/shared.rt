@@ -175,17 +175,20 @@ impl<A: Archive, B: Archive> Archive for TwoRcOf<A, B> {
 
     ghost in_bulk = { None };
 
-    ghost keyed = { λ v. record_keyed (part_keyed (A.keyed v.first) (part_keyed (B.keyed v.second) nothing_keyed)) };
+    ghost keyed = { λ v. record_keyed (part_keyed (A.keyed v.first)
+        (part_keyed (B.keyed v.second) nothing_keyed)) };
 
-    ghost planned = { λ v. record_planned _ _ _ _ _ _ (is_named_record _ _ _) (part_planned _ _ _ _ (A.planned v.first)
-        (part_planned _ _ _ _ (B.planned v.second) no_part_planned)) };
+    ghost planned = { λ v. record_planned _ _ _ _ _ _ (is_named_record _ _ _)
+        (part_planned _ _ _ _ (A.planned v.first) (part_planned _ _ _ _ (B.planned v.second)
+        no_part_planned)) };
 
     fn resolve(
         &self,
         resolver: Self::Resolver,
         place: Place<'_, Self::Archived>,
     ) -> Result<(), Error>
-        requires zeroed { ZeroedPlace ⟦<Self::Archived as Portable>⟧.layout.size place.pos place.bytes.now }
+        requires zeroed { ZeroedPlace ⟦<Self::Archived as Portable>⟧.layout.size place.pos
+            place.bytes.now }
         requires same_value { ⟦<Self as Archive>⟧.belongs self.now resolver }
         ensures { ResolvesAs ⟦<Self::Archived as Portable>⟧ place
             (⟦<Self as Archive>⟧.flat self.now resolver) result }

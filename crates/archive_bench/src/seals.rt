@@ -61,8 +61,10 @@ fn write_third<R: Record, T: Portable + SealedLeaf>(
 // How many of `count` writes over that number found one.
 fn written_over<R: Record>(bytes: &mut [u8], root: Spot<R>, count: usize) -> usize
     requires come_to { IsComeTo R.definitions bytes.old root.pos R.pointee root.len }
-    requires shape { part_at R.Parts.parts 2 ≡ Some (optional_list ⟦<ArchivedI32 as Portable>⟧.shape) }
-    requires definitions { KnowsAlso (definitions_at R.Parts.definitions 2) ⟦<ArchivedI32 as ArchivePointee>⟧.definitions }
+    requires shape { part_at R.Parts.parts 2 ≡ Some (optional_list
+        ⟦<ArchivedI32 as Portable>⟧.shape) }
+    requires definitions { KnowsAlso (definitions_at R.Parts.definitions 2)
+        ⟦<ArchivedI32 as ArchivePointee>⟧.definitions }
     ensures { result ≤ count }
 {
     let mut written = 0;

@@ -41,7 +41,8 @@ pub trait ArchiveContext: Context {
     /// it doesn't lie within the range, and else with `UnalignedPointer` if `position` is no
     /// multiple of its alignment. `position` may be negative.
     fn check_subtree_ptr(&mut self, position: i128, layout: &Layout) -> Result<(), Error>
-        ensures answer { result ≡ subtree_answer (Self.state self.old) position layout.now.size layout.now.align }
+        ensures answer { result ≡ subtree_answer (Self.state self.old) position layout.now.size
+            layout.now.align }
         ensures fits { OnOk result ((Self.state self.old).end < 18446744073709551616) }
         ensures unchanged { Self.state self.new ≡ Self.state self.old }
         ensures positions { Self.positions self.new ≡ Self.positions self.old };
@@ -51,8 +52,10 @@ pub trait ArchiveContext: Context {
     /// range: `root` isn't below its start, nor above `end`, nor `end` above its end. Fails with
     /// `ExceededMaximumSubtreeDepth` exactly if one level is left.
     fn push_subtree_range(&mut self, root: usize, end: usize) -> Result<Range<usize>, Error>
-        requires rising { ((Self.state self.old).start ≤ root) × (root ≤ end) × (end ≤ (Self.state self.old).end) }
-        ensures refused { IsErrOf result Error.ExceededMaximumSubtreeDepth ↔ (Self.state self.old).depth ≡ Some 1 }
+        requires rising { ((Self.state self.old).start ≤ root) × (root ≤ end)
+            × (end ≤ (Self.state self.old).end) }
+        ensures refused { IsErrOf result Error.ExceededMaximumSubtreeDepth
+            ↔ (Self.state self.old).depth ≡ Some 1 }
         ensures outer { IfOk result (λ r. (r.start ≡ end) × (r.end ≡ (Self.state self.old).end)) }
         ensures entered { OnOk result (Self.state self.new ≡ pushed (Self.state self.old) root) }
         ensures too_deep { IfErr result (λ e. e ≡ Error.ExceededMaximumSubtreeDepth) }
@@ -64,7 +67,8 @@ pub trait ArchiveContext: Context {
     /// `usize::MAX`. rkyv 0.8.18 sets the range before that refusal.
     fn pop_subtree_range(&mut self, range: Range<usize>) -> Result<(), Error>
         ensures answer { result ≡ pop_answer (Self.state self.old) range.start }
-        ensures left { OnOk result (Self.state self.new ≡ popped (Self.state self.old) range.start range.end) }
+        ensures left { OnOk result (Self.state self.new
+            ≡ popped (Self.state self.old) range.start range.end) }
         ensures unchanged { OnErr result (Self.state self.new ≡ Self.state self.old) }
         ensures positions { Self.positions self.new ≡ Self.positions self.old };
 }
@@ -98,7 +102,8 @@ pub trait SharedContext: Context {
         position: i128,
         length: usize,
     ) -> Result<ValidationState, Error>
-        ensures answer { IsStartAnswer (Self.positions self.old position) (entry_as flavor.now pointee.now length) result }
+        ensures answer { IsStartAnswer (Self.positions self.old position)
+            (entry_as flavor.now pointee.now length) result }
         ensures started { OnOk result (Starts Self.positions self position flavor pointee length) }
         ensures unchanged { OnErr result (Self.positions self.new ≡ Self.positions self.old) }
         ensures range { Self.state self.new ≡ Self.state self.old };
@@ -106,14 +111,17 @@ pub trait SharedContext: Context {
     /// The number of a flavor and a pointee, by which the many pointers to what was checked before
     /// are passed over. None only if no position is finished that was started with them. Our own.
     fn type_number(&self, flavor: &FlavorInfo, pointee: &Pointee) -> Option<usize>
-        ensures number { IfSome result (λ n. Self.numbered self.now n (flavor_of flavor.now) (pointee_of pointee.now)) }
-        ensures none { IfNone result (NoneFinishedAs (Self.positions self.now) flavor.now pointee.now) };
+        ensures number { IfSome result (λ n. Self.numbered self.now n (flavor_of flavor.now)
+            (pointee_of pointee.now)) }
+        ensures none { IfNone result (NoneFinishedAs (Self.positions self.now) flavor.now
+            pointee.now) };
 
     /// Whether the position was started with this length and with the flavor and pointee of this
     /// number, and is finished: exactly if `start_shared` returns `Finished`, which changes nothing.
     /// The caller must ensure that `type_number` gave the number. Our own.
     fn is_finished_as(&self, number: usize, position: i128, length: usize) -> bool
-        ensures { IsFinishedAnswer (Self.numbered self.now number) (Self.positions self.now position) length result };
+        ensures { IsFinishedAnswer (Self.numbered self.now number)
+            (Self.positions self.now position) length result };
 
     /// Leaves the pointee at `position`, whatever its flavor and pointee. Fails with `NotStarted`
     /// exactly if it wasn't started, and with `AlreadyFinished` exactly if it is finished.
@@ -123,8 +131,10 @@ pub trait SharedContext: Context {
         pointee: &Pointee,
         position: i128,
     ) -> Result<(), Error>
-        ensures answer { result ≡ finish_answer (λ met. met.finished) (Self.positions self.old position) }
-        ensures finished { OnOk result (Self.positions self.new ≡ finished (Self.positions self.old) position) }
+        ensures answer { result ≡ finish_answer (λ met. met.finished)
+            (Self.positions self.old position) }
+        ensures finished { OnOk result (Self.positions self.new
+            ≡ finished (Self.positions self.old) position) }
         ensures unchanged { OnErr result (Self.positions self.new ≡ Self.positions self.old) }
         ensures range { Self.state self.new ≡ Self.state self.old };
 }

@@ -71,7 +71,8 @@ pub trait SelfCheck {
         requires fits { at + span ≤ length bytes.now }
         requires below { (C.state context.old).end ≤ length bytes.now }
         ensures through { Went C.Context context definitions (shape_way bytes.now at shape) result }
-        ensures stops { IsTrue direct → Stopped C.Context context definitions (shape_way bytes.now at shape) result refusal }
+        ensures stops { IsTrue direct → Stopped C.Context context definitions
+            (shape_way bytes.now at shape) result refusal }
         ensures spends { Spends span (C.state context.old) (C.state context.new) }
         ensures positions { OnSome result (C.positions context.new ≡ C.positions context.old) };
 

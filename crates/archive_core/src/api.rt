@@ -56,8 +56,8 @@ fn serialize_whole<
     A: Allocator + Copy + Drop,
     T: Serialize<HighSerializer<W, A>>,
 >(alloc: Global, resolvers: A, value: &T, writer: W) -> (W, Result<usize, Error>)
-    ensures { AppendsArchive T.Archive T.Archived.Portable value.now (W.state writer) (W.state result.0)
-        result.1 }
+    ensures { AppendsArchive T.Archive T.Archived.Portable value.now (W.state writer)
+        (W.state result.0) result.1 }
 {
     let mut serializer = Serializer::new(writer, resolvers, Share::new(alloc));
     let root = serialize_one(value, &mut serializer);
@@ -140,7 +140,8 @@ fn check_by_schema<T: Portable, C: ArchiveContext + SharedContext>(
     requires { (C.state context.old).end ≤ length bytes.now }
     ensures meaning { IfErr result (LacksSchema T.Portable) }
     ensures answer { AnswersIn T.definitions T.shape C.Context context bytes.now pos result }
-    ensures of_check { IfErr result (IsAnswerable T.shape T.definitions (C.state context.old).depth) }
+    ensures of_check { IfErr result (IsAnswerable T.shape T.definitions
+        (C.state context.old).depth) }
     ensures levels { OnOk result (KeepsLevels (C.state context.old) (C.state context.new)) }
     ensures few_subtrees { FewPushed (C.state context.old) (C.state context.new) }
 {
@@ -171,7 +172,8 @@ pub fn check_pos_with_context<T: Portable, C: ArchiveContext + SharedContext>(
     requires { (C.state context.old).end ≤ length bytes.now }
     ensures meaning { IfErr result (LacksSchema T.Portable) }
     ensures answer { AnswersIn T.definitions T.shape C.Context context bytes.now pos result }
-    ensures of_check { IfErr result (IsAnswerable T.shape T.definitions (C.state context.old).depth) }
+    ensures of_check { IfErr result (IsAnswerable T.shape T.definitions
+        (C.state context.old).depth) }
     ensures levels { OnOk result (KeepsLevels (C.state context.old) (C.state context.new)) }
     ensures few_subtrees { FewPushed (C.state context.old) (C.state context.new) }
 {
@@ -243,7 +245,8 @@ pub fn access_pos<'a, T: Portable>(
 /// view. Memory comes from `alloc`. Fails as `access_pos` does.
 #[inline(always)]
 pub fn access<'a, T: Portable>(alloc: Global, bytes: &'a [u8]) -> Result<Ref<'a, T>, Error>
-    ensures answer { Answers T.definitions bytes.now None (root_in bytes.now T.layout) T.shape result }
+    ensures answer { Answers T.definitions bytes.now None (root_in bytes.now T.layout) T.shape
+        result }
     ensures buffer { IfOk result (λ r. r.bytes.now ≡ bytes.now) }
     ensures position { IfOk result (λ r. r.pos ≡ root_in bytes.now T.layout) }
     ensures whole { IfOk result (λ r. r.len ≡ 0) }
@@ -263,7 +266,8 @@ pub fn access_pos_with_context<'a, T: Portable, C: ArchiveContext + SharedContex
     context: &mut C,
 ) -> Result<Ref<'a, T>, Error>
     requires { IsWhole (C.state context.old) (C.positions context.old) bytes.now }
-    ensures answer { Answers T.definitions bytes.now (C.state context.old).depth pos T.shape result }
+    ensures answer { Answers T.definitions bytes.now (C.state context.old).depth pos T.shape
+        result }
     ensures buffer { IfOk result (λ r. r.bytes.now ≡ bytes.now) }
     ensures position { IfOk result (λ r. r.pos ≡ pos) }
     ensures whole { IfOk result (λ r. r.len ≡ 0) }
@@ -331,7 +335,8 @@ pub fn deserialize_using<T: Archive, U: Deserialize<T, D>, D: Entries>(
     view: Ref<'_, U>,
     deserializer: &mut D,
 ) -> Result<T, Error>
-    ensures read { IfOk result (λ t. ReadsView view.entry D.Entries deserializer (T.meaning t) (T.keys t)) }
+    ensures read { IfOk result (λ t. ReadsView view.entry D.Entries deserializer (T.meaning t)
+        (T.keys t)) }
     ensures refused { IfErr result (RefusesView view.entry D.Entries deserializer) }
 {
     U::deserialize(alloc, view, deserializer)
@@ -350,7 +355,8 @@ pub fn deserialize<T: Archive, U: Deserialize<T, D>, D: Entries>(
     view: Ref<'_, U>,
     deserializer: &mut D,
 ) -> Result<T, Error>
-    ensures read { IfOk result (λ t. ReadsView view.entry D.Entries deserializer (T.meaning t) (T.keys t)) }
+    ensures read { IfOk result (λ t. ReadsView view.entry D.Entries deserializer (T.meaning t)
+        (T.keys t)) }
     ensures refused { IfErr result (RefusesView view.entry D.Entries deserializer) }
 {
     deserialize_using(alloc, view, deserializer)

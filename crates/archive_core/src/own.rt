@@ -64,9 +64,10 @@ pub trait NamedRecord {
     fn name() -> &'static str
         ensures { result.now ≡ name };
 
-    ghost checks: { IsTrue Self.Check.direct → IsCheckOf (both (defines name (parts Self.Parts.parts)) Self.Parts.definitions) (named name)
-        (up (Self.Parts.end 0) Self.Parts.greatest) Self.Check.definitions Self.Check.shape Self.Check.span
-        Self.Check.nameless };
+    ghost checks: { IsTrue Self.Check.direct → IsCheckOf
+        (both (defines name (parts Self.Parts.parts)) Self.Parts.definitions) (named name)
+        (up (Self.Parts.end 0) Self.Parts.greatest) Self.Check.definitions Self.Check.shape
+        Self.Check.span Self.Check.nameless };
 }
 
 /// An archived record with the name and the parts of `N`, laid out in order, each at the next
@@ -92,7 +93,10 @@ impl<N: NamedRecord> ArchivePointee for ArchivedRecord<N> {
 impl<N: NamedRecord> Portable for ArchivedRecord<N> {
     ghost shape = { named N.name };
 
-    ghost layout = { record { size = up (N.Parts.end 0) N.Parts.greatest; align = N.Parts.greatest } };
+    ghost layout = { record {
+      size = up (N.Parts.end 0) N.Parts.greatest;
+      align = N.Parts.greatest;
+    } };
 
     type Check = N::Check;
 
@@ -100,10 +104,13 @@ impl<N: NamedRecord> Portable for ArchivedRecord<N> {
 
     ghost is_align = { N.Parts.is_align };
 
-    ghost has_layout = { named_has_layout N.name (parts N.Parts.parts) N.Parts.definitions (record { size = up (N.Parts.end 0) N.Parts.greatest; align = N.Parts.greatest })
-        (record_has_layout N.Parts.definitions N.Parts.parts N.Parts.greatest N.Parts.end N.Parts.begin N.Parts.laid_out) };
+    ghost has_layout = { named_has_layout N.name (parts N.Parts.parts) N.Parts.definitions
+        (record { size = up (N.Parts.end 0) N.Parts.greatest; align = N.Parts.greatest })
+        (record_has_layout N.Parts.definitions N.Parts.parts N.Parts.greatest N.Parts.end
+        N.Parts.begin N.Parts.laid_out) };
 
-    ghost no_others = { defined_reached N.name (parts N.Parts.parts) N.Parts.definitions N.Parts.no_others };
+    ghost no_others = { defined_reached N.name (parts N.Parts.parts) N.Parts.definitions
+        N.Parts.no_others };
 
     ghost checks = { N.checks };
 
@@ -139,8 +146,10 @@ where
     #[inline(always)]
     fn deserialize_part(alloc: Global, part: RawView<'_>, deserializer: &mut D) -> Result<T, Error>
         requires { IsPartOf ⟦<Self as ArchivePointee>⟧ part }
-        ensures read { IfOk result (Read ⟦<Self as ArchivePointee>⟧ part D.Entries deserializer T.Archive) }
-        ensures refused { IfErr result (RefusesPart ⟦<Self as ArchivePointee>⟧ part D.Entries deserializer) }
+        ensures read { IfOk result (Read ⟦<Self as ArchivePointee>⟧ part D.Entries deserializer
+            T.Archive) }
+        ensures refused { IfErr result (RefusesPart ⟦<Self as ArchivePointee>⟧ part D.Entries
+            deserializer) }
     {
         let values = deserialize_record::<Self, T::Owned, D>(alloc, part, deserializer)?;
         Ok(T::from_parts(values))

@@ -46,14 +46,16 @@ pub trait Pooled: Clone + Drop {
     /// The shared value whose key is this position, in bytes from the first one. Fails with
     /// `OutOfMemory` if memory from `alloc` is refused.
     fn from_value(alloc: Global, pos: usize, value: Self::Value) -> Result<Self, Error>
-        ensures kept { IfOk result (λ s. kept s ≡ kept_value pos Self.Archived.pointee (count value) Self.Value.Archive value) }
+        ensures kept { IfOk result (λ s. kept s ≡ kept_value pos Self.Archived.pointee (count value)
+            Self.Value.Archive value) }
         ensures refused { IfErr result (λ e. e ≡ OutOfMemory) };
 
     // A clone is the same shared value.
     ghost clone_law: { (a b : Self) → Self.is_clone a b → kept b ≡ kept a };
 
     // What is read back has as many elements or bytes as the pointer says.
-    ghost spans: { (v : Self.Value) → Spans Self.Archived.definitions Self.Archived.pointee (count v) (Self.Value.meaning v) };
+    ghost spans: { (v : Self.Value) → Spans Self.Archived.definitions Self.Archived.pointee
+        (count v) (Self.Value.meaning v) };
 }
 
 /// Keeps the shared values that were read back, by their positions in one buffer, so that each is
@@ -73,8 +75,10 @@ pub trait Pooling<T: Pooled>: Entries {
     /// memory is refused.
     fn start_pooling(&mut self, pos: usize) -> Result<PoolingState<T>, Error>
         ensures answer { IfOk result (IsPoolAnswer T.kept (Self.entry_of self.old pos)) }
-        ensures after { Self.keeps ≡ true → OnOk result (PutAt Self.Entries self pos (pooled (Self.entry_of self.old pos))) }
-        ensures unchanged { OnErr result (IsSame (Self.entry_of self.old) (Self.entry_of self.new)) }
+        ensures after { Self.keeps ≡ true → OnOk result
+            (PutAt Self.Entries self pos (pooled (Self.entry_of self.old pos))) }
+        ensures unchanged { OnErr result (IsSame (Self.entry_of self.old)
+            (Self.entry_of self.new)) }
         ensures refused { IfErr result (λ e. e ≡ OutOfMemory) };
 
     /// Finishes the pending position with `value`.
@@ -85,8 +89,10 @@ pub trait Pooling<T: Pooled>: Entries {
     /// - `OutOfMemory`: memory is refused.
     fn finish_pooling(&mut self, pos: usize, value: T) -> Result<(), Error>
         ensures answer { Self.keeps ≡ true → IsFinishAnswer (Self.entry_of self.old pos) result }
-        ensures after { Self.keeps ≡ true → OnOk result (PutAt Self.Entries self pos (Some (Some (T.kept value)))) }
-        ensures unchanged { OnErr result (IsSame (Self.entry_of self.old) (Self.entry_of self.new)) }
+        ensures after { Self.keeps ≡ true → OnOk result
+            (PutAt Self.Entries self pos (Some (Some (T.kept value)))) }
+        ensures unchanged { OnErr result (IsSame (Self.entry_of self.old)
+            (Self.entry_of self.new)) }
         ensures refused { Self.keeps ≡ false → IfErr result (λ e. e ≡ OutOfMemory) };
 }
 
@@ -109,8 +115,10 @@ pub trait PoolingExt<T: Pooled>: Pooling<T> {
         ensures read { IfOk result (λ v. ReadsKept view.entry Self.Entries self (T.kept v)) }
         ensures handed_out { IfOk result (λ v. HandsOut view.entry Self.Entries self (T.kept v)) }
         ensures says { IfOk result (λ v. SaysShown view.entry Self.Entries self (T.kept v)) }
-        ensures finished { Self.keeps ≡ true → IfOk result (λ v. IsFinishedWith view.entry Self.Entries self (T.kept v)) }
-        ensures kept { OnOk result (KeepsEntries (Self.entry_of self.old) (Self.entry_of self.new)) }
+        ensures finished { Self.keeps ≡ true → IfOk result
+            (λ v. IsFinishedWith view.entry Self.Entries self (T.kept v)) }
+        ensures kept { OnOk result (KeepsEntries (Self.entry_of self.old)
+            (Self.entry_of self.new)) }
         ensures refused { IfErr result (λ e. RefusesKept view.entry Self.Entries self e) }
     {
         let part = view.part();
@@ -215,11 +223,13 @@ impl Entries for Unpool {
 
 impl<T: Pooled> Pooling<T> for Unpool {
     fn start_pooling(&mut self, _pos: usize) -> Result<PoolingState<T>, Error>
-        ensures answer { IfOk result (IsPoolAnswer T.kept (⟦<Self as Entries>⟧.entry_of self.old _pos)) }
+        ensures answer { IfOk result (IsPoolAnswer T.kept
+            (⟦<Self as Entries>⟧.entry_of self.old _pos)) }
         ensures after { ⟦<Self as Entries>⟧.keeps ≡ true
             → OnOk result (PutAt ⟦<Self as Entries>⟧ self _pos
             (pooled (⟦<Self as Entries>⟧.entry_of self.old _pos))) }
-        ensures unchanged { OnErr result (IsSame (⟦<Self as Entries>⟧.entry_of self.old) (⟦<Self as Entries>⟧.entry_of self.new)) }
+        ensures unchanged { OnErr result (IsSame (⟦<Self as Entries>⟧.entry_of self.old)
+            (⟦<Self as Entries>⟧.entry_of self.new)) }
         ensures refused { IfErr result (λ e. e ≡ OutOfMemory) }
         ensures succeeds { IsOk result }
     {
@@ -227,10 +237,12 @@ impl<T: Pooled> Pooling<T> for Unpool {
     }
 
     fn finish_pooling(&mut self, _pos: usize, _value: T) -> Result<(), Error>
-        ensures answer { ⟦<Self as Entries>⟧.keeps ≡ true → IsFinishAnswer (⟦<Self as Entries>⟧.entry_of self.old _pos) result }
+        ensures answer { ⟦<Self as Entries>⟧.keeps ≡ true
+            → IsFinishAnswer (⟦<Self as Entries>⟧.entry_of self.old _pos) result }
         ensures after { ⟦<Self as Entries>⟧.keeps ≡ true
             → OnOk result (PutAt ⟦<Self as Entries>⟧ self _pos (Some (Some (T.kept _value)))) }
-        ensures unchanged { OnErr result (IsSame (⟦<Self as Entries>⟧.entry_of self.old) (⟦<Self as Entries>⟧.entry_of self.new)) }
+        ensures unchanged { OnErr result (IsSame (⟦<Self as Entries>⟧.entry_of self.old)
+            (⟦<Self as Entries>⟧.entry_of self.new)) }
         ensures refused { ⟦<Self as Entries>⟧.keeps ≡ false → IfErr result (λ e. e ≡ OutOfMemory) }
         ensures succeeds { IsOk result }
     {

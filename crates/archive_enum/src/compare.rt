@@ -47,7 +47,8 @@ impl<T: Ord> Ord for ArchivedOption<T> {
 
     ghost total = { on_total option_of (options_total T.total) };
 
-    ghost matches_partial_cmp = { λ x y. options_agree T.matches_partial_cmp (option_of x) (option_of y) };
+    ghost matches_partial_cmp = { λ x y. options_agree T.matches_partial_cmp (option_of x)
+        (option_of y) };
 
     ghost matches_eq = { λ x y. options_tie T.cmp T.matches_eq (option_of x) (option_of y) };
 
@@ -61,7 +62,8 @@ impl<T: Ord> Ord for ArchivedOption<T> {
 impl<T: Hash> Hash for ArchivedOption<T> {
     ghost hash_input = { λ x. fed.option T.hash_input (option_of x) };
 
-    ghost respects_eq = { λ x y e. options_fed T.hash_input T.respects_eq (option_of x) (option_of y) e };
+    ghost respects_eq = { λ x y e. options_fed T.hash_input T.respects_eq (option_of x)
+        (option_of y) e };
 
     #[tactic(auto, using(crate::proofs::Compared::option_fed))]
     fn hash<H: Hasher>(&self, state: &mut H) {
@@ -102,9 +104,11 @@ impl<T: Ord, E: Ord> Ord for ArchivedResult<T, E> {
 
     ghost total = { on_total result_of (results_total T.total E.total) };
 
-    ghost matches_partial_cmp = { λ x y. results_agree T.matches_partial_cmp E.matches_partial_cmp (result_of x) (result_of y) };
+    ghost matches_partial_cmp = { λ x y. results_agree T.matches_partial_cmp E.matches_partial_cmp
+        (result_of x) (result_of y) };
 
-    ghost matches_eq = { λ x y. results_tie T.cmp E.cmp T.matches_eq E.matches_eq (result_of x) (result_of y) };
+    ghost matches_eq = { λ x y. results_tie T.cmp E.cmp T.matches_eq E.matches_eq (result_of x)
+        (result_of y) };
 
     #[tactic(auto, using(crate::proofs::Compared::results_ordered))]
     fn cmp(&self, other: &ArchivedResult<T, E>) -> Ordering {
@@ -116,7 +120,8 @@ impl<T: Ord, E: Ord> Ord for ArchivedResult<T, E> {
 impl<T: Hash, E: Hash> Hash for ArchivedResult<T, E> {
     ghost hash_input = { λ x. fed.result T.hash_input E.hash_input (result_of x) };
 
-    ghost respects_eq = { λ x y e. results_fed T.hash_input E.hash_input T.respects_eq E.respects_eq (result_of x) (result_of y) e };
+    ghost respects_eq = { λ x y e. results_fed T.hash_input E.hash_input T.respects_eq E.respects_eq
+        (result_of x) (result_of y) e };
 
     #[tactic(auto, using(crate::proofs::Compared::result_fed))]
     fn hash<H: Hasher>(&self, state: &mut H) {

@@ -52,7 +52,8 @@ impl<T: Portable> Portable for ArchivedOption<T> {
 
     ghost no_others = { option_reached T.definitions T.shape T.no_others };
 
-    ghost checks = { option_check T.definitions T.shape T.layout T.Check.direct T.Check.definitions T.Check.shape T.Check.span T.Check.nameless T.checks };
+    ghost checks = { option_check T.definitions T.shape T.layout T.Check.direct T.Check.definitions
+        T.Check.shape T.Check.span T.Check.nameless T.checks };
 
     fn size() -> usize {
         size_of_choice::<OptionVariants<T>>()

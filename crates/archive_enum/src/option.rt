@@ -136,7 +136,8 @@ impl<T> ArchivedOption<T> {
         T: Drop,
         requires { ForNone (option_of self.old) (F.pre f) }
         ensures* writes_back { sem 𝓛 (LendsValue T.row self.entry result) }
-        ensures value { MatchOption (option_of self.old) (F.post f result.now) (λ x. result.now ≡ x) }
+        ensures value { MatchOption (option_of self.old) (F.post f result.now)
+            (λ x. result.now ≡ x) }
     {
         if self.is_none() {
             *self = ArchivedOption::Some(f());
@@ -176,7 +177,8 @@ impl<'a, T> IntoIterator for &'a mut ArchivedOption<T> {
 
     type IntoIter = Iter<&'a mut T>;
 
-    ghost into_iter_gives = { λ s it. (option_copied_mut it ≡ option_of s.now) × YieldsItsValueMut T };
+    ghost into_iter_gives = { λ s it. (option_copied_mut it ≡ option_of s.now)
+        × YieldsItsValueMut T };
 
     fn into_iter(self) -> Iter<&'a mut T> {
         self.iter_mut()

@@ -137,7 +137,8 @@ impl<'a, T, E> IntoIterator for &'a ArchivedResult<T, E> {
 
     type IntoIter = Iter<&'a T>;
 
-    ghost into_iter_gives = { λ s it. (option_copied it ≡ result_ok (result_of s.now)) × YieldsItsValue T };
+    ghost into_iter_gives = { λ s it. (option_copied it ≡ result_ok (result_of s.now))
+        × YieldsItsValue T };
 
     fn into_iter(self) -> Iter<&'a T> {
         self.iter()
@@ -150,7 +151,8 @@ impl<'a, T, E> IntoIterator for &'a mut ArchivedResult<T, E> {
 
     type IntoIter = Iter<&'a mut T>;
 
-    ghost into_iter_gives = { λ s it. (option_copied_mut it ≡ result_ok (result_of s.now)) × YieldsItsValueMut T };
+    ghost into_iter_gives = { λ s it. (option_copied_mut it ≡ result_ok (result_of s.now))
+        × YieldsItsValueMut T };
 
     fn into_iter(self) -> Iter<&'a mut T> {
         self.iter_mut()

@@ -86,10 +86,12 @@ pub trait Native: Copy + Ord + Hash {
     ghost number_law: { (x : Self) → fits x → number_of (bytes_of x) ≡ x };
 
     // And the value that bytes stand for has those bytes.
-    ghost reads_law: { (bs : List ℕ) → length bs ≡ byte_count → AreBytes bs → are_legal bs → bytes_of (number_of bs) ≡ bs };
+    ghost reads_law: { (bs : List ℕ) → length bs ≡ byte_count → AreBytes bs → are_legal bs
+        → bytes_of (number_of bs) ≡ bs };
 
     // What the definitions read in a leaf's bytes is the value that they stand for.
-    ghost value_law: { (bs : List ℕ) → IsLegal kind bs → value_of (number_of bs) ≡ kind_value kind bs };
+    ghost value_law: { (bs : List ℕ) → IsLegal kind bs → value_of (number_of bs)
+        ≡ kind_value kind bs };
 
     // Values are ordered as these whole numbers are.
     ghost order_law: { (x y : Self) → Self.cmp x y ≡ int_cmp (value_of x) (value_of y) };

@@ -160,7 +160,8 @@ pub trait Offset: Copy {
     /// The offset of this distance, in bytes. Fails with `OffsetOverflow` exactly if it doesn't
     /// fit.
     final fn from_isize(value: isize) -> Result<Self, Error>
-        ensures { GivesNumber (λ o. Self.Number.value_of (Self.number_in o)) Self.Number.sign Self.Number.width value result }
+        ensures { GivesNumber (λ o. Self.Number.value_of (Self.number_in o)) Self.Number.sign
+            Self.Number.width value result }
     {
         match Self::Number::from_distance(value) {
             Ok(number) => Ok(Self::from_number(number)),

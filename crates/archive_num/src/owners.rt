@@ -16,7 +16,8 @@ fn emplace_owner(target: usize, pos: usize, bytes: &mut [u8]) -> Result<(), Erro
     requires { length bytes.old ≡ 4 }
     ensures written { OnOk result (bytes.new ≡ owner_bytes false (distance pos target) 0) }
     ensures fits { OnOk result (FitsSigned w32 (distance pos target)) }
-    ensures refused { IfErr result (λ e. (bytes.new ≡ bytes.old) × IsTooFar e (distance pos target)) }
+    ensures refused { IfErr result (λ e. (bytes.new ≡ bytes.old)
+        × IsTooFar e (distance pos target)) }
     ensures same_length { length bytes.new ≡ length bytes.old }
 {
     let offset = offset_to(pos, target)?;
@@ -38,7 +39,8 @@ pub fn emplace_long_owner(
     requires { length bytes.old ≡ 8 }
     ensures written { OnOk result (bytes.new ≡ owner_bytes true (distance pos target) count) }
     ensures fits { OnOk result (FitsSigned w32 (distance pos target)) }
-    ensures refused { IfErr result (λ e. (bytes.new ≡ bytes.old) × IsTooFar e (distance pos target)) }
+    ensures refused { IfErr result (λ e. (bytes.new ≡ bytes.old)
+        × IsTooFar e (distance pos target)) }
     ensures same_length { length bytes.new ≡ length bytes.old }
 {
     let offset = offset_to(pos, target)?;
@@ -62,7 +64,8 @@ pub fn emplace_pointer(
     requires plain { is_long ≡ false → count ≡ 0 }
     ensures written { OnOk result (bytes.new ≡ owner_bytes is_long (distance pos target) count) }
     ensures fits { OnOk result (FitsSigned w32 (distance pos target)) }
-    ensures refused { IfErr result (λ e. (bytes.new ≡ bytes.old) × IsTooFar e (distance pos target)) }
+    ensures refused { IfErr result (λ e. (bytes.new ≡ bytes.old)
+        × IsTooFar e (distance pos target)) }
     ensures same_length { length bytes.new ≡ length bytes.old }
 {
     if is_long {

@@ -97,7 +97,8 @@ impl Checker<'_> {
         requires within { at < length self.now.bytes.now }
         requires last { last ≤ length self.now.variants.now }
         ensures some { IfSome result (λ x. IsVariant self.now first last at x) }
-        ensures none { IfNone result (IsNoVariant self.now name.entry first last at work.new.fault) }
+        ensures none { IfNone result (IsNoVariant self.now name.entry first last at
+            work.new.fault) }
         ensures list { list_of work.new ≡ list_of work.old }
     {
         let Some(variant) = self.variant(first, last, at) else {

@@ -94,9 +94,11 @@ impl Schema {
     pub fn layout(&self, expr: &Expr) -> Result<Layout, Error>
         requires { missing false (listed (definitions_in self.now)) (shape_of expr.now) ≡ None }
         ensures meaning { HasMeaning self.now }
-        ensures ok { IfOk result (λ l. HasLayout (definitions_in self.now) (shape_of expr.now) (layout_of l)) }
+        ensures ok { IfOk result (λ l. HasLayout (definitions_in self.now) (shape_of expr.now)
+            (layout_of l)) }
         ensures err { IfErr result (λ e. e ≡ LayoutTooLarge) }
-        ensures large { IfErr result (λ e. IsLargeRegion (definitions_in self.now) (one (shape_of expr.now)) 0) }
+        ensures large { IfErr result (λ e. IsLargeRegion (definitions_in self.now)
+            (one (shape_of expr.now)) 0) }
     {
         let extent = layouts::extent_of(self, expr);
         match extent.end {
@@ -124,7 +126,8 @@ impl Schema {
     ) -> Result<(), Error>
         requires { (C.state context.old).end ≤ length bytes.now }
         ensures meaning { HasMeaning self.now }
-        ensures answer { AnswersIn (definitions_in self.now) (root_of self.now) C.Context context bytes.now pos result }
+        ensures answer { AnswersIn (definitions_in self.now) (root_of self.now) C.Context context
+            bytes.now pos result }
         ensures of_check { IfErr result (λ e. HasLevels (C.state context.old).depth → IsOfCheck e) }
         ensures levels { OnOk result (KeepsLevels (C.state context.old) (C.state context.new)) }
         ensures few_subtrees { FewPushed (C.state context.old) (C.state context.new) }

@@ -51,12 +51,13 @@ impl<P: PortableParts> Portable for ArchivedTuple<P> {
 
     ghost is_align = { P.is_align };
 
-    ghost has_layout = { record_has_layout P.definitions P.parts P.greatest P.end P.begin P.laid_out };
+    ghost has_layout = { record_has_layout P.definitions P.parts P.greatest P.end P.begin
+        P.laid_out };
 
     ghost no_others = { P.no_others };
 
-    ghost checks = { tuple_check P.definitions P.parts (up (P.end 0) P.greatest) (P.end 0) P.direct P.nameless P.lone
-        (holds_parts (P.end 0) P.greatest P.is_align) P.ordered };
+    ghost checks = { tuple_check P.definitions P.parts (up (P.end 0) P.greatest) (P.end 0) P.direct
+        P.nameless P.lone (holds_parts (P.end 0) P.greatest P.is_align) P.ordered };
 
     fn size() -> usize {
         size_of_record::<P>()

@@ -65,7 +65,8 @@ impl<'a, T: Portable, const N: usize> Ref<'a, [T; N]> {
 
     /// Views of the elements, in order and from either end.
     pub fn iter(self) -> Iter<'a, T>
-        ensures { elements_between result.slice T.layout.size result.front result.back ≡ elements_of T.layout.size N self.entry }
+        ensures { elements_between result.slice T.layout.size result.front result.back
+            ≡ elements_of T.layout.size N self.entry }
     {
         Iter::over(self.part(), N)
     }

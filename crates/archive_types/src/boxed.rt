@@ -85,7 +85,8 @@ impl<'a, T: PortablePointee> Ref<'a, ArchivedBox<T>> {
     /// What the box holds: a value, a slice or a text. As in rkyv 0.8.18.
     pub fn get(self) -> Ref<'a, T>
         ensures buffer { result.bytes.now ≡ self.entry.bytes.now }
-        ensures position { result.pos ≡ target_from self.entry.bytes.now self.entry.pos self.entry.pos }
+        ensures position { result.pos ≡ target_from self.entry.bytes.now self.entry.pos
+            self.entry.pos }
         ensures length { result.len ≡ length_at self.entry.bytes.now self.entry.pos T.pointee }
         ensures shows { ShowsPartOf result self.entry boxed_in }
     {

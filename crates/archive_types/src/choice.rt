@@ -26,10 +26,13 @@ impl<'a, T: Choice> Ref<'a, T> {
     /// The view of part `i` of the variant that the tag names. The caller must ensure that its expression is that of `U`, and that its names have the
     /// definitions that `U` has. Our own.
     pub fn payload<U: Portable>(self, i: usize) -> Ref<'a, U>
-        requires part { payload_at T.Variants.variants (slice_index self.bytes.now self.pos) i ≡ Some U.shape }
-        requires definitions { KnowsAlso (payload_definitions T.Variants.definitions (tag_of self) i) U.definitions }
+        requires part { payload_at T.Variants.variants (slice_index self.bytes.now self.pos) i
+            ≡ Some U.shape }
+        requires definitions { KnowsAlso (payload_definitions T.Variants.definitions (tag_of self)
+            i) U.definitions }
         ensures buffer { result.bytes.now ≡ self.entry.bytes.now }
-        ensures position { result.pos ≡ self.entry.pos + T.Variants.begin (slice_index self.entry.bytes.now self.entry.pos) i }
+        ensures position { result.pos ≡ self.entry.pos + T.Variants.begin
+            (slice_index self.entry.bytes.now self.entry.pos) i }
         ensures length { result.len ≡ 0 }
         ensures shows { ShowsValueOf result self.entry (payload_in i) }
     {
@@ -63,7 +66,8 @@ impl<'a, T: Choice> Place<'a, T> {
         requires size { T.Variants.size_at tag i ≡ U.layout.size }
         requires sized { length self.bytes.now ≡ T.layout.size }
         requires ends { self.pos + T.layout.size < 2 ^ 64 }
-        ensures buffer { result.bytes.now ≡ bytes_at self.entry.bytes.now (T.Variants.begin tag i) U.layout.size }
+        ensures buffer { result.bytes.now ≡ bytes_at self.entry.bytes.now (T.Variants.begin tag i)
+            U.layout.size }
         ensures position { result.pos ≡ self.entry.pos + T.Variants.begin tag i }
     {
         let Place { bytes, pos, .. } = self;

@@ -73,7 +73,8 @@ pub trait Ordered: ArchivePointee {
     ghost total: { IsTotalOrder order };
 
     // What is equal feeds a hasher alike.
-    ghost respects: { (x y : Standing) → IsTrue (eq_by_cmp order x y) → hash_input x ≡ hash_input y };
+    ghost respects: { (x y : Standing) → IsTrue (eq_by_cmp order x y) → hash_input x
+        ≡ hash_input y };
 
     // Parts with the same settling bytes are level.
     ghost level: { AreLevelBy settling order };
@@ -86,7 +87,8 @@ pub trait Ordered: ArchivePointee {
 impl<'a, T: Ordered> PartialEq for Ref<'a, T> {
     ghost eq = { on (λ v. standing v.bytes.now v.pos v.len) (eq_by_cmp T.order) };
 
-    ghost laws = { on_per (λ v. standing v.bytes.now v.pos v.len) (partial_equiv_from_equiv (eq_by_cmp_equiv T.total)) };
+    ghost laws = { on_per (λ v. standing v.bytes.now v.pos v.len)
+        (partial_equiv_from_equiv (eq_by_cmp_equiv T.total)) };
 
     fn eq(&self, other: &Ref<'a, T>) -> bool {
         T::compare(self.part(), other.part()).is_eq()
@@ -100,7 +102,8 @@ impl<'a, T: Ordered> Eq for Ref<'a, T> {
 impl<'a, T: Ordered> PartialOrd for Ref<'a, T> {
     ghost partial_cmp = { on (λ v. standing v.bytes.now v.pos v.len) (as_partial_cmp T.order) };
 
-    ghost laws = { on_po (λ v. standing v.bytes.now v.pos v.len) (partial_order_from_total T.total) };
+    ghost laws = { on_po (λ v. standing v.bytes.now v.pos v.len)
+        (partial_order_from_total T.total) };
 
     fn partial_cmp(&self, other: &Ref<'a, T>) -> Option<Ordering> {
         Some(self.cmp(other))
@@ -125,7 +128,8 @@ impl<'a, T: Ordered> Ord for Ref<'a, T> {
 impl<'a, T: Ordered> Hash for Ref<'a, T> {
     ghost hash_input = { λ v. T.hash_input (standing v.bytes.now v.pos v.len) };
 
-    ghost respects_eq = { λ x y e. T.respects (standing x.bytes.now x.pos x.len) (standing y.bytes.now y.pos y.len) e };
+    ghost respects_eq = { λ x y e. T.respects (standing x.bytes.now x.pos x.len)
+        (standing y.bytes.now y.pos y.len) e };
 
     fn hash<H: Hasher>(&self, state: &mut H) {
         T::hash_part(self.part(), state);

@@ -45,7 +45,8 @@ impl<T: Archive> Archive for Option<T> {
 
     ghost keyed = { option_keyed T.keys T.meaning T.keyed };
 
-    ghost planned = { option_planned T.Archived.definitions T.Archived.shape T.keys T.meaning T.planned };
+    ghost planned = { option_planned T.Archived.definitions T.Archived.shape T.keys T.meaning
+        T.planned };
 
     #[inline(always)]
     fn resolve(
@@ -53,7 +54,8 @@ impl<T: Archive> Archive for Option<T> {
         resolver: Option<T::Resolver>,
         place: Place<'_, ArchivedOption<T::Archived>>,
     ) -> Result<(), Error>
-        requires zeroed { ZeroedPlace (option_layout T.Archived.layout).size place.pos place.bytes.now }
+        requires zeroed { ZeroedPlace (option_layout T.Archived.layout).size place.pos
+            place.bytes.now }
         requires same_value { OptionBelongs T.belongs self.now resolver }
         ensures { ResolvesAs ⟦<Self::Archived as Portable>⟧ place
             (⟦<Self as Archive>⟧.flat self.now resolver) result }
@@ -108,7 +110,8 @@ impl<T: Archive> ArchiveUnsized for Option<T> {
 
     ghost one_length = { λ _ _. refl };
 
-    ghost planned = { λ o. one_planned T.Archived.definitions (option_shape T.Archived.shape) (option_keys T.keys o) (option_meaning T.meaning o)
+    ghost planned = { λ o. one_planned T.Archived.definitions (option_shape T.Archived.shape)
+        (option_keys T.keys o) (option_meaning T.meaning o)
         (option_planned T.Archived.definitions T.Archived.shape T.keys T.meaning T.planned o) };
 
     #[inline(always)]
@@ -166,8 +169,10 @@ impl<T: Archive, A: Portable + Deserialize<T, D>, D: Entries> Deserialize<Option
         deserializer: &mut D,
     ) -> Result<Option<T>, Error>
         requires { IsPartOf ⟦<Self as ArchivePointee>⟧ part }
-        ensures read { IfOk result (Read ⟦<Self as ArchivePointee>⟧ part D.Entries deserializer ⟦<Option<T> as Archive>⟧) }
-        ensures refused { IfErr result (RefusesPart ⟦<Self as ArchivePointee>⟧ part D.Entries deserializer) }
+        ensures read { IfOk result (Read ⟦<Self as ArchivePointee>⟧ part D.Entries deserializer
+            ⟦<Option<T> as Archive>⟧) }
+        ensures refused { IfErr result (RefusesPart ⟦<Self as ArchivePointee>⟧ part D.Entries
+            deserializer) }
     {
         let view: Ref<'_, ArchivedOption<A>> = Ref::at(part);
         match view.as_ref() {

@@ -121,9 +121,16 @@ impl<T, A: PartOf<T>, R: SourceParts<T>> SourceParts<T> for (A, R) {
 
     ghost belongs = { λ v r. A.Source.belongs (A.part v) r.0 × R.belongs v r.1 };
 
-    ghost keyed = { record { each = λ v. part_keyed (A.Source.keyed (A.part v)) (R.keyed.each v) } };
+    ghost keyed = { record {
+      each = λ v. part_keyed (A.Source.keyed (A.part v))
+          (R.keyed.each v);
+    } };
 
-    ghost planned = { record { each = λ v. part_planned A.Source.Archived.definitions A.Source.Archived.shape (A.Source.keys (A.part v)) (A.Source.meaning (A.part v)) (A.Source.planned (A.part v)) (R.planned.each v) } };
+    ghost planned = { record {
+      each = λ v. part_planned A.Source.Archived.definitions A.Source.Archived.shape
+          (A.Source.keys (A.part v)) (A.Source.meaning (A.part v)) (A.Source.planned (A.part v))
+          (R.planned.each v);
+    } };
 
     #[inline(always)]
     fn resolve_parts(
@@ -183,8 +190,10 @@ pub trait DeserializeParts<T: OwnedParts, D: Entries>: PortableParts {
         deserializer: &mut D,
     ) -> Result<T, Error>
         requires viewed { PartsViewed Self.definitions bytes.now pos start Self.parts }
-        ensures read { IfOk result (ReadsPartsBack Self.CheckedParts bytes.now pos start D.Entries deserializer T.meanings T.keys) }
-        ensures refused { IfErr result (UnreadParts Self.CheckedParts bytes.now pos start D.Entries deserializer) };
+        ensures read { IfOk result (ReadsPartsBack Self.CheckedParts bytes.now pos start D.Entries
+            deserializer T.meanings T.keys) }
+        ensures refused { IfErr result (UnreadParts Self.CheckedParts bytes.now pos start D.Entries
+            deserializer) };
 }
 
 impl<D: Entries> DeserializeParts<(), D> for () {

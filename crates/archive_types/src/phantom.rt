@@ -104,8 +104,8 @@ impl<T, S: Writer + Keys> Serialize<S> for PhantomData<T> {
     #[tactic(auto, using(crate::proofs::Writing::Nothing::serialized_empty_product, crate::proofs::Planning::Causes::goes_nowhere))]
     #[inline(always)]
     fn serialize(&self, _serializer: &mut S) -> Result<(), Error>
-        ensures outcome { Serializes ⟦<Self as Archive>⟧ ⟦<Self::Archived as Portable>⟧ self.now S.Keys
-            _serializer result }
+        ensures outcome { Serializes ⟦<Self as Archive>⟧ ⟦<Self::Archived as Portable>⟧ self.now
+            S.Keys _serializer result }
         ensures unchanged { S.state _serializer.new ≡ S.state _serializer.old }
         ensures succeeds { IsOk result }
     {
@@ -127,7 +127,8 @@ impl<T> ArchiveUnsized for PhantomData<T> {
 
     ghost one_length = { λ _ _. refl };
 
-    ghost planned = { λ _. one_planned no_definition (parts no_part) [] (product no_value) empty_product_planned };
+    ghost planned = { λ _. one_planned no_definition (parts no_part) [] (product no_value)
+        empty_product_planned };
 
     #[inline(always)]
     fn archived_metadata(&self) -> Result<(), Error> {
@@ -149,7 +150,8 @@ impl<T, D: Entries> Deserialize<PhantomData<T>, D> for PhantomData<T> {
         _deserializer: &mut D,
     ) -> Result<PhantomData<T>, Error>
         requires { IsPartOf ⟦<Self as ArchivePointee>⟧ part }
-        ensures read { IfOk result (Read ⟦<Self as ArchivePointee>⟧ part D.Entries _deserializer ⟦<Self as Archive>⟧) }
+        ensures read { IfOk result (Read ⟦<Self as ArchivePointee>⟧ part D.Entries _deserializer
+            ⟦<Self as Archive>⟧) }
         ensures unchanged { D.entry_of _deserializer.new ≡ D.entry_of _deserializer.old }
         ensures succeeds { IsOk result }
     {

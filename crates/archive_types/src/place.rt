@@ -86,7 +86,8 @@ impl<'a, T: Record> Place<'a, T> {
         requires size { T.Parts.size_at i ≡ U.layout.size }
         requires sized { length self.bytes.now ≡ T.layout.size }
         requires ends { self.pos + T.layout.size < 2 ^ 64 }
-        ensures buffer { result.bytes.now ≡ bytes_at self.entry.bytes.now (T.Parts.begin 0 i) U.layout.size }
+        ensures buffer { result.bytes.now ≡ bytes_at self.entry.bytes.now (T.Parts.begin 0 i)
+            U.layout.size }
         ensures position { result.pos ≡ self.entry.pos + T.Parts.begin 0 i }
     {
         let Place { bytes, pos, .. } = self;
@@ -102,7 +103,8 @@ impl<'a, T: Portable, const N: usize> Place<'a, [T; N]> {
         requires in_bounds { index < N }
         requires sized { length self.bytes.now ≡ N * T.layout.size }
         requires ends { self.pos + N * T.layout.size < 2 ^ 64 }
-        ensures buffer { result.bytes.now ≡ bytes_at self.entry.bytes.now (index * T.layout.size) T.layout.size }
+        ensures buffer { result.bytes.now ≡ bytes_at self.entry.bytes.now (index * T.layout.size)
+            T.layout.size }
         ensures position { result.pos ≡ self.entry.pos + index * T.layout.size }
     {
         let Place { bytes, pos, .. } = self;

@@ -67,7 +67,8 @@ pub fn write_leaf<N: Native>(value: N, bytes: &mut [u8])
     ensures fits { N.fits value }
     ensures legal { IsLegal N.kind (N.bytes_of value) }
     ensures back { N.number_of (N.bytes_of value) ≡ value }
-    ensures resolved { (D : Definitions) (p : ℕ) → Resolves D p bytes.new (leaf N.kind) (number (N.value_of value)) }
+    ensures resolved { (D : Definitions) (p : ℕ) → Resolves D p bytes.new (leaf N.kind)
+        (number (N.value_of value)) }
 {
     value.write_to(bytes)
 }
@@ -80,8 +81,10 @@ impl<N: Source, D: Entries> Deserialize<N, D> for LittleEndian<N> {
         _deserializer: &mut D,
     ) -> Result<N, Error>
         requires { IsPartOf ⟦<Self as ArchivePointee>⟧ part }
-        ensures read { IfOk result (Read ⟦<Self as ArchivePointee>⟧ part D.Entries _deserializer ⟦<N as Archive>⟧) }
-        ensures number { IfOk result (λ n. n ≡ N.number_of (bytes_at part.entry.bytes.now part.entry.pos N.byte_count)) }
+        ensures read { IfOk result (Read ⟦<Self as ArchivePointee>⟧ part D.Entries _deserializer
+            ⟦<N as Archive>⟧) }
+        ensures number { IfOk result (λ n. n ≡ N.number_of
+            (bytes_at part.entry.bytes.now part.entry.pos N.byte_count)) }
         ensures unchanged { D.entry_of _deserializer.new ≡ D.entry_of _deserializer.old }
         ensures succeeds { IsOk result }
     {
@@ -113,8 +116,10 @@ impl<N: Native, D: Entries> Deserialize<LittleEndian<N>, D> for LittleEndian<N> 
         _deserializer: &mut D,
     ) -> Result<LittleEndian<N>, Error>
         requires { IsPartOf ⟦<Self as ArchivePointee>⟧ part }
-        ensures read { IfOk result (Read ⟦<Self as ArchivePointee>⟧ part D.Entries _deserializer ⟦<Self as Archive>⟧) }
-        ensures number { IfOk result (λ n. n ≡ N.number_of (bytes_at part.entry.bytes.now part.entry.pos N.byte_count)) }
+        ensures read { IfOk result (Read ⟦<Self as ArchivePointee>⟧ part D.Entries _deserializer
+            ⟦<Self as Archive>⟧) }
+        ensures number { IfOk result (λ n. n ≡ N.number_of
+            (bytes_at part.entry.bytes.now part.entry.pos N.byte_count)) }
         ensures unchanged { D.entry_of _deserializer.new ≡ D.entry_of _deserializer.old }
         ensures succeeds { IsOk result }
     {
@@ -131,8 +136,10 @@ impl<N: Integer, D: Entries> Deserialize<NonZero<N>, D> for NonZero<N> {
         _deserializer: &mut D,
     ) -> Result<NonZero<N>, Error>
         requires { IsPartOf ⟦<Self as ArchivePointee>⟧ part }
-        ensures read { IfOk result (Read ⟦<Self as ArchivePointee>⟧ part D.Entries _deserializer ⟦<Self as Archive>⟧) }
-        ensures number { IfOk result (λ n. n ≡ N.number_of (bytes_at part.entry.bytes.now part.entry.pos N.byte_count)) }
+        ensures read { IfOk result (Read ⟦<Self as ArchivePointee>⟧ part D.Entries _deserializer
+            ⟦<Self as Archive>⟧) }
+        ensures number { IfOk result (λ n. n ≡ N.number_of
+            (bytes_at part.entry.bytes.now part.entry.pos N.byte_count)) }
         ensures unchanged { D.entry_of _deserializer.new ≡ D.entry_of _deserializer.old }
         ensures succeeds { IsOk result }
     {
@@ -149,8 +156,10 @@ impl<N: Plain, D: Entries> Deserialize<N, D> for N {
         _deserializer: &mut D,
     ) -> Result<N, Error>
         requires { IsPartOf ⟦<Self as ArchivePointee>⟧ part }
-        ensures read { IfOk result (Read ⟦<Self as ArchivePointee>⟧ part D.Entries _deserializer ⟦<N as Archive>⟧) }
-        ensures number { IfOk result (λ n. n ≡ N.number_of (bytes_at part.entry.bytes.now part.entry.pos N.byte_count)) }
+        ensures read { IfOk result (Read ⟦<Self as ArchivePointee>⟧ part D.Entries _deserializer
+            ⟦<N as Archive>⟧) }
+        ensures number { IfOk result (λ n. n ≡ N.number_of
+            (bytes_at part.entry.bytes.now part.entry.pos N.byte_count)) }
         ensures unchanged { D.entry_of _deserializer.new ≡ D.entry_of _deserializer.old }
         ensures succeeds { IsOk result }
     {

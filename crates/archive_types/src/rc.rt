@@ -116,7 +116,8 @@ impl<T: PortablePointee, F: Flavor> Portable for ArchivedRc<T, F> {
 
     ghost has_layout = { record { solved = λ s k. refl } };
 
-    ghost no_others = { shared_reaches T.definitions (flavor_as F.name F.ALLOW_CYCLES) T.pointee T.box_reaches };
+    ghost no_others = { shared_reaches T.definitions (flavor_as F.name F.ALLOW_CYCLES) T.pointee
+        T.box_reaches };
 
     ghost checks = { λ direct. by_schema direct };
 
@@ -165,7 +166,8 @@ impl<T: PortablePointee, F: Flavor> Portable for ArchivedRcWeak<T, F> {
 
     ghost has_layout = { record { solved = λ s k. refl } };
 
-    ghost no_others = { weak_reaches T.definitions (flavor_as F.name F.ALLOW_CYCLES) T.pointee T.box_reaches };
+    ghost no_others = { weak_reaches T.definitions (flavor_as F.name F.ALLOW_CYCLES) T.pointee
+        T.box_reaches };
 
     ghost checks = { λ direct. by_schema direct };
 

@@ -66,7 +66,8 @@ pub fn deserialize_record<X: Record, T: OwnedParts, D: Entries>(
 where
     X::Parts: DeserializeParts<T, D>,
     requires { IsPartOf X.ArchivePointee part }
-    ensures read { IfOk result (ReadsRecord X.ArchivePointee part D.Entries deserializer T.meanings T.keys) }
+    ensures read { IfOk result (ReadsRecord X.ArchivePointee part D.Entries deserializer T.meanings
+        T.keys) }
     ensures refused { IfErr result (RefusesPart X.ArchivePointee part D.Entries deserializer) }
 {
     let RawView { bytes, pos, .. } = part;

@@ -45,7 +45,8 @@ impl<T: Archive, E: Archive> Archive for Result<T, E> {
 
     ghost keyed = { result_keyed T.keys E.keys T.meaning E.meaning T.keyed E.keyed };
 
-    ghost planned = { result_planned T.keys E.keys T.meaning E.meaning T.Archived.definitions E.Archived.definitions T.Archived.shape E.Archived.shape T.planned E.planned };
+    ghost planned = { result_planned T.keys E.keys T.meaning E.meaning T.Archived.definitions
+        E.Archived.definitions T.Archived.shape E.Archived.shape T.planned E.planned };
 
     #[inline(always)]
     fn resolve(
@@ -53,7 +54,8 @@ impl<T: Archive, E: Archive> Archive for Result<T, E> {
         resolver: Result<T::Resolver, E::Resolver>,
         place: Place<'_, ArchivedResult<T::Archived, E::Archived>>,
     ) -> Result<(), Error>
-        requires zeroed { ZeroedPlace (result_layout T.Archived.layout E.Archived.layout).size place.pos place.bytes.now }
+        requires zeroed { ZeroedPlace (result_layout T.Archived.layout E.Archived.layout).size
+            place.pos place.bytes.now }
         requires same_value { ResultBelongs T.belongs E.belongs self.now resolver }
         ensures { ResolvesAs ⟦<Self::Archived as Portable>⟧ place
             (⟦<Self as Archive>⟧.flat self.now resolver) result }
@@ -114,9 +116,11 @@ impl<T: Archive, E: Archive> ArchiveUnsized for Result<T, E> {
 
     ghost one_length = { λ _ _. refl };
 
-    ghost planned = { λ r. one_planned (both T.Archived.definitions E.Archived.definitions) (result_shape T.Archived.shape E.Archived.shape) (result_keys T.keys E.keys r)
-        (result_meaning T.meaning E.meaning r)
-        (result_planned T.keys E.keys T.meaning E.meaning T.Archived.definitions E.Archived.definitions T.Archived.shape E.Archived.shape T.planned E.planned r) };
+    ghost planned = { λ r. one_planned (both T.Archived.definitions E.Archived.definitions)
+        (result_shape T.Archived.shape E.Archived.shape) (result_keys T.keys E.keys r)
+        (result_meaning T.meaning E.meaning r) (result_planned T.keys E.keys T.meaning E.meaning
+        T.Archived.definitions E.Archived.definitions T.Archived.shape E.Archived.shape T.planned
+        E.planned r) };
 
     #[inline(always)]
     fn archived_metadata(&self) -> Result<(), Error> {
@@ -138,9 +142,11 @@ impl<'a, T: Portable, E: Portable> Ref<'a, ArchivedResult<T, E>> {
     pub fn as_ref(self) -> Result<Ref<'a, T>, Ref<'a, E>>
         ensures tag { MatchResult result (λ v. tag_of self.entry ≡ 0) (λ e. tag_of self.entry ≡ 1) }
         ensures buffer { MatchResult result (IsBufferOf self.entry) (IsBufferOf self.entry) }
-        ensures position { MatchResult result (IsBehind self.entry T.layout.align) (IsBehind self.entry E.layout.align) }
+        ensures position { MatchResult result (IsBehind self.entry T.layout.align)
+            (IsBehind self.entry E.layout.align) }
         ensures length { MatchResult result (λ v. v.len ≡ 0) (λ e. e.len ≡ 0) }
-        ensures beside { MatchResult result (λ v. StandsBeside v self.entry) (λ e. StandsBeside e self.entry) }
+        ensures beside { MatchResult result (λ v. StandsBeside v self.entry)
+            (λ e. StandsBeside e self.entry) }
     {
         let RawView { bytes, pos, .. } = self.part();
         if bytes[pos] == 0 {
@@ -186,8 +192,10 @@ impl<
         deserializer: &mut D,
     ) -> Result<Result<T, E>, Error>
         requires { IsPartOf ⟦<Self as ArchivePointee>⟧ part }
-        ensures read { IfOk result (Read ⟦<Self as ArchivePointee>⟧ part D.Entries deserializer ⟦<Result<T, E> as Archive>⟧) }
-        ensures refused { IfErr result (RefusesPart ⟦<Self as ArchivePointee>⟧ part D.Entries deserializer) }
+        ensures read { IfOk result (Read ⟦<Self as ArchivePointee>⟧ part D.Entries deserializer
+            ⟦<Result<T, E> as Archive>⟧) }
+        ensures refused { IfErr result (RefusesPart ⟦<Self as ArchivePointee>⟧ part D.Entries
+            deserializer) }
     {
         let view: Ref<'_, ArchivedResult<A, B>> = Ref::at(part);
         match view.as_ref() {

@@ -56,7 +56,8 @@ fn resolve_region<W: Writer, T: Archive>(
     resolver: T::Resolver,
     region: &mut [u8],
 ) -> Result<usize, Error>
-    requires zeroed { ZeroedPlace T.Archived.layout.size (length (W.state writer.old).bytes) region.old }
+    requires zeroed { ZeroedPlace T.Archived.layout.size (length (W.state writer.old).bytes)
+        region.old }
     requires same_value { T.belongs value.now resolver }
     ensures outcome { PutsRegion T.Archived.Portable (T.flat value.now resolver) W.Keys writer
         (length (W.state writer.old).bytes) result }
@@ -138,9 +139,11 @@ fn resolve_each<W: Writer, T: Archive, A: Allocator + Drop>(
     region: &mut [u8],
 ) -> Result<(), Error>
     requires sized { length region.old ≡ T.Archived.layout.size }
-    requires ends { length (W.state writer.old).bytes + length values.now * T.Archived.layout.size < 2 ^ 64 }
+    requires ends { length (W.state writer.old).bytes + length values.now * T.Archived.layout.size
+        < 2 ^ 64 }
     requires same_values { EachBelongs T.belongs values.now resolvers.items }
-    ensures { PutsElements T.Archived.Portable T.flat values.now resolvers.items W.Keys writer result }
+    ensures { PutsElements T.Archived.Portable T.flat values.now resolvers.items W.Keys writer
+        result }
 {
     let mut rest = values;
     for resolver in resolvers {
@@ -169,7 +172,8 @@ fn resolve_each_large<W: Writer, A: Allocator + Drop, T: Archive, B: Allocator +
     requires sized { size ≡ min T.Archived.layout.size 18446744073709551615 }
     requires ends { length (W.state writer.old).bytes + length values.now * size < 2 ^ 64 }
     requires same_values { EachBelongs T.belongs values.now resolvers.items }
-    ensures { PutsElements T.Archived.Portable T.flat values.now resolvers.items W.Keys writer result }
+    ensures { PutsElements T.Archived.Portable T.flat values.now resolvers.items W.Keys writer
+        result }
 {
     let mut region = vec![in alloc; 0u8; size]?;
     resolve_each(writer, values, resolvers, &mut region)
@@ -235,7 +239,8 @@ pub trait ResolveExt: Writer {
         Self: Sized,
         requires aligned { Self.position self.old % T.Archived.layout.align ≡ 0 }
         requires same_values { EachBelongs T.belongs values.now resolvers.items }
-        ensures outcome { PutsElements T.Archived.Portable T.flat values.now resolvers.items Self.Keys self result }
+        ensures outcome { PutsElements T.Archived.Portable T.flat values.now resolvers.items
+            Self.Keys self result }
         ensures position { IfOk result (λ p. p ≡ Self.position self.old) }
     {
         let pos = self.pos();
@@ -273,11 +278,13 @@ pub trait ResolveExt: Writer {
         T::Archived: PortablePointee,
         ArchivedMetadata<T>: Drop,
         requires aligned { Self.position self.old % 4 ≡ 0 }
-        ensures written { OnOk result (Pointed T.Archived.pointee (T.source_length value.now) to Self.position Self.Keys self) }
+        ensures written { OnOk result (Pointed T.Archived.pointee (T.source_length value.now) to
+            Self.position Self.Keys self) }
         ensures fits { OnOk result (FitsSigned w32 (distance (Self.position self.old) to)) }
         ensures held { OnOk result (T.source_length value.now ≤ 4294967295) }
         ensures position { IfOk result (λ p. p ≡ Self.position self.old) }
-        ensures refused { IfErr result (Unpointed T.Archived.pointee (T.source_length value.now) to Self.position Self.Keys self) }
+        ensures refused { IfErr result (Unpointed T.Archived.pointee (T.source_length value.now) to
+            Self.position Self.Keys self) }
         ensures goes_on { GoesOn (Self.state self.old) (Self.state self.new) }
         ensures keys { KeepsKeys (Self.state self.old).states (Self.state self.new).states }
     {

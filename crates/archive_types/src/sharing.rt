@@ -31,11 +31,14 @@ pub trait SharingExt: Sharing + Writer {
     ) -> Result<usize, Error>
     where
         Self: Sized,
-        ensures known { (s : Option ℕ) → (Self.state self.old).states key ≡ Some s → result ≡ known_answer s }
+        ensures known { (s : Option ℕ) → (Self.state self.old).states key ≡ Some s → result
+            ≡ known_answer s }
         ensures unchanged { IsUnchangedIfKnown key Self.Keys self }
-        ensures serialized { StoresIfUnknown key T.ArchiveUnsized T.Archived.ArchivePointee value.now Self.Keys self result }
+        ensures serialized { StoresIfUnknown key T.ArchiveUnsized T.Archived.ArchivePointee
+            value.now Self.Keys self result }
         ensures goes_on { GoesOn (Self.state self.old) (Self.state self.new) }
-        ensures refused { IfErr result (UnstoredUnder key T.ArchiveUnsized T.Archived.ArchivePointee value.now Self.Keys self) }
+        ensures refused { IfErr result (UnstoredUnder key T.ArchiveUnsized T.Archived.ArchivePointee
+            value.now Self.Keys self) }
         ensures finished { IfOk result (λ p. (Self.state self.new).states key ≡ Some (Some p)) }
         ensures unfinished { OnErr result (IsUnfinished key Self.Keys self) }
     {

@@ -54,7 +54,8 @@ impl<T: Portable> PortablePointee for ArchivedSlice<T> {
 
     ghost box_reaches = { run_reaches T.definitions T.shape T.no_others };
 
-    ghost box_checks = { λ direct. run_check T.definitions T.shape T.layout.size T.Check.definitions T.Check.shape T.Check.span T.Check.nameless (T.checks direct) };
+    ghost box_checks = { λ direct. run_check T.definitions T.shape T.layout.size T.Check.definitions
+        T.Check.shape T.Check.span T.Check.nameless (T.checks direct) };
 
     fn has_length() -> bool {
         true

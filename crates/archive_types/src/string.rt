@@ -217,12 +217,14 @@ impl<'a, S: Writer + Keys> SerializeUnsized<S> for Text<'a> {
     #[tactic(auto, using(crate::proofs::Planning::Planned::serialized_text, crate::proofs::Planning::Planned::text_refused, crate::proofs::Planning::Planned::long_text_refused, crate::proofs::Planning::Causes::goes_nowhere, crate::proofs::Planning::Causes::goes_written, crate::proofs::Planning::Causes::goes_refused))]
     #[inline(always)]
     fn serialize_unsized(&self, serializer: &mut S) -> Result<usize, Error>
-        ensures outcome { WritesUnsized ⟦<Self as ArchiveUnsized>⟧ ⟦<Self::Archived as ArchivePointee>⟧ self.now
-            S.Keys serializer result }
+        ensures outcome { WritesUnsized ⟦<Self as ArchiveUnsized>⟧
+            ⟦<Self::Archived as ArchivePointee>⟧ self.now S.Keys serializer result }
         ensures there { IfOk result (λ p. p ≡ length (S.state serializer.old).bytes) }
-        ensures text { OnOk result ((S.state serializer.new).bytes ≡ (S.state serializer.old).bytes ++ self.now.text.now) }
+        ensures text { OnOk result ((S.state serializer.new).bytes ≡ (S.state serializer.old).bytes
+            ++ self.now.text.now) }
         ensures keys { KeepsKeys (S.state serializer.old).states (S.state serializer.new).states }
-        ensures too_long { 4294967295 < length self.now.text.now → AtOnce result LengthTooLarge S.Keys serializer }
+        ensures too_long { 4294967295 < length self.now.text.now
+            → AtOnce result LengthTooLarge S.Keys serializer }
         ensures cause { IfErr result (NoTextSince self.now.text.now S.position S.Keys serializer) }
     {
         if let Err(error) = self.archived_metadata() {
@@ -241,8 +243,10 @@ impl<D: Entries> DeserializeUnsized<String, D> for ArchivedStr {
         _deserializer: &mut D,
     ) -> Result<String, Error>
         requires { IsPartOf ⟦<Self as ArchivePointee>⟧ part }
-        ensures read { IfOk result (Read ⟦<Self as ArchivePointee>⟧ part D.Entries _deserializer ⟦<String as Archive>⟧) }
-        ensures text { IfOk result (λ s. string_bytes s ≡ bytes_at part.entry.bytes.now part.entry.pos part.entry.len) }
+        ensures read { IfOk result (Read ⟦<Self as ArchivePointee>⟧ part D.Entries _deserializer
+            ⟦<String as Archive>⟧) }
+        ensures text { IfOk result (λ s. string_bytes s
+            ≡ bytes_at part.entry.bytes.now part.entry.pos part.entry.len) }
         ensures unchanged { D.entry_of _deserializer.new ≡ D.entry_of _deserializer.old }
         ensures refused { IfErr result (λ e. e ≡ OutOfMemory) }
     {
@@ -265,11 +269,14 @@ impl ArchivedString {
         value: &str,
         serializer: &mut S,
     ) -> Result<StringResolver, Error>
-        ensures outcome { SerializesAs ⟦<Self as Portable>⟧ [] (text_value value.now) (string_flat value.now)
-            (λ _. length value.now ≤ 1073741823) S.Keys serializer result }
-        ensures inline { length value.now ≤ 8 → IsOk result × (S.state serializer.new ≡ S.state serializer.old) }
-        ensures too_long { 1073741823 < length value.now → AtOnce result StringTooLong S.Keys serializer }
-        ensures near { 8 < length value.now → OnOk result (length (S.state serializer.old).bytes ≤ 4294967295) }
+        ensures outcome { SerializesAs ⟦<Self as Portable>⟧ [] (text_value value.now)
+            (string_flat value.now) (λ _. length value.now ≤ 1073741823) S.Keys serializer result }
+        ensures inline { length value.now ≤ 8 → IsOk result
+            × (S.state serializer.new ≡ S.state serializer.old) }
+        ensures too_long { 1073741823 < length value.now
+            → AtOnce result StringTooLong S.Keys serializer }
+        ensures near { 8 < length value.now → OnOk result
+            (length (S.state serializer.old).bytes ≤ 4294967295) }
         ensures elsewhere { 8 < length value.now → IfOk result (Added value.now S.Keys serializer) }
         ensures keys { KeepsKeys (S.state serializer.old).states (S.state serializer.new).states }
         ensures cause { IfErr result (NoStringSince value.now S.position S.Keys serializer) }
@@ -302,9 +309,11 @@ impl ArchivedString {
         ensures resolved { OnOk result
             (Resolves no_definition place.entry.pos place.exit.0.now str_shape
             (string_flat value.now resolver)) }
-        ensures written { OnOk result (place.exit.0.now ≡ string_form value.now place.entry.pos resolver) }
+        ensures written { OnOk result (place.exit.0.now
+            ≡ string_form value.now place.entry.pos resolver) }
         ensures inline { length value.now ≤ 8 → IsOk result }
-        ensures fits { 8 < length value.now → OnOk result (FitsSigned w32 (distance place.entry.pos resolver)) }
+        ensures fits { 8 < length value.now → OnOk result
+            (FitsSigned w32 (distance place.entry.pos resolver)) }
         ensures refused { IfErr result (IsTooFarFrom place resolver) }
         ensures same_length { length place.exit.0.now ≡ length place.entry.bytes.now }
     {
@@ -346,8 +355,10 @@ impl Archive for String {
         requires same_value { length (string_bytes self.now) ≤ 1073741823 }
         ensures outcome { ResolvesAs ⟦<Self::Archived as Portable>⟧ place
             (⟦<Self as Archive>⟧.flat self.now resolver) result }
-        ensures cause { IfErr result (HindersStringAt (string_bytes self.now) resolver place.entry.pos) }
-        ensures written { OnOk result (place.exit.0.now ≡ string_form (string_bytes self.now) place.entry.pos resolver) }
+        ensures cause { IfErr result (HindersStringAt (string_bytes self.now) resolver
+            place.entry.pos) }
+        ensures written { OnOk result (place.exit.0.now
+            ≡ string_form (string_bytes self.now) place.entry.pos resolver) }
         ensures inline { length (string_bytes self.now) ≤ 8 → IsOk result }
     {
         let Place { bytes, pos, .. } = place;
@@ -372,13 +383,17 @@ impl Archive for String {
 impl<S: Writer + Keys> Serialize<S> for String {
     #[inline(always)]
     fn serialize(&self, serializer: &mut S) -> Result<StringResolver, Error>
-        ensures outcome { Serializes ⟦<Self as Archive>⟧ ⟦<Self::Archived as Portable>⟧ self.now S.Keys serializer
-            result }
+        ensures outcome { Serializes ⟦<Self as Archive>⟧ ⟦<Self::Archived as Portable>⟧ self.now
+            S.Keys serializer result }
         ensures keys { KeepsKeys (S.state serializer.old).states (S.state serializer.new).states }
-        ensures inline { length (string_bytes self.now) ≤ 8 → IsOk result × (S.state serializer.new ≡ S.state serializer.old) }
-        ensures too_long { 1073741823 < length (string_bytes self.now) → AtOnce result StringTooLong S.Keys serializer }
-        ensures elsewhere { 8 < length (string_bytes self.now) → IfOk result (Added (string_bytes self.now) S.Keys serializer) }
-        ensures cause { IfErr result (NoStringSince (string_bytes self.now) S.position S.Keys serializer) }
+        ensures inline { length (string_bytes self.now) ≤ 8 → IsOk result
+            × (S.state serializer.new ≡ S.state serializer.old) }
+        ensures too_long { 1073741823 < length (string_bytes self.now)
+            → AtOnce result StringTooLong S.Keys serializer }
+        ensures elsewhere { 8 < length (string_bytes self.now)
+            → IfOk result (Added (string_bytes self.now) S.Keys serializer) }
+        ensures cause { IfErr result (NoStringSince (string_bytes self.now) S.position S.Keys
+            serializer) }
     {
         ArchivedString::serialize_from_str(self.as_str(), serializer)
     }
@@ -398,7 +413,8 @@ impl ArchiveUnsized for String {
 
     ghost one_length = { λ _ _. refl };
 
-    ghost planned = { λ s. one_planned no_definition str_shape [] (text_value (string_bytes s)) (string_planned no_definition [] (string_bytes s)) };
+    ghost planned = { λ s. one_planned no_definition str_shape [] (text_value (string_bytes s))
+        (string_planned no_definition [] (string_bytes s)) };
 
     #[inline(always)]
     fn archived_metadata(&self) -> Result<(), Error> {
@@ -421,8 +437,10 @@ impl<D: Entries> Deserialize<String, D> for ArchivedString {
         _deserializer: &mut D,
     ) -> Result<String, Error>
         requires { IsPartOf ⟦<Self as ArchivePointee>⟧ part }
-        ensures read { IfOk result (Read ⟦<Self as ArchivePointee>⟧ part D.Entries _deserializer ⟦<String as Archive>⟧) }
-        ensures text { IfOk result (λ s. string_bytes s ≡ string_text part.entry.bytes.now part.entry.pos) }
+        ensures read { IfOk result (Read ⟦<Self as ArchivePointee>⟧ part D.Entries _deserializer
+            ⟦<String as Archive>⟧) }
+        ensures text { IfOk result (λ s. string_bytes s
+            ≡ string_text part.entry.bytes.now part.entry.pos) }
         ensures unchanged { D.entry_of _deserializer.new ≡ D.entry_of _deserializer.old }
         ensures refused { IfErr result (λ e. e ≡ OutOfMemory) }
     {

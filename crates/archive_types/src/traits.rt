@@ -105,16 +105,17 @@ pub trait Archive {
         together: usize,
         serializer: &mut S,
     ) -> Result<Option<usize>, Error>
-        ensures outcome { CopiesElements keys meaning Self.Archived.Portable values.now S.Keys serializer
-            result }
-        ensures exact { CopiesInBulk in_bulk together Self.Archived.layout values.now S.Keys serializer
-            S.takes_memory result };
+        ensures outcome { CopiesElements keys meaning Self.Archived.Portable values.now S.Keys
+            serializer result }
+        ensures exact { CopiesInBulk in_bulk together Self.Archived.layout values.now S.Keys
+            serializer S.takes_memory result };
 
     // Its keys are those that its meaning leads to.
     ghost keyed: { (v : Self) → IsKeyed (keys v) (meaning v) };
 
     // There is a plan of what it owns.
-    ghost planned: { (v : Self) → HasPlan Self.Archived.definitions Self.Archived.shape (keys v) (meaning v) };
+    ghost planned: { (v : Self) → HasPlan Self.Archived.definitions Self.Archived.shape (keys v)
+        (meaning v) };
 }
 
 /// A source that can be written by a serializer `S`: a writer with what the value needs besides,
@@ -140,7 +141,8 @@ pub trait Serialize<S: Writer + Keys>: Archive {
     /// - `BufferOverflow`, `WriterFailed`: the writer's.
     /// - an error caused by the value, such as `LengthTooLarge` or `CyclicSerialize`.
     fn serialize(&self, serializer: &mut S) -> Result<Self::Resolver, Error>
-        ensures { Serializes Self.Archive Self.Archived.Portable self.now S.Keys serializer result };
+        ensures { Serializes Self.Archive Self.Archived.Portable self.now S.Keys serializer
+            result };
 }
 
 /// An archived type whose views can be read back as a `T`. `D` keeps the shared values: `()` if
@@ -164,8 +166,10 @@ pub trait Deserialize<T: Archive, D: Entries>: ArchivePointee {
     /// ensure what a view promises of the part. Our own.
     fn deserialize_part(alloc: Global, part: RawView<'_>, deserializer: &mut D) -> Result<T, Error>
         requires { IsPartOf Self.ArchivePointee part }
-        ensures read { IfOk result (Read Self.ArchivePointee part D.Entries deserializer T.Archive) }
-        ensures refused { IfErr result (RefusesPart Self.ArchivePointee part D.Entries deserializer) };
+        ensures read { IfOk result (Read Self.ArchivePointee part D.Entries deserializer
+            T.Archive) }
+        ensures refused { IfErr result (RefusesPart Self.ArchivePointee part D.Entries
+            deserializer) };
 
     /// Reads the first of `count` values, which lie `step` bytes apart from the position `pos` on,
     /// into `items`: as many as can be read in bulk, by default none. `deserialize_part` reads the
@@ -185,7 +189,8 @@ pub trait Deserialize<T: Archive, D: Entries>: ArchivePointee {
         requires room { _count ≤ vec_capacity _items.old }
         ensures few { vec_len _items.new ≤ _count }
         ensures room { _count ≤ vec_capacity _items.new }
-        ensures read { AreFirstRead Self.definitions _bytes.now _pos _step Self.pointee T.meaning T.keys _items.new.items }
+        ensures read { AreFirstRead Self.definitions _bytes.now _pos _step Self.pointee T.meaning
+            T.keys _items.new.items }
     {}
 
     /// The value that the view shows, its shared values named by their positions. What
@@ -200,7 +205,8 @@ pub trait Deserialize<T: Archive, D: Entries>: ArchivePointee {
         view: Ref<'_, Self>,
         deserializer: &mut D,
     ) -> Result<T, Error>
-        ensures read { IfOk result (λ t. ReadsView view.entry D.Entries deserializer (T.meaning t) (T.keys t)) }
+        ensures read { IfOk result (λ t. ReadsView view.entry D.Entries deserializer (T.meaning t)
+            (T.keys t)) }
         ensures refused { IfErr result (RefusesView view.entry D.Entries deserializer) }
     {
         Self::deserialize_part(alloc, view.part(), deserializer)
@@ -224,18 +230,22 @@ pub trait ArchiveUnsized {
     /// What a pointer to it has beside the offset. Fails with `LengthTooLarge` exactly if the
     /// length is above 4,294,967,295, where rkyv 0.8.18 truncates it.
     fn archived_metadata(&self) -> Result<ArchivedMetadata<Self>, Error>
-        ensures value { IfOk result (λ m. Self.Archived.metadata_length m ≡ source_length self.now) }
-        ensures refused { IfErr result (λ e. (e ≡ LengthTooLarge) × (4294967295 < source_length self.now)) }
+        ensures value { IfOk result (λ m. Self.Archived.metadata_length m
+            ≡ source_length self.now) }
+        ensures refused { IfErr result (λ e. (e ≡ LengthTooLarge)
+            × (4294967295 < source_length self.now)) }
         ensures too_long { 4294967295 < source_length self.now → IsErr result };
 
     // Its keys are those that its meaning leads to.
     ghost keyed: { (v : Self) → IsKeyed (keys v) (meaning v) };
 
     // Of one value the length is 0.
-    ghost one_length: { (v : Self) → has_length Self.Archived.pointee ≡ false → source_length v ≡ 0 };
+    ghost one_length: { (v : Self) → has_length Self.Archived.pointee ≡ false → source_length v
+        ≡ 0 };
 
     // There is a plan of it, with its region.
-    ghost planned: { (v : Self) → IsPlanned Self.Archived.ArchivePointee (source_length v) (keys v) (meaning v) };
+    ghost planned: { (v : Self) → IsPlanned Self.Archived.ArchivePointee (source_length v) (keys v)
+        (meaning v) };
 }
 
 /// A source that can be serialized to an `S` as a region of its own. As in rkyv 0.8.18.
@@ -266,8 +276,10 @@ pub trait DeserializeUnsized<T: Archive, D: Entries>: ArchivePointee {
         deserializer: &mut D,
     ) -> Result<T, Error>
         requires { IsPartOf Self.ArchivePointee part }
-        ensures read { IfOk result (Read Self.ArchivePointee part D.Entries deserializer T.Archive) }
-        ensures refused { IfErr result (RefusesPart Self.ArchivePointee part D.Entries deserializer) };
+        ensures read { IfOk result (Read Self.ArchivePointee part D.Entries deserializer
+            T.Archive) }
+        ensures refused { IfErr result (RefusesPart Self.ArchivePointee part D.Entries
+            deserializer) };
 
     /// What the view shows, as `Deserialize::deserialize` says it, with the same errors.
     final fn deserialize_unsized(
@@ -275,7 +287,8 @@ pub trait DeserializeUnsized<T: Archive, D: Entries>: ArchivePointee {
         view: Ref<'_, Self>,
         deserializer: &mut D,
     ) -> Result<T, Error>
-        ensures read { IfOk result (λ t. ReadsView view.entry D.Entries deserializer (T.meaning t) (T.keys t)) }
+        ensures read { IfOk result (λ t. ReadsView view.entry D.Entries deserializer (T.meaning t)
+            (T.keys t)) }
         ensures refused { IfErr result (RefusesView view.entry D.Entries deserializer) }
     {
         Self::deserialize_unsized_part(alloc, view.part(), deserializer)

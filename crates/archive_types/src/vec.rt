@@ -60,7 +60,8 @@ impl<T: Portable> Portable for ArchivedVec<T> {
 
     ghost no_others = { vec_reaches T.definitions T.shape T.no_others };
 
-    ghost checks = { λ direct. vec_check T.definitions T.shape T.layout.size T.Check.definitions T.Check.shape T.Check.span T.Check.nameless (T.checks direct) };
+    ghost checks = { λ direct. vec_check T.definitions T.shape T.layout.size T.Check.definitions
+        T.Check.shape T.Check.span T.Check.nameless (T.checks direct) };
 
     fn size() -> usize {
         8
@@ -83,7 +84,8 @@ impl<'a, T: Portable> Ref<'a, ArchivedVec<T>> {
     /// The elements. As in rkyv 0.8.18.
     pub fn as_slice(self) -> Ref<'a, ArchivedSlice<T>>
         ensures buffer { result.bytes.now ≡ self.entry.bytes.now }
-        ensures position { result.pos ≡ target_from self.entry.bytes.now self.entry.pos self.entry.pos }
+        ensures position { result.pos ≡ target_from self.entry.bytes.now self.entry.pos
+            self.entry.pos }
         ensures length { result.len ≡ u32_at self.entry.bytes.now (self.entry.pos + 4) }
         ensures shows { ShowsPartOf result self.entry itself }
     {

@@ -114,7 +114,8 @@ impl<'a, N: Native> Ref<'a, LittleEndian<N>> {
     /// The number.
     #[tactic(auto, using(archive_check::proofs::Viewing::ViewedValues::leaf_readable))]
     pub fn get(self) -> N
-        ensures number { result ≡ N.number_of (bytes_at self.entry.bytes.now self.entry.pos N.byte_count) }
+        ensures number { result ≡ N.number_of (bytes_at self.entry.bytes.now self.entry.pos
+            N.byte_count) }
         ensures says { ShowsValue self.entry (number (N.value_of result)) }
     {
         read_leaf(self.part())
@@ -126,7 +127,8 @@ impl<'a, N: Integer> Ref<'a, NonZero<N>> {
 
     /// The number, which isn't 0.
     pub fn get(self) -> N
-        ensures number { result ≡ N.number_of (bytes_at self.entry.bytes.now self.entry.pos N.byte_count) }
+        ensures number { result ≡ N.number_of (bytes_at self.entry.bytes.now self.entry.pos
+            N.byte_count) }
         ensures not_zero { is_zero (N.value_of result) ≡ false }
         ensures says { ShowsValue self.entry (number (N.value_of result)) }
     {
@@ -140,7 +142,8 @@ impl<'a, N: Plain> Ref<'a, N> {
     /// The value: nothing, a bool, or a number of one byte.
     #[tactic(auto, using(archive_check::proofs::Viewing::ViewedValues::leaf_readable))]
     pub fn get(self) -> N
-        ensures number { result ≡ N.number_of (bytes_at self.entry.bytes.now self.entry.pos N.byte_count) }
+        ensures number { result ≡ N.number_of (bytes_at self.entry.bytes.now self.entry.pos
+            N.byte_count) }
         ensures says { ShowsValue self.entry (number (N.value_of result)) }
     {
         read_leaf(self.part())

@@ -34,9 +34,12 @@ pub trait Sharing: Keys {
     /// if memory is refused, for an unknown key alone.
     fn start_sharing(&mut self, key: u64) -> Result<SharingState, Error>
         ensures answer { IfOk result (λ s. s ≡ start_answer ((Self.state self.old).states key)) }
-        ensures after { OnOk result (IsStarted (Self.state self.old).states key (Self.state self.new).states) }
-        ensures unchanged { OnErr result (KeepsKeys (Self.state self.old).states (Self.state self.new).states) }
-        ensures refusal { IfErr result (λ e. (e ≡ Error.OutOfMemory) × ((Self.state self.old).states key ≡ None)) }
+        ensures after { OnOk result (IsStarted (Self.state self.old).states key
+            (Self.state self.new).states) }
+        ensures unchanged { OnErr result (KeepsKeys (Self.state self.old).states
+            (Self.state self.new).states) }
+        ensures refusal { IfErr result (λ e. (e ≡ Error.OutOfMemory)
+            × ((Self.state self.old).states key ≡ None)) }
         ensures bytes { KeepsBytes (Self.state self.old) (Self.state self.new) };
 
     /// Finishes the pending `key` at `pos`, in bytes from the first one. Fails with `NotStarted`
@@ -44,8 +47,10 @@ pub trait Sharing: Keys {
     /// Takes no memory.
     fn finish_sharing(&mut self, key: u64, pos: usize) -> Result<(), Error>
         ensures answer { result ≡ finish_answer is_some ((Self.state self.old).states key) }
-        ensures after { OnOk result (IsSet (Self.state self.old).states key (Some (Some pos)) (Self.state self.new).states) }
-        ensures unchanged { OnErr result (KeepsKeys (Self.state self.old).states (Self.state self.new).states) }
+        ensures after { OnOk result (IsSet (Self.state self.old).states key (Some (Some pos))
+            (Self.state self.new).states) }
+        ensures unchanged { OnErr result (KeepsKeys (Self.state self.old).states
+            (Self.state self.new).states) }
         ensures bytes { KeepsBytes (Self.state self.old) (Self.state self.new) };
 }
 
@@ -140,10 +145,14 @@ impl<A: Allocator + Clone> Keys for Share<A> {
 impl<A: Allocator + Clone> Sharing for Share<A> {
     fn start_sharing(&mut self, key: u64) -> Result<SharingState, Error>
         ensures answer { IfOk result (λ s. s ≡ start_answer (known_keys self.old.states key)) }
-        ensures after { OnOk result (IsStarted (known_keys self.old.states) key (known_keys self.new.states)) }
-        ensures unchanged { OnErr result (KeepsKeys (known_keys self.old.states) (known_keys self.new.states)) }
-        ensures refusal { IfErr result (λ e. (e ≡ Error.OutOfMemory) × (known_keys self.old.states key ≡ None)) }
-        ensures bytes { KeepsBytes (only_keys (known_keys self.old.states)) (only_keys (known_keys self.new.states)) }
+        ensures after { OnOk result (IsStarted (known_keys self.old.states) key
+            (known_keys self.new.states)) }
+        ensures unchanged { OnErr result (KeepsKeys (known_keys self.old.states)
+            (known_keys self.new.states)) }
+        ensures refusal { IfErr result (λ e. (e ≡ Error.OutOfMemory)
+            × (known_keys self.old.states key ≡ None)) }
+        ensures bytes { KeepsBytes (only_keys (known_keys self.old.states))
+            (only_keys (known_keys self.new.states)) }
         ensures served { 0 < spare_keys self.old.states → IsOk result }
         ensures room { spare_keys self.old.states ≤ spare_keys self.new.states + 1 }
     {
@@ -162,9 +171,12 @@ impl<A: Allocator + Clone> Sharing for Share<A> {
 
     fn finish_sharing(&mut self, key: u64, pos: usize) -> Result<(), Error>
         ensures answer { result ≡ finish_answer is_some (known_keys self.old.states key) }
-        ensures after { OnOk result (IsSet (known_keys self.old.states) key (Some (Some pos)) (known_keys self.new.states)) }
-        ensures unchanged { OnErr result (KeepsKeys (known_keys self.old.states) (known_keys self.new.states)) }
-        ensures bytes { KeepsBytes (only_keys (known_keys self.old.states)) (only_keys (known_keys self.new.states)) }
+        ensures after { OnOk result (IsSet (known_keys self.old.states) key (Some (Some pos))
+            (known_keys self.new.states)) }
+        ensures unchanged { OnErr result (KeepsKeys (known_keys self.old.states)
+            (known_keys self.new.states)) }
+        ensures bytes { KeepsBytes (only_keys (known_keys self.old.states))
+            (only_keys (known_keys self.new.states)) }
         ensures room { spare_keys self.new.states ≡ spare_keys self.old.states }
     {
         let Some(states) = &mut self.states else {

@@ -83,9 +83,11 @@ impl<
 
     type Resolver = (A::Resolver, (B::Resolver, (C::Resolver, ())));
 
-    ghost meaning = { λ v. product (⟦<Fields<A, B, C> as SourceParts<RecordOf<F, A, B, C>>>⟧.meanings v) };
+    ghost meaning = { λ v. product
+        (⟦<Fields<A, B, C> as SourceParts<RecordOf<F, A, B, C>>>⟧.meanings v) };
 
-    ghost flat = { λ v r. product (⟦<Fields<A, B, C> as SourceParts<RecordOf<F, A, B, C>>>⟧.flats v r) };
+    ghost flat = { λ v r. product (⟦<Fields<A, B, C> as SourceParts<RecordOf<F, A, B, C>>>⟧.flats v
+        r) };
 
     ghost keys = { λ v. ⟦<Fields<A, B, C> as SourceParts<RecordOf<F, A, B, C>>>⟧.keys v };
 
@@ -93,10 +95,12 @@ impl<
 
     ghost in_bulk = { None };
 
-    ghost keyed = { λ v. record_keyed (part_keyed (A.keyed v.first) (part_keyed (B.keyed v.second) (part_keyed (C.keyed v.third) nothing_keyed))) };
+    ghost keyed = { λ v. record_keyed (part_keyed (A.keyed v.first)
+        (part_keyed (B.keyed v.second) (part_keyed (C.keyed v.third) nothing_keyed))) };
 
-    ghost planned = { λ v. record_planned _ _ _ _ _ _ (is_named_record _ _ _) (part_planned _ _ _ _ (A.planned v.first)
-        (part_planned _ _ _ _ (B.planned v.second) (part_planned _ _ _ _ (C.planned v.third) no_part_planned))) };
+    ghost planned = { λ v. record_planned _ _ _ _ _ _ (is_named_record _ _ _)
+        (part_planned _ _ _ _ (A.planned v.first) (part_planned _ _ _ _ (B.planned v.second)
+        (part_planned _ _ _ _ (C.planned v.third) no_part_planned))) };
 
     #[inline(always)]
     fn resolve(
@@ -104,7 +108,8 @@ impl<
         resolver: (A::Resolver, (B::Resolver, (C::Resolver, ()))),
         place: Place<'_, ArchivedRecord<F>>,
     ) -> Result<(), Error>
-        requires zeroed { ZeroedPlace ⟦<Self::Archived as Portable>⟧.layout.size place.pos place.bytes.now }
+        requires zeroed { ZeroedPlace ⟦<Self::Archived as Portable>⟧.layout.size place.pos
+            place.bytes.now }
         requires same_value { ⟦<Self as Archive>⟧.belongs self.now resolver }
         ensures { ResolvesAs ⟦<Self::Archived as Portable>⟧ place
             (⟦<Self as Archive>⟧.flat self.now resolver) result }

@@ -46,7 +46,8 @@ impl Archive for Metres {
 
     ghost keyed = { λ m. number_keyed (pos m.number) };
 
-    ghost planned = { λ m. leaf_planned no_definition (leaf (number_kind unsigned w32)) (number_kind unsigned w32) [] (pos m.number) refl };
+    ghost planned = { λ m. leaf_planned no_definition (leaf (number_kind unsigned w32))
+        (number_kind unsigned w32) [] (pos m.number) refl };
 
     #[inline(always)]
     fn resolve(&self, _resolver: (), place: Place<'_, ArchivedU32>) -> Result<(), Error>
@@ -117,7 +118,8 @@ impl ArchiveUnsized for Metres {
 
     ghost one_length = { λ _ _. refl };
 
-    ghost planned = { λ m. one_planned _ _ [] _ (leaf_planned no_definition (leaf (number_kind unsigned w32)) (number_kind unsigned w32) [] (pos m.number) refl) };
+    ghost planned = { λ m. one_planned _ _ [] _ (leaf_planned no_definition
+        (leaf (number_kind unsigned w32)) (number_kind unsigned w32) [] (pos m.number) refl) };
 
     fn archived_metadata(&self) -> Result<(), Error> {
         Ok(())

@@ -94,8 +94,11 @@ impl NamedRecursive for NodeFormat {
 impl RecursiveChoice for NodeFormat {
     type Variants = ((), ((ArchivedBox<ArchivedNode>, ()), ()));
 
-    ghost has_variants = { is_recursive_choice node_name _ node_variants
-        (λ s k. record { has = (tt, ((k.has, tt), tt)); finite = k.finite; laid_out = k.laid_out }) };
+    ghost has_variants = { is_recursive_choice node_name _ node_variants (λ s k. record {
+      has = (tt, ((k.has, tt), tt));
+      finite = k.finite;
+      laid_out = k.laid_out;
+    }) };
 
     ghost holds = { lit≤ tt };
 }

@@ -107,10 +107,12 @@ impl<A: Archive, B: Archive, C: Archive> Archive for TestOf<A, B, C> {
 
     ghost in_bulk = { None };
 
-    ghost keyed = { λ v. record_keyed (part_keyed (A.keyed v.number) (part_keyed (B.keyed v.text) (part_keyed (C.keyed v.list) nothing_keyed))) };
+    ghost keyed = { λ v. record_keyed (part_keyed (A.keyed v.number)
+        (part_keyed (B.keyed v.text) (part_keyed (C.keyed v.list) nothing_keyed))) };
 
-    ghost planned = { λ v. record_planned _ _ _ _ _ _ (is_named_record _ _ _) (part_planned _ _ _ _ (A.planned v.number)
-        (part_planned _ _ _ _ (B.planned v.text) (part_planned _ _ _ _ (C.planned v.list) no_part_planned))) };
+    ghost planned = { λ v. record_planned _ _ _ _ _ _ (is_named_record _ _ _)
+        (part_planned _ _ _ _ (A.planned v.number) (part_planned _ _ _ _ (B.planned v.text)
+        (part_planned _ _ _ _ (C.planned v.list) no_part_planned))) };
 
     #[inline(always)]
     fn resolve(
@@ -118,7 +120,8 @@ impl<A: Archive, B: Archive, C: Archive> Archive for TestOf<A, B, C> {
         resolver: Self::Resolver,
         place: Place<'_, Self::Archived>,
     ) -> Result<(), Error>
-        requires zeroed { ZeroedPlace ⟦<Self::Archived as Portable>⟧.layout.size place.pos place.bytes.now }
+        requires zeroed { ZeroedPlace ⟦<Self::Archived as Portable>⟧.layout.size place.pos
+            place.bytes.now }
         requires same_value { ⟦<Self as Archive>⟧.belongs self.now resolver }
         ensures { ResolvesAs ⟦<Self::Archived as Portable>⟧ place
             (⟦<Self as Archive>⟧.flat self.now resolver) result }
@@ -164,12 +167,14 @@ impl<A: Archive, B: Archive, C: Archive> ArchiveUnsized for TestOf<A, B, C> {
 
     ghost keys = { ⟦<TestOf<A, B, C> as Archive>⟧.keys };
 
-    ghost keyed = { λ v. record_keyed (part_keyed (A.keyed v.number) (part_keyed (B.keyed v.text) (part_keyed (C.keyed v.list) nothing_keyed))) };
+    ghost keyed = { λ v. record_keyed (part_keyed (A.keyed v.number)
+        (part_keyed (B.keyed v.text) (part_keyed (C.keyed v.list) nothing_keyed))) };
 
     ghost one_length = { λ _ _. refl };
 
-    ghost planned = { λ v. one_planned _ _ _ _ (record_planned _ _ _ _ _ _ (is_named_record _ _ _) (part_planned _ _ _ _ (A.planned v.number)
-        (part_planned _ _ _ _ (B.planned v.text) (part_planned _ _ _ _ (C.planned v.list) no_part_planned)))) };
+    ghost planned = { λ v. one_planned _ _ _ _ (record_planned _ _ _ _ _ _ (is_named_record _ _ _)
+        (part_planned _ _ _ _ (A.planned v.number) (part_planned _ _ _ _ (B.planned v.text)
+        (part_planned _ _ _ _ (C.planned v.list) no_part_planned)))) };
 
     fn archived_metadata(&self) -> Result<(), Error> {
         Ok(())

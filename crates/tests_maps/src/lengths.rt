@@ -41,7 +41,8 @@ impl Archive for One {
 
     ghost keyed = { λ _. number_keyed (pos 1) };
 
-    ghost planned = { λ _. leaf_planned no_definition (leaf (number_kind unsigned w8)) (number_kind unsigned w8) [] (pos 1) refl };
+    ghost planned = { λ _. leaf_planned no_definition (leaf (number_kind unsigned w8))
+        (number_kind unsigned w8) [] (pos 1) refl };
 
     fn resolve(&self, _resolver: (), place: Place<'_, u8>) -> Result<(), Error>
         requires zeroed { ZeroedPlace 1 place.pos place.bytes.now }

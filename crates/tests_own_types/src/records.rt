@@ -119,11 +119,14 @@ fn count(list: Ref<'_, Numbers>) -> usize {
 // A number, a text and a list are viewed.
 fn assert_fields<R: Record>(rt: &impl Abort, alloc: Global)
     requires number { part_at R.Parts.parts 0 ≡ Some ⟦<u8 as Portable>⟧.shape }
-    requires number_names { KnowsAlso (definitions_at R.Parts.definitions 0) ⟦<u8 as ArchivePointee>⟧.definitions }
+    requires number_names { KnowsAlso (definitions_at R.Parts.definitions 0)
+        ⟦<u8 as ArchivePointee>⟧.definitions }
     requires text { part_at R.Parts.parts 1 ≡ Some ⟦<ArchivedString as Portable>⟧.shape }
-    requires text_names { KnowsAlso (definitions_at R.Parts.definitions 1) ⟦<ArchivedString as ArchivePointee>⟧.definitions }
+    requires text_names { KnowsAlso (definitions_at R.Parts.definitions 1)
+        ⟦<ArchivedString as ArchivePointee>⟧.definitions }
     requires list { part_at R.Parts.parts 2 ≡ Some ⟦<Numbers as Portable>⟧.shape }
-    requires list_names { KnowsAlso (definitions_at R.Parts.definitions 2) ⟦<Numbers as ArchivePointee>⟧.definitions }
+    requires list_names { KnowsAlso (definitions_at R.Parts.definitions 2)
+        ⟦<Numbers as ArchivePointee>⟧.definitions }
 {
     let view = viewed::<R>(rt, alloc, RECORD);
     assert_same(rt, "the position", view.pos(), 28);
@@ -147,7 +150,8 @@ fn assert_tag_refused<T: Portable>(rt: &impl Abort, alloc: Global) {
 // The number is written over, and no other byte.
 fn assert_number_written_over<R: Record>(rt: &impl Abort, alloc: Global)
     requires number { part_at R.Parts.parts 0 ≡ Some ⟦<u8 as Portable>⟧.shape }
-    requires number_names { KnowsAlso (definitions_at R.Parts.definitions 0) ⟦<u8 as ArchivePointee>⟧.definitions }
+    requires number_names { KnowsAlso (definitions_at R.Parts.definitions 0)
+        ⟦<u8 as ArchivePointee>⟧.definitions }
 {
     let mut bytes = *RECORD;
     sealed::<R>(rt, alloc, &mut bytes).field::<u8>(0).write(7);
@@ -169,7 +173,8 @@ fn write_third<T: Portable + SealedLeaf>(list: Seal<'_, ArchivedVec<T>>, value: 
 // An element of the list is written over, and no other byte.
 fn assert_element_written_over<R: Record>(rt: &impl Abort, alloc: Global)
     requires list { part_at R.Parts.parts 2 ≡ Some ⟦<Numbers as Portable>⟧.shape }
-    requires list_names { KnowsAlso (definitions_at R.Parts.definitions 2) ⟦<Numbers as ArchivePointee>⟧.definitions }
+    requires list_names { KnowsAlso (definitions_at R.Parts.definitions 2)
+        ⟦<Numbers as ArchivePointee>⟧.definitions }
 {
     let mut bytes = *RECORD;
     let list = sealed::<R>(rt, alloc, &mut bytes)
@@ -188,11 +193,14 @@ fn assert_element_written_over<R: Record>(rt: &impl Abort, alloc: Global)
 // Archives of a record of a number, a text and a list are viewed, refused, and edited in place.
 fn assert_archives<R: Record>(rt: &impl Abort, alloc: Global)
     requires number { part_at R.Parts.parts 0 ≡ Some ⟦<u8 as Portable>⟧.shape }
-    requires number_names { KnowsAlso (definitions_at R.Parts.definitions 0) ⟦<u8 as ArchivePointee>⟧.definitions }
+    requires number_names { KnowsAlso (definitions_at R.Parts.definitions 0)
+        ⟦<u8 as ArchivePointee>⟧.definitions }
     requires text { part_at R.Parts.parts 1 ≡ Some ⟦<ArchivedString as Portable>⟧.shape }
-    requires text_names { KnowsAlso (definitions_at R.Parts.definitions 1) ⟦<ArchivedString as ArchivePointee>⟧.definitions }
+    requires text_names { KnowsAlso (definitions_at R.Parts.definitions 1)
+        ⟦<ArchivedString as ArchivePointee>⟧.definitions }
     requires list { part_at R.Parts.parts 2 ≡ Some ⟦<Numbers as Portable>⟧.shape }
-    requires list_names { KnowsAlso (definitions_at R.Parts.definitions 2) ⟦<Numbers as ArchivePointee>⟧.definitions }
+    requires list_names { KnowsAlso (definitions_at R.Parts.definitions 2)
+        ⟦<Numbers as ArchivePointee>⟧.definitions }
 {
     assert_fields::<R>(rt, alloc);
     assert_tag_refused::<R>(rt, alloc);

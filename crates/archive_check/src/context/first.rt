@@ -51,7 +51,8 @@ impl FirstPosition {
         pointee: &Pointee,
         length: usize,
     ) -> Result<ValidationState, Error>
-        ensures { IsStartAnswer (Some (first_as self.now)) (entry_as flavor.now pointee.now length) result }
+        ensures { IsStartAnswer (Some (first_as self.now)) (entry_as flavor.now pointee.now length)
+            result }
     {
         let kept = SharedPosition {
             shared_type: 0,
@@ -63,7 +64,8 @@ impl FirstPosition {
 
     /// The number of a flavor and a pointee, where they are those of this position.
     pub(crate) fn type_number(&self, flavor: &FlavorInfo, pointee: &Pointee) -> Option<usize>
-        ensures number { IfSome result (λ _. IsType self.now.shared_type (flavor_of flavor.now) (pointee_of pointee.now)) }
+        ensures number { IfSome result (λ _. IsType self.now.shared_type (flavor_of flavor.now)
+            (pointee_of pointee.now)) }
         ensures none { IfNone result (NoneFinishedAs (first_met self.now) flavor.now pointee.now) }
     {
         if is_of(&self.shared_type, flavor, pointee) {
@@ -76,15 +78,18 @@ impl FirstPosition {
     /// Whether this is the position, with this length, and it is finished.
     #[inline(always)]
     pub(crate) fn is_finished_at(&self, position: i128, length: usize) -> bool
-        ensures { IsFinishedAnswer (IsType self.now.shared_type) (first_met self.now position) length result }
+        ensures { IsFinishedAnswer (IsType self.now.shared_type) (first_met self.now position)
+            length result }
     {
         self.finished && self.length == length && self.position == position
     }
 
     /// Finishes the position, if it is this one.
     pub(crate) fn finish(&mut self, position: i128) -> Result<(), Error>
-        ensures answer { result ≡ finish_answer (λ met. met.finished) (first_met self.old position) }
-        ensures finished { OnOk result (first_met self.new ≡ finished (first_met self.old) position) }
+        ensures answer { result ≡ finish_answer (λ met. met.finished)
+            (first_met self.old position) }
+        ensures finished { OnOk result (first_met self.new
+            ≡ finished (first_met self.old) position) }
         ensures unchanged { OnErr result (first_met self.new ≡ first_met self.old) }
     {
         if self.position != position {

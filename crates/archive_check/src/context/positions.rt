@@ -61,7 +61,8 @@ fn is_same_flavor(kept: &FlavorInfo, flavor: &FlavorInfo) -> bool
 #[inline(always)]
 #[tactic(auto, using(crate::proofs::context::SharedPositions::same_type))]
 pub(crate) fn is_of(shared_type: &SharedType, flavor: &FlavorInfo, pointee: &Pointee) -> bool
-    ensures { IsTrue result ↔ IsType shared_type.now (flavor_of flavor.now) (pointee_of pointee.now) }
+    ensures { IsTrue result ↔ IsType shared_type.now (flavor_of flavor.now)
+        (pointee_of pointee.now) }
 {
     is_same_pointee(&shared_type.pointee, pointee) && is_same_flavor(&shared_type.flavor, flavor)
 }
@@ -75,7 +76,8 @@ impl SharedPosition {
         pointee: &Pointee,
         length: usize,
     ) -> Result<ValidationState, Error>
-        ensures { IsStartAnswer (Some (met_as self.now shared_type.now)) (entry_as flavor.now pointee.now length) result }
+        ensures { IsStartAnswer (Some (met_as self.now shared_type.now))
+            (entry_as flavor.now pointee.now length) result }
     {
         if !is_of(shared_type, flavor, pointee) {
             return Err(Error::TypeMismatch);
@@ -167,7 +169,8 @@ impl<A: Allocator + Copy> SharedValidator<A> {
     // needs none of the map.
     #[inline(never)]
     fn search_as(&self, shared_type: usize, position: i128, length: usize) -> bool
-        ensures { IsTrue result ↔ get int_eq self.now.positions position ≡ Some (finished_as shared_type length) }
+        ensures { IsTrue result ↔ get int_eq self.now.positions position
+            ≡ Some (finished_as shared_type length) }
     {
         match self.positions.get(&position) {
             Some(kept) => kept.is_as(shared_type, length),
@@ -187,7 +190,8 @@ impl<A: Allocator + Copy> SharedValidator<A> {
         length: usize,
     ) -> Result<ValidationState, Error>
         requires new { get int_eq self.old.positions position ≡ None }
-        ensures answer { IsStartAnswer (positions_of self.old position) (entry_as flavor.now pointee.now length) result }
+        ensures answer { IsStartAnswer (positions_of self.old position)
+            (entry_as flavor.now pointee.now length) result }
         ensures started { OnOk result (Starts positions_of self position flavor pointee length) }
         ensures unchanged { OnErr result (positions_of self.new ≡ positions_of self.old) }
     {
@@ -274,8 +278,10 @@ impl<A: Allocator + Copy> SharedContext for SharedValidator<A> {
 // The index of a type in a list; none where it isn't there.
 #[tactic(auto, using(crate::proofs::context::SharedPositions::same_type))]
 fn find_type(shared_types: &[SharedType], flavor: &FlavorInfo, pointee: &Pointee) -> Option<usize>
-    ensures found { IfSome result (λ k. HasType shared_types.now k (flavor_of flavor.now) (pointee_of pointee.now)) }
-    ensures absent { IfNone result (IsAbsent shared_types.now (flavor_of flavor.now) (pointee_of pointee.now)) }
+    ensures found { IfSome result (λ k. HasType shared_types.now k (flavor_of flavor.now)
+        (pointee_of pointee.now)) }
+    ensures absent { IfNone result (IsAbsent shared_types.now (flavor_of flavor.now)
+        (pointee_of pointee.now)) }
 {
     for (index, shared_type) in shared_types.iter().enumerate() {
         if is_of(shared_type, flavor, pointee) {
@@ -292,7 +298,8 @@ fn type_index<A: Allocator>(
     flavor: &FlavorInfo,
     pointee: &Pointee,
 ) -> Result<usize, AllocError>
-    ensures found { IfOk result (λ k. HasType shared_types.new.items k (flavor_of flavor.now) (pointee_of pointee.now)) }
+    ensures found { IfOk result (λ k. HasType shared_types.new.items k (flavor_of flavor.now)
+        (pointee_of pointee.now)) }
     ensures kept { IsGrown shared_types.old.items shared_types.new.items }
     ensures distinct { AreDistinct shared_types.old.items → AreDistinct shared_types.new.items }
 {

@@ -63,7 +63,12 @@ pub struct ArchiveValidator<'a> {
 impl<'a> Model for ArchiveValidator<'a> {
     ghost Value = { RangeState };
 
-    ghost view = { λ v. record { start = v.start; end = v.end; depth = v.depth; pushes = v.pushes } };
+    ghost view = { λ v. record {
+      start = v.start;
+      end = v.end;
+      depth = v.depth;
+      pushes = v.pushes;
+    } };
 }
 
 impl<'a> ArchiveValidator<'a> {

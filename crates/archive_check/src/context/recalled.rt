@@ -143,7 +143,8 @@ impl<A: Allocator + Copy> FinishedPositions<A> {
     /// Makes two slots for each of so many positions, at least, so that to add one takes no memory. Refused where memory is; what is recalled stays in
     /// any case.
     pub(crate) fn make_room(&mut self, count: usize) -> Result<(), AllocError>
-        ensures { (kept : ℤ → Option SharedPosition) → AreRecalled self.old.slots.items kept → AreRecalled self.new.slots.items kept }
+        ensures { (kept : ℤ → Option SharedPosition) → AreRecalled self.old.slots.items kept
+            → AreRecalled self.new.slots.items kept }
     {
         if self.slots.len() / 2 >= count {
             return Ok(());

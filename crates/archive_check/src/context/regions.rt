@@ -29,8 +29,10 @@ fn refuse_region<C: ArchiveContext>(
     refusal: &mut Error,
     context: &mut C,
 )
-    requires { is_err (subtree_answer (C.state context.old) position layout.now.size layout.now.align) ≡ true }
-    ensures refused { subtree_answer (C.state context.old) position layout.now.size layout.now.align ≡ Err refusal.new }
+    requires { is_err (subtree_answer (C.state context.old) position layout.now.size
+        layout.now.align) ≡ true }
+    ensures refused { subtree_answer (C.state context.old) position layout.now.size layout.now.align
+        ≡ Err refusal.new }
     ensures unchanged { C.state context.new ≡ C.state context.old }
 {
     match context.check_subtree_ptr(position, layout) {
@@ -89,9 +91,12 @@ pub fn enter<C: ArchiveContext>(
     context: &mut C,
 ) -> Option<Region>
     requires { 0 < align }
-    ensures entered { IfSome result (Enters (C.state context.old) (C.state context.new) position align whole) }
-    ensures stops { IfNone result (EntersNot (C.state context.old) position align whole refusal.new) }
-    ensures pushes { OnSome result ((C.state context.new).pushes ≤ (C.state context.old).pushes + 1) }
+    ensures entered { IfSome result (Enters (C.state context.old) (C.state context.new) position
+        align whole) }
+    ensures stops { IfNone result (EntersNot (C.state context.old) position align whole
+        refusal.new) }
+    ensures pushes { OnSome result ((C.state context.new).pushes ≤ (C.state context.old).pushes
+        + 1) }
     ensures unchanged { IfNone result (C.state context.new ≡ C.state context.old) }
     ensures positions { OnSome result (C.positions context.new ≡ C.positions context.old) }
 {

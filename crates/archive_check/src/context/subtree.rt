@@ -23,7 +23,8 @@ pub trait ArchiveContextExt: ArchiveContext {
         F: FnOnce(&mut Self) -> Result<R, E> + Drop,
     >(&mut self, position: i128, layout: &Layout, f: F) -> Result<R, E>
         requires { MayCall Self.Context (λ inner. F.pre f inner) self position layout.now }
-        ensures { CalledIn Self.Context (Returns F.FnOnce f) E.from_gives self position layout.now result }
+        ensures { CalledIn Self.Context (Returns F.FnOnce f) E.from_gives self position layout.now
+            result }
     {
         self.check_subtree_ptr(position, layout)?;
         let root = position as usize;
@@ -43,8 +44,10 @@ pub trait ArchiveContextExt: ArchiveContext {
         E: From<Error> + Drop,
         F: FnOnce(&mut Self) -> Result<R, E> + Drop,
     >(&mut self, position: i128, length: usize, f: F) -> Result<R, E>
-        requires { MayCallAt Self.Context (λ inner. F.pre f inner) T.ArchivePointee self position length }
-        ensures { CalledAt Self.Context (Returns F.FnOnce f) E.from_gives T.ArchivePointee self position length result }
+        requires { MayCallAt Self.Context (λ inner. F.pre f inner) T.ArchivePointee self position
+            length }
+        ensures { CalledAt Self.Context (Returns F.FnOnce f) E.from_gives T.ArchivePointee self
+            position length result }
     {
         let layout = T::layout_raw(length)?;
         self.in_subtree_raw(position, &layout, f)

@@ -34,7 +34,8 @@ impl<A: Context, S: Context> Validator<A, S> {
 impl<'a, S: Context> Validator<ArchiveValidator<'a>, S> {
     /// How many regions were entered, `usize::MAX` where it is more.
     pub fn subtrees(&self) -> usize
-        ensures { result ≡ (⟦<Validator<ArchiveValidator<'a>, S> as Context>⟧.state self.now).pushes }
+        ensures { result ≡ (⟦<Validator<ArchiveValidator<'a>, S> as Context>⟧.state
+            self.now).pushes }
     {
         self.archive.subtrees()
     }
@@ -159,9 +160,12 @@ impl<'a> HighValidator<'a> {
     ) -> Result<ValidationState, Error>
         requires none { self.old.positions ≡ None }
         requires no_first { self.old.first ≡ None }
-        ensures answer { IsStartAnswer (positions_met self.old.first self.old.positions position) (entry_as flavor.now pointee.now length) result }
-        ensures started { OnOk result (Starts (λ v. positions_met v.first v.positions) self position flavor pointee length) }
-        ensures unchanged { OnErr result (positions_met self.new.first self.new.positions ≡ positions_met self.old.first self.old.positions) }
+        ensures answer { IsStartAnswer (positions_met self.old.first self.old.positions position)
+            (entry_as flavor.now pointee.now length) result }
+        ensures started { OnOk result (Starts (λ v. positions_met v.first v.positions) self position
+            flavor pointee length) }
+        ensures unchanged { OnErr result (positions_met self.new.first self.new.positions
+            ≡ positions_met self.old.first self.old.positions) }
         ensures range { self.new.range ≡ self.old.range }
     {
         let first = FirstPosition::start(flavor, pointee, position, length)?;
@@ -182,9 +186,12 @@ impl<'a> HighValidator<'a> {
         requires none { self.old.positions ≡ None }
         requires first { IsSome self.old.first }
         requires elsewhere { ForSome self.old.first (λ f. f.position ≢ position) }
-        ensures answer { IsStartAnswer (positions_met self.old.first self.old.positions position) (entry_as flavor.now pointee.now length) result }
-        ensures started { OnOk result (Starts (λ v. positions_met v.first v.positions) self position flavor pointee length) }
-        ensures unchanged { OnErr result (positions_met self.new.first self.new.positions ≡ positions_met self.old.first self.old.positions) }
+        ensures answer { IsStartAnswer (positions_met self.old.first self.old.positions position)
+            (entry_as flavor.now pointee.now length) result }
+        ensures started { OnOk result (Starts (λ v. positions_met v.first v.positions) self position
+            flavor pointee length) }
+        ensures unchanged { OnErr result (positions_met self.new.first self.new.positions
+            ≡ positions_met self.old.first self.old.positions) }
         ensures range { self.new.range ≡ self.old.range }
     {
         let Some(first) = &self.first else {

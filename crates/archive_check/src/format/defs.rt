@@ -41,8 +41,10 @@ impl Defs {
     /// allocator that the definitions were made with.
     #[tactic(auto, using(crate::proofs::Names::Named::tables))]
     pub fn add(&mut self, name: &'static str, expr: Expr) -> Result<bool, Error>
-        ensures answer { IsAddAnswer (definition (table_of self.old) name.now) (shape_of expr) result }
-        ensures added { IfOk result (λ new. table_of self.new ≡ table_after (table_of self.old) name.now (shape_of expr) new) }
+        ensures answer { IsAddAnswer (definition (table_of self.old) name.now) (shape_of expr)
+            result }
+        ensures added { IfOk result (λ new. table_of self.new
+            ≡ table_after (table_of self.old) name.now (shape_of expr) new) }
         ensures unchanged { OnErr result (table_of self.new ≡ table_of self.old) }
     {
         match find(&self.items, name) {

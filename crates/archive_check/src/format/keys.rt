@@ -77,9 +77,11 @@ fn read_i128(bytes: &[u8], p: usize) -> i128
 fn numbers_ascend(integer: IntegerKind, bytes: &[u8], first: usize, second: usize) -> bool
     requires front { first + byte_len (integer_of integer).1 ≤ length bytes.now }
     requires back { second + byte_len (integer_of integer).1 ≤ length bytes.now }
-    ensures { IsTrue result ↔
-        int_cmp (with_sign (integer_of integer).0 (integer_of integer).1 (from_le_bytes (integer_of integer).1 (bytes_at bytes.now first (byte_len (integer_of integer).1))))
-        (with_sign (integer_of integer).0 (integer_of integer).1 (from_le_bytes (integer_of integer).1 (bytes_at bytes.now second (byte_len (integer_of integer).1)))) ≡ Less }
+    ensures { IsTrue result ↔ int_cmp (with_sign (integer_of integer).0 (integer_of integer).1
+        (from_le_bytes (integer_of integer).1 (bytes_at bytes.now first
+        (byte_len (integer_of integer).1)))) (with_sign (integer_of integer).0
+        (integer_of integer).1 (from_le_bytes (integer_of integer).1
+        (bytes_at bytes.now second (byte_len (integer_of integer).1)))) ≡ Less }
 {
     match integer {
         IntegerKind::U8 => read_u8(bytes, first) < read_u8(bytes, second),
@@ -128,7 +130,8 @@ fn bytes_within(bytes: &[u8], p: usize, n: usize) -> &[u8]
 #[inline(always)]
 fn text_elsewhere(bytes: &[u8], p: usize) -> &[u8]
     requires { p + 8 ≤ length bytes.now }
-    ensures { result.now ≡ bytes_at bytes.now (target_from bytes.now p (p + 4)) (decoded_length (u32_at bytes.now p)) }
+    ensures { result.now ≡ bytes_at bytes.now (target_from bytes.now p (p + 4))
+        (decoded_length (u32_at bytes.now p)) }
 {
     prove!(bytes.len() <= usize::MAX);
     let position = read_position(bytes, p, p + 4);

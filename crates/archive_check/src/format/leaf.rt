@@ -29,7 +29,8 @@ fn has_bits(bytes: &[u8], at: usize, n: usize) -> bool
 #[inline]
 pub fn is_legal(kind: Kind, bytes: &[u8], at: usize) -> bool
     requires { at + kind_size (kind_of kind) ≤ length bytes.now }
-    ensures { IsTrue result ↔ IsLegal (kind_of kind) (bytes_at bytes.now at (kind_size (kind_of kind))) }
+    ensures { IsTrue result ↔ IsLegal (kind_of kind) (bytes_at bytes.now at
+        (kind_size (kind_of kind))) }
 {
     match kind {
         Kind::Bool => bytes[at] < 2,
@@ -67,7 +68,8 @@ fn has_bits_at_once(bytes: &[u8], at: usize, n: usize) -> bool
 fn is_legal_at_once(kind: Kind, size: usize, bytes: &[u8], at: usize) -> bool
     requires size { size ≡ kind_size (kind_of kind) }
     requires fits { at + size ≤ length bytes.now }
-    ensures { IsTrue result → IsLegal (kind_of kind) (bytes_at bytes.now at (kind_size (kind_of kind))) }
+    ensures { IsTrue result → IsLegal (kind_of kind) (bytes_at bytes.now at
+        (kind_size (kind_of kind))) }
 {
     match kind {
         Kind::NonZero(_) => has_bits_at_once(bytes, at, size),
@@ -141,7 +143,8 @@ pub fn count_legal(kind: Kind, bytes: &[u8], at: usize, step: usize, count: usiz
 /// do.
 #[inline]
 pub fn illegal(kind: Kind) -> Error
-    requires { (bytes : List ℕ) × (length bytes ≡ kind_size (kind_of kind)) × (IsLegal (kind_of kind) bytes → ⊥) }
+    requires { (bytes : List ℕ) × (length bytes ≡ kind_size (kind_of kind))
+        × (IsLegal (kind_of kind) bytes → ⊥) }
     ensures { result ≡ illegal_error (kind_of kind) }
 {
     match kind {

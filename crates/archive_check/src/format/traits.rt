@@ -98,7 +98,8 @@ pub trait Portable: ArchivePointee {
     /// - `OutOfMemory`: memory from `alloc` or `defs` is refused.
     /// - `ShapeConflict`: a name has two definitions, or another one in `defs` already.
     fn define(alloc: Global, defs: &mut Defs) -> Result<(), Error>
-        ensures added { OnOk result (Extended (table_of defs.old) Self.definitions (table_of defs.new)) }
+        ensures added { OnOk result (Extended (table_of defs.old) Self.definitions
+            (table_of defs.new)) }
         ensures refused { IfErr result (ExplainsConflict (table_of defs.old) Self.definitions) };
 
     ghost is_one: { Self.pointee ≡ one shape };
@@ -109,9 +110,8 @@ pub trait Portable: ArchivePointee {
 
     ghost no_others: { NoOthers Self.definitions shape };
 
-    ghost checks: { IsTrue Self.Check.direct
-        → IsCheckOf Self.definitions shape layout.size Self.Check.definitions Self.Check.shape Self.Check.span
-        Self.Check.nameless };
+    ghost checks: { IsTrue Self.Check.direct → IsCheckOf Self.definitions shape layout.size
+        Self.Check.definitions Self.Check.shape Self.Check.span Self.Check.nameless };
 }
 
 /// What models a writer in contracts: its bytes, its room, its device's failures and the states of

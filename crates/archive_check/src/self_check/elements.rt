@@ -29,7 +29,8 @@ fn check_no_bytes<T: Portable, C: ArchiveContext>(
     requires fits { at ≤ length bytes.now }
     requires below { (C.state context.old).end ≤ length bytes.now }
     ensures through { WentOver C.Context context T.Portable (run_way bytes.now at count) result }
-    ensures stops { StoppedIn C.Context context T.Check.direct T.Portable (run_way bytes.now at count) result refusal }
+    ensures stops { StoppedIn C.Context context T.Check.direct T.Portable
+        (run_way bytes.now at count) result refusal }
     ensures spends { Spends 0 (C.state context.old) (C.state context.new) }
     ensures positions { OnSome result (C.positions context.new ≡ C.positions context.old) }
 {
@@ -65,7 +66,8 @@ pub fn check_elements<T: Portable, C: ArchiveContext>(
     requires fits { at + count * T.layout.size ≤ length bytes.now }
     requires below { (C.state context.old).end ≤ length bytes.now }
     ensures through { WentOver C.Context context T.Portable (run_way bytes.now at count) result }
-    ensures stops { StoppedIn C.Context context T.Check.direct T.Portable (run_way bytes.now at count) result refusal }
+    ensures stops { StoppedIn C.Context context T.Check.direct T.Portable
+        (run_way bytes.now at count) result refusal }
     ensures spends { Spends (count * T.layout.size) (C.state context.old) (C.state context.new) }
     ensures positions { OnSome result (C.positions context.new ≡ C.positions context.old) }
 {
@@ -91,8 +93,10 @@ pub fn check_run<T: Portable, C: ArchiveContext>(
     context: &mut C,
 ) -> Option<()>
     requires below { (C.state context.old).end ≤ length bytes.now }
-    ensures through { WentOver C.Context context T.Portable (run_at bytes.now position count) result }
-    ensures stops { StoppedIn C.Context context T.Check.direct T.Portable (run_at bytes.now position count) result refusal }
+    ensures through { WentOver C.Context context T.Portable (run_at bytes.now position count)
+        result }
+    ensures stops { StoppedIn C.Context context T.Check.direct T.Portable
+        (run_at bytes.now position count) result refusal }
     ensures spends { Spends 4 (C.state context.old) (C.state context.new) }
     ensures positions { OnSome result (C.positions context.new ≡ C.positions context.old) }
 {

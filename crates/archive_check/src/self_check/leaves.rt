@@ -29,8 +29,10 @@ pub fn check_leaf<C: ArchiveContext>(
     _context: &mut C,
 ) -> Option<()>
     requires { at + kind_size (kind_of kind) ≤ length bytes.now }
-    ensures through { Went C.Context _context no_definition (shape_way bytes.now at (leaf (kind_of kind))) result }
-    ensures stops { Stopped C.Context _context no_definition (shape_way bytes.now at (leaf (kind_of kind))) result refusal }
+    ensures through { Went C.Context _context no_definition
+        (shape_way bytes.now at (leaf (kind_of kind))) result }
+    ensures stops { Stopped C.Context _context no_definition
+        (shape_way bytes.now at (leaf (kind_of kind))) result refusal }
     ensures spends { Spends 0 (C.state _context.old) (C.state _context.new) }
     ensures positions { OnSome result (C.positions _context.new ≡ C.positions _context.old) }
 {

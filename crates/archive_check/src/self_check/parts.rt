@@ -62,8 +62,10 @@ pub trait CheckedParts {
     ) -> Option<()>
         requires fits { base + end start ≤ length bytes.now }
         requires below { (C.state context.old).end ≤ length bytes.now }
-        ensures through { Went C.Context context definitions (parts_way bytes.now base start parts) result }
-        ensures stops { Stops C.Context context direct definitions (parts_way bytes.now base start parts) result refusal }
+        ensures through { Went C.Context context definitions (parts_way bytes.now base start parts)
+            result }
+        ensures stops { Stops C.Context context direct definitions
+            (parts_way bytes.now base start parts) result refusal }
         ensures spends { Spends (end start - start) (C.state context.old) (C.state context.new) }
         ensures positions { OnSome result (C.positions context.new ≡ C.positions context.old) };
 
@@ -128,8 +130,9 @@ impl<A: Portable, R: CheckedParts> CheckedParts for (A, R) {
 
     ghost rises = { λ n. rises_over n A.layout.align A.layout.size A.is_align R.end R.rises };
 
-    ghost ordered = { part_ordered A.definitions A.shape A.layout.size A.Check.definitions A.Check.shape A.Check.span A.Check.nameless
-        R.definitions R.parts R.nameless R.lone A.Check.direct R.direct A.checks R.ordered };
+    ghost ordered = { part_ordered A.definitions A.shape A.layout.size A.Check.definitions
+        A.Check.shape A.Check.span A.Check.nameless R.definitions R.parts R.nameless R.lone
+        A.Check.direct R.direct A.checks R.ordered };
 
     fn are_direct() -> bool {
         A::Check::is_direct() && R::are_direct()

@@ -34,7 +34,8 @@ pub fn check_root<T: Portable, C: ArchiveContext>(
         → RefusesIn T.Portable C.Context context bytes.now pos result }
     ensures exact { IsTrue T.Check.direct
         → IsExactIn T.Portable C.Context context bytes.now pos result }
-    ensures of_check { IsTrue T.Check.direct → IfErr result (λ e. HasLevels (C.state context.old).depth → IsOfCheck e) }
+    ensures of_check { IsTrue T.Check.direct → IfErr result
+        (λ e. HasLevels (C.state context.old).depth → IsOfCheck e) }
     ensures direct { OnOk result (IsTrue T.Check.direct) }
     ensures levels { OnOk result (KeepsLevels (C.state context.old) (C.state context.new)) }
     ensures few_subtrees { FewPushed (C.state context.old) (C.state context.new) }

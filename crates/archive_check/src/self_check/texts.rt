@@ -25,8 +25,10 @@ fn check_text<C: ArchiveContext>(
     context: &mut C,
 ) -> Option<()>
     requires { (C.state context.old).end ≤ length bytes.now }
-    ensures through { Went C.Context context no_definition (text_at bytes.now position count) result }
-    ensures stops { Stopped C.Context context no_definition (text_at bytes.now position count) result refusal }
+    ensures through { Went C.Context context no_definition (text_at bytes.now position count)
+        result }
+    ensures stops { Stopped C.Context context no_definition (text_at bytes.now position count)
+        result refusal }
     ensures spends { Spends 4 (C.state context.old) (C.state context.new) }
     ensures positions { OnSome result (C.positions context.new ≡ C.positions context.old) }
 {

@@ -26,7 +26,8 @@ pub fn check_value<T: Portable, C: ArchiveContext>(
     requires fits { at + T.layout.size ≤ length bytes.now }
     requires below { (C.state context.old).end ≤ length bytes.now }
     ensures through { WentOver C.Context context T.Portable (shape_way bytes.now at) result }
-    ensures stops { StoppedIn C.Context context T.Check.direct T.Portable (shape_way bytes.now at) result refusal }
+    ensures stops { StoppedIn C.Context context T.Check.direct T.Portable (shape_way bytes.now at)
+        result refusal }
     ensures spends { Spends T.layout.size (C.state context.old) (C.state context.new) }
     ensures positions { OnSome result (C.positions context.new ≡ C.positions context.old) }
 {
@@ -54,7 +55,8 @@ pub fn check_one<T: Portable, C: ArchiveContext>(
 ) -> Option<()>
     requires below { (C.state context.old).end ≤ length bytes.now }
     ensures through { WentOver C.Context context T.Portable (one_at bytes.now position) result }
-    ensures stops { StoppedIn C.Context context T.Check.direct T.Portable (one_at bytes.now position) result refusal }
+    ensures stops { StoppedIn C.Context context T.Check.direct T.Portable
+        (one_at bytes.now position) result refusal }
     ensures direct { OnSome result (IsTrue T.Check.direct) }
     ensures spends { Spends 4 (C.state context.old) (C.state context.new) }
     ensures positions { OnSome result (C.positions context.new ≡ C.positions context.old) }

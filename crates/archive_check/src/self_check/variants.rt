@@ -40,9 +40,11 @@ pub trait CheckedVariants {
     ) -> Option<bool>
         requires fits { base + end ≤ length bytes.now }
         requires below { (C.state context.old).end ≤ length bytes.now }
-        ensures through { VariantWent C.Context context definitions bytes.now base variants tag result }
+        ensures through { VariantWent C.Context context definitions bytes.now base variants tag
+            result }
         ensures unknown { IfSome result (λ known. known ≡ false → variant_at variants tag ≡ None) }
-        ensures stops { IsTrue direct → VariantStops C.Context context definitions bytes.now base variants tag result refusal }
+        ensures stops { IsTrue direct → VariantStops C.Context context definitions bytes.now base
+            variants tag result refusal }
         ensures spends { Spends end (C.state context.old) (C.state context.new) }
         ensures positions { OnSome result (C.positions context.new ≡ C.positions context.old) };
 }
@@ -116,8 +118,10 @@ pub fn check_choice<V: CheckedVariants, C: ArchiveContext>(
     requires tag { at < length bytes.now }
     requires fits { at + V.end ≤ length bytes.now }
     requires below { (C.state context.old).end ≤ length bytes.now }
-    ensures through { Went C.Context context V.definitions (choice_at bytes.now at name V.variants) result }
-    ensures stops { Stops C.Context context V.direct V.definitions (choice_at bytes.now at name V.variants) result refusal }
+    ensures through { Went C.Context context V.definitions (choice_at bytes.now at name V.variants)
+        result }
+    ensures stops { Stops C.Context context V.direct V.definitions
+        (choice_at bytes.now at name V.variants) result refusal }
     ensures spends { Spends V.end (C.state context.old) (C.state context.new) }
     ensures positions { OnSome result (C.positions context.new ≡ C.positions context.old) }
 {

@@ -135,7 +135,8 @@ impl<T: Portable> Access<T> {
     /// Fails as `access_pos` does. Our own.
     #[inline(always)]
     pub fn access<'a>(&self, bytes: &'a [u8]) -> Result<Ref<'a, T>, Error>
-        ensures answer { Answers T.definitions bytes.now None (root_in bytes.now T.layout) T.shape result }
+        ensures answer { Answers T.definitions bytes.now None (root_in bytes.now T.layout) T.shape
+            result }
         ensures buffer { IfOk result (λ r. r.bytes.now ≡ bytes.now) }
         ensures position { IfOk result (λ r. r.pos ≡ root_in bytes.now T.layout) }
         ensures whole { IfOk result (λ r. r.len ≡ 0) }

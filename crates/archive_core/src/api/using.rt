@@ -55,7 +55,8 @@ pub fn serialize_using<S: Writer + Keys, T: SerializeUnsized<S>>(
     value: &T,
     serializer: &mut S,
 ) -> Result<usize, Error>
-    ensures { WritesUnsized T.ArchiveUnsized T.Archived.ArchivePointee value.now S.Keys serializer result }
+    ensures { WritesUnsized T.ArchiveUnsized T.Archived.ArchivePointee value.now S.Keys serializer
+        result }
 {
     value.serialize_unsized(serializer)
 }

@@ -48,9 +48,10 @@ pub trait NamedChoice {
     fn name() -> &'static str
         ensures { result.now ≡ name };
 
-    ghost checks: { IsTrue Self.Check.direct → IsCheckOf (both (defines name (choice name Self.Variants.variants)) Self.Variants.definitions) (named name)
-        (up Self.Variants.end Self.Variants.greatest) Self.Check.definitions Self.Check.shape Self.Check.span
-        Self.Check.nameless };
+    ghost checks: { IsTrue Self.Check.direct → IsCheckOf
+        (both (defines name (choice name Self.Variants.variants)) Self.Variants.definitions)
+        (named name) (up Self.Variants.end Self.Variants.greatest) Self.Check.definitions
+        Self.Check.shape Self.Check.span Self.Check.nameless };
 }
 
 /// An archived enum with the name and the variants of `N`: a tag of one byte, and behind it the
@@ -64,7 +65,8 @@ impl<N: NamedChoice> ArchivePointee for ArchivedChoice<N> {
 
     ghost pointee = { one (named N.name) };
 
-    ghost definitions = { both (defines N.name (choice N.name N.Variants.variants)) N.Variants.definitions };
+    ghost definitions = { both (defines N.name (choice N.name N.Variants.variants))
+        N.Variants.definitions };
 
     ghost metadata_length = { λ _. 0 };
 
@@ -76,7 +78,10 @@ impl<N: NamedChoice> ArchivePointee for ArchivedChoice<N> {
 impl<N: NamedChoice> Portable for ArchivedChoice<N> {
     ghost shape = { named N.name };
 
-    ghost layout = { record { size = up N.Variants.end N.Variants.greatest; align = N.Variants.greatest } };
+    ghost layout = { record {
+      size = up N.Variants.end N.Variants.greatest;
+      align = N.Variants.greatest;
+    } };
 
     type Check = N::Check;
 
@@ -84,11 +89,15 @@ impl<N: NamedChoice> Portable for ArchivedChoice<N> {
 
     ghost is_align = { N.Variants.is_align };
 
-    ghost has_layout = { named_has_layout N.name (choice N.name N.Variants.variants) N.Variants.definitions
-        (record { size = up N.Variants.end N.Variants.greatest; align = N.Variants.greatest })
-        (choice_has_layout N.Variants.definitions N.name N.Variants.variants N.Variants.greatest N.Variants.end N.Variants.begin N.Variants.laid_out) };
+    ghost has_layout = { named_has_layout N.name (choice N.name N.Variants.variants)
+        N.Variants.definitions (record {
+          size = up N.Variants.end N.Variants.greatest;
+          align = N.Variants.greatest;
+        }) (choice_has_layout N.Variants.definitions N.name N.Variants.variants N.Variants.greatest
+        N.Variants.end N.Variants.begin N.Variants.laid_out) };
 
-    ghost no_others = { defined_reached N.name (choice N.name N.Variants.variants) N.Variants.definitions (N.Variants.no_others N.name) };
+    ghost no_others = { defined_reached N.name (choice N.name N.Variants.variants)
+        N.Variants.definitions (N.Variants.no_others N.name) };
 
     ghost checks = { N.checks };
 

@@ -156,8 +156,10 @@ fn read_nested<N: RecursiveChoice, T: FromNested<N> + Drop, D: Entries>(
     deserializer: &mut D,
 ) -> Result<T, Error>
     requires { IsPartOf ⟦<ArchivedRecursive<N> as ArchivePointee>⟧ part }
-    ensures read { IfOk result (Read ⟦<ArchivedRecursive<N> as ArchivePointee>⟧ part D.Entries deserializer T.Archive) }
-    ensures refused { IfErr result (RefusesPart ⟦<ArchivedRecursive<N> as ArchivePointee>⟧ part D.Entries deserializer) }
+    ensures read { IfOk result (Read ⟦<ArchivedRecursive<N> as ArchivePointee>⟧ part D.Entries
+        deserializer T.Archive) }
+    ensures refused { IfErr result (RefusesPart ⟦<ArchivedRecursive<N> as ArchivePointee>⟧ part
+        D.Entries deserializer) }
 {
     let view: Ref<'_, ArchivedRecursive<N>> = Ref::at(part);
     let tag = view.tag();
@@ -172,8 +174,10 @@ impl<N: RecursiveChoice, T: FromNested<N> + Drop, D: Entries> Deserialize<T, D>
     for ArchivedRecursive<N> {
     fn deserialize_part(alloc: Global, part: RawView<'_>, deserializer: &mut D) -> Result<T, Error>
         requires { IsPartOf ⟦<Self as ArchivePointee>⟧ part }
-        ensures read { IfOk result (Read ⟦<Self as ArchivePointee>⟧ part D.Entries deserializer T.Archive) }
-        ensures refused { IfErr result (RefusesPart ⟦<Self as ArchivePointee>⟧ part D.Entries deserializer) }
+        ensures read { IfOk result (Read ⟦<Self as ArchivePointee>⟧ part D.Entries deserializer
+            T.Archive) }
+        ensures refused { IfErr result (RefusesPart ⟦<Self as ArchivePointee>⟧ part D.Entries
+            deserializer) }
     {
         read_nested::<N, T, D>(alloc, part, deserializer)
     }

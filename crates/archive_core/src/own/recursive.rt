@@ -78,7 +78,8 @@ pub trait RecursiveChoice: NamedRecursive {
     /// Its variants, as in `NamedChoice`. The type itself may be in them behind pointers.
     type Variants: PortableVariants;
 
-    ghost has_variants: { IsChoice (defines Self.name Self.stands_for) (named Self.name) Self.name Self.Variants.definitions Self.Variants.variants };
+    ghost has_variants: { IsChoice (defines Self.name Self.stands_for) (named Self.name) Self.name
+        Self.Variants.definitions Self.Variants.variants };
 
     // It holds them.
     ghost holds: { Self.Variants.end ≤ Self.layout.size };

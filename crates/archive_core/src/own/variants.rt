@@ -68,8 +68,10 @@ pub fn deserialize_variant<X: Choice, P: DeserializeParts<T, D>, T: OwnedParts, 
 ) -> Result<T, Error>
     requires viewed { IsPartOf X.ArchivePointee part }
     requires variant { variant_at X.Variants.variants (part_tag part) ≡ Some P.parts }
-    requires definitions { variant_definitions X.Variants.definitions (part_tag part) ≡ P.definitions }
-    ensures read { IfOk result (ReadsVariant X.ArchivePointee part D.Entries deserializer T.meanings T.keys) }
+    requires definitions { variant_definitions X.Variants.definitions (part_tag part)
+        ≡ P.definitions }
+    ensures read { IfOk result (ReadsVariant X.ArchivePointee part D.Entries deserializer T.meanings
+        T.keys) }
     ensures refused { IfErr result (RefusesPart X.ArchivePointee part D.Entries deserializer) }
 {
     let RawView { bytes, pos, .. } = part;

@@ -68,13 +68,16 @@ impl<T: Archive + Drop> Pooled for Shared<T> {
 
     type Archived = T::Archived;
 
-    ghost kept = { λ s. kept_at s.key T.Archived.pointee 0 (T.meaning s.value.value) (T.keys s.value.value) };
+    ghost kept = { λ s. kept_at s.key T.Archived.pointee 0 (T.meaning s.value.value)
+        (T.keys s.value.value) };
 
     ghost count = { λ _. 0 };
 
-    ghost clone_law = { λ a b h. cloned_kept T.Archived.pointee (λ _. 0) T.meaning T.keys a.key b.key a.value.value b.value.value h.0 h.1 };
+    ghost clone_law = { λ a b h. cloned_kept T.Archived.pointee (λ _. 0) T.meaning T.keys a.key
+        b.key a.value.value b.value.value h.0 h.1 };
 
-    ghost spans = { λ v. one_spans T.Archived.definitions T.Archived.pointee T.Archived.shape T.Archived.is_one (T.meaning v) };
+    ghost spans = { λ v. one_spans T.Archived.definitions T.Archived.pointee T.Archived.shape
+        T.Archived.is_one (T.meaning v) };
 
     fn from_value(alloc: Global, pos: usize, value: T) -> Result<Shared<T>, Error> {
         let value = Rc::new(alloc, value)?;
@@ -90,13 +93,15 @@ impl<T: Archive + Drop> Pooled for SharedSlice<T> {
 
     type Archived = ArchivedSlice<T::Archived>;
 
-    ghost kept = { λ s. kept_at s.key (run T.Archived.shape) (length (rc_slice_items s.value)) (list (each_meaning T.meaning (rc_slice_items s.value)))
+    ghost kept = { λ s. kept_at s.key (run T.Archived.shape) (length (rc_slice_items s.value))
+        (list (each_meaning T.meaning (rc_slice_items s.value)))
         (each_keys T.keys (rc_slice_items s.value)) };
 
     ghost count = { λ v. length v.items };
 
-    ghost clone_law = { λ a b h. cloned_kept (run T.Archived.shape) (λ xs. length xs) (λ xs. list (each_meaning T.meaning xs)) (λ xs. each_keys T.keys xs)
-        a.key b.key (rc_slice_items a.value) (rc_slice_items b.value) h.0 h.1 };
+    ghost clone_law = { λ a b h. cloned_kept (run T.Archived.shape) (λ xs. length xs)
+        (λ xs. list (each_meaning T.meaning xs)) (λ xs. each_keys T.keys xs) a.key b.key
+        (rc_slice_items a.value) (rc_slice_items b.value) h.0 h.1 };
 
     ghost spans = { λ v. slice_spans T.Archived.definitions T.Archived.shape T.meaning v.items };
 
@@ -114,11 +119,13 @@ impl Pooled for SharedStr {
 
     type Archived = ArchivedStr;
 
-    ghost kept = { λ s. kept_at s.key text (length (rc_str_bytes s.value)) (text_value (rc_str_bytes s.value)) [] };
+    ghost kept = { λ s. kept_at s.key text (length (rc_str_bytes s.value))
+        (text_value (rc_str_bytes s.value)) [] };
 
     ghost count = { λ s. length (string_bytes s) };
 
-    ghost clone_law = { λ a b h. cloned_kept text (λ xs. length xs) (λ xs. text_value xs) (λ xs. []) a.key b.key (rc_str_bytes a.value) (rc_str_bytes b.value) h.0 h.1 };
+    ghost clone_law = { λ a b h. cloned_kept text (λ xs. length xs) (λ xs. text_value xs) (λ xs. [])
+        a.key b.key (rc_str_bytes a.value) (rc_str_bytes b.value) h.0 h.1 };
 
     ghost spans = { λ s. text_spans (string_bytes s) };
 
@@ -144,11 +151,14 @@ impl<
         deserializer: &mut D,
     ) -> Result<Shared<U>, Error>
         requires { IsPartOf ⟦<Self as ArchivePointee>⟧ part }
-        ensures read { IfOk result (Read ⟦<Self as ArchivePointee>⟧ part D.Entries deserializer ⟦<Shared<U> as Archive>⟧) }
-        ensures handed_out { IfOk result (λ s. HandsOutTarget part D.Entries deserializer (⟦<Shared<U> as Pooled>⟧.kept s)) }
+        ensures read { IfOk result (Read ⟦<Self as ArchivePointee>⟧ part D.Entries deserializer
+            ⟦<Shared<U> as Archive>⟧) }
+        ensures handed_out { IfOk result (λ s. HandsOutTarget part D.Entries deserializer
+            (⟦<Shared<U> as Pooled>⟧.kept s)) }
         ensures finished { D.keeps ≡ true → IfOk result
             (λ s. FinishesTarget part D.Entries deserializer (⟦<Shared<U> as Pooled>⟧.kept s)) }
-        ensures refused { IfErr result (RefusesPart ⟦<Self as ArchivePointee>⟧ part D.Entries deserializer) }
+        ensures refused { IfErr result (RefusesPart ⟦<Self as ArchivePointee>⟧ part D.Entries
+            deserializer) }
     {
         let view: Ref<'_, ArchivedRc<T, F>> = Ref::at(part);
         PoolingExt::<Shared<U>>::deserialize_shared(deserializer, alloc, view.get())
@@ -168,12 +178,15 @@ impl<
         deserializer: &mut D,
     ) -> Result<SharedSlice<U>, Error>
         requires { IsPartOf ⟦<Self as ArchivePointee>⟧ part }
-        ensures read { IfOk result (Read ⟦<Self as ArchivePointee>⟧ part D.Entries deserializer ⟦<SharedSlice<U> as Archive>⟧) }
-        ensures handed_out { IfOk result (λ s. HandsOutTarget part D.Entries deserializer (⟦<SharedSlice<U> as Pooled>⟧.kept s)) }
+        ensures read { IfOk result (Read ⟦<Self as ArchivePointee>⟧ part D.Entries deserializer
+            ⟦<SharedSlice<U> as Archive>⟧) }
+        ensures handed_out { IfOk result (λ s. HandsOutTarget part D.Entries deserializer
+            (⟦<SharedSlice<U> as Pooled>⟧.kept s)) }
         ensures finished { D.keeps ≡ true → IfOk result
             (λ s. FinishesTarget part D.Entries deserializer
             (⟦<SharedSlice<U> as Pooled>⟧.kept s)) }
-        ensures refused { IfErr result (RefusesPart ⟦<Self as ArchivePointee>⟧ part D.Entries deserializer) }
+        ensures refused { IfErr result (RefusesPart ⟦<Self as ArchivePointee>⟧ part D.Entries
+            deserializer) }
     {
         let view: Ref<'_, ArchivedRc<ArchivedSlice<T>, F>> = Ref::at(part);
         PoolingExt::<SharedSlice<U>>::deserialize_shared(deserializer, alloc, view.get())
@@ -188,11 +201,14 @@ impl<F: Flavor, D: Pooling<SharedStr>> Deserialize<SharedStr, D> for ArchivedRc<
         deserializer: &mut D,
     ) -> Result<SharedStr, Error>
         requires { IsPartOf ⟦<Self as ArchivePointee>⟧ part }
-        ensures read { IfOk result (Read ⟦<Self as ArchivePointee>⟧ part D.Entries deserializer ⟦<SharedStr as Archive>⟧) }
-        ensures handed_out { IfOk result (λ s. HandsOutTarget part D.Entries deserializer (⟦<SharedStr as Pooled>⟧.kept s)) }
+        ensures read { IfOk result (Read ⟦<Self as ArchivePointee>⟧ part D.Entries deserializer
+            ⟦<SharedStr as Archive>⟧) }
+        ensures handed_out { IfOk result (λ s. HandsOutTarget part D.Entries deserializer
+            (⟦<SharedStr as Pooled>⟧.kept s)) }
         ensures finished { D.keeps ≡ true → IfOk result
             (λ s. FinishesTarget part D.Entries deserializer (⟦<SharedStr as Pooled>⟧.kept s)) }
-        ensures refused { IfErr result (RefusesPart ⟦<Self as ArchivePointee>⟧ part D.Entries deserializer) }
+        ensures refused { IfErr result (RefusesPart ⟦<Self as ArchivePointee>⟧ part D.Entries
+            deserializer) }
     {
         let view: Ref<'_, ArchivedRc<ArchivedStr, F>> = Ref::at(part);
         PoolingExt::<SharedStr>::deserialize_shared(deserializer, alloc, view.get())
@@ -212,12 +228,14 @@ impl<
         deserializer: &mut D,
     ) -> Result<WeakShared<U>, Error>
         requires { IsPartOf ⟦<Self as ArchivePointee>⟧ part }
-        ensures read { IfOk result (Read ⟦<Self as ArchivePointee>⟧ part D.Entries deserializer ⟦<WeakShared<U> as Archive>⟧) }
+        ensures read { IfOk result (Read ⟦<Self as ArchivePointee>⟧ part D.Entries deserializer
+            ⟦<WeakShared<U> as Archive>⟧) }
         ensures handed_out { IfOk result (λ w. IfSome w.value (λ s.
             HandsOutTarget part D.Entries deserializer (⟦<Shared<U> as Pooled>⟧.kept s))) }
         ensures finished { D.keeps ≡ true → IfOk result (λ w. IfSome w.value (λ s.
             FinishesTarget part D.Entries deserializer (⟦<Shared<U> as Pooled>⟧.kept s))) }
-        ensures refused { IfErr result (RefusesPart ⟦<Self as ArchivePointee>⟧ part D.Entries deserializer) }
+        ensures refused { IfErr result (RefusesPart ⟦<Self as ArchivePointee>⟧ part D.Entries
+            deserializer) }
     {
         let view: Ref<'_, ArchivedRcWeak<T, F>> = Ref::at(part);
         let Some(value) = view.upgrade() else {

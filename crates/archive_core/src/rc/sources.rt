@@ -78,7 +78,8 @@ impl<'a, T: Archive> ArchiveUnsized for One<'a, T> {
 
     ghost one_length = { λ _ _. refl };
 
-    ghost planned = { λ o. one_planned T.Archived.definitions T.Archived.shape (T.keys o.value.now) (T.meaning o.value.now) (T.planned o.value.now) };
+    ghost planned = { λ o. one_planned T.Archived.definitions T.Archived.shape (T.keys o.value.now)
+        (T.meaning o.value.now) (T.planned o.value.now) };
 
     fn archived_metadata(&self) -> Result<(), Error> {
         Ok(())
@@ -100,16 +101,19 @@ impl<T: Archive> Archive for Shared<T> {
 
     ghost flat = { λ s r. rc_flat r T.Archived.pointee 0 };
 
-    ghost keys = { λ s. rc_keys s.key T.Archived.pointee 0 (T.meaning s.value.value) (T.keys s.value.value) };
+    ghost keys = { λ s. rc_keys s.key T.Archived.pointee 0 (T.meaning s.value.value)
+        (T.keys s.value.value) };
 
     ghost belongs = { λ _ _. ⊤ };
 
     ghost in_bulk = { None };
 
-    ghost keyed = { λ s. rc_keyed s.key T.Archived.pointee 0 (T.meaning s.value.value) (T.keys s.value.value) (T.keyed s.value.value) };
+    ghost keyed = { λ s. rc_keyed s.key T.Archived.pointee 0 (T.meaning s.value.value)
+        (T.keys s.value.value) (T.keyed s.value.value) };
 
-    ghost planned = { λ s. rc_one_planned T.Archived.definitions s.key T.Archived.pointee T.Archived.shape T.Archived.is_one
-        (T.meaning s.value.value) (T.keys s.value.value) (T.planned s.value.value) };
+    ghost planned = { λ s. rc_one_planned T.Archived.definitions s.key T.Archived.pointee
+        T.Archived.shape T.Archived.is_one (T.meaning s.value.value) (T.keys s.value.value)
+        (T.planned s.value.value) };
 
     #[tactic(auto, using(archive_types::proofs::SharedValues::SharedBytes::resolves_shared, archive_types::proofs::SharedValues::SharedBytes::shared_hindered_at))]
     fn resolve(
@@ -165,16 +169,19 @@ impl<T: Archive> ArchiveUnsized for Shared<T> {
 
     ghost meaning = { λ s. shared_value s.key };
 
-    ghost keys = { λ s. rc_keys s.key T.Archived.pointee 0 (T.meaning s.value.value) (T.keys s.value.value) };
+    ghost keys = { λ s. rc_keys s.key T.Archived.pointee 0 (T.meaning s.value.value)
+        (T.keys s.value.value) };
 
-    ghost keyed = { λ s. rc_keyed s.key T.Archived.pointee 0 (T.meaning s.value.value) (T.keys s.value.value) (T.keyed s.value.value) };
+    ghost keyed = { λ s. rc_keyed s.key T.Archived.pointee 0 (T.meaning s.value.value)
+        (T.keys s.value.value) (T.keyed s.value.value) };
 
     ghost one_length = { λ _ _. refl };
 
     ghost planned = { λ s. one_planned T.Archived.definitions (shared rc_flavor T.Archived.pointee)
-        (rc_keys s.key T.Archived.pointee 0 (T.meaning s.value.value) (T.keys s.value.value)) (shared_value s.key)
-        (rc_one_planned T.Archived.definitions s.key T.Archived.pointee T.Archived.shape T.Archived.is_one
-        (T.meaning s.value.value) (T.keys s.value.value) (T.planned s.value.value)) };
+        (rc_keys s.key T.Archived.pointee 0 (T.meaning s.value.value) (T.keys s.value.value))
+        (shared_value s.key) (rc_one_planned T.Archived.definitions s.key T.Archived.pointee
+        T.Archived.shape T.Archived.is_one (T.meaning s.value.value) (T.keys s.value.value)
+        (T.planned s.value.value)) };
 
     fn archived_metadata(&self) -> Result<(), Error> {
         Ok(())

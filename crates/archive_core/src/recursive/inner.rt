@@ -22,9 +22,11 @@ pub fn serialize_inner_slice<S: Writer + ResolverAlloc, T: Archive, B: Allocator
     serializer: &mut S,
 ) -> Result<VecResolver, Error>
     requires same_values { EachBelongs T.belongs values.now resolvers.items }
-    ensures listed { IfOk result (InnerListed T.Archive T.Archived.Portable values.now resolvers.items S.Keys serializer) }
+    ensures listed { IfOk result (InnerListed T.Archive T.Archived.Portable values.now
+        resolvers.items S.Keys serializer) }
     ensures goes_on { GoesOn (S.state serializer.old) (S.state serializer.new) }
-    ensures refused { IfErr result (InnerUnlisted T.Archive T.Archived.Portable values.now resolvers.items S.Keys serializer) }
+    ensures refused { IfErr result (InnerUnlisted T.Archive T.Archived.Portable values.now
+        resolvers.items S.Keys serializer) }
 {
     let alloc = serializer.resolver_alloc();
     serializer.align_for::<T::Archived>()?;

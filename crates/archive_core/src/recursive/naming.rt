@@ -16,7 +16,8 @@ use std::alloc::Global;
 #[tactic(auto, using(archive_check::proofs::format::AddedDefinitions::adding))]
 pub fn define_name(name: &'static str, definition: Expr, defs: &mut Defs) -> Result<(), Error>
     ensures added { OnOk result (AreAdded defs (defines name.now (shape_of definition))) }
-    ensures refused { IfErr result (ExplainsConflict (table_of defs.old) (defines name.now (shape_of definition))) }
+    ensures refused { IfErr result (ExplainsConflict (table_of defs.old)
+        (defines name.now (shape_of definition))) }
 {
     defs.add(name, definition)?;
     Ok(())

@@ -36,7 +36,8 @@ pub fn part_of_variant<'a, X: Choice, U: Portable>(
     requires viewed { IsPartOf X.ArchivePointee part }
     requires tag { part_tag part ≡ tag }
     requires part { payload_at X.Variants.variants tag i ≡ Some U.shape }
-    requires definitions { KnowsAlso (payload_definitions X.Variants.definitions tag i) U.definitions }
+    requires definitions { KnowsAlso (payload_definitions X.Variants.definitions tag i)
+        U.definitions }
     requires begins { X.Variants.begin tag i ≡ offset }
     ensures buffer { result.bytes.now ≡ part.entry.bytes.now }
     ensures position { result.pos ≡ part.entry.pos + offset }

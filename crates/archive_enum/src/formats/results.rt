@@ -48,12 +48,16 @@ impl<T: Portable, E: Portable> Portable for ArchivedResult<T, E> {
 
     ghost is_align = { greater_align T.layout.align E.layout.align T.is_align E.is_align };
 
-    ghost has_layout = { result_has_layout T.definitions E.definitions T.shape E.shape T.layout E.layout T.is_align E.is_align T.has_layout E.has_layout };
+    ghost has_layout = { result_has_layout T.definitions E.definitions T.shape E.shape T.layout
+        E.layout T.is_align E.is_align T.has_layout E.has_layout };
 
-    ghost no_others = { result_reached T.definitions E.definitions T.shape E.shape T.no_others E.no_others };
+    ghost no_others = { result_reached T.definitions E.definitions T.shape E.shape T.no_others
+        E.no_others };
 
-    ghost checks = { result_check T.definitions T.shape T.layout T.Check.definitions T.Check.shape T.Check.span T.Check.nameless E.definitions E.shape E.layout
-        E.Check.definitions E.Check.shape E.Check.span E.Check.nameless T.Check.direct E.Check.direct T.checks E.checks };
+    ghost checks = { result_check T.definitions T.shape T.layout T.Check.definitions T.Check.shape
+        T.Check.span T.Check.nameless E.definitions E.shape E.layout E.Check.definitions
+        E.Check.shape E.Check.span E.Check.nameless T.Check.direct E.Check.direct T.checks
+        E.checks };
 
     fn size() -> usize {
         size_of_choice::<ResultVariants<T, E>>()
@@ -81,7 +85,8 @@ impl<T: Portable, E: Portable> SelfCheck for ArchivedResult<T, E> {
 
     ghost span = { (result_layout T.layout E.layout).size };
 
-    ghost direct = { result_direct T.Check.direct E.Check.direct T.Check.nameless E.Check.nameless (result_layout T.layout E.layout).size };
+    ghost direct = { result_direct T.Check.direct E.Check.direct T.Check.nameless E.Check.nameless
+        (result_layout T.layout E.layout).size };
 
     ghost nameless = { T.Check.nameless && E.Check.nameless };
 

@@ -85,7 +85,8 @@ fn are_too_large(form: &Form, pointer: Pointing<'_>) -> bool
 
 // Whether a region of so many bytes, which a pointer leads to, doesn't lie within a range.
 fn is_outside(pointer: Pointing<'_>, size: usize, start: usize, end: usize) -> bool
-    ensures { IsTrue result → (t : ℕ) → pointer.entry.target ≡ pos t → start ≤ t → t + size ≤ end → ⊥ }
+    ensures { IsTrue result → (t : ℕ) → pointer.entry.target ≡ pos t → start ≤ t → t + size ≤ end
+        → ⊥ }
 {
     match place_of(pointer) {
         None => pointer.target < 0,

@@ -76,7 +76,8 @@ fn to_element<'a>(form: &Form, bytes: &[u8], from: Point<'a>, number: usize) -> 
 
 // To the key of an entry.
 fn to_key<'a>(form: &Form, bytes: &[u8], from: Point<'a>, number: usize) -> Option<Point<'a>>
-    ensures { IfSome result (StepsBetween form.now.schema bytes.now (step_is.Key number) from.entry) }
+    ensures { IfSome result (StepsBetween form.now.schema bytes.now (step_is.Key number)
+        from.entry) }
 {
     let map = map_of(from)?;
     let places = entry_from(form, bytes, from.at, map.0, map.1, number)?;
@@ -88,7 +89,8 @@ fn to_key<'a>(form: &Form, bytes: &[u8], from: Point<'a>, number: usize) -> Opti
 
 // To its value.
 fn to_value<'a>(form: &Form, bytes: &[u8], from: Point<'a>, number: usize) -> Option<Point<'a>>
-    ensures { IfSome result (StepsBetween form.now.schema bytes.now (step_is.Value number) from.entry) }
+    ensures { IfSome result (StepsBetween form.now.schema bytes.now (step_is.Value number)
+        from.entry) }
 {
     let map = map_of(from)?;
     let places = entry_from(form, bytes, from.at, map.0, map.1, number)?;

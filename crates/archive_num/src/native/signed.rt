@@ -37,7 +37,8 @@ impl Native for i8 {
 
     ghost legal_law = { λ x h. tt };
 
-    ghost leaf_law = { λ x h. number-leaf signed w8 (little_bytes 1 (cast_unsigned w8 x)) (length-little_bytes 1 (cast_unsigned w8 x)) };
+    ghost leaf_law = { λ x h. number-leaf signed w8 (little_bytes 1 (cast_unsigned w8 x))
+        (length-little_bytes 1 (cast_unsigned w8 x)) };
 
     ghost number_law = { λ x h. signed-number w8 x h };
 
@@ -108,7 +109,8 @@ impl Native for i16 {
 
     ghost legal_law = { λ x h. tt };
 
-    ghost leaf_law = { λ x h. number-leaf signed w16 (little_bytes 2 (cast_unsigned w16 x)) (length-little_bytes 2 (cast_unsigned w16 x)) };
+    ghost leaf_law = { λ x h. number-leaf signed w16 (little_bytes 2 (cast_unsigned w16 x))
+        (length-little_bytes 2 (cast_unsigned w16 x)) };
 
     ghost number_law = { λ x h. signed-number w16 x h };
 
@@ -179,7 +181,8 @@ impl Native for i32 {
 
     ghost legal_law = { λ x h. tt };
 
-    ghost leaf_law = { λ x h. number-leaf signed w32 (little_bytes 4 (cast_unsigned w32 x)) (length-little_bytes 4 (cast_unsigned w32 x)) };
+    ghost leaf_law = { λ x h. number-leaf signed w32 (little_bytes 4 (cast_unsigned w32 x))
+        (length-little_bytes 4 (cast_unsigned w32 x)) };
 
     ghost number_law = { λ x h. signed-number w32 x h };
 
@@ -250,7 +253,8 @@ impl Native for i64 {
 
     ghost legal_law = { λ x h. tt };
 
-    ghost leaf_law = { λ x h. number-leaf signed w64 (little_bytes 8 (cast_unsigned w64 x)) (length-little_bytes 8 (cast_unsigned w64 x)) };
+    ghost leaf_law = { λ x h. number-leaf signed w64 (little_bytes 8 (cast_unsigned w64 x))
+        (length-little_bytes 8 (cast_unsigned w64 x)) };
 
     ghost number_law = { λ x h. signed-number w64 x h };
 
@@ -321,7 +325,8 @@ impl Native for i128 {
 
     ghost legal_law = { λ x h. tt };
 
-    ghost leaf_law = { λ x h. number-leaf signed w128 (little_bytes 16 (cast_unsigned w128 x)) (length-little_bytes 16 (cast_unsigned w128 x)) };
+    ghost leaf_law = { λ x h. number-leaf signed w128 (little_bytes 16 (cast_unsigned w128 x))
+        (length-little_bytes 16 (cast_unsigned w128 x)) };
 
     ghost number_law = { λ x h. signed-number w128 x h };
 

@@ -36,7 +36,8 @@ impl Native for u8 {
 
     ghost legal_law = { λ x h. tt };
 
-    ghost leaf_law = { λ x h. number-leaf unsigned w8 (little_bytes 1 x) (length-little_bytes 1 x) };
+    ghost leaf_law = { λ x h. number-leaf unsigned w8 (little_bytes 1 x)
+        (length-little_bytes 1 x) };
 
     ghost number_law = { λ x h. unsigned-number w8 x h };
 
@@ -107,7 +108,8 @@ impl Native for u16 {
 
     ghost legal_law = { λ x h. tt };
 
-    ghost leaf_law = { λ x h. number-leaf unsigned w16 (little_bytes 2 x) (length-little_bytes 2 x) };
+    ghost leaf_law = { λ x h. number-leaf unsigned w16 (little_bytes 2 x)
+        (length-little_bytes 2 x) };
 
     ghost number_law = { λ x h. unsigned-number w16 x h };
 
@@ -178,7 +180,8 @@ impl Native for u32 {
 
     ghost legal_law = { λ x h. tt };
 
-    ghost leaf_law = { λ x h. number-leaf unsigned w32 (little_bytes 4 x) (length-little_bytes 4 x) };
+    ghost leaf_law = { λ x h. number-leaf unsigned w32 (little_bytes 4 x)
+        (length-little_bytes 4 x) };
 
     ghost number_law = { λ x h. unsigned-number w32 x h };
 
@@ -249,7 +252,8 @@ impl Native for u64 {
 
     ghost legal_law = { λ x h. tt };
 
-    ghost leaf_law = { λ x h. number-leaf unsigned w64 (little_bytes 8 x) (length-little_bytes 8 x) };
+    ghost leaf_law = { λ x h. number-leaf unsigned w64 (little_bytes 8 x)
+        (length-little_bytes 8 x) };
 
     ghost number_law = { λ x h. unsigned-number w64 x h };
 
@@ -320,7 +324,8 @@ impl Native for u128 {
 
     ghost legal_law = { λ x h. tt };
 
-    ghost leaf_law = { λ x h. number-leaf unsigned w128 (little_bytes 16 x) (length-little_bytes 16 x) };
+    ghost leaf_law = { λ x h. number-leaf unsigned w128 (little_bytes 16 x)
+        (length-little_bytes 16 x) };
 
     ghost number_law = { λ x h. unsigned-number w128 x h };
 

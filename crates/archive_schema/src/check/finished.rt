@@ -71,7 +71,8 @@ impl Checker<'_> {
         requires fits { ElementsFit self.now node count at }
         requires size { Takes self.now node size }
         ensures below { result ≤ count }
-        ensures passed { (k : ℕ) → k < result → LeadsNowhere self.now (C.positions context.now) node (at + k * size) }
+        ensures passed { (k : ℕ) → k < result → LeadsNowhere self.now (C.positions context.now) node
+            (at + k * size) }
     {
         let here = self.nodes[node];
         let NodeKind::Shared {
@@ -107,7 +108,8 @@ impl Checker<'_> {
         requires fits { ElementsFit self.now node count at }
         requires size { Takes self.now node size }
         ensures below { result ≤ count }
-        ensures passed { (k : ℕ) → k < result → LeadsNowhere self.now (C.positions context.now) node (at + k * size) }
+        ensures passed { (k : ℕ) → k < result → LeadsNowhere self.now (C.positions context.now) node
+            (at + k * size) }
     {
         let here = self.nodes[node];
         let NodeKind::Weak {
@@ -142,7 +144,8 @@ impl Checker<'_> {
         requires fits { ElementsFit self.now node count at }
         requires size { Takes self.now node size }
         ensures below { result ≤ count }
-        ensures passed { (k : ℕ) → k < result → LeadsNowhere self.now (C.positions context.now) node (at + k * size) }
+        ensures passed { (k : ℕ) → k < result → LeadsNowhere self.now (C.positions context.now) node
+            (at + k * size) }
     {
         let here = self.nodes[node];
         match here.kind {

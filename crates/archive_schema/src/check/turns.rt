@@ -47,7 +47,8 @@ impl Checker<'_> {
         requires within { at + pointer_bytes target ≤ length self.now.bytes.now }
         requires shared_type { shared_type < length self.now.shared_types.now }
         requires pointee { pointee < length self.now.nodes.now }
-        ensures follows { TurnFollows C.Context self.now shared_type target pointee at context work result }
+        ensures follows { TurnFollows C.Context self.now shared_type target pointee at context work
+            result }
         ensures pays { Pays C.Context self.now 4 context work }
     {
         let count = self.count(target, at);
@@ -84,7 +85,8 @@ impl Checker<'_> {
         context: &mut C,
     ) -> Option<()>
         requires plan { IsCheckable self.now }
-        requires ready { Ready self.now (C.state context.old) (PartsWork first last base ∷ list_of work.old) }
+        requires ready { Ready self.now (C.state context.old)
+            (PartsWork first last base ∷ list_of work.old) }
         ensures turn { Turn C.Context self.now (PartsWork first last base) context work result }
         ensures pays { Pays C.Context self.now (bytes_of_parts self.now first last) context work }
     {
@@ -107,7 +109,8 @@ impl Checker<'_> {
         context: &mut C,
     ) -> Option<()>
         requires plan { IsCheckable self.now }
-        requires ready { Ready self.now (C.state context.old) (PartWork node at ∷ list_of work.old) }
+        requires ready { Ready self.now (C.state context.old)
+            (PartWork node at ∷ list_of work.old) }
         ensures turn { Turn C.Context self.now (PartWork node at) context work result }
         ensures pays { Pays C.Context self.now (size_at self.now.nodes.now node) context work }
     {
@@ -219,7 +222,8 @@ impl Checker<'_> {
         requires known { root < length self.now.nodes.now }
         requires none_left { list_of work.old ≡ [] }
         ensures ok { OnSome result (PassesRoot C.Context self.now root at context) }
-        ensures err { IfNone result (StopsInRoot C.Context self.now root at context work.new.fault) }
+        ensures err { IfNone result (StopsInRoot C.Context self.now root at context
+            work.new.fault) }
         ensures levels { OnSome result (KeepsLevels (C.state context.old) (C.state context.new)) }
         ensures few_subtrees { FewPushed (C.state context.old) (C.state context.new) }
     {

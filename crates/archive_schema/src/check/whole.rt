@@ -32,9 +32,12 @@ impl Checker<'_> {
         requires packed { ArePacked self.now.nodes.now self.now.parts.now self.now.variants.now }
         requires below { (C.state context.old).end ≤ length self.now.bytes.now }
         requires known { root < length self.now.nodes.now }
-        ensures ok { OnOk result (WholeAccepts self.now root at (C.state context.old) (C.positions context.old)) }
-        ensures err { IfErr result (λ e. WholeRefuses self.now root at (C.state context.old) (C.positions context.old) e) }
-        ensures exact { WholeIsExact self.now root at (C.state context.old) (C.positions context.old) result }
+        ensures ok { OnOk result (WholeAccepts self.now root at (C.state context.old)
+            (C.positions context.old)) }
+        ensures err { IfErr result (λ e. WholeRefuses self.now root at (C.state context.old)
+            (C.positions context.old) e) }
+        ensures exact { WholeIsExact self.now root at (C.state context.old)
+            (C.positions context.old) result }
         ensures of_check { IfErr result (λ e. HasLevels (C.state context.old).depth → IsOfCheck e) }
         ensures levels { OnOk result (KeepsLevels (C.state context.old) (C.state context.new)) }
         ensures few_subtrees { FewPushed (C.state context.old) (C.state context.new) }

@@ -120,7 +120,8 @@ impl Worklist {
 
     /// The parts from `first` up to `last` are left, of what begins at `base`.
     pub fn parts(&mut self, first: usize, last: usize, base: usize) -> Option<()>
-        ensures some { OnSome result (list_of self.new ≡ Work.Parts first last base ∷ list_of self.old) }
+        ensures some { OnSome result (list_of self.new ≡ Work.Parts first last base ∷ list_of
+            self.old) }
         ensures none { IfNone result (self.new.fault ≡ Error.OutOfMemory) }
         ensures kept { IfNone result (list_of self.new ≡ list_of self.old) }
     {
@@ -130,7 +131,8 @@ impl Worklist {
     /// So many elements are left, the next of them at `at`.
     #[inline]
     pub fn elements(&mut self, node: usize, left: usize, at: usize) -> Option<()>
-        ensures some { OnSome result (list_of self.new ≡ Work.Elements node left at ∷ list_of self.old) }
+        ensures some { OnSome result (list_of self.new ≡ Work.Elements node left at ∷ list_of
+            self.old) }
         ensures none { IfNone result (self.new.fault ≡ Error.OutOfMemory) }
         ensures kept { IfNone result (list_of self.new ≡ list_of self.old) }
     {
@@ -146,7 +148,8 @@ impl Worklist {
         at: usize,
         later: bool,
     ) -> Option<()>
-        ensures some { OnSome result (list_of self.new ≡ Work.Entries key value left at later ∷ list_of self.old) }
+        ensures some { OnSome result (list_of self.new ≡ Work.Entries key value left at later ∷
+            list_of self.old) }
         ensures none { IfNone result (self.new.fault ≡ Error.OutOfMemory) }
         ensures kept { IfNone result (list_of self.new ≡ list_of self.old) }
     {
@@ -192,7 +195,8 @@ impl Worklist {
         at: usize,
         later: bool,
     ) -> Option<()>
-        ensures some { OnSome result (PutsMore (Work.Entries key value left at later) (left ≡ 0) self) }
+        ensures some { OnSome result (PutsMore (Work.Entries key value left at later) (left ≡ 0)
+            self) }
         ensures none { IfNone result (self.new.fault ≡ Error.OutOfMemory) }
         ensures kept { IfNone result (list_of self.new ≡ list_of self.old) }
     {
@@ -214,7 +218,8 @@ impl Worklist {
 
     /// The shared position `at` is to be finished.
     pub fn finish(&mut self, shared_type: usize, at: usize) -> Option<()>
-        ensures some { OnSome result (list_of self.new ≡ Work.Finish shared_type at ∷ list_of self.old) }
+        ensures some { OnSome result (list_of self.new ≡ Work.Finish shared_type at ∷ list_of
+            self.old) }
         ensures none { IfNone result (self.new.fault ≡ Error.OutOfMemory) }
         ensures kept { IfNone result (list_of self.new ≡ list_of self.old) }
     {

@@ -58,7 +58,8 @@ fn copy_shared_type(
     flavor: FlavorInfo,
     pointee: &Pointee,
 ) -> Result<usize, AllocError>
-    ensures { IfOk result (λ k. IsTypeCopied (lists_of plan.old) (lists_of plan.new) flavor (pointee_of pointee.now) k) }
+    ensures { IfOk result (λ k. IsTypeCopied (lists_of plan.old) (lists_of plan.new) flavor
+        (pointee_of pointee.now) k) }
 {
     let copy = pointee.clone()?;
     push_shared_type(plan, flavor, copy)
@@ -146,8 +147,8 @@ fn compile_map<'e>(
     queue: &mut Queue<'e>,
 ) -> Result<usize, AllocError>
     requires { CanWait names.now (shape_of value.now) }
-    ensures { IfOk result (IsCompiledAnywhere names.now (sorted_map (key_of key) (shape_of value.now))
-        queue plan) }
+    ensures { IfOk result (IsCompiledAnywhere names.now
+        (sorted_map (key_of key) (shape_of value.now)) queue plan) }
 {
     let pointee = wait(names, value, queue)?;
     push(
@@ -181,7 +182,8 @@ fn compile_counted<'e>(
     queue: &mut Queue<'e>,
 ) -> Result<usize, AllocError>
     requires { CanPoint names.now (pointee_of pointee.now) }
-    ensures { IfOk result (IsCountedAnywhere names.now weak (flavor_of flavor) (pointee_of pointee.now) queue plan) }
+    ensures { IfOk result (IsCountedAnywhere names.now weak (flavor_of flavor)
+        (pointee_of pointee.now) queue plan) }
 {
     let (target, node) = compile_pointee(names, pointee, plan, queue)?;
     let shared_type = copy_shared_type(plan, flavor, pointee)?;

@@ -102,7 +102,8 @@ pub fn push(
     kind: NodeKind,
 ) -> Result<usize, AllocError>
     requires { 0 < align }
-    ensures { IfOk result (λ j. IsPushed (lists_of plan.old) (lists_of plan.new) size align kind j) }
+    ensures { IfOk result (λ j. IsPushed (lists_of plan.old) (lists_of plan.new) size align kind
+        j) }
 {
     let node = plan.nodes.len();
     plan.nodes.push(Node { size, align, kind })?;
@@ -115,7 +116,8 @@ pub fn push_shared_type(
     flavor: FlavorInfo,
     pointee: Pointee,
 ) -> Result<usize, AllocError>
-    ensures { IfOk result (IsTypeAdded (lists_of plan.old) (lists_of plan.new) (type_of flavor pointee)) }
+    ensures { IfOk result (IsTypeAdded (lists_of plan.old) (lists_of plan.new)
+        (type_of flavor pointee)) }
 {
     let shared_type = plan.shared_types.len();
     plan.shared_types.push(SharedType { flavor, pointee })?;
@@ -141,7 +143,8 @@ pub fn push_laid(
     kind: NodeKind,
 ) -> Result<usize, AllocError>
     requires { 0 < align }
-    ensures { IfOk result (λ j. IsMade (lists_of plan.old) (lists_of plan.new) size align free kind j) }
+    ensures { IfOk result (λ j. IsMade (lists_of plan.old) (lists_of plan.new) size align free kind
+        j) }
 {
     if is_nothing(free, size) {
         return push(plan, size, align, NodeKind::Free);
@@ -241,7 +244,8 @@ pub fn extend_parts(plan: &mut Plan, row: &LaidParts) -> Result<LaidRange, Alloc
 
 /// Laid variants, behind those of a plan.
 pub fn extend_variants(plan: &mut Plan, spans: &LaidVariants) -> Result<LaidRange, AllocError>
-    ensures { IfOk result (λ laid. VariantsLaid (lists_of plan.old) (lists_of plan.new) spans.now laid) }
+    ensures { IfOk result (λ laid. VariantsLaid (lists_of plan.old) (lists_of plan.new) spans.now
+        laid) }
 {
     let first = plan.variants.len();
     plan.variants.extend_from_slice(&spans.items)?;

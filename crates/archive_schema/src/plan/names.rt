@@ -42,7 +42,8 @@ fn take(defs: &mut Vec<Def>, name: &str) -> Option<Def>
 #[cycle(missing)]
 #[tactic(auto, using(archive_check::proofs::format::Views::views))]
 pub(crate) fn missing(expr: &Expr, defs: &[Def], far: bool) -> Option<&'static str>
-    ensures { option_map (λ name. name.now) result ≡ missing_in far (entries_of defs.now) (shape_of expr.now) }
+    ensures { option_map (λ name. name.now) result ≡ missing_in far (entries_of defs.now)
+        (shape_of expr.now) }
 {
     match expr {
         Expr::Record(parts) => missing_part(parts, defs, far),
@@ -72,7 +73,8 @@ pub(crate) fn missing(expr: &Expr, defs: &[Def], far: bool) -> Option<&'static s
 #[cycle(missing)]
 #[tactic(auto, using(archive_check::proofs::format::Views::views))]
 fn missing_pointee(pointee: &Pointee, defs: &[Def], far: bool) -> Option<&'static str>
-    ensures { option_map (λ name. name.now) result ≡ pointee_missing far (entries_of defs.now) (pointee_of pointee.now) }
+    ensures { option_map (λ name. name.now) result ≡ pointee_missing far (entries_of defs.now)
+        (pointee_of pointee.now) }
 {
     match pointee {
         Pointee::One(expr) | Pointee::Run(expr) => missing(expr, defs, far),
@@ -83,7 +85,8 @@ fn missing_pointee(pointee: &Pointee, defs: &[Def], far: bool) -> Option<&'stati
 #[cycle(missing)]
 #[tactic(auto, using(archive_check::proofs::format::Views::views))]
 fn missing_part(parts: &[Expr], defs: &[Def], far: bool) -> Option<&'static str>
-    ensures { option_map (λ name. name.now) result ≡ parts_missing far (entries_of defs.now) (shapes_in parts.now) }
+    ensures { option_map (λ name. name.now) result ≡ parts_missing far (entries_of defs.now)
+        (shapes_in parts.now) }
 {
     for i in 0..parts.len() {
         if let Some(name) = missing(&parts[i], defs, far) {
@@ -96,7 +99,8 @@ fn missing_part(parts: &[Expr], defs: &[Def], far: bool) -> Option<&'static str>
 #[cycle(missing)]
 #[tactic(auto, using(archive_check::proofs::format::Views::views))]
 fn missing_variant(variants: &[Vec<Expr>], defs: &[Def], far: bool) -> Option<&'static str>
-    ensures { option_map (λ name. name.now) result ≡ variants_missing far (entries_of defs.now) (variants_in variants.now) }
+    ensures { option_map (λ name. name.now) result ≡ variants_missing far (entries_of defs.now)
+        (variants_in variants.now) }
 {
     for i in 0..variants.len() {
         if let Some(name) = missing_part(&variants[i], defs, far) {
@@ -121,7 +125,8 @@ fn missing_at(root: &Expr, defs: &[Def], at: usize) -> Option<&'static str>
 // be cleared at each call, where most shapes have no name.
 #[inline(never)]
 fn gather(name: &str, rest: &mut Vec<Def>, found: &mut Vec<Def>) -> Result<(), Error>
-    ensures ok { OnOk result (IsGathered name.now rest.old.items found.old.items rest.new.items found.new.items) }
+    ensures ok { OnOk result (IsGathered name.now rest.old.items found.old.items rest.new.items
+        found.new.items) }
     ensures err { IfErr result (ExplainsUndefined (entries_of rest.old.items) name.now) }
 {
     let Some(def) = take(rest, name) else {
@@ -134,7 +139,8 @@ fn gather(name: &str, rest: &mut Vec<Def>, found: &mut Vec<Def>) -> Result<(), E
 /// The definitions that the root reaches, each once, taken out of those given. Fails with
 /// `ShapeConflict` if one of them is missing, and with `OutOfMemory` if memory is refused.
 pub fn collect(alloc: Global, root: &Expr, rest: &mut Vec<Def>) -> Result<Vec<Def>, Error>
-    ensures ok { IfOk result (λ found. Collected (entries_of rest.old.items) (shape_of root.now) (entries_of found.items)) }
+    ensures ok { IfOk result (λ found. Collected (entries_of rest.old.items) (shape_of root.now)
+        (entries_of found.items)) }
     ensures err { IfErr result (ExplainsMissing (entries_of rest.old.items) (shape_of root.now)) }
 {
     let mut found = Vec::new(alloc);
@@ -163,7 +169,8 @@ fn next_ready(placed: &[Def], rest: &[Def]) -> Option<usize>
 // Takes the first definition that holds only placed names out of a list, and places it. Never inlined, as `gather`.
 #[inline(never)]
 fn order_next(placed: &mut Vec<Def>, rest: &mut Vec<Def>) -> Result<(), Error>
-    ensures ok { OnOk result (IsOrderedNext placed.old.items rest.old.items placed.new.items rest.new.items) }
+    ensures ok { OnOk result (IsOrderedNext placed.old.items rest.old.items placed.new.items
+        rest.new.items) }
     ensures err { IfErr result (ExplainsNoneReady (entries_of placed.old.items) rest.old.items) }
 {
     let Some(i) = next_ready(placed, rest) else {
@@ -178,7 +185,8 @@ fn order_next(placed: &mut Vec<Def>, rest: &mut Vec<Def>) -> Result<(), Error>
 /// refused.
 pub fn in_order(alloc: Global, rest: &mut Vec<Def>) -> Result<Vec<Def>, Error>
     requires { Complete (entries_of rest.old.items) }
-    ensures ok { IfOk result (λ placed. Arranged (entries_of rest.old.items) (entries_of placed.items)) }
+    ensures ok { IfOk result (λ placed. Arranged (entries_of rest.old.items)
+        (entries_of placed.items)) }
     ensures err { IfErr result (ExplainsHeld (entries_of rest.old.items)) }
 {
     let mut placed = Vec::new(alloc);

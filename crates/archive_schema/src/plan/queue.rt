@@ -47,7 +47,8 @@ pub fn wait<'e>(
     queue: &mut Queue<'e>,
 ) -> Result<usize, AllocError>
     requires { CanWait names.now (shape_of expr.now) }
-    ensures { IfOk result (λ j. IsQueued names.now (shape_of expr.now) (waits_of queue.old) (waits_of queue.new) j) }
+    ensures { IfOk result (λ j. IsQueued names.now (shape_of expr.now) (waits_of queue.old)
+        (waits_of queue.new) j) }
 {
     if let Expr::Named(name) = expr {
         return Ok(known_node(names, name));

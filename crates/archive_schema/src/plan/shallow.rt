@@ -37,7 +37,8 @@ fn are_marked(marks: &[bool], parts: &[Part]) -> bool
 // Whether the parts from `first` up to `last` are there, and all marked.
 fn is_span_shallow(marks: &[bool], parts: &[Part], first: usize, last: usize) -> bool
     ensures sound { IsTrue result → IsShallowSpan marks.now parts.now first last }
-    ensures found { HasRange parts.now first last → IsShallowSpan marks.now parts.now first last → IsTrue result }
+    ensures found { HasRange parts.now first last → IsShallowSpan marks.now parts.now first last
+        → IsTrue result }
 {
     match parts.get(first..last) {
         Some(parts) => are_marked(marks, parts),
@@ -48,7 +49,8 @@ fn is_span_shallow(marks: &[bool], parts: &[Part], first: usize, last: usize) ->
 // Whether the parts of all these variants are there, and marked.
 fn are_shallow(marks: &[bool], parts: &[Part], variants: &[Span]) -> bool
     ensures sound { IsTrue result → AreShallowVariants marks.now parts.now variants.now }
-    ensures found { HasSpans parts.now variants.now → AreShallowVariants marks.now parts.now variants.now → IsTrue result }
+    ensures found { HasSpans parts.now variants.now → AreShallowVariants marks.now parts.now
+        variants.now → IsTrue result }
 {
     for variant in variants {
         if !is_span_shallow(marks, parts, variant.first, variant.last) {
@@ -61,7 +63,8 @@ fn are_shallow(marks: &[bool], parts: &[Part], variants: &[Span]) -> bool
 // Whether a node that does this is shallow, where those that it holds and that are shallow are marked.
 fn is_shallow(plan: &Plan, marks: &[bool], kind: NodeKind) -> bool
     ensures sound { IsTrue result → IsTrue (shallow_in plan.now marks.now kind) }
-    ensures found { HasItsIndexes plan.now kind → IsTrue (shallow_in plan.now marks.now kind) → IsTrue result }
+    ensures found { HasItsIndexes plan.now kind → IsTrue (shallow_in plan.now marks.now kind)
+        → IsTrue result }
 {
     match kind {
         NodeKind::Free | NodeKind::Leaf(_) | NodeKind::Str { .. } => true,

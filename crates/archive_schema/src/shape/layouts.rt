@@ -79,7 +79,8 @@ pub fn extent_of(schema: &Schema, expr: &Expr) -> Extent
 #[cycle(extent)]
 #[tactic(auto, using(archive_check::proofs::format::Views::views))]
 fn extent_of_parts(schema: &Schema, parts: &[Expr], start: usize) -> Extent
-    requires { parts_missing false (entries_of schema.now.definitions.items) (shapes_in parts.now) ≡ None }
+    requires { parts_missing false (entries_of schema.now.definitions.items) (shapes_in parts.now)
+        ≡ None }
     ensures { PartsHaveExtent schema.now start (shapes_in parts.now) result }
 {
     let mut extent = Extent::new(start);
@@ -94,7 +95,8 @@ fn extent_of_parts(schema: &Schema, parts: &[Expr], start: usize) -> Extent
 #[cycle(extent)]
 #[tactic(auto, using(archive_check::proofs::format::Views::views))]
 fn extent_of_variants(schema: &Schema, variants: &[Vec<Expr>]) -> Extent
-    requires { variants_missing false (entries_of schema.now.definitions.items) (variants_in variants.now) ≡ None }
+    requires { variants_missing false (entries_of schema.now.definitions.items)
+        (variants_in variants.now) ≡ None }
     ensures { VariantsHaveExtent schema.now (variants_in variants.now) result }
 {
     let mut extent = Extent::new(1);

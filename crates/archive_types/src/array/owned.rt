@@ -89,7 +89,8 @@ impl<T: Archive, const N: usize> Archive for OwnedArray<T, N> {
 
     ghost keyed = { array_keyed N T.keys T.meaning T.keyed };
 
-    ghost planned = { array_planned N T.Archived.definitions T.Archived.shape T.keys T.meaning T.planned };
+    ghost planned = { array_planned N T.Archived.definitions T.Archived.shape T.keys T.meaning
+        T.planned };
 
     #[inline(always)]
     fn resolve(
@@ -97,7 +98,8 @@ impl<T: Archive, const N: usize> Archive for OwnedArray<T, N> {
         resolver: Vec<T::Resolver>,
         place: Place<'_, [T::Archived; N]>,
     ) -> Result<(), Error>
-        requires zeroed { ZeroedPlace ⟦<Self::Archived as Portable>⟧.layout.size place.pos place.bytes.now }
+        requires zeroed { ZeroedPlace ⟦<Self::Archived as Portable>⟧.layout.size place.pos
+            place.bytes.now }
         requires same_value { EachBelongs T.belongs self.now resolver.items }
         ensures { ResolvesAs ⟦<Self::Archived as Portable>⟧ place
             (⟦<Self as Archive>⟧.flat self.now resolver) result }

@@ -23,8 +23,10 @@ impl<T: Portable + Deserialize<U, D>, U: Archive + Drop, D: Entries, const N: us
         deserializer: &mut D,
     ) -> Result<OwnedArray<U, N>, Error>
         requires { IsPartOf ⟦<Self as ArchivePointee>⟧ part }
-        ensures read { IfOk result (Read ⟦<Self as ArchivePointee>⟧ part D.Entries deserializer ⟦<OwnedArray<U, N> as Archive>⟧) }
-        ensures refused { IfErr result (RefusesPart ⟦<Self as ArchivePointee>⟧ part D.Entries deserializer) }
+        ensures read { IfOk result (Read ⟦<Self as ArchivePointee>⟧ part D.Entries deserializer
+            ⟦<OwnedArray<U, N> as Archive>⟧) }
+        ensures refused { IfErr result (RefusesPart ⟦<Self as ArchivePointee>⟧ part D.Entries
+            deserializer) }
     {
         let items = read_each::<T, U, D>(alloc, part, N, deserializer)?;
         Ok(OwnedArray { items })

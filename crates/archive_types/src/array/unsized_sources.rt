@@ -23,7 +23,8 @@ impl<T: Archive, const N: usize> ArchiveUnsized for [T; N] {
 
     ghost one_length = { λ _ _. refl };
 
-    ghost planned = { λ v. one_planned _ _ _ _ (array_planned N T.Archived.definitions T.Archived.shape T.keys T.meaning T.planned v) };
+    ghost planned = { λ v. one_planned _ _ _ _ (array_planned N T.Archived.definitions
+        T.Archived.shape T.keys T.meaning T.planned v) };
 
     #[inline(always)]
     fn archived_metadata(&self) -> Result<(), Error> {
@@ -51,7 +52,8 @@ impl<T: Archive, const N: usize> ArchiveUnsized for OwnedArray<T, N> {
 
     ghost one_length = { λ _ _. refl };
 
-    ghost planned = { λ v. one_planned _ _ _ _ (array_planned N T.Archived.definitions T.Archived.shape T.keys T.meaning T.planned v) };
+    ghost planned = { λ v. one_planned _ _ _ _ (array_planned N T.Archived.definitions
+        T.Archived.shape T.keys T.meaning T.planned v) };
 
     #[inline(always)]
     fn archived_metadata(&self) -> Result<(), Error> {

@@ -94,8 +94,8 @@ fn resolve_box<T: Portable>(
     bytes: &mut [u8],
 ) -> Result<(), Error>
     requires sized { length bytes.old ≡ 4 }
-    ensures outcome { ResolvesTo T.definitions (boxed (one T.shape)) (box_flat (one T.shape) 0 resolver)
-        pos bytes.old bytes.new result }
+    ensures outcome { ResolvesTo T.definitions (boxed (one T.shape))
+        (box_flat (one T.shape) 0 resolver) pos bytes.old bytes.new result }
     ensures sized { length bytes.new ≡ 4 }
 {
     ArchivedBox::<T>::resolve_from_raw_parts(resolver, 0, Place::new(pos, bytes))

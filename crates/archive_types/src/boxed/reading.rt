@@ -23,8 +23,10 @@ impl<T: PortablePointee + Deserialize<U, D>, U: Archive + Drop, D: Entries> Dese
         deserializer: &mut D,
     ) -> Result<Box<U>, Error>
         requires { IsPartOf ⟦<Self as ArchivePointee>⟧ part }
-        ensures read { IfOk result (Read ⟦<Self as ArchivePointee>⟧ part D.Entries deserializer ⟦<Box<U> as Archive>⟧) }
-        ensures refused { IfErr result (RefusesPart ⟦<Self as ArchivePointee>⟧ part D.Entries deserializer) }
+        ensures read { IfOk result (Read ⟦<Self as ArchivePointee>⟧ part D.Entries deserializer
+            ⟦<Box<U> as Archive>⟧) }
+        ensures refused { IfErr result (RefusesPart ⟦<Self as ArchivePointee>⟧ part D.Entries
+            deserializer) }
     {
         let view: Ref<'_, ArchivedBox<T>> = Ref::at(part);
         let value = T::deserialize_part(alloc, view.get().part(), deserializer)?;

@@ -69,10 +69,14 @@ impl<T: Archive> Archive for BoxSlice<T> {
 
     ghost in_bulk = { None };
 
-    ghost keyed = { λ b. box_keyed (each_keys T.keys b.items.items) (list (each_meaning T.meaning b.items.items)) (each_keyed T.keys T.meaning T.keyed b.items.items) };
+    ghost keyed = { λ b. box_keyed (each_keys T.keys b.items.items)
+        (list (each_meaning T.meaning b.items.items)) (each_keyed T.keys T.meaning T.keyed
+        b.items.items) };
 
-    ghost planned = { λ b. box_planned T.Archived.definitions (run T.Archived.shape) (length b.items.items) (each_keys T.keys b.items.items) (list (each_meaning T.meaning b.items.items))
-        (slice_planned T.Archived.definitions T.Archived.shape T.keys T.meaning T.planned b.items.items) };
+    ghost planned = { λ b. box_planned T.Archived.definitions (run T.Archived.shape)
+        (length b.items.items) (each_keys T.keys b.items.items)
+        (list (each_meaning T.meaning b.items.items)) (slice_planned T.Archived.definitions
+        T.Archived.shape T.keys T.meaning T.planned b.items.items) };
 
     #[inline(always)]
     fn resolve(
@@ -118,11 +122,12 @@ impl<S: Writer + ResolverAlloc, T: Serialize<S>> Serialize<S> for BoxSlice<T> {
     #[tactic(auto, using(crate::proofs::Planning::Owners::serialized_box, crate::proofs::Planning::Owners::box_refused, crate::proofs::Planning::Owners::far_box_refused))]
     #[inline(always)]
     fn serialize(&self, serializer: &mut S) -> Result<BoxResolver, Error>
-        ensures outcome { Serializes ⟦<Self as Archive>⟧ ⟦<Self::Archived as Portable>⟧ self.now S.Keys serializer
-            result }
-        ensures too_long { 4294967295 < length self.now.items.items → AtOnce result LengthTooLarge S.Keys serializer }
-        ensures in_bulk { OwnedInBulk T.in_bulk S.position S.Keys serializer S.takes_memory T.Archived.layout
-            self.now.items.items result }
+        ensures outcome { Serializes ⟦<Self as Archive>⟧ ⟦<Self::Archived as Portable>⟧ self.now
+            S.Keys serializer result }
+        ensures too_long { 4294967295 < length self.now.items.items
+            → AtOnce result LengthTooLarge S.Keys serializer }
+        ensures in_bulk { OwnedInBulk T.in_bulk S.position S.Keys serializer S.takes_memory
+            T.Archived.layout self.now.items.items result }
     {
         let pos = serialize_slice(self.items.as_slice(), serializer)?;
         let pos = position_of(pos)?;
@@ -140,13 +145,18 @@ impl<T: Archive> ArchiveUnsized for BoxSlice<T> {
 
     ghost keys = { λ b. each_keys T.keys b.items.items };
 
-    ghost keyed = { λ b. box_keyed (each_keys T.keys b.items.items) (list (each_meaning T.meaning b.items.items)) (each_keyed T.keys T.meaning T.keyed b.items.items) };
+    ghost keyed = { λ b. box_keyed (each_keys T.keys b.items.items)
+        (list (each_meaning T.meaning b.items.items)) (each_keyed T.keys T.meaning T.keyed
+        b.items.items) };
 
     ghost one_length = { λ _ _. refl };
 
-    ghost planned = { λ b. one_planned T.Archived.definitions (boxed (run T.Archived.shape)) (each_keys T.keys b.items.items) (box (list (each_meaning T.meaning b.items.items)))
-        (box_planned T.Archived.definitions (run T.Archived.shape) (length b.items.items) (each_keys T.keys b.items.items) (list (each_meaning T.meaning b.items.items))
-        (slice_planned T.Archived.definitions T.Archived.shape T.keys T.meaning T.planned b.items.items)) };
+    ghost planned = { λ b. one_planned T.Archived.definitions (boxed (run T.Archived.shape))
+        (each_keys T.keys b.items.items) (box (list (each_meaning T.meaning b.items.items)))
+        (box_planned T.Archived.definitions (run T.Archived.shape) (length b.items.items)
+        (each_keys T.keys b.items.items) (list (each_meaning T.meaning b.items.items))
+        (slice_planned T.Archived.definitions T.Archived.shape T.keys T.meaning T.planned
+        b.items.items)) };
 
     #[inline(always)]
     fn archived_metadata(&self) -> Result<(), Error> {
@@ -169,8 +179,10 @@ impl<T: Portable + Deserialize<U, D>, U: Archive + Drop, D: Entries> Deserialize
         deserializer: &mut D,
     ) -> Result<BoxSlice<U>, Error>
         requires { IsPartOf ⟦<Self as ArchivePointee>⟧ part }
-        ensures read { IfOk result (Read ⟦<Self as ArchivePointee>⟧ part D.Entries deserializer ⟦<BoxSlice<U> as Archive>⟧) }
-        ensures refused { IfErr result (RefusesPart ⟦<Self as ArchivePointee>⟧ part D.Entries deserializer) }
+        ensures read { IfOk result (Read ⟦<Self as ArchivePointee>⟧ part D.Entries deserializer
+            ⟦<BoxSlice<U> as Archive>⟧) }
+        ensures refused { IfErr result (RefusesPart ⟦<Self as ArchivePointee>⟧ part D.Entries
+            deserializer) }
     {
         let view: Ref<'_, ArchivedBox<ArchivedSlice<T>>> = Ref::at(part);
         let items = read_elements::<T, U, D>(alloc, view.get().part(), deserializer)?;
@@ -193,9 +205,11 @@ impl Archive for BoxStr {
 
     ghost in_bulk = { None };
 
-    ghost keyed = { λ b. box_keyed [] (text_value (string_bytes b.text)) (text_keyed (string_bytes b.text)) };
+    ghost keyed = { λ b. box_keyed [] (text_value (string_bytes b.text))
+        (text_keyed (string_bytes b.text)) };
 
-    ghost planned = { λ b. box_planned no_definition text_pointee (length (string_bytes b.text)) [] (text_value (string_bytes b.text)) (text_planned no_definition [] (string_bytes b.text)) };
+    ghost planned = { λ b. box_planned no_definition text_pointee (length (string_bytes b.text)) []
+        (text_value (string_bytes b.text)) (text_planned no_definition [] (string_bytes b.text)) };
 
     #[inline(always)]
     fn resolve(
@@ -207,7 +221,8 @@ impl Archive for BoxStr {
         requires same_value { length (string_bytes self.now.text) ≤ 4294967295 }
         ensures outcome { ResolvesAs ⟦<Self::Archived as Portable>⟧ place
             (⟦<Self as Archive>⟧.flat self.now resolver) result }
-        ensures written { OnOk result (PointsTo place true resolver (length (string_bytes self.now.text))) }
+        ensures written { OnOk result (PointsTo place true resolver
+            (length (string_bytes self.now.text))) }
         ensures cause { IfErr result (λ e. IsTooFar e (distance place.entry.pos resolver)) }
     {
         let Place { bytes, pos, .. } = place;
@@ -240,9 +255,10 @@ impl<S: Writer + ResolverAlloc> Serialize<S> for BoxStr {
     #[tactic(auto, using(crate::proofs::Planning::Owners::serialized_box, crate::proofs::Planning::Owners::box_refused, crate::proofs::Planning::Owners::far_box_refused))]
     #[inline(always)]
     fn serialize(&self, serializer: &mut S) -> Result<BoxResolver, Error>
-        ensures outcome { Serializes ⟦<Self as Archive>⟧ ⟦<Self::Archived as Portable>⟧ self.now S.Keys serializer
-            result }
-        ensures too_long { 4294967295 < length (string_bytes self.now.text) → AtOnce result LengthTooLarge S.Keys serializer }
+        ensures outcome { Serializes ⟦<Self as Archive>⟧ ⟦<Self::Archived as Portable>⟧ self.now
+            S.Keys serializer result }
+        ensures too_long { 4294967295 < length (string_bytes self.now.text)
+            → AtOnce result LengthTooLarge S.Keys serializer }
     {
         let pos = Text {
             text: self.text.as_str(),
@@ -263,12 +279,15 @@ impl ArchiveUnsized for BoxStr {
 
     ghost keys = { λ _. [] };
 
-    ghost keyed = { λ b. box_keyed [] (text_value (string_bytes b.text)) (text_keyed (string_bytes b.text)) };
+    ghost keyed = { λ b. box_keyed [] (text_value (string_bytes b.text))
+        (text_keyed (string_bytes b.text)) };
 
     ghost one_length = { λ _ _. refl };
 
-    ghost planned = { λ b. one_planned no_definition (boxed text_pointee) [] (box (text_value (string_bytes b.text)))
-        (box_planned no_definition text_pointee (length (string_bytes b.text)) [] (text_value (string_bytes b.text)) (text_planned no_definition [] (string_bytes b.text))) };
+    ghost planned = { λ b. one_planned no_definition (boxed text_pointee) []
+        (box (text_value (string_bytes b.text))) (box_planned no_definition text_pointee
+        (length (string_bytes b.text)) [] (text_value (string_bytes b.text))
+        (text_planned no_definition [] (string_bytes b.text))) };
 
     #[inline(always)]
     fn archived_metadata(&self) -> Result<(), Error> {
@@ -290,7 +309,8 @@ impl<D: Entries> Deserialize<BoxStr, D> for ArchivedBox<ArchivedStr> {
         deserializer: &mut D,
     ) -> Result<BoxStr, Error>
         requires { IsPartOf ⟦<Self as ArchivePointee>⟧ part }
-        ensures read { IfOk result (Read ⟦<Self as ArchivePointee>⟧ part D.Entries deserializer ⟦<BoxStr as Archive>⟧) }
+        ensures read { IfOk result (Read ⟦<Self as ArchivePointee>⟧ part D.Entries deserializer
+            ⟦<BoxStr as Archive>⟧) }
         ensures refused { IfErr result (λ e. e ≡ OutOfMemory) }
     {
         let view: Ref<'_, ArchivedBox<ArchivedStr>> = Ref::at(part);

@@ -89,7 +89,8 @@ impl<T: PortablePointee> ArchivedBox<T> {
     ) -> Result<(), Error>
         requires sized { length place.bytes.now ≡ pointer_size T.pointee }
         requires plain { has_length T.pointee ≡ false → count ≡ 0 }
-        ensures outcome { ResolvesAs ⟦<Self as Portable>⟧ place (box_flat T.pointee count resolver) result }
+        ensures outcome { ResolvesAs ⟦<Self as Portable>⟧ place (box_flat T.pointee count resolver)
+            result }
         ensures written { OnOk result (PointsTo place (has_length T.pointee) resolver count) }
         ensures fits { OnOk result (FitsSigned w32 (distance place.entry.pos resolver)) }
         ensures cause { IfErr result (IsTooFarFrom place resolver) }
@@ -112,7 +113,8 @@ impl<T: PortablePointee> ArchivedBox<T> {
         ensures resolved { OnOk result
             (Resolves T.definitions place.entry.pos place.exit.0.now (boxed T.pointee)
             (box_flat T.pointee (U.source_length value.now) resolver)) }
-        ensures written { OnOk result (PointsTo place (has_length T.pointee) resolver (U.source_length value.now)) }
+        ensures written { OnOk result (PointsTo place (has_length T.pointee) resolver
+            (U.source_length value.now)) }
         ensures refused { IfErr result (IsNoPointer place resolver (U.source_length value.now)) }
     {
         let Place { bytes, pos, .. } = place;
@@ -139,7 +141,9 @@ impl<T: Archive> Archive for Box<T> {
 
     ghost keyed = { λ b. box_keyed (T.keys b.value) (T.meaning b.value) (T.keyed b.value) };
 
-    ghost planned = { λ b. boxed_one_planned T.Archived.definitions T.Archived.pointee T.Archived.shape T.Archived.is_one (T.keys b.value) (T.meaning b.value) (T.planned b.value) };
+    ghost planned = { λ b. boxed_one_planned T.Archived.definitions T.Archived.pointee
+        T.Archived.shape T.Archived.is_one (T.keys b.value) (T.meaning b.value)
+        (T.planned b.value) };
 
     #[inline(always)]
     fn resolve(
@@ -200,8 +204,10 @@ impl<T: Archive> ArchiveUnsized for Box<T> {
 
     ghost one_length = { λ _ _. refl };
 
-    ghost planned = { λ b. one_planned T.Archived.definitions (boxed T.Archived.pointee) (T.keys b.value) (box (T.meaning b.value))
-        (boxed_one_planned T.Archived.definitions T.Archived.pointee T.Archived.shape T.Archived.is_one (T.keys b.value) (T.meaning b.value) (T.planned b.value)) };
+    ghost planned = { λ b. one_planned T.Archived.definitions (boxed T.Archived.pointee)
+        (T.keys b.value) (box (T.meaning b.value)) (boxed_one_planned T.Archived.definitions
+        T.Archived.pointee T.Archived.shape T.Archived.is_one (T.keys b.value) (T.meaning b.value)
+        (T.planned b.value)) };
 
     #[inline(always)]
     fn archived_metadata(&self) -> Result<(), Error> {

@@ -27,11 +27,14 @@ impl<N: Native> Ordered for LittleEndian<N> {
 
     ghost total = { on_total (λ v. N.number_of (bytes_at v.bytes v.pos N.byte_count)) N.total };
 
-    ghost respects = { λ v w. level_fed N.cmp N.hash_input N.matches_eq N.respects_eq (N.number_of (bytes_at v.bytes v.pos N.byte_count)) (N.number_of (bytes_at w.bytes w.pos N.byte_count)) };
+    ghost respects = { λ v w. level_fed N.cmp N.hash_input N.matches_eq N.respects_eq
+        (N.number_of (bytes_at v.bytes v.pos N.byte_count))
+        (N.number_of (bytes_at w.bytes w.pos N.byte_count)) };
 
     ghost level = { level_values N.number_of N.cmp N.byte_count N.total };
 
-    ghost by_value = { leaves_ordered N.value_of N.number_of N.cmp no_definition N.kind N.byte_count N.size_law N.value_law N.order_law };
+    ghost by_value = { leaves_ordered N.value_of N.number_of N.cmp no_definition N.kind N.byte_count
+        N.size_law N.value_law N.order_law };
 
     fn compare(a: RawView<'_>, b: RawView<'_>) -> Ordering {
         let a: Ref<'_, LittleEndian<N>> = Ref::at(a);
@@ -58,11 +61,16 @@ impl<N: Integer> Ordered for NonZero<N> {
 
     ghost total = { on_total (λ v. N.number_of (bytes_at v.bytes v.pos N.byte_count)) N.total };
 
-    ghost respects = { λ v w. level_fed N.cmp N.hash_input N.matches_eq N.respects_eq (N.number_of (bytes_at v.bytes v.pos N.byte_count)) (N.number_of (bytes_at w.bytes w.pos N.byte_count)) };
+    ghost respects = { λ v w. level_fed N.cmp N.hash_input N.matches_eq N.respects_eq
+        (N.number_of (bytes_at v.bytes v.pos N.byte_count))
+        (N.number_of (bytes_at w.bytes w.pos N.byte_count)) };
 
     ghost level = { level_values N.number_of N.cmp N.byte_count N.total };
 
-    ghost by_value = { leaves_ordered N.value_of N.number_of N.cmp no_definition (non_zero N.sign N.width) N.byte_count (non_zero_size N.sign N.width N.kind N.byte_count N.integer_law N.size_law) (non_zero_law N.value_of N.number_of N.sign N.width N.kind N.integer_law N.value_law) N.order_law };
+    ghost by_value = { leaves_ordered N.value_of N.number_of N.cmp no_definition
+        (non_zero N.sign N.width) N.byte_count (non_zero_size N.sign N.width N.kind N.byte_count
+        N.integer_law N.size_law) (non_zero_law N.value_of N.number_of N.sign N.width N.kind
+        N.integer_law N.value_law) N.order_law };
 
     fn compare(a: RawView<'_>, b: RawView<'_>) -> Ordering {
         let a: Ref<'_, NonZero<N>> = Ref::at(a);
@@ -89,11 +97,16 @@ impl<N: Plain> Ordered for N {
 
     ghost total = { on_total (λ v. N.number_of (bytes_at v.bytes v.pos N.byte_count)) N.total };
 
-    ghost respects = { λ v w. level_fed N.cmp N.hash_input N.matches_eq N.respects_eq (N.number_of (bytes_at v.bytes v.pos N.byte_count)) (N.number_of (bytes_at w.bytes w.pos N.byte_count)) };
+    ghost respects = { λ v w. level_fed N.cmp N.hash_input N.matches_eq N.respects_eq
+        (N.number_of (bytes_at v.bytes v.pos N.byte_count))
+        (N.number_of (bytes_at w.bytes w.pos N.byte_count)) };
 
     ghost level = { level_values N.number_of N.cmp N.byte_count N.total };
 
-    ghost by_value = { as_pointee N.definitions (one (leaf N.kind)) N.pointee (on (λ v. N.number_of (bytes_at v.bytes v.pos N.byte_count)) N.cmp) (sym N.same_pointee) (leaves_ordered N.value_of N.number_of N.cmp N.definitions N.kind N.byte_count N.size_law N.value_law N.order_law) };
+    ghost by_value = { as_pointee N.definitions (one (leaf N.kind)) N.pointee
+        (on (λ v. N.number_of (bytes_at v.bytes v.pos N.byte_count)) N.cmp) (sym N.same_pointee)
+        (leaves_ordered N.value_of N.number_of N.cmp N.definitions N.kind N.byte_count N.size_law
+        N.value_law N.order_law) };
 
     fn compare(a: RawView<'_>, b: RawView<'_>) -> Ordering {
         let a: Ref<'_, N> = Ref::at(a);

@@ -28,7 +28,8 @@ impl<T: Portable + Ordered> Ordered for ArchivedSlice<T> {
 
     ghost level = { tt };
 
-    ghost by_value = { slices_ordered T.definitions T.shape T.layout T.has_layout T.order (as_pointee T.definitions T.pointee (one T.shape) T.order T.is_one T.by_value) };
+    ghost by_value = { slices_ordered T.definitions T.shape T.layout T.has_layout T.order
+        (as_pointee T.definitions T.pointee (one T.shape) T.order T.is_one T.by_value) };
 
     fn compare(a: RawView<'_>, b: RawView<'_>) -> Ordering {
         compare_elements::<T>(Ref::at(a), Ref::at(b))
@@ -73,7 +74,8 @@ fn compare_at<T: Portable + Ordered>(
     index: usize,
 ) -> Ordering
     requires both { (index < a.len) × (index < b.len) }
-    ensures { result ≡ T.order (element_shown T.layout.size index a.entry) (element_shown T.layout.size index b.entry) }
+    ensures { result ≡ T.order (element_shown T.layout.size index a.entry)
+        (element_shown T.layout.size index b.entry) }
 {
     T::compare(a.index(index).part(), b.index(index).part())
 }

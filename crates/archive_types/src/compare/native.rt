@@ -46,10 +46,12 @@ pub trait CompareNative<U: Archive>: Ordered {
     /// validated.
     fn compare_native(part: RawView<'_>, value: &U) -> Ordering
         requires { Viewed Self.definitions part.bytes.now part.pos Self.pointee part.len }
-        ensures { result ≡ native_order (standing part.entry.bytes.now part.entry.pos part.entry.len) value.now };
+        ensures { result ≡ native_order (standing part.entry.bytes.now part.entry.pos
+            part.entry.len) value.now };
 
     // A value is compared as the parts are that equal it.
-    ghost agrees: { (x y : Standing) (u : U) → IsTrue (is_eq (native_order x u)) → Self.order y x ≡ native_order y u };
+    ghost agrees: { (x y : Standing) (u : U) → IsTrue (is_eq (native_order x u)) → Self.order y x
+        ≡ native_order y u };
 
     // It is the order of the value that the part means and of the value's own meaning.
     ghost native_by_value: { OrdersNative Self.definitions Self.pointee U.meaning native_order };
@@ -82,9 +84,12 @@ impl<'a, T: Ordered> Ref<'a, T> {
 impl<N: Source> CompareNative<N> for LittleEndian<N> {
     ghost native_order = { λ v u. N.cmp (N.number_of (bytes_at v.bytes v.pos N.byte_count)) u };
 
-    ghost agrees = { λ x y u. number_alike N.total (N.number_of (bytes_at x.bytes x.pos N.byte_count)) (N.number_of (bytes_at y.bytes y.pos N.byte_count)) u };
+    ghost agrees = { λ x y u. number_alike N.total (N.number_of
+        (bytes_at x.bytes x.pos N.byte_count)) (N.number_of (bytes_at y.bytes y.pos N.byte_count))
+        u };
 
-    ghost native_by_value = { leaves_native N.value_of N.number_of N.cmp no_definition N.kind N.byte_count N.size_law N.value_law N.order_law };
+    ghost native_by_value = { leaves_native N.value_of N.number_of N.cmp no_definition N.kind
+        N.byte_count N.size_law N.value_law N.order_law };
 
     fn compare_native(part: RawView<'_>, value: &N) -> Ordering {
         let view: Ref<'_, LittleEndian<N>> = Ref::at(part);
@@ -95,9 +100,14 @@ impl<N: Source> CompareNative<N> for LittleEndian<N> {
 impl<N: Integer + Source> CompareNative<N> for NonZero<N> {
     ghost native_order = { λ v u. N.cmp (N.number_of (bytes_at v.bytes v.pos N.byte_count)) u };
 
-    ghost agrees = { λ x y u. number_alike N.total (N.number_of (bytes_at x.bytes x.pos N.byte_count)) (N.number_of (bytes_at y.bytes y.pos N.byte_count)) u };
+    ghost agrees = { λ x y u. number_alike N.total (N.number_of
+        (bytes_at x.bytes x.pos N.byte_count)) (N.number_of (bytes_at y.bytes y.pos N.byte_count))
+        u };
 
-    ghost native_by_value = { leaves_native N.value_of N.number_of N.cmp no_definition (non_zero N.sign N.width) N.byte_count (non_zero_size N.sign N.width N.kind N.byte_count N.integer_law N.size_law) (non_zero_law N.value_of N.number_of N.sign N.width N.kind N.integer_law N.value_law) N.order_law };
+    ghost native_by_value = { leaves_native N.value_of N.number_of N.cmp no_definition
+        (non_zero N.sign N.width) N.byte_count (non_zero_size N.sign N.width N.kind N.byte_count
+        N.integer_law N.size_law) (non_zero_law N.value_of N.number_of N.sign N.width N.kind
+        N.integer_law N.value_law) N.order_law };
 
     fn compare_native(part: RawView<'_>, value: &N) -> Ordering {
         let view: Ref<'_, NonZero<N>> = Ref::at(part);
@@ -108,9 +118,15 @@ impl<N: Integer + Source> CompareNative<N> for NonZero<N> {
 impl<N: Plain> CompareNative<N> for N {
     ghost native_order = { λ v u. N.cmp (N.number_of (bytes_at v.bytes v.pos N.byte_count)) u };
 
-    ghost agrees = { λ x y u. number_alike N.total (N.number_of (bytes_at x.bytes x.pos N.byte_count)) (N.number_of (bytes_at y.bytes y.pos N.byte_count)) u };
+    ghost agrees = { λ x y u. number_alike N.total (N.number_of
+        (bytes_at x.bytes x.pos N.byte_count)) (N.number_of (bytes_at y.bytes y.pos N.byte_count))
+        u };
 
-    ghost native_by_value = { as_native_pointee N.definitions (one (leaf N.kind)) N.pointee (λ n. number (N.value_of n)) (λ v u. N.cmp (N.number_of (bytes_at v.bytes v.pos N.byte_count)) u) (sym N.same_pointee) (leaves_native N.value_of N.number_of N.cmp N.definitions N.kind N.byte_count N.size_law N.value_law N.order_law) };
+    ghost native_by_value = { as_native_pointee N.definitions (one (leaf N.kind)) N.pointee
+        (λ n. number (N.value_of n)) (λ v u. N.cmp (N.number_of
+        (bytes_at v.bytes v.pos N.byte_count)) u) (sym N.same_pointee)
+        (leaves_native N.value_of N.number_of N.cmp N.definitions N.kind N.byte_count N.size_law
+        N.value_law N.order_law) };
 
     fn compare_native(part: RawView<'_>, value: &N) -> Ordering {
         let view: Ref<'_, N> = Ref::at(part);
@@ -121,7 +137,8 @@ impl<N: Plain> CompareNative<N> for N {
 impl<'a> Ref<'a, ArchivedStr> {
     /// The order of the text and another one, by their bytes. Our own.
     pub fn cmp_str(self, text: &str) -> Ordering
-        ensures bytes { result ≡ slice_cmp nat_cmp (bytes_at self.entry.bytes.now self.entry.pos self.entry.len) text.now }
+        ensures bytes { result ≡ slice_cmp nat_cmp (bytes_at self.entry.bytes.now self.entry.pos
+            self.entry.len) text.now }
         ensures by_value { ViewComparesTo self.entry (text_value text.now) result }
     {
         text_order(self.as_str(), text)
@@ -129,7 +146,8 @@ impl<'a> Ref<'a, ArchivedStr> {
 
     /// Whether it is the same text as another one. Our own.
     pub fn eq_str(self, text: &str) -> bool
-        ensures bytes { result ≡ pointwise nat_eq (bytes_at self.entry.bytes.now self.entry.pos self.entry.len) text.now }
+        ensures bytes { result ≡ pointwise nat_eq (bytes_at self.entry.bytes.now self.entry.pos
+            self.entry.len) text.now }
         ensures by_value { ViewEquals self.entry (text_value text.now) result }
     {
         self.as_str() == text
@@ -139,7 +157,8 @@ impl<'a> Ref<'a, ArchivedStr> {
 impl<'a> Ref<'a, ArchivedString> {
     /// The order of the text, wherever it lies, and another one, by their bytes. Our own.
     pub fn cmp_str(self, text: &str) -> Ordering
-        ensures bytes { result ≡ slice_cmp nat_cmp (string_text self.entry.bytes.now self.entry.pos) text.now }
+        ensures bytes { result ≡ slice_cmp nat_cmp (string_text self.entry.bytes.now self.entry.pos)
+            text.now }
         ensures by_value { ViewComparesTo self.entry (text_value text.now) result }
     {
         text_order(self.as_str(), text)
@@ -147,7 +166,8 @@ impl<'a> Ref<'a, ArchivedString> {
 
     /// Whether the text, wherever it lies, is the same as another one. Our own.
     pub fn eq_str(self, text: &str) -> bool
-        ensures bytes { result ≡ pointwise nat_eq (string_text self.entry.bytes.now self.entry.pos) text.now }
+        ensures bytes { result ≡ pointwise nat_eq (string_text self.entry.bytes.now self.entry.pos)
+            text.now }
         ensures by_value { ViewEquals self.entry (text_value text.now) result }
     {
         self.as_str() == text

@@ -27,8 +27,10 @@ impl<'a, T: Portable> Ref<'a, ArchivedSlice<T>> {
     pub fn cmp_slice<U: Archive>(self, values: &[U]) -> Ordering
     where
         T: CompareNative<U>,
-        ensures order { result ≡ slice_cmp T.native_order (elements_shown T.layout.size self.entry) values.now }
-        ensures by_value { ViewComparesTo self.entry (list (each_meaning U.meaning values.now)) result }
+        ensures order { result ≡ slice_cmp T.native_order (elements_shown T.layout.size self.entry)
+            values.now }
+        ensures by_value { ViewComparesTo self.entry (list (each_meaning U.meaning values.now))
+            result }
     {
         compare_slice(self, values)
     }
@@ -38,7 +40,8 @@ impl<'a, T: Portable> Ref<'a, ArchivedSlice<T>> {
     pub fn eq_slice<U: Archive>(self, values: &[U]) -> bool
     where
         T: CompareNative<U>,
-        ensures order { result ≡ is_eq (slice_cmp T.native_order (elements_shown T.layout.size self.entry) values.now) }
+        ensures order { result ≡ is_eq (slice_cmp T.native_order
+            (elements_shown T.layout.size self.entry) values.now) }
         ensures by_value { ViewEquals self.entry (list (each_meaning U.meaning values.now)) result }
     {
         self.cmp_slice(values).is_eq()
@@ -51,8 +54,10 @@ impl<'a, T: Portable> Ref<'a, ArchivedVec<T>> {
     pub fn cmp_slice<U: Archive>(self, values: &[U]) -> Ordering
     where
         T: CompareNative<U>,
-        ensures order { result ≡ slice_cmp T.native_order (elements_in T.layout.size self.entry) values.now }
-        ensures by_value { ViewComparesTo self.entry (list (each_meaning U.meaning values.now)) result }
+        ensures order { result ≡ slice_cmp T.native_order (elements_in T.layout.size self.entry)
+            values.now }
+        ensures by_value { ViewComparesTo self.entry (list (each_meaning U.meaning values.now))
+            result }
     {
         self.as_slice().cmp_slice(values)
     }
@@ -62,7 +67,8 @@ impl<'a, T: Portable> Ref<'a, ArchivedVec<T>> {
     pub fn eq_slice<U: Archive>(self, values: &[U]) -> bool
     where
         T: CompareNative<U>,
-        ensures order { result ≡ is_eq (slice_cmp T.native_order (elements_in T.layout.size self.entry) values.now) }
+        ensures order { result ≡ is_eq (slice_cmp T.native_order
+            (elements_in T.layout.size self.entry) values.now) }
         ensures by_value { ViewEquals self.entry (list (each_meaning U.meaning values.now)) result }
     {
         self.cmp_slice(values).is_eq()
@@ -74,7 +80,8 @@ impl<'a, T: Portable> Ref<'a, ArchivedOption<T>> {
     pub fn cmp_option<U: Archive>(self, option: &Option<U>) -> Ordering
     where
         T: CompareNative<U>,
-        ensures order { result ≡ option_order T.native_order (value_of T.layout.align (shown self.entry)) option.now }
+        ensures order { result ≡ option_order T.native_order
+            (value_of T.layout.align (shown self.entry)) option.now }
         ensures by_value { ViewComparesTo self.entry (option_meaning U.meaning option.now) result }
     {
         compare_option(self, option)
@@ -85,7 +92,8 @@ impl<'a, T: Portable> Ref<'a, ArchivedOption<T>> {
     pub fn eq_option<U: Archive>(self, option: &Option<U>) -> bool
     where
         T: CompareNative<U>,
-        ensures order { result ≡ is_eq (option_order T.native_order (value_of T.layout.align (shown self.entry)) option.now) }
+        ensures order { result ≡ is_eq (option_order T.native_order
+            (value_of T.layout.align (shown self.entry)) option.now) }
         ensures by_value { ViewEquals self.entry (option_meaning U.meaning option.now) result }
     {
         self.cmp_option(option).is_eq()
@@ -98,8 +106,10 @@ impl<'a, T: Portable, E: Portable> Ref<'a, ArchivedResult<T, E>> {
     where
         T: CompareNative<U>,
         E: CompareNative<W>,
-        ensures order { result ≡ is_eq (result_to T.native_order E.native_order T.layout E.layout self.entry outcome.now) }
-        ensures by_value { ViewEquals self.entry (result_meaning U.meaning W.meaning outcome.now) result }
+        ensures order { result ≡ is_eq (result_to T.native_order E.native_order T.layout E.layout
+            self.entry outcome.now) }
+        ensures by_value { ViewEquals self.entry (result_meaning U.meaning W.meaning outcome.now)
+            result }
     {
         is_result(self, outcome)
     }
@@ -122,7 +132,8 @@ fn compare_slice<U: Archive, T: Portable + CompareNative<U>>(
     view: Ref<'_, ArchivedSlice<T>>,
     values: &[U],
 ) -> Ordering
-    ensures { result ≡ slice_cmp T.native_order (elements_shown T.layout.size view.entry) values.now }
+    ensures { result ≡ slice_cmp T.native_order (elements_shown T.layout.size view.entry)
+        values.now }
 {
     for index in 0..view.len() {
         if index >= values.len() {
@@ -141,7 +152,8 @@ fn compare_option<U: Archive, T: Portable + CompareNative<U>>(
     view: Ref<'_, ArchivedOption<T>>,
     option: &Option<U>,
 ) -> Ordering
-    ensures { result ≡ option_order T.native_order (value_of T.layout.align (shown view.entry)) option.now }
+    ensures { result ≡ option_order T.native_order (value_of T.layout.align (shown view.entry))
+        option.now }
 {
     match (view.as_ref(), option) {
         (None, None) => Ordering::Equal,
@@ -158,7 +170,8 @@ fn is_result<
     T: Portable + CompareNative<U>,
     E: Portable + CompareNative<W>,
 >(view: Ref<'_, ArchivedResult<T, E>>, outcome: &Result<U, W>) -> bool
-    ensures { result ≡ is_eq (result_to T.native_order E.native_order T.layout E.layout view.entry outcome.now) }
+    ensures { result ≡ is_eq (result_to T.native_order E.native_order T.layout E.layout view.entry
+        outcome.now) }
 {
     match (view.as_ref(), outcome) {
         (Ok(view), Ok(value)) => T::compare_native(view.part(), value).is_eq(),

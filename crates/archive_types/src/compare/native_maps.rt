@@ -24,8 +24,9 @@ impl<'a, K: MapKey, V: Portable> Ref<'a, ArchivedSortedMap<K, V>> {
     where
         K: CompareNative<A>,
         V: CompareNative<B>,
-        ensures order { result ≡ is_eq (slice_cmp (pair_native K.layout V.layout K.native_order V.native_order)
-            (elements_in (entry_size K.layout V.layout) self.entry) map.now.entries) }
+        ensures order { result ≡ is_eq (slice_cmp (pair_native K.layout V.layout K.native_order
+            V.native_order) (elements_in (entry_size K.layout V.layout) self.entry)
+            map.now.entries) }
         ensures by_value { ViewEquals self.entry
             (list (each_meaning (pair_meaning A.meaning B.meaning) map.now.entries)) result }
     {
@@ -56,8 +57,8 @@ fn are_pairs<
     A: Archive + Ord,
     B: Archive,
 >(view: Ref<'_, ArchivedSortedMap<K, V>>, map: &BTreeMap<A, B>) -> bool
-    ensures { result ≡ is_eq (slice_cmp (pair_native K.layout V.layout K.native_order V.native_order)
-        (elements_in (entry_size K.layout V.layout) view.entry) map.now.entries) }
+    ensures { result ≡ is_eq (slice_cmp (pair_native K.layout V.layout K.native_order
+        V.native_order) (elements_in (entry_size K.layout V.layout) view.entry) map.now.entries) }
 {
     let entries = view.entries();
     if entries.len() != map.len() {

@@ -23,7 +23,8 @@ use std::cmp::Ordering;
 impl CompareNative<String> for ArchivedString {
     ghost native_order = { λ v s. slice_cmp nat_cmp (string_text v.bytes v.pos) (string_bytes s) };
 
-    ghost agrees = { λ x y s. text_alike (string_text x.bytes x.pos) (string_text y.bytes y.pos) (string_bytes s) };
+    ghost agrees = { λ x y s. text_alike (string_text x.bytes x.pos) (string_text y.bytes y.pos)
+        (string_bytes s) };
 
     ghost native_by_value = { strings_native string_bytes no_definition };
 
@@ -38,7 +39,8 @@ impl<T: PortablePointee + CompareNative<U>, U: Archive> CompareNative<Box<U>> fo
 
     ghost agrees = { λ x y b. T.agrees (pointee_at T.pointee x) (pointee_at T.pointee y) b.value };
 
-    ghost native_by_value = { boxes_native (λ b. b.value) T.definitions T.pointee U.meaning T.native_order T.native_by_value };
+    ghost native_by_value = { boxes_native (λ b. b.value) T.definitions T.pointee U.meaning
+        T.native_order T.native_by_value };
 
     fn compare_native(part: RawView<'_>, value: &Box<U>) -> Ordering {
         let view: Ref<'_, ArchivedBox<T>> = Ref::at(part);
@@ -47,11 +49,15 @@ impl<T: PortablePointee + CompareNative<U>, U: Archive> CompareNative<Box<U>> fo
 }
 
 impl<T: Portable + CompareNative<U>, U: Archive> CompareNative<Vec<U>> for ArchivedVec<T> {
-    ghost native_order = { λ v us. slice_cmp T.native_order (elements T.layout.size (slice_of v)) us.items };
+    ghost native_order = { λ v us. slice_cmp T.native_order (elements T.layout.size (slice_of v))
+        us.items };
 
-    ghost agrees = { λ x y us. lists_alike T.order T.native_order T.agrees (elements T.layout.size (slice_of x)) (elements T.layout.size (slice_of y)) us.items };
+    ghost agrees = { λ x y us. lists_alike T.order T.native_order T.agrees
+        (elements T.layout.size (slice_of x)) (elements T.layout.size (slice_of y)) us.items };
 
-    ghost native_by_value = { vecs_native (λ us. us.items) T.definitions T.shape T.layout T.has_layout U.meaning T.native_order (as_native_pointee T.definitions T.pointee (one T.shape) U.meaning T.native_order T.is_one T.native_by_value) };
+    ghost native_by_value = { vecs_native (λ us. us.items) T.definitions T.shape T.layout
+        T.has_layout U.meaning T.native_order (as_native_pointee T.definitions T.pointee
+        (one T.shape) U.meaning T.native_order T.is_one T.native_by_value) };
 
     fn compare_native(part: RawView<'_>, value: &Vec<U>) -> Ordering {
         let view: Ref<'_, ArchivedVec<T>> = Ref::at(part);
@@ -62,9 +68,12 @@ impl<T: Portable + CompareNative<U>, U: Archive> CompareNative<Vec<U>> for Archi
 impl<T: Portable + CompareNative<U>, U: Archive> CompareNative<Option<U>> for ArchivedOption<T> {
     ghost native_order = { λ v o. option_order T.native_order (value_of T.layout.align v) o };
 
-    ghost agrees = { λ x y o. option_alike T.order T.native_order T.agrees (value_of T.layout.align x) (value_of T.layout.align y) o };
+    ghost agrees = { λ x y o. option_alike T.order T.native_order T.agrees
+        (value_of T.layout.align x) (value_of T.layout.align y) o };
 
-    ghost native_by_value = { option_native T.definitions T.shape T.layout T.is_align T.has_layout U.meaning T.native_order (as_native_pointee T.definitions T.pointee (one T.shape) U.meaning T.native_order T.is_one T.native_by_value) };
+    ghost native_by_value = { option_native T.definitions T.shape T.layout T.is_align T.has_layout
+        U.meaning T.native_order (as_native_pointee T.definitions T.pointee (one T.shape) U.meaning
+        T.native_order T.is_one T.native_by_value) };
 
     fn compare_native(part: RawView<'_>, value: &Option<U>) -> Ordering {
         let view: Ref<'_, ArchivedOption<T>> = Ref::at(part);

@@ -27,11 +27,13 @@ impl<T: Portable + Ordered> Ordered for ArchivedOption<T> {
 
     ghost total = { on_total (value_of T.layout.align) (options_total T.total) };
 
-    ghost respects = { λ v w. option_fed T.order T.hash_input T.respects (value_of T.layout.align v) (value_of T.layout.align w) };
+    ghost respects = { λ v w. option_fed T.order T.hash_input T.respects (value_of T.layout.align v)
+        (value_of T.layout.align w) };
 
     ghost level = { tt };
 
-    ghost by_value = { options_ordered T.definitions T.shape T.layout T.is_align T.has_layout T.order (as_pointee T.definitions T.pointee (one T.shape) T.order T.is_one T.by_value) };
+    ghost by_value = { options_ordered T.definitions T.shape T.layout T.is_align T.has_layout
+        T.order (as_pointee T.definitions T.pointee (one T.shape) T.order T.is_one T.by_value) };
 
     fn compare(a: RawView<'_>, b: RawView<'_>) -> Ordering {
         let a: Ref<'_, ArchivedOption<T>> = Ref::at(a);

@@ -63,7 +63,8 @@ impl<T: PortablePointee + Ordered, F: Acyclic> Ordered for ArchivedRc<T, F> {
 
     ghost level = { tt };
 
-    ghost by_value = { shared_ordered T.definitions T.pointee (flavor_as F.name F.ALLOW_CYCLES) T.order T.by_value };
+    ghost by_value = { shared_ordered T.definitions T.pointee (flavor_as F.name F.ALLOW_CYCLES)
+        T.order T.by_value };
 
     fn compare(a: RawView<'_>, b: RawView<'_>) -> Ordering {
         let a: Ref<'_, ArchivedRc<T, F>> = Ref::at(a);
@@ -90,11 +91,14 @@ impl<T: Portable + Ordered> Ordered for ArchivedVec<T> {
 
     ghost total = { on_total slice_of (slices_total T.layout.size T.total) };
 
-    ghost respects = { λ v w. slices_fed T.layout.size T.order T.hash_input T.respects (slice_of v) (slice_of w) };
+    ghost respects = { λ v w. slices_fed T.layout.size T.order T.hash_input T.respects (slice_of v)
+        (slice_of w) };
 
     ghost level = { tt };
 
-    ghost by_value = { vecs_ordered T.definitions T.shape (slices T.layout.size T.order) (slices_ordered T.definitions T.shape T.layout T.has_layout T.order (as_pointee T.definitions T.pointee (one T.shape) T.order T.is_one T.by_value)) };
+    ghost by_value = { vecs_ordered T.definitions T.shape (slices T.layout.size T.order)
+        (slices_ordered T.definitions T.shape T.layout T.has_layout T.order
+        (as_pointee T.definitions T.pointee (one T.shape) T.order T.is_one T.by_value)) };
 
     fn compare(a: RawView<'_>, b: RawView<'_>) -> Ordering {
         let a: Ref<'_, ArchivedVec<T>> = Ref::at(a);

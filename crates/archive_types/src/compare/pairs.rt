@@ -25,7 +25,8 @@ impl<A: Portable + Ordered, B: Portable + Ordered> Ordered for ArchivedTuple2<A,
 
     ghost total = { pairs_total A.layout B.layout A.total B.total };
 
-    ghost respects = { pairs_fed A.layout B.layout A.order B.order A.hash_input B.hash_input A.respects B.respects };
+    ghost respects = { pairs_fed A.layout B.layout A.order B.order A.hash_input B.hash_input
+        A.respects B.respects };
 
     ghost level = { tt };
 
@@ -64,7 +65,8 @@ impl<K: MapKey + Ordered, V: Portable + Ordered> Ordered for ArchivedSortedMap<K
 
     ghost total = { maps_total K.layout V.layout K.total V.total };
 
-    ghost respects = { maps_fed K.layout V.layout K.order V.order K.hash_input V.hash_input K.respects V.respects };
+    ghost respects = { maps_fed K.layout V.layout K.order V.order K.hash_input V.hash_input
+        K.respects V.respects };
 
     ghost level = { tt };
 

@@ -20,18 +20,24 @@ use std::hash::{Hash, Hasher};
 impl<T: Portable + Ordered, E: Portable + Ordered> Ordered for ArchivedResult<T, E> {
     ghost order = { on (result_in T.layout.align E.layout.align) (result_cmp T.order E.order) };
 
-    ghost hash_input = { λ v. fed.result T.hash_input E.hash_input (result_in T.layout.align E.layout.align v) };
+    ghost hash_input = { λ v. fed.result T.hash_input E.hash_input
+        (result_in T.layout.align E.layout.align v) };
 
     ghost settling = { 0 };
 
-    ghost total = { on_total (result_in T.layout.align E.layout.align) (results_total T.total E.total) };
+    ghost total = { on_total (result_in T.layout.align E.layout.align)
+        (results_total T.total E.total) };
 
-    ghost respects = { λ v w. result_fed T.order E.order T.hash_input E.hash_input T.respects E.respects (result_in T.layout.align E.layout.align v) (result_in T.layout.align E.layout.align w) };
+    ghost respects = { λ v w. result_fed T.order E.order T.hash_input E.hash_input T.respects
+        E.respects (result_in T.layout.align E.layout.align v)
+        (result_in T.layout.align E.layout.align w) };
 
     ghost level = { tt };
 
-    ghost by_value = { results_ordered T.definitions E.definitions T.shape E.shape T.layout E.layout T.is_align E.is_align T.has_layout E.has_layout T.order E.order
-        (as_pointee T.definitions T.pointee (one T.shape) T.order T.is_one T.by_value) (as_pointee E.definitions E.pointee (one E.shape) E.order E.is_one E.by_value) };
+    ghost by_value = { results_ordered T.definitions E.definitions T.shape E.shape T.layout E.layout
+        T.is_align E.is_align T.has_layout E.has_layout T.order E.order
+        (as_pointee T.definitions T.pointee (one T.shape) T.order T.is_one T.by_value)
+        (as_pointee E.definitions E.pointee (one E.shape) E.order E.is_one E.by_value) };
 
     fn compare(a: RawView<'_>, b: RawView<'_>) -> Ordering {
         let a: Ref<'_, ArchivedResult<T, E>> = Ref::at(a);

@@ -24,7 +24,8 @@ fn bytes_of<'a, T: Portable + Ordered>(
 ) -> &'a [u8]
     requires within { from + count ≤ view.len }
     requires sized { T.settling ≡ T.layout.size }
-    ensures { result.now ≡ bytes_at view.entry.bytes.now (view.entry.pos + from * T.layout.size) (count * T.layout.size) }
+    ensures { result.now ≡ bytes_at view.entry.bytes.now (view.entry.pos + from * T.layout.size)
+        (count * T.layout.size) }
 {
     let size = T::settling_bytes();
     let RawView { bytes, pos, .. } = view.part();
@@ -43,8 +44,8 @@ fn are_same<T: Portable + Ordered>(
     requires first { from + count ≤ a.len }
     requires second { from + count ≤ b.len }
     requires sized { T.settling ≡ T.layout.size }
-    ensures { IsTrue result
-        → AreSameFrom (from * T.layout.size) (count * T.layout.size) (shown a.entry) (shown b.entry) }
+    ensures { IsTrue result → AreSameFrom (from * T.layout.size) (count * T.layout.size)
+        (shown a.entry) (shown b.entry) }
 {
     bytes_of(a, from, count) == bytes_of(b, from, count)
 }
@@ -62,7 +63,8 @@ fn skip<T: Portable + Ordered>(
     requires some { (0 < T.layout.size) × (0 < piece) }
     ensures first { result ≤ a.entry.len }
     ensures second { result ≤ b.entry.len }
-    ensures level { AreLevelBetween T.layout.size T.order from result (shown a.entry) (shown b.entry) }
+    ensures level { AreLevelBetween T.layout.size T.order from result (shown a.entry)
+        (shown b.entry) }
 {
     let both = a.len().min(b.len());
     let mut at = from;

@@ -70,7 +70,8 @@ impl Ordered for ArchivedStr {
 
     ghost total = { on_texts (λ v. bytes_at v.bytes v.pos v.len) };
 
-    ghost respects = { λ v w. text_fed (bytes_at v.bytes v.pos v.len) (bytes_at w.bytes w.pos w.len) };
+    ghost respects = { λ v w. text_fed (bytes_at v.bytes v.pos v.len)
+        (bytes_at w.bytes w.pos w.len) };
 
     ghost level = { tt };
 

@@ -22,8 +22,9 @@ pub struct Iter<'a, K: MapKey, V: Portable> {
     front: usize,
     back: usize,
     of: PhantomData<(K, V)>,
-    ghost valid: { AreViewed (entry_definitions K.definitions V.definitions) entries.bytes.now entries.pos
-        (entry_size K.layout V.layout) (one (parts (part K.shape (part V.shape no_part)))) back },
+    ghost valid: { AreViewed (entry_definitions K.definitions V.definitions) entries.bytes.now
+        entries.pos (entry_size K.layout V.layout) (one
+        (parts (part K.shape (part V.shape no_part)))) back },
     ghost order: { front ≤ back },
 }
 
@@ -61,7 +62,8 @@ impl<'a, K: MapKey, V: Portable> Iterator for Iter<'a, K, V> {
     ghost next_gives = { YieldsFirstBy (λ pair. shown_pair pair)
         (λ s. pairs_between K.layout V.layout s.entries s.front s.back) };
 
-    ghost remaining = { item_count (λ s. pairs_between K.layout V.layout s.entries s.front s.back) };
+    ghost remaining = { item_count (λ s. pairs_between K.layout V.layout s.entries s.front
+        s.back) };
 
     fn next(&mut self) -> Option<(Ref<'a, K>, Ref<'a, V>)> {
         if self.front >= self.back {

@@ -81,9 +81,11 @@ impl<'a, A: Archive, B: Archive> Archive for Entry<'a, A, B> {
 
     ghost in_bulk = { None };
 
-    ghost keyed = { λ e. record_keyed (part_keyed (A.keyed e.key.now) (part_keyed (B.keyed e.value.now) nothing_keyed)) };
+    ghost keyed = { λ e. record_keyed (part_keyed (A.keyed e.key.now)
+        (part_keyed (B.keyed e.value.now) nothing_keyed)) };
 
-    ghost planned = { λ e. product_planned _ _ _ _ (part_planned _ _ _ _ (A.planned e.key.now) (part_planned _ _ _ _ (B.planned e.value.now) no_part_planned)) };
+    ghost planned = { λ e. product_planned _ _ _ _ (part_planned _ _ _ _ (A.planned e.key.now)
+        (part_planned _ _ _ _ (B.planned e.value.now) no_part_planned)) };
 
     #[inline(always)]
     fn resolve(
@@ -91,7 +93,8 @@ impl<'a, A: Archive, B: Archive> Archive for Entry<'a, A, B> {
         resolver: (A::Resolver, (B::Resolver, ())),
         place: Place<'_, ArchivedTuple2<A::Archived, B::Archived>>,
     ) -> Result<(), Error>
-        requires zeroed { ZeroedPlace ⟦<Self::Archived as Portable>⟧.layout.size place.pos place.bytes.now }
+        requires zeroed { ZeroedPlace ⟦<Self::Archived as Portable>⟧.layout.size place.pos
+            place.bytes.now }
         requires same_value { ⟦<Self as Archive>⟧.belongs self.now resolver }
         ensures { ResolvesAs ⟦<Self::Archived as Portable>⟧ place
             (⟦<Self as Archive>⟧.flat self.now resolver) result }
@@ -127,7 +130,8 @@ fn entries_of<'a, M: Allocator + Drop, A: Ord, B>(
     alloc: M,
     source: &'a BTreeMap<A, B>,
 ) -> Result<Vec<Entry<'a, A, B>, M>, AllocError>
-    ensures { IfOk result (λ es. map (λ e. (e.key.now, e.value.now)) es.items ≡ source.now.entries) }
+    ensures { IfOk result (λ es. map (λ e. (e.key.now, e.value.now)) es.items
+        ≡ source.now.entries) }
 {
     let mut entries = Vec::with_capacity(alloc, source.len())?;
     for (key, value) in source {
@@ -158,8 +162,9 @@ where
 
     ghost keyed = { λ m. pairs_keyed K.keys V.keys K.meaning V.meaning K.keyed V.keyed m.entries };
 
-    ghost planned = { λ m. map_of_pairs_planned K.keys V.keys K.meaning V.meaning K.Archived.definitions V.Archived.definitions K.Archived.shape V.Archived.shape
-        K.planned V.planned K.Archived.key K.Archived.is_key m.entries };
+    ghost planned = { λ m. map_of_pairs_planned K.keys V.keys K.meaning V.meaning
+        K.Archived.definitions V.Archived.definitions K.Archived.shape V.Archived.shape K.planned
+        V.planned K.Archived.key K.Archived.is_key m.entries };
 
     #[inline(always)]
     fn resolve(
@@ -209,9 +214,10 @@ where
     #[tactic(auto, using(crate::proofs::Planning::Causes::goes_nowhere))]
     #[inline(always)]
     fn serialize(&self, serializer: &mut S) -> Result<SortedMapResolver, Error>
-        ensures outcome { Serializes ⟦<Self as Archive>⟧ ⟦<Self::Archived as Portable>⟧ self.now S.Keys serializer
-            result }
-        ensures too_long { 4294967295 < btree_map_len self.now → AtOnce result LengthTooLarge S.Keys serializer }
+        ensures outcome { Serializes ⟦<Self as Archive>⟧ ⟦<Self::Archived as Portable>⟧ self.now
+            S.Keys serializer result }
+        ensures too_long { 4294967295 < btree_map_len self.now
+            → AtOnce result LengthTooLarge S.Keys serializer }
     {
         if self.len() > u32::MAX as usize {
             return Err(Error::LengthTooLarge);
@@ -238,10 +244,13 @@ where
 
     ghost one_length = { λ _ _. refl };
 
-    ghost planned = { λ m. one_planned (entry_definitions K.Archived.definitions V.Archived.definitions) (sorted_map K.Archived.key V.Archived.shape)
-        (each_keys (pair_keys K.keys V.keys) m.entries) (list (each_meaning (pair_meaning K.meaning V.meaning) m.entries))
-        (map_of_pairs_planned K.keys V.keys K.meaning V.meaning K.Archived.definitions V.Archived.definitions K.Archived.shape V.Archived.shape
-        K.planned V.planned K.Archived.key K.Archived.is_key m.entries) };
+    ghost planned = { λ m. one_planned (entry_definitions K.Archived.definitions
+        V.Archived.definitions) (sorted_map K.Archived.key V.Archived.shape)
+        (each_keys (pair_keys K.keys V.keys) m.entries)
+        (list (each_meaning (pair_meaning K.meaning V.meaning) m.entries))
+        (map_of_pairs_planned K.keys V.keys K.meaning V.meaning K.Archived.definitions
+        V.Archived.definitions K.Archived.shape V.Archived.shape K.planned V.planned K.Archived.key
+        K.Archived.is_key m.entries) };
 
     #[inline(always)]
     fn archived_metadata(&self) -> Result<(), Error> {

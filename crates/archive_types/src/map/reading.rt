@@ -76,7 +76,8 @@ where
         requires { IsPartOf ⟦<Self as ArchivePointee>⟧ part }
         ensures read { IfOk result (Read ⟦<Self as ArchivePointee>⟧ part D.Entries deserializer
             ⟦<BTreeMap<A, B> as Archive>⟧) }
-        ensures refused { IfErr result (RefusesPart ⟦<Self as ArchivePointee>⟧ part D.Entries deserializer) }
+        ensures refused { IfErr result (RefusesPart ⟦<Self as ArchivePointee>⟧ part D.Entries
+            deserializer) }
     {
         read_map::<K, V, A, B, D>(alloc, part, deserializer)
     }

@@ -20,7 +20,8 @@ fn compare_key<K: MapKey + CompareNative<U>, V: Portable, U: Archive>(
     key: &U,
 ) -> Ordering
     requires { index < entries.len }
-    ensures { result ≡ K.native_order (element_shown (entry_size K.layout V.layout) index entries.entry) key.now }
+    ensures { result ≡ K.native_order (element_shown (entry_size K.layout V.layout) index
+        entries.entry) key.now }
 {
     K::compare_native(entries.index(index).field::<K>(0).part(), key)
 }
@@ -30,8 +31,10 @@ fn find<K: MapKey + CompareNative<U>, V: Portable, U: Archive>(
     map: Ref<'_, ArchivedSortedMap<K, V>>,
     key: &U,
 ) -> (Option<usize>, usize)
-    ensures found { IfSome result.0 (HasKeyAt K.native_order (entry_size K.layout V.layout) map.entry key.now) }
-    ensures none { IfNone result.0 (HasNoKey K.native_order (entry_size K.layout V.layout) map.entry key.now) }
+    ensures found { IfSome result.0 (HasKeyAt K.native_order (entry_size K.layout V.layout)
+        map.entry key.now) }
+    ensures none { IfNone result.0 (HasNoKey K.native_order (entry_size K.layout V.layout) map.entry
+        key.now) }
     ensures few { AreFewFor map.entry result.1 }
 {
     let entries = map.entries();
@@ -56,8 +59,10 @@ impl<'a, K: MapKey, V: Portable> Ref<'a, ArchivedSortedMap<K, V>> {
     pub fn get_counted<U: Archive>(self, key: &U) -> (Option<Ref<'a, V>>, usize)
     where
         K: CompareNative<U>,
-        ensures found { IfSome result.0 (λ v. IsValueAtKey K.native_order K.layout V.layout v self.entry key.now) }
-        ensures none { IfNone result.0 (HasNoKey K.native_order (entry_size K.layout V.layout) self.entry key.now) }
+        ensures found { IfSome result.0 (λ v. IsValueAtKey K.native_order K.layout V.layout v
+            self.entry key.now) }
+        ensures none { IfNone result.0 (HasNoKey K.native_order (entry_size K.layout V.layout)
+            self.entry key.now) }
         ensures few { AreFewFor self.entry result.1 }
     {
         match find(self, key) {
@@ -70,8 +75,10 @@ impl<'a, K: MapKey, V: Portable> Ref<'a, ArchivedSortedMap<K, V>> {
     pub fn get<U: Archive>(self, key: &U) -> Option<Ref<'a, V>>
     where
         K: CompareNative<U>,
-        ensures found { IfSome result (λ v. IsValueAtKey K.native_order K.layout V.layout v self.entry key.now) }
-        ensures none { IfNone result (HasNoKey K.native_order (entry_size K.layout V.layout) self.entry key.now) }
+        ensures found { IfSome result (λ v. IsValueAtKey K.native_order K.layout V.layout v
+            self.entry key.now) }
+        ensures none { IfNone result (HasNoKey K.native_order (entry_size K.layout V.layout)
+            self.entry key.now) }
     {
         let (value, _) = self.get_counted(key);
         value
@@ -81,7 +88,8 @@ impl<'a, K: MapKey, V: Portable> Ref<'a, ArchivedSortedMap<K, V>> {
     pub fn contains_key<U: Archive>(self, key: &U) -> bool
     where
         K: CompareNative<U>,
-        ensures { IsTrue result ↔ HasKey K.native_order (entry_size K.layout V.layout) self.entry key.now }
+        ensures { IsTrue result ↔ HasKey K.native_order (entry_size K.layout V.layout) self.entry
+            key.now }
     {
         self.get(key).is_some()
     }

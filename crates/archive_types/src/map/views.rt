@@ -64,7 +64,8 @@ impl<'a, K: MapKey, V: Portable> Ref<'a, ArchivedSortedMap<K, V>> {
     pub fn get_at(self, index: usize) -> Option<(Ref<'a, K>, Ref<'a, V>)>
         ensures some { IsSome result ↔ (index < entry_count self.entry) }
         ensures key { IfSome result (λ pair. IsEntryKey K.layout V.layout pair.0 self.entry index) }
-        ensures value { IfSome result (λ pair. IsEntryValue K.layout V.layout pair.1 self.entry index) }
+        ensures value { IfSome result (λ pair. IsEntryValue K.layout V.layout pair.1 self.entry
+            index) }
     {
         if index >= self.len() {
             return None;

@@ -87,9 +87,12 @@ where
 
 impl<A: Archive, B: Archive, C: Archive, D: Archive, R: OwnedParts> OwnedParts
     for FourParts<A, B, C, D, R> {
-    ghost meanings = { λ v. value (A.meaning v.first) (value (B.meaning v.second) (value (C.meaning v.third) (value (D.meaning v.fourth) (R.meanings v.rest)))) };
+    ghost meanings = { λ v. value (A.meaning v.first)
+        (value (B.meaning v.second) (value (C.meaning v.third)
+        (value (D.meaning v.fourth) (R.meanings v.rest)))) };
 
-    ghost keys = { λ v. A.keys v.first ++ (B.keys v.second ++ (C.keys v.third ++ (D.keys v.fourth ++ R.keys v.rest))) };
+    ghost keys = { λ v. A.keys v.first ++ (B.keys v.second
+        ++ (C.keys v.third ++ (D.keys v.fourth ++ R.keys v.rest))) };
 }
 
 impl<

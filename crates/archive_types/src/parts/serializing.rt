@@ -15,8 +15,8 @@ pub trait SerializeParts<T, S: Writer + Keys>: SourceParts<T> {
     /// `Serialize::serialize` does, for a cause of one of them; existing bytes and known keys stay,
     /// after a failure too.
     fn serialize_parts(whole: &T, serializer: &mut S) -> Result<Self::Resolvers, Error>
-        ensures { SerializesParts Self.Archived.CheckedParts Self.SourceParts whole.now S.Keys serializer
-            result };
+        ensures { SerializesParts Self.Archived.CheckedParts Self.SourceParts whole.now S.Keys
+            serializer result };
 }
 
 impl<T, S: Writer + Keys> SerializeParts<T, S> for () {

@@ -50,8 +50,8 @@ impl<'a, T: Record> Place<'a, T> {
         requires same_value { V.belongs value.now resolver }
         ensures same_reference { self.new.bytes.ghost_name ≡ self.old.bytes.ghost_name }
         ensures position { self.new.pos ≡ self.old.pos }
-        ensures outcome { ResolvesPart V.Archived.Portable (V.flat value.now resolver) (T.Parts.begin 0 i)
-            self.old.pos self.old.bytes.now self.new.bytes.now result }
+        ensures outcome { ResolvesPart V.Archived.Portable (V.flat value.now resolver)
+            (T.Parts.begin 0 i) self.old.pos self.old.bytes.now self.new.bytes.now result }
     {
         resolve_part(value, resolver, self.pos, T::offset(i), self.bytes)
     }
@@ -74,8 +74,8 @@ impl<'a, T: Portable, const N: usize> Place<'a, [T; N]> {
         requires same_value { V.belongs value.now resolver }
         ensures same_reference { self.new.bytes.ghost_name ≡ self.old.bytes.ghost_name }
         ensures position { self.new.pos ≡ self.old.pos }
-        ensures outcome { ResolvesPart T.Portable (V.flat value.now resolver) (index * T.layout.size)
-            self.old.pos self.old.bytes.now self.new.bytes.now result }
+        ensures outcome { ResolvesPart T.Portable (V.flat value.now resolver)
+            (index * T.layout.size) self.old.pos self.old.bytes.now self.new.bytes.now result }
     {
         resolve_part(value, resolver, self.pos, index * T::size(), self.bytes)
     }
@@ -96,12 +96,13 @@ impl<'a, T: Choice> Place<'a, T> {
         requires size { T.Variants.size_at tag i ≡ V.Archived.layout.size }
         requires sized { length self.old.bytes.now ≡ T.layout.size }
         requires ends { self.old.pos + T.layout.size < 2 ^ 64 }
-        requires zeroed { ZeroedPart (T.Variants.begin tag i) V.Archived.layout.size self.old.bytes.now }
+        requires zeroed { ZeroedPart (T.Variants.begin tag i) V.Archived.layout.size
+            self.old.bytes.now }
         requires same_value { V.belongs value.now resolver }
         ensures same_reference { self.new.bytes.ghost_name ≡ self.old.bytes.ghost_name }
         ensures position { self.new.pos ≡ self.old.pos }
-        ensures outcome { ResolvesPart V.Archived.Portable (V.flat value.now resolver) (T.Variants.begin tag i)
-            self.old.pos self.old.bytes.now self.new.bytes.now result }
+        ensures outcome { ResolvesPart V.Archived.Portable (V.flat value.now resolver)
+            (T.Variants.begin tag i) self.old.pos self.old.bytes.now self.new.bytes.now result }
     {
         resolve_part(value, resolver, self.pos, T::offset(tag, i), self.bytes)
     }

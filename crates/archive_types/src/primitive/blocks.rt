@@ -54,11 +54,13 @@ fn with_block<N: Native>(bytes: &[u8], pos: usize, mut items: Vec<N>) -> Vec<N>
 #[inline(never)]
 fn read_block<N: Native>(alloc: Global, bytes: &[u8], pos: usize, items: &mut Vec<N>)
     requires viewed { AreLeaves N.kind bytes.now pos (vec_len items.old + 1024) }
-    requires said { AreLeavesSaid N.kind N.value_of bytes.now pos 0 (vec_len items.old) items.old.items }
+    requires said { AreLeavesSaid N.kind N.value_of bytes.now pos 0 (vec_len items.old)
+        items.old.items }
     requires room { vec_len items.old + 1024 ≤ vec_capacity items.old }
     ensures more { vec_len items.new ≡ vec_len items.old + 1024 }
     ensures room { vec_capacity items.new ≡ vec_capacity items.old }
-    ensures said { AreLeavesSaid N.kind N.value_of bytes.now pos 0 (vec_len items.new) items.new.items }
+    ensures said { AreLeavesSaid N.kind N.value_of bytes.now pos 0 (vec_len items.new)
+        items.new.items }
 {
     let taken = replace(items, Vec::new(alloc));
     *items = with_block(bytes, pos, taken);
@@ -78,7 +80,8 @@ pub(super) fn read_blocks<N: Native>(
     requires room { count ≤ vec_capacity items.old }
     ensures few { vec_len items.new ≤ count }
     ensures room { count ≤ vec_capacity items.new }
-    ensures said { AreLeavesSaid N.kind N.value_of bytes.now pos 0 (vec_len items.new) items.new.items }
+    ensures said { AreLeavesSaid N.kind N.value_of bytes.now pos 0 (vec_len items.new)
+        items.new.items }
 {
     while BLOCK <= count - items.len() {
         read_block(alloc, bytes, pos, items);

@@ -52,7 +52,8 @@ pub trait Leaf {
         requires { length out.old ≡ kind_size leaf_kind }
         ensures bytes { out.new ≡ leaf_bytes self.now }
         ensures sized { length out.new ≡ kind_size leaf_kind }
-        ensures resolved { (D : Definitions) (p : ℕ) → Resolves D p out.new (leaf leaf_kind) (number (leaf_number self.now)) };
+        ensures resolved { (D : Definitions) (p : ℕ) → Resolves D p out.new (leaf leaf_kind)
+            (number (leaf_number self.now)) };
 
     // The format has the size of the leaf.
     ghost leaf_size: { Self.LeafFormat.layout.size ≡ kind_size leaf_kind };
@@ -144,7 +145,8 @@ impl<L: Leaf> Archive for L {
 
     ghost keyed = { λ n. number_keyed (L.leaf_number n) };
 
-    ghost planned = { λ n. leaf_planned L.LeafFormat.definitions L.LeafFormat.shape L.leaf_kind [] (L.leaf_number n) L.leaf_shape };
+    ghost planned = { λ n. leaf_planned L.LeafFormat.definitions L.LeafFormat.shape L.leaf_kind []
+        (L.leaf_number n) L.leaf_shape };
 
     #[inline(always)]
     fn resolve(&self, _resolver: (), place: Place<'_, L::LeafFormat>) -> Result<(), Error>
@@ -179,8 +181,8 @@ impl<L: Leaf, S: Writer + Keys> Serialize<S> for L {
     #[tactic(auto, using(crate::proofs::Planning::Causes::goes_nowhere))]
     #[inline(always)]
     fn serialize(&self, _serializer: &mut S) -> Result<(), Error>
-        ensures outcome { Serializes ⟦<Self as Archive>⟧ ⟦<Self::Archived as Portable>⟧ self.now S.Keys
-            _serializer result }
+        ensures outcome { Serializes ⟦<Self as Archive>⟧ ⟦<Self::Archived as Portable>⟧ self.now
+            S.Keys _serializer result }
         ensures unchanged { S.state _serializer.new ≡ S.state _serializer.old }
         ensures succeeds { IsOk result }
     {
@@ -202,8 +204,10 @@ impl<L: Leaf> ArchiveUnsized for L {
 
     ghost one_length = { λ _ _. refl };
 
-    ghost planned = { λ n. pointee_planned L.LeafFormat.definitions L.LeafFormat.pointee L.LeafFormat.shape L.LeafFormat.is_one [] (number (L.leaf_number n))
-        (leaf_planned L.LeafFormat.definitions L.LeafFormat.shape L.leaf_kind [] (L.leaf_number n) L.leaf_shape) };
+    ghost planned = { λ n. pointee_planned L.LeafFormat.definitions L.LeafFormat.pointee
+        L.LeafFormat.shape L.LeafFormat.is_one [] (number (L.leaf_number n))
+        (leaf_planned L.LeafFormat.definitions L.LeafFormat.shape L.leaf_kind [] (L.leaf_number n)
+        L.leaf_shape) };
 
     #[inline(always)]
     fn archived_metadata(&self) -> Result<ArchivedMetadata<L>, Error> {

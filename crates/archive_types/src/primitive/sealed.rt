@@ -32,7 +32,8 @@ pub trait SealedLeaf: ArchivePointee {
     ghost same_size: { kind_size kind ≡ Self.Written.byte_count };
 
     // Those of each value that it may hold are legal there, and say that value.
-    ghost encodes: { (x : Self.Written) → Self.Written.fits x → can_hold x → Encodes kind (Self.Written.bytes_of x) (Self.Written.value_of x) };
+    ghost encodes: { (x : Self.Written) → Self.Written.fits x → can_hold x
+        → Encodes kind (Self.Written.bytes_of x) (Self.Written.value_of x) };
 }
 
 impl<N: Native> SealedLeaf for LittleEndian<N> {
@@ -46,7 +47,8 @@ impl<N: Native> SealedLeaf for LittleEndian<N> {
 
     ghost same_size = { N.size_law };
 
-    ghost encodes = { λ x fits _. value_encodes N.value_of N.number_of N.bytes_of N.kind x N.value_law (N.number_law x fits) (N.leaf_law x fits) };
+    ghost encodes = { λ x fits _. value_encodes N.value_of N.number_of N.bytes_of N.kind x
+        N.value_law (N.number_law x fits) (N.leaf_law x fits) };
 }
 
 impl<N: Integer> SealedLeaf for NonZero<N> {
@@ -60,8 +62,9 @@ impl<N: Integer> SealedLeaf for NonZero<N> {
 
     ghost same_size = { non_zero_size N.kind N.sign N.width N.byte_count N.integer_law N.size_law };
 
-    ghost encodes = { λ x fits other. non_zero_encodes N.kind N.sign N.width (N.bytes_of x) (N.value_of x) N.integer_law
-        (value_encodes N.value_of N.number_of N.bytes_of N.kind x N.value_law (N.number_law x fits) (N.leaf_law x fits)) other };
+    ghost encodes = { λ x fits other. non_zero_encodes N.kind N.sign N.width (N.bytes_of x)
+        (N.value_of x) N.integer_law (value_encodes N.value_of N.number_of N.bytes_of N.kind x
+        N.value_law (N.number_law x fits) (N.leaf_law x fits)) other };
 }
 
 impl SealedLeaf for bool {
@@ -75,7 +78,8 @@ impl SealedLeaf for bool {
 
     ghost same_size = { refl };
 
-    ghost encodes = { λ x _ _. value_encodes (λ b. pos (bool_byte b)) (λ bs. slice_index bs 0 == 1) (λ b. bool_byte b ∷ []) bool x bool-value (bool-number x) (bool-leaf x) };
+    ghost encodes = { λ x _ _. value_encodes (λ b. pos (bool_byte b)) (λ bs. slice_index bs 0 == 1)
+        (λ b. bool_byte b ∷ []) bool x bool-value (bool-number x) (bool-leaf x) };
 }
 
 impl SealedLeaf for u8 {
@@ -89,7 +93,8 @@ impl SealedLeaf for u8 {
 
     ghost same_size = { refl };
 
-    ghost encodes = { λ x fits _. value_encodes (λ n. pos n) little_number (little_bytes 1) (number unsigned w8) x (unsigned-value w8) (unsigned-number w8 x fits)
+    ghost encodes = { λ x fits _. value_encodes (λ n. pos n) little_number (little_bytes 1)
+        (number unsigned w8) x (unsigned-value w8) (unsigned-number w8 x fits)
         (number-leaf unsigned w8 (little_bytes 1 x) (length-little_bytes 1 x)) };
 }
 
@@ -104,6 +109,8 @@ impl SealedLeaf for i8 {
 
     ghost same_size = { refl };
 
-    ghost encodes = { λ x fits _. value_encodes (λ z. z) (λ bs. cast_signed w8 (little_number bs)) (λ z. little_bytes 1 (cast_unsigned w8 z)) (number signed w8) x (signed-value w8)
-        (signed-number w8 x fits) (number-leaf signed w8 (little_bytes 1 (cast_unsigned w8 x)) (length-little_bytes 1 (cast_unsigned w8 x))) };
+    ghost encodes = { λ x fits _. value_encodes (λ z. z) (λ bs. cast_signed w8 (little_number bs))
+        (λ z. little_bytes 1 (cast_unsigned w8 z)) (number signed w8) x (signed-value w8)
+        (signed-number w8 x fits) (number-leaf signed w8 (little_bytes 1 (cast_unsigned w8 x))
+        (length-little_bytes 1 (cast_unsigned w8 x))) };
 }

@@ -52,7 +52,8 @@ impl Archive for usize {
 
     ghost keyed = { λ n. number_keyed (pos n) };
 
-    ghost planned = { λ n. leaf_planned no_definition (leaf (number unsigned w32)) (number unsigned w32) [] (pos n) refl };
+    ghost planned = { λ n. leaf_planned no_definition (leaf (number unsigned w32))
+        (number unsigned w32) [] (pos n) refl };
 
     #[tactic(auto, using(crate::proofs::Writing::Resolving::resolves_usize))]
     #[inline(always)]
@@ -90,8 +91,8 @@ impl<S: Writer + Keys> Serialize<S> for usize {
     #[tactic(auto, using(crate::proofs::Planning::Causes::goes_nowhere, crate::proofs::Planning::Planned::usize_refused))]
     #[inline(always)]
     fn serialize(&self, _serializer: &mut S) -> Result<(), Error>
-        ensures outcome { Serializes ⟦<Self as Archive>⟧ ⟦<Self::Archived as Portable>⟧ self.now S.Keys
-            _serializer result }
+        ensures outcome { Serializes ⟦<Self as Archive>⟧ ⟦<Self::Archived as Portable>⟧ self.now
+            S.Keys _serializer result }
         ensures unchanged { S.state _serializer.new ≡ S.state _serializer.old }
         ensures cause { IfErr result (λ e. (e ≡ NumberTooLarge) × (self.now < 2 ^ 32 → ⊥)) }
     {
@@ -116,7 +117,9 @@ impl ArchiveUnsized for usize {
 
     ghost one_length = { λ _ _. refl };
 
-    ghost planned = { λ n. one_planned no_definition (leaf (number unsigned w32)) [] (number_value (pos n)) (leaf_planned no_definition (leaf (number unsigned w32)) (number unsigned w32) [] (pos n) refl) };
+    ghost planned = { λ n. one_planned no_definition (leaf (number unsigned w32)) []
+        (number_value (pos n)) (leaf_planned no_definition (leaf (number unsigned w32))
+        (number unsigned w32) [] (pos n) refl) };
 
     #[inline(always)]
     fn archived_metadata(&self) -> Result<(), Error> {
@@ -138,7 +141,8 @@ impl<D: Entries> Deserialize<usize, D> for ArchivedUsize {
         _deserializer: &mut D,
     ) -> Result<usize, Error>
         requires { IsPartOf ⟦<Self as ArchivePointee>⟧ part }
-        ensures read { IfOk result (Read ⟦<Self as ArchivePointee>⟧ part D.Entries _deserializer ⟦<usize as Archive>⟧) }
+        ensures read { IfOk result (Read ⟦<Self as ArchivePointee>⟧ part D.Entries _deserializer
+            ⟦<usize as Archive>⟧) }
         ensures number { IfOk result (λ n. n ≡ part_number part.entry 4) }
         ensures unchanged { D.entry_of _deserializer.new ≡ D.entry_of _deserializer.old }
         ensures succeeds { IsOk result }
@@ -165,7 +169,8 @@ impl Archive for isize {
 
     ghost keyed = { λ n. number_keyed n };
 
-    ghost planned = { λ n. leaf_planned no_definition (leaf (number signed w32)) (number signed w32) [] n refl };
+    ghost planned = { λ n. leaf_planned no_definition (leaf (number signed w32)) (number signed w32)
+        [] n refl };
 
     #[tactic(auto, using(crate::proofs::Writing::Resolving::resolves_isize))]
     #[inline(always)]
@@ -203,8 +208,8 @@ impl<S: Writer + Keys> Serialize<S> for isize {
     #[tactic(auto, using(crate::proofs::Planning::Causes::goes_nowhere, crate::proofs::Planning::Planned::isize_refused))]
     #[inline(always)]
     fn serialize(&self, _serializer: &mut S) -> Result<(), Error>
-        ensures outcome { Serializes ⟦<Self as Archive>⟧ ⟦<Self::Archived as Portable>⟧ self.now S.Keys
-            _serializer result }
+        ensures outcome { Serializes ⟦<Self as Archive>⟧ ⟦<Self::Archived as Portable>⟧ self.now
+            S.Keys _serializer result }
         ensures unchanged { S.state _serializer.new ≡ S.state _serializer.old }
         ensures cause { IfErr result (λ e. (e ≡ NumberTooLarge) × (FitsSigned w32 self.now → ⊥)) }
     {
@@ -229,7 +234,8 @@ impl ArchiveUnsized for isize {
 
     ghost one_length = { λ _ _. refl };
 
-    ghost planned = { λ n. one_planned no_definition (leaf (number signed w32)) [] (number_value n) (leaf_planned no_definition (leaf (number signed w32)) (number signed w32) [] n refl) };
+    ghost planned = { λ n. one_planned no_definition (leaf (number signed w32)) [] (number_value n)
+        (leaf_planned no_definition (leaf (number signed w32)) (number signed w32) [] n refl) };
 
     #[inline(always)]
     fn archived_metadata(&self) -> Result<(), Error> {
@@ -251,7 +257,8 @@ impl<D: Entries> Deserialize<isize, D> for ArchivedIsize {
         _deserializer: &mut D,
     ) -> Result<isize, Error>
         requires { IsPartOf ⟦<Self as ArchivePointee>⟧ part }
-        ensures read { IfOk result (Read ⟦<Self as ArchivePointee>⟧ part D.Entries _deserializer ⟦<isize as Archive>⟧) }
+        ensures read { IfOk result (Read ⟦<Self as ArchivePointee>⟧ part D.Entries _deserializer
+            ⟦<isize as Archive>⟧) }
         ensures number { IfOk result (λ n. n ≡ cast_signed w32 (part_number part.entry 4)) }
         ensures unchanged { D.entry_of _deserializer.new ≡ D.entry_of _deserializer.old }
         ensures succeeds { IsOk result }

@@ -29,7 +29,8 @@ impl<'a, T: PortablePointee, F: Flavor> Ref<'a, ArchivedRc<T, F>> {
     /// What the pointer leads to. As in rkyv 0.8.18.
     pub fn get(self) -> Ref<'a, T>
         ensures buffer { result.bytes.now ≡ self.entry.bytes.now }
-        ensures position { result.pos ≡ target_from self.entry.bytes.now self.entry.pos self.entry.pos }
+        ensures position { result.pos ≡ target_from self.entry.bytes.now self.entry.pos
+            self.entry.pos }
         ensures length { result.len ≡ length_at self.entry.bytes.now self.entry.pos T.pointee }
         ensures says { ShowsValue self.entry (shared_value result.pos) }
         ensures beside { StandsBeside result self.entry }
@@ -49,7 +50,8 @@ impl<'a, T: PortablePointee, F: Flavor> Ref<'a, ArchivedRcWeak<T, F>> {
     pub fn upgrade(self) -> Option<Ref<'a, T>>
         ensures some { IfSome result (IsTargetOf self.entry) }
         ensures none { IfNone result (ShowsValue self.entry null) }
-        ensures offset { IfSome result (λ r. i32_at self.entry.bytes.now self.entry.pos ≡ whole 1 → ⊥) }
+        ensures offset { IfSome result (λ r. i32_at self.entry.bytes.now self.entry.pos ≡ whole 1
+            → ⊥) }
         ensures null { i32_at self.entry.bytes.now self.entry.pos ≡ whole 1 → IsNone result }
         ensures beside { IfSome result (λ r. StandsBeside r self.entry) }
         ensures is_null { IfNone result (i32_at self.entry.bytes.now self.entry.pos ≡ whole 1) }

@@ -67,11 +67,11 @@ pub fn write_shared<F: Flavor, U: SerializeUnsized<S>, S: Sharing + Writer>(
     value: &U,
     writer: &mut S,
 ) -> Result<usize, Error>
-    ensures outcome { SerializesTo U.Archived.definitions (shared (flavor_of_type F.Flavor) U.Archived.pointee)
+    ensures outcome { SerializesTo U.Archived.definitions
+        (shared (flavor_of_type F.Flavor) U.Archived.pointee)
         (keys_under F.Flavor U.Archived.ArchivePointee U.ArchiveUnsized key value.now)
-        (shared_value key)
-        (shared_flat (flavor_of_type F.Flavor) U.Archived.pointee (U.source_length value.now))
-        (λ _. ⊤) (S.state writer.old) (S.state writer.new) result }
+        (shared_value key) (shared_flat (flavor_of_type F.Flavor) U.Archived.pointee
+        (U.source_length value.now)) (λ _. ⊤) (S.state writer.old) (S.state writer.new) result }
     ensures pending { AnswersPending key result S.Keys writer }
 {
     let pos = writer.serialize_shared(key, value)?;
@@ -95,9 +95,11 @@ pub fn write_pointer<T: PortablePointee>(
 ) -> Result<(), Error>
     requires sized { length bytes.old ≡ pointer_size T.pointee }
     requires counted { has_length T.pointee ≡ false → count ≡ 0 }
-    ensures written { OnOk result (bytes.new ≡ owner_bytes (has_length T.pointee) (distance pos target) count) }
+    ensures written { OnOk result (bytes.new ≡ owner_bytes (has_length T.pointee)
+        (distance pos target) count) }
     ensures fits { OnOk result (FitsSigned w32 (distance pos target)) }
-    ensures refused { IfErr result (λ e. (bytes.new ≡ bytes.old) × IsTooFar e (distance pos target)) }
+    ensures refused { IfErr result (λ e. (bytes.new ≡ bytes.old)
+        × IsTooFar e (distance pos target)) }
     ensures same_length { length bytes.new ≡ length bytes.old }
 {
     emplace_pointer(T::has_length(), target, count, pos, bytes)
@@ -162,7 +164,8 @@ where
         requires one_value { has_length T.pointee ≡ false → U.source_length value.now ≡ 0 }
         requires held { U.source_length value.now ≤ 4294967295 }
         ensures outcome { ResolvesAs ⟦<Self as Portable>⟧ place
-            (shared_flat (flavor_of_type F.Flavor) T.pointee (U.source_length value.now) resolver) result }
+            (shared_flat (flavor_of_type F.Flavor) T.pointee (U.source_length value.now) resolver)
+            result }
         ensures cause { IfErr result (IsTooFarFrom place resolver) }
     {
         let Place { bytes, pos, .. } = place;
@@ -197,12 +200,14 @@ where
         serializer: &mut S,
     ) -> Result<RcWeakResolver, Error>
         ensures outcome { SerializesAs ⟦<Self as Portable>⟧
-            (weak_keys (λ u. keys_under F.Flavor T.ArchivePointee U.ArchiveUnsized key u.now) value.entry)
-            (weak_value (λ u. shared_value key) value.entry)
-            (weak_flat (flavor_of_type F.Flavor) T.pointee (weak_count (λ u. U.source_length u.now) value.entry))
+            (weak_keys (λ u. keys_under F.Flavor T.ArchivePointee U.ArchiveUnsized key u.now)
+            value.entry) (weak_value (λ u. shared_value key) value.entry)
+            (weak_flat (flavor_of_type F.Flavor) T.pointee
+            (weak_count (λ u. U.source_length u.now) value.entry))
             (λ _. weak_count (λ u. U.source_length u.now) value.entry ≤ 4294967295) S.Keys
             serializer result }
-        ensures null { value.entry ≡ None → IsOk result × (S.state serializer.new ≡ S.state serializer.old) }
+        ensures null { value.entry ≡ None → IsOk result
+            × (S.state serializer.new ≡ S.state serializer.old) }
     {
         let Some(value) = value else {
             return Ok(None);
@@ -224,12 +229,14 @@ where
         place: Place<'_, ArchivedRcWeak<T, F>>,
     ) -> Result<(), Error>
         requires sized { length place.bytes.now ≡ pointer_size T.pointee }
-        requires one_value { has_length T.pointee ≡ false → weak_count (λ u. U.source_length u.now) value ≡ 0 }
+        requires one_value { has_length T.pointee ≡ false
+            → weak_count (λ u. U.source_length u.now) value ≡ 0 }
         requires held { weak_count (λ u. U.source_length u.now) value ≤ 4294967295 }
         ensures outcome { ResolvesAs ⟦<Self as Portable>⟧ place
             (weak_flat (flavor_of_type F.Flavor) T.pointee
             (weak_count (λ u. U.source_length u.now) value.entry) resolver) result }
-        ensures null { resolver ≡ None → IsOk result × (place.exit.0.now ≡ owner_bytes (has_length T.pointee) (whole 1) 0) }
+        ensures null { resolver ≡ None → IsOk result × (place.exit.0.now
+            ≡ owner_bytes (has_length T.pointee) (whole 1) 0) }
     {
         let Place { bytes, pos, .. } = place;
         let Some(resolver) = resolver else {

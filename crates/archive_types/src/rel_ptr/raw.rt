@@ -195,7 +195,8 @@ impl<O: Offset> RawRelPtr<O> {
 impl<'a, O: Offset> Ref<'a, RawRelPtr<O>> {
     /// How far it is to what the pointer leads to, in bytes from the pointer's own position. An offset of 64 bits above `isize::MAX` wraps.
     pub fn offset(self) -> isize
-        ensures { result ≡ offset_at O.Number.sign O.Number.width self.entry.bytes.now self.entry.pos }
+        ensures { result ≡ offset_at O.Number.sign O.Number.width self.entry.bytes.now
+            self.entry.pos }
     {
         let RawView { bytes, pos, .. } = self.part();
         read_offset::<O::Number>(bytes, pos)
@@ -203,7 +204,8 @@ impl<'a, O: Offset> Ref<'a, RawRelPtr<O>> {
 
     /// Whether the pointer is an invalid one: its offset is 1.
     pub fn is_invalid(self) -> bool
-        ensures { result ≡ int_eq (offset_at O.Number.sign O.Number.width self.entry.bytes.now self.entry.pos) (pos 1) }
+        ensures { result ≡ int_eq (offset_at O.Number.sign O.Number.width self.entry.bytes.now
+            self.entry.pos) (pos 1) }
     {
         self.offset() == 1
     }
@@ -211,7 +213,8 @@ impl<'a, O: Offset> Ref<'a, RawRelPtr<O>> {
     /// Where it leads: its position and its offset together, in bytes from the buffer's first one. It may lie outside the buffer. Our own: rkyv 0.8.18
     /// has pointers of the machine.
     pub fn target(self) -> i128
-        ensures { result ≡ pos self.entry.pos +ℤ offset_at O.Number.sign O.Number.width self.entry.bytes.now self.entry.pos }
+        ensures { result ≡ pos self.entry.pos +ℤ offset_at O.Number.sign O.Number.width
+            self.entry.bytes.now self.entry.pos }
     {
         self.pos() as i128 + self.offset() as i128
     }

@@ -82,7 +82,8 @@ fn write_pointer<N: OffsetNumber, M: Metadata>(
     bytes: &mut [u8],
 ) -> Result<(), Error>
     requires { length bytes.old ≡ (rel_layout N.width M.is_length).size }
-    ensures { RelWritten N.sign N.width M.is_length distance (M.count metadata) bytes.old bytes.new result }
+    ensures { RelWritten N.sign N.width M.is_length distance (M.count metadata) bytes.old bytes.new
+        result }
 {
     let (offset, _) = bytes.split_at_mut(N::integer_kind().size());
     write_offset::<N>(distance, offset)?;
@@ -98,7 +99,8 @@ where
 {
     type ArchivedMetadata = ();
 
-    ghost pointee = { one (parts (rel_parts O.Number.sign O.Number.width T.ArchivedMetadata.is_length)) };
+    ghost pointee = { one (parts (rel_parts O.Number.sign O.Number.width
+        T.ArchivedMetadata.is_length)) };
 
     ghost definitions = { no_definition };
 
@@ -121,11 +123,14 @@ where
 
     ghost is_one = { refl };
 
-    ghost is_align = { rel_align O.Number.width O.Number.at_most_64_bits T.ArchivedMetadata.is_length };
+    ghost is_align = { rel_align O.Number.width O.Number.at_most_64_bits
+        T.ArchivedMetadata.is_length };
 
-    ghost has_layout = { rel_has_layout O.Number.sign O.Number.width O.Number.at_most_64_bits T.ArchivedMetadata.is_length };
+    ghost has_layout = { rel_has_layout O.Number.sign O.Number.width O.Number.at_most_64_bits
+        T.ArchivedMetadata.is_length };
 
-    ghost no_others = { no_definition_reached (parts (rel_parts O.Number.sign O.Number.width T.ArchivedMetadata.is_length)) };
+    ghost no_others = { no_definition_reached (parts (rel_parts O.Number.sign O.Number.width
+        T.ArchivedMetadata.is_length)) };
 
     ghost checks = { λ direct. by_schema direct };
 
@@ -169,8 +174,10 @@ where
         metadata: T::ArchivedMetadata,
         place: Place<'_, RelPtr<T, O>>,
     ) -> Result<(), Error>
-        requires { length place.bytes.now ≡ (rel_layout O.Number.width T.ArchivedMetadata.is_length).size }
-        ensures { PointerPut O.Number.sign O.Number.width T.ArchivedMetadata.Metadata metadata to place result }
+        requires { length place.bytes.now ≡ (rel_layout O.Number.width
+            T.ArchivedMetadata.is_length).size }
+        ensures { PointerPut O.Number.sign O.Number.width T.ArchivedMetadata.Metadata metadata to
+            place result }
     {
         let Place { bytes, pos, .. } = place;
         let distance = signed_offset(pos, to)?;
@@ -181,7 +188,8 @@ where
     /// if there is one. The caller must ensure that they are as many as the pointer has. It never
     /// fails.
     pub fn try_emplace_invalid(place: Place<'_, RelPtr<T, O>>) -> Result<(), Error>
-        requires { length place.bytes.now ≡ (rel_layout O.Number.width T.ArchivedMetadata.is_length).size }
+        requires { length place.bytes.now ≡ (rel_layout O.Number.width
+            T.ArchivedMetadata.is_length).size }
         ensures written { InvalidPut O.Number.width T.ArchivedMetadata.is_length place }
         ensures succeeds { IsOk result }
     {
@@ -209,7 +217,8 @@ where
 {
     /// How far it is to what the pointer leads to, in bytes from the pointer's own position. An offset of 64 bits above `isize::MAX` wraps.
     pub fn offset(self) -> isize
-        ensures { result ≡ offset_at O.Number.sign O.Number.width self.entry.bytes.now self.entry.pos }
+        ensures { result ≡ offset_at O.Number.sign O.Number.width self.entry.bytes.now
+            self.entry.pos }
     {
         let RawView { bytes, pos, .. } = self.part();
         read_offset::<O::Number>(bytes, pos)
@@ -217,14 +226,16 @@ where
 
     /// Whether the pointer is an invalid one: its offset is 1.
     pub fn is_invalid(self) -> bool
-        ensures { result ≡ int_eq (offset_at O.Number.sign O.Number.width self.entry.bytes.now self.entry.pos) (pos 1) }
+        ensures { result ≡ int_eq (offset_at O.Number.sign O.Number.width self.entry.bytes.now
+            self.entry.pos) (pos 1) }
     {
         self.offset() == 1
     }
 
     /// What is behind the offset: nothing, or a length.
     pub fn metadata(self) -> T::ArchivedMetadata
-        ensures { T.ArchivedMetadata.is_length ≡ true → T.ArchivedMetadata.count result ≡ length_of O.Number.width self.entry }
+        ensures { T.ArchivedMetadata.is_length ≡ true → T.ArchivedMetadata.count result
+            ≡ length_of O.Number.width self.entry }
     {
         if !T::ArchivedMetadata::is_length() {
             return T::ArchivedMetadata::from_length(0);
@@ -236,7 +247,8 @@ where
     /// Where it leads: its position and its offset together, in bytes from the buffer's first one. It may lie outside the buffer. Our own: rkyv 0.8.18
     /// has pointers of the machine.
     pub fn target(self) -> i128
-        ensures { result ≡ pos self.entry.pos +ℤ offset_at O.Number.sign O.Number.width self.entry.bytes.now self.entry.pos }
+        ensures { result ≡ pos self.entry.pos +ℤ offset_at O.Number.sign O.Number.width
+            self.entry.bytes.now self.entry.pos }
     {
         self.pos() as i128 + self.offset() as i128
     }

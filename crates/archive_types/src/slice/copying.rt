@@ -38,7 +38,8 @@ fn write_piece<W: Writer, T: Copied>(
     ensures copied { OnOk result (BytesAdded (each_bytes T.copied_bytes values.now) W.Keys writer) }
     ensures read { EachCopiedAs T.CopiedAs.Portable T.copied_meaning T.copied_bytes values.now }
     ensures goes_on { GoesOn (W.state writer.old) (W.state writer.new) }
-    ensures refused { IfErr result (WriteRefused (length values.now * T.CopiedAs.layout.size) W.position W.Keys writer) }
+    ensures refused { IfErr result (WriteRefused (length values.now * T.CopiedAs.layout.size)
+        W.position W.Keys writer) }
     ensures memory { IsErrOf result Error.OutOfMemory → IsTrue W.takes_memory }
     ensures keys { KeepsKeys (W.state writer.old).states (W.state writer.new).states }
 {
@@ -79,8 +80,10 @@ fn copy_by<W: Writer, T: Copied, const N: usize>(
     requires small { together * size ≤ N }
     requires few { N ≤ 1024 }
     ensures copied { OnOk result (BytesAdded (each_bytes T.copied_bytes values.now) W.Keys writer) }
-    ensures read { OnOk result (AllCopied T.CopiedAs.Portable size T.copied_meaning T.copied_bytes values.now) }
-    ensures refused { IfErr result (PiecesUnwritten W.position W.Keys writer (length values.now * size)) }
+    ensures read { OnOk result (AllCopied T.CopiedAs.Portable size T.copied_meaning T.copied_bytes
+        values.now) }
+    ensures refused { IfErr result (PiecesUnwritten W.position W.Keys writer
+        (length values.now * size)) }
     ensures memory { IsErrOf result Error.OutOfMemory → IsTrue W.takes_memory }
     ensures goes_on { GoesOn (W.state writer.old) (W.state writer.new) }
     ensures keys { KeepsKeys (W.state writer.old).states (W.state writer.new).states }
@@ -101,7 +104,8 @@ fn copy_by<W: Writer, T: Copied, const N: usize>(
 #[inline(always)]
 fn write_block<W: Writer, T: Copied>(values: &[T], bytes: &mut [u8], writer: &mut W) -> bool
     requires sized { length bytes.old ≡ length values.now * T.CopiedAs.layout.size }
-    ensures copied { IsTrue result → BytesAdded (each_bytes T.copied_bytes values.now) W.Keys writer }
+    ensures copied { IsTrue result → BytesAdded (each_bytes T.copied_bytes values.now) W.Keys
+        writer }
     ensures read { EachCopiedAs T.CopiedAs.Portable T.copied_meaning T.copied_bytes values.now }
     ensures goes_on { GoesOn (W.state writer.old) (W.state writer.new) }
     ensures keys { KeepsKeys (W.state writer.old).states (W.state writer.new).states }
@@ -119,7 +123,8 @@ fn copy_blocks<W: Writer, T: Copied, const N: usize>(values: &[T], writer: &mut 
     requires few { N ≤ 16384 }
     ensures within { result ≤ length values.now }
     ensures copied { BytesAdded (each_bytes T.copied_bytes (take result values.now)) W.Keys writer }
-    ensures read { EachCopiedAs T.CopiedAs.Portable T.copied_meaning T.copied_bytes (take result values.now) }
+    ensures read { EachCopiedAs T.CopiedAs.Portable T.copied_meaning T.copied_bytes
+        (take result values.now) }
     ensures goes_on { GoesOn (W.state writer.old) (W.state writer.new) }
     ensures keys { KeepsKeys (W.state writer.old).states (W.state writer.new).states }
 {
@@ -146,7 +151,8 @@ fn copy_blocks<W: Writer, T: Copied, const N: usize>(values: &[T], writer: &mut 
 fn copy_at_once<W: Writer, T: Copied>(values: &[T], writer: &mut W) -> usize
     ensures within { result ≤ length values.now }
     ensures copied { BytesAdded (each_bytes T.copied_bytes (take result values.now)) W.Keys writer }
-    ensures read { EachCopiedAs T.CopiedAs.Portable T.copied_meaning T.copied_bytes (take result values.now) }
+    ensures read { EachCopiedAs T.CopiedAs.Portable T.copied_meaning T.copied_bytes
+        (take result values.now) }
     ensures goes_on { GoesOn (W.state writer.old) (W.state writer.new) }
     ensures keys { KeepsKeys (W.state writer.old).states (W.state writer.new).states }
 {
@@ -159,8 +165,10 @@ fn copy_at_once<W: Writer, T: Copied>(values: &[T], writer: &mut W) -> usize
 #[inline(never)]
 fn with_blocks<W: Writer, T: Copied>(mut writer: W, values: &[T]) -> (W, usize)
     ensures within { result.1 ≤ length values.now }
-    ensures copied { (W.state result.0).bytes ≡ (W.state writer).bytes ++ each_bytes T.copied_bytes (take result.1 values.now) }
-    ensures read { EachCopiedAs T.CopiedAs.Portable T.copied_meaning T.copied_bytes (take result.1 values.now) }
+    ensures copied { (W.state result.0).bytes ≡ (W.state writer).bytes
+        ++ each_bytes T.copied_bytes (take result.1 values.now) }
+    ensures read { EachCopiedAs T.CopiedAs.Portable T.copied_meaning T.copied_bytes
+        (take result.1 values.now) }
     ensures goes_on { GoesOn (W.state writer) (W.state result.0) }
     ensures keys { KeepsKeys (W.state writer).states (W.state result.0).states }
 {
@@ -179,7 +187,8 @@ fn copy_first<W: Writer, T: Copied>(
     requires counted { length values.now * size < 2 ^ 64 }
     ensures within { result ≤ length values.now }
     ensures copied { BytesAdded (each_bytes T.copied_bytes (take result values.now)) W.Keys writer }
-    ensures read { EachCopiedAs T.CopiedAs.Portable T.copied_meaning T.copied_bytes (take result values.now) }
+    ensures read { EachCopiedAs T.CopiedAs.Portable T.copied_meaning T.copied_bytes
+        (take result values.now) }
     ensures goes_on { GoesOn (W.state writer.old) (W.state writer.new) }
     ensures keys { KeepsKeys (W.state writer.old).states (W.state writer.new).states }
 {
@@ -202,8 +211,10 @@ fn copy_long<W: Writer, T: Copied>(
     requires small { together * size ≤ 1024 }
     requires counted { length values.now * size < 2 ^ 64 }
     ensures copied { OnOk result (BytesAdded (each_bytes T.copied_bytes values.now) W.Keys writer) }
-    ensures read { OnOk result (AllCopied T.CopiedAs.Portable size T.copied_meaning T.copied_bytes values.now) }
-    ensures refused { IfErr result (PiecesUnwritten W.position W.Keys writer (length values.now * size)) }
+    ensures read { OnOk result (AllCopied T.CopiedAs.Portable size T.copied_meaning T.copied_bytes
+        values.now) }
+    ensures refused { IfErr result (PiecesUnwritten W.position W.Keys writer
+        (length values.now * size)) }
     ensures memory { IsErrOf result Error.OutOfMemory → IsTrue W.takes_memory }
     ensures goes_on { GoesOn (W.state writer.old) (W.state writer.new) }
     ensures keys { KeepsKeys (W.state writer.old).states (W.state writer.new).states }
@@ -225,8 +236,10 @@ fn copy_pieces<W: Writer, T: Copied>(
     requires small { together * size ≤ 1024 }
     requires counted { length values.now * size < 2 ^ 64 }
     ensures copied { OnOk result (BytesAdded (each_bytes T.copied_bytes values.now) W.Keys writer) }
-    ensures read { OnOk result (AllCopied T.CopiedAs.Portable size T.copied_meaning T.copied_bytes values.now) }
-    ensures refused { IfErr result (PiecesUnwritten W.position W.Keys writer (length values.now * size)) }
+    ensures read { OnOk result (AllCopied T.CopiedAs.Portable size T.copied_meaning T.copied_bytes
+        values.now) }
+    ensures refused { IfErr result (PiecesUnwritten W.position W.Keys writer
+        (length values.now * size)) }
     ensures memory { IsErrOf result Error.OutOfMemory → IsTrue W.takes_memory }
     ensures goes_on { GoesOn (W.state writer.old) (W.state writer.new) }
     ensures keys { KeepsKeys (W.state writer.old).states (W.state writer.new).states }
@@ -249,9 +262,11 @@ fn copy_aligned<W: Writer, T: Copied>(
     requires joined { 0 < together }
     requires small { together * size ≤ 1024 }
     ensures copied { OnOk result (BytesAdded (each_bytes T.copied_bytes values.now) W.Keys writer) }
-    ensures read { OnOk result (AllCopied T.CopiedAs.Portable size T.copied_meaning T.copied_bytes values.now) }
+    ensures read { OnOk result (AllCopied T.CopiedAs.Portable size T.copied_meaning T.copied_bytes
+        values.now) }
     ensures position { IfOk result (λ p. p ≡ W.position writer.old) }
-    ensures refused { IfErr result (CopyRefused W.position W.Keys writer (length values.now * size)) }
+    ensures refused { IfErr result (CopyRefused W.position W.Keys writer
+        (length values.now * size)) }
     ensures memory { IsErrOf result Error.OutOfMemory → IsTrue W.takes_memory }
     ensures goes_on { GoesOn (W.state writer.old) (W.state writer.new) }
     ensures keys { KeepsKeys (W.state writer.old).states (W.state writer.new).states }
@@ -273,18 +288,25 @@ fn copy_together<S: Writer + Keys, T: Copied>(
     serializer: &mut S,
 ) -> Result<usize, Error>
     requires same { size ≡ T.CopiedAs.layout.size }
-    requires owns_nothing { (v : T) → OwnsNothingAs T.CopiedAs.Portable (T.copied_keys v) (T.copied_meaning v) }
+    requires owns_nothing { (v : T) → OwnsNothingAs T.CopiedAs.Portable (T.copied_keys v)
+        (T.copied_meaning v) }
     requires joined { 0 < together }
     requires small { together * size ≤ 1024 }
-    ensures outcome { WritesElements T.copied_keys T.copied_meaning T.CopiedAs.Portable values.now S.Keys
-        serializer result }
-    ensures copied { OnOk result (AddedAligned T.CopiedAs.layout (each_bytes T.copied_bytes values.now) S.Keys serializer) }
-    ensures read { OnOk result (AllCopied T.CopiedAs.Portable size T.copied_meaning T.copied_bytes values.now) }
-    ensures position { IfOk result (λ p. p ≡ copies_from T.CopiedAs.layout (S.position serializer.old)) }
-    ensures cause { IfErr result (CopiesRefused S.position S.Keys serializer T.CopiedAs.layout (length values.now)) }
+    ensures outcome { WritesElements T.copied_keys T.copied_meaning T.CopiedAs.Portable values.now
+        S.Keys serializer result }
+    ensures copied { OnOk result (AddedAligned T.CopiedAs.layout
+        (each_bytes T.copied_bytes values.now) S.Keys serializer) }
+    ensures read { OnOk result (AllCopied T.CopiedAs.Portable size T.copied_meaning T.copied_bytes
+        values.now) }
+    ensures position { IfOk result (λ p. p ≡ copies_from T.CopiedAs.layout
+        (S.position serializer.old)) }
+    ensures cause { IfErr result (CopiesRefused S.position S.Keys serializer T.CopiedAs.layout
+        (length values.now)) }
     ensures memory { IsErrOf result Error.OutOfMemory → IsTrue S.takes_memory }
-    ensures succeeds { TakesCopies S.position S.Keys serializer S.takes_memory T.CopiedAs.layout (length values.now) → IsOk result }
-    ensures keys { OnOk result (KeepsKeys (S.state serializer.old).states (S.state serializer.new).states) }
+    ensures succeeds { TakesCopies S.position S.Keys serializer S.takes_memory T.CopiedAs.layout
+        (length values.now) → IsOk result }
+    ensures keys { OnOk result (KeepsKeys (S.state serializer.old).states
+        (S.state serializer.new).states) }
 {
     serializer.align_for_run::<T::CopiedAs>(values.len())?;
     copy_aligned(values, size, together, serializer)
@@ -302,12 +324,17 @@ pub fn copy_slice<S: Writer + Keys, T: CopiedSource>(
     values: &[T],
     serializer: &mut S,
 ) -> Result<usize, Error>
-    ensures outcome { WritesElements T.keys T.meaning T.Archived.Portable values.now S.Keys serializer result }
-    ensures copied { OnOk result (AddedAligned T.Archived.layout (each_bytes T.copied_bytes values.now) S.Keys serializer) }
-    ensures position { IfOk result (λ p. p ≡ copies_from T.Archived.layout (S.position serializer.old)) }
-    ensures cause { IfErr result (CopiesRefused S.position S.Keys serializer T.Archived.layout (length values.now)) }
+    ensures outcome { WritesElements T.keys T.meaning T.Archived.Portable values.now S.Keys
+        serializer result }
+    ensures copied { OnOk result (AddedAligned T.Archived.layout
+        (each_bytes T.copied_bytes values.now) S.Keys serializer) }
+    ensures position { IfOk result (λ p. p ≡ copies_from T.Archived.layout
+        (S.position serializer.old)) }
+    ensures cause { IfErr result (CopiesRefused S.position S.Keys serializer T.Archived.layout
+        (length values.now)) }
     ensures memory { IsErrOf result Error.OutOfMemory → IsTrue S.takes_memory }
-    ensures succeeds { TakesCopies S.position S.Keys serializer S.takes_memory T.Archived.layout (length values.now) → IsOk result }
+    ensures succeeds { TakesCopies S.position S.Keys serializer S.takes_memory T.Archived.layout
+        (length values.now) → IsOk result }
 {
     let size = T::copied_size();
     copy_together(values, size, 1, serializer)
@@ -322,10 +349,10 @@ pub fn copy_groups<S: Writer + Keys, T: Copied>(
     together: usize,
     serializer: &mut S,
 ) -> Result<Option<usize>, Error>
-    ensures outcome { CopiesElements T.copied_keys T.copied_meaning T.CopiedAs.Portable values.now S.Keys
-        serializer result }
-    ensures exact { CopiesInBulk (Some T.copied_bytes) together T.CopiedAs.layout values.now S.Keys serializer
-        S.takes_memory result }
+    ensures outcome { CopiesElements T.copied_keys T.copied_meaning T.CopiedAs.Portable values.now
+        S.Keys serializer result }
+    ensures exact { CopiesInBulk (Some T.copied_bytes) together T.CopiedAs.layout values.now S.Keys
+        serializer S.takes_memory result }
 {
     let size = T::copied_size();
     let together = together.max(1);
@@ -348,9 +375,11 @@ pub fn copy_arrays<S: Writer + Keys, T: CopiedSource, const N: usize>(
     requires { length arrays.now * N < 2 ^ 64 }
     ensures copied { OnOk result (AddedAligned T.Archived.layout
         (each_bytes (each_bytes T.copied_bytes) arrays.now) S.Keys serializer) }
-    ensures position { IfOk result (λ p. p ≡ copies_from T.Archived.layout (S.position serializer.old)) }
+    ensures position { IfOk result (λ p. p ≡ copies_from T.Archived.layout
+        (S.position serializer.old)) }
     ensures goes_on { GoesOn (S.state serializer.old) (S.state serializer.new) }
-    ensures cause { IfErr result (CopiesRefused S.position S.Keys serializer T.Archived.layout (length arrays.now * N)) }
+    ensures cause { IfErr result (CopiesRefused S.position S.Keys serializer T.Archived.layout
+        (length arrays.now * N)) }
     ensures memory { IsErrOf result Error.OutOfMemory → IsTrue S.takes_memory }
     ensures succeeds { TakesCopies S.position S.Keys serializer S.takes_memory T.Archived.layout
         (length arrays.now * N) → IsOk result }

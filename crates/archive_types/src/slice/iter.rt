@@ -44,7 +44,8 @@ impl<'a, T: Portable> Iter<'a, T> {
     // Views of elements, of which there are so many from the position of `run` on.
     pub(crate) fn over(run: RawView<'a>, len: usize) -> Iter<'a, T>
         requires { AreViewed T.definitions run.bytes.now run.pos T.layout.size T.pointee len }
-        ensures { elements_between result.slice T.layout.size result.front result.back ≡ first_elements run.entry T.layout.size len }
+        ensures { elements_between result.slice T.layout.size result.front result.back
+            ≡ first_elements run.entry T.layout.size len }
     {
         Iter {
             slice: run,
@@ -68,7 +69,8 @@ impl<'a, T: Portable> Iter<'a, T> {
 impl<'a, T: Portable> Ref<'a, ArchivedSlice<T>> {
     /// Views of the elements, in order and from either end. As in rkyv 0.8.18.
     pub fn iter(self) -> Iter<'a, T>
-        ensures { elements_between result.slice T.layout.size result.front result.back ≡ elements_shown T.layout.size self.entry }
+        ensures { elements_between result.slice T.layout.size result.front result.back
+            ≡ elements_shown T.layout.size self.entry }
     {
         Iter::over(self.part(), self.len())
     }
@@ -77,7 +79,8 @@ impl<'a, T: Portable> Ref<'a, ArchivedSlice<T>> {
 impl<'a, T: Portable> Iterator for Iter<'a, T> {
     type Item = Ref<'a, T>;
 
-    ghost next_gives = { YieldsFirstBy (λ v. shown v) (λ s. elements_between s.slice T.layout.size s.front s.back) };
+    ghost next_gives = { YieldsFirstBy (λ v. shown v)
+        (λ s. elements_between s.slice T.layout.size s.front s.back) };
 
     ghost remaining = { item_count (λ s. elements_between s.slice T.layout.size s.front s.back) };
 
@@ -98,7 +101,8 @@ impl<'a, T: Portable> Iterator for Iter<'a, T> {
 }
 
 impl<'a, T: Portable> DoubleEndedIterator for Iter<'a, T> {
-    ghost next_back_gives = { YieldsLastBy (λ v. shown v) (λ s. elements_between s.slice T.layout.size s.front s.back) };
+    ghost next_back_gives = { YieldsLastBy (λ v. shown v)
+        (λ s. elements_between s.slice T.layout.size s.front s.back) };
 
     fn next_back(&mut self) -> Option<Ref<'a, T>> {
         if self.front >= self.back {

@@ -34,7 +34,8 @@ fn put_first<T: Portable + Deserialize<U, D>, U: Archive + Drop, D: Entries>(
     requires room { count ≤ vec_capacity items.old }
     ensures few { vec_len items.new ≤ count }
     ensures room { count ≤ vec_capacity items.new }
-    ensures read { AreFirstRead T.definitions bytes.now pos T.layout.size T.pointee U.meaning U.keys items.new.items }
+    ensures read { AreFirstRead T.definitions bytes.now pos T.layout.size T.pointee U.meaning U.keys
+        items.new.items }
 {
     prove!(bytes.len() <= usize::MAX);
     T::deserialize_first(alloc, bytes, pos, T::size(), count, items);
@@ -50,7 +51,8 @@ pub(crate) fn read_each<T: Portable + Deserialize<U, D>, U: Archive + Drop, D: E
     deserializer: &mut D,
 ) -> Result<Vec<U>, Error>
     requires { AreViewed T.definitions part.bytes.now part.pos T.layout.size T.pointee count }
-    ensures read { IfOk result (λ v. ReadsEach T.Portable count part D.Entries deserializer U.Archive v.items) }
+    ensures read { IfOk result (λ v. ReadsEach T.Portable count part D.Entries deserializer
+        U.Archive v.items) }
     ensures whole { IfOk result (λ v. length v.items ≡ count) }
     ensures refused { IfErr result (RefusesEach T.Portable count part D.Entries deserializer) }
 {
@@ -72,7 +74,8 @@ pub fn read_elements<T: Portable + Deserialize<U, D>, U: Archive + Drop, D: Entr
     deserializer: &mut D,
 ) -> Result<Vec<U>, Error>
     requires { AreElementsOf T.Portable part }
-    ensures read { IfOk result (λ v. ReadsElements T.Portable part D.Entries deserializer U.Archive v.items) }
+    ensures read { IfOk result (λ v. ReadsElements T.Portable part D.Entries deserializer U.Archive
+        v.items) }
     ensures refused { IfErr result (RefusesElements T.Portable part D.Entries deserializer) }
 {
     let count = part.len;
@@ -88,8 +91,10 @@ impl<T: Portable + Deserialize<U, D>, U: Archive + Drop, D: Entries> Deserialize
         deserializer: &mut D,
     ) -> Result<Vec<U>, Error>
         requires { IsPartOf ⟦<Self as ArchivePointee>⟧ part }
-        ensures read { IfOk result (Read ⟦<Self as ArchivePointee>⟧ part D.Entries deserializer ⟦<Vec<U> as Archive>⟧) }
-        ensures refused { IfErr result (RefusesPart ⟦<Self as ArchivePointee>⟧ part D.Entries deserializer) }
+        ensures read { IfOk result (Read ⟦<Self as ArchivePointee>⟧ part D.Entries deserializer
+            ⟦<Vec<U> as Archive>⟧) }
+        ensures refused { IfErr result (RefusesPart ⟦<Self as ArchivePointee>⟧ part D.Entries
+            deserializer) }
     {
         read_elements::<T, U, D>(alloc, part, deserializer)
     }

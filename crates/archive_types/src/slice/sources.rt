@@ -68,10 +68,12 @@ pub(crate) fn serialize_in_turn<S: Writer + ResolverAlloc, T: Serialize<S>>(
     values: &[T],
     serializer: &mut S,
 ) -> Result<usize, Error>
-    ensures outcome { WritesElements T.keys T.meaning T.Archived.Portable values.now S.Keys serializer result }
-    ensures as_array { WritesRegion T.Archived.definitions (one (array (length values.now) T.Archived.shape)) 0
-        (each_keys T.keys values.now) (list (each_meaning T.meaning values.now))
-        (S.state serializer.old) (S.state serializer.new) result }
+    ensures outcome { WritesElements T.keys T.meaning T.Archived.Portable values.now S.Keys
+        serializer result }
+    ensures as_array { WritesRegion T.Archived.definitions
+        (one (array (length values.now) T.Archived.shape)) 0 (each_keys T.keys values.now)
+        (list (each_meaning T.meaning values.now)) (S.state serializer.old) (S.state serializer.new)
+        result }
 {
     let alloc = serializer.resolver_alloc();
     let resolvers = serialize_each(alloc, values, serializer)?;
@@ -86,11 +88,13 @@ pub(crate) fn serialize_slice<S: Writer + ResolverAlloc, T: Serialize<S>>(
     values: &[T],
     serializer: &mut S,
 ) -> Result<usize, Error>
-    ensures outcome { WritesElements T.keys T.meaning T.Archived.Portable values.now S.Keys serializer result }
+    ensures outcome { WritesElements T.keys T.meaning T.Archived.Portable values.now S.Keys
+        serializer result }
     ensures held { OnOk result (length values.now ≤ 4294967295) }
-    ensures too_long { 4294967295 < length values.now → AtOnce result LengthTooLarge S.Keys serializer }
-    ensures in_bulk { SliceInBulk T.in_bulk S.position S.Keys serializer S.takes_memory T.Archived.layout
-        values.now result }
+    ensures too_long { 4294967295 < length values.now
+        → AtOnce result LengthTooLarge S.Keys serializer }
+    ensures in_bulk { SliceInBulk T.in_bulk S.position S.Keys serializer S.takes_memory
+        T.Archived.layout values.now result }
 {
     if values.len() > u32::MAX as usize {
         return Err(Error::LengthTooLarge);
@@ -121,7 +125,8 @@ impl<'a, T: Archive> ArchiveUnsized for Slice<'a, T> {
 
     ghost one_length = { λ s e. is_long e };
 
-    ghost planned = { λ s. slice_planned T.Archived.definitions T.Archived.shape T.keys T.meaning T.planned s.slice.now };
+    ghost planned = { λ s. slice_planned T.Archived.definitions T.Archived.shape T.keys T.meaning
+        T.planned s.slice.now };
 
     #[inline(always)]
     fn archived_metadata(&self) -> Result<ArchivedUsize, Error> {
@@ -140,12 +145,13 @@ impl<'a, S: Writer + ResolverAlloc, T: Serialize<S>> SerializeUnsized<S> for Sli
     /// `usize::MAX`, as the elements do, and as the trait says it.
     #[inline(always)]
     fn serialize_unsized(&self, serializer: &mut S) -> Result<usize, Error>
-        ensures outcome { WritesUnsized ⟦<Self as ArchiveUnsized>⟧ ⟦<Self::Archived as ArchivePointee>⟧ self.now
-            S.Keys serializer result }
+        ensures outcome { WritesUnsized ⟦<Self as ArchiveUnsized>⟧
+            ⟦<Self::Archived as ArchivePointee>⟧ self.now S.Keys serializer result }
         ensures held { OnOk result (length self.now.slice.now ≤ 4294967295) }
-        ensures too_long { 4294967295 < length self.now.slice.now → AtOnce result LengthTooLarge S.Keys serializer }
-        ensures in_bulk { SliceInBulk T.in_bulk S.position S.Keys serializer S.takes_memory T.Archived.layout
-            self.now.slice.now result }
+        ensures too_long { 4294967295 < length self.now.slice.now
+            → AtOnce result LengthTooLarge S.Keys serializer }
+        ensures in_bulk { SliceInBulk T.in_bulk S.position S.Keys serializer S.takes_memory
+            T.Archived.layout self.now.slice.now result }
     {
         serialize_slice(self.slice, serializer)
     }

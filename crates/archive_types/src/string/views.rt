@@ -73,7 +73,8 @@ impl<'a> Ref<'a, ArchivedString> {
     fn text_elsewhere(self) -> &'a str
         requires { IsOutOfLine self.bytes.now self.pos }
         ensures text { result.now ≡ string_text self.entry.bytes.now self.entry.pos }
-        ensures length { length result.now ≡ decoded_length (u32_at self.entry.bytes.now self.entry.pos) }
+        ensures length { length result.now ≡ decoded_length
+            (u32_at self.entry.bytes.now self.entry.pos) }
         ensures says { ShowsValue self.entry (text_value result.now) }
     {
         let RawView { bytes, pos, .. } = self.part();
@@ -85,7 +86,8 @@ impl<'a> Ref<'a, ArchivedString> {
     #[inline(always)]
     pub(crate) fn long_text(self) -> Option<&'a str>
         ensures long { IfSome result (λ t. 16 ≤ length t.now) }
-        ensures text { IfSome result (λ t. t.now ≡ string_text self.entry.bytes.now self.entry.pos) }
+        ensures text { IfSome result (λ t. t.now ≡ string_text self.entry.bytes.now
+            self.entry.pos) }
     {
         let RawView { bytes, pos, .. } = self.part();
         if is_out_of_line(bytes, pos) && codes_sixteen(read_u32(bytes, pos)) {

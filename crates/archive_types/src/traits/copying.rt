@@ -68,14 +68,16 @@ pub trait Copied {
     fn copied_size() -> usize
         ensures size { result ≡ Self.CopiedAs.layout.size }
         ensures small { result ≤ 1024 }
-        ensures owns_nothing { (v : Self) → OwnsNothingAs Self.CopiedAs.Portable (copied_keys v) (copied_meaning v) };
+        ensures owns_nothing { (v : Self) → OwnsNothingAs Self.CopiedAs.Portable (copied_keys v)
+            (copied_meaning v) };
 
     /// Writes the value's bytes over `bytes`. The caller must ensure that these are as many as
     /// `copied_size` says.
     fn copy_one(&self, bytes: &mut [u8])
         requires sized { length bytes.old ≡ Self.CopiedAs.layout.size }
         ensures copied { bytes.new ≡ copied_bytes self.now }
-        ensures read { IsCopiedAs Self.CopiedAs.Portable (copied_meaning self.now) (copied_bytes self.now) };
+        ensures read { IsCopiedAs Self.CopiedAs.Portable (copied_meaning self.now)
+            (copied_bytes self.now) };
 
     /// Writes the bytes of the values, one after another, over `bytes`. The caller must ensure that
     /// these are as many as the values have together.
@@ -83,7 +85,8 @@ pub trait Copied {
     final fn copy_into(values: &[Self], bytes: &mut [u8])
         requires sized { length bytes.old ≡ length values.now * Self.CopiedAs.layout.size }
         ensures copied { bytes.new ≡ each_bytes Self.copied_bytes values.now }
-        ensures read { EachCopiedAs Self.CopiedAs.Portable Self.copied_meaning Self.copied_bytes values.now }
+        ensures read { EachCopiedAs Self.CopiedAs.Portable Self.copied_meaning Self.copied_bytes
+            values.now }
         ensures same_length { length bytes.new ≡ length bytes.old }
     {
         let size = Self::copied_size();

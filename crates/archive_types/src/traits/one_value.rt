@@ -18,7 +18,8 @@ impl<T: Portable + Deserialize<U, D>, U: Archive, D: Entries> DeserializeUnsized
         deserializer: &mut D,
     ) -> Result<U, Error>
         requires { IsPartOf T.ArchivePointee part }
-        ensures read { IfOk result (λ t. ReadsPart T.ArchivePointee part D.Entries deserializer (U.meaning t) (U.keys t)) }
+        ensures read { IfOk result (λ t. ReadsPart T.ArchivePointee part D.Entries deserializer
+            (U.meaning t) (U.keys t)) }
         ensures refused { IfErr result (RefusesPart T.ArchivePointee part D.Entries deserializer) }
     {
         T::deserialize_part(alloc, part, deserializer)

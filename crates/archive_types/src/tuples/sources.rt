@@ -34,7 +34,8 @@ impl<A: Archive> Archive for (A,) {
 
     ghost keyed = { λ v. record_keyed (part_keyed (A.keyed v.0) nothing_keyed) };
 
-    ghost planned = { λ v. product_planned _ _ _ _ (part_planned _ _ _ _ (A.planned v.0) no_part_planned) };
+    ghost planned = { λ v. product_planned _ _ _ _ (part_planned _ _ _ _ (A.planned v.0)
+        no_part_planned) };
 
     #[inline(always)]
     fn resolve(
@@ -42,7 +43,8 @@ impl<A: Archive> Archive for (A,) {
         resolver: (A::Resolver, ()),
         place: Place<'_, ArchivedTuple1<A::Archived>>,
     ) -> Result<(), Error>
-        requires zeroed { ZeroedPlace ⟦<Self::Archived as Portable>⟧.layout.size place.pos place.bytes.now }
+        requires zeroed { ZeroedPlace ⟦<Self::Archived as Portable>⟧.layout.size place.pos
+            place.bytes.now }
         requires same_value { ⟦<Self as Archive>⟧.belongs self.now resolver }
         ensures { ResolvesAs ⟦<Self::Archived as Portable>⟧ place
             (⟦<Self as Archive>⟧.flat self.now resolver) result }
@@ -88,9 +90,11 @@ impl<A: Archive, B: Archive> Archive for (A, B) {
 
     ghost in_bulk = { None };
 
-    ghost keyed = { λ v. record_keyed (part_keyed (A.keyed v.0) (part_keyed (B.keyed v.1) nothing_keyed)) };
+    ghost keyed = { λ v. record_keyed (part_keyed (A.keyed v.0)
+        (part_keyed (B.keyed v.1) nothing_keyed)) };
 
-    ghost planned = { λ v. product_planned _ _ _ _ (part_planned _ _ _ _ (A.planned v.0) (part_planned _ _ _ _ (B.planned v.1) no_part_planned)) };
+    ghost planned = { λ v. product_planned _ _ _ _ (part_planned _ _ _ _ (A.planned v.0)
+        (part_planned _ _ _ _ (B.planned v.1) no_part_planned)) };
 
     #[inline(always)]
     fn resolve(
@@ -98,7 +102,8 @@ impl<A: Archive, B: Archive> Archive for (A, B) {
         resolver: (A::Resolver, (B::Resolver, ())),
         place: Place<'_, ArchivedTuple2<A::Archived, B::Archived>>,
     ) -> Result<(), Error>
-        requires zeroed { ZeroedPlace ⟦<Self::Archived as Portable>⟧.layout.size place.pos place.bytes.now }
+        requires zeroed { ZeroedPlace ⟦<Self::Archived as Portable>⟧.layout.size place.pos
+            place.bytes.now }
         requires same_value { ⟦<Self as Archive>⟧.belongs self.now resolver }
         ensures { ResolvesAs ⟦<Self::Archived as Portable>⟧ place
             (⟦<Self as Archive>⟧.flat self.now resolver) result }
@@ -144,9 +149,12 @@ impl<A: Archive, B: Archive, C: Archive> Archive for (A, B, C) {
 
     ghost in_bulk = { None };
 
-    ghost keyed = { λ v. record_keyed (part_keyed (A.keyed v.0) (part_keyed (B.keyed v.1) (part_keyed (C.keyed v.2) nothing_keyed))) };
+    ghost keyed = { λ v. record_keyed (part_keyed (A.keyed v.0)
+        (part_keyed (B.keyed v.1) (part_keyed (C.keyed v.2) nothing_keyed))) };
 
-    ghost planned = { λ v. product_planned _ _ _ _ (part_planned _ _ _ _ (A.planned v.0) (part_planned _ _ _ _ (B.planned v.1) (part_planned _ _ _ _ (C.planned v.2) no_part_planned))) };
+    ghost planned = { λ v. product_planned _ _ _ _ (part_planned _ _ _ _ (A.planned v.0)
+        (part_planned _ _ _ _ (B.planned v.1) (part_planned _ _ _ _ (C.planned v.2)
+        no_part_planned))) };
 
     #[inline(always)]
     fn resolve(
@@ -154,7 +162,8 @@ impl<A: Archive, B: Archive, C: Archive> Archive for (A, B, C) {
         resolver: (A::Resolver, (B::Resolver, (C::Resolver, ()))),
         place: Place<'_, ArchivedTuple3<A::Archived, B::Archived, C::Archived>>,
     ) -> Result<(), Error>
-        requires zeroed { ZeroedPlace ⟦<Self::Archived as Portable>⟧.layout.size place.pos place.bytes.now }
+        requires zeroed { ZeroedPlace ⟦<Self::Archived as Portable>⟧.layout.size place.pos
+            place.bytes.now }
         requires same_value { ⟦<Self as Archive>⟧.belongs self.now resolver }
         ensures { ResolvesAs ⟦<Self::Archived as Portable>⟧ place
             (⟦<Self as Archive>⟧.flat self.now resolver) result }

@@ -41,9 +41,11 @@ where
 
     ghost in_bulk = { None };
 
-    ghost keyed = { whole_keyed ⟦<Parts12 as SourceParts<Self>>⟧.keys ⟦<Parts12 as SourceParts<Self>>⟧.meanings (Prim.search rules) };
+    ghost keyed = { whole_keyed ⟦<Parts12 as SourceParts<Self>>⟧.keys
+        ⟦<Parts12 as SourceParts<Self>>⟧.meanings (Prim.search rules) };
 
-    ghost planned = { whole_planned ⟦<Parts12 as SourceParts<Self>>⟧.keys ⟦<Parts12 as SourceParts<Self>>⟧.meanings (Prim.search rules) };
+    ghost planned = { whole_planned ⟦<Parts12 as SourceParts<Self>>⟧.keys
+        ⟦<Parts12 as SourceParts<Self>>⟧.meanings (Prim.search rules) };
 
     #[inline(always)]
     fn resolve(
@@ -51,7 +53,8 @@ where
         resolver: Self::Resolver,
         place: Place<'_, Self::Archived>,
     ) -> Result<(), Error>
-        requires zeroed { ZeroedPlace ⟦<Self::Archived as Portable>⟧.layout.size place.pos place.bytes.now }
+        requires zeroed { ZeroedPlace ⟦<Self::Archived as Portable>⟧.layout.size place.pos
+            place.bytes.now }
         requires same_value { ⟦<Self as Archive>⟧.belongs self.now resolver }
         ensures { ResolvesAs ⟦<Self::Archived as Portable>⟧ place
             (⟦<Self as Archive>⟧.flat self.now resolver) result }
@@ -99,11 +102,13 @@ where
 
     ghost keys = { λ v. ⟦<Parts12 as SourceParts<Self>>⟧.keys v };
 
-    ghost keyed = { whole_keyed ⟦<Parts12 as SourceParts<Self>>⟧.keys ⟦<Parts12 as SourceParts<Self>>⟧.meanings (Prim.search rules) };
+    ghost keyed = { whole_keyed ⟦<Parts12 as SourceParts<Self>>⟧.keys
+        ⟦<Parts12 as SourceParts<Self>>⟧.meanings (Prim.search rules) };
 
     ghost one_length = { λ _ _. refl };
 
-    ghost planned = { λ v. one_planned _ _ _ _ (whole_planned ⟦<Parts12 as SourceParts<Self>>⟧.keys ⟦<Parts12 as SourceParts<Self>>⟧.meanings (Prim.search rules) v) };
+    ghost planned = { λ v. one_planned _ _ _ _ (whole_planned ⟦<Parts12 as SourceParts<Self>>⟧.keys
+        ⟦<Parts12 as SourceParts<Self>>⟧.meanings (Prim.search rules) v) };
 
     #[inline(always)]
     fn archived_metadata(&self) -> Result<(), Error> {

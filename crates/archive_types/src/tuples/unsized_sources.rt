@@ -24,7 +24,8 @@ impl<A: Archive> ArchiveUnsized for (A,) {
 
     ghost one_length = { λ _ _. refl };
 
-    ghost planned = { λ v. one_planned _ _ _ _ (product_planned _ _ _ _ (part_planned _ _ _ _ (A.planned v.0) no_part_planned)) };
+    ghost planned = { λ v. one_planned _ _ _ _ (product_planned _ _ _ _
+        (part_planned _ _ _ _ (A.planned v.0) no_part_planned)) };
 
     #[inline(always)]
     fn archived_metadata(&self) -> Result<(), Error> {
@@ -48,11 +49,14 @@ impl<A: Archive, B: Archive> ArchiveUnsized for (A, B) {
 
     ghost keys = { ⟦<(A, B) as Archive>⟧.keys };
 
-    ghost keyed = { λ v. record_keyed (part_keyed (A.keyed v.0) (part_keyed (B.keyed v.1) nothing_keyed)) };
+    ghost keyed = { λ v. record_keyed (part_keyed (A.keyed v.0)
+        (part_keyed (B.keyed v.1) nothing_keyed)) };
 
     ghost one_length = { λ _ _. refl };
 
-    ghost planned = { λ v. one_planned _ _ _ _ (product_planned _ _ _ _ (part_planned _ _ _ _ (A.planned v.0) (part_planned _ _ _ _ (B.planned v.1) no_part_planned))) };
+    ghost planned = { λ v. one_planned _ _ _ _ (product_planned _ _ _ _
+        (part_planned _ _ _ _ (A.planned v.0) (part_planned _ _ _ _ (B.planned v.1)
+        no_part_planned))) };
 
     #[inline(always)]
     fn archived_metadata(&self) -> Result<(), Error> {
@@ -76,11 +80,14 @@ impl<A: Archive, B: Archive, C: Archive> ArchiveUnsized for (A, B, C) {
 
     ghost keys = { ⟦<(A, B, C) as Archive>⟧.keys };
 
-    ghost keyed = { λ v. record_keyed (part_keyed (A.keyed v.0) (part_keyed (B.keyed v.1) (part_keyed (C.keyed v.2) nothing_keyed))) };
+    ghost keyed = { λ v. record_keyed (part_keyed (A.keyed v.0)
+        (part_keyed (B.keyed v.1) (part_keyed (C.keyed v.2) nothing_keyed))) };
 
     ghost one_length = { λ _ _. refl };
 
-    ghost planned = { λ v. one_planned _ _ _ _ (product_planned _ _ _ _ (part_planned _ _ _ _ (A.planned v.0) (part_planned _ _ _ _ (B.planned v.1) (part_planned _ _ _ _ (C.planned v.2) no_part_planned)))) };
+    ghost planned = { λ v. one_planned _ _ _ _ (product_planned _ _ _ _
+        (part_planned _ _ _ _ (A.planned v.0) (part_planned _ _ _ _ (B.planned v.1)
+        (part_planned _ _ _ _ (C.planned v.2) no_part_planned)))) };
 
     #[inline(always)]
     fn archived_metadata(&self) -> Result<(), Error> {

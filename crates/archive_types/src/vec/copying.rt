@@ -39,14 +39,18 @@ impl<T: Portable> ArchivedVec<T> {
             (λ r. Serialized T.definitions (vec_shape T.shape) (each_keys U.keys value.now)
             (list (each_meaning U.meaning value.now)) (vec_flat T.shape (length value.now) r)
             (S.state serializer.old) (S.state serializer.new)) }
-        ensures copied { OnOk result (AddedAligned T.layout (each_bytes U.copied_bytes value.now) S.Keys serializer) }
+        ensures copied { OnOk result (AddedAligned T.layout (each_bytes U.copied_bytes value.now)
+            S.Keys serializer) }
         ensures position { IfOk result (λ r. r ≡ copies_from T.layout (S.position serializer.old)) }
         ensures held { OnOk result (length value.now ≤ 4294967295) }
         ensures goes_on { GoesOn (S.state serializer.old) (S.state serializer.new) }
-        ensures refused { IfErr result (ElementsRefused S.position S.Keys serializer T.layout (length value.now)) }
-        ensures too_long { 4294967295 < length value.now → AtOnce result LengthTooLarge S.Keys serializer }
+        ensures refused { IfErr result (ElementsRefused S.position S.Keys serializer T.layout
+            (length value.now)) }
+        ensures too_long { 4294967295 < length value.now
+            → AtOnce result LengthTooLarge S.Keys serializer }
         ensures memory { IsErrOf result Error.OutOfMemory → IsTrue S.takes_memory }
-        ensures succeeds { CopiesSucceed S.position S.Keys serializer S.takes_memory T.layout (length value.now) result }
+        ensures succeeds { CopiesSucceed S.position S.Keys serializer S.takes_memory T.layout
+            (length value.now) result }
     {
         if value.len() > u32::MAX as usize {
             return Err(Error::LengthTooLarge);

@@ -21,9 +21,11 @@ fn write_item<A: Allocator + Drop, S: Writer, U: Serialize<S>>(
     item: &U,
     serializer: &mut S,
 ) -> Result<(), Error>
-    ensures written { OnOk result (ItemPut U.Archive U.Archived.Portable item.now S.Keys serializer) }
+    ensures written { OnOk result (ItemPut U.Archive U.Archived.Portable item.now S.Keys
+        serializer) }
     ensures goes_on { GoesOn (S.state serializer.old) (S.state serializer.new) }
-    ensures refused { IfErr result (ItemUnput U.Archive U.Archived.Portable item.now S.Keys serializer) }
+    ensures refused { IfErr result (ItemUnput U.Archive U.Archived.Portable item.now S.Keys
+        serializer) }
 {
     let before = serializer.pos();
     let resolver = item.serialize(serializer)?;
@@ -48,8 +50,8 @@ impl<T: Portable> ArchivedVec<T> {
     >(iter: I, serializer: &mut S) -> Result<VecResolver, Error>
         requires can { I.can_next iter }
         requires ends { IsFinite (I.remaining iter) }
-        ensures { SerializesItems (Drains I.next_gives iter) U.keys U.meaning T.Portable S.Keys serializer
-            result }
+        ensures { SerializesItems (Drains I.next_gives iter) U.keys U.meaning T.Portable S.Keys
+            serializer result }
     {
         let alloc = serializer.resolver_alloc();
         let Ok(items) = iter.collect::<Vec<U, S::Alloc>>(alloc) else {
@@ -74,9 +76,11 @@ impl<T: Portable> ArchivedVec<T> {
     >(iter: I, serializer: &mut S) -> Result<VecResolver, Error>
         requires can { I.can_next iter }
         requires ends { IsFinite (I.remaining iter) }
-        ensures stored { IfOk result (ItemsStored I.next_gives iter U.Archive T.Portable S.Keys serializer) }
+        ensures stored { IfOk result (ItemsStored I.next_gives iter U.Archive T.Portable S.Keys
+            serializer) }
         ensures goes_on { GoesOn (S.state serializer.old) (S.state serializer.new) }
-        ensures refused { IfErr result (ItemsUnstored I.next_gives iter U.Archive T.Portable S.Keys serializer) }
+        ensures refused { IfErr result (ItemsUnstored I.next_gives iter U.Archive T.Portable S.Keys
+            serializer) }
     {
         let alloc = serializer.resolver_alloc();
         let pos = serializer.align_for::<T>()?;

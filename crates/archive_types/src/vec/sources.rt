@@ -79,9 +79,10 @@ impl<T: Portable> ArchivedVec<T> {
         ensures outcome { SerializesAs ⟦<Self as Portable>⟧ (each_keys U.keys value.now)
             (list (each_meaning U.meaning value.now)) (vec_flat T.shape (length value.now))
             (λ _. length value.now ≤ 4294967295) S.Keys serializer result }
-        ensures too_long { 4294967295 < length value.now → AtOnce result LengthTooLarge S.Keys serializer }
-        ensures in_bulk { OwnedInBulk U.in_bulk S.position S.Keys serializer S.takes_memory T.layout value.now
-            result }
+        ensures too_long { 4294967295 < length value.now
+            → AtOnce result LengthTooLarge S.Keys serializer }
+        ensures in_bulk { OwnedInBulk U.in_bulk S.position S.Keys serializer S.takes_memory T.layout
+            value.now result }
     {
         let pos = serialize_slice(value, serializer)?;
         let pos = position_of(pos)?;
@@ -101,7 +102,8 @@ impl<T: Portable> ArchivedVec<T> {
     ) -> Result<(), Error>
         requires sized { length place.bytes.now ≡ 8 }
         requires held { len ≤ 4294967295 }
-        ensures outcome { ResolvesAs ⟦<Self as Portable>⟧ place (vec_flat T.shape len resolver) result }
+        ensures outcome { ResolvesAs ⟦<Self as Portable>⟧ place (vec_flat T.shape len resolver)
+            result }
         ensures written { OnOk result (PointsTo place true resolver len) }
         ensures fits { OnOk result (FitsSigned w32 (distance place.entry.pos resolver)) }
         ensures cause { IfErr result (IsTooFarFrom place resolver) }
@@ -119,8 +121,8 @@ impl<T: Portable> ArchivedVec<T> {
     ) -> Result<(), Error>
         requires sized { length place.bytes.now ≡ 8 }
         requires held { length value.now ≤ 4294967295 }
-        ensures outcome { ResolvesAs ⟦<Self as Portable>⟧ place (vec_flat T.shape (length value.now) resolver)
-            result }
+        ensures outcome { ResolvesAs ⟦<Self as Portable>⟧ place
+            (vec_flat T.shape (length value.now) resolver) result }
         ensures written { OnOk result (PointsTo place true resolver (length value.now)) }
         ensures fits { OnOk result (FitsSigned w32 (distance place.entry.pos resolver)) }
         ensures cause { IfErr result (IsTooFarFrom place resolver) }
@@ -147,8 +149,10 @@ impl<T: Archive> Archive for Vec<T> {
 
     ghost keyed = { λ v. each_keyed T.keys T.meaning T.keyed v.items };
 
-    ghost planned = { λ v. vec_planned T.Archived.definitions T.Archived.shape (length v.items) (each_keys T.keys v.items) (list (each_meaning T.meaning v.items))
-        (slice_planned T.Archived.definitions T.Archived.shape T.keys T.meaning T.planned v.items) };
+    ghost planned = { λ v. vec_planned T.Archived.definitions T.Archived.shape (length v.items)
+        (each_keys T.keys v.items) (list (each_meaning T.meaning v.items))
+        (slice_planned T.Archived.definitions T.Archived.shape T.keys T.meaning T.planned
+        v.items) };
 
     #[inline(always)]
     fn resolve(
@@ -186,11 +190,12 @@ impl<S: Writer + ResolverAlloc, T: Serialize<S>> Serialize<S> for Vec<T> {
     /// Writes the elements, as `ArchivedVec::serialize_from_slice` does, with its errors.
     #[inline(always)]
     fn serialize(&self, serializer: &mut S) -> Result<VecResolver, Error>
-        ensures outcome { Serializes ⟦<Self as Archive>⟧ ⟦<Self::Archived as Portable>⟧ self.now S.Keys serializer
-            result }
-        ensures too_long { 4294967295 < length self.now.items → AtOnce result LengthTooLarge S.Keys serializer }
-        ensures in_bulk { OwnedInBulk T.in_bulk S.position S.Keys serializer S.takes_memory T.Archived.layout
-            self.now.items result }
+        ensures outcome { Serializes ⟦<Self as Archive>⟧ ⟦<Self::Archived as Portable>⟧ self.now
+            S.Keys serializer result }
+        ensures too_long { 4294967295 < length self.now.items
+            → AtOnce result LengthTooLarge S.Keys serializer }
+        ensures in_bulk { OwnedInBulk T.in_bulk S.position S.Keys serializer S.takes_memory
+            T.Archived.layout self.now.items result }
     {
         ArchivedVec::<T::Archived>::serialize_from_slice(self.as_slice(), serializer)
     }
@@ -210,9 +215,12 @@ impl<T: Archive> ArchiveUnsized for Vec<T> {
 
     ghost one_length = { λ _ _. refl };
 
-    ghost planned = { λ v. one_planned T.Archived.definitions (vec_shape T.Archived.shape) (each_keys T.keys v.items) (list (each_meaning T.meaning v.items))
-        (vec_planned T.Archived.definitions T.Archived.shape (length v.items) (each_keys T.keys v.items) (list (each_meaning T.meaning v.items))
-        (slice_planned T.Archived.definitions T.Archived.shape T.keys T.meaning T.planned v.items)) };
+    ghost planned = { λ v. one_planned T.Archived.definitions (vec_shape T.Archived.shape)
+        (each_keys T.keys v.items) (list (each_meaning T.meaning v.items))
+        (vec_planned T.Archived.definitions T.Archived.shape (length v.items)
+        (each_keys T.keys v.items) (list (each_meaning T.meaning v.items))
+        (slice_planned T.Archived.definitions T.Archived.shape T.keys T.meaning T.planned
+        v.items)) };
 
     #[inline(always)]
     fn archived_metadata(&self) -> Result<(), Error> {

@@ -21,7 +21,8 @@ pub struct Buffer<'a> {
 
 /// The bytes, of which none is written yet.
 impl<'a> From<&'a mut [u8]> for Buffer<'a> {
-    ghost from_gives = { λ b w. (w.bytes.now ≡ b.now) × (w.bytes.ghost_name ≡ b.ghost_name) × (w.len ≡ 0) };
+    ghost from_gives = { λ b w. (w.bytes.now ≡ b.now) × (w.bytes.ghost_name ≡ b.ghost_name)
+        × (w.len ≡ 0) };
 
     fn from(bytes: &'a mut [u8]) -> Buffer<'a> {
         Buffer { bytes, len: 0 }
@@ -55,7 +56,12 @@ impl<'a> Positional for Buffer<'a> {
 }
 
 impl<'a> Keys for Buffer<'a> {
-    ghost state = { λ b. record { bytes = take b.len b.bytes.now; room = Some (length b.bytes.now - b.len); failures = 0; states = no_keys } };
+    ghost state = { λ b. record {
+      bytes = take b.len b.bytes.now;
+      room = Some (length b.bytes.now - b.len);
+      failures = 0;
+      states = no_keys;
+    } };
 }
 
 /// A write fails with `BufferOverflow` exactly if the bytes don't fit, and then changes nothing. It
@@ -66,17 +72,22 @@ impl<'a> Writer for Buffer<'a> {
     ghost position_law = { λ b. sym (length-take-le b.len b.bytes.now b.in_bounds) };
 
     fn write(&mut self, bytes: &[u8]) -> Result<(), Error>
-        ensures written { OnOk result (HoldsMore self.old.len self.old.bytes.now self.new.len self.new.bytes.now bytes.now) }
-        ensures kept { OnErr result (KeepsHeld self.old.len self.old.bytes.now self.new.len self.new.bytes.now) }
+        ensures written { OnOk result (HoldsMore self.old.len self.old.bytes.now self.new.len
+            self.new.bytes.now bytes.now) }
+        ensures kept { OnErr result (KeepsHeld self.old.len self.old.bytes.now self.new.len
+            self.new.bytes.now) }
         ensures room { SpendsRest self.old.len self.old.bytes.now self.new.len self.new.bytes.now }
-        ensures refusal { IfErr result (ExplainsFull bytes.now self.old.len self.old.bytes.now self.new.len self.new.bytes.now) }
+        ensures refusal { IfErr result (ExplainsFull bytes.now self.old.len self.old.bytes.now
+            self.new.len self.new.bytes.now) }
         ensures device { 0 ≤ 0 }
         ensures keys { KeepsKeys no_keys no_keys }
         ensures memory { IsErrOf result Error.OutOfMemory → IsTrue false }
         ensures fits { IsOk result ↔ (self.old.len + length bytes.now ≤ length self.old.bytes.now) }
         ensures overflow { IfErr result (IsOverflow bytes.now self.old.len self.old.bytes.now) }
-        ensures unchanged { OnErr result ((self.new.bytes.now ≡ self.old.bytes.now) × (self.new.len ≡ self.old.len)) }
-        ensures beyond { drop self.new.len self.new.bytes.now ≡ drop self.new.len self.old.bytes.now }
+        ensures unchanged { OnErr result ((self.new.bytes.now ≡ self.old.bytes.now)
+            × (self.new.len ≡ self.old.len)) }
+        ensures beyond { drop self.new.len self.new.bytes.now
+            ≡ drop self.new.len self.old.bytes.now }
         ensures same_reference { self.new.bytes.ghost_name ≡ self.old.bytes.ghost_name }
     {
         if !self.write_at_once(bytes) {
@@ -91,14 +102,20 @@ impl<'a> Writer for Buffer<'a> {
 
     #[inline(always)]
     fn write_at_once(&mut self, bytes: &[u8]) -> bool
-        ensures written { IsTrue result → HoldsMore self.old.len self.old.bytes.now self.new.len self.new.bytes.now bytes.now }
-        ensures room { IsTrue result → SpendsRest self.old.len self.old.bytes.now self.new.len self.new.bytes.now }
+        ensures written { IsTrue result → HoldsMore self.old.len self.old.bytes.now self.new.len
+            self.new.bytes.now bytes.now }
+        ensures room { IsTrue result → SpendsRest self.old.len self.old.bytes.now self.new.len
+            self.new.bytes.now }
         ensures device { 0 ≤ 0 }
         ensures keys { KeepsKeys no_keys no_keys }
-        ensures untouched { IsFalse result → ⟦<Buffer<'a> as Keys>⟧.state self.new ≡ ⟦<Buffer<'a> as Keys>⟧.state self.old }
-        ensures unchanged { IsFalse result → (self.new.bytes.now ≡ self.old.bytes.now) × (self.new.len ≡ self.old.len) }
-        ensures fits { IsTrue result ↔ (self.old.len + length bytes.now ≤ length self.old.bytes.now) }
-        ensures beyond { drop self.new.len self.new.bytes.now ≡ drop self.new.len self.old.bytes.now }
+        ensures untouched { IsFalse result → ⟦<Buffer<'a> as Keys>⟧.state self.new
+            ≡ ⟦<Buffer<'a> as Keys>⟧.state self.old }
+        ensures unchanged { IsFalse result → (self.new.bytes.now ≡ self.old.bytes.now)
+            × (self.new.len ≡ self.old.len) }
+        ensures fits { IsTrue result ↔ (self.old.len + length bytes.now
+            ≤ length self.old.bytes.now) }
+        ensures beyond { drop self.new.len self.new.bytes.now
+            ≡ drop self.new.len self.old.bytes.now }
         ensures same_length { length self.new.bytes.now ≡ length self.old.bytes.now }
         ensures same_reference { self.new.bytes.ghost_name ≡ self.old.bytes.ghost_name }
     {

@@ -47,8 +47,10 @@ pub trait WriterExt: Writer {
     where
         Self: Sized,
         requires { n < 32 }
-        ensures written { OnOk result ((Self.state self.new).bytes ≡ (Self.state self.old).bytes ++ replicate n 0) }
-        ensures kept { OnErr result (IsBeginning (Self.state self.old).bytes (Self.state self.new).bytes) }
+        ensures written { OnOk result ((Self.state self.new).bytes ≡ (Self.state self.old).bytes
+            ++ replicate n 0) }
+        ensures kept { OnErr result (IsBeginning (Self.state self.old).bytes
+            (Self.state self.new).bytes) }
         ensures room { SpendsRoom Self.state self }
         ensures refusal { IfErr result (ExplainsWrite Self.state self Self.position n) }
         ensures device { (Self.state self.old).failures ≤ (Self.state self.new).failures }
@@ -73,7 +75,8 @@ pub trait WriterExt: Writer {
         requires high { align ≤ 32 }
         ensures position { IfOk result (λ p. p ≡ Self.position self.new) }
         ensures written { OnOk result (Padded Self.state self Self.position align) }
-        ensures kept { OnErr result (IsBeginning (Self.state self.old).bytes (Self.state self.new).bytes) }
+        ensures kept { OnErr result (IsBeginning (Self.state self.old).bytes
+            (Self.state self.new).bytes) }
         ensures room { SpendsRoom Self.state self }
         ensures refusal { IfErr result (ExplainsPadding Self.state self Self.position align) }
         ensures device { (Self.state self.old).failures ≤ (Self.state self.new).failures }
@@ -92,11 +95,14 @@ pub trait WriterExt: Writer {
     where
         Self: Sized,
         ensures position { IfOk result (λ p. p ≡ Self.position self.new) }
-        ensures padded { OnOk result (Pads T.layout.align (Self.state self.old) (Self.state self.new)) }
+        ensures padded { OnOk result (Pads T.layout.align (Self.state self.old)
+            (Self.state self.new)) }
         ensures written { OnOk result (Padded Self.state self Self.position T.layout.align) }
-        ensures kept { OnErr result (IsBeginning (Self.state self.old).bytes (Self.state self.new).bytes) }
+        ensures kept { OnErr result (IsBeginning (Self.state self.old).bytes
+            (Self.state self.new).bytes) }
         ensures room { SpendsRoom Self.state self }
-        ensures refusal { IfErr result (ExplainsPadding Self.state self Self.position T.layout.align) }
+        ensures refusal { IfErr result (ExplainsPadding Self.state self Self.position
+            T.layout.align) }
         ensures device { (Self.state self.old).failures ≤ (Self.state self.new).failures }
         ensures keys { KeepsKeys (Self.state self.old).states (Self.state self.new).states }
         ensures memory { IsErrOf result Error.OutOfMemory → IsTrue Self.takes_memory }
@@ -110,11 +116,14 @@ pub trait WriterExt: Writer {
     where
         Self: Sized,
         ensures position { IfOk result (λ p. p ≡ Self.position self.new) }
-        ensures padded { OnOk result (Pads T.layout.align (Self.state self.old) (Self.state self.new)) }
+        ensures padded { OnOk result (Pads T.layout.align (Self.state self.old)
+            (Self.state self.new)) }
         ensures written { OnOk result (Padded Self.state self Self.position T.layout.align) }
-        ensures kept { OnErr result (IsBeginning (Self.state self.old).bytes (Self.state self.new).bytes) }
+        ensures kept { OnErr result (IsBeginning (Self.state self.old).bytes
+            (Self.state self.new).bytes) }
         ensures room { SpendsRoom Self.state self }
-        ensures refusal { IfErr result (ExplainsPadding Self.state self Self.position T.layout.align) }
+        ensures refusal { IfErr result (ExplainsPadding Self.state self Self.position
+            T.layout.align) }
         ensures device { (Self.state self.old).failures ≤ (Self.state self.new).failures }
         ensures keys { KeepsKeys (Self.state self.old).states (Self.state self.new).states }
         ensures memory { IsErrOf result Error.OutOfMemory → IsTrue Self.takes_memory }
@@ -128,10 +137,13 @@ pub trait WriterExt: Writer {
     final fn write_long(&mut self, bytes: &[u8]) -> Result<(), Error>
     where
         Self: Sized,
-        ensures written { OnOk result ((Self.state self.new).bytes ≡ (Self.state self.old).bytes ++ bytes.now) }
-        ensures kept { OnErr result (IsBeginning (Self.state self.old).bytes (Self.state self.new).bytes) }
+        ensures written { OnOk result ((Self.state self.new).bytes ≡ (Self.state self.old).bytes
+            ++ bytes.now) }
+        ensures kept { OnErr result (IsBeginning (Self.state self.old).bytes
+            (Self.state self.new).bytes) }
         ensures room { SpendsRoom Self.state self }
-        ensures refusal { IfErr result (ExplainsWrite Self.state self Self.position (length bytes.now)) }
+        ensures refusal { IfErr result (ExplainsWrite Self.state self Self.position
+            (length bytes.now)) }
         ensures device { (Self.state self.old).failures ≤ (Self.state self.new).failures }
         ensures keys { KeepsKeys (Self.state self.old).states (Self.state self.new).states }
         ensures memory { IsErrOf result Error.OutOfMemory → IsTrue Self.takes_memory }

@@ -30,10 +30,13 @@ pub trait Writer: Positional + Keys {
     /// `WriterFailed` only if its device fails in this call or has failed `u64::MAX` times.
     /// Existing bytes stay, after a failure too. The shared keys are as before.
     fn write(&mut self, bytes: &[u8]) -> Result<(), Error>
-        ensures written { OnOk result ((Self.state self.new).bytes ≡ (Self.state self.old).bytes ++ bytes.now) }
-        ensures kept { OnErr result (IsBeginning (Self.state self.old).bytes (Self.state self.new).bytes) }
+        ensures written { OnOk result ((Self.state self.new).bytes ≡ (Self.state self.old).bytes
+            ++ bytes.now) }
+        ensures kept { OnErr result (IsBeginning (Self.state self.old).bytes
+            (Self.state self.new).bytes) }
         ensures room { SpendsRoom Self.state self }
-        ensures refusal { IfErr result (ExplainsWrite Self.state self Self.position (length bytes.now)) }
+        ensures refusal { IfErr result (ExplainsWrite Self.state self Self.position
+            (length bytes.now)) }
         ensures device { (Self.state self.old).failures ≤ (Self.state self.new).failures }
         ensures keys { KeepsKeys (Self.state self.old).states (Self.state self.new).states }
         ensures memory { IsErrOf result Error.OutOfMemory → IsTrue takes_memory };
@@ -43,7 +46,8 @@ pub trait Writer: Positional + Keys {
     /// the caller then writes as ever. Our own.
     #[inline(always)]
     fn write_at_once(&mut self, bytes: &[u8]) -> bool
-        ensures written { IsTrue result → (Self.state self.new).bytes ≡ (Self.state self.old).bytes ++ bytes.now }
+        ensures written { IsTrue result → (Self.state self.new).bytes ≡ (Self.state self.old).bytes
+            ++ bytes.now }
         ensures room { IsTrue result → SpendsRoom Self.state self }
         ensures device { (Self.state self.old).failures ≤ (Self.state self.new).failures }
         ensures keys { KeepsKeys (Self.state self.old).states (Self.state self.new).states }

@@ -38,7 +38,8 @@ pub(crate) fn nothing_or_both(
     first: Expr,
     second: Expr,
 ) -> Result<Expr, AllocError>
-    ensures { IfOk result (λ e. shape_of e ≡ nothing_or_two name.now (shape_of first) (shape_of second)) }
+    ensures { IfOk result (λ e. shape_of e ≡ nothing_or_two name.now (shape_of first)
+        (shape_of second)) }
 {
     let both = vec![in alloc; first, second]?;
     Expr::choice_of_two(alloc, name, Vec::new(alloc), both)

@@ -196,7 +196,10 @@ pub(crate) trait Around {
     fn around(alloc: Global, inner: Expr) -> Result<Expr, AllocError>
         ensures { IfOk result (λ e. shape_of e ≡ around (shape_of inner)) };
 
-    ghost laid_out: { (names : Layouts) (X : Shape) → layout_of names (around X) ≡ record { size = size; align = 4 } };
+    ghost laid_out: { (names : Layouts) (X : Shape) → layout_of names (around X) ≡ record {
+      size = size;
+      align = 4;
+    } };
 
     ghost mentions: { (X : Shape) (name : Name) → Mentions name X → Mentions name (around X) };
 }
@@ -234,7 +237,8 @@ impl<A: Around, T: Portable> Portable for Behind<A, T> {
 
     ghost has_layout = { record { solved = λ s k. A.laid_out s.layouts T.shape } };
 
-    ghost no_others = { around_reached T.definitions T.shape (A.around T.shape) (A.mentions T.shape) T.no_others };
+    ghost no_others = { around_reached T.definitions T.shape (A.around T.shape) (A.mentions T.shape)
+        T.no_others };
 
     ghost checks = { λ direct. by_schema direct };
 
@@ -496,9 +500,13 @@ impl<T: Portable, const N: usize> Portable for Array<T, N> {
 
     ghost is_align = { T.is_align };
 
-    ghost has_layout = { record { solved = λ s k. ap (λ l. record { size = N * l.size; align = l.align }) (T.has_layout.solved s k) } };
+    ghost has_layout = { record {
+      solved = λ s k. ap (λ l. record { size = N * l.size; align = l.align })
+          (T.has_layout.solved s k);
+    } };
 
-    ghost no_others = { around_reached T.definitions T.shape (array N T.shape) (λ _ m. mentions_array m) T.no_others };
+    ghost no_others = { around_reached T.definitions T.shape (array N T.shape)
+        (λ _ m. mentions_array m) T.no_others };
 
     ghost checks = { λ direct. by_schema direct };
 

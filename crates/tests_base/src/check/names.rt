@@ -48,9 +48,15 @@ impl Portable for Tagged {
 
     ghost is_align = { inr (inr (inr (inl refl))) };
 
-    ghost has_layout = { record { solved = λ s k. ap (λ l. layout_of (λ _. l) (tagged (codes "ArchivedId"))) (k.laid_out.solves (codes "ArchivedId") number64 k.has) } };
+    ghost has_layout = { record {
+      solved = λ s k. ap (λ l. layout_of (λ _. l) (tagged (codes "ArchivedId")))
+          (k.laid_out.solves (codes "ArchivedId") number64 k.has);
+    } };
 
-    ghost no_others = { around_reached (defines (codes "ArchivedId") number64) (named (codes "ArchivedId")) (tagged (codes "ArchivedId")) (λ _ m. mentions_parts (mentions_later (mentions_first m))) (name_reached (codes "ArchivedId") number64) };
+    ghost no_others = { around_reached (defines (codes "ArchivedId") number64)
+        (named (codes "ArchivedId")) (tagged (codes "ArchivedId"))
+        (λ _ m. mentions_parts (mentions_later (mentions_first m)))
+        (name_reached (codes "ArchivedId") number64) };
 
     ghost checks = { λ direct. by_schema direct };
 
@@ -101,7 +107,9 @@ impl Portable for Endless {
 
     ghost has_layout = { record { solved = λ s k. refl } };
 
-    ghost no_others = { around_reached (defines (codes "Itself") itself) (named (codes "Itself")) (boxed (one (named (codes "Itself")))) (λ _ m. mentions_boxed (mentions_one m)) (name_reached (codes "Itself") itself) };
+    ghost no_others = { around_reached (defines (codes "Itself") itself) (named (codes "Itself"))
+        (boxed (one (named (codes "Itself")))) (λ _ m. mentions_boxed (mentions_one m))
+        (name_reached (codes "Itself") itself) };
 
     ghost checks = { λ direct. by_schema direct };
 

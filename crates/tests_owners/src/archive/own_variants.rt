@@ -61,7 +61,8 @@ fn read<X: Choice, P: DeserializeParts<T, D>, T: OwnedParts, D: Entries>(
     deserializer: &mut D,
 ) -> Result<T, Error>
     requires variant { variant_at X.Variants.variants (tag_of view) ≡ Some P.parts }
-    requires definitions { variant_definitions X.Variants.definitions (tag_of view) ≡ P.definitions }
+    requires definitions { variant_definitions X.Variants.definitions (tag_of view)
+        ≡ P.definitions }
 {
     deserialize_variant::<X, P, T, D>(alloc, view.part(), deserializer)
 }

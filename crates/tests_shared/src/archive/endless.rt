@@ -44,7 +44,8 @@ impl ArchivePointee for ArchivedLoop {
 
 // A choice of one variant with these parts.
 fn choice_of(alloc: Global, name: &'static str, only: Vec<Expr>) -> Result<Expr, AllocError>
-    ensures { IfOk result (λ e. shape_of e ≡ choice name.now (variant (shapes_in only.items) no_variant)) }
+    ensures { IfOk result (λ e. shape_of e ≡ choice name.now
+        (variant (shapes_in only.items) no_variant)) }
 {
     let variants = vec![in alloc; only]?;
     Ok(Expr::Choice(name, variants))
@@ -125,7 +126,8 @@ fn follow<D: Pooling<Shared<u32>>>(
 ) -> Result<u32, Error>
     requires { Viewed loop_definitions part.bytes.now part.pos (one loop_shape) part.len }
     ensures none { IsErr result }
-    ensures refused { IfErr result (RefusesPart ⟦<ArchivedLoop as ArchivePointee>⟧ part D.Entries pool) }
+    ensures refused { IfErr result (RefusesPart ⟦<ArchivedLoop as ArchivePointee>⟧ part D.Entries
+        pool) }
 {
     let Some(left) = left.checked_sub(1) else {
         return Err(Error::OutOfMemory);
@@ -148,8 +150,10 @@ impl<D: Pooling<Shared<u32>>> Deserialize<u32, D> for ArchivedLoop {
         deserializer: &mut D,
     ) -> Result<u32, Error>
         requires { Viewed loop_definitions part.bytes.now part.pos (one loop_shape) part.len }
-        ensures read { IfOk result (Read ⟦<Self as ArchivePointee>⟧ part D.Entries deserializer ⟦<u32 as Archive>⟧) }
-        ensures refused { IfErr result (RefusesPart ⟦<Self as ArchivePointee>⟧ part D.Entries deserializer) }
+        ensures read { IfOk result (Read ⟦<Self as ArchivePointee>⟧ part D.Entries deserializer
+            ⟦<u32 as Archive>⟧) }
+        ensures refused { IfErr result (RefusesPart ⟦<Self as ArchivePointee>⟧ part D.Entries
+            deserializer) }
     {
         follow(part, deserializer, part.bytes.len())
     }

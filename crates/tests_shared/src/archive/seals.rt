@@ -33,7 +33,8 @@ fn write_root<T: Portable + SealedLeaf>(
     value: T::Written,
 ) -> Result<(), Error>
     requires { T.can_hold value }
-    ensures edited { OnOk result (bytes.new ≡ edit bytes.old (root_in bytes.old T.layout) (T.Written.bytes_of value)) }
+    ensures edited { OnOk result (bytes.new ≡ edit bytes.old (root_in bytes.old T.layout)
+        (T.Written.bytes_of value)) }
     ensures refused { IsErr result → bytes.new ≡ bytes.old }
 {
     let spot = match access::<T>(alloc, bytes) {
@@ -53,7 +54,8 @@ fn write_part<R: Record>(
     value: u32,
 ) -> Result<u32, Error>
     requires part { part_at R.Parts.parts i ≡ Some ⟦<ArchivedU32 as Portable>⟧.shape }
-    requires definitions { KnowsAlso (definitions_at R.Parts.definitions i) ⟦<ArchivedU32 as ArchivePointee>⟧.definitions }
+    requires definitions { KnowsAlso (definitions_at R.Parts.definitions i)
+        ⟦<ArchivedU32 as ArchivePointee>⟧.definitions }
     ensures edited { OnOk result (PartEdited bytes.old bytes.new R.layout (R.Parts.begin 0 i)
         (⟦<u32 as Native>⟧.bytes_of value)) }
     ensures refused { IsErr result → bytes.new ≡ bytes.old }

@@ -19,7 +19,8 @@ type Names = ArchivedTuple2<ArchivedString, ArchivedString>;
 fn write_part<R: Record>(seal: &mut Seal<'_, R>, i: usize, value: &str) -> bool
     requires come_to { IsSealOf R.definitions R.pointee seal.old }
     requires part { part_at R.Parts.parts i ≡ Some ⟦<ArchivedString as Portable>⟧.shape }
-    requires definitions { definitions_at R.Parts.definitions i ≡ ⟦<ArchivedString as ArchivePointee>⟧.definitions }
+    requires definitions { definitions_at R.Parts.definitions i
+        ≡ ⟦<ArchivedString as ArchivePointee>⟧.definitions }
     ensures same_reference { seal.new.bytes.ghost_name ≡ seal.old.bytes.ghost_name }
     ensures come_to { IsSealOf R.definitions R.pointee seal.new }
 {

@@ -27,7 +27,8 @@ impl ArchivePointee for ArchivedTwice {
 
     ghost pointee = { one (named (codes "ArchivedTwice")) };
 
-    ghost definitions = { both (defines (codes "ArchivedTwice") (leaf unit)) (defines (codes "ArchivedTwice") (leaf bool)) };
+    ghost definitions = { both (defines (codes "ArchivedTwice") (leaf unit))
+        (defines (codes "ArchivedTwice") (leaf bool)) };
 
     ghost metadata_length = { λ _. 0 };
 
@@ -47,7 +48,10 @@ impl Portable for ArchivedTwice {
 
     ghost is_align = { inl refl };
 
-    ghost has_layout = { twice_has_layout (codes "ArchivedTwice") (leaf unit) (leaf bool) (record { size = 0; align = 1 }) leaves_differ };
+    ghost has_layout = { twice_has_layout (codes "ArchivedTwice") (leaf unit) (leaf bool) (record {
+      size = 0;
+      align = 1;
+    }) leaves_differ };
 
     ghost no_others = { twice_reached (codes "ArchivedTwice") (leaf unit) (leaf bool) };
 
@@ -74,7 +78,8 @@ impl Portable for ArchivedTwice {
 
 #[tactic(auto, using(archive_check::proofs::format::Views::views))]
 fn record_of_itself(alloc: Global) -> Result<Expr, AllocError>
-    ensures { IfOk result (λ e. shape_of e ≡ parts (part (named (codes "ArchivedItself")) no_part)) }
+    ensures { IfOk result (λ e. shape_of e ≡ parts (part (named (codes "ArchivedItself"))
+        no_part)) }
 {
     let parts = vec![in alloc; Expr::Named("ArchivedItself")]?;
     Ok(Expr::Record(parts))
@@ -85,7 +90,8 @@ impl ArchivePointee for ArchivedItself {
 
     ghost pointee = { one (named (codes "ArchivedItself")) };
 
-    ghost definitions = { defines (codes "ArchivedItself") (parts (part (named (codes "ArchivedItself")) no_part)) };
+    ghost definitions = { defines (codes "ArchivedItself")
+        (parts (part (named (codes "ArchivedItself")) no_part)) };
 
     ghost metadata_length = { λ _. 0 };
 
@@ -105,9 +111,12 @@ impl Portable for ArchivedItself {
 
     ghost is_align = { inl refl };
 
-    ghost has_layout = { held_has_layout (codes "ArchivedItself") (parts (part (named (codes "ArchivedItself")) no_part)) (record { size = 0; align = 1 }) (holds_parts (holds_first holds_name)) };
+    ghost has_layout = { held_has_layout (codes "ArchivedItself")
+        (parts (part (named (codes "ArchivedItself")) no_part)) (record { size = 0; align = 1 })
+        (holds_parts (holds_first holds_name)) };
 
-    ghost no_others = { name_reached (codes "ArchivedItself") (parts (part (named (codes "ArchivedItself")) no_part)) };
+    ghost no_others = { name_reached (codes "ArchivedItself")
+        (parts (part (named (codes "ArchivedItself")) no_part)) };
 
     ghost checks = { λ direct. by_schema direct };
 

@@ -33,7 +33,8 @@ fn archive_of_number(alloc: Global, number: u32) -> Result<Vec<u8>, Error>
 
 // What a lent writer holds afterwards: what it held before, and more; and where the call isn't refused, a text's archive behind that.
 fn append_text(alloc: Global, text: &String, bytes: &mut Vec<u8>) -> Result<usize, Error>
-    ensures appended { IfOk result (λ root. ArchivesTextAt (string_bytes text.now) bytes.old.items bytes.new.items root) }
+    ensures appended { IfOk result (λ root. ArchivesTextAt (string_bytes text.now) bytes.old.items
+        bytes.new.items root) }
     ensures kept { IsBeginning bytes.old.items bytes.new.items }
 {
     to_bytes_into(alloc, text, bytes)

@@ -42,8 +42,8 @@ impl<T: Portable, const N: usize> Portable for [T; N] {
 
     ghost no_others = { array_reaches N T.definitions T.shape T.layout T.no_others };
 
-    ghost checks = { array_check N T.definitions T.shape T.layout T.Check.direct T.Check.definitions T.Check.shape
-        T.Check.span T.Check.nameless T.checks };
+    ghost checks = { array_check N T.definitions T.shape T.layout T.Check.direct T.Check.definitions
+        T.Check.shape T.Check.span T.Check.nameless T.checks };
 
     #[tactic(auto, using(crate::proofs::SelfCheck::Arrays::times_bounded))]
     fn size() -> usize {

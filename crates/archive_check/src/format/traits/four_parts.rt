@@ -44,12 +44,15 @@ impl<A: Portable, B: Portable, C: Portable, D: Portable, R: CheckedParts> Checke
 
     ghost lone = { ⟦<(A, (B, (C, (D, R)))) as CheckedParts>⟧.lone };
 
-    ghost rises = { λ n. rises_over n A.layout.align A.layout.size A.is_align _ (λ n. rises_over n B.layout.align B.layout.size B.is_align _
-        (λ n. rises_over n C.layout.align C.layout.size C.is_align _ (λ n. rises_over n D.layout.align D.layout.size D.is_align R.end R.rises))) };
+    ghost rises = { λ n. rises_over n A.layout.align A.layout.size A.is_align _
+        (λ n. rises_over n B.layout.align B.layout.size B.is_align _
+        (λ n. rises_over n C.layout.align C.layout.size C.is_align _
+        (λ n. rises_over n D.layout.align D.layout.size D.is_align R.end R.rises))) };
 
     ghost ordered = { part_ordered _ _ _ _ _ _ _ _ _ _ _ _ _ A.checks
         (part_ordered _ _ _ _ _ _ _ _ _ _ _ _ _ B.checks
-        (part_ordered _ _ _ _ _ _ _ _ _ _ _ _ _ C.checks (part_ordered _ _ _ _ _ _ _ _ _ _ _ _ _ D.checks R.ordered))) };
+        (part_ordered _ _ _ _ _ _ _ _ _ _ _ _ _ C.checks
+        (part_ordered _ _ _ _ _ _ _ _ _ _ _ _ _ D.checks R.ordered))) };
 
     fn are_direct() -> bool {
         <(A, (B, (C, (D, R)))) as CheckedParts>::are_direct()
@@ -83,34 +86,46 @@ impl<A: Portable, B: Portable, C: Portable, D: Portable, R: PortableParts> Porta
 
     ghost size_at = { ⟦<(A, (B, (C, (D, R)))) as PortableParts>⟧.size_at };
 
-    ghost is_align = { greater_align _ _ A.is_align (greater_align _ _ B.is_align (greater_align _ _ C.is_align (greater_align _ _ D.is_align R.is_align))) };
+    ghost is_align = { greater_align _ _ A.is_align (greater_align _ _ B.is_align
+        (greater_align _ _ C.is_align (greater_align _ _ D.is_align R.is_align))) };
 
     ghost laid_out = { part_laid_out _ _ _ _ A.has_layout _ _ _ _
-        (part_laid_out _ _ _ _ B.has_layout _ _ _ _
-        (part_laid_out _ _ _ _ C.has_layout _ _ _ _ (part_laid_out _ _ _ _ D.has_layout _ _ _ _ R.laid_out))) };
+        (part_laid_out _ _ _ _ B.has_layout _ _ _ _ (part_laid_out _ _ _ _ C.has_layout _ _ _ _
+        (part_laid_out _ _ _ _ D.has_layout _ _ _ _ R.laid_out))) };
 
-    ghost sized = { part_sized _ _ _ _ A.has_layout (part B.shape (part C.shape (part D.shape R.parts)))
-        (first_or B.layout.size (first_or C.layout.size (first_or D.layout.size R.size_at)))
-        (part_sized _ _ _ _ B.has_layout (part C.shape (part D.shape R.parts)) (first_or C.layout.size (first_or D.layout.size R.size_at))
+    ghost sized = { part_sized _ _ _ _ A.has_layout (part B.shape
+        (part C.shape (part D.shape R.parts))) (first_or B.layout.size
+        (first_or C.layout.size (first_or D.layout.size R.size_at)))
+        (part_sized _ _ _ _ B.has_layout (part C.shape (part D.shape R.parts))
+        (first_or C.layout.size (first_or D.layout.size R.size_at))
         (part_sized _ _ _ _ C.has_layout (part D.shape R.parts) (first_or D.layout.size R.size_at)
         (part_sized _ _ _ _ D.has_layout R.parts R.size_at R.sized))) };
 
-    ghost no_others = { part_reached A.definitions (both B.definitions (both C.definitions (both D.definitions R.definitions))) A.shape
+    ghost no_others = { part_reached A.definitions (both B.definitions
+        (both C.definitions (both D.definitions R.definitions))) A.shape
         (part B.shape (part C.shape (part D.shape R.parts))) A.no_others
-        (part_reached B.definitions (both C.definitions (both D.definitions R.definitions)) B.shape (part C.shape (part D.shape R.parts)) B.no_others
-        (part_reached C.definitions (both D.definitions R.definitions) C.shape (part D.shape R.parts) C.no_others
-        (part_reached D.definitions R.definitions D.shape R.parts D.no_others R.no_others))) };
+        (part_reached B.definitions (both C.definitions (both D.definitions R.definitions)) B.shape
+        (part C.shape (part D.shape R.parts)) B.no_others
+        (part_reached C.definitions (both D.definitions R.definitions) C.shape
+        (part D.shape R.parts) C.no_others (part_reached D.definitions R.definitions D.shape R.parts
+        D.no_others R.no_others))) };
 
-    ghost begins = { λ n. begins_over n A.layout.align A.layout.size A.is_align _ (λ n. begins_over n B.layout.align B.layout.size B.is_align _
-        (λ n. begins_over n C.layout.align C.layout.size C.is_align _ (λ n. begins_over n D.layout.align D.layout.size D.is_align R.begin R.begins))) };
+    ghost begins = { λ n. begins_over n A.layout.align A.layout.size A.is_align _
+        (λ n. begins_over n B.layout.align B.layout.size B.is_align _
+        (λ n. begins_over n C.layout.align C.layout.size C.is_align _
+        (λ n. begins_over n D.layout.align D.layout.size D.is_align R.begin R.begins))) };
 
     ghost within = { λ n. within_over (up n A.layout.align) A.layout.size _ _ _
         (λ n. rises_over n B.layout.align B.layout.size B.is_align _
-        (λ n. rises_over n C.layout.align C.layout.size C.is_align _ (λ n. rises_over n D.layout.align D.layout.size D.is_align R.end R.rises)))
+        (λ n. rises_over n C.layout.align C.layout.size C.is_align _
+        (λ n. rises_over n D.layout.align D.layout.size D.is_align R.end R.rises)))
         (λ n. within_over (up n B.layout.align) B.layout.size _ _ _
-        (λ n. rises_over n C.layout.align C.layout.size C.is_align _ (λ n. rises_over n D.layout.align D.layout.size D.is_align R.end R.rises))
-        (λ n. within_over (up n C.layout.align) C.layout.size _ _ _ (λ n. rises_over n D.layout.align D.layout.size D.is_align R.end R.rises)
-        (λ n. within_over (up n D.layout.align) D.layout.size R.begin R.size_at R.end R.rises R.within))) };
+        (λ n. rises_over n C.layout.align C.layout.size C.is_align _
+        (λ n. rises_over n D.layout.align D.layout.size D.is_align R.end R.rises))
+        (λ n. within_over (up n C.layout.align) C.layout.size _ _ _
+        (λ n. rises_over n D.layout.align D.layout.size D.is_align R.end R.rises)
+        (λ n. within_over (up n D.layout.align) D.layout.size R.begin R.size_at R.end R.rises
+        R.within))) };
 
     fn align() -> usize {
         <(A, (B, (C, (D, R)))) as PortableParts>::align()

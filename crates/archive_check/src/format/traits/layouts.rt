@@ -27,14 +27,16 @@ pub trait LayoutRaw: ArchivePointee {
     /// and fails above `isize::MAX`.
     fn layout_raw(length: usize) -> Result<Layout, Error>
         ensures made { IfOk result (λ l. IsRegionLayout Self.definitions Self.pointee length l) }
-        ensures refused { IfErr result (λ e. (e ≡ LayoutTooLarge) × HasNoLayout Self.definitions Self.pointee length) };
+        ensures refused { IfErr result (λ e. (e ≡ LayoutTooLarge)
+            × HasNoLayout Self.definitions Self.pointee length) };
 }
 
 /// One value: its size and alignment, whatever the length. It never fails.
 impl<T: Portable> LayoutRaw for T {
     fn layout_raw(_length: usize) -> Result<Layout, Error>
         ensures made { IfOk result (λ l. IsRegionLayout T.definitions T.pointee _length l) }
-        ensures refused { IfErr result (λ e. (e ≡ LayoutTooLarge) × HasNoLayout T.definitions T.pointee _length) }
+        ensures refused { IfErr result (λ e. (e ≡ LayoutTooLarge)
+            × HasNoLayout T.definitions T.pointee _length) }
         ensures never_refused { IsOk result }
     {
         Ok(Layout {
@@ -49,7 +51,8 @@ impl<T: Portable> LayoutRaw for T {
 /// Our own.
 pub fn layout_of_run<T: Portable>(length: usize) -> Result<Layout, Error>
     ensures made { IfOk result (λ l. IsRegionLayout T.definitions (run T.shape) length l) }
-    ensures refused { IfErr result (λ e. (e ≡ LayoutTooLarge) × HasNoLayout T.definitions (run T.shape) length) }
+    ensures refused { IfErr result (λ e. (e ≡ LayoutTooLarge)
+        × HasNoLayout T.definitions (run T.shape) length) }
 {
     match times(Some(T::size()), length) {
         None => Err(Error::LayoutTooLarge),

@@ -46,13 +46,15 @@ pub trait PortableParts: CheckedParts {
     /// Puts the parts' expressions behind those in `list`. Memory comes from `alloc` and from that
     /// of the list. Fails with `OutOfMemory` if it is refused.
     fn push_exprs(alloc: Global, list: &mut Vec<Expr>) -> Result<(), Error>
-        ensures pushed { OnOk result (shapes_in list.new.items ≡ joined (shapes_in list.old.items) Self.parts) }
+        ensures pushed { OnOk result (shapes_in list.new.items
+            ≡ joined (shapes_in list.old.items) Self.parts) }
         ensures refused { IfErr result (λ e. e ≡ OutOfMemory) };
 
     /// Adds the definitions of the names that the parts reach, and no others. Fails as
     /// `Portable::define` does: `OutOfMemory` and `ShapeConflict`.
     fn define(alloc: Global, defs: &mut Defs) -> Result<(), Error>
-        ensures added { OnOk result (Extended (table_of defs.old) Self.definitions (table_of defs.new)) }
+        ensures added { OnOk result (Extended (table_of defs.old) Self.definitions
+            (table_of defs.new)) }
         ensures refused { IfErr result (ExplainsConflict (table_of defs.old) Self.definitions) };
 
     ghost is_align: { IsAlign greatest };
@@ -112,21 +114,27 @@ impl PortableParts for () {
 impl<A: Portable, R: PortableParts> PortableParts for (A, R) {
     ghost greatest = { max A.layout.align R.greatest };
 
-    ghost begin = { λ n. first_or (up n A.layout.align) (R.begin (up n A.layout.align + A.layout.size)) };
+    ghost begin = { λ n. first_or (up n A.layout.align)
+        (R.begin (up n A.layout.align + A.layout.size)) };
 
     ghost size_at = { first_or A.layout.size R.size_at };
 
     ghost is_align = { greater_align A.layout.align R.greatest A.is_align R.is_align };
 
-    ghost laid_out = { part_laid_out A.definitions R.definitions A.shape A.layout A.has_layout R.parts R.greatest R.end R.begin R.laid_out };
+    ghost laid_out = { part_laid_out A.definitions R.definitions A.shape A.layout A.has_layout
+        R.parts R.greatest R.end R.begin R.laid_out };
 
-    ghost sized = { part_sized A.definitions R.definitions A.shape A.layout A.has_layout R.parts R.size_at R.sized };
+    ghost sized = { part_sized A.definitions R.definitions A.shape A.layout A.has_layout R.parts
+        R.size_at R.sized };
 
-    ghost no_others = { part_reached A.definitions R.definitions A.shape R.parts A.no_others R.no_others };
+    ghost no_others = { part_reached A.definitions R.definitions A.shape R.parts A.no_others
+        R.no_others };
 
-    ghost begins = { λ n i. begins_over n A.layout.align A.layout.size A.is_align R.begin R.begins i };
+    ghost begins = { λ n i. begins_over n A.layout.align A.layout.size A.is_align R.begin R.begins
+        i };
 
-    ghost within = { λ n. within_over (up n A.layout.align) A.layout.size R.begin R.size_at R.end R.rises R.within };
+    ghost within = { λ n. within_over (up n A.layout.align) A.layout.size R.begin R.size_at R.end
+        R.rises R.within };
 
     #[inline(always)]
     fn align() -> usize {
@@ -167,7 +175,8 @@ pub trait Record: Portable {
     type Parts: PortableParts;
 
     // It is they, or a name that stands for them.
-    ghost has_parts: { IsRecord Self.definitions Self.shape Self.Parts.definitions Self.Parts.parts };
+    ghost has_parts: { IsRecord Self.definitions Self.shape Self.Parts.definitions
+        Self.Parts.parts };
 
     // It holds them.
     ghost holds: { Self.Parts.end 0 ≤ Self.layout.size };
@@ -209,7 +218,8 @@ pub fn define_record<P: PortableParts>(
     defs: &mut Defs,
 ) -> Result<(), Error>
     ensures added { OnOk result (AreAdded defs (named_record name.now P.parts P.definitions)) }
-    ensures refused { IfErr result (ExplainsConflict (table_of defs.old) (named_record name.now P.parts P.definitions)) }
+    ensures refused { IfErr result (ExplainsConflict (table_of defs.old)
+        (named_record name.now P.parts P.definitions)) }
 {
     defs.add(name, expr_of_record::<P>(alloc)?)?;
     P::define(alloc, defs)

@@ -34,13 +34,14 @@ pub trait PortablePointee: ArchivePointee {
     /// Adds the definitions of the names that it reaches, as `Portable::define` does, with the
     /// errors of that: `OutOfMemory` and `ShapeConflict`.
     fn define_pointee(alloc: Global, defs: &mut Defs) -> Result<(), Error>
-        ensures added { OnOk result (Extended (table_of defs.old) Self.definitions (table_of defs.new)) }
+        ensures added { OnOk result (Extended (table_of defs.old) Self.definitions
+            (table_of defs.new)) }
         ensures refused { IfErr result (ExplainsConflict (table_of defs.old) Self.definitions) };
 
     ghost box_reaches: { NoOthers Self.definitions (boxed Self.pointee) };
 
-    ghost box_checks: { IsTrue Self.BoxCheck.direct
-        → IsCheckOf Self.definitions (boxed Self.pointee) (pointer_size Self.pointee) Self.BoxCheck.definitions
+    ghost box_checks: { IsTrue Self.BoxCheck.direct → IsCheckOf Self.definitions
+        (boxed Self.pointee) (pointer_size Self.pointee) Self.BoxCheck.definitions
         Self.BoxCheck.shape Self.BoxCheck.span Self.BoxCheck.nameless };
 }
 
@@ -50,8 +51,8 @@ impl<T: Portable> PortablePointee for T {
 
     ghost box_reaches = { one_reaches T.definitions T.shape T.no_others T.pointee T.is_one };
 
-    ghost box_checks = { λ direct. one_check T.definitions T.shape T.layout.size T.Check.definitions T.Check.shape
-        T.Check.span T.Check.nameless T.pointee T.is_one (T.checks direct) };
+    ghost box_checks = { λ direct. one_check T.definitions T.shape T.layout.size T.Check.definitions
+        T.Check.shape T.Check.span T.Check.nameless T.pointee T.is_one (T.checks direct) };
 
     fn has_length() -> bool {
         false

@@ -48,13 +48,15 @@ pub trait PortableVariants: CheckedVariants {
     /// Memory comes from `alloc` and from that of the list. Fails with `OutOfMemory` if it is
     /// refused.
     fn push_variants(alloc: Global, list: &mut Vec<Vec<Expr>>) -> Result<(), Error>
-        ensures pushed { OnOk result (variants_in list.new.items ≡ joined_variants (variants_in list.old.items) Self.variants) }
+        ensures pushed { OnOk result (variants_in list.new.items
+            ≡ joined_variants (variants_in list.old.items) Self.variants) }
         ensures refused { IfErr result (λ e. e ≡ OutOfMemory) };
 
     /// Adds the definitions of the names that the parts reach, and no others. Fails as
     /// `Portable::define` does: `OutOfMemory` and `ShapeConflict`.
     fn define(alloc: Global, defs: &mut Defs) -> Result<(), Error>
-        ensures added { OnOk result (Extended (table_of defs.old) Self.definitions (table_of defs.new)) }
+        ensures added { OnOk result (Extended (table_of defs.old) Self.definitions
+            (table_of defs.new)) }
         ensures refused { IfErr result (ExplainsConflict (table_of defs.old) Self.definitions) };
 
     ghost is_align: { IsAlign greatest };
@@ -116,13 +118,17 @@ impl<P: PortableParts, V: PortableVariants> PortableVariants for (P, V) {
 
     ghost is_align = { greater_align P.greatest V.greatest P.is_align V.is_align };
 
-    ghost laid_out = { variant_laid_out P.definitions V.definitions P.parts P.greatest P.end P.begin P.laid_out V.variants V.greatest V.end V.begin V.laid_out };
+    ghost laid_out = { variant_laid_out P.definitions V.definitions P.parts P.greatest P.end P.begin
+        P.laid_out V.variants V.greatest V.end V.begin V.laid_out };
 
-    ghost no_others = { variant_reached P.definitions V.definitions P.parts V.variants P.no_others V.no_others };
+    ghost no_others = { variant_reached P.definitions V.definitions P.parts V.variants P.no_others
+        V.no_others };
 
-    ghost sized = { payload_sized P.definitions V.definitions P.parts P.size_at P.sized V.variants V.size_at V.sized };
+    ghost sized = { payload_sized P.definitions V.definitions P.parts P.size_at P.sized V.variants
+        V.size_at V.sized };
 
-    ghost within = { payload_within (P.begin 1) P.size_at (P.end 1) (P.within 1) V.begin V.size_at V.end V.within };
+    ghost within = { payload_within (P.begin 1) P.size_at (P.end 1) (P.within 1) V.begin V.size_at
+        V.end V.within };
 
     #[inline(always)]
     fn align() -> usize {
@@ -166,7 +172,8 @@ pub trait Choice: Portable {
     ghost name: { Name };
 
     // It is they, or a name that stands for them.
-    ghost has_variants: { IsChoice Self.definitions Self.shape name Self.Variants.definitions Self.Variants.variants };
+    ghost has_variants: { IsChoice Self.definitions Self.shape name Self.Variants.definitions
+        Self.Variants.variants };
 
     // It holds them.
     ghost holds: { Self.Variants.end ≤ Self.layout.size };
@@ -215,7 +222,8 @@ pub fn define_choice<V: PortableVariants>(
     defs: &mut Defs,
 ) -> Result<(), Error>
     ensures added { OnOk result (AreAdded defs (named_choice name.now V.variants V.definitions)) }
-    ensures refused { IfErr result (ExplainsConflict (table_of defs.old) (named_choice name.now V.variants V.definitions)) }
+    ensures refused { IfErr result (ExplainsConflict (table_of defs.old)
+        (named_choice name.now V.variants V.definitions)) }
 {
     defs.add(name, expr_of_choice::<V>(alloc, name)?)?;
     V::define(alloc, defs)

@@ -57,16 +57,19 @@ impl Archive for SharedStr {
 
     ghost flat = { λ s r. rc_flat r text (length (rc_str_bytes s.value)) };
 
-    ghost keys = { λ s. rc_keys s.key text (length (rc_str_bytes s.value)) (text_value (rc_str_bytes s.value)) [] };
+    ghost keys = { λ s. rc_keys s.key text (length (rc_str_bytes s.value))
+        (text_value (rc_str_bytes s.value)) [] };
 
     ghost belongs = { λ s _. length (rc_str_bytes s.value) ≤ 4294967295 };
 
     ghost in_bulk = { None };
 
-    ghost keyed = { λ s. rc_keyed s.key text (length (rc_str_bytes s.value)) (text_value (rc_str_bytes s.value)) [] (text_keyed (rc_str_bytes s.value)) };
+    ghost keyed = { λ s. rc_keyed s.key text (length (rc_str_bytes s.value))
+        (text_value (rc_str_bytes s.value)) [] (text_keyed (rc_str_bytes s.value)) };
 
-    ghost planned = { λ s. rc_planned no_definition s.key text (length (rc_str_bytes s.value)) (text_value (rc_str_bytes s.value)) []
-        (text_planned no_definition [] (rc_str_bytes s.value)) };
+    ghost planned = { λ s. rc_planned no_definition s.key text (length (rc_str_bytes s.value))
+        (text_value (rc_str_bytes s.value)) [] (text_planned no_definition []
+        (rc_str_bytes s.value)) };
 
     fn resolve(
         &self,
@@ -122,16 +125,19 @@ impl ArchiveUnsized for SharedStr {
 
     ghost meaning = { λ s. shared_value s.key };
 
-    ghost keys = { λ s. rc_keys s.key text (length (rc_str_bytes s.value)) (text_value (rc_str_bytes s.value)) [] };
+    ghost keys = { λ s. rc_keys s.key text (length (rc_str_bytes s.value))
+        (text_value (rc_str_bytes s.value)) [] };
 
-    ghost keyed = { λ s. rc_keyed s.key text (length (rc_str_bytes s.value)) (text_value (rc_str_bytes s.value)) [] (text_keyed (rc_str_bytes s.value)) };
+    ghost keyed = { λ s. rc_keyed s.key text (length (rc_str_bytes s.value))
+        (text_value (rc_str_bytes s.value)) [] (text_keyed (rc_str_bytes s.value)) };
 
     ghost one_length = { λ _ _. refl };
 
     ghost planned = { λ s. one_planned no_definition (shared rc_flavor text)
-        (rc_keys s.key text (length (rc_str_bytes s.value)) (text_value (rc_str_bytes s.value)) []) (shared_value s.key)
-        (rc_planned no_definition s.key text (length (rc_str_bytes s.value)) (text_value (rc_str_bytes s.value)) []
-        (text_planned no_definition [] (rc_str_bytes s.value))) };
+        (rc_keys s.key text (length (rc_str_bytes s.value)) (text_value (rc_str_bytes s.value)) [])
+        (shared_value s.key) (rc_planned no_definition s.key text (length (rc_str_bytes s.value))
+        (text_value (rc_str_bytes s.value)) [] (text_planned no_definition []
+        (rc_str_bytes s.value))) };
 
     fn archived_metadata(&self) -> Result<(), Error> {
         Ok(())
@@ -153,19 +159,23 @@ impl<T: Archive> Archive for SharedSlice<T> {
 
     ghost flat = { λ s r. rc_flat r (run T.Archived.shape) (length (rc_slice_items s.value)) };
 
-    ghost keys = { λ s. rc_keys s.key (run T.Archived.shape) (length (rc_slice_items s.value)) (list (each_meaning T.meaning (rc_slice_items s.value)))
+    ghost keys = { λ s. rc_keys s.key (run T.Archived.shape) (length (rc_slice_items s.value))
+        (list (each_meaning T.meaning (rc_slice_items s.value)))
         (each_keys T.keys (rc_slice_items s.value)) };
 
     ghost belongs = { λ s _. length (rc_slice_items s.value) ≤ 4294967295 };
 
     ghost in_bulk = { None };
 
-    ghost keyed = { λ s. rc_keyed s.key (run T.Archived.shape) (length (rc_slice_items s.value)) (list (each_meaning T.meaning (rc_slice_items s.value)))
-        (each_keys T.keys (rc_slice_items s.value)) (each_keyed T.keys T.meaning T.keyed (rc_slice_items s.value)) };
+    ghost keyed = { λ s. rc_keyed s.key (run T.Archived.shape) (length (rc_slice_items s.value))
+        (list (each_meaning T.meaning (rc_slice_items s.value)))
+        (each_keys T.keys (rc_slice_items s.value)) (each_keyed T.keys T.meaning T.keyed
+        (rc_slice_items s.value)) };
 
-    ghost planned = { λ s. rc_planned T.Archived.definitions s.key (run T.Archived.shape) (length (rc_slice_items s.value))
-        (list (each_meaning T.meaning (rc_slice_items s.value))) (each_keys T.keys (rc_slice_items s.value))
-        (slice_planned T.Archived.definitions T.Archived.shape T.keys T.meaning T.planned (rc_slice_items s.value)) };
+    ghost planned = { λ s. rc_planned T.Archived.definitions s.key (run T.Archived.shape)
+        (length (rc_slice_items s.value)) (list (each_meaning T.meaning (rc_slice_items s.value)))
+        (each_keys T.keys (rc_slice_items s.value)) (slice_planned T.Archived.definitions
+        T.Archived.shape T.keys T.meaning T.planned (rc_slice_items s.value)) };
 
     fn resolve(
         &self,
@@ -223,20 +233,25 @@ impl<T: Archive> ArchiveUnsized for SharedSlice<T> {
 
     ghost meaning = { λ s. shared_value s.key };
 
-    ghost keys = { λ s. rc_keys s.key (run T.Archived.shape) (length (rc_slice_items s.value)) (list (each_meaning T.meaning (rc_slice_items s.value)))
+    ghost keys = { λ s. rc_keys s.key (run T.Archived.shape) (length (rc_slice_items s.value))
+        (list (each_meaning T.meaning (rc_slice_items s.value)))
         (each_keys T.keys (rc_slice_items s.value)) };
 
-    ghost keyed = { λ s. rc_keyed s.key (run T.Archived.shape) (length (rc_slice_items s.value)) (list (each_meaning T.meaning (rc_slice_items s.value)))
-        (each_keys T.keys (rc_slice_items s.value)) (each_keyed T.keys T.meaning T.keyed (rc_slice_items s.value)) };
+    ghost keyed = { λ s. rc_keyed s.key (run T.Archived.shape) (length (rc_slice_items s.value))
+        (list (each_meaning T.meaning (rc_slice_items s.value)))
+        (each_keys T.keys (rc_slice_items s.value)) (each_keyed T.keys T.meaning T.keyed
+        (rc_slice_items s.value)) };
 
     ghost one_length = { λ _ _. refl };
 
-    ghost planned = { λ s. one_planned T.Archived.definitions (shared rc_flavor (run T.Archived.shape))
-        (rc_keys s.key (run T.Archived.shape) (length (rc_slice_items s.value)) (list (each_meaning T.meaning (rc_slice_items s.value)))
+    ghost planned = { λ s. one_planned T.Archived.definitions
+        (shared rc_flavor (run T.Archived.shape)) (rc_keys s.key (run T.Archived.shape)
+        (length (rc_slice_items s.value)) (list (each_meaning T.meaning (rc_slice_items s.value)))
         (each_keys T.keys (rc_slice_items s.value))) (shared_value s.key)
-        (rc_planned T.Archived.definitions s.key (run T.Archived.shape) (length (rc_slice_items s.value))
-        (list (each_meaning T.meaning (rc_slice_items s.value))) (each_keys T.keys (rc_slice_items s.value))
-        (slice_planned T.Archived.definitions T.Archived.shape T.keys T.meaning T.planned (rc_slice_items s.value))) };
+        (rc_planned T.Archived.definitions s.key (run T.Archived.shape)
+        (length (rc_slice_items s.value)) (list (each_meaning T.meaning (rc_slice_items s.value)))
+        (each_keys T.keys (rc_slice_items s.value)) (slice_planned T.Archived.definitions
+        T.Archived.shape T.keys T.meaning T.planned (rc_slice_items s.value))) };
 
     fn archived_metadata(&self) -> Result<(), Error> {
         Ok(())

@@ -40,19 +40,23 @@ impl<T: Archive> Archive for WeakShared<T> {
 
     ghost flat = { λ w r. weak_flat rc_flavor T.Archived.pointee 0 r };
 
-    ghost keys = { λ w. weak_keys (λ s. rc_keys s.key T.Archived.pointee 0 (T.meaning s.value.value) (T.keys s.value.value)) w.value };
+    ghost keys = { λ w. weak_keys (λ s. rc_keys s.key T.Archived.pointee 0 (T.meaning s.value.value)
+        (T.keys s.value.value)) w.value };
 
     ghost belongs = { λ _ _. ⊤ };
 
     ghost in_bulk = { None };
 
-    ghost keyed = { λ w. weak_keyed (λ s. rc_keys s.key T.Archived.pointee 0 (T.meaning s.value.value) (T.keys s.value.value)) (λ s. shared_value s.key)
-        (λ s. rc_keyed s.key T.Archived.pointee 0 (T.meaning s.value.value) (T.keys s.value.value) (T.keyed s.value.value)) w.value };
+    ghost keyed = { λ w. weak_keyed (λ s. rc_keys s.key T.Archived.pointee 0
+        (T.meaning s.value.value) (T.keys s.value.value)) (λ s. shared_value s.key)
+        (λ s. rc_keyed s.key T.Archived.pointee 0 (T.meaning s.value.value) (T.keys s.value.value)
+        (T.keyed s.value.value)) w.value };
 
     ghost planned = { λ w. weak_planned T.Archived.definitions rc_flavor T.Archived.pointee
-        (λ s. rc_keys s.key T.Archived.pointee 0 (T.meaning s.value.value) (T.keys s.value.value)) (λ s. shared_value s.key)
-        (λ s. rc_one_planned T.Archived.definitions s.key T.Archived.pointee T.Archived.shape T.Archived.is_one
-        (T.meaning s.value.value) (T.keys s.value.value) (T.planned s.value.value)) w.value };
+        (λ s. rc_keys s.key T.Archived.pointee 0 (T.meaning s.value.value) (T.keys s.value.value))
+        (λ s. shared_value s.key) (λ s. rc_one_planned T.Archived.definitions s.key
+        T.Archived.pointee T.Archived.shape T.Archived.is_one (T.meaning s.value.value)
+        (T.keys s.value.value) (T.planned s.value.value)) w.value };
 
     #[tactic(auto, using(archive_types::proofs::SharedValues::SharedBytes::resolves_weak, archive_types::proofs::SharedValues::SharedBytes::resolves_null, archive_types::proofs::SharedValues::SharedBytes::weak_hindered_at, archive_types::proofs::SharedValues::SharedBytes::null_hindered_at))]
     fn resolve(
@@ -114,19 +118,24 @@ impl<T: Archive> ArchiveUnsized for WeakShared<T> {
 
     ghost meaning = { λ w. weak_value (λ s. shared_value s.key) w.value };
 
-    ghost keys = { λ w. weak_keys (λ s. rc_keys s.key T.Archived.pointee 0 (T.meaning s.value.value) (T.keys s.value.value)) w.value };
+    ghost keys = { λ w. weak_keys (λ s. rc_keys s.key T.Archived.pointee 0 (T.meaning s.value.value)
+        (T.keys s.value.value)) w.value };
 
-    ghost keyed = { λ w. weak_keyed (λ s. rc_keys s.key T.Archived.pointee 0 (T.meaning s.value.value) (T.keys s.value.value)) (λ s. shared_value s.key)
-        (λ s. rc_keyed s.key T.Archived.pointee 0 (T.meaning s.value.value) (T.keys s.value.value) (T.keyed s.value.value)) w.value };
+    ghost keyed = { λ w. weak_keyed (λ s. rc_keys s.key T.Archived.pointee 0
+        (T.meaning s.value.value) (T.keys s.value.value)) (λ s. shared_value s.key)
+        (λ s. rc_keyed s.key T.Archived.pointee 0 (T.meaning s.value.value) (T.keys s.value.value)
+        (T.keyed s.value.value)) w.value };
 
     ghost one_length = { λ _ _. refl };
 
     ghost planned = { λ w. one_planned T.Archived.definitions (weak rc_flavor T.Archived.pointee)
-        (weak_keys (λ s. rc_keys s.key T.Archived.pointee 0 (T.meaning s.value.value) (T.keys s.value.value)) w.value) (weak_value (λ s. shared_value s.key) w.value)
+        (weak_keys (λ s. rc_keys s.key T.Archived.pointee 0 (T.meaning s.value.value)
+        (T.keys s.value.value)) w.value) (weak_value (λ s. shared_value s.key) w.value)
         (weak_planned T.Archived.definitions rc_flavor T.Archived.pointee
-        (λ s. rc_keys s.key T.Archived.pointee 0 (T.meaning s.value.value) (T.keys s.value.value)) (λ s. shared_value s.key)
-        (λ s. rc_one_planned T.Archived.definitions s.key T.Archived.pointee T.Archived.shape T.Archived.is_one
-        (T.meaning s.value.value) (T.keys s.value.value) (T.planned s.value.value)) w.value) };
+        (λ s. rc_keys s.key T.Archived.pointee 0 (T.meaning s.value.value) (T.keys s.value.value))
+        (λ s. shared_value s.key) (λ s. rc_one_planned T.Archived.definitions s.key
+        T.Archived.pointee T.Archived.shape T.Archived.is_one (T.meaning s.value.value)
+        (T.keys s.value.value) (T.planned s.value.value)) w.value) };
 
     fn archived_metadata(&self) -> Result<(), Error> {
         Ok(())

@@ -46,9 +46,11 @@ pub trait Chain {
 
     ghost is_align: { IsAlign layout.align };
 
-    ghost laid_out: { HasLayout (defines name (choice name (Self.Variants.variants (named name)))) (named name) layout };
+    ghost laid_out: { HasLayout (defines name (choice name (Self.Variants.variants (named name))))
+        (named name) layout };
 
-    ghost known: { (s : SchemaTable) → Knows s (defines name (choice name (Self.Variants.variants (named name)))) → Knows s Self.Variants.definitions };
+    ghost known: { (s : SchemaTable) → Knows s (defines name
+        (choice name (Self.Variants.variants (named name)))) → Knows s Self.Variants.definitions };
 
     // It holds them.
     ghost holds: { Self.Variants.end ≤ layout.size };
@@ -107,8 +109,12 @@ fn check_link<F: Chain, C: ArchiveContext>(
 ) -> Option<Option<usize>>
     requires fits { at + F.layout.size ≤ length bytes.now }
     requires below { (C.state context.old).end ≤ length bytes.now }
-    ensures passed { IfSome result (LinkPassed (defines F.name (choice F.name (F.Variants.variants (named F.name)))) bytes.now at (named F.name) F.layout.size (C.state context.old) (C.state context.new)) }
-    ensures stops { IsTrue F.Variants.direct → IfNone result (Halts (defines F.name (choice F.name (F.Variants.variants (named F.name)))) (shape_way bytes.now at (named F.name)) (C.state context.old) refusal.new) }
+    ensures passed { IfSome result (LinkPassed (defines F.name
+        (choice F.name (F.Variants.variants (named F.name)))) bytes.now at (named F.name)
+        F.layout.size (C.state context.old) (C.state context.new)) }
+    ensures stops { IsTrue F.Variants.direct → IfNone result
+        (Halts (defines F.name (choice F.name (F.Variants.variants (named F.name))))
+        (shape_way bytes.now at (named F.name)) (C.state context.old) refusal.new) }
     ensures spends { Spends F.layout.size (C.state context.old) (C.state context.new) }
     ensures positions { OnSome result (C.positions context.new ≡ C.positions context.old) }
 {
@@ -132,8 +138,11 @@ fn enter_rest<F: Chain, C: ArchiveContext>(
     context: &mut C,
 ) -> Option<Region>
     requires { rest + 4 ≤ length bytes.now }
-    ensures entered { IfSome result (EntersRest bytes.now rest F.layout (C.state context.old) (C.state context.new)) }
-    ensures stops { IfNone result (Halts (defines F.name (choice F.name (F.Variants.variants (named F.name)))) (shape_way bytes.now rest (boxed (one (named F.name)))) (C.state context.old) refusal.new) }
+    ensures entered { IfSome result (EntersRest bytes.now rest F.layout (C.state context.old)
+        (C.state context.new)) }
+    ensures stops { IfNone result (Halts (defines F.name
+        (choice F.name (F.Variants.variants (named F.name))))
+        (shape_way bytes.now rest (boxed (one (named F.name)))) (C.state context.old) refusal.new) }
     ensures unchanged { IfNone result (C.state context.new ≡ C.state context.old) }
     ensures positions { OnSome result (C.positions context.new ≡ C.positions context.old) }
 {
@@ -161,8 +170,12 @@ fn descend<F: Chain, C: ArchiveContext>(
     requires fits { at + F.layout.size ≤ length bytes.now }
     requires below { (C.state context.old).end ≤ length bytes.now }
     requires region { (C.state context.old).end ≡ at }
-    ensures sunk { IfSome result (Sunk (defines F.name (choice F.name (F.Variants.variants (named F.name)))) (shape_way bytes.now at (named F.name)) (C.state context.old) (C.state context.new)) }
-    ensures stops { IsTrue F.Variants.direct → IfNone result (Halts (defines F.name (choice F.name (F.Variants.variants (named F.name)))) (shape_way bytes.now at (named F.name)) (C.state context.old) refusal.new) }
+    ensures sunk { IfSome result (Sunk (defines F.name
+        (choice F.name (F.Variants.variants (named F.name))))
+        (shape_way bytes.now at (named F.name)) (C.state context.old) (C.state context.new)) }
+    ensures stops { IsTrue F.Variants.direct → IfNone result
+        (Halts (defines F.name (choice F.name (F.Variants.variants (named F.name))))
+        (shape_way bytes.now at (named F.name)) (C.state context.old) refusal.new) }
     ensures spends { Spends F.layout.size (C.state context.old) (C.state context.new) }
     ensures positions { OnSome result (C.positions context.new ≡ C.positions context.old) }
 {

@@ -55,8 +55,11 @@ pub trait ChainParts {
     ) -> Option<Head>
         requires fits { base + end start ≤ length bytes.now }
         requires below { (C.state context.old).end ≤ length bytes.now }
-        ensures passed { IfSome result (PartsPassed definitions bytes.now base start parts (end start - start) (C.state context.old) (C.state context.new)) }
-        ensures stops { IsTrue direct → IfNone result ((X : Shape) → Halts definitions (parts_way bytes.now base start (parts X)) (C.state context.old) refusal.new) }
+        ensures passed { IfSome result (PartsPassed definitions bytes.now base start parts
+            (end start - start) (C.state context.old) (C.state context.new)) }
+        ensures stops { IsTrue direct → IfNone result ((X : Shape)
+            → Halts definitions (parts_way bytes.now base start (parts X)) (C.state context.old)
+            refusal.new) }
         ensures spends { Spends (end start - start) (C.state context.old) (C.state context.new) }
         ensures positions { OnSome result (C.positions context.new ≡ C.positions context.old) };
 
@@ -167,7 +170,8 @@ fn check_part<A: Portable, C: ArchiveContext>(
     requires fits { at + A.layout.size ≤ length bytes.now }
     requires below { (C.state context.old).end ≤ length bytes.now }
     ensures through { WentOver C.Context context A.Portable (shape_way bytes.now at) result }
-    ensures stops { StoppedIn C.Context context A.Check.direct A.Portable (shape_way bytes.now at) result refusal }
+    ensures stops { StoppedIn C.Context context A.Check.direct A.Portable (shape_way bytes.now at)
+        result refusal }
     ensures spends { Spends A.layout.size (C.state context.old) (C.state context.new) }
     ensures positions { OnSome result (C.positions context.new ≡ C.positions context.old) }
 {

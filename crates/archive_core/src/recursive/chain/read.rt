@@ -45,7 +45,8 @@ pub trait ChainBack<X: Portable, D: Entries>: Archive + Drop {
         deserializer: &mut D,
     ) -> Result<ReadHead<Self, Self::Front>, Error>
         requires { IsPartOf X.ArchivePointee part }
-        ensures read { IfOk result (HeadIsRead X.Portable part D.Entries deserializer Self.Archive around keys_around) }
+        ensures read { IfOk result (HeadIsRead X.Portable part D.Entries deserializer Self.Archive
+            around keys_around) }
         ensures refused { IfErr result (RefusesPart X.ArchivePointee part D.Entries deserializer) };
 
     /// The value with what its box holds.

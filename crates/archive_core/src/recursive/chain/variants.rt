@@ -41,8 +41,11 @@ pub trait ChainVariants {
     ) -> Option<Head>
         requires fits { base + end ≤ length bytes.now }
         requires below { (C.state context.old).end ≤ length bytes.now }
-        ensures passed { IfSome result (VariantPassed definitions bytes.now base variants tag end (C.state context.old) (C.state context.new)) }
-        ensures stops { IsTrue direct → IfNone result ((X : Shape) → VariantHalts definitions bytes.now base (variants X) tag (C.state context.old) refusal.new) }
+        ensures passed { IfSome result (VariantPassed definitions bytes.now base variants tag end
+            (C.state context.old) (C.state context.new)) }
+        ensures stops { IsTrue direct → IfNone result ((X : Shape)
+            → VariantHalts definitions bytes.now base (variants X) tag (C.state context.old)
+            refusal.new) }
         ensures spends { Spends end (C.state context.old) (C.state context.new) }
         ensures positions { OnSome result (C.positions context.new ≡ C.positions context.old) };
 }

@@ -41,9 +41,12 @@ pub trait ChainSource<S: Writer + Keys>: Archive {
         &self,
         serializer: &mut S,
     ) -> Result<WrittenHead<Self::Resolver, Self::Kept>, Error>
-        ensures serialized { IfOk result (HeadSerialized Self.Archive Self.Archived.Portable rest closed self.now S.Keys serializer) }
+        ensures serialized { IfOk result (HeadSerialized Self.Archive Self.Archived.Portable rest
+            closed self.now S.Keys serializer) }
         ensures goes_on { GoesOn (S.state serializer.old) (S.state serializer.new) }
-        ensures refused { IfErr result (IsRefused Self.Archived.definitions Self.Archived.shape (Self.keys self.now) (Self.meaning self.now) (S.state serializer.old) (S.state serializer.new)) };
+        ensures refused { IfErr result (IsRefused Self.Archived.definitions Self.Archived.shape
+            (Self.keys self.now) (Self.meaning self.now) (S.state serializer.old)
+            (S.state serializer.new)) };
 
     /// The resolver of a value with a box.
     fn close(kept: Self::Kept, at: BoxResolver) -> Self::Resolver
