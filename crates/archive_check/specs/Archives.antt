@@ -19,7 +19,7 @@ use Rattle.archive_check.specs.Words.Faults.{IsFor, IsOfCheck}
 use Rattle.archive_check.specs.context.FreshContexts.{HasLevels}
 
 -- The definitions give X a meaning, some schema knows them, and under each that does the buffer is
--- an archive of an X at root, with no region too deep.
+-- an archive of an X at root, no region too deep.
 pub record IsArchiveWithin (D : Definitions) (bytes : List ℕ) (limit : Option ℕ) (root : ℕ) (X : Shape) : Type 0 where
   pub well_formed : WellFormed (listed D) X
   pub known : ∥ ((s : SchemaTable) × Knows s D) ∥₁
@@ -29,7 +29,7 @@ pub record IsArchiveWithin (D : Definitions) (bytes : List ℕ) (limit : Option 
 abbrev pub IsArchive : Definitions → List ℕ → ℕ → Shape → Type 0
 IsArchive D bytes root X = IsArchiveWithin D bytes None root X
 
--- The buffer is an archive of an X at root, and under each schema that knows the definitions it
+-- The buffer is an archive of an X at root, and in each schema that knows the definitions it
 -- denotes w, with just these shared values.
 pub record IsValueOf (D : Definitions) (bytes : List ℕ) (root : ℕ) (X : Shape) (w : Value) (keys : List Naming) : Type 0 where
   pub archive : IsArchive D bytes root X
@@ -38,9 +38,9 @@ pub record IsValueOf (D : Definitions) (bytes : List ℕ) (root : ℕ) (X : Shap
   pub whole : (s : SchemaTable) (m : Meaning) → Knows s D → Denotes s bytes root X m
       → (t : ℕ) (e : Entry) (v : Value) → get m.shared t ≡ Some (e, v) → (f : Entry) × Contains keys (t, (f, v))
 
--- The root was read back as w, with these keys. If no position was known before, w is what the
--- buffer denotes, and what is known now is right. No open position was met, and what is read once
--- is kept.
+-- The root was read back as w, with these keys. If no position was known before, that is what the
+-- buffer denotes, and so is what is known now. No open position was met, and what is read once is
+-- kept.
 pub record ReadsWhole (keeps : Bool) (D : Definitions) (bytes : List ℕ) (root : ℕ) (X : Shape) (old new : Entries) (w : Value) (keys : List Naming) : Type 0 where
   pub kept : KeepsEntries old new
   pub value : NoEntries old → IsValueOf D bytes root X w keys
@@ -48,16 +48,16 @@ pub record ReadsWhole (keeps : Bool) (D : Definitions) (bytes : List ℕ) (root 
   pub unmet : IsCyclic D bytes old root (one X) 0 → ⊥
   pub once : KeepsRead keeps old new keys
 
--- The definitions give X a meaning, and under each schema that knows them a check finds first the
--- fault that the error names.
+-- The definitions give X a meaning, and in each schema that knows them the error names the first
+-- fault that a check finds.
 pub record IsFaulty (D : Definitions) (bytes : List ℕ) (limit : Option ℕ) (root : ℕ) (X : Shape) (error : Error) : Type 0 where
   pub well_formed : WellFormed (listed D) X
   pub fault : Fault
   pub said : IsFor fault error
   pub trips : (s : SchemaTable) → Knows s D → ∥ RootTrips s bytes limit root X fault ∥₁
 
--- Why there is no schema: memory was refused, a name that X reaches has no definition or two, or
--- one contains itself other than behind a pointer.
+-- Memory was refused, a name that X reaches has no definition or two, or one contains itself other
+-- than behind a pointer.
 abbrev pub ExplainsNoSchema : Shape → Definitions → Error → Type 0
 ExplainsNoSchema X D e =
     (e ≡ OutOfMemory)
@@ -76,24 +76,23 @@ IsAnswerable X D depth error = HasLevels depth → IsOfCheck error ⊎ ExplainsN
 abbrev pub ExplainsNoArchive : Definitions → List ℕ → Option ℕ → ℕ → Shape → Error → Type 0
 ExplainsNoArchive D bytes limit root X error = (error ≡ OutOfMemory) ⊎ (IsArchiveWithin D bytes limit root X → ⊥)
 
--- The result of a check: it succeeds for archives alone, and an error says why not; then the buffer
--- is no archive, or memory was refused.
+-- A check succeeds for archives alone, and an error says why not; then the buffer is no archive, or
+-- memory was refused.
 pub record Answers {A : Type 0} (D : Definitions) (bytes : List ℕ) (limit : Option ℕ) (root : ℕ) (X : Shape) (answer : Result A Error) : Type 0 where
   pub accepted : OnOk answer (IsArchiveWithin D bytes limit root X)
   pub refused : IfErr answer (IsRefusal D bytes limit root X)
   pub exact : IfErr answer (ExplainsNoArchive D bytes limit root X)
 
--- The position of an archive's root: the buffer's length less the root's size, or 0 if the buffer
--- is shorter.
+-- Where an archive's root lies: as many bytes before the end as it takes, or at 0 if there are
+-- fewer.
 abbrev pub root_in : List ℕ → Layout → ℕ
 root_in bytes layout = length bytes - layout.size
 
--- Why reading back fails: the check fails, or the buffer is an archive in which an open position is
--- met.
+-- Reading back fails as the check does, or for an archive in which an open position is met.
 abbrev pub RefusesWhole : Definitions → List ℕ → ℕ → Shape → Entries → Error → Type 0
 RefusesWhole D bytes root X told e = IsRefusal D bytes None root X e ⊎ ((e ≡ CyclicDeserialize) × IsArchive D bytes root X × IsCyclic D bytes told root (one X) 0)
 
--- The error is one of the check alone, so the buffer is no archive, or memory was refused.
+-- Reading back fails as the check does: the buffer is no archive, or memory was refused.
 pub record RefusesAsCheck (D : Definitions) (bytes : List ℕ) (root : ℕ) (X : Shape) (e : Error) : Type 0 where
   pub refused : IsRefusal D bytes None root X e
   pub exact : ExplainsNoArchive D bytes None root X e

@@ -39,6 +39,6 @@ pub data ComesTo (s : SchemaTable) (bytes : List ℕ) (root : ℕ) (X : Shape) :
       → k < u32_at bytes (q + 4)
       → ComesTo s bytes root X (t + k * size_of s.layouts (entry_of K V) + up (size_of s.layouts (key_shape K)) (align_of s.layouts V)) (one V) 0
 
--- Seals reach it in an accepted buffer, under some schema that knows the definitions.
+-- Seals reach it in an accepted buffer, in some schema that knows the definitions.
 abbrev pub IsComeTo : Definitions → List ℕ → ℕ → Pointee → ℕ → Type 0
 IsComeTo D bytes q P n = ∥ ((s : SchemaTable) × Knows s D × (root : ℕ) × (X : Shape) × Accepted s bytes root X × ComesTo s bytes root X q P n) ∥₁

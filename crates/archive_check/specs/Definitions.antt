@@ -7,7 +7,7 @@ use Rattle.archive_check.specs.Layout.{Layout, layout}
 use Rattle.archive_check.specs.Defined.{HeldIn, Involves}
 use Rattle.archive_check.specs.Reads.{SchemaTable, LaidOut}
 
--- The definitions that a type brings with it: none, one under a name, or two such groups.
+-- The definitions that a type brings: none, one under a name, or two such groups.
 pub data Definitions : Type 0 where
   no_definition : Definitions
   defines : Name → Shape → Definitions
@@ -55,9 +55,8 @@ Has s no_definition = Unit {0}
 Has s (defines name X) = definition s.table name ≡ Some X
 Has s (both D E) = Has s D × Has s E
 
--- The schema has these definitions, none of which contains itself other than behind a pointer, and
--- its layouts are those of its definitions. No schema does if a name has two definitions, or one
--- contains itself so.
+-- The schema has these definitions with their layouts, and none contains itself other than behind a
+-- pointer.
 pub record Knows (s : SchemaTable) (D : Definitions) : Type 0 where
   pub has : Has s D
   pub finite : (name : Name) (X : Shape) → Contains (listed D) (name, X) → HeldIn s.table name X → ⊥

@@ -22,8 +22,8 @@ NoEntries told = (t : ℕ) → told t ≡ None
 abbrev pub AreNamedByPosition : Entries → Type 0
 AreNamedByPosition told = (t : ℕ) (k : Kept) → told t ≡ Some (Some k) → k.name ≡ t
 
--- Finished positions keep what is kept of them, the pending ones are the same, and values stay
--- named by their positions.
+-- Finished positions keep what is kept of them, the same are pending, and values stay named by
+-- their positions.
 pub record KeepsEntries (old new : Entries) : Type 0 where
   pub finished : (t : ℕ) (k : Kept) → old t ≡ Some (Some k) → new t ≡ Some (Some k)
   pub pending : (t : ℕ) → new t ≡ Some None ↔ old t ≡ Some None
@@ -59,7 +59,7 @@ KeepsRead keeps old new keys = keeps ≡ true → AreNamedByPosition old → IsC
 abbrev pub IsOpen : Entries → List ℕ → ℕ → Type 0
 IsOpen told within t = (told t ≡ Some None) ⊎ Contains within t
 
--- Following P at q, and what it leads to, meets a pointer to an open shared position. What is
+-- Following P at q, and what it leads to, meets a pointer to an open shared position; what is
 -- finished isn't followed.
 pub data MeetsOpen (s : SchemaTable) (bytes : List ℕ) (told : Entries) : List ℕ → ℕ → Pointee → ℕ → Type 0 where
   meets_open : {within : List ℕ} {q n t : ℕ} {P : Pointee} {v : Value} {p : Pointer} {flavor : Flavor}
@@ -98,8 +98,8 @@ pub record IsMet (s : SchemaTable) (bytes : List ℕ) (root : ℕ) (X : Shape) (
 abbrev pub IsClosed : SchemaTable → List ℕ → ℕ → Shape → Entries → ℕ → Type 0
 IsClosed s bytes root X told t = (p : Pointer) (flavor : Flavor) → IsMet s bytes root X p → p.sharing ≡ Some flavor → p.target ≡ pos t → MeetsOpen s bytes told (t ∷ []) t p.pointee p.length → ⊥
 
--- Reading P at q meets an open position, under each schema that knows the definitions and in which
--- P lies there.
+-- Reading P at q meets an open position, in each schema that knows the definitions and in which P
+-- lies there.
 pub record IsCyclic (D : Definitions) (bytes : List ℕ) (told : Entries) (q : ℕ) (P : Pointee) (n : ℕ) : Type 0 where
   pub meets : (s : SchemaTable) → Knows s D → Lies s bytes q P n → MeetsOpen s bytes told [] q P n
 

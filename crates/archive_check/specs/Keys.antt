@@ -10,8 +10,7 @@ use Rattle.archive_check.specs.Value.{Pointer}
 use Rattle.archive_check.specs.Reads.{SchemaTable, bytes_at, kind_value}
 use Rattle.archive_check.specs.Readable.{string_text}
 
--- The keys by which the elements must ascend that a pointer leads to; a shared pointer requires
--- none.
+-- The keys by which the elements of a pointer must ascend; of a shared one, none.
 abbrev pub order_of : Pointer → Option Key
 order_of p = cond (is_some p.sharing) None p.order
 
@@ -26,8 +25,8 @@ abbrev pub ComesBehind : Key → List ℕ → Option ℕ → ℕ → Type 0
 ComesBehind K bytes None q = Unit {0}
 ComesBehind K bytes (Some p) q = key_cmp K bytes p q ≡ Less
 
--- The next n keys ascend strictly: the first is at q and greater than the one before it, and each
--- other is z bytes behind the one before.
+-- The next n keys ascend strictly: the first is at q and greater than the one before it, each other
+-- z bytes behind the one before.
 abbrev pub Ascend : Key → List ℕ → Option ℕ → ℕ → ℕ → ℕ → Type 0
 Ascend K bytes before q z zero = Unit {0}
 Ascend K bytes before q z (suc n) = ComesBehind K bytes before q × Ascend K bytes (Some q) (q + z) z n

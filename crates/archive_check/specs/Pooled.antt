@@ -4,8 +4,8 @@ use Rattle.archive_check.specs.Value.{Value}
 use Rattle.archive_check.specs.Tour.{Entry}
 use Rattle.archive_check.specs.Denotes.{Naming}
 
--- What is kept of a shared value that was read: its name, its flavor, pointee and length, what it
--- holds, and what the names in that lead to.
+-- What is kept of a shared value that was read: name, flavor, pointee, length, value, and what the
+-- names in that lead to.
 pub record Kept : Type 0 where
   pub name : ℕ
   pub entry : Entry

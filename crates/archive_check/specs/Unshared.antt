@@ -50,6 +50,6 @@ abbrev pub IsAcyclic : Definitions → Shape → Type 0
 IsAcyclic D X = HasFlavors (λ flavor. not flavor.cycles) D X
 
 -- No reading of an X can meet an open position: nothing is shared, or no flavor allows cycles and
--- no position is pending before.
+-- no position is pending.
 abbrev pub IsNeverOpen : Definitions → Shape → Entries → Type 0
 IsNeverOpen D X told = IsUnshared D X ⊎ (IsAcyclic D X × ((t : ℕ) → told t ≡ Some None → ⊥))

@@ -11,8 +11,8 @@ KeyState = Option (Option ℕ)
 abbrev pub KeyStates : Type 0
 KeyStates = ℕ → KeyState
 
--- The bytes that a writer holds, how many more it can take if it has a limit, how often its device
--- failed, and the states of the shared keys.
+-- The bytes that a writer holds, how many more it can take, how often its device failed, and the
+-- states of the shared keys.
 pub record WriterState : Type 0 where
   pub bytes : List ℕ
   pub room : Option ℕ

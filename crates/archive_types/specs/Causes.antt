@@ -14,8 +14,8 @@ use Rattle.archive_check.specs.Denotes.{Naming}
 use Rattle.archive_num.specs.Offsets.{distance, IsTooFar}
 use Rattle.archive_types.specs.Plans.{Cursor, Step, lays, meets, disorder, Foreseen, ValuePlan, RegionPlan, cursor}
 
--- The writer, which holds the planned bytes up to a position and ends at `cap`, was to take `count`
--- more planned ones, and has no room for them.
+-- The writer, which holds the planned bytes up to a position and ends at `cap`, has less room than
+-- for the `count` planned bytes that it was to take.
 pub record Overflows (reaches : ℕ → Type 0) (old new : WriterState) (count cap position : ℕ) : Type 0 where
   pub behind : length old.bytes ≤ position
   pub held : position ≡ length new.bytes
@@ -23,8 +23,8 @@ pub record Overflows (reaches : ℕ → Type 0) (old new : WriterState) (count c
   pub full : IsSomeAnd old.room (λ room. (cap ≡ length old.bytes + room) × (cap < position + count))
   pub left : IsSomeAnd new.room (λ room. room < count)
 
--- Why what is planned wasn't written: memory was refused; the planned bytes don't fit the room; the
--- device failed now, or too often before; or the value caused it.
+-- Why what is planned wasn't written: memory was refused; it doesn't fit; the device failed now, or
+-- too often before; or the value caused it.
 pub data Explains (own : Error → Type 0) (reaches : ℕ → Type 0) (old new : WriterState) : Error → Type 0 where
   no_memory : Explains own reaches old new OutOfMemory
   no_room : {count cap position : ℕ} → Overflows reaches old new count cap position → Explains own reaches old new (BufferOverflow count cap position)
@@ -112,14 +112,13 @@ IsTooWide (non_zero unsigned width) z = (n : ℕ) → n < 2 ^ (8 * byte_len widt
 IsTooWide (non_zero signed width) z = FitsSigned width z → ⊥
 IsTooWide (raw_rel sign width) z = ⊥
 
--- The part is a shared or weak pointer with this pointer, which may lead to a value that was
--- written before.
+-- The part is a shared or weak pointer with this pointer.
 pub data IsSharedOwner : Shape → Value → Pointer → Type 0 where
   shared_owner : {flavor : Flavor} {P : Pointee} {h : Pointer} → IsSharedOwner (shared flavor P) (hole h) h
   weak_owner : {flavor : Flavor} {P : Pointee} {h : Pointer} → IsSharedOwner (weak flavor P) (hole h) h
 
 -- Why a part can't be written anywhere: what it points to lies above 4,294,967,295, or is shared
--- and has a greater length; its number has too many bits; or its text is too long for a string.
+-- and has a greater length; its number has too many bits; its text is too long.
 pub data HindersPart : Shape → Value → Error → Type 0 where
   stands_too_far : {Y : Shape} {w : Value} {h : Pointer} {t : ℕ} → IsOwner Y w h → h.target ≡ pos t → 4294967295 < t → HindersPart Y w PositionTooLarge
   shared_too_long : {Y : Shape} {w : Value} {h : Pointer} → IsSharedOwner Y w h → 4294967295 < h.length → HindersPart Y w LengthTooLarge
@@ -134,7 +133,7 @@ pub data HindersPartAt : Shape → ℕ → Value → Error → Type 0 where
   looks_null : {flavor : Flavor} {P : Pointee} {q : ℕ} {h : Pointer} → h.target ≡ pos (suc q) → HindersPartAt (weak flavor P) q (hole h) OffsetOverflow
 
 -- Why a step of a plan fails: a part of the region can't be written; its length is above
--- 4,294,967,295, or its end above `usize::MAX`; the key is pending; or a map's keys don't ascend.
+-- 4,294,967,295, its end above `usize::MAX`; the key is pending; keys don't ascend.
 pub data HindersStep (s : SchemaTable) : Step → Error → Type 0 where
   part_hinders : {r : Region} {v : Value} {o : ℕ} {Y : Shape} {w : Value} {e : Error}
       → PartOfPointee s r.pointee r.length v o Y w

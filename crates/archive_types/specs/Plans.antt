@@ -45,7 +45,7 @@ abbrev pub ended : Cursor → ℕ → ℕ → Cursor
 ended c key p = record { position = c.position; states = update nat_eq c.states key (Some (Some p)) }
 
 -- A step of a plan: a region is written that reads as this value; a key is met that is pending; or
--- keys of a map are met that don't ascend.
+-- a map's keys are met that don't ascend.
 pub data Step : Type 0 where
   lays : Region → Value → Step
   meets : ℕ → Step
@@ -57,9 +57,9 @@ disorders (list vs) = cond (keys_ascend vs) [] (disorder ∷ [])
 disorders v = []
 
 -- `Plans s names X v a flat C b`: from a on, what v owns as an X is written in the steps C, up to
--- b; then `flat` is read in v's place, with a hole for each pointer. There is a rule for each
--- format: parts and elements come one after another, what a pointee owns before its region, and a
--- shared value once, pending while what it owns is written.
+-- b; then `flat` is read in v's place, with a hole for each pointer. A rule for each format: parts
+-- and elements come one after another, what a pointee owns before its region, and a shared value
+-- once, pending while what it owns is written.
 mutual
   pub data Plans (s : SchemaTable) (names : NameMap) : Shape → Value → Cursor → Value → List Step → Cursor → Type 0 where
     plans_leaf : {kind : Kind} {z : ℤ} {a : Cursor} → Plans s names (leaf kind) (number z) a (number z) [] a

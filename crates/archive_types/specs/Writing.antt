@@ -149,8 +149,8 @@ pub record ZeroedPlace (size p : ℕ) (bytes : List ℕ) : Type 0 where
   pub zeroed : IsZeroed bytes
   pub ends : p + size < 2 ^ 64
 
--- The buffer is an archive of the value, with its keys renamed one to one, and tight and clean from
--- start on. A value without keys is denoted as it is.
+-- The buffer is an archive of the value, tight and clean from start on, its keys renamed one to
+-- one. A value without keys is denoted as it is.
 pub record IsWritten (s : SchemaTable) (start : ℕ) (bytes : List ℕ) (root : ℕ) (X : Shape) (names : NameMap) (value : Value) : Type 0 where
   pub meaning : Meaning
   pub denotes : Denotes s bytes root X meaning
@@ -159,8 +159,8 @@ pub record IsWritten (s : SchemaTable) (start : ℕ) (bytes : List ℕ) (root : 
   pub tight : TightFrom start denotes.accepted
   pub clean : CleanFrom start denotes.accepted
 
--- Behind the old bytes lies an archive of the value, with its root at the end. Each schema that
--- knows the definitions accepts it, if each key stands for one thing.
+-- Behind the old bytes lies an archive of the value, its root at the end: each schema that knows
+-- the definitions accepts it, if each key stands for one thing.
 pub record Archives (definitions : Definitions) (old new : List ℕ) (root : ℕ) (X : Shape) (size : ℕ) (keys : List Naming) (value : Value) : Type 0 where
   pub added : List ℕ
   pub grown : new ≡ old ++ added

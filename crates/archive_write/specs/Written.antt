@@ -11,13 +11,13 @@ pub record IsBeginning (xs ys : List ℕ) : Type 0 where
   pub rest : List ℕ
   pub whole : ys ≡ xs ++ rest
 
--- The room has fallen by the number of bytes that came.
+-- The room has fallen by as many bytes as came.
 abbrev pub RoomFalls : Option ℕ → Option ℕ → List ℕ → List ℕ → Type 0
 RoomFalls None new xs ys = new ≡ None
 RoomFalls (Some room) new xs ys = (length ys ≤ length xs + room) × (new ≡ Some (room - (length ys - length xs)))
 
--- The old bytes are the beginning of the new ones, the room has fallen by the number of bytes that
--- came, no failure is forgotten, and each known key keeps its state.
+-- The new bytes begin with the old ones, the room has fallen by as many bytes as came, no failure
+-- is forgotten, and each known key keeps its state.
 pub record GoesOn (old new : WriterState) : Type 0 where
   pub kept : IsBeginning old.bytes new.bytes
   pub room : RoomFalls old.room new.room old.bytes new.bytes
