@@ -52,6 +52,6 @@ pub record ReadsArchive {M D T A R N C : Type 0} (f : FormatOf M) (bytes : List 
 abbrev pub LacksSchema : {M : Type 0} → FormatOf M → Error → Type 0
 LacksSchema f e = ExplainsNoSchema f.shape f.definitions e ⊎ WellFormed (listed f.definitions) f.shape
 
--- what a check of the root at the end answers
+-- the result of a check of the root at the end
 abbrev pub AnswersRoot : {M T : Type 0} → FormatOf M → List ℕ → Option ℕ → Result T Error → Type 0
 AnswersRoot f bytes depth result = Answers f.definitions bytes depth (root_in bytes f.layout) f.shape result
