@@ -27,8 +27,8 @@ pub record AppendsArchive {T A R M C : Type 0} (a : Archive.Ghosts T A R C M) (f
   pub goes_on : GoesOn (unshared old) (unshared new)
   pub refused : IfErr result (IsRegionRefused f.definitions (one f.shape) 0 (a.keys v) (a.meaning v) (unshared old) (unshared new))
 
--- The same with a writer that the call takes and returns; an error is explained by what some writer
--- held in the end.
+-- The same as `AppendsArchive`, with a writer that the call takes and returns; an error is
+-- explained by what some writer held in the end.
 pub record AppendsTaken {T A R M C W : Type 0} (a : Archive.Ghosts T A R C M) (f : FormatOf M) (v : T) (k : Keys.Ghosts W) (old : W) (result : Result W Error) : Type 0 where
   pub archived : IfOk result (λ new. (root : ℕ) × Archives f.definitions (k.state old).bytes (k.state new).bytes root f.shape f.layout.size (a.keys v) (a.meaning v))
   pub goes_on : IfOk result (λ new. GoesOn (unshared (k.state old)) (unshared (k.state new)))
