@@ -1,4 +1,4 @@
--- What a deserializer tells of shared positions, and what a reading answers and leaves.
+-- What a deserializer knows of shared positions, and what a reading returns and leaves.
 use Rattle.std.specs.Prelude.{◌≡◌, Bool, true, ◌⊎◌, ◌↔◌, ℕ, pos, List, [], ◌∷◌, Some, None, Contains}
 use Rattle.std.specs.Ordering.{nat_cmp}
 use Rattle.std.specs.FinMap.{FinMap, get}

@@ -183,6 +183,6 @@ IsRefused D X keys v old new = Explains (Hinders D X keys v (cursor old)) (PlanR
 abbrev pub IsRegionRefused : Definitions → Pointee → ℕ → List Naming → Value → WriterState → WriterState → Error → Type 0
 IsRegionRefused D P n keys v old new = Explains (HindersRegion D P n keys v (cursor old)) (RegionReaches D P n keys v (cursor old)) old new
 
--- Why a shared value isn't written, by its key's state: a pending one holds itself, or what hinders its region.
+-- Why a shared value isn't written, by its key's state: a pending one contains itself, or what hinders its region.
 abbrev pub HindersShared : KeyState → (Error → Type 0) → Error → Type 0
 HindersShared state own e = ((e ≡ CyclicSerialize) × (state ≡ Some None)) ⊎ own e

@@ -143,7 +143,7 @@ pub record Puts (definitions : Definitions) (old new : WriterState) (X : Shape) 
   pub resolved : Resolves definitions (length old.bytes) added X flat
   pub states : new.states ≡ old.states
 
--- a place that is to be written: zeros, so many, and its end fits
+-- a place that is to be written: n zeros, and its end fits
 pub record ZeroedPlace (size p : ℕ) (bytes : List ℕ) : Type 0 where
   pub sized : length bytes ≡ size
   pub zeroed : IsZeroed bytes
