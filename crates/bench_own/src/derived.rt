@@ -6,8 +6,8 @@ use archive_core::error::Error;
 use bench_sets::run::{run, run_list};
 use bench_sets::sets::{hello, name};
 use bench_sets::values::{Elements, Values, alone, number};
+use derived_plain::point::Point;
 use derived_types::event::Event;
-use derived_types::point::Point;
 use derived_types::spot::{Drawing, Line, Spot};
 use std::alloc::{AllocError, Global};
 

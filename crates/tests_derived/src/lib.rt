@@ -1,10 +1,8 @@
-//! Tests of the types of derived_types and derived_turns, as a user's own, through public calls. The bytes of each archive were worked out by hand, from docs/FORMAT.md.
+//! Tests of the types of derived_types, derived_plain and derived_turns, as a user's own, through public calls. The bytes of each archive were worked out by hand, from docs/FORMAT.md.
 #![tactic(auto)]
 
 #[cfg(test)]
 mod assertions;
-#[cfg(test)]
-mod books;
 #[cfg(test)]
 mod drawings;
 #[cfg(test)]
@@ -14,12 +12,6 @@ mod events;
 #[cfg(test)]
 mod judgements;
 #[cfg(test)]
-mod kinds;
-#[cfg(test)]
-mod lists;
-#[cfg(test)]
-mod owners;
-#[cfg(test)]
 mod points;
 #[cfg(test)]
 mod ranks;
@@ -27,8 +19,6 @@ mod ranks;
 mod runs;
 #[cfg(test)]
 mod spots;
-#[cfg(test)]
-mod stock;
 #[cfg(test)]
 mod tracks;
 #[cfg(test)]

@@ -8,7 +8,7 @@ use archive_core::error::Error;
 use archive_core::string::ArchivedString;
 use archive_core::vec::ArchivedVec;
 use archive_core::view::Ref;
-use derived_types::point::{ArchivedPoint, Point, PointSeal, PointView};
+use derived_plain::point::{ArchivedPoint, Point, PointSeal, PointView};
 use std::alloc::Global;
 use std::process::Abort;
 

@@ -5,7 +5,7 @@ use archive_core::compare::Ordered;
 use archive_core::primitive::NonZero;
 use archive_core::traits::Portable;
 use archive_core::view::Ref;
-use derived_types::ranked::{ArchivedLabel, ArchivedScores, Label, Scores};
+use derived_plain::ranked::{ArchivedLabel, ArchivedScores, Label, Scores};
 use std::alloc::{AllocError, Global};
 use std::collections::BTreeMap;
 use std::hash::{DefaultHasher, Hash, Hasher};

@@ -3,7 +3,7 @@
 use crate::assertions::{assert_archived, assert_bytes, assert_same, sealed, viewed};
 use crate::judgements::{assert_faults, assert_refused, outside, unknown_tag};
 use archive_core::view::Ref;
-use derived_types::words::{
+use derived_plain::words::{
     ArchivedLevel, ArchivedWords, Level, LevelSeal, LevelView, ViewOfLevel, Words, WordsSeal,
     WordsView,
 };

@@ -1,7 +1,7 @@
 //! A struct of sixteen fields.
 
-use crate::event::Event;
-use crate::spot::Spot;
+use derived_types::event::Event;
+use derived_types::spot::Spot;
 
 /// What a library knows of a book.
 #[derive(Debug, PartialEq, Drop)]
@@ -61,8 +61,6 @@ ghost use Rattle.archive_core.specs.Writing.{ZeroedPlace};
 ghost use Rattle.std.proofs.Common.{inl, inr, lit≤};
 ghost use Rattle.std.specs.Prelude.{IfErr, IfOk, None, [], length, refl, string_bytes, true, ◌++◌, ◌+◌, ◌≡◌};
 
-use crate::event::ArchivedEvent;
-use crate::spot::ArchivedSpot;
 use archive_core::boxed::ArchivedBox;
 use archive_core::error::Error;
 use archive_core::fields::part_in_record;
@@ -86,6 +84,8 @@ use archive_core::traits::{
 use archive_core::validation::ArchiveContext;
 use archive_core::vec::ArchivedVec;
 use archive_core::view::{RawView, Ref};
+use derived_types::event::ArchivedEvent;
+use derived_types::spot::ArchivedSpot;
 use std::alloc::Global;
 
 /// An archived `Book`: 88 bytes at a multiple of 8.
@@ -662,7 +662,7 @@ impl<S: Writer + ResolverAlloc> Serialize<S> for Book {
 
 /// As a region of its own: the value itself.
 impl ArchiveUnsized for Book {
-    ghost use Rattle.derived_types.specs.contracts.book.BookArchive.TheImpl.Laws.{keyed-law as keyed_of_book, planned-law as planned_of_book};
+    ghost use Rattle.derived_wide.specs.contracts.book.BookArchive.TheImpl.Laws.{keyed-law as keyed_of_book, planned-law as planned_of_book};
 
     type Archived = ArchivedBook;
 

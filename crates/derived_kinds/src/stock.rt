@@ -1,6 +1,6 @@
 //! What holds maps.
 
-use crate::spot::Spot;
+use derived_types::spot::Spot;
 use std::collections::BTreeMap;
 
 /// What is in stock.
@@ -33,7 +33,6 @@ ghost use Rattle.archive_core.specs.Writing.{ZeroedPlace};
 ghost use Rattle.std.proofs.Common.{inl, inr, lit≤};
 ghost use Rattle.std.specs.Prelude.{IfErr, IfOk, None, [], length, refl, string_bytes, true, ◌++◌, ◌+◌, ◌≡◌};
 
-use crate::spot::ArchivedSpot;
 use archive_core::error::Error;
 use archive_core::fields::{part_in_record, resolve_record_2, serialize_record_2};
 use archive_core::map::ArchivedSortedMap;
@@ -51,6 +50,7 @@ use archive_core::traits::{
 };
 use archive_core::validation::ArchiveContext;
 use archive_core::view::{RawView, Ref};
+use derived_types::spot::ArchivedSpot;
 use std::alloc::Global;
 
 /// An archived `Stock`: 16 bytes at a multiple of 4.
@@ -273,7 +273,7 @@ impl<S: Writer + ResolverAlloc> Serialize<S> for Stock {
 
 /// As a region of its own: the value itself.
 impl ArchiveUnsized for Stock {
-    ghost use Rattle.derived_types.specs.contracts.stock.StockArchive.TheImpl.Laws.{keyed-law as keyed_of_stock, planned-law as planned_of_stock};
+    ghost use Rattle.derived_kinds.specs.contracts.stock.StockArchive.TheImpl.Laws.{keyed-law as keyed_of_stock, planned-law as planned_of_stock};
 
     type Archived = ArchivedStock;
 

@@ -280,7 +280,7 @@ impl<S: Writer + ResolverAlloc> Serialize<S> for Words {
 
 /// As a region of its own: the value itself.
 impl ArchiveUnsized for Words {
-    ghost use Rattle.derived_types.specs.contracts.words.WordsArchive.TheImpl.Laws.{keyed-law as keyed_of_words, planned-law as planned_of_words};
+    ghost use Rattle.derived_plain.specs.contracts.words.WordsArchive.TheImpl.Laws.{keyed-law as keyed_of_words, planned-law as planned_of_words};
 
     type Archived = ArchivedWords;
 
@@ -569,9 +569,9 @@ pub enum LevelResolver {
 }
 
 impl Archive for Level {
-    ghost use Rattle.derived_types.specs.contracts.words.WordsArchive.TheImpl.Laws.{keyed-law as keyed_of_words, planned-law as planned_of_words};
-    ghost use Rattle.derived_types.specs.declared.words.Level.TheVariants.{None as LevelNone, Ok as LevelOk, Some as LevelSome};
-    ghost use Rattle.derived_types.specs.declared.words.LevelResolver.TheVariants.{None as LevelNoneKept, Ok as LevelOkKept, Some as LevelSomeKept};
+    ghost use Rattle.derived_plain.specs.contracts.words.WordsArchive.TheImpl.Laws.{keyed-law as keyed_of_words, planned-law as planned_of_words};
+    ghost use Rattle.derived_plain.specs.declared.words.Level.TheVariants.{None as LevelNone, Ok as LevelOk, Some as LevelSome};
+    ghost use Rattle.derived_plain.specs.declared.words.LevelResolver.TheVariants.{None as LevelNoneKept, Ok as LevelOkKept, Some as LevelSomeKept};
 
     type Archived = ArchivedLevel;
 
@@ -685,7 +685,7 @@ impl<S: Writer + ResolverAlloc> Serialize<S> for Level {
 
 /// As a region of its own: the value itself.
 impl ArchiveUnsized for Level {
-    ghost use Rattle.derived_types.specs.contracts.words.LevelArchive.TheImpl.Laws.{keyed-law as keyed_of_level, planned-law as planned_of_level};
+    ghost use Rattle.derived_plain.specs.contracts.words.LevelArchive.TheImpl.Laws.{keyed-law as keyed_of_level, planned-law as planned_of_level};
 
     type Archived = ArchivedLevel;
 
@@ -770,7 +770,7 @@ pub trait LevelView<'a> {
 }
 
 impl<'a> LevelView<'a> for Ref<'a, ArchivedLevel> {
-    ghost use Rattle.derived_types.specs.declared.words.ViewOfLevel.TheVariants.{None as LevelNoneShown, Ok as LevelOkShown, Some as LevelSomeShown};
+    ghost use Rattle.derived_plain.specs.declared.words.ViewOfLevel.TheVariants.{None as LevelNoneShown, Ok as LevelOkShown, Some as LevelSomeShown};
 
     fn variant(self) -> ViewOfLevel<'a>
         ensures shows { elim result [

@@ -278,7 +278,7 @@ impl<S: Writer + ResolverAlloc> Serialize<S> for Point {
 
 /// As a region of its own: the value itself.
 impl ArchiveUnsized for Point {
-    ghost use Rattle.derived_types.specs.contracts.point.PointArchive.TheImpl.Laws.{keyed-law as keyed_of_point, planned-law as planned_of_point};
+    ghost use Rattle.derived_plain.specs.contracts.point.PointArchive.TheImpl.Laws.{keyed-law as keyed_of_point, planned-law as planned_of_point};
 
     type Archived = ArchivedPoint;
 

@@ -230,8 +230,8 @@ pub enum LabelResolver {
 }
 
 impl Archive for Label {
-    ghost use Rattle.derived_types.specs.declared.ranked.Label.TheVariants.{Name as LabelName, None as LabelNone, Number as LabelNumber};
-    ghost use Rattle.derived_types.specs.declared.ranked.LabelResolver.TheVariants.{Name as LabelNameKept, None as LabelNoneKept, Number as LabelNumberKept};
+    ghost use Rattle.derived_plain.specs.declared.ranked.Label.TheVariants.{Name as LabelName, None as LabelNone, Number as LabelNumber};
+    ghost use Rattle.derived_plain.specs.declared.ranked.LabelResolver.TheVariants.{Name as LabelNameKept, None as LabelNoneKept, Number as LabelNumberKept};
 
     type Archived = ArchivedLabel;
 
@@ -383,7 +383,7 @@ impl<S: Writer + ResolverAlloc> Serialize<S> for Label {
 
 /// As a region of its own: the value itself.
 impl ArchiveUnsized for Label {
-    ghost use Rattle.derived_types.specs.contracts.ranked.LabelArchive.TheImpl.Laws.{keyed-law as keyed_of_label, planned-law as planned_of_label};
+    ghost use Rattle.derived_plain.specs.contracts.ranked.LabelArchive.TheImpl.Laws.{keyed-law as keyed_of_label, planned-law as planned_of_label};
 
     type Archived = ArchivedLabel;
 
@@ -482,7 +482,7 @@ pub trait LabelView<'a> {
 }
 
 impl<'a> LabelView<'a> for Ref<'a, ArchivedLabel> {
-    ghost use Rattle.derived_types.specs.declared.ranked.ViewOfLabel.TheVariants.{Name as LabelNameShown, None as LabelNoneShown, Number as LabelNumberShown};
+    ghost use Rattle.derived_plain.specs.declared.ranked.ViewOfLabel.TheVariants.{Name as LabelNameShown, None as LabelNoneShown, Number as LabelNumberShown};
 
     fn variant(self) -> ViewOfLabel<'a>
         ensures shows { elim result [
@@ -761,7 +761,7 @@ pub struct ScoresResolver {
 }
 
 impl Archive for Scores {
-    ghost use Rattle.derived_types.specs.contracts.ranked.LabelArchive.TheImpl.Laws.{keyed-law as keyed_of_label, planned-law as planned_of_label};
+    ghost use Rattle.derived_plain.specs.contracts.ranked.LabelArchive.TheImpl.Laws.{keyed-law as keyed_of_label, planned-law as planned_of_label};
 
     type Archived = ArchivedScores;
 
@@ -924,7 +924,7 @@ impl<S: Writer + ResolverAlloc> Serialize<S> for Scores {
 
 /// As a region of its own: the value itself.
 impl ArchiveUnsized for Scores {
-    ghost use Rattle.derived_types.specs.contracts.ranked.ScoresArchive.TheImpl.Laws.{keyed-law as keyed_of_scores, planned-law as planned_of_scores};
+    ghost use Rattle.derived_plain.specs.contracts.ranked.ScoresArchive.TheImpl.Laws.{keyed-law as keyed_of_scores, planned-law as planned_of_scores};
 
     type Archived = ArchivedScores;
 
@@ -1112,7 +1112,7 @@ impl<'a> ScoresSeal<'a> for Seal<'a, ArchivedScores> {
 
 /// Views are compared as the values that they show.
 impl Ordered for ArchivedScores {
-    ghost use Rattle.derived_types.specs.contracts.ranked.ArchivedLabelOrdered.TheImpl.Laws.{by_value-law as by_value_of_archived_label, respects-law as respects_of_archived_label, total-law as total_of_archived_label};
+    ghost use Rattle.derived_plain.specs.contracts.ranked.ArchivedLabelOrdered.TheImpl.Laws.{by_value-law as by_value_of_archived_label, respects-law as respects_of_archived_label, total-law as total_of_archived_label};
 
     ghost order = { ⟦<ScoresParts as ComparedFields>⟧.order 0 };
 

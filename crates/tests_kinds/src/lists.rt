@@ -4,18 +4,17 @@ use crate::assertions::{
     assert_archived, assert_bytes, assert_holds, assert_same, assert_written, sealed, text,
     value_of, viewed, write_text,
 };
-use crate::events::variant_of;
 use crate::judgements::{assert_faults, assert_refused, outside, unaligned, unknown_tag};
-use crate::spots::assert_spot;
+use crate::shown::{assert_spot, variant_of};
 use archive_core::core_impls::OwnedArray;
 use archive_core::error::Error;
 use archive_core::option::ArchivedOption;
 use archive_core::primitive::{ArchivedU16, ArchivedU64};
 use archive_core::string::ArchivedString;
 use archive_core::view::Ref;
+use derived_kinds::kinds::{ArchivedLists, Lists, ListsSeal, ListsView};
+use derived_kinds::pair::{ArchivedPair, Pair, PairSeal, PairView};
 use derived_types::event::{ArchivedEvent, Event};
-use derived_types::kinds::{ArchivedLists, Lists, ListsSeal, ListsView};
-use derived_types::pair::{ArchivedPair, Pair, PairSeal, PairView};
 use derived_types::spot::{ArchivedSpot, Spot, SpotSeal};
 use std::alloc::Global;
 use std::process::Abort;

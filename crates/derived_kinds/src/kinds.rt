@@ -1,10 +1,10 @@
 //! Fields of every format of the library.
 
 use crate::pair::Pair;
-use crate::spot::Spot;
 use archive_core::boxed::{BoxSlice, BoxStr};
 use archive_core::core_impls::OwnedArray;
 use archive_core::primitive::NonZero;
+use derived_types::spot::Spot;
 use std::marker::PhantomData;
 
 /// Numbers of every kind.
@@ -84,7 +84,6 @@ ghost use Rattle.std.proofs.Common.{inl, inr, lit≤};
 ghost use Rattle.std.specs.Prelude.{IfErr, IfOk, None, [], length, refl, string_bytes, true, ◌++◌, ◌+◌, ◌≡◌};
 
 use crate::pair::ArchivedPair;
-use crate::spot::ArchivedSpot;
 use archive_core::boxed::ArchivedBox;
 use archive_core::core_impls::ArchivedTuple2;
 use archive_core::error::Error;
@@ -113,6 +112,7 @@ use archive_core::traits::{
 use archive_core::validation::ArchiveContext;
 use archive_core::vec::ArchivedVec;
 use archive_core::view::{RawView, Ref};
+use derived_types::spot::ArchivedSpot;
 use std::alloc::Global;
 
 /// An archived `Numbers`: 48 bytes at a multiple of 16.
@@ -370,7 +370,7 @@ impl<S: Writer + ResolverAlloc> Serialize<S> for Numbers {
 
 /// As a region of its own: the value itself.
 impl ArchiveUnsized for Numbers {
-    ghost use Rattle.derived_types.specs.contracts.kinds.NumbersArchive.TheImpl.Laws.{keyed-law as keyed_of_numbers, planned-law as planned_of_numbers};
+    ghost use Rattle.derived_kinds.specs.contracts.kinds.NumbersArchive.TheImpl.Laws.{keyed-law as keyed_of_numbers, planned-law as planned_of_numbers};
 
     type Archived = ArchivedNumbers;
 
@@ -898,7 +898,7 @@ impl<S: Writer + ResolverAlloc> Serialize<S> for Owners {
 
 /// As a region of its own: the value itself.
 impl ArchiveUnsized for Owners {
-    ghost use Rattle.derived_types.specs.contracts.kinds.OwnersArchive.TheImpl.Laws.{keyed-law as keyed_of_owners, planned-law as planned_of_owners};
+    ghost use Rattle.derived_kinds.specs.contracts.kinds.OwnersArchive.TheImpl.Laws.{keyed-law as keyed_of_owners, planned-law as planned_of_owners};
 
     type Archived = ArchivedOwners;
 
@@ -1351,7 +1351,7 @@ impl<S: Writer + ResolverAlloc<Alloc = Global>> Serialize<S> for Lists {
 
 /// As a region of its own: the value itself.
 impl ArchiveUnsized for Lists {
-    ghost use Rattle.derived_types.specs.contracts.kinds.ListsArchive.TheImpl.Laws.{keyed-law as keyed_of_lists, planned-law as planned_of_lists};
+    ghost use Rattle.derived_kinds.specs.contracts.kinds.ListsArchive.TheImpl.Laws.{keyed-law as keyed_of_lists, planned-law as planned_of_lists};
 
     type Archived = ArchivedLists;
 
@@ -1652,7 +1652,7 @@ impl<S: Writer + ResolverAlloc> Serialize<S> for Empty {
 
 /// As a region of its own: the value itself.
 impl ArchiveUnsized for Empty {
-    ghost use Rattle.derived_types.specs.contracts.kinds.EmptyArchive.TheImpl.Laws.{keyed-law as keyed_of_empty, planned-law as planned_of_empty};
+    ghost use Rattle.derived_kinds.specs.contracts.kinds.EmptyArchive.TheImpl.Laws.{keyed-law as keyed_of_empty, planned-law as planned_of_empty};
 
     type Archived = ArchivedEmpty;
 
@@ -1888,7 +1888,7 @@ impl<S: Writer + ResolverAlloc> Serialize<S> for Unnamed {
 
 /// As a region of its own: the value itself.
 impl ArchiveUnsized for Unnamed {
-    ghost use Rattle.derived_types.specs.contracts.kinds.UnnamedArchive.TheImpl.Laws.{keyed-law as keyed_of_unnamed, planned-law as planned_of_unnamed};
+    ghost use Rattle.derived_kinds.specs.contracts.kinds.UnnamedArchive.TheImpl.Laws.{keyed-law as keyed_of_unnamed, planned-law as planned_of_unnamed};
 
     type Archived = ArchivedUnnamed;
 

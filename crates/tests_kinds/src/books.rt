@@ -8,14 +8,14 @@ use crate::assertions::{
     assert_archived, assert_bytes, assert_holds, assert_same, sealed, text, viewed, write_text,
 };
 use crate::judgements::{assert_faults, assert_refused, outside, unknown_tag};
-use crate::spots::assert_spot;
+use crate::shown::assert_spot;
 use archive_core::error::Error;
 use archive_core::seal::Seal;
 use archive_core::traits::Portable;
 use archive_core::view::Ref;
-use derived_types::book::{ArchivedBook, Book, BookSeal, BookView};
 use derived_types::event::{ArchivedEvent, Event, EventSeal, EventView, ViewOfEvent};
 use derived_types::spot::{Spot, SpotSeal};
+use derived_wide::book::{ArchivedBook, Book, BookSeal, BookView};
 use std::alloc::Global;
 use std::process::Abort;
 
