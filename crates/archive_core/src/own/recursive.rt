@@ -16,12 +16,11 @@ use archive_types::traits::{ArchivePointee, Portable};
 use std::alloc::{AllocError, Global};
 use std::marker::PhantomData;
 
-/// Describes a recursive archived type: its name, and what the name stands for, in which the name
-/// may be behind pointers.
+/// Describes a recursive archived type by hand: its name, and what the name stands for, in which the
+/// name may be behind pointers. `tools/derive` doesn't need it.
 ///
 /// A type of yours without values implements it; `ArchivedRecursive` of that is the archived type.
-/// It can be checked and viewed. `tools/derive` writes recursive types whose values are written and
-/// read back, too.
+/// Archives of it are checked and viewed; no value is written or read back.
 pub trait NamedRecursive {
     // The name.
     ghost name: { Name };
