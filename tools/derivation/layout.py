@@ -57,6 +57,11 @@ def fours(parts):
     return Group("FourParts<", [*parts[:4], fours(parts[4:])], ">") if len(parts) >= 4 else pair(parts)
 
 
+def eights(parts):
+    """`EightVariants<a, .., h, rest>`: eight at once, and pairs of those that are left."""
+    return Group("EightVariants<", [*parts[:8], eights(parts[8:])], ">") if len(parts) >= 8 else pair(parts)
+
+
 def flat(doc):
     if isinstance(doc, str):
         return doc

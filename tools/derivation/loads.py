@@ -17,6 +17,8 @@ from .long import is_long
 # variant each, are 23,177 and rejected.
 MOST = 26_000
 MOST_OF_VARIANTS = 12_000
+# Tuples nest up to 64 deep, as those of variants in pairs do.
+DEEPEST = 60
 # `Native` of a number, with all that this asks: `Copy`, `Ord`, `Hash` and theirs.
 NATIVE = 9
 PLAIN = {"u8", "i8", "bool", "()"}
@@ -215,17 +217,30 @@ class Loads:
         """The same of the nest that is written."""
         return self.of_fields(types, self.go_by_fours(types))
 
-    def of_variants(self, variants):
+    def of_variants(self, variants, eights=False):
         """`PortableVariants`, of an enum with these fields in its variants."""
-        checks = [self.checked(types) for types in variants]
-        return sum(2 + self.parts(types, self.go_by_fours(types)) + sum(checks[i:]) for i, types in enumerate(variants))
+        parts = sum(2 + self.parts(types, self.go_by_fours(types)) for types in variants)
+        return parts + sum(self.all(self.checked, left) for _, left in in_levels(variants, 8 if eights else 1))
+
+    def go_by_eights(self, variants):
+        """Whether a nest of these variants has eight at once: where in pairs it is too deep, or came to too much."""
+        return any(i + len(types) > DEEPEST for i, types in enumerate(variants, 1)) or self.of_variants(variants) > MOST_OF_VARIANTS
+
+    def least_of_variants(self, variants):
+        """The same of the nest that is written."""
+        return self.of_variants(variants, self.go_by_eights(variants))
 
 
 def levels(types, fours):
-    """Of each level of the nest the fields in it, and those from it on."""
-    out, left = [], list(types)
+    """Of each level of a nest of fields those in it, and those from it on."""
+    return in_levels(types, 4 if fours else 1)
+
+
+def in_levels(those, most):
+    """The same of a nest with so many at once, as long as there are."""
+    out, left = [], list(those)
     while left:
-        width = 4 if fours and len(left) >= 4 else 1
+        width = most if len(left) >= most else 1
         out.append((left[:width], left))
         left = left[width:]
     return out

@@ -1,12 +1,11 @@
-"""Fields one after another: up to eight by calls by their number, more as a nest of four at once.
+"""Fields one after another: by calls by their number, those of a struct of more than eight as a nest of four at once.
 
 The evidence of a call with a flat list of fields (`serialize_record_4` and its kin) is linear in the fields. Reading goes by the nest: by number, with a
 bound `A::Archived: Deserialize<A, R>` a field, it "stopped at the step limit (50000000 steps a task, the default)" at three. The front end doesn't take
 sixteen fields in pairs, but in fours.
 
-A part of a nest is found in each value of the whole, and a variant's fields aren't in each value of an enum. So a variant would lend many fields in a
-struct of references: at sixteen that compiled and ran, and all but `resolve` and `serialize` was proved. These would have to ask for `Portable` of the
-enum: with `Choice`, whose variants are passed, too, "the impls to pass for `char: Eq` do not end, or are too many".
+A part of a nest is found in each value of the whole, and a variant's fields aren't in each value of an enum. So a variant is written by number, however
+many fields it has.
 """
 
 from .layout import fours, implementation, literal, pair, statement

@@ -15,7 +15,7 @@ from .parse import Declared
 from .items import number_of
 
 MOST_FIELDS = 16
-# Of a variant, and of a type that is archived as a tuple with names.
+# Of a type that is archived as a tuple with names.
 MOST_FEW = 8
 MOST_PARTS = 13
 MOST_VARIANTS = 256
@@ -279,13 +279,20 @@ def check_shape(it: Declaration):
         for x in fields:
             if x.name == "now" and it.kind == "struct":
                 raise Refused(it.path, x.line, "`now` has a meaning in contracts; choose another name for the field")
-        most = MOST_FIELDS if fields is it.fields and it.kind == "struct" else MOST_FEW
-        if len(fields) > most:
-            raise Refused(it.path, fields[most].line, f"`{of}` has {len(fields)} fields, and {most} are the most; put some into a struct of their own")
+        if len(fields) > MOST_FIELDS:
+            raise Refused(it.path, fields[MOST_FIELDS].line, f"`{of}` has {len(fields)} fields, and {MOST_FIELDS} are the most; put some into a struct of their own")
+    for p in it.parameters:
+        if not any(names_parameter(field.type, p.name) for field in it.all_fields()):
+            raise Refused(it.path, it.line, f"`{it.name}` has no field of its parameter `{p.name}`; remove it, or add a field, as `of: PhantomData<{p.name}>`")
     for name in [it.name] + [p.name for p in it.parameters]:
         check_name(it, name, it.line)
         if name in PARAMETERS:
             raise Refused(it.path, it.line, f"the written part has a type parameter `{name}`; choose another name")
+
+
+def names_parameter(it: Type, name: str) -> bool:
+    """Whether a type, as it is written, names a parameter."""
+    return it.path == (name,) or any(names_parameter(x, name) for x in it.args)
 
 
 def check_names(it: Declaration, those: Sequence, what: str):
@@ -352,7 +359,7 @@ def modules(paths: Sequence[str]) -> List[Module]:
 
 
 def module(reader: Reader, source: Source) -> Module:
-    out = Module(source.path, source.crate, source.module, source.head, source.written, source.newline)
+    out = Module(source.path, source.crate, source.module, source.head, source.written)
     out.uses, out.ghost_uses = dict(source.file.uses), dict(source.file.ghost_uses)
     out.names = dict(source.file.items)
     out.declarations = [reader.declaration(it, source) for it in source.declared.values()]
@@ -368,8 +375,6 @@ def module(reader: Reader, source: Source) -> Module:
 
 # What wasn't tried in a nest of four at once.
 NOT_IN_FOURS = {"tuple", "array", "OwnedArray", "SharedSlice", "SharedStr", "WeakShared"}
-# Tuples nest up to 64 deep, as those of variants do.
-DEEPEST = 60
 
 
 def check_loads(module: Module):
@@ -404,10 +409,11 @@ def check_load(module: Module, loads: Loads, fields: List[Field]):
 
 def check_variants(module: Module, loads: Loads, it: Declaration):
     """Refuses the first variant with which there is too much in an enum."""
-    types = []
+    types = [[field.type for field in v.fields] for v in it.variants]
+    if loads.least_of_variants(types) <= MOST_OF_VARIANTS:
+        return
     for count, v in enumerate(it.variants, 1):
-        types.append([field.type for field in v.fields])
-        if count + len(v.fields) > DEEPEST or loads.of_variants(types) > MOST_OF_VARIANTS:
+        if loads.least_of_variants(types[:count]) > MOST_OF_VARIANTS:
             raise Refused(module.path, v.line, f"`{it.name}` has more variants up to here than the toolchain follows; put some into an enum of their own")
 
 

@@ -19,7 +19,7 @@ from .common import (
     taken_apart,
 )
 from .formats import layout_of, snake
-from .layout import Generic, Group, WIDTH, ended, flat, implementation, lay, literal, pair, signature, statement
+from .layout import Generic, Group, WIDTH, eights, ended, flat, implementation, lay, literal, pair, signature, statement
 from .loads import Loads
 from .long import nest
 from .made import WRITTEN, Made
@@ -131,7 +131,10 @@ def enum(choice):
             lines.append(statement(0, f"type {case.word}Parts = ", nest(case.archived, case.by_fours), ";"))
             lines.append(statement(0, f"type {case.word}Owned = ", nest(case.read, case.by_fours), ";"))
     parts = [f"{case.word}Parts" if case.count else "()" for case in choice.cases]
-    lines.append(statement(0, f"type {choice.name}Variants = ", pair(parts), ";"))
+    by_eights = Loads().go_by_eights([case.types for case in choice.cases])
+    if by_eights:
+        choice.formats.use("archive_core::fields", "EightVariants")
+    lines.append(statement(0, f"type {choice.name}Variants = ", eights(parts) if by_eights else pair(parts), ";"))
     return f"""/// An archived `{choice.name}`: {choice.size} bytes at a multiple of {choice.align}.
 {choice.visibility}struct {choice.archived};
 

@@ -14,7 +14,7 @@ EVENT = "#[derive(Drop)]\npub enum Event { Quit, Key(char), Move { x: i32, y: Po
 
 class Writing(RepositoryTest):
     def test_what_is_above_stays(self):
-        for head in (POINT, POINT + "\n", "\ufeff" + POINT, "//! Words.  \n\n\n" + POINT + EVENT + "// The end."):
+        for head in (POINT, POINT + "\n", "//! Words.  \n\n\n" + POINT + EVENT + "// The end."):
             with self.subTest(head):
                 path = self.put(head)
                 self.assertEqual(self.run_command(path), (0, ""))
@@ -33,14 +33,6 @@ class Writing(RepositoryTest):
         other = self.put(POINT + EVENT, crate="game")
         self.run_command(other)
         self.assertEqual(self.text(other), first)
-
-    def test_lines_end_as_above(self):
-        path = self.put(POINT.replace("\n", "\r\n"))
-        self.assertEqual(self.run_command(path), (0, ""))
-        text = self.text(path)
-        self.assertTrue(text.startswith(POINT.replace("\n", "\r\n")))
-        self.assertEqual(text.count("\n"), text.count("\r\n"))
-        self.assertEqual(self.run_command("--check", path), (0, ""))
 
     def test_a_changed_declaration_is_written_anew(self):
         path = self.put(POINT)
@@ -75,6 +67,22 @@ class Writing(RepositoryTest):
         self.assertEqual(self.run_command(path), (0, ""))
         self.assertIn("serialize_record::<Self, BigFields, ArchivedBig, S>(self, serializer)", self.text(path))
         self.assertNotIn("serialize_record_10", self.text(path))
+        self.assertEqual(self.run_command("--check", path), (0, ""))
+
+    def test_many_fields_of_a_variant(self):
+        path = self.put(f"#[derive(Drop)]\npub enum Big {{ None, Some({', '.join(['i16'] * 16)}) }}\n")
+        self.assertEqual(self.run_command(path), (0, ""))
+        written = self.text(path)
+        self.assertIn("serialize_case_16::<\n", written)
+        self.assertIn("Ok(values) => Ok(big_some_of(values))", written)
+        proof = os.path.join(self.top, "crates", "game", "proofs", "types", "big_some_of", "Answers.antt")
+        self.assertIn("c.args.values.rest.rest.rest.fourth", self.text(proof))
+        self.assertEqual(self.run_command("--check", path), (0, ""))
+
+    def test_many_variants(self):
+        path = self.put("#[derive(Drop)]\npub enum Many { " + ", ".join(f"V{i}" for i in range(256)) + " }\n")
+        self.assertEqual(self.run_command(path), (0, ""))
+        self.assertIn("type ManyVariants = EightVariants<\n", self.text(path))
         self.assertEqual(self.run_command("--check", path), (0, ""))
 
     def test_names_that_the_library_has_too(self):

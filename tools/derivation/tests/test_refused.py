@@ -63,13 +63,14 @@ DECLARATIONS = [
     ("struct A<T> { x: T,\ny: (u8, T) }", "2: a tuple in a struct with type parameters is too deep for the toolchain; write a struct without parameters"),
     ("struct W<T>(T);\nstruct A { x: Vec<W<Option<W<u8>>>> }", "2: `W<u8>` in a tuple or a struct with type parameters is too deep for the toolchain; write a struct without"),
     (f"struct A<T> {{ t: T, {LIST.join(f'f{i}: u8' for i in range(FEW))} }}", f"{FEW}: `A` has {FEW + 1} fields, and {FEW} are the most of a struct with type parameters; put some into a struct of their own"),
-    (f"enum A {{ X({LIST.join('u8' for _ in range(FEW + 1))}) }}", f"{FEW + 1}: `A::X` has {FEW + 1} fields, and {FEW} are the most; put some into a struct of their own"),
+    (f"enum A {{ X({LIST.join('u8' for _ in range(MOST + 1))}) }}", f"{MOST + 1}: `A::X` has {MOST + 1} fields, and {MOST} are the most; put some into a struct of their own"),
     (f"struct A {{ {LIST.join(f'f{i}: u8' for i in range(FEW))},\nx: (u8, u8) }}", f"{FEW + 1}: `(u8, u8)` is too much for the toolchain beside so many fields; put it into a struct of its own"),
     (f"struct A {{ {LIST.join(f'f{i}: Vec<u32>' for i in range(16))} }}", "11: `Vec<u32>` is too deep for the toolchain beside the fields before it; put some of them into a struct"),
     ("struct A { x: Vec<Option<Vec<Option<Vec<Option<u8>>>>>> }", "1: `Vec<Option<Vec<Option<Vec<Option<u8>>>>>>` is too deep for the toolchain; put a part of it into a struct"),
     (f"struct A {{ {LIST.join(f'f{i}: Vec<Option<Vec<u32>>>' for i in range(5))} }}", "2: `Vec<Option<Vec<u32>>>` is too deep for the toolchain beside the fields before it; put some of them into a struct"),
-    (f"enum A {{\n{LIST.join(f'V{i}(u8)' for i in range(61))} }}", "61: `A` has more variants up to here than the toolchain follows; put some into an enum of their own"),
-    (f"enum A {{\n{LIST.join(f'V{i}(Vec<u32>, Vec<u32>)' for i in range(29))} }}", "10: `A` has more variants up to here than the toolchain follows; put some into an enum of their own"),
+    (f"enum A {{\n{LIST.join(f'V{i}(u32)' for i in range(256))} }}", "61: `A` has more variants up to here than the toolchain follows; put some into an enum of their own"),
+    (f"enum A {{\n{LIST.join(f'V{i}(Vec<u32>, Vec<u32>)' for i in range(29))} }}", "15: `A` has more variants up to here than the toolchain follows; put some into an enum of their own"),
+    ("struct A<T, U> { x: Vec<T> }", "1: `A` has no field of its parameter `U`; remove it, or add a field, as `of: PhantomData<U>`"),
     ("struct A<T = u8>(T);", "1: `T` has a default; write the type at each use instead"),
     (f"struct A {{\n{LIST.join(f'f{i}: u8' for i in range(MOST + 1))} }}", f"{MOST + 2}: `A` has {MOST + 1} fields, and {MOST} are the most; put some into a struct of their own"),
     ("struct D { x: u8 }", "1: the written part has a type parameter `D`; choose another name"),
@@ -139,6 +140,14 @@ class Refusals(RepositoryTest):
             with self.subTest(text):
                 said = self.refusal(text)
                 self.assertTrue(said.startswith(why), said)
+
+    def test_characters(self):
+        for character, why in [
+            ("\r", "the toolchain rejects the character U+000D; save the file with line ends of `\\n` alone"),
+            ("\t", "the toolchain rejects the character U+0009; write spaces in place of this tab"),
+            ("\u2028", "the toolchain rejects the character U+2028; remove it"),
+        ]:
+            self.assertEqual(self.refusal(f"struct A;\n// x{character}\n"), f"2: {why}")
 
     def test_files(self):
         missing = self.path("game", "missing")

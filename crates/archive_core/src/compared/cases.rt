@@ -9,7 +9,7 @@ ghost use Rattle.archive_core.specs.fields.Plain.{are_none, is_choice};
 ghost use Rattle.archive_types.specs.Words.Seen.{IsPartOf, part_shown};
 
 use crate::compared::fields::ComparedFields;
-use crate::fields::known_tag;
+use crate::fields::{EightVariants, known_tag};
 use archive_check::format::traits::PortableVariants;
 use archive_types::traits::Portable;
 use archive_types::view::RawView;
@@ -79,6 +79,35 @@ impl<P: ComparedFields, R: ComparedCases> ComparedCases for (P, R) {
         } else {
             R::hash_case(tag - 1, part, state);
         }
+    }
+}
+
+/// Eight variants and then those of `R`, as a nest of pairs of them is.
+impl<
+    A: ComparedFields,
+    B: ComparedFields,
+    C: ComparedFields,
+    D: ComparedFields,
+    E: ComparedFields,
+    F: ComparedFields,
+    G: ComparedFields,
+    H: ComparedFields,
+    R: ComparedCases,
+> ComparedCases for EightVariants<A, B, C, D, E, F, G, H, R> {
+    ghost order = { ⟦<(A, (B, (C, (D, (E, (F, (G, (H, R)))))))) as ComparedCases>⟧.order };
+
+    ghost hash_input = { ⟦<(A, (B, (C, (D, (E, (F, (G, (H, R)))))))) as ComparedCases>⟧.hash_input };
+
+    #[inline(always)]
+    fn compare_cases(tag: u8, a: RawView<'_>, other: u8, b: RawView<'_>) -> Ordering {
+        <(A, (B, (C, (D, (E, (F, (G, (H, R)))))))) as ComparedCases>::compare_cases(
+            tag, a, other, b,
+        )
+    }
+
+    #[inline(always)]
+    fn hash_case<S: Hasher>(tag: u8, part: RawView<'_>, state: &mut S) {
+        <(A, (B, (C, (D, (E, (F, (G, (H, R)))))))) as ComparedCases>::hash_case(tag, part, state);
     }
 }
 
