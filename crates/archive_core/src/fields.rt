@@ -5,22 +5,10 @@ mod eight;
 mod front;
 mod records;
 mod resolve_case_few;
-mod resolve_case_many;
-mod resolve_case_more;
-mod resolve_case_most;
 mod resolve_few;
-mod resolve_many;
-mod resolve_more;
-mod resolve_most;
 mod resolve_record_few;
 mod serialize_case_few;
-mod serialize_case_many;
-mod serialize_case_more;
-mod serialize_case_most;
 mod serialize_few;
-mod serialize_many;
-mod serialize_more;
-mod serialize_most;
 mod serialize_record_few;
 mod variants;
 
@@ -31,15 +19,9 @@ pub use resolve_case_few::{
     resolve_case_0, resolve_case_1, resolve_case_2, resolve_case_3, resolve_case_4, resolve_case_5,
     resolve_case_6, resolve_case_7, resolve_case_8,
 };
-pub use resolve_case_many::{resolve_case_12, resolve_case_13, resolve_case_14};
-pub use resolve_case_more::{resolve_case_9, resolve_case_10, resolve_case_11};
-pub use resolve_case_most::{resolve_case_15, resolve_case_16};
 pub use resolve_few::{
     resolve_1, resolve_2, resolve_3, resolve_4, resolve_5, resolve_6, resolve_7, resolve_8,
 };
-pub use resolve_many::{resolve_12, resolve_13, resolve_14};
-pub use resolve_more::{resolve_9, resolve_10, resolve_11};
-pub use resolve_most::{resolve_15, resolve_16};
 pub use resolve_record_few::{
     resolve_record_0, resolve_record_1, resolve_record_2, resolve_record_3, resolve_record_4,
     resolve_record_5, resolve_record_6, resolve_record_7, resolve_record_8,
@@ -48,16 +30,10 @@ pub use serialize_case_few::{
     serialize_case_0, serialize_case_1, serialize_case_2, serialize_case_3, serialize_case_4,
     serialize_case_5, serialize_case_6, serialize_case_7, serialize_case_8,
 };
-pub use serialize_case_many::{serialize_case_12, serialize_case_13, serialize_case_14};
-pub use serialize_case_more::{serialize_case_9, serialize_case_10, serialize_case_11};
-pub use serialize_case_most::{serialize_case_15, serialize_case_16};
 pub use serialize_few::{
     serialize_1, serialize_2, serialize_3, serialize_4, serialize_5, serialize_6, serialize_7,
     serialize_8,
 };
-pub use serialize_many::{serialize_12, serialize_13, serialize_14};
-pub use serialize_more::{serialize_9, serialize_10, serialize_11};
-pub use serialize_most::{serialize_15, serialize_16};
 pub use serialize_record_few::{
     serialize_record_0, serialize_record_1, serialize_record_2, serialize_record_3,
     serialize_record_4, serialize_record_5, serialize_record_6, serialize_record_7,
