@@ -1,4 +1,4 @@
--- Pools: what their calls answer and leave, and what is read back of what a shared pointer leads to.
+-- Pools: what their calls return and leave, and what is read back of what a shared pointer leads to.
 use Rattle.std.specs.Prelude.{◌≡◌, ◌⊎◌, ℕ, nat_eq, pos, List, ◌∷◌, Option, Some, None, is_some, Result, Err, false, Bool}
 use Rattle.std.specs.Map.{update}
 use Rattle.archive_check.specs.declared.format.error.Error.{Error}
@@ -22,7 +22,7 @@ use Rattle.archive_core.specs.declared.pooling.PoolingState.TheVariants.{Started
 abbrev pub kept_at : ℕ → Pointee → ℕ → Value → List Naming → Kept
 kept_at t P n v ks = record { name = t; entry = record { flavor = rc_flavor; pointee = P; length = n }; value = v; keys = ks }
 
--- the answer to a finish: memory may be refused, too
+-- the result of a finish: memory may be refused, too
 abbrev pub IsFinishAnswer : EntryState → Result (Unit {0}) Error → Type 0
 IsFinishAnswer known result = (result ≡ finish_answer is_some known) ⊎ (result ≡ Err OutOfMemory)
 
@@ -32,7 +32,7 @@ known_by kept None = None
 known_by kept (Some None) = Some None
 known_by kept (Some (Some x)) = Some (Some (kept x))
 
--- what a start answers: what was known of the position
+-- the result of a start: what was known of the position
 abbrev pub IsPoolAnswer : {T : Type 0} → (T → Kept) → EntryState → PoolingState T → Type 0
 IsPoolAnswer kept known Started = known ≡ None
 IsPoolAnswer kept known Pending = known ≡ Some None

@@ -25,13 +25,13 @@ pub record IsPlaceOf (D : Definitions) (bytes : List ℕ) (root : ℕ) (X : Shap
   pub said : IsFor fault e
   pub leads : (s : SchemaTable) → Knows s D → FaultBy s bytes root X place.way.steps.items at fault
 
--- what is explained where a check answered with this error, which is no want of memory
+-- what is explained where a check returned this error, which isn't of memory
 pub record ExplainsError (D : Definitions) (bytes : List ℕ) (root : ℕ) (X : Shape) (e : Error) (x : Explanation) : Type 0 where
   pub other : e ≢ OutOfMemory
   pub same : x.refusal ≡ e
   pub placed : IfSome x.place (IsPlaceOf D bytes root X e)
 
--- What is explained where the check by a schema answered so: nothing where it accepted, else its error.
+-- What is explained where the check by a schema returned this: nothing if it accepted, else its error.
 abbrev pub IsExplained : RustSchema → List ℕ → ℕ → Result (Unit {0}) Error → Option Explanation → Type 0
 IsExplained f bytes root (Ok u) explanation = explanation ≡ None
 IsExplained f bytes root (Err e) explanation = (x : Explanation) × (explanation ≡ Some x) × ExplainsError (definitions_in f) bytes root (root_of f) e x

@@ -88,7 +88,7 @@ pub record PartAmong (f : RustSchema) (p at : ℕ) (ps : Parts) (k : ℕ) (q : P
   pub value : end_of_way q.thing ≡ a_value shape
   pub numbered : Under f (λ s. IsPartNumbered s p at ps k q.at shape)
 
--- the element of this number among so many, the first at t
+-- the element of this number among n, the first at t
 pub record ElementAmong (f : RustSchema) (X : Shape) (t n k : ℕ) (q : Point) : Type 0 where
   pub few : k < n
   pub value : end_of_way q.thing ≡ a_value X
@@ -128,7 +128,7 @@ unit_layout s (one X) = layout s.layouts X
 unit_layout s (run X) = layout s.layouts X
 unit_layout s text = record { size = 1; align = 1 }
 
--- the region of the pointer takes so many bytes; it takes too many
+-- the region of the pointer takes n bytes; it takes too many
 abbrev pub RegionTakes : RustSchema → Pointer → ℕ → Type 0
 RegionTakes f P size = Under f (λ s. (region_of s P 0).size ≡ size)
 

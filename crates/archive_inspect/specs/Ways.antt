@@ -11,7 +11,7 @@ use Rattle.archive_check.specs.Keys.{ComesBehind}
 use Rattle.archive_check.specs.Tour.{region_of, root_pointer}
 use Rattle.archive_check.specs.Trail.{Fault, too_large, outside, unaligned, cyclic, other_type, other_length, illegal, no_such_variant, no_text, no_string, unsorted}
 
--- what a way leads to: a value of a shape, the parts behind the tag of a choice, or a text of so many bytes
+-- what a way leads to: a value of a shape, the parts behind the tag of a choice, or a text of n bytes
 pub data WayEnd : Type 0 where
   a_value : Shape → WayEnd
   a_payload : Parts → WayEnd

@@ -55,7 +55,7 @@ abbrev pub AreLevelBy : ℕ → (Standing → Standing → Ordering) → Type 0
 AreLevelBy zero R = ⊤
 AreLevelBy (suc n) R = (x y : Standing) → bytes_at x.bytes x.pos (suc n) ≡ bytes_at y.bytes y.pos (suc n) → R x y ≡ Equal
 
--- so are values that stand in so many bytes
+-- so are values that lie in n bytes
 pub level_values : {X : Type 0} (number_of : List ℕ → X) (R : X → X → Ordering) (n : ℕ) → IsTotalOrder R → AreLevelBy n (on (λ v. number_of (bytes_at v.bytes v.pos n)) R)
 level_values number_of R zero o = tt
 level_values number_of R (suc n) o = λ x y e. ap (λ bs. R (number_of bs) (number_of (bytes_at y.bytes y.pos (suc n)))) e ∙ tied_itself o _

@@ -20,7 +20,7 @@ abbrev pub each_bytes : {A : Type 0} → (A → List ℕ) → List A → List �
 each_bytes b [] = []
 each_bytes b (x ∷ xs) = b x ++ each_bytes b xs
 
--- arrays of so many bytes, of which so many are more than 1,024, are written in bulk as their elements are, if they have any and no more
+-- arrays of n bytes, `more` of them above 1,024, are written in bulk as their elements are, if n isn't 0 and `more` is
 abbrev pub small_in_bulk : {A : Type 0} → ℕ → ℕ → Option (A → List ℕ) → Option (List A → List ℕ)
 small_in_bulk zero more b = None
 small_in_bulk (suc n) (suc more) b = None
@@ -31,7 +31,7 @@ small_in_bulk (suc n) zero (Some b) = Some (each_bytes b)
 abbrev pub array_in_bulk : {A : Type 0} → ℕ → Option (A → List ℕ) → Option (List A → List ℕ)
 array_in_bulk n b = small_in_bulk n (n - 1024) b
 
--- these bytes, so many, read as the value wherever they stand
+-- these n bytes read as the value wherever they lie
 pub record IsCopied (D : Definitions) (X : Shape) (size : ℕ) (v : Value) (bytes : List ℕ) : Type 0 where
   pub sized : length bytes ≡ size
   pub resolved : (p : ℕ) → Resolves D p bytes X v
@@ -54,7 +54,7 @@ EachOwnsNothing D X k m (x ∷ xs) = OwnsNothing D X (k x) (m x) × EachOwnsNoth
 abbrev pub copies_from : Layout → ℕ → ℕ
 copies_from L n = n + padding L.align n
 
--- and where so many of them end
+-- where n of them end
 abbrev pub copies_to : Layout → ℕ → ℕ → ℕ
 copies_to L count n = copies_from L n + count * L.size
 

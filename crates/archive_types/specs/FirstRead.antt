@@ -19,7 +19,7 @@ AreFirstRead {T} D bytes q z P meaning keys xs =
 abbrev pub AreSaid : {A : Type 0} → Definitions → List ℕ → ℕ → ℕ → Pointee → (A → Value) → ℕ → ℕ → List A → Type 0
 AreSaid {A} D bytes q z P meaning i n xs = (k : ℕ) (d : A) → k < n → Says D bytes (q + (i + k) * z) P 0 (meaning (slice_index_or xs k d))
 
--- so many leaves of a kind are viewed, one behind another, from q on
+-- n leaves of a kind are viewed, one behind another, from q on
 abbrev pub AreLeaves : Kind → List ℕ → ℕ → ℕ → Type 0
 AreLeaves kind bytes q n = AreViewed no_definition bytes q (kind_size kind) (one (leaf kind)) n
 

@@ -1,4 +1,4 @@
--- The region of a value that was serialized before, and the box that owns it: what a type that holds itself is written by.
+-- The region of a value that was serialized before, and the box that owns it: what a recursive type is written by.
 use Rattle.std.specs.Prelude.{◌≡◌, ℕ, List, length}
 use Rattle.archive_check.specs.Layout.{Layout}
 use Rattle.archive_check.specs.Shape.{Shape, boxed, one}

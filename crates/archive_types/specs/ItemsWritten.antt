@@ -72,7 +72,7 @@ ItemPut a f x k w = ItemWritten f.definitions f.shape f.layout a.keys a.meaning 
 abbrev pub ItemUnput : {T A R M C S : Type 0} → Archive.Ghosts T A R C M → FormatOf M → T → Keys.Ghosts S → Both (MutBor S) (MutBor S) → Error → Type 0
 ItemUnput a f x k w = ItemRefused f.definitions f.shape f.layout a.keys a.meaning a.flat a.belongs x (k.state w.entry.now) (k.state w.exit.now)
 
--- They are as many as a vector may have, and stand from t on; where none has a pointer to a region of its own, they are a vector's elements.
+-- They are no more than a vector may have, and lie from t on; where none has a pointer to a region of its own, they are a vector's elements.
 abbrev pub ItemsStored : {I T A R M C S : Type 0} → (I → Option T → I → Type 0) → I → Archive.Ghosts T A R C M → FormatOf M → Keys.Ghosts S → Both (MutBor S) (MutBor S) → ℕ → Type 0
 ItemsStored {T = T} steps s a f k w t = (xs : List T) × Drains steps s xs × (length xs ≤ 4294967295)
     × ItemsLaid f.definitions f.shape f.layout a.keys a.meaning a.flat a.belongs xs t (k.state w.entry.now) (k.state w.exit.now)

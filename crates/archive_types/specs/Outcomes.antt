@@ -69,7 +69,7 @@ pub record SerializesItems {T M S : Type 0} (came : List T → Type 0) (keys : T
   pub refused : IfErr result (λ e. ((e ≡ OutOfMemory) × (w.exit.now ≡ w.entry.now))
       ⊎ ((xs : List T) × came xs × IsRefused f.definitions (vec f.shape) (each_keys keys xs) (list (each_meaning meaning xs)) (k.state w.entry.now) (k.state w.exit.now) e))
 
--- Laying out a region: what the pointee owns was appended and then its own region, as planned, which stands where the call answers; or why not. What was
+-- Laying out a region: what the pointee owns was appended and then its own region, as planned, at the returned position; or why not. What was
 -- there before stays.
 pub record WritesRegion (D : Definitions) (P : Pointee) (n : ℕ) (keys : List Naming) (v : Value) (old new : WriterState) (result : Result ℕ Error) : Type 0 where
   pub serialized : IfOk result (λ p. SerializedRegion D P n keys v p old new)

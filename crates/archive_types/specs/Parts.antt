@@ -50,7 +50,7 @@ PartsReach D ps keys vs a n = Foreseen D keys a (λ s names. PartsPlan s names p
 abbrev pub ArePartsRefused : Definitions → Parts → List Naming → Values → WriterState → WriterState → Error → Type 0
 ArePartsRefused D ps keys vs old new = Explains (HindersParts D ps keys vs (cursor old)) (PartsReach D ps keys vs (cursor old)) old new
 
--- a place of parts, from an offset on: zeros, as many as they take at least, and its end fits
+-- a place of parts, from an offset on: at least as many zeros as they take, and its end fits
 pub record ZeroedParts (end start p : ℕ) (bytes : List ℕ) : Type 0 where
   pub room : end ≤ start + length bytes
   pub zeroed : IsZeroed bytes

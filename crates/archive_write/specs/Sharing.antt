@@ -7,7 +7,7 @@ use Rattle.archive_check.specs.declared.format.error.Error.TheVariants.{CyclicSe
 use Rattle.archive_write.specs.declared.sharing.SharingState.{SharingState}
 use Rattle.archive_write.specs.declared.sharing.SharingState.TheVariants.{Started, Pending, Finished}
 
--- what a start of a key answers
+-- the result of starting a key
 abbrev pub start_answer : KeyState → SharingState
 start_answer None = Started
 start_answer (Some None) = Pending
@@ -26,11 +26,11 @@ IsSet before key state after = (k : ℕ) → after k ≡ update nat_eq before ke
 abbrev pub KnowsNone : (ℕ → KeyState) → Type 0
 KnowsNone states = (k : ℕ) → states k ≡ None
 
--- each known key keeps its state
+-- Each known key keeps its state.
 abbrev pub KeepsKnown : (ℕ → KeyState) → (ℕ → KeyState) → Type 0
 KeepsKnown before after = (k : ℕ) (s : Option ℕ) → before k ≡ Some s → after k ≡ Some s
 
--- what a write of the value of a known key answers: a pending one is refused, a finished one has its position already
+-- the result of writing the value of a known key: a pending one fails, a finished one has its position already
 abbrev pub known_answer : Option ℕ → Result ℕ Error
 known_answer None = Err CyclicSerialize
 known_answer (Some pos) = Ok pos

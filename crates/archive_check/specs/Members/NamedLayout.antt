@@ -15,7 +15,7 @@ pub name_reached : (name : Name) (X : Shape) → NoOthers (defines name X) (name
 name_reached name X n Y (zero, l, e) = subst (λ m. Involves (listed (defines name X)) m (named name)) (ap (λ (p : Name × Shape). p.0) e) (involves (mentions_held holds_name))
 name_reached name X n Y (suc k, l, e) = absurd (omega (arith, l))
 
--- No schema knows a name that holds itself, so any layout may be told of it.
+-- No schema knows a name that contains itself, so it may have any layout.
 pub held_has_layout : (name : Name) (X : Shape) (L : Layout) → Holds name X → HasLayout (defines name X) (named name) L
 held_has_layout name X L h = record { solved = λ s k. absurd (k.finite name X (zero, omega arith, refl) (held h)) }
 

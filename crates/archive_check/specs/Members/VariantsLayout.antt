@@ -51,7 +51,7 @@ pub record IsChoice (D : Definitions) (X : Shape) (name : Name) (E : Definitions
 pub is_named_choice : (name : Name) (D : Definitions) (vs : Variants) → IsChoice (both (defines name (choice name vs)) D) (named name) name D vs
 is_named_choice name D vs = record { stands = λ s k. by_name k.has.0; known = λ s k. knows_right s (defines name (choice name vs)) D k }
 
--- under a name whose definition is the only one that is brought, as where the choice holds itself
+-- under a name whose definition is the only one that is brought, as where the choice contains itself
 pub is_recursive_choice : (name : Name) (E : Definitions) (vs : Variants) → ((s : SchemaTable) → Knows s (defines name (choice name vs)) → Knows s E)
     → IsChoice (defines name (choice name vs)) (named name) name E vs
 is_recursive_choice name E vs known = record { stands = λ s k. by_name k.has; known = known }

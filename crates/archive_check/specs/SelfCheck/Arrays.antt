@@ -12,7 +12,7 @@ use Rattle.archive_check.specs.SelfCheck.Laws.{IsCheckOf, own_check}
 use Rattle.archive_check.specs.SelfCheck.Owners.{owned_order}
 use Rattle.archive_check.specs.Words.BoundedSizes.{fits}
 
--- so many elements, one behind another
+-- n elements, one behind another
 abbrev pub array_layout : ℕ → Layout → Layout
 array_layout n L = record { size = n * L.size; align = L.align }
 

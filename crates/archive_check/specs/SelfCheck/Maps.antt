@@ -38,7 +38,7 @@ entry_nameless k v = k && (v && true)
 abbrev pub entry_lone : Bool → Bool → Bool
 entry_lone k v = (v && true) || (k && (true || (v && true)))
 
--- a pointer to so many entries of a map
+-- a pointer to n entries of a map
 abbrev pub to_entries : ℤ → Key → Shape → ℕ → Pointer
 to_entries z K V n = record { target = z; sharing = None; order = Some K; pointee = run (entry_of K V); length = n }
 

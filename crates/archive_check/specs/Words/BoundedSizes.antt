@@ -11,7 +11,7 @@ abbrev pub rounded : Option ℕ → ℕ → Option ℕ
 rounded None a = None
 rounded (Some n) a = fits (up n a)
 
--- what so many of a size take
+-- what n of a size take
 abbrev pub times : Option ℕ → ℕ → Option ℕ
 times None n = cond (nat_eq n 0) (Some 0) None
 times (Some z) n = if nat_lt (z * n) 18446744073709551616 then Some (z * n) else None

@@ -35,7 +35,7 @@ module _ {C : Type 0} (state : C → RangeState) (positions : C → Positions) w
     pub begins : position ≡ pos root
     pub entered : IsInState inner (pushed (state old) root) old
 
-  -- `InSubtree Call Gives old position size align result new`: what is answered and left where the call answers and leaves as `Call` says, and
+  -- `InSubtree Call Gives old position size align result new`: what is returned and left where the call returns and leaves as `Call` says, and
   -- a refusal of the context gives one of the call's as `Gives` says. With one level left nothing is called.
   pub data InSubtree {R E : Type 0} (Call : C → Result R E → C → Type 0) (Gives : Error → E → Type 0) (old : C) (position : ℤ) (size align : ℕ) : Result R E → C → Type 0 where
     check_refused : {new : C} {e : Error} {given : E}

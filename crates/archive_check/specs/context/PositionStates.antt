@@ -35,7 +35,7 @@ nothing_met position = None
 abbrev pub SameType : Entry → Entry → Type 0
 SameType old new = (old.flavor ≡ new.flavor) × (old.pointee ≡ new.pointee)
 
--- What is answered where a position is started: a type is tested before a length. Memory may be refused for a new one.
+-- The result of starting a position: a type is tested before a length. Memory may be refused for a new one.
 abbrev pub IsStartAnswer : Option PositionState → Entry → Result ValidationState Error → Type 0
 IsStartAnswer met new (Ok Started) = met ≡ None
 IsStartAnswer met new (Ok Pending) = met ≡ Some (record { entry = new; finished = false })
@@ -53,7 +53,7 @@ IsFinishedAs met new = met ≡ Some (record { entry = new; finished = true })
 abbrev pub NoneFinishedAs : Positions → FlavorInfo → PointeeExpr → Type 0
 NoneFinishedAs met flavor pointee = (position : ℤ) (length : ℕ) → IsFinishedAs (met position) (entry_as flavor pointee length) → ⊥
 
--- it is answered whether a position is finished that was met with this length, and with a flavor and a pointee of which this is so
+-- the result is whether a position is finished that was met with this length, and with a flavor and a pointee of which this is so
 abbrev pub IsFinishedAnswer : (Flavor → Pointee → Type 0) → Option PositionState → ℕ → Bool → Type 0
 IsFinishedAnswer numbered met length answer =
     (flavor : Flavor) (pointee : Pointee) → numbered flavor pointee → IsTrue answer ↔ IsFinishedAs met (record { flavor = flavor; pointee = pointee; length = length })
@@ -72,7 +72,7 @@ abbrev pub Starts : {A : Type 0} → (A → Positions) → Both (MutBor A) (MutB
 Starts met c position flavor pointee length =
     met c.exit.now ≡ started (met c.entry.now) position (entry_as flavor.entry.now pointee.entry.now length)
 
--- What is answered where something is finished, as a position: it has to be known, and not to be finished already.
+-- The result of finishing something, as a position: it has to be known, and not to be finished already.
 abbrev pub finish_answer : {A : Type 0} → (A → Bool) → Option A → Result (Unit {0}) Error
 finish_answer is_finished None = Err NotStarted
 finish_answer is_finished (Some known) = cond (is_finished known) (Err AlreadyFinished) (Ok tt)

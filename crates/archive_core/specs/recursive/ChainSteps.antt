@@ -55,7 +55,7 @@ pub record EntersRest (bytes : List ℕ) (at : ℕ) (L : Layout) (s s' : RangeSt
   pub begun : Begun s s' (pos at +ℤ i32_at bytes at) L.align r
   pub pushes : s'.pushes ≤ s.pushes + 1
 
--- so many levels are given back
+-- n levels are given back
 abbrev pub raised : ℕ → Option ℕ → Option ℕ
 raised n None = None
 raised n (Some d) = Some (d + n)

@@ -1,4 +1,4 @@
--- What a type that holds itself is written by: a variant of any parts, and the region of values that were serialized before, with the vector that owns it.
+-- What a recursive type is written by: a variant of any parts, and the region of values that were serialized before, with the vector that owns it.
 use Rattle.std.specs.Prelude.{◌≡◌, ℕ, Bool, List, [], ◌∷◌, ◌++◌, Some, length, map, refl}
 use Rattle.std.proofs.Common.{ap, subst, inl, inr, ◌∙◌}
 use Rattle.std.proofs.lemmas.List.Elements.{Contains-append_cases}

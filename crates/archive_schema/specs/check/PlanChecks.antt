@@ -28,7 +28,7 @@ PlanAccepts m j limit root = (s : SchemaTable) (X : Shape) → PlanOf m j s X �
 abbrev pub PlanRefuses : Checker → ℕ → Option ℕ → ℕ → Error → Type 0
 PlanRefuses m j limit root error = (fault : Fault) × IsFor fault error × ((s : SchemaTable) (X : Shape) → PlanOf m j s X → RootTrips s m.bytes.now limit root X fault)
 
--- the answer is Ok exactly where the buffer is an archive with no region too deep, unless memory ran out
+-- the result is Ok exactly if the buffer is an archive with no region too deep, unless memory ran out
 abbrev pub PlanIsExact : Checker → ℕ → Option ℕ → ℕ → Result (Unit {0}) Error → Type 0
 PlanIsExact m j limit root answer = IsErrOf answer OutOfMemory ⊎ ((s : SchemaTable) (X : Shape) → PlanOf m j s X → IsOk answer ↔ AcceptedWithin s m.bytes.now limit root X)
 

@@ -66,7 +66,7 @@ unit_size Run node = node.size
 unit_size Text node = Some 1
 unit_size (EntriesOf key) node = rounded (sum_of (value_begin key node.align) node.size) (max (key_align (key_of key)) node.align)
 
--- so many of what a pointer leads to, whose node is at i
+-- n of what a pointer leads to, whose node is at i
 pub record RegionIs (m : Checker) (target : PointeeKind) (i n : ℕ) (size : Option ℕ) (align : ℕ) : Type 0 where
   pub node : Node
   pub at : IsAt m.nodes.now i node

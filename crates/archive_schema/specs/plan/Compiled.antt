@@ -57,7 +57,7 @@ pub record Settled (names : List NamedNode) (waits : List Wait) (s : SchemaTable
   pub sized : (name : Name) (j : ℕ) → node_of names name ≡ Some j → Sized m j (s.layouts name).size (s.layouts name).align
   pub stand : (name : Name) (j : ℕ) → node_of names name ≡ Some j → NodeStandsFor s shapes (named name) j
 
--- the shapes of so many nodes, from one on
+-- the shapes of n nodes, from one on
 pub record Given (shapes : ℕ → Shape) (from : ℕ) (xs : List Shape) : Type 0 where
   pub are : (k : ℕ) (X : Shape) → IsAt xs k X → shapes (from + k) ≡ X
 

@@ -11,7 +11,7 @@ use Rattle.archive_schema.specs.plan.NodeNumbers.{def_shapes}
 use Rattle.archive_check.specs.Shape.{Name, Shape, Table, definition}
 use Rattle.archive_check.specs.MissingNames.{Arranged, missing}
 
--- what is left where the definition of a name was asked for
+-- what is left where the definition of a name was looked up
 abbrev pub Taken : List Def → Name → Option Def → List Def → Type 0
 Taken old name None new = (definition (entries_of old) name ≡ None) × (new ≡ old)
 Taken old name (Some d) new =

@@ -47,6 +47,6 @@ pub record IsNumbered (defs : List Def) (names : List NamedNode) (n : ℕ) : Typ
   pub name_is : (i : ℕ) (d : Def) (k : NamedNode) → IsAt defs i d → IsAt names i k → k.name.now ≡ d.name.now
   pub root_is : (i : ℕ) (d : Def) (k : NamedNode) → IsAt defs i d → IsAt names i k → IsDefinitionNode names i (start_of (def_shapes defs) i) (shape_of d.expr) k.node
 
--- all have, and their nodes are so many
+-- all have, and this is the number of their nodes
 abbrev pub AreNumbered : List Def → List NamedNode → ℕ → Type 0
 AreNumbered defs names count = IsNumbered defs names (length defs) × (count ≡ start_of (def_shapes defs) (length defs))

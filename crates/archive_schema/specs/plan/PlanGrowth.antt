@@ -87,7 +87,7 @@ pub record IsTypeCopied (a b : PlanLists) (flavor : FlavorInfo) (P : Pointee) (k
   pub flavor_is : shared_type.flavor ≡ flavor
   pub pointee_is : pointee_of shared_type.pointee ≡ P
 
--- so many parts and variants more
+-- this many parts and variants more
 pub record IsExtended (a b : PlanLists) (parts : List Part) (variants : List Span) : Type 0 where
   pub nodes_are : b.nodes ≡ a.nodes
   pub parts_are : b.parts ≡ a.parts ++ parts

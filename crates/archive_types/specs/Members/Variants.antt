@@ -13,7 +13,7 @@ use Rattle.archive_types.specs.Plans.{Cursor, Step, plans_choice, plans_named, p
 abbrev pub case_of : ℕ → Value → Value
 case_of tag v = case tag (value v no_value)
 
--- These bytes, at p, are a variant with one part: the tag, the part so far behind it, of so many bytes, and zeros else.
+-- These bytes, at p, are a variant with one part: the tag, the part at this distance behind it and of this size, and zeros else.
 pub record HoldsCase (D : Definitions) (p tag offset size : ℕ) (X : Shape) (flat : Value) (a : List ℕ) : Type 0 where
   pub tag_is : slice_index a 0 ≡ tag
   pub before : (i : ℕ) → 0 < i → i < offset → slice_index a i ≡ 0

@@ -54,7 +54,7 @@ abbrev pub CopiesInBulk : {T S : Type 0} → Option (T → List ℕ) → ℕ →
 CopiesInBulk in_bulk together L xs k w takes_memory result = IfSome in_bulk (λ bytes.
     together * L.size ≤ 1024 → length xs * L.size < 2 ^ 64 → CopiesAll bytes L xs (k.state w.entry.now) (k.state w.exit.now) takes_memory result)
 
--- So many values were written in bulk by a writer that stood at p, or not: zeros came up to their alignment, and then these bytes, where the call answers.
+-- These values were written in bulk by a writer at position p, or not: zeros came up to their alignment, and then these bytes, where the call returns.
 -- Memory is refused only where the writer takes some, and else for one of these causes; where nothing refuses it, and a pointer can say what it has to, it is
 -- written.
 pub record WritesInBulk (L : Layout) (bytes : List ℕ) (count p : ℕ) (old new : WriterState) (takes_memory : Bool) (refused : Error → Type 0) (said : Type 0) (result : Result ℕ Error) : Type 0 where

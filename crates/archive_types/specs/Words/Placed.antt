@@ -37,7 +37,7 @@ AtOnce result e k w = IsErrOf result e × (k.state w.exit.now ≡ k.state w.entr
 abbrev pub Added : {S : Type 0} → List ℕ → Keys.Ghosts S → Both (MutBor S) (MutBor S) → ℕ → Type 0
 Added bytes k w p = (p ≡ length (k.state w.entry.now).bytes) × ((k.state w.exit.now).bytes ≡ (k.state w.entry.now).bytes ++ bytes)
 
--- these bytes alone were appended; so many were
+-- these bytes alone were appended; n were
 abbrev pub BytesAdded : {S : Type 0} → List ℕ → Keys.Ghosts S → Both (MutBor S) (MutBor S) → Type 0
 BytesAdded bytes k w = (k.state w.exit.now).bytes ≡ (k.state w.entry.now).bytes ++ bytes
 

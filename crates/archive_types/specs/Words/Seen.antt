@@ -56,7 +56,7 @@ elements_between s size a b = elements_from s.bytes.now s.pos size a (b - a)
 abbrev pub part_tag : RawView → ℕ
 part_tag p = slice_index p.bytes.now p.pos
 
--- the number of so many bytes that a part shows
+-- the number of n bytes that a part shows
 abbrev pub part_number : RawView → ℕ → ℕ
 part_number p size = little_number (bytes_at p.bytes.now p.pos size)
 
@@ -112,7 +112,7 @@ ReadsRecord g p d b meanings keys t = ReadsPart g p d b (product (meanings t)) (
 abbrev pub ReadsVariant : {T M D E X : Type 0} → ArchivePointee.Ghosts T M → Both RawView E → Entries.Ghosts D → Both (MutBor D) (MutBor D) → (X → Values) → (X → List Naming) → X → Type 0
 ReadsVariant g p d b meanings keys t = ReadsPart g p d b (case (slice_index p.entry.bytes.now p.entry.pos) (meanings t)) (keys t)
 
--- a view of the same buffer; one that begins so many bytes behind another's beginning
+-- a view of the same buffer; one that begins n bytes behind another's beginning
 abbrev pub IsBufferOf : {T M U N : Type 0} {g : ArchivePointee.Ghosts T M} {h : ArchivePointee.Ghosts U N} → Ref T M g → Ref U N h → Type 0
 IsBufferOf v u = u.bytes.now ≡ v.bytes.now
 

@@ -77,6 +77,6 @@ abbrev pub IsValueAtKey : {T M U N Q : Type 0} {g : ArchivePointee.Ghosts T M} {
     → (Standing → Q → Ordering) → Layout → Layout → Ref U N h → Ref T M g → Q → Type 0
 IsValueAtKey R k v u m q = (i : ℕ) × HasKeyAt R (entry_size k v) m q i × IsEntryValue k v u m i
 
--- so many comparisons are no more than the map's length has binary digits
+-- the comparisons are no more than the binary digits of the map's length
 abbrev pub AreFewFor : {T M : Type 0} {g : ArchivePointee.Ghosts T M} → Ref T M g → ℕ → Type 0
 AreFewFor m count = (digits : ℕ) → entry_count m < 2 ^ digits → count ≤ digits
