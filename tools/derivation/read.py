@@ -385,6 +385,8 @@ def check_loads(module: Module):
             kind = "with type parameters" if it.parameters else "that holds a recursive type"
             said = f"`{it.name}` has {len(it.fields)} fields, and {MOST_FEW} are the most of a struct {kind}; put some into a struct of their own"
             raise Refused(module.path, it.fields[MOST_FEW].line, said)
+        if it.recursive:
+            check_recursive_variants(module, loads, it)
         if it.as_tuple or it.recursive:
             continue
         for fields in [it.fields] + [v.fields for v in it.variants]:
@@ -415,6 +417,15 @@ def check_variants(module: Module, loads: Loads, it: Declaration):
     for count, v in enumerate(it.variants, 1):
         if loads.least_of_variants(types[:count]) > MOST_OF_VARIANTS:
             raise Refused(module.path, v.line, f"`{it.name}` has more variants up to here than the toolchain follows; put some into an enum of their own")
+
+
+def check_recursive_variants(module: Module, loads: Loads, it: Declaration):
+    """Refuses the first variant of a recursive enum with which a nest of pairs has too much."""
+    types = [[field.type for field in v.fields] for v in it.variants]
+    for count, v in enumerate(it.variants, 1):
+        if loads.go_by_eights(types[:count]):
+            said = f"the recursive `{it.name}` has more variants up to here than the toolchain follows; put some into an enum of another file"
+            raise Refused(module.path, v.line, said)
 
 
 def found_in(it: Type, is_it) -> Optional[Type]:

@@ -39,4 +39,4 @@ pub use serialize_record_few::{
     serialize_record_4, serialize_record_5, serialize_record_6, serialize_record_7,
     serialize_record_8,
 };
-pub use variants::{known_tag, part_in_case, read_case, tag_in};
+pub use variants::{known_tag, part_in_case, read_case, resolve_case, serialize_case, tag_in};
