@@ -9,6 +9,7 @@ from .circles import check_circles
 from .formats import snake, substituted
 from .loads import MOST as MOST_LOAD
 from .loads import MOST_OF_VARIANTS, Loads
+from .long import MOST_BY_NUMBER, is_long
 from .model import Declaration, Field, Module, Refused, Type
 from .names import ALIASES, FLOATS, LIBRARY, PRIMITIVES, STD, STD_MODULES, Found, Source, World
 from .parse import Declared
@@ -274,6 +275,8 @@ def check_shape(it: Declaration):
             line = it.variants[MOST_VARIANTS].line
             raise Refused(it.path, line, f"`{it.name}` has {len(it.variants)} variants, and a tag of one byte counts {MOST_VARIANTS}; put some into an enum of their own")
         check_names(it, it.variants, "variant")
+        if len(it.variants) == 1 and is_long(it.variants[0].fields):
+            raise Refused(it.path, it.line, f"`{it.name}` has one variant, of more than {MOST_BY_NUMBER} fields; write a struct")
     for of, fields in [(it.name, it.fields)] + [(f"{it.name}::{v.name}", v.fields) for v in it.variants]:
         check_names(it, fields, "field")
         for x in fields:

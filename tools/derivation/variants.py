@@ -340,7 +340,24 @@ def proofs(formats, declaration):
         answers = made and made.answers(dotted)
         if answers:
             out[f"proofs/{module}/{made.name}/Answers.antt"] = answers
+    if any(case.is_long for case in choice.cases):
+        out[f"proofs/{module}/{choice.name}Archive/resolve/Answers.antt"] = resolve_answers(choice, dotted)
     return out
+
+
+def resolve_answers(choice, dotted):
+    """The proof that each variant is resolved as it is flat: of one that is lent the search doesn't find it."""
+    steps = [f"in-{case.name}+in-{case.name}-resolver" if case.count else f"in-{case.name}" for case in choice.cases]
+    found = ["grind (w.resolve_case.ensures, w.bytes-is, w.result-is, rules)" if case.is_long else "search rules" for case in choice.cases]
+    arms = " | ".join(f"{step} w ↦ {how}" for step, how in zip(steps, found))
+    return f"""-- {WRITTEN}
+use Rattle.std.proofs.Common.{{rules}}
+use Rattle.{dotted}.{choice.name}Archive.resolve.Goals.{{{', '.join(steps)}}}
+use Rattle.{dotted}.{choice.name}Archive.resolve.Goals as goal
+
+pub returns : goal.returns
+returns c = elim c.match-self.branch [ {arms} ]
+"""
 
 
 def views(choice):
