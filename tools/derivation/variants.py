@@ -342,7 +342,21 @@ def proofs(formats, declaration):
             out[f"proofs/{module}/{made.name}/Answers.antt"] = answers
     if any(case.is_long for case in choice.cases):
         out[f"proofs/{module}/{choice.name}Archive/resolve/Answers.antt"] = resolve_answers(choice, dotted)
+        out[f"proofs/{module}/{choice.name}Serialize/serialize/Answers.antt"] = serialize_answers(choice, dotted)
     return out
+
+
+def serialize_answers(choice, dotted):
+    """The proof that a variant that is lent is serialized as it means. What the goals of several are called wasn't tried."""
+    long = next(case for case in choice.cases if case.is_long)
+    its = "c.in-Ok-serialize_case"
+    return f"""-- {WRITTEN}
+use Rattle.std.proofs.Common.{{rules}}
+use Rattle.{dotted}.{choice.name}Serialize.serialize.Goals as goal
+
+pub returns-in-Ok-serialize_case : goal.returns-in-Ok-serialize_case
+returns-in-Ok-serialize_case g c = rw (c.in-{long.name}.is) record {{ serialized = {its}.ensures.serialized; same_value = {its}.ensures.same_value; goes_on = c.serialize_case.ensures.goes_on; refused = search rules }}
+"""
 
 
 def resolve_answers(choice, dotted):

@@ -11,4 +11,5 @@ pub mod ranked;
 pub mod spot;
 pub mod stock;
 pub mod track;
+pub mod weather;
 pub mod words;

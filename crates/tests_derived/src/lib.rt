@@ -34,4 +34,6 @@ mod tracks;
 #[cfg(test)]
 mod turns;
 #[cfg(test)]
+mod weathers;
+#[cfg(test)]
 mod words;
