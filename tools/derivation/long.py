@@ -4,9 +4,9 @@ The evidence of a call with a flat list of fields (`serialize_record_4` and its 
 bound `A::Archived: Deserialize<A, R>` a field, it "stopped at the step limit (50000000 steps a task, the default)" at three. The front end doesn't take
 sixteen fields in pairs, but in fours.
 
-A part of a nest is found in each value of the whole, and a variant's fields aren't in each value of an enum. So a variant would lend many fields in a
-struct of references: at sixteen that compiled and ran, and all but `resolve` and `serialize` was proved. These would have to ask for `Portable` of the
-enum: with `Choice`, whose variants are passed, too, "the impls to pass for `char: Eq` do not end, or are too many".
+A part of a nest is found in each value of the whole, and a variant's fields aren't in each value of an enum. So a variant lends many fields in a struct of
+references. `serialize_case` and `resolve_case` ask for `Portable` of the enum: with `Choice`, whose variants are passed, too, "the impls to pass for
+`char: Eq` do not end, or are too many" at sixteen fields. By number, each field more adds a half to what the check takes: 21 seconds at nine, 30 at eleven.
 """
 
 from .layout import fours, implementation, literal, pair, statement
@@ -47,17 +47,18 @@ def opened(names, indent, by_fours):
     return lines + statement(indent, "let ", pair(left), " = rest;")
 
 
-def fields_of(formats, name, whole, rust, values):
-    """Many fields of the struct `whole` as sources, and how each is found: `values` are their names."""
+def fields_of(formats, name, whole, rust, values, lent=False):
+    """Many fields of the struct `whole` as sources, and how each is found: `values` are their names. A struct of lent fields has references."""
     formats.use("archive_core::own", "Field", "HasField")
     those = statement(0, f"type {name} = ", fours([f"Field<{i}, {type}>" for i, type in enumerate(rust)]), ";")
+    now, by = (".now", "") if lent else ("", "&")
     impls = "".join(
         f"""
 {implementation([], "HasField", [str(i), type], whole)}
-    ghost field = {{ λ v. v.{value} }};
+    ghost field = {{ λ v. v.{value}{now} }};
 
     fn field(&self) -> &{type} {{
-        &self.{value}
+        {by}self.{value}
     }}
 }}
 """
@@ -66,3 +67,14 @@ def fields_of(formats, name, whole, rust, values):
     return f"""
 // The fields as sources.
 {those}{impls}"""
+
+
+def lent(formats, name, path, rust):
+    """The fields of a variant, lent: a struct of references."""
+    names = [f"a{i}" for i in range(len(rust))]
+    lines = "".join(f"    {value}: &'a {type},\n" for value, type in zip(names, rust))
+    return f"""// The fields of `{path}`, lent.
+#[derive(Drop)]
+struct {name}Lent<'a> {{
+{lines}}}
+{fields_of(formats, f"{name}Fields", f"{name}Lent<'_>", rust, names, lent=True)}"""

@@ -9,13 +9,14 @@ from .circles import check_circles
 from .formats import snake, substituted
 from .loads import MOST as MOST_LOAD
 from .loads import MOST_OF_VARIANTS, Loads
+from .long import MOST_BY_NUMBER, is_long
 from .model import Declaration, Field, Module, Refused, Type
 from .names import ALIASES, FLOATS, LIBRARY, PRIMITIVES, STD, STD_MODULES, Found, Source, World
 from .parse import Declared
 from .items import number_of
 
 MOST_FIELDS = 16
-# Of a variant, and of a type that is archived as a tuple with names.
+# Of a type that is archived as a tuple with names.
 MOST_FEW = 8
 MOST_PARTS = 13
 MOST_VARIANTS = 256
@@ -274,14 +275,18 @@ def check_shape(it: Declaration):
             line = it.variants[MOST_VARIANTS].line
             raise Refused(it.path, line, f"`{it.name}` has {len(it.variants)} variants, and a tag of one byte counts {MOST_VARIANTS}; put some into an enum of their own")
         check_names(it, it.variants, "variant")
+        if len(it.variants) == 1 and is_long(it.variants[0].fields):
+            raise Refused(it.path, it.line, f"`{it.name}` has one variant, of more than {MOST_BY_NUMBER} fields; write a struct")
+        long = [v for v in it.variants if is_long(v.fields)]
+        if len(long) > 1:
+            raise Refused(it.path, long[1].line, f"a second variant of `{it.name}` has more than {MOST_BY_NUMBER} fields; put some into a struct of their own")
     for of, fields in [(it.name, it.fields)] + [(f"{it.name}::{v.name}", v.fields) for v in it.variants]:
         check_names(it, fields, "field")
         for x in fields:
             if x.name == "now" and it.kind == "struct":
                 raise Refused(it.path, x.line, "`now` has a meaning in contracts; choose another name for the field")
-        most = MOST_FIELDS if fields is it.fields and it.kind == "struct" else MOST_FEW
-        if len(fields) > most:
-            raise Refused(it.path, fields[most].line, f"`{of}` has {len(fields)} fields, and {most} are the most; put some into a struct of their own")
+        if len(fields) > MOST_FIELDS:
+            raise Refused(it.path, fields[MOST_FIELDS].line, f"`{of}` has {len(fields)} fields, and {MOST_FIELDS} are the most; put some into a struct of their own")
     for p in it.parameters:
         if not any(names_parameter(field.type, p.name) for field in it.all_fields()):
             raise Refused(it.path, it.line, f"`{it.name}` has no field of its parameter `{p.name}`; remove it, or add a field, as `of: PhantomData<{p.name}>`")

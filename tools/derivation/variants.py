@@ -21,7 +21,7 @@ from .common import (
 from .formats import layout_of, snake
 from .layout import Generic, Group, WIDTH, ended, flat, implementation, lay, literal, pair, signature, statement
 from .loads import Loads
-from .long import nest
+from .long import is_long, lent, nest
 from .made import WRITTEN, Made
 
 
@@ -50,6 +50,7 @@ class Case:
         self.names = self.binders
         self.word = f"{choice.name}{self.name}"
         self.by_fours = Loads().go_by_fours(self.types)
+        self.is_long = is_long(self.types)
 
     def pattern(self, values=()):
         """The variant with a name for each field, or with these values."""
@@ -103,9 +104,11 @@ class Choice(Source):
 def text(formats, declaration):
     choice = Choice(formats, declaration)
     for case in choice.cases:
-        formats.use("archive_core::fields", f"serialize_case_{case.count}", f"resolve_case_{case.count}")
+        which = "" if case.is_long else f"_{case.count}"
+        formats.use("archive_core::fields", f"serialize_case{which}", f"resolve_case{which}")
     pieces = [
         enum(choice),
+        *[lent(formats, case.word, f"{choice.name}::{case.name}", case.rust) for case in choice.cases if case.is_long],
         archive_pointee(choice),
         portable(choice, f'expr_of_choice::<{choice.name}Variants>(alloc, "{choice.archived}")'),
         check_of(choice),
@@ -243,6 +246,8 @@ def resolve_arm(choice, case):
     kept, place = kept_of(choice.formats, case.types), "Place::new(pos, bytes)"
     pattern = flat(case.pattern())
     call = Generic(f"resolve_case_{case.count}", case.rust + [choice.archived], [str(case.tag)] + case.names + [kept, place])
+    if case.is_long:
+        call = Generic("resolve_case", [f"{case.word}Lent<'_>", f"{case.word}Fields", choice.archived], [str(case.tag), "&lent", kept, place])
     if not case.count:
         one = f"            {pattern} => {flat(call)},\n"
         if len(one) <= WIDTH + 1:
@@ -252,21 +257,28 @@ def resolve_arm(choice, case):
     other = " else {\n                    unreachable!();\n                }" if len(choice.cases) > 1 else ""
     return f"""            {pattern} => {{
                 {opened}{other};
-{taken_apart(choice.formats, case.types, 16)}{statement(16, "", call, "")}            }}
+{taken_apart(choice.formats, case.types, 16)}{lending(case, 16)}{statement(16, "", call, "")}            }}
 """
 
 
-def match_arm(pattern, call, values, made):
-    """An arm that answers what a call answers, by another name."""
+def lending(case, indent):
+    """The line that lends many fields at once."""
+    if not case.is_long:
+        return ""
+    return statement(indent, "let lent = ", literal(f"{case.word}Lent", case.names), ";")
+
+
+def match_arm(pattern, call, values, made, first=""):
+    """An arm that answers what a call answers, by another name. `first` are lines before the call."""
     before = f"{flat(pattern)} => match "
     whole = lay(call, 12, 12 + len(before), 2)
-    if 12 + len(before) + len(whole.split("\n")[0]) <= WIDTH:
+    if not first and 12 + len(before) + len(whole.split("\n")[0]) <= WIDTH:
         return f"""            {before}{ended(whole, 12, " {")}
 {ok_arm(values, made, 16)}                Err(error) => Err(error),
             }},
 """
     return f"""            {flat(pattern)} => {{
-{statement(16, "match ", call, " {")}{ok_arm(values, made, 20)}                    Err(error) => Err(error),
+{first}{statement(16, "match ", call, " {")}{ok_arm(values, made, 20)}                    Err(error) => Err(error),
                 }}
             }}
 """
@@ -277,8 +289,10 @@ def serialize(choice):
     arms = []
     for case in choice.cases:
         call = Generic(f"serialize_case_{case.count}", case.rust + [choice.archived, "S"], [str(case.tag)] + case.names + ["serializer"])
+        if case.is_long:
+            call = Generic("serialize_case", [f"{case.word}Lent<'_>", f"{case.word}Fields", choice.archived, "S"], [str(case.tag), "&lent", "serializer"])
         made = f"{choice.resolver}::{case.name}" + ("(kept)" if case.count else "")
-        arms.append(match_arm(case.pattern(), call, "kept" if case.count else "()", made))
+        arms.append(match_arm(case.pattern(), call, "kept" if case.count else "()", made, lending(case, 16)))
     return f"""{implementation([f"S: {bound}"], "Serialize", ["S"], choice.name)}
     #[inline(always)]
     fn serialize(&self, serializer: &mut S) -> Result<Self::Resolver, Error> {{
@@ -323,7 +337,38 @@ def proofs(formats, declaration):
         answers = made and made.answers(dotted)
         if answers:
             out[f"proofs/{module}/{made.name}/Answers.antt"] = answers
+    if any(case.is_long for case in choice.cases):
+        out[f"proofs/{module}/{choice.name}Archive/resolve/Answers.antt"] = resolve_answers(choice, dotted)
+        out[f"proofs/{module}/{choice.name}Serialize/serialize/Answers.antt"] = serialize_answers(choice, dotted)
     return out
+
+
+def serialize_answers(choice, dotted):
+    """The proof that the variant that is lent is serialized as it means."""
+    long = next(case for case in choice.cases if case.is_long)
+    its = "c.in-Ok-serialize_case"
+    return f"""-- {WRITTEN}
+use Rattle.std.proofs.Common.{{rules}}
+use Rattle.{dotted}.{choice.name}Serialize.serialize.Goals as goal
+
+pub returns-in-Ok-serialize_case : goal.returns-in-Ok-serialize_case
+returns-in-Ok-serialize_case g c = rw (c.in-{long.name}.is) record {{ serialized = {its}.ensures.serialized; same_value = {its}.ensures.same_value; goes_on = c.serialize_case.ensures.goes_on; refused = search rules }}
+"""
+
+
+def resolve_answers(choice, dotted):
+    """The proof that each variant is resolved as it is flat: of one that is lent the search doesn't find it."""
+    steps = [f"in-{case.name}+in-{case.name}-resolver" if case.count else f"in-{case.name}" for case in choice.cases]
+    found = ["grind (w.resolve_case.ensures, w.bytes-is, w.result-is, rules)" if case.is_long else "search rules" for case in choice.cases]
+    arms = " | ".join(f"{step} w ↦ {how}" for step, how in zip(steps, found))
+    return f"""-- {WRITTEN}
+use Rattle.std.proofs.Common.{{rules}}
+use Rattle.{dotted}.{choice.name}Archive.resolve.Goals.{{{', '.join(steps)}}}
+use Rattle.{dotted}.{choice.name}Archive.resolve.Goals as goal
+
+pub returns : goal.returns
+returns c = elim c.match-self.branch [ {arms} ]
+"""
 
 
 def views(choice):

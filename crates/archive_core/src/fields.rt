@@ -1,6 +1,7 @@
 //! Records and variants by the number of their fields: what the impls of user-defined types call.
 // Written by tools/fields: change that, and run it again.
 
+mod eight;
 mod front;
 mod records;
 mod resolve_case_few;
@@ -11,6 +12,7 @@ mod serialize_few;
 mod serialize_record_few;
 mod variants;
 
+pub use eight::EightVariants;
 pub use front::{resolve_0, serialize_0};
 pub use records::part_in_record;
 pub use resolve_case_few::{
@@ -37,4 +39,4 @@ pub use serialize_record_few::{
     serialize_record_4, serialize_record_5, serialize_record_6, serialize_record_7,
     serialize_record_8,
 };
-pub use variants::{known_tag, part_in_case, read_case, tag_in};
+pub use variants::{known_tag, part_in_case, read_case, resolve_case, serialize_case, tag_in};

@@ -5,3 +5,4 @@ pub mod entry;
 pub mod event;
 pub mod spot;
 pub mod track;
+pub mod weather;

@@ -24,4 +24,6 @@ mod tracks;
 #[cfg(test)]
 mod turns;
 #[cfg(test)]
+mod weathers;
+#[cfg(test)]
 mod words;

@@ -69,6 +69,16 @@ class Writing(RepositoryTest):
         self.assertNotIn("serialize_record_10", self.text(path))
         self.assertEqual(self.run_command("--check", path), (0, ""))
 
+    def test_many_fields_of_a_variant_are_lent(self):
+        path = self.put(f"#[derive(Drop)]\npub enum Big {{ None, Some({', '.join(['i16'] * 16)}) }}\n")
+        self.assertEqual(self.run_command(path), (0, ""))
+        written = self.text(path)
+        self.assertIn("serialize_case::<BigSomeLent<'_>, BigSomeFields, ArchivedBig, S>(\n", written)
+        self.assertIn("Ok(values) => Ok(big_some_of(values))", written)
+        proof = os.path.join(self.top, "crates", "game", "proofs", "types", "big_some_of", "Answers.antt")
+        self.assertIn("c.args.values.rest.rest.rest.fourth", self.text(proof))
+        self.assertEqual(self.run_command("--check", path), (0, ""))
+
     def test_names_that_the_library_has_too(self):
         text = "use std::fmt::Error;\n/// A Choice of these.\n#[derive(Drop)]\npub enum Choice { Record(Record), Choice }\n#[derive(Drop)]\npub struct Record { pub x: u8 }\n"
         path = self.put(text)

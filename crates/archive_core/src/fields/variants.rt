@@ -1,16 +1,21 @@
-// The variant that a choice shows, its fields, and how they are read back.
+// The variant that a choice shows, its fields, how they are read back, and how more than eight are written.
 
-ghost use Rattle.std.specs.Prelude.{◌≡◌, ◌+◌, ◌<◌, Some, true, IfOk, IfErr};
+ghost use Rattle.std.specs.Prelude.{◌≡◌, ◌+◌, ◌<◌, ◌≤◌, Some, true, IfOk, OnOk, IfErr, length};
 ghost use Rattle.archive_check.specs.Definitions.{no_definition};
 ghost use Rattle.archive_check.specs.Value.{case};
 ghost use Rattle.archive_core.specs.fields.Plain.{BeginsAt, are_none, case_count, is_choice, part_in, variant_in};
+ghost use Rattle.archive_types.specs.Outcomes.{ResolvesAs, SerializesAs};
 ghost use Rattle.archive_types.specs.Payloads.{payload_in};
 ghost use Rattle.archive_types.specs.Words.Seen.{IsPartOf, RefusesPart, ReadsPart, ShowsValueOf, part_tag, tag_of};
+ghost use Rattle.archive_types.specs.Writing.{ZeroedPlace};
+ghost use Rattle.archive_write.specs.Written.{GoesOn};
 
 use archive_check::format::error::Error;
-use archive_types::parts::{DeserializeParts, OwnedParts};
-use archive_types::traits::{Entries, Portable};
+use archive_types::parts::{DeserializeParts, OwnedParts, SerializeParts, SourceParts};
+use archive_types::place::Place;
+use archive_types::traits::{Entries, Keys, Portable};
 use archive_types::view::{RawView, Ref};
+use archive_write::ser::Writer;
 use std::alloc::Global;
 
 /// The tag that a view shows, which names one of the variants.
@@ -84,4 +89,43 @@ pub fn part_in_case<'a, X: Portable, U: Portable>(
         pos: pos + offset,
         len: 0,
     })
+}
+
+/// Writes what the fields of a variant own, one after another, and returns their resolvers: of
+/// more than eight fields, which `whole` lends.
+#[inline(always)]
+pub fn serialize_case<T, P: SerializeParts<T, S>, X: Portable, S: Writer + Keys>(
+    tag: u8,
+    whole: &T,
+    serializer: &mut S,
+) -> Result<P::Resolvers, Error>
+    requires nothing { X.definitions ≡ no_definition }
+    requires variant { variant_in X.shape tag ≡ Some P.Archived.parts }
+    requires nameless { are_none P.Archived.definitions ≡ true }
+    ensures { SerializesAs X.Portable (P.keys whole.now) (case tag (P.meanings whole.now))
+        (λ r. case tag (P.flats whole.now r)) (P.belongs whole.now) S.Keys serializer result }
+{
+    P::serialize_parts(whole, serializer)
+}
+
+/// Writes a variant over zeros, its tag and behind it the fields: more than eight, which `whole`
+/// lends.
+#[inline(always)]
+pub fn resolve_case<T, P: SourceParts<T>, X: Portable>(
+    tag: u8,
+    whole: &T,
+    resolvers: P::Resolvers,
+    place: Place<'_, X>,
+) -> Result<(), Error>
+    requires nothing { X.definitions ≡ no_definition }
+    requires variant { variant_in X.shape tag ≡ Some P.Archived.parts }
+    requires nameless { are_none P.Archived.definitions ≡ true }
+    requires inside { P.Archived.end 1 ≤ X.layout.size }
+    requires zeroed { ZeroedPlace X.layout.size place.pos place.bytes.now }
+    requires same_values { P.belongs whole.now resolvers }
+    ensures { ResolvesAs X.Portable place (case tag (P.flats whole.now resolvers)) result }
+{
+    let Place { bytes, pos, .. } = place;
+    bytes[0] = tag;
+    P::resolve_parts(whole, resolvers, pos, 1, &mut bytes[1..])
 }

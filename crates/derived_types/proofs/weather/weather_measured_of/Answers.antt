@@ -1,0 +1,14 @@
+-- Written by tools/derive: change the declaration, and run it again.
+use Rattle.std.proofs.Common.{◌≡◌, refl, arith, rules}
+use Rattle.std.proofs.lemmas.Int.{to_z-of_z}
+use mir.Syntax.{w16, w64}
+use mir.Val.{SFits}
+use Rattle.derived_types.proofs.weather.weather_measured_of.Goals as goal
+
+pub returns-clause-meaning : goal.returns-clause-meaning
+returns-clause-meaning c =
+    let e0 : SFits w16 c.args.values.third = search rules in
+    let e1 : SFits w16 c.args.values.fourth = search rules in
+    let e2 : SFits w16 c.args.values.rest.first = search rules in
+    let e3 : SFits w64 c.args.values.rest.rest.rest.first = search rules in
+    rw (to_z-of_z w16 c.args.values.third e0, to_z-of_z w16 c.args.values.fourth e1, to_z-of_z w16 c.args.values.rest.first e2, to_z-of_z w64 c.args.values.rest.rest.rest.first e3) refl
