@@ -102,8 +102,8 @@ impl Format {
         }
     }
 
-    /// The value that a word stands for: none where it stands for none, or the format is checked alone. Memory comes from `alloc`; refused with
-    /// `OutOfMemory`, 1, where it is refused.
+    /// The value that a word stands for: none where it stands for none, or the format is checked alone. Fails with `OutOfMemory` if
+    /// memory from `alloc` is refused.
     pub fn value(self, alloc: Global, word: &String) -> Result<Option<Value<'_>>, Error> {
         match self {
             Format::U32 => match u32::read(word.as_str()) {

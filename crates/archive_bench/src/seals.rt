@@ -29,7 +29,7 @@ fn third<R: Record, T: Portable>(root: Ref<'_, R>) -> Option<Spot<T>>
     Some(item.spot())
 }
 
-// Writes a value over the leaf at a spot. What seals come to beside it, they come to as before.
+// Writes a value over the leaf at a spot. What seals reach beside it, they reach as before.
 fn write_leaf<T: SealedLeaf>(bytes: &mut [u8], spot: Spot<T>, value: T::Written)
     requires come_to { IsComeTo T.definitions bytes.old spot.pos T.pointee spot.len }
     requires can_hold { T.can_hold value }

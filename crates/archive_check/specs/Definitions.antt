@@ -7,13 +7,13 @@ use Rattle.archive_check.specs.Layout.{Layout, layout}
 use Rattle.archive_check.specs.Defined.{HeldIn, Involves}
 use Rattle.archive_check.specs.Reads.{SchemaTable, LaidOut}
 
--- the definitions that a type brings with it: none, one under a name, or those of two
+-- The definitions that a type brings: none, one under a name, or two such groups.
 pub data Definitions : Type 0 where
   no_definition : Definitions
   defines : Name → Shape → Definitions
   both : Definitions → Definitions → Definitions
 
--- each name with its definition
+-- Each name with its definition.
 abbrev pub listed : Definitions → Table
 listed no_definition = []
 listed (defines name X) = (name, X) ∷ []
@@ -49,14 +49,14 @@ named_record name ps D = both (defines name (parts ps)) D
 abbrev pub named_choice : Name → Variants → Definitions → Definitions
 named_choice name vs D = both (defines name (choice name vs)) D
 
--- the schema has each of them
+-- The schema has each of these definitions.
 abbrev pub Has : SchemaTable → Definitions → Type 0
 Has s no_definition = Unit {0}
 Has s (defines name X) = definition s.table name ≡ Some X
 Has s (both D E) = Has s D × Has s E
 
--- A schema that has them, in which none of them holds itself, and whose layouts are those of its definitions. There is none where they give no
--- meaning: where one name has two, or where one holds itself.
+-- The schema has these definitions with their layouts, and none contains itself other than behind a
+-- pointer.
 pub record Knows (s : SchemaTable) (D : Definitions) : Type 0 where
   pub has : Has s D
   pub finite : (name : Name) (X : Shape) → Contains (listed D) (name, X) → HeldIn s.table name X → ⊥

@@ -14,50 +14,53 @@ use Rattle.archive_check.specs.Pooled.{Kept, Entries}
 use Rattle.archive_check.specs.Viewed.{Lies, Says}
 use Rattle.archive_check.specs.Reached.{Reached}
 
--- nothing is told
+-- No position is known.
 abbrev pub NoEntries : Entries → Type 0
 NoEntries told = (t : ℕ) → told t ≡ None
 
--- each finished position has a shared value whose name is that position
+-- Each finished value has its position as its name.
 abbrev pub AreNamedByPosition : Entries → Type 0
 AreNamedByPosition told = (t : ℕ) (k : Kept) → told t ≡ Some (Some k) → k.name ≡ t
 
--- finished positions stay so, with what is kept of them, and the pending ones are those from before
+-- Finished positions keep what is kept of them, the same are pending, and values stay named by
+-- their positions.
 pub record KeepsEntries (old new : Entries) : Type 0 where
   pub finished : (t : ℕ) (k : Kept) → old t ≡ Some (Some k) → new t ≡ Some (Some k)
   pub pending : (t : ℕ) → new t ≡ Some None ↔ old t ≡ Some None
   pub named : AreNamedByPosition old → AreNamedByPosition new
 
--- the map has this value at the name, with this pointee and length; its flavor is that of the map
+-- The map has this value at the name, with this pointee and length, and some flavor.
 pub record Shares (shared : FinMap nat_cmp (Entry × Value)) (name : ℕ) (e : Entry) (v : Value) : Type 0 where
   pub flavor : Flavor
   pub known : get shared name ≡ Some (record { flavor = flavor; pointee = e.pointee; length = e.length }, v)
 
--- it has each of these
+-- The map has each of these.
 abbrev pub AreShared : FinMap nat_cmp (Entry × Value) → List Naming → Type 0
 AreShared shared keys = (k : Naming) → Contains keys k → Shares shared k.0 k.1.0 k.1.1
 
--- each finished position holds what the map says, and so does all that it leads to
+-- Each finished position holds what the map says, and so does all that it leads to.
 abbrev pub AreRight : FinMap nat_cmp (Entry × Value) → Entries → Type 0
 AreRight shared told = (t : ℕ) (k : Kept) → told t ≡ Some (Some k) → Shares shared t k.entry k.value × AreShared shared k.keys
 
--- each of these keys is that of a finished position, and names what is kept there
+-- Each of these keys is a finished position, and stands for what is kept there.
 abbrev pub AreKept : Entries → List Naming → Type 0
 AreKept told keys = (k : Naming) → Contains keys k → (kept : Kept) × (told k.0 ≡ Some (Some kept)) × (k.1 ≡ (kept.entry, kept.value))
 
--- what is kept leads to what is kept
+-- What is kept leads to what is kept.
 abbrev pub IsComplete : Entries → Type 0
 IsComplete told = (t : ℕ) (k : Kept) → told t ≡ Some (Some k) → AreKept told k.keys
 
--- Where what is read is kept, and led to what is kept before: each of these keys is kept now, and so is all that leads from there.
+-- If what is read is kept, and what was kept led to what was kept: each of these keys is kept now,
+-- and so is all that it leads to.
 abbrev pub KeepsRead : Bool → Entries → Entries → List Naming → Type 0
 KeepsRead keeps old new keys = keeps ≡ true → AreNamedByPosition old → IsComplete old → AreKept new keys × IsComplete new
 
--- the position is pending, or one of those within whose values the reading is
+-- The position is pending, or is being read.
 abbrev pub IsOpen : Entries → List ℕ → ℕ → Type 0
 IsOpen told within t = (told t ≡ Some None) ⊎ Contains within t
 
--- Following P at q, and what it leads to, a pointer to an open shared position is met. What is finished isn't followed.
+-- Following P at q, and what it leads to, meets a pointer to an open shared position; what is
+-- finished isn't followed.
 pub data MeetsOpen (s : SchemaTable) (bytes : List ℕ) (told : Entries) : List ℕ → ℕ → Pointee → ℕ → Type 0 where
   meets_open : {within : List ℕ} {q n t : ℕ} {P : Pointee} {v : Value} {p : Pointer} {flavor : Flavor}
       → Contents s bytes q P n v
@@ -95,7 +98,8 @@ pub record IsMet (s : SchemaTable) (bytes : List ℕ) (root : ℕ) (X : Shape) (
 abbrev pub IsClosed : SchemaTable → List ℕ → ℕ → Shape → Entries → ℕ → Type 0
 IsClosed s bytes root X told t = (p : Pointer) (flavor : Flavor) → IsMet s bytes root X p → p.sharing ≡ Some flavor → p.target ≡ pos t → MeetsOpen s bytes told (t ∷ []) t p.pointee p.length → ⊥
 
--- under each schema that knows the definitions and in which P lies at q, the reading of it meets an open position
+-- Reading P at q meets an open position, in each schema that knows the definitions and in which P
+-- lies there.
 pub record IsCyclic (D : Definitions) (bytes : List ℕ) (told : Entries) (q : ℕ) (P : Pointee) (n : ℕ) : Type 0 where
   pub meets : (s : SchemaTable) → Knows s D → Lies s bytes q P n → MeetsOpen s bytes told [] q P n
 

@@ -10,26 +10,28 @@ use Rattle.archive_check.specs.Value.{Pointer}
 use Rattle.archive_check.specs.Reads.{SchemaTable, bytes_at, kind_value}
 use Rattle.archive_check.specs.Readable.{string_text}
 
--- the keys by which the elements ascend that a pointer leads to; nothing is asked of them where others may point there, too
+-- The keys by which the elements of a pointer must ascend; of a shared one, none.
 abbrev pub order_of : Pointer → Option Key
 order_of p = cond (is_some p.sharing) None p.order
 
--- how the key at p compares to the one at q: leaves by their values, strings by the bytes of their texts, wherever these stand
+-- How the key at p compares to the one at q: leaves by their values, strings by the bytes of their
+-- texts.
 abbrev pub key_cmp : Key → List ℕ → ℕ → ℕ → Ordering
 key_cmp (leaf_key kind) bytes p q = int_cmp (kind_value kind (bytes_at bytes p (kind_size kind))) (kind_value kind (bytes_at bytes q (kind_size kind)))
 key_cmp str_key bytes p q = slice_cmp nat_cmp (string_text bytes p) (string_text bytes q)
 
--- the key at q comes behind the one before it, if there is one
+-- The key at q is greater than the one before it, if there is one.
 abbrev pub ComesBehind : Key → List ℕ → Option ℕ → ℕ → Type 0
 ComesBehind K bytes None q = Unit {0}
 ComesBehind K bytes (Some p) q = key_cmp K bytes p q ≡ Less
 
--- so many keys ascend strictly: the next one is at q and comes behind the one before it, and each other is z bytes behind the one before
+-- The next n keys ascend strictly: the first is at q and greater than the one before it, each other
+-- z bytes behind the one before.
 abbrev pub Ascend : Key → List ℕ → Option ℕ → ℕ → ℕ → ℕ → Type 0
 Ascend K bytes before q z zero = Unit {0}
 Ascend K bytes before q z (suc n) = ComesBehind K bytes before q × Ascend K bytes (Some q) (q + z) z n
 
--- what stands at t is in its order: the entries of a map ascend by their keys; of all else none is asked
+-- The entries of a map at t ascend by their keys; nothing else has an order.
 pub data IsInOrder (s : SchemaTable) (bytes : List ℕ) (t n : ℕ) : Option Key → Pointee → Type 0 where
   in_any_order : {P : Pointee} → IsInOrder s bytes t n None P
   in_key_order : {K : Key} {V : Shape}

@@ -4,18 +4,19 @@ use Rattle.archive_check.specs.Value.{Value}
 use Rattle.archive_check.specs.Tour.{Entry}
 use Rattle.archive_check.specs.Denotes.{Naming}
 
--- What is kept of a shared value that was read: its name, its flavor, pointee and length, what it holds, and what the names in that lead to.
+-- What is kept of a shared value that was read: name, flavor, pointee, length, value, and what the
+-- names in that lead to.
 pub record Kept : Type 0 where
   pub name : ℕ
   pub entry : Entry
   pub value : Value
   pub keys : List Naming
 
--- none where a position is unknown, then pending, then finished with what is kept of it
+-- The state of a position: unknown, pending, or finished with what is kept of it.
 abbrev pub EntryState : Type 0
 EntryState = Option (Option Kept)
 
--- what a pool knows of each position
+-- What a pool knows of each position.
 abbrev pub Entries : Type 0
 Entries = ℕ → EntryState
 

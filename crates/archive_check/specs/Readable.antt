@@ -4,16 +4,16 @@ use Rattle.archive_check.specs.Shape.{Kind, leaf, str, Pointee, one, text}
 use Rattle.archive_check.specs.Layout.{kind_size}
 use Rattle.archive_check.specs.Reads.{bytes_at, u32_at, i32_at, IsLegal, IsOutOfLine, before_end, decoded_length}
 
--- the position that a whole number is, where it is one
+-- The position that a whole number is, or 0 if it is negative.
 abbrev pub position : ℤ → ℕ
 position (pos n) = n
 position (negsuc n) = 0
 
--- where the offset at p leads, which counts from q
+-- Where the offset at p leads, which counts from q.
 abbrev pub target_from : List ℕ → ℕ → ℕ → ℕ
 target_from bytes q p = position (pos q +ℤ i32_at bytes p)
 
--- the text of the string at p
+-- The text of the string at p.
 abbrev pub string_text : List ℕ → ℕ → List ℕ
 string_text bytes p =
     if (slice_index bytes p / 64) == 2

@@ -4,7 +4,8 @@ use Rattle.archive_check.specs.Shape.{Name, Flavor, Shape, leaf, parts, choice, 
 use Rattle.archive_check.specs.Definitions.{Definitions, listed}
 use Rattle.archive_check.specs.Pooled.{Entries}
 
--- each shared or weak pointer in it has one of these flavors, and each name in it is defined
+-- Each shared or weak pointer in the shape has one of these flavors, and each name in it is
+-- defined.
 abbrev mutual
   pub has_flavors : (Flavor → Bool) → Table → Shape → Bool
   has_flavors right table (leaf kind) = true
@@ -19,35 +20,36 @@ abbrev mutual
   has_flavors right table (weak flavor P) = right flavor && pointee_has_flavors right table P
   has_flavors right table (named name) = is_some (definition table name)
 
-  -- the same of what a pointer leads to
+  -- The same of what a pointer leads to.
   pub pointee_has_flavors : (Flavor → Bool) → Table → Pointee → Bool
   pointee_has_flavors right table (one X) = has_flavors right table X
   pointee_has_flavors right table (run X) = has_flavors right table X
   pointee_has_flavors right table text = true
 
-  -- the same of parts
+  -- The same of parts.
   pub parts_have_flavors : (Flavor → Bool) → Table → Parts → Bool
   parts_have_flavors right table no_part = true
   parts_have_flavors right table (part X ps) = has_flavors right table X && parts_have_flavors right table ps
 
-  -- the same of variants
+  -- The same of variants.
   pub variants_have_flavors : (Flavor → Bool) → Table → Variants → Bool
   variants_have_flavors right table no_variant = true
   variants_have_flavors right table (variant ps vs) = parts_have_flavors right table ps && variants_have_flavors right table vs
 
--- so it is in X, and in what its names are defined as
+-- Each shared or weak pointer in X and in the definitions has one of these flavors.
 pub record HasFlavors (right : Flavor → Bool) (D : Definitions) (X : Shape) : Type 0 where
   pub shape : IsTrue (has_flavors right (listed D) X)
   pub definitions : (name : Name) (Y : Shape) → Contains (listed D) (name, Y) → IsTrue (has_flavors right (listed D) Y)
 
--- nothing is shared
+-- Nothing is shared.
 abbrev pub IsUnshared : Definitions → Shape → Type 0
 IsUnshared D X = HasFlavors (λ flavor. false) D X
 
--- no flavor allows cycles
+-- No flavor allows cycles.
 abbrev pub IsAcyclic : Definitions → Shape → Type 0
 IsAcyclic D X = HasFlavors (λ flavor. not flavor.cycles) D X
 
--- no reading of an X can meet an open position: nothing is shared, or no flavor allows cycles and no position is pending before
+-- No reading of an X can meet an open position: nothing is shared, or no flavor allows cycles and
+-- no position is pending.
 abbrev pub IsNeverOpen : Definitions → Shape → Entries → Type 0
 IsNeverOpen D X told = IsUnshared D X ⊎ (IsAcyclic D X × ((t : ℕ) → told t ≡ Some None → ⊥))

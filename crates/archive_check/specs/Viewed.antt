@@ -9,7 +9,8 @@ use Rattle.archive_check.specs.Within.{PartOfSome}
 use Rattle.archive_check.specs.Denotes.{Fills}
 use Rattle.archive_check.specs.Definitions.{Definitions, Knows}
 
--- P at q, with its length, is a region of an accepted buffer, or lies in one
+-- The bytes are an archive in the schema, and P at q, of this length, is a region of it or lies in
+-- one.
 pub record Lies (s : SchemaTable) (bytes : List ℕ) (q : ℕ) (P : Pointee) (n : ℕ) : Type 0 where
   pub root : ℕ
   pub shape : Shape

@@ -3,22 +3,23 @@ use Rattle.std.specs.Prelude.{◌≡◌, ℕ, List, [], ◌++◌, length, Option
 use Rattle.archive_check.specs.Layout.{up}
 use Rattle.archive_check.specs.CleanRegions.{IsZeroed}
 
--- none where a key is unknown, then pending, then finished at a position
+-- The state of a shared key: unknown, pending, or finished at a position.
 abbrev pub KeyState : Type 0
 KeyState = Option (Option ℕ)
 
--- the state of each shared key
+-- The state of each shared key.
 abbrev pub KeyStates : Type 0
 KeyStates = ℕ → KeyState
 
--- the bytes that a writer holds, how many more it can take where there is a limit, how often its device failed, and the states of the shared keys
+-- The bytes that a writer holds, how many more it can take, how often its device failed, and the
+-- states of the shared keys.
 pub record WriterState : Type 0 where
   pub bytes : List ℕ
   pub room : Option ℕ
   pub failures : ℕ
   pub states : KeyStates
 
--- no key is known
+-- No key is known.
 abbrev pub no_keys : KeyStates
 no_keys k = None
 

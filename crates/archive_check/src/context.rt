@@ -24,7 +24,7 @@ use std::ops::Range;
 pub use subtree::ArchiveContextExt;
 pub use validator::{HighValidator, Validator};
 
-/// What tells contracts the state of a check. It has no calls. Our own.
+/// What models the state of a check in contracts. It has no calls.
 pub trait Context {
     // The range, the levels left and the regions entered.
     ghost state: { Self → RangeState };
@@ -33,9 +33,9 @@ pub trait Context {
     ghost positions: { Self → Positions };
 }
 
-/// What a check asks about the regions of a buffer. A failed call changes nothing. Positions are in
-/// bytes from the buffer's first one. The calls are those of rkyv 0.8.18, with positions in place
-/// of addresses.
+/// The regions of a buffer, as a check enters and leaves them. A failed call changes nothing.
+/// Positions are in bytes from the buffer's first one. The calls are those of rkyv 0.8.18, with
+/// positions in place of addresses.
 pub trait ArchiveContext: Context {
     /// Whether a region of `layout` may begin at `position`. Fails with `InvalidSubtreePointer` if
     /// it doesn't lie within the range, and else with `UnalignedPointer` if `position` is no
@@ -64,7 +64,7 @@ pub trait ArchiveContext: Context {
 
     /// Leaves a region: regions may lie in `range` again. Fails with `RangePoppedOutOfOrder` if it
     /// begins below the current end, and else with `RangePoppedTooManyTimes` if the levels left are
-    /// `usize::MAX`. rkyv 0.8.18 sets the range before that refusal.
+    /// `usize::MAX`. rkyv 0.8.18 sets the range before that error.
     fn pop_subtree_range(&mut self, range: Range<usize>) -> Result<(), Error>
         ensures answer { result ≡ pop_answer (Self.state self.old) range.start }
         ensures left { OnOk result (Self.state self.new
@@ -84,7 +84,7 @@ pub enum ValidationState {
     Finished,
 }
 
-/// What a check asks about shared positions, each known by itself alone. A failed call changes
+/// The shared positions that a check has met, each known by itself alone. A failed call changes
 /// nothing. The calls are those of rkyv 0.8.18, with positions in place of addresses and with a
 /// flavor and an expression in place of a type's number.
 pub trait SharedContext: Context {
@@ -109,7 +109,7 @@ pub trait SharedContext: Context {
         ensures range { Self.state self.new ≡ Self.state self.old };
 
     /// The number of a flavor and a pointee, by which the many pointers to what was checked before
-    /// are passed over. None only if no position is finished that was started with them. Our own.
+    /// are passed over. None only if no position is finished that was started with them.
     fn type_number(&self, flavor: &FlavorInfo, pointee: &Pointee) -> Option<usize>
         ensures number { IfSome result (λ n. Self.numbered self.now n (flavor_of flavor.now)
             (pointee_of pointee.now)) }
@@ -118,7 +118,7 @@ pub trait SharedContext: Context {
 
     /// Whether the position was started with this length and with the flavor and pointee of this
     /// number, and is finished: exactly if `start_shared` returns `Finished`, which changes nothing.
-    /// The caller must ensure that `type_number` gave the number. Our own.
+    /// The caller must ensure that `type_number` gave the number.
     fn is_finished_as(&self, number: usize, position: i128, length: usize) -> bool
         ensures { IsFinishedAnswer (Self.numbered self.now number)
             (Self.positions self.now position) length result };

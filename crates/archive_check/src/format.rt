@@ -1,4 +1,5 @@
-//! The format: the refusals, expressions and definitions, layouts, leaves in bytes, and what archived types tell of themselves.
+//! The format: errors, expressions and definitions, layouts, leaves in bytes, and what archived
+//! types say of themselves.
 
 pub mod bytes;
 pub mod defs;

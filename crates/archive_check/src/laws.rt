@@ -1,5 +1,5 @@
-//! The laws of archives. Each is what a function promises that does nothing, so that the check of this crate proves it. They are laws of our own
-//! definitions, which `specs/Laws.antt` states and docs/DEFINITIONS.md lists.
+//! The laws of archives. Each is the contract of a function that does nothing, so that the check of
+//! this crate proves it. `specs/Laws.antt` states them.
 
 ghost use Rattle.archive_check.specs.LittleEndian.{AreBytes};
 ghost use Rattle.archive_check.specs.Laws.{MeaningExists, MeaningUnique, AcceptedWhereWalked, FaultyNotWalked, RegionsDisjoint, LeavesInRegions, LeafWritten, ComeToFree, PartsReached, ReachedUnique, RootReached, PointersReached, WithinReached, ElementsReached, EncodingUnique, PartsInside, LayoutsExist, LayoutUnique, ReadingUnique, TourUnique, FaultWithoutLimit, FaultUnique, SameReflexive, SameSymmetric, SameTransitive, PartsReachedMeaning, ReachedMeaningUnique, NamesKnown, RootReachedMeaning, SaidReached, UniqueBefore, KnownWhereWellFormed, NeverCyclic, SharedKnown, TidyUnique, OneList};
@@ -34,13 +34,13 @@ pub fn leaves_in_regions()
     ensures { LeavesInRegions }
 {}
 
-/// Where legal bytes are written over a leaf that is no key's, every archive in which it stands stays one, with the same tour, and changes in that
-/// leaf alone.
+/// If legal bytes are written over a leaf that is in no key, every archive that has it stays one,
+/// with the same tour, and changes in that leaf alone.
 pub fn leaf_written()
     ensures { LeafWritten }
 {}
 
-/// What seals come to has no byte of a key, nor of a key's text: a leaf that lies there is free to be written over.
+/// What seals reach has no byte of a key, nor of a key's text: a leaf that lies there is free to be written over.
 pub fn come_to_free()
     ensures { ComeToFree }
 {}
@@ -165,7 +165,8 @@ pub fn known_where_well_formed()
     ensures { KnownWhereWellFormed }
 {}
 
-/// The reading of an archive meets no open position, where nothing is shared, or no flavor allows cycles and nothing is pending before.
+/// Reading an archive meets no open position, if nothing is shared, or no flavor allows cycles and
+/// nothing is pending.
 pub fn never_cyclic()
     ensures { NeverCyclic }
 {}

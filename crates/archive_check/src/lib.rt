@@ -1,4 +1,4 @@
-//! What archived values look like, and what a check of bytes keeps and asks.
+//! What archived values look like, and what a check of bytes keeps and requires.
 #![tactic(auto)]
 
 pub mod context;

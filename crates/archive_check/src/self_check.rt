@@ -60,8 +60,8 @@ pub trait SelfCheck {
         ensures { result ≡ nameless };
 
     /// Checks the value at `at`, in bytes from the first one. `None` if the check stops, and
-    /// `refusal` is why: the first fault, in the order that docs/FORMAT.md gives. Our own choice in
-    /// place of rkyv's `CheckBytes`.
+    /// `refusal` is why: the first fault, in the order that docs/FORMAT.md gives. In place of
+    /// rkyv's `CheckBytes`.
     fn check_at<C: ArchiveContext>(
         bytes: &[u8],
         at: usize,
@@ -79,7 +79,7 @@ pub trait SelfCheck {
     /// How many values at the front are known to be valid at once, by default none.
     ///
     /// `check_at` checks the others. There are `count` of them, `step` bytes apart from `at` on; the
-    /// caller must ensure that all lie in the bytes. Our own.
+    /// caller must ensure that all lie in the bytes.
     #[inline(always)]
     fn check_first(_bytes: &[u8], _at: usize, _step: usize, _count: usize) -> usize
         requires { _at + _count * _step ≤ length _bytes.now }

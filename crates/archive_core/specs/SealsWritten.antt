@@ -11,7 +11,7 @@ use Rattle.archive_types.specs.Standing.{view}
 use Rattle.archive_core.specs.SealsKept.{IsFreeIn, KeepsParts, KeepsSeals, ComesWith}
 use Rattle.archive_core.specs.declared.seal.Seal.{Seal}
 
--- the seal shows a P, to which seals come from the root of an archive: so it shows no key of a map
+-- The seal shows a P that seals reach from the root of an archive, so no key of a map.
 abbrev pub IsSealOf : {T : Type 0} → Definitions → Pointee → Seal T → Type 0
 IsSealOf D P v = IsComeTo D v.bytes.now v.pos P v.len
 
@@ -28,8 +28,9 @@ pub record SealsPart {T U : Type 0} (D : Definitions) (P : Pointee) (E : Definit
   pub come_to : IsSealOf E Q u
   pub beside : SealsBeside D P Q u v
 
--- Over the leaf x, which stands in the P at q, y was written: in every archive in which x stands, no key's, it alone changes, and the parts stay parts.
--- Where seals come to that P, x is no key's, and what they come to else, they come to as before.
+-- The leaf y was written over x, which lies in the P at q. In every archive with x, and not in a
+-- key, x alone changes and the parts stay parts. If seals reach that P, x is in no key, and they
+-- reach all else as before.
 pub record WritesOver (x y : PlacedLeaf) (q : ℕ) (P : Pointee) (n : ℕ) (old new : List ℕ) : Type 0 where
   pub stands : StandsIn old q P n x
   pub free : IsFreeIn old q P n x
@@ -37,7 +38,7 @@ pub record WritesOver (x y : PlacedLeaf) (q : ℕ) (P : Pointee) (n : ℕ) (old 
   pub parts : KeepsParts x old new
   pub seals : KeepsSeals old new (view q P n)
 
--- the number at q was written over, as that of a P
+-- The number z was written over the one at q, in the P there.
 abbrev pub WritesNumber : Kind → ℕ → Pointee → ℕ → ℤ → List ℕ → List ℕ → Type 0
 WritesNumber kind q P n z old new = WritesOver (leaf_at kind old q) (number_leaf q kind z) q P n old new
 

@@ -20,26 +20,28 @@ use Rattle.archive_types.specs.Writing.{Archives}
 use Rattle.archive_types.specs.declared.traits.Archive as Archive
 use Rattle.archive_write.specs.Written.{GoesOn}
 
--- Appending: behind what the writer held, an archive of the value was written, with its root where the call answers; or why not. What was there before stays.
+-- Behind the writer's bytes, which stay, an archive of the value was written with its root at the
+-- returned position, or the error says why not.
 pub record AppendsArchive {T A R M C : Type 0} (a : Archive.Ghosts T A R C M) (f : FormatOf M) (v : T) (old new : WriterState) (result : Result ℕ Error) : Type 0 where
   pub archived : IfOk result (λ root. Archives f.definitions old.bytes new.bytes root f.shape f.layout.size (a.keys v) (a.meaning v))
   pub goes_on : GoesOn (unshared old) (unshared new)
   pub refused : IfErr result (IsRegionRefused f.definitions (one f.shape) 0 (a.keys v) (a.meaning v) (unshared old) (unshared new))
 
--- The same with a writer that the call takes, and answers: a failure is explained by what some writer held in the end.
+-- The same with a writer that the call takes and returns; an error is explained by what some writer
+-- held in the end.
 pub record AppendsTaken {T A R M C W : Type 0} (a : Archive.Ghosts T A R C M) (f : FormatOf M) (v : T) (k : Keys.Ghosts W) (old : W) (result : Result W Error) : Type 0 where
   pub archived : IfOk result (λ new. (root : ℕ) × Archives f.definitions (k.state old).bytes (k.state new).bytes root f.shape f.layout.size (a.keys v) (a.meaning v))
   pub goes_on : IfOk result (λ new. GoesOn (unshared (k.state old)) (unshared (k.state new)))
   pub refused : IfErr result (λ e. (end : W) × GoesOn (unshared (k.state old)) (unshared (k.state end))
       × IsRegionRefused f.definitions (one f.shape) 0 (a.keys v) (a.meaning v) (unshared (k.state old)) (unshared (k.state end)) e)
 
--- Making an archive: the bytes that the call answers are one of the value; or why not.
+-- The returned bytes are an archive of the value, or the error says why not.
 pub record MakesArchive {T A R M C B : Type 0} (a : Archive.Ghosts T A R C M) (f : FormatOf M) (v : T) (bytes_of : B → List ℕ) (result : Result B Error) : Type 0 where
   pub archived : IfOk result (λ b. (root : ℕ) × Archives f.definitions [] (bytes_of b) root f.shape f.layout.size (a.keys v) (a.meaning v))
   pub refused : IfErr result (λ e. (e ≡ OutOfMemory) ⊎ HindersRegion f.definitions (one f.shape) 0 (a.keys v) (a.meaning v) at_start e)
 
--- Reading a whole archive back: the bytes are one in the format, with its root at the end, and this was read back of it; or why not. Where no reading can meet
--- an open position, only what refuses the check does.
+-- The value was read from an archive with its root at the end, or the error says why not: as the
+-- check does, if no reading can meet an open position.
 pub record ReadsArchive {M D T A R N C : Type 0} (f : FormatOf M) (bytes : List ℕ) (d : Entries.Ghosts D) (b : Both (MutBor D) (MutBor D)) (a : Archive.Ghosts T A R C N) (result : Result T Error) : Type 0 where
   pub accepted : OnOk result (IsArchive f.definitions bytes (root_in bytes f.layout) f.shape)
   pub read : IfOk result (λ t. ReadsWhole d.keeps f.definitions bytes (root_in bytes f.layout) f.shape (d.entry_of b.entry.now) (d.entry_of b.exit.now) (a.meaning t) (a.keys t))

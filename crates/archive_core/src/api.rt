@@ -99,7 +99,7 @@ fn append_whole<W: Writer + Drop, T: Serialize<HighSerializer<W, Global>>>(
 
 /// Appends an archive of `value` to what `writer` holds, and returns its root's position in bytes.
 /// Memory comes from `alloc`. Existing bytes stay, after a failure too, and an error of the writer
-/// is explained by what it holds then. Fails as `to_bytes_in` does. Our own.
+/// is explained by what it holds then. Fails as `to_bytes_in` does.
 #[inline(always)]
 pub fn to_bytes_into<W: Writer + Drop, T: Serialize<HighSerializer<W, Global>>>(
     alloc: Global,
@@ -112,7 +112,12 @@ pub fn to_bytes_into<W: Writer + Drop, T: Serialize<HighSerializer<W, Global>>>(
     replace_with(writer, (alloc, value), append_whole::<W, T>)
 }
 
-/// An archive of `value`, its root at the end. Memory comes from `alloc`.
+/// Writes an archive of `value`, with its root at the end. Memory comes from `alloc`.
+///
+/// ```
+/// let value = String::from_str(rt.alloc(), "hello world")?;
+/// let bytes = to_bytes(rt.alloc(), &value)?;
+/// ```
 ///
 /// Errors:
 /// - `OutOfMemory`: memory is refused.
@@ -150,11 +155,11 @@ fn check_by_schema<T: Portable, C: ArchiveContext + SharedContext>(
     schema.check(bytes, pos, context)
 }
 
-/// Checks that `bytes` are an archive whose root, a `T`, lies at `pos`. The caller must ensure that
-/// the context's range ends in the buffer. In a fresh context for these bytes the result is exact.
-/// In any context the check enters at most one region and one for each four bytes of the context's
-/// range, so 1 + n / 4 in n bytes; and if it succeeds with levels left, levels are left. A type
-/// that validates itself takes no memory; else it comes from `alloc`.
+/// Validates an archive of a `T` with its root at `pos`. The caller must ensure that the context's
+/// range ends in the buffer. In a fresh context for these bytes the result is exact. In any context
+/// the check enters at most one region and one for each four bytes of the context's range, so 1 + n
+/// / 4 in n bytes; and if it succeeds with levels left, levels are left. A type that validates
+/// itself takes no memory; else it comes from `alloc`.
 ///
 /// Errors:
 /// - `OutOfMemory`: memory is refused.
@@ -216,8 +221,8 @@ fn access_by_schema<'a, T: Portable>(
     access_pos_with_context::<T, HighValidator<'_>>(alloc, bytes, pos, &mut context)
 }
 
-/// Checks that `bytes` are an archive whose root, a `T`, lies at `pos`, and returns the root's
-/// view. Memory comes from `alloc`.
+/// Validates an archive of a `T` with its root at `pos`, and returns the root's view. Memory comes
+/// from `alloc`.
 ///
 /// Errors:
 /// - `OutOfMemory`: memory is refused.
@@ -241,8 +246,13 @@ pub fn access_pos<'a, T: Portable>(
     access_by_schema(alloc, bytes, pos)
 }
 
-/// Checks that `bytes` are an archive whose root, a `T`, lies at the end, and returns the root's
-/// view. Memory comes from `alloc`. Fails as `access_pos` does.
+/// Validates an archive of a `T` with its root at the end, and returns the root's view. Memory
+/// comes from `alloc`. Fails as `access_pos` does.
+///
+/// ```
+/// let view = access::<ArchivedString>(rt.alloc(), bytes.as_slice())?;
+/// println!(rt; "{}", view.as_str())?;
+/// ```
 #[inline(always)]
 pub fn access<'a, T: Portable>(alloc: Global, bytes: &'a [u8]) -> Result<Ref<'a, T>, Error>
     ensures answer { Answers T.definitions bytes.now None (root_in bytes.now T.layout) T.shape
@@ -254,10 +264,10 @@ pub fn access<'a, T: Portable>(alloc: Global, bytes: &'a [u8]) -> Result<Ref<'a,
     access_pos(alloc, bytes, root_position::<T>(bytes.len()))
 }
 
-/// Checks that `bytes` are an archive whose root, a `T`, lies at `pos`, and returns the root's
-/// view. The caller must ensure that the context is a fresh one of these bytes. Memory comes from
-/// `alloc`. Fails as `access_pos` does, or with `ExceededMaximumSubtreeDepth` if a region is deeper
-/// than the context allows.
+/// Validates an archive of a `T` with its root at `pos`, and returns the root's view. The caller
+/// must ensure that the context is a fresh one of these bytes. Memory comes from `alloc`. Fails as
+/// `access_pos` does, or with `ExceededMaximumSubtreeDepth` if a region is deeper than the context
+/// allows.
 #[inline(always)]
 pub fn access_pos_with_context<'a, T: Portable, C: ArchiveContext + SharedContext>(
     alloc: Global,
@@ -280,9 +290,9 @@ pub fn access_pos_with_context<'a, T: Portable, C: ArchiveContext + SharedContex
     Ok(Ref::at(RawView { bytes, pos, len: 0 }))
 }
 
-/// Checks that `bytes` are an archive whose root, a `T`, lies at the end, and returns the root's
-/// view. The caller must ensure that the context is a fresh one of these bytes. Memory comes from
-/// `alloc`. Fails as `access_pos_with_context` does.
+/// Validates an archive of a `T` with its root at the end, and returns the root's view. The caller
+/// must ensure that the context is a fresh one of these bytes. Memory comes from `alloc`. Fails as
+/// `access_pos_with_context` does.
 #[inline(always)]
 pub fn access_with_context<'a, T: Portable, C: ArchiveContext + SharedContext>(
     alloc: Global,

@@ -48,7 +48,7 @@ pub use variants::{deserialize_variant, resolve_variant, serialize_variant};
 /// }
 /// ```
 ///
-/// Our own, where rkyv 0.8.18 derives an archived type.
+/// rkyv 0.8.18 derives an archived type.
 pub trait NamedRecord {
     /// Its parts, nested pair by pair: `(A, (B, ()))` for an `A` and then a `B`.
     type Parts: PortableParts;
@@ -71,7 +71,7 @@ pub trait NamedRecord {
 }
 
 /// An archived record with the name and the parts of `N`, laid out in order, each at the next
-/// multiple of its alignment. Our own.
+/// multiple of its alignment.
 pub struct ArchivedRecord<N> {
     of: PhantomData<N>,
 }
@@ -157,7 +157,6 @@ where
 }
 
 /// Finds the field with the index `I`, a `U`. A record by hand implements it once for each field.
-/// Our own.
 pub trait HasField<const I: usize, U> {
     // The field of a value.
     ghost field: { Self → U };
@@ -168,7 +167,7 @@ pub trait HasField<const I: usize, U> {
 }
 
 /// The field with the index `I`, a `U`, as a part: `(Field<0, A>, (Field<1, B>, ()))` are those of
-/// a record of two. Our own.
+/// a record of two.
 pub struct Field<const I: usize, U> {
     of: PhantomData<U>,
 }

@@ -29,9 +29,9 @@ pub enum PoolingState<T> {
 }
 
 /// A shared value that a pool hands out at each pointer to it. `Shared`, `SharedSlice` and
-/// `SharedStr` implement it. Our own.
+/// `SharedStr` implement it.
 pub trait Pooled: Clone + Drop {
-    /// What is read back where it lies.
+    /// What is read back there.
     type Value: Archive + Drop;
 
     /// What lies there.
@@ -58,8 +58,8 @@ pub trait Pooled: Clone + Drop {
         (count v) (Self.Value.meaning v) };
 }
 
-/// Keeps the shared values that were read back, by their positions in one buffer, so that each is
-/// read once. A failed call changes nothing.
+/// Keeps the shared values that were read back, by position, so that each is read once. A failed
+/// call changes nothing.
 ///
 /// `Pool` implements it, and `Unpool`, which keeps none, so that a shared value is read at each
 /// pointer.
@@ -141,6 +141,11 @@ impl<T: Pooled, D: Pooling<T>> PoolingExt<T> for D {}
 
 /// The shared values of one buffer that were read back, one for each position. Make a new one for
 /// another buffer, and after a failure. As in rkyv 0.8.18, with values of one type.
+///
+/// ```
+/// let mut pool: Pool<Shared<u32>> = Pool::new(alloc);
+/// let numbers: Vec<Shared<u32>> = from_bytes(alloc, bytes.as_slice(), &mut pool)?;
+/// ```
 #[derive(Drop)]
 pub struct Pool<T> {
     values: HashMap<usize, Option<T>>,
@@ -168,7 +173,8 @@ impl<T: Pooled> Pool<T> {
         })
     }
 
-    /// Whether the position is pending or finished here. A deserializer of several pools asks it before it starts a position in another one. Our own.
+    /// Whether the position is pending or finished here. A deserializer of several pools tests it
+    /// before it starts a position in another one.
     pub fn is_known(&self, pos: usize) -> bool
         ensures { result ≡ is_some (⟦<Pool<T> as Entries>⟧.entry_of self.now pos) }
     {

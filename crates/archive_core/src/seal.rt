@@ -31,8 +31,6 @@ use std::marker::PhantomData;
 /// spot.seal(bytes.as_mut_slice()).write(7);
 /// let seven = spot.view(bytes.as_slice()).get();
 /// ```
-///
-/// Our own.
 pub struct Spot<T> {
     pos: usize,
     len: usize,
@@ -94,7 +92,7 @@ impl<T: ArchivePointee> Spot<T> {
         Spot::at(pos, len)
     }
 
-    /// Where it begins, in bytes from the buffer's first one. Our own.
+    /// Where it begins, in bytes from the buffer's first one.
     pub fn pos(self) -> usize
         ensures { result ≡ self.pos }
     {
@@ -102,7 +100,7 @@ impl<T: ArchivePointee> Spot<T> {
     }
 
     /// The view of what lies there. The caller must ensure that the part is one of a validated
-    /// buffer, as in that from which the spot came. Our own.
+    /// buffer, as in that from which the spot came.
     pub fn view(self, bytes: &[u8]) -> Ref<'_, T>
         requires { Viewed T.definitions bytes.now self.pos T.pointee self.len }
         ensures buffer { result.bytes.now ≡ bytes.now }
@@ -116,9 +114,9 @@ impl<T: ArchivePointee> Spot<T> {
         })
     }
 
-    /// The seal of what lies there. The caller must ensure that seals come to it from the root of a
+    /// The seal of what lies there. The caller must ensure that seals reach it from the root of a
     /// validated buffer, as of that from which the spot came: that it is no key of a map. No byte
-    /// changes; calls on the seal change these very bytes. Our own.
+    /// changes; calls on the seal change these very bytes.
     pub fn seal<'a>(self, bytes: &'a mut [u8]) -> Seal<'a, T>
         requires { IsComeTo T.definitions bytes.old self.pos T.pointee self.len }
         ensures same_reference { result.bytes.ghost_name ≡ bytes.entry.ghost_name }
@@ -136,7 +134,7 @@ impl<T: ArchivePointee> Spot<T> {
     }
 }
 
-/// The call `spot` of a view. Our own.
+/// The call `spot` of a view.
 pub trait SpotExt<T> {
     /// Where what the view shows lies, without its bytes.
     fn spot(self) -> Spot<T>;
@@ -154,15 +152,15 @@ impl<T: ArchivePointee> SpotExt<T> for Ref<'_, T> {
 }
 
 impl<'a, T: ArchivePointee> Seal<'a, T> {
-    /// Where it begins, in bytes from the buffer's first one. Our own.
+    /// Where it begins, in bytes from the buffer's first one.
     pub fn pos(&self) -> usize
         ensures { result ≡ self.now.pos }
     {
         self.pos
     }
 
-    /// A view of what it shows. The caller must ensure that seals come to it, as when the seal was
-    /// made. Our own, for `Deref` of rkyv 0.8.18.
+    /// A view of what it shows. The caller must ensure that seals reach it, as when the seal was
+    /// made. rkyv 0.8.18 has `Deref`.
     pub fn as_ref(&self) -> Ref<'_, T>
         requires { IsSealOf T.definitions T.pointee self.now }
         ensures buffer { result.bytes.now ≡ self.now.bytes.now }
@@ -176,7 +174,7 @@ impl<'a, T: ArchivePointee> Seal<'a, T> {
         })
     }
 
-    /// A seal of the same for a shorter time. No byte changes by this call. Our own.
+    /// A seal of the same for a shorter time. No byte changes by this call.
     pub fn reborrow(&mut self) -> Seal<'_, T>
         ensures buffer { result.bytes.now ≡ self.old.bytes.now }
         ensures position { result.pos ≡ self.old.pos }

@@ -35,8 +35,8 @@ impl<T: Portable> ArchivePointee for ArchivedOption<T> {
 // The variants of an option: without a part, and with one.
 type OptionVariants<T> = ((), ((T, ()), ()));
 
-/// A choice named `ArchivedOption`: the byte 0 is `None`; behind the byte 1, at the next multiple of its alignment, stands the value. The bytes behind
-/// a `None` may be any.
+/// A choice named `ArchivedOption`: the byte 0 is `None`; behind the byte 1, at the next multiple
+/// of its alignment, lies the value. The bytes behind a `None` may be any.
 impl<T: Portable> Portable for ArchivedOption<T> {
     ghost shape = { option_shape T.shape };
 

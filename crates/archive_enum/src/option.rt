@@ -55,7 +55,8 @@ impl<T> ArchivedOption<T> {
         }
     }
 
-    /// The value, or else what `f` answers, which is called in that case alone; as `Option::unwrap_or_else`.
+    /// The value, or else what `f` returns, which is called in that case alone; as
+    /// `Option::unwrap_or_else`.
     pub fn unwrap_or_else<F: FnOnce() -> T>(self, f: F) -> T
         requires { ForNone (option_of self) (F.pre f) }
         ensures { MatchOption (option_of self) (F.post f result) (λ x. result ≡ x) }
@@ -80,7 +81,7 @@ impl<T> ArchivedOption<T> {
         matches!(self, ArchivedOption::Some(_))
     }
 
-    /// The value where it lies, if there is one; as `Option::as_ref`.
+    /// A reference to the value, if there is one; as `Option::as_ref`.
     pub fn as_ref(&self) -> Option<&T>
         ensures { option_copied result ≡ option_of self.now }
     {
@@ -90,7 +91,7 @@ impl<T> ArchivedOption<T> {
         }
     }
 
-    /// The value where it lies, to be changed there, if there is one; as `Option::as_mut`.
+    /// A mutable reference to the value, if there is one; as `Option::as_mut`.
     pub fn as_mut(&mut self) -> Option<&mut T>
         ensures* writes_back { sem 𝓛 (LendsValueIfAny T.row self.entry result) }
         ensures value { option_copied_mut result ≡ option_of self.old }
@@ -101,7 +102,7 @@ impl<T> ArchivedOption<T> {
         }
     }
 
-    /// An iterator over the value where it lies; as `Option::iter`.
+    /// An iterator over a reference to the value; as `Option::iter`.
     #[tactic(auto, using(crate::proofs::Items::yields_its_value))]
     pub fn iter(&self) -> Iter<&T>
         ensures item { option_copied result ≡ option_of self.now }
@@ -110,7 +111,7 @@ impl<T> ArchivedOption<T> {
         Iter::new(self.as_ref())
     }
 
-    /// An iterator over the value where it lies, to be changed there; as `Option::iter_mut`.
+    /// An iterator over a mutable reference to the value; as `Option::iter_mut`.
     #[tactic(auto, using(crate::proofs::Items::yields_its_value_mut))]
     pub fn iter_mut(&mut self) -> Iter<&mut T>
         ensures item { option_copied_mut result ≡ option_of self.old }
@@ -119,7 +120,8 @@ impl<T> ArchivedOption<T> {
         Iter::new(self.as_mut())
     }
 
-    /// The value where it lies, to be changed there. Where there was none it is `value` from now on; as `Option::get_or_insert`.
+    /// A mutable reference to the value. If there was none it is `value` from now on; as
+    /// `Option::get_or_insert`.
     pub fn get_or_insert(&mut self, value: T) -> &mut T
     where
         T: Drop,
@@ -129,8 +131,8 @@ impl<T> ArchivedOption<T> {
         self.get_or_insert_with(|| value)
     }
 
-    /// The value where it lies, to be changed there. Where there was none it is what `f` answers, which is called in that case alone; as
-    /// `Option::get_or_insert_with`.
+    /// A mutable reference to the value. If there was none it is what `f` returns, which is called
+    /// in that case alone; as `Option::get_or_insert_with`.
     pub fn get_or_insert_with<F: FnOnce() -> T>(&mut self, f: F) -> &mut T
     where
         T: Drop,

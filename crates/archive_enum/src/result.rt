@@ -45,7 +45,8 @@ impl<T, E> ArchivedResult<T, E> {
         }
     }
 
-    /// The value, or else what `op` answers to the error, which is called in that case alone; as `Result::unwrap_or_else`.
+    /// The value, or else what `op` makes of the error, which is called in that case alone; as
+    /// `Result::unwrap_or_else`.
     pub fn unwrap_or_else<F: FnOnce(E) -> T>(self, op: F) -> T
         requires { ForErr (result_of self) (F.pre op) }
         ensures { MatchResult (result_of self) (λ x. result ≡ x) (λ e. F.post op e result) }
@@ -70,7 +71,7 @@ impl<T, E> ArchivedResult<T, E> {
         matches!(self, ArchivedResult::Err(_))
     }
 
-    /// The value or the error where it lies; as `Result::as_ref`.
+    /// A reference to the value or the error; as `Result::as_ref`.
     pub fn as_ref(&self) -> Result<&T, &E>
         ensures { result_copied result ≡ result_of self.now }
     {
@@ -80,7 +81,7 @@ impl<T, E> ArchivedResult<T, E> {
         }
     }
 
-    /// The value or the error where it lies, to be changed there; as `Result::as_mut`.
+    /// A mutable reference to the value or the error; as `Result::as_mut`.
     pub fn as_mut(&mut self) -> Result<&mut T, &mut E>
         ensures { result_copied_mut result ≡ result_of self.old }
     {
@@ -90,7 +91,8 @@ impl<T, E> ArchivedResult<T, E> {
         }
     }
 
-    /// The value where it lies, to be changed there, if it is an `Ok`. Unlike `as_mut`'s, its contract says what the result ends as. Our own.
+    /// A mutable reference to the value, if it is an `Ok`. Unlike `as_mut`'s, its contract says
+    /// what the result is afterwards.
     pub fn ok_mut(&mut self) -> Option<&mut T>
         ensures* writes_back { sem 𝓛 (LendsOkIfAny T.row E.row self.entry result) }
         ensures value { option_copied_mut result ≡ result_ok (result_of self.old) }
@@ -101,7 +103,8 @@ impl<T, E> ArchivedResult<T, E> {
         }
     }
 
-    /// The error where it lies, to be changed there, if it is an `Err`. Unlike `as_mut`'s, its contract says what the result ends as. Our own.
+    /// A mutable reference to the error, if it is an `Err`. Unlike `as_mut`'s, its contract says
+    /// what the result is afterwards.
     pub fn err_mut(&mut self) -> Option<&mut E>
         ensures* writes_back { sem 𝓛 (LendsErrIfAny T.row E.row self.entry result) }
         ensures error { option_copied_mut result ≡ result_err (result_of self.old) }
@@ -112,7 +115,7 @@ impl<T, E> ArchivedResult<T, E> {
         }
     }
 
-    /// An iterator over the value where it lies, if it is an `Ok`; as `Result::iter`.
+    /// An iterator over a reference to the value, if it is an `Ok`; as `Result::iter`.
     #[tactic(auto, using(crate::proofs::Items::yields_its_value))]
     pub fn iter(&self) -> Iter<&T>
         ensures item { option_copied result ≡ result_ok (result_of self.now) }
@@ -121,7 +124,7 @@ impl<T, E> ArchivedResult<T, E> {
         Iter::new(self.as_ref().ok())
     }
 
-    /// An iterator over the value where it lies, to be changed there, if it is an `Ok`; as `Result::iter_mut`.
+    /// An iterator over a mutable reference to the value, if it is an `Ok`; as `Result::iter_mut`.
     #[tactic(auto, using(crate::proofs::Items::yields_its_value_mut))]
     pub fn iter_mut(&mut self) -> Iter<&mut T>
         ensures item { option_copied_mut result ≡ result_ok (result_of self.old) }

@@ -21,7 +21,7 @@ use std::fmt;
 /// Why bytes are no archive of a form, and where: the first test of the check that is false.
 #[derive(Drop)]
 pub struct Explanation {
-    /// The refusal, as the check tells it.
+    /// The error, as the check returns it.
     pub refusal: Error,
     /// Where the fault is: none if the search for it ended elsewhere than the check.
     pub place: Option<FaultPlace>,
@@ -51,9 +51,9 @@ impl fmt::Display for Explanation {
     }
 }
 
-/// Why the bytes are no archive of the form whose root lies at their end: none if they are one. The
-/// refusal is that of the check. Takes memory for each level, and for each shared position. Fails if
-/// memory from `alloc` is refused.
+/// Why the bytes are no archive of the form whose root lies at their end: `None` if they are one.
+/// The error is that of the check. Takes memory for each level, and for each shared position. Fails
+/// if memory from `alloc` is refused.
 pub fn explain(alloc: Global, form: &Form, bytes: &[u8]) -> Result<Option<Explanation>, AllocError>
     ensures { IfOk result (ExplainsWhole form.now bytes.now) }
 {
@@ -62,8 +62,8 @@ pub fn explain(alloc: Global, form: &Form, bytes: &[u8]) -> Result<Option<Explan
     explained(alloc, form, bytes, root, answer)
 }
 
-/// Why the bytes are no archive of a `T` whose root lies at their end: none if they are one. The
-/// refusal is that of `access`. Parts and variants have numbers for names in the way: `explain_by`
+/// Why the bytes are no archive of a `T` whose root lies at their end: `None` if they are one. The
+/// error is that of `access`. Parts and variants have numbers for names in the way: `explain_by`
 /// has their names.
 ///
 /// Errors:

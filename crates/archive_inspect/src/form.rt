@@ -22,6 +22,11 @@ use archive_schema::shape::Schema;
 use std::alloc::Global;
 
 /// A schema, with names for people.
+///
+/// ```
+/// let form = Form::of::<ArchivedVec<ArchivedU32>>(alloc)?;
+/// let explanation = explain(alloc, &form, bytes.as_slice())?;
+/// ```
 #[derive(Drop)]
 pub struct Form {
     schema: Schema,

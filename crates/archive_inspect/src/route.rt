@@ -151,7 +151,7 @@ fn silent_step_in(frame: &Frame<'_>) -> Option<RouteStep> {
     }
 }
 
-/// The way to what was begun last within these, the last ones of which tell it, so many at most.
+/// The way to what was begun last within these frames, by at most `most` of the last ones.
 pub fn route_of(alloc: Global, frames: &[Frame<'_>], most: usize) -> Result<Route, AllocError> {
     let mut steps = Vec::new(alloc);
     let left_out = frames.len().saturating_sub(most);

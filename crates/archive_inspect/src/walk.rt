@@ -52,11 +52,11 @@ pub enum What<'a> {
     Leaf(leaves::Leaf),
     /// A text: of a string that has it in its eight bytes, or one that a pointer leads to.
     Text(&'a str),
-    /// A record of so many parts; it opens.
+    /// A record with its number of parts; it opens.
     Record(usize),
-    /// A variant by its tag and its name, of so many parts; it opens.
+    /// A variant by its tag and its name, with its number of parts; it opens.
     Variant(u8, &'static str, usize),
-    /// An array of so many elements; it opens.
+    /// An array with its number of elements; it opens.
     Array(usize),
     /// A pointer to a region, which is entered now; it opens.
     Pointer(Region),
@@ -88,7 +88,7 @@ pub enum Count {
     One,
     /// So many elements.
     Elements(usize),
-    /// A text of so many bytes.
+    /// A text with its length in bytes.
     Text(usize),
 }
 
@@ -178,7 +178,7 @@ impl<'a> Walker<'a> {
         &frames[..outer]
     }
 
-    /// What is met next: none at the end. Once it has stopped, further calls tell nothing of use.
+    /// What is met next: none at the end. Once it has stopped, further calls return nothing of use.
     pub fn step(&mut self) -> Result<Option<Event<'a>>, Stop> {
         match self.next {
             Next::Root => self.enter_root()?,

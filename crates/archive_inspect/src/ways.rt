@@ -1,5 +1,5 @@
-//! Ways gone once more, step by step by the rules of reading: so a way that is told is one that
-//! leads to the fault.
+//! Ways gone once more, step by step by the rules of reading: so each way that is returned leads to
+//! the fault.
 
 ghost use Rattle.std.specs.Prelude.{◌≡◌, IfSome};
 ghost use Rattle.archive_inspect.specs.Points.{MeansThere, LeadsOn, LeadsToPoint};
@@ -26,7 +26,7 @@ pub enum Thing<'a> {
     Key(Key),
     /// The parts behind the tag of a choice.
     Payload(&'a [Expr]),
-    /// A text of so many bytes.
+    /// A text with its length in bytes.
     Text(usize),
 }
 

@@ -1,5 +1,6 @@
-//! Numbers that aren't 0, as archives hold them: the lowest byte first. One format serves every width. The bytes and names are those of rkyv 0.8.18;
-//! `ArchivedNonZeroU8` and `ArchivedNonZeroI8` are our own.
+//! Numbers that aren't 0, as archives hold them: the lowest byte first. One format serves every
+//! width. The bytes and names are those of rkyv 0.8.18, but for `ArchivedNonZeroU8` and
+//! `ArchivedNonZeroI8`.
 #![tactic(auto)]
 
 mod non_zero;

@@ -49,8 +49,8 @@ impl<N: Integer> Clone for NonZero<N> {
 }
 
 impl<N: Integer> NonZero<N> {
-    /// The archived form of `number`. The caller must ensure that it isn't 0, which
-    /// `Integer::is_zero` tells; it never fails.
+    /// The archived form of `number`. The caller must ensure that it isn't 0, as `Integer::is_zero`
+    /// says; it never fails.
     pub fn from_native(number: N) -> NonZero<N>
         requires { is_zero (N.value_of number) ≡ false }
         ensures { result ≡ number }

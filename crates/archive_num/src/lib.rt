@@ -1,5 +1,5 @@
-//! Numbers as archives hold them: the lowest byte first. One format serves every width. The bytes are those of rkyv 0.8.18, whose names the aliases
-//! are; that 128-bit numbers are aligned to 16 is our own choice. Positions, sizes and alignments are in bytes.
+//! Numbers as archives hold them: the lowest byte first. One format serves every width. The bytes
+//! and the aliases' names are those of rkyv 0.8.18. Positions, sizes and alignments are in bytes.
 #![tactic(auto)]
 
 mod little_endian;

@@ -17,8 +17,7 @@ mod others;
 mod signed;
 mod unsigned;
 
-/// A native value, and the bytes that stand for it: a number, a bool, a char, or nothing. Our own:
-/// rkyv 0.8.18 has code for each type.
+/// A native value with its bytes in an archive: a number, a bool, a char, or nothing.
 pub trait Native: Copy + Ord + Hash {
     // The leaf that it is archived as.
     ghost kind: { KindOf };
@@ -45,20 +44,20 @@ pub trait Native: Copy + Ord + Hash {
     fn kind() -> Kind
         ensures { kind_of result ≡ kind };
 
-    /// How many bytes stand for a value.
+    /// How many bytes a value has in an archive.
     fn byte_count() -> usize
         ensures { result ≡ byte_count };
 
-    /// Writes the bytes that stand for `self` over `out`, the lowest first. The caller must ensure
-    /// that `out` has `byte_count` bytes.
+    /// Writes the bytes of `self` over `out`, the lowest first. The caller must ensure that `out`
+    /// has `byte_count` bytes.
     fn write_to(self, out: &mut [u8])
         requires { length out.old ≡ byte_count }
         ensures bytes { out.new ≡ bytes_of self }
         ensures fits { fits self };
 
-    /// The value that `bytes` stand for, the lowest first. The caller must ensure that they are
-    /// `byte_count` bytes, and that they stand for a value of the type, as those do that are a leaf
-    /// of its kind (`archive_check::format::leaf::is_legal`).
+    /// The value of `bytes`, the lowest first. The caller must ensure that there are `byte_count`
+    /// of them, and that they are those of a value, as the bytes of a leaf of its kind are
+    /// (`archive_check::format::leaf::is_legal`).
     fn read_from(bytes: &[u8]) -> Self
         requires length { length bytes.now ≡ byte_count }
         requires legal { are_legal bytes.now }
@@ -97,7 +96,7 @@ pub trait Native: Copy + Ord + Hash {
     ghost order_law: { (x y : Self) → Self.cmp x y ≡ int_cmp (value_of x) (value_of y) };
 }
 
-/// A number of the machine, which may be 0. Our own.
+/// A number of the machine, which may be 0.
 pub trait Integer: Native {
     // Whether it has a sign.
     ghost sign: { Sign };

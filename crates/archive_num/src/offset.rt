@@ -20,7 +20,8 @@ pub fn signed_offset(from: usize, to: usize) -> Result<isize, Error>
     Ok(offset)
 }
 
-/// A number of the machine that an offset may be: of at most 64 bits. Our own, so that each format of it is one implementation of `Offset`.
+/// A native number that an offset may be: of at most 64 bits. So each format of it is one
+/// implementation of `Offset`.
 pub trait OffsetNumber: Integer {
     /// The number that is this distance, in bytes. Fails with `OffsetOverflow` exactly if it
     /// doesn't fit the type.
@@ -131,8 +132,8 @@ impl OffsetNumber for u64 {
     }
 }
 
-// How far it is from `pos` to `target`, in bytes, as the four bytes of an offset hold it. Refused with `IsizeOverflow`, 2, exactly where the distance
-// doesn't fit `isize`, and else with `OffsetOverflow`, 3, exactly where it doesn't fit 32 bits.
+// How far it is from `pos` to `target`, in bytes, as the four bytes of an offset hold it. Fails with `IsizeOverflow` exactly if the distance
+// doesn't fit `isize`, and else with `OffsetOverflow` exactly if it doesn't fit 32 bits.
 #[inline(always)]
 pub(crate) fn offset_to(pos: usize, target: usize) -> Result<i32, Error>
     ensures distance { IfOk result (λ z. z ≡ distance pos target) }
@@ -149,11 +150,11 @@ pub trait Offset: Copy {
     // That number.
     ghost number_in: { Self → Self.Number };
 
-    /// The offset that is this number. Our own.
+    /// The offset that is this number.
     fn from_number(number: Self::Number) -> Self
         ensures { number_in result ≡ number };
 
-    /// The number that it is. Our own.
+    /// The number that it is.
     fn to_number(self) -> Self::Number
         ensures { result ≡ number_in self };
 

@@ -9,8 +9,8 @@ use crate::FixedUsize;
 use crate::offset::offset_to;
 use archive_check::format::error::Error;
 
-// Writes over the four bytes of an owner at `pos` that it leads to `target`. Refused with `IsizeOverflow`, 2, exactly where the distance doesn't fit
-// `isize`, and else with `OffsetOverflow`, 3, exactly where it doesn't fit 32 bits; the bytes are then unchanged.
+// Writes over the four bytes of an owner at `pos` that it leads to `target`. Fails with `IsizeOverflow` exactly if the distance doesn't fit
+// `isize`, and else with `OffsetOverflow` exactly if it doesn't fit 32 bits; the bytes are then unchanged.
 #[inline(always)]
 fn emplace_owner(target: usize, pos: usize, bytes: &mut [u8]) -> Result<(), Error>
     requires { length bytes.old ≡ 4 }
@@ -27,8 +27,7 @@ fn emplace_owner(target: usize, pos: usize, bytes: &mut [u8]) -> Result<(), Erro
 
 /// Writes over the eight bytes of an owner at `pos` that it leads to `target`, with the length
 /// `count`. Fails with `IsizeOverflow` exactly if the distance doesn't fit `isize`, else with
-/// `OffsetOverflow` exactly if it doesn't fit 32 bits; the bytes are then unchanged. Our own: in
-/// rkyv 0.8.18 each pointer writes its parts.
+/// `OffsetOverflow` exactly if it doesn't fit 32 bits; the bytes are then unchanged.
 #[inline(always)]
 pub fn emplace_long_owner(
     target: usize,
@@ -51,7 +50,7 @@ pub fn emplace_long_owner(
 }
 
 /// The same over as many bytes as the pointer has: eight, with the length behind the offset, where
-/// `is_long` holds, and else four with no length, which requires that `count` is 0. Our own.
+/// `is_long` holds, and else four with no length, which requires that `count` is 0.
 #[inline(always)]
 pub fn emplace_pointer(
     is_long: bool,

@@ -8,7 +8,7 @@ ghost use Rattle.archive_num.specs.StringBytes.{inline_bytes, out_of_line_bytes,
 use crate::offset::offset_to;
 use archive_check::format::error::Error;
 
-/// A text of at most so many bytes stands in the string itself. As in rkyv 0.8.18.
+/// The greatest length of a text, in bytes, that lies in the string itself. As in rkyv 0.8.18.
 pub const INLINE_CAPACITY: usize = 8;
 
 /// A string's text of more bytes than these can't be archived. As in rkyv 0.8.18.

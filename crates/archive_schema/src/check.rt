@@ -54,7 +54,7 @@ impl Checker<'_> {
         }
     }
 
-    /// The length that stands in the pointer at `at`: 0 for one value.
+    /// The length in the pointer at `at`: 0 for one value.
     pub fn length(&self, target: PointeeKind, at: usize) -> usize
         requires { at + pointer_bytes target ≤ length self.now.bytes.now }
         ensures { result ≡ pointee_length self.now.bytes.now at target }
@@ -83,8 +83,8 @@ impl Checker<'_> {
     }
 
     /// The variant that the tag at `at` names, of those from `first` up to `last` of the choice of
-    /// this name. Fails with `InvalidDiscriminant` if it names none. It stands in its callers,
-    /// since what it returns is wide.
+    /// this name. Fails with `InvalidDiscriminant` if it names none. It is inlined, since what it
+    /// returns is wide.
     #[inline(always)]
     pub fn chosen(
         &self,

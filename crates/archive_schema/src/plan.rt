@@ -19,11 +19,12 @@ use archive_check::format::expr::{Key, Kind};
 pub enum PointeeKind {
     /// One value.
     One,
-    /// Elements, as many as the pointer's length says.
+    /// Elements; the pointer's length is their number.
     Run,
-    /// Bytes of a text, as many as the pointer's length says.
+    /// Bytes of a text; the pointer's length is their number.
     Text,
-    /// Entries of such a key and of the pointee, as many as the pointer's length says, whose keys ascend strictly.
+    /// Entries of such a key and of the pointee, whose keys ascend strictly; the pointer's length
+    /// is their number.
     Entries(Key),
 }
 
@@ -73,7 +74,7 @@ pub enum NodeKind {
     },
 }
 
-/// What takes so many bytes, at so great an alignment. No size: it is above `usize::MAX`.
+/// A node: its size and alignment. `None` is a size above `usize::MAX`.
 #[derive(Clone, Copy)]
 pub struct Node {
     /// The size in bytes.
@@ -106,7 +107,7 @@ pub struct Span {
 /// The nodes that an expression is compiled to.
 #[derive(Drop)]
 pub struct Plan {
-    /// The nodes. Those in a node stand before it.
+    /// The nodes. Those in a node come before it.
     pub nodes: Vec<Node>,
     /// The parts of records and variants.
     pub parts: Vec<Part>,

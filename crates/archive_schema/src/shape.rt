@@ -26,8 +26,13 @@ use std::alloc::Global;
 mod given;
 mod layouts;
 
-/// An expression, with the definitions of the names that it reaches. It is compiled once, and checks any number of buffers. Our own: rkyv 0.8.18 has
-/// code for each type in its place.
+/// An expression with the definitions of the names that it reaches, compiled once to check any
+/// number of buffers. `Access` keeps one for types that need it.
+///
+/// ```
+/// let schema = Schema::of::<ArchivedVec<ArchivedU32>>(alloc)?;
+/// schema.check_archive(alloc, bytes.as_slice())?;
+/// ```
 #[derive(Drop)]
 pub struct Schema {
     root: Expr,

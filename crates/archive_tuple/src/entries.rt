@@ -4,7 +4,7 @@ ghost use Rattle.std.specs.Prelude.{◌≡◌};
 ghost use Rattle.archive_tuple.specs.Entries.{entries_ascend};
 
 /// Whether the keys of entries ascend strictly, each behind the one before it. Each two neighbours
-/// are compared once, up to the first two that don't ascend. Our own.
+/// are compared once, up to the first two that don't ascend.
 pub fn is_ascending<K: Ord, V>(entries: &[(K, V)]) -> bool
     ensures { result ≡ entries_ascend K.cmp entries.now }
 {

@@ -14,7 +14,8 @@ use Rattle.archive_check.specs.Denotes.{Naming}
 use Rattle.archive_num.specs.Offsets.{distance, IsTooFar}
 use Rattle.archive_types.specs.Plans.{Cursor, Step, lays, meets, disorder, Foreseen, ValuePlan, RegionPlan, cursor}
 
--- Of the planned bytes the writer, which holds those up to a position and ends at `cap`, was to take `count` more: fewer are free.
+-- The writer, which holds the planned bytes up to a position and ends at `cap`, has less room than
+-- for the `count` planned bytes that it was to take.
 pub record Overflows (reaches : ℕ → Type 0) (old new : WriterState) (count cap position : ℕ) : Type 0 where
   pub behind : length old.bytes ≤ position
   pub held : position ≡ length new.bytes
@@ -22,16 +23,15 @@ pub record Overflows (reaches : ℕ → Type 0) (old new : WriterState) (count c
   pub full : IsSomeAnd old.room (λ room. (cap ≡ length old.bytes + room) × (cap < position + count))
   pub left : IsSomeAnd new.room (λ room. room < count)
 
--- Why what is planned was refused: for want of memory; for want of room, which the planned bytes don't fit; by the writer's device, which failed now or had
--- failed too often; or for a cause of the value's own.
+-- Why what is planned wasn't written: memory was refused; it doesn't fit; the device failed now, or
+-- too often before; or the value caused it.
 pub data Explains (own : Error → Type 0) (reaches : ℕ → Type 0) (old new : WriterState) : Error → Type 0 where
   no_memory : Explains own reaches old new OutOfMemory
   no_room : {count cap position : ℕ} → Overflows reaches old new count cap position → Explains own reaches old new (BufferOverflow count cap position)
   device_failed : (old.failures < new.failures) ⊎ (old.failures ≡ 2 ^ 64 - 1) → Explains own reaches old new WriterFailed
   own_cause : {e : Error} → own e → Explains own reaches old new e
 
--- The refusals that a value may cause: of an owner's offset; of a position, a length, a number, a string's text; of a key that is pending; of a
--- region's end; of a map's keys that don't ascend.
+-- The errors that a value may cause.
 pub data IsOwnCause : Error → Type 0 where
   of_isize : IsOwnCause IsizeOverflow
   of_offset : IsOwnCause OffsetOverflow
@@ -50,7 +50,7 @@ pub data IsOfWriting : Error → Type 0 where
   of_device : IsOfWriting WriterFailed
   of_value : {e : Error} → IsOwnCause e → IsOfWriting e
 
--- a Y that says w lies at an offset in an X that says v
+-- A Y with the value w lies at an offset in an X with the value v.
 mutual
   pub data ValuePart (s : SchemaTable) : Shape → Value → ℕ → Shape → Value → Type 0 where
     part_itself : {X : Shape} {v : Value} → ValuePart s X v 0 X v
@@ -69,7 +69,7 @@ mutual
         → ValuePart s X v o Y w
         → ValuePart s (named name) v o Y w
 
-  -- of parts that are laid out one after another from an offset on
+  -- The same among parts that are laid out one after another from an offset on.
   pub data PartOfParts (s : SchemaTable) : ℕ → Parts → Values → ℕ → Shape → Value → Type 0 where
     in_first_part : {at : ℕ} {X : Shape} {ps : Parts} {v : Value} {vs : Values} {o : ℕ} {Y : Shape} {w : Value}
         → ValuePart s X v o Y w
@@ -78,7 +78,7 @@ mutual
         → PartOfParts s (up at (align_of s.layouts X) + size_of s.layouts X) ps vs o Y w
         → PartOfParts s at (part X ps) (value v vs) o Y w
 
-  -- of elements
+  -- The same among elements.
   pub data PartOfRun (s : SchemaTable) : ℕ → Shape → Values → ℕ → Shape → Value → Type 0 where
     in_first_element : {n : ℕ} {X : Shape} {v : Value} {vs : Values} {o : ℕ} {Y : Shape} {w : Value}
         → ValuePart s X v o Y w
@@ -87,12 +87,12 @@ mutual
         → PartOfRun s n X vs o Y w
         → PartOfRun s (suc n) X (value v vs) (size_of s.layouts X + o) Y w
 
--- a Y that says w lies at an offset in a pointee that says v
+-- A Y with the value w lies at an offset in a pointee with the value v.
 pub data PartOfPointee (s : SchemaTable) : Pointee → ℕ → Value → ℕ → Shape → Value → Type 0 where
   part_of_one : {X : Shape} {v : Value} {o : ℕ} {Y : Shape} {w : Value} → ValuePart s X v o Y w → PartOfPointee s (one X) 0 v o Y w
   part_of_run : {n : ℕ} {X : Shape} {vs : Values} {o : ℕ} {Y : Shape} {w : Value} → PartOfRun s n X vs o Y w → PartOfPointee s (run X) n (list vs) o Y w
 
--- the part is an owner, and has this pointer
+-- The part is an owner with this pointer.
 pub data IsOwner : Shape → Value → Pointer → Type 0 where
   owner_box : {P : Pointee} {h : Pointer} → IsOwner (boxed P) (box (hole h)) h
   owner_vec : {X : Shape} {h : Pointer} → IsOwner (vec X) (hole h) h
@@ -101,7 +101,7 @@ pub data IsOwner : Shape → Value → Pointer → Type 0 where
   owner_shared : {flavor : Flavor} {P : Pointee} {h : Pointer} → IsOwner (shared flavor P) (hole h) h
   owner_weak : {flavor : Flavor} {P : Pointee} {h : Pointer} → IsOwner (weak flavor P) (hole h) h
 
--- the number has more bits than the leaf
+-- The number has more bits than the leaf.
 abbrev pub IsTooWide : Kind → ℤ → Type 0
 IsTooWide unit z = ⊥
 IsTooWide bool z = ⊥
@@ -112,27 +112,28 @@ IsTooWide (non_zero unsigned width) z = (n : ℕ) → n < 2 ^ (8 * byte_len widt
 IsTooWide (non_zero signed width) z = FitsSigned width z → ⊥
 IsTooWide (raw_rel sign width) z = ⊥
 
--- the part is a shared or weak pointer, which may lead to what was written under its key before, and has this pointer
+-- The part is a shared or weak pointer with this pointer.
 pub data IsSharedOwner : Shape → Value → Pointer → Type 0 where
   shared_owner : {flavor : Flavor} {P : Pointee} {h : Pointer} → IsSharedOwner (shared flavor P) (hole h) h
   weak_owner : {flavor : Flavor} {P : Pointee} {h : Pointer} → IsSharedOwner (weak flavor P) (hole h) h
 
--- What hinders a part, wherever it lies: what it points to stands above 4,294,967,295, or is shared and has a length above that; its number has too many
--- bits; its text is too long for a string.
+-- Why a part can't be written anywhere: what it points to lies above 4,294,967,295, or is shared
+-- and has a greater length; its number has too many bits; its text is too long.
 pub data HindersPart : Shape → Value → Error → Type 0 where
   stands_too_far : {Y : Shape} {w : Value} {h : Pointer} {t : ℕ} → IsOwner Y w h → h.target ≡ pos t → 4294967295 < t → HindersPart Y w PositionTooLarge
   shared_too_long : {Y : Shape} {w : Value} {h : Pointer} → IsSharedOwner Y w h → 4294967295 < h.length → HindersPart Y w LengthTooLarge
   too_wide : {kind : Kind} {z : ℤ} → IsTooWide kind z → HindersPart (leaf kind) (number z) NumberTooLarge
   text_too_long : {h : Pointer} → 1073741823 < h.length → HindersPart str (hole h) StringTooLong
 
--- and where it lies at q: its offset doesn't fit, or is 1 and would make a weak pointer a null
+-- Why a part can't be written at q: not anywhere, or its offset doesn't fit, or is 1 in a weak
+-- pointer, which says null.
 pub data HindersPartAt : Shape → ℕ → Value → Error → Type 0 where
   anywhere : {Y : Shape} {q : ℕ} {w : Value} {e : Error} → HindersPart Y w e → HindersPartAt Y q w e
   too_far_from_here : {Y : Shape} {q : ℕ} {w : Value} {e : Error} {h : Pointer} {t : ℕ} → IsOwner Y w h → h.target ≡ pos t → IsTooFar e (distance q t) → HindersPartAt Y q w e
   looks_null : {flavor : Flavor} {P : Pointee} {q : ℕ} {h : Pointer} → h.target ≡ pos (suc q) → HindersPartAt (weak flavor P) q (hole h) OffsetOverflow
 
--- What hinders a step of a plan: a part of what is read in the region; its length is above 4,294,967,295, its end above `usize::MAX`; the key is pending;
--- or a map's keys don't ascend.
+-- Why a step of a plan fails: a part of the region can't be written; its length is above
+-- 4,294,967,295, its end above `usize::MAX`; the key is pending; keys don't ascend.
 pub data HindersStep (s : SchemaTable) : Step → Error → Type 0 where
   part_hinders : {r : Region} {v : Value} {o : ℕ} {Y : Shape} {w : Value} {e : Error}
       → PartOfPointee s r.pointee r.length v o Y w
@@ -143,7 +144,7 @@ pub data HindersStep (s : SchemaTable) : Step → Error → Type 0 where
   key_hinders : {key : ℕ} → HindersStep s (meets key) CyclicSerialize
   order_hinders : HindersStep s disorder UnsortedKeys
 
--- one of them is hindered
+-- One of the steps fails.
 abbrev pub HindersSome : SchemaTable → List Step → Error → Type 0
 HindersSome s C e = (t : Step) × Contains C t × HindersStep s t e
 
@@ -152,7 +153,7 @@ pub record Hinders (D : Definitions) (X : Shape) (keys : List Naming) (v : Value
   pub named : IsOwnCause e
   pub cause : Foreseen D keys a (λ s names. ValuePlan s names X v a (λ flat C b. HindersSome s C e ⊎ ((o : ℕ) × (Y : Shape) × (w : Value) × ValuePart s X flat o Y w × HindersPart Y w e)))
 
--- What hinders the writing of a pointee with its region: a step of its plan.
+-- The value causes this error: a step fails of the plan of a pointee and its region.
 pub record HindersRegion (D : Definitions) (P : Pointee) (n : ℕ) (keys : List Naming) (v : Value) (a : Cursor) (e : Error) : Type 0 where
   pub named : IsOwnCause e
   pub cause : Foreseen D keys a (λ s names. RegionPlan s names P n v a (λ t C b. HindersSome s C e))
@@ -170,7 +171,7 @@ HindersRegionAt D X L flat p e = ((e ≡ LayoutTooLarge) × (2 ^ 64 ≤ p + L.si
 abbrev pub PlanReaches : Definitions → Shape → List Naming → Value → Cursor → ℕ → Type 0
 PlanReaches D X keys v a n = Foreseen D keys a (λ s names. ValuePlan s names X v a (λ flat C b. n ≤ b.position))
 
--- the plan of a pointee with its region goes on to m at least
+-- The plan of a pointee and its region goes on to m at least.
 abbrev pub RegionReaches : Definitions → Pointee → ℕ → List Naming → Value → Cursor → ℕ → Type 0
 RegionReaches D P n keys v a m = Foreseen D keys a (λ s names. RegionPlan s names P n v a (λ t C b. m ≤ b.position))
 
@@ -178,7 +179,7 @@ RegionReaches D P n keys v a m = Foreseen D keys a (λ s names. RegionPlan s nam
 abbrev pub IsRefused : Definitions → Shape → List Naming → Value → WriterState → WriterState → Error → Type 0
 IsRefused D X keys v old new = Explains (Hinders D X keys v (cursor old)) (PlanReaches D X keys v (cursor old)) old new
 
--- why a pointee with its region wasn't written
+-- Why a pointee and its region weren't written.
 abbrev pub IsRegionRefused : Definitions → Pointee → ℕ → List Naming → Value → WriterState → WriterState → Error → Type 0
 IsRegionRefused D P n keys v old new = Explains (HindersRegion D P n keys v (cursor old)) (RegionReaches D P n keys v (cursor old)) old new
 

@@ -14,20 +14,20 @@ use Rattle.archive_check.specs.Denotes.{Naming}
 use Rattle.archive_types.specs.Writing.{NameMap, AreNamed, to_pointee, to_map, to_shared, Writes, LaysOut, LaysOutShared}
 use Rattle.archive_types.specs.ValueOrder.{keys_ascend}
 
--- where a writer stands: how many bytes it holds, and the states of the shared keys
+-- How many bytes a writer holds, and the states of the shared keys.
 pub record Cursor : Type 0 where
   pub position : ℕ
   pub states : KeyStates
 
--- where a writer stands: how many bytes it holds, and what is known of its keys
+-- The position and the keys of a writer.
 abbrev pub cursor : WriterState → Cursor
 cursor w = record { position = length w.bytes; states = w.states }
 
--- a writer as one that keeps no keys
+-- The writer as one that keeps no keys.
 abbrev pub unshared : WriterState → WriterState
 unshared w = record w { states = no_keys }
 
--- of what holds nothing and knows no key
+-- The cursor of a writer that holds nothing and knows no key.
 abbrev pub at_start : Cursor
 at_start = record { position = 0; states = no_keys }
 
@@ -36,28 +36,30 @@ pub record StandsAt (c : Cursor) (w : WriterState) : Type 0 where
   pub position : length w.bytes ≡ c.position
   pub keys : (k : ℕ) → w.states k ≡ c.states k
 
--- a key is pending from here on
+-- The cursor once a key is pending.
 abbrev pub begun : Cursor → ℕ → Cursor
 begun c key = record { position = c.position; states = update nat_eq c.states key (Some None) }
 
--- it is finished at a position
+-- The cursor once a key is finished at a position.
 abbrev pub ended : Cursor → ℕ → ℕ → Cursor
 ended c key p = record { position = c.position; states = update nat_eq c.states key (Some (Some p)) }
 
--- a step of a plan: a region is written, in which this will be read; a shared value's key is met that is pending; or a map's keys are met that don't ascend
+-- A step of a plan: a region is written that reads as this value; a key is met that is pending; or
+-- a map's keys are met that don't ascend.
 pub data Step : Type 0 where
   lays : Region → Value → Step
   meets : ℕ → Step
   disorder : Step
 
--- what is met before the entries of a map are written: nothing, where their keys ascend
+-- The step before the entries of a map: none if their keys ascend.
 abbrev pub disorders : Value → List Step
 disorders (list vs) = cond (keys_ascend vs) [] (disorder ∷ [])
 disorders v = []
 
--- `Plans s names X v a flat C b`: from a on, what v owns, as an X, comes to the steps C and ends at b; then `flat` is read in v's place, with a hole for
--- each pointer. A rule for each format. Parts and elements come one after another, what a pointee owns before its region; a shared value comes once, and
--- is pending while what it owns is written.
+-- `Plans s names X v a flat C b`: from a on, what v owns as an X is written in the steps C, up to
+-- b; then `flat` is read in v's place, with a hole for each pointer. A rule for each format: parts
+-- and elements come one after another, what a pointee owns before its region, and a shared value
+-- once, pending while what it owns is written.
 mutual
   pub data Plans (s : SchemaTable) (names : NameMap) : Shape → Value → Cursor → Value → List Step → Cursor → Type 0 where
     plans_leaf : {kind : Kind} {z : ℤ} {a : Cursor} → Plans s names (leaf kind) (number z) a (number z) [] a
@@ -99,7 +101,7 @@ mutual
         → Plans s names X v a w C b
         → Plans s names (named name) v a w C b
 
-  -- parts come one after another
+  -- Parts are planned one after another.
   pub data PlansParts (s : SchemaTable) (names : NameMap) : Parts → Values → Cursor → Values → List Step → Cursor → Type 0 where
     plans_no_part : {a : Cursor} → PlansParts s names no_part no_value a no_value [] a
     plans_part : {X : Shape} {ps : Parts} {v w : Value} {vs ws : Values} {a b c : Cursor} {C D : List Step}
@@ -107,7 +109,7 @@ mutual
         → PlansParts s names ps vs b ws D c
         → PlansParts s names (part X ps) (value v vs) a (value w ws) (C ++ D) c
 
-  -- elements come one after another
+  -- Elements are planned one after another.
   pub data PlansRun (s : SchemaTable) (names : NameMap) : ℕ → Shape → Values → Cursor → Values → List Step → Cursor → Type 0 where
     plans_none : {X : Shape} {a : Cursor} → PlansRun s names zero X no_value a no_value [] a
     plans_element : {n : ℕ} {X : Shape} {v w : Value} {vs ws : Values} {a b c : Cursor} {C D : List Step}
@@ -115,7 +117,7 @@ mutual
         → PlansRun s names n X vs b ws D c
         → PlansRun s names (suc n) X (value v vs) a (value w ws) (C ++ D) c
 
-  -- what a pointee owns
+  -- What a pointee owns is planned.
   pub data PlansPointee (s : SchemaTable) (names : NameMap) : Pointee → ℕ → Value → Cursor → Value → List Step → Cursor → Type 0 where
     plans_one : {X : Shape} {v w : Value} {a b : Cursor} {C : List Step}
         → Plans s names X v a w C b
@@ -125,14 +127,15 @@ mutual
         → PlansPointee s names (run X) n (list vs) a (list ws) C b
     plans_text : {bytes : List ℕ} {a : Cursor} → PlansPointee s names text (length bytes) (text_value bytes) a (text_value bytes) [] a
 
-  -- and then its region, which begins at t as soon as it can
+  -- What a pointee owns is planned, and then its region, which begins at t as soon as it can.
   pub data PlansRegion (s : SchemaTable) (names : NameMap) : Bool → Pointee → ℕ → Value → Cursor → ℕ → List Step → Cursor → Type 0 where
     plans_region : {is_shared : Bool} {P : Pointee} {n t : ℕ} {v w : Value} {a b : Cursor} {C : List Step}
         → PlansPointee s names P n v a w C b
         → t ≡ up b.position (pointee_align s P)
         → PlansRegion s names is_shared P n v a t (C ++ lays (region_at s t P n is_shared) w ∷ []) (record { position = after (region_at s t P n is_shared); states = b.states })
 
-  -- a shared value, by its key: an unknown key's is written and finished, a finished one's stands where it is
+  -- A shared value is planned by its key: an unknown key's is written and finished, and a finished
+  -- one's lies where it is.
   pub data PlansShared (s : SchemaTable) (names : NameMap) : Flavor → Pointee → ℕ → Cursor → Value → List Step → Cursor → Type 0 where
     plans_new : {flavor : Flavor} {P : Pointee} {key n t : ℕ} {v : Value} {a b : Cursor} {C : List Step}
         → a.states key ≡ None
@@ -145,7 +148,7 @@ mutual
         → PlansShared s names flavor P key a (hole (to_shared t flavor P n)) [] a
     plans_pending : {flavor : Flavor} {P : Pointee} {key : ℕ} {a : Cursor} → a.states key ≡ Some None → PlansShared s names flavor P key a (shared_value key) (meets key ∷ []) a
 
--- in each schema that knows the definitions, whatever the keys name as they do
+-- This holds in each schema that knows the definitions, if each key stands for one thing.
 abbrev pub Whatever : Definitions → List Naming → (SchemaTable → NameMap → Type 0) → Type 0
 Whatever D keys f = (s : SchemaTable) (names : NameMap) → Knows s D → AreNamed names keys → f s names
 
@@ -157,7 +160,7 @@ pub record ValuePlan (s : SchemaTable) (names : NameMap) (X : Shape) (v : Value)
   pub plans : Plans s names X v a flat steps stop
   pub such : holds flat steps stop
 
--- a plan of a pointee, with its region, of which this holds
+-- A pointee and its region have a plan of which this holds.
 pub record RegionPlan (s : SchemaTable) (names : NameMap) (P : Pointee) (n : ℕ) (v : Value) (a : Cursor) (holds : ℕ → List Step → Cursor → Type 0) : Type 0 where
   pub begin : ℕ
   pub steps : List Step
@@ -165,11 +168,11 @@ pub record RegionPlan (s : SchemaTable) (names : NameMap) (P : Pointee) (n : ℕ
   pub plans : PlansRegion s names false P n v a begin steps stop
   pub such : holds begin steps stop
 
--- each key that is finished stands below the position
+-- Each finished key has a position below that of the cursor.
 abbrev pub AreBelow : Cursor → Type 0
 AreBelow c = (k t : ℕ) → c.states k ≡ Some (Some t) → t < c.position
 
--- the same of a plan from a on, where the finished keys stand below
+-- The same as `Whatever`, if each finished key has a position below that of the cursor.
 abbrev pub Foreseen : Definitions → List Naming → Cursor → (SchemaTable → NameMap → Type 0) → Type 0
 Foreseen D keys a f = AreBelow a → Whatever D keys f
 

@@ -15,11 +15,11 @@ pub record Encodes (kind : Kind) (bytes : List ℕ) (z : ℤ) : Type 0 where
   pub legal : IsLegal kind bytes
   pub says : kind_value kind bytes ≡ z
 
--- the leaf of a kind that stands at p
+-- The leaf of a kind at p.
 abbrev pub leaf_at : Kind → List ℕ → ℕ → PlacedLeaf
 leaf_at kind bytes p = number_leaf p kind (kind_value kind (bytes_at bytes p (kind_size kind)))
 
--- wherever P at q, with its length, is a part of an archive, x stands among its leaves
+-- Each archive of which P at q, of this length, is a part has the leaf x.
 abbrev pub StandsIn : List ℕ → ℕ → Pointee → ℕ → PlacedLeaf → Type 0
 StandsIn bytes q P n x = (s : SchemaTable) (root : ℕ) (X : Shape) (a : Accepted s bytes root X) → PartOfSome s bytes (regions_of a) q P n → Contains (leaves_of a) x
 

@@ -7,7 +7,7 @@ use Rattle.archive_check.specs.Leaves.{regions_of}
 use Rattle.archive_check.specs.Within.{PartOfSome}
 use Rattle.archive_check.specs.Definitions.{Definitions, Knows}
 
--- what a view shows: where it stands, what it is, and its length
+-- What a view shows: its position, its pointee and its length.
 pub record View : Type 0 where
   pub begin : ℕ
   pub pointee : Pointee

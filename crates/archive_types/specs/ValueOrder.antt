@@ -12,7 +12,8 @@ use Rattle.archive_check.specs.Tour.{Contents, Leads}
 use Rattle.archive_check.specs.Definitions.{Definitions, Knows}
 use Rattle.archive_types.specs.Compared.{Standing, standing}
 
--- Values of one type are of one kind, so the last rule is never met by what two views of a type say.
+-- The order of two values of one type: the first parts that differ decide, and else the lengths;
+-- what has no rule is equal.
 abbrev mutual
   pub value_cmp : Value → Value → Ordering
   value_cmp (number x) (number y) = int_cmp x y
@@ -23,19 +24,19 @@ abbrev mutual
   value_cmp (box v) (box w) = value_cmp v w
   value_cmp _ _ = Equal
 
-  -- the first two that differ decide, and else the lengths
+  -- The first two that differ decide, and else the lengths.
   pub values_cmp : Values → Values → Ordering
   values_cmp no_value no_value = Equal
   values_cmp no_value (value w ws) = Less
   values_cmp (value v vs) no_value = Greater
   values_cmp (value v vs) (value w ws) = ordering_then (value_cmp v w) (values_cmp vs ws)
 
--- the key of an entry: the first part of a pair
+-- The key of an entry: the first part of a pair.
 abbrev pub key_of_pair : Value → Value
 key_of_pair (product (value k vs)) = k
 key_of_pair v = v
 
--- whether the keys of entries ascend strictly, each behind the one before it
+-- Whether the keys of entries ascend strictly.
 abbrev pub keys_ascend : Values → Bool
 keys_ascend no_value = true
 keys_ascend (value v no_value) = true

@@ -15,16 +15,16 @@ use Rattle.archive_check.specs.CleanRegions.{Occurs, IsZeroed, CleanValue, Clean
 use Rattle.archive_check.specs.WriterState.{KeyStates, WriterState}
 use Rattle.archive_write.specs.Sharing.{IsSet}
 
--- what each key names: flavor, pointee and length, and the value
+-- What each key stands for: flavor, pointee and length, and the value.
 abbrev pub NameMap : Type 0
 NameMap = FinMap nat_cmp (Entry × Value)
 
--- each of these keys names what the map says
+-- The map has each of these keys, with what it stands for.
 abbrev pub AreNamed : NameMap → List Naming → Type 0
 AreNamed names [] = Unit {0}
 AreNamed names (k ∷ ks) = (get names k.0 ≡ Some k.1) × AreNamed names ks
 
--- each name in the value is one of these keys
+-- Each name in the value is one of these keys.
 abbrev pub HasKeys : List Naming → Value → Type 0
 HasKeys keys v = (k : ℕ) → Names k v → (x : Entry × Value) × Contains keys (k, x)
 
@@ -39,7 +39,7 @@ pub record IsKeyed (keys : List Naming) (v : Value) : Type 0 where
   pub named : (k : Naming) → Contains keys k → HasKeys keys k.1.1
   pub only : (k : Naming) → Contains keys k → LeadsToKey keys v k.0
 
--- The map has just these keys, each of which names one thing.
+-- The map has just these keys, each of which stands for one thing.
 pub record AreKeys (names : NameMap) (keys : List Naming) : Type 0 where
   pub named : AreNamed names keys
   pub only : (k : ℕ) (x : Entry × Value) → get names k ≡ Some x → Contains keys (k, x)
@@ -149,8 +149,8 @@ pub record ZeroedPlace (size p : ℕ) (bytes : List ℕ) : Type 0 where
   pub zeroed : IsZeroed bytes
   pub ends : p + size < 2 ^ 64
 
--- The value is written with its root there: the buffer is an archive of it, its keys renamed one to one; one without keys is denoted as it is. From
--- start on it is tight and clean.
+-- The buffer is an archive of the value, tight and clean from start on, its keys renamed one to
+-- one. A value without keys is denoted as it is.
 pub record IsWritten (s : SchemaTable) (start : ℕ) (bytes : List ℕ) (root : ℕ) (X : Shape) (names : NameMap) (value : Value) : Type 0 where
   pub meaning : Meaning
   pub denotes : Denotes s bytes root X meaning
@@ -159,15 +159,15 @@ pub record IsWritten (s : SchemaTable) (start : ℕ) (bytes : List ℕ) (root : 
   pub tight : TightFrom start denotes.accepted
   pub clean : CleanFrom start denotes.accepted
 
--- Behind the old bytes an archive of the value was written, its root at the end. Each schema that knows the definitions accepts it, where each
--- key names one thing.
+-- Behind the old bytes lies an archive of the value, its root at the end: each schema that knows
+-- the definitions accepts it, if each key stands for one thing.
 pub record Archives (definitions : Definitions) (old new : List ℕ) (root : ℕ) (X : Shape) (size : ℕ) (keys : List Naming) (value : Value) : Type 0 where
   pub added : List ℕ
   pub grown : new ≡ old ++ added
   pub root_ends : root + size ≡ length new
   pub archived : (s : SchemaTable) (names : NameMap) → Knows s definitions → AreKeys names keys → IsWritten s (length old) new root X names value
 
--- the pointer to a pointee of n elements or bytes that has its region for itself
+-- The pointer to a pointee of n elements or bytes at t, with a region of its own.
 abbrev pub to_pointee : ℕ → Pointee → ℕ → Pointer
 to_pointee t P n = record { target = pos t; sharing = None; order = None; pointee = P; length = n }
 
@@ -178,7 +178,7 @@ box_flat P n t = box (hole (to_pointee t P n))
 abbrev pub vec_flat : Shape → ℕ → ℕ → Value
 vec_flat X n t = hole (to_pointee t (run X) n)
 
--- the pointer to a map's entries, which lie in the order of their keys; and what a map of n entries at t reads as
+-- The pointer to the n entries of a map at t.
 abbrev pub to_map : ℕ → Key → Shape → ℕ → Pointer
 to_map t K V n = record { target = pos t; sharing = None; order = Some K; pointee = run (entry_of K V); length = n }
 
@@ -201,7 +201,7 @@ pub record LaysOut (definitions : Definitions) (old new : WriterState) (keys : L
   pub clean : (s : SchemaTable) (bytes : List ℕ) → Knows s definitions → Occurs bytes p region → CleanPointee s bytes p P n
   pub states : new.states ≡ mid.states
 
--- the pointer to a shared pointee
+-- The pointer to a shared pointee at t.
 abbrev pub to_shared : ℕ → Flavor → Pointee → ℕ → Pointer
 to_shared t flavor P n = record { target = pos t; sharing = Some flavor; order = None; pointee = P; length = n }
 

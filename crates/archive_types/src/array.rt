@@ -18,7 +18,7 @@ pub use owned::OwnedArray;
 pub use sources::each_is_whole;
 
 impl<'a, T: Portable, const N: usize> Ref<'a, [T; N]> {
-    /// How many elements there are: as many as the type says.
+    /// How many elements there are: `N`.
     pub fn len(self) -> usize
         ensures { result ≡ N }
     {
@@ -49,7 +49,7 @@ impl<'a, T: Portable, const N: usize> Ref<'a, [T; N]> {
         })
     }
 
-    /// The element `index`, of which 0 is the first; none where there are no more than so many.
+    /// The element `index`, of which 0 is the first; `None` if there are no more than `index`.
     pub fn get(self, index: usize) -> Option<Ref<'a, T>>
         ensures some { IsSome result ↔ (index < N) }
         ensures buffer { IfSome result (λ r. r.bytes.now ≡ self.entry.bytes.now) }

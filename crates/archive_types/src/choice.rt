@@ -14,7 +14,7 @@ use crate::traits::{Choice, Portable};
 use crate::view::{RawView, Ref};
 
 impl<'a, T: Choice> Ref<'a, T> {
-    /// The tag, which names one of the variants. Our own.
+    /// The tag, which names one of the variants.
     pub fn tag(self) -> u8
         ensures value { result ≡ slice_index self.entry.bytes.now self.entry.pos }
         ensures known { is_some (variant_at T.Variants.variants result) ≡ true }
@@ -24,7 +24,7 @@ impl<'a, T: Choice> Ref<'a, T> {
     }
 
     /// The view of part `i` of the variant that the tag names. The caller must ensure that its expression is that of `U`, and that its names have the
-    /// definitions that `U` has. Our own.
+    /// definitions that `U` has.
     pub fn payload<U: Portable>(self, i: usize) -> Ref<'a, U>
         requires part { payload_at T.Variants.variants (slice_index self.bytes.now self.pos) i
             ≡ Some U.shape }
@@ -48,7 +48,7 @@ impl<'a, T: Choice> Ref<'a, T> {
 
 impl<'a, T: Choice> Place<'a, T> {
     /// Writes the tag, which is the first byte; every other one stays. The caller must ensure that
-    /// it names a variant, and that there is a byte. Our own.
+    /// it names a variant, and that there is a byte.
     pub fn write_tag(&mut self, tag: u8)
         requires known { is_some (variant_at T.Variants.variants tag) ≡ true }
         requires some { 0 < length self.old.bytes.now }
@@ -60,7 +60,7 @@ impl<'a, T: Choice> Place<'a, T> {
     }
 
     /// The place of part `i` of the variant with this tag. The caller must ensure that this part is a `U`, that the place has as many bytes as a `T`, and
-    /// that their end fits `usize`. What the choice's bytes are afterwards isn't said: `resolve_payload` says it. Our own.
+    /// that their end fits `usize`. What the choice's bytes are afterwards isn't said: `resolve_payload` says it.
     pub fn payload<U: Portable>(self, tag: u8, i: usize) -> Place<'a, U>
         requires part { payload_at T.Variants.variants tag i ≡ Some U.shape }
         requires size { T.Variants.size_at tag i ≡ U.layout.size }

@@ -43,7 +43,7 @@ use std::hash::{Hash, Hasher};
 /// let is_less = first < second;
 /// ```
 ///
-/// Our own: rkyv 0.8.18 has code for each type.
+/// rkyv 0.8.18 has code for each type.
 pub trait Ordered: ArchivePointee {
     // The order of two parts.
     ghost order: { Standing → Standing → Order };

@@ -11,8 +11,8 @@ use crate::traits::{Portable, Record};
 use crate::view::{RawView, Ref};
 
 impl<'a, T: Record> Ref<'a, T> {
-    /// The view of part `i`. The caller must ensure that its expression is that of `U`, and that its names have the definitions that `U` has. Our own,
-    /// where rkyv 0.8.18 has the type's fields.
+    /// The view of part `i`. The caller must ensure that its expression is that of `U`, and that
+    /// its names have the definitions that `U` has. rkyv 0.8.18 has the type's fields.
     pub fn field<U: Portable>(self, i: usize) -> Ref<'a, U>
         requires part { part_at T.Parts.parts i ≡ Some U.shape }
         requires definitions { KnowsAlso (definitions_at T.Parts.definitions i) U.definitions }

@@ -1,4 +1,4 @@
-//! Sorted maps: entries in a region of their own, whose keys ascend, with their number. Our own.
+//! Sorted maps: entries in a region of their own, whose keys ascend, with their number.
 
 ghost use Rattle.std.specs.Prelude.{◌≡◌, refl};
 ghost use Rattle.std.proofs.Common.{inl, inr};
@@ -34,7 +34,7 @@ use std::marker::PhantomData;
 /// let count = view.get(&name);          // name: String
 /// ```
 ///
-/// Our own: rkyv 0.8.18's maps have another format.
+/// rkyv 0.8.18's maps have other formats.
 #[derive(Debug)]
 pub struct ArchivedSortedMap<K, V> {
     of: PhantomData<(K, V)>,

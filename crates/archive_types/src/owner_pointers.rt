@@ -32,7 +32,7 @@ pub(crate) fn read_length<T: PortablePointee>(bytes: &[u8], pos: usize) -> usize
     read_u32(bytes, pos + 4) as usize
 }
 
-// The position, as a resolver keeps it. Refused with `PositionTooLarge`, 4, exactly where it is above 4,294,967,295.
+// The position, as a resolver keeps it. Fails with `PositionTooLarge` exactly if it is above 4,294,967,295.
 #[inline(always)]
 pub(crate) fn position_of(pos: usize) -> Result<u32, Error>
     ensures same { IfOk result (λ kept. kept ≡ pos) }

@@ -1,5 +1,5 @@
-//! The parts of values: archived one after another and read back. The traits are our own: what a derive of rkyv 0.8.18 writes for each struct, they
-//! say once, for the parts of every record, tuple and variant.
+//! The parts of values: archived one after another and read back. What a derive of rkyv 0.8.18
+//! writes for each struct, these traits say once, for the parts of every record, tuple and variant.
 
 ghost use Rattle.archive_check.specs.Denotes.{Naming};
 ghost use Rattle.std.specs.Prelude.{◌≡◌, ◌<◌, ℕ, length, List, [], ◌++◌, IfOk, OnOk, IfErr};

@@ -10,22 +10,22 @@ use std::marker::PhantomData;
 
 mod filling;
 
-/// The bytes that an archived `T` is to have, and the position of the first one in the buffer. What
-/// implements `Archive` takes it apart by a pattern, so that its caller knows the bytes afterwards.
-/// In its place rkyv 0.8.18 has a place over a raw pointer.
+/// The bytes of an archived `T` to be written, and their position in the buffer. What implements
+/// `Archive` takes it apart by a pattern, so that its caller knows the bytes afterwards. In its
+/// place rkyv 0.8.18 has a place over a raw pointer.
 #[derive(Drop)]
 pub struct Place<'a, T> {
-    /// The bytes: as many as a `T` has, all of them 0 before something is written. `resolve`
-    /// requires both.
+    /// The bytes: those of a `T`, all of them 0 before something is written. `resolve` requires
+    /// both.
     pub bytes: &'a mut [u8],
-    /// Where they stand, in bytes from the buffer's first one.
+    /// Where they lie, in bytes from the buffer's first one.
     pub pos: usize,
     of: PhantomData<T>,
 }
 
 impl<'a, T> Place<'a, T> {
     /// The place of these bytes, which lie at `pos`, in bytes from the buffer's first one. What
-    /// takes the place asks for the size that a `T` has. Our own.
+    /// takes the place requires the size of a `T`.
     #[inline(always)]
     pub fn new(pos: usize, bytes: &'a mut [u8]) -> Place<'a, T>
         ensures same_reference { result.bytes.ghost_name ≡ bytes.entry.ghost_name }
@@ -39,7 +39,7 @@ impl<'a, T> Place<'a, T> {
         }
     }
 
-    /// Where it stands, in bytes from the buffer's first one.
+    /// Where it lies, in bytes from the buffer's first one.
     pub fn pos(&self) -> usize
         ensures { result ≡ self.now.pos }
     {
@@ -53,7 +53,7 @@ impl<'a, T> Place<'a, T> {
         &*self.bytes
     }
 
-    /// The same place for a shorter time. No byte changes by this call. Our own.
+    /// The same place for a shorter time. No byte changes by this call.
     pub fn reborrow(&mut self) -> Place<'_, T>
         ensures buffer { result.bytes.now ≡ self.old.bytes.now }
         ensures position { result.pos ≡ self.old.pos }
@@ -79,8 +79,10 @@ impl<'a, T: SealedLeaf> Place<'a, T> {
 }
 
 impl<'a, T: Record> Place<'a, T> {
-    /// The place of part `i`. The caller must ensure that this part is a `U`, that the place has as many bytes as a `T`, and that their end fits `usize`.
-    /// What the record's bytes are afterwards isn't said: `resolve_field` says it. Our own, where rkyv 0.8.18 has a macro that goes to the fields.
+    /// The place of part `i`. The caller must ensure that this part is a `U`, that the place has
+    /// the size of a `T`, and that its end fits `usize`. What the record's bytes are afterwards
+    /// isn't promised: `resolve_field` promises it. rkyv 0.8.18 has a macro that goes to the
+    /// fields.
     pub fn field<U: Portable>(self, i: usize) -> Place<'a, U>
         requires part { part_at T.Parts.parts i ≡ Some U.shape }
         requires size { T.Parts.size_at i ≡ U.layout.size }

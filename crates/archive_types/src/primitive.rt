@@ -35,8 +35,7 @@ use blocks::read_blocks;
 pub use leaves::Leaf;
 pub use sealed::SealedLeaf;
 
-/// A native value that is archived as the bytes that stand for it. Our own, so that one
-/// implementation archives all of them.
+/// A native value that is archived as its bytes. So one implementation archives all of them.
 pub trait Source: Native {
     /// Its archived type.
     type Format: Portable;
@@ -52,14 +51,14 @@ pub trait Source: Native {
     ghost same_shape: { Self.Format.shape ≡ leaf Self.kind };
 }
 
-/// A source that lies in an archive as it is, so that its format is itself: `()`, `bool`, `u8`, `i8`. Our own.
+/// A source that lies in an archive as it is, so that its format is itself: `()`, `bool`, `u8`, `i8`.
 pub trait Plain: Source + Portable {
     // As a pointee it is its leaf.
     ghost same_pointee: { Self.pointee ≡ one (leaf Self.kind) };
 }
 
 /// Writes the bytes of a leaf: wherever they lie, they are read as the value. Requires as many
-/// bytes as the value has. Our own.
+/// bytes as the value has.
 #[inline(always)]
 pub fn write_leaf<N: Native>(value: N, bytes: &mut [u8])
     requires { length bytes.old ≡ N.byte_count }
@@ -92,7 +91,7 @@ impl<N: Source, D: Entries> Deserialize<N, D> for LittleEndian<N> {
         Ok(view.get())
     }
 
-    /// Whole blocks of 1,024, where nothing stands between the numbers.
+    /// Whole blocks of 1,024, if nothing lies between the numbers.
     #[inline(always)]
     fn deserialize_first(
         alloc: Global,

@@ -20,8 +20,8 @@ use std::alloc::Global;
 use std::marker::PhantomData;
 pub use writing::{RcResolver, RcWeakResolver, write_null, write_pointer, write_shared};
 
-/// How values are shared: a name, which tells one flavor's pointers from another's, and whether a value may hold a pointer to itself. As in rkyv
-/// 0.8.18, where the name is the type.
+/// How values are shared: a name, by which one flavor's pointers differ from another's, and whether
+/// a value may lead to itself. In rkyv 0.8.18 the name is the type.
 pub trait Flavor {
     /// Whether a shared value may hold a pointer to itself.
     const ALLOW_CYCLES: bool;
@@ -32,13 +32,13 @@ pub trait Flavor {
     // The name.
     ghost name: { Name };
 
-    /// The name. Our own.
+    /// The name.
     fn name() -> &'static str
         ensures { result.now ≡ name };
 }
 
 /// A flavor whose values never hold a pointer to themselves: what compares pointees, or reads them
-/// back at each pointer, requires one. Our own.
+/// back at each pointer, requires one.
 pub trait Acyclic: Flavor {
     ghost acyclic: { Self.ALLOW_CYCLES ≡ false };
 }

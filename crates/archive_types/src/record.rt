@@ -1,5 +1,5 @@
-//! Records by their parts: what the impls of a user-defined record call. Our own, where rkyv 0.8.18
-//! derives the impls.
+//! Records by their parts: what the impls of a user-defined record call. rkyv 0.8.18 derives the
+//! impls.
 
 ghost use Rattle.std.specs.Prelude.{◌≡◌, length, IfOk, OnOk, IfErr};
 ghost use Rattle.archive_check.specs.Entries.{ReadsBack, RefusesReading};
@@ -37,9 +37,9 @@ pub fn serialize_record<
 }
 
 /// Writes the archived record over the bytes of `place`, part by part, each at its offset; between
-/// them and behind the last one zeros stay. The caller must ensure that the bytes are zeros, as
-/// many as the record has, and that the resolvers are those of these parts. Fails as the parts do:
-/// with `IsizeOverflow` or `OffsetOverflow` if an offset doesn't fit.
+/// them and behind the last one zeros stay. The caller must ensure that the bytes are zeros, of the
+/// record's size, and that the resolvers are those of these parts. Fails as the parts do: with
+/// `IsizeOverflow` or `OffsetOverflow` if an offset doesn't fit.
 #[inline(always)]
 pub fn resolve_record<T, P: SourceParts<T>, X: Record<Parts = P::Archived>>(
     whole: &T,

@@ -1,4 +1,4 @@
-//! Relative pointers: offsets from where they stand to what they lead to. As in rkyv 0.8.18.
+//! Relative pointers: offsets from their own position to what they lead to. As in rkyv 0.8.18.
 
 mod metadata;
 mod raw;

@@ -305,7 +305,7 @@ pub trait ResolveExt: Writer {
 
 impl<W: Writer> ResolveExt for W {}
 
-/// As `serialize_one`, with memory for a large region from `alloc`. Our own.
+/// As `serialize_one`, with memory for a large region from `alloc`.
 #[inline(always)]
 pub fn serialize_with<A: Allocator + Drop, S: Writer, T: Serialize<S>>(
     alloc: A,
@@ -322,9 +322,9 @@ pub fn serialize_with<A: Allocator + Drop, S: Writer, T: Serialize<S>>(
     serializer.resolve_aligned(alloc, value, resolver)
 }
 
-/// Writes what `value` owns and then the value as a region, at the next multiple of its alignment,
-/// and returns the region's position in bytes. Existing bytes and known keys stay, after a failure
-/// too. Our own: rkyv 0.8.18 has it as `SerializeUnsized` of a value.
+/// Writes what `value` owns, then the value as an aligned region, and returns its position in
+/// bytes. Existing bytes and known keys stay, after a failure too. rkyv 0.8.18 has it as
+/// `SerializeUnsized` of a value.
 ///
 /// Errors:
 /// - `OutOfMemory`: memory is refused.

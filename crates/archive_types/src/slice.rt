@@ -28,8 +28,8 @@ pub(crate) use sources::{serialize_each, serialize_in_turn, serialize_slice};
 use std::alloc::Global;
 use std::marker::PhantomData;
 
-/// An archived slice: elements one after another, as many as the pointer to it says. In its place
-/// rkyv 0.8.18 has a slice of archived values.
+/// An archived slice: elements one after another, whose number is in the pointer to it. rkyv 0.8.18
+/// has a slice of archived values instead.
 #[derive(Debug)]
 pub struct ArchivedSlice<T> {
     of: PhantomData<T>,
@@ -108,7 +108,8 @@ impl<'a, T: Portable> Ref<'a, ArchivedSlice<T>> {
         })
     }
 
-    /// The element `index`, of which 0 is the first; none where there are no more than so many. As in rkyv 0.8.18.
+    /// The element `index`, of which 0 is the first; `None` if there are no more than `index`. As
+    /// in rkyv 0.8.18.
     pub fn get(self, index: usize) -> Option<Ref<'a, T>>
         ensures some { IsSome result ↔ (index < self.entry.len) }
         ensures buffer { IfSome result (λ r. r.bytes.now ≡ self.entry.bytes.now) }

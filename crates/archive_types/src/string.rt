@@ -52,8 +52,8 @@ use archive_write::ser::{ResolverAlloc, Writer, WriterExt};
 use std::alloc::Global;
 use std::marker::Model;
 
-/// An archived string: eight bytes at a multiple of four, which hold a text of at most eight bytes or say where a longer one stands. As in rkyv
-/// 0.8.18.
+/// An archived string: eight bytes at a multiple of four, which hold a text of at most eight bytes
+/// or lead to a longer one. As in rkyv 0.8.18.
 #[derive(Clone, Copy, Debug)]
 pub struct ArchivedString {
     _private: (),

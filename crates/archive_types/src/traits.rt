@@ -1,4 +1,4 @@
-//! What is archived and how, and what is read back. The traits are those of rkyv 0.8.18; their laws are our own.
+//! What is archived and how, and what is read back. The traits are those of rkyv 0.8.18, with laws.
 
 ghost use Rattle.archive_check.specs.Denotes.{Naming};
 ghost use Rattle.std.specs.Prelude.{◌≡◌, ◌<◌, ◌≤◌, ◌↔◌, ℕ, length, Option, IfOk, OnOk, IfErr, IfSome, IsErr, IsSome, IsTrue, List, [], None, false};
@@ -58,7 +58,8 @@ pub trait Archive {
     /// The archived type.
     type Archived: Portable;
 
-    /// What is kept of a value from its serialization until it is resolved, such as the positions of what it owns.
+    /// What is kept of a value between `serialize` and `resolve`, such as the positions of what it
+    /// owns.
     type Resolver: Drop;
 
     // What a value means, its shared values named by their keys.
@@ -76,9 +77,9 @@ pub trait Archive {
     // Where slices of such values are written in bulk: the bytes of each value. Most are not.
     ghost in_bulk: { Option (Self → List ℕ) };
 
-    /// Writes the value's own bytes over `place`. The caller must ensure that these are zeros, as
-    /// many as the archived type has, that their end fits `usize`, and that `resolver` is one of
-    /// this value.
+    /// Writes the value's own bytes over `place`. The caller must ensure that these are zeros, of
+    /// the archived type's size, that their end fits `usize`, and that `resolver` is one of this
+    /// value.
     ///
     /// Errors:
     /// - `IsizeOverflow`, `OffsetOverflow`: an offset doesn't fit.
@@ -97,8 +98,8 @@ pub trait Archive {
     fn copy_optimization() -> CopyOptimization<Self>
         ensures { IsTrue result.is_enabled ↔ IsSome in_bulk };
 
-    /// Writes `values` in bulk as a region, `together` of them always in one piece, and returns its
-    /// position in bytes, or `None` if it wrote nothing. A `Copied` type implements it by
+    /// Writes `values` in bulk as a region, and returns its position in bytes, or `None` if it
+    /// wrote nothing. `together` of them are always in one piece. A `Copied` type implements it by
     /// `slice::copy_groups`, others return `None`. Fails as `copy_slice` does.
     fn serialize_copied<S: Writer + Keys>(
         values: &[Self],
@@ -163,7 +164,7 @@ pub trait Deserialize<T: Archive, D: Entries>: ArchivePointee {
     ghost use Rattle.archive_types.specs.Views.{AreViewed};
 
     /// What implementors write, over the part of a view; callers use `deserialize`. The caller must
-    /// ensure what a view promises of the part. Our own.
+    /// ensure what a view promises of the part.
     fn deserialize_part(alloc: Global, part: RawView<'_>, deserializer: &mut D) -> Result<T, Error>
         requires { IsPartOf Self.ArchivePointee part }
         ensures read { IfOk result (Read Self.ArchivePointee part D.Entries deserializer
@@ -172,9 +173,9 @@ pub trait Deserialize<T: Archive, D: Entries>: ArchivePointee {
             deserializer) };
 
     /// Reads the first of `count` values, which lie `step` bytes apart from the position `pos` on,
-    /// into `items`: as many as can be read in bulk, by default none. `deserialize_part` reads the
+    /// into `items`: those that can be read in bulk, by default none. `deserialize_part` reads the
     /// others. The caller must ensure what a view promises of each, and that `items` is empty with
-    /// room for all. Our own.
+    /// room for all.
     #[inline(always)]
     fn deserialize_first(
         _alloc: Global,
@@ -269,7 +270,7 @@ pub trait DeserializeUnsized<T: Archive, D: Entries>: ArchivePointee {
     ghost use Rattle.archive_types.specs.Words.Sources.{Read};
 
     /// What implementors write, over the part of a view; callers use `deserialize_unsized`. The
-    /// caller must ensure what a view promises of the part. Our own.
+    /// caller must ensure what a view promises of the part.
     fn deserialize_unsized_part(
         alloc: Global,
         part: RawView<'_>,

@@ -16,8 +16,8 @@ use archive_num::{Integer, LittleEndian, Native};
 use std::alloc::AllocError;
 use std::marker::PhantomData;
 
-/// A view of an archived value, slice or text: a part of a validated buffer. It stands for rkyv
-/// 0.8.18's reference to the archived type.
+/// A view of an archived value, slice or text: a part of a validated buffer. In rkyv 0.8.18 it is a
+/// reference to the archived type.
 ///
 /// `access` returns the root's view, and its calls those of parts. They never fail and take no
 /// memory, since what they read was validated.
@@ -69,7 +69,7 @@ impl<'a, T: ArchivePointee> Ref<'a, T> {
 
     /// The view of a part. The caller must ensure that it is a region of a validated buffer, or
     /// lies in one. The calls of `api` return the root's view; only implementors of `Deserialize`
-    /// need this. Our own.
+    /// need this.
     pub fn at(part: RawView<'a>) -> Ref<'a, T>
         requires { Viewed T.definitions part.bytes.now part.pos T.pointee part.len }
         ensures buffer { result.bytes.now ≡ part.entry.bytes.now }
@@ -84,7 +84,7 @@ impl<'a, T: ArchivePointee> Ref<'a, T> {
         }
     }
 
-    /// The part that it shows: the whole buffer, the position and the length. Our own.
+    /// The part that it shows: the whole buffer, the position and the length.
     pub fn part(self) -> RawView<'a>
         ensures buffer { result.bytes.now ≡ self.entry.bytes.now }
         ensures position { result.pos ≡ self.entry.pos }

@@ -26,7 +26,7 @@ IsSet before key state after = (k : ℕ) → after k ≡ update nat_eq before ke
 abbrev pub KnowsNone : (ℕ → KeyState) → Type 0
 KnowsNone states = (k : ℕ) → states k ≡ None
 
--- each known key keeps its state
+-- Each known key keeps its state.
 abbrev pub KeepsKnown : (ℕ → KeyState) → (ℕ → KeyState) → Type 0
 KeepsKnown before after = (k : ℕ) (s : Option ℕ) → before k ≡ Some s → after k ≡ Some s
 

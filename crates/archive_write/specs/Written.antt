@@ -6,18 +6,18 @@ use Rattle.archive_check.specs.declared.format.error.Error.{Error}
 use Rattle.archive_check.specs.declared.format.error.Error.TheVariants.{OutOfMemory, BufferOverflow, WriterFailed}
 use Rattle.archive_write.specs.Sharing.{KeepsKnown}
 
--- ys is xs and then perhaps more
+-- The list ys begins with xs.
 pub record IsBeginning (xs ys : List ℕ) : Type 0 where
   pub rest : List ℕ
   pub whole : ys ≡ xs ++ rest
 
--- the room falls by as many bytes as those told have grown
+-- The room has fallen by as many bytes as came.
 abbrev pub RoomFalls : Option ℕ → Option ℕ → List ℕ → List ℕ → Type 0
 RoomFalls None new xs ys = new ≡ None
 RoomFalls (Some room) new xs ys = (length ys ≤ length xs + room) × (new ≡ Some (room - (length ys - length xs)))
 
--- What was told before is a beginning of what is told now; the room has fallen by as many bytes as came; no failure is forgotten; each known key keeps its
--- state.
+-- The new bytes begin with the old ones, the room has fallen by as many bytes as came, no failure
+-- is forgotten, and each known key keeps its state.
 pub record GoesOn (old new : WriterState) : Type 0 where
   pub kept : IsBeginning old.bytes new.bytes
   pub room : RoomFalls old.room new.room old.bytes new.bytes

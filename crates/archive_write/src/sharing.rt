@@ -22,13 +22,13 @@ pub enum SharingState {
     Started,
     /// It is pending: its value is being written.
     Pending,
-    /// Its value stands at this position, in bytes from the first one.
+    /// Its value lies at this position, in bytes from the first one.
     Finished(usize),
 }
 
-/// What keeps the states of shared keys. The told bytes stay as they are, and a failed call changes
-/// nothing. The calls are those of rkyv 0.8.18; a key is a number that the owner chooses, in place
-/// of an address.
+/// What keeps the states of shared keys. The writer's bytes stay as they are, and a failed call
+/// changes nothing. The calls are those of rkyv 0.8.18; a key is a number that the owner chooses,
+/// in place of an address.
 pub trait Sharing: Keys {
     /// Returns what `key` was, and makes it pending where it was unknown. Fails with `OutOfMemory`
     /// if memory is refused, for an unknown key alone.
@@ -77,8 +77,12 @@ impl<W: Keys, A, S: Sharing> Sharing for Serializer<W, A, S> {
 
 type States<A> = HashMap<u64, Option<usize>, BuildHasherDefault<FoldHasher>, A>;
 
-/// The states of the keys that one archive has met, in memory from an `A`. As in rkyv 0.8.18, which takes its memory unasked. The map is made with
-/// the first key, since most archives have none.
+/// The states of the shared keys of one archive, in memory from an `A`. As in rkyv 0.8.18.
+///
+/// ```
+/// let sharing = Share::new(alloc);          // knows no key, and takes no memory yet
+/// let serializer = Serializer::new(Vec::new(alloc), alloc, sharing);
+/// ```
 #[derive(Drop)]
 pub struct Share<A: Allocator = Global> {
     alloc: A,

@@ -1,4 +1,13 @@
-//! A length in metres: an own type, of which slices are written in bulk.
+//! A length in metres, whose slices are written in bulk.
+//!
+//! A type may be, if its values own nothing and each has the same bytes, at most 1,024, wherever
+//! it is archived.
+//!
+//! - `Copied` has the archived type, what a value means, its keys and its bytes. By its laws a
+//!   value owns nothing, and its bytes read as the value. By that of `CopiedSource` its keys and
+//!   meaning are those of its `Archive`.
+//! - In its `Archive`, `in_bulk` has those bytes, `copy_optimization` returns `enable()`, and
+//!   `serialize_copied` calls `copy_groups`. Other types have `None`, `disable()` and `Ok(None)`.
 
 ghost use Rattle.std.specs.Prelude.{◌≡◌, ⊤, refl, [], pos, length, OnOk, IfErr, Some};
 ghost use Rattle.std.specs.Int.{w32};

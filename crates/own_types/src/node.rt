@@ -1,4 +1,12 @@
-//! A list of boxes in boxes: an own type that holds itself.
+//! A list of boxes in boxes: a recursive enum by hand, whose variants hold nothing or a box of it.
+//!
+//! - `NodeFormat` names the archived type and what it looks like, by `specs/NodeShape.antt`.
+//!   `RecursiveChoice` names its variants as types, for `tag` and `payload`.
+//! - `Archive` says what a value means, and what is read in its place while boxes are followed
+//!   later. Its laws follow from `node_nest`. A variant that holds more than a box calls
+//!   `serialize_inner` and `resolve_inner`, with `proofs/NamedVariants` of `archive_core`.
+//! - `Nested` returns the tag, and what the box holds. `FromNested` makes a value: `empty` of a
+//!   variant that holds nothing, `around` of a box.
 
 ghost use Rattle.std.specs.Prelude.{◌≡◌, [], length, refl, ⊤, OnOk, IfErr, None};
 ghost use Rattle.std.proofs.Common.{inl, inr, lit≤};
@@ -34,7 +42,7 @@ pub enum Node {
     Cons(Box<Node>),
 }
 
-/// So many boxes, one in another. Memory comes from `alloc`; refused with `OutOfMemory`, 1, where it is refused.
+/// As many boxes as `count`, one in another. Fails with `OutOfMemory` if memory from `alloc` is refused.
 pub fn node_of(alloc: Global, count: usize) -> Result<Node, Error> {
     let mut node = Node::Nil;
     for _ in 0..count {

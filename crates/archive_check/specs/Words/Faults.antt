@@ -6,14 +6,14 @@ use Rattle.archive_check.specs.declared.format.error.Error.TheVariants.{OutOfMem
 use Rattle.archive_check.specs.Shape.{Kind, bool, char, non_zero}
 use Rattle.archive_check.specs.Trail.{Fault, too_large, outside, unaligned, too_deep, cyclic, other_type, other_length, illegal, no_such_variant, no_text, no_string, unsorted}
 
--- the refusal of an illegal leaf; no bytes of a unit, a number or an offset are illegal
+-- The error of an illegal leaf; a unit, a number and an offset are never illegal.
 abbrev pub illegal_error : Kind → Error
 illegal_error bool = InvalidBool
 illegal_error char = InvalidChar
 illegal_error (non_zero s w) = ZeroNumber
 illegal_error _ = OutOfMemory
 
--- the refusal says the fault
+-- The error names the fault, with its fields.
 abbrev pub IsFor : Fault → Error → Type 0
 IsFor too_large e = e ≡ LayoutTooLarge
 IsFor (outside where_to size start stop) e = e ≡ InvalidSubtreePointer where_to size start stop

@@ -4,6 +4,7 @@ use Rattle.archive_check.specs.Shape.{Shape, Pointee}
 use Rattle.archive_check.specs.Layout.{Layout}
 use Rattle.archive_check.specs.Definitions.{Definitions}
 
--- what a format tells of itself: what it is as a pointee, its definitions, how its metadata tells a length, its shape and layout
+-- What a format says of itself: its shape, definitions and layout, what it is as a pointee, and the
+-- length in its metadata.
 abbrev pub FormatOf : Type 0 → Type 0
 FormatOf M = record { pointee : Pointee; definitions : Definitions; metadata_length : M → ℕ; shape : Shape; layout : Layout }

@@ -24,7 +24,7 @@ pub(crate) struct FirstPosition {
 }
 
 impl FirstPosition {
-    /// One that is started. Memory may be refused for the pointee.
+    /// One that is started. Fails if memory for the pointee is refused.
     pub(crate) fn start(
         flavor: &FlavorInfo,
         pointee: &Pointee,
@@ -44,7 +44,7 @@ impl FirstPosition {
         })
     }
 
-    /// What is answered where this position is started again.
+    /// The result of starting this position again.
     pub(crate) fn answer(
         &self,
         flavor: &FlavorInfo,

@@ -94,7 +94,7 @@ impl<'a> ArchiveValidator<'a> {
         }
     }
 
-    /// How many regions were entered, `usize::MAX` where it is more. Our own.
+    /// How many regions were entered, `usize::MAX` where it is more.
     pub fn subtrees(&self) -> usize
         ensures { result ≡ self.now.pushes }
     {

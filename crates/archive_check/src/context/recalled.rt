@@ -15,8 +15,8 @@ pub(crate) struct Slot {
     pub(crate) shared_type: u32,
 }
 
-/// Finished positions in slots: each may stand in one of two, and no other is looked at, so one that finds both taken drives another out. What a slot
-/// says is always true.
+/// Finished positions in slots: each may be in one of two slots, and no other is searched, so one
+/// that finds both taken drives another out. What a slot says is always true.
 #[derive(Drop)]
 pub(crate) struct FinishedPositions<A: Allocator> {
     alloc: A,
@@ -140,8 +140,8 @@ impl<A: Allocator + Copy> FinishedPositions<A> {
         }
     }
 
-    /// Makes two slots for each of so many positions, at least, so that to add one takes no memory. Refused where memory is; what is recalled stays in
-    /// any case.
+    /// Makes at least two slots for each of `count` positions, so that adding one takes no memory.
+    /// Fails if memory is refused; what is recalled stays in any case.
     pub(crate) fn make_room(&mut self, count: usize) -> Result<(), AllocError>
         ensures { (kept : ℤ → Option SharedPosition) → AreRecalled self.old.slots.items kept
             → AreRecalled self.new.slots.items kept }

@@ -1,4 +1,4 @@
-//! How a check stops whose refusal is kept beside its answer: a refusal is wide, and a call that
+//! How a check stops whose error is kept beside its result: an error is wide, and a call that
 //! returns one costs each caller a place for it.
 
 ghost use Rattle.std.specs.Prelude.{◌≡◌, None};
@@ -14,7 +14,7 @@ pub(crate) fn keep(refusal: &mut Error, fault: Error)
     *refusal = fault;
 }
 
-/// Stops the check: `None`, and `refusal` is `fault`, whatever it was. Our own.
+/// Stops the check: `None`, and `refusal` is `fault`, whatever it was.
 #[inline]
 pub fn refuse<T>(refusal: &mut Error, fault: Error) -> Option<T>
     ensures none { result ≡ None }

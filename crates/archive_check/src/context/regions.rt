@@ -1,5 +1,5 @@
-//! Regions are entered and left, and why not is kept beside the answer. The calls that do so stand
-//! in their callers, since what they return is wide.
+//! Regions are entered and left; the error is kept beside the result. These calls are inlined,
+//! since what they return is wide.
 
 ghost use Rattle.std.specs.Prelude.{◌≡◌, ◌+◌, ◌<◌, ◌≤◌, ℕ, pos, OnSome, IfSome, IfNone, Some, Err, is_err, true};
 ghost use Rattle.archive_check.specs.context.Ranges.{subtree_answer, pop_answer, popped};
@@ -56,7 +56,7 @@ fn refuse_range<C: ArchiveContext>(start: usize, end: usize, refusal: &mut Error
 
 /// Leaves a region: the range is that from `start` to `end` again, as `Region` keeps it. On failure
 /// returns `None`, nothing has changed, and `refusal` is `RangePoppedOutOfOrder` or
-/// `RangePoppedTooManyTimes`, as of `pop_subtree_range`. Our own.
+/// `RangePoppedTooManyTimes`, as of `pop_subtree_range`.
 #[inline(always)]
 pub fn leave<C: ArchiveContext>(
     start: usize,
@@ -81,7 +81,7 @@ pub fn leave<C: ArchiveContext>(
 /// Returns it with the range to be given back by `leave`. The caller must ensure that the alignment
 /// isn't 0. On failure returns `None`, nothing has changed, and `refusal` is the first that applies
 /// of `LayoutTooLarge`, `InvalidSubtreePointer`, `UnalignedPointer` and
-/// `ExceededMaximumSubtreeDepth`. Our own.
+/// `ExceededMaximumSubtreeDepth`.
 #[inline(always)]
 pub fn enter<C: ArchiveContext>(
     whole: Option<usize>,

@@ -14,7 +14,8 @@ use crate::format::layout::Layout;
 use std::alloc::Global;
 use std::ops::Range;
 
-/// A context that asks `archive` about the range, and `shared` about shared positions. As in rkyv 0.8.18.
+/// A context whose range is kept by `archive`, and whose shared positions by `shared`. As in rkyv
+/// 0.8.18.
 #[derive(Drop)]
 pub struct Validator<A, S> {
     archive: A,
@@ -114,7 +115,7 @@ pub struct HighValidator<'a> {
 impl<'a> HighValidator<'a> {
     ghost use Rattle.archive_check.specs.context.Validators.{positions_met};
 
-    /// The whole of `bytes`, of which nothing was met yet, with no limit of depth. Memory comes from `alloc`, and none is taken yet. Our own.
+    /// The whole of `bytes`, of which nothing was met yet, with no limit of depth. Memory comes from `alloc`, and none is taken yet.
     pub fn new(alloc: Global, bytes: &'a [u8]) -> HighValidator<'a>
         ensures whole { IsWholeIn ⟦<HighValidator<'a> as Context>⟧ result bytes.now }
         ensures unlimited { (⟦<HighValidator<'a> as Context>⟧.state result).depth ≡ None }
@@ -125,7 +126,7 @@ impl<'a> HighValidator<'a> {
 
     /// The whole of `bytes`, of which nothing was met yet; of `depth` levels the last lets no
     /// region be entered, so 2 lets one be, the root. The caller must ensure that `depth` isn't 0;
-    /// None is no limit. Memory comes from `alloc`, and none is taken yet. Our own.
+    /// None is no limit. Memory comes from `alloc`, and none is taken yet.
     pub fn with_max_depth(alloc: Global, bytes: &'a [u8], depth: Option<usize>) -> HighValidator<'a>
         requires { depth ≢ Some 0 }
         ensures whole { IsWholeIn ⟦<HighValidator<'a> as Context>⟧ result bytes.now }

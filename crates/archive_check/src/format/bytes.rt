@@ -113,8 +113,8 @@ fn first_set(mask: u64) -> usize
     mask.trailing_zeros() as usize
 }
 
-/// How many of the eight bytes at `p` stand before the first 0xff; 8 where there is none. The
-/// caller must ensure that they lie in the buffer.
+/// How many of the eight bytes at `p` come before the first 0xff; 8 if there is none. The caller
+/// must ensure that they lie in the buffer.
 #[inline(always)]
 pub fn inline_length(bytes: &[u8], p: usize) -> usize
     requires { p + 8 ≤ length bytes.now }

@@ -1,4 +1,4 @@
-//! Definitions: what names in expressions stand for. They are our own, as expressions are.
+//! Definitions: what names in expressions stand for. rkyv 0.8.18 has none.
 
 ghost use Rattle.std.specs.Prelude.{◌≡◌, ◌++◌, ◌∷◌, [], IfOk, OnErr, if◌then◌else◌};
 ghost use Rattle.archive_check.specs.Shape.{definition};
@@ -10,7 +10,7 @@ use crate::format::error::Error;
 use crate::format::expr::Expr;
 use std::alloc::Global;
 
-/// The expression that a name stands for.
+/// A name, with the expression that it stands for.
 #[derive(Debug, Drop, PartialEq, Eq)]
 pub struct Def {
     /// The name.

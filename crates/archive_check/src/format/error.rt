@@ -1,4 +1,4 @@
-//! The refusals. Each has a number and a name; text for people comes by `Display`. docs/FORMAT.md has a table of them.
+//! The errors. Each has a number and a name; text for people comes by `Display`. docs/FORMAT.md has a table of them.
 
 ghost use Rattle.std.specs.Prelude.{◌≡◌};
 ghost use Rattle.archive_check.specs.Words.Errors.{number_of, name_of};
@@ -7,59 +7,67 @@ ghost use Rattle.archive_check.specs.declared.format.error.Error.TheVariants.{Ou
 use std::alloc::{AllocError, AllocFailed};
 use thiserror::Error;
 
-/// Why a call was refused. The cases and their numbers are this project's own: rkyv 0.8.18 has an error type for each place.
+/// Why a call failed: the one error type of the library, with the fields of what was found.
+///
+/// ```
+/// match access::<ArchivedString>(alloc, bytes.as_slice()) {
+///     Err(Error::InvalidUtf8) => println!(rt; "damaged")?,
+///     Err(error) => println!(rt; "{} {error}", error.name())?,
+///     Ok(view) => println!(rt; "{}", view.as_str())?,
+/// }
+/// ```
 #[derive(Debug, Drop, Clone, Copy, PartialEq, Eq, Error)]
 pub enum Error {
-    /// 1: a growth or an allocation was refused.
+    /// A growth or an allocation was refused.
     #[error("out of memory")]
     OutOfMemory,
-    /// 2: a difference of two positions doesn't fit `isize`.
+    /// A difference of two positions doesn't fit `isize`.
     #[error("the distance between two positions does not fit isize")]
     IsizeOverflow,
-    /// 3: a difference of two positions fits `isize`, and not the offset's type.
+    /// A difference of two positions fits `isize`, and not the offset's type.
     #[error("the distance between a pointer and its target does not fit the offset")]
     OffsetOverflow,
-    /// 4: a written pointee's position is above 4,294,967,295.
+    /// A written pointee's position is above 4,294,967,295.
     #[error("the position of a value that a pointer leads to is above 4294967295")]
     PositionTooLarge,
-    /// 5: the length of a slice, a vec or a text is above 4,294,967,295.
+    /// The length of a slice, a vec or a text is above 4,294,967,295.
     #[error("the length of a slice or text is above 4294967295")]
     LengthTooLarge,
-    /// 6: a `usize` or `isize` that is written doesn't fit 32 bits.
+    /// A `usize` or `isize` that is written doesn't fit 32 bits.
     #[error("a usize or isize does not fit the 32 bits that it has in an archive")]
     NumberTooLarge,
-    /// 7: a string's text is longer than 1,073,741,823 bytes.
+    /// A string's text is longer than 1,073,741,823 bytes.
     #[error("the text of a string is longer than 1073741823 bytes")]
     StringTooLong,
-    /// 8: a writer that holds `len` of at most `cap` bytes was given `write_len` more, which don't fit.
+    /// A writer that holds `len` of at most `cap` bytes was given `write_len` more, which don't fit.
     #[error("{write_len} more bytes do not fit a buffer of {cap} bytes that holds {len}")]
     BufferOverflow {
         write_len: usize,
         cap: usize,
         len: usize,
     },
-    /// 9: the writer's device failed.
+    /// The writer's device failed.
     #[error("the writer could not write to its device")]
     WriterFailed,
-    /// 10: an item of a sequence of unknown length wrote bytes of its own (`serialize_from_unknown_length_iter`).
+    /// An item of a sequence of unknown length wrote bytes of its own (`serialize_from_unknown_length_iter`).
     #[error("an item of an iterator of unknown length wrote bytes of its own")]
     ItemWrote,
-    /// 11: a shared value is written that is being written already.
+    /// A shared value is written that is being written already.
     #[error("a shared value that contains itself cannot be written")]
     CyclicSerialize,
-    /// 12: a shared position is met that is being checked already, and its flavor forbids cycles.
+    /// A shared position is met that is being checked already, and its flavor forbids cycles.
     #[error("a shared value contains itself, which its flavor forbids")]
     CyclicValidate,
-    /// 13: a shared position is met that is being read already.
+    /// A shared position is met that is being read already.
     #[error("a shared value that contains itself cannot be read back")]
     CyclicDeserialize,
-    /// 14: a shared key or position is finished that wasn't started.
+    /// A shared key or position is finished that wasn't started.
     #[error("a shared value was finished before it was started")]
     NotStarted,
-    /// 15: a shared key or position is finished that is finished already.
+    /// A shared key or position is finished that is finished already.
     #[error("a shared value was finished twice")]
     AlreadyFinished,
-    /// 16: a region of `size` bytes at `position` doesn't lie in the range `start..end`.
+    /// A region of `size` bytes at `position` doesn't lie in the range `start..end`.
     #[error("region of {size} bytes at position {position} lies outside {start}..{end}")]
     InvalidSubtreePointer {
         position: i128,
@@ -67,58 +75,58 @@ pub enum Error {
         start: usize,
         end: usize,
     },
-    /// 17: a region lies in the range, and its position is no multiple of `align`.
+    /// A region lies in the range, and its position is no multiple of `align`.
     #[error("region at position {position} is not aligned to {align} bytes")]
     UnalignedPointer {
         position: i128,
         align: usize,
     },
-    /// 18: a region is entered with one level left, the last of which lets none be entered.
+    /// A region is entered with one level left, the last of which lets none be entered.
     #[error("regions are nested deeper than the limit allows")]
     ExceededMaximumSubtreeDepth,
-    /// 19: a range is given back where the levels left are `usize::MAX`.
+    /// A range is given back where the levels left are `usize::MAX`.
     #[error("a range was popped more often than one was pushed")]
     RangePoppedTooManyTimes,
-    /// 20: a range is given back that begins below the current end.
+    /// A range is given back that begins below the current end.
     #[error("a range was popped out of order")]
     RangePoppedOutOfOrder,
-    /// 21: a shared position is met that was met with another flavor or pointee.
+    /// A shared position is met that was met with another flavor or pointee.
     #[error("pointers of two types lead to one shared value")]
     TypeMismatch,
-    /// 22: a shared position is met that was met with this type and another length.
+    /// A shared position is met that was met with this type and another length.
     #[error("pointers of two lengths lead to one shared value")]
     MetadataMismatch,
-    /// 23: a region's size, or the end of one that is written, is above `usize::MAX`.
+    /// A region's size, or the end of one that is written, is above `usize::MAX`.
     #[error("a value takes more bytes than usize can count")]
     LayoutTooLarge,
-    /// 24: the tag `value` names no variant of the choice `name`.
+    /// The tag `value` names no variant of the choice `name`.
     #[error("tag {value} names no variant of {name}")]
     InvalidDiscriminant {
         name: &'static str,
         value: u8,
     },
-    /// 25: a bool's byte is neither 0 nor 1.
+    /// A bool's byte is neither 0 nor 1.
     #[error("the byte of a bool is neither 0 nor 1")]
     InvalidBool,
-    /// 26: a char's number is no scalar value of Unicode.
+    /// A char's number is no scalar value of Unicode.
     #[error("the number of a char is not a Unicode scalar value")]
     InvalidChar,
-    /// 27: all bytes of a non-zero number are 0.
+    /// All bytes of a non-zero number are 0.
     #[error("a non-zero number is 0")]
     ZeroNumber,
-    /// 28: a text isn't UTF-8.
+    /// A text isn't UTF-8.
     #[error("text is not valid UTF-8")]
     InvalidUtf8,
-    /// 29: an out-of-line string codes a length of eight bytes or fewer.
+    /// An out-of-line string codes a length of eight bytes or fewer.
     #[error("a string that is stored out of line has eight bytes or fewer")]
     InvalidStringRepr,
-    /// 30: a name that a type reaches has no definition, or two different ones.
+    /// A name that a type reaches has no definition, or two different ones.
     #[error("the name of a type has no definition, or two different ones")]
     ShapeConflict,
-    /// 31: a name contains itself other than behind a pointer.
+    /// A name contains itself other than behind a pointer.
     #[error("a type contains itself without a pointer between")]
     RecursiveLayout,
-    /// 32: two neighbouring keys of a sorted map, or of the pairs of one to be written, do not ascend strictly.
+    /// Two neighbouring keys of a sorted map, or of the pairs of one to be written, do not ascend strictly.
     #[error("the keys of a sorted map do not ascend strictly")]
     UnsortedKeys,
 }
@@ -140,7 +148,7 @@ impl<T: Drop> From<AllocFailed<T>> for Error {
 }
 
 impl Error {
-    /// The refusal's number, from 1 to 32. Our own.
+    /// The error's number, from 1 to 32, as in docs/FORMAT.md.
     pub fn number(&self) -> u32
         ensures { result ≡ number_of self.now }
     {
@@ -180,7 +188,7 @@ impl Error {
         }
     }
 
-    /// The refusal's name, as the case is spelled. Our own.
+    /// The error's name, as the variant is spelled.
     pub fn name(&self) -> &'static str
         ensures { result.now ≡ name_of self.now }
     {

@@ -1,6 +1,5 @@
-//! Expressions: what the bytes of an archived type are read as. They are our own: rkyv 0.8.18 has a
-//! trait that each type validates itself by. The bytes that they stand for are those of rkyv
-//! 0.8.18.
+//! Expressions: what the bytes of an archived type are read as. In rkyv 0.8.18 each type validates
+//! itself by a trait instead; the bytes are the same.
 
 ghost use Rattle.std.specs.Prelude.{◌≡◌, ◌↔◌, IsTrue, IfOk, Ok};
 ghost use Rattle.std.specs.Int.{byte_len};
@@ -40,7 +39,7 @@ pub enum IntegerKind {
 }
 
 impl IntegerKind {
-    /// How many bytes it has, which is also its alignment. That numbers of 16 bytes are aligned to 16 is our own choice.
+    /// How many bytes it has, which is also its alignment.
     pub fn size(self) -> usize
         ensures { result ≡ byte_len (integer_of self).1 }
     {
@@ -85,7 +84,7 @@ impl Kind {
         }
     }
 
-    /// Its alignment in bytes: as many as it has, and 1 where it has none.
+    /// Its alignment in bytes: its size, or 1 if it has no bytes.
     pub fn align(self) -> usize
         ensures { result ≡ kind_align (kind_of self) }
     {
@@ -93,7 +92,7 @@ impl Kind {
     }
 }
 
-/// What the keys of a sorted map are. Our own.
+/// What the keys of a sorted map are.
 #[derive(Debug, Clone, Copy, PartialEq, Eq)]
 pub enum Key {
     /// Leaves of a kind, which are ordered by their values: numbers as numbers, chars by their codes, `false` before `true`.
@@ -102,7 +101,7 @@ pub enum Key {
     Str,
 }
 
-/// A flavor of shared pointers, as rkyv 0.8.18's `Flavor`: its name, which is our own, and whether a value may lie within itself.
+/// A flavor of shared pointers: its name, and whether a value may lead to itself.
 #[derive(Debug, Clone, Copy, PartialEq, Eq)]
 pub struct FlavorInfo {
     /// The name.
@@ -127,9 +126,9 @@ pub enum Expr {
     Box(Box<Pointee>),
     /// A pointer to elements of its own, with their number.
     Vec(Box<Expr>),
-    /// A pointer to entries of its own, with their number: records of a key and a value, whose keys ascend strictly. Our own.
+    /// A pointer to entries of its own, with their number: records of a key and a value, whose keys ascend strictly.
     Map(Key, Box<Expr>),
-    /// A string of eight bytes, whose text stands in them or elsewhere.
+    /// A string of eight bytes, which hold its text or lead to it.
     Str,
     /// A pointer to what others may point to as well.
     Shared(FlavorInfo, Box<Pointee>),
@@ -145,14 +144,14 @@ pub enum Expr {
 pub enum Pointee {
     /// One value.
     One(Expr),
-    /// Elements, as many as the pointer's length says.
+    /// Elements; the pointer's length is their number.
     Run(Expr),
     /// A text, of as many bytes as the pointer's length says.
     Text,
 }
 
 impl Expr {
-    /// A choice of two variants with these parts. Its memory comes from `alloc`; it is refused where that refuses. Our own.
+    /// A choice of two variants with these parts. Fails if memory from `alloc` is refused.
     pub fn choice_of_two(
         alloc: Global,
         name: &'static str,
@@ -214,7 +213,8 @@ impl Clone for Expr {
     }
 }
 
-/// A copy is written alike. Its memory comes from the allocators of what is copied; it is refused where they refuse.
+/// A copy is written alike. Its memory comes from the allocators of what is copied; it fails if
+/// they refuse it.
 impl Clone for Pointee {
     ghost is_clone = { λ a b. pointee_of b ≡ pointee_of a };
 

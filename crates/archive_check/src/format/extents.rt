@@ -47,7 +47,7 @@ pub fn multiple_of(n: usize, align: usize) -> usize
     }
 }
 
-/// What so many of a size take.
+/// What `count` values of a size take.
 pub fn times(size: Option<usize>, count: usize) -> Option<usize>
     ensures total { result ≡ times_of size count }
     ensures few { count < 18446744073709551616 }

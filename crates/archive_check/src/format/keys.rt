@@ -1,4 +1,4 @@
-//! The keys of sorted maps: what they take, and how they are ordered where they lie. Our own.
+//! The keys of sorted maps: their size, and their order in the buffer.
 #![tactic(auto, using(crate::proofs::Maps::KeyOrder::key_order), unfolding(crate::specs::Reads::bytes_at, crate::specs::Reads::u32_at, crate::specs::Reads::i32_at, crate::specs::Reads::kind_value, crate::specs::Reads::kind_number))]
 
 ghost use Rattle.std.specs.Prelude.{◌≡◌, ◌↔◌, ◌+◌, ◌≤◌, length, IfSome, IsTrue};
@@ -141,8 +141,8 @@ fn text_elsewhere(bytes: &[u8], p: usize) -> &[u8]
     bytes_within(bytes, position.max(0) as usize, read_coded_length(bytes, p))
 }
 
-/// The text of the string at `p`, wherever it stands: as much of it as lies in the buffer. Asks that the string's eight bytes do. It isn't tested to be
-/// UTF-8.
+/// The text of the string at `p`, inline or not: as much of it as lies in the buffer. The caller
+/// must ensure that the string's eight bytes do. It isn't tested to be UTF-8.
 #[inline(always)]
 pub fn key_text(bytes: &[u8], p: usize) -> &[u8]
     requires { p + 8 ≤ length bytes.now }
@@ -155,7 +155,7 @@ pub fn key_text(bytes: &[u8], p: usize) -> &[u8]
 }
 
 impl Key {
-    /// How many bytes it has where it lies.
+    /// How many bytes it has in an entry.
     pub fn size(self) -> usize
         ensures { result ≡ key_size (key_of self) }
     {

@@ -1,4 +1,4 @@
-//! What archived types, keys and entries tell of themselves.
+//! What archived types, keys and entries say of themselves.
 
 ghost use Rattle.std.specs.Prelude.{◌≡◌, ℕ, min, Bool, true, false, refl, IsTrue, Option, None, OnOk, IfOk, IfErr};
 ghost use Rattle.archive_check.specs.Shape.{Shape, Pointee, one};
@@ -67,7 +67,7 @@ pub trait ArchivePointee {
 /// let expr = ArchivedString::expr(alloc)?;      // Expr::Str
 /// ```
 ///
-/// The trait is rkyv 0.8.18's, its calls are our own: there a type's layout is Rust's.
+/// In rkyv 0.8.18 the trait has no calls, since a type's layout is Rust's.
 pub trait Portable: ArchivePointee {
     // What its bytes are read as.
     ghost shape: { Shape };
@@ -115,14 +115,14 @@ pub trait Portable: ArchivePointee {
 }
 
 /// What models a writer in contracts: its bytes, its room, its device's failures and the states of
-/// its shared keys. It has no calls. Our own.
+/// its shared keys. It has no calls.
 pub trait Keys {
     // The state.
     ghost state: { Self → WriterState };
 }
 
 /// What models a deserializer in contracts: the state of each position, whatever its type. It has
-/// no calls. Our own.
+/// no calls.
 pub trait Entries {
     // The state of a position: none where it is unknown, then pending, then finished with what is kept of it: its name, flavor, pointee and length,
     // what it holds, and what the names in that lead to.
@@ -151,7 +151,7 @@ impl Entries for () {
     ghost keeps_nothing = { λ _ _ _. refl };
 }
 
-/// What is borrowed tells what its owner does.
+/// What is borrowed has the model of its owner.
 impl<S: Keys> Keys for &mut S {
     ghost state = { λ r. S.state r.now };
 }

@@ -19,7 +19,7 @@ use crate::format::leaf::{count_legal, illegal, is_legal};
 
 /// Checks the leaf of this kind at `at`, in bytes from the first one. The caller must ensure that
 /// it lies in `bytes`. `None` if the check stops, and `refusal` is why: `InvalidBool`,
-/// `InvalidChar` or `ZeroNumber` at a number that may not be 0. Our own.
+/// `InvalidChar` or `ZeroNumber` at a number that may not be 0.
 #[inline(always)]
 pub fn check_leaf<C: ArchiveContext>(
     kind: Kind,
@@ -45,7 +45,7 @@ pub fn check_leaf<C: ArchiveContext>(
 /// How many leaves of this kind at the front are known to be valid at once.
 ///
 /// There are `count` of them, `step` bytes apart from `at` on; the caller must ensure that all lie
-/// in `bytes`. Our own.
+/// in `bytes`.
 #[inline(always)]
 pub fn check_first_leaves(kind: Kind, bytes: &[u8], at: usize, step: usize, count: usize) -> usize
     requires { at + count * step ≤ length bytes.now }

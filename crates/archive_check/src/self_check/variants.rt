@@ -106,7 +106,7 @@ impl<P: CheckedParts, V: CheckedVariants> CheckedVariants for (P, V) {
 /// Checks the choice of this name at `at`, in bytes from the first one: the tag, and then the
 /// variant that it names. `None` if the check stops, and `refusal` is why: `InvalidDiscriminant` if
 /// no variant has the tag. The caller must ensure that the tag and the longest variant lie in
-/// `bytes`. Our own.
+/// `bytes`.
 #[inline(always)]
 pub fn check_choice<V: CheckedVariants, C: ArchiveContext>(
     name: &'static str,

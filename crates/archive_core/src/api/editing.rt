@@ -10,8 +10,8 @@ use archive_check::format::error::Error;
 use archive_types::traits::Portable;
 use std::alloc::Global;
 
-/// Checks that `bytes` are an archive whose root, a `T`, lies at `pos`, and returns the root's
-/// seal. No byte changes. Memory comes from `alloc`. Fails as `access_pos` does.
+/// Validates an archive of a `T` with its root at `pos`, and returns the root's seal. No byte
+/// changes. Memory comes from `alloc`. Fails as `access_pos` does.
 pub fn access_pos_mut<'a, T: Portable>(
     alloc: Global,
     bytes: &'a mut [u8],
@@ -31,8 +31,8 @@ pub fn access_pos_mut<'a, T: Portable>(
     Ok(spot.seal(bytes))
 }
 
-/// Checks that `bytes` are an archive whose root, a `T`, lies at the end, and returns the root's
-/// seal. No byte changes. Memory comes from `alloc`. Fails as `access_pos` does.
+/// Validates an archive of a `T` with its root at the end, and returns the root's seal. No byte
+/// changes. Memory comes from `alloc`. Fails as `access_pos` does.
 pub fn access_mut<'a, T: Portable>(alloc: Global, bytes: &'a mut [u8]) -> Result<Seal<'a, T>, Error>
     ensures answer { Answers T.definitions bytes.old None (root_in bytes.old T.layout) T.shape
         result }

@@ -32,8 +32,6 @@ use std::marker::PhantomData;
 /// let view = messages.access(bytes.as_slice())?;
 /// let next = messages.access(others.as_slice())?;
 /// ```
-///
-/// Our own.
 #[derive(Drop)]
 pub struct Access<T: Portable> {
     alloc: Global,
@@ -46,7 +44,7 @@ pub struct Access<T: Portable> {
 
 impl<T: Portable> Access<T> {
     /// Does the work for the type. Memory comes from `alloc`, for the checks as well. Never fails
-    /// if `T` validates itself. Our own.
+    /// if `T` validates itself.
     ///
     /// Errors:
     /// - `OutOfMemory`: memory is refused.
@@ -71,9 +69,8 @@ impl<T: Portable> Access<T> {
         })
     }
 
-    /// Checks that `bytes` are an archive whose root lies at `pos`. The caller must ensure that the
-    /// context's range ends in the buffer; in a fresh context for these bytes the result is exact.
-    /// Our own.
+    /// Validates an archive with its root at `pos`. The caller must ensure that the context's range
+    /// ends in the buffer; in a fresh context for these bytes the result is exact.
     ///
     /// Errors, as of `api::check_pos_with_context`:
     /// - `OutOfMemory`: memory is refused.
@@ -97,8 +94,7 @@ impl<T: Portable> Access<T> {
         }
     }
 
-    /// Checks that `bytes` are an archive whose root lies at `pos`, and returns the root's view.
-    /// Our own.
+    /// Validates an archive with its root at `pos`, and returns the root's view.
     ///
     /// Errors:
     /// - `OutOfMemory`: memory is refused.
@@ -131,8 +127,8 @@ impl<T: Portable> Access<T> {
         Ok(Ref::at(RawView { bytes, pos, len: 0 }))
     }
 
-    /// Checks that `bytes` are an archive whose root lies at the end, and returns the root's view.
-    /// Fails as `access_pos` does. Our own.
+    /// Validates an archive with its root at the end, and returns the root's view. Fails as
+    /// `access_pos` does.
     #[inline(always)]
     pub fn access<'a>(&self, bytes: &'a [u8]) -> Result<Ref<'a, T>, Error>
         ensures answer { Answers T.definitions bytes.now None (root_in bytes.now T.layout) T.shape
@@ -144,9 +140,9 @@ impl<T: Portable> Access<T> {
         self.access_pos(bytes, super::root_position::<T>(bytes.len()))
     }
 
-    /// Checks that `bytes` are an archive of a `U`, its root at the end, and reads it back: the
-    /// result is the value that the archive denotes, its shared values named by their positions.
-    /// `deserializer` is `()` if nothing is shared, else one that knows no position yet. Our own.
+    /// Validates an archive with its root at the end, and reads it back: the result is the value
+    /// that the archive denotes, its shared values named by their positions. `deserializer` is `()`
+    /// if nothing is shared, else one that knows no position yet.
     ///
     /// Errors, besides those of `access`:
     /// - `CyclicDeserialize`: only if a shared position is met that is still being read; so never

@@ -17,7 +17,7 @@ use archive_types::sharing::Share;
 use archive_types::traits::{Keys, Serialize, SerializeUnsized};
 use std::alloc::{Allocator, Global};
 
-/// As many bytes as a new vector has room for, so that a small archive is written without more of them.
+/// The room of a new vector in bytes, so that a small archive is written without growing it.
 const FIRST_ROOM: usize = 64;
 
 /// As `to_bytes_in`, with memory for resolvers from `resolvers`; all else comes from `alloc`. As in rkyv 0.8.18.

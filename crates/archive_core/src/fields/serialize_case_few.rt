@@ -19,7 +19,7 @@ use archive_check::format::error::Error;
 use archive_types::traits::{Keys, Portable, Serialize};
 use archive_write::ser::Writer;
 
-/// Writes what a variant of no field owns, one after another, and answers the resolvers.
+/// Writes what a variant of no field owns, one after another, and returns the resolvers.
 #[inline(always)]
 pub fn serialize_case_0<X: Portable, S: Writer + Keys>(
     tag: u8,
@@ -38,7 +38,7 @@ pub fn serialize_case_0<X: Portable, S: Writer + Keys>(
     serialize_0(serializer)
 }
 
-/// Writes what a variant of one field owns, one after another, and answers the resolvers.
+/// Writes what a variant of one field owns, one after another, and returns the resolvers.
 #[inline(always)]
 pub fn serialize_case_1<A: Serialize<S>, X: Portable, S: Writer + Keys>(
     tag: u8,
@@ -60,7 +60,7 @@ pub fn serialize_case_1<A: Serialize<S>, X: Portable, S: Writer + Keys>(
     serialize_1(a, serializer)
 }
 
-/// Writes what a variant of 2 fields owns, one after another, and answers the resolvers.
+/// Writes what a variant of 2 fields owns, one after another, and returns the resolvers.
 #[inline(always)]
 pub fn serialize_case_2<A: Serialize<S>, B: Serialize<S>, X: Portable, S: Writer + Keys>(
     tag: u8,
@@ -89,7 +89,7 @@ pub fn serialize_case_2<A: Serialize<S>, B: Serialize<S>, X: Portable, S: Writer
     serialize_2(a, b, serializer)
 }
 
-/// Writes what a variant of 3 fields owns, one after another, and answers the resolvers.
+/// Writes what a variant of 3 fields owns, one after another, and returns the resolvers.
 #[inline(always)]
 pub fn serialize_case_3<
     A: Serialize<S>,
@@ -127,7 +127,7 @@ pub fn serialize_case_3<
     serialize_3(a, b, c, serializer)
 }
 
-/// Writes what a variant of 4 fields owns, one after another, and answers the resolvers.
+/// Writes what a variant of 4 fields owns, one after another, and returns the resolvers.
 #[inline(always)]
 pub fn serialize_case_4<
     A: Serialize<S>,
@@ -170,7 +170,7 @@ pub fn serialize_case_4<
     serialize_4(a, b, c, d, serializer)
 }
 
-/// Writes what a variant of 5 fields owns, one after another, and answers the resolvers.
+/// Writes what a variant of 5 fields owns, one after another, and returns the resolvers.
 #[inline(always)]
 pub fn serialize_case_5<
     A: Serialize<S>,
@@ -223,7 +223,7 @@ pub fn serialize_case_5<
     serialize_5(a, b, c, d, e, serializer)
 }
 
-/// Writes what a variant of 6 fields owns, one after another, and answers the resolvers.
+/// Writes what a variant of 6 fields owns, one after another, and returns the resolvers.
 #[inline(always)]
 pub fn serialize_case_6<
     A: Serialize<S>,
@@ -287,7 +287,7 @@ pub fn serialize_case_6<
     serialize_6(a, b, c, d, e, f, serializer)
 }
 
-/// Writes what a variant of 7 fields owns, one after another, and answers the resolvers.
+/// Writes what a variant of 7 fields owns, one after another, and returns the resolvers.
 #[inline(always)]
 pub fn serialize_case_7<
     A: Serialize<S>,
@@ -357,7 +357,7 @@ pub fn serialize_case_7<
     serialize_7(a, b, c, d, e, f, g, serializer)
 }
 
-/// Writes what a variant of 8 fields owns, one after another, and answers the resolvers.
+/// Writes what a variant of 8 fields owns, one after another, and returns the resolvers.
 #[inline(always)]
 pub fn serialize_case_8<
     A: Serialize<S>,

@@ -13,7 +13,7 @@ use archive_check::format::error::Error;
 use archive_types::traits::{Keys, Serialize};
 use archive_write::ser::Writer;
 
-/// Writes what one field owns, and answers its resolver.
+/// Writes what one field owns, and returns its resolver.
 #[inline(always)]
 pub fn serialize_1<A: Serialize<S>, S: Writer + Keys>(
     a: &A,
@@ -35,7 +35,7 @@ pub fn serialize_1<A: Serialize<S>, S: Writer + Keys>(
     Ok((first, others))
 }
 
-/// Writes what 2 fields own, one after another, and answers their resolvers.
+/// Writes what 2 fields own, one after another, and returns their resolvers.
 #[inline(always)]
 pub fn serialize_2<A: Serialize<S>, B: Serialize<S>, S: Writer + Keys>(
     a: &A,
@@ -63,7 +63,7 @@ pub fn serialize_2<A: Serialize<S>, B: Serialize<S>, S: Writer + Keys>(
     Ok((first, others))
 }
 
-/// Writes what 3 fields own, one after another, and answers their resolvers.
+/// Writes what 3 fields own, one after another, and returns their resolvers.
 #[inline(always)]
 pub fn serialize_3<A: Serialize<S>, B: Serialize<S>, C: Serialize<S>, S: Writer + Keys>(
     a: &A,
@@ -96,7 +96,7 @@ pub fn serialize_3<A: Serialize<S>, B: Serialize<S>, C: Serialize<S>, S: Writer 
     Ok((first, others))
 }
 
-/// Writes what 4 fields own, one after another, and answers their resolvers.
+/// Writes what 4 fields own, one after another, and returns their resolvers.
 #[inline(always)]
 pub fn serialize_4<
     A: Serialize<S>,
@@ -141,7 +141,7 @@ pub fn serialize_4<
     Ok((first, others))
 }
 
-/// Writes what 5 fields own, one after another, and answers their resolvers.
+/// Writes what 5 fields own, one after another, and returns their resolvers.
 #[inline(always)]
 pub fn serialize_5<
     A: Serialize<S>,
@@ -197,7 +197,7 @@ pub fn serialize_5<
     Ok((first, others))
 }
 
-/// Writes what 6 fields own, one after another, and answers their resolvers.
+/// Writes what 6 fields own, one after another, and returns their resolvers.
 #[inline(always)]
 pub fn serialize_6<
     A: Serialize<S>,
@@ -263,7 +263,7 @@ pub fn serialize_6<
     Ok((first, others))
 }
 
-/// Writes what 7 fields own, one after another, and answers their resolvers.
+/// Writes what 7 fields own, one after another, and returns their resolvers.
 #[inline(always)]
 pub fn serialize_7<
     A: Serialize<S>,
@@ -339,7 +339,7 @@ pub fn serialize_7<
     Ok((first, others))
 }
 
-/// Writes what 8 fields own, one after another, and answers their resolvers.
+/// Writes what 8 fields own, one after another, and returns their resolvers.
 #[inline(always)]
 pub fn serialize_8<
     A: Serialize<S>,

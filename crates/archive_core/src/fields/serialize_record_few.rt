@@ -19,7 +19,7 @@ use archive_check::format::error::Error;
 use archive_types::traits::{Keys, Portable, Serialize};
 use archive_write::ser::Writer;
 
-/// Writes what a record of no field owns, one after another, and answers the resolvers.
+/// Writes what a record of no field owns, one after another, and returns the resolvers.
 #[inline(always)]
 pub fn serialize_record_0<X: Portable, S: Writer + Keys>(serializer: &mut S) -> Result<(), Error>
     requires nothing { X.definitions ≡ no_definition }
@@ -35,7 +35,7 @@ pub fn serialize_record_0<X: Portable, S: Writer + Keys>(serializer: &mut S) -> 
     serialize_0(serializer)
 }
 
-/// Writes what a record of one field owns, one after another, and answers the resolvers.
+/// Writes what a record of one field owns, one after another, and returns the resolvers.
 #[inline(always)]
 pub fn serialize_record_1<A: Serialize<S>, X: Portable, S: Writer + Keys>(
     a: &A,
@@ -56,7 +56,7 @@ pub fn serialize_record_1<A: Serialize<S>, X: Portable, S: Writer + Keys>(
     serialize_1(a, serializer)
 }
 
-/// Writes what a record of 2 fields owns, one after another, and answers the resolvers.
+/// Writes what a record of 2 fields owns, one after another, and returns the resolvers.
 #[inline(always)]
 pub fn serialize_record_2<A: Serialize<S>, B: Serialize<S>, X: Portable, S: Writer + Keys>(
     a: &A,
@@ -83,7 +83,7 @@ pub fn serialize_record_2<A: Serialize<S>, B: Serialize<S>, X: Portable, S: Writ
     serialize_2(a, b, serializer)
 }
 
-/// Writes what a record of 3 fields owns, one after another, and answers the resolvers.
+/// Writes what a record of 3 fields owns, one after another, and returns the resolvers.
 #[inline(always)]
 pub fn serialize_record_3<
     A: Serialize<S>,
@@ -119,7 +119,7 @@ pub fn serialize_record_3<
     serialize_3(a, b, c, serializer)
 }
 
-/// Writes what a record of 4 fields owns, one after another, and answers the resolvers.
+/// Writes what a record of 4 fields owns, one after another, and returns the resolvers.
 #[inline(always)]
 pub fn serialize_record_4<
     A: Serialize<S>,
@@ -161,7 +161,7 @@ pub fn serialize_record_4<
     serialize_4(a, b, c, d, serializer)
 }
 
-/// Writes what a record of 5 fields owns, one after another, and answers the resolvers.
+/// Writes what a record of 5 fields owns, one after another, and returns the resolvers.
 #[inline(always)]
 pub fn serialize_record_5<
     A: Serialize<S>,
@@ -213,7 +213,7 @@ pub fn serialize_record_5<
     serialize_5(a, b, c, d, e, serializer)
 }
 
-/// Writes what a record of 6 fields owns, one after another, and answers the resolvers.
+/// Writes what a record of 6 fields owns, one after another, and returns the resolvers.
 #[inline(always)]
 pub fn serialize_record_6<
     A: Serialize<S>,
@@ -276,7 +276,7 @@ pub fn serialize_record_6<
     serialize_6(a, b, c, d, e, f, serializer)
 }
 
-/// Writes what a record of 7 fields owns, one after another, and answers the resolvers.
+/// Writes what a record of 7 fields owns, one after another, and returns the resolvers.
 #[inline(always)]
 pub fn serialize_record_7<
     A: Serialize<S>,
@@ -345,7 +345,7 @@ pub fn serialize_record_7<
     serialize_7(a, b, c, d, e, f, g, serializer)
 }
 
-/// Writes what a record of 8 fields owns, one after another, and answers the resolvers.
+/// Writes what a record of 8 fields owns, one after another, and returns the resolvers.
 #[inline(always)]
 pub fn serialize_record_8<
     A: Serialize<S>,

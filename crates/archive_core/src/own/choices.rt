@@ -31,7 +31,7 @@ use std::marker::PhantomData;
 /// }
 /// ```
 ///
-/// Our own, where rkyv 0.8.18 derives an archived type.
+/// rkyv 0.8.18 derives an archived type.
 pub trait NamedChoice {
     /// Its variants in the order of their tags, nested pair by pair, each by its parts: `((), ((A,
     /// (B, ())), ()))` for one without parts and one with an `A` and a `B`.
@@ -55,7 +55,7 @@ pub trait NamedChoice {
 }
 
 /// An archived enum with the name and the variants of `N`: a tag of one byte, and behind it the
-/// parts of the variant that it names. Our own.
+/// parts of the variant that it names.
 pub struct ArchivedChoice<N> {
     of: PhantomData<N>,
 }

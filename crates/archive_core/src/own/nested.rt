@@ -34,8 +34,6 @@ use std::alloc::Global;
 ///     match self { Node::Nil => (0, None), Node::Cons(rest) => (1, Some(&**rest)) }
 /// }
 /// ```
-///
-/// Our own.
 pub trait Nested<X: Choice>: Archive<Archived = X, Resolver = Option<BoxResolver>> {
     /// The tag of the value's variant, and what the variant's box holds, if there is one.
     fn inner(&self) -> (u8, Option<&Self>)
@@ -59,8 +57,6 @@ pub trait Nested<X: Choice>: Archive<Archived = X, Resolver = Option<BoxResolver
 ///     Node::Cons(inner)
 /// }
 /// ```
-///
-/// Our own.
 pub trait FromNested<N: RecursiveChoice>: Archive {
     /// The value of the variant with this tag, if that holds nothing.
     fn empty(tag: u8) -> Option<Self>
@@ -82,7 +78,7 @@ pub trait FromNested<N: RecursiveChoice>: Archive {
 }
 
 /// Writes what `value` owns: the region of what its box holds, and so on. Fails as
-/// `Serialize::serialize` does. Our own.
+/// `Serialize::serialize` does.
 pub fn serialize_nested<X: Choice, T: Nested<X>, S: Writer + ResolverAlloc>(
     value: &T,
     serializer: &mut S,
@@ -105,8 +101,8 @@ pub fn serialize_nested<X: Choice, T: Nested<X>, S: Writer + ResolverAlloc>(
 
 /// Writes the enum over the bytes of `place`: the tag, and four bytes behind it the box of what
 /// `serialize_nested` wrote, if there is one. The caller must ensure that the variant with this tag
-/// holds such a box or nothing, and that the bytes are zeros, as many as the type has, at least
-/// eight. Fails with `IsizeOverflow` or `OffsetOverflow` if the box's offset doesn't fit. Our own.
+/// holds such a box or nothing, and that the bytes are zeros, of the type's size, at least eight.
+/// Fails with `IsizeOverflow` or `OffsetOverflow` if the box's offset doesn't fit.
 #[inline(always)]
 pub fn resolve_nested<X: Choice>(
     tag: u8,

@@ -30,8 +30,6 @@ use std::marker::PhantomData;
 /// }
 /// pub type ArchivedNode = ArchivedRecursive<NodeFormat>;
 /// ```
-///
-/// Our own.
 pub trait NamedRecursive {
     // The name.
     ghost name: { Name };
@@ -72,8 +70,6 @@ pub trait NamedRecursive {
 ///     ..
 /// }
 /// ```
-///
-/// Our own.
 pub trait RecursiveChoice: NamedRecursive {
     /// Its variants, as in `NamedChoice`. The type itself may be in them behind pointers.
     type Variants: PortableVariants;
@@ -86,7 +82,7 @@ pub trait RecursiveChoice: NamedRecursive {
 }
 
 /// A recursive archived type with the name of `N`. It is validated by a schema, so that its depth
-/// takes no machine stack. Our own.
+/// takes no machine stack.
 pub struct ArchivedRecursive<N> {
     of: PhantomData<N>,
 }

@@ -19,7 +19,7 @@ use std::alloc::Global;
 
 /// Writes what the parts of a variant own, in order, and returns their resolvers. The caller must
 /// ensure that the variant with this tag has these parts of `whole`. Fails as
-/// `Serialize::serialize` does, with an error caused by one of the parts. Our own.
+/// `Serialize::serialize` does, with an error caused by one of the parts.
 pub fn serialize_variant<T, P: SerializeParts<T, S>, X: Choice, S: Writer + Keys>(
     tag: u8,
     whole: &T,
@@ -35,8 +35,8 @@ pub fn serialize_variant<T, P: SerializeParts<T, S>, X: Choice, S: Writer + Keys
 
 /// Writes a variant's tag over the first byte of `place`, and then its parts, each at its offset;
 /// padding stays zero. The caller must ensure that the variant with this tag has such parts, which
-/// end in the choice, that the bytes are zeros, as many as the choice has, and that the resolvers
-/// are theirs. Fails with `IsizeOverflow` or `OffsetOverflow` if an offset doesn't fit. Our own.
+/// end in the choice, that the bytes are zeros, of the choice's size, and that the resolvers are
+/// theirs. Fails with `IsizeOverflow` or `OffsetOverflow` if an offset doesn't fit.
 pub fn resolve_variant<T, P: SourceParts<T>, X: Choice>(
     tag: u8,
     whole: &T,
@@ -56,7 +56,7 @@ pub fn resolve_variant<T, P: SourceParts<T>, X: Choice>(
 }
 
 /// The values of a variant's parts, in order. The caller must ensure what a view promises of
-/// `part`, and that the variant that its tag names has such parts. Our own.
+/// `part`, and that the variant that its tag names has such parts.
 ///
 /// Errors:
 /// - `OutOfMemory`: memory from `alloc` is refused.

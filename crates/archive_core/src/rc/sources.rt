@@ -30,8 +30,8 @@ use std::rc::Rc;
 pub use weak::WeakShared;
 
 /// A shared value, with the key that names it. Pointers with one key should hold the same value: in
-/// an archive they lead to that of the first. Read back, it has its position as its key. Our own:
-/// it stands for `Rc<T>` of rkyv 0.8.18, which goes by the address.
+/// an archive they lead to that of the first. Read back, it has its position as its key. In rkyv
+/// 0.8.18 it is an `Rc<T>`, named by its address.
 #[derive(Debug, PartialEq, Drop)]
 pub struct Shared<T> {
     /// The key: it should name one value.

@@ -42,7 +42,7 @@ pub fn option_expression(alloc: Global, item: Expr) -> Result<Expr, Error>
 }
 
 /// An expression of a choice with this name and these variants, each by the expressions of its
-/// parts: the definition of a recursive enum. Our own.
+/// parts: the definition of a recursive enum.
 pub fn choice_of(name: &'static str, variants: Vec<Vec<Expr>>) -> Expr
     ensures { shape_of result ≡ choice name.now (variants_in variants.items) }
 {

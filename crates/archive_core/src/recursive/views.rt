@@ -66,7 +66,7 @@ pub fn view_of_field<'a, X: Record, U: Portable>(
     view.field(i)
 }
 
-/// The seal of a part of a variant, which begins at `offset`. The caller must ensure that the seal shows this tag, and that seals come to what it shows.
+/// The seal of a part of a variant, which begins at `offset`. The caller must ensure that the seal shows this tag, and that seals reach what it shows.
 #[inline(always)]
 pub fn seal_of_payload<'a, X: Choice, U: Portable>(
     seal: Seal<'a, X>,
@@ -88,7 +88,7 @@ pub fn seal_of_payload<'a, X: Choice, U: Portable>(
     seal.payload(i)
 }
 
-/// The seal of a field of a record, which begins at `offset`. The caller must ensure that seals come to what the seal shows.
+/// The seal of a field of a record, which begins at `offset`. The caller must ensure that seals reach what the seal shows.
 #[inline(always)]
 pub fn seal_of_field<'a, X: Record, U: Portable>(
     seal: Seal<'a, X>,

@@ -11,7 +11,7 @@ use crate::fields::{part_in_case, part_in_record};
 use archive_types::traits::Portable;
 
 /// A seal of a field of a variant, which begins at `offset`. The caller must ensure that the seal
-/// shows this tag, and that seals come to what it shows.
+/// shows this tag, and that seals reach what it shows.
 pub fn sealed_part_in_case<'a, X: Portable, U: Portable>(
     seal: Seal<'a, X>,
     tag: u8,
@@ -32,8 +32,8 @@ pub fn sealed_part_in_case<'a, X: Portable, U: Portable>(
     spot.seal(bytes)
 }
 
-/// A seal of a field of a record, which begins at `offset`. The caller must ensure that seals come
-/// to what the seal shows.
+/// A seal of a field of a record, which begins at `offset`. The caller must ensure that seals reach
+/// what the seal shows.
 pub fn sealed_part_in_record<'a, X: Portable, U: Portable>(
     seal: Seal<'a, X>,
     i: usize,

@@ -10,8 +10,8 @@ use archive_types::traits::{Choice, Portable};
 
 impl<'a, T: Choice> Seal<'a, T> {
     /// A seal of part `i` of the variant that the tag names. The caller must ensure what `payload`
-    /// of a view requires, and that seals come to what the seal shows, as they do when it is made.
-    /// No byte changes. Our own.
+    /// of a view requires, and that seals reach what it shows, as when it was made. No byte
+    /// changes.
     pub fn payload<U: Portable>(self, i: usize) -> Seal<'a, U>
         requires come_to { IsSealOf T.definitions T.pointee self }
         requires part { payload_at T.Variants.variants (slice_index self.bytes.now self.pos) i

@@ -10,8 +10,8 @@ use archive_types::traits::{Portable, Record};
 
 impl<'a, T: Record> Seal<'a, T> {
     /// A seal of part `i`. The caller must ensure what `field` of a view requires, and that seals
-    /// come to what the seal shows, as they do when it is made. No byte changes. Our own, where
-    /// rkyv 0.8.18 has a macro that goes to the type's fields.
+    /// reach what it shows, as when it was made. No byte changes. rkyv 0.8.18 has a macro that goes
+    /// to the type's fields.
     pub fn field<U: Portable>(self, i: usize) -> Seal<'a, U>
         requires come_to { IsSealOf T.definitions T.pointee self }
         requires part { part_at T.Parts.parts i ≡ Some U.shape }

@@ -7,8 +7,8 @@ use archive_types::option::{ArchivedOption, Iter};
 use archive_types::traits::Portable;
 use std::marker::PhantomData;
 
-/// Iterates as `iter_seal` does, where seals come to what the seal shows, as they do when it is
-/// made. No byte changes. As in rkyv 0.8.18.
+/// Iterates as `iter_seal` does, if seals reach what it shows, as when it was made. No byte
+/// changes. As in rkyv 0.8.18.
 impl<'a, T: Portable> IntoIterator for Seal<'a, ArchivedOption<T>> {
     type Item = Seal<'a, T>;
 

@@ -35,7 +35,7 @@ fn write_over<T: SealedLeaf>(bytes: &mut [u8], spot: Spot<T>, value: T::Written)
 
 impl<'a, T: SealedLeaf> Seal<'a, T> {
     /// Writes a value over the leaf that it shows: its bytes, the lowest first. The caller must
-    /// ensure that seals come to it, as they do when it is made, and for a `NonZero` a number that
+    /// ensure that seals reach it, as they do when it is made, and for a `NonZero` a number that
     /// isn't 0. Every other byte stays, and in every archive that has the leaf, it alone changes. As
     /// in rkyv 0.8.18.
     pub fn write(self, value: T::Written)
@@ -58,8 +58,8 @@ impl<'a, T: SealedLeaf> Seal<'a, T> {
 
 impl<'a, T: ArchivePointee> Seal<'a, T> {
     /// Writes a value over a leaf elsewhere in the same buffer. The caller must ensure that seals
-    /// come to the leaf from the root of a validated buffer, and for a `NonZero` a number that isn't
-    /// 0. Every other byte stays, and in every archive that has the leaf, it alone changes. Our own.
+    /// reach the leaf from the root of a validated buffer, and for a `NonZero` a number that isn't
+    /// 0. Every other byte stays, and in every archive that has the leaf, it alone changes.
     pub fn write_at<U: SealedLeaf>(&mut self, spot: Spot<U>, value: U::Written)
         requires come_to { IsComeTo U.definitions self.old.bytes.now spot.pos U.pointee spot.len }
         requires can_hold { U.can_hold value }

@@ -11,8 +11,8 @@ use archive_types::traits::{Archive, MapKey, Portable};
 
 impl<'a, K: MapKey, V: Portable> Seal<'a, ArchivedSortedMap<K, V>> {
     /// A seal of the value of the entry `index`, of which 0 is the first. The caller must ensure
-    /// that there is one, and that seals come to the map, as they do when it is made. No byte
-    /// changes. Our own.
+    /// that there is one, and that seals reach the map, as they do when it is made. No byte
+    /// changes.
     pub fn value_seal(self, index: usize) -> Seal<'a, V>
         requires come_to { IsSealOfMap K.Portable V.Portable K.key self }
         requires below { index < u32_at self.bytes.now (self.pos + 4) }
@@ -27,8 +27,7 @@ impl<'a, K: MapKey, V: Portable> Seal<'a, ArchivedSortedMap<K, V>> {
     }
 
     /// A seal of the value of the entry whose key equals a native one, if there is one. The caller
-    /// must ensure that seals come to the map, as they do when it is made. No byte changes. Our
-    /// own.
+    /// must ensure that seals reach the map, as they do when it is made. No byte changes.
     pub fn get_seal<U: Archive>(self, key: &U) -> Option<Seal<'a, V>>
     where
         K: CompareNative<U>,

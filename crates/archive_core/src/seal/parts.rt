@@ -21,7 +21,7 @@ use archive_types::vec::ArchivedVec;
 
 impl<'a, T: PortablePointee> Seal<'a, ArchivedBox<T>> {
     /// A seal of what the box holds: a value, a slice or a text. The caller must ensure that seals
-    /// come to what it shows, as they do when it is made. No byte changes. As in rkyv 0.8.18.
+    /// reach what it shows, as when it was made. No byte changes. As in rkyv 0.8.18.
     pub fn get_seal(self) -> Seal<'a, T>
         requires { IsSealOf T.definitions (one (boxed T.pointee)) self }
         ensures { SealsPart T.definitions (one (boxed T.pointee)) T.definitions T.pointee
@@ -35,9 +35,8 @@ impl<'a, T: PortablePointee> Seal<'a, ArchivedBox<T>> {
 }
 
 impl<'a> Seal<'a, ArchivedBox<ArchivedStr>> {
-    /// A seal of the text that the box holds. The caller must ensure that seals come to what it
-    /// shows, as they do when it is made. No byte changes. In rkyv 0.8.18 it is the box's
-    /// `get_seal`.
+    /// A seal of the text that the box holds. The caller must ensure that seals reach what it
+    /// shows, as when it was made. No byte changes. In rkyv 0.8.18 it is the box's `get_seal`.
     pub fn as_str_seal(self) -> Seal<'a, ArchivedStr>
         requires { IsSealOf no_definition (one (boxed text)) self }
         ensures { SealsPart no_definition (one (boxed text)) no_definition text
@@ -51,10 +50,10 @@ impl<'a> Seal<'a, ArchivedBox<ArchivedStr>> {
 }
 
 impl<'a, T: PortablePointee, F: Flavor> Seal<'a, ArchivedRc<T, F>> {
-    /// A seal of what the pointer leads to. The caller must ensure that seals come to what it
-    /// shows, as they do when it is made. No byte changes. In rkyv 0.8.18 it is unsafe
-    /// (`get_seal_unchecked`); here the whole buffer is borrowed for writing, so no other pointer
-    /// to the value can be used meanwhile.
+    /// A seal of what the pointer leads to. The caller must ensure that seals reach what it shows,
+    /// as when it was made. No byte changes. In rkyv 0.8.18 it is unsafe (`get_seal_unchecked`);
+    /// here the whole buffer is borrowed for writing, so no other pointer to the value can be used
+    /// meanwhile.
     pub fn get_seal(self) -> Seal<'a, T>
         requires { IsSealOf T.definitions (one (shared (flavor_of_type F.Flavor) T.pointee)) self }
         ensures { SealsPart T.definitions (one (shared (flavor_of_type F.Flavor) T.pointee))
@@ -69,8 +68,8 @@ impl<'a, T: PortablePointee, F: Flavor> Seal<'a, ArchivedRc<T, F>> {
 
 impl<'a, T: PortablePointee, F: Flavor> Seal<'a, ArchivedRcWeak<T, F>> {
     /// A seal of what the pointer leads to; none exactly if it is null, whose offset is 1. The
-    /// caller must ensure that seals come to what it shows, as they do when it is made. No byte
-    /// changes. As in rkyv 0.8.18.
+    /// caller must ensure that seals reach what it shows, as when it was made. No byte changes. As
+    /// in rkyv 0.8.18.
     pub fn upgrade_seal(self) -> Option<Seal<'a, T>>
         requires { IsSealOf T.definitions (weak_to F.Flavor T.pointee) self }
         ensures offset { IfSome result (λ _. i32_at self.entry.bytes.now self.entry.pos ≡ whole 1
@@ -90,8 +89,8 @@ impl<'a, T: PortablePointee, F: Flavor> Seal<'a, ArchivedRcWeak<T, F>> {
 }
 
 impl<'a, T: Portable> Seal<'a, ArchivedVec<T>> {
-    /// A seal of the elements. The caller must ensure that seals come to what it shows, as they do
-    /// when it is made. No byte changes. As in rkyv 0.8.18.
+    /// A seal of the elements. The caller must ensure that seals reach what it shows, as when it
+    /// was made. No byte changes. As in rkyv 0.8.18.
     pub fn as_slice_seal(self) -> Seal<'a, ArchivedSlice<T>>
         requires { IsSealOf T.definitions (one (vec_shape T.shape)) self }
         ensures { SealsPart T.definitions (one (vec_shape T.shape)) T.definitions (run T.shape)
@@ -106,9 +105,8 @@ impl<'a, T: Portable> Seal<'a, ArchivedVec<T>> {
 
 impl<'a, T: Portable> Seal<'a, ArchivedVec<T>> {
     /// A seal of the element `index`, of which 0 is the first. The caller must ensure that there is
-    /// one, and that seals come to what the seal shows, as they do when it is made. No byte
-    /// changes. In rkyv 0.8.18 it is `index` of the vector's slice, which panics where there is
-    /// none.
+    /// one, and that seals reach what it shows, as when it was made. No byte changes. In rkyv
+    /// 0.8.18 it is `index` of the vector's slice, which panics where there is none.
     pub fn index(self, index: usize) -> Seal<'a, T>
         requires come_to { IsSealOf T.definitions (one (vec_shape T.shape)) self }
         requires below { index < u32_at self.bytes.now (self.pos + 4) }
@@ -123,7 +121,7 @@ impl<'a, T: Portable> Seal<'a, ArchivedVec<T>> {
 }
 
 impl<'a, T: Portable> Seal<'a, ArchivedSlice<T>> {
-    /// How many elements there are. Our own.
+    /// How many elements there are.
     pub fn len(&self) -> usize
         ensures { result ≡ self.now.len }
     {
@@ -131,8 +129,8 @@ impl<'a, T: Portable> Seal<'a, ArchivedSlice<T>> {
     }
 
     /// A seal of the element `index`, of which 0 is the first. The caller must ensure that there is
-    /// one, and that seals come to what the seal shows, as they do when it is made. No byte
-    /// changes. As in rkyv 0.8.18, which panics where there is none.
+    /// one, and that seals reach what it shows, as when it was made. No byte changes. As in rkyv
+    /// 0.8.18, which panics where there is none.
     pub fn index(self, index: usize) -> Seal<'a, T>
         requires come_to { IsSealOf T.definitions (run T.shape) self }
         requires below { index < self.len }
@@ -147,8 +145,8 @@ impl<'a, T: Portable> Seal<'a, ArchivedSlice<T>> {
 
 impl<'a, T: Portable, const N: usize> Seal<'a, [T; N]> {
     /// A seal of the element `index`, of which 0 is the first. The caller must ensure that there is
-    /// one, and that seals come to what the seal shows, as they do when it is made. No byte
-    /// changes. As in rkyv 0.8.18, which panics where there is none.
+    /// one, and that seals reach what it shows, as when it was made. No byte changes. As in rkyv
+    /// 0.8.18, which panics where there is none.
     pub fn index(self, index: usize) -> Seal<'a, T>
         requires come_to { IsSealOf T.definitions (one (array N T.shape)) self }
         requires below { index < N }
@@ -162,9 +160,9 @@ impl<'a, T: Portable, const N: usize> Seal<'a, [T; N]> {
 }
 
 impl<'a, T: Portable> Seal<'a, ArchivedOption<T>> {
-    /// A seal of the value, if there is one. The caller must ensure that seals come to what it
-    /// shows, as they do when it is made. No byte changes, and what is behind a `None` isn't looked
-    /// at. As in rkyv 0.8.18.
+    /// A seal of the value, if there is one. The caller must ensure that seals reach what it shows,
+    /// as when it was made. No byte changes, and what is behind a `None` isn't looked at. As in
+    /// rkyv 0.8.18.
     pub fn as_seal(self) -> Option<Seal<'a, T>>
         requires { IsSealOfOption T.Portable self }
         ensures { SealsValue T.Portable self.entry result }
@@ -178,8 +176,8 @@ impl<'a, T: Portable> Seal<'a, ArchivedOption<T>> {
     }
 
     /// An iterator over the seal of the value: it comes once, from either end, and then none. The
-    /// caller must ensure that seals come to what it shows, as they do when it is made. No byte
-    /// changes. As in rkyv 0.8.18.
+    /// caller must ensure that seals reach what it shows, as when it was made. No byte changes. As
+    /// in rkyv 0.8.18.
     pub fn iter_seal(self) -> Iter<Seal<'a, T>>
         requires { IsSealOfOption T.Portable self }
         ensures { SealsValue T.Portable self.entry result }

@@ -71,10 +71,10 @@ fn write_string_over(value: &str, bytes: &mut [u8], string: Spot<ArchivedString>
 }
 
 impl<'a> Seal<'a, ArchivedStr> {
-    /// Writes a text over the one that it shows. The caller must ensure that seals come to what it
-    /// shows, as they do when it is made, and that both texts have the same number of bytes. Every
-    /// other byte stays, and in every archive that has the text, it alone changes. Our own: in rkyv
-    /// 0.8.18 unsafe code alone writes a sealed `str`.
+    /// Writes a text over the one that it shows. The caller must ensure that seals reach what it
+    /// shows, as when it was made, and that both texts have the same number of bytes. Every other
+    /// byte stays, and in every archive that has the text, it alone changes. In rkyv 0.8.18 unsafe
+    /// code alone writes a sealed `str`.
     pub fn write_str(self, value: &str)
         requires come_to { IsSealOf no_definition text self }
         requires same_length { length value.now ≡ self.len }
@@ -93,8 +93,8 @@ impl<'a> Seal<'a, ArchivedStr> {
 }
 
 impl<'a> Seal<'a, ArchivedString> {
-    /// A seal of its text, wherever it lies. The caller must ensure that seals come to what it
-    /// shows, as they do when it is made. No byte changes. As in rkyv 0.8.18.
+    /// A seal of its text, wherever it lies. The caller must ensure that seals reach what it shows,
+    /// as when it was made. No byte changes. As in rkyv 0.8.18.
     pub fn as_str_seal(self) -> Seal<'a, ArchivedStr>
         requires { IsSealOf no_definition (one str_shape) self }
         ensures { SealsPart no_definition (one str_shape) no_definition text
@@ -107,9 +107,8 @@ impl<'a> Seal<'a, ArchivedString> {
     }
 
     /// Writes a text over that of the string, wherever it lies. The caller must ensure that seals
-    /// come to what it shows, as they do when it is made, and that both texts have the same number
-    /// of bytes. Every other byte stays, and in every archive that has the text, it alone changes.
-    /// Our own.
+    /// reach what it shows, as when it was made, and that both texts have the same number of bytes.
+    /// Every other byte stays, and in every archive that has the text, it alone changes.
     pub fn write_str(self, value: &str)
         requires come_to { IsSealOf no_definition (one str_shape) self }
         requires same_length { length value.now ≡ length (string_text self.bytes.now self.pos) }
@@ -130,9 +129,9 @@ impl<'a> Seal<'a, ArchivedString> {
 
 impl<'a, T: ArchivePointee> Seal<'a, T> {
     /// Writes a text over a boxed or shared one elsewhere in the same buffer. The caller must
-    /// ensure that seals come to the text at the spot, and that both texts have the same number of
+    /// ensure that seals reach the text at the spot, and that both texts have the same number of
     /// bytes. Every other byte stays, in every archive that has the text, it alone changes, and the
-    /// seal shows what it showed. Our own.
+    /// seal shows what it showed.
     pub fn write_str_at(&mut self, spot: Spot<ArchivedStr>, value: &str)
         requires come_to { IsComeTo no_definition self.old.bytes.now spot.pos text spot.len }
         requires same_length { length value.now ≡ spot.len }
@@ -147,8 +146,8 @@ impl<'a, T: ArchivePointee> Seal<'a, T> {
     }
 
     /// Writes a text over that of a string elsewhere in the same buffer, as `write_str_at` does.
-    /// The caller must ensure that seals come to the string at the spot, and that both texts have
-    /// the same number of bytes. Our own.
+    /// The caller must ensure that seals reach the string at the spot, and that both texts have
+    /// the same number of bytes.
     pub fn write_string_at(&mut self, spot: Spot<ArchivedString>, value: &str)
         requires come_to { IsComeTo no_definition self.old.bytes.now spot.pos (one str_shape)
             spot.len }

@@ -35,8 +35,9 @@ impl<T: Portable, E: Portable> ArchivePointee for ArchivedResult<T, E> {
 // The variants of a result: a value, and an error.
 type ResultVariants<T, E> = ((T, ()), ((E, ()), ()));
 
-/// A choice named `ArchivedResult`: behind the byte 0, at the next multiple of its alignment, stands the value, and behind the byte 1 so does the error.
-/// The bytes behind the shorter one may be any.
+/// A choice named `ArchivedResult`: behind the byte 0, at the next multiple of its alignment, lies
+/// the value, and behind the byte 1 likewise the error. The bytes behind the shorter one may be
+/// any.
 impl<T: Portable, E: Portable> Portable for ArchivedResult<T, E> {
     ghost shape = { result_shape T.shape E.shape };
 

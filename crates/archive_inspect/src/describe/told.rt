@@ -1,4 +1,4 @@
-//! Whether pieces tell all leaves of an archive: found by a search of its own, step by step by the
+//! Whether pieces have all leaves of an archive: found by a search of its own, step by step by the
 //! rules of reading.
 
 ghost use Rattle.std.specs.Prelude.{◌≡◌, ◌≢◌, ◌∷◌, ◌++◌, ◌+◌, ◌<◌, ◌≤◌, [], ℕ, IsTrue, IfSome, IfOk, pos};
@@ -384,7 +384,7 @@ fn visit<'a>(
     Ok(Some(target))
 }
 
-/// Whether the pieces, in order of position, tell all leaves of an archive whose root lies at a
+/// Whether the pieces, in order of position, have all leaves of an archive whose root lies at a
 /// position. Fails if memory is refused.
 pub fn tell_all_leaves(
     alloc: Global,

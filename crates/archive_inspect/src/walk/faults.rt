@@ -66,7 +66,7 @@ fn told(number: i128) -> usize {
 }
 
 impl Reason {
-    /// The refusal that the check tells of it.
+    /// The error that the check returns for it.
     pub fn refusal(self) -> Error {
         match self {
             Reason::TooLarge(_) => Error::LayoutTooLarge,

@@ -271,8 +271,8 @@ fn is_unsorted_there(
     }
 }
 
-/// Whether the steps lead from the root to the position, where a test is false, which the refusal
-/// says.
+/// Whether the steps lead from the root to the position, where the test that the error names is
+/// false.
 pub fn is_refused_by(
     form: &Form,
     bytes: &[u8],

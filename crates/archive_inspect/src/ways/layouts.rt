@@ -72,7 +72,7 @@ pub fn part_from<'a>(
     })
 }
 
-/// The element of this number among so many, the first of which lies at a position.
+/// The element of this number among `count`, the first of which lies at a position.
 pub fn element_from<'a>(
     form: &Form,
     element: &'a Expr,

@@ -159,7 +159,7 @@ fn is_unaligned_refused(form: &Form, pointer: Pointing<'_>, position: i128, alig
     is_unaligned(pointer, align)
 }
 
-/// Whether a pointer's region may not be entered, as the refusal says.
+/// Whether a pointer's region may not be entered, as the error says.
 pub fn is_region_refused(form: &Form, pointer: Pointing<'_>, refusal: Error) -> bool
     ensures { IsTrue result → RegionRefused form.now.schema (pointer_told pointer.entry) refusal }
 {

@@ -39,8 +39,8 @@ pub fn leave_region<C: ArchiveContext>(
 }
 
 impl Checker<'_> {
-    /// Enters the region of so many of the pointee at `position`. It stands in its callers, since
-    /// what it returns is wide.
+    /// Enters the region of `count` of the pointee at `position`. It is inlined, since what it
+    /// returns is wide.
     #[inline(always)]
     pub fn enter_region<C: ArchiveContext>(
         &self,
@@ -64,8 +64,8 @@ impl Checker<'_> {
         enter(size, unit.align, position, &mut work.fault, context)
     }
 
-    /// Checks so many entries of a key and a value, which are a region, where the values are shallow
-    /// or there is no byte. Returns whether it is so. Entries without a byte have equal keys.
+    /// Checks the entries of a region, if the values are shallow or there is no byte. Returns
+    /// whether it is so. Entries without a byte have equal keys.
     #[inline(always)]
     fn entries_held<C: ArchiveContext>(
         &self,
@@ -100,8 +100,8 @@ impl Checker<'_> {
         Some(true)
     }
 
-    /// Checks what a region of so many of the pointee holds, where that is shallow or has no byte.
-    /// Returns whether it is.
+    /// Checks what a region of the pointee holds, if that is shallow or has no byte. Returns
+    /// whether it is.
     #[inline(always)]
     fn contents<C: ArchiveContext>(
         &self,
@@ -148,7 +148,8 @@ impl Checker<'_> {
         Some(true)
     }
 
-    /// Enters a region of so many of the pointee, to be left behind what it leads to, or at once where it is shallow.
+    /// Enters a region of the pointee, to be left behind what it leads to, or at once if it is
+    /// shallow.
     #[inline(always)]
     pub fn enter_here<C: ArchiveContext>(
         &self,

@@ -28,7 +28,7 @@ use archive_check::format::expr::{Key, Kind};
 use archive_check::format::leaf::{illegal, is_legal};
 
 impl Checker<'_> {
-    /// Checks a region of so many of the pointee: a text, or bytes that are legal whatever they are.
+    /// Checks a region of the pointee: a text, or bytes of which any are legal.
     #[inline(always)]
     fn check_shallow_region<C: ArchiveContext>(
         &self,
@@ -121,7 +121,7 @@ impl Checker<'_> {
         self.check_string(at, pointee, work, context)
     }
 
-    /// Checks the string at `at`, whose text's bytes are as many as the region says: so any node serves for them.
+    /// Checks the string at `at`. The region has the size of its text, so any node serves for that.
     #[inline(always)]
     fn check_string<C: ArchiveContext>(
         &self,
@@ -241,8 +241,8 @@ impl Checker<'_> {
         }
     }
 
-    /// Checks a variant's part at its place in what begins at `at`, where the part stands alone and
-    /// is a string or a pointer. Returns whether it is so.
+    /// Checks a variant's part at its place in what begins at `at`, if the part is alone and is a
+    /// string or a pointer. Returns whether it is so.
     #[inline(always)]
     fn check_alone<C: ArchiveContext>(
         &self,
@@ -336,7 +336,7 @@ impl Checker<'_> {
         Some(())
     }
 
-    /// Checks so many elements, the first of them at `at`. They are shallow.
+    /// Checks elements, the first of them at `at`. They are shallow.
     #[cycle(check_shallow)]
     pub fn check_shallow_elements<C: ArchiveContext>(
         &self,
@@ -363,7 +363,7 @@ impl Checker<'_> {
         Some(())
     }
 
-    /// Checks so many entries of a key and a value, the first of them at `at`. The values are shallow.
+    /// Checks entries of a key and a value, the first of them at `at`. The values are shallow.
     pub fn check_shallow_entries<C: ArchiveContext>(
         &self,
         key: Key,

@@ -28,7 +28,7 @@ pub enum Work {
         left: usize,
         at: usize,
     },
-    /// So many entries of a key and a value, the next of them here, and whether there is one before it.
+    /// Entries of a key and a value, the next of them here, and whether there is one before it.
     Entries {
         key: Key,
         value: usize,
@@ -48,8 +48,8 @@ pub enum Work {
     },
 }
 
-/// What is left to check, the next on top, and the refusal of a check that stopped. The calls that stop a check answer `None` alone, since a
-/// refusal is wide.
+/// What is left to check, the next on top, and the error of a check that stopped. The calls that
+/// stop a check return `None` alone, since an error is wide.
 #[derive(Drop)]
 pub struct Worklist {
     entries: Vec<Work>,

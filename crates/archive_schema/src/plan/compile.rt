@@ -1,4 +1,5 @@
-//! From expressions to plans: an expression's node stands behind those of what it holds. What its pointers lead to waits, and comes later.
+//! From expressions to plans: an expression's node comes after those of what it contains. What its
+//! pointers lead to waits, and comes later.
 //!
 //! Each case has a function of its own, which is never inlined: a call's frame is cleared when it is entered, so that one large function would
 //! clear at each node what all of the cases need.

@@ -53,7 +53,7 @@ pub fn greater(a: Option<usize>, b: Option<usize>) -> Option<usize>
 /// variants each for itself.
 #[derive(Clone, Copy)]
 pub struct Extent {
-    /// Where it ends. None: above `usize::MAX`.
+    /// Where it ends; `None` is above `usize::MAX`.
     pub end: Option<usize>,
     /// The greatest alignment.
     pub align: usize,

@@ -42,7 +42,7 @@ pub struct LaidVariants {
     pub extent: Extent,
 }
 
-/// Parts or variants that stand in a plan, from `first` up to `last`.
+/// Parts or variants of a plan, from `first` up to `last`.
 #[derive(Clone, Copy)]
 pub struct LaidRange {
     /// The first.

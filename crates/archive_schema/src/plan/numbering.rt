@@ -13,8 +13,7 @@ use archive_check::format::defs::Def;
 use archive_check::format::expr::{Expr, Pointee};
 use std::alloc::{AllocError, Global};
 
-/// So many and so many. Fails with `OutOfMemory` if that is above `usize::MAX`: there is no memory
-/// for it.
+/// The sum. Fails with `OutOfMemory` if it is above `usize::MAX`: there is no memory for it.
 pub fn add(a: usize, b: usize) -> Result<usize, AllocError>
     ensures { IfOk result (λ n. n ≡ a + b) }
 {

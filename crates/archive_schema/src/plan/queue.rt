@@ -29,7 +29,7 @@ pub struct Queue<'e> {
 }
 
 impl<'e> Queue<'e> {
-    /// No expression, behind so many nodes.
+    /// No expression, behind `next` nodes.
     pub fn new(alloc: Global, next: usize) -> Queue<'e>
         ensures { waits_of result ≡ no_waits next }
     {

@@ -83,9 +83,10 @@ fn is_shallow(plan: &Plan, marks: &[bool], kind: NodeKind) -> bool
     }
 }
 
-/// For each node of a plan whether it is shallow: it leads to nothing but bytes that are legal whatever they are, and texts, and shares nothing. A
-/// node is marked that is shallow by the marks of those before it: so each shallow one is where the nodes in a node stand before it, as in each plan
-/// of an expression. Memory comes from `alloc`. Our own choice: rkyv 0.8.18 has no such marks.
+/// For each node of a plan whether it is shallow: it leads to nothing but texts and bytes of which
+/// any are legal, and shares nothing. A node is marked by the marks of those before it: so each
+/// shallow one is, if the nodes in a node come before it, as in each plan of an expression. Memory
+/// comes from `alloc`.
 pub fn shallow_nodes(alloc: Global, plan: &Plan) -> Result<Vec<bool>, AllocError>
     ensures ok { IfOk result (λ marks. AreShallowIn plan.now marks.items) }
     ensures all { IfOk result (λ marks. AreAllMarkedIn plan.now marks.items) }

@@ -38,7 +38,7 @@ fn taken(alloc: Global, root: &Expr, definitions: Vec<Def>) -> Result<Vec<Def>, 
 impl Schema {
     /// The schema of an expression, compiled with those of the definitions that it reaches. If a
     /// name has several, the first counts. Memory comes from `alloc`, also that which a check
-    /// takes. Our own.
+    /// takes.
     ///
     /// Errors:
     /// - `OutOfMemory`: memory is refused.

@@ -16,7 +16,8 @@ use archive_write::ser::{ResolverAlloc, Writer};
 use std::alloc::Global;
 use std::marker::Model;
 
-/// The elements of an array as they are read back: `N` values, in a vector. In a contract it is their list. Our own: rkyv 0.8.18 reads the array back.
+/// The elements of an array as they are read back: `N` values, in a vector. In a contract it is
+/// their list. rkyv 0.8.18 reads the array back.
 #[derive(Debug, Drop)]
 pub struct OwnedArray<T, const N: usize> {
     pub(super) items: Vec<T>,

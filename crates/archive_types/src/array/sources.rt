@@ -61,7 +61,7 @@ fn is_whole<T, const N: usize>(_array: &[T; N])
 {}
 
 /// Shows that each of `arrays` has as many elements as its type says. In proofs alone an array can be a list of any length; when the program runs this
-/// does nothing. What is promised of a list of arrays speaks of such alone, so who uses it calls this first. Our own.
+/// does nothing. What is promised of a list of arrays speaks of such alone, so who uses it calls this first.
 #[inline(always)]
 pub fn each_is_whole<T, const N: usize>(arrays: &[[T; N]])
     ensures { All (λ array. length array ≡ N) arrays.now }

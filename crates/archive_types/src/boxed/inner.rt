@@ -23,8 +23,7 @@ use std::alloc::Allocator;
 
 /// Writes the region of a value that was serialized, and returns the resolver of a box of it: for
 /// recursive types, which call their own `serialize` for the inner value first. The caller must
-/// ensure that the resolver is one of this value. Existing bytes stay, after a failure too. Our
-/// own.
+/// ensure that the resolver is one of this value. Existing bytes stay, after a failure too.
 ///
 /// Errors:
 /// - `PositionTooLarge`: the region lies above 4,294,967,295.
@@ -63,7 +62,7 @@ fn write_inner<A: Allocator + Drop, S: Writer, T: Archive>(
 /// Writes a variant whose only part is a box of what `serialize_inner` wrote, over zeros at `pos`:
 /// the tag, and the box four bytes behind it. The caller must ensure that there are at least eight
 /// zeros, whose end fits `usize`. Fails with `IsizeOverflow` or `OffsetOverflow` if the offset
-/// doesn't fit. Our own.
+/// doesn't fit.
 #[inline(always)]
 pub fn resolve_inner<T: Portable>(
     tag: u8,

@@ -77,9 +77,9 @@ impl<T: PortablePointee> ArchivedBox<T> {
     }
 
     /// Writes the box's bytes over those of `place`, with this length of what it leads to. The
-    /// caller must ensure that they are as many as the box has, and that the length is 0 where that
-    /// is one value. Fails with `IsizeOverflow` or `OffsetOverflow` exactly if the offset doesn't
-    /// fit; they are then unchanged. rkyv 0.8.18 takes the pointer's metadata, and panics there.
+    /// caller must ensure that they have the box's size, and that the length is 0 for one value.
+    /// Fails with `IsizeOverflow` or `OffsetOverflow` exactly if the offset doesn't fit; they are
+    /// then unchanged. rkyv 0.8.18 takes the pointer's metadata, and panics there.
     #[tactic(auto, using(crate::proofs::Writing::OwnersWritten::resolves_box, crate::proofs::Writing::OwnersWritten::box_hindered_at))]
     #[inline(always)]
     pub fn resolve_from_raw_parts(

@@ -37,7 +37,7 @@ use std::cmp::Ordering;
 /// let same = view.eq_native(&numbers);          // numbers: Vec<u32>
 /// ```
 ///
-/// Our own: rkyv 0.8.18 has operators between the two types.
+/// rkyv 0.8.18 has operators between the two types.
 pub trait CompareNative<U: Archive>: Ordered {
     // The order of a part and a value.
     ghost native_order: { Standing → U → Order };
@@ -58,7 +58,7 @@ pub trait CompareNative<U: Archive>: Ordered {
 }
 
 impl<'a, T: Ordered> Ref<'a, T> {
-    /// The order of what the view shows and a native value. Our own.
+    /// The order of what the view shows and a native value.
     #[tactic(auto, using(crate::proofs::Comparing::ComparedValues::compares))]
     pub fn cmp_native<U: Archive>(self, value: &U) -> Ordering
     where
@@ -69,7 +69,7 @@ impl<'a, T: Ordered> Ref<'a, T> {
         T::compare_native(self.part(), value)
     }
 
-    /// Whether what the view shows equals a native value. Our own.
+    /// Whether what the view shows equals a native value.
     #[tactic(auto, using(crate::proofs::Comparing::ComparedValues::equals))]
     pub fn eq_native<U: Archive>(self, value: &U) -> bool
     where
@@ -135,7 +135,7 @@ impl<N: Plain> CompareNative<N> for N {
 }
 
 impl<'a> Ref<'a, ArchivedStr> {
-    /// The order of the text and another one, by their bytes. Our own.
+    /// The order of the text and another one, by their bytes.
     pub fn cmp_str(self, text: &str) -> Ordering
         ensures bytes { result ≡ slice_cmp nat_cmp (bytes_at self.entry.bytes.now self.entry.pos
             self.entry.len) text.now }
@@ -144,7 +144,7 @@ impl<'a> Ref<'a, ArchivedStr> {
         text_order(self.as_str(), text)
     }
 
-    /// Whether it is the same text as another one. Our own.
+    /// Whether it is the same text as another one.
     pub fn eq_str(self, text: &str) -> bool
         ensures bytes { result ≡ pointwise nat_eq (bytes_at self.entry.bytes.now self.entry.pos
             self.entry.len) text.now }
@@ -155,7 +155,7 @@ impl<'a> Ref<'a, ArchivedStr> {
 }
 
 impl<'a> Ref<'a, ArchivedString> {
-    /// The order of the text, wherever it lies, and another one, by their bytes. Our own.
+    /// The order of the text, wherever it lies, and another one, by their bytes.
     pub fn cmp_str(self, text: &str) -> Ordering
         ensures bytes { result ≡ slice_cmp nat_cmp (string_text self.entry.bytes.now self.entry.pos)
             text.now }
@@ -164,7 +164,7 @@ impl<'a> Ref<'a, ArchivedString> {
         text_order(self.as_str(), text)
     }
 
-    /// Whether the text, wherever it lies, is the same as another one. Our own.
+    /// Whether the text, wherever it lies, is the same as another one.
     pub fn eq_str(self, text: &str) -> bool
         ensures bytes { result ≡ pointwise nat_eq (string_text self.entry.bytes.now self.entry.pos)
             text.now }

@@ -23,7 +23,7 @@ use std::cmp::Ordering;
 
 impl<'a, T: Portable> Ref<'a, ArchivedSlice<T>> {
     /// The order of the elements and of those of a native slice: the first that differ decide, and
-    /// else the lengths. Our own.
+    /// else the lengths.
     pub fn cmp_slice<U: Archive>(self, values: &[U]) -> Ordering
     where
         T: CompareNative<U>,
@@ -35,7 +35,7 @@ impl<'a, T: Portable> Ref<'a, ArchivedSlice<T>> {
         compare_slice(self, values)
     }
 
-    /// Whether the elements equal those of a native slice, and are as many. Our own.
+    /// Whether the elements equal those of a native slice, and are as many.
     #[tactic(auto, using(crate::proofs::Comparing::ComparedValues::slice_equals))]
     pub fn eq_slice<U: Archive>(self, values: &[U]) -> bool
     where
@@ -50,7 +50,7 @@ impl<'a, T: Portable> Ref<'a, ArchivedSlice<T>> {
 
 impl<'a, T: Portable> Ref<'a, ArchivedVec<T>> {
     /// The order of the elements and of those of a native slice: the first that differ decide, and
-    /// else the lengths. Our own.
+    /// else the lengths.
     pub fn cmp_slice<U: Archive>(self, values: &[U]) -> Ordering
     where
         T: CompareNative<U>,
@@ -62,7 +62,7 @@ impl<'a, T: Portable> Ref<'a, ArchivedVec<T>> {
         self.as_slice().cmp_slice(values)
     }
 
-    /// Whether the elements equal those of a native slice, and are as many. Our own.
+    /// Whether the elements equal those of a native slice, and are as many.
     #[tactic(auto, using(crate::proofs::Comparing::ComparedValues::vec_equals))]
     pub fn eq_slice<U: Archive>(self, values: &[U]) -> bool
     where
@@ -76,7 +76,7 @@ impl<'a, T: Portable> Ref<'a, ArchivedVec<T>> {
 }
 
 impl<'a, T: Portable> Ref<'a, ArchivedOption<T>> {
-    /// The order of the option and one of the machine: `None` is less than `Some`. Our own.
+    /// The order of the option and one of the machine: `None` is less than `Some`.
     pub fn cmp_option<U: Archive>(self, option: &Option<U>) -> Ordering
     where
         T: CompareNative<U>,
@@ -87,7 +87,7 @@ impl<'a, T: Portable> Ref<'a, ArchivedOption<T>> {
         compare_option(self, option)
     }
 
-    /// Whether the option equals one of the machine. Our own.
+    /// Whether the option equals one of the machine.
     #[tactic(auto, using(crate::proofs::Comparing::ComparedValues::option_equals))]
     pub fn eq_option<U: Archive>(self, option: &Option<U>) -> bool
     where
@@ -101,7 +101,7 @@ impl<'a, T: Portable> Ref<'a, ArchivedOption<T>> {
 }
 
 impl<'a, T: Portable, E: Portable> Ref<'a, ArchivedResult<T, E>> {
-    /// Whether the result equals one of the machine: both are `Ok` or both `Err`, with equal values. Our own.
+    /// Whether the result equals one of the machine: both are `Ok` or both `Err`, with equal values.
     pub fn eq_result<U: Archive, W: Archive>(self, outcome: &Result<U, W>) -> bool
     where
         T: CompareNative<U>,

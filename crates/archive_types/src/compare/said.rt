@@ -10,8 +10,9 @@ use crate::view::Ref;
 use std::cmp::Ordering;
 
 impl<'a, T: Ordered> Ref<'a, T> {
-    /// The order of what two views show, as `cmp` answers it. Where no flavor of what they show allows cycles, each means one value, and it is the
-    /// order of these; where they share nothing, that of the values that their archives say. Our own.
+    /// The order of what two views show, as `cmp` returns it. If no flavor of what they show allows
+    /// cycles, each means one value, and it is the order of these; if they share nothing, that of
+    /// the values that their archives say.
     pub fn compare_said(self, other: Ref<'_, T>) -> Ordering
         ensures order { result ≡ T.order (shown self.entry) (shown other.entry) }
         ensures meant { OrdersMeant self.entry other.entry result }

@@ -54,8 +54,8 @@ fn find<K: MapKey + CompareNative<U>, V: Portable, U: Archive>(
 }
 
 impl<'a, K: MapKey, V: Portable> Ref<'a, ArchivedSortedMap<K, V>> {
-    /// The value of the entry whose key equals a native one, if there is one, and how many keys were
-    /// compared: at most as many as the map's length has binary digits.
+    /// The value of the entry whose key equals a native one, if there is one, and how many keys
+    /// were compared: at most the number of binary digits of the map's length.
     pub fn get_counted<U: Archive>(self, key: &U) -> (Option<Ref<'a, V>>, usize)
     where
         K: CompareNative<U>,

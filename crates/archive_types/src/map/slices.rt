@@ -25,7 +25,7 @@ use crate::traits::{
 use archive_check::format::error::Error;
 use archive_write::ser::{ResolverAlloc, Writer};
 
-/// Borrowed entries of a map, as a source: pairs of a key and its value, in the order of the keys. Our own.
+/// Borrowed entries of a map, as a source: pairs of a key and its value, in the order of the keys.
 #[derive(Drop)]
 pub struct SortedEntries<'a, K, V> {
     /// The entries. Their keys should ascend strictly: else they aren't written.

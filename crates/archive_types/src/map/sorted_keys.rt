@@ -11,7 +11,7 @@ use archive_num::{Integer, LittleEndian, Native};
 
 /// A source whose values may be the keys of a sorted map, since their order is that of the archived keys.
 ///
-/// Integers, `usize`, `isize`, `char`, `String` and the archived numbers implement it. Our own.
+/// Integers, `usize`, `isize`, `char`, `String` and the archived numbers implement it.
 pub trait SortedKey: Archive + Ord {
     // Two values are in the order of what they mean.
     ghost sorted: { (x y : Self) → Self.cmp x y ≡ value_cmp (Self.meaning x) (Self.meaning y) };

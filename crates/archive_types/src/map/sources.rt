@@ -25,7 +25,7 @@ use archive_tuple::entries::is_ascending;
 use archive_write::ser::{ResolverAlloc, Writer};
 use std::marker::Model;
 
-/// Where a map's entries were written, in bytes from the first one. In a contract it is that position. Our own.
+/// Where a map's entries were written, in bytes from the first one. In a contract it is that position.
 #[derive(Clone, Copy, Debug)]
 pub struct SortedMapResolver {
     pos: u32,
@@ -117,9 +117,9 @@ impl<K: MapKey, V: Portable> ArchivedSortedMap<K, V> {
     }
 
     /// Writes the map's bytes over those of `place`, of `len` entries. The caller must ensure that
-    /// these are eight, and that `len` is at most 4,294,967,295; `resolver` should be that of so
-    /// many entries. Fails with `IsizeOverflow` or `OffsetOverflow` exactly if the offset to the
-    /// entries doesn't fit; the bytes are then unchanged.
+    /// these are eight, and that `len` is at most 4,294,967,295; `resolver` should be that of `len`
+    /// entries. Fails with `IsizeOverflow` or `OffsetOverflow` exactly if the offset to the entries
+    /// doesn't fit; the bytes are then unchanged.
     #[inline(always)]
     pub fn resolve_from_len(
         len: usize,

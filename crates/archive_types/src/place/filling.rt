@@ -34,7 +34,7 @@ fn resolve_part<V: Archive>(
 
 impl<'a, T: Record> Place<'a, T> {
     /// Resolves `value` as part `i`, where that lies; the other bytes stay. The caller must ensure that the part has the archived type of `value`, that
-    /// its bytes are zeros, and what `field` requires. Fails as `Archive::resolve` does, with the part's bytes left open. Our own.
+    /// its bytes are zeros, and what `field` requires. Fails as `Archive::resolve` does, with the part's bytes left open.
     #[inline(always)]
     pub fn resolve_field<V: Archive>(
         &mut self,
@@ -59,7 +59,7 @@ impl<'a, T: Record> Place<'a, T> {
 
 impl<'a, T: Portable, const N: usize> Place<'a, [T; N]> {
     /// Resolves `value` as the element `index`, of which 0 is the first; the other bytes stay. The caller must ensure that the element's bytes are zeros,
-    /// and what `index` requires. Fails as `Archive::resolve` does, with the element's bytes left open. Our own.
+    /// and what `index` requires. Fails as `Archive::resolve` does, with the element's bytes left open.
     #[inline(always)]
     pub fn resolve_index<V: Archive<Archived = T>>(
         &mut self,
@@ -83,7 +83,7 @@ impl<'a, T: Portable, const N: usize> Place<'a, [T; N]> {
 
 impl<'a, T: Choice> Place<'a, T> {
     /// Resolves `value` as part `i` of the variant with this tag; the other bytes stay, the tag too. The caller must ensure that the part has the archived
-    /// type of `value`, that its bytes are zeros, and what `payload` requires. Fails as `Archive::resolve` does, with the part's bytes left open. Our own.
+    /// type of `value`, that its bytes are zeros, and what `payload` requires. Fails as `Archive::resolve` does, with the part's bytes left open.
     #[inline(always)]
     pub fn resolve_payload<V: Archive>(
         &mut self,

@@ -27,8 +27,8 @@ use archive_nonzero::NonZero;
 use archive_num::{Integer, LittleEndian, Native};
 use archive_write::ser::{ResolverAlloc, Writer};
 
-/// A value that is archived as one leaf: a number of the machine, a bool, a char or `()`, an archived number, or one that isn't 0. Our own, so that one
-/// implementation archives all of them.
+/// A value that is archived as one leaf: a native number, a bool, a char or `()`, an archived
+/// number, or one that isn't 0. So one implementation archives all of them.
 pub trait Leaf {
     /// Its archived type.
     type LeafFormat: Portable;
@@ -47,7 +47,7 @@ pub trait Leaf {
         ensures { Self.LeafFormat.metadata_length result ≡ 0 };
 
     /// Writes the bytes of the value over `out`, the lowest first. The caller must ensure that
-    /// these are as many as the leaf has. Wherever they lie, they are read as the value.
+    /// `out` has the leaf's size. Wherever the bytes lie, they read as the value.
     fn write_bytes(&self, out: &mut [u8])
         requires { length out.old ≡ kind_size leaf_kind }
         ensures bytes { out.new ≡ leaf_bytes self.now }

@@ -14,7 +14,7 @@ use archive_check::format::traits::ArchivePointee;
 use archive_nonzero::NonZero;
 use archive_num::{Integer, LittleEndian, Native};
 
-/// A leaf that a seal writes over. Our own, so that one implementation writes all of them.
+/// A leaf that a seal writes over. So one implementation writes all of them.
 pub trait SealedLeaf: ArchivePointee {
     /// What is written over it.
     type Written: Native;

@@ -58,10 +58,10 @@ impl RcResolver {
 /// Where what a weak pointer leads to was written; none where it is null. rkyv 0.8.18 has an enum of its own.
 pub type RcWeakResolver = Option<RcResolver>;
 
-/// Writes a value under its key, where that is unknown, and a zero byte where the writer is still
-/// at its position: what comes next would stand there, too. Returns the position, in bytes from the
+/// Writes a value under its key, where that is unknown, and a zero byte if the writer is still at
+/// its position: what comes next would lie there, too. Returns the position, in bytes from the
 /// first one. Fails as `ArchivedRc::serialize_from_ref` does, but never with `PositionTooLarge` or
-/// `LengthTooLarge`. Our own.
+/// `LengthTooLarge`.
 pub fn write_shared<F: Flavor, U: SerializeUnsized<S>, S: Sharing + Writer>(
     key: u64,
     value: &U,
@@ -84,8 +84,7 @@ pub fn write_shared<F: Flavor, U: SerializeUnsized<S>, S: Sharing + Writer>(
 
 /// Writes the bytes of a pointer at `pos` to `target`, both in bytes from the buffer's first one,
 /// with the length `count`. Requires as many bytes as the pointer has, and that one value has the
-/// length 0. Fails with `IsizeOverflow` or `OffsetOverflow` exactly if the offset doesn't fit. Our
-/// own.
+/// length 0. Fails with `IsizeOverflow` or `OffsetOverflow` exactly if the offset doesn't fit.
 #[tactic(auto, using(crate::proofs::Writing::Owned::size_by_length))]
 pub fn write_pointer<T: PortablePointee>(
     target: usize,
@@ -106,7 +105,7 @@ pub fn write_pointer<T: PortablePointee>(
 }
 
 /// Writes the bytes of a null: the offset 1, and the length 0 where there is one. Requires as many
-/// bytes as the pointer has; it never fails. Our own.
+/// bytes as the pointer has; it never fails.
 pub fn write_null<T: PortablePointee>(bytes: &mut [u8]) -> Result<(), Error>
     requires { length bytes.old ≡ pointer_size T.pointee }
     ensures written { bytes.new ≡ owner_bytes (has_length T.pointee) (whole 1) 0 }
@@ -149,11 +148,11 @@ where
         Ok(RcResolver { pos })
     }
 
-    /// Writes the pointer's bytes over those of `place`. The caller must ensure that these are as
-    /// many as the pointer has, that one value has the length 0, and that there are at most
-    /// 4,294,967,295 elements or bytes; `resolver` should be that of `serialize_from_ref`. Fails
-    /// with `IsizeOverflow` or `OffsetOverflow` exactly if the offset doesn't fit; the bytes are
-    /// then unchanged. rkyv 0.8.18 panics.
+    /// Writes the pointer's bytes over those of `place`. The caller must ensure that these have the
+    /// pointer's size, that one value has the length 0, and that there are at most 4,294,967,295
+    /// elements or bytes; `resolver` should be that of `serialize_from_ref`. Fails with
+    /// `IsizeOverflow` or `OffsetOverflow` exactly if the offset doesn't fit; the bytes are then
+    /// unchanged. rkyv 0.8.18 panics.
     #[tactic(auto, using(crate::proofs::SharedValues::SharedBytes::resolves_shared, crate::proofs::SharedValues::SharedBytes::shared_hindered_at))]
     pub fn resolve_from_ref<U: ArchiveUnsized<Archived = T>>(
         value: &U,

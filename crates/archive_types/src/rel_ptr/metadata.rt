@@ -4,8 +4,8 @@ ghost use Rattle.std.specs.Prelude.{◌≡◌, ℕ, Bool, true, false};
 
 use archive_num::{ArchivedUsize, FixedUsize};
 
-/// What is in a relative pointer behind its offset: nothing, or a length. Our own: rkyv 0.8.18
-/// takes any archived type there.
+/// What is in a relative pointer behind its offset: nothing, or a length. rkyv 0.8.18 takes any
+/// archived type there.
 pub trait Metadata: Copy {
     // Whether a length stands there.
     ghost is_length: { Bool };

@@ -168,9 +168,9 @@ impl<O: Offset> SelfCheck for RawRelPtr<O> {
 
 impl<O: Offset> RawRelPtr<O> {
     /// Writes a pointer to the position `to` over the bytes of `place`. The caller must ensure that
-    /// they are as many as the offset has. Fails with `IsizeOverflow` exactly if the distance
-    /// doesn't fit `isize`, and else with `OffsetOverflow` exactly if it doesn't fit the offset;
-    /// the bytes are then unchanged.
+    /// they have the offset's size. Fails with `IsizeOverflow` exactly if the distance doesn't fit
+    /// `isize`, and else with `OffsetOverflow` exactly if it doesn't fit the offset; the bytes are
+    /// then unchanged.
     pub fn try_emplace(to: usize, place: Place<'_, RawRelPtr<O>>) -> Result<(), Error>
         requires { length place.bytes.now ≡ byte_len O.Number.width }
         ensures { OffsetPut O.Number.sign O.Number.width to place result }
@@ -181,7 +181,7 @@ impl<O: Offset> RawRelPtr<O> {
     }
 
     /// Writes an invalid pointer over the bytes of `place`: one with the offset 1. The caller must
-    /// ensure that they are as many as the offset has. It never fails.
+    /// ensure that they have the offset's size. It never fails.
     pub fn try_emplace_invalid(place: Place<'_, RawRelPtr<O>>) -> Result<(), Error>
         requires { length place.bytes.now ≡ byte_len O.Number.width }
         ensures written { place.exit.0.now ≡ offset_bytes O.Number.width (pos 1) }
@@ -210,8 +210,8 @@ impl<'a, O: Offset> Ref<'a, RawRelPtr<O>> {
         self.offset() == 1
     }
 
-    /// Where it leads: its position and its offset together, in bytes from the buffer's first one. It may lie outside the buffer. Our own: rkyv 0.8.18
-    /// has pointers of the machine.
+    /// Where it leads: its position and its offset together, in bytes from the buffer's first one.
+    /// It may lie outside the buffer. rkyv 0.8.18 has machine pointers.
     pub fn target(self) -> i128
         ensures { result ≡ pos self.entry.pos +ℤ offset_at O.Number.sign O.Number.width
             self.entry.bytes.now self.entry.pos }

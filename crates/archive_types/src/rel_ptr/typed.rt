@@ -165,10 +165,10 @@ where
     T::ArchivedMetadata: Metadata,
 {
     /// Writes a pointer to the position `to` over the bytes of `place`, with this metadata. The
-    /// caller must ensure that they are as many as the pointer has. Fails with `IsizeOverflow`
-    /// exactly if the distance doesn't fit `isize`, and else with `OffsetOverflow` exactly if it
-    /// doesn't fit the offset; the bytes are then unchanged. Bytes between offset and length, and
-    /// behind the length, stay as they were.
+    /// caller must ensure that they have the pointer's size. Fails with `IsizeOverflow` exactly if
+    /// the distance doesn't fit `isize`, and else with `OffsetOverflow` exactly if it doesn't fit
+    /// the offset; the bytes are then unchanged. Bytes between offset and length, and behind the
+    /// length, stay as they were.
     pub fn try_emplace_unsized(
         to: usize,
         metadata: T::ArchivedMetadata,
@@ -185,8 +185,7 @@ where
     }
 
     /// Writes an invalid pointer over the bytes of `place`: one with the offset 1, and the length 0
-    /// if there is one. The caller must ensure that they are as many as the pointer has. It never
-    /// fails.
+    /// if there is one. The caller must ensure that they have the pointer's size. It never fails.
     pub fn try_emplace_invalid(place: Place<'_, RelPtr<T, O>>) -> Result<(), Error>
         requires { length place.bytes.now ≡ (rel_layout O.Number.width
             T.ArchivedMetadata.is_length).size }
@@ -244,8 +243,8 @@ where
         T::ArchivedMetadata::from_length(read_u32(bytes, pos + length_begin::<O::Number>()))
     }
 
-    /// Where it leads: its position and its offset together, in bytes from the buffer's first one. It may lie outside the buffer. Our own: rkyv 0.8.18
-    /// has pointers of the machine.
+    /// Where it leads: its position and its offset together, in bytes from the buffer's first one.
+    /// It may lie outside the buffer. rkyv 0.8.18 has machine pointers.
     pub fn target(self) -> i128
         ensures { result ≡ pos self.entry.pos +ℤ offset_at O.Number.sign O.Number.width
             self.entry.bytes.now self.entry.pos }

@@ -15,13 +15,14 @@ use archive_check::format::error::Error;
 use archive_write::ser::{Writer, WriterExt};
 use core::mem::replace_with;
 
-/// As many bytes as are written at once, at most, and as a value has that is copied.
+/// The most bytes that are written at once, and that a copied value has.
 pub(crate) const PIECE: usize = 1024;
 
 /// As many bytes as values have whose buffer is cleared for them alone: one of `PIECE` bytes would take most of their time.
 const SHORT: usize = 64;
 
-/// As many bytes as are written at once, at most, where the writer has the room for them at hand; while there are enough, the second.
+/// The most bytes that are written at once if the writer has the room at hand; while there are
+/// enough, the second.
 const BLOCK: usize = 4096;
 
 const LARGE_BLOCK: usize = 16_384;
@@ -342,7 +343,7 @@ pub fn copy_slice<S: Writer + Keys, T: CopiedSource>(
 
 /// As `copy_slice`, with `together` values always in one piece, as those of an array. Writes
 /// nothing and returns `None` if these have more than 1,024 bytes. It is the `serialize_copied` of
-/// a type of yours. Our own.
+/// a type of yours.
 #[inline(always)]
 pub fn copy_groups<S: Writer + Keys, T: Copied>(
     values: &[T],
@@ -366,7 +367,6 @@ pub fn copy_groups<S: Writer + Keys, T: Copied>(
 /// Writes arrays of values that are copied, as `copy_slice` writes the values of all: zeros up to
 /// their alignment, and then the bytes of each array, one after another; returns the position of
 /// the first. The caller must ensure that the values can be counted. Fails as `copy_slice` does.
-/// Our own.
 #[inline(always)]
 pub fn copy_arrays<S: Writer + Keys, T: CopiedSource, const N: usize>(
     arrays: &[[T; N]],

@@ -81,7 +81,7 @@ pub(crate) fn serialize_in_turn<S: Writer + ResolverAlloc, T: Serialize<S>>(
     serializer.resolve_slice_aligned(alloc, values, resolvers)
 }
 
-// The same in bulk, where the type is copied so. Refused with `LengthTooLarge`, 5, before anything is written, exactly where there are more than
+// The same in bulk, if the type is copied so. Fails with `LengthTooLarge`, before anything is written, exactly if there are more than
 // 4,294,967,295 values.
 #[inline(always)]
 pub(crate) fn serialize_slice<S: Writer + ResolverAlloc, T: Serialize<S>>(

@@ -117,7 +117,7 @@ impl<'a> Ref<'a, ArchivedString> {
         self.as_str().as_bytes()
     }
 
-    /// Whether the text stands in the string's eight bytes. As in rkyv 0.8.18.
+    /// Whether the text lies in the string's eight bytes. As in rkyv 0.8.18.
     pub fn is_inline(self) -> bool
         ensures here { IsTrue result → ¬ IsOutOfLine self.entry.bytes.now self.entry.pos }
         ensures elsewhere { result ≡ false → IsOutOfLine self.entry.bytes.now self.entry.pos }

@@ -49,9 +49,9 @@ impl<T> CopyOptimization<T> {
     }
 }
 
-/// A source whose values own nothing, and have each the same bytes wherever they are archived: slices of such values can be written in bulk. Our own: rkyv
-/// 0.8.18 copies the memory of the values. It stands beside `Archive`, so that what implements that can call `slice::copy_groups`; `CopiedSource` says that
-/// the two agree.
+/// A source whose values own nothing, and have each the same bytes wherever they are archived:
+/// slices of such values can be written in bulk. It is beside `Archive`, so that what implements
+/// that can call `slice::copy_groups`; `CopiedSource` says that the two agree.
 pub trait Copied {
     /// The archived type.
     type CopiedAs: Portable;
@@ -71,8 +71,8 @@ pub trait Copied {
         ensures owns_nothing { (v : Self) → OwnsNothingAs Self.CopiedAs.Portable (copied_keys v)
             (copied_meaning v) };
 
-    /// Writes the value's bytes over `bytes`. The caller must ensure that these are as many as
-    /// `copied_size` says.
+    /// Writes the value's bytes over `bytes`. The caller must ensure that there are `copied_size`
+    /// of them.
     fn copy_one(&self, bytes: &mut [u8])
         requires sized { length bytes.old ≡ Self.CopiedAs.layout.size }
         ensures copied { bytes.new ≡ copied_bytes self.now }
@@ -80,7 +80,7 @@ pub trait Copied {
             (copied_bytes self.now) };
 
     /// Writes the bytes of the values, one after another, over `bytes`. The caller must ensure that
-    /// these are as many as the values have together.
+    /// these have the size of the values together.
     #[inline(always)]
     final fn copy_into(values: &[Self], bytes: &mut [u8])
         requires sized { length bytes.old ≡ length values.now * Self.CopiedAs.layout.size }
@@ -97,7 +97,7 @@ pub trait Copied {
     }
 }
 
-/// A source that is copied in bulk, as its `Archive` says: what is copied of a value has its keys and its meaning. Our own.
+/// A source that is copied in bulk, as its `Archive` says: what is copied of a value has its keys and its meaning.
 pub trait CopiedSource: Archive + Copied<CopiedAs = <Self as Archive>::Archived> {
     ghost same_keys: { Self.copied_keys ≡ Self.keys };
 

@@ -22,7 +22,7 @@ use archive_write::ser::Writer;
 impl<T: Portable> ArchivedVec<T> {
     /// Writes the elements, which are copied, as one region: zeros up to their alignment, and then
     /// the bytes of each. It takes no memory but the writer's. So does `serialize_from_slice`, if
-    /// the elements' type is on in bulk. Our own.
+    /// the elements' type is on in bulk.
     ///
     /// Errors:
     /// - `LengthTooLarge`: exactly if there are more than 4,294,967,295 elements; nothing is

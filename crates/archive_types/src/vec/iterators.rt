@@ -38,7 +38,8 @@ fn write_item<A: Allocator + Drop, S: Writer, U: Serialize<S>>(
 
 impl<T: Portable> ArchivedVec<T> {
     /// Writes the items of `iter` as `serialize_from_slice` writes a slice's, and keeps them
-    /// meanwhile. The caller must ensure that the iterator ends. rkyv 0.8.18 goes over it twice.
+    /// meanwhile. The caller must ensure that the iterator terminates. rkyv 0.8.18 goes over it
+    /// twice.
     ///
     /// Errors:
     /// - `OutOfMemory`: memory for the items is refused; nothing is written then.
@@ -61,8 +62,8 @@ impl<T: Portable> ArchivedVec<T> {
     }
 
     /// Writes the items of `iter` one after another as they come, and keeps none. The caller must
-    /// ensure that the iterator ends. Items without a pointer to a region of their own are then a
-    /// vector's elements. rkyv 0.8.18 panics if an item writes.
+    /// ensure that the iterator terminates. Items without a pointer to a region of their own are
+    /// then a vector's elements. rkyv 0.8.18 panics if an item writes.
     ///
     /// Errors:
     /// - `ItemWrote`: exactly if an item's `serialize` succeeded and wrote.

@@ -91,8 +91,8 @@ impl<T: Portable> ArchivedVec<T> {
 
     /// Writes the vector's bytes over those of `place`, of `len` elements. The caller must ensure
     /// that these are eight, and that `len` is at most 4,294,967,295; `resolver` should be that of
-    /// so many elements. Fails with `IsizeOverflow` or `OffsetOverflow` exactly if the offset to
-    /// the elements doesn't fit; they are then unchanged. rkyv 0.8.18 panics there.
+    /// `len` elements. Fails with `IsizeOverflow` or `OffsetOverflow` exactly if the offset to the
+    /// elements doesn't fit; they are then unchanged. rkyv 0.8.18 panics there.
     #[tactic(auto, using(crate::proofs::Writing::OwnersWritten::resolves_vec, crate::proofs::Writing::OwnersWritten::vec_hindered_at))]
     #[inline(always)]
     pub fn resolve_from_len(

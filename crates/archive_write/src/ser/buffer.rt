@@ -10,8 +10,14 @@ use crate::ser::{Positional, Writer};
 use archive_check::format::error::Error;
 use archive_check::format::traits::Keys;
 
-/// A writer over bytes that are lent to it. It takes as many bytes as they are, and leaves those beyond what is written as they were. rkyv 0.8.18 lends
-/// bytes that may be uninitialized, too.
+/// A writer over bytes that are lent to it. Those beyond what is written stay as they were. rkyv
+/// 0.8.18 lends bytes that may be uninitialized, too.
+///
+/// ```
+/// let mut array = [0; 64];
+/// let buffer = to_bytes_in(alloc, &value, Buffer::from(&mut array))?;
+/// let archive = buffer.as_slice();
+/// ```
 #[derive(Drop)]
 pub struct Buffer<'a> {
     bytes: &'a mut [u8],
@@ -39,7 +45,7 @@ impl<'a, const N: usize> From<&'a mut [u8; N]> for Buffer<'a> {
 }
 
 impl<'a> Buffer<'a> {
-    /// What is written, from the first byte. Our own.
+    /// What is written, from the first byte.
     pub fn as_slice(&self) -> &[u8]
         ensures { result.now ≡ (⟦<Buffer<'a> as Keys>⟧.state self.now).bytes }
     {

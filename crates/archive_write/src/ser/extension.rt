@@ -23,7 +23,8 @@ fn zeros_due(pos: usize, align: usize) -> usize
 /// As many bytes or more are long: room for them is made at once.
 const LONG: usize = 1024;
 
-/// Room is made for so many bytes more, for what mostly follows the last long region of an archive: its owner, and the root.
+/// Room is made for this many bytes more: for what mostly follows the last long region of an
+/// archive, its owner and the root.
 const BEHIND: usize = 64;
 
 // Makes room at once for so many values of a size, if they are long together.
@@ -110,7 +111,7 @@ pub trait WriterExt: Writer {
         self.align(T::align())
     }
 
-    /// As `align_for`, with room made at once for `count` values, if these are long. Our own.
+    /// As `align_for`, with room made at once for `count` values, if these are long.
     #[inline(always)]
     final fn align_for_run<T: Portable>(&mut self, count: usize) -> Result<usize, Error>
     where
@@ -132,7 +133,7 @@ pub trait WriterExt: Writer {
         self.align_for::<T>()
     }
 
-    /// As `write`, with room made at once, if the bytes are long. Our own.
+    /// As `write`, with room made at once, if the bytes are long.
     #[inline(always)]
     final fn write_long(&mut self, bytes: &[u8]) -> Result<(), Error>
     where

@@ -7,14 +7,20 @@ use archive_check::format::error::Error;
 use archive_check::format::traits::Keys;
 use std::alloc::Allocator;
 
-/// What a value is serialized to. Each call is that of the part that it concerns. As in rkyv 0.8.18.
+/// A writer with what values need besides: an allocator for resolvers and the states of shared keys.
+/// Each call is that of the part that it concerns. As in rkyv 0.8.18.
+///
+/// ```
+/// let mut serializer = Serializer::new(Vec::new(alloc), alloc, Share::new(alloc));
+/// let root = serialize_one(&value, &mut serializer)?;
+/// ```
 #[derive(Drop)]
 pub struct Serializer<W, A, S> {
     /// What takes the bytes.
     pub writer: W,
     /// Where memory for resolvers comes from.
     pub allocator: A,
-    /// The states of the shared keys; `()` where no value is shared.
+    /// The states of the shared keys; `()` if no value is shared.
     pub sharing: S,
 }
 
@@ -58,7 +64,7 @@ impl<W, A, S> Serializer<W, A, S> {
     }
 }
 
-/// What hands out an allocator for resolvers. Our own: rkyv 0.8.18 allocates by calls of the serializer.
+/// What hands out an allocator for resolvers. rkyv 0.8.18 allocates by calls of the serializer.
 pub trait ResolverAlloc {
     /// The allocator's type.
     type Alloc: Allocator + Copy;

@@ -15,12 +15,13 @@ pub trait Positional {
     // The position: how many bytes stand before it.
     ghost position: { Self → ℕ };
 
-    /// The position: how many bytes stand before it.
+    /// The position: how many bytes come before it.
     fn pos(&self) -> usize
         ensures { result ≡ position self.now };
 }
 
-/// What takes bytes at its end. The call is that of rkyv 0.8.18; that a writer tells its bytes, its room and its device's failures is our own.
+/// What takes bytes at its end. The call is that of rkyv 0.8.18; in contracts a writer has its
+/// bytes, its room and its device's failures.
 pub trait Writer: Positional + Keys {
     // Whether a write may ask for memory.
     ghost takes_memory: { Bool };
@@ -43,7 +44,7 @@ pub trait Writer: Positional + Keys {
 
     /// Appends `bytes` where the room for them is at hand, so that no memory is requested and
     /// nothing can fail; else changes nothing and returns false. By default it returns false, and
-    /// the caller then writes as ever. Our own.
+    /// the caller then writes as ever.
     #[inline(always)]
     fn write_at_once(&mut self, bytes: &[u8]) -> bool
         ensures written { IsTrue result → (Self.state self.new).bytes ≡ (Self.state self.old).bytes
@@ -56,8 +57,8 @@ pub trait Writer: Positional + Keys {
         false
     }
 
-    /// Asks for room for `n` more bytes at once, so that writes needn't ask for it piece by piece.
-    /// A hint: it never fails and appends nothing, and by default it does nothing. Our own.
+    /// Makes room for `n` more bytes at once, so that writes needn't piece by piece. A hint: it
+    /// never fails and appends nothing, and by default it does nothing.
     #[inline(always)]
     fn make_room(&mut self, _n: usize)
         ensures unchanged { Self.state self.new ≡ Self.state self.old }
@@ -67,7 +68,7 @@ pub trait Writer: Positional + Keys {
     ghost position_law: { (w : Self) → Self.position w ≡ length (Self.state w).bytes };
 }
 
-/// What is borrowed stands where its owner does.
+/// What is borrowed is where its owner is.
 impl<P: Positional> Positional for &P {
     ghost position = { λ r. P.position r.now };
 
@@ -77,7 +78,7 @@ impl<P: Positional> Positional for &P {
     }
 }
 
-/// What is borrowed stands where its owner does.
+/// What is borrowed is where its owner is.
 impl<P: Positional> Positional for &mut P {
     ghost position = { λ r. P.position r.now };
 

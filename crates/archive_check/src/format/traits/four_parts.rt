@@ -15,8 +15,9 @@ use crate::format::expr::{Defs, Expr};
 use crate::self_check::CheckedParts;
 use std::alloc::Global;
 
-/// Four parts and then those of `R`: just what `(A, (B, (C, (D, R))))` are, told at once. What a call passes for a long tuple grows with the depth of its
-/// nest, which is a quarter so deep. Its values are those of the parts, as they are read back. Our own.
+/// Four parts and then those of `R`: the same as `(A, (B, (C, (D, R))))`, in a nest a quarter as
+/// deep. What a call passes for a long tuple grows with that depth. Its values are those of the
+/// parts, as they are read back.
 pub struct FourParts<A, B, C, D, R> {
     /// The first.
     pub first: A,

@@ -48,7 +48,6 @@ impl<T: Portable> LayoutRaw for T {
 
 /// The layout in bytes of `length` values one after another. Fails with `LayoutTooLarge` exactly if
 /// the size is above `usize::MAX`; but a run of one never fails, and its size is then `usize::MAX`.
-/// Our own.
 pub fn layout_of_run<T: Portable>(length: usize) -> Result<Layout, Error>
     ensures made { IfOk result (λ l. IsRegionLayout T.definitions (run T.shape) length l) }
     ensures refused { IfErr result (λ e. (e ≡ LayoutTooLarge)

@@ -9,7 +9,7 @@ ghost use Rattle.archive_check.specs.Expressions.{key_of};
 use super::Portable;
 use crate::format::expr::{IntegerKind, Key, Kind};
 
-/// A type whose values may be the keys of a sorted map: numbers, those that aren't 0, chars and strings. Our own.
+/// A type whose values may be the keys of a sorted map: numbers, those that aren't 0, chars and strings.
 pub trait MapKey: Portable {
     // What it is as a key.
     ghost key: { KeyOf };

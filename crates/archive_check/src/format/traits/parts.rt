@@ -18,8 +18,8 @@ use crate::self_check::CheckedParts;
 use std::alloc::Global;
 
 /// The parts of a record, laid out one after another: `()`, or `(A, R)` for an `A` and then the
-/// parts of `R`, or four at once by `FourParts`. Our own, so that the layout and the definitions of
-/// every record, tuple and variant are told by one logic.
+/// parts of `R`, or four at once by `FourParts`. The layout and the definitions of every record,
+/// tuple and variant follow from it.
 pub trait PortableParts: CheckedParts {
     // The greatest alignment.
     ghost greatest: { ℕ };
@@ -168,8 +168,7 @@ impl<A: Portable, R: PortableParts> PortableParts for (A, R) {
     }
 }
 
-/// A record: it has parts, which lie one after another. Our own; it stands where rkyv 0.8.18 has a
-/// type's fields.
+/// A record: it has parts, which lie one after another, as the fields of a struct do.
 pub trait Record: Portable {
     /// Its parts.
     type Parts: PortableParts;
@@ -189,7 +188,7 @@ pub trait Record: Portable {
     }
 }
 
-/// The size of a record in bytes, by its parts: `usize::MAX` where it is that or more. Our own.
+/// The size of a record in bytes, by its parts: `usize::MAX` where it is that or more.
 pub fn size_of_record<P: PortableParts>() -> usize
     ensures { result ≡ min (up (P.end 0) P.greatest) 18446744073709551615 }
 {
@@ -197,7 +196,7 @@ pub fn size_of_record<P: PortableParts>() -> usize
 }
 
 /// The expression of a record, by its parts. Memory comes from `alloc`. Fails with `OutOfMemory` if
-/// it is refused. Our own.
+/// it is refused.
 #[tactic(auto, using(crate::proofs::format::Views::views))]
 pub fn expr_of_record<P: PortableParts>(alloc: Global) -> Result<Expr, Error>
     ensures shape { IfOk result (λ e. shape_of e ≡ parts P.parts) }
@@ -210,7 +209,7 @@ pub fn expr_of_record<P: PortableParts>(alloc: Global) -> Result<Expr, Error>
 
 /// Adds the definition of a record that has a name, and those that its parts bring. Memory comes
 /// from `alloc` and from that of `defs`. Fails with `OutOfMemory` if memory is refused, and with
-/// `ShapeConflict` if a name has another definition already, or two. Our own.
+/// `ShapeConflict` if a name has another definition already, or two.
 #[tactic(auto, using(crate::proofs::format::AddedDefinitions::adding))]
 pub fn define_record<P: PortableParts>(
     alloc: Global,

@@ -16,7 +16,7 @@ use crate::self_check::{BoxCheck, SelfCheck};
 use std::alloc::Global;
 
 /// What a pointer of an archive leads to: a value, a slice or a text, with its expression and the check of a box that leads to it. Each `Portable`
-/// type is one. Our own.
+/// type is one.
 pub trait PortablePointee: ArchivePointee {
     /// The check of a box that leads to it. `BySchema` if its type doesn't validate itself.
     type BoxCheck: SelfCheck;

@@ -19,8 +19,8 @@ use crate::format::extents::multiple_of;
 use crate::self_check::CheckedVariants;
 use std::alloc::Global;
 
-/// The variants of a choice, in the order of their tags: `()`, or `(P, V)` for one with the parts `P` and then the variants of `V`. Our own, so that the
-/// layout and the definitions of every choice are told by one logic.
+/// The variants of a choice, in the order of their tags: `()`, or `(P, V)` for one with the parts
+/// `P` and then the variants of `V`. The layout and the definitions of every choice follow from it.
 pub trait PortableVariants: CheckedVariants {
     // The greatest alignment.
     ghost greatest: { ℕ };
@@ -163,7 +163,8 @@ impl<P: PortableParts, V: PortableVariants> PortableVariants for (P, V) {
     }
 }
 
-/// A choice: a tag of one byte, and behind it the parts of the variant that it names. Our own; it stands where rkyv 0.8.18 has an archived enum.
+/// A choice: a tag of one byte, and behind it the parts of the variant that it names, as of an
+/// enum.
 pub trait Choice: Portable {
     /// Its variants.
     type Variants: PortableVariants;
@@ -186,14 +187,14 @@ pub trait Choice: Portable {
     }
 }
 
-/// The size of a choice in bytes, by its variants: `usize::MAX` where it is that or more. Our own.
+/// The size of a choice in bytes, by its variants: `usize::MAX` where it is that or more.
 pub fn size_of_choice<V: PortableVariants>() -> usize
     ensures { result ≡ min (up V.end V.greatest) 18446744073709551615 }
 {
     multiple_of(V::longest_end(), V::align())
 }
 
-/// The alignment of a choice in bytes, by its variants. Our own.
+/// The alignment of a choice in bytes, by its variants.
 pub fn align_of_choice<V: PortableVariants>() -> usize
     ensures { result ≡ V.greatest }
 {
@@ -201,7 +202,7 @@ pub fn align_of_choice<V: PortableVariants>() -> usize
 }
 
 /// The expression of a choice of this name, by its variants. Memory comes from `alloc`. Fails with
-/// `OutOfMemory` if it is refused. Our own.
+/// `OutOfMemory` if it is refused.
 #[tactic(auto, using(crate::proofs::format::Views::views))]
 pub fn expr_of_choice<V: PortableVariants>(alloc: Global, name: &'static str) -> Result<Expr, Error>
     ensures shape { IfOk result (λ e. shape_of e ≡ choice name.now V.variants) }
@@ -212,9 +213,9 @@ pub fn expr_of_choice<V: PortableVariants>(alloc: Global, name: &'static str) ->
     Ok(Expr::Choice(name, list))
 }
 
-/// Adds the definition of a choice that stands under its own name, and those that its parts bring.
-/// Memory comes from `alloc` and from that of `defs`. Fails with `OutOfMemory` if memory is
-/// refused, and with `ShapeConflict` if a name has another definition already, or two. Our own.
+/// Adds the definition of a choice under its own name, and those that its parts bring. Memory comes
+/// from `alloc` and from that of `defs`. Fails with `OutOfMemory` if memory is refused, and with
+/// `ShapeConflict` if a name has another definition already, or two.
 #[tactic(auto, using(crate::proofs::format::AddedDefinitions::adding))]
 pub fn define_choice<V: PortableVariants>(
     alloc: Global,

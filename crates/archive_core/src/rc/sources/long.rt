@@ -28,8 +28,8 @@ use archive_types::traits::{
 };
 use std::rc::{RcSlice, RcStr};
 
-/// A shared text, with the key that names it, as of a `Shared`. Our own: it stands for `Rc<str>` of
-/// rkyv 0.8.18, which goes by the address.
+/// A shared text, with the key that names it, as of a `Shared`. In rkyv 0.8.18 it is an `Rc<str>`,
+/// named by its address.
 #[derive(Debug, PartialEq, Drop)]
 pub struct SharedStr {
     /// The key: it should name one value.
@@ -38,8 +38,8 @@ pub struct SharedStr {
     pub value: RcStr,
 }
 
-/// A shared slice, with the key that names it, as of a `Shared`. Our own: it stands for `Rc<[T]>`
-/// of rkyv 0.8.18, which goes by the address.
+/// A shared slice, with the key that names it, as of a `Shared`. In rkyv 0.8.18 it is an `Rc<[T]>`,
+/// named by its address.
 #[derive(Debug, PartialEq, Drop)]
 pub struct SharedSlice<T> {
     /// The key: it should name one value.

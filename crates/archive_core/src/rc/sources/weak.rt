@@ -23,8 +23,8 @@ use archive_types::traits::{
     Archive, ArchiveUnsized, CopyOptimization, Keys, Portable, Serialize, SerializeUnsized,
 };
 
-/// A weak pointer in an archive: to a shared value, or null. In memory it keeps the value. Our own:
-/// it stands for `rc::Weak` of rkyv 0.8.18, which is null once its value is gone.
+/// A weak pointer in an archive: to a shared value, or null. In memory it keeps the value. In rkyv
+/// 0.8.18 it is an `rc::Weak`, which is null once its value is gone.
 #[derive(Debug, PartialEq, Drop)]
 pub struct WeakShared<T> {
     /// The value, or `None` for a null.

@@ -23,14 +23,14 @@ use std::alloc::{AllocError, Global};
 pub enum ReadHead<T, F> {
     /// It has no box of its type: the value.
     Whole(T),
-    /// It has one: what stands before it, and the box's position.
+    /// It has one: what lies before it, and the box's position.
     Open(F, usize),
 }
 
 /// A source that is a recursive enum whose boxes of itself come last, to be read back from an `X`. `tools/derive` writes it, and `read_chain` reads its
 /// values.
 pub trait ChainBack<X: Portable, D: Entries>: Archive + Drop {
-    /// What stands before a box.
+    /// What lies before a box.
     type Front: Drop;
 
     // What a value means by what stands before its box, and what that holds; and its keys.
@@ -55,8 +55,8 @@ pub trait ChainBack<X: Portable, D: Entries>: Archive + Drop {
         ensures keys { Self.keys result ≡ keys_around front (Self.keys rest.value) };
 }
 
-/// The value that the part shows, read back with no recursion: what stands before each box is kept in a vector. Fails as `Deserialize::deserialize_part`
-/// does.
+/// The value that the part shows, read back with no recursion: what lies before each box is kept in
+/// a vector. Fails as `Deserialize::deserialize_part` does.
 #[inline(always)]
 pub fn read_chain<X: Portable, T: ChainBack<X, D>, D: Entries>(
     alloc: Global,
