@@ -48,8 +48,8 @@ pub record ReadsWhole (keeps : Bool) (D : Definitions) (bytes : List ℕ) (root 
   pub unmet : IsCyclic D bytes old root (one X) 0 → ⊥
   pub once : KeepsRead keeps old new keys
 
--- The definitions give X a meaning, and in each schema that knows them the error names the first
--- fault that a check finds.
+-- The definitions give X a meaning, and in each schema that knows them the error names the fault
+-- that a check finds first.
 pub record IsFaulty (D : Definitions) (bytes : List ℕ) (limit : Option ℕ) (root : ℕ) (X : Shape) (error : Error) : Type 0 where
   pub well_formed : WellFormed (listed D) X
   pub fault : Fault
@@ -68,7 +68,7 @@ ExplainsNoSchema X D e =
 abbrev pub IsRefusal : Definitions → List ℕ → Option ℕ → ℕ → Shape → Error → Type 0
 IsRefusal D bytes limit root X error = ExplainsNoSchema X D error ⊎ IsFaulty D bytes limit root X error
 
--- why a check is refused in whatever context that has levels: the definitions give X no meaning, or it is what a check can answer
+-- Why a check is refused in whatever context that has levels: the definitions give X no meaning, or it is what a check can return.
 abbrev pub IsAnswerable : Shape → Definitions → Option ℕ → Error → Type 0
 IsAnswerable X D depth error = HasLevels depth → IsOfCheck error ⊎ ExplainsNoSchema X D error
 

@@ -27,8 +27,8 @@ pub record AppendsArchive {T A R M C : Type 0} (a : Archive.Ghosts T A R C M) (f
   pub goes_on : GoesOn (unshared old) (unshared new)
   pub refused : IfErr result (IsRegionRefused f.definitions (one f.shape) 0 (a.keys v) (a.meaning v) (unshared old) (unshared new))
 
--- The same with a writer that the call takes and returns; an error is explained by what some writer
--- held in the end.
+-- The same as `AppendsArchive`, with a writer that the call takes and returns; an error is
+-- explained by what some writer held in the end.
 pub record AppendsTaken {T A R M C W : Type 0} (a : Archive.Ghosts T A R C M) (f : FormatOf M) (v : T) (k : Keys.Ghosts W) (old : W) (result : Result W Error) : Type 0 where
   pub archived : IfOk result (λ new. (root : ℕ) × Archives f.definitions (k.state old).bytes (k.state new).bytes root f.shape f.layout.size (a.keys v) (a.meaning v))
   pub goes_on : IfOk result (λ new. GoesOn (unshared (k.state old)) (unshared (k.state new)))
@@ -48,10 +48,10 @@ pub record ReadsArchive {M D T A R N C : Type 0} (f : FormatOf M) (bytes : List 
   pub refused : IfErr result (RefusesWhole f.definitions bytes (root_in bytes f.layout) f.shape (d.entry_of b.entry.now))
   pub never_open : IsNeverOpen f.definitions f.shape (d.entry_of b.entry.now) → IfErr result (RefusesAsCheck f.definitions bytes (root_in bytes f.layout) f.shape)
 
--- a type has no schema, and why, or it is well formed and something else was refused
+-- A type has no schema, and why, or it is well formed and something else was refused.
 abbrev pub LacksSchema : {M : Type 0} → FormatOf M → Error → Type 0
 LacksSchema f e = ExplainsNoSchema f.shape f.definitions e ⊎ WellFormed (listed f.definitions) f.shape
 
--- what a check of the root at the end answers
+-- The result of a check of the root at the end.
 abbrev pub AnswersRoot : {M T : Type 0} → FormatOf M → List ℕ → Option ℕ → Result T Error → Type 0
 AnswersRoot f bytes depth result = Answers f.definitions bytes depth (root_in bytes f.layout) f.shape result

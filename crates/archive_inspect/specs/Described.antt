@@ -26,7 +26,7 @@ use Rattle.archive_inspect.specs.Leaves.{told_number, IsLeafRead}
 use Rattle.archive_inspect.specs.Ways.{WayEnd, a_value, a_text, PointsBy}
 use Rattle.archive_inspect.specs.Points.{end_of_way, unit_layout, Under, LeadsToPoint}
 
--- what is told to lie in the region of a pointer: one value, or so many elements or bytes
+-- what is told to lie in the region of a pointer: one value, or n elements or bytes
 abbrev pub told_count : Pointee → ℕ → Count
 told_count (one X) n = OneCount
 told_count (run X) n = ElementsCount n
@@ -68,11 +68,11 @@ pub data IsContent (s : SchemaTable) (bytes : List ℕ) (p : ℕ) : WayEnd → �
       → i32_at bytes p ≡ pos 1
       → IsContent s bytes p (a_value (weak flavor P)) (size_of s.layouts (weak flavor P)) NullContent
 
--- at a point lies the content, in so many bytes
+-- at a point lies the content, in n bytes
 abbrev pub HasContent : RustSchema → List ℕ → Point → ℕ → Content → Type 0
 HasContent f bytes a size content = Under f (λ s. IsContent s bytes a.at (end_of_way a.thing) size content)
 
--- a value at a point takes so many bytes
+-- a value at a point takes n bytes
 abbrev pub TakesSize : RustSchema → Point → ℕ → Type 0
 TakesSize f a size = Under f (λ s. (X : Shape) → end_of_way a.thing ≡ a_value X → size ≡ size_of s.layouts X)
 

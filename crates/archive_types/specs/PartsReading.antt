@@ -17,7 +17,7 @@ use Rattle.archive_check.specs.Entries.{KeepsEntries, IsCyclic, ReadsBack}
 abbrev pub PartsViewed : Definitions → List ℕ → ℕ → ℕ → Parts → Type 0
 PartsViewed D bytes q at ps = ∥ ((s : SchemaTable) × Knows s D × ((r : ℕ) (Y : Shape) → IsPart s q at ps r Y → Lies s bytes r (one Y) 0)) ∥₁
 
--- Each of them was read back where it lies, at the next multiple of its alignment, one after another.
+-- Each of them was read back at its place, at the next multiple of its alignment, one after another.
 pub data PartsReadBack (keeps : Bool) (bytes : List ℕ) (q : ℕ) : Definitions → Parts → ℕ → Entries → Entries → Values → List Naming → Type 0 where
   no_part_read_back : {D : Definitions} {at : ℕ} {told : Entries} → PartsReadBack keeps bytes q D no_part at told told no_value []
   part_read_back : {D E : Definitions} {X : Shape} {ps : Parts} {L : Layout} {at : ℕ} {old mid new : Entries} {v : Value} {vs : Values} {ks ls : List Naming}
@@ -38,6 +38,6 @@ pub data PartsCyclic (bytes : List ℕ) (q : ℕ) : Definitions → Parts → �
       → PartsCyclic bytes q E ps (up at L.align + L.size) mid
       → PartsCyclic bytes q (both D E) (part X ps) at old
 
--- why they weren't read: memory was refused, or one of them meets an open position
+-- Why they weren't read: memory was refused, or one of them meets an open position.
 abbrev pub RefusesParts : Definitions → List ℕ → ℕ → Parts → ℕ → Entries → Error → Type 0
 RefusesParts D bytes q ps at told e = (e ≡ OutOfMemory) ⊎ ((e ≡ CyclicDeserialize) × PartsCyclic bytes q D ps at told)

@@ -37,11 +37,11 @@ ghost use Rattle.archive_core.specs.Sources.{Read};
 ghost use Rattle.archive_core.specs.Value.{case, no_value, product, value};
 ghost use Rattle.archive_core.specs.Writing.{ZeroedPlace};
 ghost use Rattle.std.proofs.Common.{inl, inr, lit≤};
-ghost use Rattle.std.specs.Prelude.{IfErr, IfOk, None, Some, [], codes, length, refl, true, ℕ, ◌++◌, ◌+◌, ◌≡◌};
+ghost use Rattle.std.specs.Prelude.{IfErr, IfOk, None, [], codes, length, refl, true, ℕ, ◌++◌, ◌+◌, ◌≡◌};
 
 use archive_core::error::Error;
 use archive_core::fields::{
-    copy_2, known_tag, part_in_case, part_in_record, read_case, resolve_case_1, resolve_record_2,
+    known_tag, part_in_case, part_in_record, read_case, resolve_case_1, resolve_record_2,
     serialize_case_1, serialize_record_2, tag_in,
 };
 use archive_core::place::Place;
@@ -51,11 +51,9 @@ use archive_core::seal::{Seal, sealed_part_in_case, sealed_part_in_record};
 use archive_core::self_check::{RecordCheck, SelfCheck, check_choice};
 use archive_core::ser::{ResolverAlloc, Writer, serialize_one};
 use archive_core::shape::{Defs, Expr};
-use archive_core::slice::copy_groups;
 use archive_core::traits::{
-    Archive, ArchivePointee, ArchiveUnsized, Choice, Copied, CopiedSource, CopyOptimization,
-    Deserialize, Entries, Keys, Portable, Record, Serialize, SerializeUnsized, expr_of_choice,
-    expr_of_record,
+    Archive, ArchivePointee, ArchiveUnsized, Choice, CopyOptimization, Deserialize, Entries, Keys,
+    Portable, Record, Serialize, SerializeUnsized, expr_of_choice, expr_of_record,
 };
 use archive_core::validation::ArchiveContext;
 use archive_core::view::{RawView, Ref};
@@ -175,7 +173,7 @@ impl Choice for ArchivedTurn {
     ghost holds = { lit≤ tt };
 }
 
-/// What is kept of `Turn` from its serialization until it is resolved.
+/// What is kept of `Turn` between `serialize` and `resolve`.
 #[derive(Drop)]
 pub enum TurnResolver {
     /// Of `Left`.
@@ -382,7 +380,7 @@ pub enum ViewOfTurn<'a> {
     Right(Ref<'a, ArchivedU16>),
 }
 
-/// The variant of an archived `Turn`, where it lies.
+/// The variant of an archived `Turn`, as a view.
 pub trait TurnView<'a> {
     /// The variant that the tag names, with views of its fields.
     fn variant(self) -> ViewOfTurn<'a>;
@@ -408,7 +406,7 @@ impl<'a> TurnView<'a> for Ref<'a, ArchivedTurn> {
     }
 }
 
-/// The fields of an archived `Turn`, sealed where they lie. Each call asks that the tag is its variant's.
+/// The fields of an archived `Turn`, as seals. The caller must ensure that the tag is the variant's.
 pub trait TurnSeal<'a> {
     // The seal shows a part of a buffer that was checked.
     ghost sealed: { Self → Type 0 };
@@ -550,7 +548,7 @@ impl Record for ArchivedSteps {
     ghost holds = { lit≤ tt };
 }
 
-/// What is kept of `Steps` from its serialization until it is resolved.
+/// What is kept of `Steps` between `serialize` and `resolve`.
 #[derive(Drop)]
 pub struct StepsResolver {
     kept: (<u16 as Archive>::Resolver, (<u16 as Archive>::Resolver, ())),
@@ -573,8 +571,7 @@ impl Archive for Steps {
     ghost belongs = { λ v r. ⟦<u16 as Archive>⟧.belongs v.first r.kept.0
         × (⟦<u16 as Archive>⟧.belongs v.second r.kept.1.0 × Unit {0}) };
 
-    ghost in_bulk = { Some (λ v. ⟦<u16 as Copied>⟧.copied_bytes v.first
-        ++ (⟦<u16 as Copied>⟧.copied_bytes v.second ++ [])) };
+    ghost in_bulk = { None };
 
     ghost keyed = { λ v. record_keyed (part_keyed (number_keyed _)
         (part_keyed (number_keyed _) nothing_keyed)) };
@@ -612,46 +609,17 @@ impl Archive for Steps {
 
     #[inline(always)]
     fn copy_optimization() -> CopyOptimization<Self> {
-        CopyOptimization::enable()
+        CopyOptimization::disable()
     }
 
     #[inline(always)]
     fn serialize_copied<S: Writer + Keys>(
-        values: &[Self],
-        together: usize,
-        serializer: &mut S,
+        _values: &[Self],
+        _together: usize,
+        _serializer: &mut S,
     ) -> Result<Option<usize>, Error> {
-        copy_groups(values, together, serializer)
+        Ok(None)
     }
-}
-
-/// Slices of it are written in bulk.
-impl Copied for Steps {
-    type CopiedAs = ArchivedSteps;
-
-    ghost copied_keys = { λ _. [] };
-
-    ghost copied_meaning = { λ v. product (value (⟦<u16 as Archive>⟧.meaning v.first)
-        (value (⟦<u16 as Archive>⟧.meaning v.second) no_value)) };
-
-    ghost copied_bytes = { λ v. ⟦<u16 as Copied>⟧.copied_bytes v.first
-        ++ (⟦<u16 as Copied>⟧.copied_bytes v.second ++ []) };
-
-    #[inline(always)]
-    fn copied_size() -> usize {
-        4
-    }
-
-    #[inline(always)]
-    fn copy_one(&self, bytes: &mut [u8]) {
-        copy_2(&self.first, &self.second, bytes);
-    }
-}
-
-impl CopiedSource for Steps {
-    ghost same_keys = { refl };
-
-    ghost same_meaning = { refl };
 }
 
 impl<S: Writer + ResolverAlloc> Serialize<S> for Steps {
@@ -724,7 +692,7 @@ impl<D: Entries> Deserialize<Steps, D> for ArchivedSteps {
     }
 }
 
-/// The fields of an archived `Steps`, where they lie.
+/// The fields of an archived `Steps`, as views.
 pub trait StepsView<'a> {
     /// The first one.
     fn first(self) -> Ref<'a, ArchivedU16>;
@@ -753,7 +721,7 @@ impl<'a> StepsView<'a> for Ref<'a, ArchivedSteps> {
     }
 }
 
-/// The fields of an archived `Steps`, sealed where they lie.
+/// The fields of an archived `Steps`, as seals.
 pub trait StepsSeal<'a> {
     // The seal shows a part of a buffer that was checked.
     ghost sealed: { Self → Type 0 };

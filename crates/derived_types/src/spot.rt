@@ -61,14 +61,13 @@ ghost use Rattle.archive_core.specs.Sources.{Read};
 ghost use Rattle.archive_core.specs.Value.{no_value, product, value};
 ghost use Rattle.archive_core.specs.Writing.{ZeroedPlace};
 ghost use Rattle.std.proofs.Common.{inl, inr, lit≤};
-ghost use Rattle.std.specs.Prelude.{IfErr, IfOk, None, Some, [], length, refl, true, ◌++◌, ◌+◌, ◌≡◌};
+ghost use Rattle.std.specs.Prelude.{IfErr, IfOk, None, [], length, refl, true, ◌++◌, ◌+◌, ◌≡◌};
 
 use crate::event::ArchivedEvent;
 use archive_core::boxed::ArchivedBox;
 use archive_core::error::Error;
 use archive_core::fields::{
-    copy_2, part_in_record, resolve_record_2, resolve_record_4, serialize_record_2,
-    serialize_record_4,
+    part_in_record, resolve_record_2, resolve_record_4, serialize_record_2, serialize_record_4,
 };
 use archive_core::option::ArchivedOption;
 use archive_core::place::Place;
@@ -78,10 +77,9 @@ use archive_core::seal::{Seal, sealed_part_in_record};
 use archive_core::self_check::{RecordCheck, SelfCheck};
 use archive_core::ser::{ResolverAlloc, Writer, serialize_one};
 use archive_core::shape::{Defs, Expr};
-use archive_core::slice::copy_groups;
 use archive_core::traits::{
-    Archive, ArchivePointee, ArchiveUnsized, Copied, CopiedSource, CopyOptimization, Deserialize,
-    Entries, Keys, Portable, Record, Serialize, SerializeUnsized, expr_of_record,
+    Archive, ArchivePointee, ArchiveUnsized, CopyOptimization, Deserialize, Entries, Keys,
+    Portable, Record, Serialize, SerializeUnsized, expr_of_record,
 };
 use archive_core::validation::ArchiveContext;
 use archive_core::vec::ArchivedVec;
@@ -187,7 +185,7 @@ impl Record for ArchivedSpot {
     ghost holds = { lit≤ tt };
 }
 
-/// What is kept of `Spot` from its serialization until it is resolved.
+/// What is kept of `Spot` between `serialize` and `resolve`.
 #[derive(Drop)]
 pub struct SpotResolver {
     kept: (<u16 as Archive>::Resolver, (<i16 as Archive>::Resolver, ())),
@@ -209,8 +207,7 @@ impl Archive for Spot {
     ghost belongs = { λ v r. ⟦<u16 as Archive>⟧.belongs v.right r.kept.0
         × (⟦<i16 as Archive>⟧.belongs v.up r.kept.1.0 × Unit {0}) };
 
-    ghost in_bulk = { Some (λ v. ⟦<u16 as Copied>⟧.copied_bytes v.right
-        ++ (⟦<i16 as Copied>⟧.copied_bytes v.up ++ [])) };
+    ghost in_bulk = { None };
 
     ghost keyed = { λ v. record_keyed (part_keyed (number_keyed _)
         (part_keyed (number_keyed _) nothing_keyed)) };
@@ -248,46 +245,17 @@ impl Archive for Spot {
 
     #[inline(always)]
     fn copy_optimization() -> CopyOptimization<Self> {
-        CopyOptimization::enable()
+        CopyOptimization::disable()
     }
 
     #[inline(always)]
     fn serialize_copied<S: Writer + Keys>(
-        values: &[Self],
-        together: usize,
-        serializer: &mut S,
+        _values: &[Self],
+        _together: usize,
+        _serializer: &mut S,
     ) -> Result<Option<usize>, Error> {
-        copy_groups(values, together, serializer)
+        Ok(None)
     }
-}
-
-/// Slices of it are written in bulk.
-impl Copied for Spot {
-    type CopiedAs = ArchivedSpot;
-
-    ghost copied_keys = { λ _. [] };
-
-    ghost copied_meaning = { λ v. product (value (⟦<u16 as Archive>⟧.meaning v.right)
-        (value (⟦<i16 as Archive>⟧.meaning v.up) no_value)) };
-
-    ghost copied_bytes = { λ v. ⟦<u16 as Copied>⟧.copied_bytes v.right
-        ++ (⟦<i16 as Copied>⟧.copied_bytes v.up ++ []) };
-
-    #[inline(always)]
-    fn copied_size() -> usize {
-        4
-    }
-
-    #[inline(always)]
-    fn copy_one(&self, bytes: &mut [u8]) {
-        copy_2(&self.right, &self.up, bytes);
-    }
-}
-
-impl CopiedSource for Spot {
-    ghost same_keys = { refl };
-
-    ghost same_meaning = { refl };
 }
 
 impl<S: Writer + ResolverAlloc> Serialize<S> for Spot {
@@ -353,7 +321,7 @@ impl<D: Entries> Deserialize<Spot, D> for ArchivedSpot {
     }
 }
 
-/// The fields of an archived `Spot`, where they lie.
+/// The fields of an archived `Spot`, as views.
 pub trait SpotView<'a> {
     /// To the right.
     fn right(self) -> Ref<'a, ArchivedU16>;
@@ -382,7 +350,7 @@ impl<'a> SpotView<'a> for Ref<'a, ArchivedSpot> {
     }
 }
 
-/// The fields of an archived `Spot`, sealed where they lie.
+/// The fields of an archived `Spot`, as seals.
 pub trait SpotSeal<'a> {
     // The seal shows a part of a buffer that was checked.
     ghost sealed: { Self → Type 0 };
@@ -515,7 +483,7 @@ impl Record for ArchivedLine {
     ghost holds = { lit≤ tt };
 }
 
-/// What is kept of `Line` from its serialization until it is resolved.
+/// What is kept of `Line` between `serialize` and `resolve`.
 #[derive(Drop)]
 pub struct LineResolver {
     kept: (
@@ -542,8 +510,7 @@ impl Archive for Line {
     ghost belongs = { λ v r. ⟦<Spot as Archive>⟧.belongs v.from r.kept.0
         × (⟦<Spot as Archive>⟧.belongs v.to r.kept.1.0 × Unit {0}) };
 
-    ghost in_bulk = { Some (λ v. ⟦<Spot as Copied>⟧.copied_bytes v.from
-        ++ (⟦<Spot as Copied>⟧.copied_bytes v.to ++ [])) };
+    ghost in_bulk = { None };
 
     ghost keyed = { λ v. record_keyed (part_keyed (keyed_of_spot v.from)
         (part_keyed (keyed_of_spot v.to) nothing_keyed)) };
@@ -580,46 +547,17 @@ impl Archive for Line {
 
     #[inline(always)]
     fn copy_optimization() -> CopyOptimization<Self> {
-        CopyOptimization::enable()
+        CopyOptimization::disable()
     }
 
     #[inline(always)]
     fn serialize_copied<S: Writer + Keys>(
-        values: &[Self],
-        together: usize,
-        serializer: &mut S,
+        _values: &[Self],
+        _together: usize,
+        _serializer: &mut S,
     ) -> Result<Option<usize>, Error> {
-        copy_groups(values, together, serializer)
+        Ok(None)
     }
-}
-
-/// Slices of it are written in bulk.
-impl Copied for Line {
-    type CopiedAs = ArchivedLine;
-
-    ghost copied_keys = { λ _. [] };
-
-    ghost copied_meaning = { λ v. product (value (⟦<Spot as Archive>⟧.meaning v.from)
-        (value (⟦<Spot as Archive>⟧.meaning v.to) no_value)) };
-
-    ghost copied_bytes = { λ v. ⟦<Spot as Copied>⟧.copied_bytes v.from
-        ++ (⟦<Spot as Copied>⟧.copied_bytes v.to ++ []) };
-
-    #[inline(always)]
-    fn copied_size() -> usize {
-        8
-    }
-
-    #[inline(always)]
-    fn copy_one(&self, bytes: &mut [u8]) {
-        copy_2(&self.from, &self.to, bytes);
-    }
-}
-
-impl CopiedSource for Line {
-    ghost same_keys = { refl };
-
-    ghost same_meaning = { refl };
 }
 
 impl<S: Writer + ResolverAlloc> Serialize<S> for Line {
@@ -685,7 +623,7 @@ impl<D: Entries> Deserialize<Line, D> for ArchivedLine {
     }
 }
 
-/// The fields of an archived `Line`, where they lie.
+/// The fields of an archived `Line`, as views.
 pub trait LineView<'a> {
     /// Where it begins.
     fn from(self) -> Ref<'a, ArchivedSpot>;
@@ -714,7 +652,7 @@ impl<'a> LineView<'a> for Ref<'a, ArchivedLine> {
     }
 }
 
-/// The fields of an archived `Line`, sealed where they lie.
+/// The fields of an archived `Line`, as seals.
 pub trait LineSeal<'a> {
     // The seal shows a part of a buffer that was checked.
     ghost sealed: { Self → Type 0 };
@@ -868,7 +806,7 @@ impl Record for ArchivedDrawing {
     ghost holds = { lit≤ tt };
 }
 
-/// What is kept of `Drawing` from its serialization until it is resolved.
+/// What is kept of `Drawing` between `serialize` and `resolve`.
 #[derive(Drop)]
 pub struct DrawingResolver {
     kept: (
@@ -1059,7 +997,7 @@ impl<D: Entries> Deserialize<Drawing, D> for ArchivedDrawing {
     }
 }
 
-/// The fields of an archived `Drawing`, where they lie.
+/// The fields of an archived `Drawing`, as views.
 pub trait DrawingView<'a> {
     /// The first one.
     fn first(self) -> Ref<'a, ArchivedLine>;
@@ -1112,7 +1050,7 @@ impl<'a> DrawingView<'a> for Ref<'a, ArchivedDrawing> {
     }
 }
 
-/// The fields of an archived `Drawing`, sealed where they lie.
+/// The fields of an archived `Drawing`, as seals.
 pub trait DrawingSeal<'a> {
     // The seal shows a part of a buffer that was checked.
     ghost sealed: { Self → Type 0 };
@@ -1274,7 +1212,7 @@ impl Record for ArchivedAtlas {
     ghost holds = { lit≤ tt };
 }
 
-/// What is kept of `Atlas` from its serialization until it is resolved.
+/// What is kept of `Atlas` between `serialize` and `resolve`.
 #[derive(Drop)]
 pub struct AtlasResolver {
     kept: (
@@ -1427,7 +1365,7 @@ impl<D: Entries> Deserialize<Atlas, D> for ArchivedAtlas {
     }
 }
 
-/// The fields of an archived `Atlas`, where they lie.
+/// The fields of an archived `Atlas`, as views.
 pub trait AtlasView<'a> {
     /// All of them.
     fn drawings(self) -> Ref<'a, ArchivedVec<ArchivedDrawing>>;
@@ -1456,7 +1394,7 @@ impl<'a> AtlasView<'a> for Ref<'a, ArchivedAtlas> {
     }
 }
 
-/// The fields of an archived `Atlas`, sealed where they lie.
+/// The fields of an archived `Atlas`, as seals.
 pub trait AtlasSeal<'a> {
     // The seal shows a part of a buffer that was checked.
     ghost sealed: { Self → Type 0 };

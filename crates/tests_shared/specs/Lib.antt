@@ -1,4 +1,3 @@
 pub mod TwoPools
 pub mod CircleShape
 pub mod LoopShape
-pub mod EditedParts

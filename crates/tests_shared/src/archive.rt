@@ -1,14 +1,12 @@
-// Shared and weak pointers, pools, seals, and what is compared where it lies.
+// Shared and weak pointers, pools, contexts, and cycles.
 
 mod colliding;
-mod comparisons;
 mod contexts;
 mod cycles;
 mod endless;
 mod pairs;
 mod pools;
 mod rc;
-mod seals;
 mod shared;
 mod shared_memory;
 mod shared_pairs;

@@ -1,4 +1,4 @@
-//! Tests of shared pointers, pools, seals and comparisons, through public calls.
+//! Tests of shared pointers, pools and contexts, through public calls.
 #![tactic(auto)]
 
 #[cfg(test)]

@@ -1,4 +1,4 @@
--- What is answered where a definition is added to others.
+-- The result of adding a definition to others.
 use Rattle.std.specs.Prelude.{◌≡◌, ◌≢◌, Bool, true, false, Option, Some, None, Result, Ok, Err}
 use Rattle.std.specs.Borrow.{Bor}
 use Rattle.archive_check.specs.declared.format.error.Error.{Error}
@@ -7,12 +7,12 @@ use Rattle.archive_check.specs.declared.format.expr.Expr.{Expr}
 use Rattle.archive_check.specs.Shape.{Shape}
 use Rattle.archive_check.specs.Expressions.{shape_of}
 
--- an expression is found where there is a shape, and has that shape
+-- an expression is found where there is a shape, and has that shape.
 abbrev pub IsFound : Option (Bor Expr) → Option Shape → Type 0
 IsFound None shape = shape ≡ None
 IsFound (Some expr) shape = shape ≡ Some (shape_of expr.now)
 
--- What is answered where a name gets the definition X: whether it had none. It had this one if the answer is false. Another one is a
+-- The result where a name gets the definition X: whether it had none. It had this one if the result is false. Another one is a
 -- conflict, and memory may be refused for a new one.
 abbrev pub IsAddAnswer : Option Shape → Shape → Result Bool Error → Type 0
 IsAddAnswer old X (Ok true) = old ≡ None

@@ -1,6 +1,5 @@
 // Views are compared by what they show, wherever it lies.
 
-use crate::archive::HELLO_WORLD;
 use crate::assertions::{archived, assert_same, viewed};
 use archive_core::boxed::ArchivedBox;
 use archive_core::compare::{CompareNative, Ordered};
@@ -16,6 +15,9 @@ use std::alloc::Global;
 use std::cmp::Ordering;
 use std::hash::{DefaultHasher, Hash, Hasher};
 use std::process::Abort;
+
+// The archive of the text "hello world": the text, a zero, and at 12 the string that points back at it.
+const HELLO_WORLD: &[u8] = b"hello world\0\x8b\0\0\0\xf4\xff\xff\xff";
 
 // What a value feeds a hasher comes to.
 fn hash_of<T: Hash>(value: &T) -> u64 {

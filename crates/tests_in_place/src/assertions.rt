@@ -1,0 +1,75 @@
+// Assertions that are proved once. A call of one takes the check a fifth of a second, and `assert_eq!` written out in a test's body seconds. What isn't as it
+// should be ends the process.
+
+ghost use Rattle.std.specs.Prelude.{◌≡◌};
+ghost use Rattle.archive_core.specs.SealsWritten.{IsSealOf};
+
+use archive_core::api::{HighSerializer, access, access_mut, to_bytes};
+use archive_core::error::Error;
+use archive_core::seal::Seal;
+use archive_core::traits::{Portable, Serialize};
+use archive_core::view::Ref;
+use std::alloc::Global;
+use std::fmt::Debug;
+use std::process::Abort;
+
+// Two values are equal; `what` names them where they aren't.
+pub(crate) fn assert_same<T: PartialEq + Debug + Drop>(
+    rt: &impl Abort,
+    what: &str,
+    found: T,
+    wanted: T,
+) {
+    assert_eq!(rt; found, wanted, "{what}");
+}
+
+// These bytes are the same.
+pub(crate) fn assert_bytes(rt: &impl Abort, what: &str, found: &[u8], wanted: &[u8]) {
+    assert_same(rt, what, found, wanted);
+}
+
+// What `what` names holds.
+pub(crate) fn assert_holds(rt: &impl Abort, what: &str, holds: bool) {
+    assert!(rt; holds, "{what}");
+}
+
+// What `what` names is refused, with this error.
+pub(crate) fn assert_refusal<T: Drop>(
+    rt: &impl Abort,
+    what: &str,
+    found: Result<T, Error>,
+    refusal: Error,
+) {
+    assert_same(rt, what, found.err(), Some(refusal));
+}
+
+// The archive of a value.
+pub(crate) fn archived<T: Serialize<HighSerializer<Vec<u8>, Global>>>(
+    rt: &impl Abort,
+    alloc: Global,
+    value: &T,
+) -> Vec<u8> {
+    to_bytes(alloc, value).expect(rt, "an archive")
+}
+
+// The view of a `T` at the end of the bytes.
+pub(crate) fn viewed<'a, T: Portable>(
+    rt: &impl Abort,
+    alloc: Global,
+    bytes: &'a [u8],
+) -> Ref<'a, T> {
+    access::<T>(alloc, bytes).expect(rt, "an archive")
+}
+
+// The seal of a `T` at the end of the bytes.
+pub(crate) fn sealed<'a, T: Portable>(
+    rt: &impl Abort,
+    alloc: Global,
+    bytes: &'a mut [u8],
+) -> Seal<'a, T>
+    ensures same_reference { result.bytes.ghost_name ≡ bytes.entry.ghost_name }
+    ensures buffer { result.bytes.now ≡ bytes.old }
+    ensures come_to { IsSealOf T.definitions T.pointee result }
+{
+    access_mut::<T>(alloc, bytes).expect(rt, "an archive")
+}
