@@ -76,7 +76,7 @@ IsAnswerable X D depth error = HasLevels depth → IsOfCheck error ⊎ ExplainsN
 abbrev pub ExplainsNoArchive : Definitions → List ℕ → Option ℕ → ℕ → Shape → Error → Type 0
 ExplainsNoArchive D bytes limit root X error = (error ≡ OutOfMemory) ⊎ (IsArchiveWithin D bytes limit root X → ⊥)
 
--- A check succeeds for archives alone, and an error says why not; then the buffer is no archive, or
+-- A check succeeds for archives alone. An error says why not; then the buffer is no archive, or
 -- memory was refused.
 pub record Answers {A : Type 0} (D : Definitions) (bytes : List ℕ) (limit : Option ℕ) (root : ℕ) (X : Shape) (answer : Result A Error) : Type 0 where
   pub accepted : OnOk answer (IsArchiveWithin D bytes limit root X)

@@ -10,7 +10,7 @@ use Rattle.archive_check.specs.Within.{Within}
 use Rattle.archive_check.specs.Definitions.{Definitions, Knows}
 
 -- `ComesTo s bytes root X q P n`: from the root X, seals reach the pointee P at q, of length n, by
--- steps to parts, elements, inline texts, what pointers lead to but entries of maps, and the values
+-- steps to parts, elements, inline texts, the targets of pointers other than maps, and the values
 -- of maps. No step leads to a key.
 pub data ComesTo (s : SchemaTable) (bytes : List ℕ) (root : ℕ) (X : Shape) : ℕ → Pointee → ℕ → Type 0 where
   to_root : ComesTo s bytes root X root (one X) 0
@@ -39,6 +39,6 @@ pub data ComesTo (s : SchemaTable) (bytes : List ℕ) (root : ℕ) (X : Shape) :
       → k < u32_at bytes (q + 4)
       → ComesTo s bytes root X (t + k * size_of s.layouts (entry_of K V) + up (size_of s.layouts (key_shape K)) (align_of s.layouts V)) (one V) 0
 
--- Seals reach it in an accepted buffer, in some schema that knows the definitions.
+-- Seals reach P at q in an accepted buffer, in some schema that knows the definitions.
 abbrev pub IsComeTo : Definitions → List ℕ → ℕ → Pointee → ℕ → Type 0
 IsComeTo D bytes q P n = ∥ ((s : SchemaTable) × Knows s D × (root : ℕ) × (X : Shape) × Accepted s bytes root X × ComesTo s bytes root X q P n) ∥₁

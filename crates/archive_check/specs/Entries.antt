@@ -22,7 +22,7 @@ NoEntries told = (t : ℕ) → told t ≡ None
 abbrev pub AreNamedByPosition : Entries → Type 0
 AreNamedByPosition told = (t : ℕ) (k : Kept) → told t ≡ Some (Some k) → k.name ≡ t
 
--- Finished positions keep what is kept of them, the same are pending, and values stay named by
+-- What is kept of finished positions stays, the same ones are pending, and values stay named by
 -- their positions.
 pub record KeepsEntries (old new : Entries) : Type 0 where
   pub finished : (t : ℕ) (k : Kept) → old t ≡ Some (Some k) → new t ≡ Some (Some k)
@@ -34,7 +34,7 @@ pub record Shares (shared : FinMap nat_cmp (Entry × Value)) (name : ℕ) (e : E
   pub flavor : Flavor
   pub known : get shared name ≡ Some (record { flavor = flavor; pointee = e.pointee; length = e.length }, v)
 
--- The map has each of these.
+-- The map has each of these shared values.
 abbrev pub AreShared : FinMap nat_cmp (Entry × Value) → List Naming → Type 0
 AreShared shared keys = (k : Naming) → Contains keys k → Shares shared k.0 k.1.0 k.1.1
 
@@ -46,12 +46,12 @@ AreRight shared told = (t : ℕ) (k : Kept) → told t ≡ Some (Some k) → Sha
 abbrev pub AreKept : Entries → List Naming → Type 0
 AreKept told keys = (k : Naming) → Contains keys k → (kept : Kept) × (told k.0 ≡ Some (Some kept)) × (k.1 ≡ (kept.entry, kept.value))
 
--- What is kept leads to what is kept.
+-- What is kept leads only to what is kept.
 abbrev pub IsComplete : Entries → Type 0
 IsComplete told = (t : ℕ) (k : Kept) → told t ≡ Some (Some k) → AreKept told k.keys
 
--- If what is read is kept, and what was kept led to what was kept: each of these keys is kept now,
--- and so is all that it leads to.
+-- If what is read is kept, and what was kept led only to what was kept, then each of these keys is
+-- kept now, and so is all that it leads to.
 abbrev pub KeepsRead : Bool → Entries → Entries → List Naming → Type 0
 KeepsRead keeps old new keys = keeps ≡ true → AreNamedByPosition old → IsComplete old → AreKept new keys × IsComplete new
 

@@ -29,7 +29,7 @@ pub record SealsPart {T U : Type 0} (D : Definitions) (P : Pointee) (E : Definit
   pub beside : SealsBeside D P Q u v
 
 -- The leaf y was written over x, which lies in the P at q. In every archive with x, and not in a
--- key, x alone changes and the parts stay parts. If seals reach that P, x is in no key, and they
+-- key, x alone changes and the parts stay parts. If seals reach that P, x is in no key, and seals
 -- reach all else as before.
 pub record WritesOver (x y : PlacedLeaf) (q : ℕ) (P : Pointee) (n : ℕ) (old new : List ℕ) : Type 0 where
   pub stands : StandsIn old q P n x

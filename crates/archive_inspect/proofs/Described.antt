@@ -21,9 +21,12 @@ use Rattle.archive_check.specs.Tour.{Accepted}
 use Rattle.archive_schema.specs.Given.{AnswersWhole, LiesAtEnd}
 use Rattle.archive_schema.specs.Schemas.{definitions_in, root_of}
 use Rattle.archive_inspect.specs.Points.{end_of_way, Under, LeadsOn, LeadsToPoint}
-use Rattle.archive_inspect.specs.Opened.{IsLeafOrText, IsLeafPiece, IsToldAt, IsTextTold, told_inline, told_text, IsLeafTold, told_number, told_characters, TellsAll}
+use Rattle.archive_inspect.specs.Opened.{IsLeafPiece, IsToldAt, IsTextTold, told_inline, told_text, IsLeafTold, told_number, told_characters, TellsAll}
 use Rattle.archive_inspect.specs.Ways.{WayEnd, a_value, a_text}
-use Rattle.archive_inspect.specs.Described.{IsReached, IsReachedBy, IsContent, content_leaf, content_text, content_inline, content_pointer, content_again, IsPiece, is_part, is_unused, ArePartsOrUnused, IsWholeArchive, Tiles, tiles_more, IsPieceOf, piece_of_number, piece_of_text, AreToldBy, DescribesWhole}
+use Rattle.archive_inspect.specs.Described.{IsReached, IsReachedBy, IsContent, content_leaf, content_text, content_inline, content_tag, content_pointer, content_again, content_null, IsPiece, is_part, is_unused, ArePartsOrUnused, IsWholeArchive, Tiles, tiles_more, IsPieceOf, piece_of_number, piece_of_text, IsLeafOrText, TellLeaves, DescribesWhole}
+use Rattle.archive_inspect.proofs.LeavesInOrder.{leaves_ascend}
+use Rattle.archive_inspect.proofs.LeavesMatched.{tell_in_order}
+use Rattle.archive_inspect.proofs.WayParts.{EndStands, way_stands, leaf_among, text_among, inline_among}
 
 -- each of a list is as each of another list is, or is otherwise such
 pub all_from : {A : Type 0} (P : A → Type 0) (xs ys : List A) (U : A → Type 0) → ((x : A) → U x → P x) → All P ys → ((x : A) → Contains xs x → Contains ys x ⊎ U x) → All P xs
@@ -113,6 +116,22 @@ leaf_told {f} {bytes} {root} pieces each s know x h some = go h some
     go (told_number told) some = number_of (told some)
     go (told_characters told) some = text_of (told some)
 
+-- a piece that is a leaf or a text is one of the leaves
+module _ (f : RustSchema) (bytes : List ℕ) (root : ℕ) (s : SchemaTable) (know : Knows s (definitions_in f)) (a : Accepted s bytes root (root_of f)) where
+  piece_among : (y : Piece) → IsPiece f bytes root y → IsLeafOrText y.content → (x : PlacedLeaf) × Contains (leaves_of a) x × IsPieceOf y x
+  piece_among y (is_unused u) is = absurd (unused_no_leaf u is)
+  piece_among y (is_part h) is = go (way_stands s bytes root (root_of f) a (h.reached.leads s know)) (h.holds s know) is h.position refl refl
+    where
+      go : {p n : ℕ} {e : WayEnd} {c : Content} → EndStands s bytes root (root_of f) a p e → IsContent s bytes p e n c → IsLeafOrText c → y.position ≡ p → y.size ≡ n → y.content ≡ c
+          → (x : PlacedLeaf) × Contains (leaves_of a) x × IsPieceOf y x
+      go stands (content_leaf r) is at size content = (_, leaf_among s bytes root (root_of f) a stands, piece_of_number at size content r.told)
+      go stands (content_text e) is at size content = (_, text_among s bytes root (root_of f) a stands, piece_of_text at content e)
+      go stands (content_inline o e) is at size content = (_, inline_among s bytes root (root_of f) a o stands, piece_of_text at content e)
+      go stands (content_tag v) is at size content = absurd is
+      go stands (content_pointer by) is at size content = absurd is
+      go stands (content_again by shared) is at size content = absurd is
+      go stands (content_null e) is at size content = absurd is
+
 -- An archive with its parts in order, and what is unused between, is described, if all leaves are told.
 pub described_whole : (f : Form) (bytes : List ℕ) (root : ℕ) (parts pieces : List Piece) → IsWholeArchive f bytes → LiesAtEnd f.schema (length bytes) root → All (IsPiece f.schema bytes root) parts → ArePartsOrUnused parts pieces
     → Tiles pieces (length bytes) → TellsAll f.schema bytes root pieces → DescribesWhole f bytes pieces
@@ -122,8 +141,10 @@ described_whole f bytes root parts pieces whole lies all from tiles told L known
       archive = whole L known;
       each = subst (λ r. All (IsPiece f.schema bytes r) pieces) (lies L known) each;
       tiled = tiles;
-      leaves = subst (λ r. Under f.schema (λ s. (a : Accepted s bytes r (root_of f.schema)) → AreToldBy pieces (leaves_of a))) (lies L known)
-          (λ s know a. All-weaker (IsLeafTold bytes pieces) (λ x. 0 < leaf_size x → (y : Piece) × Contains pieces y × IsPieceOf y x) (λ x h. leaf_told pieces each s know x h) (leaves_of a) (told s know a));
+      leaves = subst (λ r. Under f.schema (λ s. (a : Accepted s bytes r (root_of f.schema)) → TellLeaves pieces (leaves_of a))) (lies L known)
+          (λ s know a. tell_in_order pieces (length bytes) (leaves_of a) 0 (length bytes) tiles (leaves_ascend s know.laid_out bytes a)
+          (λ y c is. piece_among f.schema bytes root s know a y (All-contains (IsPiece f.schema bytes root) pieces y each c) is)
+          (λ x c some. leaf_told pieces each s know x (All-contains (IsLeafTold bytes pieces) (leaves_of a) x (told s know a) c) some));
     }
 
 -- a root to which no step leads is reached

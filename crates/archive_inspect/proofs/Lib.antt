@@ -3,8 +3,11 @@ pub mod Described
 pub mod EntryLayouts
 pub mod Explained
 pub mod LeafReads
+pub mod LeavesInOrder
+pub mod LeavesMatched
 pub mod Opened
 pub mod Refused
 pub mod Searched
 pub mod Variants
+pub mod WayParts
 pub mod WaySteps

@@ -122,16 +122,27 @@ pub data IsPieceOf (y : Piece) : PlacedLeaf → Type 0 where
       → t.now ≡ u
       → IsPieceOf y (text_leaf p u)
 
--- each of the leaves that has bytes is one of the pieces
-abbrev pub AreToldBy : List Piece → List PlacedLeaf → Type 0
-AreToldBy pieces = All (λ x. 0 < leaf_size x → (y : Piece) × Contains pieces y × IsPieceOf y x)
+-- the content is a leaf or a text
+abbrev pub IsLeafOrText : Content → Type 0
+IsLeafOrText (LeafContent l) = Unit {0}
+IsLeafOrText (TextContent t) = Unit {0}
+IsLeafOrText _ = ⊥
 
--- What is described is an archive. Each piece is a part of it or unused, each byte lies in one of them, and each leaf that has bytes is one.
+-- The pieces tell the leaves, each once, in the same order: each piece that is a leaf or a text is one of them, and each of them that has bytes is a
+-- piece.
+pub data TellLeaves : List Piece → List PlacedLeaf → Type 0 where
+  tell_none : TellLeaves [] []
+  tell_leaf : {y : Piece} {x : PlacedLeaf} {ys : List Piece} {xs : List PlacedLeaf} → IsPieceOf y x → TellLeaves ys xs → TellLeaves (y ∷ ys) (x ∷ xs)
+  tell_other : {y : Piece} {ys : List Piece} {xs : List PlacedLeaf} → (IsLeafOrText y.content → ⊥) → TellLeaves ys xs → TellLeaves (y ∷ ys) xs
+  tell_empty : {x : PlacedLeaf} {ys : List Piece} {xs : List PlacedLeaf} → leaf_size x ≡ 0 → TellLeaves ys xs → TellLeaves ys (x ∷ xs)
+
+-- What is described is an archive. Each piece is a part of it or unused, each byte lies in one of them, and those that are leaves are its leaves, in
+-- the order of its tour.
 pub record DescribesArchive (f : RustSchema) (bytes : List ℕ) (root : ℕ) (pieces : List Piece) : Type 0 where
   pub archive : IsArchive (definitions_in f) bytes root (root_of f)
   pub each : All (IsPiece f bytes root) pieces
   pub tiled : Tiles pieces (length bytes)
-  pub leaves : Under f (λ s. (a : Accepted s bytes root (root_of f)) → AreToldBy pieces (leaves_of a))
+  pub leaves : Under f (λ s. (a : Accepted s bytes root (root_of f)) → TellLeaves pieces (leaves_of a))
 
 -- the buffer is an archive of the form, its root at the end
 abbrev pub IsWholeArchive : Form → List ℕ → Type 0

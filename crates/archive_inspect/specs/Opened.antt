@@ -1,7 +1,5 @@
 -- What lies one step behind a point of an archive. Where that is told of each point, all that is reached is told.
 use Rattle.std.specs.Prelude.{◌≡◌, ℕ, ◌+◌, ◌*◌, ◌<◌, pos, List, length, slice_index, Some, None, All, Contains}
-use Rattle.archive_inspect.specs.declared.describe.Content.{Content}
-use Rattle.archive_inspect.specs.declared.describe.Content.TheVariants.{Leaf as LeafContent, Text as TextContent}
 use Rattle.archive_inspect.specs.declared.describe.Piece.{Piece}
 use Rattle.archive_inspect.specs.declared.ways.Point.{Point}
 use Rattle.archive_inspect.specs.declared.ways.Thing.{Thing}
@@ -15,6 +13,7 @@ use Rattle.archive_check.specs.Shape.{Name, Kind, Key, Flavor, Shape, leaf, part
 use Rattle.archive_check.specs.Tour.{Accepted}
 use Rattle.archive_check.specs.Value.{Pointer}
 use Rattle.archive_schema.specs.Schemas.{root_of}
+use Rattle.archive_inspect.specs.Described.{IsLeafOrText}
 use Rattle.archive_inspect.specs.Ways.{WayEnd, a_value, a_payload, a_text, IsPartNumbered, PointsBy}
 use Rattle.archive_inspect.specs.Points.{end_of_way, pointer_told, Under, MeansEnd}
 
@@ -65,12 +64,6 @@ pub record SameTarget (P Q : Pointer) : Type 0 where
 -- one of the pointers leads to the same
 abbrev pub LeadsAlike : List Pointing → Pointer → Type 0
 LeadsAlike followed P = (m : Pointing) × Contains followed m × SameTarget (pointer_told m) P
-
--- the content is a leaf or a text
-abbrev pub IsLeafOrText : Content → Type 0
-IsLeafOrText (LeafContent l) = Unit {0}
-IsLeafOrText (TextContent t) = Unit {0}
-IsLeafOrText _ = ⊥
 
 -- the piece lies at p as a leaf or a text, and is what a way there leads to
 pub record IsLeafPiece (y : Piece) (p : ℕ) (e : WayEnd) : Type 0 where

@@ -52,6 +52,9 @@ pub struct Route {
     pub steps: Vec<RouteStep>,
 }
 
+// How many steps are written at most: the last ones.
+const WRITTEN: usize = 200;
+
 // Whether nothing is written of any of the steps.
 fn are_silent(steps: &[RouteStep]) -> bool {
     steps
@@ -59,15 +62,16 @@ fn are_silent(steps: &[RouteStep]) -> bool {
         .all(|step| matches!(step, RouteStep::Only | RouteStep::Text))
 }
 
-/// As `.events[17].Text`; the root alone is `the root`.
+/// As `.events[17].Text`; the root alone is `the root`. Of a long one the last steps are written.
 impl fmt::Display for Route {
     fn fmt<W: fmt::Write>(&self, f: &mut fmt::Formatter<W>) -> fmt::Result {
-        if self.left_out > 0 {
+        let skipped = self.steps.len().saturating_sub(WRITTEN);
+        if self.left_out > 0 || skipped > 0 {
             f.write_str("..")?;
         } else if are_silent(&self.steps) {
             return f.write_str("the root");
         }
-        for step in &self.steps {
+        for step in &self.steps[skipped..] {
             write!(f, "{step}")?;
         }
         Ok(())

@@ -14,8 +14,8 @@ use Rattle.archive_check.specs.Denotes.{Naming}
 use Rattle.archive_num.specs.Offsets.{distance, IsTooFar}
 use Rattle.archive_types.specs.Plans.{Cursor, Step, lays, meets, disorder, Foreseen, ValuePlan, RegionPlan, cursor}
 
--- The writer, which holds the planned bytes up to a position and ends at `cap`, has less room than
--- for the `count` planned bytes that it was to take.
+-- The writer holds the planned bytes up to a position, ends at `cap`, and has less room than for
+-- the `count` planned bytes that come next.
 pub record Overflows (reaches : ℕ → Type 0) (old new : WriterState) (count cap position : ℕ) : Type 0 where
   pub behind : length old.bytes ≤ position
   pub held : position ≡ length new.bytes
@@ -92,7 +92,7 @@ pub data PartOfPointee (s : SchemaTable) : Pointee → ℕ → Value → ℕ →
   part_of_one : {X : Shape} {v : Value} {o : ℕ} {Y : Shape} {w : Value} → ValuePart s X v o Y w → PartOfPointee s (one X) 0 v o Y w
   part_of_run : {n : ℕ} {X : Shape} {vs : Values} {o : ℕ} {Y : Shape} {w : Value} → PartOfRun s n X vs o Y w → PartOfPointee s (run X) n (list vs) o Y w
 
--- The part is an owner with this pointer.
+-- The part owns or shares what this pointer leads to.
 pub data IsOwner : Shape → Value → Pointer → Type 0 where
   owner_box : {P : Pointee} {h : Pointer} → IsOwner (boxed P) (box (hole h)) h
   owner_vec : {X : Shape} {h : Pointer} → IsOwner (vec X) (hole h) h
@@ -112,7 +112,7 @@ IsTooWide (non_zero unsigned width) z = (n : ℕ) → n < 2 ^ (8 * byte_len widt
 IsTooWide (non_zero signed width) z = FitsSigned width z → ⊥
 IsTooWide (raw_rel sign width) z = ⊥
 
--- The part is a shared or weak pointer with this pointer.
+-- The part shares what this pointer leads to.
 pub data IsSharedOwner : Shape → Value → Pointer → Type 0 where
   shared_owner : {flavor : Flavor} {P : Pointee} {h : Pointer} → IsSharedOwner (shared flavor P) (hole h) h
   weak_owner : {flavor : Flavor} {P : Pointee} {h : Pointer} → IsSharedOwner (weak flavor P) (hole h) h
@@ -125,8 +125,8 @@ pub data HindersPart : Shape → Value → Error → Type 0 where
   too_wide : {kind : Kind} {z : ℤ} → IsTooWide kind z → HindersPart (leaf kind) (number z) NumberTooLarge
   text_too_long : {h : Pointer} → 1073741823 < h.length → HindersPart str (hole h) StringTooLong
 
--- Why a part can't be written at q: not anywhere, or its offset doesn't fit, or is 1 in a weak
--- pointer, which says null.
+-- Why a part can't be written at q: it can't be anywhere, its offset doesn't fit, or it is 1 in a
+-- weak pointer, which says null.
 pub data HindersPartAt : Shape → ℕ → Value → Error → Type 0 where
   anywhere : {Y : Shape} {q : ℕ} {w : Value} {e : Error} → HindersPart Y w e → HindersPartAt Y q w e
   too_far_from_here : {Y : Shape} {q : ℕ} {w : Value} {e : Error} {h : Pointer} {t : ℕ} → IsOwner Y w h → h.target ≡ pos t → IsTooFar e (distance q t) → HindersPartAt Y q w e
@@ -144,7 +144,7 @@ pub data HindersStep (s : SchemaTable) : Step → Error → Type 0 where
   key_hinders : {key : ℕ} → HindersStep s (meets key) CyclicSerialize
   order_hinders : HindersStep s disorder UnsortedKeys
 
--- One of the steps fails.
+-- One of these steps fails with this error.
 abbrev pub HindersSome : SchemaTable → List Step → Error → Type 0
 HindersSome s C e = (t : Step) × Contains C t × HindersStep s t e
 
@@ -153,7 +153,7 @@ pub record Hinders (D : Definitions) (X : Shape) (keys : List Naming) (v : Value
   pub named : IsOwnCause e
   pub cause : Foreseen D keys a (λ s names. ValuePlan s names X v a (λ flat C b. HindersSome s C e ⊎ ((o : ℕ) × (Y : Shape) × (w : Value) × ValuePart s X flat o Y w × HindersPart Y w e)))
 
--- The value causes this error: a step fails of the plan of a pointee and its region.
+-- The value causes this error: a step of the plan for a pointee and its region fails so.
 pub record HindersRegion (D : Definitions) (P : Pointee) (n : ℕ) (keys : List Naming) (v : Value) (a : Cursor) (e : Error) : Type 0 where
   pub named : IsOwnCause e
   pub cause : Foreseen D keys a (λ s names. RegionPlan s names P n v a (λ t C b. HindersSome s C e))
@@ -171,7 +171,7 @@ HindersRegionAt D X L flat p e = ((e ≡ LayoutTooLarge) × (2 ^ 64 ≤ p + L.si
 abbrev pub PlanReaches : Definitions → Shape → List Naming → Value → Cursor → ℕ → Type 0
 PlanReaches D X keys v a n = Foreseen D keys a (λ s names. ValuePlan s names X v a (λ flat C b. n ≤ b.position))
 
--- The plan of a pointee and its region goes on to m at least.
+-- The plan for a pointee and its region goes on to m at least.
 abbrev pub RegionReaches : Definitions → Pointee → ℕ → List Naming → Value → Cursor → ℕ → Type 0
 RegionReaches D P n keys v a m = Foreseen D keys a (λ s names. RegionPlan s names P n v a (λ t C b. m ≤ b.position))
 

@@ -23,7 +23,7 @@ pub record Cursor : Type 0 where
 abbrev pub cursor : WriterState → Cursor
 cursor w = record { position = length w.bytes; states = w.states }
 
--- The writer as one that keeps no keys.
+-- The same writer, as one that keeps no keys.
 abbrev pub unshared : WriterState → WriterState
 unshared w = record w { states = no_keys }
 
@@ -36,11 +36,11 @@ pub record StandsAt (c : Cursor) (w : WriterState) : Type 0 where
   pub position : length w.bytes ≡ c.position
   pub keys : (k : ℕ) → w.states k ≡ c.states k
 
--- The cursor once a key is pending.
+-- The cursor once this key is pending.
 abbrev pub begun : Cursor → ℕ → Cursor
 begun c key = record { position = c.position; states = update nat_eq c.states key (Some None) }
 
--- The cursor once a key is finished at a position.
+-- The cursor once this key is finished at a position.
 abbrev pub ended : Cursor → ℕ → ℕ → Cursor
 ended c key p = record { position = c.position; states = update nat_eq c.states key (Some (Some p)) }
 
@@ -168,11 +168,12 @@ pub record RegionPlan (s : SchemaTable) (names : NameMap) (P : Pointee) (n : ℕ
   pub plans : PlansRegion s names false P n v a begin steps stop
   pub such : holds begin steps stop
 
--- Each finished key has a position below that of the cursor.
+-- Each finished key lies below the cursor.
 abbrev pub AreBelow : Cursor → Type 0
 AreBelow c = (k t : ℕ) → c.states k ≡ Some (Some t) → t < c.position
 
--- The same as `Whatever`, if each finished key has a position below that of the cursor.
+-- This holds in each schema that knows the definitions, if each key stands for one thing and each
+-- finished one lies below the cursor.
 abbrev pub Foreseen : Definitions → List Naming → Cursor → (SchemaTable → NameMap → Type 0) → Type 0
 Foreseen D keys a f = AreBelow a → Whatever D keys f
 

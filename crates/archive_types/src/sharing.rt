@@ -24,6 +24,7 @@ pub trait SharingExt: Sharing + Writer {
     /// - `OutOfMemory`: memory is refused.
     /// - those of the value and the writer; the key is then unknown or pending.
     #[tactic(auto, using(crate::proofs::Planning::Causes::goes_nowhere))]
+    #[inline(always)]
     final fn serialize_shared<T: SerializeUnsized<Self>>(
         &mut self,
         key: u64,

@@ -1,7 +1,7 @@
 //! The states of shared keys. A key names one value, which is written once: the key is unknown, then pending while the value is written, then
 //! finished at the value's position.
 
-ghost use Rattle.std.specs.Prelude.{◌≡◌, ◌+◌, ◌≤◌, ◌<◌, None, Some, OnOk, OnErr, IfOk, IfErr, IsOk, IsSome, is_some};
+ghost use Rattle.std.specs.Prelude.{◌≡◌, ◌+◌, ◌≤◌, ◌<◌, None, Some, OnOk, OnErr, IfOk, IfErr, IsOk, IsSome, IsTrue, IsFalse, is_some};
 ghost use Rattle.archive_write.specs.Known.{known_keys, spare_keys};
 ghost use Rattle.archive_check.specs.context.PositionStates.{finish_answer};
 ghost use Rattle.archive_check.specs.WriterState.{KeepsKeys, KeepsBytes, only_keys};
@@ -66,6 +66,7 @@ impl<S: Sharing> Sharing for &mut S {
 }
 
 impl<W: Keys, A, S: Sharing> Sharing for Serializer<W, A, S> {
+    #[inline(always)]
     fn start_sharing(&mut self, key: u64) -> Result<SharingState, Error> {
         self.sharing.start_sharing(key)
     }
@@ -124,6 +125,27 @@ impl<A: Allocator + Clone> Share<A> {
         }
     }
 
+    // Starts an unknown key, and returns whether there was memory for it. It stands apart, so that a
+    // loop over pointers has the code for known keys alone.
+    #[inline(never)]
+    fn start_unknown(&mut self, key: u64) -> bool
+        requires { known_keys self.old.states key ≡ None }
+        ensures started { IsTrue result → IsStarted (known_keys self.old.states) key
+            (known_keys self.new.states) }
+        ensures unchanged { IsFalse result → KeepsKeys (known_keys self.old.states)
+            (known_keys self.new.states) }
+        ensures served { 0 < spare_keys self.old.states → IsTrue result }
+        ensures room { spare_keys self.old.states ≤ spare_keys self.new.states + 1 }
+    {
+        if self.open().is_err() {
+            return false;
+        }
+        let Some(states) = &mut self.states else {
+            unreachable!();
+        };
+        states.insert(key, None).is_ok()
+    }
+
     // Makes the map, where there is none.
     fn open(&mut self) -> Result<(), Error>
         ensures open { OnOk result (IsSome self.new.states) }
@@ -147,6 +169,7 @@ impl<A: Allocator + Clone> Keys for Share<A> {
 /// A start takes memory only if no room is left; it uses up room for one key at most. A finish uses
 /// up none.
 impl<A: Allocator + Clone> Sharing for Share<A> {
+    #[inline(always)]
     fn start_sharing(&mut self, key: u64) -> Result<SharingState, Error>
         ensures answer { IfOk result (λ s. s ≡ start_answer (known_keys self.old.states key)) }
         ensures after { OnOk result (IsStarted (known_keys self.old.states) key
@@ -160,16 +183,16 @@ impl<A: Allocator + Clone> Sharing for Share<A> {
         ensures served { 0 < spare_keys self.old.states → IsOk result }
         ensures room { spare_keys self.old.states ≤ spare_keys self.new.states + 1 }
     {
-        self.open()?;
-        let Some(states) = &mut self.states else {
-            unreachable!();
-        };
-        match states.get(&key) {
-            Some(None) => return Ok(SharingState::Pending),
-            Some(Some(pos)) => return Ok(SharingState::Finished(*pos)),
-            None => {}
+        if let Some(states) = &self.states {
+            match states.get(&key) {
+                Some(None) => return Ok(SharingState::Pending),
+                Some(Some(pos)) => return Ok(SharingState::Finished(*pos)),
+                None => {}
+            }
         }
-        states.insert(key, None).map_err(|_| Error::OutOfMemory)?;
+        if !self.start_unknown(key) {
+            return Err(Error::OutOfMemory);
+        }
         Ok(SharingState::Started)
     }
 

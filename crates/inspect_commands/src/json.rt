@@ -26,6 +26,8 @@ enum Kind {
     Map,
     // What a pointer leads to.
     Target,
+    // A text that a pointer leads to, which is on the pointer's level.
+    Text,
 }
 
 // A value that was opened, and what it holds.
@@ -112,7 +114,8 @@ fn opens(found: Visited<'_>) -> Option<Kind> {
                 Expr::Map(_, _) => Some(Kind::Map),
                 _ => Some(Kind::List),
             },
-            Count::Root | Count::One | Count::Text(_) => Some(Kind::Target),
+            Count::Root | Count::One => Some(Kind::Target),
+            Count::Text(_) => Some(Kind::Text),
         },
         What::Leaf(_) | What::Text(_) | What::Again(_) | What::Null => None,
     }
@@ -204,7 +207,7 @@ fn closed(alloc: Global, open: Open) -> Result<Value, AllocError> {
         Kind::Record => parts_of(alloc, labels, values),
         Kind::Variant(name) => variant_of(alloc, name, labels, values),
         Kind::Nothing => Ok(Value::Null),
-        Kind::Something | Kind::Target => Ok(only_of(values)),
+        Kind::Something | Kind::Target | Kind::Text => Ok(only_of(values)),
         Kind::Map => entries_of(alloc, values, left_out / 2),
         Kind::List => {
             if left_out > 0 {
@@ -229,7 +232,7 @@ impl Builder {
             Kind::Map => open.values.len() >= most.saturating_mul(2),
             _ => false,
         };
-        if is_full || level > self.depth {
+        if is_full || (level > self.depth && open.kind != Kind::Text) {
             open.left_out = open.left_out.saturating_add(1);
             return Ok(());
         }

@@ -215,13 +215,14 @@ impl<W: io::Write + Drop> Tree<'_, W> {
             Expr::Shared(_, _) => "shared ",
             Expr::Weak(_, _) => "weak ",
             Expr::Box(_) => "box ",
-            Expr::Map(_, _) => "map of ",
+            Expr::Map(_, _) => "map ",
             _ => "",
         };
+        let of = if owner.is_empty() { "" } else { "of " };
         self.out.write_all(owner.as_bytes())?;
         match region.count {
-            Count::Elements(1) => write!(self.out, "1 element at {position}"),
-            Count::Elements(count) => write!(self.out, "{count} elements at {position}"),
+            Count::Elements(1) => write!(self.out, "{of}1 element at {position}"),
+            Count::Elements(count) => write!(self.out, "{of}{count} elements at {position}"),
             Count::Root | Count::One | Count::Text(_) => write!(self.out, "at {position}"),
         }
     }

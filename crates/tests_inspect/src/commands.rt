@@ -146,6 +146,35 @@ fn json(rt: HostRuntime) -> Result<(), Fail> {
 }
 ",
         ),
+    )?;
+    let mut cut = given;
+    cut.depth = 3;
+    assert_printed(
+        &rt,
+        rt.alloc(),
+        &cut,
+        (ENTRIES, TWO_ENTRIES),
+        (
+            0,
+            "[
+  {
+    \"event\": {
+      \"Move\": {
+        \"x\": -2,
+        \"y\": 7
+      }
+    },
+    \"seconds\": 9
+  },
+  {
+    \"event\": {
+      \"Text\": \"hello world\"
+    },
+    \"seconds\": 10
+  }
+]
+",
+        ),
     )
 }
 

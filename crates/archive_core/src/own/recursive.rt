@@ -17,11 +17,10 @@ use archive_types::traits::{ArchivePointee, Choice, Portable, PortableVariants};
 use std::alloc::{AllocError, Global};
 use std::marker::PhantomData;
 
-/// Describes a recursive archived type: its name, and what the name stands for, in which the name
-/// may be behind pointers.
+/// Describes a recursive archived type by hand: its name, and what the name stands for, in which the
+/// name may be behind pointers. `tools/derive` doesn't need it.
 ///
 /// A type of yours without values implements it; `ArchivedRecursive` of that is the archived type.
-/// `Node` of the crate `own_types` is a model:
 ///
 /// ```
 /// impl NamedRecursive for NodeFormat {

@@ -149,6 +149,7 @@ impl<T: Serialize<S>, S: Sharing + Writer + ResolverAlloc> Serialize<S> for Shar
     /// Writes the value as a region of its own, if its key is unknown, as
     /// `ArchivedRc::serialize_from_ref` does, with its errors.
     #[tactic(auto, using(crate::proofs::SharedOnes::shared_one, crate::proofs::SharedOnes::shared_one_refused, crate::proofs::SharedOnes::far_shared_one_refused))]
+    #[inline(always)]
     fn serialize(&self, serializer: &mut S) -> Result<RcResolver, Error> {
         let value = One {
             value: &*self.value,

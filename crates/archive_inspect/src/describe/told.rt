@@ -5,7 +5,8 @@ ghost use Rattle.std.specs.Prelude.{◌≡◌, ◌≢◌, ◌∷◌, ◌++◌, �
 ghost use Rattle.archive_check.specs.Expressions.{key_of, shape_of, shapes_in, variants_in};
 ghost use Rattle.archive_check.specs.Reads.{SchemaTable, IsOutOfLine, map_at, u32_at};
 ghost use Rattle.archive_check.specs.Shape.{str};
-ghost use Rattle.archive_inspect.specs.Opened.{PartsAmong, ElementsAmong, EntriesAmong, PayloadAmong, TargetAmong, SameTarget, LeadsAlike, IsLeafOrText, IsLeafPiece, IsToldAt, IsNullAt, Opened, Visits, TellsAll};
+ghost use Rattle.archive_inspect.specs.Described.{IsLeafOrText};
+ghost use Rattle.archive_inspect.specs.Opened.{PartsAmong, ElementsAmong, EntriesAmong, PayloadAmong, TargetAmong, SameTarget, LeadsAlike, IsLeafPiece, IsToldAt, IsNullAt, Opened, Visits, TellsAll};
 ghost use Rattle.archive_inspect.specs.Points.{end_of_way, pointer_told, PointsFrom, Under};
 ghost use Rattle.archive_inspect.specs.Ways.{a_value};
 

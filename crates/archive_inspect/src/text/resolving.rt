@@ -93,17 +93,16 @@ fn mention_pointee(
     }
 }
 
-// Adds the numbers that a defined type names.
-fn mention_declared(
-    declared: &[Declared],
-    number: usize,
-    far: bool,
-    found: &mut Vec<usize>,
-) -> Result<(), Wrong> {
-    match declared.get(number) {
-        Some(it) => mention(&it.read.expr, declared, far, found),
-        None => Ok(()),
+// The numbers of the defined types that each of them names; behind pointers too, where `far` says
+// so.
+fn mentions_of(alloc: Global, declared: &[Declared], far: bool) -> Result<Vec<Vec<usize>>, Wrong> {
+    let mut mentions = Vec::new(alloc);
+    for it in declared {
+        let mut found = Vec::new(alloc);
+        mention(&it.read.expr, declared, far, &mut found)?;
+        mentions.push(found)?;
     }
+    Ok(mentions)
 }
 
 // Whether a number is met for the first time; from now on it isn't.
@@ -118,16 +117,28 @@ fn meets_first(seen: &mut [bool], number: usize) -> bool {
     }
 }
 
-// Whether a defined type contains itself; behind pointers too, where `far` says so.
-fn contains_itself(
-    alloc: Global,
-    declared: &[Declared],
-    number: usize,
-    far: bool,
-) -> Result<bool, Wrong> {
+// Adds those numbers to a list that are met for the first time.
+fn add_first(
+    found: &mut Vec<usize>,
+    seen: &mut [bool],
+    numbers: Option<&Vec<usize>>,
+) -> Result<(), Wrong> {
+    let Some(numbers) = numbers else {
+        return Ok(());
+    };
+    for number in numbers {
+        if meets_first(seen, *number) {
+            found.push(*number)?;
+        }
+    }
+    Ok(())
+}
+
+// Whether a defined type contains itself, by what each of them names.
+fn contains_itself(alloc: Global, mentions: &[Vec<usize>], number: usize) -> Result<bool, Wrong> {
     let mut found = Vec::new(alloc);
-    let mut seen = vec![in alloc; false; declared.len()]?;
-    mention_declared(declared, number, far, &mut found)?;
+    let mut seen = vec![in alloc; false; mentions.len()]?;
+    add_first(&mut found, &mut seen, mentions.get(number))?;
     for _ in 0..u64::MAX {
         let Some(met) = found.pop() else {
             break;
@@ -135,9 +146,7 @@ fn contains_itself(
         if met == number {
             return Ok(true);
         }
-        if meets_first(&mut seen, met) {
-            mention_declared(declared, met, far, &mut found)?;
-        }
+        add_first(&mut found, &mut seen, mentions.get(met))?;
     }
     Ok(false)
 }
@@ -258,15 +267,17 @@ impl Writer<'_> {
 // Which defined types are recursive. One that contains itself without a pointer between is a
 // mistake.
 fn recursive_ones(alloc: Global, declared: &[Declared]) -> Result<Vec<bool>, Wrong> {
+    let near = mentions_of(alloc, declared, false)?;
+    let far = mentions_of(alloc, declared, true)?;
     let mut recursive = Vec::new(alloc);
     for (number, it) in declared.iter().enumerate() {
-        if contains_itself(alloc, declared, number, false)? {
+        if contains_itself(alloc, &near, number)? {
             return Err(Wrong {
                 at: it.at,
                 mistake: Mistake::Recursive,
             });
         }
-        recursive.push(contains_itself(alloc, declared, number, true)?)?;
+        recursive.push(contains_itself(alloc, &far, number)?)?;
     }
     Ok(recursive)
 }

@@ -99,22 +99,25 @@ impl fmt::Display for Region {
     fn fmt<W: fmt::Write>(&self, f: &mut fmt::Formatter<W>) -> fmt::Result {
         let position = self.position;
         let size = self.size;
+        let bytes = if size == 1 { "byte" } else { "bytes" };
         match self.count {
-            Count::Root => write!(f, "the root's {size} bytes at {position}"),
-            Count::One => write!(f, "a value of {size} bytes at {position}"),
-            Count::Elements(1) => write!(f, "1 element of {size} bytes at {position}"),
+            Count::Root => write!(f, "the root's {size} {bytes} at {position}"),
+            Count::One => write!(f, "a value of {size} {bytes} at {position}"),
+            Count::Elements(1) => write!(f, "1 element of {size} {bytes} at {position}"),
             Count::Elements(count) => {
-                write!(f, "{count} elements of {size} bytes at {position}")
+                write!(f, "{count} elements of {size} {bytes} at {position}")
             }
+            Count::Text(1) => write!(f, "a text of 1 byte at {position}"),
             Count::Text(count) => write!(f, "a text of {count} bytes at {position}"),
         }
     }
 }
 
 // The verb for what lies in a region.
-fn lies(count: Count) -> &'static str {
-    match count {
+fn lies(region: Region) -> &'static str {
+    match region.count {
         Count::One | Count::Elements(1) | Count::Text(_) => "doesn't lie",
+        Count::Root if region.size == 1 => "doesn't lie",
         Count::Root | Count::Elements(_) => "don't lie",
     }
 }
@@ -125,11 +128,11 @@ impl fmt::Display for Reason {
         match self {
             Reason::TooLarge(region) => { write!(f, "{region}: more bytes than a usize counts") }
             Reason::Outside(region, start, end) => {
-                let lies = lies(region.count);
+                let lies = lies(*region);
                 write!(f, "{region} {lies} within {start}..{end}")
             }
             Reason::Unaligned(region) => {
-                let lies = lies(region.count);
+                let lies = lies(*region);
                 let align = region.align;
                 write!(f, "{region} {lies} at a multiple of {align}")
             }

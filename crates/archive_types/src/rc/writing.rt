@@ -62,6 +62,7 @@ pub type RcWeakResolver = Option<RcResolver>;
 /// position: what comes next would lie there, too. Returns the position, in bytes from the first
 /// one. Fails as `ArchivedRc::serialize_from_ref` does, but never with `PositionTooLarge` or
 /// `LengthTooLarge`.
+#[inline(always)]
 pub fn write_shared<F: Flavor, U: SerializeUnsized<S>, S: Sharing + Writer>(
     key: u64,
     value: &U,
