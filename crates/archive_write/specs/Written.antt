@@ -24,7 +24,7 @@ pub record GoesOn (old new : WriterState) : Type 0 where
   pub device : old.failures ≤ new.failures
   pub known : KeepsKnown old.states new.states
 
--- Why a write of n bytes was refused, where so many were held as it began and so many now: for want of memory; for want of room, and then none was taken; or
+-- Why a write of n bytes failed, by the bytes that were held as it began and those held now: for want of memory; for want of room, and then none was taken; or
 -- by its device, which failed now or had failed too often.
 abbrev pub ExplainsRefusal : ℕ → ℕ → ℕ → Option ℕ → ℕ → ℕ → Error → Type 0
 ExplainsRefusal n position held room before after OutOfMemory = ⊤

@@ -11,7 +11,7 @@ pub enum Node {
     Cons(Box<Node>),
 }
 
-/// So many boxes, one in another. Memory comes from `alloc`; refused with `OutOfMemory`, 1, where it is refused.
+/// As many boxes as `count`, one in another. Fails with `OutOfMemory` if memory from `alloc` is refused.
 pub fn node_of(alloc: Global, count: usize) -> Result<Node, Error> {
     let mut node = Node::Nil;
     for _ in 0..count {
