@@ -20,7 +20,7 @@ def wanted(module: Module) -> Dict[str, str]:
     """The files as they should be, by their paths. One that is no longer wanted is to be empty."""
     written = renames.written(module)
     check_clashes(module, written)
-    out = {module.path: above(module) + clauses(written).replace("\n", module.newline)}
+    out = {module.path: above(module) + clauses(written)}
     crate = crate_folder(module)
     out.update({path: "" for path in proofs_there(module, crate) + specs_there(module, crate)})
     out.update({os.path.normpath(os.path.join(crate, path)): text for path, text in write.proofs(module).items()})
@@ -77,10 +77,10 @@ def is_written(path: str) -> bool:
 
 def above(module: Module) -> str:
     """What is above the marker: it begins a line, and an empty one is before it."""
-    head, end = module.head, module.newline
+    head = module.head
     if head and not head.endswith("\n"):
-        head += end
-    return head if not head or head.endswith(end + end) else head + end
+        head += "\n"
+    return head if not head or head.endswith("\n\n") else head + "\n"
 
 
 def with_lines_of(path: str, text: str) -> str:

@@ -114,7 +114,6 @@ class Module:
     module: Tuple[str, ...]
     head: str  # above the marker, byte for byte
     written: str  # the marker and what follows it, or nothing
-    newline: str = "\n"
     declarations: List[Declaration] = field(default_factory=list)
     uses: dict = field(default_factory=dict)  # the names that its `use` items bring: name -> path as a tuple of words
     ghost_uses: dict = field(default_factory=dict)  # those of its `ghost use` items, likewise

@@ -1,6 +1,7 @@
 """What a name stands for: a type of the library, a declaration of this file, of another module or of another crate, or an alias."""
 
 import os
+import re
 from dataclasses import dataclass, field
 from typing import Dict, List, Optional, Set, Tuple
 
@@ -50,7 +51,6 @@ class Source:
     file: File
     head: str
     written: str
-    newline: str
     is_given: bool = False
     declared: Dict[str, Declared] = field(default_factory=dict)
 
@@ -119,11 +119,10 @@ class World:
 
     def load(self, path: str, crate: str, module: Tuple[str, ...]) -> Source:
         text = text_of(path)
+        check_characters(path, text)
         file = parsed(path, text)
         head, written = text[: file.head_end], text[file.head_end:]
-        first = head.find("\n")
-        newline = "\r\n" if first > 0 and head[first - 1] == "\r" else "\n"
-        source = Source(path, crate, module, file, head, written, newline)
+        source = Source(path, crate, module, file, head, written)
         for it in file.declared:
             if it.is_test:
                 continue
@@ -198,6 +197,19 @@ class World:
             if found:
                 return found
         return None
+
+
+# Control characters, other ends of lines, and what turns the direction of writing.
+REJECTED = re.compile("[\0-\x09\x0b-\x1f\x7f-\x9f\u2028\u2029\u202a-\u202e\u2066-\u2069\ufeff]")
+INSTEAD = {"\t": "write spaces in place of this tab", "\r": "save the file with line ends of `\\n` alone", "\ufeff": "save the file without a byte order mark"}
+
+
+def check_characters(path: str, text: str):
+    """Refuses what the toolchain takes nowhere, not even in a comment."""
+    found = REJECTED.search(text)
+    if found:
+        said = INSTEAD.get(found[0], "remove it")
+        raise Refused(path, text.count("\n", 0, found.start()) + 1, f"the toolchain rejects the character U+{ord(found[0]):04X}; {said}")
 
 
 def text_of(path: str) -> str:

@@ -282,10 +282,18 @@ def check_shape(it: Declaration):
         most = MOST_FIELDS if fields is it.fields and it.kind == "struct" else MOST_FEW
         if len(fields) > most:
             raise Refused(it.path, fields[most].line, f"`{of}` has {len(fields)} fields, and {most} are the most; put some into a struct of their own")
+    for p in it.parameters:
+        if not any(names_parameter(field.type, p.name) for field in it.all_fields()):
+            raise Refused(it.path, it.line, f"`{it.name}` has no field of its parameter `{p.name}`; remove it, or add a field, as `of: PhantomData<{p.name}>`")
     for name in [it.name] + [p.name for p in it.parameters]:
         check_name(it, name, it.line)
         if name in PARAMETERS:
             raise Refused(it.path, it.line, f"the written part has a type parameter `{name}`; choose another name")
+
+
+def names_parameter(it: Type, name: str) -> bool:
+    """Whether a type, as it is written, names a parameter."""
+    return it.path == (name,) or any(names_parameter(x, name) for x in it.args)
 
 
 def check_names(it: Declaration, those: Sequence, what: str):
@@ -352,7 +360,7 @@ def modules(paths: Sequence[str]) -> List[Module]:
 
 
 def module(reader: Reader, source: Source) -> Module:
-    out = Module(source.path, source.crate, source.module, source.head, source.written, source.newline)
+    out = Module(source.path, source.crate, source.module, source.head, source.written)
     out.uses, out.ghost_uses = dict(source.file.uses), dict(source.file.ghost_uses)
     out.names = dict(source.file.items)
     out.declarations = [reader.declaration(it, source) for it in source.declared.values()]
@@ -380,6 +388,8 @@ def check_loads(module: Module):
             kind = "with type parameters" if it.parameters else "that holds a recursive type"
             said = f"`{it.name}` has {len(it.fields)} fields, and {MOST_FEW} are the most of a struct {kind}; put some into a struct of their own"
             raise Refused(module.path, it.fields[MOST_FEW].line, said)
+        if it.recursive:
+            check_variants(module, loads, it)
         if it.as_tuple or it.recursive:
             continue
         for fields in [it.fields] + [v.fields for v in it.variants]:
@@ -408,7 +418,8 @@ def check_variants(module: Module, loads: Loads, it: Declaration):
     for count, v in enumerate(it.variants, 1):
         types.append([field.type for field in v.fields])
         if count + len(v.fields) > DEEPEST or loads.of_variants(types) > MOST_OF_VARIANTS:
-            raise Refused(module.path, v.line, f"`{it.name}` has more variants up to here than the toolchain follows; put some into an enum of their own")
+            recursive, own = ("the recursive ", "another file") if it.recursive else ("", "their own")
+            raise Refused(module.path, v.line, f"{recursive}`{it.name}` has more variants up to here than the toolchain follows; put some into an enum of {own}")
 
 
 def found_in(it: Type, is_it) -> Optional[Type]:

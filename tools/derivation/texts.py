@@ -4,7 +4,7 @@ import re
 
 from .model import Refused
 
-ASKED = re.compile(r"^// text: (\S*)[ \t]*\r?$", re.M)
+ASKED = re.compile(r"^// text: (\S*)[ \t]*$", re.M)
 WIDTH = 100
 
 

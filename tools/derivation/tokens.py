@@ -60,7 +60,7 @@ class Reader:
     def __init__(self, path: str, text: str):
         self.path = path
         self.text = text
-        self.at = 1 if text.startswith("\ufeff") else 0
+        self.at = 0
         self.line = 1
         self.words: List[Token] = []
 
@@ -77,7 +77,7 @@ class Reader:
 
     def is_at_line_start(self) -> bool:
         before = self.text[self.text.rfind("\n", 0, self.at) + 1:self.at]
-        return not before.strip("\ufeff \t\r")
+        return not before.strip(" ")
 
     def line_comment(self, comment) -> bool:
         """Passes a line comment; whether it is the marker."""

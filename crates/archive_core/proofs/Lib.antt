@@ -1,5 +1,3 @@
-pub mod NamedVariants
-pub mod Nests
 pub mod ComePart
 pub mod SealedParts
 pub mod SealedMaps

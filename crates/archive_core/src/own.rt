@@ -13,7 +13,6 @@ ghost use Rattle.archive_types.specs.Words.Seen.{IsPartOf, RefusesPart};
 ghost use Rattle.archive_types.specs.Words.Sources.{Read};
 
 mod choices;
-mod nested;
 mod recursive;
 mod variants;
 
@@ -30,8 +29,7 @@ use archive_types::traits::{
 };
 use archive_types::view::RawView;
 pub use choices::{ArchivedChoice, NamedChoice};
-pub use nested::{FromNested, Nested, resolve_nested, serialize_nested};
-pub use recursive::{ArchivedRecursive, NamedRecursive, RecursiveChoice};
+pub use recursive::{ArchivedRecursive, NamedRecursive};
 use std::alloc::Global;
 use std::marker::PhantomData;
 pub use variants::{deserialize_variant, resolve_variant, serialize_variant};

@@ -20,7 +20,7 @@ use crate::view::{RawView, Ref};
 use archive_check::format::bytes::read_target;
 use archive_check::format::error::Error;
 use archive_check::format::expr::{Defs, Expr};
-pub use inner::{resolve_inner, serialize_inner};
+pub use inner::serialize_inner;
 pub use slices::{BoxSlice, BoxStr};
 pub use sources::BoxResolver;
 use std::alloc::Global;

@@ -2,16 +2,16 @@
 use Rattle.std.proofs.Common.{◌≡◌, ℕ, ◌+◌, List, slice_index, refl, Some, None, Bool, true, false}
 use Rattle.archive_core.specs.Error.{Error}
 use Rattle.archive_core.specs.Error.TheVariants.{CyclicDeserialize}
-use Rattle.archive_core.specs.Shape.{one}
+use Rattle.archive_core.specs.Shape.{choice, one}
 use Rattle.archive_core.specs.Readable.{target_from}
 use Rattle.archive_core.specs.Pooled.{Entries, pooled}
 use Rattle.archive_core.specs.Viewed.{Viewed}
 use Rattle.archive_core.specs.Entries.{NoEntries, RefusesReading}
 use Rattle.archive_core.specs.Pooling.{IsPut, RefusesShared}
-use Rattle.archive_core.proofs.NamedVariants.{part_refuses}
 use Rattle.archive_core.proofs.PooledPointers.{shared_unread}
+use Rattle.archive_core.proofs.ReadVariants.{case_refuses, named_refuses}
 use Rattle.archive_core.proofs.PooledReading.{kept_pending, kept_refused}
-use Rattle.tests_shared.specs.LoopShape.{loop_name, loop_shape, loop_flavor, loop_pointer, loop_variants, loop_definitions, loop_layout, choice_has_layout}
+use Rattle.tests_shared.specs.LoopShape.{loop_name, loop_shape, loop_flavor, loop_pointer, loop_variants, loop_definitions}
 
 module _ (bytes : List ℕ) (q n : ℕ) (first : slice_index bytes q ≡ 0) (viewed : Viewed loop_definitions bytes (q + 4) (one loop_pointer) 0) where
   -- where its pointer leads
@@ -19,8 +19,9 @@ module _ (bytes : List ℕ) (q n : ℕ) (first : slice_index bytes q ≡ 0) (vie
   there = target_from bytes (q + 4) (q + 4)
 
   by_pointer : (told : Entries) (e : Error) → RefusesShared loop_definitions bytes there (one loop_shape) 0 told e → RefusesReading loop_definitions bytes q (one loop_shape) n told e
-  by_pointer told e h = part_refuses loop_definitions loop_name loop_variants (λ s k. k.has) 0 loop_definitions (λ s k. k) loop_pointer refl (record { size = 4; align = 4 }) loop_layout (record { solved = λ s k. refl }) choice_has_layout 4 refl
-      bytes q n first told e (shared_unread loop_definitions bytes (q + 4) 0 loop_flavor (one loop_shape) told e viewed h)
+  by_pointer told e h = named_refuses loop_definitions loop_name (choice loop_name loop_variants) (λ s k. k.has) bytes q n told e
+      (case_refuses loop_definitions loop_definitions (λ s k. k) loop_name loop_variants 0 loop_pointer refl (record { size = 4; align = 4 }) (record { solved = λ s k. refl }) bytes q 0 4 refl first told e
+      (shared_unread loop_definitions bytes (q + 4) 0 loop_flavor (one loop_shape) told e viewed h))
 
   pub pending_there : (keeps : Bool) (told : Entries) → told there ≡ Some None → RefusesReading loop_definitions bytes q (one loop_shape) n told CyclicDeserialize
   pending_there keeps told pending = by_pointer told CyclicDeserialize (kept_pending loop_definitions bytes there (one loop_shape) 0 keeps told pending)

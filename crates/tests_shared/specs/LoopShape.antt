@@ -36,9 +36,6 @@ loop_layout = record { size = 8; align = 4 }
 pub loop_has_layout : HasLayout loop_definitions loop_shape loop_layout
 loop_has_layout = name_has_layout loop_name loop_choice loop_layout (λ s k. refl)
 
-pub choice_has_layout : HasLayout loop_definitions loop_choice loop_layout
-choice_has_layout = record { solved = λ s k. refl }
-
 -- the definitions that the variant brings
 abbrev pub variants_definitions : Definitions
 variants_definitions = both (both loop_definitions no_definition) no_definition

@@ -14,7 +14,7 @@ EVENT = "#[derive(Drop)]\npub enum Event { Quit, Key(char), Move { x: i32, y: Po
 
 class Writing(RepositoryTest):
     def test_what_is_above_stays(self):
-        for head in (POINT, POINT + "\n", "\ufeff" + POINT, "//! Words.  \n\n\n" + POINT + EVENT + "// The end."):
+        for head in (POINT, POINT + "\n", "//! Words.  \n\n\n" + POINT + EVENT + "// The end."):
             with self.subTest(head):
                 path = self.put(head)
                 self.assertEqual(self.run_command(path), (0, ""))
@@ -33,14 +33,6 @@ class Writing(RepositoryTest):
         other = self.put(POINT + EVENT, crate="game")
         self.run_command(other)
         self.assertEqual(self.text(other), first)
-
-    def test_lines_end_as_above(self):
-        path = self.put(POINT.replace("\n", "\r\n"))
-        self.assertEqual(self.run_command(path), (0, ""))
-        text = self.text(path)
-        self.assertTrue(text.startswith(POINT.replace("\n", "\r\n")))
-        self.assertEqual(text.count("\n"), text.count("\r\n"))
-        self.assertEqual(self.run_command("--check", path), (0, ""))
 
     def test_a_changed_declaration_is_written_anew(self):
         path = self.put(POINT)

@@ -70,6 +70,7 @@ DECLARATIONS = [
     (f"struct A {{ {LIST.join(f'f{i}: Vec<Option<Vec<u32>>>' for i in range(5))} }}", "2: `Vec<Option<Vec<u32>>>` is too deep for the toolchain beside the fields before it; put some of them into a struct"),
     (f"enum A {{\n{LIST.join(f'V{i}(u8)' for i in range(61))} }}", "61: `A` has more variants up to here than the toolchain follows; put some into an enum of their own"),
     (f"enum A {{\n{LIST.join(f'V{i}(Vec<u32>, Vec<u32>)' for i in range(29))} }}", "10: `A` has more variants up to here than the toolchain follows; put some into an enum of their own"),
+    ("struct A<T, U> { x: Vec<T> }", "1: `A` has no field of its parameter `U`; remove it, or add a field, as `of: PhantomData<U>`"),
     ("struct A<T = u8>(T);", "1: `T` has a default; write the type at each use instead"),
     (f"struct A {{\n{LIST.join(f'f{i}: u8' for i in range(MOST + 1))} }}", f"{MOST + 2}: `A` has {MOST + 1} fields, and {MOST} are the most; put some into a struct of their own"),
     ("struct D { x: u8 }", "1: the written part has a type parameter `D`; choose another name"),
@@ -140,6 +141,14 @@ class Refusals(RepositoryTest):
                 said = self.refusal(text)
                 self.assertTrue(said.startswith(why), said)
 
+    def test_characters(self):
+        for character, why in [
+            ("\r", "the toolchain rejects the character U+000D; save the file with line ends of `\\n` alone"),
+            ("\t", "the toolchain rejects the character U+0009; write spaces in place of this tab"),
+            ("\u2028", "the toolchain rejects the character U+2028; remove it"),
+        ]:
+            self.assertEqual(self.refusal(f"struct A;\n// x{character}\n"), f"2: {why}")
+
     def test_files(self):
         missing = self.path("game", "missing")
         self.assertEqual(self.refusal("", missing), "1: this can't be read (No such file or directory); name a file that can")
@@ -167,6 +176,7 @@ class Circles(RepositoryTest):
             ("struct A { a: Option<Vec<A>> }", "1: this option to `A` isn't written yet; a `Box<A>`, an `Option<Box<A>>`, a `Vec` of these or of `A`, or a `Box` of such a `Vec` is"),
             ("struct A { a: Vec<Vec<A>> }", "1: this `Vec` of pointers to `A` isn't written yet; a `Box<A>`, an `Option<Box<A>>`, a `Vec` of these or of `A`, or a `Box` of such a `Vec` is"),
             ("struct A { a: Result<Box<A>, u8> }", "1: `Result` around `A` isn't written yet; a `Box<A>`, an `Option<Box<A>>`, a `Vec` of these or of `A`, or a `Box` of such a `Vec` is"),
+            (f"enum A {{ X(Vec<A>),\n{LIST.join(f'V{i}' for i in range(70))} }}", "61: the recursive `A` has more variants up to here than the toolchain follows; put some into an enum of another file"),
             ("struct A { a: Vec<A>,\n b: Vec<u8> }", "2: this field of the recursive `A` is of a type that tools/derive doesn't write there; put it into a struct of another file"),
             ("struct B { x: u8 }\nstruct A { a: Vec<A>,\n b: B }", "3: `B` is held by the recursive `A`; move it to another file"),
             ("enum A { X,\n Y(Box<B>) }\nenum B { X, Z(Box<A>) }", "1: `X` is a variant of `A` and of `B`, which hold each other; give one of them another name"),

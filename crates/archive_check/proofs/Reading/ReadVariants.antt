@@ -135,39 +135,11 @@ module _ (D : Definitions) (name : Name) (variants : Variants) (tag : ℕ) (is :
 -- a name, by its definition
 
 module _ (D : Definitions) (name : Name) (X : Shape) (has : (s : SchemaTable) → Knows s D → definition s.table name ≡ Some X) (bytes : List ℕ) (q n : ℕ) where
-  definition_contents : (s : SchemaTable) → Knows s D → (m : ℕ) (v : Value) → Contents s bytes q (one (named name)) m v → Contents s bytes q (one X) 0 v
-  definition_contents s k m v (contents_one (reads_named {X = Y} d r)) = let same : Y ≡ X = (let here = has s k in cc) in contents_one (rw same at r)
-
   named_contents : (s : SchemaTable) → Knows s D → (v : Value) → Contents s bytes q (one X) 0 v → Contents s bytes q (one (named name)) n v
   named_contents s k v (contents_one r) = contents_one (reads_named (has s k) r)
 
   definition_reached : (s : SchemaTable) → Knows s D → (l : Lies s bytes q (one (named name)) n) → (u : Value) × Reached s bytes l.root l.shape q (one X) 0 u
   definition_reached s k l = let (w, r) = lies_reached s bytes l in within_reached s bytes r (in_named whole (has s k))
-
-  module _ {keeps : Bool} (old new : Entries) (w : Value) (keys : List Naming) (h : ReadsBack keeps D bytes q (one X) 0 old new w keys) where
-    named_shared : AreNamedByPosition old → (s : SchemaTable) (m : Meaning) → Knows s D → (l : Lies s bytes q (one (named name)) n) → Denotes s bytes l.root l.shape m
-        → AreRight m.shared old → AreShared m.shared keys × AreRight m.shared new
-    unfolding reached_lies
-    named_shared by s m k l d right = let (u, r) = definition_reached s k l in h.shared by s m k (reached_lies s bytes r) d right
-
-    named_closed : (s : SchemaTable) → Knows s D → (l : Lies s bytes q (one (named name)) n) → (t : ℕ) (x : Kept) → old t ≡ None → new t ≡ Some (Some x) → IsClosed s bytes l.root l.shape old t
-    unfolding reached_lies
-    named_closed s k l t x none some = let (u, r) = definition_reached s k l in h.closed s k (reached_lies s bytes r) t x none some
-
-    meets_definition : (s : SchemaTable) → Knows s D → MeetsOpen s bytes old [] q (one (named name)) n → MeetsOpen s bytes old [] q (one X) 0
-    meets_definition s k (meets_open {v = v} c i e t o) = meets_open (definition_contents s k n v c) i e t o
-    meets_definition s k (meets_in_unique {v = v} c i e t m) = meets_in_unique (definition_contents s k n v c) i e t m
-    meets_definition s k (meets_in_shared {v = v} c i e t none m) = meets_in_shared (definition_contents s k n v c) i e t none m
-
-    pub named_read_back : ReadsBack keeps D bytes q (one (named name)) n old new w keys
-    named_read_back = record {
-      kept = h.kept;
-      value = λ by. record { fills = λ s v k l c. (let (u, r) = definition_reached s k l in (h.value by).fills s v k (reached_lies s bytes r) (definition_contents s k n v c)) };
-      shared = named_shared;
-      unmet = λ s k l m. (let (u, r) = definition_reached s k l in h.unmet s k (reached_lies s bytes r) (meets_definition s k m));
-      closed = named_closed;
-      once = h.once;
-    }
 
   meets_named : (told : Entries) (s : SchemaTable) → Knows s D → MeetsOpen s bytes told [] q (one X) 0 → MeetsOpen s bytes told [] q (one (named name)) n
   meets_named told s k (meets_open {v = v} c i e t o) = meets_open (named_contents s k v c) i e t o

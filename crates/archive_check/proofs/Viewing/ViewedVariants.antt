@@ -3,12 +3,12 @@ use Rattle.std.proofs.Common.{◌≡◌, ℕ, ◌+◌, ◌<◌, ◌≤◌, List,
 use Rattle.std.proofs.Math.Logic.{∥∥₁_elim, ∥∥₁_map}
 use Rattle.std.specs.Coded.{le_prop}
 use mathlib.Core.Bool.{Bool-set}
-use Rattle.archive_check.specs.Shape.{Name, Shape, choice, named, one, Variants, no_variant, variant, part, no_part, variant_at, definition}
+use Rattle.archive_check.specs.Shape.{Name, Shape, choice, one, Variants, no_variant, variant, part, no_part, variant_at}
 use Rattle.archive_check.specs.Layout.{Layouts, Layout, up, align_of, variants_end, variants_align}
 use Rattle.archive_check.specs.Value.{Value}
 use Rattle.archive_check.specs.Reads.{SchemaTable, reads_choice}
 use Rattle.archive_check.specs.Tour.{Contents, contents_one}
-use Rattle.archive_check.specs.Within.{IsPart, first_part, whole, in_choice, in_named}
+use Rattle.archive_check.specs.Within.{IsPart, first_part, whole, in_choice}
 use Rattle.archive_check.specs.Definitions.{Definitions, Knows, HasLayout}
 use Rattle.archive_check.specs.Viewed.{Lies, Viewed}
 use Rattle.archive_check.proofs.Tours.PartsInside.{up_le}
@@ -52,15 +52,3 @@ module _ (D E : Definitions) (known : (s : SchemaTable) → Knows s D → Knows 
 
   pub case_viewed : Viewed D bytes q (one (choice name vs)) n → Viewed E bytes (q + offset) (one X) 0
   case_viewed v = ∥∥₁_map v (λ (s, k, l). (s, known s k, case_lies s k l))
-
--- what a name stands for is a view of its own, too
-
-pub definition_lies : (s : SchemaTable) (bytes : List ℕ) (q n : ℕ) (name : Name) (X : Shape) → definition s.table name ≡ Some X → Lies s bytes q (one (named name)) n → Lies s bytes q (one X) 0
-definition_lies s bytes q n name X d l =
-    let (w, r) = lies_reached s bytes l in
-    let (u, i) = within_reached s bytes r (in_named whole d) in
-    reached_lies s bytes i
-
-pub definition_viewed : (D : Definitions) (name : Name) (X : Shape) → ((s : SchemaTable) → Knows s D → definition s.table name ≡ Some X) → (bytes : List ℕ) (q n : ℕ)
-    → Viewed D bytes q (one (named name)) n → Viewed D bytes q (one X) 0
-definition_viewed D name X has bytes q n v = ∥∥₁_map v (λ (s, k, l). (s, k, definition_lies s bytes q n name X (has s k) l))

@@ -1,19 +1,18 @@
 // User-defined recursive types: their format, stated once for all of them.
 
-ghost use Rattle.std.specs.Prelude.{◌≡◌, ◌≤◌, IfOk, min, refl};
+ghost use Rattle.std.specs.Prelude.{◌≡◌, IfOk, min, refl};
 ghost use Rattle.archive_check.specs.Definitions.{HasLayout, IsAlign, defines};
 ghost use Rattle.archive_check.specs.Expressions.{shape_of};
 ghost use Rattle.archive_check.specs.Layout.{Layout};
 ghost use Rattle.archive_check.specs.Members.NamedLayout.{name_has_layout, name_reached};
 ghost use Rattle.archive_check.specs.SelfCheck.Laws.{by_schema};
 ghost use Rattle.archive_check.specs.Shape.{Name, Shape, named, one};
-ghost use Rattle.archive_check.specs.Members.VariantsLayout.{IsChoice};
 
 use crate::recursive::define_name;
 use archive_check::format::error::Error;
 use archive_check::format::expr::{Defs, Expr};
 use archive_check::self_check::BySchema;
-use archive_types::traits::{ArchivePointee, Choice, Portable, PortableVariants};
+use archive_types::traits::{ArchivePointee, Portable};
 use std::alloc::{AllocError, Global};
 use std::marker::PhantomData;
 
@@ -21,14 +20,7 @@ use std::marker::PhantomData;
 /// name may be behind pointers. `tools/derive` doesn't need it.
 ///
 /// A type of yours without values implements it; `ArchivedRecursive` of that is the archived type.
-///
-/// ```
-/// impl NamedRecursive for NodeFormat {
-///     fn name() -> &'static str { "ArchivedNode" }
-///     ..
-/// }
-/// pub type ArchivedNode = ArchivedRecursive<NodeFormat>;
-/// ```
+/// Archives of it are checked and viewed; no value is written or read back.
 pub trait NamedRecursive {
     // The name.
     ghost name: { Name };
@@ -58,26 +50,6 @@ pub trait NamedRecursive {
     ghost is_align: { IsAlign layout.align };
 
     ghost laid_out: { HasLayout (defines name stands_for) stands_for layout };
-}
-
-/// Names the variants of a recursive enum as types, for `tag` and `payload` of its views and
-/// places. A `NamedRecursive` type whose name stands for a choice implements it.
-///
-/// ```
-/// impl RecursiveChoice for NodeFormat {
-///     type Variants = ((), ((ArchivedBox<ArchivedNode>, ()), ()));      // Nil, and Cons with a box
-///     ..
-/// }
-/// ```
-pub trait RecursiveChoice: NamedRecursive {
-    /// Its variants, as in `NamedChoice`. The type itself may be in them behind pointers.
-    type Variants: PortableVariants;
-
-    ghost has_variants: { IsChoice (defines Self.name Self.stands_for) (named Self.name) Self.name
-        Self.Variants.definitions Self.Variants.variants };
-
-    // It holds them.
-    ghost holds: { Self.Variants.end ≤ Self.layout.size };
 }
 
 /// A recursive archived type with the name of `N`. It is validated by a schema, so that its depth
@@ -132,14 +104,4 @@ impl<N: NamedRecursive> Portable for ArchivedRecursive<N> {
     fn define(alloc: Global, defs: &mut Defs) -> Result<(), Error> {
         define_name(N::name(), N::definition(alloc)?, defs)
     }
-}
-
-impl<N: RecursiveChoice> Choice for ArchivedRecursive<N> {
-    type Variants = N::Variants;
-
-    ghost name = { N.name };
-
-    ghost has_variants = { N.has_variants };
-
-    ghost holds = { N.holds };
 }

@@ -1,19 +1,18 @@
 -- How variants with no part or one are written, and names that stand for what is written; and why they are refused.
 use Rattle.std.proofs.Common.{◌≡◌, inl, inr, ℕ, ◌+◌, List, [], refl, ap, subst, arith, Some}
 use Rattle.std.proofs.lemmas.List.Elements.{Contains-append_left}
-use Rattle.archive_check.specs.Shape.{Name, Shape, choice, named, Variants, part, no_part, variant_at, definition}
+use Rattle.archive_check.specs.Shape.{Name, Shape, choice, named, Variants, part, no_part, variant_at}
 use Rattle.archive_check.specs.Layout.{Layout, up, align_of}
 use Rattle.archive_check.specs.Definitions.{Definitions, Knows, HasLayout}
 use Rattle.archive_check.specs.Value.{Value, case, no_value}
-use Rattle.archive_check.specs.Reads.{SchemaTable, reads_named}
-use Rattle.archive_check.specs.CleanRegions.{clean_named}
+use Rattle.archive_check.specs.Reads.{SchemaTable}
 use Rattle.archive_check.specs.WriterState.{WriterState}
 use Rattle.archive_check.specs.declared.format.error.Error.{Error}
 use Rattle.archive_check.specs.Denotes.{Naming}
-use Rattle.archive_types.specs.Writing.{World, Covers, Writes, Resolves}
+use Rattle.archive_types.specs.Writing.{World, Covers, Writes}
 use Rattle.archive_types.specs.Plans.{cursor, Serialized, serialized}
-use Rattle.archive_types.specs.Causes.{part_of_choice, in_first_part, part_of_named, HindersPartAt, HindersAt, IsRefused}
-use Rattle.archive_types.specs.Members.Variants.{case_of, case_plan, empty_plan, named_plan}
+use Rattle.archive_types.specs.Causes.{part_of_choice, in_first_part, HindersPartAt, HindersAt, IsRefused}
+use Rattle.archive_types.specs.Members.Variants.{case_of, case_plan, empty_plan}
 use Rattle.archive_types.proofs.Writing.Appending.{align_is, writes_case, writes_empty_case}
 use Rattle.archive_types.proofs.Planning.Causes.{explains_sooner}
 use Rattle.archive_types.proofs.Planning.Planned.{is_here}
@@ -71,38 +70,3 @@ pub serialized_empty_case : (D : Definitions) (name : Name) (vs : Variants) (tag
     → Serialized D (choice name vs) [] (case tag no_value) (case tag no_value) w w
 serialized_empty_case D name vs tag is w = serialized (writes_empty_case D w tag)
     (λ below s names k n. empty_plan name vs tag is s names (cursor w) _ (refl, is_here w))
-
--- a name, by its definition
-
-module _ (D : Definitions) (name : Name) (X : Shape) (has : (s : SchemaTable) → Knows s D → definition s.table name ≡ Some X) where
-  pub serialized_named : (keys : List Naming) (v flat : Value) (old new : WriterState) → Serialized D X keys v flat old new → Serialized D (named name) keys v flat old new
-  serialized_named keys v flat old new (serialized writes planned) = serialized writes
-      (λ below s names k n. named_plan s names name X v (cursor old) _ (has s k) (planned below s names k n))
-
-  pub named_refused : (keys : List Naming) (v : Value) (old new : WriterState) (e : Error) → IsRefused D X keys v old new e → IsRefused D (named name) keys v old new e
-  named_refused keys v old new e h = explains_sooner _ _ _ _ old new e
-      (λ x. record {
-        named = x.named;
-        cause = λ below s names k n. (
-            let q = x.cause below s names k n in
-            named_plan s names name X v (cursor old) _ (has s k) (record {
-              flat = q.flat;
-              steps = q.steps;
-              stop = q.stop;
-              plans = q.plans;
-              such = elim q.such [
-                | inl y ↦ inl y
-                | inr y ↦ inr (y.0, y.1, y.2, part_of_named (has s k) y.3, y.4)
-              ];
-            }));
-      })
-      (λ m x below s names k n. named_plan s names name X v (cursor old) _ (has s k) (x below s names k n)) h
-
-  pub named_hindered_at : (flat : Value) (p : ℕ) (e : Error) → HindersAt D X flat p e → HindersAt D (named name) flat p e
-  named_hindered_at flat p e h = record { named = h.named; cause = λ s k. (let x = h.cause s k in (x.0, x.1, x.2, part_of_named (has s k) x.3, x.4)) }
-
-  pub resolves_named : (p : ℕ) (a : List ℕ) (flat : Value) → Resolves D p a X flat → Resolves D p a (named name) flat
-  resolves_named p a flat h = record {
-    reads = λ s bytes k stands. reads_named (has s k) (h.reads s bytes k stands);
-    clean = λ s bytes k stands. clean_named (has s k) (h.clean s bytes k stands);
-  }

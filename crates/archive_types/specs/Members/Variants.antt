@@ -1,13 +1,13 @@
--- Variants with no part or one as sources, and names that stand for what is archived: their plans and keys, and the bytes of such a variant.
+-- Variants with no part or one as sources: their plans and keys, and the bytes of such a variant.
 use Rattle.std.specs.Prelude.{◌≡◌, ℕ, ◌+◌, ◌<◌, ◌≤◌, List, [], ◌++◌, length, slice_index, Some}
-use Rattle.archive_check.specs.Shape.{Name, Shape, choice, named, Variants, part, no_part, variant_at, definition}
+use Rattle.archive_check.specs.Shape.{Name, Shape, choice, named, Variants, part, no_part, variant_at}
 use Rattle.archive_check.specs.Definitions.{Definitions, Knows}
 use Rattle.archive_check.specs.Value.{Value, case, value, no_value}
 use Rattle.archive_check.specs.Reads.{SchemaTable, bytes_at}
 use Rattle.archive_check.specs.Reached.{Names, names_case, names_first, names_later}
 use Rattle.archive_check.specs.Denotes.{Naming}
 use Rattle.archive_types.specs.Writing.{NameMap, Resolves, IsKeyed, LeadsToKey, key_at_once, key_through}
-use Rattle.archive_types.specs.Plans.{Cursor, Step, plans_choice, plans_named, plans_part, plans_no_part, ValuePlan, HasPlan}
+use Rattle.archive_types.specs.Plans.{Cursor, Step, plans_choice, plans_part, plans_no_part, ValuePlan, HasPlan}
 
 -- The variant with this tag and one value.
 abbrev pub case_of : ℕ → Value → Value
@@ -59,12 +59,3 @@ module _ (name : Name) (vs : Variants) (tag : ℕ) (is : variant_at vs tag ≡ S
 
   pub empty_planned : (D : Definitions) (keys : List Naming) → HasPlan D (choice name vs) keys (case tag no_value)
   empty_planned D keys a s names k n = empty_plan s names a (λ w C b. Unit {0}) tt
-
--- Of a name, by its definition's.
-pub named_plan : (s : SchemaTable) (names : NameMap) (name : Name) (X : Shape) (v : Value) (a : Cursor) (holds : Value → List Step → Cursor → Type 0) → definition s.table name ≡ Some X
-    → ValuePlan s names X v a holds → ValuePlan s names (named name) v a holds
-named_plan s names name X v a holds is q = record { flat = q.flat; steps = q.steps; stop = q.stop; plans = plans_named is q.plans; such = q.such }
-
-pub named_planned : (D : Definitions) (name : Name) (X : Shape) (keys : List Naming) (v : Value) → ((s : SchemaTable) → Knows s D → definition s.table name ≡ Some X)
-    → HasPlan D X keys v → HasPlan D (named name) keys v
-named_planned D name X keys v has h a s names k n = named_plan s names name X v a (λ w C b. Unit {0}) (has s k) (h a s names k n)
