@@ -157,6 +157,9 @@ def signature(head, generics, arguments, result, indent=0):
         return one
     if len(start) + 1 > WIDTH:
         start = f"{pad}{head}<\n" + "".join(f"{pad}    {g},\n" for g in generics) + f"{pad}>"
+        line = f"{pad}>({', '.join(flat(a) for a in arguments)}){answer}"
+        if len(line) <= WIDTH and all(one_line(a) for a in arguments) and one_line(result or ""):
+            return start[:-len(f"{pad}>")] + line
     lines = "".join(f"{pad}    {lay(a, indent + 4, indent + 4, 1)},\n" for a in arguments)
     end = f"{pad}) -> " if result else f"{pad})"
     return f"{start}(\n{lines}{end}{lay(result, indent, len(end)) if result else ''}"

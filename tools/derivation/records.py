@@ -1,6 +1,6 @@
 """The impls of a struct without type parameters."""
 
-from . import compared
+from . import bulk, compared
 from .common import (
     Source,
     archive_pointee,
@@ -47,6 +47,7 @@ class Record(Source):
         self.parts = chain("part", [formats.shape(type) for type in self.types], "no_part")
         self.shape = f"parts {self.parts}"
         self.defined = chain("both", [formats.definitions(type) for type in self.types], "no_definition")
+        self.in_bulk = bulk.is_in_bulk(formats, declaration)
         self.names = [f"a{i}" for i in range(self.count)]
         self.values = [f"v.{field.name}" for field in self.fields]
 
@@ -73,6 +74,7 @@ def text(formats, declaration):
         is_record(record),
         resolver(record),
         archive(record),
+        bulk.impls(record) if record.in_bulk else "",
         serialize(record),
         region(record),
         read(record),
@@ -152,7 +154,7 @@ def archive(record):
     call = Generic(f"resolve_record_{record.count}", record.rust + [record.archived], arguments)
     if is_long(types):
         call = Generic("resolve_record", ["Self", f"{record.name}Fields", record.archived], ["self", kept, "Place::new(pos, bytes)"])
-    told, calls = in_turn(f)
+    told, calls = bulk.told(record) if record.in_bulk else in_turn(f)
     return f"""impl Archive for {record.name} {{
 {f.law_lines()}    type Archived = {record.archived};
 
@@ -227,14 +229,16 @@ def made_of(record):
 def proofs(formats, declaration):
     """The proofs that are written beside the module, by their paths in the crate."""
     record = Record(formats, declaration)
+    out = bulk.proofs(record) if record.in_bulk else {}
     if not is_made_apart(record):
-        return {}
+        return out
     made = made_of(record)
     module = "/".join(declaration.module)
     dotted = ".".join((declaration.crate, "proofs") + tuple(declaration.module))
     impl = f"{record.archived}Deserialize{record.name}"
     answers = made.answers(dotted)
-    out = {f"proofs/{module}/{made.name}/Answers.antt": answers} if answers else {}
+    if answers:
+        out[f"proofs/{module}/{made.name}/Answers.antt"] = answers
     out[f"proofs/{module}/{impl}/deserialize_part/Answers.antt"] = f"""-- {WRITTEN}
 use Rattle.{dotted}.{impl}.deserialize_part.Goals as goal
 

@@ -16,6 +16,7 @@ pub use Rattle.archive_check.proofs.Viewing.ViewedValues
 pub use Rattle.archive_check.proofs.format.AddedDefinitions
 pub use Rattle.archive_check.proofs.format.RecordParts
 pub use Rattle.archive_check.proofs.format.Views
+pub use Rattle.archive_core.proofs.fields.CloseFields
 pub use Rattle.archive_core.proofs.fields.OwnChoices
 pub use Rattle.archive_core.proofs.fields.ReadChoices
 pub use Rattle.archive_types.proofs.Planning.Causes

@@ -1,4 +1,5 @@
 -- Lemmas on fields by their number, and on the variants that have them.
+pub mod CloseFields
 pub mod FrontFields
 pub mod OwnChoices
 pub mod ReadChoices

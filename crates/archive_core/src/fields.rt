@@ -1,7 +1,10 @@
 //! Records and variants by the number of their fields: what the impls of user-defined types call.
 // Written by tools/fields: change that, and run it again.
 
-mod eight;
+mod copy_few;
+mod copy_more;
+mod copy_most;
+mod copying;
 mod front;
 mod records;
 mod resolve_case_few;
@@ -12,7 +15,10 @@ mod serialize_few;
 mod serialize_record_few;
 mod variants;
 
-pub use eight::EightVariants;
+pub use copy_few::{copy_1, copy_2, copy_3, copy_4, copy_5, copy_6, copy_7, copy_8};
+pub use copy_more::{copy_9, copy_10, copy_11, copy_12};
+pub use copy_most::{copy_13, copy_14, copy_15, copy_16};
+pub use copying::copy_0;
 pub use front::{resolve_0, serialize_0};
 pub use records::part_in_record;
 pub use resolve_case_few::{

@@ -5,4 +5,3 @@ pub mod entry;
 pub mod event;
 pub mod spot;
 pub mod track;
-pub mod weather;

@@ -1,4 +1,4 @@
-//! Types of their own, as docs/OWN_TYPES.md goes through them: what the program and the benchmark archive. Each module may be copied.
+//! User-defined types: what the program and the benchmark archive.
 #![tactic(auto)]
 
 pub mod metres;

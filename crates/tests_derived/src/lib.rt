@@ -24,6 +24,4 @@ mod tracks;
 #[cfg(test)]
 mod turns;
 #[cfg(test)]
-mod weathers;
-#[cfg(test)]
 mod words;

@@ -18,3 +18,5 @@ mod owners;
 mod shown;
 #[cfg(test)]
 mod stock;
+#[cfg(test)]
+mod weathers;

@@ -3,7 +3,7 @@ use Rattle.std.proofs.Common.{◌≡◌, refl, arith, rules}
 use Rattle.std.proofs.lemmas.Int.{to_z-of_z}
 use mir.Syntax.{w16, w64}
 use mir.Val.{SFits}
-use Rattle.derived_types.proofs.weather.weather_measured_of.Goals as goal
+use Rattle.derived_wide.proofs.weather.weather_measured_of.Goals as goal
 
 pub returns-clause-meaning : goal.returns-clause-meaning
 returns-clause-meaning c =

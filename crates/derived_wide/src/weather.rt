@@ -1,6 +1,6 @@
 //! An enum with a variant of sixteen fields.
 
-use crate::spot::Spot;
+use derived_types::spot::Spot;
 
 /// What a station tells.
 #[derive(Debug, PartialEq, Drop)]
@@ -67,7 +67,6 @@ ghost use Rattle.archive_core.specs.Writing.{ZeroedPlace};
 ghost use Rattle.std.proofs.Common.{inl, inr, lit≤};
 ghost use Rattle.std.specs.Prelude.{IfErr, IfOk, None, [], codes, refl, string_bytes, true, ℕ, ◌++◌, ◌+◌, ◌≡◌};
 
-use crate::spot::ArchivedSpot;
 use archive_core::boxed::ArchivedBox;
 use archive_core::error::Error;
 use archive_core::fields::{
@@ -92,6 +91,7 @@ use archive_core::traits::{
 use archive_core::validation::ArchiveContext;
 use archive_core::vec::ArchivedVec;
 use archive_core::view::{RawView, Ref};
+use derived_types::spot::ArchivedSpot;
 use std::alloc::Global;
 
 /// An archived `Weather`: 88 bytes at a multiple of 8.
@@ -551,8 +551,8 @@ pub enum WeatherResolver {
 
 impl Archive for Weather {
     ghost use Rattle.derived_types.specs.contracts.spot.SpotArchive.TheImpl.Laws.{keyed-law as keyed_of_spot, planned-law as planned_of_spot};
-    ghost use Rattle.derived_types.specs.declared.weather.Weather.TheVariants.{Broken as WeatherBroken, Measured as WeatherMeasured, Unknown as WeatherUnknown};
-    ghost use Rattle.derived_types.specs.declared.weather.WeatherResolver.TheVariants.{Broken as WeatherBrokenKept, Measured as WeatherMeasuredKept, Unknown as WeatherUnknownKept};
+    ghost use Rattle.derived_wide.specs.declared.weather.Weather.TheVariants.{Broken as WeatherBroken, Measured as WeatherMeasured, Unknown as WeatherUnknown};
+    ghost use Rattle.derived_wide.specs.declared.weather.WeatherResolver.TheVariants.{Broken as WeatherBrokenKept, Measured as WeatherMeasuredKept, Unknown as WeatherUnknownKept};
 
     type Archived = ArchivedWeather;
 
@@ -891,7 +891,7 @@ impl<S: Writer + ResolverAlloc> Serialize<S> for Weather {
 
 /// As a region of its own: the value itself.
 impl ArchiveUnsized for Weather {
-    ghost use Rattle.derived_types.specs.contracts.weather.WeatherArchive.TheImpl.Laws.{keyed-law as keyed_of_weather, planned-law as planned_of_weather};
+    ghost use Rattle.derived_wide.specs.contracts.weather.WeatherArchive.TheImpl.Laws.{keyed-law as keyed_of_weather, planned-law as planned_of_weather};
 
     type Archived = ArchivedWeather;
 
@@ -1107,7 +1107,7 @@ pub trait WeatherView<'a> {
 }
 
 impl<'a> WeatherView<'a> for Ref<'a, ArchivedWeather> {
-    ghost use Rattle.derived_types.specs.declared.weather.ViewOfWeather.TheVariants.{Broken as WeatherBrokenShown, Measured as WeatherMeasuredShown, Unknown as WeatherUnknownShown};
+    ghost use Rattle.derived_wide.specs.declared.weather.ViewOfWeather.TheVariants.{Broken as WeatherBrokenShown, Measured as WeatherMeasuredShown, Unknown as WeatherUnknownShown};
 
     fn variant(self) -> ViewOfWeather<'a>
         ensures shows { elim result [

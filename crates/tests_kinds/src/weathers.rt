@@ -9,13 +9,13 @@ use crate::assertions::{
     write_text,
 };
 use crate::judgements::{assert_faults, outside, unknown_tag};
-use crate::spots::assert_spot;
+use crate::shown::assert_spot;
 use archive_core::error::Error;
 use archive_core::seal::Seal;
 use archive_core::traits::Portable;
 use archive_core::view::Ref;
 use derived_types::spot::{Spot, SpotSeal};
-use derived_types::weather::{ArchivedWeather, ViewOfWeather, Weather, WeatherSeal, WeatherView};
+use derived_wide::weather::{ArchivedWeather, ViewOfWeather, Weather, WeatherSeal, WeatherView};
 use std::alloc::Global;
 use std::process::Abort;
 
