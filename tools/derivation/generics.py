@@ -225,7 +225,7 @@ def views(made):
     )
     bound = ["'a"] + [f"{name}: Portable" for name in made.parameters]
     of = f"Ref<'a, {made.archived}{made.brackets()}>"
-    return f"""/// The fields of an archived `{made.name}`, where they lie.
+    return f"""/// The fields of an archived `{made.name}`, as views.
 {made.visibility}trait {made.name}View {{
 {docs}
 {heads}}}
@@ -264,7 +264,7 @@ def seals(made):
         for i, (field, format) in enumerate(zip(made.fields, made.formats_bare))
     )
     bound = ["'a"] + [f"{name}: Portable" for name in made.parameters]
-    return f"""/// The fields of an archived `{made.name}`, sealed where they lie.
+    return f"""/// The fields of an archived `{made.name}`, as seals.
 {made.visibility}trait {made.name}Seal {{
     // The seal shows a part of a buffer that was checked.
     ghost sealed: {{ Self → Type 0 }};

@@ -124,7 +124,7 @@ def resolver(record):
     if not record.count:
         return ""
     kept = pair([f"<{rust} as Archive>::Resolver" for rust in record.rust])
-    return f"""/// What is kept of `{record.name}` from its serialization until it is resolved.
+    return f"""/// What is kept of `{record.name}` between `serialize` and `resolve`.
 #[derive(Drop)]
 {record.declared}struct {record.resolver} {{
 {statement(4, "kept: ", kept, ",")}}}
@@ -259,7 +259,7 @@ def views(record):
         body = statement(8, "", Generic("part_in_record", [record.archived, format], ["self", str(i), str(offset)]), "")
         bodies.append(f"{head}\n{view_clauses('self.entry', 'result', offset, f'field_in {i}')}    {{\n{body}    }}\n")
     lines = "\n".join(bodies)
-    return f"""/// The fields of an archived `{record.name}`, where they lie.
+    return f"""/// The fields of an archived `{record.name}`, as views.
 {record.visibility}trait {record.name}View<'a> {{
 {chr(10).join(heads)}}}
 
@@ -282,7 +282,7 @@ def seals(record):
         head = signature(f"fn {field.accessor}_mut", [], ["self"], f"Seal<'a, {format}>", 4)
         heads.append(f"{doc_lines(field.docs, f'The field `{field.name}`.', 4)}{head}\n        requires {{ sealed self }};\n")
         bodies.append(f"{head}\n{sealed_clauses(pointee, format, offset, definitions)}    {{\n{statement(8, '', call, '')}    }}\n")
-    return f"""/// The fields of an archived `{record.name}`, sealed where they lie.
+    return f"""/// The fields of an archived `{record.name}`, as seals.
 {record.visibility}trait {record.name}Seal<'a> {{
     // The seal shows a part of a buffer that was checked.
     ghost sealed: {{ Self → Type 0 }};

@@ -49,7 +49,7 @@ def check(it):
     """What the check goes by: a type of its own, since the check of the archived type can't need that type."""
     n = it.n
     parts = [flat(pair(case.archived[:-1], "Rest") if opens(case) else pair(case.archived)) for case in it.cases]
-    return f"""/// What the check of an archived `{it.name}` goes by.
+    return f"""/// The check of an archived `{it.name}`.
 pub struct {it.name}Chain;
 
 impl Chain for {it.name}Chain {{
@@ -269,7 +269,7 @@ def serialize(it):
 
 
 def fronts(it):
-    said = f"What stands before the box of a `{it.name}`."
+    said = f"What comes before the box of a `{it.name}`."
     return variants_of(it, said, lambda case: case.rust[:-1]).format(f"{it.name}Front")
 
 

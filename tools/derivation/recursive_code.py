@@ -282,7 +282,7 @@ def kept_of(it, case):
 
 def resolver(it):
     if it.is_record:
-        return f"""/// What is kept of `{it.name}` from its serialization until it is resolved.
+        return f"""/// What is kept of `{it.name}` between `serialize` and `resolve`.
 #[derive(Drop)]
 pub struct {it.resolver} {{
 {statement(4, "kept: ", kept_of(it, it.cases[0]), ",")}}}
@@ -291,7 +291,7 @@ pub struct {it.resolver} {{
     for case in it.cases:
         lines += f"    /// Of `{case.name}`.\n"
         lines += statement(4, "", Group(f"{case.name}(", [kept_of(it, case)], ")"), ",") if case.count else f"    {case.name},\n"
-    return f"""/// What is kept of `{it.name}` from its serialization until it is resolved.
+    return f"""/// What is kept of `{it.name}` between `serialize` and `resolve`.
 #[derive(Drop)]
 pub enum {it.resolver} {{
 {lines}}}

@@ -168,7 +168,7 @@ def resolver(choice):
         kept = pair([f"<{rust} as Archive>::Resolver" for rust in case.rust])
         doc = f"    /// Of `{case.name}`.\n"
         lines.append(doc + (statement(4, "", Group(f"{case.name}(", [kept], ")"), ",") if case.count else f"    {case.name},\n"))
-    return f"""/// What is kept of `{choice.name}` from its serialization until it is resolved.
+    return f"""/// What is kept of `{choice.name}` between `serialize` and `resolve`.
 #[derive(Drop)]
 {choice.declared}enum {choice.resolver} {{
 {"".join(lines)}}}
@@ -365,7 +365,7 @@ def views(choice):
 {choice.visibility}enum {choice.view}{life} {{
 {"".join(variants)}}}
 
-/// The variant of an archived `{choice.name}`, where it lies.
+/// The variant of an archived `{choice.name}`, as a view.
 {choice.visibility}trait {choice.name}View<'a> {{
     /// The variant that the tag names, with views of its fields.
     fn variant(self) -> {choice.view}{life};
@@ -420,7 +420,7 @@ def seals(choice):
             call = Generic("sealed_part_in_case", [choice.archived, format], ["self", str(case.tag), str(i), str(offset)])
             clauses = sealed_clauses(pointee, format, offset, f.definitions(field.type)).replace("        ensures", f"        requires tag {{ seal_tag self ≡ {case.tag} }}\n        ensures", 1)
             bodies.append(f"{head}\n{clauses}    {{\n{statement(8, '', call, '')}    }}\n")
-    return f"""/// The fields of an archived `{choice.name}`, sealed where they lie. Each call asks that the tag is its variant's.
+    return f"""/// The fields of an archived `{choice.name}`, as seals. The caller must ensure that the tag is the variant's.
 {choice.visibility}trait {choice.name}Seal<'a> {{
     // The seal shows a part of a buffer that was checked.
     ghost sealed: {{ Self → Type 0 }};

@@ -1,4 +1,4 @@
-//! A shared value of its own type: an own type that holds itself behind a shared pointer, and is checked alone.
+//! A shared value of its own type: a recursive type behind a shared pointer, which is only checked.
 
 ghost use Rattle.std.specs.Prelude.{refl};
 ghost use Rattle.std.proofs.Common.{inl, inr};

@@ -37,7 +37,7 @@ impl fmt::Display for Outcome {
 }
 
 impl Outcome {
-    /// Prints it as one line, and answers the exit status: 0, 1 for a refusal or where the output fails, 2 for bad arguments.
+    /// Prints it as one line, and returns the exit status: 0, 1 for an error or if the output fails, 2 for bad arguments.
     pub fn report<W: io::Write>(self, out: &mut W) -> u8
         ensures { result ≤ 2 }
     {
@@ -53,7 +53,7 @@ impl Outcome {
     }
 }
 
-/// Carries out a command and prints one line of what came of it. Answers the exit status: 0, 1 for a refusal or where the output fails, 2 for
+/// Carries out a command and prints one line of what came of it. Returns the exit status: 0, 1 for an error or if the output fails, 2 for
 /// bad arguments. Memory comes from `alloc`; where it is refused, that is refusal 1.
 pub fn run<W: io::Write>(alloc: Global, args: &[String], out: &mut W) -> u8
     ensures { result ≤ 2 }

@@ -150,7 +150,7 @@ impl Format {
         }
     }
 
-    /// Whether the bytes are an archive of the format. Memory comes from `alloc`. Refused as `access` is.
+    /// Whether the bytes are an archive of the format. Memory comes from `alloc`. Fails as `access` does.
     pub fn check(self, alloc: Global, bytes: &[u8]) -> Result<(), Error> {
         match self {
             Format::U32 => check_as::<ArchivedU32>(alloc, bytes),
@@ -173,7 +173,7 @@ impl Format {
 }
 
 impl Value<'_> {
-    /// The archive of the value. Memory comes from `alloc`. Refused as `to_bytes` is.
+    /// The archive of the value. Memory comes from `alloc`. Fails as `to_bytes` does.
     pub fn write(self, alloc: Global) -> Result<Vec<u8>, Error> {
         match self {
             Value::U32(number) => to_bytes(alloc, &number),

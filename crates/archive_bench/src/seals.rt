@@ -1,4 +1,4 @@
-//! A number that is written over where it lies.
+//! A number that is written over in place.
 
 ghost use Rattle.std.specs.Prelude.{◌≡◌, ◌≤◌, Some, IfSome};
 ghost use Rattle.archive_core.specs.PartsLayout.{part_at, definitions_at};

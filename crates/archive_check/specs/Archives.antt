@@ -68,7 +68,7 @@ ExplainsNoSchema X D e =
 abbrev pub IsRefusal : Definitions → List ℕ → Option ℕ → ℕ → Shape → Error → Type 0
 IsRefusal D bytes limit root X error = ExplainsNoSchema X D error ⊎ IsFaulty D bytes limit root X error
 
--- why a check is refused in whatever context that has levels: the definitions give X no meaning, or it is what a check can return
+-- Why a check is refused in whatever context that has levels: the definitions give X no meaning, or it is what a check can return.
 abbrev pub IsAnswerable : Shape → Definitions → Option ℕ → Error → Type 0
 IsAnswerable X D depth error = HasLevels depth → IsOfCheck error ⊎ ExplainsNoSchema X D error
 

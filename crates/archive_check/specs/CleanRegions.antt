@@ -6,22 +6,22 @@ use Rattle.archive_check.specs.Reads.{SchemaTable, bytes_at, i32_at, length_at, 
 use Rattle.archive_check.specs.Tour.{Region}
 use Rattle.archive_check.specs.Tightness.{after}
 
--- these bytes stand in the buffer at p
+-- These bytes stand in the buffer at p.
 pub record Occurs (bytes : List ℕ) (p : ℕ) (a : List ℕ) : Type 0 where
   pub before : List ℕ
   pub behind : List ℕ
   pub is : bytes ≡ before ++ (a ++ behind)
   pub at : length before ≡ p
 
--- the buffer's bytes from i up to j are 0
+-- The buffer's bytes from i up to j are 0.
 pub record AreZero (bytes : List ℕ) (i j : ℕ) : Type 0 where
   pub zero_at : (k : ℕ) → i ≤ k → k < j → slice_index bytes k ≡ 0
 
--- each of these bytes is 0
+-- Each of these bytes is 0.
 pub record IsZeroed (a : List ℕ) : Type 0 where
   pub zero_at : (i : ℕ) → i < length a → slice_index a i ≡ 0
 
--- the unused bytes of the inline string at p are 0xff
+-- The unused bytes of the inline string at p are 0xff.
 pub record IsFilled (bytes : List ℕ) (p : ℕ) : Type 0 where
   pub filled : (i : ℕ) → length (before_end (bytes_at bytes p 8)) ≤ i → i < 8 → slice_index bytes (p + i) ≡ 0xff
 
@@ -45,7 +45,7 @@ mutual
     clean_weak : {p : ℕ} {flavor : Flavor} {P : Pointee} → i32_at bytes p ≢ pos 1 → CleanValue s bytes p (weak flavor P)
     clean_named : {p : ℕ} {name : Name} {X : Shape} → definition s.table name ≡ Some X → CleanValue s bytes p X → CleanValue s bytes p (named name)
 
-  -- the parts from an offset on, and what is behind them, up to a stop
+  -- The parts from an offset on, and what is behind them, up to a stop.
   pub data CleanParts (s : SchemaTable) (bytes : List ℕ) : ℕ → ℕ → Parts → ℕ → Type 0 where
     clean_no_part : {p at stop : ℕ} → AreZero bytes (p + at) stop → CleanParts s bytes p at no_part stop
     clean_part : {p at stop : ℕ} {X : Shape} {ps : Parts}
@@ -63,7 +63,7 @@ pub data CleanPointee (s : SchemaTable) (bytes : List ℕ) (t : ℕ) : Pointee �
   clean_run : {n : ℕ} {X : Shape} → CleanRun s bytes t n X → CleanPointee s bytes t (run X) n
   clean_text : {n : ℕ} → CleanPointee s bytes t text n
 
--- from start on each region is clean, and so are the bytes between them
+-- From start on each region is clean, and so are the bytes between them.
 abbrev pub CleanRegions : SchemaTable → List ℕ → ℕ → List Region → Type 0
 CleanRegions s bytes start [] = Unit {0}
 CleanRegions s bytes start (r ∷ C) = AreZero bytes start r.begin × CleanPointee s bytes r.begin r.pointee r.length × AreZero bytes (r.begin + r.size) (after r) × CleanRegions s bytes (after r) C

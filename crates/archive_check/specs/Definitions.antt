@@ -19,17 +19,17 @@ listed no_definition = []
 listed (defines name X) = (name, X) ∷ []
 listed (both D E) = listed D ++ listed E
 
--- none of them is the definition of a name that X doesn't reach
+-- None of them is the definition of a name that X doesn't reach.
 abbrev pub NoOthers : Definitions → Shape → Type 0
 NoOthers D X = (name : Name) (Y : Shape) → Contains (listed D) (name, Y) → Involves (listed D) name X
 
--- a table, and the same with these definitions added
+-- A table, and the same with these definitions added.
 pub record Extended (old : Table) (D : Definitions) (new : Table) : Type 0 where
   pub has : (name : Name) (X : Shape) → Contains (listed D) (name, X) → definition new name ≡ Some X
   pub kept : (name : Name) (X : Shape) → definition old name ≡ Some X → definition new name ≡ Some X
   pub only : (name : Name) (X : Shape) → definition new name ≡ Some X → (definition old name ≡ Some X) ⊎ Contains (listed D) (name, X)
 
--- one of them is the definition of a name that has another one
+-- One of them is the definition of a name that has another one.
 pub record Conflicts (old : Table) (D : Definitions) : Type 0 where
   pub name : Name
   pub shape : Shape
@@ -38,11 +38,11 @@ pub record Conflicts (old : Table) (D : Definitions) : Type 0 where
   pub there : (definition old name ≡ Some other) ⊎ Contains (listed D) (name, other)
   pub differ : shape ≢ other
 
--- why definitions aren't added to a table: memory was refused, or they conflict
+-- Why definitions aren't added to a table: memory was refused, or they conflict.
 abbrev pub ExplainsConflict : Table → Definitions → Error → Type 0
 ExplainsConflict old D e = (e ≡ OutOfMemory) ⊎ ((e ≡ ShapeConflict) × Conflicts old D)
 
--- the definition of a record under a name, and those that its parts bring; likewise of a choice
+-- The definition of a record under a name, and those that its parts bring; likewise of a choice.
 abbrev pub named_record : Name → Parts → Definitions → Definitions
 named_record name ps D = both (defines name (parts ps)) D
 
@@ -62,14 +62,14 @@ pub record Knows (s : SchemaTable) (D : Definitions) : Type 0 where
   pub finite : (name : Name) (X : Shape) → Contains (listed D) (name, X) → HeldIn s.table name X → ⊥
   pub laid_out : LaidOut s
 
--- under each schema that knows D, X has this layout
+-- Under each schema that knows D, X has this layout.
 pub record HasLayout (D : Definitions) (X : Shape) (L : Layout) : Type 0 where
   pub solved : (s : SchemaTable) → Knows s D → layout s.layouts X ≡ L
 
--- some layouts are those of a table's definitions
+-- Some layouts are those of a table's definitions.
 abbrev pub HasLayouts : Table → Type 0
 HasLayouts table = ∥ ((t : SchemaTable) × (t.table ≡ table) × LaidOut t) ∥₁
 
--- a power of two, at most 32
+-- A power of two, at most 32.
 abbrev pub IsAlign : ℕ → Type 0
 IsAlign a = (a ≡ 1) ⊎ (a ≡ 2) ⊎ (a ≡ 4) ⊎ (a ≡ 8) ⊎ (a ≡ 16) ⊎ (a ≡ 32)

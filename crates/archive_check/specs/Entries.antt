@@ -85,7 +85,7 @@ pub data MeetsOpen (s : SchemaTable) (bytes : List ℕ) (told : Entries) : List 
       → MeetsOpen s bytes told (t ∷ within) t p.pointee p.length
       → MeetsOpen s bytes told within q P n
 
--- the pointer stands in what is read of some part of the archive
+-- The pointer stands in what is read of some part of the archive.
 pub record IsMet (s : SchemaTable) (bytes : List ℕ) (root : ℕ) (X : Shape) (p : Pointer) : Type 0 where
   pub at : ℕ
   pub pointee : Pointee
@@ -103,7 +103,7 @@ IsClosed s bytes root X told t = (p : Pointer) (flavor : Flavor) → IsMet s byt
 pub record IsCyclic (D : Definitions) (bytes : List ℕ) (told : Entries) (q : ℕ) (P : Pointee) (n : ℕ) : Type 0 where
   pub meets : (s : SchemaTable) → Knows s D → Lies s bytes q P n → MeetsOpen s bytes told [] q P n
 
--- the shared position t is pending, or what is there leads to an open one, t itself among them
+-- The shared position t is pending, or what is there leads to an open one, t itself among them.
 abbrev pub LeadsToOpen : Definitions → List ℕ → Entries → ℕ → Pointee → ℕ → Type 0
 LeadsToOpen D bytes told t P n = (told t ≡ Some None) ⊎ ((s : SchemaTable) → Knows s D → Lies s bytes t P n → MeetsOpen s bytes told (t ∷ []) t P n)
 
@@ -119,6 +119,6 @@ pub record ReadsBack (keeps : Bool) (D : Definitions) (bytes : List ℕ) (q : �
   pub closed : (s : SchemaTable) → Knows s D → (l : Lies s bytes q P n) → (t : ℕ) (k : Kept) → old t ≡ None → new t ≡ Some (Some k) → IsClosed s bytes l.root l.shape old t
   pub once : KeepsRead keeps old new keys
 
--- it was refused: memory was, or an open position is met
+-- It was refused: memory was, or an open position is met.
 abbrev pub RefusesReading : Definitions → List ℕ → ℕ → Pointee → ℕ → Entries → Error → Type 0
 RefusesReading D bytes q P n told e = (e ≡ OutOfMemory) ⊎ ((e ≡ CyclicDeserialize) × IsCyclic D bytes told q P n)

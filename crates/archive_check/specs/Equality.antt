@@ -98,7 +98,7 @@ own_width w32 = refl
 own_width w64 = refl
 own_width w128 = refl
 
--- two numbers' kinds, by a constructor of them
+-- Two numbers' kinds, by a constructor of them.
 one_number : (make : Sign → Width → Kind) (s t : Sign) (w v : Width) → (same_sign s t && same_width w v) ≡ true → make s w ≡ make t v
 one_number make s t w v h = λ i. make (one_sign s t (first_so _ _ h) i) (one_width w v (second_so _ _ h) i)
 
@@ -204,7 +204,7 @@ mutual
   own_variants no_variant = refl
   own_variants (variant x vs) = λ i. own_parts x i && own_variants vs i
 
--- a test that is true of each value and itself alone decides `≡`
+-- A test that is true of each value and itself alone decides `≡`.
 decides_same : {A : Type 0} (test : A → A → Bool) → ((x y : A) → test x y ≡ true → x ≡ y) → ((x : A) → test x x ≡ true) → (x y : A) → Decides (test x y) (x ≡ y)
 decides_same test same own x y = (same x y, λ e. subst (λ z. test x z ≡ true) e (own x))
 
@@ -217,7 +217,7 @@ same_shape-Decides = decides_same same_shape one_shape own_shape
 pub same_pointee-Decides : (x y : Pointee) → Decides (same_pointee x y) (x ≡ y)
 same_pointee-Decides = decides_same same_pointee one_pointee own_pointee
 
--- a test of two shapes, or pointees, with what it decides: nobody has to know how
+-- A test of two shapes, or pointees, with what it decides: nobody has to know how.
 pub shape_test : (x y : Shape) → (same : Bool) × Decides same (x ≡ y)
 shape_test x y = (same_shape x y, same_shape-Decides x y)
 
@@ -238,7 +238,7 @@ pub pointee_tested : (x y : Pointee) → same_pointee x y ≡ is_same_pointee x 
 unfolding pointee_test
 pointee_tested x y = refl
 
--- so they are equivalences
+-- So they are equivalences.
 pub same_shape-equiv : IsEquivalence is_same_shape
 same_shape-equiv = decided is_same_shape (λ x y. (shape_test x y).1)
 

@@ -18,7 +18,7 @@ use Rattle.archive_check.specs.declared.format.defs.Def.{Def}
 use Rattle.archive_check.specs.declared.format.defs.Defs.{Defs}
 use Rattle.archive_check.specs.Shape.{Sign, unsigned, signed, Kind, unit, bool, char, number, non_zero, raw_rel, Key, leaf_key, str_key, Flavor, Shape, leaf, parts, choice, array, boxed, vec, sorted_map, str, shared, weak, named, Pointee, one, run, text, Parts, no_part, part, Variants, no_variant, variant, Table}
 
--- the sign of an integer, and its width
+-- The sign of an integer, and its width.
 abbrev pub integer_of : IntegerKind → Sign × Width
 integer_of U8 = (unsigned, w8)
 integer_of I8 = (signed, w8)
@@ -31,7 +31,7 @@ integer_of I64 = (signed, w64)
 integer_of U128 = (unsigned, w128)
 integer_of I128 = (signed, w128)
 
--- the leaf
+-- The leaf.
 abbrev pub kind_of : KindExpr → Kind
 kind_of UnitKind = unit
 kind_of BoolKind = bool
@@ -40,7 +40,7 @@ kind_of (Number integer) = number (integer_of integer).0 (integer_of integer).1
 kind_of (NonZero integer) = non_zero (integer_of integer).0 (integer_of integer).1
 kind_of (RawRel integer) = raw_rel (integer_of integer).0 (integer_of integer).1
 
--- the key
+-- The key.
 abbrev pub key_of : KeyExpr → Key
 key_of (key.Leaf kind) = leaf_key (kind_of kind)
 key_of key.Str = str_key
@@ -49,7 +49,7 @@ abbrev pub flavor_of : FlavorInfo → Flavor
 flavor_of f = record { name = f.name.now; cycles = f.cycles }
 
 abbrev mutual
-  -- the shape of an expression
+  -- The shape of an expression.
   pub shape_of : Expr → Shape
   shape_of (expr.Leaf kind) = leaf (kind_of kind)
   shape_of (expr.Record' v row) = parts (shapes_of row)
@@ -63,7 +63,7 @@ abbrev mutual
   shape_of (expr.Weak' f p x) = weak (flavor_of f) (pointee_of x)
   shape_of (expr.Named name) = named name.now
 
-  -- what a pointer leads to
+  -- What a pointer leads to.
   pub pointee_of : PointeeExpr → Pointee
   pointee_of (pointee.One x) = one (shape_of x)
   pointee_of (pointee.Run x) = run (shape_of x)
@@ -77,17 +77,17 @@ abbrev mutual
   variants_of end_of-Expr-Choice-1-1 = no_variant
   variants_of (more_of-Expr-Choice-1-1 v row rest) = variant (shapes_of row) (variants_of rest)
 
--- the shapes of a list of expressions
+-- The shapes of a list of expressions.
 abbrev pub shapes_in : List Expr → Parts
 shapes_in [] = no_part
 shapes_in (x ∷ xs) = part (shape_of x) (shapes_in xs)
 
--- the variants of a list of lists of them
+-- The variants of a list of lists of them.
 abbrev pub variants_in : List (RustVec Expr Global) → Variants
 variants_in [] = no_variant
 variants_in (v ∷ vs) = variant (shapes_in v.items) (variants_in vs)
 
--- each name with the shape of its expression
+-- Each name with the shape of its expression.
 abbrev pub entries_of : List Def → Table
 entries_of [] = []
 entries_of (d ∷ ds) = (d.name.now, shape_of d.expr) ∷ entries_of ds

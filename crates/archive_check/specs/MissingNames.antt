@@ -3,12 +3,12 @@ use Rattle.std.specs.Prelude.{◌≡◌, ℕ, ◌<◌, Bool, true, false, Option
 use Rattle.archive_check.specs.Defined.{Reaches}
 use Rattle.archive_check.specs.Shape.{Name, Shape, parts, choice, array, boxed, vec, sorted_map, shared, weak, named, Pointee, one, run, text, Parts, no_part, part, Variants, no_variant, variant, Table, definition}
 
--- the first of two
+-- The first of two.
 abbrev pub or_else : Option Name → Option Name → Option Name
 or_else None other = other
 or_else (Some name) other = Some name
 
--- the first name that has none; behind pointers too, where `far` says so
+-- The first name that has none; behind pointers too, where `far` says so.
 abbrev mutual
   pub missing : Bool → Table → Shape → Option Name
   missing far table (parts ps) = parts_missing far table ps
@@ -43,7 +43,7 @@ pub record Collected (old : Table) (X : Shape) (new : Table) : Type 0 where
   pub root : missing true new X ≡ None
   pub closed : (name : Name) (Y : Shape) → definition new name ≡ Some Y → missing true new Y ≡ None
 
--- the same definitions, each once, and each holds only names that are defined before it
+-- The same definitions, each once, and each holds only names that are defined before it.
 pub record Arranged (old new : Table) : Type 0 where
   pub same : (name : Name) → definition new name ≡ definition old name
   pub once : (name : Name) (Y : Shape) → Contains new (name, Y) → definition new name ≡ Some Y

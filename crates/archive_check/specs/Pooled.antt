@@ -20,7 +20,7 @@ EntryState = Option (Option Kept)
 abbrev pub Entries : Type 0
 Entries = ℕ → EntryState
 
--- a start leaves a new position pending, and others as they are
+-- A start leaves a new position pending, and others as they are.
 abbrev pub pooled : EntryState → EntryState
 pooled None = Some None
 pooled (Some known) = Some known

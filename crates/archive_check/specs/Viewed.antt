@@ -17,10 +17,10 @@ pub record Lies (s : SchemaTable) (bytes : List ℕ) (q : ℕ) (P : Pointee) (n 
   pub accepted : Accepted s bytes root shape
   pub part : PartOfSome s bytes (regions_of accepted) q P n
 
--- it does so under some schema that knows the definitions
+-- It does so under some schema that knows the definitions.
 abbrev pub Viewed : Definitions → List ℕ → ℕ → Pointee → ℕ → Type 0
 Viewed D bytes q P n = ∥ ((s : SchemaTable) × Knows s D × Lies s bytes q P n) ∥₁
 
--- under each schema that knows the definitions and in which it lies so, what is read there is w, each hole filled
+-- Under each schema that knows the definitions and in which it lies so, what is read there is w, each hole filled.
 pub record Says (D : Definitions) (bytes : List ℕ) (q : ℕ) (P : Pointee) (n : ℕ) (w : Value) : Type 0 where
   pub fills : (s : SchemaTable) (v : Value) → Knows s D → Lies s bytes q P n → Contents s bytes q P n v → Fills s bytes v w

@@ -23,23 +23,23 @@ pub record WriterState : Type 0 where
 abbrev pub no_keys : KeyStates
 no_keys k = None
 
--- of what holds no bytes
+-- Of what holds no bytes.
 abbrev pub only_keys : KeyStates → WriterState
 only_keys states = record { bytes = []; room = None; failures = 0; states = states }
 
--- of what holds these bytes, without a limit, a device or a key
+-- Of what holds these bytes, without a limit, a device or a key.
 abbrev pub only_bytes : List ℕ → WriterState
 only_bytes bytes = record { bytes = bytes; room = None; failures = 0; states = no_keys }
 
--- no key changes its state
+-- No key changes its state.
 abbrev pub KeepsKeys : KeyStates → KeyStates → Type 0
 KeepsKeys f g = (k : ℕ) → g k ≡ f k
 
--- nothing changes but states of keys
+-- Nothing changes but states of keys.
 abbrev pub KeepsBytes : WriterState → WriterState → Type 0
 KeepsBytes old new = (new.bytes ≡ old.bytes) × (new.room ≡ old.room) × (new.failures ≡ old.failures)
 
--- zeros were appended up to the next multiple
+-- Zeros were appended up to the next multiple.
 pub record Pads (align : ℕ) (old new : WriterState) : Type 0 where
   pub zeros : List ℕ
   pub grown : new.bytes ≡ old.bytes ++ zeros

@@ -108,8 +108,8 @@ pub trait SharedContext: Context {
         ensures unchanged { OnErr result (Self.positions self.new ≡ Self.positions self.old) }
         ensures range { Self.state self.new ≡ Self.state self.old };
 
-    /// The number of a flavor and a pointee, by which the many pointers to what was checked before
-    /// are passed over. None only if no position is finished that was started with them.
+    /// The number of a flavor and a pointee, by which pointers to what was checked are passed over.
+    /// None only if no position is finished that was started with them.
     fn type_number(&self, flavor: &FlavorInfo, pointee: &Pointee) -> Option<usize>
         ensures number { IfSome result (λ n. Self.numbered self.now n (flavor_of flavor.now)
             (pointee_of pointee.now)) }

@@ -14,7 +14,7 @@ pub fn meaning_unique()
     ensures { MeaningUnique }
 {}
 
-/// A check's walk comes to an end exactly if the buffer is accepted and no region is too deep.
+/// A check's walk succeeds exactly if the buffer is accepted and no region is too deep.
 pub fn accepted_where_walked()
     ensures { AcceptedWhereWalked }
 {}
@@ -34,8 +34,8 @@ pub fn leaves_in_regions()
     ensures { LeavesInRegions }
 {}
 
-/// If legal bytes are written over a leaf that is in no key, every archive that has it stays one,
-/// with the same tour, and changes in that leaf alone.
+/// A leaf that is in no key may be written over: every archive that has it stays one, with the same
+/// tour, and changes in that leaf alone.
 pub fn leaf_written()
     ensures { LeafWritten }
 {}
@@ -160,7 +160,7 @@ pub fn unique_before()
     ensures { UniqueBefore }
 {}
 
-/// Where a shape is well formed, each schema that has its definitions, laid out as they are, knows them.
+/// If a shape is well formed, each schema with its definitions and their layouts knows them.
 pub fn known_where_well_formed()
     ensures { KnownWhereWellFormed }
 {}
@@ -171,17 +171,20 @@ pub fn never_cyclic()
     ensures { NeverCyclic }
 {}
 
-/// What a shared pointer leads to, that is read in a part of an archive, is known to its map, with the pointer's flavor, pointee and length.
+/// The target of a shared pointer in an archive is known to its map, with the pointer's flavor,
+/// pointee and length.
 pub fn shared_known()
     ensures { SharedKnown }
 {}
 
-/// Only one list of bytes, whose first ones are given, has a meaning and is tight and clean from there on, whatever the names in the meaning.
+/// Behind given bytes, at most one list of tight and clean bytes has a given meaning, whatever its
+/// names.
 pub fn tidy_unique()
     ensures { TidyUnique }
 {}
 
-/// Only one list of bytes, whose first ones are given, denotes a value of a shape in which nothing is shared and is tight and clean from there on.
+/// Behind given bytes, at most one list of tight and clean bytes denotes a given value of a shape in which
+/// nothing is shared.
 pub fn one_list()
     ensures { OneList }
 {}

@@ -1,5 +1,5 @@
 //! What bench/compat compares with rkyv: values that are read back and written again. Each export checks bytes as an archive of its type and reads the value
-//! back. Then it writes the archive of that value over the first bytes of `out`, and answers their number and one. It answers 0 where the bytes are refused,
+//! back. Then it writes the archive of that value over the first bytes of `out`, and returns their number and one. It returns 0 if the bytes are rejected,
 //! where `out` is too short, or where memory ran out.
 #![tactic(auto)]
 

@@ -10,16 +10,16 @@ use Rattle.archive_types.specs.Members.Keyed.{box_keyed, nothing_keyed, case_key
 use Rattle.archive_types.specs.Members.PlannedOwners.{boxed_one_planned}
 use Rattle.archive_types.specs.Members.Variants.{case_of, one_keyed, case_planned, empty_planned, named_planned}
 
--- the only part is a box of an X
+-- The only part is a box of an X.
 abbrev pub box_part : Shape → Parts
 box_part X = part (boxed (one X)) no_part
 
--- each variant holds nothing, or a box of an X
+-- Each variant holds nothing, or a box of an X.
 abbrev pub AreNests : Shape → Variants → Type 0
 AreNests X no_variant = Unit {0}
 AreNests X (variant ps vs) = ((ps ≡ no_part) ⊎ (ps ≡ box_part X)) × AreNests X vs
 
--- the tag is one of those of the variants that hold nothing, and of those that don't, where the first variant has the tag k
+-- The tag is one of those of the variants that hold nothing, and of those that don't, where the first variant has the tag k.
 abbrev pub HoldsNothing : ℕ → Variants → ℕ → Type 0
 HoldsNothing k no_variant tag = ⊥
 HoldsNothing k (variant no_part vs) tag = (tag ≡ k) ⊎ HoldsNothing (suc k) vs tag
@@ -30,12 +30,12 @@ HoldsBox k no_variant tag = ⊥
 HoldsBox k (variant no_part vs) tag = HoldsBox (suc k) vs tag
 HoldsBox k (variant (part X ps) vs) tag = (tag ≡ k) ⊎ HoldsBox (suc k) vs tag
 
--- the variant with this tag holds nothing, or a box where there is something
+-- The variant with this tag holds nothing, or a box where there is something.
 abbrev pub IsTagOf : {T : Type 0} → Shape → Variants → ℕ → Option T → Type 0
 IsTagOf X vs tag None = variant_at vs tag ≡ Some no_part
 IsTagOf X vs tag (Some x) = variant_at vs tag ≡ Some (box_part X)
 
--- what a value means by what its box holds, and what is read in its place by where that stands
+-- What a value means by what its box holds, and what is read in its place by where that stands.
 abbrev pub nest_of : {T : Type 0} → (T → Value) → ℕ → Option (Bor T) → Value
 nest_of meaning tag None = case tag no_value
 nest_of meaning tag (Some x) = case_of tag (box (meaning x.now))
@@ -44,17 +44,17 @@ abbrev pub nest_flat : Shape → ℕ → Option ℕ → Value
 nest_flat X tag None = case tag no_value
 nest_flat X tag (Some t) = case_of tag (box (hole (to_pointee t (one X) 0)))
 
--- such a resolver, with a position where there is a box, is one of the value, and this is then read
+-- Such a resolver, with a position where there is a box, is one of the value, and this is then read.
 abbrev pub IsResolvedBy : {T : Type 0} → (T → Option ℕ → Type 0) → (T → Option ℕ → Value) → Shape → T → ℕ → Option (Bor T) → Type 0
 IsResolvedBy belongs flat X v tag None = belongs v None × (flat v None ≡ nest_flat X tag None)
 IsResolvedBy belongs flat X v tag (Some x) = (t : ℕ) → belongs v (Some t) × (flat v (Some t) ≡ nest_flat X tag (Some t))
 
--- how many boxes there are, one in another
+-- How many boxes there are, one in another.
 abbrev pub nest_depth : Value → ℕ
 nest_depth (case tag (value (box v) vs)) = suc (nest_depth v)
 nest_depth v = 0
 
--- the value is nothing under a tag, or a box of such a value
+-- The value is nothing under a tag, or a box of such a value.
 pub data IsNest (X : Shape) (vs : Variants) : Value → Type 0 where
   nothing_held : {tag : ℕ} → variant_at vs tag ≡ Some no_part → IsNest X vs (case tag no_value)
   box_held : {tag : ℕ} {v : Value} → variant_at vs tag ≡ Some (box_part X) → IsNest X vs v → IsNest X vs (case_of tag (box v))

@@ -10,12 +10,12 @@ use Rattle.archive_types.specs.Words.Seen.{part_tag}
 use Rattle.archive_types.specs.Members.Variants.{case_of}
 use Rattle.archive_types.specs.declared.view.RawView.{RawView}
 
--- where the inner part is read back, the whole is, as a box of that under its tag
+-- Where the inner part is read back, the whole is, as a box of that under its tag.
 abbrev pub IsReadIn : {T M : Type 0} → ArchivePointee.Ghosts T M → RawView → RawView → Type 0
 IsReadIn g inner whole = (keeps : Bool) (old new : Entries) (w : Value) (ks : List Naming) → ReadsBack keeps g.definitions inner.bytes.now inner.pos g.pointee inner.len old new w ks
     → ReadsBack keeps g.definitions whole.bytes.now whole.pos g.pointee whole.len old new (case_of (part_tag whole) (box w)) ks
 
--- and where it is refused, so is the whole
+-- And where it is refused, so is the whole.
 abbrev pub IsRefusedIn : {T M : Type 0} → ArchivePointee.Ghosts T M → RawView → RawView → Type 0
 IsRefusedIn g inner whole = (told : Entries) (e : Error) → RefusesReading g.definitions inner.bytes.now inner.pos g.pointee inner.len told e
     → RefusesReading g.definitions whole.bytes.now whole.pos g.pointee whole.len told e

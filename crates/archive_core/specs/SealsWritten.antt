@@ -15,11 +15,11 @@ use Rattle.archive_core.specs.declared.seal.Seal.{Seal}
 abbrev pub IsSealOf : {T : Type 0} → Definitions → Pointee → Seal T → Type 0
 IsSealOf D P v = IsComeTo D v.bytes.now v.pos P v.len
 
--- wherever seals come to what the second one shows, a P, they come to what the first one does, a Q
+-- Wherever seals come to what the second one shows, a P, they come to what the first one does, a Q.
 abbrev pub SealsBeside : {T U : Type 0} → Definitions → Pointee → Pointee → Seal U → Seal T → Type 0
 SealsBeside D P Q u v = ComesWith D v.bytes.now (view v.pos P v.len) (view u.pos Q u.len)
 
--- of a P that the first seal shows, the second one shows a part, a Q at this position and with this length, in the same bytes
+-- Of a P that the first seal shows, the second one shows a part, a Q at this position and with this length, in the same bytes.
 pub record SealsPart {T U : Type 0} (D : Definitions) (P : Pointee) (E : Definitions) (Q : Pointee) (p n : ℕ) (v : Seal T) (u : Seal U) : Type 0 where
   pub same_reference : u.bytes.ghost_name ≡ v.bytes.ghost_name
   pub buffer : u.bytes.now ≡ v.bytes.now
@@ -42,7 +42,7 @@ pub record WritesOver (x y : PlacedLeaf) (q : ℕ) (P : Pointee) (n : ℕ) (old 
 abbrev pub WritesNumber : Kind → ℕ → Pointee → ℕ → ℤ → List ℕ → List ℕ → Type 0
 WritesNumber kind q P n z old new = WritesOver (leaf_at kind old q) (number_leaf q kind z) q P n old new
 
--- the same of the text of n bytes at q, and of the text of the string at q
+-- The same of the text of n bytes at q, and of the text of the string at q.
 abbrev pub WritesText : ℕ → ℕ → List ℕ → List ℕ → List ℕ → Type 0
 WritesText q n value old new = WritesOver (text_leaf q (bytes_at old q n)) (text_leaf q value) q text n old new
 
@@ -52,6 +52,6 @@ WritesString q n value old new = WritesOver (string_leaf old q) (text_leaf (text
 abbrev pub string_edit : List ℕ → ℕ → List ℕ → List ℕ
 string_edit bytes p value = edit bytes (text_begin bytes p) value
 
--- the tag of a choice that a seal shows
+-- The tag of a choice that a seal shows.
 abbrev pub seal_tag : {T : Type 0} → Seal T → ℕ
 seal_tag v = slice_index v.bytes.now v.pos

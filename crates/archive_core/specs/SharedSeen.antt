@@ -14,37 +14,37 @@ use Rattle.archive_core.specs.Pooling.{IsPut, ReadsShared, RefusesShared}
 use Rattle.archive_types.specs.declared.view.RawView.{RawView}
 use Rattle.archive_types.specs.declared.view.Ref.{Ref}
 
--- what the view shows was read back as this shared value, by its pointers; and why it wasn't
+-- What the view shows was read back as this shared value, by its pointers; and why it wasn't.
 abbrev pub ReadsKept : {T M D : Type 0} {g : ArchivePointee.Ghosts T M} → Ref T M g → Entries.Ghosts D → Both (MutBor D) (MutBor D) → Kept → Type 0
 ReadsKept {g = g} v d b kept = ReadsShared d.keeps g.definitions v.bytes.now v.pos g.pointee v.len (d.entry_of b.entry.now) (d.entry_of b.exit.now) kept
 
 abbrev pub RefusesKept : {T M D : Type 0} {g : ArchivePointee.Ghosts T M} → Ref T M g → Entries.Ghosts D → Both (MutBor D) (MutBor D) → Error → Type 0
 RefusesKept {g = g} v d b e = RefusesShared g.definitions v.bytes.now v.pos g.pointee v.len (d.entry_of b.entry.now) e
 
--- what is finished where the view stands is handed out, as it is kept
+-- What is finished where the view stands is handed out, as it is kept.
 abbrev pub HandsOut : {T M D : Type 0} {g : ArchivePointee.Ghosts T M} → Ref T M g → Entries.Ghosts D → Both (MutBor D) (MutBor D) → Kept → Type 0
 HandsOut v d b kept = (k : Kept) → d.entry_of b.entry.now v.pos ≡ Some (Some k) → kept ≡ k
 
--- where nothing was known of it, what the view shows was read: what its archive says there
+-- Where nothing was known of it, what the view shows was read: what its archive says there.
 abbrev pub SaysShown : {T M D : Type 0} {g : ArchivePointee.Ghosts T M} → Ref T M g → Entries.Ghosts D → Both (MutBor D) (MutBor D) → Kept → Type 0
 SaysShown {g = g} v d b kept = d.entry_of b.entry.now v.pos ≡ None → AreNamedByPosition (d.entry_of b.entry.now) → Says g.definitions v.bytes.now v.pos g.pointee v.len kept.value
 
--- it is finished with this afterwards
+-- It is finished with this afterwards.
 abbrev pub IsFinishedWith : {T M D : Type 0} {g : ArchivePointee.Ghosts T M} → Ref T M g → Entries.Ghosts D → Both (MutBor D) (MutBor D) → Kept → Type 0
 IsFinishedWith v d b kept = d.entry_of b.exit.now v.pos ≡ Some (Some kept)
 
--- a position has this state afterwards, and others are as they were
+-- A position has this state afterwards, and others are as they were.
 abbrev pub PutAt : {D : Type 0} → Entries.Ghosts D → Both (MutBor D) (MutBor D) → ℕ → EntryState → Type 0
 PutAt d b pos state = IsPut (d.entry_of b.entry.now) pos state (d.entry_of b.exit.now)
 
--- where the pointer at a part leads
+-- Where the pointer at a part leads.
 abbrev pub target_of : {E : Type 0} → Both RawView E → ℕ
 target_of p = target_from p.entry.bytes.now p.entry.pos p.entry.pos
 
--- what is finished where the pointer leads is handed out, as it is kept
+-- What is finished where the pointer leads is handed out, as it is kept.
 abbrev pub HandsOutTarget : {D E : Type 0} → Both RawView E → Entries.Ghosts D → Both (MutBor D) (MutBor D) → Kept → Type 0
 HandsOutTarget p d b kept = (k : Kept) → d.entry_of b.entry.now (target_of p) ≡ Some (Some k) → kept ≡ k
 
--- the position where the pointer leads is finished with this afterwards
+-- The position where the pointer leads is finished with this afterwards.
 abbrev pub FinishesTarget : {D E : Type 0} → Both RawView E → Entries.Ghosts D → Both (MutBor D) (MutBor D) → Kept → Type 0
 FinishesTarget p d b kept = d.entry_of b.exit.now (target_of p) ≡ Some (Some kept)

@@ -15,11 +15,11 @@ use Rattle.archive_check.proofs.Viewing.Viewed.{lies_fits, lies_reads}
 use Rattle.archive_core.specs.Pooling.{kept_at, Spans}
 use Rattle.archive_types.specs.Runs.{each_meaning}
 
--- one value
+-- One value.
 pub one_spans : (D : Definitions) (P : Pointee) (X : Shape) → P ≡ one X → (v : Value) → Spans D P 0 v
 one_spans D P X is v bytes t n none viewed says = sym (none (ap has_length is))
 
--- where it is so in each schema in which it lies there, it is so
+-- Where it is so in each schema in which it lies there, it is so.
 by_schema : (D : Definitions) (P : Pointee) (bytes : List ℕ) (t n count : ℕ) → Viewed D bytes t P n → ((s : SchemaTable) → Knows s D → Lies s bytes t P n → count ≡ n) → count ≡ n
 by_schema D P bytes t n count viewed f =
     let below : count ≤ n = ∥∥₁_elim viewed le_prop (λ (s, k, l). let e = f s k l in omega (arith, e)) in
@@ -52,7 +52,7 @@ slice_spans D X m xs bytes t n none viewed says = by_schema D (run X) bytes t n 
     let (v, c) = lies_reads s bytes l in
     slice_is m xs c (says.fills s v k l c)))
 
--- a clone with the same key and value
+-- A clone with the same key and value.
 pub cloned_kept : {A : Type 0} (P : Pointee) (count : A → ℕ) (meaning : A → Value) (keys : A → List Naming) (k l : ℕ) (x y : A) → l ≡ k → y ≡ x
     → kept_at l P (count y) (meaning y) (keys y) ≡ kept_at k P (count x) (meaning x) (keys x)
 cloned_kept P count meaning keys k l x y e f = rw (e, f) refl

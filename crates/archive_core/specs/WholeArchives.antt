@@ -48,10 +48,10 @@ pub record ReadsArchive {M D T A R N C : Type 0} (f : FormatOf M) (bytes : List 
   pub refused : IfErr result (RefusesWhole f.definitions bytes (root_in bytes f.layout) f.shape (d.entry_of b.entry.now))
   pub never_open : IsNeverOpen f.definitions f.shape (d.entry_of b.entry.now) → IfErr result (RefusesAsCheck f.definitions bytes (root_in bytes f.layout) f.shape)
 
--- a type has no schema, and why, or it is well formed and something else was refused
+-- A type has no schema, and why, or it is well formed and something else was refused.
 abbrev pub LacksSchema : {M : Type 0} → FormatOf M → Error → Type 0
 LacksSchema f e = ExplainsNoSchema f.shape f.definitions e ⊎ WellFormed (listed f.definitions) f.shape
 
--- the result of a check of the root at the end
+-- The result of a check of the root at the end.
 abbrev pub AnswersRoot : {M T : Type 0} → FormatOf M → List ℕ → Option ℕ → Result T Error → Type 0
 AnswersRoot f bytes depth result = Answers f.definitions bytes depth (root_in bytes f.layout) f.shape result

@@ -70,8 +70,8 @@ pub trait NamedRecord {
         Self.Check.span Self.Check.nameless };
 }
 
-/// An archived record with the name and the parts of `N`, laid out in order, each at the next
-/// multiple of its alignment.
+/// An archived record with the name and the parts of `N`, each at the next multiple of its
+/// alignment.
 pub struct ArchivedRecord<N> {
     of: PhantomData<N>,
 }

@@ -13,23 +13,23 @@ use Rattle.archive_check.specs.Members.NoOthers.{around_reached}
 use Rattle.archive_check.specs.Words.BoundedSizes.{fits}
 use Rattle.archive_check.specs.SelfCheck.Laws.{IsCheckOf}
 
--- nothing, or a value
+-- Nothing, or a value.
 abbrev pub option_shape : Shape → Shape
 option_shape X = choice (codes "ArchivedOption") (variant no_part (variant (part X no_part) no_variant))
 
--- a value behind the tag, both rounded up
+-- A value behind the tag, both rounded up.
 abbrev pub option_layout : Layout → Layout
 option_layout L = record { size = up (L.align + L.size) L.align; align = L.align }
 
--- the definitions of the option's variants
+-- The definitions of the option's variants.
 abbrev pub option_definitions : Definitions → Definitions
 option_definitions D = both no_definition (both (both D no_definition) no_definition)
 
--- whether an option of it checks itself: its value does, and its size is below usize::MAX
+-- Whether an option of it checks itself: its value does, and its size is below usize::MAX.
 abbrev pub option_direct : Bool → Layout → Bool
 option_direct direct L = direct && nat_lt (option_layout L).size 18446744073709551615
 
--- the first multiple of an alignment behind a tag
+-- The first multiple of an alignment behind a tag.
 pub up_first : (a : ℕ) → IsAlign a → up 1 a ≡ a
 up_first a (inl e) = rw e refl
 up_first a (inr (inl e)) = rw e refl
@@ -46,14 +46,14 @@ align_low a (inr (inr (inr (inl e)))) = omega arith
 align_low a (inr (inr (inr (inr (inl e))))) = omega arith
 align_low a (inr (inr (inr (inr (inr e))))) = omega arith
 
--- the value ends within the option
+-- The value ends within the option.
 pub option_holds : (L : Layout) → IsAlign L.align → L.align + L.size ≤ (option_layout L).size
 option_holds L is = omega (arith, align_low L.align is)
 
 pub align_low_first : (L : Layout) → IsAlign L.align → 0 < L.align
 align_low_first L is = omega (arith, align_low L.align is)
 
--- a tag that isn't 0 is 1
+-- A tag that isn't 0 is 1.
 pub option_tag : (X : Shape) (t : ℕ) → is_some (variant_at (variant no_part (variant (part X no_part) no_variant)) t) ≡ true → (t ≡ 0 → ⊥) → t ≡ 1
 option_tag X zero h n = absurd (n refl)
 option_tag X (suc zero) h n = refl
@@ -65,7 +65,7 @@ option_align a h = omega arith
 option_end : (a z : ℕ) → 1 ≤ a → up 1 a ≡ a → max 1 (max (up 1 a + z) 1) ≡ a + z
 option_end a z h e = omega (arith, e)
 
--- under all definitions that come with the value
+-- Under all definitions that come with the value.
 pub option_has_layout : (D : Definitions) (X : Shape) (L : Layout) → IsAlign L.align → HasLayout D X L → HasLayout D (option_shape X) (option_layout L)
 option_has_layout D X L is h = record {
   solved = λ s k. (
@@ -78,7 +78,7 @@ option_has_layout D X L is h = record {
       λ i. record { size = size i; align = align i });
 }
 
--- what is reached from the value is reached from the option
+-- What is reached from the value is reached from the option.
 option_mentions : (X : Shape) (n : Name) → Mentions n X → Mentions n (option_shape X)
 option_mentions X n m = mentions_choice (mentions_other (mentions_variant (mentions_first m)))
 
@@ -98,7 +98,7 @@ known_below D s k = record {
   laid_out = k.laid_out;
 }
 
--- the check of an option, where its value checks itself
+-- The check of an option, where its value checks itself.
 pub option_check : (D : Definitions) (X : Shape) (L : Layout) (direct : Bool) (E : Definitions) (Y : Shape) (n : ℕ) (nameless : Bool) → (IsTrue direct → IsCheckOf D X L.size E Y n nameless)
     → IsTrue (option_direct direct L) → IsCheckOf D (option_shape X) (option_layout L).size (option_definitions D) (option_shape X) (option_layout L).size nameless
 option_check D X L direct E Y n nameless h says =

@@ -4,15 +4,15 @@ use Rattle.std.specs.Borrow.{Bor, MutBor}
 use Rattle.std.specs.Option.{option_copied, option_copied_mut, option_to_list}
 use Rattle.std.specs.Iterator.Runs.{EveryRun, ItemsAre, ItemsMapTo}
 
--- a call gave what was left, and leaves nothing
+-- A call gave what was left, and leaves nothing.
 abbrev pub GivesWhatIsLeft : {P : Type 0} → Option P → Option P → Option P → Type 0
 GivesWhatIsLeft left item rest = (item ≡ left) × (rest ≡ None)
 
--- each run of calls gives the item
+-- Each run of calls gives the item.
 abbrev pub YieldsItsItem : Type 0 → Type 0
 YieldsItsItem P = EveryRun (GivesWhatIsLeft {P = P}) (λ run. ItemsAre run (option_to_list run.from))
 
--- the same of a reference, by the value that it leads to
+-- The same of a reference, by the value that it leads to.
 abbrev pub YieldsItsValue : Type 0 → Type 0
 YieldsItsValue T = EveryRun (GivesWhatIsLeft {P = Bor T}) (λ run. ItemsMapTo run (λ r. r.now) (option_to_list (option_copied run.from)))
 

@@ -6,10 +6,10 @@ use Rattle.archive_enum.specs.declared.option.ArchivedOption.TheVariants as opti
 use Rattle.archive_enum.specs.contracts.option.ArchivedOption.{the_row}
 
 module _ (T : RattleType) (lender : MutBor (ArchivedOption T.Denot)) where
-  -- a Some of the last value behind the reference
+  -- A Some of the last value behind the reference.
   abbrev pub LendsValue : MutBor T.Denot → Fml
   LendsValue lent = Lends (the_row T) T lender lent option.Some
 
-  -- the same where there is a reference, and else what it was
+  -- The same where there is a reference, and else what it was.
   abbrev pub LendsValueIfAny : Option (MutBor T.Denot) → Fml
   LendsValueIfAny lent = LendsIf (the_row T) T lender lent option.Some lender.now

@@ -6,10 +6,10 @@ use Rattle.archive_enum.specs.declared.result.ArchivedResult.TheVariants as resu
 use Rattle.archive_enum.specs.contracts.result.ArchivedResult.{the_row}
 
 module _ (T E : RattleType) (lender : MutBor (ArchivedResult T.Denot E.Denot)) where
-  -- an Ok of the last value behind the reference, and what it was where there is none
+  -- an Ok of the last value behind the reference, and what it was where there is none.
   abbrev pub LendsOkIfAny : Option (MutBor T.Denot) → Fml
   LendsOkIfAny lent = LendsIf (the_row T E) T lender lent result.Ok lender.now
 
-  -- the same of an Err
+  -- The same of an Err.
   abbrev pub LendsErrIfAny : Option (MutBor E.Denot) → Fml
   LendsErrIfAny lent = LendsIf (the_row T E) E lender lent result.Err lender.now

@@ -15,27 +15,27 @@ use Rattle.archive_check.specs.SelfCheck.Laws.{IsCheckOf, no_more}
 use Rattle.archive_check.specs.SelfCheck.Lone.{HasOrder, none_missing, first_order, later_order, plain_order, or_parts, small_fits}
 use Rattle.archive_enum.specs.Choices.{up_first, align_low}
 
--- the variants of a result: each with one part
+-- The variants of a result: each with one part.
 abbrev pub result_variants : Shape → Shape → Variants
 result_variants X Y = variant (part X no_part) (variant (part Y no_part) no_variant)
 
--- a value, or an error
+-- A value, or an error.
 abbrev pub result_shape : Shape → Shape → Shape
 result_shape X Y = choice (codes "ArchivedResult") (result_variants X Y)
 
--- the longer of both behind the tag, rounded up to the greater alignment
+-- The longer of both behind the tag, rounded up to the greater alignment.
 abbrev pub result_layout : Layout → Layout → Layout
 result_layout L M = record { size = up (max (L.align + L.size) (M.align + M.size)) (max L.align M.align); align = max L.align M.align }
 
--- the definitions of the result's variants
+-- The definitions of the result's variants.
 abbrev pub result_definitions : Definitions → Definitions → Definitions
 result_definitions D E = both (both D no_definition) (both (both E no_definition) no_definition)
 
--- whether a result checks itself: its value and its error do, at most one of them brings definitions, and its size is below usize::MAX
+-- Whether a result checks itself: its value and its error do, at most one of them brings definitions, and its size is below usize::MAX.
 abbrev pub result_direct : Bool → Bool → Bool → Bool → ℕ → Bool
 result_direct value error value_nameless error_nameless size = ((value && error) && (value_nameless || error_nameless)) && nat_lt size 18446744073709551615
 
--- a tag that isn't 0 is 1
+-- A tag that isn't 0 is 1.
 pub result_tag : (X Y : Shape) (t : ℕ) → is_some (variant_at (result_variants X Y) t) ≡ true → (t ≡ 0 → ⊥) → t ≡ 1
 result_tag X Y zero h n = absurd (n refl)
 result_tag X Y (suc zero) h n = refl
@@ -47,7 +47,7 @@ two_aligns a b h = omega (arith, h)
 two_ends : (x y : ℕ) → 1 ≤ x → max x (max y 1) ≡ max x y
 two_ends x y h = omega (arith, h)
 
--- under all definitions that come with the value and the error
+-- Under all definitions that come with the value and the error.
 pub result_has_layout : (D E : Definitions) (X Y : Shape) (L M : Layout) → IsAlign L.align → IsAlign M.align → HasLayout D X L → HasLayout E Y M → HasLayout (both D E) (result_shape X Y) (result_layout L M)
 result_has_layout D E X Y L M is js h k = record {
   solved = λ s both_known. (
@@ -65,7 +65,7 @@ result_has_layout D E X Y L M is js h k = record {
       λ i. record { size = size i; align = align i });
 }
 
--- what is reached from the value or the error is reached from the result
+-- What is reached from the value or the error is reached from the result.
 value_mentions : (X Y : Shape) (n : Name) → Mentions n X → Mentions n (result_shape X Y)
 value_mentions X Y n m = mentions_choice (mentions_variant (mentions_first m))
 
@@ -82,7 +82,7 @@ known_in_variants D E s k = record {
   laid_out = k.laid_out;
 }
 
--- it misses no name that neither its value nor its error does
+-- It misses no name that neither its value nor its error does.
 result_root : (X Y : Shape) (order : Table) → missing true order X ≡ None → missing true order Y ≡ None → missing true order (result_shape X Y) ≡ None
 result_root X Y order e f = rw (e, f) refl
 

@@ -25,7 +25,7 @@ pub record IsPlaceOf (D : Definitions) (bytes : List ℕ) (root : ℕ) (X : Shap
   pub said : IsFor fault e
   pub leads : (s : SchemaTable) → Knows s D → FaultBy s bytes root X place.way.steps.items at fault
 
--- what is explained where a check returned this error, which isn't of memory
+-- What is explained where a check returned this error, which isn't of memory.
 pub record ExplainsError (D : Definitions) (bytes : List ℕ) (root : ℕ) (X : Shape) (e : Error) (x : Explanation) : Type 0 where
   pub other : e ≢ OutOfMemory
   pub same : x.refusal ≡ e
@@ -43,7 +43,7 @@ pub record ExplainsBuffer (D : Definitions) (bytes : List ℕ) (root : ℕ) (X :
   pub exact : IfSome answer (λ x. IsArchive D bytes root X → ⊥)
   pub placed : IfSome answer (λ x. IfSome x.place (IsPlaceOf D bytes root X x.refusal))
 
--- the same of a whole buffer by a form, its root at the end
+-- The same of a whole buffer by a form, its root at the end.
 abbrev pub ExplainsWhole : Form → List ℕ → Option Explanation → Type 0
 ExplainsWhole f bytes answer =
     (L : Layout) → HasLayout (definitions_in f.schema) (root_of f.schema) L

@@ -7,7 +7,7 @@ use Rattle.archive_check.specs.Layout.{kind_size}
 use Rattle.archive_check.specs.Reads.{bytes_at, IsLegal, with_sign, kind_value}
 use Rattle.archive_check.specs.Shape.{Sign, Kind}
 
--- the number that is told: of a bool 0 or 1, of a char its code
+-- The number that is told: of a bool 0 or 1, of a char its code.
 abbrev pub told_number : Leaf → ℤ
 told_number leaf_is.Unit = pos 0
 told_number (leaf_is.Bool false) = pos 0
@@ -16,15 +16,15 @@ told_number (leaf_is.Char code) = pos code
 told_number (leaf_is.Unsigned n) = pos n
 told_number (leaf_is.Signed z) = z
 
--- the number of a width at p, the lowest byte first
+-- The number of a width at p, the lowest byte first.
 abbrev pub number_read : Width → List ℕ → ℕ → ℕ
 number_read width bytes p = from_le_bytes width (bytes_at bytes p (byte_len width))
 
--- the same with or without a sign
+-- The same with or without a sign.
 abbrev pub integer_read : Sign → Width → List ℕ → ℕ → ℤ
 integer_read sign width bytes p = with_sign sign width (number_read width bytes p)
 
--- the bytes at p are a leaf of the kind, and this is its value
+-- The bytes at p are a leaf of the kind, and this is its value.
 pub record IsLeafRead (kind : Kind) (bytes : List ℕ) (p : ℕ) (l : Leaf) : Type 0 where
   pub legal : IsLegal kind (bytes_at bytes p (kind_size kind))
   pub told : told_number l ≡ kind_value kind (bytes_at bytes p (kind_size kind))

@@ -11,20 +11,20 @@ use Rattle.archive_check.specs.Keys.{ComesBehind}
 use Rattle.archive_check.specs.Tour.{region_of, root_pointer}
 use Rattle.archive_check.specs.Trail.{Fault, too_large, outside, unaligned, cyclic, other_type, other_length, illegal, no_such_variant, no_text, no_string, unsorted}
 
--- what a way leads to: a value of a shape, the parts behind the tag of a choice, or a text of n bytes
+-- What a way leads to: a value of a shape, the parts behind the tag of a choice, or a text of n bytes.
 pub data WayEnd : Type 0 where
   a_value : Shape → WayEnd
   a_payload : Parts → WayEnd
   a_text : ℕ → WayEnd
 
--- Y, at q, is the part of this number, from 0 on, among those laid out from an offset on, of what begins at p
+-- Y, at q, is the part of this number, from 0 on, among those laid out from an offset on, of what begins at p.
 pub data IsPartNumbered (s : SchemaTable) (p : ℕ) : ℕ → Parts → ℕ → ℕ → Shape → Type 0 where
   numbered_first : {at : ℕ} {X : Shape} {ps : Parts} → IsPartNumbered s p at (part X ps) 0 (p + up at (align_of s.layouts X)) X
   numbered_later : {at k q : ℕ} {X Y : Shape} {ps : Parts}
       → IsPartNumbered s p (up at (align_of s.layouts X) + size_of s.layouts X) ps k q Y
       → IsPartNumbered s p at (part X ps) (suc k) q Y
 
--- the X at p is this pointer: a null is none, nor is a string with its text in place
+-- The X at p is this pointer: a null is none, nor is a string with its text in place.
 pub data PointsBy (bytes : List ℕ) (p : ℕ) : Shape → Pointer → Type 0 where
   points_box : {P : Pointee} → PointsBy bytes p (boxed P) (pointer_at bytes p None P)
   points_vec : {X : Shape} → PointsBy bytes p (vec X) (pointer_at bytes p None (run X))
@@ -38,7 +38,7 @@ pub data StepsTo (s : SchemaTable) (bytes : List ℕ) (p : ℕ) : RouteStep → 
   steps_part : {k q : ℕ} {shown : Bor Name} {ps : Parts} {Y : Shape}
       → IsPartNumbered s p 0 ps k q Y
       → StepsTo s bytes p (Part k shown) (a_value (parts ps)) q (a_value Y)
-  -- to the variant that the tag names, and on to one of its parts
+  -- to the variant that the tag names, and on to one of its parts.
   steps_variant : {shown : Bor Name} {name : Name} {variants : Variants} {ps : Parts}
       → variant_at variants (slice_index bytes p) ≡ Some ps
       → StepsTo s bytes p (Variant (slice_index bytes p) shown) (a_value (choice name variants)) p (a_payload ps)
@@ -47,7 +47,7 @@ pub data StepsTo (s : SchemaTable) (bytes : List ℕ) (p : ℕ) : RouteStep → 
       → StepsTo s bytes p (Part k shown) (a_payload ps) q (a_value Y)
   steps_only : {q : ℕ} {X Y : Shape} → IsPartNumbered s p 1 (part X no_part) 0 q Y → StepsTo s bytes p Only (a_payload (part X no_part)) q (a_value Y)
   steps_array : {n k : ℕ} {Y : Shape} → k < n → StepsTo s bytes p (Element k) (a_value (array n Y)) (p + k * size_of s.layouts Y) (a_value Y)
-  -- to an element of those that a pointer leads to, to the only value, or to the text
+  -- to an element of those that a pointer leads to, to the only value, or to the text.
   steps_element : {t k : ℕ} {X Y : Shape} {P : Pointer}
       → PointsBy bytes p X P
       → P.target ≡ pos t
@@ -64,7 +64,7 @@ pub data StepsTo (s : SchemaTable) (bytes : List ℕ) (p : ℕ) : RouteStep → 
       → P.target ≡ pos t
       → P.pointee ≡ text
       → StepsTo s bytes p TextStep (a_value X) t (a_text P.length)
-  -- to the key of an entry, and to its value
+  -- to the key of an entry, and to its value.
   steps_key : {t k : ℕ} {K : Key} {V : Shape}
       → (map_at bytes p K V).target ≡ pos t
       → k < u32_at bytes (p + 4)
@@ -75,7 +75,7 @@ pub data StepsTo (s : SchemaTable) (bytes : List ℕ) (p : ℕ) : RouteStep → 
       → StepsTo s bytes p (ValueStep k) (a_value (sorted_map K V))
       (t + k * size_of s.layouts (entry_of K V) + up (size_of s.layouts (key_shape K)) (align_of s.layouts V)) (a_value V)
 
--- the steps lead from the X at root to what lies at the position; what a name stands for lies where the name does
+-- The steps lead from the X at root to what lies at the position; what a name stands for lies where the name does.
 pub data LeadsBy (s : SchemaTable) (bytes : List ℕ) (root : ℕ) (X : Shape) : List RouteStep → ℕ → WayEnd → Type 0 where
   leads_root : LeadsBy s bytes root X [] root (a_value X)
   leads_named : {steps : List RouteStep} {p : ℕ} {name : Name} {Y : Shape}
@@ -95,13 +95,13 @@ pub data RegionFails (s : SchemaTable) (P : Pointer) : Fault → Type 0 where
       → RegionFails s P (outside P.target (region_of s P 0).size start stop)
   fails_align : {t : ℕ} → P.target ≡ pos t → t % (region_of s P t).align ≢ 0 → RegionFails s P (unaligned t (region_of s P t).align)
 
--- what may be wrong with a shared position; the trail says how it was met before
+-- What may be wrong with a shared position; the trail says how it was met before.
 pub data SharingFails (flavor : Flavor) : Fault → Type 0 where
   fails_type : SharingFails flavor other_type
   fails_length : SharingFails flavor other_length
   fails_cycle : flavor.cycles ≡ false → SharingFails flavor cyclic
 
--- a test of what lies at p is false, which is the fault
+-- A test of what lies at p is false, which is the fault.
 pub data FailsAt (s : SchemaTable) (bytes : List ℕ) (p : ℕ) : WayEnd → Fault → Type 0 where
   fails_leaf : {kind : Kind} → (IsLegal kind (bytes_at bytes p (kind_size kind)) → ⊥) → FailsAt s bytes p (a_value (leaf kind)) (illegal kind)
   fails_tag : {name : Name} {variants : Variants}

@@ -35,8 +35,8 @@ pub struct Form {
 }
 
 impl Form {
-    /// The form of an expression, with definitions of the names in it, of which the first of each
-    /// name counts. Parts and variants have numbers for names. Memory comes from `alloc`.
+    /// The form of an expression, with definitions of its names. The first definition of each name
+    /// counts. Parts and variants have numbers for names. Memory comes from `alloc`.
     ///
     /// Errors:
     /// - `OutOfMemory`: memory is refused.

@@ -8,10 +8,9 @@ use std::fmt;
 /// A step from a value to one within it.
 #[derive(Clone, Copy)]
 pub enum RouteStep {
-    /// To a part of a record or a variant, by its number and its name, which is empty if none is
-    /// known.
+    /// To a part of a record or a variant, by its number and its name, if it is known, or `""`.
     Part(usize, &'static str),
-    /// To the parts of the variant, by its tag and its name, which is empty if none is known.
+    /// To the parts of the variant, by its tag and its name, if it is known, or `""`.
     Variant(u8, &'static str),
     /// From there to the only part, which has no name: nothing is written of it.
     Only,

@@ -24,11 +24,11 @@ use Rattle.archive_check.specs.Shape.{Sign, unsigned, signed, unit, bool, char, 
 use Rattle.archive_check.specs.Reads.{IsLegal, kind_number, kind_value}
 use Rattle.archive_check.proofs.LittleEndian.{bytes_cons, length-little_bytes, from_le_bytes-little, little_number-little_bytes, little_bytes-little_number, little_number-lt, pow_bits}
 
--- an unsigned number of width w comes back
+-- an unsigned number of width w comes back.
 pub unsigned-number : (w : Width) (x : ℕ) → x < 2 ^ bits w → little_number (little_bytes (byte_len w) x) ≡ x
 unsigned-number w x h = little_number-little_bytes (byte_len w) x (rw (pow_bits w) h)
 
--- and so do its bytes
+-- And so do its bytes.
 pub unsigned-reads : (w : Width) (bs : List ℕ) → length bs ≡ byte_len w → AreBytes bs → little_bytes (byte_len w) (little_number bs) ≡ bs
 unsigned-reads w bs e h = ap (λ (n : ℕ). little_bytes n (little_number bs)) (sym e) ∙ little_bytes-little_number bs h
 
@@ -44,13 +44,13 @@ cast_unsigned-lt w64 (negsuc n) h = let s = h.sfits in omega arith
 cast_unsigned-lt w128 (pos n) h = let s = h.sfits in omega arith
 cast_unsigned-lt w128 (negsuc n) h = let s = h.sfits in omega arith
 
--- a signed number of width w comes back
+-- A signed number of width w comes back.
 pub signed-number : (w : Width) (x : ℤ) → FitsSigned w x → cast_signed w (little_number (little_bytes (byte_len w) (cast_unsigned w x))) ≡ x
 signed-number w x h =
     let fits : cast_unsigned w x < 2 ^ bits w = cast_unsigned-lt w x h in
     ap (cast_signed w) (unsigned-number w (cast_unsigned w x) fits) ∙ to_z-of_z w x h
 
--- and so do its bytes
+-- And so do its bytes.
 pub signed-reads : (w : Width) (bs : List ℕ) → length bs ≡ byte_len w → AreBytes bs → little_bytes (byte_len w) (cast_unsigned w (cast_signed w (little_number bs))) ≡ bs
 signed-reads w bs e h =
     let fits : little_number bs < 2 ^ bits w = rw (← pow_bits w, ← e) (little_number-lt bs h) in
@@ -59,17 +59,17 @@ signed-reads w bs e h =
 scalar_below : (x : ℕ) → IsScalar x → x < 2 ^ 32
 scalar_below x h = grind (arith, nat_tests, scalar)
 
--- a scalar value comes back
+-- A scalar value comes back.
 pub char-number : (x : ℕ) → IsScalar x → little_number (little_bytes 4 x) ≡ x
 char-number x h = unsigned-number w32 x (scalar_below x h)
 
--- and its bytes are those of one
+-- And its bytes are those of one.
 pub char-legal : (x : ℕ) → IsScalar x → IsScalar (little_number (little_bytes 4 x))
 char-legal x h = rw (char-number x h) h
 
 -- leaves of the definitions
 
--- any bytes are a number
+-- Any bytes are a number.
 pub number-leaf : (sign : Sign) (w : Width) (bs : List ℕ) → length bs ≡ byte_len w → IsLegal (number sign w) bs
 number-leaf sign w bs e = record { size = e; number = tt }
 

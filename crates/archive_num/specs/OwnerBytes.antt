@@ -9,6 +9,6 @@ abbrev pub owner_bytes : Bool → ℤ → ℕ → List ℕ
 owner_bytes false offset n = to_le_bytes w32 (cast_unsigned w32 offset)
 owner_bytes true offset n = to_le_bytes w32 (cast_unsigned w32 offset) ++ to_le_bytes w32 n
 
--- what hinders a pointer of this size at p to n elements or bytes at t: there are too many, it would end too far behind, or its offset doesn't fit
+-- What hinders a pointer of this size at p to n elements or bytes at t: there are too many, it would end too far behind, or its offset doesn't fit.
 abbrev pub HindersPointerAt : ℕ → ℕ → ℕ → ℕ → Error → Type 0
 HindersPointerAt n size p t e = ((e ≡ LengthTooLarge) × (4294967295 < n)) ⊎ ((e ≡ LayoutTooLarge) × (2 ^ 64 ≤ p + size)) ⊎ IsTooFar e (distance p t)

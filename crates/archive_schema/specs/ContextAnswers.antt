@@ -11,6 +11,6 @@ use Rattle.archive_check.specs.Archives.{Answers}
 use Rattle.archive_check.specs.context.FreshContexts.{IsWholeIn}
 
 module _ {C : Type 0} (D : Definitions) (X : Shape) (k : Context.Ghosts C) (c : Both (MutBor C) (MutBor C)) where
-  -- in a fresh context for these bytes: the result, with the root at p
+  -- In a fresh context for these bytes: the result, with the root at p.
   abbrev pub AnswersIn : List ℕ → ℕ → Result (Unit {0}) Error → Type 0
   AnswersIn bytes p result = IsWholeIn k c.entry.now bytes → Answers D bytes (k.state c.entry.now).depth p X result

@@ -23,11 +23,11 @@ pub record IsSchemaAmong (s : RustSchema) (given : Table) (X : Shape) : Type 0 w
   pub root : root_of s ≡ X
   pub known : (name : Name) (Y : Shape) → Contains (listed (definitions_in s)) (name, Y) → definition given name ≡ Some Y
 
--- a position is the one where the root lies in a buffer of this length
+-- A position is the one where the root lies in a buffer of this length.
 abbrev pub LiesAtEnd : RustSchema → ℕ → ℕ → Type 0
 LiesAtEnd s len root = (L : Layout) → HasLayout (definitions_in s) (root_of s) L → root ≡ len - L.size
 
--- the result of a check of a whole buffer, whose root lies at the end, with no limit of depth
+-- The result of a check of a whole buffer, whose root lies at the end, with no limit of depth.
 abbrev pub AnswersWhole : RustSchema → List ℕ → Result (Unit {0}) Error → Type 0
 AnswersWhole s bytes answer =
     (L : Layout) → HasLayout (definitions_in s) (root_of s) L → Answers (definitions_in s) bytes None (root_in bytes L) (root_of s) answer

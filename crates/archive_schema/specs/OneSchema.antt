@@ -9,12 +9,12 @@ use Rattle.archive_check.specs.Defined.{AllDefined, WellFormed}
 use Rattle.archive_check.specs.Definitions.{Definitions, listed}
 use Rattle.archive_schema.specs.Schemas.{IsSchemaOf}
 
--- what can't differ is the same, since a test tells shapes apart
+-- What can't differ is the same, since a test tells shapes apart.
 same_by : (x y : Shape) (b : Bool) → same_shape x y ≡ b → ((x ≡ y → ⊥) → ⊥) → x ≡ y
 same_by x y true e h = (same_shape-Decides x y).0 e
 same_by x y false e h = absurd (h (λ p. true≢false (sym ((same_shape-Decides x y).1 p) ∙ e)))
 
--- so two shapes are the same in one way at most
+-- So two shapes are the same in one way at most.
 pub Shape-set : IsSet Shape
 Shape-set = Stable-paths→set (λ x y h. same_by x y (same_shape x y) refl h)
 

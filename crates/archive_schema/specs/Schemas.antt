@@ -9,20 +9,20 @@ use Rattle.archive_check.specs.Defined.{Reaches, WellFormed}
 use Rattle.archive_check.specs.Definitions.{Definitions, no_definition, defines, both, listed, Knows}
 use Rattle.archive_check.specs.Reads.{SchemaTable}
 
--- the shape of its root
+-- The shape of its root.
 abbrev pub root_of : RustSchema → Shape
 root_of s = shape_of s.root
 
--- the definitions that a table lists
+-- The definitions that a table lists.
 abbrev pub defined_by : Table → Definitions
 defined_by [] = no_definition
 defined_by (d ∷ ds) = both (defines d.0 d.1) (defined_by ds)
 
--- those that the schema keeps
+-- Those that the schema keeps.
 abbrev pub definitions_in : RustSchema → Definitions
 definitions_in s = defined_by (entries_of s.definitions.items)
 
--- they give the root a meaning, and some schema knows them
+-- They give the root a meaning, and some schema knows them.
 pub record HasMeaning (s : RustSchema) : Type 0 where
   pub well_formed : WellFormed (listed (definitions_in s)) (root_of s)
   pub known : ∥ ((t : SchemaTable) × Knows t (definitions_in s)) ∥₁
@@ -34,6 +34,6 @@ pub record IsSchemaOf (s : RustSchema) (X : Shape) (D : Definitions) : Type 0 wh
   pub has : (name : Name) (Y : Shape) → Reaches (listed D) name X → definition (listed D) name ≡ Some Y → definition (listed (definitions_in s)) name ≡ Some Y
   pub well_formed : WellFormed (listed D) X
 
--- a layout of the program, as one of the definitions
+-- A layout of the program, as one of the definitions.
 abbrev pub layout_of : RustLayout → Layout
 layout_of l = record { size = l.size; align = l.align }

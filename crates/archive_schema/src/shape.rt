@@ -26,8 +26,8 @@ use std::alloc::Global;
 mod given;
 mod layouts;
 
-/// An expression with the definitions of the names that it reaches, compiled once to check any
-/// number of buffers. `Access` keeps one for types that need it.
+/// An expression with its definitions, compiled once to check any number of buffers. `Access` keeps
+/// one for types that need it.
 ///
 /// ```
 /// let schema = Schema::of::<ArchivedVec<ArchivedU32>>(alloc)?;
@@ -116,9 +116,9 @@ impl Schema {
     }
 
     /// Checks that `bytes` hold a value of the schema at `pos`. The caller must ensure that the
-    /// context's range ends in the buffer. Exact in a fresh context for these bytes. In any context
-    /// at most one region is entered, and one for each four bytes of its range; levels left before
-    /// a success are left after it.
+    /// context's range ends in the buffer. Exact in a fresh context. In any context at most one
+    /// region is entered, and one for each four bytes of its range; levels left before a success
+    /// are left after it.
     ///
     /// Errors:
     /// - `OutOfMemory`: memory is refused.

@@ -163,11 +163,11 @@ pub record HindersAt (D : Definitions) (X : Shape) (flat : Value) (p : ℕ) (e :
   pub named : IsOwnCause e
   pub cause : (s : SchemaTable) → Knows s D → (o : ℕ) × (Y : Shape) × (w : Value) × ValuePart s X flat o Y w × HindersPartAt Y (p + o) w e
 
--- and of its own region there: its end is above `usize::MAX`, too
+-- And of its own region there: its end is above `usize::MAX`, too.
 abbrev pub HindersRegionAt : Definitions → Shape → Layout → Value → ℕ → Error → Type 0
 HindersRegionAt D X L flat p e = ((e ≡ LayoutTooLarge) × (2 ^ 64 ≤ p + L.size)) ⊎ HindersAt D X flat p e
 
--- the plan goes on to n at least
+-- The plan goes on to n at least.
 abbrev pub PlanReaches : Definitions → Shape → List Naming → Value → Cursor → ℕ → Type 0
 PlanReaches D X keys v a n = Foreseen D keys a (λ s names. ValuePlan s names X v a (λ flat C b. n ≤ b.position))
 
@@ -175,7 +175,7 @@ PlanReaches D X keys v a n = Foreseen D keys a (λ s names. ValuePlan s names X 
 abbrev pub RegionReaches : Definitions → Pointee → ℕ → List Naming → Value → Cursor → ℕ → Type 0
 RegionReaches D P n keys v a m = Foreseen D keys a (λ s names. RegionPlan s names P n v a (λ t C b. m ≤ b.position))
 
--- why what v owns, as an X, wasn't written
+-- Why what v owns, as an X, wasn't written.
 abbrev pub IsRefused : Definitions → Shape → List Naming → Value → WriterState → WriterState → Error → Type 0
 IsRefused D X keys v old new = Explains (Hinders D X keys v (cursor old)) (PlanReaches D X keys v (cursor old)) old new
 

@@ -15,7 +15,7 @@ use Rattle.std.specs.Hash as fed
 use Rattle.std.specs.declared.cmp.Ordering.{Ordering}
 use Rattle.std.specs.declared.cmp.Ordering.TheVariants.{Less, Equal, Greater}
 
--- a part of a buffer: the whole buffer, the position, the length
+-- A part of a buffer: the whole buffer, the position, the length.
 pub record Standing : Type 0 where
   pub bytes : List ℕ
   pub pos : ℕ
@@ -24,72 +24,72 @@ pub record Standing : Type 0 where
 abbrev pub standing : List ℕ → ℕ → ℕ → Standing
 standing bytes pos len = record { bytes = bytes; pos = pos; len = len }
 
--- n elements of z bytes at p, from the element i on
+-- n elements of z bytes at p, from the element i on.
 abbrev pub elements_from : List ℕ → ℕ → ℕ → ℕ → ℕ → List Standing
 elements_from bytes p z i zero = []
 elements_from bytes p z i (suc n) = standing bytes (p + i * z) 0 ∷ elements_from bytes p z (i + 1) n
 
--- the elements of a slice
+-- The elements of a slice.
 abbrev pub elements : ℕ → Standing → List Standing
 elements z v = elements_from v.bytes v.pos z 0 v.len
 
--- what feeds a hasher alike where two are equal does so where the order tells neither apart
+-- What feeds a hasher alike where two are equal does so where the order tells neither apart.
 pub level_fed : {K X : Type 0} {E : K → K → Bool} (R : K → K → Ordering) (feed : K → X) → ((x y : K) → E x y ≡ eq_by_cmp R x y) → ((x y : K) → IsTrue (E x y) → feed x ≡ feed y)
     → (x y : K) → IsTrue (eq_by_cmp R x y) → feed x ≡ feed y
 level_fed R feed ties alike x y h = alike x y (rw (ties x y) h)
 
--- texts of the same bytes feed a hasher alike
+-- Texts of the same bytes feed a hasher alike.
 pub text_fed : (xs ys : List ℕ) → IsTrue (eq_by_cmp (slice_cmp nat_cmp) xs ys) → fed.str xs ≡ fed.str ys
 text_fed xs ys h = ap fed.str ((bytes_decides xs ys).0 (texts_ties xs ys ∙ h))
 
--- the slices' order: the first elements that differ decide, and else the lengths
+-- The slices' order: the first elements that differ decide, and else the lengths.
 abbrev pub slices : ℕ → (Standing → Standing → Ordering) → Standing → Standing → Ordering
 slices z R = on (elements z) (slice_cmp R)
 
--- the order of what is left of two slices from the element i on
+-- The order of what is left of two slices from the element i on.
 abbrev pub slices_from : ℕ → (Standing → Standing → Ordering) → ℕ → Standing → Standing → Ordering
 slices_from z R i x y = slice_cmp R (elements_from x.bytes x.pos z i (x.len - i)) (elements_from y.bytes y.pos z i (y.len - i))
 
--- parts whose first n bytes are the same are level; of no bytes it says nothing
+-- Parts whose first n bytes are the same are level; of no bytes it says nothing.
 abbrev pub AreLevelBy : ℕ → (Standing → Standing → Ordering) → Type 0
 AreLevelBy zero R = ⊤
 AreLevelBy (suc n) R = (x y : Standing) → bytes_at x.bytes x.pos (suc n) ≡ bytes_at y.bytes y.pos (suc n) → R x y ≡ Equal
 
--- so are values that lie in n bytes
+-- So are values that lie in n bytes.
 pub level_values : {X : Type 0} (number_of : List ℕ → X) (R : X → X → Ordering) (n : ℕ) → IsTotalOrder R → AreLevelBy n (on (λ v. number_of (bytes_at v.bytes v.pos n)) R)
 level_values number_of R zero o = tt
 level_values number_of R (suc n) o = λ x y e. ap (λ bs. R (number_of bs) (number_of (bytes_at y.bytes y.pos (suc n)))) e ∙ tied_itself o _
 
--- n bytes are the same from x on in the one buffer and from y on in the other
+-- n bytes are the same from x on in the one buffer and from y on in the other.
 abbrev pub AreSameBytes : ℕ → List ℕ → ℕ → List ℕ → ℕ → Type 0
 AreSameBytes n a x b y = bytes_at a x n ≡ bytes_at b y n
 
--- so are n bytes of two parts, from the byte i of each on
+-- So are n bytes of two parts, from the byte i of each on.
 abbrev pub AreSameFrom : ℕ → ℕ → Standing → Standing → Type 0
 AreSameFrom i n x y = AreSameBytes n x.bytes (x.pos + i) y.bytes (y.pos + i)
 
--- two slices are in the order of what is left of them from the element i on, and of what is left from j on
+-- Two slices are in the order of what is left of them from the element i on, and of what is left from j on.
 abbrev pub AreLevelBetween : ℕ → (Standing → Standing → Ordering) → ℕ → ℕ → Standing → Standing → Type 0
 AreLevelBetween z R i j x y = slices_from z R i x y ≡ slices_from z R j x y
 
 pub slices_total : (z : ℕ) {R : Standing → Standing → Ordering} → IsTotalOrder R → IsTotalOrder (slices z R)
 slices_total z o = on_total (elements z) (lists_total o)
 
--- slices of which the order tells neither apart feed a hasher alike, where their elements do
+-- Slices of which the order tells neither apart feed a hasher alike, where their elements do.
 pub slices_fed : (z : ℕ) (R : Standing → Standing → Ordering) (feed : Standing → List (List ℕ)) → ((x y : Standing) → IsTrue (eq_by_cmp R x y) → feed x ≡ feed y)
     → (x y : Standing) → IsTrue (eq_by_cmp (slices z R) x y) → fed.slice feed (elements z x) ≡ fed.slice feed (elements z y)
 slices_fed z R feed alike x y h =
     (items_Alike (record { fed = alike })).fed (elements z x) (elements z y) (lists_ties R (λ x y. refl) (elements z x) (elements z y) ∙ h)
 
--- what the pointer of a box or a shared pointer leads to
+-- What the pointer of a box or a shared pointer leads to.
 abbrev pub pointee_at : Pointee → Standing → Standing
 pointee_at P v = standing v.bytes (target_from v.bytes v.pos v.pos) (length_at v.bytes v.pos P)
 
--- the slice of a vector
+-- The slice of a vector.
 abbrev pub slice_of : Standing → Standing
 slice_of v = standing v.bytes (target_from v.bytes v.pos v.pos) (u32_at v.bytes (v.pos + 4))
 
--- the value of an option, where it has one
+-- The value of an option, where it has one.
 abbrev pub value_of : ℕ → Standing → Option Standing
 value_of align v = if slice_index v.bytes v.pos == 0 then None else Some (standing v.bytes (v.pos + align) 0)
 
@@ -100,22 +100,22 @@ option_fed R feed alike None (Some y) h = absurd (true≢false (sym h))
 option_fed R feed alike (Some x) None h = absurd (true≢false (sym h))
 option_fed R feed alike (Some x) (Some y) h = ap (λ us. fed.isize (whole 1) ++ us) (alike x y h)
 
--- a number is compared to u as to one that equals u
+-- A number is compared to u as to one that equals u.
 pub number_alike : {X : Type 0} {R : X → X → Ordering} → IsTotalOrder R → (x y u : X) → is_eq (R x u) ≡ true → R y x ≡ R y u
 number_alike {R = R} o x y u h = alike_right o x u y ((Equal-is (R x u)).0 h)
 
--- the order of an option and one of other values: `None` is less than `Some`
+-- The order of an option and one of other values: `None` is less than `Some`.
 abbrev pub option_order : {U : Type 0} → (Standing → U → Ordering) → Option Standing → Option U → Ordering
 option_order R None None = Equal
 option_order R None (Some u) = Less
 option_order R (Some v) None = Greater
 option_order R (Some v) (Some u) = R v u
 
--- the value or the error of a result
+-- The value or the error of a result.
 abbrev pub result_in : ℕ → ℕ → Standing → Result Standing Standing
 result_in align error_align v = if slice_index v.bytes v.pos == 0 then Ok (standing v.bytes (v.pos + align) 0) else Err (standing v.bytes (v.pos + error_align) 0)
 
--- the order of a result and one of other values: `Ok` is less than `Err`
+-- The order of a result and one of other values: `Ok` is less than `Err`.
 abbrev pub result_order : {U W : Type 0} → (Standing → U → Ordering) → (Standing → W → Ordering) → Result Standing Standing → Result U W → Ordering
 result_order R S (Ok v) (Ok u) = R v u
 result_order R S (Ok v) (Err u) = Less

@@ -15,50 +15,50 @@ use Rattle.archive_types.specs.Writing.{Resolves}
 use Rattle.archive_types.specs.Plans.{Serialized}
 use Rattle.archive_types.specs.Runs.{each_meaning}
 
--- the bytes of values, one behind another
+-- The bytes of values, one behind another.
 abbrev pub each_bytes : {A : Type 0} → (A → List ℕ) → List A → List ℕ
 each_bytes b [] = []
 each_bytes b (x ∷ xs) = b x ++ each_bytes b xs
 
--- arrays of n bytes, `more` of them above 1,024, are written in bulk as their elements are, if n isn't 0 and `more` is
+-- Arrays of n bytes, `more` of them above 1,024, are written in bulk as their elements are, if n isn't 0 and `more` is.
 abbrev pub small_in_bulk : {A : Type 0} → ℕ → ℕ → Option (A → List ℕ) → Option (List A → List ℕ)
 small_in_bulk zero more b = None
 small_in_bulk (suc n) (suc more) b = None
 small_in_bulk (suc n) zero None = None
 small_in_bulk (suc n) zero (Some b) = Some (each_bytes b)
 
--- so arrays of 1 to 1,024 bytes are
+-- So arrays of 1 to 1,024 bytes are.
 abbrev pub array_in_bulk : {A : Type 0} → ℕ → Option (A → List ℕ) → Option (List A → List ℕ)
 array_in_bulk n b = small_in_bulk n (n - 1024) b
 
--- these n bytes read as the value wherever they lie
+-- These n bytes read as the value wherever they lie.
 pub record IsCopied (D : Definitions) (X : Shape) (size : ℕ) (v : Value) (bytes : List ℕ) : Type 0 where
   pub sized : length bytes ≡ size
   pub resolved : (p : ℕ) → Resolves D p bytes X v
 
--- those of each of the values do
+-- Those of each of the values do.
 abbrev pub EachCopied : {A : Type 0} → Definitions → Shape → ℕ → (A → Value) → (A → List ℕ) → List A → Type 0
 EachCopied D X size m b [] = Unit {0}
 EachCopied D X size m b (x ∷ xs) = IsCopied D X size (m x) (b x) × EachCopied D X size m b xs
 
--- a value owns nothing: its serialization writes nothing, and it reads as it is
+-- A value owns nothing: its serialization writes nothing, and it reads as it is.
 abbrev pub OwnsNothing : Definitions → Shape → List Naming → Value → Type 0
 OwnsNothing D X keys v = (w : WriterState) → Serialized D X keys v v w w
 
--- each of the values does
+-- Each of the values does.
 abbrev pub EachOwnsNothing : {A : Type 0} → Definitions → Shape → (A → List Naming) → (A → Value) → List A → Type 0
 EachOwnsNothing D X k m [] = Unit {0}
 EachOwnsNothing D X k m (x ∷ xs) = OwnsNothing D X (k x) (m x) × EachOwnsNothing D X k m xs
 
--- where values stand that are copied behind n bytes: at the next multiple of their alignment
+-- Where values stand that are copied behind n bytes: at the next multiple of their alignment.
 abbrev pub copies_from : Layout → ℕ → ℕ
 copies_from L n = n + padding L.align n
 
--- where n of them end
+-- Where n of them end.
 abbrev pub copies_to : Layout → ℕ → ℕ → ℕ
 copies_to L count n = copies_from L n + count * L.size
 
--- behind the old bytes come zeros up to the values' alignment, and then these
+-- Behind the old bytes come zeros up to the values' alignment, and then these.
 abbrev pub behind_zeros : Layout → List ℕ → List ℕ → List ℕ
 behind_zeros L old bytes = (old ++ replicate (padding L.align (length old)) 0) ++ bytes
 

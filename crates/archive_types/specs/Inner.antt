@@ -16,13 +16,13 @@ use Rattle.archive_types.specs.Causes.{IsRefused}
 pub record IsBoxed (D : Definitions) (X : Shape) (keys : List Naming) (v flat : Value) (t : ℕ) (mid new : WriterState) : Type 0 where
   pub since : (old : WriterState) → GoesOn old mid → Serialized D X keys v flat old mid → Serialized D (boxed (one X)) keys (box v) (box (hole (to_pointee t (one X) 0))) old new
 
--- its region was put at t, behind zeros
+-- Its region was put at t, behind zeros.
 pub record IsPutAt (D : Definitions) (X : Shape) (L : Layout) (flat : Value) (t : ℕ) (mid new : WriterState) : Type 0 where
   pub low : WriterState
   pub pads : Pads L.align mid low
   pub at : t ≡ length low.bytes
   pub puts : Puts D low new X L flat
 
--- and why a box of it isn't serialized
+-- And why a box of it isn't serialized.
 pub record IsNotBoxed (D : Definitions) (X : Shape) (keys : List Naming) (v flat : Value) (mid new : WriterState) (e : Error) : Type 0 where
   pub since : (old : WriterState) → GoesOn old mid → Serialized D X keys v flat old mid → IsRefused D (boxed (one X)) keys (box v) old new e

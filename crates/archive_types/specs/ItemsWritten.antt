@@ -20,11 +20,11 @@ use Rattle.archive_types.specs.Runs.{each_keys, each_meaning}
 use Rattle.archive_types.specs.Writing.{Puts, vec_flat}
 use Rattle.archive_types.specs.declared.traits.Archive as Archive
 
--- each of the pointers is shared
+-- Each of the pointers is shared.
 abbrev pub AllShared : List Pointer → Type 0
 AllShared ps = (p : Pointer) → Contains ps p → (flavor : Flavor) × (p.sharing ≡ Some flavor)
 
--- no item has a pointer to a region of its own
+-- No item has a pointer to a region of its own.
 abbrev pub OwnNoRegion : {A R : Type 0} → (A → R → Value) → (A → R → Type 0) → List A → Type 0
 OwnNoRegion {A = A} {R = R} f b xs = (x : A) → Contains xs x → (r : R) → b x r → AllShared (pointers (f x r))
 
@@ -45,12 +45,12 @@ module _ {A R : Type 0} (D : Definitions) (X : Shape) (L : Layout) (k : A → Li
     not_resolved : {r : R} {mid : WriterState} {e : Error} → Serialized D X (k x) (m x) (f x r) old mid → mid.bytes ≡ old.bytes
         → Explains (HindersRegionAt D X L (f x r) (length mid.bytes)) (λ n. n ≤ length mid.bytes + L.size) mid new e → ItemRefused x old new e
 
-  -- items were written one behind another
+  -- Items were written one behind another.
   pub data ItemsWritten : List A → WriterState → WriterState → Type 0 where
     no_item : {w : WriterState} → ItemsWritten [] w w
     one_item : {x : A} {xs : List A} {old mid new : WriterState} → ItemWritten x old mid → ItemsWritten xs mid new → ItemsWritten (x ∷ xs) old new
 
-  -- and the first one at t, the next multiple of their alignment
+  -- And the first one at t, the next multiple of their alignment.
   pub record ItemsLaid (xs : List A) (t : ℕ) (old new : WriterState) : Type 0 where
     pub low : WriterState
     pub pads : Pads L.align old low
@@ -65,7 +65,7 @@ module _ {A R : Type 0} (D : Definitions) (X : Shape) (L : Layout) (k : A → Li
     too_many : (xs : List A) (x : A) (t : ℕ) → came (xs ++ x ∷ []) → ItemsLaid xs t old new → 4294967295 ≤ length xs → ItemsRefused came old new LengthTooLarge
     one_refused : {e : Error} (xs : List A) (x : A) (t : ℕ) (mid : WriterState) → came (xs ++ x ∷ []) → ItemsLaid xs t old mid → ItemRefused x mid new e → ItemsRefused came old new e
 
--- the same of an item of a source's type, and of the items of an iterator, which came to an end
+-- The same of an item of a source's type, and of the items of an iterator, which came to an end.
 abbrev pub ItemPut : {T A R M C S : Type 0} → Archive.Ghosts T A R C M → FormatOf M → T → Keys.Ghosts S → Both (MutBor S) (MutBor S) → Type 0
 ItemPut a f x k w = ItemWritten f.definitions f.shape f.layout a.keys a.meaning a.flat a.belongs x (k.state w.entry.now) (k.state w.exit.now)
 

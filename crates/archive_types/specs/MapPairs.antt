@@ -3,7 +3,7 @@ use Rattle.std.specs.Prelude.{List, [], ◌++◌}
 use Rattle.archive_check.specs.Value.{Value, product, no_value, value}
 use Rattle.archive_check.specs.Denotes.{Naming}
 
--- a pair means the product of what its parts mean
+-- A pair means the product of what its parts mean.
 abbrev pub pair_meaning : {A B : Type 0} → (A → Value) → (B → Value) → A × B → Value
 pair_meaning m n e = product (value (m e.0) (value (n e.1) no_value))
 

@@ -30,7 +30,7 @@ pub record ResolvesTo {A : Type 0} (D : Definitions) (X : Shape) (flat : Value) 
   pub refused : IfErr result (HindersAt D X flat p)
   pub same_length : length new ≡ length old
 
--- in a place, and in bytes that are to stand at p
+-- In a place, and in bytes that are to stand at p.
 abbrev pub ResolvesAs : {F M R A : Type 0} → FormatOf M → Both (Place F) (MutBor (List ℕ) × R) → Value → Result A Error → Type 0
 ResolvesAs f place flat result = ResolvesTo f.definitions f.shape flat place.entry.pos place.entry.bytes.now place.exit.0.now result
 
@@ -56,7 +56,7 @@ pub record SerializesTo {R : Type 0} (D : Definitions) (X : Shape) (keys : List 
   pub goes_on : GoesOn old new
   pub refused : IfErr result (IsRefused D X keys v old new)
 
--- of what is named and means so, and is read as `flat`
+-- Of what is named and means so, and is read as `flat`.
 abbrev pub SerializesAs : {R M S : Type 0} → FormatOf M → List Naming → Value → (R → Value) → (R → Type 0) → Keys.Ghosts S → Both (MutBor S) (MutBor S) → Result R Error → Type 0
 SerializesAs f keys v flat belongs k w result =
     SerializesTo f.definitions f.shape keys v flat belongs (k.state w.entry.now) (k.state w.exit.now) result
@@ -103,7 +103,7 @@ pub record PutsRegion {M W : Type 0} (f : FormatOf M) (flat : Value) (k : Keys.G
   pub goes_on : GoesOn (k.state w.entry.now) (k.state w.exit.now)
   pub keys : KeepsKeys (k.state w.entry.now).states (k.state w.exit.now).states
 
--- the same of elements
+-- The same of elements.
 pub record PutsElements {M T R W A : Type 0} (f : FormatOf M) (flat : T → R → Value) (xs : List T) (rs : List R) (k : Keys.Ghosts W) (w : Both (MutBor W) (MutBor W)) (result : Result A Error) : Type 0 where
   pub put : OnOk result (PutsRun f.definitions (k.state w.entry.now) (k.state w.exit.now) f.shape f.layout (length xs) (each_flat flat xs rs))
   pub refused : IfErr result (Explains (HindersRunAt f.definitions f.shape f.layout (length xs) (each_flat flat xs rs) (length (k.state w.entry.now).bytes))

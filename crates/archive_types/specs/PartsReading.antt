@@ -38,6 +38,6 @@ pub data PartsCyclic (bytes : List ℕ) (q : ℕ) : Definitions → Parts → �
       → PartsCyclic bytes q E ps (up at L.align + L.size) mid
       → PartsCyclic bytes q (both D E) (part X ps) at old
 
--- why they weren't read: memory was refused, or one of them meets an open position
+-- Why they weren't read: memory was refused, or one of them meets an open position.
 abbrev pub RefusesParts : Definitions → List ℕ → ℕ → Parts → ℕ → Entries → Error → Type 0
 RefusesParts D bytes q ps at told e = (e ≡ OutOfMemory) ⊎ ((e ≡ CyclicDeserialize) × PartsCyclic bytes q D ps at told)

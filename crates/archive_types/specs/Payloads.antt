@@ -3,7 +3,7 @@ use Rattle.std.specs.Prelude.{ℕ, Option, None}
 use Rattle.archive_check.specs.Value.{Value, case}
 use Rattle.archive_types.specs.Views.{value_at}
 
--- the part with this index, of the variant
+-- The part with this index, of the variant.
 abbrev pub payload_in : ℕ → Value → Option Value
 payload_in i (case tag vs) = value_at i vs
 payload_in i _ = None

@@ -31,7 +31,7 @@ unshared w = record w { states = no_keys }
 abbrev pub at_start : Cursor
 at_start = record { position = 0; states = no_keys }
 
--- the writer stands there
+-- The writer stands there.
 pub record StandsAt (c : Cursor) (w : WriterState) : Type 0 where
   pub position : length w.bytes ≡ c.position
   pub keys : (k : ℕ) → w.states k ≡ c.states k
@@ -152,7 +152,7 @@ mutual
 abbrev pub Whatever : Definitions → List Naming → (SchemaTable → NameMap → Type 0) → Type 0
 Whatever D keys f = (s : SchemaTable) (names : NameMap) → Knows s D → AreNamed names keys → f s names
 
--- a plan of what v owns, as an X, of which this holds
+-- A plan of what v owns, as an X, of which this holds.
 pub record ValuePlan (s : SchemaTable) (names : NameMap) (X : Shape) (v : Value) (a : Cursor) (holds : Value → List Step → Cursor → Type 0) : Type 0 where
   pub flat : Value
   pub steps : List Step
@@ -176,7 +176,7 @@ AreBelow c = (k t : ℕ) → c.states k ≡ Some (Some t) → t < c.position
 abbrev pub Foreseen : Definitions → List Naming → Cursor → (SchemaTable → NameMap → Type 0) → Type 0
 Foreseen D keys a f = AreBelow a → Whatever D keys f
 
--- there is a plan, from wherever a writer stands
+-- There is a plan, from wherever a writer stands.
 abbrev pub HasPlan : Definitions → Shape → List Naming → Value → Type 0
 HasPlan D X keys v = (a : Cursor) → Whatever D keys (λ s names. ValuePlan s names X v a (λ w C b. Unit {0}))
 
@@ -187,7 +187,7 @@ HasRegionPlan D P n keys v = (a : Cursor) → Whatever D keys (λ s names. Regio
 abbrev pub GoesAsPlanned : Definitions → Shape → List Naming → Value → Cursor → Value → WriterState → Type 0
 GoesAsPlanned D X keys v a flat new = Foreseen D keys a (λ s names. ValuePlan s names X v a (λ w C b. (w ≡ flat) × StandsAt b new))
 
--- the same of a pointee with its region, which stands at p
+-- The same of a pointee with its region, which stands at p.
 abbrev pub LiesAsPlanned : Definitions → Pointee → ℕ → List Naming → Value → Cursor → ℕ → (Cursor → Type 0) → Type 0
 LiesAsPlanned D P n keys v a p ends = Foreseen D keys a (λ s names. RegionPlan s names P n v a (λ t C b. (t ≡ p) × ends b))
 
@@ -195,11 +195,11 @@ LiesAsPlanned D P n keys v a p ends = Foreseen D keys a (λ s names. RegionPlan 
 pub data Serialized (D : Definitions) (X : Shape) (keys : List Naming) (v flat : Value) (old new : WriterState) : Type 0 where
   serialized : Writes D old new keys flat v → GoesAsPlanned D X keys v (cursor old) flat new → Serialized D X keys v flat old new
 
--- the same of a pointee with its region, which stands at p
+-- The same of a pointee with its region, which stands at p.
 pub data SerializedRegion (D : Definitions) (P : Pointee) (n : ℕ) (keys : List Naming) (v : Value) (p : ℕ) (old new : WriterState) : Type 0 where
   serialized_region : LaysOut D old new keys p P n v → LiesAsPlanned D P n keys v (cursor old) p (λ c. StandsAt c new) → SerializedRegion D P n keys v p old new
 
--- the same under an unknown key, which is pending meanwhile, and finished there in the end
+-- The same under an unknown key, which is pending meanwhile, and finished there in the end.
 pub data SerializedShared (D : Definitions) (P : Pointee) (n : ℕ) (key : ℕ) (keys : List Naming) (v : Value) (p : ℕ) (old new : WriterState) : Type 0 where
   serialized_shared : LaysOutShared D old new key keys p P n v → LiesAsPlanned D P n keys v (begun (cursor old) key) p (λ c. StandsAt (ended c key p) new)
       → SerializedShared D P n key keys v p old new

@@ -14,30 +14,30 @@ use Rattle.archive_types.specs.Writing.{NameMap, WritesAll}
 use Rattle.archive_types.specs.Plans.{Cursor, cursor, StandsAt, Step, PlansRun, Whatever, Foreseen}
 use Rattle.archive_types.specs.Causes.{Explains, IsOwnCause, PartOfRun, HindersPart, HindersPartAt, HindersSome}
 
--- what each of the values means
+-- What each of the values means.
 abbrev pub each_meaning : {A : Type 0} → (A → Value) → List A → Values
 each_meaning m [] = no_value
 each_meaning m (x ∷ xs) = value (m x) (each_meaning m xs)
 
--- what is read in the place of each, which has its own resolver
+-- What is read in the place of each, which has its own resolver.
 abbrev pub each_flat : {A R : Type 0} → (A → R → Value) → List A → List R → Values
 each_flat f [] rs = no_value
 each_flat f (x ∷ xs) [] = no_value
 each_flat f (x ∷ xs) (r ∷ rs) = value (f x r) (each_flat f xs rs)
 
--- the keys of all
+-- The keys of all.
 abbrev pub each_keys : {A : Type 0} → (A → List Naming) → List A → List Naming
 each_keys k [] = []
 each_keys k (x ∷ xs) = k x ++ each_keys k xs
 
--- there are as many resolvers as values, each of its own value
+-- There are as many resolvers as values, each of its own value.
 abbrev pub EachBelongs : {A R : Type 0} → (A → R → Type 0) → List A → List R → Type 0
 EachBelongs b [] [] = Unit {0}
 EachBelongs b [] (r ∷ rs) = ⊥
 EachBelongs b (x ∷ xs) [] = ⊥
 EachBelongs b (x ∷ xs) (r ∷ rs) = b x r × EachBelongs b xs rs
 
--- a plan of what n elements own, of which this holds
+-- A plan of what n elements own, of which this holds.
 pub record RunPlan (s : SchemaTable) (names : NameMap) (n : ℕ) (X : Shape) (vs : Values) (a : Cursor) (holds : Values → List Step → Cursor → Type 0) : Type 0 where
   pub flats : Values
   pub steps : List Step
@@ -45,7 +45,7 @@ pub record RunPlan (s : SchemaTable) (names : NameMap) (n : ℕ) (X : Shape) (vs
   pub plans : PlansRun s names n X vs a flats steps stop
   pub such : holds flats steps stop
 
--- there is one, from wherever a writer stands
+-- There is one, from wherever a writer stands.
 abbrev pub HasRunPlan : Definitions → Shape → ℕ → List Naming → Values → Type 0
 HasRunPlan D X n keys vs = (a : Cursor) → Whatever D keys (λ s names. RunPlan s names n X vs a (λ ws C b. Unit {0}))
 
@@ -62,11 +62,11 @@ pub record HindersElements (D : Definitions) (X : Shape) (n : ℕ) (keys : List 
 abbrev pub RunReaches : Definitions → Shape → ℕ → List Naming → Values → Cursor → ℕ → Type 0
 RunReaches D X n keys vs a m = Foreseen D keys a (λ s names. RunPlan s names n X vs a (λ ws C b. m ≤ b.position))
 
--- why what elements own wasn't written
+-- Why what elements own wasn't written.
 abbrev pub IsRunRefused : Definitions → Shape → ℕ → List Naming → Values → WriterState → WriterState → Error → Type 0
 IsRunRefused D X n keys vs old new = Explains (HindersElements D X n keys vs (cursor old)) (RunReaches D X n keys vs (cursor old)) old new
 
--- n elements themselves were appended
+-- n elements themselves were appended.
 pub record PutsRun (D : Definitions) (old new : WriterState) (X : Shape) (L : Layout) (n : ℕ) (flats : Values) : Type 0 where
   pub layout : HasLayout D X L
   pub added : List ℕ
@@ -81,6 +81,6 @@ pub record HindersEachAt (D : Definitions) (X : Shape) (n : ℕ) (flats : Values
   pub named : IsOwnCause e
   pub cause : (s : SchemaTable) → Knows s D → (o : ℕ) × (Y : Shape) × (w : Value) × PartOfRun s n X flats o Y w × HindersPartAt Y (p + o) w e
 
--- and of their own region there: its end is above `usize::MAX`, too
+-- And of their own region there: its end is above `usize::MAX`, too.
 abbrev pub HindersRunAt : Definitions → Shape → Layout → ℕ → Values → ℕ → Error → Type 0
 HindersRunAt D X L n flats p e = ((e ≡ LayoutTooLarge) × (2 ^ 64 ≤ p + n * L.size)) ⊎ HindersEachAt D X n flats p e

@@ -61,7 +61,7 @@ mutual
     follows_no_value : FollowsAll s bytes no_value no_value
     follows_value : {v w : Value} {vs ws : Values} → Follows s bytes v w → FollowsAll s bytes vs ws → FollowsAll s bytes (value v vs) (value w ws)
 
--- under some schema that knows the definitions, P there says w, each pointer followed
+-- Under some schema that knows the definitions, P there says w, each pointer followed.
 pub record Means (D : Definitions) (P : Pointee) (a : Standing) (w : Value) : Type 0 where
   pub schema : SchemaTable
   pub value : Value
@@ -69,18 +69,18 @@ pub record Means (D : Definitions) (P : Pointee) (a : Standing) (w : Value) : Ty
   pub contents : Contents schema a.bytes a.pos P a.len value
   pub follows : Follows schema a.bytes value w
 
--- the order of two parts is that of the values that they mean
+-- The order of two parts is that of the values that they mean.
 abbrev pub OrdersValues : Definitions → Pointee → (Standing → Standing → Ordering) → Type 0
 OrdersValues D P R = (a b : Standing) (v w : Value) → Means D P a v → Means D P b w → R a b ≡ value_cmp v w
 
--- and that of a part and a value of the machine is that of what it means and of the value's meaning
+-- And that of a part and a value of the machine is that of what it means and of the value's meaning.
 abbrev pub OrdersNative : {U : Type 0} → Definitions → Pointee → (U → Value) → (Standing → U → Ordering) → Type 0
 OrdersNative D P meaning R = (a : Standing) (v : Value) (u : _) → Means D P a v → R a u ≡ value_cmp v (meaning u)
 
--- r is the order of what P there means and of u
+-- r is the order of what P there means and of u.
 abbrev pub ComparesTo : Definitions → Pointee → List ℕ → ℕ → ℕ → Value → Ordering → Type 0
 ComparesTo D P bytes q n u r = (v : Value) → Means D P (standing bytes q n) v → r ≡ value_cmp v u
 
--- r tells whether what P there means is ordered as u
+-- r tells whether what P there means is ordered as u.
 abbrev pub EqualsTo : Definitions → Pointee → List ℕ → ℕ → ℕ → Value → Bool → Type 0
 EqualsTo D P bytes q n u r = (v : Value) → Means D P (standing bytes q n) v → r ≡ is_eq (value_cmp v u)

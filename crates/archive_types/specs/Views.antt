@@ -7,12 +7,12 @@ use Rattle.archive_check.specs.Definitions.{Definitions, Knows}
 use Rattle.archive_check.specs.Reached.{Reached}
 use Rattle.archive_check.specs.Viewed.{Viewed}
 
--- what stands in a box
+-- What stands in a box.
 abbrev pub boxed_in : Value → Option Value
 boxed_in (box v) = Some v
 boxed_in _ = None
 
--- the value itself, as of a vector and its slice
+-- The value itself, as of a vector and its slice.
 abbrev pub itself : Value → Option Value
 itself v = Some v
 
@@ -21,7 +21,7 @@ value_at k no_value = None
 value_at zero (value v vs) = Some v
 value_at (suc k) (value v vs) = value_at k vs
 
--- the element k of a list
+-- The element k of a list.
 abbrev pub element_in : ℕ → Value → Option Value
 element_in k (list vs) = value_at k vs
 element_in k _ = None
@@ -30,6 +30,6 @@ element_in k _ = None
 pub record ShowsPart (D : Definitions) (bytes : List ℕ) (q : ℕ) (P : Pointee) (n : ℕ) (r : ℕ) (Q : Pointee) (m : ℕ) (taken : Value → Option Value) : Type 0 where
   pub shown : (s : SchemaTable) (root : ℕ) (X : Shape) (w : Value) → Knows s D → Reached s bytes root X q P n w → (u : Value) × (taken w ≡ Some u) × Reached s bytes root X r Q m u
 
--- each of n elements of z bytes, from p on, is viewed
+-- Each of n elements of z bytes, from p on, is viewed.
 abbrev pub AreViewed : Definitions → List ℕ → ℕ → ℕ → Pointee → ℕ → Type 0
 AreViewed D bytes p z P n = (k : ℕ) → k < n → Viewed D bytes (p + k * z) P 0

@@ -28,7 +28,7 @@ AreNamed names (k ∷ ks) = (get names k.0 ≡ Some k.1) × AreNamed names ks
 abbrev pub HasKeys : List Naming → Value → Type 0
 HasKeys keys v = (k : ℕ) → Names k v → (x : Entry × Value) × Contains keys (k, x)
 
--- the value leads to the key: it stands in the value, or in what one of these keys names to which the value leads
+-- The value leads to the key: it stands in the value, or in what one of these keys names to which the value leads.
 pub data LeadsToKey (keys : List Naming) (v : Value) : ℕ → Type 0 where
   key_at_once : {k : ℕ} → Names k v → LeadsToKey keys v k
   key_through : {k : ℕ} {l : Naming} → LeadsToKey keys v l.0 → Contains keys l → Names k l.1.1 → LeadsToKey keys v k
@@ -51,7 +51,7 @@ pub record World : Type 0 where
   pub position : ℕ → ℕ
   pub names : NameMap
 
--- the world knows these definitions, begins with these bytes, and puts each finished key where the states have it
+-- The world knows these definitions, begins with these bytes, and puts each finished key where the states have it.
 pub record Covers (w : World) (definitions : Definitions) (told : List ℕ) (states : KeyStates) (keys : List Naming) : Type 0 where
   pub knows : Knows w.schema definitions
   pub rest : List ℕ
@@ -59,7 +59,7 @@ pub record Covers (w : World) (definitions : Definitions) (told : List ℕ) (sta
   pub placed : (k t : ℕ) → states k ≡ Some (Some t) → w.position k ≡ t
   pub named : AreNamed w.names keys
 
--- each name in the value is finished
+-- Each name in the value is finished.
 abbrev pub AreFinished : KeyStates → Value → Type 0
 AreFinished states v = (k : ℕ) → Names k v → (t : ℕ) × (states k ≡ Some (Some t))
 
@@ -75,11 +75,11 @@ pub record Known (w : World) (states : KeyStates) (stop : ℕ) (seen : Seen) (pe
   pub below : (k t : ℕ) → states k ≡ Some (Some t) → t < stop
   pub opened : (t : ℕ) → Contains pending t → (e : Entry) × (get seen t ≡ Some e)
 
--- nothing has been seen from start up to stop
+-- Nothing has been seen from start up to stop.
 pub record Unseen (seen : Seen) (start stop : ℕ) : Type 0 where
   pub unseen : (t : ℕ) → start ≤ t → t < stop → get seen t ≡ None
 
--- a key finished at t names the entry, and what stands there is its value
+-- A key finished at t names the entry, and what stands there is its value.
 pub record Found (w : World) (states : KeyStates) (t : ℕ) (e : Entry) : Type 0 where
   pub key : ℕ
   pub flat : Value
@@ -118,7 +118,7 @@ pub record Writes (definitions : Definitions) (old new : WriterState) (keys : Li
       → Appends w (length old.bytes) (length new.bytes) new.states pending seen (pointers flat)
   pub fills : (w : World) → Covers w definitions new.bytes new.states keys → Fills w.schema w.bytes flat (rename w.position value)
 
--- the same for values one after another
+-- The same for values one after another.
 pub record WritesAll (definitions : Definitions) (old new : WriterState) (keys : List Naming) (flats values : Values) : Type 0 where
   pub added : List ℕ
   pub grown : new.bytes ≡ old.bytes ++ added
@@ -129,12 +129,12 @@ pub record WritesAll (definitions : Definitions) (old new : WriterState) (keys :
       → Appends w (length old.bytes) (length new.bytes) new.states pending seen (all_pointers flats)
   pub fills : (w : World) → Covers w definitions new.bytes new.states keys → FillsAll w.schema w.bytes flats (rename_all w.position values)
 
--- these bytes, at p, are clean and read as the value, with its pointers
+-- These bytes, at p, are clean and read as the value, with its pointers.
 pub record Resolves (definitions : Definitions) (p : ℕ) (a : List ℕ) (X : Shape) (flat : Value) : Type 0 where
   pub reads : (s : SchemaTable) (bytes : List ℕ) → Knows s definitions → Occurs bytes p a → Reads s bytes p X flat
   pub clean : (s : SchemaTable) (bytes : List ℕ) → Knows s definitions → Occurs bytes p a → CleanValue s bytes p X
 
--- one value was appended
+-- One value was appended.
 pub record Puts (definitions : Definitions) (old new : WriterState) (X : Shape) (L : Layout) (flat : Value) : Type 0 where
   pub layout : HasLayout definitions X L
   pub added : List ℕ
@@ -143,7 +143,7 @@ pub record Puts (definitions : Definitions) (old new : WriterState) (X : Shape) 
   pub resolved : Resolves definitions (length old.bytes) added X flat
   pub states : new.states ≡ old.states
 
--- a place that is to be written: n zeros, and its end fits
+-- A place that is to be written: n zeros, and its end fits.
 pub record ZeroedPlace (size p : ℕ) (bytes : List ℕ) : Type 0 where
   pub sized : length bytes ≡ size
   pub zeroed : IsZeroed bytes
@@ -171,7 +171,7 @@ pub record Archives (definitions : Definitions) (old new : List ℕ) (root : ℕ
 abbrev pub to_pointee : ℕ → Pointee → ℕ → Pointer
 to_pointee t P n = record { target = pos t; sharing = None; order = None; pointee = P; length = n }
 
--- what a box of a pointee of n elements or bytes at t reads as, and a vector of n elements there
+-- What a box of a pointee of n elements or bytes at t reads as, and a vector of n elements there.
 abbrev pub box_flat : Pointee → ℕ → ℕ → Value
 box_flat P n t = box (hole (to_pointee t P n))
 
@@ -205,7 +205,7 @@ pub record LaysOut (definitions : Definitions) (old new : WriterState) (keys : L
 abbrev pub to_shared : ℕ → Flavor → Pointee → ℕ → Pointer
 to_shared t flavor P n = record { target = pos t; sharing = Some flavor; order = None; pointee = P; length = n }
 
--- what a pointer to one reads as, which stands at t
+-- What a pointer to one reads as, which stands at t.
 abbrev pub shared_flat : Flavor → Pointee → ℕ → ℕ → Value
 shared_flat flavor P n t = hole (to_shared t flavor P n)
 

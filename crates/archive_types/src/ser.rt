@@ -257,9 +257,9 @@ pub trait ResolveExt: Writer {
         Ok(pos)
     }
 
-    /// Writes a pointer to the region of `value` at `to`, and returns its position: an offset of
-    /// four bytes, with a length of four for a slice or text. The caller must ensure that the
-    /// writer is at a multiple of four. rkyv 0.8.18 panics.
+    /// Writes a pointer to the region of `value` at `to`, and returns its position: an offset, and
+    /// a length for a slice or text. The caller must ensure that the writer is at a multiple of
+    /// four.
     ///
     /// Errors, nothing being written but by the writer's:
     /// - `LengthTooLarge`: exactly if the length is above 4,294,967,295.

@@ -3,12 +3,12 @@ use Rattle.std.specs.Prelude.{ℕ, Option, Some, None, nat_eq}
 use Rattle.std.specs.HashMap.{HashMap, get, spare}
 use Rattle.archive_check.specs.WriterState.{KeyStates, no_keys}
 
--- the states that it keeps; none where there is no map
+-- The states that it keeps; none where there is no map.
 abbrev pub known_keys : {S : Type 0} → Option (HashMap ℕ (Option ℕ) S) → KeyStates
 known_keys None = no_keys
 known_keys (Some states) = get nat_eq states
 
--- how many keys it takes without more memory
+-- How many keys it takes without more memory.
 abbrev pub spare_keys : {S : Type 0} → Option (HashMap ℕ (Option ℕ) S) → ℕ
 spare_keys None = 0
 spare_keys (Some states) = spare states

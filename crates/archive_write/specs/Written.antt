@@ -33,6 +33,6 @@ ExplainsRefusal n position held room before after (BufferOverflow write_len cap 
 ExplainsRefusal n position held room before after WriterFailed = (before < after) ⊎ (before ≡ 2 ^ 64 - 1)
 ExplainsRefusal n position held room before after _ = ⊥
 
--- how many bytes stand between n and the next multiple of a, none where n is one
+-- How many bytes stand between n and the next multiple of a, none where n is one.
 abbrev pub padding : ℕ → ℕ → ℕ
 padding a n = up n a - n

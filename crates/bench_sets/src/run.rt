@@ -43,7 +43,7 @@ where
     }
 }
 
-/// The same of a list of so many elements. What the check needs of a list is made here once, and not for each type of its elements.
+/// The same of a list of `count` elements. What the check needs of a list is made here once, and not for each type of its elements.
 pub fn run_list<
     T: Archive + Serialize<HighSerializer<Vec<u8>, Global>> + Drop,
     E: Elements<T>,

@@ -40,7 +40,7 @@ pub fn alone<T: Drop>(alloc: Global, value: T) -> Result<Vec<T>, Error> {
     Ok(values)
 }
 
-/// So many elements.
+/// A number of elements.
 pub fn list_of<T: Drop, E: Elements<T>>(alloc: Global, size: usize) -> Result<Vec<T>, Error> {
     let mut elements: Vec<T> = Vec::new(alloc);
     for _ in 0..size {

@@ -173,7 +173,7 @@ impl Choice for ArchivedTurn {
     ghost holds = { lit≤ tt };
 }
 
-/// What is kept of `Turn` from its serialization until it is resolved.
+/// What is kept of `Turn` between `serialize` and `resolve`.
 #[derive(Drop)]
 pub enum TurnResolver {
     /// Of `Left`.
@@ -380,7 +380,7 @@ pub enum ViewOfTurn<'a> {
     Right(Ref<'a, ArchivedU16>),
 }
 
-/// The variant of an archived `Turn`, where it lies.
+/// The variant of an archived `Turn`, as a view.
 pub trait TurnView<'a> {
     /// The variant that the tag names, with views of its fields.
     fn variant(self) -> ViewOfTurn<'a>;
@@ -406,7 +406,7 @@ impl<'a> TurnView<'a> for Ref<'a, ArchivedTurn> {
     }
 }
 
-/// The fields of an archived `Turn`, sealed where they lie. Each call asks that the tag is its variant's.
+/// The fields of an archived `Turn`, as seals. The caller must ensure that the tag is the variant's.
 pub trait TurnSeal<'a> {
     // The seal shows a part of a buffer that was checked.
     ghost sealed: { Self → Type 0 };
@@ -548,7 +548,7 @@ impl Record for ArchivedSteps {
     ghost holds = { lit≤ tt };
 }
 
-/// What is kept of `Steps` from its serialization until it is resolved.
+/// What is kept of `Steps` between `serialize` and `resolve`.
 #[derive(Drop)]
 pub struct StepsResolver {
     kept: (<u16 as Archive>::Resolver, (<u16 as Archive>::Resolver, ())),
@@ -692,7 +692,7 @@ impl<D: Entries> Deserialize<Steps, D> for ArchivedSteps {
     }
 }
 
-/// The fields of an archived `Steps`, where they lie.
+/// The fields of an archived `Steps`, as views.
 pub trait StepsView<'a> {
     /// The first one.
     fn first(self) -> Ref<'a, ArchivedU16>;
@@ -721,7 +721,7 @@ impl<'a> StepsView<'a> for Ref<'a, ArchivedSteps> {
     }
 }
 
-/// The fields of an archived `Steps`, sealed where they lie.
+/// The fields of an archived `Steps`, as seals.
 pub trait StepsSeal<'a> {
     // The seal shows a part of a buffer that was checked.
     ghost sealed: { Self → Type 0 };

@@ -421,7 +421,7 @@ impl Record for ArchivedBook {
     ghost holds = { lit≤ tt };
 }
 
-/// What is kept of `Book` from its serialization until it is resolved.
+/// What is kept of `Book` between `serialize` and `resolve`.
 #[derive(Drop)]
 pub struct BookResolver {
     kept: (
@@ -805,7 +805,7 @@ impl<D: Entries> Deserialize<Book, D> for ArchivedBook {
     }
 }
 
-/// The fields of an archived `Book`, where they lie.
+/// The fields of an archived `Book`, as views.
 pub trait BookView<'a> {
     /// Its number.
     fn number(self) -> Ref<'a, ArchivedU64>;
@@ -1002,7 +1002,7 @@ impl<'a> BookView<'a> for Ref<'a, ArchivedBook> {
     }
 }
 
-/// The fields of an archived `Book`, sealed where they lie.
+/// The fields of an archived `Book`, as seals.
 pub trait BookSeal<'a> {
     // The seal shows a part of a buffer that was checked.
     ghost sealed: { Self → Type 0 };

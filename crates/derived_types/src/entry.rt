@@ -148,7 +148,7 @@ impl Record for ArchivedEntry {
     ghost holds = { lit≤ tt };
 }
 
-/// What is kept of `Entry` from its serialization until it is resolved.
+/// What is kept of `Entry` between `serialize` and `resolve`.
 #[derive(Drop)]
 pub struct EntryResolver {
     kept: (
@@ -296,7 +296,7 @@ impl<D: Entries> Deserialize<Entry, D> for ArchivedEntry {
     }
 }
 
-/// The fields of an archived `Entry`, where they lie.
+/// The fields of an archived `Entry`, as views.
 pub trait EntryView<'a> {
     /// When it came, in seconds.
     fn seconds(self) -> Ref<'a, ArchivedU64>;
@@ -325,7 +325,7 @@ impl<'a> EntryView<'a> for Ref<'a, ArchivedEntry> {
     }
 }
 
-/// The fields of an archived `Entry`, sealed where they lie.
+/// The fields of an archived `Entry`, as seals.
 pub trait EntrySeal<'a> {
     // The seal shows a part of a buffer that was checked.
     ghost sealed: { Self → Type 0 };

@@ -208,7 +208,7 @@ impl Choice for ArchivedEvent {
     ghost holds = { lit≤ tt };
 }
 
-/// What is kept of `Event` from its serialization until it is resolved.
+/// What is kept of `Event` between `serialize` and `resolve`.
 #[derive(Drop)]
 pub enum EventResolver {
     /// Of `Quit`.
@@ -537,7 +537,7 @@ pub enum ViewOfEvent<'a> {
     Batch(Ref<'a, ArchivedVec<ArchivedU32>>),
 }
 
-/// The variant of an archived `Event`, where it lies.
+/// The variant of an archived `Event`, as a view.
 pub trait EventView<'a> {
     /// The variant that the tag names, with views of its fields.
     fn variant(self) -> ViewOfEvent<'a>;
@@ -581,7 +581,7 @@ impl<'a> EventView<'a> for Ref<'a, ArchivedEvent> {
     }
 }
 
-/// The fields of an archived `Event`, sealed where they lie. Each call asks that the tag is its variant's.
+/// The fields of an archived `Event`, as seals. The caller must ensure that the tag is the variant's.
 pub trait EventSeal<'a> {
     // The seal shows a part of a buffer that was checked.
     ghost sealed: { Self → Type 0 };

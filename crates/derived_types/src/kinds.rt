@@ -233,7 +233,7 @@ impl Record for ArchivedNumbers {
     ghost holds = { lit≤ tt };
 }
 
-/// What is kept of `Numbers` from its serialization until it is resolved.
+/// What is kept of `Numbers` between `serialize` and `resolve`.
 #[derive(Drop)]
 pub struct NumbersResolver {
     kept: (
@@ -430,7 +430,7 @@ impl<D: Entries> Deserialize<Numbers, D> for ArchivedNumbers {
     }
 }
 
-/// The fields of an archived `Numbers`, where they lie.
+/// The fields of an archived `Numbers`, as views.
 pub trait NumbersView<'a> {
     /// Not 0.
     fn some(self) -> Ref<'a, NonZero<u32>>;
@@ -507,7 +507,7 @@ impl<'a> NumbersView<'a> for Ref<'a, ArchivedNumbers> {
     }
 }
 
-/// The fields of an archived `Numbers`, sealed where they lie.
+/// The fields of an archived `Numbers`, as seals.
 pub trait NumbersSeal<'a> {
     // The seal shows a part of a buffer that was checked.
     ghost sealed: { Self → Type 0 };
@@ -723,7 +723,7 @@ impl Record for ArchivedOwners {
     ghost holds = { lit≤ tt };
 }
 
-/// What is kept of `Owners` from its serialization until it is resolved.
+/// What is kept of `Owners` between `serialize` and `resolve`.
 #[derive(Drop)]
 pub struct OwnersResolver {
     kept: (
@@ -959,7 +959,7 @@ impl<D: Entries> Deserialize<Owners, D> for ArchivedOwners {
     }
 }
 
-/// The fields of an archived `Owners`, where they lie.
+/// The fields of an archived `Owners`, as views.
 pub trait OwnersView<'a> {
     /// A number, or why there is none.
     fn outcome(self) -> Ref<'a, ArchivedResult<u8, ArchivedString>>;
@@ -1024,7 +1024,7 @@ impl<'a> OwnersView<'a> for Ref<'a, ArchivedOwners> {
     }
 }
 
-/// The fields of an archived `Owners`, sealed where they lie.
+/// The fields of an archived `Owners`, as seals.
 pub trait OwnersSeal<'a> {
     // The seal shows a part of a buffer that was checked.
     ghost sealed: { Self → Type 0 };
@@ -1218,7 +1218,7 @@ impl Record for ArchivedLists {
     ghost holds = { lit≤ tt };
 }
 
-/// What is kept of `Lists` from its serialization until it is resolved.
+/// What is kept of `Lists` between `serialize` and `resolve`.
 #[derive(Drop)]
 pub struct ListsResolver {
     kept: (
@@ -1408,7 +1408,7 @@ impl<D: Entries> Deserialize<Lists, D> for ArchivedLists {
     }
 }
 
-/// The fields of an archived `Lists`, where they lie.
+/// The fields of an archived `Lists`, as views.
 pub trait ListsView<'a> {
     /// Four numbers.
     fn four(self) -> Ref<'a, [ArchivedI16; 4]>;
@@ -1449,7 +1449,7 @@ impl<'a> ListsView<'a> for Ref<'a, ArchivedLists> {
     }
 }
 
-/// The fields of an archived `Lists`, sealed where they lie.
+/// The fields of an archived `Lists`, as seals.
 pub trait ListsSeal<'a> {
     // The seal shows a part of a buffer that was checked.
     ghost sealed: { Self → Type 0 };
@@ -1801,7 +1801,7 @@ impl Record for ArchivedUnnamed {
     ghost holds = { lit≤ tt };
 }
 
-/// What is kept of `Unnamed` from its serialization until it is resolved.
+/// What is kept of `Unnamed` between `serialize` and `resolve`.
 #[derive(Drop)]
 pub struct UnnamedResolver {
     kept: (
@@ -1939,7 +1939,7 @@ impl<D: Entries> Deserialize<Unnamed, D> for ArchivedUnnamed {
     }
 }
 
-/// The fields of an archived `Unnamed`, where they lie.
+/// The fields of an archived `Unnamed`, as views.
 pub trait UnnamedView<'a> {
     /// The field `0`.
     fn field_0(self) -> Ref<'a, u8>;
@@ -1968,7 +1968,7 @@ impl<'a> UnnamedView<'a> for Ref<'a, ArchivedUnnamed> {
     }
 }
 
-/// The fields of an archived `Unnamed`, sealed where they lie.
+/// The fields of an archived `Unnamed`, as seals.
 pub trait UnnamedSeal<'a> {
     // The seal shows a part of a buffer that was checked.
     ghost sealed: { Self → Type 0 };

@@ -177,7 +177,7 @@ impl<A: Archive, B: Archive> FromParts for Pair<A, B> {
     }
 }
 
-/// The fields of an archived `Pair`, where they lie.
+/// The fields of an archived `Pair`, as views.
 pub trait PairView {
     /// The view of `left`.
     type Left;
@@ -218,7 +218,7 @@ impl<'a, A: Portable, B: Portable> PairView for Ref<'a, ArchivedPair<A, B>> {
     }
 }
 
-/// The fields of an archived `Pair`, sealed where they lie.
+/// The fields of an archived `Pair`, as seals.
 pub trait PairSeal {
     // The seal shows a part of a buffer that was checked.
     ghost sealed: { Self → Type 0 };

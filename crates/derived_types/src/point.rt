@@ -164,7 +164,7 @@ impl Record for ArchivedPoint {
     ghost holds = { lit≤ tt };
 }
 
-/// What is kept of `Point` from its serialization until it is resolved.
+/// What is kept of `Point` between `serialize` and `resolve`.
 #[derive(Drop)]
 pub struct PointResolver {
     kept: (
@@ -336,7 +336,7 @@ impl<D: Entries> Deserialize<Point, D> for ArchivedPoint {
     }
 }
 
-/// The fields of an archived `Point`, where they lie.
+/// The fields of an archived `Point`, as views.
 pub trait PointView<'a> {
     /// To the right.
     fn x(self) -> Ref<'a, ArchivedI32>;
@@ -389,7 +389,7 @@ impl<'a> PointView<'a> for Ref<'a, ArchivedPoint> {
     }
 }
 
-/// The fields of an archived `Point`, sealed where they lie.
+/// The fields of an archived `Point`, as seals.
 pub trait PointSeal<'a> {
     // The seal shows a part of a buffer that was checked.
     ghost sealed: { Self → Type 0 };

@@ -213,7 +213,7 @@ impl Choice for ArchivedLabel {
     ghost holds = { lit≤ tt };
 }
 
-/// What is kept of `Label` from its serialization until it is resolved.
+/// What is kept of `Label` between `serialize` and `resolve`.
 #[derive(Drop)]
 pub enum LabelResolver {
     /// Of `None`.
@@ -475,7 +475,7 @@ pub enum ViewOfLabel<'a> {
     },
 }
 
-/// The variant of an archived `Label`, where it lies.
+/// The variant of an archived `Label`, as a view.
 pub trait LabelView<'a> {
     /// The variant that the tag names, with views of its fields.
     fn variant(self) -> ViewOfLabel<'a>;
@@ -508,7 +508,7 @@ impl<'a> LabelView<'a> for Ref<'a, ArchivedLabel> {
     }
 }
 
-/// The fields of an archived `Label`, sealed where they lie. Each call asks that the tag is its variant's.
+/// The fields of an archived `Label`, as seals. The caller must ensure that the tag is the variant's.
 pub trait LabelSeal<'a> {
     // The seal shows a part of a buffer that was checked.
     ghost sealed: { Self → Type 0 };
@@ -745,7 +745,7 @@ impl Record for ArchivedScores {
     ghost holds = { lit≤ tt };
 }
 
-/// What is kept of `Scores` from its serialization until it is resolved.
+/// What is kept of `Scores` between `serialize` and `resolve`.
 #[derive(Drop)]
 pub struct ScoresResolver {
     kept: (
@@ -983,7 +983,7 @@ impl<D: Entries> Deserialize<Scores, D> for ArchivedScores {
     }
 }
 
-/// The fields of an archived `Scores`, where they lie.
+/// The fields of an archived `Scores`, as views.
 pub trait ScoresView<'a> {
     /// A letter, or whether there is one.
     fn letter(self) -> Ref<'a, ArchivedResult<ArchivedChar, bool>>;
@@ -1039,7 +1039,7 @@ impl<'a> ScoresView<'a> for Ref<'a, ArchivedScores> {
     }
 }
 
-/// The fields of an archived `Scores`, sealed where they lie.
+/// The fields of an archived `Scores`, as seals.
 pub trait ScoresSeal<'a> {
     // The seal shows a part of a buffer that was checked.
     ghost sealed: { Self → Type 0 };

@@ -185,7 +185,7 @@ impl Record for ArchivedSpot {
     ghost holds = { lit≤ tt };
 }
 
-/// What is kept of `Spot` from its serialization until it is resolved.
+/// What is kept of `Spot` between `serialize` and `resolve`.
 #[derive(Drop)]
 pub struct SpotResolver {
     kept: (<u16 as Archive>::Resolver, (<i16 as Archive>::Resolver, ())),
@@ -321,7 +321,7 @@ impl<D: Entries> Deserialize<Spot, D> for ArchivedSpot {
     }
 }
 
-/// The fields of an archived `Spot`, where they lie.
+/// The fields of an archived `Spot`, as views.
 pub trait SpotView<'a> {
     /// To the right.
     fn right(self) -> Ref<'a, ArchivedU16>;
@@ -350,7 +350,7 @@ impl<'a> SpotView<'a> for Ref<'a, ArchivedSpot> {
     }
 }
 
-/// The fields of an archived `Spot`, sealed where they lie.
+/// The fields of an archived `Spot`, as seals.
 pub trait SpotSeal<'a> {
     // The seal shows a part of a buffer that was checked.
     ghost sealed: { Self → Type 0 };
@@ -483,7 +483,7 @@ impl Record for ArchivedLine {
     ghost holds = { lit≤ tt };
 }
 
-/// What is kept of `Line` from its serialization until it is resolved.
+/// What is kept of `Line` between `serialize` and `resolve`.
 #[derive(Drop)]
 pub struct LineResolver {
     kept: (
@@ -623,7 +623,7 @@ impl<D: Entries> Deserialize<Line, D> for ArchivedLine {
     }
 }
 
-/// The fields of an archived `Line`, where they lie.
+/// The fields of an archived `Line`, as views.
 pub trait LineView<'a> {
     /// Where it begins.
     fn from(self) -> Ref<'a, ArchivedSpot>;
@@ -652,7 +652,7 @@ impl<'a> LineView<'a> for Ref<'a, ArchivedLine> {
     }
 }
 
-/// The fields of an archived `Line`, sealed where they lie.
+/// The fields of an archived `Line`, as seals.
 pub trait LineSeal<'a> {
     // The seal shows a part of a buffer that was checked.
     ghost sealed: { Self → Type 0 };
@@ -806,7 +806,7 @@ impl Record for ArchivedDrawing {
     ghost holds = { lit≤ tt };
 }
 
-/// What is kept of `Drawing` from its serialization until it is resolved.
+/// What is kept of `Drawing` between `serialize` and `resolve`.
 #[derive(Drop)]
 pub struct DrawingResolver {
     kept: (
@@ -997,7 +997,7 @@ impl<D: Entries> Deserialize<Drawing, D> for ArchivedDrawing {
     }
 }
 
-/// The fields of an archived `Drawing`, where they lie.
+/// The fields of an archived `Drawing`, as views.
 pub trait DrawingView<'a> {
     /// The first one.
     fn first(self) -> Ref<'a, ArchivedLine>;
@@ -1050,7 +1050,7 @@ impl<'a> DrawingView<'a> for Ref<'a, ArchivedDrawing> {
     }
 }
 
-/// The fields of an archived `Drawing`, sealed where they lie.
+/// The fields of an archived `Drawing`, as seals.
 pub trait DrawingSeal<'a> {
     // The seal shows a part of a buffer that was checked.
     ghost sealed: { Self → Type 0 };
@@ -1212,7 +1212,7 @@ impl Record for ArchivedAtlas {
     ghost holds = { lit≤ tt };
 }
 
-/// What is kept of `Atlas` from its serialization until it is resolved.
+/// What is kept of `Atlas` between `serialize` and `resolve`.
 #[derive(Drop)]
 pub struct AtlasResolver {
     kept: (
@@ -1365,7 +1365,7 @@ impl<D: Entries> Deserialize<Atlas, D> for ArchivedAtlas {
     }
 }
 
-/// The fields of an archived `Atlas`, where they lie.
+/// The fields of an archived `Atlas`, as views.
 pub trait AtlasView<'a> {
     /// All of them.
     fn drawings(self) -> Ref<'a, ArchivedVec<ArchivedDrawing>>;
@@ -1394,7 +1394,7 @@ impl<'a> AtlasView<'a> for Ref<'a, ArchivedAtlas> {
     }
 }
 
-/// The fields of an archived `Atlas`, sealed where they lie.
+/// The fields of an archived `Atlas`, as seals.
 pub trait AtlasSeal<'a> {
     // The seal shows a part of a buffer that was checked.
     ghost sealed: { Self → Type 0 };

@@ -160,7 +160,7 @@ impl Record for ArchivedStock {
     ghost holds = { lit≤ tt };
 }
 
-/// What is kept of `Stock` from its serialization until it is resolved.
+/// What is kept of `Stock` between `serialize` and `resolve`.
 #[derive(Drop)]
 pub struct StockResolver {
     kept: (
@@ -328,7 +328,7 @@ impl<D: Entries> Deserialize<Stock, D> for ArchivedStock {
     }
 }
 
-/// The fields of an archived `Stock`, where they lie.
+/// The fields of an archived `Stock`, as views.
 pub trait StockView<'a> {
     /// What things cost, by their names.
     fn prices(self) -> Ref<'a, ArchivedSortedMap<ArchivedString, ArchivedU32>>;
@@ -357,7 +357,7 @@ impl<'a> StockView<'a> for Ref<'a, ArchivedStock> {
     }
 }
 
-/// The fields of an archived `Stock`, sealed where they lie.
+/// The fields of an archived `Stock`, as seals.
 pub trait StockSeal<'a> {
     // The seal shows a part of a buffer that was checked.
     ghost sealed: { Self → Type 0 };

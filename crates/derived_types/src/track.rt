@@ -158,7 +158,7 @@ impl Record for ArchivedTrack {
     ghost holds = { lit≤ tt };
 }
 
-/// What is kept of `Track` from its serialization until it is resolved.
+/// What is kept of `Track` between `serialize` and `resolve`.
 #[derive(Drop)]
 pub struct TrackResolver {
     kept: (
@@ -322,7 +322,7 @@ impl<D: Pooling<Shared<Line>>> Deserialize<Track, D> for ArchivedTrack {
     }
 }
 
-/// The fields of an archived `Track`, where they lie.
+/// The fields of an archived `Track`, as views.
 pub trait TrackView<'a> {
     /// The line.
     fn line(self) -> Ref<'a, ArchivedRc<ArchivedLine, RcFlavor>>;
@@ -351,7 +351,7 @@ impl<'a> TrackView<'a> for Ref<'a, ArchivedTrack> {
     }
 }
 
-/// The fields of an archived `Track`, sealed where they lie.
+/// The fields of an archived `Track`, as seals.
 pub trait TrackSeal<'a> {
     // The seal shows a part of a buffer that was checked.
     ghost sealed: { Self → Type 0 };
@@ -471,7 +471,7 @@ impl Record for ArchivedRuns {
     ghost holds = { lit≤ tt };
 }
 
-/// What is kept of `Runs` from its serialization until it is resolved.
+/// What is kept of `Runs` between `serialize` and `resolve`.
 #[derive(Drop)]
 pub struct RunsResolver {
     kept: (
@@ -666,7 +666,7 @@ impl<D: Pooling<SharedSlice<Line>> + Pooling<SharedStr> + Pooling<Shared<Line>>>
     }
 }
 
-/// The fields of an archived `Runs`, where they lie.
+/// The fields of an archived `Runs`, as views.
 pub trait RunsView<'a> {
     /// Lines.
     fn lines(self) -> Ref<'a, ArchivedRc<ArchivedSlice<ArchivedLine>, RcFlavor>>;
@@ -709,7 +709,7 @@ impl<'a> RunsView<'a> for Ref<'a, ArchivedRuns> {
     }
 }
 
-/// The fields of an archived `Runs`, sealed where they lie.
+/// The fields of an archived `Runs`, as seals.
 pub trait RunsSeal<'a> {
     // The seal shows a part of a buffer that was checked.
     ghost sealed: { Self → Type 0 };
@@ -844,7 +844,7 @@ impl Choice for ArchivedEither {
     ghost holds = { lit≤ tt };
 }
 
-/// What is kept of `Either` from its serialization until it is resolved.
+/// What is kept of `Either` between `serialize` and `resolve`.
 #[derive(Drop)]
 pub enum EitherResolver {
     /// Of `Alone`.
@@ -1085,7 +1085,7 @@ pub enum ViewOfEither<'a> {
     Together(Ref<'a, ArchivedRc<ArchivedLine, RcFlavor>>, Ref<'a, u8>),
 }
 
-/// The variant of an archived `Either`, where it lies.
+/// The variant of an archived `Either`, as a view.
 pub trait EitherView<'a> {
     /// The variant that the tag names, with views of its fields.
     fn variant(self) -> ViewOfEither<'a>;
@@ -1119,7 +1119,7 @@ impl<'a> EitherView<'a> for Ref<'a, ArchivedEither> {
     }
 }
 
-/// The fields of an archived `Either`, sealed where they lie. Each call asks that the tag is its variant's.
+/// The fields of an archived `Either`, as seals. The caller must ensure that the tag is the variant's.
 pub trait EitherSeal<'a> {
     // The seal shows a part of a buffer that was checked.
     ghost sealed: { Self → Type 0 };

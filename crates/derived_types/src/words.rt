@@ -169,7 +169,7 @@ impl Record for ArchivedWords {
     ghost holds = { lit≤ tt };
 }
 
-/// What is kept of `Words` from its serialization until it is resolved.
+/// What is kept of `Words` between `serialize` and `resolve`.
 #[derive(Drop)]
 pub struct WordsResolver {
     kept: (
@@ -337,7 +337,7 @@ impl<D: Entries> Deserialize<Words, D> for ArchivedWords {
     }
 }
 
-/// The fields of an archived `Words`, where they lie.
+/// The fields of an archived `Words`, as views.
 pub trait WordsView<'a> {
     /// A word of contracts.
     fn data(self) -> Ref<'a, u8>;
@@ -390,7 +390,7 @@ impl<'a> WordsView<'a> for Ref<'a, ArchivedWords> {
     }
 }
 
-/// The fields of an archived `Words`, sealed where they lie.
+/// The fields of an archived `Words`, as seals.
 pub trait WordsSeal<'a> {
     // The seal shows a part of a buffer that was checked.
     ghost sealed: { Self → Type 0 };
@@ -557,7 +557,7 @@ impl Choice for ArchivedLevel {
     ghost holds = { lit≤ tt };
 }
 
-/// What is kept of `Level` from its serialization until it is resolved.
+/// What is kept of `Level` between `serialize` and `resolve`.
 #[derive(Drop)]
 pub enum LevelResolver {
     /// Of `None`.
@@ -763,7 +763,7 @@ pub enum ViewOfLevel<'a> {
     Ok(Ref<'a, ArchivedWords>),
 }
 
-/// The variant of an archived `Level`, where it lies.
+/// The variant of an archived `Level`, as a view.
 pub trait LevelView<'a> {
     /// The variant that the tag names, with views of its fields.
     fn variant(self) -> ViewOfLevel<'a>;
@@ -789,7 +789,7 @@ impl<'a> LevelView<'a> for Ref<'a, ArchivedLevel> {
     }
 }
 
-/// The fields of an archived `Level`, sealed where they lie. Each call asks that the tag is its variant's.
+/// The fields of an archived `Level`, as seals. The caller must ensure that the tag is the variant's.
 pub trait LevelSeal<'a> {
     // The seal shows a part of a buffer that was checked.
     ghost sealed: { Self → Type 0 };

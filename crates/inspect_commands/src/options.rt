@@ -16,7 +16,7 @@ pub enum Shown {
     Summary,
 }
 
-/// What is asked for.
+/// What to do.
 #[derive(Clone, Copy)]
 pub struct Options<'a> {
     /// The schema, or the name of its file behind an `@`.
@@ -96,7 +96,7 @@ fn asked_for(matches: &ArgMatches<'_>) -> Shown {
     }
 }
 
-/// What the matches of the command line ask for.
+/// The options that the matches of the command line give.
 pub fn options_of<'a>(matches: &ArgMatches<'a>) -> Options<'a> {
     Options {
         schema: matches.get_str("SCHEMA").unwrap_or(""),

@@ -50,7 +50,7 @@ fn print_accepted<W: io::Write + Drop>(
     Ok(())
 }
 
-/// Prints what is asked for of an archive, and returns 0; or why the bytes are none, and returns 1.
+/// Prints what the options select of an archive, and returns 0; or why the bytes are none, and returns 1.
 pub fn report<W: io::Write + Drop>(
     alloc: Global,
     out: &mut W,

@@ -157,7 +157,7 @@ impl Record for ArchivedBush {
     ghost holds = { lit≤ tt };
 }
 
-/// What is kept of `Bush` from its serialization until it is resolved.
+/// What is kept of `Bush` between `serialize` and `resolve`.
 #[derive(Drop)]
 pub struct BushResolver {
     kept: (<u32 as Archive>::Resolver, (VecResolver, (BoxResolver, ()))),
@@ -617,7 +617,7 @@ impl<D: Entries> Deserialize<Bush, D> for ArchivedBush {
     }
 }
 
-/// The fields of an archived `Bush`, where they lie.
+/// The fields of an archived `Bush`, as views.
 pub trait BushView<'a> {
     /// Its number.
     fn id(self) -> Ref<'a, ArchivedU32>;
@@ -660,7 +660,7 @@ impl<'a> BushView<'a> for Ref<'a, ArchivedBush> {
     }
 }
 
-/// The fields of an archived `Bush`, sealed where they lie.
+/// The fields of an archived `Bush`, as seals.
 pub trait BushSeal<'a> {
     // The seal shows a part of a buffer that was checked.
     ghost sealed: { Self → Type 0 };

@@ -139,7 +139,7 @@ impl Record for ArchivedKnot {
     ghost holds = { lit≤ tt };
 }
 
-/// What is kept of `Knot` from its serialization until it is resolved.
+/// What is kept of `Knot` between `serialize` and `resolve`.
 #[derive(Drop)]
 pub struct KnotResolver {
     kept: (<u32 as Archive>::Resolver, (VecResolver, ())),
@@ -417,7 +417,7 @@ impl<D: Entries> Deserialize<Knot, D> for ArchivedKnot {
     }
 }
 
-/// The fields of an archived `Knot`, where they lie.
+/// The fields of an archived `Knot`, as views.
 pub trait KnotView<'a> {
     /// Its number.
     fn id(self) -> Ref<'a, ArchivedU32>;
@@ -446,7 +446,7 @@ impl<'a> KnotView<'a> for Ref<'a, ArchivedKnot> {
     }
 }
 
-/// The fields of an archived `Knot`, sealed where they lie.
+/// The fields of an archived `Knot`, as seals.
 pub trait KnotSeal<'a> {
     // The seal shows a part of a buffer that was checked.
     ghost sealed: { Self → Type 0 };

@@ -161,7 +161,7 @@ impl Record for ArchivedDir {
     ghost holds = { lit≤ tt };
 }
 
-/// What is kept of `Dir` from its serialization until it is resolved.
+/// What is kept of `Dir` between `serialize` and `resolve`.
 #[derive(Drop)]
 pub struct DirResolver {
     kept: (<String as Archive>::Resolver, (VecResolver, ())),
@@ -416,7 +416,7 @@ impl<D: Entries> Deserialize<Dir, D> for ArchivedDir {
     }
 }
 
-/// The fields of an archived `Dir`, where they lie.
+/// The fields of an archived `Dir`, as views.
 pub trait DirView<'a> {
     /// Its name.
     fn name(self) -> Ref<'a, ArchivedString>;
@@ -445,7 +445,7 @@ impl<'a> DirView<'a> for Ref<'a, ArchivedDir> {
     }
 }
 
-/// The fields of an archived `Dir`, sealed where they lie.
+/// The fields of an archived `Dir`, as seals.
 pub trait DirSeal<'a> {
     // The seal shows a part of a buffer that was checked.
     ghost sealed: { Self → Type 0 };
@@ -601,7 +601,7 @@ impl Choice for ArchivedEntry {
     ghost holds = { lit≤ tt };
 }
 
-/// What is kept of `Entry` from its serialization until it is resolved.
+/// What is kept of `Entry` between `serialize` and `resolve`.
 #[derive(Drop)]
 pub enum EntryResolver {
     /// Of `File`.
@@ -922,7 +922,7 @@ pub enum ViewOfEntry<'a> {
     Sub(Ref<'a, ArchivedBox<ArchivedDir>>),
 }
 
-/// The variant of an archived `Entry`, where it lies.
+/// The variant of an archived `Entry`, as a view.
 pub trait EntryView<'a> {
     /// The variant that the tag names, with views of its fields.
     fn variant(self) -> ViewOfEntry<'a>;
@@ -951,7 +951,7 @@ impl<'a> EntryView<'a> for Ref<'a, ArchivedEntry> {
     }
 }
 
-/// The fields of an archived `Entry`, sealed where they lie. Each call asks that the tag is its variant's.
+/// The fields of an archived `Entry`, as seals. The caller must ensure that the tag is the variant's.
 pub trait EntrySeal<'a> {
     // The seal shows a part of a buffer that was checked.
     ghost sealed: { Self → Type 0 };

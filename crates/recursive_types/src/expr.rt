@@ -170,7 +170,7 @@ impl Choice for ArchivedExpr {
     ghost holds = { lit≤ tt };
 }
 
-/// What is kept of `Expr` from its serialization until it is resolved.
+/// What is kept of `Expr` between `serialize` and `resolve`.
 #[derive(Drop)]
 pub enum ExprResolver {
     /// Of `Num`.
@@ -638,7 +638,7 @@ pub enum ViewOfExpr<'a> {
     Call(Ref<'a, ArchivedString>, Ref<'a, ArchivedVec<ArchivedExpr>>),
 }
 
-/// The variant of an archived `Expr`, where it lies.
+/// The variant of an archived `Expr`, as a view.
 pub trait ExprView<'a> {
     /// The variant that the tag names, with views of its fields.
     fn variant(self) -> ViewOfExpr<'a>;
@@ -680,7 +680,7 @@ impl<'a> ExprView<'a> for Ref<'a, ArchivedExpr> {
     }
 }
 
-/// The fields of an archived `Expr`, sealed where they lie. Each call asks that the tag is its variant's.
+/// The fields of an archived `Expr`, as seals. The caller must ensure that the tag is the variant's.
 pub trait ExprSeal<'a> {
     // The seal shows a part of a buffer that was checked.
     ghost sealed: { Self → Type 0 };

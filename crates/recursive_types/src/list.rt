@@ -141,7 +141,7 @@ impl Choice for ArchivedList {
     ghost holds = { lit≤ tt };
 }
 
-/// What is kept of `List` from its serialization until it is resolved.
+/// What is kept of `List` between `serialize` and `resolve`.
 #[derive(Drop)]
 pub enum ListResolver {
     /// Of `Nil`.
@@ -216,7 +216,7 @@ impl Archive for List {
     }
 }
 
-/// What the check of an archived `List` goes by.
+/// The check of an archived `List`.
 pub struct ListChain;
 
 impl Chain for ListChain {
@@ -378,7 +378,7 @@ impl<S: Writer + Keys + ResolverAlloc> SerializeUnsized<S> for List {
     }
 }
 
-/// What stands before the box of a `List`.
+/// What comes before the box of a `List`.
 #[derive(Drop)]
 pub enum ListFront {
     /// Of `Cons`.
@@ -489,7 +489,7 @@ pub enum ViewOfList<'a> {
     Cons(Ref<'a, ArchivedU32>, Ref<'a, ArchivedBox<ArchivedList>>),
 }
 
-/// The variant of an archived `List`, where it lies.
+/// The variant of an archived `List`, as a view.
 pub trait ListView<'a> {
     /// The variant that the tag names, with views of its fields.
     fn variant(self) -> ViewOfList<'a>;
@@ -519,7 +519,7 @@ impl<'a> ListView<'a> for Ref<'a, ArchivedList> {
     }
 }
 
-/// The fields of an archived `List`, sealed where they lie. Each call asks that the tag is its variant's.
+/// The fields of an archived `List`, as seals. The caller must ensure that the tag is the variant's.
 pub trait ListSeal<'a> {
     // The seal shows a part of a buffer that was checked.
     ghost sealed: { Self → Type 0 };

@@ -248,7 +248,7 @@ impl FromParts for Outline {
     }
 }
 
-/// The fields of an archived `Outline`, where they lie.
+/// The fields of an archived `Outline`, as views.
 pub trait OutlineView {
     /// The view of `title`.
     type Title;
@@ -307,7 +307,7 @@ impl<'a> OutlineView for Ref<'a, ArchivedOutline> {
     }
 }
 
-/// The fields of an archived `Outline`, sealed where they lie.
+/// The fields of an archived `Outline`, as seals.
 pub trait OutlineSeal {
     // The seal shows a part of a buffer that was checked.
     ghost sealed: { Self → Type 0 };

@@ -130,7 +130,7 @@ impl Record for ArchivedRose {
     ghost holds = { lit≤ tt };
 }
 
-/// What is kept of `Rose` from its serialization until it is resolved.
+/// What is kept of `Rose` between `serialize` and `resolve`.
 #[derive(Drop)]
 pub struct RoseResolver {
     kept: (<u32 as Archive>::Resolver, (VecResolver, ())),
@@ -382,7 +382,7 @@ impl<D: Entries> Deserialize<Rose, D> for ArchivedRose {
     }
 }
 
-/// The fields of an archived `Rose`, where they lie.
+/// The fields of an archived `Rose`, as views.
 pub trait RoseView<'a> {
     /// The field `0`.
     fn field_0(self) -> Ref<'a, ArchivedU32>;
@@ -411,7 +411,7 @@ impl<'a> RoseView<'a> for Ref<'a, ArchivedRose> {
     }
 }
 
-/// The fields of an archived `Rose`, sealed where they lie.
+/// The fields of an archived `Rose`, as seals.
 pub trait RoseSeal<'a> {
     // The seal shows a part of a buffer that was checked.
     ghost sealed: { Self → Type 0 };

@@ -152,7 +152,7 @@ impl Record for ArchivedSearch {
     ghost holds = { lit≤ tt };
 }
 
-/// What is kept of `Search` from its serialization until it is resolved.
+/// What is kept of `Search` between `serialize` and `resolve`.
 #[derive(Drop)]
 pub struct SearchResolver {
     kept: (
@@ -415,7 +415,7 @@ impl<D: Entries> Deserialize<Search, D> for ArchivedSearch {
     }
 }
 
-/// The fields of an archived `Search`, where they lie.
+/// The fields of an archived `Search`, as views.
 pub trait SearchView<'a> {
     /// The smaller ones.
     fn left(self) -> Ref<'a, ArchivedOption<ArchivedBox<ArchivedSearch>>>;
@@ -456,7 +456,7 @@ impl<'a> SearchView<'a> for Ref<'a, ArchivedSearch> {
     }
 }
 
-/// The fields of an archived `Search`, sealed where they lie.
+/// The fields of an archived `Search`, as seals.
 pub trait SearchSeal<'a> {
     // The seal shows a part of a buffer that was checked.
     ghost sealed: { Self → Type 0 };

@@ -135,7 +135,7 @@ impl Record for ArchivedTree {
     ghost holds = { lit≤ tt };
 }
 
-/// What is kept of `Tree` from its serialization until it is resolved.
+/// What is kept of `Tree` between `serialize` and `resolve`.
 #[derive(Drop)]
 pub struct TreeResolver {
     kept: (<u32 as Archive>::Resolver, (VecResolver, ())),
@@ -390,7 +390,7 @@ impl<D: Entries> Deserialize<Tree, D> for ArchivedTree {
     }
 }
 
-/// The fields of an archived `Tree`, where they lie.
+/// The fields of an archived `Tree`, as views.
 pub trait TreeView<'a> {
     /// The number.
     fn value(self) -> Ref<'a, ArchivedU32>;
@@ -419,7 +419,7 @@ impl<'a> TreeView<'a> for Ref<'a, ArchivedTree> {
     }
 }
 
-/// The fields of an archived `Tree`, sealed where they lie.
+/// The fields of an archived `Tree`, as seals.
 pub trait TreeSeal<'a> {
     // The seal shows a part of a buffer that was checked.
     ghost sealed: { Self → Type 0 };

@@ -41,9 +41,9 @@ pub const CALLS: [&str; 16] = [
 /// How a call ended.
 #[derive(Clone, Copy, Debug, PartialEq, Eq, Drop)]
 pub enum End {
-    /// It answered what it should.
+    /// It returned what it should.
     Right,
-    /// It answered something else, or left something else behind.
+    /// It returned something else, or left something else behind.
     Wrong,
     /// It was refused, with this number; what it left behind is as it should be.
     Refused(u32),
@@ -62,7 +62,7 @@ impl fmt::Display for End {
     }
 }
 
-/// Makes so many requests for memory and gives back what they are served with. False where one is refused.
+/// Makes a number of requests for memory and gives back what they are served with. False if one is refused.
 pub fn request(alloc: Global, requests: usize) -> bool {
     for _ in 0..requests {
         if Box::new(alloc, 0u8).is_err() {
@@ -72,7 +72,7 @@ pub fn request(alloc: Global, requests: usize) -> bool {
     true
 }
 
-/// How the call with a name ends that is carried out behind so many requests. It is wrong where there is no such call.
+/// How the call with a name ends that is carried out behind a number of requests. It is wrong if there is no such call.
 pub fn end_of(alloc: Global, call: &str, requests: usize) -> End {
     match call {
         "a record is written" => record_written(alloc, requests),

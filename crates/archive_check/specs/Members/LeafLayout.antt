@@ -22,7 +22,7 @@ byte_len-positive w32 = refl
 byte_len-positive w64 = refl
 byte_len-positive w128 = refl
 
--- a power of two
+-- A power of two.
 pub leaf_align : (kind : Kind) → IsAlign (kind_align kind)
 leaf_align unit = inl refl
 leaf_align bool = inl refl
@@ -31,10 +31,10 @@ leaf_align (number sign width) = rw (byte_len-positive width) (number_align widt
 leaf_align (non_zero sign width) = rw (byte_len-positive width) (number_align width)
 leaf_align (raw_rel sign width) = rw (byte_len-positive width) (number_align width)
 
--- in every schema
+-- In every schema.
 pub leaf_has_layout : (kind : Kind) → HasLayout no_definition (leaf kind) (leaf_layout kind)
 leaf_has_layout kind = record { solved = λ s k. refl }
 
--- and no definition is brought that isn't reached
+-- And no definition is brought that isn't reached.
 pub no_definition_reached : (X : Shape) → NoOthers no_definition X
 no_definition_reached X name Y c = absurd (omega (arith, c.1))

@@ -5,7 +5,7 @@ use Rattle.archive_check.specs.Shape.{Name, Shape, parts, named, Parts, no_part,
 use Rattle.archive_check.specs.Defined.{holds_parts, holds_name, holds_later, Mentions, mentions_held, mentions_parts, mentions_first, mentions_later, Involves, involves, involves_through}
 use Rattle.archive_check.specs.Definitions.{Definitions, no_definition, defines, both, listed, NoOthers}
 
--- more definitions lead no less far
+-- More definitions lead no less far.
 involves_more : {old new : Table} {name : Name} {X : Shape} → ((n : Name) (Y : Shape) → Contains old (n, Y) → Contains new (n, Y)) → Involves old name X → Involves new name X
 involves_more more (involves m) = involves m
 involves_more more (involves_through m c i) = involves_through m (more _ _ c) (involves_more more i)
@@ -14,18 +14,18 @@ involves_around : {table : Table} {name : Name} {X Y : Shape} → ((n : Name) �
 involves_around f (involves m) = involves (f _ m)
 involves_around f (involves_through m c i) = involves_through (f _ m) c i
 
--- a shape that mentions all that another one does
+-- A shape that mentions all that another one does.
 pub around_reached : (D : Definitions) (X Y : Shape) → ((n : Name) → Mentions n X → Mentions n Y) → NoOthers D X → NoOthers D Y
 around_reached D X Y f h name Z c = involves_around f (h name Z c)
 
--- the definitions of two
+-- The definitions of two.
 pub both_reached : (D E : Definitions) (X : Shape) → NoOthers D X → NoOthers E X → NoOthers (both D E) X
 both_reached D E X h k name Y c = ⊎_elim
     (λ here. involves_more (λ n Z i. Contains-append_left (listed D) (listed E) (n, Z) i) (h name Y here))
     (λ there. involves_more (λ n Z i. Contains-append_right (listed D) (listed E) (n, Z) i) (k name Y there))
     (Contains-append_cases (listed D) (listed E) (name, Y) c)
 
--- a name, its definition and those that this one brings
+-- A name, its definition and those that this one brings.
 pub defined_reached : (name : Name) (X : Shape) (D : Definitions) → NoOthers D X → NoOthers (both (defines name X) D) (named name)
 defined_reached name X D h n Y (zero, l, e) =
     subst (λ m. Involves (listed (both (defines name X) D)) m (named name)) (ap (λ (p : Name × Shape). p.0) e) (involves (mentions_held holds_name))
@@ -33,7 +33,7 @@ defined_reached name X D h n Y (suc k, l, e) =
     involves_through (mentions_held holds_name) (zero, omega arith, refl)
     (involves_more (λ m Z i. Contains-append_right ((name, X) ∷ []) (listed D) (m, Z) i) (h n Y (k, omega (arith, l), e)))
 
--- no part
+-- No part.
 pub no_parts_reached : NoOthers no_definition (parts no_part)
 no_parts_reached name Y c = absurd (omega (arith, c.1))
 
@@ -41,7 +41,7 @@ in_others : (X : Shape) (ps : Parts) (n : Name) → Mentions n (parts ps) → Me
 in_others X ps n (mentions_parts m) = mentions_parts (mentions_later m)
 in_others X ps n (mentions_held (holds_parts h)) = mentions_held (holds_parts (holds_later h))
 
--- one part, and others behind it
+-- One part, and others behind it.
 pub part_reached : (D E : Definitions) (X : Shape) (ps : Parts) → NoOthers D X → NoOthers E (parts ps) → NoOthers (both D E) (parts (part X ps))
 part_reached D E X ps h k =
     both_reached D E (parts (part X ps)) (around_reached D X (parts (part X ps)) (λ n m. mentions_parts (mentions_first m)) h) (around_reached E (parts ps) (parts (part X ps)) (in_others X ps) k)

@@ -6,7 +6,7 @@ use Rattle.archive_check.specs.Reads.{SchemaTable}
 use Rattle.archive_check.specs.Definitions.{Definitions, Knows}
 use Rattle.archive_check.specs.Tour.{pointee_size, pointee_align}
 
--- one value, or a run of one
+-- One value, or a run of one.
 abbrev pub IsSingle : Pointee → ℕ → Type 0
 IsSingle (one X) n = Unit {0}
 IsSingle (run X) n = n ≡ 1
@@ -18,10 +18,10 @@ pub record IsRegionLayout (D : Definitions) (P : Pointee) (n : ℕ) (l : RustLay
   pub align : (s : SchemaTable) → Knows s D → l.align ≡ pointee_align s P
   pub few : (s : SchemaTable) → Knows s D → (pointee_size s P n < 2 ^ 64) ⊎ IsSingle P n
 
--- the region takes more than usize::MAX
+-- The region takes more than usize::MAX.
 abbrev pub IsLargeRegion : Definitions → Pointee → ℕ → Type 0
 IsLargeRegion D P n = (s : SchemaTable) → Knows s D → 2 ^ 64 ≤ pointee_size s P n
 
--- and has no layout: it is no single value's
+-- And has no layout: it is no single value's.
 abbrev pub HasNoLayout : Definitions → Pointee → ℕ → Type 0
 HasNoLayout D P n = IsLargeRegion D P n × (IsSingle P n → ⊥)

@@ -14,7 +14,7 @@ HavePayloadSizes D vs sizes = (s : SchemaTable) → Knows s D → (tag i : ℕ) 
 pub no_payload_sized : HavePayloadSizes no_definition no_variant (λ tag i. 0)
 no_payload_sized s k tag i Y none = absurd (cc none)
 
--- one variant, and others behind it
+-- One variant, and others behind it.
 pub payload_sized : (D E : Definitions) (ps : Parts) (sizes : ℕ → ℕ) → HaveSizes D ps sizes → (vs : Variants) (later : ℕ → ℕ → ℕ) → HavePayloadSizes E vs later
     → HavePayloadSizes (both D E) (variant ps vs) (first_variant_or sizes later)
 payload_sized D E ps sizes first vs later others s k zero i Y e = first s (knows_left s D E k) i Y e
@@ -23,7 +23,7 @@ payload_sized D E ps sizes first vs later others s k (suc tag) i Y e = others s 
 pub no_payload_within : (tag i : ℕ) → 1 + 0 ≤ 1
 no_payload_within tag i = omega arith
 
--- a part of the first variant ends where that does at most, and one of the others where the longest of these does
+-- A part of the first variant ends where that does at most, and one of the others where the longest of these does.
 pub payload_within : (begin sizes : ℕ → ℕ) (end : ℕ) → ((i : ℕ) → begin i + sizes i ≤ end) → (later later_sizes : ℕ → ℕ → ℕ) (last : ℕ) → ((tag i : ℕ) → later tag i + later_sizes tag i ≤ last)
     → (tag i : ℕ) → first_variant_or begin later tag i + first_variant_or sizes later_sizes tag i ≤ max end last
 payload_within begin sizes end within later later_sizes last others zero i = omega (arith, within i)

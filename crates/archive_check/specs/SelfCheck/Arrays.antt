@@ -12,11 +12,11 @@ use Rattle.archive_check.specs.SelfCheck.Laws.{IsCheckOf, own_check}
 use Rattle.archive_check.specs.SelfCheck.Owners.{owned_order}
 use Rattle.archive_check.specs.Words.BoundedSizes.{fits}
 
--- n elements, one behind another
+-- n elements, one behind another.
 abbrev pub array_layout : ℕ → Layout → Layout
 array_layout n L = record { size = n * L.size; align = L.align }
 
--- whether an array checks itself: its elements do, and its size is below usize::MAX
+-- Whether an array checks itself: its elements do, and its size is below usize::MAX.
 abbrev pub array_direct : Bool → ℕ → Layout → Bool
 array_direct direct n L = direct && nat_lt (n * L.size) 18446744073709551615
 
@@ -30,7 +30,7 @@ module _ (n : ℕ) (D : Definitions) (X : Shape) (L : Layout) where
   pub array_reaches : NoOthers D X → NoOthers D (array n X)
   array_reaches h = around_reached D X (array n X) (λ name m. mentions_array m) h
 
-  -- where its elements check themselves
+  -- Where its elements check themselves.
   pub array_check : (direct : Bool) (E : Definitions) (Y : Shape) (m : ℕ) (nameless : Bool) → (IsTrue direct → IsCheckOf D X L.size E Y m nameless) → IsTrue (array_direct direct n L)
       → IsCheckOf D (array n X) (n * L.size) D (array n X) (n * L.size) nameless
   array_check direct E Y m nameless h says =

@@ -17,7 +17,7 @@ use Rattle.archive_check.specs.SelfCheck.Ways.{shape_way}
 use Rattle.archive_check.specs.MissingNames.{missing}
 use Rattle.archive_check.specs.SelfCheck.Orders.{IsOrder}
 
--- under the schema, what comes of a Y comes of the X in its place
+-- Under the schema, what comes of a Y comes of the X in its place.
 abbrev pub ChecksAs : SchemaTable → Shape → Shape → Type 0
 ChecksAs t Y X = (bytes : List ℕ) (p : ℕ) (pending : List ℕ) (depth : Option ℕ) (stop start : ℕ) (seen : Seen) (o : Outcome) → shape_way bytes p Y t pending depth stop start seen o → shape_way bytes p X t pending depth stop start seen o
 
@@ -32,14 +32,14 @@ pub record IsCheckOf (D : Definitions) (X : Shape) (size : ℕ) (E : Definitions
   pub leads : (t : SchemaTable) → Knows t D → ChecksAs t Y X
   pub plain : IsTrue nameless → listed D ≡ []
 
--- a type that says no has no law to show
+-- A type that says no has no law to show.
 pub by_schema : {A : Type 0} → IsTrue false → A
 by_schema says = absurd (true≢false (sym says))
 
 pub no_more : (n : ℕ) → nat_le n n ≡ true
 no_more n = grind (arith, nat_tests)
 
--- the check of a type's own shape
+-- The check of a type's own shape.
 pub own_check : (D : Definitions) (X : Shape) (size : ℕ) (order : Table) (nameless : Bool) → fits size ≡ Some size → IsOrder D X order → (IsTrue nameless → listed D ≡ []) → IsCheckOf D X size D X size nameless
 own_check D X size order nameless small ordered plain = record {
   within = no_more size;
@@ -51,7 +51,7 @@ own_check D X size order nameless small ordered plain = record {
   plain = plain;
 }
 
--- so is that of a type which holds no name
+-- So is that of a type which holds no name.
 pub plain_check : {nameless : Bool} (X : Shape) (size : ℕ) → fits size ≡ Some size → missing true [] X ≡ None → IsCheckOf no_definition X size no_definition X size nameless
 plain_check {nameless = nameless} X size small none = own_check no_definition X size [] nameless small (record { has = tt; only = tt; once = tt; root = none; closed = tt; placed = tt }) (λ says. refl)
 
@@ -75,11 +75,11 @@ leaf_fits (raw_rel sign w32) = refl
 leaf_fits (raw_rel sign w64) = refl
 leaf_fits (raw_rel sign w128) = refl
 
--- the check of a leaf
+-- The check of a leaf.
 pub leaf_check : {nameless : Bool} (kind : Kind) → IsCheckOf no_definition (leaf kind) (kind_size kind) no_definition (leaf kind) (kind_size kind) nameless
 leaf_check kind = plain_check (leaf kind) (kind_size kind) (leaf_fits kind) refl
 
--- what comes of a name's definition comes of the name
+-- What comes of a name's definition comes of the name.
 pub named_checks_as : (t : SchemaTable) (name : Name) (X : Shape) → definition t.table name ≡ Some X → ChecksAs t X (named name)
 named_checks_as t name X d bytes p pending depth stop start seen (done l k) w = walk_named d w
 named_checks_as t name X d bytes p pending depth stop start seen (refused f) w = trips_named d w

@@ -11,16 +11,16 @@ use Rattle.archive_check.specs.Words.BoundedSizes.{fits}
 use Rattle.archive_check.specs.SelfCheck.Orders.{AllIn, IsOrder}
 use Rattle.archive_check.specs.SelfCheck.Laws.{IsCheckOf}
 
--- the definitions of an X are in some order
+-- The definitions of an X are in some order.
 abbrev pub HasOrder : Definitions → Shape → Type 0
 HasOrder D X = (order : Table) × IsOrder D X order
 
--- parts that check themselves: they bring no definition where they are nameless, and their definitions are in an order where they are lone
+-- Parts that check themselves: they bring no definition where they are nameless, and their definitions are in an order where they are lone.
 pub record AreOrdered (D : Definitions) (ps : Parts) (nameless lone : Bool) : Type 0 where
   pub plain : IsTrue nameless → IsOrder D (parts ps) []
   pub ordered : IsTrue lone → HasOrder D (parts ps)
 
--- whether parts check themselves with no name of their own: each does, they are lone, and their size is below usize::MAX
+-- Whether parts check themselves with no name of their own: each does, they are lone, and their size is below usize::MAX.
 abbrev pub tuple_direct : Bool → Bool → ℕ → Bool
 tuple_direct direct lone size = (direct && lone) && nat_lt size 18446744073709551615
 
@@ -69,7 +69,7 @@ pub none_listed : (ds : Table) → AllIn [] ds → ds ≡ []
 none_listed [] h = refl
 none_listed (d ∷ ds) h = (let first = h.0 in cc)
 
--- an order of the same definitions is one of another shape that misses none
+-- an order of the same definitions is one of another shape that misses none.
 same_order : (D E : Definitions) (X Y : Shape) (order : Table) → listed E ≡ listed D → missing true order Y ≡ None → IsOrder D X order → IsOrder E Y order
 same_order D E X Y order same root o = record { has = rw same o.has; only = rw same o.only; once = o.once; root = root; closed = o.closed; placed = o.placed }
 
@@ -93,7 +93,7 @@ pub or_parts : (a b : Bool) → IsTrue (a || b) → IsTrue a ⊎ IsTrue b
 or_parts true b says = inl refl
 or_parts false b says = inr says
 
--- no part
+-- No part.
 pub none_ordered : AreOrdered no_definition no_part true true
 none_ordered = record {
   plain = λ says. record { has = tt; only = tt; once = tt; root = refl; closed = tt; placed = tt };
@@ -129,7 +129,7 @@ small_fits n h = grind (arith, nat_tests)
 no_longer : (n size : ℕ) → n ≤ size → nat_le n size ≡ true
 no_longer n size h = grind (arith, nat_tests)
 
--- the check of parts with no name of their own
+-- The check of parts with no name of their own.
 pub tuple_check : (D : Definitions) (ps : Parts) (size n : ℕ) (direct nameless lone : Bool) → n ≤ size → (IsTrue direct → AreOrdered D ps nameless lone) → IsTrue (tuple_direct direct lone size)
     → IsCheckOf D (parts ps) size D (parts ps) n nameless
 tuple_check D ps size n direct nameless lone within h says =

@@ -14,7 +14,7 @@ use Rattle.archive_check.specs.SelfCheck.Laws.{IsCheckOf, own_check}
 use Rattle.archive_check.specs.SelfCheck.Lone.{AreOrdered, tuple_direct, none_listed}
 use Rattle.archive_check.specs.SelfCheck.Owners.{owned_order}
 
--- where an entry ends whose key and value have these layouts, and what it takes with the padding behind it
+-- Where an entry ends whose key and value have these layouts, and what it takes with the padding behind it.
 abbrev pub entry_end : Layout → Layout → ℕ
 entry_end k v = up (up 0 k.align + k.size) v.align + v.size
 
@@ -24,11 +24,11 @@ entry_align k v = max k.align (max v.align 1)
 abbrev pub entry_size : Layout → Layout → ℕ
 entry_size k v = up (entry_end k v) (entry_align k v)
 
--- the definitions of a key and a value
+-- The definitions of a key and a value.
 abbrev pub entry_definitions : Definitions → Definitions → Definitions
 entry_definitions D E = both D (both E no_definition)
 
--- whether both check themselves, and whether they bring no definitions, or one of them alone, as parts of a record do
+-- Whether both check themselves, and whether they bring no definitions, or one of them alone, as parts of a record do.
 abbrev pub entry_direct : Bool → Bool → Bool
 entry_direct k v = k && (v && true)
 
@@ -38,15 +38,15 @@ entry_nameless k v = k && (v && true)
 abbrev pub entry_lone : Bool → Bool → Bool
 entry_lone k v = (v && true) || (k && (true || (v && true)))
 
--- a pointer to n entries of a map
+-- A pointer to n entries of a map.
 abbrev pub to_entries : ℤ → Key → Shape → ℕ → Pointer
 to_entries z K V n = record { target = z; sharing = None; order = Some K; pointee = run (entry_of K V); length = n }
 
--- the region of entries that a pointer to z leads to
+-- The region of entries that a pointer to z leads to.
 abbrev pub entries_at : List ℕ → ℤ → ℕ → Key → Shape → Way
 entries_at bytes z n K V = enter_way bytes (to_entries z K V n)
 
--- a key mentions no name, so an entry mentions those of its value
+-- A key mentions no name, so an entry mentions those of its value.
 no_name_held : {n : Name} (K : Key) → Holds n (key_shape K) → ⊥
 no_name_held (leaf_key kind) h = elim h [ ]
 no_name_held str_key h = elim h [ ]
@@ -70,14 +70,14 @@ or_nothing : (o : Option Name) → o ≡ or_else o None
 or_nothing None = refl
 or_nothing (Some name) = refl
 
--- an entry misses what its value does
+-- an entry misses what its value does.
 entry_misses : (table : Table) (K : Key) (V : Shape) → missing true table (sorted_map K V) ≡ missing true table (entry_of K V)
 entry_misses table (leaf_key kind) V = or_nothing (missing true table V)
 entry_misses table str_key V = or_nothing (missing true table V)
 
 -- of what an entry of such a map is a record of
 module _ (D : Definitions) (K : Key) (V : Shape) (ps : Parts) (is : parts ps ≡ entry_of K V) where
-  -- the check of the map
+  -- The check of the map.
   pub map_check : (direct nameless lone : Bool) (size : ℕ) → (IsTrue direct → AreOrdered D ps nameless lone) → IsTrue (tuple_direct direct lone size) → IsCheckOf D (sorted_map K V) 8 D (sorted_map K V) 8 nameless
   map_check direct nameless lone size h says =
       let (each, small) = and_parts (direct && lone) (nat_lt size 18446744073709551615) says in
@@ -87,6 +87,6 @@ module _ (D : Definitions) (K : Key) (V : Shape) (ps : Parts) (is : parts ps ≡
       let root : missing true o.0 (sorted_map K V) ≡ missing true o.0 (parts ps) = entry_misses o.0 K V ∙ sym (ap (λ Y. missing true o.0 Y) is) in
       own_check D (sorted_map K V) 8 o.0 nameless refl (owned_order D (parts ps) (sorted_map K V) o.0 root o.1) (λ none. none_listed (listed D) (r.plain none).has)
 
-  -- it reaches what its entries do
+  -- It reaches what its entries do.
   pub map_reaches : NoOthers D (parts ps) → NoOthers D (sorted_map K V)
   map_reaches h = around_reached D (entry_of K V) (sorted_map K V) (λ n m. mentions_map (entry_mentions K m)) (rw is at h)

@@ -14,26 +14,26 @@ use Rattle.archive_check.specs.SelfCheck.Orders.{IsOrder}
 use Rattle.archive_check.specs.SelfCheck.Laws.{IsCheckOf, ChecksAs, own_check, plain_check, no_more}
 use Rattle.archive_check.specs.MissingNames.{missing}
 
--- an order of what lies there is one of the owner, which mentions the same names
+-- an order of what lies there is one of the owner, which mentions the same names.
 pub owned_order : (D : Definitions) (X Y : Shape) (order : Table) → missing true order Y ≡ missing true order X → IsOrder D X order → IsOrder D Y order
 owned_order D X Y order same o = record { has = o.has; only = o.only; once = o.once; root = same ∙ o.root; closed = o.closed; placed = o.placed }
 
 -- from the law of an X, with definitions E, shape Y and n bytes for its check, and whether that is nameless
 module _ (D : Definitions) (X : Shape) (size : ℕ) (E : Definitions) (Y : Shape) (n : ℕ) (nameless : Bool) where
-  -- a vector of them
+  -- A vector of them.
   pub vec_check : IsCheckOf D X size E Y n nameless → IsCheckOf D (vec X) 8 D (vec X) 8 nameless
   vec_check c = own_check D (vec X) 8 c.order nameless refl (owned_order D X (vec X) c.order refl c.ordered) c.plain
 
-  -- a box of one
+  -- A box of one.
   pub one_check : (P : Pointee) → P ≡ one X → IsCheckOf D X size E Y n nameless → IsCheckOf D (boxed P) (pointer_size P) D (boxed (one X)) 4 nameless
   one_check P is c = rw is (own_check D (boxed (one X)) 4 c.order nameless refl (owned_order D X (boxed (one X)) c.order refl c.ordered) c.plain)
 
-  -- what comes of a vector comes of a box of a slice
+  -- What comes of a vector comes of a box of a slice.
   vec_checks_as : (t : SchemaTable) → ChecksAs t (vec X) (boxed (run X))
   vec_checks_as t bytes p pending depth stop start seen (done l k) (walk_vec w) = walk_boxed w
   vec_checks_as t bytes p pending depth stop start seen (refused f) (trips_vec w) = trips_boxed w
 
-  -- so it is checked as a vector
+  -- So it is checked as a vector.
   pub run_check : IsCheckOf D X size E Y n nameless → IsCheckOf D (boxed (run X)) 8 D (vec X) 8 nameless
   run_check c = record {
     within = no_more 8;
@@ -45,7 +45,7 @@ module _ (D : Definitions) (X : Shape) (size : ℕ) (E : Definitions) (Y : Shape
     plain = c.plain;
   }
 
--- a box of a text
+-- A box of a text.
 pub text_check : {nameless : Bool} → IsCheckOf no_definition (boxed text) 8 no_definition (boxed text) 8 nameless
 text_check = plain_check (boxed text) 8 refl refl
 

@@ -11,23 +11,23 @@ use Rattle.archive_check.specs.Definitions.{IsAlign}
 use Rattle.archive_check.specs.Outcomes.{done, refused}
 use Rattle.archive_check.specs.SelfCheck.Ways.{Way}
 
--- the pointer is followed
+-- The pointer is followed.
 abbrev pub follow_way : List ℕ → Pointer → Way
 follow_way bytes p s pending depth stop start seen (done later last) = Follow s bytes pending depth stop p start seen later last
 follow_way bytes p s pending depth stop start seen (refused f) = TripsFollow s bytes pending depth stop p start seen f
 
--- what a region holds, at t
+-- What a region holds, at t.
 abbrev pub contents_way : List ℕ → ℕ → Option Key → Pointee → ℕ → Way
 contents_way bytes t o P n s pending depth stop start seen (done later last) = WalkContents s bytes pending depth stop t o P n start seen later last
 contents_way bytes t o P n s pending depth stop start seen (refused f) = TripsContents s bytes pending depth stop t o P n start seen f
 
--- n entries of a map, the first at p, behind the one before it
+-- n entries of a map, the first at p, behind the one before it.
 abbrev pub entries_way : List ℕ → Option ℕ → ℕ → ℕ → Key → Shape → Way
 entries_way bytes before p n K V s pending depth stop start seen (done later last) =
     WalkRun s bytes pending depth stop p n (entry_of K V) start seen later last × Ascend K bytes before p (size_of s.layouts (entry_of K V)) n
 entries_way bytes before p n K V s pending depth stop start seen (refused f) = TripsEntries s bytes pending depth stop before p n K V start seen f
 
--- an alignment is no 0
+-- an alignment is no 0.
 pub align_some : (a : ℕ) → IsAlign a → 1 ≤ a
 align_some a (inl e) = omega arith
 align_some a (inr (inl e)) = omega arith
@@ -36,10 +36,10 @@ align_some a (inr (inr (inr (inl e)))) = omega arith
 align_some a (inr (inr (inr (inr (inl e))))) = omega arith
 align_some a (inr (inr (inr (inr (inr e))))) = omega arith
 
--- parts end no lower behind one part more
+-- Parts end no lower behind one part more.
 pub rises_over : (n a z : ℕ) → IsAlign a → (end : ℕ → ℕ) → ((m : ℕ) → m ≤ end m) → n ≤ end (up n a + z)
 rises_over n a z is end rises = omega (arith, align_some a is, rises (up n a + z))
 
--- nothing ends below itself
+-- Nothing ends below itself.
 pub no_lower : (n : ℕ) → n ≤ n
 no_lower n = omega arith

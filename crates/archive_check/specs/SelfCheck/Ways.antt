@@ -14,30 +14,30 @@ use Rattle.archive_check.specs.Definitions.{Definitions, Knows}
 use Rattle.archive_check.specs.Outcomes.{Outcome, done, refused}
 use Rattle.archive_check.specs.context.FreshContexts.{HasLevels}
 
--- a way through an archive, under a schema: by what is pending, the levels left, the range's end and start, what is seen, and the outcome
+-- A way through an archive, under a schema: by what is pending, the levels left, the range's end and start, what is seen, and the outcome.
 abbrev pub Way : Type 1
 Way = SchemaTable → List ℕ → Option ℕ → ℕ → ℕ → Seen → Outcome → Type 0
 
--- the X at p: the walk through it, or the trail to a fault in it
+-- The X at p: the walk through it, or the trail to a fault in it.
 abbrev pub shape_way : List ℕ → ℕ → Shape → Way
 shape_way bytes p X s pending depth stop start seen (done later last) = Walk s bytes pending depth stop p X start seen later last
 shape_way bytes p X s pending depth stop start seen (refused f) = Trips s bytes pending depth stop p X start seen f
 
--- the parts from an offset on, of what begins at p
+-- The parts from an offset on, of what begins at p.
 abbrev pub parts_way : List ℕ → ℕ → ℕ → Parts → Way
 parts_way bytes p at ps s pending depth stop start seen (done later last) = WalkParts s bytes pending depth stop p at ps start seen later last
 parts_way bytes p at ps s pending depth stop start seen (refused f) = TripsParts s bytes pending depth stop p at ps start seen f
 
--- n of X, the first at p
+-- n of X, the first at p.
 abbrev pub run_way : List ℕ → ℕ → ℕ → Shape → Way
 run_way bytes p n X s pending depth stop start seen (done later last) = WalkRun s bytes pending depth stop p n X start seen later last
 run_way bytes p n X s pending depth stop start seen (refused f) = TripsRun s bytes pending depth stop p n X start seen f
 
--- a pointer to a region that is its own alone
+-- A pointer to a region that is its own alone.
 abbrev pub owned : ℤ → Pointee → ℕ → Pointer
 owned z P n = record { target = z; sharing = None; order = None; pointee = P; length = n }
 
--- the region is entered that the pointer leads to
+-- The region is entered that the pointer leads to.
 abbrev pub enter_way : List ℕ → Pointer → Way
 enter_way bytes p s pending depth stop start seen (done later last) = (t : ℕ) × Enter s bytes pending depth stop p t start seen later last
 enter_way bytes p s pending depth stop start seen (refused f) = TripsEnter s bytes pending depth stop p start seen f
@@ -56,13 +56,13 @@ Halts D W s e = HasLevels s.depth → (f : Fault) × IsFor f e × ((t : SchemaTa
 abbrev pub AreGood : Definitions → List ℕ → ℕ → ℕ → Shape → ℕ → Type 0
 AreGood D bytes p z X n = (k : ℕ) (s : RangeState) → k < n → Goes D (shape_way bytes (p + k * z) X) s s
 
--- the parts of the variant with this tag are gone through
+-- The parts of the variant with this tag are gone through.
 pub record VariantGoes (D : Definitions) (bytes : List ℕ) (base : ℕ) (vs : Variants) (tag : ℕ) (s s' : RangeState) : Type 0 where
   pub parts : Parts
   pub at : variant_at vs tag ≡ Some parts
   pub goes : Goes D (parts_way bytes base 1 parts) s s'
 
--- they come to a fault
+-- They come to a fault.
 pub record VariantHalts (D : Definitions) (bytes : List ℕ) (base : ℕ) (vs : Variants) (tag : ℕ) (s : RangeState) (e : Error) : Type 0 where
   pub parts : Parts
   pub at : variant_at vs tag ≡ Some parts

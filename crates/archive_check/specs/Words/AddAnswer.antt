@@ -7,7 +7,7 @@ use Rattle.archive_check.specs.declared.format.expr.Expr.{Expr}
 use Rattle.archive_check.specs.Shape.{Shape}
 use Rattle.archive_check.specs.Expressions.{shape_of}
 
--- an expression is found where there is a shape, and has that shape
+-- an expression is found where there is a shape, and has that shape.
 abbrev pub IsFound : Option (Bor Expr) → Option Shape → Type 0
 IsFound None shape = shape ≡ None
 IsFound (Some expr) shape = shape ≡ Some (shape_of expr.now)

@@ -2,16 +2,16 @@
 use Rattle.std.specs.Prelude.{ℕ, Option, Some, None, nat_lt, if◌then◌else◌, ◌*◌, cond, nat_eq}
 use Rattle.archive_check.specs.Layout.{up}
 
--- a number, or None where it is above usize::MAX
+-- A number, or None where it is above usize::MAX.
 abbrev pub fits : ℕ → Option ℕ
 fits n = if nat_lt n 18446744073709551616 then Some n else None
 
--- rounded up
+-- Rounded up.
 abbrev pub rounded : Option ℕ → ℕ → Option ℕ
 rounded None a = None
 rounded (Some n) a = fits (up n a)
 
--- what n of a size take
+-- What n of a size take.
 abbrev pub times : Option ℕ → ℕ → Option ℕ
 times None n = cond (nat_eq n 0) (Some 0) None
 times (Some z) n = if nat_lt (z * n) 18446744073709551616 then Some (z * n) else None

@@ -28,6 +28,6 @@ IsFor no_text e = e ≡ InvalidUtf8
 IsFor no_string e = e ≡ InvalidStringRepr
 IsFor unsorted e = e ≡ UnsortedKeys
 
--- an error that a check can return, in whatever context: memory was refused, or a fault is said
+-- an error that a check can return, in whatever context: memory was refused, or a fault is said.
 abbrev pub IsOfCheck : Error → Type 0
 IsOfCheck e = (e ≡ OutOfMemory) ⊎ ((fault : Fault) × IsFor fault e)

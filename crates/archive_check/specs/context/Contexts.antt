@@ -10,14 +10,14 @@ use Rattle.archive_check.specs.Archives.{IsArchiveWithin, IsRefusal, ExplainsNoA
 use Rattle.archive_check.specs.context.FreshContexts.{IsWholeIn}
 
 module _ {C M : Type 0} (f : FormatOf M) (k : Context.Ghosts C) (c : Both (MutBor C) (MutBor C)) where
-  -- in such a context: what is accepted is an archive of the type, with its root at p
+  -- In such a context: what is accepted is an archive of the type, with its root at p.
   abbrev pub AcceptsIn : List ℕ → ℕ → Result (Unit {0}) Error → Type 0
   AcceptsIn bytes p result = OnOk result (IsWholeIn k c.entry.now bytes → IsArchiveWithin f.definitions bytes (k.state c.entry.now).depth p f.shape)
 
-  -- what is refused has a fault, and the refusal says the first
+  -- What is refused has a fault, and the refusal says the first.
   abbrev pub RefusesIn : List ℕ → ℕ → Result (Unit {0}) Error → Type 0
   RefusesIn bytes p result = IfErr result (λ e. IsWholeIn k c.entry.now bytes → IsRefusal f.definitions bytes (k.state c.entry.now).depth p f.shape e)
 
-  -- and is no archive, want of memory aside
+  -- And is no archive, want of memory aside.
   abbrev pub IsExactIn : List ℕ → ℕ → Result (Unit {0}) Error → Type 0
   IsExactIn bytes p result = IfErr result (λ e. IsWholeIn k c.entry.now bytes → ExplainsNoArchive f.definitions bytes (k.state c.entry.now).depth p f.shape e)

@@ -14,21 +14,21 @@ use Rattle.archive_check.specs.context.Ranges.{RangeState, subtree_answer, pushe
 use Rattle.archive_check.specs.context.PositionStates.{Positions}
 
 module _ {C : Type 0} (state : C → RangeState) (positions : C → Positions) where
-  -- the context at the left is in the state s, and met what the one at the right did
+  -- The context at the left is in the state s, and met what the one at the right did.
   pub record IsInState (c : C) (s : RangeState) (d : C) : Type 0 where
     pub state_is : state c ≡ s
     pub positions_are : positions c ≡ positions d
 
-  -- the call may be made in each context that an accepted region's push leaves
+  -- The call may be made in each context that an accepted region's push leaves.
   abbrev pub IsCallable : (MutBor C → Type 0) → C → ℤ → ℕ → ℕ → Type 0
   IsCallable May old position size align =
       (inner : MutBor C) (root : ℕ) → subtree_answer (state old) position size align ≡ Ok tt → position ≡ pos root → IsInState inner.now (pushed (state old) root) old → May inner
 
-  -- the same, whatever layout a pointer to P with this length has
+  -- The same, whatever layout a pointer to P with this length has.
   abbrev pub IsCallableIn : (MutBor C → Type 0) → Definitions → Pointee → ℕ → C → ℤ → Type 0
   IsCallableIn May D P length old position = (layout : Layout) → IsRegionLayout D P length layout → IsCallable May old position layout.size layout.align
 
-  -- the region at root is accepted and entered, with a level left: what context that leaves
+  -- The region at root is accepted and entered, with a level left: what context that leaves.
   pub record IsEntered (old : C) (position : ℤ) (size align root : ℕ) (inner : C) : Type 0 where
     pub accepted : subtree_answer (state old) position size align ≡ Ok tt
     pub level_left : (state old).depth ≡ Some 1 → ⊥
@@ -67,7 +67,7 @@ module _ {C : Type 0} (state : C → RangeState) (positions : C → Positions) w
         → IsInState new (popped (state after) (root + size) (state old).end) after
         → InSubtree Call Gives old position size align (Ok r) new
 
-  -- `InRegion Call Gives D P length old position result new`: the same of the region of a pointer to P with this length, whose layout is made first
+  -- `InRegion Call Gives D P length old position result new`: the same of the region of a pointer to P with this length, whose layout is made first.
   pub data InRegion {R E : Type 0} (Call : C → Result R E → C → Type 0) (Gives : Error → E → Type 0) (D : Definitions) (P : Pointee) (length : ℕ) (old : C) (position : ℤ) : Result R E → C → Type 0 where
     layout_refused : {given : E}
         → HasNoLayout D P length
@@ -87,7 +87,7 @@ module _ {C : Type 0} (k : Context.Ghosts C) where
   abbrev pub CalledIn : {R E : Type 0} → (C → Result R E → C → Type 0) → (Error → E → Type 0) → Both (MutBor C) (MutBor C) → ℤ → Layout → Result R E → Type 0
   CalledIn Call Gives c position layout result = InSubtree k.state k.positions Call Gives c.entry.now position layout.size layout.align result c.exit.now
 
-  -- and of a pointer to such a pointee, with this length
+  -- And of a pointer to such a pointee, with this length.
   abbrev pub MayCallAt : {T M : Type 0} → (MutBor C → Type 0) → ArchivePointee.Ghosts T M → MutBor C → ℤ → ℕ → Type 0
   MayCallAt May p c position length = IsCallableIn k.state k.positions May p.definitions p.pointee length c.now position
 

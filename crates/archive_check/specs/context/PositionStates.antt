@@ -15,23 +15,23 @@ use Rattle.archive_check.specs.Expressions.{flavor_of, pointee_of}
 use Rattle.archive_check.specs.Shape.{Flavor, Pointee}
 use Rattle.archive_check.specs.Tour.{Entry}
 
--- how a position was first met, and whether what lies there is checked to its end
+-- How a position was first met, and whether what lies there is checked to its end.
 pub record PositionState : Type 0 where
   pub entry : Entry
   pub finished : Bool
 
--- how a position is met now
+-- How a position is met now.
 abbrev pub entry_as : FlavorInfo → PointeeExpr → ℕ → Entry
 entry_as flavor pointee length = record { flavor = flavor_of flavor; pointee = pointee_of pointee; length = length }
 
--- what was met at each position
+-- What was met at each position.
 abbrev pub Positions : Type 0
 Positions = ℤ → Option PositionState
 
 abbrev pub nothing_met : Positions
 nothing_met position = None
 
--- one flavor and one pointee, as they are written
+-- One flavor and one pointee, as they are written.
 abbrev pub SameType : Entry → Entry → Type 0
 SameType old new = (old.flavor ≡ new.flavor) × (old.pointee ≡ new.pointee)
 
@@ -45,20 +45,20 @@ IsStartAnswer (Some old) new (Err TypeMismatch) = SameType old.entry new → ⊥
 IsStartAnswer (Some old) new (Err MetadataMismatch) = SameType old.entry new × (old.entry.length ≢ new.length)
 IsStartAnswer (Some old) new (Err e) = ⊥
 
--- a position was met so, and is finished
+-- A position was met so, and is finished.
 abbrev pub IsFinishedAs : Option PositionState → Entry → Type 0
 IsFinishedAs met new = met ≡ Some (record { entry = new; finished = true })
 
--- no position is finished that was met so, whatever its length
+-- No position is finished that was met so, whatever its length.
 abbrev pub NoneFinishedAs : Positions → FlavorInfo → PointeeExpr → Type 0
 NoneFinishedAs met flavor pointee = (position : ℤ) (length : ℕ) → IsFinishedAs (met position) (entry_as flavor pointee length) → ⊥
 
--- the result is whether a position is finished that was met with this length, and with a flavor and a pointee of which this is so
+-- The result is whether a position is finished that was met with this length, and with a flavor and a pointee of which this is so.
 abbrev pub IsFinishedAnswer : (Flavor → Pointee → Type 0) → Option PositionState → ℕ → Bool → Type 0
 IsFinishedAnswer numbered met length answer =
     (flavor : Flavor) (pointee : Pointee) → numbered flavor pointee → IsTrue answer ↔ IsFinishedAs met (record { flavor = flavor; pointee = pointee; length = length })
 
--- a position that wasn't met is pending now, one that was stays as it was
+-- A position that wasn't met is pending now, one that was stays as it was.
 abbrev pub started_at : Option PositionState → Entry → PositionState
 started_at None new = record { entry = new; finished = false }
 started_at (Some old) new = old
@@ -66,8 +66,8 @@ started_at (Some old) new = old
 abbrev pub started : Positions → ℤ → Entry → Positions
 started met position new = update int_eq met position (Some (started_at (met position) new))
 
--- it was started as one of this flavor, pointee and length. `Both` is a parameter as a clause names it: what it was as the call began, and what it is at
--- the return
+-- It was started as one of this flavor, pointee and length. `Both` is a parameter as a clause names it: what it was as the call began, and what it is at
+-- the return.
 abbrev pub Starts : {A : Type 0} → (A → Positions) → Both (MutBor A) (MutBor A) → ℤ → Both (Bor FlavorInfo) (Bor FlavorInfo) → Both (Bor PointeeExpr) (Bor PointeeExpr) → ℕ → Type 0
 Starts met c position flavor pointee length =
     met c.exit.now ≡ started (met c.entry.now) position (entry_as flavor.entry.now pointee.entry.now length)

@@ -10,31 +10,31 @@ use Rattle.archive_check.specs.context.SharedPositions.{positions_in, HasType, I
 use Rattle.archive_check.specs.context.FirstPositions.{first_met}
 use Rattle.archive_check.specs.Shape.{Flavor, Pointee}
 
--- the positions that a validator of shared ones met
+-- The positions that a validator of shared ones met.
 abbrev pub positions_of : {A : Type 0} → SharedValidator A → Positions
 positions_of v = positions_in v.shared_types.items (get int_eq v.positions)
 
--- those that were met: the first is kept alone until there is another, for which a list is made
+-- Those that were met: the first is kept alone until there is another, for which a list is made.
 abbrev pub positions_met : {A B : Type 0} → Option FirstPosition → Option (Box (SharedValidator A) B) → Positions
 positions_met first (Some v) = positions_of v.value
 positions_met (Some first) None = first_met first
 positions_met None None = nothing_met
 
--- its number of a flavor and a pointee: where they stand in its list
+-- Its number of a flavor and a pointee: where they stand in its list.
 abbrev pub numbered_of : {A : Type 0} → SharedValidator A → ℕ → Flavor → Pointee → Type 0
 numbered_of v = HasType v.shared_types.items
 
--- where the first position is kept alone, its type has every number
+-- Where the first position is kept alone, its type has every number.
 abbrev pub numbered_met : {A B : Type 0} → Option FirstPosition → Option (Box (SharedValidator A) B) → ℕ → Flavor → Pointee → Type 0
 numbered_met first (Some v) number flavor pointee = numbered_of v.value number flavor pointee
 numbered_met (Some first) None number flavor pointee = IsType first.shared_type flavor pointee
 numbered_met None None number flavor pointee = ⊥
 
--- how many more it can keep without taking memory for them
+-- How many more it can keep without taking memory for them.
 abbrev pub room_of : {A : Type 0} → SharedValidator A → ℕ
 room_of v = spare v.positions
 
--- the two contexts of a validator of both
+-- The two contexts of a validator of both.
 abbrev pub archive_of : {A S : Type 0} → Validator A S → A
 archive_of v = v.archive
 

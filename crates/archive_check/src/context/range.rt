@@ -50,7 +50,8 @@ fn outside(position: i128, size: usize, start: usize, end: usize) -> Error
     }
 }
 
-/// The range of one buffer, with the levels that are left and a count of the regions that were entered. As in rkyv 0.8.18, but for the count.
+/// The range of one buffer, the levels that are left, and how many regions were entered. As in rkyv
+/// 0.8.18, but for the count.
 #[derive(Drop)]
 pub struct ArchiveValidator<'a> {
     start: usize,

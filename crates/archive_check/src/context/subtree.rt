@@ -10,9 +10,9 @@ use crate::format::traits::LayoutRaw;
 
 /// What is made of the calls of any `ArchiveContext`.
 pub trait ArchiveContextExt: ArchiveContext {
-    /// Checks the region of `layout` at `position`, enters it, calls `f`, and leaves it, up to the
-    /// first error, which may be that of `f`. The caller must ensure that `f` may be called in each
-    /// state that entering leaves. As in rkyv 0.8.18, with a position for an address.
+    /// Enters the region of `layout` at `position`, calls `f`, and leaves it. Stops at the first
+    /// error, which may be that of `f`. The caller must ensure that `f` may be called in each state
+    /// that entering leaves. As in rkyv 0.8.18, with a position for an address.
     ///
     /// Errors, besides those of `f`:
     /// - `InvalidSubtreePointer`, `UnalignedPointer`, `ExceededMaximumSubtreeDepth`: of entering.

@@ -58,8 +58,8 @@ pub fn read_i32(bytes: &[u8], p: usize) -> i32
     i32::from_le_bytes([bytes[p], bytes[p + 1], bytes[p + 2], bytes[p + 3]])
 }
 
-/// Where the offset in the four bytes at `p` leads, which counts from `q`, be it in the buffer or
-/// not. The caller must ensure that the four bytes lie in the buffer.
+/// Where the offset at `p` leads, counted from `q`, be it in the buffer or not. The caller must
+/// ensure that the four bytes lie in the buffer.
 pub fn read_position(bytes: &[u8], q: usize, p: usize) -> i128
     requires { p + 4 ≤ length bytes.now }
     ensures { result ≡ pos q +ℤ i32_at bytes.now p }

@@ -14,9 +14,9 @@ use crate::format::error::Error;
 use crate::format::traits::Portable;
 
 /// Checks that `bytes` are an archive whose root, a `T` that validates itself, lies at `pos`; any
-/// other `T` is rejected. It takes no memory. Exact in a fresh context for these bytes. In any
-/// context at most one region is entered, and one for each four bytes of its range; levels left
-/// before a success are left after it.
+/// other `T` is rejected. It takes no memory. Exact in a fresh context. In any context at most one
+/// region is entered, and one for each four bytes of its range; levels left before a success are
+/// left after it.
 ///
 /// Fails with the first fault, in the order of docs/FORMAT.md, with levels left always one of a
 /// check.

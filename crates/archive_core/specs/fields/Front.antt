@@ -7,7 +7,7 @@ use Rattle.archive_check.specs.Value.{Value}
 use Rattle.archive_check.specs.CleanRegions.{IsZeroed}
 use Rattle.archive_types.specs.Writing.{Resolves}
 
--- an X stands behind zeros up to its alignment, from the offset start of what begins at p on, and ends at the offset end; the bytes behind it stayed
+-- an X stands behind zeros up to its alignment, from the offset start of what begins at p on, and ends at the offset end; the bytes behind it stayed.
 pub record FrontPut (D : Definitions) (X : Shape) (L : Layout) (flat : Value) (p start : ℕ) (old new : List ℕ) (end : ℕ) : Type 0 where
   pub ends : end ≡ up start L.align + L.size
   pub zeros : List ℕ

@@ -28,12 +28,12 @@ use Rattle.archive_core.specs.declared.recursive.chain.write.WrittenHead.TheVari
 use Rattle.archive_core.specs.declared.recursive.chain.read.ReadHead.{ReadHead}
 use Rattle.archive_core.specs.declared.recursive.chain.read.ReadHead.TheVariants as Back
 
--- what a value's box holds is borrowed
+-- What a value's box holds is borrowed.
 abbrev pub IsRestOf : {T : Type 0} → Option T → Option (Bor T) → Type 0
 IsRestOf rest None = rest ≡ None
 IsRestOf rest (Some x) = rest ≡ Some x.now
 
--- how many boxes, products and choices there are in a value, one in another or side by side
+-- How many boxes, products and choices there are in a value, one in another or side by side.
 abbrev mutual
   pub weight : Value → ℕ
   weight (box v) = suc (weight v)
@@ -58,7 +58,7 @@ pub record IsWrittenUpTo (D : Definitions) (X : Shape) (keys : List Naming) (v :
   pub unwritten : (new : WriterState) (e : Error) → GoesOn mid new → IsRefused D (boxed (one X)) ks (box m) mid new e → IsRefused D X keys v old new e
   pub lighter : weight m < weight v
 
--- what comes of a value's head: all of it is written, or all but its box
+-- What comes of a value's head: all of it is written, or all but its box.
 abbrev pub HeadSerialized : {T A R M C S K : Type 0} → Archive.Ghosts T A R C M → FormatOf M → (T → Option T) → (K → ℕ → R) → T → Keys.Ghosts S → Both (MutBor S) (MutBor S) → WrittenHead R K → Type 0
 HeadSerialized a f rest closed v k w (Written.Whole r) = Serialized f.definitions f.shape (a.keys v) (a.meaning v) (a.flat v r) (k.state w.entry.now) (k.state w.exit.now) × a.belongs v r
 HeadSerialized {T = T} a f rest closed v k w (Written.Open kept) =
@@ -72,7 +72,7 @@ pub record IsFront (keeps : Bool) (D : Definitions) (P : Pointee) (L : Layout) (
   pub done : (new : Entries) (m : Value) (ks : List Naming) → ReadsBack keeps D bytes (target_from bytes at at) P (length_at bytes at P) mid new m ks → ReadsBack keeps D bytes q P n old new (around m) (keys_around ks)
   pub broken : (e : Error) → RefusesReading D bytes (target_from bytes at at) P (length_at bytes at P) mid e → RefusesReading D bytes q P n old e
 
--- what comes of a part's head: all of it is read back, or what stands before its box
+-- What comes of a part's head: all of it is read back, or what stands before its box.
 abbrev pub HeadIsRead : {M T A R C N D E F : Type 0} → FormatOf M → Both RawView E → Entries.Ghosts D → Both (MutBor D) (MutBor D) → Archive.Ghosts T A R C N → (F → Value → Value) → (F → List Naming → List Naming) → ReadHead T F → Type 0
 HeadIsRead f p d b a around keys_around (Back.Whole t) =
     ReadsBack d.keeps f.definitions p.entry.bytes.now p.entry.pos f.pointee p.entry.len (d.entry_of b.entry.now) (d.entry_of b.exit.now) (a.meaning t) (a.keys t)

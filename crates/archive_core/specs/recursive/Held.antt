@@ -30,11 +30,11 @@ use Rattle.archive_write.specs.Written.{GoesOn}
 use denote.Triple.Both.{Both}
 use denote.Ref.{MutBor}
 
--- a name among several has the layout of what it stands for
+-- A name among several has the layout of what it stands for.
 pub member_has_layout : (D : Definitions) (name : Name) (X : Shape) (L : Layout) → ((s : SchemaTable) → Knows s D → definition s.table name ≡ Some X) → ((s : SchemaTable) → Knows s D → layout s.layouts X ≡ L) → HasLayout D (named name) L
 member_has_layout D name X L has h = record { solved = λ s k. k.laid_out.solves name X (has s k) ∙ h s k }
 
--- who knows each of two definitions knows both
+-- Who knows each of two definitions knows both.
 pub knows_both : (s : SchemaTable) (D E : Definitions) → Knows s D → Knows s E → Knows s (both D E)
 knows_both s D E k l = record {
   has = (k.has, l.has);
@@ -42,7 +42,7 @@ knows_both s D E k l = record {
   laid_out = k.laid_out;
 }
 
--- a variant is planned as its parts are
+-- A variant is planned as its parts are.
 pub variant_planned : (D : Definitions) (X : Shape) (name : Name) (E : Definitions) (vs : Variants) → IsChoice D X name E vs → (tag : ℕ) (ps : Parts) → variant_at vs tag ≡ Some ps → (F : Definitions) → variant_definitions E tag ≡ F
     → (ks : List Naming) (us : Values) → HavePlan F ps ks us → HasPlan D X ks (case tag us)
 variant_planned D X name E vs is tag ps at F its ks us h a s names k n =

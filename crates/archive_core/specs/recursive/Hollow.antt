@@ -10,7 +10,7 @@ use Rattle.archive_check.specs.Denotes.{Naming}
 use Rattle.archive_types.specs.Members.Variants.{case_of}
 use Rattle.archive_types.specs.Writing.{NameMap, AreNamed, HasKeys, key_at_once, IsKeyed, box_flat}
 
--- what is read in the place of an option of a box, by what is kept of it: nothing, or a box of what is at that position
+-- What is read in the place of an option of a box, by what is kept of it: nothing, or a box of what is at that position.
 abbrev pub option_at : Pointee → Option ℕ → Value
 option_at P None = case 0 no_value
 option_at P (Some t) = case_of 1 (box_flat P 0 t)

@@ -49,8 +49,8 @@ pub fn to_bytes_with_alloc<A: Allocator + Copy + Drop, T: Serialize<HighSerializ
     Ok(bytes)
 }
 
-/// Writes what `value` owns and then its region, with a serializer of yours, and returns the root's
-/// position in bytes. Fails as `serialize_unsized` of `value` does. As in rkyv 0.8.18.
+/// Writes what `value` owns and its region with your serializer, and returns the root's position in
+/// bytes. Fails as `serialize_unsized` of `value` does. As in rkyv 0.8.18.
 pub fn serialize_using<S: Writer + Keys, T: SerializeUnsized<S>>(
     value: &T,
     serializer: &mut S,

@@ -61,8 +61,8 @@ pub trait NamedRecursive {
     ghost laid_out: { HasLayout (defines name stands_for) stands_for layout };
 }
 
-/// Names the variants of a recursive enum as types, so that `tag` and `payload` may be called on
-/// its views and places. A `NamedRecursive` type whose name stands for a choice implements it.
+/// Names the variants of a recursive enum as types, for `tag` and `payload` of its views and
+/// places. A `NamedRecursive` type whose name stands for a choice implements it.
 ///
 /// ```
 /// impl RecursiveChoice for NodeFormat {

@@ -146,8 +146,8 @@ impl<T: Archive> Archive for Shared<T> {
 }
 
 impl<T: Serialize<S>, S: Sharing + Writer + ResolverAlloc> Serialize<S> for Shared<T> {
-    /// Writes what the value owns and then the value as a region of its own, where its key is
-    /// unknown, as `ArchivedRc::serialize_from_ref` does, with its errors.
+    /// Writes the value as a region of its own, if its key is unknown, as
+    /// `ArchivedRc::serialize_from_ref` does, with its errors.
     #[tactic(auto, using(crate::proofs::SharedOnes::shared_one, crate::proofs::SharedOnes::shared_one_refused, crate::proofs::SharedOnes::far_shared_one_refused))]
     fn serialize(&self, serializer: &mut S) -> Result<RcResolver, Error> {
         let value = One {

@@ -12,9 +12,10 @@ use archive_types::traits::{Archive, Keys, Serialize};
 use archive_types::vec::VecResolver;
 use std::alloc::Allocator;
 
-/// Writes the region of values that were serialized one after another, and returns the resolver of a vector of them. The caller must ensure that each
-/// resolver is one of its value. Fails as the resolving of a value does, with `PositionTooLarge` where the region begins above 4,294,967,295, with
-/// `LayoutTooLarge` where it would end above `usize::MAX`, with `OutOfMemory`, or as the writer fails.
+/// Writes the region of values that were serialized, and returns the resolver of a vector of them.
+/// The caller must ensure that each resolver is one of its value. Fails as the resolving of a value
+/// does, with `PositionTooLarge` where the region begins above 4,294,967,295, with `LayoutTooLarge`
+/// where it would end above `usize::MAX`, with `OutOfMemory`, or as the writer fails.
 #[inline(always)]
 pub fn serialize_inner_slice<S: Writer + ResolverAlloc, T: Archive, B: Allocator + Drop>(
     values: &[T],

@@ -18,7 +18,7 @@ use Rattle.archive_check.specs.Tour.{Seen}
 use Rattle.archive_schema.specs.check.Runs.{IsNode, Takes, NodeRuns, ListRuns, elements_end, elements_next, list_elements, list_elements_stop}
 use Rattle.archive_check.specs.Outcomes.{Outcome, done}
 use Rattle.archive_check.specs.Words.Elements.{IsAt}
-use Rattle.archive_schema.specs.check.LoopInvariant.{LiesLegal, lies_free, lies_leaf, PartFits, ElementsFit, IsLegalHere, LeadsNowhere, Agreeing, pending_in, regions_in, Ready, stage, Listing, TurnLeads, level, cost}
+use Rattle.archive_schema.specs.check.LoopInvariant.{LiesLegal, lies_free, lies_leaf, PartFits, ElementsFit, LeadsNowhere, Agreeing, pending_in, regions_in, Ready, stage, Listing, TurnLeads, level, cost}
 use Rattle.archive_schema.proofs.check.TurnsEnd.{power_falls, level_same}
 use Rattle.archive_check.proofs.Elements.{same_at}
 use Rattle.archive_schema.proofs.plan.PlanSizes.{take_same}
@@ -36,10 +36,6 @@ holds_more Q i before here k to = at (nat_eq k i) refl
     at : (t : Bool) → nat_eq k i ≡ t → Q k
     at true e = let same : k ≡ i = grind (arith, nat_tests) in rw same here
     at false e = let other : k ≢ i = grind (arith, nat_tests) in before k (omega arith)
-
--- what lies legal leads nowhere
-pub legal_nowhere : {m : Checker} {met : Positions} {i p : ℕ} → IsLegalHere m i p → LeadsNowhere m met i p
-legal_nowhere h depth pending regions stop start seen agreed = h pending depth stop start seen
 
 -- the size that was read of the node
 pub node_takes : {m : Checker} {j n p z : ℕ} {x : Node} → ElementsFit m j n p → x ≡ slice_index_or m.nodes.now j x → z ≡ unwrap_or (slice_index_or m.nodes.now j x).size 0 → Takes m j z

@@ -14,7 +14,7 @@ use Rattle.archive_schema.specs.check.Runs.{RegionIs}
 use Rattle.archive_schema.specs.check.LoopInvariant.{Stage}
 use Rattle.archive_schema.specs.check.Through.{Stops, region_rule, stage_before, stage_behind}
 
--- the region r of n of the node j lies where the pointer says, and regions may now lie before it alone
+-- The region r of n of the node j lies where the pointer says, and regions may now lie before it alone.
 pub record Entered (m : Checker) (target : PointeeKind) (j n : ℕ) (z : ℤ) (s s' : RangeState) (r : Region) : Type 0 where
   pub align : ℕ
   pub region : RegionIs m target j n (Some r.size) align
@@ -26,14 +26,14 @@ pub record Entered (m : Checker) (target : PointeeKind) (j n : ℕ) (z : ℤ) (s
   pub outer_start : r.outer_start ≡ r.begin + r.size
   pub outer_end : r.outer_end ≡ s.end
 
--- the region is entered, or (None) it is refused
+-- The region is entered, or (None) it is refused.
 pub record EntersFrom (m : Checker) (target : PointeeKind) (j n : ℕ) (z : ℤ) (x y : Stage) (result : Option Region) (fault : Error) : Type 0 where
   pub entered : IfSome result (λ r. Entered m target j n z x.range y.range r)
   pub list : OnSome result (y.work ≡ x.work)
   pub positions : OnSome result (y.met ≡ x.met)
   pub none : IfNone result (Stops (region_rule m target j n z) x.range fault)
 
--- the range is the one from start to end again, or (None) it isn't taken back
+-- The range is the one from start to end again, or (None) it isn't taken back.
 pub record LeavesFrom (start end : ℕ) (x y : Stage) (result : Option (Unit {0})) (fault : Error) : Type 0 where
   pub range : OnSome result (y.range ≡ popped x.range start end)
   pub taken : OnSome result (pop_answer x.range start ≡ Ok tt)
@@ -41,10 +41,10 @@ pub record LeavesFrom (start end : ℕ) (x y : Stage) (result : Option (Unit {0}
   pub positions : OnSome result (y.met ≡ x.met)
   pub none : IfNone result (pop_answer x.range start ≡ Err fault)
 
--- a call enters the region, from one context and list to the next
+-- A call enters the region, from one context and list to the next.
 abbrev pub EntersRegion : {A : Type 0} → Context.Ghosts A → Checker → PointeeKind → ℕ → ℕ → ℤ → Both (MutBor A) (MutBor A) → Both (MutBor Worklist) (MutBor Worklist) → Option Region → Type 0
 EntersRegion k m target j n z c w result = EntersFrom m target j n z (stage_before k c w) (stage_behind k c w) result w.exit.now.fault
 
--- a call leaves a region
+-- A call leaves a region.
 abbrev pub LeavesRegion : {A : Type 0} → Context.Ghosts A → ℕ → ℕ → Both (MutBor A) (MutBor A) → Both (MutBor Worklist) (MutBor Worklist) → Option (Unit {0}) → Type 0
 LeavesRegion k start end c w result = LeavesFrom start end (stage_before k c w) (stage_behind k c w) result w.exit.now.fault

@@ -16,18 +16,18 @@ use Rattle.archive_check.specs.declared.format.expr.Key.{Key as KeyExpr}
 use Rattle.archive_check.specs.Expressions.{key_of}
 use Rattle.archive_check.specs.Layout.{key_size}
 
--- the bytes of these parts, and of these elements
+-- The bytes of these parts, and of these elements.
 abbrev pub bytes_of_parts : Checker → ℕ → ℕ → ℕ
 bytes_of_parts m a b = parts_size m.nodes.now (span m.parts.now a b)
 
 abbrev pub bytes_of_elements : Checker → ℕ → ℕ → ℕ
 bytes_of_elements m j n = n * size_at m.nodes.now j
 
--- and of these entries: those of the keys and the values
+-- And of these entries: those of the keys and the values.
 abbrev pub bytes_of_entries : Checker → KeyExpr → ℕ → ℕ → ℕ
 bytes_of_entries m key j n = n * (key_size (key_of key) + size_at m.nodes.now j)
 
--- the bytes that an entry has in place; for a region that is left, those that are given back
+-- The bytes that an entry has in place; for a region that is left, those that are given back.
 abbrev pub bytes_of : Checker → Work → ℕ
 bytes_of m (PartWork i p) = size_at m.nodes.now i
 bytes_of m (Parts a b p) = bytes_of_parts m a b
@@ -40,11 +40,11 @@ abbrev pub bytes_in : Checker → List Work → ℕ
 bytes_in m [] = 0
 bytes_in m (entry ∷ work) = bytes_of m entry + bytes_in m work
 
--- from one range and list to the next: each region that is entered takes four of these n bytes, of those that are left, or of those in which
--- regions may lie
+-- From one range and list to the next: each region that is entered takes four of these n bytes, of those that are left, or of those in which
+-- regions may lie.
 abbrev pub PaysFrom : Checker → ℕ → RangeState → List Work → RangeState → List Work → Type 0
 PaysFrom m n s work s' work' = worth s' + bytes_in m work' ≤ n + (worth s + bytes_in m work)
 
--- so does a call, from one context and list to the next
+-- So does a call, from one context and list to the next.
 abbrev pub Pays : {A : Type 0} → Context.Ghosts A → Checker → ℕ → Both (MutBor A) (MutBor A) → Both (MutBor Worklist) (MutBor Worklist) → Type 0
 Pays k m n c w = PaysFrom m n (k.state c.entry.now) (list_of w.entry.now) (k.state c.exit.now) (list_of w.exit.now)

@@ -14,25 +14,25 @@ use Rattle.archive_check.specs.context.PositionStates.{Positions}
 use Rattle.archive_check.specs.context.FreshContexts.{IsWhole}
 use Rattle.archive_schema.specs.plan.Represents.{Represents, Points}
 
--- the plan is one of a schema, and its node j stands for X
+-- The plan is one of a schema, and its node j stands for X.
 pub record PlanOf (m : Checker) (j : ℕ) (s : SchemaTable) (X : Shape) : Type 0 where
   pub shapes : ℕ → Shape
   pub represents : Represents s shapes m
   pub points : Points s shapes m One None j (one X)
 
--- whatever the node stands for, the buffer is an archive of it, with no region too deep
+-- Whatever the node stands for, the buffer is an archive of it, with no region too deep.
 abbrev pub PlanAccepts : Checker → ℕ → Option ℕ → ℕ → Type 0
 PlanAccepts m j limit root = (s : SchemaTable) (X : Shape) → PlanOf m j s X → AcceptedWithin s m.bytes.now limit root X
 
--- whatever the node stands for, a check of it comes to the fault that the refusal says
+-- Whatever the node stands for, a check of it comes to the fault that the refusal says.
 abbrev pub PlanRefuses : Checker → ℕ → Option ℕ → ℕ → Error → Type 0
 PlanRefuses m j limit root error = (fault : Fault) × IsFor fault error × ((s : SchemaTable) (X : Shape) → PlanOf m j s X → RootTrips s m.bytes.now limit root X fault)
 
--- the result is Ok exactly if the buffer is an archive with no region too deep, unless memory ran out
+-- The result is Ok exactly if the buffer is an archive with no region too deep, unless memory ran out.
 abbrev pub PlanIsExact : Checker → ℕ → Option ℕ → ℕ → Result (Unit {0}) Error → Type 0
 PlanIsExact m j limit root answer = IsErrOf answer OutOfMemory ⊎ ((s : SchemaTable) (X : Shape) → PlanOf m j s X → IsOk answer ↔ AcceptedWithin s m.bytes.now limit root X)
 
--- these three, where the context is for these bytes and met nothing
+-- These three, where the context is for these bytes and met nothing.
 abbrev pub WholeAccepts : Checker → ℕ → ℕ → RangeState → Positions → Type 0
 WholeAccepts m j root s met = IsWhole s met m.bytes.now → PlanAccepts m j s.depth root
 

@@ -37,23 +37,23 @@ pointer_bytes Run = 8
 pointer_bytes Text = 8
 pointer_bytes (EntriesOf key) = 8
 
--- the node at i does this
+-- The node at i does this.
 pub record IsNode (m : Checker) (i : ℕ) (kind : NodeKind) : Type 0 where
   pub node : Node
   pub at : IsAt m.nodes.now i node
   pub kind_is : node.kind ≡ kind
 
--- the node at i takes so much
+-- The node at i takes so much.
 pub record Takes (m : Checker) (i : ℕ) (z : ℕ) : Type 0 where
   pub node : Node
   pub at : IsAt m.nodes.now i node
   pub size_is : node.size ≡ Some z
 
--- where the value begins in an entry of a key
+-- Where the value begins in an entry of a key.
 abbrev pub value_begin : KeyExpr → ℕ → Option ℕ
 value_begin key align = rounded (Some (key_size (key_of key))) align
 
--- what each takes that a pointer leads to: the node itself, a text's byte, or an entry whose value the node is
+-- What each takes that a pointer leads to: the node itself, a text's byte, or an entry whose value the node is.
 abbrev pub unit_align : PointeeKind → Node → ℕ
 unit_align One node = node.align
 unit_align Run node = node.align
@@ -66,52 +66,52 @@ unit_size Run node = node.size
 unit_size Text node = Some 1
 unit_size (EntriesOf key) node = rounded (sum_of (value_begin key node.align) node.size) (max (key_align (key_of key)) node.align)
 
--- n of what a pointer leads to, whose node is at i
+-- n of what a pointer leads to, whose node is at i.
 pub record RegionIs (m : Checker) (target : PointeeKind) (i n : ℕ) (size : Option ℕ) (align : ℕ) : Type 0 where
   pub node : Node
   pub at : IsAt m.nodes.now i node
   pub size_is : times (unit_size target node) n ≡ size
   pub align_is : unit_align target node ≡ align
 
--- an entry of a key and of the node at i takes so much, and its value begins there
+-- an entry of a key and of the node at i takes so much, and its value begins there.
 pub record EntryTakes (m : Checker) (key : KeyExpr) (i offset size : ℕ) : Type 0 where
   pub node : Node
   pub at : IsAt m.nodes.now i node
   pub offset_is : value_begin key node.align ≡ Some offset
   pub size_is : unit_size (EntriesOf key) node ≡ Some size
 
--- where the entry of this size begins that is before the one at p, if there is one
+-- Where the entry of this size begins that is before the one at p, if there is one.
 abbrev pub before_at : Bool → ℕ → ℕ → Option ℕ
 before_at false p size = None
 before_at true p size = Some (p - size)
 
--- how many there are behind a pointer
+-- How many there are behind a pointer.
 abbrev pub pointee_count : List ℕ → ℕ → PointeeKind → ℕ
 pointee_count bytes p One = 1
 pointee_count bytes p Run = u32_at bytes (p + 4)
 pointee_count bytes p Text = u32_at bytes (p + 4)
 pointee_count bytes p (EntriesOf key) = u32_at bytes (p + 4)
 
--- the length that stands in the pointer: 0 for one value
+-- The length that stands in the pointer: 0 for one value.
 abbrev pub pointee_length : List ℕ → ℕ → PointeeKind → ℕ
 pointee_length bytes p One = 0
 pointee_length bytes p Run = u32_at bytes (p + 4)
 pointee_length bytes p Text = u32_at bytes (p + 4)
 pointee_length bytes p (EntriesOf key) = u32_at bytes (p + 4)
 
--- how a pointer of the shared type and of this length is met
+-- How a pointer of the shared type and of this length is met.
 abbrev pub entry_for : SharedType → ℕ → Entry
 entry_for shared_type l = record { flavor = flavor_of shared_type.flavor; pointee = pointee_of shared_type.pointee; length = l }
 
--- the tag at p names the variant x, of those from a up to b
+-- The tag at p names the variant x, of those from a up to b.
 abbrev pub IsVariant : Checker → ℕ → ℕ → ℕ → Span → Type 0
 IsVariant m a b p x = (a + slice_index m.bytes.now p < b) × IsAt m.variants.now (a + slice_index m.bytes.now p) x
 
--- it names none, which is refused
+-- It names none, which is refused.
 abbrev pub IsNoVariant : Checker → Bor (List ℕ) → ℕ → ℕ → ℕ → Error → Type 0
 IsNoVariant m name a b p e = (b ≤ a + slice_index m.bytes.now p) × (e ≡ InvalidDiscriminant name (slice_index m.bytes.now p))
 
--- pending, depth, stop, what, where, start, seen, outcome
+-- Pending, depth, stop, what, where, start, seen, outcome.
 mutual
   pub data NodeRuns (m : Checker) : List ℕ → Option ℕ → ℕ → ℕ → ℕ → ℕ → Seen → Outcome → Type 0 where
     run_free : {pending : List ℕ} {depth : Option ℕ} {stop i p z start : ℕ} {seen : Seen}
@@ -167,7 +167,7 @@ mutual
         → FollowRuns m pending depth stop k target j (pointee_count m.bytes.now p target) (pointee_length m.bytes.now p target) (pos p +ℤ i32_at m.bytes.now p) start seen o
         → NodeRuns m pending depth stop i p start seen o
 
-  -- a string, whose text's node is any
+  -- A string, whose text's node is any.
   pub data StringRuns (m : Checker) : List ℕ → Option ℕ → ℕ → ℕ → ℕ → ℕ → Seen → Outcome → Type 0 where
     string_inline : {pending : List ℕ} {depth : Option ℕ} {stop p start j : ℕ} {seen : Seen}
         → (IsOutOfLine m.bytes.now p → ⊥)
@@ -187,7 +187,7 @@ mutual
         → EnterRuns m pending depth stop Text j (decoded_length (u32_at m.bytes.now p)) (pos p +ℤ i32_at m.bytes.now (p + 4)) start seen o
         → StringRuns m pending depth stop j p start seen o
 
-  -- a key for itself
+  -- A key for itself.
   pub data KeyRuns (m : Checker) : List ℕ → Option ℕ → ℕ → KeyExpr → ℕ → ℕ → ℕ → Seen → Outcome → Type 0 where
     key_leaf : {pending : List ℕ} {depth : Option ℕ} {stop j p start : ℕ} {seen : Seen} {kind : KindExpr}
         → IsLegal (kind_of kind) (bytes_at m.bytes.now p (kind_size (kind_of kind)))
@@ -199,7 +199,7 @@ mutual
         → StringRuns m pending depth stop j p start seen o
         → KeyRuns m pending depth stop StrKey j p start seen o
 
-  -- a key, and whether it comes behind the one before it
+  -- A key, and whether it comes behind the one before it.
   pub data OrderRuns (m : Checker) : List ℕ → Option ℕ → ℕ → KeyExpr → ℕ → Option ℕ → ℕ → ℕ → Seen → Outcome → Type 0 where
     order_key : {pending : List ℕ} {depth : Option ℕ} {stop j p start : ℕ} {before : Option ℕ} {seen : Seen} {key : KeyExpr} {e : Fault}
         → KeyRuns m pending depth stop key j p start seen (refused e)
@@ -213,7 +213,7 @@ mutual
         → ComesBehind (key_of key) m.bytes.now before p
         → OrderRuns m pending depth stop key j before p start seen (done mid known)
 
-  -- n entries, the next of them at p
+  -- n entries, the next of them at p.
   pub data EntriesRun (m : Checker) : List ℕ → Option ℕ → ℕ → KeyExpr → ℕ → Option ℕ → ℕ → ℕ → ℕ → Seen → Outcome → Type 0 where
     entries_end : {pending : List ℕ} {depth : Option ℕ} {stop j n p start : ℕ} {before : Option ℕ} {seen : Seen} {key : KeyExpr}
         → n ≡ 0
@@ -236,7 +236,7 @@ mutual
         → EntriesRun m pending depth stop key j (Some p) (n - 1) (p + size) later more o
         → EntriesRun m pending depth stop key j before n p start seen o
 
-  -- a shared pointer is followed: its shared type, target, pointee, count, length and position
+  -- A shared pointer is followed: its shared type, target, pointee, count, length and position.
   pub data FollowRuns (m : Checker) : List ℕ → Option ℕ → ℕ → ℕ → PointeeKind → ℕ → ℕ → ℕ → ℤ → ℕ → Seen → Outcome → Type 0 where
     -- a position before the buffer was never met, and is outside
     follow_before : {pending : List ℕ} {depth : Option ℕ} {stop k j n l start : ℕ} {seen : Seen} {o : Outcome} {target : PointeeKind} {where_to : ℤ}
@@ -276,7 +276,7 @@ mutual
         → shared_type.flavor.cycles ≡ false
         → FollowRuns m pending depth stop k target j n l where_to start seen (refused cyclic)
 
-  -- the parts from a to b, of what begins at p
+  -- The parts from a to b, of what begins at p.
   pub data PartsRun (m : Checker) : List ℕ → Option ℕ → ℕ → ℕ → ℕ → ℕ → ℕ → Seen → Outcome → Type 0 where
     parts_end : {pending : List ℕ} {depth : Option ℕ} {stop a b p start : ℕ} {seen : Seen}
         → b ≤ a
@@ -293,7 +293,7 @@ mutual
         → NodeRuns m pending depth stop x.node (p + x.offset) start seen (refused e)
         → PartsRun m pending depth stop a b p start seen (refused e)
 
-  -- n elements
+  -- n elements.
   pub data ElementsRun (m : Checker) : List ℕ → Option ℕ → ℕ → ℕ → ℕ → ℕ → ℕ → Seen → Outcome → Type 0 where
     elements_end : {pending : List ℕ} {depth : Option ℕ} {stop j n p start : ℕ} {seen : Seen}
         → n ≡ 0
@@ -315,7 +315,7 @@ mutual
         → NodeRuns m pending depth stop j p start seen (refused e)
         → ElementsRun m pending depth stop j n p start seen (refused e)
 
-  -- a region of n is entered where the pointer says
+  -- A region of n is entered where the pointer says.
   pub data EnterRuns (m : Checker) : List ℕ → Option ℕ → ℕ → PointeeKind → ℕ → ℕ → ℤ → ℕ → Seen → Outcome → Type 0 where
     enter_too_large : {pending : List ℕ} {depth : Option ℕ} {stop j n start align : ℕ} {seen : Seen} {target : PointeeKind} {where_to : ℤ}
         → RegionIs m target j n None align
@@ -358,7 +358,7 @@ mutual
         → ContentsRun m pending (inside depth) target j n z t start seen (refused e)
         → EnterRuns m pending depth stop target j n where_to start seen (refused e)
 
-  -- a region at t of n, of z bytes
+  -- A region at t of n, of z bytes.
   pub data ContentsRun (m : Checker) : List ℕ → Option ℕ → PointeeKind → ℕ → ℕ → ℕ → ℕ → ℕ → Seen → Outcome → Type 0 where
     contents_empty : {pending : List ℕ} {depth : Option ℕ} {target : PointeeKind} {j n z t start : ℕ} {seen : Seen}
         → z ≡ 0
@@ -392,7 +392,7 @@ mutual
         → (IsUtf8 (bytes_at m.bytes.now t z) → ⊥)
         → ContentsRun m pending depth Text j n z t start seen (refused no_text)
 
--- the whole work list
+-- The whole work list.
 pub data ListRuns (m : Checker) : List ℕ → Option ℕ → ℕ → List Work → ℕ → Seen → Outcome → Type 0 where
   list_end : {pending : List ℕ} {depth : Option ℕ} {stop start : ℕ} {seen : Seen} → ListRuns m pending depth stop [] start seen (done start seen)
   list_part : {pending : List ℕ} {depth : Option ℕ} {stop i p start mid : ℕ} {seen known : Seen} {o : Outcome} {work : List Work}

@@ -25,68 +25,68 @@ use Rattle.archive_schema.specs.check.Runs.{EnterRuns}
 use Rattle.archive_schema.specs.check.LoopInvariant.{Stage, stage, Ready, Listing, Entering, Following, TurnLeads, TurnRefuses, IsStopped, power, level, cost}
 use Rattle.archive_schema.specs.check.Through.{stage_before, stage_behind}
 
--- a check can go over the plan: it is sound, so are its marks, and it is packed
+-- A check can go over the plan: it is sound, so are its marks, and it is packed.
 pub record IsCheckable (m : Checker) : Type 0 where
   pub sound : IsSound m
   pub marked : IsMarked m
   pub packed : ArePacked m.nodes.now m.parts.now m.variants.now
 
--- what is left costs so much
+-- What is left costs so much.
 abbrev pub cost_at : Checker → Stage → ℕ
 cost_at m x = cost m x.range.end x.work
 
--- so does a region that is entered here
+-- So does a region that is entered here.
 abbrev pub region_cost : Checker → Stage → ℕ
 region_cost m x = power (level (length m.nodes.now) x.range.end 0 0)
 
--- a turn is taken: the next one is safe, whatever comes of what is left came of what was before, and less than so much is left
+-- A turn is taken: the next one is safe, whatever comes of what is left came of what was before, and less than so much is left.
 pub record Turned (m : Checker) (Before : Stage → Seen → Outcome → Type 0) (most : ℕ) (x y : Stage) : Type 0 where
   pub ready : Ready m y.range y.work
   pub leads : TurnLeads m Before x y
   pub ends : cost_at m y < most
 
--- so it is, or (None) the refusal is what comes of what was before
+-- So it is, or (None) the refusal is what comes of what was before.
 pub record TurnsFrom (m : Checker) (Before : Stage → Seen → Outcome → Type 0) (most : ℕ) (x y : Stage) (result : Option (Unit {0})) (fault : Error) : Type 0 where
   pub some : OnSome result (Turned m Before most x y)
   pub none : IfNone result (TurnRefuses Before x fault)
 
--- so it is of a region, which begins at an index; or (None) it is not entered, whatever the context met
+-- So it is of a region, which begins at an index; or (None) it is not entered, whatever the context met.
 pub record ComesInto (m : Checker) (target : PointeeKind) (j n : ℕ) (z : ℤ) (x y : Stage) (result : Option (Unit {0})) (fault : Error) : Type 0 where
   pub some : OnSome result (Turned m (Entering m target j n z) (1 + (region_cost m x + cost_at m x)) x y)
   pub inside : OnSome result ((t : ℕ) × (z ≡ pos t) × (t < 18446744073709551616))
   pub none : IfNone result (IsStopped m target j n z x.range fault)
 
--- this entry of the list, with the others behind it
+-- This entry of the list, with the others behind it.
 abbrev pub with_entry : Work → Stage → Stage
 with_entry entry x = stage x.range x.met (entry ∷ x.work)
 
--- a call takes this entry, from one context and list to the next
+-- A call takes this entry, from one context and list to the next.
 abbrev pub Turn : {A : Type 0} → Context.Ghosts A → Checker → Work → Both (MutBor A) (MutBor A) → Both (MutBor Worklist) (MutBor Worklist) → Option (Unit {0}) → Type 0
 Turn k m entry c w result =
     TurnsFrom m (Listing m) (cost_at m (with_entry entry (stage_before k c w))) (with_entry entry (stage_before k c w)) (stage_behind k c w) result w.exit.now.fault
 
--- a call enters a region
+-- A call enters a region.
 abbrev pub TurnEnters : {A : Type 0} → Context.Ghosts A → Checker → PointeeKind → ℕ → ℕ → ℤ → Both (MutBor A) (MutBor A) → Both (MutBor Worklist) (MutBor Worklist) → Option (Unit {0}) → Type 0
 TurnEnters k m target j n z c w result = ComesInto m target j n z (stage_before k c w) (stage_behind k c w) result w.exit.now.fault
 
--- a call follows the shared pointer at p
+-- A call follows the shared pointer at p.
 abbrev pub TurnFollows : {A : Type 0} → Context.Ghosts A → Checker → ℕ → PointeeKind → ℕ → ℕ → Both (MutBor A) (MutBor A) → Both (MutBor Worklist) (MutBor Worklist) → Option (Unit {0}) → Type 0
 TurnFollows g m k target j p c w result =
     TurnsFrom m (Following m k target j p) (2 + (region_cost m (stage_before g c w) + cost_at m (stage_before g c w))) (stage_before g c w) (stage_behind g c w) result w.exit.now.fault
 
--- in a context that met nothing, this comes of the root node at a position
+-- In a context that met nothing, this comes of the root node at a position.
 abbrev pub RootRuns : Checker → ℕ → ℕ → RangeState → Outcome → Type 0
 RootRuns m root at s o = EnterRuns m [] s.depth s.end One root 1 (pos at) s.start empty o
 
--- the whole is gone through
+-- The whole is gone through.
 abbrev pub RootPasses : Checker → ℕ → ℕ → RangeState → Positions → Type 0
 RootPasses m root at s met = IsFresh s met → (last : ℕ) × (known : Seen) × RootRuns m root at s (done last known)
 
--- the whole comes to this refusal; in any other context it says a fault, too
+-- The whole comes to this refusal; in any other context it says a fault, too.
 abbrev pub RootStops : Checker → ℕ → ℕ → RangeState → Positions → Error → Type 0
 RootStops m root at s met e = (e ≡ OutOfMemory) ⊎ (HasLevels s.depth → (f : Fault) × IsFor f e × (IsFresh s met → RootRuns m root at s (refused f)))
 
--- so it is of the context that a call begins with
+-- So it is of the context that a call begins with.
 abbrev pub PassesRoot : {A : Type 0} → Context.Ghosts A → Checker → ℕ → ℕ → Both (MutBor A) (MutBor A) → Type 0
 PassesRoot k m root at c = RootPasses m root at (k.state c.entry.now) (k.positions c.entry.now)
 

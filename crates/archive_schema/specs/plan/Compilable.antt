@@ -7,7 +7,7 @@ use Rattle.archive_check.specs.Words.Elements.{IsAt}
 use Rattle.archive_schema.specs.plan.PlanGrowth.{node_of}
 use Rattle.archive_schema.specs.plan.CompileQueue.{Wait}
 
--- each name that is mentioned has a node, and each that is held, and stands behind no pointer, one before `done`
+-- Each name that is mentioned has a node, and each that is held, and stands behind no pointer, one before `done`.
 pub record Can (names : List NamedNode) (done : ℕ) (X : Shape) : Type 0 where
   pub known : (name : Name) → Mentions name X → IsSome (node_of names name)
   pub placed : (name : Name) (j : ℕ) → Holds name X → node_of names name ≡ Some j → j < done
@@ -20,13 +20,13 @@ pub record CanVariants (names : List NamedNode) (done : ℕ) (vs : Variants) : T
   pub variants_known : (name : Name) → VariantsMention name vs → IsSome (node_of names name)
   pub variants_placed : (name : Name) (j : ℕ) → VariantsHold name vs → node_of names name ≡ Some j → j < done
 
--- each name behind a pointer has a node
+-- Each name behind a pointer has a node.
 pub record CanPoint (names : List NamedNode) (P : Pointee) : Type 0 where
   pub pointee_known : (name : Name) → PointeeMentions name P → IsSome (node_of names name)
 
 pub record CanWait (names : List NamedNode) (X : Shape) : Type 0 where
   pub shape_known : (name : Name) → Mentions name X → IsSome (node_of names name)
 
--- so has each in what waits
+-- So has each in what waits.
 pub record AllKnown (names : List NamedNode) (waits : List Wait) : Type 0 where
   pub each : (k : ℕ) (x : Wait) → IsAt waits k x → CanWait names x.shape

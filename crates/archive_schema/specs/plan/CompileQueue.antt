@@ -9,12 +9,12 @@ use Rattle.archive_check.specs.Expressions.{shape_of}
 use Rattle.archive_schema.specs.plan.NodeCounts.{count_of}
 use Rattle.archive_schema.specs.plan.PlanGrowth.{node_of}
 
--- an expression, and its node
+-- an expression, and its node.
 pub record Wait : Type 0 where
   pub shape : Shape
   pub node : ℕ
 
--- expressions in their order, and where the nodes of the next would begin
+-- Expressions in their order, and where the nodes of the next would begin.
 pub record Waits : Type 0 where
   pub items : List Wait
   pub next : ℕ
@@ -33,23 +33,23 @@ abbrev pub wait_shapes : List Wait → List Shape
 wait_shapes [] = []
 wait_shapes (x ∷ xs) = x.shape ∷ wait_shapes xs
 
--- how much is left to compile
+-- How much is left to compile.
 abbrev pub measure_of_waits : List Wait → ℕ
 measure_of_waits [] = 0
 measure_of_waits (x ∷ xs) = measure_of x.shape + 1 + measure_of_waits xs
 
--- each has the nodes behind those of the one before it, from `base` up to `next`, and the last is its own
+-- Each has the nodes behind those of the one before it, from `base` up to `next`, and the last is its own.
 abbrev pub Reserved : ℕ → List Wait → ℕ → Type 0
 Reserved base [] next = base ≡ next
 Reserved base (x ∷ xs) next = (x.node + 1 ≡ base + count_of x.shape) × (base ≤ x.node) × Reserved (base + count_of x.shape) xs next
 
--- one more waits
+-- One more waits.
 pub record IsWaiting (X : Shape) (v w : Waits) (j : ℕ) : Type 0 where
   pub node_is : j + 1 ≡ v.next + count_of X
   pub begins : v.next ≤ j
   pub items_are : w.items ≡ v.items ++ record { shape = X; node = j } ∷ []
   pub next_is : w.next ≡ v.next + count_of X
 
--- a name has its node, and what isn't one waits
+-- A name has its node, and what isn't one waits.
 abbrev pub IsQueued : List NamedNode → Shape → Waits → Waits → ℕ → Type 0
 IsQueued names X v w j = ((name : Name) × (X ≡ named name) × (node_of names name ≡ Some j) × (w ≡ v)) ⊎ IsWaiting X v w j

@@ -27,29 +27,29 @@ use Rattle.archive_schema.specs.plan.PlanGrowth.{node_of, PlanLists, lists_of, l
 use Rattle.archive_schema.specs.plan.Compilable.{Can, CanParts, CanVariants, CanPoint, CanWait, AllKnown}
 use Rattle.archive_schema.specs.plan.CompileQueue.{Wait, Waits, waits_of, Reserved, measure_of_waits}
 
--- a pointer to what others may point to as well: a weak one may be null
+-- A pointer to what others may point to as well: a weak one may be null.
 abbrev pub counted : Bool → Flavor → Pointee → Shape
 counted true flavor P = weak flavor P
 counted false flavor P = shared flavor P
 
--- the checker's lists go on from a plan's
+-- The checker's lists go on from a plan's.
 abbrev pub GrowsInto : PlanLists → Checker → Type 0
 GrowsInto b m = Grows b (lists_in m)
 
--- the nodes of names, and of what waits, are there
+-- The nodes of names, and of what waits, are there.
 pub record Below (names : List NamedNode) (waits : List Wait) (m : Checker) : Type 0 where
   pub names_below : (name : Name) (j : ℕ) → node_of names name ≡ Some j → j < length m.nodes.now
   pub waits_below : (k : ℕ) (x : Wait) → IsAt waits k x → x.node < length m.nodes.now
 
--- the names' nodes before `done` have the names' layouts
+-- The names' nodes before `done` have the names' layouts.
 abbrev pub NamesSized : List NamedNode → Layouts → ℕ → Checker → Type 0
 NamesSized names l done m = (name : Name) (j : ℕ) → node_of names name ≡ Some j → j < done → Sized m j (l name).size (l name).align
 
--- the nodes before n are sound
+-- The nodes before n are sound.
 pub record SoundTo (m : Checker) (n : ℕ) : Type 0 where
   pub fits : (i : ℕ) (node : Node) (z : ℕ) → i < n → IsAt m.nodes.now i node → node.size ≡ Some z → NodeKindFits m i z node.kind
 
--- the nodes of names, and of what waits, stand for it
+-- The nodes of names, and of what waits, stand for it.
 pub record Settled (names : List NamedNode) (waits : List Wait) (s : SchemaTable) (shapes : ℕ → Shape) (m : Checker) : Type 0 where
   pub laid_out : LaidOut s
   pub waits_sized : (k : ℕ) (x : Wait) → IsAt waits k x → Sized m x.node (size_of s.layouts x.shape) (align_of s.layouts x.shape)
@@ -57,11 +57,11 @@ pub record Settled (names : List NamedNode) (waits : List Wait) (s : SchemaTable
   pub sized : (name : Name) (j : ℕ) → node_of names name ≡ Some j → Sized m j (s.layouts name).size (s.layouts name).align
   pub stand : (name : Name) (j : ℕ) → node_of names name ≡ Some j → NodeStandsFor s shapes (named name) j
 
--- the shapes of n nodes, from one on
+-- The shapes of n nodes, from one on.
 pub record Given (shapes : ℕ → Shape) (from : ℕ) (xs : List Shape) : Type 0 where
   pub are : (k : ℕ) (X : Shape) → IsAt xs k X → shapes (from + k) ≡ X
 
--- the nodes before n stand for their shapes; those without a byte are free
+-- The nodes before n stand for their shapes; those without a byte are free.
 pub record MadeTo (s : SchemaTable) (shapes : ℕ → Shape) (m : Checker) (n : ℕ) : Type 0 where
   pub made : (i : ℕ) (node : Node) (z : ℕ) → i < n → IsAt m.nodes.now i node → node.size ≡ Some z → (size_of s.layouts (shapes i) ≡ z) × Made s shapes m node.kind (shapes i)
   pub empty : (i : ℕ) (node : Node) → i < n → IsAt m.nodes.now i node → node.size ≡ Some 0 → node.kind ≡ Free
@@ -76,13 +76,13 @@ pub record Adds (names : List NamedNode) (gives : List Shape) (v w : Waits) (a b
   pub made : (s : SchemaTable) (shapes : ℕ → Shape) (m : Checker) → GrowsInto b m → Settled names w.items s shapes m → Given shapes (length a.nodes) gives
       → MadeTo s shapes m (length a.nodes) → MadeTo s shapes m (length b.nodes)
 
--- an expression's node: a name's, or the last
+-- an expression's node: a name's, or the last.
 abbrev pub IsRoot : List NamedNode → Shape → PlanLists → PlanLists → List Shape → ℕ → Type 0
 IsRoot names X a b gives j =
     ((name : Name) × (X ≡ named name) × (node_of names name ≡ Some j))
     ⊎ ((j + 1 ≡ length b.nodes) × (length a.nodes ≤ j) × ((shapes : ℕ → Shape) → Given shapes (length a.nodes) gives → shapes j ≡ X))
 
--- an expression's node is j, with the expression's layout
+-- an expression's node is j, with the expression's layout.
 pub record Compiled (names : List NamedNode) (done : ℕ) (X : Shape) (v w : Waits) (a b : PlanLists) (j : ℕ) : Type 0 where
   pub gives : List Shape
   pub gives_count : length gives ≡ count_of X
@@ -93,7 +93,7 @@ pub record Compiled (names : List NamedNode) (done : ℕ) (X : Shape) (v w : Wai
   pub root : IsRoot names X a b gives j
   pub lays : (m : Checker) (l : Layouts) → GrowsInto b m → NamesSized names l done m → Sized m j (size_of l X) (align_of l X)
 
--- a node behind a pointer, which may come later
+-- A node behind a pointer, which may come later.
 pub record CompiledPointeeKind (names : List NamedNode) (X : Shape) (v w : Waits) (a : PlanLists) (j : ℕ) : Type 0 where
   pub adds : Adds names [] v w a a
   pub waits_few : measure_of_waits w.items ≤ measure_of_waits v.items + measure_of X + 1
@@ -102,7 +102,7 @@ pub record CompiledPointeeKind (names : List NamedNode) (X : Shape) (v w : Waits
   pub sized : (s : SchemaTable) (shapes : ℕ → Shape) (m : Checker) → Settled names w.items s shapes m → Sized m j (size_of s.layouts X) (align_of s.layouts X)
   pub stands : (s : SchemaTable) (shapes : ℕ → Shape) (m : Checker) → Settled names w.items s shapes m → NodeStandsFor s shapes X j
 
--- what a pointer leads to
+-- What a pointer leads to.
 pub record CompiledPointee (names : List NamedNode) (P : Pointee) (v w : Waits) (a b : PlanLists) (target : PointeeKind) (j : ℕ) : Type 0 where
   pub gives : List Shape
   pub gives_count : length gives ≡ count_pointee P
@@ -113,14 +113,14 @@ pub record CompiledPointee (names : List NamedNode) (P : Pointee) (v w : Waits) 
   pub size_is : pointer_bytes target ≡ pointer_size P
   pub points : (s : SchemaTable) (shapes : ℕ → Shape) (m : Checker) → GrowsInto b m → Settled names w.items s shapes m → Given shapes (length a.nodes) gives → Points s shapes m target None j P
 
--- a part lies in z bytes, and its node comes before i
+-- A part lies in z bytes, and its node comes before i.
 pub record IsPartWithin (m : Checker) (i z : ℕ) (x : PlanPart) : Type 0 where
   pub size : ℕ
   pub earlier : x.node < i
   pub takes : Takes m x.node size
   pub within : x.offset + size ≤ z
 
--- parts laid out so far, from an offset on, and those that are left
+-- Parts laid out so far, from an offset on, and those that are left.
 pub record RowIs (names : List NamedNode) (done start : ℕ) (all rest : Parts) (v w : Waits) (a b : PlanLists) (row : List PlanPart) (end : Option ℕ) (align : ℕ) (free : Bool) : Type 0 where
   pub gives : List Shape
   pub adds : Adds names gives v w a b
@@ -137,7 +137,7 @@ pub record RowIs (names : List NamedNode) (done start : ℕ) (all rest : Parts) 
       → (e : ℕ) → end ≡ Some e → (first last : ℕ) → ((k : ℕ) (x : PlanPart) → IsAt row k x → IsAt m.parts.now (first + k) x) → first + length row ≤ last
       → PartsStand s shapes m (first + length row) last e rest → PartsStand s shapes m first last start all
 
--- parts that are laid out
+-- Parts that are laid out.
 pub record CompiledParts (names : List NamedNode) (done start : ℕ) (ps : Parts) (v w : Waits) (a b : PlanLists) (laid : LaidRange) : Type 0 where
   pub gives : List Shape
   pub gives_count : length gives ≡ counts_of ps
@@ -153,11 +153,11 @@ pub record CompiledParts (names : List NamedNode) (done start : ℕ) (ps : Parts
   pub stand : (s : SchemaTable) (shapes : ℕ → Shape) (m : Checker) → GrowsInto b m → Settled names w.items s shapes m → Given shapes (length a.nodes) gives
       → (e : ℕ) → laid.end ≡ Some e → PartsStand s shapes m laid.first laid.last start ps
 
--- the parts of a variant's span are these, behind a tag
+-- The parts of a variant's span are these, behind a tag.
 abbrev pub VariantStands : SchemaTable → (ℕ → Shape) → Checker → Variants → ℕ → Span → Type 0
 VariantStands s shapes m vs tag x = (ps : Parts) × (variant_at vs tag ≡ Some ps) × PartsStand s shapes m x.first x.last 1 ps
 
--- variants laid out so far, and those that are left
+-- Variants laid out so far, and those that are left.
 pub record SpansAre (names : List NamedNode) (done : ℕ) (all rest : Variants) (v w : Waits) (a b : PlanLists) (row : List Span) (end : Option ℕ) (align : ℕ) : Type 0 where
   pub gives : List Shape
   pub adds : Adds names gives v w a b
@@ -174,7 +174,7 @@ pub record SpansAre (names : List NamedNode) (done : ℕ) (all rest : Variants) 
       → (e : ℕ) → end ≡ Some e → (k : ℕ) (x : Span) → IsAt row k x → VariantStands s shapes m all k x
   pub others : (k : ℕ) → variant_at all (length row + k) ≡ variant_at rest k
 
--- variants that are laid out
+-- Variants that are laid out.
 pub record CompiledVariants (names : List NamedNode) (done : ℕ) (vs : Variants) (v w : Waits) (a b : PlanLists) (laid : LaidRange) : Type 0 where
   pub gives : List Shape
   pub gives_count : length gives ≡ variant_counts_of vs
@@ -196,22 +196,22 @@ pub record CompiledVariants (names : List NamedNode) (done : ℕ) (vs : Variants
 abbrev pub IsCompiled : Scope → Shape → Both (MutBor Queue) (MutBor Queue) → Both (MutBor Plan) (MutBor Plan) → ℕ → Type 0
 IsCompiled scope X q p j = Compiled scope.names.now scope.done X (waits_of q.entry.now) (waits_of q.exit.now) (lists_of p.entry.now) (lists_of p.exit.now) j
 
--- likewise, whichever names are there
+-- Likewise, whichever names are there.
 abbrev pub IsCompiledAnywhere : List NamedNode → Shape → Both (MutBor Queue) (MutBor Queue) → Both (MutBor Plan) (MutBor Plan) → ℕ → Type 0
 IsCompiledAnywhere names X q p j = (done : ℕ) → Compiled names done X (waits_of q.entry.now) (waits_of q.exit.now) (lists_of p.entry.now) (lists_of p.exit.now) j
 
 abbrev pub IsCountedAnywhere : List NamedNode → Bool → Flavor → Pointee → Both (MutBor Queue) (MutBor Queue) → Both (MutBor Plan) (MutBor Plan) → ℕ → Type 0
 IsCountedAnywhere names is_weak flavor P q p = IsCompiledAnywhere names (counted is_weak flavor P) q p
 
--- a string, whatever the names and what waits
+-- A string, whatever the names and what waits.
 abbrev pub IsStringCompiled : PlanLists → PlanLists → ℕ → Type 0
 IsStringCompiled a b j = (names : List NamedNode) (done : ℕ) (w : Waits) → Compiled names done str w w a b j
 
--- what a pointer leads to
+-- What a pointer leads to.
 abbrev pub IsPointeeCompiled : List NamedNode → Pointee → Both (MutBor Queue) (MutBor Queue) → Both (MutBor Plan) (MutBor Plan) → PointeeKind → ℕ → Type 0
 IsPointeeCompiled names P q p target j = CompiledPointee names P (waits_of q.entry.now) (waits_of q.exit.now) (lists_of p.entry.now) (lists_of p.exit.now) target j
 
--- parts from an offset on, and variants
+-- Parts from an offset on, and variants.
 abbrev pub ArePartsCompiled : Scope → ℕ → Parts → Both (MutBor Queue) (MutBor Queue) → Both (MutBor Plan) (MutBor Plan) → LaidRange → Type 0
 ArePartsCompiled scope start ps q p laid = CompiledParts scope.names.now scope.done start ps (waits_of q.entry.now) (waits_of q.exit.now) (lists_of p.entry.now) (lists_of p.exit.now) laid
 

@@ -11,7 +11,7 @@ use Rattle.archive_schema.specs.plan.NodeNumbers.{def_shapes}
 use Rattle.archive_check.specs.Shape.{Name, Shape, Table, definition}
 use Rattle.archive_check.specs.MissingNames.{Arranged, missing}
 
--- what is left where the definition of a name was looked up
+-- What is left where the definition of a name was looked up.
 abbrev pub Taken : List Def → Name → Option Def → List Def → Type 0
 Taken old name None new = (definition (entries_of old) name ≡ None) × (new ≡ old)
 Taken old name (Some d) new =
@@ -20,22 +20,22 @@ Taken old name (Some d) new =
     × (suc (length new) ≡ length old)
     × ((n : Name) → n ≢ name → definition (entries_of new) n ≡ definition (entries_of old) n)
 
--- the definition of a name is taken out of a list, and added to those that were found
+-- The definition of a name is taken out of a list, and added to those that were found.
 pub record IsGathered (name : Name) (old found new next : List Def) : Type 0 where
   pub def : Def
   pub taken : Taken old name (Some def) new
   pub added : next ≡ found ++ def ∷ []
 
--- each of the first i holds a name that isn't defined
+-- Each of the first i holds a name that isn't defined.
 abbrev pub NotReady : Table → List Def → ℕ → Type 0
 NotReady placed rest i = (k : ℕ) (d : Def) → k < i → d ≡ get_or rest k d → (name : Name) × (missing false placed (shape_of d.expr) ≡ Some name)
 
--- the first of these that holds only defined names, if there is one
+-- The first of these that holds only defined names, if there is one.
 abbrev pub NextReady : Table → List Def → Option ℕ → Type 0
 NextReady placed rest (Some i) = (i < length rest) × ((d : Def) → d ≡ get_or rest i d → missing false placed (shape_of d.expr) ≡ None) × NotReady placed rest i
 NextReady placed rest None = NotReady placed rest (length rest)
 
--- that one is taken out of a list, and placed behind the others
+-- That one is taken out of a list, and placed behind the others.
 pub record IsOrderedNext (placed old next new : List Def) : Type 0 where
   pub at : ℕ
   pub def : Def
@@ -44,16 +44,16 @@ pub record IsOrderedNext (placed old next new : List Def) : Type 0 where
   pub added : next ≡ placed ++ def ∷ []
   pub left : new ≡ remove old at
 
--- each definition is the one of its name, and what it holds is defined
+-- Each definition is the one of its name, and what it holds is defined.
 pub record Complete (table : Table) : Type 0 where
   pub once : (name : Name) (Y : Shape) → Contains table (name, Y) → definition table name ≡ Some Y
   pub closed : (name : Name) (Y : Shape) → definition table name ≡ Some Y → missing false table Y ≡ None
 
--- the root's shape, and those of the definitions
+-- The root's shape, and those of the definitions.
 abbrev pub shapes_from : Shape → List Def → List Shape
 shapes_from X ds = X ∷ def_shapes ds
 
--- each name that the expression or a definition mentions is defined
+-- Each name that the expression or a definition mentions is defined.
 pub record HasAll (table : Table) (X : Shape) : Type 0 where
   pub root : missing true table X ≡ None
   pub closed : (name : Name) (Y : Shape) → definition table name ≡ Some Y → missing true table Y ≡ None
@@ -66,8 +66,8 @@ pub record Prepared (D : Definitions) (X : Shape) (table : Table) : Type 0 where
   pub ordered : Arranged table table
   pub well_formed : WellFormed (listed D) X
 
--- why names have no definitions, or no order: memory was refused, this name has none, one that X reaches has none, no definition is ready, or one is
--- held in itself
+-- Why names have no definitions, or no order: memory was refused, this name has none, one that X reaches has none, no definition is ready, or one is
+-- held in itself.
 abbrev pub ExplainsUndefined : Table → Name → Error → Type 0
 ExplainsUndefined table name e = (e ≡ OutOfMemory) ⊎ ((e ≡ ShapeConflict) × (definition table name ≡ None))
 
@@ -80,6 +80,6 @@ ExplainsNoneReady placed rest e = (e ≡ OutOfMemory) ⊎ ((e ≡ RecursiveLayou
 abbrev pub ExplainsHeld : Table → Error → Type 0
 ExplainsHeld table e = (e ≡ OutOfMemory) ⊎ ((e ≡ RecursiveLayout) × (name : Name) × (Y : Shape) × (definition table name ≡ Some Y) × HeldIn table name Y)
 
--- of the root, at 0, and the definitions, the first name in that at i that has no definition
+-- Of the root, at 0, and the definitions, the first name in that at i that has no definition.
 abbrev pub IsMissingAt : Shape → List Def → ℕ → Option Name → Type 0
 IsMissingAt root defs i name = (X : Shape) → X ≡ get_or (shapes_from root defs) i X → name ≡ missing true (entries_of defs) X

@@ -2,13 +2,13 @@
 use Rattle.std.specs.Prelude.{ℕ, ◌+◌}
 use Rattle.archive_check.specs.Shape.{Shape, leaf, parts, choice, array, boxed, vec, sorted_map, str, shared, weak, named, Pointee, one, run, text, Parts, no_part, part, Variants, no_variant, variant}
 
--- a text's byte has a node beside the pointer's; what else a pointer leads to is compiled for itself
+-- A text's byte has a node beside the pointer's; what else a pointer leads to is compiled for itself.
 abbrev pub count_pointee : Pointee → ℕ
 count_pointee (one X) = 0
 count_pointee (run X) = 0
 count_pointee text = 1
 
--- a name has its definition's node
+-- A name has its definition's node.
 abbrev mutual
   pub count_of : Shape → ℕ
   count_of (leaf k) = 1

@@ -22,7 +22,7 @@ use Rattle.archive_schema.specs.plan.Compilable.{Can, AllKnown}
 use Rattle.archive_schema.specs.plan.Compiled.{Given, Adds, Compiled}
 use Rattle.archive_schema.specs.plan.NodeNumbers.{start_of}
 
--- the checker's lists are the plan's
+-- The checker's lists are the plan's.
 pub record IsOf (m : Checker) (plan : Plan) : Type 0 where
   pub nodes : m.nodes.now ≡ plan.nodes.items
   pub parts : m.parts.now ≡ plan.parts.items
@@ -35,21 +35,21 @@ pub record IsPlan (defs : List Def) (X : Shape) (plan : Plan) (j : ℕ) : Type 0
   pub sound : (m : Checker) → IsOf m plan → IsSound m
   pub plan_of : (m : Checker) (s : SchemaTable) → IsOf m plan → s.table ≡ entries_of defs → LaidOut s → PlanOf m j s X
 
--- each name that a definition mentions is defined, and each that it holds, and stands behind no pointer, before it
+-- Each name that a definition mentions is defined, and each that it holds, and stands behind no pointer, before it.
 pub record DefsInOrder (defs : List Def) : Type 0 where
   pub defined : (i : ℕ) (d : Def) → IsAt defs i d → (name : Name) → Mentions name (shape_of d.expr) → IsSome (definition (entries_of defs) name)
   pub earlier : (i : ℕ) (d : Def) → IsAt defs i d → (name : Name) → Holds name (shape_of d.expr) → IsSome (definition (entries_of (take i defs)) name)
 
--- so is each that the root mentions
+-- So is each that the root mentions.
 pub record InOrder (defs : List Def) (X : Shape) : Type 0 where
   pub definitions : DefsInOrder defs
   pub root : (name : Name) → Mentions name X → IsSome (definition (entries_of defs) name)
 
--- each can be compiled where its nodes begin
+-- Each can be compiled where its nodes begin.
 abbrev pub CanChain : List NamedNode → List Shape → Type 0
 CanChain names Xs = (i : ℕ) (X : Shape) → IsAt Xs i X → Can names (start_of Xs i) X
 
--- what waits can be compiled behind all names
+-- What waits can be compiled behind all names.
 pub record CanFinish (names : List NamedNode) (w : Waits) (b : PlanLists) : Type 0 where
   pub known : AllKnown names w.items
   pub below : (name : Name) (j : ℕ) → node_of names name ≡ Some j → j < length b.nodes
@@ -61,7 +61,7 @@ pub record HasNames (defs : List Def) (names : List NamedNode) (plan : Plan) : T
   pub sizes : (s : SchemaTable) → s.table ≡ entries_of defs → LaidOut s → (name : Name) (j : ℕ) (node : Node) → node_of names name ≡ Some j → IsAt plan.nodes.items j node → node.size ≡ fits (s.layouts name).size
   pub aligns : (s : SchemaTable) → s.table ≡ entries_of defs → LaidOut s → (name : Name) (j : ℕ) (node : Node) → node_of names name ≡ Some j → IsAt plan.nodes.items j node → node.align ≡ (s.layouts name).align
 
--- X was compiled from the node `start` on, on the way to the plan
+-- X was compiled from the node `start` on, on the way to the plan.
 pub record CompiledFrom (names : List NamedNode) (X : Shape) (start : ℕ) (w : Waits) (b : PlanLists) (gives : List Shape) : Type 0 where
   pub before : PlanLists
   pub after : PlanLists
@@ -73,7 +73,7 @@ pub record CompiledFrom (names : List NamedNode) (X : Shape) (start : ℕ) (w : 
   pub grows : Grows after b
   pub given : (shapes : ℕ → Shape) → Given shapes 0 gives → Given shapes (length before.nodes) compiled.gives
 
--- these were compiled, one after another; what they lead to waits for the nodes from `base` on
+-- These were compiled, one after another; what they lead to waits for the nodes from `base` on.
 pub record Chained (names : List NamedNode) (Xs : List Shape) (base : ℕ) (w : Waits) (b : PlanLists) : Type 0 where
   pub gives : List Shape
   pub gives_count : length gives ≡ start_of Xs (length Xs)
@@ -81,12 +81,12 @@ pub record Chained (names : List NamedNode) (Xs : List Shape) (base : ℕ) (w : 
   pub each : (i : ℕ) (X : Shape) → IsAt Xs i X → CompiledFrom names X (start_of Xs i) w b gives
   pub all_known : CanChain names Xs → AllKnown names w.items
 
--- from v and a on, all that waits is compiled: behind whatever was before, if nothing of v was
+-- From v and a on, all that waits is compiled: behind whatever was before, if nothing of v was.
 pub record Finishes (names : List NamedNode) (v w : Waits) (a b : PlanLists) : Type 0 where
   pub grows : Grows a b
   pub chained : (Xs : List Shape) (base : ℕ) → Chained names Xs base v a → Chained names (Xs ++ wait_shapes w.items) base w b
 
--- the same, as far as the first i
+-- The same, as far as the first i.
 pub record FinishesTo (names : List NamedNode) (i : ℕ) (v w : Waits) (a b : PlanLists) : Type 0 where
   pub can_to : CanFinish names v a → CanFinish names w b
   pub grows_to : Grows a b

@@ -23,12 +23,12 @@ use Rattle.archive_check.specs.Words.Elements.{IsAt}
 use Rattle.archive_schema.specs.check.Runs.{Takes}
 use Rattle.archive_check.specs.Outcomes.{Outcome, done, refused}
 
--- a node stands for a shape; a name for its definition's node
+-- A node stands for a shape; a name for its definition's node.
 pub data NodeStandsFor (s : SchemaTable) (shapes : ℕ → Shape) : Shape → ℕ → Type 0 where
   stands : {X : Shape} {j : ℕ} → shapes j ≡ X → NodeStandsFor s shapes X j
   stands_named : {name : Name} {X : Shape} {j : ℕ} → definition s.table name ≡ Some X → NodeStandsFor s shapes X j → NodeStandsFor s shapes (named name) j
 
--- the parts from a to b, laid out from an offset on
+-- The parts from a to b, laid out from an offset on.
 pub data PartsStand (s : SchemaTable) (shapes : ℕ → Shape) (m : Checker) : ℕ → ℕ → ℕ → Parts → Type 0 where
   parts_over : {a b at : ℕ} → b ≤ a → PartsStand s shapes m a b at no_part
   parts_more : {a b at : ℕ} {x : PlanPart} {X : Shape} {ps : Parts}
@@ -36,14 +36,14 @@ pub data PartsStand (s : SchemaTable) (shapes : ℕ → Shape) (m : Checker) : �
       → PartsStand s shapes m (a + 1) b (up at (align_of s.layouts X) + size_of s.layouts X) ps
       → PartsStand s shapes m a b at (part X ps)
 
--- the node at j takes so much, or (None) more than usize::MAX
+-- The node at j takes so much, or (None) more than usize::MAX.
 pub record Sized (m : Checker) (j size align : ℕ) : Type 0 where
   pub node : Node
   pub at : IsAt m.nodes.now j node
   pub size_is : node.size ≡ (if nat_lt size 18446744073709551616 then Some size else None)
   pub align_is : node.align ≡ align
 
--- what a pointer leads to, and in which order: entries, whose values have the node j, by their keys
+-- What a pointer leads to, and in which order: entries, whose values have the node j, by their keys.
 pub data Points (s : SchemaTable) (shapes : ℕ → Shape) (m : Checker) : PointeeKind → Option Key → ℕ → Pointee → Type 0 where
   points_one : {j : ℕ} {X : Shape} → Sized m j (size_of s.layouts X) (align_of s.layouts X) → NodeStandsFor s shapes X j → Points s shapes m One None j (one X)
   points_run : {j : ℕ} {X : Shape} → Sized m j (size_of s.layouts X) (align_of s.layouts X) → NodeStandsFor s shapes X j → Points s shapes m Run None j (run X)
@@ -51,7 +51,7 @@ pub data Points (s : SchemaTable) (shapes : ℕ → Shape) (m : Checker) : Point
   points_text : {j : ℕ} → Points s shapes m Text None j text
 
 pub data Made (s : SchemaTable) (shapes : ℕ → Shape) (m : Checker) : NodeKind → Shape → Type 0 where
-  -- any bytes are an X, and hold no pointer
+  -- Any bytes are an X, and hold no pointer.
   made_free : {X : Shape}
       → ((bytes pending : List ℕ) (depth : Option ℕ) (stop p start : ℕ) (seen : Seen) → p + size_of s.layouts X ≤ length bytes → Walk s bytes pending depth stop p X start seen start seen)
       → Made s shapes m Free X
@@ -69,11 +69,11 @@ pub data Made (s : SchemaTable) (shapes : ℕ → Shape) (m : Checker) : NodeKin
   made_shared : {k j : ℕ} {target : PointeeKind} {shared_type : SharedType} → IsAt m.shared_types.now k shared_type → Points s shapes m target None j (pointee_of shared_type.pointee) → Made s shapes m (Shared k target j) (shared (flavor_of shared_type.flavor) (pointee_of shared_type.pointee))
   made_weak : {k j : ℕ} {target : PointeeKind} {shared_type : SharedType} → IsAt m.shared_types.now k shared_type → Points s shapes m target None j (pointee_of shared_type.pointee) → Made s shapes m (Weak k target j) (weak (flavor_of shared_type.flavor) (pointee_of shared_type.pointee))
 
--- each node that can be entered stands for its shape
+-- Each node that can be entered stands for its shape.
 pub record Represents (s : SchemaTable) (shapes : ℕ → Shape) (m : Checker) : Type 0 where
   pub made : (i : ℕ) (node : Node) (z : ℕ) → IsAt m.nodes.now i node → node.size ≡ Some z → (size_of s.layouts (shapes i) ≡ z) × Made s shapes m node.kind (shapes i)
 
--- what an outcome means
+-- What an outcome means.
 abbrev pub OutcomeSays : (ℕ → Seen → Type 0) → (Fault → Type 0) → Outcome → Type 0
 OutcomeSays Walks Faults (done later last) = Walks later last
 OutcomeSays Walks Faults (refused e) = Faults e

@@ -151,7 +151,8 @@ impl Checker<'_> {
         match here.kind {
             NodeKind::Shared { .. } => self.count_shared(node, count, at, size, context),
             NodeKind::Weak { .. } => self.count_weak(node, count, at, size, context),
-            _ => self.count_legal(node, count, at, size),
+            NodeKind::Free | NodeKind::Leaf(_) => self.count_legal(node, count, at, size),
+            _ => 0,
         }
     }
 }

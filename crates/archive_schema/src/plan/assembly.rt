@@ -60,8 +60,9 @@ fn compile_waiting<'e>(
 }
 
 impl Plan {
-    /// The plan of an expression and the definitions of all names that it reaches, the expression's node, and those of the names. Each definition holds only names
-    /// that are defined before it, but for those behind pointers. Memory comes from `alloc`.
+    /// The plan of an expression and its definitions, the expression's node, and those of the
+    /// names. Each definition holds only names that are defined before it, but for those behind
+    /// pointers. Memory comes from `alloc`.
     pub(crate) fn of<'e>(
         alloc: Global,
         defs: &'e [Def],

@@ -114,7 +114,8 @@ pub fn value_offset(key: Key, align: usize) -> Option<usize>
     offset_of(Some(key.size()), align)
 }
 
-/// What each takes that such a pointer leads to, where its node is this one: the pointee, a byte of a text, or an entry.
+/// What each takes that such a pointer leads to, where its node is this one: the pointee, a byte of a text, or an entry. It is inlined, since a node is wide.
+#[inline(always)]
 pub fn unit_of(target: PointeeKind, pointee: Node) -> Extent
     ensures end { result.end ≡ unit_size target pointee }
     ensures align { result.align ≡ unit_align target pointee }

@@ -103,8 +103,8 @@ impl Schema {
         }
     }
 
-    /// Checks that `bytes` are an archive of the schema, its root at the end, with no limit of
-    /// depth. Memory comes from `alloc`.
+    /// Checks that `bytes` are an archive of the schema with its root at the end. Memory comes from
+    /// `alloc`.
     ///
     /// Errors:
     /// - `OutOfMemory`: memory is refused.

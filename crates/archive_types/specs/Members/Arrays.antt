@@ -16,14 +16,14 @@ use Rattle.archive_types.specs.Runs.{each_meaning, each_keys, HasRunPlan}
 use Rattle.archive_types.specs.Members.PlannedOwners.{each_planned}
 use Rattle.archive_types.specs.Members.Keyed.{each_keyed}
 
--- whether there are n
+-- Whether there are n.
 abbrev pub are : {A : Type 0} → List A → ℕ → Bool
 are [] zero = true
 are [] (suc n) = false
 are (x ∷ xs) zero = false
 are (x ∷ xs) (suc n) = are xs n
 
--- what is named twice: a text of no byte, and one of one
+-- What is named twice: a text of no byte, and one of one.
 abbrev pub text_of : ℕ → Entry × Value
 text_of n = (record { flavor = record { name = []; cycles = false }; pointee = text; length = n }, null)
 
@@ -38,15 +38,15 @@ abbrev pub keys_if : Bool → List Naming → List Naming
 keys_if true ks = ks
 keys_if false ks = named_twice
 
--- what an array of n means: its elements, in order
+-- What an array of n means: its elements, in order.
 abbrev pub array_meaning : {A : Type 0} → ℕ → (A → Value) → List A → Value
 array_meaning n m xs = value_if (are xs n) (list (each_meaning m xs))
 
--- the keys of all
+-- The keys of all.
 abbrev pub array_keys : {A : Type 0} → ℕ → (A → List Naming) → List A → List Naming
 array_keys n k xs = keys_if (are xs n) (each_keys k xs)
 
--- these bytes, at p, are clean and read as n elements
+-- These bytes, at p, are clean and read as n elements.
 pub record ResolvesRun (D : Definitions) (p : ℕ) (a : List ℕ) (n : ℕ) (X : Shape) (flats : Values) : Type 0 where
   pub reads : (s : SchemaTable) (bytes : List ℕ) → Knows s D → Occurs bytes p a → ReadsRun s bytes p n X flats
   pub clean : (s : SchemaTable) (bytes : List ℕ) → Knows s D → Occurs bytes p a → CleanRun s bytes p n X
@@ -63,7 +63,7 @@ pub they_are : {A : Type 0} (xs : List A) → are xs (length xs) ≡ true
 they_are [] = refl
 they_are (x ∷ xs) = they_are xs
 
--- nothing stands in a null
+-- Nothing stands in a null.
 null_has_keys : (ks : List Naming) → HasKeys ks null
 null_has_keys ks k n = elim n [ ]
 
@@ -87,7 +87,7 @@ twice_keyed = record {
   only = λ k c. rw (sym (twice_first k c)) (key_at_once names_itself);
 }
 
--- no map has both
+-- No map has both.
 abbrev length_named : Option (Entry × Value) → ℕ
 length_named None = 0
 length_named (Some x) = x.0.length
@@ -95,7 +95,7 @@ length_named (Some x) = x.0.length
 no_two : (names : NameMap) → AreNamed names named_twice → ⊥
 no_two names h = (let same : length_named (Some (text_of 0)) ≡ length_named (Some (text_of 1)) = ap length_named (sym (h.0) ∙ h.1.0) in omega (arith, same))
 
--- the keys of an array, from those of each element
+-- The keys of an array, from those of each element.
 pub array_keyed : {A : Type 0} (n : ℕ) (k : A → List Naming) (m : A → Value) → ((x : A) → IsKeyed (k x) (m x)) → (xs : List A) → IsKeyed (array_keys n k xs) (array_meaning n m xs)
 array_keyed n k m h xs = by_length (are xs n)
   where
@@ -103,7 +103,7 @@ array_keyed n k m h xs = by_length (are xs n)
     by_length true = each_keyed k m h xs
     by_length false = twice_keyed
 
--- the plan of an array, from that of each element
+-- The plan of an array, from that of each element.
 pub run_planned : (D : Definitions) (X : Shape) (n : ℕ) (ks : List Naming) (vs : Values) → HasRunPlan D X n ks vs → HasPlan D (array n X) ks (list vs)
 run_planned D X n ks vs h a s names k m = (let q = h a s names k m in record { flat = list q.flats; steps = q.steps; stop = q.stop; plans = plans_array q.plans; such = tt })
 

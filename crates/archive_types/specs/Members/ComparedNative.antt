@@ -17,7 +17,7 @@ use Rattle.archive_types.specs.Members.OrderedParts.{string_means, box_means, ve
 use Rattle.archive_types.specs.Runs.{each_meaning}
 use Rattle.archive_types.specs.ValueOrder.{OrdersNative}
 
--- a text is compared to one as to one that equals it
+-- A text is compared to one as to one that equals it.
 pub text_alike : (xs ys us : List ℕ) → is_eq (slice_cmp nat_cmp xs us) ≡ true → slice_cmp nat_cmp ys xs ≡ slice_cmp nat_cmp ys us
 text_alike = number_alike (on_texts (λ xs. xs))
 
@@ -46,18 +46,18 @@ module _ {U : Type 0} (R : Standing → Standing → Ordering) (N : Standing →
   option_alike (Some x) None (Some u) h = refl
   option_alike (Some x) (Some y) (Some u) h = alike x y u h
 
--- a string and a native one, whose bytes `text_of` returns
+-- A string and a native one, whose bytes `text_of` returns.
 pub strings_native : {U : Type 0} (text_of : U → List ℕ) (D : Definitions) → OrdersNative D (one str) (λ u. text_value (text_of u)) (λ v u. slice_cmp nat_cmp (string_text v.bytes v.pos) (text_of u))
 strings_native text_of D a v u m = rw (string_means D a v m) refl
 
--- a box and a native one, of which `inner_of` returns what it holds
+-- A box and a native one, of which `inner_of` returns what it holds.
 pub boxes_native : {B U : Type 0} (inner_of : B → U) (D : Definitions) (P : Pointee) (meaning : U → Value) (R : Standing → U → Ordering) → OrdersNative D P meaning R
     → OrdersNative D (one (boxed P)) (λ b. box (meaning (inner_of b))) (λ v b. R (pointee_at P v) (inner_of b))
 boxes_native inner_of D P meaning R by_value a v b m =
     let x = box_means D P a v m in
     rw (x.is) (by_value _ x.inner (inner_of b) x.means)
 
--- a vector and a native one, whose elements `items_of` returns
+-- A vector and a native one, whose elements `items_of` returns.
 pub vecs_native : {V U : Type 0} (items_of : V → List U) (D : Definitions) (X : Shape) (L : Layout) → HasLayout D X L → (meaning : U → Value) (R : Standing → U → Ordering) → OrdersNative D (one X) meaning R
     → OrdersNative D (one (vec X)) (λ us. list (each_meaning meaning (items_of us))) (λ v us. slice_cmp R (elements L.size (slice_of v)) (items_of us))
 vecs_native items_of D X L layout meaning R by_value a v us m = slice_native D X L layout meaning R by_value (slice_of a) v (items_of us) (vec_means D X a v m)

@@ -16,12 +16,12 @@ number_keyed z = keyed_by_none (number z) (λ k n. elim n [ ])
 pub text_keyed : (bytes : List ℕ) → IsKeyed [] (text_value bytes)
 text_keyed bytes = keyed_by_none (text_value bytes) (λ k n. elim n [ ])
 
--- what leads to a key leads there among more names and keys
+-- What leads to a key leads there among more names and keys.
 leads_more : (ks ls : List Naming) (v w : Value) → ((x : Naming) → Contains ks x → Contains ls x) → ((k : ℕ) → Names k v → Names k w) → (k : ℕ) → LeadsToKey ks v k → LeadsToKey ls w k
 leads_more ks ls v w f g k (key_at_once n) = key_at_once (g k n)
 leads_more ks ls v w f g k (key_through {l = l} h c n) = key_through (leads_more ks ls v w f g l.0 h) (f l c) n
 
--- values with the same names have the same keys
+-- Values with the same names have the same keys.
 pub keyed_same : (ks : List Naming) (v w : Value) → ((k : ℕ) → Names k v → Names k w) → ((k : ℕ) → Names k w → Names k v) → IsKeyed ks v → IsKeyed ks w
 keyed_same ks v w f g h = record { value = λ k n. h.value k (g k n); named = h.named; only = λ k c. leads_more ks ks v w (λ x d. d) f k.0 (h.only k c) }
 
@@ -65,7 +65,7 @@ value_keyed ks ls v vs h i = record {
   ];
 }
 
--- elements, from the keys of each
+-- Elements, from the keys of each.
 pub each_keyed : {A : Type 0} (k : A → List Naming) (m : A → Value) → ((x : A) → IsKeyed (k x) (m x)) → (xs : List A) → IsKeyed (each_keys k xs) (list (each_meaning m xs))
 each_keyed k m h [] = nothing_keyed
 each_keyed k m h (x ∷ xs) = value_keyed (k x) (each_keys k xs) (m x) (each_meaning m xs) (h x) (each_keyed k m h xs)

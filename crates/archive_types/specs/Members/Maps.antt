@@ -8,19 +8,19 @@ use Rattle.archive_check.specs.SelfCheck.Laws.{IsCheckOf}
 use Rattle.archive_check.specs.SelfCheck.Lone.{tuple_direct, none_ordered, part_ordered}
 use Rattle.archive_check.specs.SelfCheck.Maps.{entry_definitions, entry_direct, entry_nameless, entry_lone, map_check, map_reaches}
 
--- a key that is an X, and a value
+-- A key that is an X, and a value.
 pub entry_is : (X V : Shape) (K : Key) → X ≡ key_shape K → parts (part X (part V no_part)) ≡ entry_of K V
 entry_is X V K is = ap (λ Y. parts (part Y (part V no_part))) is
 
 -- keys that are an X, with the definitions D, and values that are a V, with those of F
 module _ (D : Definitions) (X : Shape) (F : Definitions) (V : Shape) (K : Key) (is : X ≡ key_shape K) where
-  -- a map of them reaches what they do
+  -- A map of them reaches what they do.
   pub entries_reached : NoOthers D X → NoOthers F V → NoOthers (entry_definitions D F) (sorted_map K V)
   entries_reached h i =
       let value = part_reached F no_definition V no_part i no_parts_reached in
       map_reaches (entry_definitions D F) K V (part X (part V no_part)) (entry_is X V K is) (part_reached D (both F no_definition) X (part V no_part) h value)
 
-  -- and is checked where both check themselves
+  -- And is checked where both check themselves.
   pub entries_checked : (size : ℕ) (E : Definitions) (Y : Shape) (n : ℕ) (none direct : Bool) (value_size : ℕ) (G : Definitions) (Z : Shape) (m : ℕ) (no_name own : Bool) (entry : ℕ)
       → (IsTrue direct → IsCheckOf D X size E Y n none) → (IsTrue own → IsCheckOf F V value_size G Z m no_name)
       → IsTrue (tuple_direct (entry_direct direct own) (entry_lone none no_name) entry)

@@ -12,7 +12,7 @@ use Rattle.archive_types.specs.Plans.{HasPlan}
 use Rattle.archive_types.specs.Members.Keyed.{keyed_by_none}
 use Rattle.archive_types.specs.Members.Variants.{case_of, one_keyed, case_planned, empty_planned}
 
--- None has the tag 0, Some the tag 1
+-- None has the tag 0, Some the tag 1.
 abbrev pub option_meaning : {A : Type 0} → (A → Value) → Option A → Value
 option_meaning m None = case 0 no_value
 option_meaning m (Some x) = case_of 1 (m x)
@@ -21,7 +21,7 @@ abbrev pub option_keys : {A : Type 0} → (A → List Naming) → Option A → L
 option_keys k None = []
 option_keys k (Some x) = k x
 
--- what is read in its place, where its resolver is that of its value
+-- What is read in its place, where its resolver is that of its value.
 abbrev pub option_flat : {A R : Type 0} → (A → R → Value) → Option A → Option R → Value
 option_flat f None r = case 0 no_value
 option_flat f (Some x) None = case 0 no_value

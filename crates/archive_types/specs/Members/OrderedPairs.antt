@@ -24,24 +24,24 @@ use Rattle.archive_types.specs.MapPairs.{pair_meaning}
 use Rattle.archive_types.specs.Runs.{each_meaning}
 use Rattle.archive_types.specs.ValueOrder.{value_cmp, Follows, follows_product, follows_pointer, follows_no_value, follows_value, Means, OrdersValues, OrdersNative}
 
--- the first part of a pair, and the second one, of parts with these layouts
+-- The first part of a pair, and the second one, of parts with these layouts.
 abbrev pub first_of : Layout → Standing → Standing
 first_of k v = standing v.bytes (v.pos + up 0 k.align) 0
 
 abbrev pub second_of : Layout → Layout → Standing → Standing
 second_of k l v = standing v.bytes (v.pos + entry_value_begin k l) 0
 
--- the order of two pairs: by their first parts, and then by their second ones
+-- The order of two pairs: by their first parts, and then by their second ones.
 abbrev pub pair_order : Layout → Layout → (Standing → Standing → Ordering) → (Standing → Standing → Ordering)
     → Standing → Standing → Ordering
 pair_order k l R S = then_cmp (on (first_of k) R) (on (second_of k l) S)
 
--- that of a pair and one of the machine
+-- That of a pair and one of the machine.
 abbrev pub pair_native : {A B : Type 0} → Layout → Layout → (Standing → A → Ordering) → (Standing → B → Ordering)
     → Standing → A × B → Ordering
 pair_native k l P Q v e = ordering_then (P (first_of k v) e.0) (Q (second_of k l v) e.1)
 
--- what a pair feeds a hasher
+-- What a pair feeds a hasher.
 abbrev pub pair_fed : Layout → Layout → (Standing → List (List ℕ)) → (Standing → List (List ℕ)) → Standing
     → List (List ℕ)
 pair_fed k l feed other v = feed (first_of k v) ++ other (second_of k l v)
@@ -60,7 +60,7 @@ second_tied Less s h = absurd (true≢false (sym h))
 second_tied Equal s h = h
 second_tied Greater s h = absurd (true≢false (sym h))
 
--- pairs that the order doesn't tell apart feed a hasher alike, where their parts do
+-- Pairs that the order doesn't tell apart feed a hasher alike, where their parts do.
 pub pairs_fed : (k l : Layout) (R S : Standing → Standing → Ordering) (feed other : Standing → List (List ℕ))
     → ((x y : Standing) → IsTrue (eq_by_cmp R x y) → feed x ≡ feed y)
     → ((x y : Standing) → IsTrue (eq_by_cmp S x y) → other x ≡ other y)
@@ -71,7 +71,7 @@ pairs_fed k l R S feed other alike also x y h =
     let s = S (second_of k l x) (second_of k l y) in
     ap₂ (λ us ws. us ++ ws) (alike (first_of k x) (first_of k y) (first_tied r s h)) (also (second_of k l x) (second_of k l y) (second_tied r s h))
 
--- maps are ordered as the lists of their pairs, and feed a hasher so
+-- Maps are ordered as the lists of their pairs, and feed a hasher so.
 abbrev pub map_order : Layout → Layout → (Standing → Standing → Ordering) → (Standing → Standing → Ordering)
     → Standing → Standing → Ordering
 map_order k l R S = on slice_of (slices (entry_size k l) (pair_order k l R S))
@@ -92,7 +92,7 @@ pub maps_fed : (k l : Layout) (R S : Standing → Standing → Ordering) (feed o
 maps_fed k l R S feed other alike also x y =
     slices_fed (entry_size k l) (pair_order k l R S) (pair_fed k l feed other) (pairs_fed k l R S feed other alike also) (slice_of x) (slice_of y)
 
--- what a pair means
+-- What a pair means.
 record PairMeans (D E : Definitions) (X Y : Shape) (k l : Layout) (a : Standing) (w : Value) : Type 0 where
   first : Value
   second : Value
@@ -132,7 +132,7 @@ module _ (D E : Definitions) (X Y : Shape) (k l : Layout) (laid : HasLayout D X 
       rw (x.is, y.is, by_first _ _ x.first y.first x.first_means y.first_means, by_second _ _ x.second y.second x.second_means y.second_means)
       (ap (ordering_then (value_cmp x.first y.first)) (sym (then_Equal (value_cmp x.second y.second))))
 
-  -- a pair and one of the machine
+  -- A pair and one of the machine.
   pub pairs_native : {A B : Type 0} (m : A → Value) (n : B → Value) (P : Standing → A → Ordering) (Q : Standing → B → Ordering) → OrdersNative D (one X) m P → OrdersNative E (one Y) n Q
       → OrdersNative (both D (both E no_definition)) (one (parts (part X (part Y no_part)))) (pair_meaning m n) (pair_native k l P Q)
   pairs_native m n P Q by_first by_second a v e h =
@@ -154,7 +154,7 @@ map_is : (D : Definitions) (K : Key) (V : Shape) (s : SchemaTable) (bytes : List
     → Means D (run (entry_of K V)) (slice_of (standing bytes q m)) w
 map_is D K V s bytes q m n _ w k (contents_one reads_map) f = map_led D K V s bytes q w k f
 
--- what a map means, its entries do, of keys that are an X
+-- What a map means, its entries do, of keys that are an X.
 pub map_means : (D : Definitions) (X V : Shape) (K : Key) → X ≡ key_shape K → (a : Standing) (w : Value)
     → Means D (one (sorted_map K V)) a w → Means D (run (parts (part X (part V no_part)))) (slice_of a) w
 map_means D X V K is a w m = subst (λ Y. Means D (run Y) (slice_of a) w) (sym (entry_is X V K is)) (map_is D K V m.schema a.bytes a.pos a.len a.len m.value w m.knows m.contents m.follows)
@@ -165,14 +165,14 @@ maps_ordered D X V K is R by_value a b v w m n = by_value _ _ v w (map_means D X
 
 -- keys that are an X, with the definitions D, and values that are a V, with those of E
 module _ (D E : Definitions) (X V : Shape) (k l : Layout) (laid : HasLayout D X k) (other : HasLayout E V l) where
-  -- how an entry lies
+  -- How an entry lies.
   pub entry_laid : HasLayout (entry_definitions D E) (parts (part X (part V no_part))) (record { size = entry_size k l; align = entry_align k l })
   entry_laid =
       let value = part_laid_out E no_definition V l other no_part 1 (λ n. n) (λ n i. n) no_part_laid_out in
       let key = part_laid_out D (both E no_definition) X k laid (part V no_part) (max l.align 1) _ _ value in
       record_has_layout (entry_definitions D E) (part X (part V no_part)) (entry_align k l) _ _ key
 
-  -- a map of them is ordered as the list of its pairs
+  -- A map of them is ordered as the list of its pairs.
   pub maps_in_order : (K : Key) → X ≡ key_shape K → (R S : Standing → Standing → Ordering) → OrdersValues D (one X) R
       → OrdersValues E (one V) S
       → OrdersValues (entry_definitions D E) (one (sorted_map K V)) (map_order k l R S)
@@ -180,7 +180,7 @@ module _ (D E : Definitions) (X V : Shape) (k l : Layout) (laid : HasLayout D X 
       let entries = slices_ordered (entry_definitions D E) (parts (part X (part V no_part))) (record { size = entry_size k l; align = entry_align k l }) entry_laid (pair_order k l R S) (pairs_ordered D E X V k l laid other R S by_key by_value) in
       maps_ordered (entry_definitions D E) X V K is (slices (entry_size k l) (pair_order k l R S)) entries
 
-  -- and compared so to pairs of the machine
+  -- And compared so to pairs of the machine.
   pub maps_native : (K : Key) → X ≡ key_shape K
       → {A B : Type 0} (m : A → Value) (n : B → Value) (P : Standing → A → Ordering) (Q : Standing → B → Ordering)
       → OrdersNative D (one X) m P → OrdersNative E (one V) n Q

@@ -25,7 +25,7 @@ use Rattle.archive_types.specs.Members.Results.{result_meaning}
 use Rattle.archive_types.specs.Runs.{each_meaning}
 use Rattle.archive_types.specs.ValueOrder.{value_cmp, values_cmp, Follows, FollowsAll, follows_number, follows_case, follows_list, follows_text, follows_box, follows_pointer, follows_no_value, follows_value, Means, OrdersValues, OrdersNative}
 
--- of a pointee that is written in another way
+-- Of a pointee that is written in another way.
 pub as_pointee : (D : Definitions) (P Q : Pointee) (R : Standing → Standing → Ordering) → P ≡ Q → OrdersValues D P R → OrdersValues D Q R
 as_pointee D P Q R e h = rw (← e) h
 
@@ -158,7 +158,7 @@ led_to D P s bytes q sharing w k (follows_pointer {t = t} {v = v} l f) =
     let there : t ≡ target_from bytes q q = sym (ap position l.target) in
     record { schema = s; value = v; knows = k; contents = rw there at l.contents; follows = f }
 
--- what a box means is a box of what that means
+-- What a box means is a box of what that means.
 pub record BoxMeans (D : Definitions) (P : Pointee) (a : Standing) (w : Value) : Type 0 where
   pub inner : Value
   pub is : w ≡ box inner
@@ -202,7 +202,7 @@ then_Equal Less = refl
 then_Equal Equal = refl
 then_Equal Greater = refl
 
--- what a part with nothing behind it says
+-- What a part with nothing behind it says.
 first_means : (D : Definitions) (X : Shape) (L : Layout) → IsAlign L.align → HasLayout D X L → (s : SchemaTable) (bytes : List ℕ) (q : ℕ) {v w : Value} → Knows s D → Reads s bytes (q + up 1 (align_of s.layouts X)) X v → Follows s bytes v w
     → Means D (one X) (standing bytes (q + L.align) 0) w
 first_means D X L is layout s bytes q {v = v} k r f =
@@ -213,7 +213,7 @@ first_means D X L is layout s bytes q {v = v} k r f =
 nothing_follows : {s : SchemaTable} {bytes : List ℕ} {q n : ℕ} {vs ws : Values} → ReadsParts s bytes q n no_part vs → FollowsAll s bytes vs ws → ws ≡ no_value
 nothing_follows reads_no_part follows_no_value = refl
 
--- a variant's one part
+-- A variant's one part.
 record OnePart (s : SchemaTable) (bytes : List ℕ) (q : ℕ) (X : Shape) (ws : Values) : Type 0 where
   said : Value
   meant : Value
@@ -228,7 +228,7 @@ abbrev parts_of : (o : Option Parts) → Parts
 parts_of None = no_part
 parts_of (Some ps) = ps
 
--- what an option means
+-- What an option means.
 pub data OptionMeans (D : Definitions) (X : Shape) (L : Layout) (bytes : List ℕ) (q : ℕ) : Value → Type 0 where
   none_means : slice_index bytes q ≡ 0 → OptionMeans D X L bytes q (case 0 no_value)
   some_means : {w : Value} → slice_index bytes q ≡ 1 → Means D (one X) (standing bytes (q + L.align) 0) w → OptionMeans D X L bytes q (case 1 (value w no_value))
@@ -280,7 +280,7 @@ module _ (D : Definitions) (X : Shape) (L : Layout) (align : IsAlign L.align) (l
 
 -- results
 
--- what a result means: the definitions of both come with it
+-- What a result means: the definitions of both come with it.
 pub data ResultMeans (D E : Definitions) (X Y : Shape) (L M : Layout) (bytes : List ℕ) (q : ℕ) : Value → Type 0 where
   ok_means : {w : Value} → slice_index bytes q ≡ 0 → Means D (one X) (standing bytes (q + L.align) 0) w → ResultMeans D E X Y L M bytes q (case 0 (value w no_value))
   err_means : {w : Value} → slice_index bytes q ≡ 1 → Means E (one Y) (standing bytes (q + M.align) 0) w → ResultMeans D E X Y L M bytes q (case 1 (value w no_value))

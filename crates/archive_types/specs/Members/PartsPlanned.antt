@@ -40,11 +40,11 @@ whole_planned {D = D} {ps = ps} keys meanings h v = product_planned D ps (keys v
 pub whole_keyed : {T : Type 0} (keys : T → List Naming) (meanings : T → Values) → AreKeyed keys meanings → (v : T) → IsKeyed (keys v) (product (meanings v))
 whole_keyed keys meanings h v = record_keyed (h.each v)
 
--- a plan of a Y is one of what stands for it
+-- A plan of a Y is one of what stands for it.
 pub standing_plan : (s : SchemaTable) (names : NameMap) (Y X : Shape) (v : Value) (a : Cursor) (holds : Value → List Step → Cursor → Type 0) → StandsFor s Y X → ValuePlan s names Y v a holds → ValuePlan s names X v a holds
 standing_plan s names Y X v a holds for_itself h = h
 standing_plan s names Y X v a holds (by_name d) h = record { flat = h.flat; steps = h.steps; stop = h.stop; plans = plans_named d h.plans; such = h.such }
 
--- a record of parts is planned as they are
+-- A record of parts is planned as they are.
 pub record_planned : (D : Definitions) (X : Shape) (E : Definitions) (ps : Parts) (ks : List Naming) (vs : Values) → IsRecord D X E ps → HavePlan E ps ks vs → HasPlan D X ks (product vs)
 record_planned D X E ps ks vs is h a s names k n = standing_plan s names (parts ps) X (product vs) a _ (is.stands s k) (product_planned E ps ks vs h a s names (is.known s k) n)

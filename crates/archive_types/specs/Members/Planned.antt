@@ -17,7 +17,7 @@ leaf_planned D X kind keys z same a s names k n = rw same (record { flat = numbe
 pub up_one : (n : ℕ) → up n 1 ≡ n
 up_one n = omega arith
 
--- a text's bytes come at once
+-- A text's bytes come at once.
 pub text_region : (s : SchemaTable) (names : NameMap) (bytes : List ℕ) (a : Cursor) (holds : ℕ → List Step → Cursor → Type 0)
     → holds a.position (lays (region_at s a.position text (length bytes) false) (text_value bytes) ∷ []) (record { position = a.position + length bytes; states = a.states })
     → RegionPlan s names text (length bytes) (text_value bytes) a holds

@@ -28,11 +28,11 @@ module _ (D : Definitions) (X : Shape) (ks : List Naming) (v : Value) where
   pub one_planned : HasPlan D X ks v → HasRegionPlan D (one X) 0 ks v
   one_planned h a s names k n = one_plan s names a (λ w C b. Unit {0}) (λ t C b. Unit {0}) (h a s names k n) _ refl tt
 
--- what is the region of one value
+-- What is the region of one value.
 pub pointee_planned : (D : Definitions) (P : Pointee) (X : Shape) → P ≡ one X → (ks : List Naming) (v : Value) → HasPlan D X ks v → HasRegionPlan D P 0 ks v
 pointee_planned D P X is ks v h = rw is (one_planned D X ks v h)
 
--- what has a length isn't one value
+-- What has a length isn't one value.
 pub is_long : {A : Type 0} → true ≡ false → A
 is_long e = absurd (true≢false e)
 
@@ -75,7 +75,7 @@ module _ (D : Definitions) (P : Pointee) (n : ℕ) (ks : List Naming) (v : Value
   pub box_planned : HasRegionPlan D P n ks v → HasPlan D (boxed P) ks (box v)
   box_planned h a s names k m = box_plan s names a (λ t C b. Unit {0}) (λ w C b. Unit {0}) (λ t C b x. tt) (h a s names k m)
 
--- a box of one value
+-- A box of one value.
 pub boxed_one_planned : (D : Definitions) (P : Pointee) (X : Shape) → P ≡ one X → (ks : List Naming) (v : Value) → HasPlan D X ks v → HasPlan D (boxed P) ks (box v)
 boxed_one_planned D P X is ks v h = rw is (box_planned D (one X) 0 ks v (one_planned D X ks v h))
 
@@ -87,7 +87,7 @@ module _ (D : Definitions) (X : Shape) (n : ℕ) (ks : List Naming) (v : Value) 
   pub vec_planned : HasRegionPlan D (run X) n ks v → HasPlan D (vec X) ks v
   vec_planned h a s names k m = vec_plan s names a (λ t C b. Unit {0}) (λ w C b. Unit {0}) (λ t C b x. tt) (h a s names k m)
 
--- the region of a slice, from the plan of each element
+-- The region of a slice, from the plan of each element.
 pub slice_planned : {A : Type 0} (D : Definitions) (X : Shape) (k : A → List Naming) (m : A → Value) → ((x : A) → HasPlan D X (k x) (m x)) → (xs : List A)
     → HasRegionPlan D (run X) (length xs) (each_keys k xs) (list (each_meaning m xs))
 slice_planned D X k m h xs = run_region_planned D X (length xs) (each_keys k xs) (each_meaning m xs) (each_planned D X k m h xs)

@@ -6,7 +6,7 @@ use Rattle.archive_check.specs.Definitions.{no_definition, HasLayout, IsAlign}
 use Rattle.archive_num.specs.OffsetWidths.{IsOffsetWidth, not_128}
 use Rattle.archive_types.specs.RelativePointers.{rel_parts, rel_layout}
 
--- a power of two
+-- A power of two.
 pub rel_align : (width : Width) → IsOffsetWidth width → (has : Bool) → IsAlign (rel_layout width has).align
 rel_align w8 h false = inl refl
 rel_align w16 h false = inr (inl refl)
@@ -18,7 +18,7 @@ rel_align w32 h true = inr (inr (inl refl))
 rel_align w64 h true = inr (inr (inr (inl refl)))
 rel_align w128 h has = not_128 h
 
--- in every schema
+-- In every schema.
 pub rel_has_layout : (sign : Sign) (width : Width) → IsOffsetWidth width → (has : Bool) → HasLayout no_definition (parts (rel_parts sign width has)) (rel_layout width has)
 rel_has_layout sign w8 h false = record { solved = λ s k. refl }
 rel_has_layout sign w16 h false = record { solved = λ s k. refl }

@@ -11,7 +11,7 @@ use Rattle.archive_types.specs.Writing.{IsKeyed}
 use Rattle.archive_types.specs.Plans.{HasPlan}
 use Rattle.archive_types.specs.Members.Variants.{case_of, one_keyed, case_planned}
 
--- Ok has the tag 0, Err the tag 1
+-- Ok has the tag 0, Err the tag 1.
 abbrev pub result_meaning : {A B : Type 0} → (A → Value) → (B → Value) → Result A B → Value
 result_meaning m n (Ok x) = case_of 0 (m x)
 result_meaning m n (Err e) = case_of 1 (n e)
@@ -20,7 +20,7 @@ abbrev pub result_keys : {A B : Type 0} → (A → List Naming) → (B → List 
 result_keys k l (Ok x) = k x
 result_keys k l (Err e) = l e
 
--- what is read in its place, where its resolver is that of what it holds
+-- What is read in its place, where its resolver is that of what it holds.
 abbrev pub result_flat : {A B R S : Type 0} → (A → R → Value) → (B → S → Value) → Result A B → Result R S → Value
 result_flat f g (Ok x) (Ok r) = case_of 0 (f x r)
 result_flat f g (Ok x) (Err s) = case 0 no_value

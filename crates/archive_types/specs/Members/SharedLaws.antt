@@ -15,15 +15,15 @@ use Rattle.archive_types.specs.Writing.{NameMap, HasKeys, LeadsToKey, key_at_onc
 use Rattle.archive_types.specs.Plans.{Cursor, begun, ended, Step, lays, meets, Plans, plans_shared, plans_null, plans_weak, PlansRegion, plans_region, plans_new, plans_finished, plans_pending, ValuePlan, HasPlan, HasRegionPlan}
 use Rattle.archive_types.specs.Members.Keyed.{keyed_by_none}
 
--- a flavor, by its name and whether it allows cycles
+-- A flavor, by its name and whether it allows cycles.
 abbrev pub flavor_as : Name → Bool → Flavor
 flavor_as name cycles = record { name = name; cycles = cycles }
 
--- the key of a shared value, with what it names
+-- The key of a shared value, with what it names.
 abbrev pub naming_of : ℕ → Flavor → Pointee → ℕ → Value → Naming
 naming_of key flavor P n v = (key, (record { flavor = flavor; pointee = P; length = n }, v))
 
--- a weak pointer to what there is, or null
+-- A weak pointer to what there is, or null.
 abbrev pub weak_value : {A : Type 0} → (A → Value) → Option A → Value
 weak_value meaning None = null
 weak_value meaning (Some x) = meaning x
@@ -32,12 +32,12 @@ abbrev pub weak_keys : {A : Type 0} → (A → List Naming) → Option A → Lis
 weak_keys keys None = []
 weak_keys keys (Some x) = keys x
 
--- how many elements or bytes there are
+-- How many elements or bytes there are.
 abbrev pub weak_count : {A : Type 0} → (A → ℕ) → Option A → ℕ
 weak_count count None = 0
 weak_count count (Some x) = count x
 
--- what is read in its place, by where what it points to was written
+-- What is read in its place, by where what it points to was written.
 abbrev pub weak_flat : Flavor → Pointee → ℕ → Option ℕ → Value
 weak_flat flavor P n None = null
 weak_flat flavor P n (Some t) = hole (to_shared t flavor P n)
@@ -51,7 +51,7 @@ module _ (key : ℕ) (flavor : Flavor) (P : Pointee) (n : ℕ) (ks : List Naming
   wider : (w : Value) → HasKeys ks w → HasKeys (k ∷ ks) w
   wider w h l name = let (x, c) = h l name in (x, contains_later k ks (l, x) c)
 
-  -- what the pointee leads to, its pointer does
+  -- What the pointee leads to, its pointer does.
   leads_further : (l : ℕ) → LeadsToKey ks v l → LeadsToKey (k ∷ ks) (shared_value key) l
   leads_further l (key_at_once name) = key_through (key_at_once names_itself) (contains_first ks k) name
   leads_further l (key_through {l = m} h c name) = key_through (leads_further m.0 h) (contains_later k ks m c) name
@@ -121,7 +121,7 @@ mentions_as_weak : (name : Name) (flavor : Flavor) (P : Pointee) → Mentions na
 mentions_as_weak name flavor P (mentions_held h) = held_nowhere name P h
 mentions_as_weak name flavor P (mentions_boxed m) = mentions_weak m
 
--- what a box of it reaches, a shared pointer to it does
+-- What a box of it reaches, a shared pointer to it does.
 pub shared_reaches : (D : Definitions) (flavor : Flavor) (P : Pointee) → NoOthers D (boxed P) → NoOthers D (shared flavor P)
 shared_reaches D flavor P h = around_reached D (boxed P) (shared flavor P) (λ n m. mentions_as_shared n flavor P m) h
 

@@ -9,7 +9,7 @@ use Rattle.archive_check.specs.Denotes.{Naming}
 use Rattle.archive_types.specs.Writing.{NameMap, Resolves, IsKeyed, LeadsToKey, key_at_once, key_through}
 use Rattle.archive_types.specs.Plans.{Cursor, Step, plans_choice, plans_named, plans_part, plans_no_part, ValuePlan, HasPlan}
 
--- the variant with this tag and one value
+-- The variant with this tag and one value.
 abbrev pub case_of : ℕ → Value → Value
 case_of tag v = case tag (value v no_value)
 
@@ -31,7 +31,7 @@ leads_inside : (keys : List Naming) (tag : ℕ) (v : Value) (k : ℕ) → LeadsT
 leads_inside keys tag v k (key_at_once n) = key_at_once (names_case (names_first n))
 leads_inside keys tag v k (key_through {l = l} h c n) = key_through (leads_inside keys tag v l.0 h) c n
 
--- a variant with one part has the part's keys
+-- A variant with one part has the part's keys.
 pub one_keyed : (keys : List Naming) (tag : ℕ) (v : Value) → IsKeyed keys v → IsKeyed keys (case_of tag v)
 one_keyed keys tag v h = record { value = λ k n. h.value k (name_inside tag k v n); named = h.named; only = λ k c. leads_inside keys tag v k.0 (h.only k c) }
 
@@ -60,7 +60,7 @@ module _ (name : Name) (vs : Variants) (tag : ℕ) (is : variant_at vs tag ≡ S
   pub empty_planned : (D : Definitions) (keys : List Naming) → HasPlan D (choice name vs) keys (case tag no_value)
   empty_planned D keys a s names k n = empty_plan s names a (λ w C b. Unit {0}) tt
 
--- of a name, by its definition's
+-- Of a name, by its definition's.
 pub named_plan : (s : SchemaTable) (names : NameMap) (name : Name) (X : Shape) (v : Value) (a : Cursor) (holds : Value → List Step → Cursor → Type 0) → definition s.table name ≡ Some X
     → ValuePlan s names X v a holds → ValuePlan s names (named name) v a holds
 named_plan s names name X v a holds is q = record { flat = q.flat; steps = q.steps; stop = q.stop; plans = plans_named is q.plans; such = q.such }

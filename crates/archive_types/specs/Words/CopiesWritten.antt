@@ -12,34 +12,34 @@ use Rattle.archive_check.specs.declared.format.error.Error.TheVariants.{OutOfMem
 use Rattle.archive_check.specs.declared.format.traits.Keys as Keys
 use Rattle.archive_types.specs.Copies.{each_bytes, EachCopied, copies_from, copies_to, behind_zeros, IsUnwritten, IsCopyRefused, IsSliceRefused, AreCopiesRefused, TakesCopy}
 
--- the bytes of each of the values read as it, wherever they stand
+-- The bytes of each of the values read as it, wherever they stand.
 abbrev pub AllCopied : {A M : Type 0} → FormatOf M → ℕ → (A → Value) → (A → List ℕ) → List A → Type 0
 AllCopied f size meaning bytes xs = EachCopied f.definitions f.shape size meaning bytes xs
 
 module _ {S : Type 0} (position : S → ℕ) (k : Keys.Ghosts S) (w : Both (MutBor S) (MutBor S)) where
-  -- why n bytes weren't written; why a copy of n bytes was refused
+  -- Why n bytes weren't written; why a copy of n bytes was refused.
   abbrev pub PiecesUnwritten : ℕ → Error → Type 0
   PiecesUnwritten n = IsUnwritten (position w.entry.now + n) (k.state w.entry.now) (k.state w.exit.now)
 
   abbrev pub CopyRefused : ℕ → Error → Type 0
   CopyRefused n = IsCopyRefused (position w.entry.now + n) (k.state w.entry.now) (k.state w.exit.now)
 
-  -- why a copy of n values was refused, behind zeros up to their alignment; of a vector's elements
+  -- Why a copy of n values was refused, behind zeros up to their alignment; of a vector's elements.
   abbrev pub CopiesRefused : Layout → ℕ → Error → Type 0
   CopiesRefused L n = IsCopyRefused (copies_to L n (position w.entry.now)) (k.state w.entry.now) (k.state w.exit.now)
 
   abbrev pub ElementsRefused : Layout → ℕ → Error → Type 0
   ElementsRefused L n = AreCopiesRefused L n (position w.entry.now) (k.state w.entry.now) (k.state w.exit.now)
 
-  -- nothing refuses it
+  -- Nothing refuses it.
   abbrev pub TakesCopies : Bool → Layout → ℕ → Type 0
   TakesCopies takes_memory L n = TakesCopy (IsTrue takes_memory) (copies_to L n (position w.entry.now)) (k.state w.entry.now) (k.state w.exit.now)
 
-  -- so a vector of them succeeds, where a pointer can say their number and their position
+  -- So a vector of them succeeds, where a pointer can say their number and their position.
   abbrev pub CopiesSucceed : Bool → Layout → ℕ → {R : Type 0} → Result R Error → Type 0
   CopiesSucceed takes_memory L n result = TakesCopies takes_memory L n → n ≤ 4294967295 → copies_from L (position w.entry.now) ≤ 4294967295 → IsOk result
 
--- zeros came up to the values' alignment, and then these bytes
+-- Zeros came up to the values' alignment, and then these bytes.
 abbrev pub AddedAligned : {S : Type 0} → Layout → List ℕ → Keys.Ghosts S → Both (MutBor S) (MutBor S) → Type 0
 AddedAligned L bytes k w = (k.state w.exit.now).bytes ≡ behind_zeros L (k.state w.entry.now).bytes bytes
 
@@ -69,14 +69,14 @@ abbrev pub SliceWritesInBulk : {T : Type 0} → Option (T → List ℕ) → Layo
 SliceWritesInBulk in_bulk L xs p old new takes_memory result = IfSome in_bulk (λ bytes. L.size ≤ 1024
     → WritesInBulk L (each_bytes bytes xs) (length xs) p old new takes_memory (IsSliceRefused L (length xs) p old new) (length xs ≤ 4294967295) result)
 
--- and the elements of an owner, if it can say their position, too.
+-- And the elements of an owner, if it can say their position, too.
 abbrev pub OwnerWritesInBulk : {T : Type 0} → Option (T → List ℕ) → Layout → List T → ℕ → WriterState → WriterState → Bool → Result ℕ Error → Type 0
 OwnerWritesInBulk in_bulk L xs p old new takes_memory result = IfSome in_bulk (λ bytes. L.size ≤ 1024
     → WritesInBulk L (each_bytes bytes xs) (length xs) p old new takes_memory (AreCopiesRefused L (length xs) p old new)
     ((length xs ≤ 4294967295) × (copies_from L p ≤ 4294967295)) result)
 
 module _ {T S : Type 0} (in_bulk : Option (T → List ℕ)) (position : S → ℕ) (k : Keys.Ghosts S) (w : Both (MutBor S) (MutBor S)) (takes_memory : Bool) (L : Layout) (xs : List T) (result : Result ℕ Error) where
-  -- the same, as a contract says it
+  -- The same, as a contract says it.
   abbrev pub SliceInBulk : Type 0
   SliceInBulk = SliceWritesInBulk in_bulk L xs (position w.entry.now) (k.state w.entry.now) (k.state w.exit.now) takes_memory result
 

@@ -11,14 +11,14 @@ use Rattle.archive_check.specs.Words.Formats.{FormatOf}
 use Rattle.archive_check.specs.Denotes.{Naming}
 use Rattle.archive_types.specs.TextPlans.{ExplainsTextRefusal, ExplainsStringRefusal}
 
--- why a text isn't written, by the one write that it takes
+-- Why a text isn't written, by the one write that it takes.
 abbrev pub NoTextSince : {S : Type 0} → List ℕ → (S → ℕ) → Keys.Ghosts S → Both (MutBor S) (MutBor S) → Error → Type 0
 NoTextSince bytes position k w e = ExplainsTextRefusal bytes (position w.entry.now) (k.state w.entry.now) (k.state w.exit.now) e
 
 abbrev pub NoStringSince : {S : Type 0} → List ℕ → (S → ℕ) → Keys.Ghosts S → Both (MutBor S) (MutBor S) → Error → Type 0
 NoStringSince bytes position k w e = ExplainsStringRefusal bytes (position w.entry.now) (k.state w.entry.now) (k.state w.exit.now) e
 
--- values that are copied own nothing, and have these bytes wherever they are archived
+-- Values that are copied own nothing, and have these bytes wherever they are archived.
 abbrev pub OwnsNothingAs : {M : Type 0} → FormatOf M → List Naming → Value → Type 0
 OwnsNothingAs f keys v = OwnsNothing f.definitions f.shape keys v
 

@@ -11,17 +11,17 @@ use Rattle.archive_num.specs.Offsets.{distance, Fits, IsBeyond, offset_bytes}
 use Rattle.archive_types.specs.RelativePointers.{rel_bytes}
 use Rattle.archive_types.specs.declared.place.Place.{Place}
 
--- the bytes are the offset z, or nothing was written where it doesn't fit
+-- The bytes are the offset z, or nothing was written where it doesn't fit.
 abbrev pub OffsetWritten : {T : Type 0} → Sign → Width → ℤ → List ℕ → List ℕ → Result T Error → Type 0
 OffsetWritten sign width z old new result =
     MatchResult result (λ _. Fits sign width z × (new ≡ offset_bytes width z)) (λ e. (new ≡ old) × (e ≡ OffsetOverflow) × ¬ Fits sign width z)
 
--- the same of a pointer with a length, or without
+-- The same of a pointer with a length, or without.
 abbrev pub RelWritten : {T : Type 0} → Sign → Width → Bool → ℤ → ℕ → List ℕ → List ℕ → Result T Error → Type 0
 RelWritten sign width is_long z n old new result =
     MatchResult result (λ _. Fits sign width z × (new ≡ rel_bytes width is_long z n old)) (λ e. (new ≡ old) × (e ≡ OffsetOverflow) × ¬ Fits sign width z)
 
--- the bytes of the place are the offset from there to a position, or as they were where it doesn't fit
+-- The bytes of the place are the offset from there to a position, or as they were where it doesn't fit.
 abbrev pub OffsetPut : {F R T : Type 0} → Sign → Width → ℕ → Both (Place F) (MutBor (List ℕ) × R) → Result T Error → Type 0
 OffsetPut sign width to p result =
     MatchResult result (λ _. Fits sign width (distance p.entry.pos to) × (p.exit.0.now ≡ offset_bytes width (distance p.entry.pos to)))
@@ -32,6 +32,6 @@ RelPut sign width is_long n to p result =
     MatchResult result (λ _. Fits sign width (distance p.entry.pos to) × (p.exit.0.now ≡ rel_bytes width is_long (distance p.entry.pos to) n p.entry.bytes.now))
     (λ e. (p.exit.0.now ≡ p.entry.bytes.now) × IsBeyond sign width e (distance p.entry.pos to))
 
--- the bytes of the place are an invalid pointer
+-- The bytes of the place are an invalid pointer.
 abbrev pub InvalidPut : {F R : Type 0} → Width → Bool → Both (Place F) (MutBor (List ℕ) × R) → Type 0
 InvalidPut width is_long p = p.exit.0.now ≡ rel_bytes width is_long (pos 1) 0 p.entry.bytes.now

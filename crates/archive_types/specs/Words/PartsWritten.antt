@@ -10,7 +10,7 @@ use Rattle.archive_check.specs.declared.format.traits.Entries as Entries
 use Rattle.archive_check.specs.declared.self_check.parts.CheckedParts as CheckedParts
 use Rattle.archive_types.specs.PartsReading.{PartsReadBack, RefusesParts}
 
--- the parts behind the offset `start` of what begins at p were read back as these; why they weren't
+-- The parts behind the offset `start` of what begins at p were read back as these; why they weren't.
 abbrev pub ReadsPartsBack : {P T D : Type 0} → CheckedParts.Ghosts P → List ℕ → ℕ → ℕ → Entries.Ghosts D → Both (MutBor D) (MutBor D) → (T → Values) → (T → List Naming) → T → Type 0
 ReadsPartsBack g bytes p start d b meanings keys t = PartsReadBack d.keeps bytes p g.definitions g.parts start (d.entry_of b.entry.now) (d.entry_of b.exit.now) (meanings t) (keys t)
 

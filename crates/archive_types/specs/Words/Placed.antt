@@ -17,36 +17,36 @@ use Rattle.archive_types.specs.Plans.{HasRegionPlan}
 use Rattle.archive_types.specs.declared.place.Place.{Place}
 use Rattle.archive_write.specs.Written.{ExplainsRefusal}
 
--- the place is as it was: the offset from there to t doesn't fit
+-- The place is as it was: the offset from there to t doesn't fit.
 abbrev pub IsTooFarFrom : {F R : Type 0} → Both (Place F) (MutBor (List ℕ) × R) → ℕ → Error → Type 0
 IsTooFarFrom p t e = (p.exit.0.now ≡ p.entry.bytes.now) × IsTooFar e (distance p.entry.pos t)
 
--- the bytes of the place are an offset to t, and the length n behind it where there is one
+-- The bytes of the place are an offset to t, and the length n behind it where there is one.
 abbrev pub PointsTo : {F R : Type 0} → Both (Place F) (MutBor (List ℕ) × R) → Bool → ℕ → ℕ → Type 0
 PointsTo p is_long t n = p.exit.0.now ≡ owner_bytes is_long (distance p.entry.pos t) n
 
--- the place is as it was: the length is above 4,294,967,295, or the offset from there to t doesn't fit
+-- The place is as it was: the length is above 4,294,967,295, or the offset from there to t doesn't fit.
 abbrev pub IsNoPointer : {F R : Type 0} → Both (Place F) (MutBor (List ℕ) × R) → ℕ → ℕ → Error → Type 0
 IsNoPointer p t n e = (p.exit.0.now ≡ p.entry.bytes.now) × (((e ≡ LengthTooLarge) × (4294967295 < n)) ⊎ IsTooFar e (distance p.entry.pos t))
 
--- refused so, before anything was written: the writer tells what it told before
+-- Refused so, before anything was written: the writer tells what it told before.
 abbrev pub AtOnce : {T S : Type 0} → Result T Error → Error → Keys.Ghosts S → Both (MutBor S) (MutBor S) → Type 0
 AtOnce result e k w = IsErrOf result e × (k.state w.exit.now ≡ k.state w.entry.now)
 
--- these bytes alone were appended, and stand at p
+-- These bytes alone were appended, and stand at p.
 abbrev pub Added : {S : Type 0} → List ℕ → Keys.Ghosts S → Both (MutBor S) (MutBor S) → ℕ → Type 0
 Added bytes k w p = (p ≡ length (k.state w.entry.now).bytes) × ((k.state w.exit.now).bytes ≡ (k.state w.entry.now).bytes ++ bytes)
 
--- these bytes alone were appended; n were
+-- These bytes alone were appended; n were.
 abbrev pub BytesAdded : {S : Type 0} → List ℕ → Keys.Ghosts S → Both (MutBor S) (MutBor S) → Type 0
 BytesAdded bytes k w = (k.state w.exit.now).bytes ≡ (k.state w.entry.now).bytes ++ bytes
 
--- why a write of n bytes was refused, where the writer stood at its position
+-- Why a write of n bytes was refused, where the writer stood at its position.
 abbrev pub WriteRefused : {S : Type 0} → ℕ → (S → ℕ) → Keys.Ghosts S → Both (MutBor S) (MutBor S) → Error → Type 0
 WriteRefused n position k w e =
     ExplainsRefusal n (position w.entry.now) (length (k.state w.exit.now).bytes) (k.state w.entry.now).room (k.state w.entry.now).failures (k.state w.exit.now).failures e
 
--- a pointer to such a pointee of n elements or bytes at t was appended, at the writer's position; why it wasn't
+-- A pointer to such a pointee of n elements or bytes at t was appended, at the writer's position; why it wasn't.
 abbrev pub Pointed : {S : Type 0} → Pointee → ℕ → ℕ → (S → ℕ) → Keys.Ghosts S → Both (MutBor S) (MutBor S) → Type 0
 Pointed P n t position k w = (k.state w.exit.now).bytes ≡ (k.state w.entry.now).bytes ++ owner_bytes (has_length P) (distance (position w.entry.now) t) n
 
@@ -54,6 +54,6 @@ abbrev pub Unpointed : {S : Type 0} → Pointee → ℕ → ℕ → (S → ℕ) 
 Unpointed P n t position k w e =
     (HindersPointerAt n (pointer_size P) (position w.entry.now) t e × (k.state w.exit.now ≡ k.state w.entry.now)) ⊎ WriteRefused (pointer_size P) position k w e
 
--- there is a plan of a pointee of n elements or bytes, with its region
+-- There is a plan of a pointee of n elements or bytes, with its region.
 abbrev pub IsPlanned : {T M : Type 0} → ArchivePointee.Ghosts T M → ℕ → List Naming → Value → Type 0
 IsPlanned g n keys v = HasRegionPlan g.definitions g.pointee n keys v

@@ -9,6 +9,6 @@ use Rattle.archive_types.specs.Words.OffsetsWritten.{RelPut}
 use Rattle.archive_types.specs.declared.place.Place.{Place}
 use Rattle.archive_types.specs.declared.rel_ptr.metadata.Metadata as Metadata
 
--- the bytes of the place are the offset from there to a position, with the metadata behind it, or as they were where the offset doesn't fit
+-- The bytes of the place are the offset from there to a position, with the metadata behind it, or as they were where the offset doesn't fit.
 abbrev pub PointerPut : {M F R T : Type 0} → Sign → Width → Metadata.Ghosts M → M → ℕ → Both (Place F) (MutBor (List ℕ) × R) → Result T Error → Type 0
 PointerPut sign width m metadata = RelPut sign width m.is_length (m.count metadata)

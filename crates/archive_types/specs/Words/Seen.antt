@@ -24,29 +24,29 @@ use Rattle.archive_types.specs.Views.{ShowsPart}
 use Rattle.archive_types.specs.declared.view.RawView.{RawView}
 use Rattle.archive_types.specs.declared.view.Ref.{Ref}
 
--- the buffer, the position and the length of what a view shows, by which views are compared
+-- The buffer, the position and the length of what a view shows, by which views are compared.
 abbrev pub shown : {T M : Type 0} {g : ArchivePointee.Ghosts T M} → Ref T M g → Standing
 shown v = standing v.bytes.now v.pos v.len
 
--- the elements of the slice that a view shows, and of the vector
+-- The elements of the slice that a view shows, and of the vector.
 abbrev pub elements_shown : {T M : Type 0} {g : ArchivePointee.Ghosts T M} → ℕ → Ref T M g → List Standing
 elements_shown size v = elements size (shown v)
 
 abbrev pub elements_in : {T M : Type 0} {g : ArchivePointee.Ghosts T M} → ℕ → Ref T M g → List Standing
 elements_in size v = elements size (slice_of (shown v))
 
--- an element of a slice; the order of a result, of such a value and such an error, and of one of the machine
+-- an element of a slice; the order of a result, of such a value and such an error, and of one of the machine.
 abbrev pub element_shown : {T M : Type 0} {g : ArchivePointee.Ghosts T M} → ℕ → ℕ → Ref T M g → Standing
 element_shown size i v = standing v.bytes.now (v.pos + i * size) 0
 
 abbrev pub result_to : {T M U W : Type 0} {g : ArchivePointee.Ghosts T M} → (Standing → U → Ordering) → (Standing → W → Ordering) → Layout → Layout → Ref T M g → Result U W → Ordering
 result_to R S L E v r = result_order R S (result_in L.align E.align (shown v)) r
 
--- the elements of an array of n that a view shows
+-- The elements of an array of n that a view shows.
 abbrev pub elements_of : {T M : Type 0} {g : ArchivePointee.Ghosts T M} → ℕ → ℕ → Ref T M g → List Standing
 elements_of size n v = elements_from v.bytes.now v.pos size 0 n
 
--- elements from the beginning of a part on: the first n of them; and those from the one of index a up to b
+-- Elements from the beginning of a part on: the first n of them; and those from the one of index a up to b.
 abbrev pub first_elements : RawView → ℕ → ℕ → List Standing
 first_elements s size n = elements_from s.bytes.now s.pos size 0 n
 
@@ -56,81 +56,81 @@ elements_between s size a b = elements_from s.bytes.now s.pos size a (b - a)
 abbrev pub part_tag : RawView → ℕ
 part_tag p = slice_index p.bytes.now p.pos
 
--- the number of n bytes that a part shows
+-- The number of n bytes that a part shows.
 abbrev pub part_number : RawView → ℕ → ℕ
 part_number p size = little_number (bytes_at p.bytes.now p.pos size)
 
 abbrev pub part_shown : RawView → Standing
 part_shown p = standing p.bytes.now p.pos p.len
 
--- the tag of a choice: the byte where it stands
+-- The tag of a choice: the byte where it stands.
 abbrev pub tag_of : {T M : Type 0} {g : ArchivePointee.Ghosts T M} → Ref T M g → ℕ
 tag_of v = slice_index v.bytes.now v.pos
 
--- whatever an archive says of what the view shows is this value
+-- Whatever an archive says of what the view shows is this value.
 abbrev pub ShowsValue : {T M : Type 0} {g : ArchivePointee.Ghosts T M} → Ref T M g → Value → Type 0
 ShowsValue {g = g} v w = Says g.definitions v.bytes.now v.pos g.pointee v.len w
 
--- the first view shows a part of what the second one does: what is taken of it
+-- The first view shows a part of what the second one does: what is taken of it.
 abbrev pub ShowsPartOf : {T M U N : Type 0} {g : ArchivePointee.Ghosts T M} {h : ArchivePointee.Ghosts U N} → Ref U N h → Ref T M g → (Value → Option Value) → Type 0
 ShowsPartOf {g = g} {h = h} u v taken = ShowsPart g.definitions v.bytes.now v.pos g.pointee v.len u.pos h.pointee u.len taken
 
--- the same of one value
+-- The same of one value.
 abbrev pub ShowsValueOf : {T M U N : Type 0} {g : ArchivePointee.Ghosts T M} {h : ArchivePointee.Ghosts U N} → Ref U N h → Ref T M g → (Value → Option Value) → Type 0
 ShowsValueOf {g = g} {h = h} u v taken = ShowsPart g.definitions v.bytes.now v.pos g.pointee v.len u.pos h.pointee 0 taken
 
--- wherever what the second view shows is a part of an archive, so is what the first one does
+-- Wherever what the second view shows is a part of an archive, so is what the first one does.
 abbrev pub StandsBeside : {T M U N : Type 0} {g : ArchivePointee.Ghosts T M} {h : ArchivePointee.Ghosts U N} → Ref U N h → Ref T M g → Type 0
 StandsBeside {g = g} {h = h} u v = StandsWith g.definitions v.bytes.now (view v.pos g.pointee v.len) (view u.pos h.pointee u.len)
 
--- what the view shows was read back as this value, with these keys
+-- What the view shows was read back as this value, with these keys.
 abbrev pub ReadsView : {T M D : Type 0} {g : ArchivePointee.Ghosts T M} → Ref T M g → Entries.Ghosts D → Both (MutBor D) (MutBor D) → Value → List Naming → Type 0
 ReadsView {g = g} v d b w keys = ReadsBack d.keeps g.definitions v.bytes.now v.pos g.pointee v.len (d.entry_of b.entry.now) (d.entry_of b.exit.now) w keys
 
--- why it wasn't
+-- Why it wasn't.
 abbrev pub RefusesView : {T M D : Type 0} {g : ArchivePointee.Ghosts T M} → Ref T M g → Entries.Ghosts D → Both (MutBor D) (MutBor D) → Error → Type 0
 RefusesView {g = g} v d b e = RefusesReading g.definitions v.bytes.now v.pos g.pointee v.len (d.entry_of b.entry.now) e
 
--- what a view promises of a part, which has no type: it is one of that type
+-- What a view promises of a part, which has no type: it is one of that type.
 abbrev pub IsPartOf : {T M : Type 0} → ArchivePointee.Ghosts T M → RawView → Type 0
 IsPartOf g p = Viewed g.definitions p.bytes.now p.pos g.pointee p.len
 
--- the part was read back as this value, with these keys
+-- The part was read back as this value, with these keys.
 abbrev pub ReadsPart : {T M D E : Type 0} → ArchivePointee.Ghosts T M → Both RawView E → Entries.Ghosts D → Both (MutBor D) (MutBor D) → Value → List Naming → Type 0
 ReadsPart g p d b w keys =
     ReadsBack d.keeps g.definitions p.entry.bytes.now p.entry.pos g.pointee p.entry.len (d.entry_of b.entry.now) (d.entry_of b.exit.now) w keys
 
--- why it wasn't
+-- Why it wasn't.
 abbrev pub RefusesPart : {T M D E : Type 0} → ArchivePointee.Ghosts T M → Both RawView E → Entries.Ghosts D → Both (MutBor D) (MutBor D) → Error → Type 0
 RefusesPart g p d b e = RefusesReading g.definitions p.entry.bytes.now p.entry.pos g.pointee p.entry.len (d.entry_of b.entry.now) e
 
--- the parts of a record were read back, with these meanings and keys
+-- The parts of a record were read back, with these meanings and keys.
 abbrev pub ReadsRecord : {T M D E X : Type 0} → ArchivePointee.Ghosts T M → Both RawView E → Entries.Ghosts D → Both (MutBor D) (MutBor D) → (X → Values) → (X → List Naming) → X → Type 0
 ReadsRecord g p d b meanings keys t = ReadsPart g p d b (product (meanings t)) (keys t)
 
--- the parts of a variant were, of the one that the tag names
+-- The parts of a variant were, of the one that the tag names.
 abbrev pub ReadsVariant : {T M D E X : Type 0} → ArchivePointee.Ghosts T M → Both RawView E → Entries.Ghosts D → Both (MutBor D) (MutBor D) → (X → Values) → (X → List Naming) → X → Type 0
 ReadsVariant g p d b meanings keys t = ReadsPart g p d b (case (slice_index p.entry.bytes.now p.entry.pos) (meanings t)) (keys t)
 
--- a view of the same buffer; one that begins n bytes behind another's beginning
+-- A view of the same buffer; one that begins n bytes behind another's beginning.
 abbrev pub IsBufferOf : {T M U N : Type 0} {g : ArchivePointee.Ghosts T M} {h : ArchivePointee.Ghosts U N} → Ref T M g → Ref U N h → Type 0
 IsBufferOf v u = u.bytes.now ≡ v.bytes.now
 
 abbrev pub IsBehind : {T M U N : Type 0} {g : ArchivePointee.Ghosts T M} {h : ArchivePointee.Ghosts U N} → Ref T M g → ℕ → Ref U N h → Type 0
 IsBehind v o u = u.pos ≡ v.pos + o
 
--- the second view shows what the pointer that the first one shows leads to, and says its name
+-- The second view shows what the pointer that the first one shows leads to, and says its name.
 abbrev pub IsTargetOf : {T M U N : Type 0} {g : ArchivePointee.Ghosts T M} {h : ArchivePointee.Ghosts U N} → Ref T M g → Ref U N h → Type 0
 IsTargetOf {h = h} v u =
     (u.bytes.now ≡ v.bytes.now) × (u.pos ≡ target_from v.bytes.now v.pos v.pos) × (u.len ≡ length_at v.bytes.now v.pos h.pointee) × ShowsValue v (shared_value u.pos)
 
--- the value that the view shows is ordered so, compared to this one; and whether it is this one
+-- The value that the view shows is ordered so, compared to this one; and whether it is this one.
 abbrev pub ViewComparesTo : {T M : Type 0} {g : ArchivePointee.Ghosts T M} → Ref T M g → Value → Ordering → Type 0
 ViewComparesTo {g = g} v = ComparesTo g.definitions g.pointee v.bytes.now v.pos v.len
 
 abbrev pub ViewEquals : {T M : Type 0} {g : ArchivePointee.Ghosts T M} → Ref T M g → Value → Bool → Type 0
 ViewEquals {g = g} v = EqualsTo g.definitions g.pointee v.bytes.now v.pos v.len
 
--- the n bytes at p are the text of the string that a view shows
+-- The n bytes at p are the text of the string that a view shows.
 abbrev pub IsTextAt : {T M : Type 0} {g : ArchivePointee.Ghosts T M} → Ref T M g → ℕ → ℕ → Type 0
 IsTextAt v p n = bytes_at v.bytes.now p n ≡ string_text v.bytes.now v.pos

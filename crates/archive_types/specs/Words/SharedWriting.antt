@@ -16,31 +16,31 @@ use Rattle.archive_types.specs.Members.SharedLaws.{flavor_as, naming_of}
 use Rattle.archive_types.specs.declared.rc.Flavor as FlavorOf
 use Rattle.archive_types.specs.declared.traits.ArchiveUnsized as ArchiveUnsized
 
--- the flavor of a type
+-- The flavor of a type.
 abbrev pub flavor_of_type : {F : Type 0} → FlavorOf.Ghosts F → Flavor
 flavor_of_type f = flavor_as f.name f.ALLOW_CYCLES
 
--- a weak pointer of it to P
+-- A weak pointer of it to P.
 abbrev pub weak_to : {F : Type 0} → FlavorOf.Ghosts F → Pointee → Pointee
 weak_to f P = one (weak (flavor_of_type f) P)
 
--- nothing was written where the key is pending, and the keys stayed
+-- Nothing was written where the key is pending, and the keys stayed.
 abbrev pub AnswersPending : {T S : Type 0} → ℕ → Result T Error → Keys.Ghosts S → Both (MutBor S) (MutBor S) → Type 0
 AnswersPending key result k w =
     (k.state w.entry.now).states key ≡ Some None
     → IsErrOf result CyclicSerialize × KeepsBytes (k.state w.entry.now) (k.state w.exit.now) × KeepsKeys (k.state w.entry.now).states (k.state w.exit.now).states
 
--- where the key is known, neither the bytes nor the keys changed
+-- Where the key is known, neither the bytes nor the keys changed.
 abbrev pub IsUnchangedIfKnown : {S : Type 0} → ℕ → Keys.Ghosts S → Both (MutBor S) (MutBor S) → Type 0
 IsUnchangedIfKnown key k w =
     (s : Option ℕ) → (k.state w.entry.now).states key ≡ Some s
     → KeepsBytes (k.state w.entry.now) (k.state w.exit.now) × KeepsKeys (k.state w.entry.now).states (k.state w.exit.now).states
 
--- the key is unknown or pending
+-- The key is unknown or pending.
 abbrev pub IsUnfinished : {S : Type 0} → ℕ → Keys.Ghosts S → Both (MutBor S) (MutBor S) → Type 0
 IsUnfinished key k w = ((k.state w.exit.now).states key ≡ None) ⊎ ((k.state w.exit.now).states key ≡ Some None)
 
--- where the key was unknown, the source was laid out under it; and why it wasn't
+-- Where the key was unknown, the source was laid out under it; and why it wasn't.
 abbrev pub StoresIfUnknown : {U A M S : Type 0} → ℕ → ArchiveUnsized.Ghosts U A M → ArchivePointee.Ghosts A M → U → Keys.Ghosts S → Both (MutBor S) (MutBor S) → Result ℕ Error → Type 0
 StoresIfUnknown key u g v k w result =
     (k.state w.entry.now).states key ≡ None
@@ -55,6 +55,6 @@ UnstoredUnder key u g v k w e =
     (k.state w.entry.now) (k.state w.exit.now) e
 
 module _ {F P M U A N : Type 0} (f : FlavorOf.Ghosts F) (g : ArchivePointee.Ghosts P M) (u : ArchiveUnsized.Ghosts U A N) where
-  -- the keys of a source under a key: its own, with what it names, and those in the source
+  -- The keys of a source under a key: its own, with what it names, and those in the source.
   abbrev pub keys_under : ℕ → U → List Naming
   keys_under key v = naming_of key (flavor_of_type f) g.pointee (u.source_length v) (u.meaning v) ∷ u.keys v

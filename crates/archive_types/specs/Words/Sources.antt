@@ -15,11 +15,11 @@ use Rattle.archive_types.specs.Words.Seen.{ReadsPart}
 use Rattle.archive_types.specs.declared.traits.Archive as Archive
 use Rattle.archive_types.specs.declared.view.RawView.{RawView}
 
--- the part was read back as this value of the source
+-- The part was read back as this value of the source.
 abbrev pub Read : {P N T A R M C D E : Type 0} → ArchivePointee.Ghosts P N → Both RawView E → Entries.Ghosts D → Both (MutBor D) (MutBor D) → Archive.Ghosts T A R C M → T → Type 0
 Read g p d b a t = ReadsPart g p d b (a.meaning t) (a.keys t)
 
--- what a view promises of the elements of a slice, and what was read back of them
+-- What a view promises of the elements of a slice, and what was read back of them.
 abbrev pub AreElementsOf : {M : Type 0} → FormatOf M → RawView → Type 0
 AreElementsOf f p = Viewed f.definitions p.bytes.now p.pos (run f.shape) p.len
 

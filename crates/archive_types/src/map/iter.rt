@@ -15,7 +15,7 @@ use archive_tuple::ArchivedTuple2;
 use std::iter::FusedIterator;
 use std::marker::PhantomData;
 
-/// Views of the keys and values of a map that are left, from either end, in the order of the keys.
+/// Views of a map's keys and values, from either end, in the order of the keys.
 #[derive(Drop)]
 pub struct Iter<'a, K: MapKey, V: Portable> {
     entries: RawView<'a>,

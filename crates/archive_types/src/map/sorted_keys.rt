@@ -9,7 +9,7 @@ use crate::traits::Archive;
 use archive_nonzero::NonZero;
 use archive_num::{Integer, LittleEndian, Native};
 
-/// A source whose values may be the keys of a sorted map, since their order is that of the archived keys.
+/// A source for keys of a sorted map: its order is that of the archived keys.
 ///
 /// Integers, `usize`, `isize`, `char`, `String` and the archived numbers implement it.
 pub trait SortedKey: Archive + Ord {

@@ -58,9 +58,9 @@ impl RcResolver {
 /// Where what a weak pointer leads to was written; none where it is null. rkyv 0.8.18 has an enum of its own.
 pub type RcWeakResolver = Option<RcResolver>;
 
-/// Writes a value under its key, where that is unknown, and a zero byte if the writer is still at
-/// its position: what comes next would lie there, too. Returns the position, in bytes from the
-/// first one. Fails as `ArchivedRc::serialize_from_ref` does, but never with `PositionTooLarge` or
+/// Writes a value under its key, if that is unknown, and a zero byte if the writer is still at its
+/// position: what comes next would lie there, too. Returns the position, in bytes from the first
+/// one. Fails as `ArchivedRc::serialize_from_ref` does, but never with `PositionTooLarge` or
 /// `LengthTooLarge`.
 pub fn write_shared<F: Flavor, U: SerializeUnsized<S>, S: Sharing + Writer>(
     key: u64,
@@ -82,9 +82,9 @@ pub fn write_shared<F: Flavor, U: SerializeUnsized<S>, S: Sharing + Writer>(
     Ok(pos)
 }
 
-/// Writes the bytes of a pointer at `pos` to `target`, both in bytes from the buffer's first one,
-/// with the length `count`. Requires as many bytes as the pointer has, and that one value has the
-/// length 0. Fails with `IsizeOverflow` or `OffsetOverflow` exactly if the offset doesn't fit.
+/// Writes the bytes of a pointer at `pos` to `target`, with the length `count`. Both are positions
+/// in the buffer. Requires as many bytes as the pointer has, and that one value has the length 0.
+/// Fails with `IsizeOverflow` or `OffsetOverflow` exactly if the offset doesn't fit.
 #[tactic(auto, using(crate::proofs::Writing::Owned::size_by_length))]
 pub fn write_pointer<T: PortablePointee>(
     target: usize,

@@ -99,15 +99,9 @@ pub(crate) fn serialize_slice<S: Writer + ResolverAlloc, T: Serialize<S>>(
     if values.len() > u32::MAX as usize {
         return Err(Error::LengthTooLarge);
     }
-    if !T::copy_optimization().is_enabled() {
-        return serialize_in_turn(values, serializer);
-    }
     let copied = T::serialize_copied(values, 1, serializer)?;
-    if copied.is_none() {
-        return serialize_in_turn(values, serializer);
-    }
     let Some(pos) = copied else {
-        unreachable!();
+        return serialize_in_turn(values, serializer);
     };
     Ok(pos)
 }

@@ -65,9 +65,9 @@ pub trait WriterExt: Writer {
         self.write(&zeros[..n])
     }
 
-    /// Writes zeros up to the next multiple of `align` bytes, none where the writer is at one, and
-    /// returns the position there, in bytes from the first one. The caller must ensure that `align`
-    /// is from 1 to 32; it need not be a power of two.
+    /// Writes zeros up to the next multiple of `align` bytes, and returns the position there, in
+    /// bytes from the first one. The caller must ensure that `align` is from 1 to 32; it need not
+    /// be a power of two.
     #[inline(always)]
     final fn align(&mut self, align: usize) -> Result<usize, Error>
     where
@@ -88,8 +88,8 @@ pub trait WriterExt: Writer {
         Ok(self.pos())
     }
 
-    /// Writes zeros up to the next multiple of the alignment of `T`, and returns the position
-    /// there, in bytes from the first one.
+    /// Writes zeros up to the alignment of `T`, and returns the position there, in bytes from the
+    /// first one.
     #[tactic(auto, using(crate::proofs::Padding::pads_by))]
     #[inline(always)]
     final fn align_for<T: Portable>(&mut self) -> Result<usize, Error>

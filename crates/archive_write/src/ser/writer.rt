@@ -42,9 +42,9 @@ pub trait Writer: Positional + Keys {
         ensures keys { KeepsKeys (Self.state self.old).states (Self.state self.new).states }
         ensures memory { IsErrOf result Error.OutOfMemory → IsTrue takes_memory };
 
-    /// Appends `bytes` where the room for them is at hand, so that no memory is requested and
-    /// nothing can fail; else changes nothing and returns false. By default it returns false, and
-    /// the caller then writes as ever.
+    /// Appends `bytes` if the room is at hand, so that no memory is requested and nothing can fail;
+    /// else changes nothing and returns false. By default it returns false, and the caller then
+    /// writes as ever.
     #[inline(always)]
     fn write_at_once(&mut self, bytes: &[u8]) -> bool
         ensures written { IsTrue result → (Self.state self.new).bytes ≡ (Self.state self.old).bytes

@@ -468,7 +468,7 @@ pub(crate) type ArchivedRcSlice<T> = Behind<InSharedSlice, T>;
 
 pub(crate) type ArchivedRcWeak<T> = Behind<InWeak, T>;
 
-/// So many elements.
+/// A number of elements.
 pub(crate) struct Array<T, const N: usize> {
     of: PhantomData<T>,
 }

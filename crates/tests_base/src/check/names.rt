@@ -77,7 +77,7 @@ impl Portable for Tagged {
     }
 }
 
-/// A box of the name `Itself`, which holds itself twice.
+/// A box of the name `Itself`, which contains itself twice.
 pub(crate) struct Endless;
 
 impl ArchivePointee for Endless {

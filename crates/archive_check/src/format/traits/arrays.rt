@@ -25,8 +25,7 @@ impl<T: Portable, const N: usize> ArchivePointee for [T; N] {
     }
 }
 
-/// An array lies in an archive as its elements do, one after another, at a multiple of their
-/// alignment.
+/// An archived array: its elements one after another, at a multiple of their alignment.
 impl<T: Portable, const N: usize> Portable for [T; N] {
     ghost shape = { array N T.shape };
 

@@ -27,8 +27,8 @@ pub enum ReadHead<T, F> {
     Open(F, usize),
 }
 
-/// A source that is a recursive enum whose boxes of itself come last, to be read back from an `X`. `tools/derive` writes it, and `read_chain` reads its
-/// values.
+/// A recursive enum whose boxes of itself come last, to be read back from an `X`. `tools/derive`
+/// writes it, and `read_chain` reads its values.
 pub trait ChainBack<X: Portable, D: Entries>: Archive + Drop {
     /// What lies before a box.
     type Front: Drop;
