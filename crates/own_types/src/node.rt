@@ -156,7 +156,7 @@ impl Choice for ArchivedNode {
     ghost holds = { lit≤ tt };
 }
 
-/// What is kept of `Node` from its serialization until it is resolved.
+/// What is kept of `Node` between `serialize` and `resolve`.
 #[derive(Drop)]
 pub enum NodeResolver {
     /// Of `Nil`.
@@ -230,7 +230,7 @@ impl Archive for Node {
     }
 }
 
-/// What the check of an archived `Node` goes by.
+/// The check of an archived `Node`.
 pub struct NodeChain;
 
 impl Chain for NodeChain {
@@ -357,7 +357,7 @@ impl<S: Writer + Keys + ResolverAlloc> SerializeUnsized<S> for Node {
     }
 }
 
-/// What stands before the box of a `Node`.
+/// What comes before the box of a `Node`.
 #[derive(Drop)]
 pub enum NodeFront {
     /// Of `Cons`.
@@ -466,7 +466,7 @@ pub enum ViewOfNode<'a> {
     Cons(Ref<'a, ArchivedBox<ArchivedNode>>),
 }
 
-/// The variant of an archived `Node`, where it lies.
+/// The variant of an archived `Node`, as a view.
 pub trait NodeView<'a> {
     /// The variant that the tag names, with views of its fields.
     fn variant(self) -> ViewOfNode<'a>;
@@ -493,7 +493,7 @@ impl<'a> NodeView<'a> for Ref<'a, ArchivedNode> {
     }
 }
 
-/// The fields of an archived `Node`, sealed where they lie. Each call asks that the tag is its variant's.
+/// The fields of an archived `Node`, as seals. The caller must ensure that the tag is the variant's.
 pub trait NodeSeal<'a> {
     // The seal shows a part of a buffer that was checked.
     ghost sealed: { Self → Type 0 };

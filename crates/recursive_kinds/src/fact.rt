@@ -242,7 +242,7 @@ impl Choice for ArchivedFact {
     ghost holds = { lit≤ tt };
 }
 
-/// What is kept of `Fact` from its serialization until it is resolved.
+/// What is kept of `Fact` between `serialize` and `resolve`.
 #[derive(Drop)]
 pub enum FactResolver {
     /// Of `Holds`.
@@ -945,7 +945,7 @@ pub enum ViewOfFact<'a> {
     All(Ref<'a, ArchivedVec<ArchivedFact>>),
 }
 
-/// The variant of an archived `Fact`, where it lies.
+/// The variant of an archived `Fact`, as a view.
 pub trait FactView<'a> {
     /// The variant that the tag names, with views of its fields.
     fn variant(self) -> ViewOfFact<'a>;
@@ -1017,7 +1017,7 @@ impl<'a> FactView<'a> for Ref<'a, ArchivedFact> {
     }
 }
 
-/// The fields of an archived `Fact`, sealed where they lie. Each call asks that the tag is its variant's.
+/// The fields of an archived `Fact`, as seals. The caller must ensure that the tag is the variant's.
 pub trait FactSeal<'a> {
     // The seal shows a part of a buffer that was checked.
     ghost sealed: { Self → Type 0 };
