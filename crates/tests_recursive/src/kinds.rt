@@ -1,10 +1,14 @@
-// Recursive values behind vectors of boxes and of options, byte for byte: written, validated and read back; and a damaged one.
+// Recursive values behind vectors of boxes and of options, and beside fields of many kinds, byte for byte: written, validated and read back; and a
+// damaged one.
 
 use crate::assertions::{assert_read, assert_refused, assert_written};
 use archive_core::error::Error;
+use archive_core::primitive::ArchivedNonZeroU32;
 use recursive_kinds::bush::Bush;
+use recursive_kinds::fact::Fact;
 use recursive_kinds::knot::{ArchivedKnot, Knot};
 use std::alloc::{AllocError, Global};
+use std::collections::BTreeMap;
 use std::process::Abort;
 
 fn knot(alloc: Global, id: u32, next: Vec<Box<Knot>>) -> Result<Box<Knot>, AllocError> {
@@ -87,4 +91,40 @@ fn options_in_a_vector(rt: HostRuntime) {
     let bushes = bushes(rt.alloc()).expect(&rt, "a bush");
     assert_written(&rt, rt.alloc(), &bushes, BUSHES);
     assert_read(&rt, rt.alloc(), BUSHES, &bushes);
+}
+
+fn notes(alloc: Global) -> Result<Vec<String>, AllocError> {
+    let note = String::from_str(alloc, "abc")?;
+    Ok(vec![in alloc; note]?)
+}
+
+fn hours(alloc: Global) -> Result<BTreeMap<u16, i64>, AllocError> {
+    let mut hours = BTreeMap::new(alloc);
+    hours.insert(3, -1)?;
+    Ok(hours)
+}
+
+fn facts(alloc: Global) -> Result<Fact, AllocError> {
+    let reason = String::from_str(alloc, "no")?;
+    let notes = Fact::Notes(notes(alloc)?);
+    let hours = Fact::Hours(hours(alloc)?);
+    let mut facts = Vec::new(alloc);
+    facts.push(Fact::Holds(true))?;
+    facts.push(Fact::Due(Some((-7, 9))))?;
+    facts.push(Fact::Outcome(Err(reason)))?;
+    facts.push(notes)?;
+    facts.push(hours)?;
+    facts.push(Fact::Rank(ArchivedNonZeroU32::from_native(2)))?;
+    Ok(Fact::All(facts))
+}
+
+// The note at 0, the hours at 8, the six facts at 24, and all of them at 120. Of the 16 bytes of a fact the first is its tag.
+const FACTS: &[u8] =
+    b"abc\xff\xff\xff\xff\xff\x03\0\0\0\0\0\0\0\xff\xff\xff\xff\xff\xff\xff\xff\0\x01\0\0\0\0\0\0\0\0\0\0\0\0\0\0\x01\0\0\0\x01\0\0\0\xf9\xff\xff\xff\x09\0\0\0\x02\0\0\0\x01\0\0\0no\xff\xff\xff\xff\xff\xff\x03\0\0\0\xb4\xff\xff\xff\x01\0\0\0\0\0\0\0\x04\0\0\0\xac\xff\xff\xff\x01\0\0\0\0\0\0\0\x05\0\0\0\x02\0\0\0\0\0\0\0\0\0\0\0\x06\0\0\0\x9c\xff\xff\xff\x06\0\0\0\0\0\0\0";
+
+#[test]
+fn fields_of_many_kinds(rt: HostRuntime) {
+    let facts = facts(rt.alloc()).expect(&rt, "facts");
+    assert_written(&rt, rt.alloc(), &facts, FACTS);
+    assert_read(&rt, rt.alloc(), FACTS, &facts);
 }
