@@ -1,8 +1,10 @@
 """Types that hold themselves behind boxes and vectors: what is known of such a declaration, and the files that are written for it."""
 
-from . import recursive_chains, recursive_code, recursive_proofs, recursive_specs
+from . import recursive_chain_proofs, recursive_chains, recursive_code, recursive_proofs, recursive_read_proofs, recursive_specs
 from .formats import Formats, layout_of, snake
+from .layout import Group, literal
 from .model import Type
+from .recursive_reads import from_
 from .recursive_terms import Terms
 
 WRITTEN = "Written by tools/derive: change the declaration, and run it again."
@@ -23,6 +25,13 @@ class Case:
         sizes = layout_of([formats.layout(type) for type in self.types], 0 if tag is None else 1)
         self.align, self.offsets, self.end = sizes[1:]
         self.leads_back = [whole.terms.leads_back(type) for type in self.types]
+        self.path = f"{whole.name}::{name}"
+
+    def pattern(self, names):
+        """The variant with these names of its parts."""
+        if self.form == "struct":
+            return literal(self.path, [f"{field.name}: {name}" for field, name in zip(self.fields, names)])
+        return Group(f"{self.path}(", names, ")") if self.form == "tuple" else self.path
 
 
 class Family:
@@ -144,6 +153,7 @@ class Recursive:
     def shape_names(self):
         n = self.n
         names = [f"{n}_name", f"{n}_shape", f"{n}_definitions"]
+        names += [f"{from_(case, i)}_{what}" for case in self.cases for i in range(1, case.count - 1) for what in ("parts", "definitions")]
         if self.is_record:
             return names + [f"{n}_parts", f"{n}_part_definitions", f"{n}_has_parts"]
         names += [f"{n}_variants", f"{n}_variant_definitions", f"{n}_has_variants"]
@@ -162,5 +172,15 @@ def files(module):
             family = Family(formats, declaration)
             out[f"specs/{family.name}Shape.antt"] = recursive_specs.shape(family)
             out[f"specs/{family.name}Meaning.antt"] = recursive_specs.meaning(family)
-            out.update(recursive_proofs.files(family))
+            out.update(proofs(family))
     return out
+
+
+def proofs(family):
+    """The answers on the functions of the family."""
+    out = {}
+    for it in family.members:
+        out.update(recursive_proofs.defining(it))
+    if family.first.is_chain:
+        return {**out, **recursive_chain_proofs.files(family.first)}
+    return {**out, **recursive_proofs.writing(family), **recursive_read_proofs.reading(family)}

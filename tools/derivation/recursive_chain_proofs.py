@@ -1,11 +1,9 @@
 """The proofs of an enum that goes by loops: what is written and read up to its boxes."""
 
 from . import recursive_proofs as proofs
+from . import recursive_read_proofs as read_proofs
 from .recursive_chains import opens
-from .recursive_reads import Reads
-
-BUFFERS = ("buffer", "position", "length")
-
+from .recursive_reads import read_words, tails
 
 def files(it):
     out = {}
@@ -164,79 +162,57 @@ def closed(it):
 
 
 def whole_read(it, case):
-    answers = proofs.Answers(it.family, f"read_{case.n}")
-    proofs.parts_read(it, case, answers, "")
-    return answers.files()
+    out = {}
+    for tail in tails(it, case):
+        answers = proofs.Answers(it.family, f"read_{tail.name}")
+        read_proofs.fields_read(tail, answers, "")
+        out.update(answers.files())
+    return out
 
 
 def front_read(it, case):
     """What reads the parts of a variant before its box."""
     answers = proofs.Answers(it.family, f"read_{case.n}")
-    reads = Reads(case.names[:-1], case.types[:-1])
-    for i, err in enumerate(reads.errs):
-        refused = parts_refused(it, case, reads, i, f"c.{err}.ensures.refused")
-        answers.answer("", f"returns-{err}-clause-refused", reads.refused(i, f"({refused})"))
     last = case.count - 1
-    at = f"c.part_of_variant-p{last}" if last else "c.part_of_variant-p0"
+    oks, errs = read_proofs.arms(read_words(it, case, range(last)))
+    values = [f"c.{ok}.{name}" for ok, name in zip(oks, case.names)]
+    fields = read_proofs.Fields(it, case, values + ["_"])
+
+    def refused(i, refusal):
+        """That the whole is refused, as the part with this index is."""
+        for before in reversed(range(i)):
+            refusal = fields.later_refuses(before, oks[before], refusal)
+        return f"variant_refuses {proofs.whole_of(it, case)} _ _ _ c.requires.tag _ _ {refusal}"
+
+    for i, err in enumerate(errs):
+        answers.answer("", f"returns-{err}-clause-refused", refused(i, fields.first_refuses(i, err)))
+    at = f"c.part_of_variant-p{last}"
     D, X = it.terms.definitions(case.types[last]), it.terms.shape(case.types[last].args[0])
-    told = f"rw ({', '.join(f'{at}.ensures.{clause}' for clause in BUFFERS)}) at"
+    told = fields.told(last)
     here = f"{D} c.args.part.bytes.now (c.args.part.pos + {case.offsets[last]}) 0"
-    viewed = f"({told} {at}.ensures.viewed)"
-    box = f"(box_read {here} (one {X}) _ _ _ _ {viewed} h)"
-    unread = f"(box_unread {here} (one {X}) _ e {viewed} r)"
-    lets = proofs.signed_values(zip(case.types, case.names, reads.values))
+    viewed = f"({told}{at}.ensures.viewed)"
+    unread = f"(first_refuses {fields.head(last)} (box_unread {here} (one {X}) _ e {viewed} r))"
+    lets = read_proofs.signed_values(zip(case.types, case.names, values))
     body = (
         f"rw {at}.ensures.position (record {{ viewed = {viewed}; inside = omega arith;"
-        f" done = λ new m ks h. variant_read_back {proofs.whole_of(it, case)} _ _ _ c.requires.tag _ _ _ _ {parts_read(it, case, reads, box)};"
-        f" broken = λ e r. {parts_refused(it, case, reads, last, unread)} }})"
+        f" done = λ new m ks h. variant_read_back {proofs.whole_of(it, case)} _ _ _ c.requires.tag _ _ _ _"
+        f" {parts_read(it, case, fields, oks, f'(box_read {here} (one {X}) _ _ _ _ {viewed} h)')};"
+        f" broken = λ e r. {refused(last, unread)} }})"
     )
     answers.answer("", "returns-clause-read", f"({lets}({body}))" if lets else body)
     return answers.files()
 
 
-def laid(it, case, at):
-    """The layout of a part, and where it may begin."""
-    size, align = it.formats.layout(case.types[at])
-    start = 1 if not at else case.offsets[at - 1] + it.formats.layout(case.types[at - 1])[0]
-    return f"(record {{ size = {size}; align = {align} }})", "(record { solved = λ s k. refl })", start
-
-
-def told_of(at):
-    return f"rw ({', '.join(f'c.part_of_variant-p{at}.ensures.{clause}' for clause in BUFFERS)}) at "
-
-
-def parts_refused(it, case, reads, i, refusal):
-    """That the whole is refused, as the part with this index is."""
-    t = it.terms
-    types = case.types
-
-    def go(at):
-        layout, solved, start = laid(it, case, at)
-        rest = types[at + 1:]
-        head = f"{t.definitions(types[at])} {t.parts_definitions(rest)} {t.shape(types[at])} {layout} {solved} {t.parts(rest)} _ _ {start} _ _"
-        if at < i:
-            return f"(later_refuses {head} _ c.{reads.oks[at]}.ensures.read.kept {go(at + 1)})"
-        its = refusal if i == case.count - 1 else f"({told_of(at)}{refusal})"
-        return f"(first_refuses {head} {its})"
-
-    return f"variant_refuses {proofs.whole_of(it, case)} _ _ _ c.requires.tag _ _ {go(0)}"
-
-
-def parts_read(it, case, reads, box):
+def parts_read(it, case, fields, oks, box):
     """That the parts are read back, the box among them."""
-    t, values = it.terms, reads.values
-
-    def go(at):
-        layout, solved, _ = laid(it, case, at)
-        if at == case.count - 1:
-            return f"(part_read_back {{L = {layout}}} {{ks = ks}} {{ls = []}} {solved} {box} no_part_read_back)"
-        k = t.keys(case.types[at], values[at], t.own("keys"))
-        later = "(ks ++ [])"
-        for type, x in reversed(list(zip(case.types[at + 1:-1], values[at + 1:]))):
-            later = f"({t.keys(type, x, t.own('keys'))} ++ {later})"
-        return f"(part_read_back {{L = {layout}}} {{ks = {k}}} {{ls = {later}}} {solved} ({told_of(at)}c.{reads.oks[at]}.ensures.read) {go(at + 1)})"
-
-    return go(0)
+    t, last = it.terms, case.count - 1
+    out = f"(part_read_back {{L = {fields.layout(last)}}} {{ks = ks}} {{ls = []}} {read_proofs.SOLVED} {box} no_part_read_back)"
+    later = "(ks ++ [])"
+    for i in reversed(range(last)):
+        keys = t.keys(case.types[i], fields.parts.values[i], t.own("keys"))
+        out = fields.read_back(i, oks[i], out, later)
+        later = f"({keys} ++ {later})"
+    return out
 
 
 def heads_read(it):

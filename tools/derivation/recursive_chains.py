@@ -1,8 +1,9 @@
 """The module of a recursive enum whose boxes of itself come last, as a list: it is checked, written, read back and dropped by loops."""
 
 from . import recursive_code as code
+from . import recursive_reads as reads
 from .common import chain, infix
-from .layout import Generic, Group, flat, literal, pair, signature, statement
+from .layout import Group, flat, literal, pair, signature, statement
 from .model import Refused
 
 
@@ -91,7 +92,7 @@ def drop(it):
     for case in it.cases:
         names = ["_" for _ in case.names[:-1]] + ["rest"] if opens(case) else ["_" for _ in case.names]
         body = "self = Box::into_inner(rest)" if opens(case) else "return"
-        arms += f"                {flat(code.pattern(it, case, names))} => {body},\n"
+        arms += f"                {flat(case.pattern(names))} => {body},\n"
     return f"""/// By a loop, so that a long list takes no machine stack.
 impl Drop for {it.name} {{
     fn drop(mut self) {{
@@ -185,11 +186,11 @@ def source(it):
     for case in it.cases:
         resolver = f"{it.resolver}::{case.name}"
         if not opens(case):
-            rests += f"            {flat(code.pattern(it, case, ['_' + name for name in case.names]))} => None,\n"
+            rests += f"            {flat(case.pattern(['_' + name for name in case.names]))} => None,\n"
             heads += whole_head(it, case, resolver)
             continue
         names = [f"_{name}" for name in case.names[:-1]] + [case.names[-1]]
-        rests += f"            {flat(code.pattern(it, case, names))} => Some(&**{case.names[-1]}),\n"
+        rests += f"            {flat(case.pattern(names))} => Some(&**{case.names[-1]}),\n"
         heads += open_head(it, case)
         closes += close(it, case, resolver)
     return f"""impl<{it.writer}> ChainSource<S> for {it.name} {{
@@ -227,7 +228,7 @@ def source(it):
 
 def whole_head(it, case, resolver):
     """The arm of a variant that has no box."""
-    pattern = flat(code.pattern(it, case, case.names))
+    pattern = flat(case.pattern(case.names))
     if not case.count:
         return f"            {pattern} => Ok(WrittenHead::Whole({resolver})),\n"
     return f"""            {pattern} => match serialize_{case.n}({', '.join(case.names)}, serializer) {{
@@ -240,8 +241,8 @@ def whole_head(it, case, resolver):
 def open_head(it, case):
     """The arm of a variant with a box."""
     if case.count == 1:
-        return f"            {flat(code.pattern(it, case, ['_' + name for name in case.names]))} => Ok(WrittenHead::Open({it.name}Kept::{case.name})),\n"
-    return f"""            {flat(code.pattern(it, case, case.names))} => match serialize_{case.n}({', '.join(case.names)}, serializer) {{
+        return f"            {flat(case.pattern(['_' + name for name in case.names]))} => Ok(WrittenHead::Open({it.name}Kept::{case.name})),\n"
+    return f"""            {flat(case.pattern(case.names))} => match serialize_{case.n}({', '.join(case.names)}, serializer) {{
                 Ok(kept) => Ok(WrittenHead::Open({it.name}Kept::{case.name}(kept))),
                 Err(error) => Err(error),
             }},
@@ -276,7 +277,7 @@ def fronts(it):
 def reading(it):
     out = [fronts(it)]
     for case in it.cases:
-        out.append(head_reading(it, case) if opens(case) else code.case_reading(it, case))
+        out.append(head_reading(it, case) if opens(case) else reads.case_reading(it, case))
     return "\n".join(out + [back(it)])
 
 
@@ -289,15 +290,13 @@ def head_contract(it):
 
 def head_reading(it, case):
     """What reads the parts before a box."""
-    viewed = f"    requires viewed {{ IsPartOf ⟦<{it.archived} as ArchivePointee>⟧ part }}\n    requires tag {{ part_tag part ≡ {case.tag} }}\n"
-    i, X = case.count - 1, case.archived[-1]
-    where = Generic("part_of_variant", [it.archived, X], ["part", str(case.tag), str(i), str(case.offsets[i])])
+    i = case.count - 1
     values = f"({', '.join(case.names[:-1])})" if case.count > 1 else ""
-    body = code.parts_read(it, front(case)) + statement(4, f"let p{i} = ", where, ";")
+    body = reads.parts_read(it, case, range(i)) + statement(4, f"let p{i} = ", reads.where(it, case, i, "part_of_variant"), ";")
     body += f"    Ok(ReadHead::Open({it.name}Front::{case.name}{values}, p{i}.pos))\n"
     T = f"ReadHead<{it.name}, {it.name}Front>"
-    text = code.reader(it, case.n, T, viewed + head_contract(it), body, f"Reads the parts of `{case.name}` before its box back.", False)
-    return text if case.count > 1 else text.replace("(alloc: Global", "(_alloc: Global").replace("deserializer", "_deserializer")
+    text = reads.reader(it, case.n, T, reads.asked(it, case) + head_contract(it), body, f"Reads the parts of `{case.name}` before its box back.", False)
+    return text if case.count > 1 else text.replace("alloc: Global", "_alloc: Global").replace("deserializer", "_deserializer")
 
 
 def back(it):
@@ -308,7 +307,7 @@ def back(it):
         if opens(case):
             heads += f"            {tag} => read_{case.n}(alloc, part, deserializer),\n"
             values = f"({', '.join(case.names[:-1])})" if case.count > 1 else ""
-            around += f"            {it.name}Front::{case.name}{values} => {flat(code.pattern(it, case, case.names[:-1] + ['rest']))},\n"
+            around += f"            {it.name}Front::{case.name}{values} => {flat(case.pattern(case.names[:-1] + ['rest']))},\n"
             continue
         heads += f"""            {tag} => match read_{case.n}(alloc, part, deserializer) {{
                 Ok(value) => Ok(ReadHead::Whole(value)),

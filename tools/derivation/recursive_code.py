@@ -14,7 +14,7 @@ from . import records, variants
 from . import recursive_chains as chains
 from .common import chain, doc_lines, in_turn, infix
 from .formats import snake
-from .recursive_reads import by_match
+from .recursive_reads import reading
 from .layout import Generic, Group, call, flat, implementation, literal, pair, signature, statement
 
 SERIALIZED = """    ensures serialized {{ IfOk result (λ r. Serialized {D} {X} (⟦<{T} as Archive>⟧.keys {v}.now)
@@ -24,10 +24,6 @@ SERIALIZED = """    ensures serialized {{ IfOk result (λ r. Serialized {D} {X} 
     ensures goes_on {{ GoesOn (S.state serializer.old) (S.state serializer.new) }}
     ensures refused {{ IfErr result (IsRefused {D} {X} (⟦<{T} as Archive>⟧.keys {v}.now)
         (⟦<{T} as Archive>⟧.meaning {v}.now) (S.state serializer.old) (S.state serializer.new)) }}
-"""
-READ = """    requires {{ IsPartOf ⟦<{X} as ArchivePointee>⟧ part }}
-    ensures read {{ IfOk result (Read ⟦<{X} as ArchivePointee>⟧ part D.Entries deserializer ⟦<{T} as Archive>⟧) }}
-    ensures refused {{ IfErr result (RefusesPart ⟦<{X} as ArchivePointee>⟧ part D.Entries deserializer) }}
 """
 
 
@@ -53,7 +49,7 @@ def bring(it):
     f.use("archive_core::ser", "ResolverAlloc", "Writer", "serialize_one")
     f.use("archive_core::boxed", "BoxResolver", "serialize_inner")
     f.use("archive_core::vec", "VecResolver")
-    f.use("archive_core::recursive", "BoxAt", "OptionAt", "VecAt", "before_box", "before_vec", "choice_of", "define_name", "option_expression", "part_of_record", "part_of_variant", "read_part", "record_of")
+    f.use("archive_core::recursive", "BoxAt", "OptionAt", "VecAt", "before_box", "before_vec", "choice_of", "define_name", "option_expression", "part_of_record", "part_of_variant", "record_of")
     f.use("archive_core::recursive", "serialize_inner_slice", "serialize_part", "tag_of_choice")
     f.use("archive_core::traits", "Archive", "ArchivePointee", "ArchiveUnsized", "Choice", "Deserialize", "Entries", "Keys", "Portable", "Record", "Serialize", "SerializeUnsized")
     f.use("archive_core::view", "RawView", "Ref")
@@ -320,13 +316,6 @@ def hollows(it, case):
     return rust, values, lines
 
 
-def pattern(it, case, names):
-    path = f"{it.name}::{case.name}"
-    if case.form == "struct":
-        return literal(path, [f"{field.name}: {name}" for field, name in zip(case.fields, names)])
-    return Group(f"{path}(", names, ")") if case.form == "tuple" else path
-
-
 def archive(it):
     n = it.n
     names = [f"{n}_{w}" for w in ("meaning", "flat", "keys", "belongs", "keyed", "planned")]
@@ -385,8 +374,8 @@ def resolve_arm(it, case):
     opened = f"let {it.resolver}::{case.name}(kept) = resolver" if case.count else f"let {it.resolver}::{case.name} = resolver"
     other = " else {\n                    unreachable!();\n                }" if len(it.cases) > 1 else ""
     if not case.count:
-        return f"            {flat(pattern(it, case, names))} => {{\n{statement(16, '', call_, '')}            }}\n"
-    return f"""            {flat(pattern(it, case, names))} => {{
+        return f"            {flat(case.pattern(names))} => {{\n{statement(16, '', call_, '')}            }}\n"
+    return f"""            {flat(case.pattern(names))} => {{
                 {opened}{other};
 {"".join(statement(16, before, made, ";") for before, made in lines)}{statement(16, "", call_, "")}            }}
 """
@@ -594,15 +583,15 @@ def choice_writing(it):
     for case in it.cases:
         made = f"{it.resolver}::{case.name}"
         if not case.count:
-            arms += f"        {flat(pattern(it, case, []))} => Ok({made}),\n"
+            arms += f"        {flat(case.pattern([]))} => Ok({made}),\n"
             continue
         if is_inline(case):
-            arms += f"""        {flat(pattern(it, case, case.names))} => {{
+            arms += f"""        {flat(case.pattern(case.names))} => {{
 {parts_written(it, case, case.names, 12)}            Ok({made}({flat(pair(case.names))}))
         }}
 """
             continue
-        arms += f"""        {flat(pattern(it, case, case.names))} => match serialize_{case.n}({', '.join(case.names)}, serializer) {{
+        arms += f"""        {flat(case.pattern(case.names))} => match serialize_{case.n}({', '.join(case.names)}, serializer) {{
             Ok(kept) => Ok({made}(kept)),
             Err(error) => Err(error),
         }},
@@ -676,107 +665,6 @@ impl<{it.writer}> SerializeUnsized<S> for {it.name} {{
 
 
 # ---- reading back ----
-
-
-def reading(it):
-    out = [owner_reading(it, type) for type in it.owners]
-    if it.is_record:
-        out.append(record_reading(it))
-    else:
-        out += [case_reading(it, case) for case in it.cases]
-        out.append(choice_reading(it))
-    return "\n".join(out)
-
-
-def reader(it, name, T, contract_, body, said, cycle=True):
-    mark = f"#[cycle(read_{it.family.n})]\n" if cycle else "#[inline(always)]\n"
-    return f"""// {said}
-{mark}fn read_{name}<D: Entries>(alloc: Global, part: RawView<'_>, deserializer: &mut D) -> Result<{T}, Error>
-{contract_}{{
-{body}}}
-"""
-
-
-def owner_reading(it, type):
-    item = type.args[0]
-    f = it.formats
-    T, X = f.rust(type), f.archived(type)
-    inner = f.archived(item)
-    if type.name == "Box":
-        body = f"""    let view: Ref<'_, ArchivedBox<{inner}>> = Ref::at(part);
-    let value = read_{it.word(item)}(alloc, before_box(view).part(), deserializer)?;
-    let whole = Box::new(alloc, value)?;
-    Ok(whole)
-"""
-    elif type.name == "Option":
-        body = f"""    let view: Ref<'_, ArchivedOption<{inner}>> = Ref::at(part);
-    match view.as_ref() {{
-        None => Ok(None),
-        Some(inner) => {{
-            let value = read_{it.word(item)}(alloc, inner.part(), deserializer)?;
-            Ok(Some(value))
-        }}
-    }}
-"""
-    else:
-        body = f"""    let view: Ref<'_, ArchivedVec<{inner}>> = Ref::at(part);
-    let list = before_vec(view);
-    let mut items = Vec::with_capacity(alloc, list.len())?;
-    for index in 0..list.len() {{
-        let item = read_{it.word(item)}(alloc, list.index(index).part(), deserializer)?;
-        items.push_reserved(item);
-    }}
-    Ok(items)
-"""
-    return reader(it, it.word(type), T, READ.format(T=T, X=X), body, {"Box": "Reads a box back.", "Option": "Reads an option back.", "Vec": "Reads a vector back."}[type.name])
-
-
-def parts_read(it, case):
-    lines = ""
-    for i, (name, type, back, X, T, offset) in enumerate(zip(case.names, case.types, case.leads_back, case.archived, case.rust, case.offsets)):
-        if it.is_record:
-            where = Generic("part_of_record", [it.archived, X], ["part", str(i), str(offset)])
-        else:
-            where = Generic("part_of_variant", [it.archived, X], ["part", str(case.tag), str(i), str(offset)])
-        lines += statement(4, f"let p{i} = ", where, ";")
-        if by_match(type):
-            read = Generic("read_part", [X, T, "D"], ["alloc", f"p{i}", "deserializer"])
-            lines += statement(4, f"let {name} = match ", read, " {") + f"        Ok({name}) => {name},\n        Err(error) => return Err(error),\n    }};\n"
-            continue
-        read = call(f"read_{it.word(type)}", ["alloc", f"p{i}", "deserializer"], "?") if back else Generic("read_part", [X, T, "D"], ["alloc", f"p{i}", "deserializer"], "?")
-        lines += statement(4, f"let {name} = ", read, ";")
-    return lines
-
-
-def built(it, case):
-    if it.is_record:
-        if case.form == "tuple":
-            return Group(f"{it.name}(", case.names, ")")
-        return literal(it.name, [f"{field.name}: {name}" for field, name in zip(case.fields, case.names)])
-    return pattern(it, case, case.names)
-
-
-def case_reading(it, case):
-    contract_ = f"    requires viewed {{ IsPartOf ⟦<{it.archived} as ArchivePointee>⟧ part }}\n    requires tag {{ part_tag part ≡ {case.tag} }}\n"
-    contract_ += "".join(READ.format(T=it.name, X=it.archived).splitlines(True)[1:])
-    body = parts_read(it, case) + statement(4, "Ok(", built(it, case), ")")
-    text_ = reader(it, case.n, it.name, contract_, body, f"Reads `{case.name}` back.", any(case.leads_back))
-    return text_ if case.count else text_.replace("(alloc: Global", "(_alloc: Global").replace("deserializer", "_deserializer")
-
-
-def choice_reading(it):
-    arms = ""
-    for case in it.cases:
-        tag = "_" if case is it.cases[-1] else str(case.tag)
-        arms += f"        {tag} => read_{case.n}(alloc, part, deserializer),\n"
-    body = f"    match tag_of_choice::<{it.archived}>(part) {{\n{arms}    }}\n"
-    return reader(it, it.n, it.name, READ.format(T=it.name, X=it.archived), body, "Reads a value back.")
-
-
-def record_reading(it):
-    case = it.cases[0]
-    body = parts_read(it, case) + statement(4, "Ok(", built(it, case), ")")
-    return reader(it, it.n, it.name, READ.format(T=it.name, X=it.archived), body, "Reads a value back, part by part.")
 
 
 def deserialize(it):

@@ -2,10 +2,9 @@
 
 import re
 
-from . import recursive_chain_proofs as chains
 from . import recursive_code
 from .formats import snake
-from .recursive_reads import Reads
+from .recursive_reads import from_, is_from
 from .recursive_specs import owns
 from .recursive_terms import brought
 
@@ -97,7 +96,10 @@ class Parts:
     def rest(self, i):
         t, m, k = self.it.terms, self.it.terms.own("meaning"), self.it.terms.own("keys")
         types, values = self.case.types[i:], self.values[i:]
-        return t.parts_definitions(types), t.parts(types), t.parts_keys(types, values, k), t.parts_meaning(types, values, m)
+        D, P = t.parts_definitions(types), t.parts(types)
+        if is_from(self.case, i):
+            D, P = (f"{from_(self.case, i)}_{what}" for what in ("definitions", "parts"))
+        return D, P, t.parts_keys(types, values, k), t.parts_meaning(types, values, m)
 
     def first(self, i):
         t = self.it.terms
@@ -445,191 +447,9 @@ def empty_written(it, case, answers, function):
     answers.answer(function, f"returns-in-{case.name}-clause-serialized", f"rw c.in-{case.name}.is (written_as {case.n}_has_keys {case.n}_means (rw {case.n}_opens refl) {nothing})")
 
 
-# ---- reading back ----
-
-
-def reading(family):
-    out = {}
-    answers = Answers(family, f"+read_{family.n}")
-    for it in family.members:
-        measures(it, answers)
-        for type in it.owners:
-            {"Box": box_read, "Option": option_read, "Vec": vec_read}[type.name](it, type, answers)
-        for case in it.cases:
-            here = answers if it.is_record or any(case.leads_back) else Answers(family, f"read_{case.n}")
-            parts_read(it, case, here, f"read_{case.n}" if here is answers else "")
-            if here is not answers:
-                out.update(here.files())
-    out.update(answers.files())
-    return out
-
-
-def measures(it, answers):
-    """Each function ends before its caller does: by the end of what it reads, and by which of them it is."""
-    deepest = it.family.deepest
-
-    def measure(size, rank):
-        return f"(l.part.pos + {size}) * {deepest + 3} + {rank}"
-
-    for type in it.owners:
-        answers.invariant("", f"decreases-read_{it.word(type)}", measure(it.formats.layout(type)[0], it.depth(type)))
-    if not it.is_record:
-        for case in it.cases:
-            if any(case.leads_back):
-                answers.invariant("", f"decreases-read_{case.n}", measure(it.size, deepest + 1))
-    answers.invariant("", f"decreases-read_{it.n}", measure(it.size, deepest + 2))
-
-
-ARGS = "c.args.part.bytes.now c.args.part.pos c.args.part.len"
-TOLD = "(g.D.Entries.entry_of c.args.deserializer.now)"
-
-
-def box_read(it, type, answers):
-    item = type.args[0]
-    function = f"read_{it.word(type)}"
-    D, X = it.terms.definitions(item), it.terms.shape(item)
-    steps = [f"c.{call}.ensures.{clause}" for call in ("part", "before_box") for clause in ("buffer", "position", "length")]
-    steps = ", ".join(steps + ["c.at-view.ensures.buffer", "c.at-view.ensures.position"])
-    answers.answer(
-        function, "returns-in_err-value-clause-refused",
-        error_by(["value"], 0, f"(box_unread {D} {ARGS} (one {X}) {TOLD} c.in_err-value.field-0.0 c.requires (rw ({steps}) at c.in_err-value.ensures.refused))"),
-    )
-    answers.answer(
-        function, "returns-clause-read",
-        "(let same : c.in_ok-whole.whole.value ≡ c.in_ok-value.value = grind (arith, common_steps) in"
-        f" rw same (box_read {D} {ARGS} (one {X}) _ _ _ _ c.requires (rw ({steps}) at c.in_ok-value.ensures.read)))",
-    )
-
-
-def option_read(it, type, answers):
-    inner = type.args[0]
-    function = f"read_{it.word(type)}"
-    D, X = it.terms.definitions(inner), it.terms.shape(inner)
-    size, align = it.formats.layout(inner)
-    here = f"c.args.part.bytes.now c.args.part.pos c.args.part.len"
-    shown = "(rw (c.at-view.ensures.buffer, c.at-view.ensures.position) at c.in-{}.ensures.tag)"
-    case = f"{D} {D} (λ s k. k) _ _ 1 {X} refl (record {{ size = {size}; align = {align} }}) (record {{ solved = λ s k. refl }}) {here} {align} refl {shown.format('Some')}"
-    steps = [f"c.part.ensures.{clause}" for clause in ("buffer", "position", "length")] + [f"c.in-Some.ensures.{clause}" for clause in ("buffer", "position", "length")]
-    told = f"rw ({', '.join(steps + ['c.at-view.ensures.buffer', 'c.at-view.ensures.position'])}) at"
-    answers.answer(function, "returns-in-None-clause-read", f"empty_case_read_back {D} _ _ 0 refl {here} {shown.format('None')} _ _ refl")
-    answers.answer(
-        function, "returns-in_err-value-in-Some-clause-refused",
-        f"err_by c.from_residual.result c.in_err-value-in-Some.field-0.0 _ c.from_residual.ensures.1 (case_refuses {case} _ _ ({told} c.in_err-value-in-Some.ensures.refused))",
-    )
-    answers.answer(function, "returns-in_ok-value-in-Some-clause-read", f"case_read_back {case} _ _ _ _ ({told} c.in_ok-value-in-Some.ensures.read)")
-
-
-def vec_read(it, type, answers):
-    item = type.args[0]
-    w, t = it.word(item), it.terms
-    function = f"read_{it.word(type)}"
-    D, X = t.definitions(item), t.shape(item)
-    if t.is_member(item):
-        n = t.n_of(item)
-        L, laid, its = f"{n}_layout", f"{n}_has_layout", f"{n}_meaning {n}_keys"
-    else:
-        size, align = it.formats.layout(item)
-        L, laid = f"(record {{ size = {size}; align = {align} }})", "(record { solved = λ s k. refl })"
-        its = " ".join(t.function(which, item, t.own(which)) for which in ("meaning", "keys"))
-    answers.invariant(
-        "", f"invariant-{function}-loop-index",
-        "(length l.items.items ≡ l.index) × (vec_len l.items ≡ l.index) × (l.list.len ≤ vec_capacity l.items)"
-        f" × FirstElements g.D.Entries.keeps {D} {X} {L} l.list.bytes.now l.list.pos (run {X}) l.list.len {its} (g.D.Entries.entry_of l.initial.deserializer) (g.D.Entries.entry_of l.deserializer) l.items.items",
-    )
-    lets = "let kept = c.loop-index.invariant in let b = c.before_vec-list.result.bytes.now in let q = c.before_vec-list.result.pos in let n = c.before_vec-list.result.len in"
-    below = "let below : c.loop-index.index < n = omega (arith, c.loop-index-test.true, c.loop-index.auto.index-end, c.len-index-end.ensures) in"
-    steps = ", ".join(f"c.{call}.ensures.{clause}" for call in ("part", "index") for clause in ("buffer", "position", "length"))
-    here = f"{D} {X} {L} {laid} b q (run {X}) n n (all_have {D} {X} {L} {laid} b q n (run {X}) n (inl (refl, refl))) {its} {TOLD}"
-    now = "(g.D.Entries.entry_of c.loop-index.deserializer)"
-    listed = ", ".join([f"c.before_vec-list.ensures.{clause}" for clause in ("buffer", "position", "length")] + ["c.at-view.ensures.buffer", "c.at-view.ensures.position"])
-    refused = f"element_refused {here} {now} c.loop-index.items.items c.loop-index.index (one {X}) c.in_err-item.field-0.0 refl below (kept.3) h"
-    answers.answer(
-        function, "returns-in_err-item-clause-refused",
-        f"({lets} {below} let h = rw ({steps}) at c.in_err-item.ensures.refused in let r = {refused} in "
-        + error_by(["items", "item"], 1, f"(vec_unread {D} {ARGS} {X} {TOLD} c.in_err-item.field-0.0 c.requires (rw ({listed}) at r))") + ")",
-    )
-    pushed = "let pushed : c.push_reserved.new.self.items ≡ c.loop-index.items.items ++ c.in_ok-item.item ∷ [] = grind (arith, common_steps) in"
-    more = "let more : length (c.loop-index.items.items ++ c.in_ok-item.item ∷ []) ≡ c.loop-index.index + 1 = grind (arith, common_steps, kept.0) in"
-    step = f"elements_more {here} {now} (g.D.Entries.entry_of c.read_{w}.new.deserializer) c.loop-index.items.items c.in_ok-item.item c.loop-index.index (one {X}) refl kept.0 below (kept.3) h"
-    answers.answer(
-        function, "loop-index-preserved",
-        f"({lets} {below} {pushed} {more} let h = rw ({steps}) at c.in_ok-item.ensures.read in"
-        f" rw pushed (more, grind (arith, common_steps, kept.1), grind (arith, common_steps, kept.2), {step}))",
-    )
-    whole = "let whole : length c.loop-index.items.items ≡ n = omega (arith, kept.0, c.loop-index-test.false, c.loop-index.auto.index-end, c.len-index-end.ensures) in"
-    answers.answer(
-        function, "returns-clause-read",
-        f"({lets} {whole} let r = elements_all {here} {now} c.loop-index.items.items whole (kept.3) in vec_read {D} {ARGS} {X} _ _ _ _ c.requires (rw ({listed}) at r))",
-    )
-
-
-def signed_values(values):
-    """What makes of a number with a sign, as a body has it, the number that was read."""
-    out, steps = "", []
-    for type, name, value in values:
-        if type.name in ("i8", "i16", "i32", "i64", "i128") and type.own is None:
-            width = f"w{type.name[1:]}"
-            out += f"let fits_{name} : SFits {width} {value} = search rules in "
-            steps.append(f"to_z-of_z {width} {value} fits_{name}")
-    return f"{out}rw ({', '.join(steps)}) " if steps else ""
-
-
-def parts_read(it, case, answers, function):
-    """The answers on parts that are read one after another."""
-    where = "part_of_record" if it.is_record else "part_of_variant"
-    told = ["rw (" + ", ".join(f"c.{where}-p{i}.ensures.{clause}" for clause in ("buffer", "position", "length")) + ") at " for i in range(case.count)]
-    reads = Reads(case.names, case.types)
-    values = reads.values
-    parts = Parts(it, case, values)
-    laid = "(record { solved = λ s k. refl })"
-    sizes = [it.formats.layout(type) for type in case.types]
-    layouts = [f"(record {{ size = {size}; align = {align} }})" for size, align in sizes]
-    first = "" if it.is_record else "c.requires.tag "
-    starts = [0 if it.is_record else 1] + [offset + size for offset, (size, _) in zip(case.offsets, sizes)]
-
-    def refused(i, at=0):
-        D, X, _, _ = parts.first(at)
-        E, P, _, _ = parts.rest(at + 1)
-        head = f"{D} {E} {X} {layouts[at]} {laid} {P} _ _ {starts[at]} _ _"
-        if at == i:
-            return f"(first_refuses {head} ({told[i]}c.{reads.errs[i]}.ensures.refused))"
-        return f"(later_refuses {head} _ c.{reads.oks[at]}.ensures.read.kept {refused(i, at + 1)})"
-
-    def read(at=0):
-        if at == case.count:
-            return "no_part_read_back"
-        _, _, K, _ = parts.first(at)
-        _, _, L, _ = parts.rest(at + 1)
-        return f"(part_read_back {{L = {layouts[at]}}} {{ks = {K}}} {{ls = {L}}} {laid} ({told[at]}c.{reads.oks[at]}.ensures.read) {read(at + 1)})"
-
-    lemma = "record_refuses" if it.is_record else "variant_refuses"
-    for i, err in enumerate(reads.errs):
-        answers.answer(function, f"returns-{err}-clause-refused", reads.refused(i, f"({lemma} {whole_of(it, case)} _ _ _ {first}_ _ {refused(i)})"))
-    if it.is_record:
-        made = "(record { " + "; ".join(f"{field.name} = {value}" for field, value in zip(case.fields, values)) + " })"
-        body = f"read_as ({it.n}_has_keys_roll {made}) ({it.n}_means_roll {made}) (record_read_back {whole_of(it, case)} _ _ _ _ _ _ _ {read()})"
-    else:
-        its = "".join(f" {value}" for value in values)
-        body = f"read_as ({case.n}_has_keys{its}) ({case.n}_means{its}) (variant_read_back {whole_of(it, case)} _ _ _ {first}_ _ _ _ {read()})"
-    lets = signed_values(zip(case.types, case.names, values))
-    answers.answer(function, "returns-clause-read", f"({lets}({body}))" if lets else body)
-
-
 def defining(it):
     """The answers on the definition of the name."""
     answers = Answers(it.family, f"{it.archived}Portable/define" if it.is_alone else f"define_{it.n}")
     answers.answer("", "returns-clause-added", "rw c.in-Ok.ensures.shape at c.define_name.ensures.added", "c")
     answers.answer("", "returns-clause-refused", "rw c.in-Ok.ensures.shape at c.define_name.ensures.refused", "c")
     return answers.files()
-
-
-def files(family):
-    out = {}
-    for it in family.members:
-        out.update(defining(it))
-    if family.first.is_chain:
-        out.update(chains.files(family.first))
-        return out
-    out.update(writing(family))
-    out.update(reading(family))
-    return out

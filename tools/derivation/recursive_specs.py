@@ -2,6 +2,7 @@
 
 from . import recursive_chain_specs as chains
 from .formats import ALIGNS
+from .recursive_reads import from_
 from .recursive_terms import brought, brought_owns, something
 
 
@@ -148,11 +149,20 @@ def knows_parts(it, types):
     return knows(it, ["k" if it.terms.leads_back(type) else it.terms.plain.known(type) for type in types])
 
 
+def tails(it, case):
+    """The parts from one on, which a function reads, and the definitions that they bring."""
+    lines, t = [], it.terms
+    for i in range(1, case.count - 1):
+        for what, type, its in (("parts", "Parts", t.parts), ("definitions", "Definitions", t.parts_definitions)):
+            lines.append(f"abbrev pub {from_(case, i)}_{what} : {type}\n{from_(case, i)}_{what} = {its(case.types[i:])}\n")
+    return lines
+
+
 def stands(it):
     """The definitions that its parts bring, and that it stands for them."""
     n, t = it.n, it.terms
     if it.is_record:
-        return [
+        return tails(it, it.cases[0]) + [
             f"abbrev pub {n}_part_definitions : Definitions\n{n}_part_definitions = {t.parts_definitions(it.types)}\n",
             f"pub {n}_has_parts : IsRecord {n}_definitions {n}_shape {n}_part_definitions {n}_parts\n"
             f"{n}_has_parts = record {{ stands = λ s k. by_name {has(it)}; known = λ s k. {knows_parts(it, it.types)} }}\n",
@@ -161,6 +171,7 @@ def stands(it):
     for case in reversed(it.cases):
         chain = f"(both {case.n}_definitions {chain})"
     for case in it.cases:
+        lines += tails(it, case)
         lines.append(f"abbrev pub {case.n}_definitions : Definitions\n{case.n}_definitions = {t.parts_definitions(case.types)}\n")
     lines.append(f"abbrev pub {n}_variant_definitions : Definitions\n{n}_variant_definitions = {chain}\n")
     known = knows(it, [knows_parts(it, case.types) for case in it.cases])
@@ -209,7 +220,7 @@ def meaning(family):
     return f"-- What {' and '.join(it.name for it in family.members)} mean{'s' if len(family.members) == 1 else ''}. {family.first.written}\n{brought(body, more)}{shape_}{aliases}{owns(family, body)}\n{body}"
 
 
-PRELUDE_COMMON = "ap subst sym ◌∙◌ inl inr ℤ Box Global String Vec"
+PRELUDE_COMMON = "ap subst sym ◌∙◌ inl inr ℤ Box Global String Vec BTreeMap"
 
 
 def each_type(family, text):

@@ -24,5 +24,5 @@ pub use fields::{
 pub use hollow::{BoxAt, OptionAt, VecAt};
 pub use inner::{serialize_inner_slice, serialize_part};
 pub use naming::{choice_of, define_name, option_expression, record_of};
-pub use part_of::{part_of_record, part_of_variant, read_part, tag_of_choice};
+pub use part_of::{part_of_record, part_of_variant, read_field, read_payload, tag_of_choice};
 pub use views::{seal_of_field, seal_of_payload, tag_of_view, view_of_field, view_of_payload};

@@ -37,6 +37,12 @@ bush_has_layout = name_has_layout bush_name bush_stands_for bush_layout (λ s k.
 pub bush_no_others : NoOthers bush_definitions bush_shape
 bush_no_others = name_reached bush_name bush_stands_for
 
+abbrev pub bush_from_1_parts : Parts
+bush_from_1_parts = (part (vec (option_shape (boxed (one bush_shape)))) (part (boxed (one (vec bush_shape))) no_part))
+
+abbrev pub bush_from_1_definitions : Definitions
+bush_from_1_definitions = (both bush_definitions (both bush_definitions no_definition))
+
 abbrev pub bush_part_definitions : Definitions
 bush_part_definitions = (both no_definition (both bush_definitions (both bush_definitions no_definition)))
 

@@ -2,3 +2,5 @@ pub mod KnotMeaning
 pub mod KnotShape
 pub mod BushMeaning
 pub mod BushShape
+pub mod TaskMeaning
+pub mod TaskShape

@@ -20,6 +20,7 @@ ghost use Rattle.archive_core.specs.Definitions.{no_definition};
 ghost use Rattle.archive_core.specs.Error.TheVariants.{OutOfMemory};
 ghost use Rattle.archive_core.specs.Expressions.{shape_of, shapes_in};
 ghost use Rattle.archive_core.specs.Fields.{field_in};
+ghost use Rattle.archive_core.specs.FieldsRead.{ReadsFields, RefusesFields};
 ghost use Rattle.archive_core.specs.PlannedOwners.{one_planned};
 ghost use Rattle.archive_core.specs.Plans.{Serialized};
 ghost use Rattle.archive_core.specs.Runs.{EachBelongs, IsRunRefused, SerializedRun, each_flat, each_keys, each_meaning};
@@ -28,12 +29,12 @@ ghost use Rattle.archive_core.specs.Seen.{IsPartOf, RefusesPart, ShowsValueOf};
 ghost use Rattle.archive_core.specs.SelfCheck.Laws.{by_schema};
 ghost use Rattle.archive_core.specs.Shape.{boxed, one, part, parts, vec};
 ghost use Rattle.archive_core.specs.Sources.{Read};
-ghost use Rattle.archive_core.specs.Value.{value};
+ghost use Rattle.archive_core.specs.Value.{no_value, value};
 ghost use Rattle.archive_core.specs.Writing.{ZeroedPlace};
 ghost use Rattle.archive_core.specs.Written.{GoesOn};
-ghost use Rattle.recursive_kinds.specs.BushShape.{bush_definitions, bush_has_layout, bush_has_parts, bush_is_align, bush_layout, bush_no_others, bush_parts, bush_shape, bush_stands_for};
+ghost use Rattle.recursive_kinds.specs.BushShape.{bush_definitions, bush_from_1_definitions, bush_from_1_parts, bush_has_layout, bush_has_parts, bush_is_align, bush_layout, bush_no_others, bush_parts, bush_shape, bush_stands_for};
 ghost use Rattle.std.proofs.Common.{lit≤};
-ghost use Rattle.std.specs.Prelude.{IfErr, IfOk, None, Some, length, refl, ◌+◌, ◌≡◌, ◌≤◌};
+ghost use Rattle.std.specs.Prelude.{IfErr, IfOk, None, Some, [], length, refl, ◌++◌, ◌+◌, ◌≡◌, ◌≤◌};
 
 use archive_core::boxed::{ArchivedBox, BoxResolver, serialize_inner};
 use archive_core::error::Error;
@@ -42,7 +43,7 @@ use archive_core::place::Place;
 use archive_core::primitive::ArchivedU32;
 use archive_core::recursive::{
     BoxAt, VecAt, before_box, before_vec, define_name, option_expression, part_of_record,
-    read_part, record_of, resolve_named_record_3, seal_of_field, serialize_inner_slice,
+    read_field, record_of, resolve_named_record_3, seal_of_field, serialize_inner_slice,
     serialize_part, view_of_field,
 };
 use archive_core::seal::Seal;
@@ -585,19 +586,57 @@ fn read_bush<D: Entries>(
     ensures refused { IfErr result (RefusesPart ⟦<ArchivedBush as ArchivePointee>⟧ part D.Entries
         deserializer) }
 {
-    let p0 = part_of_record::<ArchivedBush, ArchivedU32>(part, 0, 0);
-    let a0 = read_part::<ArchivedU32, u32, D>(alloc, p0, deserializer)?;
-    let p1 = part_of_record::<ArchivedBush, ArchivedVec<ArchivedOption<ArchivedBox<ArchivedBush>>>>(
-        part, 1, 4,
-    );
-    let a1 = read_vec_option_box_bush(alloc, p1, deserializer)?;
-    let p2 = part_of_record::<ArchivedBush, ArchivedBox<ArchivedVec<ArchivedBush>>>(part, 2, 12);
-    let a2 = read_box_vec_bush(alloc, p2, deserializer)?;
+    let a0 = match read_field::<ArchivedBush, ArchivedU32, u32, D>(
+        alloc,
+        part,
+        0,
+        0,
+        deserializer,
+    ) {
+        Ok(a0) => a0,
+        Err(error) => return Err(error),
+    };
+    let rest = match read_bush_from_1(alloc, part, deserializer) {
+        Ok(rest) => rest,
+        Err(error) => return Err(error),
+    };
+    let (a1, (a2, ())) = rest;
     Ok(Bush {
         id: a0,
         sides: a1,
         others: a2,
     })
+}
+
+// Reads the fields back from that of index 1 on.
+#[cycle(read_bush)]
+fn read_bush_from_1<D: Entries>(
+    alloc: Global,
+    part: RawView<'_>,
+    deserializer: &mut D,
+) -> Result<(Vec<Option<Box<Bush>>>, (Box<Vec<Bush>>, ())), Error>
+    requires { IsPartOf ⟦<ArchivedBush as ArchivePointee>⟧ part }
+    ensures read { IfOk result (λ r. ReadsFields bush_from_1_definitions bush_from_1_parts part 4
+        D.Entries deserializer (value (⟦<Vec<Option<Box<Bush>>> as Archive>⟧.meaning r.0)
+        (value (⟦<Box<Vec<Bush>> as Archive>⟧.meaning r.1.0) no_value))
+        (⟦<Vec<Option<Box<Bush>>> as Archive>⟧.keys r.0
+        ++ (⟦<Box<Vec<Bush>> as Archive>⟧.keys r.1.0 ++ []))) }
+    ensures refused { IfErr result (RefusesFields bush_from_1_definitions bush_from_1_parts part 4
+        D.Entries deserializer) }
+{
+    let p1 = part_of_record::<ArchivedBush, ArchivedVec<ArchivedOption<ArchivedBox<ArchivedBush>>>>(
+        part, 1, 4,
+    );
+    let a1 = match read_vec_option_box_bush(alloc, p1, deserializer) {
+        Ok(a1) => a1,
+        Err(error) => return Err(error),
+    };
+    let p2 = part_of_record::<ArchivedBush, ArchivedBox<ArchivedVec<ArchivedBush>>>(part, 2, 12);
+    let a2 = match read_box_vec_bush(alloc, p2, deserializer) {
+        Ok(a2) => a2,
+        Err(error) => return Err(error),
+    };
+    Ok((a1, (a2, ())))
 }
 
 impl<D: Entries> Deserialize<Bush, D> for ArchivedBush {

@@ -37,6 +37,12 @@ search_has_layout = name_has_layout search_name search_stands_for search_layout 
 pub search_no_others : NoOthers search_definitions search_shape
 search_no_others = name_reached search_name search_stands_for
 
+abbrev pub search_from_1_parts : Parts
+search_from_1_parts = (part (leaf (number_kind unsigned w32)) (part (option_shape (boxed (one search_shape))) no_part))
+
+abbrev pub search_from_1_definitions : Definitions
+search_from_1_definitions = (both no_definition (both search_definitions no_definition))
+
 abbrev pub search_part_definitions : Definitions
 search_part_definitions = (both search_definitions (both no_definition (both search_definitions no_definition)))
 

@@ -50,9 +50,9 @@ use archive_core::place::Place;
 use archive_core::primitive::ArchivedU64;
 use archive_core::recursive::{
     BoxAt, VecAt, before_box, before_vec, choice_of, define_name, part_of_record, part_of_variant,
-    read_part, record_of, resolve_named_case_1, resolve_named_record_2, seal_of_field,
-    seal_of_payload, serialize_inner_slice, serialize_part, tag_of_choice, tag_of_view,
-    view_of_field, view_of_payload,
+    read_field, read_payload, record_of, resolve_named_case_1, resolve_named_record_2,
+    seal_of_field, seal_of_payload, serialize_inner_slice, serialize_part, tag_of_choice,
+    tag_of_view, view_of_field, view_of_payload,
 };
 use archive_core::seal::Seal;
 use archive_core::self_check::BySchema;
@@ -389,10 +389,21 @@ fn read_dir<D: Entries>(
     ensures refused { IfErr result (RefusesPart ⟦<ArchivedDir as ArchivePointee>⟧ part D.Entries
         deserializer) }
 {
-    let p0 = part_of_record::<ArchivedDir, ArchivedString>(part, 0, 0);
-    let a0 = read_part::<ArchivedString, String, D>(alloc, p0, deserializer)?;
+    let a0 = match read_field::<ArchivedDir, ArchivedString, String, D>(
+        alloc,
+        part,
+        0,
+        0,
+        deserializer,
+    ) {
+        Ok(a0) => a0,
+        Err(error) => return Err(error),
+    };
     let p1 = part_of_record::<ArchivedDir, ArchivedVec<ArchivedEntry>>(part, 1, 8);
-    let a1 = read_vec_entry(alloc, p1, deserializer)?;
+    let a1 = match read_vec_entry(alloc, p1, deserializer) {
+        Ok(a1) => a1,
+        Err(error) => return Err(error),
+    };
     Ok(Dir {
         name: a0,
         entries: a1,
@@ -853,8 +864,17 @@ fn read_entry_file<D: Entries>(
     ensures refused { IfErr result (RefusesPart ⟦<ArchivedEntry as ArchivePointee>⟧ part D.Entries
         deserializer) }
 {
-    let p0 = part_of_variant::<ArchivedEntry, ArchivedU64>(part, 0, 0, 8);
-    let a0 = read_part::<ArchivedU64, u64, D>(alloc, p0, deserializer)?;
+    let a0 = match read_payload::<ArchivedEntry, ArchivedU64, u64, D>(
+        alloc,
+        part,
+        0,
+        0,
+        8,
+        deserializer,
+    ) {
+        Ok(a0) => a0,
+        Err(error) => return Err(error),
+    };
     Ok(Entry::File(a0))
 }
 
@@ -873,7 +893,10 @@ fn read_entry_sub<D: Entries>(
         deserializer) }
 {
     let p0 = part_of_variant::<ArchivedEntry, ArchivedBox<ArchivedDir>>(part, 1, 0, 4);
-    let a0 = read_box_dir(alloc, p0, deserializer)?;
+    let a0 = match read_box_dir(alloc, p0, deserializer) {
+        Ok(a0) => a0,
+        Err(error) => return Err(error),
+    };
     Ok(Entry::Sub(a0))
 }
 

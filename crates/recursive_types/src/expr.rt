@@ -39,7 +39,7 @@ use archive_core::error::Error;
 use archive_core::place::Place;
 use archive_core::primitive::ArchivedI64;
 use archive_core::recursive::{
-    BoxAt, VecAt, before_box, before_vec, choice_of, define_name, part_of_variant, read_part,
+    BoxAt, VecAt, before_box, before_vec, choice_of, define_name, part_of_variant, read_payload,
     resolve_named_case_1, resolve_named_case_2, seal_of_payload, serialize_inner_slice,
     serialize_part, tag_of_choice, tag_of_view, view_of_payload,
 };
@@ -543,8 +543,17 @@ fn read_expr_num<D: Entries>(
     ensures refused { IfErr result (RefusesPart ⟦<ArchivedExpr as ArchivePointee>⟧ part D.Entries
         deserializer) }
 {
-    let p0 = part_of_variant::<ArchivedExpr, ArchivedI64>(part, 0, 0, 8);
-    let a0 = read_part::<ArchivedI64, i64, D>(alloc, p0, deserializer)?;
+    let a0 = match read_payload::<ArchivedExpr, ArchivedI64, i64, D>(
+        alloc,
+        part,
+        0,
+        0,
+        8,
+        deserializer,
+    ) {
+        Ok(a0) => a0,
+        Err(error) => return Err(error),
+    };
     Ok(Expr::Num(a0))
 }
 
@@ -563,9 +572,15 @@ fn read_expr_add<D: Entries>(
         deserializer) }
 {
     let p0 = part_of_variant::<ArchivedExpr, ArchivedBox<ArchivedExpr>>(part, 1, 0, 4);
-    let a0 = read_box_expr(alloc, p0, deserializer)?;
+    let a0 = match read_box_expr(alloc, p0, deserializer) {
+        Ok(a0) => a0,
+        Err(error) => return Err(error),
+    };
     let p1 = part_of_variant::<ArchivedExpr, ArchivedBox<ArchivedExpr>>(part, 1, 1, 8);
-    let a1 = read_box_expr(alloc, p1, deserializer)?;
+    let a1 = match read_box_expr(alloc, p1, deserializer) {
+        Ok(a1) => a1,
+        Err(error) => return Err(error),
+    };
     Ok(Expr::Add(a0, a1))
 }
 
@@ -583,10 +598,22 @@ fn read_expr_call<D: Entries>(
     ensures refused { IfErr result (RefusesPart ⟦<ArchivedExpr as ArchivePointee>⟧ part D.Entries
         deserializer) }
 {
-    let p0 = part_of_variant::<ArchivedExpr, ArchivedString>(part, 2, 0, 4);
-    let a0 = read_part::<ArchivedString, String, D>(alloc, p0, deserializer)?;
+    let a0 = match read_payload::<ArchivedExpr, ArchivedString, String, D>(
+        alloc,
+        part,
+        2,
+        0,
+        4,
+        deserializer,
+    ) {
+        Ok(a0) => a0,
+        Err(error) => return Err(error),
+    };
     let p1 = part_of_variant::<ArchivedExpr, ArchivedVec<ArchivedExpr>>(part, 2, 1, 12);
-    let a1 = read_vec_expr(alloc, p1, deserializer)?;
+    let a1 = match read_vec_expr(alloc, p1, deserializer) {
+        Ok(a1) => a1,
+        Err(error) => return Err(error),
+    };
     Ok(Expr::Call(a0, a1))
 }
 

@@ -37,7 +37,7 @@ use archive_core::place::Place;
 use archive_core::primitive::ArchivedU32;
 use archive_core::recursive::{
     BoxAt, Chain, ChainBack, ChainCheck, ChainSource, ReadHead, Rest, WrittenHead, choice_of,
-    define_name, part_of_variant, read_chain, read_part, resolve_named_case_0,
+    define_name, part_of_variant, read_chain, read_payload, resolve_named_case_0,
     resolve_named_case_2, seal_of_payload, serialize_chain, serialize_part, tag_of_choice,
     tag_of_view, view_of_payload,
 };
@@ -416,8 +416,17 @@ fn read_list_cons<D: Entries>(
     ensures refused { IfErr result (RefusesPart ⟦<ArchivedList as ArchivePointee>⟧ part D.Entries
         deserializer) }
 {
-    let p0 = part_of_variant::<ArchivedList, ArchivedU32>(part, 1, 0, 4);
-    let a0 = read_part::<ArchivedU32, u32, D>(alloc, p0, deserializer)?;
+    let a0 = match read_payload::<ArchivedList, ArchivedU32, u32, D>(
+        alloc,
+        part,
+        1,
+        0,
+        4,
+        deserializer,
+    ) {
+        Ok(a0) => a0,
+        Err(error) => return Err(error),
+    };
     let p1 = part_of_variant::<ArchivedList, ArchivedBox<ArchivedList>>(part, 1, 1, 8);
     Ok(ReadHead::Open(ListFront::Cons(a0), p1.pos))
 }

@@ -20,6 +20,7 @@ ghost use Rattle.archive_core.specs.Definitions.{no_definition};
 ghost use Rattle.archive_core.specs.Error.TheVariants.{OutOfMemory};
 ghost use Rattle.archive_core.specs.Expressions.{shape_of, shapes_in};
 ghost use Rattle.archive_core.specs.Fields.{field_in};
+ghost use Rattle.archive_core.specs.FieldsRead.{ReadsFields, RefusesFields};
 ghost use Rattle.archive_core.specs.Hollow.{option_at};
 ghost use Rattle.archive_core.specs.PlannedOwners.{one_planned};
 ghost use Rattle.archive_core.specs.Plans.{Serialized};
@@ -28,12 +29,12 @@ ghost use Rattle.archive_core.specs.Seen.{IsPartOf, RefusesPart, ShowsValueOf};
 ghost use Rattle.archive_core.specs.SelfCheck.Laws.{by_schema};
 ghost use Rattle.archive_core.specs.Shape.{boxed, one, part, parts, vec};
 ghost use Rattle.archive_core.specs.Sources.{Read};
-ghost use Rattle.archive_core.specs.Value.{value};
+ghost use Rattle.archive_core.specs.Value.{no_value, value};
 ghost use Rattle.archive_core.specs.Writing.{ZeroedPlace};
 ghost use Rattle.archive_core.specs.Written.{GoesOn};
-ghost use Rattle.recursive_types.specs.SearchShape.{search_definitions, search_has_layout, search_has_parts, search_is_align, search_layout, search_no_others, search_parts, search_shape, search_stands_for};
+ghost use Rattle.recursive_types.specs.SearchShape.{search_definitions, search_from_1_definitions, search_from_1_parts, search_has_layout, search_has_parts, search_is_align, search_layout, search_no_others, search_parts, search_shape, search_stands_for};
 ghost use Rattle.std.proofs.Common.{lit≤};
-ghost use Rattle.std.specs.Prelude.{IfErr, IfOk, None, Some, length, refl, ⊤, ◌+◌, ◌≡◌, ◌≤◌};
+ghost use Rattle.std.specs.Prelude.{IfErr, IfOk, None, Some, [], length, refl, ⊤, ◌++◌, ◌+◌, ◌≡◌, ◌≤◌};
 
 use archive_core::boxed::{ArchivedBox, BoxResolver, serialize_inner};
 use archive_core::error::Error;
@@ -41,7 +42,7 @@ use archive_core::option::ArchivedOption;
 use archive_core::place::Place;
 use archive_core::primitive::ArchivedU32;
 use archive_core::recursive::{
-    OptionAt, before_box, define_name, option_expression, part_of_record, read_part, record_of,
+    OptionAt, before_box, define_name, option_expression, part_of_record, read_field, record_of,
     resolve_named_record_3, seal_of_field, serialize_part, view_of_field,
 };
 use archive_core::seal::Seal;
@@ -384,18 +385,55 @@ fn read_search<D: Entries>(
     let p0 = part_of_record::<ArchivedSearch, ArchivedOption<ArchivedBox<ArchivedSearch>>>(
         part, 0, 0,
     );
-    let a0 = read_option_box_search(alloc, p0, deserializer)?;
-    let p1 = part_of_record::<ArchivedSearch, ArchivedU32>(part, 1, 8);
-    let a1 = read_part::<ArchivedU32, u32, D>(alloc, p1, deserializer)?;
-    let p2 = part_of_record::<ArchivedSearch, ArchivedOption<ArchivedBox<ArchivedSearch>>>(
-        part, 2, 12,
-    );
-    let a2 = read_option_box_search(alloc, p2, deserializer)?;
+    let a0 = match read_option_box_search(alloc, p0, deserializer) {
+        Ok(a0) => a0,
+        Err(error) => return Err(error),
+    };
+    let rest = match read_search_from_1(alloc, part, deserializer) {
+        Ok(rest) => rest,
+        Err(error) => return Err(error),
+    };
+    let (a1, (a2, ())) = rest;
     Ok(Search {
         left: a0,
         value: a1,
         right: a2,
     })
+}
+
+// Reads the fields back from that of index 1 on.
+#[cycle(read_search)]
+fn read_search_from_1<D: Entries>(
+    alloc: Global,
+    part: RawView<'_>,
+    deserializer: &mut D,
+) -> Result<(u32, (Option<Box<Search>>, ())), Error>
+    requires { IsPartOf ⟦<ArchivedSearch as ArchivePointee>⟧ part }
+    ensures read { IfOk result (λ r. ReadsFields search_from_1_definitions search_from_1_parts part
+        8 D.Entries deserializer (value (⟦<u32 as Archive>⟧.meaning r.0)
+        (value (⟦<Option<Box<Search>> as Archive>⟧.meaning r.1.0) no_value))
+        (⟦<u32 as Archive>⟧.keys r.0 ++ (⟦<Option<Box<Search>> as Archive>⟧.keys r.1.0 ++ []))) }
+    ensures refused { IfErr result (RefusesFields search_from_1_definitions search_from_1_parts part
+        8 D.Entries deserializer) }
+{
+    let a1 = match read_field::<ArchivedSearch, ArchivedU32, u32, D>(
+        alloc,
+        part,
+        1,
+        8,
+        deserializer,
+    ) {
+        Ok(a1) => a1,
+        Err(error) => return Err(error),
+    };
+    let p2 = part_of_record::<ArchivedSearch, ArchivedOption<ArchivedBox<ArchivedSearch>>>(
+        part, 2, 12,
+    );
+    let a2 = match read_option_box_search(alloc, p2, deserializer) {
+        Ok(a2) => a2,
+        Err(error) => return Err(error),
+    };
+    Ok((a1, (a2, ())))
 }
 
 impl<D: Entries> Deserialize<Search, D> for ArchivedSearch {

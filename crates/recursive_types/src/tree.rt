@@ -36,7 +36,7 @@ use archive_core::error::Error;
 use archive_core::place::Place;
 use archive_core::primitive::ArchivedU32;
 use archive_core::recursive::{
-    VecAt, before_vec, define_name, part_of_record, read_part, record_of, resolve_named_record_2,
+    VecAt, before_vec, define_name, part_of_record, read_field, record_of, resolve_named_record_2,
     seal_of_field, serialize_inner_slice, serialize_part, view_of_field,
 };
 use archive_core::seal::Seal;
@@ -363,10 +363,21 @@ fn read_tree<D: Entries>(
     ensures refused { IfErr result (RefusesPart ⟦<ArchivedTree as ArchivePointee>⟧ part D.Entries
         deserializer) }
 {
-    let p0 = part_of_record::<ArchivedTree, ArchivedU32>(part, 0, 0);
-    let a0 = read_part::<ArchivedU32, u32, D>(alloc, p0, deserializer)?;
+    let a0 = match read_field::<ArchivedTree, ArchivedU32, u32, D>(
+        alloc,
+        part,
+        0,
+        0,
+        deserializer,
+    ) {
+        Ok(a0) => a0,
+        Err(error) => return Err(error),
+    };
     let p1 = part_of_record::<ArchivedTree, ArchivedVec<ArchivedTree>>(part, 1, 4);
-    let a1 = read_vec_tree(alloc, p1, deserializer)?;
+    let a1 = match read_vec_tree(alloc, p1, deserializer) {
+        Ok(a1) => a1,
+        Err(error) => return Err(error),
+    };
     Ok(Tree {
         value: a0,
         children: a1,

@@ -13,7 +13,7 @@ use Rattle.archive_core.specs.Runs.{each_keys}
 use Rattle.archive_core.specs.Shape.{boxed, vec, one, run, leaf, unsigned, part, no_part, number as number_kind}
 use Rattle.archive_core.specs.Value.{box, value}
 use Rattle.recursive_kinds.specs.BushMeaning.{bush_meaning, bush_keys, bush_means_roll, bush_has_keys_roll}
-use Rattle.recursive_kinds.specs.BushShape.{bush_layout, bush_has_layout, bush_shape, bush_definitions, bush_parts, bush_part_definitions, bush_has_parts}
+use Rattle.recursive_kinds.specs.BushShape.{bush_layout, bush_has_layout, bush_shape, bush_definitions, bush_from_1_parts, bush_from_1_definitions, bush_parts, bush_part_definitions, bush_has_parts}
 use Rattle.std.proofs.Common.{inl, ◌≡◌, ◌<◌, ◌+◌, ◌++◌, ◌∷◌, [], length, refl, arith, pos}
 use Rattle.std.proofs.lemmas.Grind.{common_steps}
 use Rattle.std.specs.Int.{w32}
@@ -59,14 +59,20 @@ read_box_vec_bush-returns-in_err-value-clause-refused g t c = err_by c.from_resi
 pub read_box_vec_bush-returns-clause-read : goal.read_box_vec_bush-returns-clause-read
 read_box_vec_bush-returns-clause-read g t c = (let same : c.in_ok-whole.whole.value ≡ c.in_ok-value.value = grind (arith, common_steps) in rw same (box_read bush_definitions c.args.part.bytes.now c.args.part.pos c.args.part.len (one (vec bush_shape)) _ _ _ _ c.requires (rw (c.part.ensures.buffer, c.part.ensures.position, c.part.ensures.length, c.before_box.ensures.buffer, c.before_box.ensures.position, c.before_box.ensures.length, c.at-view.ensures.buffer, c.at-view.ensures.position) at c.in_ok-value.ensures.read)))
 
-pub read_bush-returns-in_err-a0-clause-refused : goal.read_bush-returns-in_err-a0-clause-refused
-read_bush-returns-in_err-a0-clause-refused g t c = err_by c.from_residual.result c.in_err-a0.field-0.0 _ c.from_residual.ensures.1 (record_refuses bush_definitions bush_shape bush_part_definitions bush_parts bush_has_parts _ _ _ _ _ (first_refuses no_definition (both bush_definitions (both bush_definitions no_definition)) (leaf (number_kind unsigned w32)) (record { size = 4; align = 4 }) (record { solved = λ s k. refl }) (part (vec (option_shape (boxed (one bush_shape)))) (part (boxed (one (vec bush_shape))) no_part)) _ _ 0 _ _ (rw (c.part_of_record-p0.ensures.buffer, c.part_of_record-p0.ensures.position, c.part_of_record-p0.ensures.length) at c.in_err-a0.ensures.refused)))
+pub read_bush-returns-in-Err-clause-refused : goal.read_bush-returns-in-Err-clause-refused
+read_bush-returns-in-Err-clause-refused g t c = (record_refuses bush_definitions bush_shape bush_part_definitions bush_parts bush_has_parts _ _ _ _ _ (first_refuses no_definition bush_from_1_definitions (leaf (number_kind unsigned w32)) (record { size = 4; align = 4 }) (record { solved = λ s k. refl }) bush_from_1_parts _ _ 0 _ _ (c.in-Err.ensures.refused)))
 
-pub read_bush-returns-in_err-a1-clause-refused : goal.read_bush-returns-in_err-a1-clause-refused
-read_bush-returns-in_err-a1-clause-refused g t c = err_by c.from_residual-in_err-a1.result c.in_err-a1.field-0.0 _ c.from_residual-in_err-a1.ensures.1 (record_refuses bush_definitions bush_shape bush_part_definitions bush_parts bush_has_parts _ _ _ _ _ (later_refuses no_definition (both bush_definitions (both bush_definitions no_definition)) (leaf (number_kind unsigned w32)) (record { size = 4; align = 4 }) (record { solved = λ s k. refl }) (part (vec (option_shape (boxed (one bush_shape)))) (part (boxed (one (vec bush_shape))) no_part)) _ _ 0 _ _ _ c.in_ok-a0.ensures.read.kept (first_refuses bush_definitions (both bush_definitions no_definition) (vec (option_shape (boxed (one bush_shape)))) (record { size = 8; align = 4 }) (record { solved = λ s k. refl }) (part (boxed (one (vec bush_shape))) no_part) _ _ 4 _ _ (rw (c.part_of_record-p1.ensures.buffer, c.part_of_record-p1.ensures.position, c.part_of_record-p1.ensures.length) at c.in_err-a1.ensures.refused))))
-
-pub read_bush-returns-in_err-a2-clause-refused : goal.read_bush-returns-in_err-a2-clause-refused
-read_bush-returns-in_err-a2-clause-refused g t c = err_by c.from_residual-in_err-a2.result c.in_err-a2.field-0.0 _ c.from_residual-in_err-a2.ensures.1 (record_refuses bush_definitions bush_shape bush_part_definitions bush_parts bush_has_parts _ _ _ _ _ (later_refuses no_definition (both bush_definitions (both bush_definitions no_definition)) (leaf (number_kind unsigned w32)) (record { size = 4; align = 4 }) (record { solved = λ s k. refl }) (part (vec (option_shape (boxed (one bush_shape)))) (part (boxed (one (vec bush_shape))) no_part)) _ _ 0 _ _ _ c.in_ok-a0.ensures.read.kept (later_refuses bush_definitions (both bush_definitions no_definition) (vec (option_shape (boxed (one bush_shape)))) (record { size = 8; align = 4 }) (record { solved = λ s k. refl }) (part (boxed (one (vec bush_shape))) no_part) _ _ 4 _ _ _ c.in_ok-a1.ensures.read.kept (first_refuses bush_definitions no_definition (boxed (one (vec bush_shape))) (record { size = 4; align = 4 }) (record { solved = λ s k. refl }) no_part _ _ 12 _ _ (rw (c.part_of_record-p2.ensures.buffer, c.part_of_record-p2.ensures.position, c.part_of_record-p2.ensures.length) at c.in_err-a2.ensures.refused)))))
+pub read_bush-returns-in-Err-read_bush_from_1-clause-refused : goal.read_bush-returns-in-Err-read_bush_from_1-clause-refused
+read_bush-returns-in-Err-read_bush_from_1-clause-refused g t c = (record_refuses bush_definitions bush_shape bush_part_definitions bush_parts bush_has_parts _ _ _ _ _ (later_refuses no_definition bush_from_1_definitions (leaf (number_kind unsigned w32)) (record { size = 4; align = 4 }) (record { solved = λ s k. refl }) bush_from_1_parts _ _ 0 _ _ _ c.in-Ok.ensures.read.kept c.in-Err-read_bush_from_1.ensures.refused))
 
 pub read_bush-returns-clause-read : goal.read_bush-returns-clause-read
-read_bush-returns-clause-read g t c = read_as (bush_has_keys_roll (record { id = c.in_ok-a0.a0; sides = c.in_ok-a1.a1; others = c.in_ok-a2.a2 })) (bush_means_roll (record { id = c.in_ok-a0.a0; sides = c.in_ok-a1.a1; others = c.in_ok-a2.a2 })) (record_read_back bush_definitions bush_shape bush_part_definitions bush_parts bush_has_parts _ _ _ _ _ _ _ (part_read_back {L = (record { size = 4; align = 4 })} {ks = []} {ls = ((each_keys (λ y. (option_keys (λ y. (bush_keys y.value)) y)) c.in_ok-a1.a1.items) ++ ((each_keys bush_keys c.in_ok-a2.a2.value.items) ++ []))} (record { solved = λ s k. refl }) (rw (c.part_of_record-p0.ensures.buffer, c.part_of_record-p0.ensures.position, c.part_of_record-p0.ensures.length) at c.in_ok-a0.ensures.read) (part_read_back {L = (record { size = 8; align = 4 })} {ks = (each_keys (λ y. (option_keys (λ y. (bush_keys y.value)) y)) c.in_ok-a1.a1.items)} {ls = ((each_keys bush_keys c.in_ok-a2.a2.value.items) ++ [])} (record { solved = λ s k. refl }) (rw (c.part_of_record-p1.ensures.buffer, c.part_of_record-p1.ensures.position, c.part_of_record-p1.ensures.length) at c.in_ok-a1.ensures.read) (part_read_back {L = (record { size = 4; align = 4 })} {ks = (each_keys bush_keys c.in_ok-a2.a2.value.items)} {ls = []} (record { solved = λ s k. refl }) (rw (c.part_of_record-p2.ensures.buffer, c.part_of_record-p2.ensures.position, c.part_of_record-p2.ensures.length) at c.in_ok-a2.ensures.read) no_part_read_back))))
+read_bush-returns-clause-read g t c = read_as (bush_has_keys_roll (record { id = c.in-Ok.a0; sides = c.in-Ok-read_bush_from_1.rest.0; others = c.in-Ok-read_bush_from_1.rest.1.0 })) (bush_means_roll (record { id = c.in-Ok.a0; sides = c.in-Ok-read_bush_from_1.rest.0; others = c.in-Ok-read_bush_from_1.rest.1.0 })) (record_read_back bush_definitions bush_shape bush_part_definitions bush_parts bush_has_parts _ _ _ _ _ _ _ (part_read_back {L = (record { size = 4; align = 4 })} {ks = []} {ls = ((each_keys (λ y. (option_keys (λ y. (bush_keys y.value)) y)) c.in-Ok-read_bush_from_1.rest.0.items) ++ ((each_keys bush_keys c.in-Ok-read_bush_from_1.rest.1.0.value.items) ++ []))} (record { solved = λ s k. refl }) (c.in-Ok.ensures.read) c.in-Ok-read_bush_from_1.ensures.read))
+
+pub read_bush_from_1-returns-in-Err-clause-refused : goal.read_bush_from_1-returns-in-Err-clause-refused
+read_bush_from_1-returns-in-Err-clause-refused g t c = (first_refuses bush_definitions (both bush_definitions no_definition) (vec (option_shape (boxed (one bush_shape)))) (record { size = 8; align = 4 }) (record { solved = λ s k. refl }) (part (boxed (one (vec bush_shape))) no_part) _ _ 4 _ _ (rw (c.part_of_record-p1.ensures.buffer, c.part_of_record-p1.ensures.position, c.part_of_record-p1.ensures.length) at c.in-Err.ensures.refused))
+
+pub read_bush_from_1-returns-in-Err-read_box_vec_bush-clause-refused : goal.read_bush_from_1-returns-in-Err-read_box_vec_bush-clause-refused
+read_bush_from_1-returns-in-Err-read_box_vec_bush-clause-refused g t c = (later_refuses bush_definitions (both bush_definitions no_definition) (vec (option_shape (boxed (one bush_shape)))) (record { size = 8; align = 4 }) (record { solved = λ s k. refl }) (part (boxed (one (vec bush_shape))) no_part) _ _ 4 _ _ _ c.in-Ok.ensures.read.kept (first_refuses bush_definitions no_definition (boxed (one (vec bush_shape))) (record { size = 4; align = 4 }) (record { solved = λ s k. refl }) no_part _ _ 12 _ _ (rw (c.part_of_record-p2.ensures.buffer, c.part_of_record-p2.ensures.position, c.part_of_record-p2.ensures.length) at c.in-Err-read_box_vec_bush.ensures.refused)))
+
+pub read_bush_from_1-returns-clause-read : goal.read_bush_from_1-returns-clause-read
+read_bush_from_1-returns-clause-read g t c = (part_read_back {L = (record { size = 8; align = 4 })} {ks = (each_keys (λ y. (option_keys (λ y. (bush_keys y.value)) y)) c.in-Ok.a1.items)} {ls = ((each_keys bush_keys c.in-Ok-read_box_vec_bush.a2.value.items) ++ [])} (record { solved = λ s k. refl }) (rw (c.part_of_record-p1.ensures.buffer, c.part_of_record-p1.ensures.position, c.part_of_record-p1.ensures.length) at c.in-Ok.ensures.read) (part_read_back {L = (record { size = 4; align = 4 })} {ks = (each_keys bush_keys c.in-Ok-read_box_vec_bush.a2.value.items)} {ls = []} (record { solved = λ s k. refl }) (rw (c.part_of_record-p2.ensures.buffer, c.part_of_record-p2.ensures.position, c.part_of_record-p2.ensures.length) at c.in-Ok-read_box_vec_bush.ensures.read) no_part_read_back))

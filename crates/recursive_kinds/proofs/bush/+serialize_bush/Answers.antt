@@ -19,7 +19,7 @@ use Rattle.archive_core.specs.Shape.{boxed, vec, one, leaf, unsigned, part, no_p
 use Rattle.archive_core.specs.Value.{list, box, number, value, no_value}
 use Rattle.recursive_kinds.proofs.bush.+serialize_bush.Goals.{serialize_each_option_box_bush-in-None+in_ok-map_err-in-None, serialize_each_option_box_bush-in-Some+in-Ok+in-Ok-serialize_inner+in_ok-map_err-in-Some}
 use Rattle.recursive_kinds.specs.BushMeaning.{bush_meaning, bush_keys, bush_planned, bush_means, bush_has_keys}
-use Rattle.recursive_kinds.specs.BushShape.{bush_shape, bush_definitions, bush_parts, bush_part_definitions, bush_has_parts}
+use Rattle.recursive_kinds.specs.BushShape.{bush_shape, bush_definitions, bush_from_1_parts, bush_from_1_definitions, bush_parts, bush_part_definitions, bush_has_parts}
 use Rattle.recursive_kinds.specs.declared.bush.Bush.{out-Bush}
 use Rattle.std.proofs.Common.{◌≡◌, ◌<◌, ◌++◌, [], length, refl, arith, pos}
 use Rattle.std.proofs.Math.ListN.{drop_of_length-le}
@@ -140,22 +140,22 @@ pub serialize_box_vec_bush-returns-in-Err-serialize_inner-clause-refused : goal.
 serialize_box_vec_bush-returns-in-Err-serialize_inner-clause-refused g t c = (let same : c.deref-inner.result.now ≡ c.args.value.now.value = grind (arith, common_steps) in rw (← same) (c.in-Err-serialize_inner.ensures.refused.since _ c.serialize_vec_bush.ensures.goes_on c.in-Ok.ensures.serialized))
 
 pub serialize_bush-returns-in-Err-clause-refused : goal.serialize_bush-returns-in-Err-clause-refused
-serialize_bush-returns-in-Err-clause-refused g t c = (refused_as (bush_has_keys c.args.value.now) (bush_means c.args.value.now) (record_refused bush_definitions bush_shape bush_part_definitions bush_parts bush_has_parts _ _ _ _ _ (first_refused no_definition (both bush_definitions (both bush_definitions no_definition)) (leaf (number_kind unsigned w32)) (part (vec (option_shape (boxed (one bush_shape)))) (part (boxed (one (vec bush_shape))) no_part)) [] ((each_keys (λ y. (option_keys (λ y. (bush_keys y.value)) y)) (out-Bush c.args.value.now).sides.items) ++ ((each_keys bush_keys (out-Bush c.args.value.now).others.value.items) ++ [])) (number (pos (out-Bush c.args.value.now).id)) (value (list (each_meaning (λ y. (option_meaning (λ y. (box (bush_meaning y.value))) y)) (out-Bush c.args.value.now).sides.items)) (value (box (list (each_meaning bush_meaning (out-Bush c.args.value.now).others.value.items))) no_value)) _ _ _ (part_planned bush_definitions (vec (option_shape (boxed (one bush_shape)))) (each_keys (λ y. (option_keys (λ y. (bush_keys y.value)) y)) (out-Bush c.args.value.now).sides.items) (list (each_meaning (λ y. (option_meaning (λ y. (box (bush_meaning y.value))) y)) (out-Bush c.args.value.now).sides.items)) (vec_planned bush_definitions (option_shape (boxed (one bush_shape))) _ _ _ (slice_planned bush_definitions (option_shape (boxed (one bush_shape))) (λ y. (option_keys (λ y. (bush_keys y.value)) y)) (λ y. (option_meaning (λ y. (box (bush_meaning y.value))) y)) (λ y. (option_planned bush_definitions (boxed (one bush_shape)) (λ y. (bush_keys y.value)) (λ y. (box (bush_meaning y.value))) (λ y. (boxed_one_planned bush_definitions (one bush_shape) bush_shape refl _ _ (bush_planned y.value))) y)) (out-Bush c.args.value.now).sides.items)) (part_planned bush_definitions (boxed (one (vec bush_shape))) (each_keys bush_keys (out-Bush c.args.value.now).others.value.items) (box (list (each_meaning bush_meaning (out-Bush c.args.value.now).others.value.items))) (boxed_one_planned bush_definitions (one (vec bush_shape)) (vec bush_shape) refl _ _ (vec_planned bush_definitions bush_shape _ _ _ (slice_planned bush_definitions bush_shape bush_keys bush_meaning bush_planned (out-Bush c.args.value.now).others.value.items))) no_part_planned)) c.in-Err.ensures.refused)))
+serialize_bush-returns-in-Err-clause-refused g t c = (refused_as (bush_has_keys c.args.value.now) (bush_means c.args.value.now) (record_refused bush_definitions bush_shape bush_part_definitions bush_parts bush_has_parts _ _ _ _ _ (first_refused no_definition bush_from_1_definitions (leaf (number_kind unsigned w32)) bush_from_1_parts [] ((each_keys (λ y. (option_keys (λ y. (bush_keys y.value)) y)) (out-Bush c.args.value.now).sides.items) ++ ((each_keys bush_keys (out-Bush c.args.value.now).others.value.items) ++ [])) (number (pos (out-Bush c.args.value.now).id)) (value (list (each_meaning (λ y. (option_meaning (λ y. (box (bush_meaning y.value))) y)) (out-Bush c.args.value.now).sides.items)) (value (box (list (each_meaning bush_meaning (out-Bush c.args.value.now).others.value.items))) no_value)) _ _ _ (part_planned bush_definitions (vec (option_shape (boxed (one bush_shape)))) (each_keys (λ y. (option_keys (λ y. (bush_keys y.value)) y)) (out-Bush c.args.value.now).sides.items) (list (each_meaning (λ y. (option_meaning (λ y. (box (bush_meaning y.value))) y)) (out-Bush c.args.value.now).sides.items)) (vec_planned bush_definitions (option_shape (boxed (one bush_shape))) _ _ _ (slice_planned bush_definitions (option_shape (boxed (one bush_shape))) (λ y. (option_keys (λ y. (bush_keys y.value)) y)) (λ y. (option_meaning (λ y. (box (bush_meaning y.value))) y)) (λ y. (option_planned bush_definitions (boxed (one bush_shape)) (λ y. (bush_keys y.value)) (λ y. (box (bush_meaning y.value))) (λ y. (boxed_one_planned bush_definitions (one bush_shape) bush_shape refl _ _ (bush_planned y.value))) y)) (out-Bush c.args.value.now).sides.items)) (part_planned bush_definitions (boxed (one (vec bush_shape))) (each_keys bush_keys (out-Bush c.args.value.now).others.value.items) (box (list (each_meaning bush_meaning (out-Bush c.args.value.now).others.value.items))) (boxed_one_planned bush_definitions (one (vec bush_shape)) (vec bush_shape) refl _ _ (vec_planned bush_definitions bush_shape _ _ _ (slice_planned bush_definitions bush_shape bush_keys bush_meaning bush_planned (out-Bush c.args.value.now).others.value.items))) no_part_planned)) c.in-Err.ensures.refused)))
 
 pub serialize_bush-returns-in-Err-serialize_vec_option_box_bush-clause-refused : goal.serialize_bush-returns-in-Err-serialize_vec_option_box_bush-clause-refused
-serialize_bush-returns-in-Err-serialize_vec_option_box_bush-clause-refused g t c = (refused_as (bush_has_keys c.args.value.now) (bush_means c.args.value.now) (record_refused bush_definitions bush_shape bush_part_definitions bush_parts bush_has_parts _ _ _ _ _ (later_refused no_definition (both bush_definitions (both bush_definitions no_definition)) (leaf (number_kind unsigned w32)) (part (vec (option_shape (boxed (one bush_shape)))) (part (boxed (one (vec bush_shape))) no_part)) [] ((each_keys (λ y. (option_keys (λ y. (bush_keys y.value)) y)) (out-Bush c.args.value.now).sides.items) ++ ((each_keys bush_keys (out-Bush c.args.value.now).others.value.items) ++ [])) (number (pos (out-Bush c.args.value.now).id)) (value (list (each_meaning (λ y. (option_meaning (λ y. (box (bush_meaning y.value))) y)) (out-Bush c.args.value.now).sides.items)) (value (box (list (each_meaning bush_meaning (out-Bush c.args.value.now).others.value.items))) no_value)) _ _ _ _ _ c.in-Ok.ensures.serialized c.serialize_part.ensures.goes_on c.serialize_vec_option_box_bush.ensures.goes_on (first_refused bush_definitions (both bush_definitions no_definition) (vec (option_shape (boxed (one bush_shape)))) (part (boxed (one (vec bush_shape))) no_part) (each_keys (λ y. (option_keys (λ y. (bush_keys y.value)) y)) (out-Bush c.args.value.now).sides.items) ((each_keys bush_keys (out-Bush c.args.value.now).others.value.items) ++ []) (list (each_meaning (λ y. (option_meaning (λ y. (box (bush_meaning y.value))) y)) (out-Bush c.args.value.now).sides.items)) (value (box (list (each_meaning bush_meaning (out-Bush c.args.value.now).others.value.items))) no_value) _ _ _ (part_planned bush_definitions (boxed (one (vec bush_shape))) (each_keys bush_keys (out-Bush c.args.value.now).others.value.items) (box (list (each_meaning bush_meaning (out-Bush c.args.value.now).others.value.items))) (boxed_one_planned bush_definitions (one (vec bush_shape)) (vec bush_shape) refl _ _ (vec_planned bush_definitions bush_shape _ _ _ (slice_planned bush_definitions bush_shape bush_keys bush_meaning bush_planned (out-Bush c.args.value.now).others.value.items))) no_part_planned) c.in-Err-serialize_vec_option_box_bush.ensures.refused))))
+serialize_bush-returns-in-Err-serialize_vec_option_box_bush-clause-refused g t c = (refused_as (bush_has_keys c.args.value.now) (bush_means c.args.value.now) (record_refused bush_definitions bush_shape bush_part_definitions bush_parts bush_has_parts _ _ _ _ _ (later_refused no_definition bush_from_1_definitions (leaf (number_kind unsigned w32)) bush_from_1_parts [] ((each_keys (λ y. (option_keys (λ y. (bush_keys y.value)) y)) (out-Bush c.args.value.now).sides.items) ++ ((each_keys bush_keys (out-Bush c.args.value.now).others.value.items) ++ [])) (number (pos (out-Bush c.args.value.now).id)) (value (list (each_meaning (λ y. (option_meaning (λ y. (box (bush_meaning y.value))) y)) (out-Bush c.args.value.now).sides.items)) (value (box (list (each_meaning bush_meaning (out-Bush c.args.value.now).others.value.items))) no_value)) _ _ _ _ _ c.in-Ok.ensures.serialized c.serialize_part.ensures.goes_on c.serialize_vec_option_box_bush.ensures.goes_on (first_refused bush_definitions (both bush_definitions no_definition) (vec (option_shape (boxed (one bush_shape)))) (part (boxed (one (vec bush_shape))) no_part) (each_keys (λ y. (option_keys (λ y. (bush_keys y.value)) y)) (out-Bush c.args.value.now).sides.items) ((each_keys bush_keys (out-Bush c.args.value.now).others.value.items) ++ []) (list (each_meaning (λ y. (option_meaning (λ y. (box (bush_meaning y.value))) y)) (out-Bush c.args.value.now).sides.items)) (value (box (list (each_meaning bush_meaning (out-Bush c.args.value.now).others.value.items))) no_value) _ _ _ (part_planned bush_definitions (boxed (one (vec bush_shape))) (each_keys bush_keys (out-Bush c.args.value.now).others.value.items) (box (list (each_meaning bush_meaning (out-Bush c.args.value.now).others.value.items))) (boxed_one_planned bush_definitions (one (vec bush_shape)) (vec bush_shape) refl _ _ (vec_planned bush_definitions bush_shape _ _ _ (slice_planned bush_definitions bush_shape bush_keys bush_meaning bush_planned (out-Bush c.args.value.now).others.value.items))) no_part_planned) c.in-Err-serialize_vec_option_box_bush.ensures.refused))))
 
 pub serialize_bush-returns-in-Err-serialize_vec_option_box_bush-clause-goes_on : goal.serialize_bush-returns-in-Err-serialize_vec_option_box_bush-clause-goes_on
 serialize_bush-returns-in-Err-serialize_vec_option_box_bush-clause-goes_on g t c = (goes_both _ _ _ c.serialize_part.ensures.goes_on c.serialize_vec_option_box_bush.ensures.goes_on)
 
 pub serialize_bush-returns-in-Err-serialize_box_vec_bush-clause-refused : goal.serialize_bush-returns-in-Err-serialize_box_vec_bush-clause-refused
-serialize_bush-returns-in-Err-serialize_box_vec_bush-clause-refused g t c = (refused_as (bush_has_keys c.args.value.now) (bush_means c.args.value.now) (record_refused bush_definitions bush_shape bush_part_definitions bush_parts bush_has_parts _ _ _ _ _ (later_refused no_definition (both bush_definitions (both bush_definitions no_definition)) (leaf (number_kind unsigned w32)) (part (vec (option_shape (boxed (one bush_shape)))) (part (boxed (one (vec bush_shape))) no_part)) [] ((each_keys (λ y. (option_keys (λ y. (bush_keys y.value)) y)) (out-Bush c.args.value.now).sides.items) ++ ((each_keys bush_keys (out-Bush c.args.value.now).others.value.items) ++ [])) (number (pos (out-Bush c.args.value.now).id)) (value (list (each_meaning (λ y. (option_meaning (λ y. (box (bush_meaning y.value))) y)) (out-Bush c.args.value.now).sides.items)) (value (box (list (each_meaning bush_meaning (out-Bush c.args.value.now).others.value.items))) no_value)) _ _ _ _ _ c.in-Ok.ensures.serialized c.serialize_part.ensures.goes_on (goes_both _ _ _ c.serialize_vec_option_box_bush.ensures.goes_on c.serialize_box_vec_bush.ensures.goes_on) (later_refused bush_definitions (both bush_definitions no_definition) (vec (option_shape (boxed (one bush_shape)))) (part (boxed (one (vec bush_shape))) no_part) (each_keys (λ y. (option_keys (λ y. (bush_keys y.value)) y)) (out-Bush c.args.value.now).sides.items) ((each_keys bush_keys (out-Bush c.args.value.now).others.value.items) ++ []) (list (each_meaning (λ y. (option_meaning (λ y. (box (bush_meaning y.value))) y)) (out-Bush c.args.value.now).sides.items)) (value (box (list (each_meaning bush_meaning (out-Bush c.args.value.now).others.value.items))) no_value) _ _ _ _ _ c.in-Ok-serialize_vec_option_box_bush.ensures.serialized c.serialize_vec_option_box_bush.ensures.goes_on c.serialize_box_vec_bush.ensures.goes_on (first_refused bush_definitions no_definition (boxed (one (vec bush_shape))) no_part (each_keys bush_keys (out-Bush c.args.value.now).others.value.items) [] (box (list (each_meaning bush_meaning (out-Bush c.args.value.now).others.value.items))) no_value _ _ _ no_part_planned c.in-Err-serialize_box_vec_bush.ensures.refused)))))
+serialize_bush-returns-in-Err-serialize_box_vec_bush-clause-refused g t c = (refused_as (bush_has_keys c.args.value.now) (bush_means c.args.value.now) (record_refused bush_definitions bush_shape bush_part_definitions bush_parts bush_has_parts _ _ _ _ _ (later_refused no_definition bush_from_1_definitions (leaf (number_kind unsigned w32)) bush_from_1_parts [] ((each_keys (λ y. (option_keys (λ y. (bush_keys y.value)) y)) (out-Bush c.args.value.now).sides.items) ++ ((each_keys bush_keys (out-Bush c.args.value.now).others.value.items) ++ [])) (number (pos (out-Bush c.args.value.now).id)) (value (list (each_meaning (λ y. (option_meaning (λ y. (box (bush_meaning y.value))) y)) (out-Bush c.args.value.now).sides.items)) (value (box (list (each_meaning bush_meaning (out-Bush c.args.value.now).others.value.items))) no_value)) _ _ _ _ _ c.in-Ok.ensures.serialized c.serialize_part.ensures.goes_on (goes_both _ _ _ c.serialize_vec_option_box_bush.ensures.goes_on c.serialize_box_vec_bush.ensures.goes_on) (later_refused bush_definitions (both bush_definitions no_definition) (vec (option_shape (boxed (one bush_shape)))) (part (boxed (one (vec bush_shape))) no_part) (each_keys (λ y. (option_keys (λ y. (bush_keys y.value)) y)) (out-Bush c.args.value.now).sides.items) ((each_keys bush_keys (out-Bush c.args.value.now).others.value.items) ++ []) (list (each_meaning (λ y. (option_meaning (λ y. (box (bush_meaning y.value))) y)) (out-Bush c.args.value.now).sides.items)) (value (box (list (each_meaning bush_meaning (out-Bush c.args.value.now).others.value.items))) no_value) _ _ _ _ _ c.in-Ok-serialize_vec_option_box_bush.ensures.serialized c.serialize_vec_option_box_bush.ensures.goes_on c.serialize_box_vec_bush.ensures.goes_on (first_refused bush_definitions no_definition (boxed (one (vec bush_shape))) no_part (each_keys bush_keys (out-Bush c.args.value.now).others.value.items) [] (box (list (each_meaning bush_meaning (out-Bush c.args.value.now).others.value.items))) no_value _ _ _ no_part_planned c.in-Err-serialize_box_vec_bush.ensures.refused)))))
 
 pub serialize_bush-returns-in-Err-serialize_box_vec_bush-clause-goes_on : goal.serialize_bush-returns-in-Err-serialize_box_vec_bush-clause-goes_on
 serialize_bush-returns-in-Err-serialize_box_vec_bush-clause-goes_on g t c = (goes_both _ _ _ (goes_both _ _ _ c.serialize_part.ensures.goes_on c.serialize_vec_option_box_bush.ensures.goes_on) c.serialize_box_vec_bush.ensures.goes_on)
 
 pub serialize_bush-returns-clause-serialized : goal.serialize_bush-returns-clause-serialized
-serialize_bush-returns-clause-serialized g t c = (written_as (bush_has_keys c.args.value.now) (bush_means c.args.value.now) refl (serialized_record bush_definitions bush_shape bush_part_definitions bush_parts bush_has_parts _ _ _ _ _ (serialized_part no_definition (both bush_definitions (both bush_definitions no_definition)) (leaf (number_kind unsigned w32)) (part (vec (option_shape (boxed (one bush_shape)))) (part (boxed (one (vec bush_shape))) no_part)) [] ((each_keys (λ y. (option_keys (λ y. (bush_keys y.value)) y)) (out-Bush c.args.value.now).sides.items) ++ ((each_keys bush_keys (out-Bush c.args.value.now).others.value.items) ++ [])) (number (pos (out-Bush c.args.value.now).id)) (value (list (each_meaning (λ y. (option_meaning (λ y. (box (bush_meaning y.value))) y)) (out-Bush c.args.value.now).sides.items)) (value (box (list (each_meaning bush_meaning (out-Bush c.args.value.now).others.value.items))) no_value)) _ _ _ _ _ c.in-Ok.ensures.serialized (serialized_part bush_definitions (both bush_definitions no_definition) (vec (option_shape (boxed (one bush_shape)))) (part (boxed (one (vec bush_shape))) no_part) (each_keys (λ y. (option_keys (λ y. (bush_keys y.value)) y)) (out-Bush c.args.value.now).sides.items) ((each_keys bush_keys (out-Bush c.args.value.now).others.value.items) ++ []) (list (each_meaning (λ y. (option_meaning (λ y. (box (bush_meaning y.value))) y)) (out-Bush c.args.value.now).sides.items)) (value (box (list (each_meaning bush_meaning (out-Bush c.args.value.now).others.value.items))) no_value) _ _ _ _ _ c.in-Ok-serialize_vec_option_box_bush.ensures.serialized (serialized_part bush_definitions no_definition (boxed (one (vec bush_shape))) no_part (each_keys bush_keys (out-Bush c.args.value.now).others.value.items) [] (box (list (each_meaning bush_meaning (out-Bush c.args.value.now).others.value.items))) no_value _ _ _ _ _ c.in-Ok-serialize_box_vec_bush.ensures.serialized (serialized_no_part no_definition _))))))
+serialize_bush-returns-clause-serialized g t c = (written_as (bush_has_keys c.args.value.now) (bush_means c.args.value.now) refl (serialized_record bush_definitions bush_shape bush_part_definitions bush_parts bush_has_parts _ _ _ _ _ (serialized_part no_definition bush_from_1_definitions (leaf (number_kind unsigned w32)) bush_from_1_parts [] ((each_keys (λ y. (option_keys (λ y. (bush_keys y.value)) y)) (out-Bush c.args.value.now).sides.items) ++ ((each_keys bush_keys (out-Bush c.args.value.now).others.value.items) ++ [])) (number (pos (out-Bush c.args.value.now).id)) (value (list (each_meaning (λ y. (option_meaning (λ y. (box (bush_meaning y.value))) y)) (out-Bush c.args.value.now).sides.items)) (value (box (list (each_meaning bush_meaning (out-Bush c.args.value.now).others.value.items))) no_value)) _ _ _ _ _ c.in-Ok.ensures.serialized (serialized_part bush_definitions (both bush_definitions no_definition) (vec (option_shape (boxed (one bush_shape)))) (part (boxed (one (vec bush_shape))) no_part) (each_keys (λ y. (option_keys (λ y. (bush_keys y.value)) y)) (out-Bush c.args.value.now).sides.items) ((each_keys bush_keys (out-Bush c.args.value.now).others.value.items) ++ []) (list (each_meaning (λ y. (option_meaning (λ y. (box (bush_meaning y.value))) y)) (out-Bush c.args.value.now).sides.items)) (value (box (list (each_meaning bush_meaning (out-Bush c.args.value.now).others.value.items))) no_value) _ _ _ _ _ c.in-Ok-serialize_vec_option_box_bush.ensures.serialized (serialized_part bush_definitions no_definition (boxed (one (vec bush_shape))) no_part (each_keys bush_keys (out-Bush c.args.value.now).others.value.items) [] (box (list (each_meaning bush_meaning (out-Bush c.args.value.now).others.value.items))) no_value _ _ _ _ _ c.in-Ok-serialize_box_vec_bush.ensures.serialized (serialized_no_part no_definition _))))))
 
 pub serialize_bush-returns-clause-goes_on : goal.serialize_bush-returns-clause-goes_on
 serialize_bush-returns-clause-goes_on g t c = (goes_both _ _ _ (goes_both _ _ _ c.serialize_part.ensures.goes_on c.serialize_vec_option_box_bush.ensures.goes_on) c.serialize_box_vec_bush.ensures.goes_on)

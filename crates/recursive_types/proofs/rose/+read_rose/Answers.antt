@@ -25,11 +25,11 @@ read_vec_rose-loop-index-preserved g t c = (let kept = c.loop-index.invariant in
 pub read_vec_rose-returns-clause-read : goal.read_vec_rose-returns-clause-read
 read_vec_rose-returns-clause-read g t c = (let kept = c.loop-index.invariant in let b = c.before_vec-list.result.bytes.now in let q = c.before_vec-list.result.pos in let n = c.before_vec-list.result.len in let whole : length c.loop-index.items.items ≡ n = omega (arith, kept.0, c.loop-index-test.false, c.loop-index.auto.index-end, c.len-index-end.ensures) in let r = elements_all rose_definitions rose_shape rose_layout rose_has_layout b q (run rose_shape) n n (all_have rose_definitions rose_shape rose_layout rose_has_layout b q n (run rose_shape) n (inl (refl, refl))) rose_meaning rose_keys (g.D.Entries.entry_of c.args.deserializer.now) (g.D.Entries.entry_of c.loop-index.deserializer) c.loop-index.items.items whole (kept.3) in vec_read rose_definitions c.args.part.bytes.now c.args.part.pos c.args.part.len rose_shape _ _ _ _ c.requires (rw (c.before_vec-list.ensures.buffer, c.before_vec-list.ensures.position, c.before_vec-list.ensures.length, c.at-view.ensures.buffer, c.at-view.ensures.position) at r))
 
-pub read_rose-returns-in_err-a0-clause-refused : goal.read_rose-returns-in_err-a0-clause-refused
-read_rose-returns-in_err-a0-clause-refused g t c = err_by c.from_residual.result c.in_err-a0.field-0.0 _ c.from_residual.ensures.1 (record_refuses rose_definitions rose_shape rose_part_definitions rose_parts rose_has_parts _ _ _ _ _ (first_refuses no_definition (both rose_definitions no_definition) (leaf (number_kind unsigned w32)) (record { size = 4; align = 4 }) (record { solved = λ s k. refl }) (part (vec rose_shape) no_part) _ _ 0 _ _ (rw (c.part_of_record-p0.ensures.buffer, c.part_of_record-p0.ensures.position, c.part_of_record-p0.ensures.length) at c.in_err-a0.ensures.refused)))
+pub read_rose-returns-in-Err-clause-refused : goal.read_rose-returns-in-Err-clause-refused
+read_rose-returns-in-Err-clause-refused g t c = (record_refuses rose_definitions rose_shape rose_part_definitions rose_parts rose_has_parts _ _ _ _ _ (first_refuses no_definition (both rose_definitions no_definition) (leaf (number_kind unsigned w32)) (record { size = 4; align = 4 }) (record { solved = λ s k. refl }) (part (vec rose_shape) no_part) _ _ 0 _ _ (c.in-Err.ensures.refused)))
 
-pub read_rose-returns-in_err-a1-clause-refused : goal.read_rose-returns-in_err-a1-clause-refused
-read_rose-returns-in_err-a1-clause-refused g t c = err_by c.from_residual-in_err-a1.result c.in_err-a1.field-0.0 _ c.from_residual-in_err-a1.ensures.1 (record_refuses rose_definitions rose_shape rose_part_definitions rose_parts rose_has_parts _ _ _ _ _ (later_refuses no_definition (both rose_definitions no_definition) (leaf (number_kind unsigned w32)) (record { size = 4; align = 4 }) (record { solved = λ s k. refl }) (part (vec rose_shape) no_part) _ _ 0 _ _ _ c.in_ok-a0.ensures.read.kept (first_refuses rose_definitions no_definition (vec rose_shape) (record { size = 8; align = 4 }) (record { solved = λ s k. refl }) no_part _ _ 4 _ _ (rw (c.part_of_record-p1.ensures.buffer, c.part_of_record-p1.ensures.position, c.part_of_record-p1.ensures.length) at c.in_err-a1.ensures.refused))))
+pub read_rose-returns-in-Err-read_vec_rose-clause-refused : goal.read_rose-returns-in-Err-read_vec_rose-clause-refused
+read_rose-returns-in-Err-read_vec_rose-clause-refused g t c = (record_refuses rose_definitions rose_shape rose_part_definitions rose_parts rose_has_parts _ _ _ _ _ (later_refuses no_definition (both rose_definitions no_definition) (leaf (number_kind unsigned w32)) (record { size = 4; align = 4 }) (record { solved = λ s k. refl }) (part (vec rose_shape) no_part) _ _ 0 _ _ _ c.in-Ok.ensures.read.kept (first_refuses rose_definitions no_definition (vec rose_shape) (record { size = 8; align = 4 }) (record { solved = λ s k. refl }) no_part _ _ 4 _ _ (rw (c.part_of_record-p1.ensures.buffer, c.part_of_record-p1.ensures.position, c.part_of_record-p1.ensures.length) at c.in-Err-read_vec_rose.ensures.refused))))
 
 pub read_rose-returns-clause-read : goal.read_rose-returns-clause-read
-read_rose-returns-clause-read g t c = read_as (rose_has_keys_roll (record { 0 = c.in_ok-a0.a0; 1 = c.in_ok-a1.a1 })) (rose_means_roll (record { 0 = c.in_ok-a0.a0; 1 = c.in_ok-a1.a1 })) (record_read_back rose_definitions rose_shape rose_part_definitions rose_parts rose_has_parts _ _ _ _ _ _ _ (part_read_back {L = (record { size = 4; align = 4 })} {ks = []} {ls = ((each_keys rose_keys c.in_ok-a1.a1.items) ++ [])} (record { solved = λ s k. refl }) (rw (c.part_of_record-p0.ensures.buffer, c.part_of_record-p0.ensures.position, c.part_of_record-p0.ensures.length) at c.in_ok-a0.ensures.read) (part_read_back {L = (record { size = 8; align = 4 })} {ks = (each_keys rose_keys c.in_ok-a1.a1.items)} {ls = []} (record { solved = λ s k. refl }) (rw (c.part_of_record-p1.ensures.buffer, c.part_of_record-p1.ensures.position, c.part_of_record-p1.ensures.length) at c.in_ok-a1.ensures.read) no_part_read_back)))
+read_rose-returns-clause-read g t c = read_as (rose_has_keys_roll (record { 0 = c.in-Ok.a0; 1 = c.in-Ok-read_vec_rose.a1 })) (rose_means_roll (record { 0 = c.in-Ok.a0; 1 = c.in-Ok-read_vec_rose.a1 })) (record_read_back rose_definitions rose_shape rose_part_definitions rose_parts rose_has_parts _ _ _ _ _ _ _ (part_read_back {L = (record { size = 4; align = 4 })} {ks = []} {ls = ((each_keys rose_keys c.in-Ok-read_vec_rose.a1.items) ++ [])} (record { solved = λ s k. refl }) (c.in-Ok.ensures.read) (part_read_back {L = (record { size = 8; align = 4 })} {ks = (each_keys rose_keys c.in-Ok-read_vec_rose.a1.items)} {ls = []} (record { solved = λ s k. refl }) (rw (c.part_of_record-p1.ensures.buffer, c.part_of_record-p1.ensures.position, c.part_of_record-p1.ensures.length) at c.in-Ok-read_vec_rose.ensures.read) no_part_read_back)))

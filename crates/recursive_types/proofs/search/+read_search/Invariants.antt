@@ -5,10 +5,13 @@ use Rattle.std.specs.Prelude.{pos}
 use Rattle.recursive_types.proofs.search.+read_search.Given as goal
 
 abbrev pub decreases-read_box_search : goal.decreases-read_box_search
-decreases-read_box_search g l = (l.part.pos + 4) * 5 + 1
+decreases-read_box_search g l = (l.part.pos + 4) * 6 + 1
 
 abbrev pub decreases-read_option_box_search : goal.decreases-read_option_box_search
-decreases-read_option_box_search g l = (l.part.pos + 8) * 5 + 2
+decreases-read_option_box_search g l = (l.part.pos + 8) * 6 + 2
+
+abbrev pub decreases-read_search_from_1 : goal.decreases-read_search_from_1
+decreases-read_search_from_1 g l = (l.part.pos + 20) * 6 + 3
 
 abbrev pub decreases-read_search : goal.decreases-read_search
-decreases-read_search g l = (l.part.pos + 20) * 5 + 4
+decreases-read_search g l = (l.part.pos + 20) * 6 + 5

@@ -26,11 +26,11 @@ read_vec_tree-loop-index-preserved g t c = (let kept = c.loop-index.invariant in
 pub read_vec_tree-returns-clause-read : goal.read_vec_tree-returns-clause-read
 read_vec_tree-returns-clause-read g t c = (let kept = c.loop-index.invariant in let b = c.before_vec-list.result.bytes.now in let q = c.before_vec-list.result.pos in let n = c.before_vec-list.result.len in let whole : length c.loop-index.items.items ≡ n = omega (arith, kept.0, c.loop-index-test.false, c.loop-index.auto.index-end, c.len-index-end.ensures) in let r = elements_all tree_definitions tree_shape tree_layout tree_has_layout b q (run tree_shape) n n (all_have tree_definitions tree_shape tree_layout tree_has_layout b q n (run tree_shape) n (inl (refl, refl))) tree_meaning tree_keys (g.D.Entries.entry_of c.args.deserializer.now) (g.D.Entries.entry_of c.loop-index.deserializer) c.loop-index.items.items whole (kept.3) in vec_read tree_definitions c.args.part.bytes.now c.args.part.pos c.args.part.len tree_shape _ _ _ _ c.requires (rw (c.before_vec-list.ensures.buffer, c.before_vec-list.ensures.position, c.before_vec-list.ensures.length, c.at-view.ensures.buffer, c.at-view.ensures.position) at r))
 
-pub read_tree-returns-in_err-a0-clause-refused : goal.read_tree-returns-in_err-a0-clause-refused
-read_tree-returns-in_err-a0-clause-refused g t c = err_by c.from_residual.result c.in_err-a0.field-0.0 _ c.from_residual.ensures.1 (record_refuses tree_definitions tree_shape tree_part_definitions tree_parts tree_has_parts _ _ _ _ _ (first_refuses no_definition (both tree_definitions no_definition) (leaf (number_kind unsigned w32)) (record { size = 4; align = 4 }) (record { solved = λ s k. refl }) (part (vec tree_shape) no_part) _ _ 0 _ _ (rw (c.part_of_record-p0.ensures.buffer, c.part_of_record-p0.ensures.position, c.part_of_record-p0.ensures.length) at c.in_err-a0.ensures.refused)))
+pub read_tree-returns-in-Err-clause-refused : goal.read_tree-returns-in-Err-clause-refused
+read_tree-returns-in-Err-clause-refused g t c = (record_refuses tree_definitions tree_shape tree_part_definitions tree_parts tree_has_parts _ _ _ _ _ (first_refuses no_definition (both tree_definitions no_definition) (leaf (number_kind unsigned w32)) (record { size = 4; align = 4 }) (record { solved = λ s k. refl }) (part (vec tree_shape) no_part) _ _ 0 _ _ (c.in-Err.ensures.refused)))
 
-pub read_tree-returns-in_err-a1-clause-refused : goal.read_tree-returns-in_err-a1-clause-refused
-read_tree-returns-in_err-a1-clause-refused g t c = err_by c.from_residual-in_err-a1.result c.in_err-a1.field-0.0 _ c.from_residual-in_err-a1.ensures.1 (record_refuses tree_definitions tree_shape tree_part_definitions tree_parts tree_has_parts _ _ _ _ _ (later_refuses no_definition (both tree_definitions no_definition) (leaf (number_kind unsigned w32)) (record { size = 4; align = 4 }) (record { solved = λ s k. refl }) (part (vec tree_shape) no_part) _ _ 0 _ _ _ c.in_ok-a0.ensures.read.kept (first_refuses tree_definitions no_definition (vec tree_shape) (record { size = 8; align = 4 }) (record { solved = λ s k. refl }) no_part _ _ 4 _ _ (rw (c.part_of_record-p1.ensures.buffer, c.part_of_record-p1.ensures.position, c.part_of_record-p1.ensures.length) at c.in_err-a1.ensures.refused))))
+pub read_tree-returns-in-Err-read_vec_tree-clause-refused : goal.read_tree-returns-in-Err-read_vec_tree-clause-refused
+read_tree-returns-in-Err-read_vec_tree-clause-refused g t c = (record_refuses tree_definitions tree_shape tree_part_definitions tree_parts tree_has_parts _ _ _ _ _ (later_refuses no_definition (both tree_definitions no_definition) (leaf (number_kind unsigned w32)) (record { size = 4; align = 4 }) (record { solved = λ s k. refl }) (part (vec tree_shape) no_part) _ _ 0 _ _ _ c.in-Ok.ensures.read.kept (first_refuses tree_definitions no_definition (vec tree_shape) (record { size = 8; align = 4 }) (record { solved = λ s k. refl }) no_part _ _ 4 _ _ (rw (c.part_of_record-p1.ensures.buffer, c.part_of_record-p1.ensures.position, c.part_of_record-p1.ensures.length) at c.in-Err-read_vec_tree.ensures.refused))))
 
 pub read_tree-returns-clause-read : goal.read_tree-returns-clause-read
-read_tree-returns-clause-read g t c = read_as (tree_has_keys_roll (record { value = c.in_ok-a0.a0; children = c.in_ok-a1.a1 })) (tree_means_roll (record { value = c.in_ok-a0.a0; children = c.in_ok-a1.a1 })) (record_read_back tree_definitions tree_shape tree_part_definitions tree_parts tree_has_parts _ _ _ _ _ _ _ (part_read_back {L = (record { size = 4; align = 4 })} {ks = []} {ls = ((each_keys tree_keys c.in_ok-a1.a1.items) ++ [])} (record { solved = λ s k. refl }) (rw (c.part_of_record-p0.ensures.buffer, c.part_of_record-p0.ensures.position, c.part_of_record-p0.ensures.length) at c.in_ok-a0.ensures.read) (part_read_back {L = (record { size = 8; align = 4 })} {ks = (each_keys tree_keys c.in_ok-a1.a1.items)} {ls = []} (record { solved = λ s k. refl }) (rw (c.part_of_record-p1.ensures.buffer, c.part_of_record-p1.ensures.position, c.part_of_record-p1.ensures.length) at c.in_ok-a1.ensures.read) no_part_read_back)))
+read_tree-returns-clause-read g t c = read_as (tree_has_keys_roll (record { value = c.in-Ok.a0; children = c.in-Ok-read_vec_tree.a1 })) (tree_means_roll (record { value = c.in-Ok.a0; children = c.in-Ok-read_vec_tree.a1 })) (record_read_back tree_definitions tree_shape tree_part_definitions tree_parts tree_has_parts _ _ _ _ _ _ _ (part_read_back {L = (record { size = 4; align = 4 })} {ks = []} {ls = ((each_keys tree_keys c.in-Ok-read_vec_tree.a1.items) ++ [])} (record { solved = λ s k. refl }) (c.in-Ok.ensures.read) (part_read_back {L = (record { size = 8; align = 4 })} {ks = (each_keys tree_keys c.in-Ok-read_vec_tree.a1.items)} {ls = []} (record { solved = λ s k. refl }) (rw (c.part_of_record-p1.ensures.buffer, c.part_of_record-p1.ensures.position, c.part_of_record-p1.ensures.length) at c.in-Ok-read_vec_tree.ensures.read) no_part_read_back)))
