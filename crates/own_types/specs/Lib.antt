@@ -1,2 +1,2 @@
+pub mod NodeMeaning
 pub mod NodeShape
-pub mod Node

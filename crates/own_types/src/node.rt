@@ -1,32 +1,9 @@
-//! A list of boxes in boxes: an own type that holds itself.
+//! A list of boxes in boxes.
 
-ghost use Rattle.std.specs.Prelude.{◌≡◌, [], length, refl, ⊤, OnOk, IfErr, None};
-ghost use Rattle.std.proofs.Common.{inl, inr, lit≤};
-ghost use Rattle.archive_core.specs.VariantsLayout.{is_recursive_choice};
-ghost use Rattle.archive_core.specs.Value.{box};
-ghost use Rattle.archive_core.specs.Nests.{HoldsBox, nest_keyed, nest_planned};
-ghost use Rattle.archive_core.specs.PlannedOwners.{one_planned};
-ghost use Rattle.archive_core.specs.Variants.{case_of};
-ghost use Rattle.archive_core.specs.Writing.{ZeroedPlace};
-ghost use Rattle.own_types.specs.NodeShape.{node_name, node_variants, node_choice};
-ghost use Rattle.archive_core.specs.CallOutcomes.{ResolvesAs};
-
-use archive_core::boxed::{ArchivedBox, BoxResolver};
 use archive_core::error::Error;
-use archive_core::own::{
-    ArchivedRecursive, FromNested, NamedRecursive, Nested, RecursiveChoice, choice_of,
-    resolve_nested, serialize_nested,
-};
-use archive_core::place::Place;
-use archive_core::ser::{ResolverAlloc, Writer, serialize_one};
-use archive_core::shape::{Expr, Pointee};
-use archive_core::traits::{
-    Archive, ArchiveUnsized, CopyOptimization, Keys, Portable, Serialize, SerializeUnsized,
-};
-use std::alloc::{AllocError, Global};
+use std::alloc::Global;
 
 /// Nothing, or a box of the rest.
-#[derive(Drop)]
 pub enum Node {
     /// No box.
     Nil,
@@ -55,26 +32,98 @@ pub fn boxes(node: &Node, most: usize) -> usize {
     most
 }
 
-/// An archived `Node`: the choice `ArchivedNode`, whose variants are nothing, and a box of it. Eight bytes, at a multiple of four.
-pub type ArchivedNode = ArchivedRecursive<NodeFormat>;
+// Below this line all is written by tools/derive: change what is above it, and run it again.
 
-/// The name `ArchivedNode`, and what it stands for.
-pub struct NodeFormat;
+ghost use Rattle.archive_core.specs.CallOutcomes.{ResolvesAs};
+ghost use Rattle.archive_core.specs.Chains.{HeadIsRead};
+ghost use Rattle.archive_core.specs.Error.TheVariants.{OutOfMemory};
+ghost use Rattle.archive_core.specs.Expressions.{shape_of, shapes_in};
+ghost use Rattle.archive_core.specs.Payloads.{payload_in};
+ghost use Rattle.archive_core.specs.PlannedOwners.{one_planned};
+ghost use Rattle.archive_core.specs.SealsWritten.{IsSealOf, SealsPart, seal_tag};
+ghost use Rattle.archive_core.specs.Seen.{IsPartOf, RefusesPart, ShowsValueOf, part_tag, tag_of};
+ghost use Rattle.archive_core.specs.Shape.{one, part, parts, variant, vec};
+ghost use Rattle.archive_core.specs.Sources.{Read};
+ghost use Rattle.archive_core.specs.Value.{value};
+ghost use Rattle.archive_core.specs.Writing.{ZeroedPlace};
+ghost use Rattle.own_types.specs.NodeMeaning.{node_around, node_keys_around};
+ghost use Rattle.own_types.specs.NodeShape.{node_chain_known, node_checked, node_cons_parts, node_definitions, node_has_layout, node_has_variants, node_is_align, node_layout, node_name, node_no_others, node_shape, node_stands_for};
+ghost use Rattle.std.proofs.Common.{lit≤};
+ghost use Rattle.std.specs.Prelude.{IfErr, IfOk, None, Some, refl, ℕ, ◌+◌, ◌≡◌, ◌≤◌};
 
-impl NamedRecursive for NodeFormat {
-    ghost name = { node_name };
+use archive_core::boxed::{ArchivedBox, BoxResolver};
+use archive_core::place::Place;
+use archive_core::recursive::{
+    BoxAt, Chain, ChainBack, ChainCheck, ChainSource, ReadHead, Rest, WrittenHead, choice_of,
+    define_name, part_of_variant, read_chain, resolve_named_case_0, resolve_named_case_1,
+    seal_of_payload, serialize_chain, tag_of_choice, tag_of_view, view_of_payload,
+};
+use archive_core::seal::Seal;
+use archive_core::ser::{ResolverAlloc, Writer, serialize_one};
+use archive_core::shape::{Defs, Expr, Pointee};
+use archive_core::traits::{
+    Archive, ArchivePointee, ArchiveUnsized, Choice, CopyOptimization, Deserialize, Entries, Keys,
+    Portable, Serialize, SerializeUnsized,
+};
+use archive_core::view::{RawView, Ref};
 
-    ghost stands_for = { node_choice };
+/// An archived `Node`: 8 bytes at a multiple of 4. It validates itself.
+pub struct ArchivedNode;
 
-    ghost layout = { record { size = 8; align = 4 } };
+type NodeConsParts = (ArchivedBox<ArchivedNode>, ());
 
-    ghost is_align = { inr (inr (inl refl)) };
+type NodeVariants = ((), (NodeConsParts, ()));
 
-    ghost laid_out = { record { solved = λ s k. refl } };
+impl ArchivePointee for ArchivedNode {
+    type ArchivedMetadata = ();
 
-    fn name() -> &'static str {
-        "ArchivedNode"
+    ghost pointee = { one node_shape };
+
+    ghost definitions = { node_definitions };
+
+    ghost metadata_length = { λ _. 0 };
+
+    fn pointer_metadata(_metadata: &()) -> usize {
+        0
     }
+}
+
+// The parts of `Cons`.
+fn node_cons_expressions(alloc: Global) -> Result<Vec<Expr>, Error>
+    ensures shapes { IfOk result (λ list. shapes_in list.items ≡ node_cons_parts) }
+    ensures refused { IfErr result (λ e. e ≡ OutOfMemory) }
+{
+    let a0 = Expr::Box(Box::new(alloc, Pointee::One(Expr::Named("ArchivedNode")))?);
+    Ok(vec![in alloc; a0]?)
+}
+
+// What the name stands for.
+fn node_expression(alloc: Global) -> Result<Expr, Error>
+    ensures shape { IfOk result (λ e. shape_of e ≡ node_stands_for) }
+    ensures refused { IfErr result (λ e. e ≡ OutOfMemory) }
+{
+    let v0 = vec![in alloc]?;
+    let v1 = node_cons_expressions(alloc)?;
+    let variants = vec![in alloc; v0, v1]?;
+    Ok(choice_of("ArchivedNode", variants))
+}
+
+impl Portable for ArchivedNode {
+    ghost shape = { node_shape };
+
+    ghost layout = { node_layout };
+
+    type Check = ChainCheck<NodeChain>;
+
+    ghost is_one = { refl };
+
+    ghost is_align = { node_is_align };
+
+    ghost has_layout = { node_has_layout };
+
+    ghost no_others = { node_no_others };
+
+    ghost checks = { λ _. node_checked };
 
     fn size() -> usize {
         8
@@ -84,61 +133,85 @@ impl NamedRecursive for NodeFormat {
         4
     }
 
-    fn definition(alloc: Global) -> Result<Expr, AllocError> {
-        let rest = Expr::Box(Box::new(alloc, Pointee::One(Expr::Named("ArchivedNode")))?);
-        let variants = vec![in alloc; vec![in alloc]?, vec![in alloc; rest]?]?;
-        Ok(choice_of("ArchivedNode", variants))
+    fn expr(_alloc: Global) -> Result<Expr, Error> {
+        Ok(Expr::Named("ArchivedNode"))
+    }
+
+    fn define(alloc: Global, defs: &mut Defs) -> Result<(), Error> {
+        let stands_for = match node_expression(alloc) {
+            Ok(stands_for) => stands_for,
+            Err(error) => return Err(error),
+        };
+        define_name("ArchivedNode", stands_for, defs)
     }
 }
 
-impl RecursiveChoice for NodeFormat {
-    type Variants = ((), ((ArchivedBox<ArchivedNode>, ()), ()));
+impl Choice for ArchivedNode {
+    type Variants = NodeVariants;
 
-    ghost has_variants = { is_recursive_choice node_name _ node_variants (λ s k. record {
-      has = (tt, ((k.has, tt), tt));
-      finite = k.finite;
-      laid_out = k.laid_out;
-    }) };
+    ghost name = { node_name };
+
+    ghost has_variants = { node_has_variants };
 
     ghost holds = { lit≤ tt };
 }
 
+/// What is kept of `Node` from its serialization until it is resolved.
+#[derive(Drop)]
+pub enum NodeResolver {
+    /// Of `Nil`.
+    Nil,
+    /// Of `Cons`.
+    Cons((BoxResolver, ())),
+}
+
 impl Archive for Node {
-    ghost use Rattle.own_types.specs.Node.{node_meaning, node_flat, node_nest};
+    ghost use Rattle.own_types.specs.NodeMeaning.{node_meaning, node_flat, node_keys, node_belongs, node_keyed, node_planned};
 
     type Archived = ArchivedNode;
 
-    type Resolver = Option<BoxResolver>;
+    type Resolver = NodeResolver;
 
     ghost meaning = { node_meaning };
 
-    ghost flat = { λ _. node_flat };
+    ghost flat = { node_flat };
 
-    ghost keys = { λ _. [] };
+    ghost keys = { node_keys };
 
-    ghost belongs = { λ _ _. ⊤ };
+    ghost belongs = { node_belongs };
 
     ghost in_bulk = { None };
 
-    ghost keyed = { λ n. nest_keyed (node_nest n) };
+    ghost keyed = { node_keyed };
 
-    ghost planned = { λ n. nest_planned (node_nest n) };
+    ghost planned = { node_planned };
 
     #[inline(always)]
     fn resolve(
         &self,
-        resolver: Option<BoxResolver>,
-        place: Place<'_, ArchivedNode>,
+        resolver: Self::Resolver,
+        place: Place<'_, Self::Archived>,
     ) -> Result<(), Error>
         requires zeroed { ZeroedPlace 8 place.pos place.bytes.now }
-        requires same_value { ⊤ }
+        requires same_value { ⟦<Self as Archive>⟧.belongs self.now resolver }
         ensures { ResolvesAs ⟦<Self::Archived as Portable>⟧ place
             (⟦<Self as Archive>⟧.flat self.now resolver) result }
     {
         let Place { bytes, pos, .. } = place;
-        match resolver {
-            None => resolve_nested::<ArchivedNode>(0, None, Place::new(pos, bytes)),
-            Some(rest) => resolve_nested::<ArchivedNode>(1, Some(rest), Place::new(pos, bytes)),
+        match self {
+            Node::Nil => { resolve_named_case_0::<ArchivedNode>(0, (), Place::new(pos, bytes)) }
+            Node::Cons(_a0) => {
+                let NodeResolver::Cons(kept) = resolver else {
+                    unreachable!();
+                };
+                let h0: BoxAt<ArchivedNode> = BoxAt::new();
+                resolve_named_case_1::<BoxAt<ArchivedNode>, ArchivedNode>(
+                    1,
+                    &h0,
+                    kept,
+                    Place::new(pos, bytes),
+                )
+            }
         }
     }
 
@@ -157,30 +230,104 @@ impl Archive for Node {
     }
 }
 
-impl Nested<ArchivedNode> for Node {
-    ghost is_named = { refl };
+/// What the check of an archived `Node` goes by.
+pub struct NodeChain;
 
-    ghost no_keys = { λ _. refl };
+impl Chain for NodeChain {
+    ghost name = { node_name };
+
+    ghost layout = { node_layout };
+
+    type Variants = ((), (Rest, ()));
+
+    ghost is_align = { node_is_align };
+
+    ghost laid_out = { node_has_layout };
+
+    ghost known = { node_chain_known };
+
+    ghost holds = { lit≤ tt };
+
+    ghost some = { lit≤ tt };
+
+    fn name() -> &'static str {
+        "ArchivedNode"
+    }
+
+    fn size() -> usize {
+        8
+    }
+
+    fn align() -> usize {
+        4
+    }
+}
+
+/// By a loop, so that a long list takes no machine stack.
+impl Drop for Node {
+    fn drop(mut self) {
+        loop {
+            match self {
+                Node::Nil => return,
+                Node::Cons(rest) => self = Box::into_inner(rest),
+            }
+        }
+    }
+}
+
+/// What is kept of a `Node` until what its box holds is written.
+#[derive(Drop)]
+pub enum NodeKept {
+    /// Of `Cons`.
+    Cons,
+}
+
+impl<S: Writer + Keys + ResolverAlloc> ChainSource<S> for Node {
+    ghost use Rattle.own_types.specs.NodeMeaning.{node_rest, node_closed};
+
+    type Kept = NodeKept;
+
+    ghost rest = { node_rest };
+
+    ghost closed = { node_closed };
 
     #[inline(always)]
-    fn inner(&self) -> (u8, Option<&Node>) {
+    fn rest(&self) -> Option<&Self> {
         match self {
-            Node::Nil => (0, None),
-            Node::Cons(rest) => (1, Some(&**rest)),
+            Node::Nil => None,
+            Node::Cons(a0) => Some(&**a0),
+        }
+    }
+
+    #[inline(always)]
+    fn serialize_head(
+        &self,
+        serializer: &mut S,
+    ) -> Result<WrittenHead<Self::Resolver, Self::Kept>, Error> {
+        match self {
+            Node::Nil => Ok(WrittenHead::Whole(NodeResolver::Nil)),
+            Node::Cons(_a0) => Ok(WrittenHead::Open(NodeKept::Cons)),
+        }
+    }
+
+    #[inline(always)]
+    fn close(kept: Self::Kept, at: BoxResolver) -> Self::Resolver {
+        match kept {
+            NodeKept::Cons => NodeResolver::Cons((at, ())),
         }
     }
 }
 
 impl<S: Writer + Keys + ResolverAlloc> Serialize<S> for Node {
     #[inline(always)]
-    fn serialize(&self, serializer: &mut S) -> Result<Option<BoxResolver>, Error> {
-        serialize_nested::<ArchivedNode, Node, S>(self, serializer)
+    fn serialize(&self, serializer: &mut S) -> Result<Self::Resolver, Error> {
+        serialize_chain(self, serializer)
     }
 }
 
-/// As a region of its own.
+/// As a region of its own: the value itself.
 impl ArchiveUnsized for Node {
-    ghost use Rattle.own_types.specs.Node.{node_nest};
+    ghost use Rattle.own_types.specs.contracts.node.NodeArchive.TheImpl.Laws.{keyed-law as keyed_of_node, planned-law as planned_of_node};
 
     type Archived = ArchivedNode;
 
@@ -190,43 +337,189 @@ impl ArchiveUnsized for Node {
 
     ghost keys = { ⟦<Node as Archive>⟧.keys };
 
-    ghost keyed = { λ n. nest_keyed (node_nest n) };
+    ghost keyed = { keyed_of_node };
 
     ghost one_length = { λ _ _. refl };
 
-    ghost planned = { λ n. one_planned _ _ [] _ (nest_planned (node_nest n)) };
+    ghost planned = { λ v. one_planned node_definitions node_shape (⟦<Node as Archive>⟧.keys v)
+        (⟦<Node as Archive>⟧.meaning v) (planned_of_node v) };
 
+    #[inline(always)]
     fn archived_metadata(&self) -> Result<(), Error> {
         Ok(())
     }
 }
 
-impl<S: Writer + ResolverAlloc> SerializeUnsized<S> for Node {
+impl<S: Writer + Keys + ResolverAlloc> SerializeUnsized<S> for Node {
+    #[inline(always)]
     fn serialize_unsized(&self, serializer: &mut S) -> Result<usize, Error> {
         serialize_one(self, serializer)
     }
 }
 
-impl FromNested<NodeFormat> for Node {
-    ghost use Rattle.own_types.specs.Node.{node_meaning};
+/// What stands before the box of a `Node`.
+#[derive(Drop)]
+pub enum NodeFront {
+    /// Of `Cons`.
+    Cons,
+}
 
-    ghost nests = { (inl refl, (inr refl, tt)) };
+// Reads `Nil` back.
+#[inline(always)]
+fn read_node_nil<D: Entries>(
+    _alloc: Global,
+    part: RawView<'_>,
+    _deserializer: &mut D,
+) -> Result<Node, Error>
+    requires viewed { IsPartOf ⟦<ArchivedNode as ArchivePointee>⟧ part }
+    requires tag { part_tag part ≡ 0 }
+    ensures read { IfOk result (Read ⟦<ArchivedNode as ArchivePointee>⟧ part D.Entries _deserializer
+        ⟦<Node as Archive>⟧) }
+    ensures refused { IfErr result (RefusesPart ⟦<ArchivedNode as ArchivePointee>⟧ part D.Entries
+        _deserializer) }
+{
+    Ok(Node::Nil)
+}
 
-    ghost no_keys = { λ _. refl };
+// Reads the parts of `Cons` before its box back.
+#[inline(always)]
+fn read_node_cons<D: Entries>(
+    _alloc: Global,
+    part: RawView<'_>,
+    _deserializer: &mut D,
+) -> Result<ReadHead<Node, NodeFront>, Error>
+    requires viewed { IsPartOf ⟦<ArchivedNode as ArchivePointee>⟧ part }
+    requires tag { part_tag part ≡ 1 }
+    ensures read { IfOk result (HeadIsRead ⟦<ArchivedNode as Portable>⟧ part D.Entries _deserializer
+        ⟦<Node as Archive>⟧ node_around node_keys_around) }
+    ensures refused { IfErr result (RefusesPart ⟦<ArchivedNode as ArchivePointee>⟧ part D.Entries
+        _deserializer) }
+{
+    let p0 = part_of_variant::<ArchivedNode, ArchivedBox<ArchivedNode>>(part, 1, 0, 4);
+    Ok(ReadHead::Open(NodeFront::Cons, p0.pos))
+}
+
+impl<D: Entries> ChainBack<ArchivedNode, D> for Node {
+    type Front = NodeFront;
+
+    ghost around = { node_around };
+
+    ghost keys_around = { node_keys_around };
 
     #[inline(always)]
-    fn empty(tag: u8) -> Option<Node> {
-        if tag == 0 {
-            return Some(Node::Nil);
+    fn read_head(
+        alloc: Global,
+        part: RawView<'_>,
+        deserializer: &mut D,
+    ) -> Result<ReadHead<Self, Self::Front>, Error>
+        requires { IsPartOf ⟦<ArchivedNode as ArchivePointee>⟧ part }
+        ensures read { IfOk result (HeadIsRead ⟦<ArchivedNode as Portable>⟧ part D.Entries
+            deserializer ⟦<Node as Archive>⟧ node_around node_keys_around) }
+        ensures refused { IfErr result (RefusesPart ⟦<ArchivedNode as ArchivePointee>⟧ part
+            D.Entries deserializer) }
+    {
+        match tag_of_choice::<ArchivedNode>(part) {
+            0 => match read_node_nil(alloc, part, deserializer) {
+                Ok(value) => Ok(ReadHead::Whole(value)),
+                Err(error) => Err(error),
+            },
+            _ => read_node_cons(alloc, part, deserializer),
         }
-        None
     }
 
     #[inline(always)]
-    fn around(_tag: u8, inner: Box<Node>) -> Node
-        requires { HoldsBox 0 node_variants _tag }
-        ensures { node_meaning result ≡ case_of _tag (box (node_meaning inner.value)) }
+    fn around(front: Self::Front, rest: Box<Self>) -> Self
+        ensures meaning { ⟦<Self as Archive>⟧.meaning result
+            ≡ node_around front (⟦<Self as Archive>⟧.meaning rest.value) }
+        ensures keys { ⟦<Self as Archive>⟧.keys result ≡ node_keys_around front
+            (⟦<Self as Archive>⟧.keys rest.value) }
     {
-        Node::Cons(inner)
+        match front {
+            NodeFront::Cons => Node::Cons(rest),
+        }
+    }
+}
+
+impl<D: Entries> Deserialize<Node, D> for ArchivedNode {
+    #[inline(always)]
+    fn deserialize_part(
+        alloc: Global,
+        part: RawView<'_>,
+        deserializer: &mut D,
+    ) -> Result<Node, Error>
+        requires { IsPartOf ⟦<Self as ArchivePointee>⟧ part }
+        ensures read { IfOk result (Read ⟦<Self as ArchivePointee>⟧ part D.Entries deserializer
+            ⟦<Node as Archive>⟧) }
+        ensures refused { IfErr result (RefusesPart ⟦<Self as ArchivePointee>⟧ part D.Entries
+            deserializer) }
+    {
+        read_chain::<ArchivedNode, Node, D>(alloc, part, deserializer)
+    }
+}
+
+/// What a view of an archived `Node` shows, by its tag.
+#[derive(Drop)]
+pub enum ViewOfNode<'a> {
+    /// No box.
+    Nil,
+    /// A box of the rest.
+    Cons(Ref<'a, ArchivedBox<ArchivedNode>>),
+}
+
+/// The variant of an archived `Node`, where it lies.
+pub trait NodeView<'a> {
+    /// The variant that the tag names, with views of its fields.
+    fn variant(self) -> ViewOfNode<'a>;
+}
+
+impl<'a> NodeView<'a> for Ref<'a, ArchivedNode> {
+    ghost use Rattle.own_types.specs.declared.node.ViewOfNode.TheVariants.{Cons as NodeConsShown, Nil as NodeNilShown};
+
+    fn variant(self) -> ViewOfNode<'a>
+        ensures shows { elim result [
+          | NodeNilShown ↦ (tag_of self.entry ≡ 0)
+          | NodeConsShown a0 ↦ (tag_of self.entry ≡ 1) × (a0.bytes.now ≡ self.entry.bytes.now)
+              × (a0.pos ≡ self.entry.pos + 4) × (a0.len ≡ 0)
+              × ShowsValueOf a0 self.entry (payload_in 0)
+        ] }
+    {
+        match tag_of_view(self) {
+            0 => ViewOfNode::Nil,
+            _ => {
+                let a0 = view_of_payload::<ArchivedNode, ArchivedBox<ArchivedNode>>(self, 1, 0, 4);
+                ViewOfNode::Cons(a0)
+            }
+        }
+    }
+}
+
+/// The fields of an archived `Node`, sealed where they lie. Each call asks that the tag is its variant's.
+pub trait NodeSeal<'a> {
+    // The seal shows a part of a buffer that was checked.
+    ghost sealed: { Self → Type 0 };
+
+    // The tag that it shows.
+    ghost tag: { Self → ℕ };
+
+    /// The field `0` of `Cons`.
+    fn cons_0_mut(self) -> Seal<'a, ArchivedBox<ArchivedNode>>
+        requires come_to { sealed self }
+        requires tag { tag self ≡ 1 };
+}
+
+impl<'a> NodeSeal<'a> for Seal<'a, ArchivedNode> {
+    ghost sealed = { λ s. IsSealOf node_definitions (one ⟦<ArchivedNode as Portable>⟧.shape) s };
+
+    ghost tag = { λ s. seal_tag s };
+
+    fn cons_0_mut(self) -> Seal<'a, ArchivedBox<ArchivedNode>>
+        requires come_to { IsSealOf node_definitions (one ⟦<ArchivedNode as Portable>⟧.shape) self }
+        requires tag { seal_tag self ≡ 1 }
+        ensures { SealsPart node_definitions (one ⟦<ArchivedNode as Portable>⟧.shape)
+            ⟦<ArchivedNode as ArchivePointee>⟧.definitions
+            ⟦<ArchivedBox<ArchivedNode> as ArchivePointee>⟧.pointee (self.entry.pos + 4) 0
+            self.entry result }
+    {
+        seal_of_payload::<ArchivedNode, ArchivedBox<ArchivedNode>>(self, 1, 0, 4)
     }
 }
