@@ -1,10 +1,13 @@
-// Recursive values behind vectors of boxes and of options, byte for byte: written, validated and read back; and a damaged one.
+// Recursive values behind vectors of boxes and of options, and with fields of many kinds, byte for byte: written, validated and read back; and damaged ones.
 
 use crate::assertions::{assert_read, assert_refused, assert_written};
 use archive_core::error::Error;
+use archive_core::primitive::ArchivedNonZeroU32;
 use recursive_kinds::bush::Bush;
 use recursive_kinds::knot::{ArchivedKnot, Knot};
+use recursive_kinds::task::Task;
 use std::alloc::{AllocError, Global};
+use std::collections::BTreeMap;
 use std::process::Abort;
 
 fn knot(alloc: Global, id: u32, next: Vec<Box<Knot>>) -> Result<Box<Knot>, AllocError> {
@@ -87,4 +90,49 @@ fn options_in_a_vector(rt: HostRuntime) {
     let bushes = bushes(rt.alloc()).expect(&rt, "a bush");
     assert_written(&rt, rt.alloc(), &bushes, BUSHES);
     assert_read(&rt, rt.alloc(), BUSHES, &bushes);
+}
+
+fn step(alloc: Global) -> Result<Task, AllocError> {
+    Ok(Task {
+        done: true,
+        due: Some((-7, 9)),
+        result: Err(String::from_str(alloc, "no")?),
+        notes: Vec::new(alloc),
+        hours: BTreeMap::new(alloc),
+        rank: None,
+        steps: Vec::new(alloc),
+    })
+}
+
+fn hours(alloc: Global) -> Result<BTreeMap<u16, i64>, AllocError> {
+    let mut hours = BTreeMap::new(alloc);
+    hours.insert(3, -1)?;
+    Ok(hours)
+}
+
+fn task(alloc: Global) -> Result<Task, AllocError> {
+    let short = String::from_str(alloc, "abc")?;
+    let long = String::from_str(alloc, "ten bytes.")?;
+    let step = step(alloc)?;
+    Ok(Task {
+        done: false,
+        due: None,
+        result: Ok(5),
+        notes: vec![in alloc; short, long]?,
+        hours: hours(alloc)?,
+        rank: Some(ArchivedNonZeroU32::from_native(2)),
+        steps: vec![in alloc; step]?,
+    })
+}
+
+// The long note's text at 0, the two notes at 12, the hours at 32, the step at 48 and the task at 108. Of the 60 bytes of a task the first says whether it
+// is done; the day lies at 4, the result at 16, the notes at 28, the hours at 36, the rank at 44 and the steps at 52.
+const TASK: &[u8] =
+    b"ten bytes.\0\0abc\xff\xff\xff\xff\xff\x8a\0\0\0\xec\xff\xff\xff\0\0\0\0\x03\0\0\0\0\0\0\0\xff\xff\xff\xff\xff\xff\xff\xff\x01\0\0\0\x01\0\0\0\xf9\xff\xff\xff\x09\0\0\0\x01\0\0\0no\xff\xff\xff\xff\xff\xff\xe4\xff\xff\xff\0\0\0\0\xdc\xff\xff\xff\0\0\0\0\0\0\0\0\0\0\0\0\xcc\xff\xff\xff\0\0\0\0\0\0\0\0\0\0\0\0\0\0\0\0\0\0\0\0\0\0\0\0\x05\0\0\0\0\0\0\0\x84\xff\xff\xff\x02\0\0\0\x90\xff\xff\xff\x01\0\0\0\x01\0\0\0\x02\0\0\0\x90\xff\xff\xff\x01\0\0\0";
+
+#[test]
+fn fields_of_many_kinds(rt: HostRuntime) {
+    let task = task(rt.alloc()).expect(&rt, "a task");
+    assert_written(&rt, rt.alloc(), &task, TASK);
+    assert_read(&rt, rt.alloc(), TASK, &task);
 }
