@@ -69,6 +69,27 @@ class Recursive(RepositoryTest):
             self.assertIn(word, self.text(path))
         self.assertIn("(λ vs. product (value (number (pos t.id)) (value (box (list vs)) no_value)))", self.beside("specs", "GroveMeaning.antt"))
 
+    def test_plain_fields_are_told_by_what_they_are_made_of(self):
+        fields = "due: Option<(u16, i64)>, owner: Result<String, u8>, done: bool, hours: BTreeMap<String, u8>, parts: Vec<Task>"
+        path = self.put(f"use std::collections::BTreeMap;\n#[derive(Drop)]\npub struct Task {{ {fields} }}\n")
+        self.assertEqual(self.run_command(path), (0, ""))
+        text = self.beside("specs", "TaskMeaning.antt")
+        self.assertIn("(option_meaning (λ y. (product (value (number (pos y.0)) (value (number y.1) no_value)))) t.due)", text)
+        self.assertIn("(result_meaning (λ y. (text_value (string_bytes y))) (λ y. (number (pos y))) t.owner)", text)
+        self.assertIn("number (pos (bool_byte t.done))", text)
+        self.assertIn("(list (each_meaning (pair_meaning (λ y. (text_value (string_bytes y))) (λ y. (number (pos y)))) t.hours.entries))", text)
+        self.assertIn("(sorted_map str_key (leaf (number_kind unsigned w8)))", self.beside("specs", "TaskShape.antt"))
+
+    def test_no_function_reads_more_than_two_fields(self):
+        path = self.put("#[derive(Drop)]\npub struct Tree { a: u8, b: Vec<Tree>, c: u8, d: u8 }\n")
+        self.assertEqual(self.run_command(path), (0, ""))
+        text = self.text(path)
+        for word in ("let (a1, (a2, (a3, ()))) = rest;", "#[cycle(read_tree)]\nfn read_tree_from_1<", "#[inline(always)]\nfn read_tree_from_2<", "Ok((a1, rest))", "Ok((a2, (a3, ())))"):
+            self.assertIn(word, text)
+        self.assertIn("(l.part.pos + 16) * 6 + 3\n", self.beside("proofs", "types", "+read_tree", "Invariants.antt"))
+        self.assertIn("ReadsFields tree_from_2_definitions tree_from_2_parts part 12 D.Entries", " ".join(text.split()))
+        self.assertIn("pub returns-clause-read", self.beside("proofs", "types", "read_tree_from_2", "Answers.antt"))
+
     def test_two_files_of_one_run_are_both_named(self):
         paths = [self.put(LIST, "list"), self.put(TREE, "tree")]
         self.assertEqual(self.run_command(*paths), (0, ""))
@@ -116,4 +137,4 @@ class Recursive(RepositoryTest):
 
     def test_a_number_with_a_sign_is_read_as_it_was(self):
         self.run_command(self.put(TREE))
-        self.assertIn("to_z-of_z w64 c.in_ok-a0.a0", self.beside("proofs", "types", "+read_tree", "Answers.antt"))
+        self.assertIn("to_z-of_z w64 c.in-Ok.a0", self.beside("proofs", "types", "+read_tree", "Answers.antt"))
