@@ -66,18 +66,38 @@ fn tree_of_depth(alloc: Global, levels: u32) -> Result<Tree, AllocError> {
     Ok(tree)
 }
 
+// A tree is written, validated and read back, and what was read is written as it was; all of it is dropped.
+fn assert_goes_around(rt: &impl Abort, alloc: Global, tree: &Tree, length: usize) {
+    let bytes = written(rt, alloc, tree);
+    assert_same(rt, "bytes", bytes.len(), length);
+    let holds = is_archive::<ArchivedTree>(alloc, bytes.as_slice());
+    assert_holds(rt, "is validated", holds);
+    let back: Tree = value_of(rt, alloc, bytes.as_slice());
+    let again = written(rt, alloc, &back);
+    assert_holds(rt, "is written again", again.as_slice() == bytes.as_slice());
+}
+
 #[test]
-fn two_thousand_levels(rt: HostRuntime) {
-    let tree = tree_of_depth(rt.alloc(), 2_000).expect(&rt, "a tree");
-    let bytes = written(&rt, rt.alloc(), &tree);
-    assert_same(&rt, "bytes", bytes.len(), 24_012);
-    let holds = is_archive::<ArchivedTree>(rt.alloc(), bytes.as_slice());
-    assert_holds(&rt, "is validated", holds);
-    let back: Tree = value_of(&rt, rt.alloc(), bytes.as_slice());
-    let again = written(&rt, rt.alloc(), &back);
-    assert_holds(
-        &rt,
-        "is written again",
-        again.as_slice() == bytes.as_slice(),
-    );
+fn twenty_five_thousand_levels(rt: HostRuntime) {
+    let tree = tree_of_depth(rt.alloc(), 25_000).expect(&rt, "a tree");
+    assert_goes_around(&rt, rt.alloc(), &tree, 300_012);
+}
+
+// A tree with this many below its root.
+fn tree_of_width(alloc: Global, count: u32) -> Result<Tree, AllocError> {
+    let mut children = Vec::new(alloc);
+    for value in 0..count {
+        let below = Vec::new(alloc);
+        children.push(Tree {
+            value,
+            children: below,
+        })?;
+    }
+    Ok(Tree { value: 0, children })
+}
+
+#[test]
+fn million_children(rt: HostRuntime) {
+    let tree = tree_of_width(rt.alloc(), 1_000_000).expect(&rt, "a tree");
+    assert_goes_around(&rt, rt.alloc(), &tree, 12_000_012);
 }
