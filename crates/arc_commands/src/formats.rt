@@ -16,7 +16,7 @@ use archive_core::traits::{MapKey, Portable, PortablePointee, Serialize};
 use archive_core::vec::ArchivedVec;
 use hex::FromHexError;
 use own_types::node::{ArchivedNode, Node, node_of};
-use own_types::test_record::{ArchivedTest, Test, TestOf};
+use own_types::test_record::{ArchivedTest, Test};
 use std::alloc::Global;
 use std::num::ParseIntError;
 use std::str::FromStr;
@@ -365,5 +365,5 @@ fn test_record(alloc: Global, word: &str) -> Result<Option<Test>, Error> {
         }
     };
     let text = String::from_str(alloc, text)?;
-    Ok(Some(TestOf { number, text, list }))
+    Ok(Some(Test { number, text, list }))
 }

@@ -107,18 +107,22 @@ fn text(alloc: Global, size: usize) -> Result<String, AllocError> {
     Ok(text)
 }
 
-impl<F> Values<RecordOf<F, u8, String, Option<Vec<i32>>>> for Given {
+impl Values<RecordOf<u8, String, Option<Vec<i32>>>> for Given {
     fn values(
         alloc: Global,
         _size: usize,
-    ) -> Result<Vec<RecordOf<F, u8, String, Option<Vec<i32>>>>, Error> {
+    ) -> Result<Vec<RecordOf<u8, String, Option<Vec<i32>>>>, Error> {
         alone(
             alloc,
-            RecordOf::new(42, hello(alloc)?, Some(integers(alloc)?)),
+            RecordOf {
+                first: 42,
+                second: hello(alloc)?,
+                third: Some(integers(alloc)?),
+            },
         )
     }
 
-    fn told(value: &RecordOf<F, u8, String, Option<Vec<i32>>>) -> usize {
+    fn told(value: &RecordOf<u8, String, Option<Vec<i32>>>) -> usize {
         let numbers = match &value.third {
             Some(numbers) => numbers.len(),
             None => 0,
@@ -127,15 +131,19 @@ impl<F> Values<RecordOf<F, u8, String, Option<Vec<i32>>>> for Given {
     }
 }
 
-impl<F> Values<RecordOf<F, u8, String, Vec<i32>>> for Given {
-    fn values(
-        alloc: Global,
-        _size: usize,
-    ) -> Result<Vec<RecordOf<F, u8, String, Vec<i32>>>, Error> {
-        alone(alloc, RecordOf::new(42, hello(alloc)?, integers(alloc)?))
+impl Values<RecordOf<u8, String, Vec<i32>>> for Given {
+    fn values(alloc: Global, _size: usize) -> Result<Vec<RecordOf<u8, String, Vec<i32>>>, Error> {
+        alone(
+            alloc,
+            RecordOf {
+                first: 42,
+                second: hello(alloc)?,
+                third: integers(alloc)?,
+            },
+        )
     }
 
-    fn told(value: &RecordOf<F, u8, String, Vec<i32>>) -> usize {
+    fn told(value: &RecordOf<u8, String, Vec<i32>>) -> usize {
         value.second.as_str().len().wrapping_add(value.third.len())
     }
 }
@@ -194,15 +202,19 @@ fn row_numbers(alloc: Global, index: usize) -> Result<Vec<u32>, AllocError> {
     Ok(numbers)
 }
 
-impl<F> Elements<RecordOf<F, u64, String, Vec<u32>>> for Given {
+impl Elements<RecordOf<u64, String, Vec<u32>>> for Given {
     fn next(
         alloc: Global,
-        earlier: &[RecordOf<F, u64, String, Vec<u32>>],
+        earlier: &[RecordOf<u64, String, Vec<u32>>],
         _size: usize,
-    ) -> Result<RecordOf<F, u64, String, Vec<u32>>, Error> {
+    ) -> Result<RecordOf<u64, String, Vec<u32>>, Error> {
         let index = earlier.len();
         let id = (index as u64).wrapping_mul(7919);
-        Ok(RecordOf::new(id, name(alloc, index)?, row_numbers(alloc, index)?))
+        Ok(RecordOf {
+            first: id,
+            second: name(alloc, index)?,
+            third: row_numbers(alloc, index)?,
+        })
     }
 }
 

@@ -1,80 +1,198 @@
-//! A length in metres, whose slices are written in bulk.
-//!
-//! A type may be, if its values own nothing and each has the same bytes, at most 1,024, wherever
-//! it is archived.
-//!
-//! - `Copied` has the archived type, what a value means, its keys and its bytes. By its laws a
-//!   value owns nothing, and its bytes read as the value. By that of `CopiedSource` its keys and
-//!   meaning are those of its `Archive`.
-//! - In its `Archive`, `in_bulk` has those bytes, `copy_optimization` returns `enable()`, and
-//!   `serialize_copied` calls `copy_groups`. Other types have `None`, `disable()` and `Ok(None)`.
+//! A length in metres, of which slices are written in bulk.
 
-ghost use Rattle.std.specs.Prelude.{◌≡◌, ⊤, refl, [], pos, length, OnOk, IfErr, Some};
-ghost use Rattle.std.specs.Int.{w32};
-ghost use Rattle.archive_core.specs.Definitions.{no_definition};
-ghost use Rattle.archive_core.specs.LittleEndian.{little_bytes};
-ghost use Rattle.archive_core.specs.Shape.{leaf, number as number_kind, unsigned};
-ghost use Rattle.archive_core.specs.Value.{number};
-ghost use Rattle.archive_core.specs.Keyed.{number_keyed};
-ghost use Rattle.archive_core.specs.Planned.{leaf_planned};
-ghost use Rattle.archive_core.specs.PlannedOwners.{one_planned};
-ghost use Rattle.archive_core.specs.Writing.{ZeroedPlace};
-ghost use Rattle.archive_core.specs.CallOutcomes.{ResolvesAs};
-
-use archive_core::error::Error;
-use archive_core::place::Place;
-use archive_core::primitive::ArchivedU32;
-use archive_core::ser::{ResolverAlloc, Writer, serialize_one};
-use archive_core::slice::copy_groups;
-use archive_core::traits::{
-    Archive, ArchiveUnsized, Copied, CopiedSource, CopyOptimization, Keys, Portable, Serialize,
-    SerializeUnsized,
-};
-
-/// A length in metres. It is archived as its number is, and read back as that.
-#[derive(Clone, Copy, Drop)]
+/// A length in metres.
+#[derive(Clone, Copy, Debug, PartialEq, Drop)]
 pub struct Metres {
     /// The length, in metres.
     pub number: u32,
 }
 
-impl Archive for Metres {
-    type Archived = ArchivedU32;
+// Below this line all is written by tools/derive: change what is above it, and run it again.
 
-    type Resolver = ();
+ghost use Rattle.archive_core.specs.CallOutcomes.{ResolvesAs};
+ghost use Rattle.archive_core.specs.Definitions.{both, no_definition};
+ghost use Rattle.archive_core.specs.Fields.{field_in};
+ghost use Rattle.archive_core.specs.Keyed.{nothing_keyed, number_keyed, part_keyed, record_keyed};
+ghost use Rattle.archive_core.specs.LeafLayout.{no_definition_reached};
+ghost use Rattle.archive_core.specs.PartsPlanned.{no_part_planned, part_planned};
+ghost use Rattle.archive_core.specs.Plain.{plain_own_check, plain_record, plain_record_planned};
+ghost use Rattle.archive_core.specs.Planned.{leaf_planned};
+ghost use Rattle.archive_core.specs.PlannedOwners.{one_planned};
+ghost use Rattle.archive_core.specs.SealsWritten.{IsSealOf, SealsPart};
+ghost use Rattle.archive_core.specs.Seen.{IsPartOf, RefusesPart, ShowsValueOf};
+ghost use Rattle.archive_core.specs.Shape.{no_part, one, part, parts};
+ghost use Rattle.archive_core.specs.Sources.{Read};
+ghost use Rattle.archive_core.specs.Value.{no_value, product, value};
+ghost use Rattle.archive_core.specs.Writing.{ZeroedPlace};
+ghost use Rattle.std.proofs.Common.{inl, inr, lit≤};
+ghost use Rattle.std.specs.Prelude.{IfErr, IfOk, Some, [], length, refl, true, ◌++◌, ◌+◌, ◌≡◌};
 
-    ghost meaning = { λ m. number (pos m.number) };
+use archive_core::error::Error;
+use archive_core::fields::{copy_1, part_in_record, resolve_record_1, serialize_record_1};
+use archive_core::place::Place;
+use archive_core::primitive::ArchivedU32;
+use archive_core::record::deserialize_record;
+use archive_core::seal::{Seal, sealed_part_in_record};
+use archive_core::self_check::{RecordCheck, SelfCheck};
+use archive_core::ser::{ResolverAlloc, Writer, serialize_one};
+use archive_core::shape::{Defs, Expr};
+use archive_core::slice::copy_groups;
+use archive_core::traits::{
+    Archive, ArchivePointee, ArchiveUnsized, Copied, CopiedSource, CopyOptimization, Deserialize,
+    Entries, Keys, Portable, Record, Serialize, SerializeUnsized, expr_of_record,
+};
+use archive_core::validation::ArchiveContext;
+use archive_core::view::{RawView, Ref};
+use std::alloc::Global;
 
-    ghost flat = { λ m _. number (pos m.number) };
+/// An archived `Metres`: 4 bytes at a multiple of 4.
+pub struct ArchivedMetres;
 
-    ghost keys = { λ _. [] };
+type MetresParts = (ArchivedU32, ());
 
-    ghost belongs = { λ _ _. ⊤ };
+type MetresOwned = (u32, ());
 
-    ghost in_bulk = { Some (λ m. little_bytes 4 m.number) };
+impl ArchivePointee for ArchivedMetres {
+    type ArchivedMetadata = ();
 
-    ghost keyed = { λ m. number_keyed (pos m.number) };
+    ghost pointee = { one (parts (part ⟦<ArchivedU32 as Portable>⟧.shape no_part)) };
 
-    ghost planned = { λ m. leaf_planned no_definition (leaf (number_kind unsigned w32))
-        (number_kind unsigned w32) [] (pos m.number) refl };
+    ghost definitions = { no_definition };
 
-    #[inline(always)]
-    fn resolve(&self, _resolver: (), place: Place<'_, ArchivedU32>) -> Result<(), Error>
-        requires zeroed { ZeroedPlace 4 place.pos place.bytes.now }
-        requires same_value { ⊤ }
-        ensures { ResolvesAs ⟦<Self::Archived as Portable>⟧ place
-            (⟦<Self as Archive>⟧.flat self.now _resolver) result }
-    {
-        let Place { bytes, pos, .. } = place;
-        self.number.resolve((), Place::new(pos, bytes))
+    ghost metadata_length = { λ _. 0 };
+
+    fn pointer_metadata(_metadata: &()) -> usize {
+        0
+    }
+}
+
+impl Portable for ArchivedMetres {
+    ghost shape = { parts (part ⟦<ArchivedU32 as Portable>⟧.shape no_part) };
+
+    ghost layout = { record { size = 4; align = 4 } };
+
+    type Check = ArchivedMetres;
+
+    ghost is_one = { refl };
+
+    ghost is_align = { inr (inr (inl refl)) };
+
+    ghost has_layout = { record { solved = λ s k. refl } };
+
+    ghost no_others = { no_definition_reached (parts (part ⟦<ArchivedU32 as Portable>⟧.shape
+        no_part)) };
+
+    ghost checks = { λ _. plain_own_check _ _ _ _ _ refl refl refl refl };
+
+    fn size() -> usize {
+        4
     }
 
-    fn copy_optimization() -> CopyOptimization<Metres> {
+    fn align() -> usize {
+        4
+    }
+
+    fn expr(alloc: Global) -> Result<Expr, Error> {
+        expr_of_record::<MetresParts>(alloc)
+    }
+
+    fn define(_alloc: Global, _defs: &mut Defs) -> Result<(), Error> {
+        Ok(())
+    }
+}
+
+impl SelfCheck for ArchivedMetres {
+    ghost shape = { parts (part ⟦<ArchivedU32 as Portable>⟧.shape no_part) };
+
+    ghost definitions = { (both no_definition no_definition) };
+
+    ghost span = { 4 };
+
+    ghost direct = { true };
+
+    ghost nameless = { true };
+
+    fn is_direct() -> bool {
+        true
+    }
+
+    fn is_nameless() -> bool {
+        true
+    }
+
+    #[inline(always)]
+    fn check_at<C: ArchiveContext>(
+        bytes: &[u8],
+        at: usize,
+        refusal: &mut Error,
+        context: &mut C,
+    ) -> Option<()> {
+        RecordCheck::<MetresParts>::check_at(bytes, at, refusal, context)
+    }
+}
+
+impl Record for ArchivedMetres {
+    type Parts = MetresParts;
+
+    ghost has_parts = { plain_record (part ⟦<ArchivedU32 as Portable>⟧.shape no_part)
+        (both no_definition no_definition) refl };
+
+    ghost holds = { lit≤ tt };
+}
+
+/// What is kept of `Metres` from its serialization until it is resolved.
+#[derive(Drop)]
+pub struct MetresResolver {
+    kept: (<u32 as Archive>::Resolver, ()),
+}
+
+impl Archive for Metres {
+    type Archived = ArchivedMetres;
+
+    type Resolver = MetresResolver;
+
+    ghost meaning = { λ v. product (value (⟦<u32 as Archive>⟧.meaning v.number) no_value) };
+
+    ghost flat = { λ v r. product (value (⟦<u32 as Archive>⟧.flat v.number r.kept.0) no_value) };
+
+    ghost keys = { λ v. ⟦<u32 as Archive>⟧.keys v.number ++ [] };
+
+    ghost belongs = { λ v r. ⟦<u32 as Archive>⟧.belongs v.number r.kept.0 × Unit {0} };
+
+    ghost in_bulk = { Some (λ v. ⟦<u32 as Copied>⟧.copied_bytes v.number ++ []) };
+
+    ghost keyed = { λ v. record_keyed (part_keyed (number_keyed _) nothing_keyed) };
+
+    ghost planned = { λ v. plain_record_planned (both no_definition no_definition)
+        (part ⟦<ArchivedU32 as Portable>⟧.shape no_part) _ _
+        (part_planned no_definition ⟦<ArchivedU32 as Portable>⟧.shape
+        (⟦<u32 as Archive>⟧.keys v.number) (⟦<u32 as Archive>⟧.meaning v.number)
+        (leaf_planned no_definition _ _ [] _ refl) no_part_planned) refl };
+
+    #[inline(always)]
+    fn resolve(
+        &self,
+        resolver: Self::Resolver,
+        place: Place<'_, Self::Archived>,
+    ) -> Result<(), Error>
+        requires zeroed { ZeroedPlace 4 place.pos place.bytes.now }
+        requires same_value { ⟦<Self as Archive>⟧.belongs self.now resolver }
+        ensures { ResolvesAs ⟦<Self::Archived as Portable>⟧ place
+            (⟦<Self as Archive>⟧.flat self.now resolver) result }
+    {
+        let Place { bytes, pos, .. } = place;
+        let MetresResolver { kept } = resolver;
+        resolve_record_1::<u32, ArchivedMetres>(&self.number, kept, Place::new(pos, bytes))
+    }
+
+    #[inline(always)]
+    fn copy_optimization() -> CopyOptimization<Self> {
         CopyOptimization::enable()
     }
 
+    #[inline(always)]
     fn serialize_copied<S: Writer + Keys>(
-        values: &[Metres],
+        values: &[Self],
         together: usize,
         serializer: &mut S,
     ) -> Result<Option<usize>, Error> {
@@ -82,21 +200,24 @@ impl Archive for Metres {
     }
 }
 
+/// Slices of it are written in bulk.
 impl Copied for Metres {
-    type CopiedAs = ArchivedU32;
+    type CopiedAs = ArchivedMetres;
 
     ghost copied_keys = { λ _. [] };
 
-    ghost copied_meaning = { λ m. number (pos m.number) };
+    ghost copied_meaning = { λ v. product (value (⟦<u32 as Archive>⟧.meaning v.number) no_value) };
 
-    ghost copied_bytes = { λ m. little_bytes 4 m.number };
+    ghost copied_bytes = { λ v. ⟦<u32 as Copied>⟧.copied_bytes v.number ++ [] };
 
+    #[inline(always)]
     fn copied_size() -> usize {
         4
     }
 
+    #[inline(always)]
     fn copy_one(&self, bytes: &mut [u8]) {
-        self.number.copy_one(bytes);
+        copy_1(&self.number, bytes);
     }
 }
 
@@ -106,16 +227,21 @@ impl CopiedSource for Metres {
     ghost same_meaning = { refl };
 }
 
-impl<S: Writer + Keys> Serialize<S> for Metres {
+impl<S: Writer + ResolverAlloc> Serialize<S> for Metres {
     #[inline(always)]
-    fn serialize(&self, serializer: &mut S) -> Result<(), Error> {
-        self.number.serialize(serializer)
+    fn serialize(&self, serializer: &mut S) -> Result<Self::Resolver, Error> {
+        match serialize_record_1::<u32, ArchivedMetres, S>(&self.number, serializer) {
+            Ok(kept) => Ok(MetresResolver { kept }),
+            Err(error) => Err(error),
+        }
     }
 }
 
-/// As a region of its own.
+/// As a region of its own: the value itself.
 impl ArchiveUnsized for Metres {
-    type Archived = ArchivedU32;
+    ghost use Rattle.own_types.specs.contracts.metres.MetresArchive.TheImpl.Laws.{keyed-law as keyed_of_metres, planned-law as planned_of_metres};
+
+    type Archived = ArchivedMetres;
 
     ghost source_length = { λ _. 0 };
 
@@ -123,20 +249,82 @@ impl ArchiveUnsized for Metres {
 
     ghost keys = { ⟦<Metres as Archive>⟧.keys };
 
-    ghost keyed = { λ m. number_keyed (pos m.number) };
+    ghost keyed = { keyed_of_metres };
 
     ghost one_length = { λ _ _. refl };
 
-    ghost planned = { λ m. one_planned _ _ [] _ (leaf_planned no_definition
-        (leaf (number_kind unsigned w32)) (number_kind unsigned w32) [] (pos m.number) refl) };
+    ghost planned = { λ v. one_planned no_definition (parts
+        (part ⟦<ArchivedU32 as Portable>⟧.shape no_part)) (⟦<Metres as Archive>⟧.keys v)
+        (⟦<Metres as Archive>⟧.meaning v) (planned_of_metres v) };
 
+    #[inline(always)]
     fn archived_metadata(&self) -> Result<(), Error> {
         Ok(())
     }
 }
 
 impl<S: Writer + ResolverAlloc> SerializeUnsized<S> for Metres {
+    #[inline(always)]
     fn serialize_unsized(&self, serializer: &mut S) -> Result<usize, Error> {
         serialize_one(self, serializer)
+    }
+}
+
+impl<D: Entries> Deserialize<Metres, D> for ArchivedMetres {
+    #[inline(always)]
+    fn deserialize_part(
+        alloc: Global,
+        part: RawView<'_>,
+        deserializer: &mut D,
+    ) -> Result<Metres, Error>
+        requires { IsPartOf ⟦<Self as ArchivePointee>⟧ part }
+        ensures read { IfOk result (Read ⟦<Self as ArchivePointee>⟧ part D.Entries deserializer
+            ⟦<Metres as Archive>⟧) }
+        ensures refused { IfErr result (RefusesPart ⟦<Self as ArchivePointee>⟧ part D.Entries
+            deserializer) }
+    {
+        match deserialize_record::<Self, MetresOwned, D>(alloc, part, deserializer) {
+            Ok((a0, ())) => Ok(Metres { number: a0 }),
+            Err(error) => Err(error),
+        }
+    }
+}
+
+/// The fields of an archived `Metres`, where they lie.
+pub trait MetresView<'a> {
+    /// The length, in metres.
+    fn number(self) -> Ref<'a, ArchivedU32>;
+}
+
+impl<'a> MetresView<'a> for Ref<'a, ArchivedMetres> {
+    fn number(self) -> Ref<'a, ArchivedU32>
+        ensures buffer { result.bytes.now ≡ self.entry.bytes.now }
+        ensures position { result.pos ≡ self.entry.pos + 0 }
+        ensures length { result.len ≡ 0 }
+        ensures shows { ShowsValueOf result self.entry (field_in 0) }
+    {
+        part_in_record::<ArchivedMetres, ArchivedU32>(self, 0, 0)
+    }
+}
+
+/// The fields of an archived `Metres`, sealed where they lie.
+pub trait MetresSeal<'a> {
+    // The seal shows a part of a buffer that was checked.
+    ghost sealed: { Self → Type 0 };
+
+    /// The length, in metres.
+    fn number_mut(self) -> Seal<'a, ArchivedU32>
+        requires { sealed self };
+}
+
+impl<'a> MetresSeal<'a> for Seal<'a, ArchivedMetres> {
+    ghost sealed = { λ s. IsSealOf no_definition (one ⟦<ArchivedMetres as Portable>⟧.shape) s };
+
+    fn number_mut(self) -> Seal<'a, ArchivedU32>
+        requires come_to { IsSealOf no_definition (one ⟦<ArchivedMetres as Portable>⟧.shape) self }
+        ensures { SealsPart no_definition (one ⟦<ArchivedMetres as Portable>⟧.shape) no_definition
+            ⟦<ArchivedU32 as ArchivePointee>⟧.pointee (self.entry.pos + 0) 0 self.entry result }
+    {
+        sealed_part_in_record::<ArchivedMetres, ArchivedU32>(self, 0, 0)
     }
 }

@@ -1,118 +1,226 @@
-//! A record of three fields: an own type with a name.
+//! A record of three fields.
 
-ghost use Rattle.std.specs.Prelude.{◌≡◌, codes, length, refl, OnOk, IfErr, None};
-ghost use Rattle.archive_core.specs.PartsLayout.{is_named_record};
-ghost use Rattle.archive_core.specs.SelfCheck.Laws.{by_schema};
-ghost use Rattle.archive_core.specs.Value.{product};
-ghost use Rattle.archive_core.specs.Keyed.{nothing_keyed, part_keyed, record_keyed};
-ghost use Rattle.archive_core.specs.PartsPlanned.{no_part_planned, part_planned, record_planned};
-ghost use Rattle.archive_core.specs.PlannedOwners.{one_planned};
-ghost use Rattle.archive_core.specs.Writing.{ZeroedPlace};
+/// A number, a text, and perhaps a list of numbers.
+#[derive(Debug, PartialEq, Drop)]
+pub struct Test {
+    /// The number.
+    pub number: u8,
+    /// The text.
+    pub text: String,
+    /// The list.
+    pub list: Option<Vec<i32>>,
+}
+
+// Below this line all is written by tools/derive: change what is above it, and run it again.
+
 ghost use Rattle.archive_core.specs.CallOutcomes.{ResolvesAs};
+ghost use Rattle.archive_core.specs.Definitions.{both, no_definition};
+ghost use Rattle.archive_core.specs.Fields.{field_in};
+ghost use Rattle.archive_core.specs.Keyed.{each_keyed, nothing_keyed, number_keyed, part_keyed, record_keyed, text_keyed};
+ghost use Rattle.archive_core.specs.LeafLayout.{no_definition_reached};
+ghost use Rattle.archive_core.specs.Options.{option_keyed, option_planned};
+ghost use Rattle.archive_core.specs.PartsPlanned.{no_part_planned, part_planned};
+ghost use Rattle.archive_core.specs.Plain.{plain_own_check, plain_record, plain_record_planned};
+ghost use Rattle.archive_core.specs.Planned.{leaf_planned, string_planned};
+ghost use Rattle.archive_core.specs.PlannedOwners.{one_planned, slice_planned, vec_planned};
+ghost use Rattle.archive_core.specs.SealsWritten.{IsSealOf, SealsPart};
+ghost use Rattle.archive_core.specs.Seen.{IsPartOf, RefusesPart, ShowsValueOf};
+ghost use Rattle.archive_core.specs.Shape.{no_part, one, part, parts};
+ghost use Rattle.archive_core.specs.Sources.{Read};
+ghost use Rattle.archive_core.specs.Value.{no_value, product, value};
+ghost use Rattle.archive_core.specs.Writing.{ZeroedPlace};
+ghost use Rattle.std.proofs.Common.{inl, inr, lit≤};
+ghost use Rattle.std.specs.Prelude.{IfErr, IfOk, None, [], length, refl, string_bytes, true, ◌++◌, ◌+◌, ◌≡◌};
 
 use archive_core::error::Error;
+use archive_core::fields::{part_in_record, resolve_record_3, serialize_record_3};
 use archive_core::option::ArchivedOption;
-use archive_core::own::{ArchivedRecord, Field, FromParts, HasField, NamedRecord};
-use archive_core::parts::SourceParts;
 use archive_core::place::Place;
 use archive_core::primitive::ArchivedI32;
-use archive_core::record::{resolve_record, serialize_record};
-use archive_core::self_check::BySchema;
+use archive_core::record::deserialize_record;
+use archive_core::seal::{Seal, sealed_part_in_record};
+use archive_core::self_check::{RecordCheck, SelfCheck};
 use archive_core::ser::{ResolverAlloc, Writer, serialize_one};
+use archive_core::shape::{Defs, Expr};
 use archive_core::string::ArchivedString;
 use archive_core::traits::{
-    Archive, ArchiveUnsized, CopyOptimization, Keys, Portable, Serialize, SerializeUnsized,
+    Archive, ArchivePointee, ArchiveUnsized, CopyOptimization, Deserialize, Entries, Keys,
+    Portable, Record, Serialize, SerializeUnsized, expr_of_record,
 };
+use archive_core::validation::ArchiveContext;
 use archive_core::vec::ArchivedVec;
-use std::marker::PhantomData;
+use archive_core::view::{RawView, Ref};
+use std::alloc::Global;
 
-/// A number, a text, and perhaps a list of numbers. The fields' types are parameters, so that its impls are proved for all types at once.
-#[derive(Debug, PartialEq, Drop)]
-pub struct TestOf<A, B, C> {
-    /// The number, the field with the index 0.
-    pub number: A,
-    /// The text, the field with the index 1.
-    pub text: B,
-    /// The list, the field with the index 2.
-    pub list: C,
-}
+/// An archived `Test`: 24 bytes at a multiple of 4.
+pub struct ArchivedTest;
 
-/// The record of a `u8`, a text, and perhaps a list of `i32`.
-pub type Test = TestOf<u8, String, Option<Vec<i32>>>;
+type TestParts = (
+    u8,
+    (
+        ArchivedString,
+        (ArchivedOption<ArchivedVec<ArchivedI32>>, ()),
+    ),
+);
 
-/// An archived `Test`: the record `ArchivedTest`, of 24 bytes at a multiple of four.
-pub type ArchivedTest = ArchivedRecord<TestFormat<u8, ArchivedString, Numbers>>;
+type TestOwned = (u8, (String, (Option<Vec<i32>>, ())));
 
-/// The archived list.
-pub type Numbers = ArchivedOption<ArchivedVec<ArchivedI32>>;
+impl ArchivePointee for ArchivedTest {
+    type ArchivedMetadata = ();
 
-/// The name and the parts of `ArchivedTest`.
-pub struct TestFormat<A, B, C> {
-    of: PhantomData<(A, B, C)>,
-}
+    ghost pointee = { one (parts (part ⟦<u8 as Portable>⟧.shape
+        (part ⟦<ArchivedString as Portable>⟧.shape (part
+        ⟦<ArchivedOption<ArchivedVec<ArchivedI32>> as Portable>⟧.shape no_part)))) };
 
-impl<A: Portable, B: Portable, C: Portable> NamedRecord for TestFormat<A, B, C> {
-    type Parts = (A, (B, (C, ())));
+    ghost definitions = { no_definition };
 
-    type Check = BySchema;
+    ghost metadata_length = { λ _. 0 };
 
-    ghost name = { codes "ArchivedTest" };
-
-    ghost checks = { λ direct. by_schema direct };
-
-    fn name() -> &'static str {
-        "ArchivedTest"
+    fn pointer_metadata(_metadata: &()) -> usize {
+        0
     }
 }
 
-impl<A, B, C> HasField<0, A> for TestOf<A, B, C> {
-    ghost field = { λ v. v.number };
+impl Portable for ArchivedTest {
+    ghost shape = { parts (part ⟦<u8 as Portable>⟧.shape
+        (part ⟦<ArchivedString as Portable>⟧.shape (part
+        ⟦<ArchivedOption<ArchivedVec<ArchivedI32>> as Portable>⟧.shape no_part))) };
 
-    fn field(&self) -> &A {
-        &self.number
+    ghost layout = { record { size = 24; align = 4 } };
+
+    type Check = ArchivedTest;
+
+    ghost is_one = { refl };
+
+    ghost is_align = { inr (inr (inl refl)) };
+
+    ghost has_layout = { record { solved = λ s k. refl } };
+
+    ghost no_others = { no_definition_reached (parts (part ⟦<u8 as Portable>⟧.shape
+        (part ⟦<ArchivedString as Portable>⟧.shape (part
+        ⟦<ArchivedOption<ArchivedVec<ArchivedI32>> as Portable>⟧.shape no_part)))) };
+
+    ghost checks = { λ _. plain_own_check _ _ _ _ _ refl refl refl refl };
+
+    fn size() -> usize {
+        24
+    }
+
+    fn align() -> usize {
+        4
+    }
+
+    fn expr(alloc: Global) -> Result<Expr, Error> {
+        expr_of_record::<TestParts>(alloc)
+    }
+
+    fn define(_alloc: Global, _defs: &mut Defs) -> Result<(), Error> {
+        Ok(())
     }
 }
 
-impl<A, B, C> HasField<1, B> for TestOf<A, B, C> {
-    ghost field = { λ v. v.text };
+impl SelfCheck for ArchivedTest {
+    ghost shape = { parts (part ⟦<u8 as Portable>⟧.shape
+        (part ⟦<ArchivedString as Portable>⟧.shape (part
+        ⟦<ArchivedOption<ArchivedVec<ArchivedI32>> as Portable>⟧.shape no_part))) };
 
-    fn field(&self) -> &B {
-        &self.text
+    ghost definitions = { (both no_definition (both no_definition
+        (both no_definition no_definition))) };
+
+    ghost span = { 24 };
+
+    ghost direct = { true };
+
+    ghost nameless = { true };
+
+    fn is_direct() -> bool {
+        true
+    }
+
+    fn is_nameless() -> bool {
+        true
+    }
+
+    #[inline(always)]
+    fn check_at<C: ArchiveContext>(
+        bytes: &[u8],
+        at: usize,
+        refusal: &mut Error,
+        context: &mut C,
+    ) -> Option<()> {
+        RecordCheck::<TestParts>::check_at(bytes, at, refusal, context)
     }
 }
 
-impl<A, B, C> HasField<2, C> for TestOf<A, B, C> {
-    ghost field = { λ v. v.list };
+impl Record for ArchivedTest {
+    type Parts = TestParts;
 
-    fn field(&self) -> &C {
-        &self.list
-    }
+    ghost has_parts = { plain_record (part ⟦<u8 as Portable>⟧.shape
+        (part ⟦<ArchivedString as Portable>⟧.shape (part
+        ⟦<ArchivedOption<ArchivedVec<ArchivedI32>> as Portable>⟧.shape no_part)))
+        (both no_definition (both no_definition (both no_definition no_definition))) refl };
+
+    ghost holds = { lit≤ tt };
 }
 
-// Its parts as sources.
-type Parts<A, B, C> = (Field<0, A>, (Field<1, B>, (Field<2, C>, ())));
+/// What is kept of `Test` from its serialization until it is resolved.
+#[derive(Drop)]
+pub struct TestResolver {
+    kept: (
+        <u8 as Archive>::Resolver,
+        (
+            <String as Archive>::Resolver,
+            (<Option<Vec<i32>> as Archive>::Resolver, ()),
+        ),
+    ),
+}
 
-impl<A: Archive, B: Archive, C: Archive> Archive for TestOf<A, B, C> {
-    type Archived = ArchivedRecord<TestFormat<A::Archived, B::Archived, C::Archived>>;
+impl Archive for Test {
+    type Archived = ArchivedTest;
 
-    type Resolver = <Parts<A, B, C> as SourceParts<Self>>::Resolvers;
+    type Resolver = TestResolver;
 
-    ghost meaning = { λ v. product (⟦<Parts<A, B, C> as SourceParts<Self>>⟧.meanings v) };
+    ghost meaning = { λ v. product (value (⟦<u8 as Archive>⟧.meaning v.number)
+        (value (⟦<String as Archive>⟧.meaning v.text) (value
+        (⟦<Option<Vec<i32>> as Archive>⟧.meaning v.list) no_value))) };
 
-    ghost flat = { λ v r. product (⟦<Parts<A, B, C> as SourceParts<Self>>⟧.flats v r) };
+    ghost flat = { λ v r. product (value (⟦<u8 as Archive>⟧.flat v.number r.kept.0)
+        (value (⟦<String as Archive>⟧.flat v.text r.kept.1.0)
+        (value (⟦<Option<Vec<i32>> as Archive>⟧.flat v.list r.kept.1.1.0) no_value))) };
 
-    ghost keys = { λ v. ⟦<Parts<A, B, C> as SourceParts<Self>>⟧.keys v };
+    ghost keys = { λ v. ⟦<u8 as Archive>⟧.keys v.number
+        ++ (⟦<String as Archive>⟧.keys v.text ++ (⟦<Option<Vec<i32>> as Archive>⟧.keys v.list
+        ++ [])) };
 
-    ghost belongs = { λ v r. ⟦<Parts<A, B, C> as SourceParts<Self>>⟧.belongs v r };
+    ghost belongs = { λ v r. ⟦<u8 as Archive>⟧.belongs v.number r.kept.0
+        × (⟦<String as Archive>⟧.belongs v.text r.kept.1.0
+        × (⟦<Option<Vec<i32>> as Archive>⟧.belongs v.list r.kept.1.1.0 × Unit {0})) };
 
     ghost in_bulk = { None };
 
-    ghost keyed = { λ v. record_keyed (part_keyed (A.keyed v.number)
-        (part_keyed (B.keyed v.text) (part_keyed (C.keyed v.list) nothing_keyed))) };
+    ghost keyed = { λ v. record_keyed (part_keyed (number_keyed _)
+        (part_keyed (text_keyed (string_bytes v.text)) (part_keyed
+        (option_keyed ⟦<Vec<i32> as Archive>⟧.keys ⟦<Vec<i32> as Archive>⟧.meaning
+        (λ x. each_keyed ⟦<i32 as Archive>⟧.keys ⟦<i32 as Archive>⟧.meaning (λ x. number_keyed _)
+        x.items) v.list) nothing_keyed))) };
 
-    ghost planned = { λ v. record_planned _ _ _ _ _ _ (is_named_record _ _ _)
-        (part_planned _ _ _ _ (A.planned v.number) (part_planned _ _ _ _ (B.planned v.text)
-        (part_planned _ _ _ _ (C.planned v.list) no_part_planned))) };
+    ghost planned = { λ v. plain_record_planned (both no_definition
+        (both no_definition (both no_definition no_definition)))
+        (part ⟦<u8 as Portable>⟧.shape (part ⟦<ArchivedString as Portable>⟧.shape
+        (part ⟦<ArchivedOption<ArchivedVec<ArchivedI32>> as Portable>⟧.shape no_part))) _ _
+        (part_planned no_definition ⟦<u8 as Portable>⟧.shape (⟦<u8 as Archive>⟧.keys v.number)
+        (⟦<u8 as Archive>⟧.meaning v.number) (leaf_planned no_definition _ _ [] _ refl)
+        (part_planned no_definition ⟦<ArchivedString as Portable>⟧.shape
+        (⟦<String as Archive>⟧.keys v.text) (⟦<String as Archive>⟧.meaning v.text)
+        (string_planned no_definition [] (string_bytes v.text))
+        (part_planned no_definition ⟦<ArchivedOption<ArchivedVec<ArchivedI32>> as Portable>⟧.shape
+        (⟦<Option<Vec<i32>> as Archive>⟧.keys v.list) (⟦<Option<Vec<i32>> as Archive>⟧.meaning
+        v.list) (option_planned no_definition ⟦<ArchivedVec<ArchivedI32> as Portable>⟧.shape
+        ⟦<Vec<i32> as Archive>⟧.keys ⟦<Vec<i32> as Archive>⟧.meaning
+        (λ x. vec_planned no_definition ⟦<ArchivedI32 as Portable>⟧.shape _ _ _
+        (slice_planned no_definition ⟦<ArchivedI32 as Portable>⟧.shape ⟦<i32 as Archive>⟧.keys
+        ⟦<i32 as Archive>⟧.meaning (λ x. leaf_planned no_definition _ _ [] _ refl) x.items)) v.list)
+        no_part_planned))) refl };
 
     #[inline(always)]
     fn resolve(
@@ -120,16 +228,18 @@ impl<A: Archive, B: Archive, C: Archive> Archive for TestOf<A, B, C> {
         resolver: Self::Resolver,
         place: Place<'_, Self::Archived>,
     ) -> Result<(), Error>
-        requires zeroed { ZeroedPlace ⟦<Self::Archived as Portable>⟧.layout.size place.pos
-            place.bytes.now }
+        requires zeroed { ZeroedPlace 24 place.pos place.bytes.now }
         requires same_value { ⟦<Self as Archive>⟧.belongs self.now resolver }
         ensures { ResolvesAs ⟦<Self::Archived as Portable>⟧ place
             (⟦<Self as Archive>⟧.flat self.now resolver) result }
     {
         let Place { bytes, pos, .. } = place;
-        resolve_record::<Self, Parts<A, B, C>, Self::Archived>(
-            self,
-            resolver,
+        let TestResolver { kept } = resolver;
+        resolve_record_3::<u8, String, Option<Vec<i32>>, ArchivedTest>(
+            &self.number,
+            &self.text,
+            &self.list,
+            kept,
             Place::new(pos, bytes),
         )
     }
@@ -149,50 +259,163 @@ impl<A: Archive, B: Archive, C: Archive> Archive for TestOf<A, B, C> {
     }
 }
 
-impl<S: Writer + Keys, A: Serialize<S>, B: Serialize<S>, C: Serialize<S>> Serialize<S>
-    for TestOf<A, B, C> {
+impl<S: Writer + ResolverAlloc> Serialize<S> for Test {
     #[inline(always)]
     fn serialize(&self, serializer: &mut S) -> Result<Self::Resolver, Error> {
-        serialize_record::<Self, Parts<A, B, C>, Self::Archived, S>(self, serializer)
+        match serialize_record_3::<u8, String, Option<Vec<i32>>, ArchivedTest, S>(
+            &self.number,
+            &self.text,
+            &self.list,
+            serializer,
+        ) {
+            Ok(kept) => Ok(TestResolver { kept }),
+            Err(error) => Err(error),
+        }
     }
 }
 
-/// As a region of its own.
-impl<A: Archive, B: Archive, C: Archive> ArchiveUnsized for TestOf<A, B, C> {
-    type Archived = ArchivedRecord<TestFormat<A::Archived, B::Archived, C::Archived>>;
+/// As a region of its own: the value itself.
+impl ArchiveUnsized for Test {
+    ghost use Rattle.own_types.specs.contracts.test_record.TestArchive.TheImpl.Laws.{keyed-law as keyed_of_test, planned-law as planned_of_test};
+
+    type Archived = ArchivedTest;
 
     ghost source_length = { λ _. 0 };
 
-    ghost meaning = { ⟦<TestOf<A, B, C> as Archive>⟧.meaning };
+    ghost meaning = { ⟦<Test as Archive>⟧.meaning };
 
-    ghost keys = { ⟦<TestOf<A, B, C> as Archive>⟧.keys };
+    ghost keys = { ⟦<Test as Archive>⟧.keys };
 
-    ghost keyed = { λ v. record_keyed (part_keyed (A.keyed v.number)
-        (part_keyed (B.keyed v.text) (part_keyed (C.keyed v.list) nothing_keyed))) };
+    ghost keyed = { keyed_of_test };
 
     ghost one_length = { λ _ _. refl };
 
-    ghost planned = { λ v. one_planned _ _ _ _ (record_planned _ _ _ _ _ _ (is_named_record _ _ _)
-        (part_planned _ _ _ _ (A.planned v.number) (part_planned _ _ _ _ (B.planned v.text)
-        (part_planned _ _ _ _ (C.planned v.list) no_part_planned)))) };
+    ghost planned = { λ v. one_planned no_definition (parts
+        (part ⟦<u8 as Portable>⟧.shape (part ⟦<ArchivedString as Portable>⟧.shape
+        (part ⟦<ArchivedOption<ArchivedVec<ArchivedI32>> as Portable>⟧.shape no_part))))
+        (⟦<Test as Archive>⟧.keys v) (⟦<Test as Archive>⟧.meaning v) (planned_of_test v) };
 
+    #[inline(always)]
     fn archived_metadata(&self) -> Result<(), Error> {
         Ok(())
     }
 }
 
-impl<S: Writer + ResolverAlloc, A: Serialize<S>, B: Serialize<S>, C: Serialize<S>> SerializeUnsized<
-    S,
-> for TestOf<A, B, C> {
+impl<S: Writer + ResolverAlloc> SerializeUnsized<S> for Test {
+    #[inline(always)]
     fn serialize_unsized(&self, serializer: &mut S) -> Result<usize, Error> {
         serialize_one(self, serializer)
     }
 }
 
-impl<A: Archive, B: Archive, C: Archive> FromParts for TestOf<A, B, C> {
-    type Owned = (A, (B, (C, ())));
+impl<D: Entries> Deserialize<Test, D> for ArchivedTest {
+    #[inline(always)]
+    fn deserialize_part(
+        alloc: Global,
+        part: RawView<'_>,
+        deserializer: &mut D,
+    ) -> Result<Test, Error>
+        requires { IsPartOf ⟦<Self as ArchivePointee>⟧ part }
+        ensures read { IfOk result (Read ⟦<Self as ArchivePointee>⟧ part D.Entries deserializer
+            ⟦<Test as Archive>⟧) }
+        ensures refused { IfErr result (RefusesPart ⟦<Self as ArchivePointee>⟧ part D.Entries
+            deserializer) }
+    {
+        match deserialize_record::<Self, TestOwned, D>(alloc, part, deserializer) {
+            Ok((a0, (a1, (a2, ())))) => Ok(Test {
+                number: a0,
+                text: a1,
+                list: a2,
+            }),
+            Err(error) => Err(error),
+        }
+    }
+}
 
-    fn from_parts((number, (text, (list, ()))): Self::Owned) -> Self {
-        TestOf { number, text, list }
+/// The fields of an archived `Test`, where they lie.
+pub trait TestView<'a> {
+    /// The number.
+    fn number(self) -> Ref<'a, u8>;
+
+    /// The text.
+    fn text(self) -> Ref<'a, ArchivedString>;
+
+    /// The list.
+    fn list(self) -> Ref<'a, ArchivedOption<ArchivedVec<ArchivedI32>>>;
+}
+
+impl<'a> TestView<'a> for Ref<'a, ArchivedTest> {
+    fn number(self) -> Ref<'a, u8>
+        ensures buffer { result.bytes.now ≡ self.entry.bytes.now }
+        ensures position { result.pos ≡ self.entry.pos + 0 }
+        ensures length { result.len ≡ 0 }
+        ensures shows { ShowsValueOf result self.entry (field_in 0) }
+    {
+        part_in_record::<ArchivedTest, u8>(self, 0, 0)
+    }
+
+    fn text(self) -> Ref<'a, ArchivedString>
+        ensures buffer { result.bytes.now ≡ self.entry.bytes.now }
+        ensures position { result.pos ≡ self.entry.pos + 4 }
+        ensures length { result.len ≡ 0 }
+        ensures shows { ShowsValueOf result self.entry (field_in 1) }
+    {
+        part_in_record::<ArchivedTest, ArchivedString>(self, 1, 4)
+    }
+
+    fn list(self) -> Ref<'a, ArchivedOption<ArchivedVec<ArchivedI32>>>
+        ensures buffer { result.bytes.now ≡ self.entry.bytes.now }
+        ensures position { result.pos ≡ self.entry.pos + 12 }
+        ensures length { result.len ≡ 0 }
+        ensures shows { ShowsValueOf result self.entry (field_in 2) }
+    {
+        part_in_record::<ArchivedTest, ArchivedOption<ArchivedVec<ArchivedI32>>>(self, 2, 12)
+    }
+}
+
+/// The fields of an archived `Test`, sealed where they lie.
+pub trait TestSeal<'a> {
+    // The seal shows a part of a buffer that was checked.
+    ghost sealed: { Self → Type 0 };
+
+    /// The number.
+    fn number_mut(self) -> Seal<'a, u8>
+        requires { sealed self };
+
+    /// The text.
+    fn text_mut(self) -> Seal<'a, ArchivedString>
+        requires { sealed self };
+
+    /// The list.
+    fn list_mut(self) -> Seal<'a, ArchivedOption<ArchivedVec<ArchivedI32>>>
+        requires { sealed self };
+}
+
+impl<'a> TestSeal<'a> for Seal<'a, ArchivedTest> {
+    ghost sealed = { λ s. IsSealOf no_definition (one ⟦<ArchivedTest as Portable>⟧.shape) s };
+
+    fn number_mut(self) -> Seal<'a, u8>
+        requires come_to { IsSealOf no_definition (one ⟦<ArchivedTest as Portable>⟧.shape) self }
+        ensures { SealsPart no_definition (one ⟦<ArchivedTest as Portable>⟧.shape) no_definition
+            ⟦<u8 as ArchivePointee>⟧.pointee (self.entry.pos + 0) 0 self.entry result }
+    {
+        sealed_part_in_record::<ArchivedTest, u8>(self, 0, 0)
+    }
+
+    fn text_mut(self) -> Seal<'a, ArchivedString>
+        requires come_to { IsSealOf no_definition (one ⟦<ArchivedTest as Portable>⟧.shape) self }
+        ensures { SealsPart no_definition (one ⟦<ArchivedTest as Portable>⟧.shape) no_definition
+            ⟦<ArchivedString as ArchivePointee>⟧.pointee (self.entry.pos + 4) 0 self.entry result }
+    {
+        sealed_part_in_record::<ArchivedTest, ArchivedString>(self, 1, 4)
+    }
+
+    fn list_mut(self) -> Seal<'a, ArchivedOption<ArchivedVec<ArchivedI32>>>
+        requires come_to { IsSealOf no_definition (one ⟦<ArchivedTest as Portable>⟧.shape) self }
+        ensures { SealsPart no_definition (one ⟦<ArchivedTest as Portable>⟧.shape) no_definition
+            ⟦<ArchivedOption<ArchivedVec<ArchivedI32>> as ArchivePointee>⟧.pointee
+            (self.entry.pos + 12) 0 self.entry result }
+    {
+        sealed_part_in_record::<ArchivedTest, ArchivedOption<ArchivedVec<ArchivedI32>>>(self, 2, 12)
     }
 }

@@ -12,7 +12,7 @@ use archive_core::string::ArchivedString;
 use archive_core::traits::{
     Archive, Deserialize, Entries, MapKey, Portable, PortablePointee, Serialize,
 };
-use own_types::test_record::{ArchivedTest, Test, TestOf};
+use own_types::test_record::{ArchivedTest, Test};
 use std::alloc::Global;
 use std::collections::BTreeMap;
 use std::fmt;
@@ -127,7 +127,7 @@ const BEFORE_A_TEXT: &[u8] = b"\xaa\xbb\xcc";
 const TEXT: &[u8] = b"hello world\0\0\x8b\0\0\0\xf3\xff\xff\xff";
 
 fn a_record(alloc: Global) -> Result<Test, Error> {
-    Ok(TestOf {
+    Ok(Test {
         number: 42,
         text: String::from_str(alloc, "hello world")?,
         list: Some(vec![in alloc; 1, 2, 3, 4]?),

@@ -20,6 +20,8 @@ mod lists;
 #[cfg(test)]
 mod owners;
 #[cfg(test)]
+mod places;
+#[cfg(test)]
 mod points;
 #[cfg(test)]
 mod ranks;

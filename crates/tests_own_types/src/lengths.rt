@@ -15,10 +15,10 @@ fn lengths_are_copied(rt: HostRuntime) {
 }
 
 #[test]
-fn lengths_come_back_as_numbers(rt: HostRuntime) {
-    let numbers = vec![in rt.alloc(); 7u32, 256];
-    let numbers = numbers.expect(&rt, "memory for numbers");
-    assert_read(&rt, rt.alloc(), LENGTHS, &numbers);
+fn lengths_come_back(rt: HostRuntime) {
+    let lengths = vec![in rt.alloc(); Metres { number: 7 }, Metres { number: 256 }];
+    let lengths = lengths.expect(&rt, "memory for lengths");
+    assert_read(&rt, rt.alloc(), LENGTHS, &lengths);
     assert_same(
         &rt,
         "the switch",

@@ -2,16 +2,15 @@
 
 use archive_core::api::{access, from_bytes, to_bytes};
 use archive_core::error::Error;
-use archive_core::string::ArchivedString;
 use archive_core::view::Ref;
-use own_types::test_record::{ArchivedTest, Numbers, Test, TestOf};
+use own_types::test_record::{ArchivedTest, Test, TestView};
 use std::alloc::{AllocError, Global};
 use std::io;
 use std::test::Fail;
 
 // A record.
 pub fn record(alloc: Global) -> Result<Test, AllocError> {
-    Ok(TestOf {
+    Ok(Test {
         number: 42,
         text: String::from_str(alloc, "hello world")?,
         list: Some(vec![in alloc; 1, 2, 3, 4]?),
@@ -30,17 +29,17 @@ pub fn value_of(alloc: Global, bytes: &[u8]) -> Result<Test, Error> {
 
 // The number, where it lies.
 fn number(view: Ref<'_, ArchivedTest>) -> u8 {
-    view.field::<u8>(0).get()
+    view.number().get()
 }
 
 // The text, where it lies.
 fn text(view: Ref<'_, ArchivedTest>) -> &str {
-    view.field::<ArchivedString>(1).as_str()
+    view.text().as_str()
 }
 
 // How many numbers the list has, if there is one.
 fn count(view: Ref<'_, ArchivedTest>) -> Option<usize> {
-    let list = view.field::<Numbers>(2).as_ref()?;
+    let list = view.list().as_ref()?;
     Some(list.len())
 }
 

@@ -13,6 +13,7 @@ use crate::assertions::{
 use crate::readme::{archived, record, value_of};
 use archive_core::api::to_bytes_in;
 use archive_core::error::Error;
+use archive_core::option::ArchivedOption;
 use archive_core::primitive::ArchivedI32;
 use archive_core::seal::{Seal, SealedLeaf};
 use archive_core::ser::{Buffer, Writer};
@@ -20,9 +21,12 @@ use archive_core::string::ArchivedString;
 use archive_core::traits::{ArchivePointee, Portable, Record};
 use archive_core::vec::ArchivedVec;
 use archive_core::view::Ref;
-use own_types::test_record::{ArchivedTest, Numbers, Test};
+use own_types::test_record::{ArchivedTest, Test};
 use std::alloc::Global;
 use std::process::Abort;
+
+// An archived list of numbers, if there is one.
+type Numbers = ArchivedOption<ArchivedVec<ArchivedI32>>;
 
 // A text, four numbers, and at 28 the record that points back at them.
 pub(crate) const RECORD: &[u8; 52] =

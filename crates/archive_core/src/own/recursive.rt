@@ -71,7 +71,7 @@ pub trait NamedRecursive {
 /// }
 /// ```
 pub trait RecursiveChoice: NamedRecursive {
-    /// Its variants, as in `NamedChoice`. The type itself may be in them behind pointers.
+    /// Its variants in the order of their tags, nested pair by pair, each by its parts: `((), ((A, (B, ())), ()))` for one without parts and one with an `A` and a `B`. The type itself may be in them behind pointers.
     type Variants: PortableVariants;
 
     ghost has_variants: { IsChoice (defines Self.name Self.stands_for) (named Self.name) Self.name
