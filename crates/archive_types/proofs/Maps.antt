@@ -3,6 +3,6 @@ pub mod EntriesShown
 pub mod AscendingKeys
 pub mod Halving
 pub mod PairsLeft
-pub mod InsertedPairs
+pub mod CollectedPairs
 pub mod MapsRead
 pub mod NativePairs

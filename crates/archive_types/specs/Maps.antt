@@ -1,6 +1,5 @@
 -- The entries of sorted maps: where their keys and values stand, and what these are of the list of pairs that a map is.
 use Rattle.std.specs.Prelude.{ℕ, ◌+◌, Bool, true, ◌&&◌, List, [], ◌∷◌, Option, Some, None}
-use Rattle.std.specs.BTreeMap.{insert_entry}
 use Rattle.std.specs.Ordering.{is_lt}
 use Rattle.std.specs.declared.cmp.Ordering.{Ordering}
 use Rattle.archive_check.specs.Layout.{Layout, up}
@@ -23,11 +22,6 @@ key_in i w = entry_part 0 (element_in i w)
 
 abbrev pub value_in : ℕ → Value → Option Value
 value_in i w = entry_part 1 (element_in i w)
-
--- What a map holds into which these pairs were inserted in turn, where it held es before.
-abbrev pub inserted : {A B : Type 0} → (A → A → Ordering) → List (A × B) → List (A × B) → List (A × B)
-inserted cmp es [] = es
-inserted cmp es (x ∷ xs) = inserted cmp (insert_entry cmp es x.0 x.1) xs
 
 -- Whether the keys of pairs ascend strictly, from behind a key on; and from the first one on.
 abbrev pub ascending_from : {A B : Type 0} → (A → A → Ordering) → A → List (A × B) → Bool

@@ -17,4 +17,5 @@ pub mod SharedLaws
 pub mod SharedSources
 pub mod Arrays
 pub mod Maps
+pub mod ExactKeys
 pub mod OrderedPairs
