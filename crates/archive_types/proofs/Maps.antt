@@ -3,6 +3,6 @@ pub mod EntriesShown
 pub mod AscendingKeys
 pub mod Halving
 pub mod PairsLeft
-pub mod CollectedPairs
+pub mod InsertedPairs
 pub mod MapsRead
 pub mod NativePairs

@@ -4,7 +4,6 @@ pub mod Resolving
 pub mod Denoting
 pub mod StringsWritten
 pub mod RunRegions
-pub mod BlockRegions
 pub mod ResolvedParts
 pub mod Regions
 pub mod ShortTexts

@@ -17,5 +17,4 @@ pub mod SharedLaws
 pub mod SharedSources
 pub mod Arrays
 pub mod Maps
-pub mod ExactKeys
 pub mod OrderedPairs

@@ -171,7 +171,7 @@ fn resolve_in_block<T: Archive>(
 
 // Resolves values one after another at the writer's end, as many as fit over the same block of bytes, which is then written. If each were written alone, the
 // processor would wait for its narrow stores before it copies it. There is a resolver for each.
-#[tactic(auto, using(crate::proofs::Writing::BlockRegions::fills_start, crate::proofs::Writing::BlockRegions::fills_more, crate::proofs::Writing::BlockRegions::belongs_here, crate::proofs::Writing::BlockRegions::place_here))]
+#[tactic(auto, using(crate::proofs::Writing::RunRegions::fills_start, crate::proofs::Writing::RunRegions::fills_more, crate::proofs::Writing::RunRegions::belongs_here, crate::proofs::Writing::RunRegions::place_here))]
 #[inline(always)]
 fn resolve_each<W: Writer, T: Archive, A: Allocator + Drop>(
     writer: &mut W,

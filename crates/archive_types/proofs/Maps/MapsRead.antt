@@ -25,12 +25,11 @@ use Rattle.archive_check.proofs.Maps.Entries.{key_at}
 use Rattle.archive_check.proofs.Reading.ReadOwners.{owner_read_back}
 use Rattle.archive_check.proofs.Viewing.Viewed.{lies_reads, lies_leads}
 use Rattle.archive_types.specs.MapPairs.{pair_meaning, pair_keys}
-use Rattle.archive_types.specs.Maps.{ascending, ascending_from}
-use Rattle.archive_types.specs.Members.ExactKeys.{AreSame}
+use Rattle.archive_types.specs.Maps.{AreSame, ascending, ascending_from}
 use Rattle.archive_types.specs.Members.Maps.{entry_is}
 use Rattle.archive_types.specs.Runs.{each_meaning, each_keys}
 use Rattle.archive_types.specs.ValueOrder.{value_cmp}
-use Rattle.archive_types.proofs.Maps.CollectedPairs.{collected_alike}
+use Rattle.archive_types.proofs.Maps.InsertedPairs.{collected_alike}
 use Rattle.archive_types.proofs.Maps.AscendingKeys.{key_value, key_compared, map_followed}
 use Rattle.archive_types.proofs.Viewing.PartsShown.{map_has, map_shown}
 

@@ -3,7 +3,7 @@
 ghost use Rattle.std.specs.Prelude.{◌≡◌, refl, pos, string_bytes};
 ghost use Rattle.std.specs.declared.cmp.Ordering.TheVariants.{Equal};
 ghost use Rattle.archive_num.specs.NumberLaws.{unsigned-order};
-ghost use Rattle.archive_types.specs.Members.ExactKeys.{AreSame, numbers_exact, texts_exact};
+ghost use Rattle.archive_types.specs.Maps.{AreSame, numbers_exact, texts_exact};
 ghost use Rattle.archive_types.specs.ValueOrder.{value_cmp};
 
 use crate::primitive::Source;

@@ -2,7 +2,7 @@ use Rattle.std.proofs.Common.{rules, ◌≡◌, ◌+◌, ◌<◌, ◌^◌, lengt
 use Rattle.std.proofs.lemmas.Grind.{common_steps}
 use Rattle.std.proofs.lemmas.List.{length-take}
 use Rattle.archive_types.proofs.Planning.Causes.{goes_both, goes_written, goes_refused}
-use Rattle.archive_types.proofs.Writing.BlockRegions.{fills_start, fills_more, belongs_here, place_here, fills_broken, fills_next, fills_written, fills_refused, fills_end, same_length}
+use Rattle.archive_types.proofs.Writing.RunRegions.{fills_start, fills_more, belongs_here, place_here, fills_broken, fills_next, fills_written, fills_refused, fills_end, same_length}
 use Rattle.archive_types.proofs.ser.resolve_each.Goals as goal
 
 pub loop-resolver-init : goal.loop-resolver-init

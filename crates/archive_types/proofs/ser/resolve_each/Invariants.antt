@@ -1,6 +1,6 @@
 use Rattle.std.proofs.Common.{◌≡◌, ◌+◌, ◌≤◌, length, take}
 use Rattle.archive_types.specs.Runs.{each_flat}
-use Rattle.archive_types.proofs.Writing.BlockRegions.{Fills}
+use Rattle.archive_types.proofs.Writing.RunRegions.{Fills}
 use Rattle.archive_types.proofs.ser.resolve_each.Given as goal
 
 abbrev pub invariant-loop-resolver : goal.invariant-loop-resolver

@@ -1,4 +1,4 @@
--- Pairs that are collected into a map at once: where their keys ascend, its entries are alike in all that is the same of keys that are equal.
+-- Pairs of which a map is made: where their keys ascend, its entries are alike in all that is the same of keys that are equal.
 use Rattle.std.proofs.Common.{◌≡◌, true, false, List, [], ◌∷◌, Option, Some, None, BTreeMap, refl, sym, ap, subst, ◌∙◌, ⊎_elim}
 use Rattle.std.proofs.lemmas.Bool.{and_parts, cases_Bool}
 use Rattle.std.proofs.lemmas.Map.{lookup-none}
