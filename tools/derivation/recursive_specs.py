@@ -209,7 +209,7 @@ def meaning(family):
     return f"-- What {' and '.join(it.name for it in family.members)} mean{'s' if len(family.members) == 1 else ''}. {family.first.written}\n{brought(body, more)}{shape_}{aliases}{owns(family, body)}\n{body}"
 
 
-PRELUDE_COMMON = "ap subst sym ◌∙◌ inl inr ℤ Box Global String Vec"
+PRELUDE_COMMON = "ap subst sym ◌∙◌ inl inr ℤ Box Global String Vec BTreeMap"
 
 
 def each_type(family, text):
