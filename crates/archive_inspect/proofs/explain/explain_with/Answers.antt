@@ -3,7 +3,7 @@ use Rattle.std.proofs.lemmas.Result.{IfOk-weaker}
 use Rattle.archive_schema.proofs.SchemaDefinitions.{schema_meaning}
 use Rattle.archive_inspect.specs.Explained.{IsExplained}
 use Rattle.archive_inspect.proofs.Explained.{explains}
-use Rattle.archive_inspect.proofs.explain.explain.Goals as goal
+use Rattle.archive_inspect.proofs.explain.explain_with.Goals as goal
 
 pub returns : goal.returns
 returns c = IfOk-weaker c.explained.result _ _

@@ -1,18 +1,21 @@
--- A leaf or a text that is a part of an archive stands among its leaves.
-use Rattle.std.proofs.Common.{◌≡◌, ℕ, zero, suc, ◌+◌, ◌*◌, ◌/◌, ◌<◌, pos, ◌+ℤ◌, Bool, true, false, nat_eq, if◌then◌else◌, List, [], ◌∷◌, ◌++◌, length, Some, Contains, All, slice_index, arith, refl, sym, ap, subst}
+-- A leaf or a text that is a part of an archive is among its leaves.
+use Rattle.std.proofs.Common.{◌≡◌, ℕ, zero, suc, ◌+◌, ◌*◌, ◌/◌, ◌<◌, ◌==◌, pos, ◌+ℤ◌, Bool, true, false, nat_eq, if◌then◌else◌, List, [], ◌∷◌, ◌++◌, length, Some, Contains, All, slice_index, arith, refl, sym, ap, subst}
 use Rattle.std.proofs.lemmas.Bool.Decides.{nat_tests}
 use Rattle.std.proofs.lemmas.List.Elements.{All-nil, All-cons, All-append, All-contains, Contains-append_left, Contains-append_right, Contains-push}
 use Rattle.archive_check.specs.Shape.{Name, Kind, Shape, leaf, parts, choice, array, str, named, Pointee, one, run, text, Parts, Variants, definition, variant_at}
-use Rattle.archive_check.specs.Layout.{size_of}
+use Rattle.archive_check.specs.Layout.{kind_size, size_of}
 use Rattle.archive_check.specs.Value.{Pointer, Value, Values, hole, pointers}
-use Rattle.archive_check.specs.Reads.{SchemaTable, bytes_at, u32_at, i32_at, IsOutOfLine, before_end, decoded_length, string_at, Reads, reads_leaf, reads_parts, reads_choice, reads_array, reads_inline, reads_out_of_line, reads_named, ReadsParts, reads_part, ReadsRun, reads_none, reads_element}
+use Rattle.archive_check.specs.Reads.{SchemaTable, kind_value, bytes_at, u32_at, i32_at, IsOutOfLine, before_end, decoded_length, string_at, Reads, reads_leaf, reads_parts, reads_choice, reads_array, reads_inline, reads_out_of_line, reads_named, ReadsParts, reads_part, ReadsRun, reads_none, reads_element}
 use Rattle.archive_check.specs.Tour.{Region, region_of, root_region, Contents, contents_one, contents_run, contents_text, Seen, Tour, tour_end, tour_unique, tour_new, tour_again, Accepted}
-use Rattle.archive_check.specs.Leaves.{PlacedLeaf, text_leaf, leaves, leaves_of_parts, leaves_of_run, leaves_of_contents, leaves_of_tour, leaves_of, regions_of}
+use Rattle.archive_check.specs.Leaves.{PlacedLeaf, number_leaf, text_leaf, leaves, leaves_of_parts, leaves_of_run, leaves_of_contents, leaves_of_tour, leaves_of, regions_of}
 use Rattle.archive_check.specs.Within.{IsPart, first_part, later_part, Within, whole, in_parts, in_choice, in_array, in_named, PartOfRegion, whole_region, in_one, in_run, in_string, PartOfSome}
 use Rattle.archive_check.proofs.Editing.Texts.{inline_bytes}
 use Rattle.archive_check.proofs.Meanings.ReachedParts.{LeadsInto, Closed, part_of_reads, accepted_closed}
-use Rattle.archive_check.specs.Readable.{position, target_from}
-use Rattle.archive_types.specs.Sealed.{leaf_at, string_leaf}
+use Rattle.archive_check.specs.Readable.{position, target_from, string_text}
+
+-- the leaf of a kind at q
+abbrev leaf_here : Kind → List ℕ → ℕ → PlacedLeaf
+leaf_here kind bytes q = number_leaf q kind (kind_value kind (bytes_at bytes q (kind_size kind)))
 
 -- each leaf of the first list is one of the second
 abbrev Among : List PlacedLeaf → List PlacedLeaf → Type 0
@@ -114,14 +117,14 @@ module _ (s : SchemaTable) (bytes : List ℕ) where
       let (v, h, f) = All-contains (Covered (leaves_of a)) (regions_of a) r (accepted_covered a) c in
       let (w, k, g) = part_of_leaves i h in (w, k, λ x d. f x (g x d))
 
-  leaf_there : {q n : ℕ} {kind : Kind} {v : Value} (c : Contents s bytes q (one (leaf kind)) n v) → Contains (leaves_of_contents c) (leaf_at kind bytes q)
-  leaf_there {q = q} {kind = kind} (contents_one (reads_leaf l)) = Contains-push [] (leaf_at kind bytes q)
+  leaf_there : {q n : ℕ} {kind : Kind} {v : Value} (c : Contents s bytes q (one (leaf kind)) n v) → Contains (leaves_of_contents c) (leaf_here kind bytes q)
+  leaf_there {q = q} {kind = kind} (contents_one (reads_leaf l)) = Contains-push [] (leaf_here kind bytes q)
 
   text_there : {q n : ℕ} {v : Value} (c : Contents s bytes q text n v) → Contains (leaves_of_contents c) (text_leaf q (bytes_at bytes q n))
   text_there {q = q} {n = n} (contents_text u) = Contains-push [] (text_leaf q (bytes_at bytes q n))
 
-  pub leaf_stands : {root : ℕ} {X : Shape} (a : Accepted s bytes root X) (q n : ℕ) (kind : Kind) → PartOfSome s bytes (regions_of a) q (one (leaf kind)) n → Contains (leaves_of a) (leaf_at kind bytes q)
-  leaf_stands a q n kind i = let (w, k, f) = part_stands a i in f (leaf_at kind bytes q) (leaf_there k)
+  pub leaf_stands : {root : ℕ} {X : Shape} (a : Accepted s bytes root X) (q n : ℕ) (kind : Kind) → PartOfSome s bytes (regions_of a) q (one (leaf kind)) n → Contains (leaves_of a) (leaf_here kind bytes q)
+  leaf_stands a q n kind i = let (w, k, f) = part_stands a i in f (leaf_here kind bytes q) (leaf_there k)
 
   pub text_stands : {root : ℕ} {X : Shape} (a : Accepted s bytes root X) (q n : ℕ) → PartOfSome s bytes (regions_of a) q text n → Contains (leaves_of a) (text_leaf q (bytes_at bytes q n))
   text_stands a q n i = let (w, k, f) = part_stands a i in f (text_leaf q (bytes_at bytes q n)) (text_there k)
@@ -152,5 +155,6 @@ module _ (s : SchemaTable) (bytes : List ℕ) where
   string_stands_so a q n true e i = let o : IsOutOfLine bytes q = grind (arith, nat_tests) in out_stands a q n o i
   string_stands_so a q n false e i = let o : IsOutOfLine bytes q → ⊥ = λ h. grind (arith, nat_tests, h) in inline_stands a q n o i
 
-  pub string_stands : {root : ℕ} {X : Shape} (a : Accepted s bytes root X) (q n : ℕ) → PartOfSome s bytes (regions_of a) q (one str) n → Contains (leaves_of a) (string_leaf bytes q)
+  pub string_stands : {root : ℕ} {X : Shape} (a : Accepted s bytes root X) (q n : ℕ) → PartOfSome s bytes (regions_of a) q (one str) n
+      → Contains (leaves_of a) (text_leaf (if (slice_index bytes q / 64) == 2 then target_from bytes q (q + 4) else q) (string_text bytes q))
   string_stands a q n i = string_stands_so a q n _ refl i
