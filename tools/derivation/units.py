@@ -175,38 +175,80 @@ fn {self.maker()}(tag: u8) -> {choice.name}
 """
 
 
-    # ---- the proof that one is serialized as it means ----
+    # ---- proofs about one, by its tag: among many the search comes to its limit ----
 
-    def brought(self, dotted):
-        """What the proof brings in beside the goals."""
+    def brought(self, dotted, *more):
+        """What a proof brings in beside the goals, and these of an impl each."""
         choice = self.choice
-        home = f"{choice.declaration.crate}.specs"
+        home = f"Rattle.{choice.declaration.crate}.specs"
         module = ".".join(choice.declaration.module)
         names = ", ".join(sorted(f"{case.name} as {case.word}" for case in choice.cases))
-        values = ", ".join(f"{it}-value" for it in ("belongs", "flat", "keys", "meaning"))
-        return f"""use Rattle.std.proofs.Common.{{◌≡◌, ℕ, [], ap, refl, sym}}
+        impls = "".join(f"use {home}.contracts.{module}.{impl}.TheImpl.{{{names}}}\n" for impl, names in more)
+        return f"""use Rattle.std.proofs.Common.{{◌≡◌, ℕ, Some, [], ap, refl, sym}}
+use Rattle.archive_core.specs.Plain.{{variant_in}}
+use Rattle.archive_core.specs.Shape.{{no_part}}
 use Rattle.archive_core.specs.Value.{{case, no_value}}
-use Rattle.{home}.declared.{module}.{choice.name}.{{{choice.name}}}
-use Rattle.{home}.declared.{module}.{choice.name}.TheVariants.{{{names}}}
-use Rattle.{home}.declared.{module}.{choice.resolver}.TheVariants.{{{self.name} as {choice.name}Kept}}
-use Rattle.{home}.contracts.{module}.{choice.name}Archive.TheImpl.{{{values}}}
-"""
+use {home}.declared.{module}.{choice.name}.{{{choice.name}}}
+use {home}.declared.{module}.{choice.name}.TheVariants.{{{names}}}
+{impls}"""
 
-    def answer(self):
-        """Of a variant without fields: what it means, and what is kept of it, by its tag."""
+    def by_case(self, body, refuted):
+        """An item a line: what has fields is refuted, and each other one has the same body. Of one item alone a name isn't taken."""
+        lines = [f"  | {case.bound()} ↦ {refuted}\n" for case in self.apart()]
+        if not lines:
+            lines.append(f"  | {self.cases[0].bound()} ↦ {body}\n")
+        return "".join(lines) + f"  | w ↦ {body}\n"
+
+    def lemmas(self):
         choice, name = self.choice, self.choice.name
-        apart = lambda f: "".join(f"{case.bound()} ↦ {f(case)} | " for case in self.apart())
-        step = "returns-in-Ok-serialize_case_0"
-        refuted = lambda case: f"λ e. c.in_default.not-{case.name} {' '.join(case.binders)} e"
-        none = f"((elim c.args.self.now as (λ v. c.args.self.now ≡ v → HasNoField v) [ {apart(refuted)}v ↦ λ e. tt ]) refl)"
+        apart = "".join(f"{case.bound()} ↦ ⊥ | " for case in self.apart())
+        none = f"elim v [ {apart}w ↦ Unit {{0}} ]" if apart else "Unit {0}"
         return f"""
 -- The tag of each.
 abbrev HasTag : {name} → ℕ → Type 0
 HasTag v t = {choice.elim("v", lambda case: f"t ≡ {case.tag}")}
 
 abbrev HasNoField : {name} → Type 0
-HasNoField v = {f'elim v [ {apart(lambda case: "⊥")}w ↦ Unit {{0}} ]' if self.apart() else "Unit {0}"}
+HasNoField v = {none}
 
+-- No part is behind its tag.
+has_no_part : (v : {name}) (t : ℕ) → HasNoField v → HasTag v t → variant_in (shape-value).it t ≡ Some no_part
+has_no_part v t = elim v as (λ v. HasNoField v → HasTag v t → variant_in (shape-value).it t ≡ Some no_part) [
+{self.by_case("λ none tagged. rw tagged refl", "λ none tagged. absurd none")}]
+"""
+
+    def none(self):
+        """The proof that the value has no field, in the last arm."""
+        arms = "".join(f"{case.bound()} ↦ λ e. c.in_default.not-{case.name} {' '.join(case.binders)} e | " for case in self.apart())
+        return f"((elim c.args.self.now as (λ v. c.args.self.now ≡ v → HasNoField v) [ {arms}v ↦ λ e. tt ]) refl)" if arms else "tt"
+
+    def requires_answer(self, call, given):
+        step = f"{call}-requires-clause-variant"
+        return f"""
+pub {step} : goal.{step}
+{step} {given} = has_no_part c.args.self.now c.tag.result {self.none()} c.tag.ensures
+"""
+
+    def resolve_answers(self, dotted):
+        """Of `resolve`: what it brings in, and the answer."""
+        brought = self.brought(dotted, (f"{self.choice.archived}Portable", "shape-value"))
+        return brought, self.lemmas() + self.requires_answer("resolve_case_0", "c")
+
+    def serialize_answers(self, dotted):
+        """The same of `serialize`: a variant without fields means its tag, and nothing of its own is kept of it."""
+        choice, name = self.choice, self.choice.name
+        values = ", ".join(f"{it}-value" for it in ("belongs", "flat", "keys", "meaning"))
+        brought = self.brought(dotted, (f"{choice.archived}Portable", "shape-value"), (f"{name}Archive", values))
+        kept = f"use Rattle.{choice.declaration.crate}.specs.declared.{'.'.join(choice.declaration.module)}.{choice.resolver}.TheVariants.{{{self.name} as {name}Kept}}\n"
+        step = "returns-in-Ok-serialize_case_0" if self.apart() else "returns-in-Ok"
+        same = "ap (λ n. case n no_value) (sym tagged)"
+        body = f"""λ none tagged. record {{
+    keys = refl;
+    meaning = {same};
+    flat = {same};
+    belongs = tt;
+  }}"""
+        return brought + kept, f"""{self.lemmas()}
 -- It means its tag, with nothing of its own.
 record IsPlain (v : {name}) (t : ℕ) : Type 0 where
   keys : (keys-value).it v ≡ []
@@ -216,19 +258,13 @@ record IsPlain (v : {name}) (t : ℕ) : Type 0 where
 
 is_plain : (v : {name}) (t : ℕ) → HasNoField v → HasTag v t → IsPlain v t
 is_plain v t = elim v as (λ v. HasNoField v → HasTag v t → IsPlain v t) [
-{"".join(f"  | {case.bound()} ↦ λ none tagged. absurd none{chr(10)}" for case in self.apart())}  | w ↦ λ none tagged. record {{
-    keys = refl;
-    meaning = ap (λ n. case n no_value) (sym tagged);
-    flat = ap (λ n. case n no_value) (sym tagged);
-    belongs = tt;
-  }}
-]
-
+{self.by_case(body, "λ none tagged. absurd none")}]
+{self.requires_answer("serialize_case_0", "g c")}
 pub {step} : goal.{step}
 {step} g c =
-    let it = is_plain c.args.self.now c.tag.result {none if self.apart() else "tt"} c.tag.ensures in
+    let it = is_plain c.args.self.now c.tag.result {self.none()} c.tag.ensures in
     record {{
-      serialized = rw (it.keys, it.meaning, it.flat) c.in-Ok-serialize_case_0.ensures.serialized;
+      serialized = rw (it.keys, it.meaning, it.flat) c.in-Ok{"-serialize_case_0" if self.apart() else ""}.ensures.serialized;
       same_value = it.belongs;
       goes_on = c.serialize_case_0.ensures.goes_on;
       refused = tt;

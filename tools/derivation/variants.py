@@ -339,10 +339,8 @@ def proofs(formats, declaration):
         answers = made and made.answers(dotted)
         if answers:
             out[f"proofs/{module}/{made.name}/Answers.antt"] = answers
-    is_any_long = any(case.is_long for case in choice.cases)
-    if is_any_long:
+    if choice.units.are or any(case.is_long for case in choice.cases):
         out[f"proofs/{module}/{choice.name}Archive/resolve/Answers.antt"] = resolve_answers(choice, dotted)
-    if is_any_long or choice.units.are:
         out[f"proofs/{module}/{choice.name}Serialize/serialize/Answers.antt"] = serialize_answers(choice, dotted)
     return out
 
@@ -350,10 +348,11 @@ def proofs(formats, declaration):
 def serialize_answers(choice, dotted):
     """The proof that the variant that is lent is serialized as it means, and that one without fields is among many."""
     longs = "".join(lent_serialized(case) for case in choice.cases if case.is_long)
+    brought, of_units = choice.units.serialize_answers(dotted) if choice.units.are else ("", "")
     rules = "use Rattle.std.proofs.Common.{rules}\n" if longs else ""
     return f"""-- {WRITTEN}
-{rules}{choice.units.brought(dotted) if choice.units.are else ""}use Rattle.{dotted}.{choice.name}Serialize.serialize.Goals as goal
-{longs}{choice.units.answer() if choice.units.are else ""}"""
+{rules}{brought}use Rattle.{dotted}.{choice.name}Serialize.serialize.Goals as goal
+{longs}{of_units}"""
 
 
 def lent_serialized(case):
@@ -366,14 +365,22 @@ returns-in-Ok-serialize_case g c = rw (c.in-{case.name}.is) record {{ serialized
 
 def resolve_answers(choice, dotted):
     """The proof that each variant is resolved as it is flat: of one that is lent the search doesn't find it."""
-    steps = [f"in-{case.name}+in-{case.name}-resolver" if case.count else f"in-{case.name}" for case in choice.cases]
-    found = ["grind (w.resolve_case.ensures, w.bytes-is, w.result-is, rules)" if case.is_long else "search rules" for case in choice.cases]
+    goals = f"Rattle.{dotted}.{choice.name}Archive.resolve.Goals"
+    brought, of_units = choice.units.resolve_answers(dotted) if choice.units.are else ("", "")
+    if not any(case.is_long for case in choice.cases):
+        return f"-- {WRITTEN}\n{brought}use {goals} as goal\n{of_units}"
+    apart = choice.units.apart()
+    steps = [f"in-{case.name}+in-{case.name}-resolver" if case.count else f"in-{case.name}" for case in apart]
+    found = ["grind (w.resolve_case.ensures, w.bytes-is, w.result-is, rules)" if case.is_long else "search rules" for case in apart]
+    if choice.units.are:
+        steps.append("in_default")
+        found.append("search rules")
     arms = " | ".join(f"{step} w ↦ {how}" for step, how in zip(steps, found))
     return f"""-- {WRITTEN}
 use Rattle.std.proofs.Common.{{rules}}
-use Rattle.{dotted}.{choice.name}Archive.resolve.Goals.{{{', '.join(steps)}}}
-use Rattle.{dotted}.{choice.name}Archive.resolve.Goals as goal
-
+{brought}use {goals}.{{{', '.join(steps)}}}
+use {goals} as goal
+{of_units}
 pub returns : goal.returns
 returns c = elim c.match-self.branch [ {arms} ]
 """

@@ -1,4 +1,4 @@
-//! Enums of many variants, as a user declares them, with what tools/derive writes for them. The tests are in tests_kinds.
+//! Enums of many variants, as a user declares them, with what tools/derive writes for them. The tests are in tests_many.
 #![tactic(auto)]
 
 pub mod press;

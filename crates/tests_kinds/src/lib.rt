@@ -1,4 +1,4 @@
-//! Tests of the types of derived_kinds, derived_many and derived_wide, as a user's own, through public calls. The bytes of each archive were worked out
+//! Tests of the types of derived_kinds and derived_wide, as a user's own, through public calls. The bytes of each archive were worked out
 //! by hand, from docs/FORMAT.md.
 #![tactic(auto)]
 
@@ -15,12 +15,8 @@ mod lists;
 #[cfg(test)]
 mod owners;
 #[cfg(test)]
-mod presses;
-#[cfg(test)]
 mod shown;
 #[cfg(test)]
 mod stock;
 #[cfg(test)]
 mod weathers;
-#[cfg(test)]
-mod winds;

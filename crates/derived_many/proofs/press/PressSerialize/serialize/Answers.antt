@@ -1,10 +1,13 @@
 -- Written by tools/derive: change the declaration, and run it again.
-use Rattle.std.proofs.Common.{◌≡◌, ℕ, [], ap, refl, sym}
+use Rattle.std.proofs.Common.{◌≡◌, ℕ, Some, [], ap, refl, sym}
+use Rattle.archive_core.specs.Plain.{variant_in}
+use Rattle.archive_core.specs.Shape.{no_part}
 use Rattle.archive_core.specs.Value.{case, no_value}
 use Rattle.derived_many.specs.declared.press.Press.{Press}
 use Rattle.derived_many.specs.declared.press.Press.TheVariants.{A as PressA, B as PressB, Backspace as PressBackspace, C as PressC, CapsLock as PressCapsLock, Chord as PressChord, D as PressD, Delete as PressDelete, Digit0 as PressDigit0, Digit1 as PressDigit1, Digit2 as PressDigit2, Digit3 as PressDigit3, Digit4 as PressDigit4, Digit5 as PressDigit5, Digit6 as PressDigit6, Digit7 as PressDigit7, Digit8 as PressDigit8, Digit9 as PressDigit9, Down as PressDown, E as PressE, End as PressEnd, Enter as PressEnter, Escape as PressEscape, F as PressF, F1 as PressF1, F10 as PressF10, F11 as PressF11, F12 as PressF12, F13 as PressF13, F14 as PressF14, F15 as PressF15, F16 as PressF16, F17 as PressF17, F18 as PressF18, F19 as PressF19, F2 as PressF2, F20 as PressF20, F21 as PressF21, F22 as PressF22, F23 as PressF23, F24 as PressF24, F3 as PressF3, F4 as PressF4, F5 as PressF5, F6 as PressF6, F7 as PressF7, F8 as PressF8, F9 as PressF9, G as PressG, H as PressH, Home as PressHome, I as PressI, Insert as PressInsert, J as PressJ, K as PressK, L as PressL, Left as PressLeft, M as PressM, Mute as PressMute, N as PressN, Named as PressNamed, Numpad0 as PressNumpad0, Numpad1 as PressNumpad1, Numpad2 as PressNumpad2, Numpad3 as PressNumpad3, Numpad4 as PressNumpad4, Numpad5 as PressNumpad5, Numpad6 as PressNumpad6, Numpad7 as PressNumpad7, Numpad8 as PressNumpad8, Numpad9 as PressNumpad9, NumpadAdd as PressNumpadAdd, NumpadEnter as PressNumpadEnter, NumpadSubtract as PressNumpadSubtract, O as PressO, P as PressP, PageDown as PressPageDown, PageUp as PressPageUp, Play as PressPlay, Power as PressPower, Q as PressQ, R as PressR, Right as PressRight, S as PressS, Scanned as PressScanned, Sleep as PressSleep, Space as PressSpace, Stop as PressStop, T as PressT, Tab as PressTab, U as PressU, Unknown as PressUnknown, Up as PressUp, V as PressV, VolumeDown as PressVolumeDown, VolumeUp as PressVolumeUp, W as PressW, Wake as PressWake, X as PressX, Y as PressY, Z as PressZ}
-use Rattle.derived_many.specs.declared.press.PressResolver.TheVariants.{Unit as PressKept}
+use Rattle.derived_many.specs.contracts.press.ArchivedPressPortable.TheImpl.{shape-value}
 use Rattle.derived_many.specs.contracts.press.PressArchive.TheImpl.{belongs-value, flat-value, keys-value, meaning-value}
+use Rattle.derived_many.specs.declared.press.PressResolver.TheVariants.{Unit as PressKept}
 use Rattle.derived_many.proofs.press.PressSerialize.serialize.Goals as goal
 
 -- The tag of each.
@@ -13,6 +16,15 @@ HasTag v t = elim v [ PressUnknown ↦ t ≡ 0 | PressScanned a0 ↦ t ≡ 1 | P
 
 abbrev HasNoField : Press → Type 0
 HasNoField v = elim v [ PressScanned a0 ↦ ⊥ | PressNamed a0 ↦ ⊥ | PressChord a0 a1 ↦ ⊥ | w ↦ Unit {0} ]
+
+-- No part is behind its tag.
+has_no_part : (v : Press) (t : ℕ) → HasNoField v → HasTag v t → variant_in (shape-value).it t ≡ Some no_part
+has_no_part v t = elim v as (λ v. HasNoField v → HasTag v t → variant_in (shape-value).it t ≡ Some no_part) [
+  | PressScanned a0 ↦ λ none tagged. absurd none
+  | PressNamed a0 ↦ λ none tagged. absurd none
+  | PressChord a0 a1 ↦ λ none tagged. absurd none
+  | w ↦ λ none tagged. rw tagged refl
+]
 
 -- It means its tag, with nothing of its own.
 record IsPlain (v : Press) (t : ℕ) : Type 0 where
@@ -33,6 +45,9 @@ is_plain v t = elim v as (λ v. HasNoField v → HasTag v t → IsPlain v t) [
     belongs = tt;
   }
 ]
+
+pub serialize_case_0-requires-clause-variant : goal.serialize_case_0-requires-clause-variant
+serialize_case_0-requires-clause-variant g c = has_no_part c.args.self.now c.tag.result ((elim c.args.self.now as (λ v. c.args.self.now ≡ v → HasNoField v) [ PressScanned a0 ↦ λ e. c.in_default.not-Scanned a0 e | PressNamed a0 ↦ λ e. c.in_default.not-Named a0 e | PressChord a0 a1 ↦ λ e. c.in_default.not-Chord a0 a1 e | v ↦ λ e. tt ]) refl) c.tag.ensures
 
 pub returns-in-Ok-serialize_case_0 : goal.returns-in-Ok-serialize_case_0
 returns-in-Ok-serialize_case_0 g c =
