@@ -454,7 +454,7 @@ def reading(family):
     for it in family.members:
         measures(it, answers)
         for type in it.owners:
-            {"Box": box_read, "Option": option_read, "Vec": vec_read}[type.name](it, type, answers)
+            {"Box": box_read, "Option": option_read, "Vec": vec_read, "Shared": shared_read}[type.name](it, type, answers)
         for case in it.cases:
             here = answers if it.is_record or any(case.leads_back) else Answers(family, f"read_{case.n}")
             parts_read(it, case, here, f"read_{case.n}" if here is answers else "")
@@ -469,7 +469,7 @@ def measures(it, answers):
     deepest = it.family.deepest
 
     def measure(size, rank):
-        return f"(l.part.pos + {size}) * {deepest + 3} + {rank}"
+        return f"l.levels * {deepest + 3} + {rank}" if it.family.shares else f"(l.part.pos + {size}) * {deepest + 3} + {rank}"
 
     for type in it.owners:
         answers.invariant("", f"decreases-read_{it.word(type)}", measure(it.formats.layout(type)[0], it.depth(type)))
@@ -499,6 +499,10 @@ def box_read(it, type, answers):
         "(let same : c.in_ok-whole.whole.value ≡ c.in_ok-value.value = grind (arith, common_steps) in"
         f" rw same (box_read {D} {ARGS} (one {X}) _ _ _ _ c.requires (rw ({steps}) at c.in_ok-value.ensures.read)))",
     )
+
+
+def shared_read(it, type, answers):
+    function = f"read_{it.word(type)}"
 
 
 def option_read(it, type, answers):

@@ -87,7 +87,10 @@ def is_pointer(it: Declaration, type: Type) -> bool:
 
 
 def is_list(it: Declaration, type: Type) -> bool:
-    return is_named(type, "Vec") and (is_member(it, type.args[0]) or is_pointer(it, type.args[0]))
+    if not is_named(type, "Vec"):
+        return False
+    item = type.args[0]
+    return is_member(it, item) or is_pointer(it, item) or is_named(item, "Shared") and is_member(it, item.args[0])
 
 
 def leads_back(it: Declaration, type: Type) -> bool:

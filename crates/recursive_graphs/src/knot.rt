@@ -1,6 +1,8 @@
-//! A graph's knots, by hand: what tools/derive would write.
+//! The knots of a graph.
 
-/// A number, and the knots that it leads to, which several may lead to.
+use archive_core::rc::Shared;
+
+/// A number, and the knots that it leads to; several may lead to one.
 #[derive(Debug, PartialEq, Drop)]
 pub struct Knot {
     /// Its number.
@@ -23,30 +25,30 @@ ghost use Rattle.archive_core.specs.Runs.{EachBelongs, IsRunRefused, SerializedR
 ghost use Rattle.archive_core.specs.SealsWritten.{IsSealOf, SealsPart};
 ghost use Rattle.archive_core.specs.Seen.{IsPartOf, RefusesPart, ShowsValueOf};
 ghost use Rattle.archive_core.specs.SelfCheck.Laws.{by_schema};
-ghost use Rattle.archive_core.specs.Shape.{boxed, one, part, parts, vec};
+ghost use Rattle.archive_core.specs.Shape.{one, part, parts, vec};
 ghost use Rattle.archive_core.specs.Sources.{Read};
 ghost use Rattle.archive_core.specs.Value.{value};
 ghost use Rattle.archive_core.specs.Writing.{ZeroedPlace};
 ghost use Rattle.archive_core.specs.Written.{GoesOn};
 ghost use Rattle.recursive_graphs.specs.KnotShape.{knot_definitions, knot_has_layout, knot_has_parts, knot_is_align, knot_layout, knot_no_others, knot_parts, knot_shape, knot_stands_for};
 ghost use Rattle.std.proofs.Common.{lit≤};
-ghost use Rattle.std.specs.Prelude.{IfErr, IfOk, None, length, refl, ◌+◌, ◌≡◌, ◌≤◌};
+ghost use Rattle.std.specs.Prelude.{IfErr, IfOk, None, Some, length, refl, ◌+◌, ◌≡◌, ◌≤◌};
 
-use archive_core::pooling::{Pooled, Pooling, PoolingState};
-use archive_core::rc::{ArchivedRc, RcFlavor, Shared};
-use archive_core::sharing::Sharing;
-use crate::shared::{begin_shared, finish_shared};
 use archive_core::error::Error;
 use archive_core::place::Place;
+use archive_core::pooling::Pooling;
 use archive_core::primitive::ArchivedU32;
+use archive_core::rc::{ArchivedRc, RcFlavor};
 use archive_core::recursive::{
-    VecAt, before_vec, define_name, part_of_record, read_part, record_of,
-    resolve_named_record_2, seal_of_field, serialize_inner_slice, serialize_part, view_of_field,
+    VecAt, before_vec, begin_reading, begin_shared, define_name, finish_reading, finish_shared,
+    part_behind, part_of_record, read_part, record_of, resolve_named_record_2, seal_of_field,
+    serialize_inner_slice, serialize_part, shared_expression, view_of_field,
 };
 use archive_core::seal::Seal;
 use archive_core::self_check::BySchema;
 use archive_core::ser::{ResolverAlloc, Writer, serialize_one};
-use archive_core::shape::{Defs, Expr, FlavorInfo, Pointee};
+use archive_core::shape::{Defs, Expr};
+use archive_core::sharing::Sharing;
 use archive_core::traits::{
     Archive, ArchivePointee, ArchiveUnsized, CopyOptimization, Deserialize, Entries, Keys,
     Portable, Record, Serialize, SerializeUnsized,
@@ -58,7 +60,10 @@ use std::alloc::{AllocError, Global};
 /// An archived `Knot`: 12 bytes at a multiple of 4. It is validated by its schema.
 pub struct ArchivedKnot;
 
-type KnotParts = (ArchivedU32, (ArchivedVec<ArchivedRc<ArchivedKnot, RcFlavor>>, ()));
+type KnotParts = (
+    ArchivedU32,
+    (ArchivedVec<ArchivedRc<ArchivedKnot, RcFlavor>>, ()),
+);
 
 impl ArchivePointee for ArchivedKnot {
     type ArchivedMetadata = ();
@@ -74,11 +79,6 @@ impl ArchivePointee for ArchivedKnot {
     }
 }
 
-const RC: FlavorInfo = FlavorInfo {
-    name: "RcFlavor",
-    cycles: false,
-};
-
 // The parts of `Knot`.
 fn knot_expressions(alloc: Global) -> Result<Vec<Expr>, Error>
     ensures shapes { IfOk result (λ list. shapes_in list.items ≡ knot_parts) }
@@ -87,7 +87,7 @@ fn knot_expressions(alloc: Global) -> Result<Vec<Expr>, Error>
     let a0 = <ArchivedU32 as Portable>::expr(alloc)?;
     let a1 = Expr::Vec(Box::new(
         alloc,
-        Expr::Shared(RC, Box::new(alloc, Pointee::One(Expr::Named("ArchivedKnot")))?),
+        shared_expression(alloc, Expr::Named("ArchivedKnot"))?,
     )?);
     Ok(vec![in alloc; a0, a1]?)
 }
@@ -217,16 +217,18 @@ fn serialize_each_shared_knot<S: Sharing + Writer + ResolverAlloc>(
     values: &[Shared<Knot>],
     serializer: &mut S,
 ) -> Result<Vec<<Shared<Knot> as Archive>::Resolver, S::Alloc>, Error>
-    ensures serialized { IfOk result (λ rs. SerializedRun knot_definitions (shared rc_flavor (one knot_shape))
-        (length values.now) (each_keys ⟦<Shared<Knot> as Archive>⟧.keys values.now)
+    ensures serialized { IfOk result (λ rs. SerializedRun knot_definitions
+        (shared rc_flavor (one knot_shape)) (length values.now)
+        (each_keys ⟦<Shared<Knot> as Archive>⟧.keys values.now)
         (each_meaning ⟦<Shared<Knot> as Archive>⟧.meaning values.now)
         (each_flat ⟦<Shared<Knot> as Archive>⟧.flat values.now rs.items) (S.state serializer.old)
         (S.state serializer.new)) }
-    ensures same_values { IfOk result (λ rs. EachBelongs ⟦<Shared<Knot> as Archive>⟧.belongs values.now
-        rs.items) }
+    ensures same_values { IfOk result (λ rs. EachBelongs ⟦<Shared<Knot> as Archive>⟧.belongs
+        values.now rs.items) }
     ensures goes_on { GoesOn (S.state serializer.old) (S.state serializer.new) }
-    ensures refused { IfErr result (IsRunRefused knot_definitions (shared rc_flavor (one knot_shape))
-        (length values.now) (each_keys ⟦<Shared<Knot> as Archive>⟧.keys values.now)
+    ensures refused { IfErr result (IsRunRefused knot_definitions
+        (shared rc_flavor (one knot_shape)) (length values.now)
+        (each_keys ⟦<Shared<Knot> as Archive>⟧.keys values.now)
         (each_meaning ⟦<Shared<Knot> as Archive>⟧.meaning values.now) (S.state serializer.old)
         (S.state serializer.new)) }
 {
@@ -271,9 +273,10 @@ fn serialize_vec_shared_knot<S: Sharing + Writer + ResolverAlloc>(
         (S.state serializer.new)) }
     ensures same_value { IfOk result (λ r. ⟦<Vec<Shared<Knot>> as Archive>⟧.belongs value.now r) }
     ensures goes_on { GoesOn (S.state serializer.old) (S.state serializer.new) }
-    ensures refused { IfErr result (IsRefused knot_definitions (vec (shared rc_flavor (one knot_shape)))
-        (⟦<Vec<Shared<Knot>> as Archive>⟧.keys value.now) (⟦<Vec<Shared<Knot>> as Archive>⟧.meaning
-        value.now) (S.state serializer.old) (S.state serializer.new)) }
+    ensures refused { IfErr result (IsRefused knot_definitions
+        (vec (shared rc_flavor (one knot_shape))) (⟦<Vec<Shared<Knot>> as Archive>⟧.keys value.now)
+        (⟦<Vec<Shared<Knot>> as Archive>⟧.meaning value.now) (S.state serializer.old)
+        (S.state serializer.new)) }
 {
     if value.len() > u32::MAX as usize {
         return Err(Error::LengthTooLarge);
@@ -356,7 +359,7 @@ impl<S: Sharing + Writer + ResolverAlloc> SerializeUnsized<S> for Knot {
     }
 }
 
-// Reads a shared value back, by at most this many levels.
+// Reads a shared value back.
 #[cycle(read_knot)]
 fn read_shared_knot<D: Pooling<Shared<Knot>>>(
     alloc: Global,
@@ -365,26 +368,22 @@ fn read_shared_knot<D: Pooling<Shared<Knot>>>(
     deserializer: &mut D,
 ) -> Result<Shared<Knot>, Error>
     requires { IsPartOf ⟦<ArchivedRc<ArchivedKnot, RcFlavor> as ArchivePointee>⟧ part }
-    ensures read { IfOk result (Read ⟦<ArchivedRc<ArchivedKnot, RcFlavor> as ArchivePointee>⟧ part D.Entries
-        deserializer ⟦<Shared<Knot> as Archive>⟧) }
-    ensures refused { IfErr result (RefusesPart ⟦<ArchivedRc<ArchivedKnot, RcFlavor> as ArchivePointee>⟧ part
-        D.Entries deserializer) }
+    ensures read { IfOk result (Read ⟦<ArchivedRc<ArchivedKnot, RcFlavor> as ArchivePointee>⟧ part
+        D.Entries deserializer ⟦<Shared<Knot> as Archive>⟧) }
+    ensures refused { IfErr result (RefusesPart ⟦<ArchivedRc<ArchivedKnot, RcFlavor> as ArchivePointee>⟧
+        part D.Entries deserializer) }
 {
-    let view: Ref<'_, ArchivedRc<ArchivedKnot, RcFlavor>> = Ref::at(part);
-    let target = view.get().part();
-    let pos = target.pos;
-    match deserializer.start_pooling(pos)? {
-        PoolingState::Pending => Err(Error::CyclicDeserialize),
-        PoolingState::Finished(value) => Ok(value),
-        PoolingState::Started => {
-            if levels == 0 {
-                return Err(Error::OutOfMemory);
-            }
-            let value = read_knot(alloc, target, levels - 1, deserializer)?;
-            let shared = <Shared<Knot> as Pooled>::from_value(alloc, pos, value)?;
-            let kept = shared.clone()?;
-            deserializer.finish_pooling(pos, kept)?;
-            Ok(shared)
+    match begin_reading::<ArchivedKnot, RcFlavor, Shared<Knot>, D>(part, deserializer)? {
+        Some(value) => Ok(value),
+        None => {
+            let behind = part_behind::<ArchivedKnot, RcFlavor>(part);
+            let value = read_knot(alloc, behind, levels, deserializer)?;
+            finish_reading::<ArchivedKnot, RcFlavor, Shared<Knot>, D>(
+                alloc,
+                part,
+                value,
+                deserializer,
+            )
         }
     }
 }
@@ -398,11 +397,12 @@ fn read_vec_shared_knot<D: Pooling<Shared<Knot>>>(
     deserializer: &mut D,
 ) -> Result<Vec<Shared<Knot>>, Error>
     requires { IsPartOf ⟦<ArchivedVec<ArchivedRc<ArchivedKnot, RcFlavor>> as ArchivePointee>⟧ part }
-    ensures read { IfOk result (Read ⟦<ArchivedVec<ArchivedRc<ArchivedKnot, RcFlavor>> as ArchivePointee>⟧
-        part D.Entries deserializer ⟦<Vec<Shared<Knot>> as Archive>⟧) }
+    ensures read { IfOk result
+        (Read ⟦<ArchivedVec<ArchivedRc<ArchivedKnot, RcFlavor>> as ArchivePointee>⟧ part D.Entries
+        deserializer ⟦<Vec<Shared<Knot>> as Archive>⟧) }
     ensures refused { IfErr result
-        (RefusesPart ⟦<ArchivedVec<ArchivedRc<ArchivedKnot, RcFlavor>> as ArchivePointee>⟧ part D.Entries
-        deserializer) }
+        (RefusesPart ⟦<ArchivedVec<ArchivedRc<ArchivedKnot, RcFlavor>> as ArchivePointee>⟧ part
+        D.Entries deserializer) }
 {
     let view: Ref<'_, ArchivedVec<ArchivedRc<ArchivedKnot, RcFlavor>>> = Ref::at(part);
     let list = before_vec(view);
@@ -428,9 +428,15 @@ fn read_knot<D: Pooling<Shared<Knot>>>(
     ensures refused { IfErr result (RefusesPart ⟦<ArchivedKnot as ArchivePointee>⟧ part D.Entries
         deserializer) }
 {
+    if levels == 0 {
+        return Err(Error::OutOfMemory);
+    }
+    let levels = levels - 1;
     let p0 = part_of_record::<ArchivedKnot, ArchivedU32>(part, 0, 0);
     let a0 = read_part::<ArchivedU32, u32, D>(alloc, p0, deserializer)?;
-    let p1 = part_of_record::<ArchivedKnot, ArchivedVec<ArchivedRc<ArchivedKnot, RcFlavor>>>(part, 1, 4);
+    let p1 = part_of_record::<ArchivedKnot, ArchivedVec<ArchivedRc<ArchivedKnot, RcFlavor>>>(
+        part, 1, 4,
+    );
     let a1 = read_vec_shared_knot(alloc, p1, levels, deserializer)?;
     Ok(Knot { id: a0, next: a1 })
 }

@@ -3,6 +3,5 @@
 
 pub mod graph;
 pub mod knot;
-pub mod shared;
 #[cfg(test)]
 mod tests;

@@ -1,7 +1,7 @@
 // Graphs.
 
 use crate::knot::{ArchivedKnot, Knot};
-use archive_core::api::{from_bytes, to_bytes, access};
+use archive_core::api::{access, from_bytes, to_bytes};
 use archive_core::error::Error;
 use archive_core::pooling::{Pool, Unpool};
 use archive_core::rc::Shared;
@@ -9,13 +9,40 @@ use std::alloc::{AllocError, Global};
 use std::rc::Rc;
 
 fn knots(alloc: Global) -> Result<Knot, AllocError> {
-    let four = Rc::new(alloc, Knot { id: 4, next: Vec::new(alloc) })?;
-    let a = Shared { key: 4, value: four.clone()? };
-    let b = Shared { key: 4, value: four };
-    let three = Rc::new(alloc, Knot { id: 3, next: vec![in alloc; a]? })?;
-    let c = Shared { key: 3, value: three.clone()? };
-    let d = Shared { key: 3, value: three };
-    Ok(Knot { id: 1, next: vec![in alloc; b, c, d]? })
+    let four = Rc::new(
+        alloc,
+        Knot {
+            id: 4,
+            next: Vec::new(alloc),
+        },
+    )?;
+    let a = Shared {
+        key: 4,
+        value: four.clone()?,
+    };
+    let b = Shared {
+        key: 4,
+        value: four,
+    };
+    let three = Rc::new(
+        alloc,
+        Knot {
+            id: 3,
+            next: vec![in alloc; a]?,
+        },
+    )?;
+    let c = Shared {
+        key: 3,
+        value: three.clone()?,
+    };
+    let d = Shared {
+        key: 3,
+        value: three,
+    };
+    Ok(Knot {
+        id: 1,
+        next: vec![in alloc; b, c, d]?,
+    })
 }
 
 #[test]
@@ -35,11 +62,32 @@ fn knots_once(rt: HostRuntime) {
 }
 
 fn cycle(alloc: Global) -> Result<Knot, AllocError> {
-    let inner = Rc::new(alloc, Knot { id: 4, next: Vec::new(alloc) })?;
-    let a = Shared { key: 5, value: inner };
-    let outer = Rc::new(alloc, Knot { id: 5, next: vec![in alloc; a]? })?;
-    let b = Shared { key: 5, value: outer };
-    Ok(Knot { id: 6, next: vec![in alloc; b]? })
+    let inner = Rc::new(
+        alloc,
+        Knot {
+            id: 4,
+            next: Vec::new(alloc),
+        },
+    )?;
+    let a = Shared {
+        key: 5,
+        value: inner,
+    };
+    let outer = Rc::new(
+        alloc,
+        Knot {
+            id: 5,
+            next: vec![in alloc; a]?,
+        },
+    )?;
+    let b = Shared {
+        key: 5,
+        value: outer,
+    };
+    Ok(Knot {
+        id: 6,
+        next: vec![in alloc; b]?,
+    })
 }
 
 #[test]
