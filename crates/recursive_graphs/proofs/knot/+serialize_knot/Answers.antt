@@ -1,10 +1,11 @@
 -- Written by tools/derive: change the declaration, and run it again.
-use Rattle.archive_core.proofs.Causes.{err_by, goes_both}
-use Rattle.archive_core.proofs.Owners.{box_refused, vec_refused}
+use Rattle.archive_core.proofs.Causes.{err_by, goes_both, goes_nowhere}
+use Rattle.archive_core.proofs.Owners.{vec_refused}
 use Rattle.archive_core.proofs.Planned.{one_owned}
 use Rattle.archive_core.proofs.PlannedParts.{serialized_no_part, serialized_part, serialized_record, record_refused, first_refused, later_refused}
 use Rattle.archive_core.proofs.RunRegions.{run_owned, long_run_refused}
 use Rattle.archive_core.proofs.Runs.{continues_step, continues_broken, continues_end, belongs_end}
+use Rattle.archive_core.proofs.recursive.KeysBegun.{region_refused}
 use Rattle.archive_core.specs.Causes.{no_memory}
 use Rattle.archive_core.specs.Definitions.{both, no_definition}
 use Rattle.archive_core.specs.Error.TheVariants.{OutOfMemory}
@@ -12,9 +13,10 @@ use Rattle.archive_core.specs.Held.{written_as, refused_as}
 use Rattle.archive_core.specs.PartsPlanned.{part_planned, no_part_planned}
 use Rattle.archive_core.specs.PlannedOwners.{vec_planned, slice_planned, each_planned}
 use Rattle.archive_core.specs.Runs.{each_keys, each_meaning}
-use Rattle.archive_core.specs.Shape.{boxed, shared, vec, one, leaf, unsigned, part, no_part, number as number_kind}
+use Rattle.archive_core.specs.Shape.{shared, vec, one, leaf, unsigned, part, no_part, variant, number as number_kind}
 use Rattle.archive_core.specs.SharedSources.{rc_flavor, rc_keys, rc_one_planned}
 use Rattle.archive_core.specs.Value.{list, number, value, no_value, shared_value}
+use Rattle.recursive_graphs.proofs.knot.+serialize_knot.Goals.{serialize_each_shared_knot-in-Some+in_ok-map_err-in-Some, serialize_each_shared_knot-in-None+in-Ok-serialize_knot+in-Ok-finish_shared+in_ok-map_err-in-None}
 use Rattle.recursive_graphs.specs.KnotMeaning.{knot_meaning, knot_keys, knot_planned, knot_means, knot_has_keys}
 use Rattle.recursive_graphs.specs.KnotShape.{knot_shape, knot_definitions, knot_parts, knot_part_definitions, knot_has_parts}
 use Rattle.recursive_graphs.specs.declared.knot.Knot.{out-Knot}
@@ -29,25 +31,40 @@ pub serialize_each_shared_knot-returns-in_err-resolvers-clause-refused : goal.se
 serialize_each_shared_knot-returns-in_err-resolvers-clause-refused g t c = err_by c.from_residual.result OutOfMemory _ c.from_residual.ensures.1 no_memory
 
 pub serialize_each_shared_knot-returns-in-Err-clause-goes_on : goal.serialize_each_shared_knot-returns-in-Err-clause-goes_on
-serialize_each_shared_knot-returns-in-Err-clause-goes_on g t c = goes_both _ _ _ c.loop-value.invariant.continues.goes c.serialize_knot.ensures.goes_on
+serialize_each_shared_knot-returns-in-Err-clause-goes_on g t c = goes_both _ _ _ c.loop-value.invariant.continues.goes c.begin_shared.ensures.goes_on
 
 pub serialize_each_shared_knot-returns-in-Err-clause-refused : goal.serialize_each_shared_knot-returns-in-Err-clause-refused
-serialize_each_shared_knot-returns-in-Err-clause-refused g t c = continues_broken _ _ _ _ _ _ _ _ _ _ c.loop-value.value-index _ _ _ c.loop-value-test.true c.value-item.is (λ y. (rc_one_planned knot_definitions y.key (one knot_shape) knot_shape refl _ _ (knot_planned y.value.value))) c.loop-value.invariant.continues c.serialize_knot.ensures.goes_on (let same : c.deref-inner.result.now ≡ c.value-item.result.value = grind (arith, common_steps) in rw (← same) (box_refused knot_definitions (one knot_shape) 0 _ _ _ _ _ (one_owned knot_definitions knot_shape _ _ _ _ _ c.in-Err.ensures.refused)))
+serialize_each_shared_knot-returns-in-Err-clause-refused g t c = continues_broken _ _ _ _ _ _ _ _ _ _ c.loop-value.value-index _ _ _ c.loop-value-test.true c.value-item.is (λ y. (rc_one_planned knot_definitions y.key (one knot_shape) knot_shape refl _ _ (knot_planned y.value.value))) c.loop-value.invariant.continues c.begin_shared.ensures.goes_on (c.in-Err.ensures.refused.said knot_definitions rc_flavor (one knot_shape) 0 (knot_keys c.value-item.result.value.value) (knot_meaning c.value-item.result.value.value))
 
-pub serialize_each_shared_knot-returns-in-Err-serialize_inner-clause-goes_on : goal.serialize_each_shared_knot-returns-in-Err-serialize_inner-clause-goes_on
-serialize_each_shared_knot-returns-in-Err-serialize_inner-clause-goes_on g t c = goes_both _ _ _ c.loop-value.invariant.continues.goes (goes_both _ _ _ c.serialize_knot.ensures.goes_on c.serialize_inner.ensures.goes_on)
+pub serialize_each_shared_knot-returns-in-Err-serialize_knot-clause-goes_on : goal.serialize_each_shared_knot-returns-in-Err-serialize_knot-clause-goes_on
+serialize_each_shared_knot-returns-in-Err-serialize_knot-clause-goes_on g t c = goes_both _ _ _ c.loop-value.invariant.continues.goes (goes_both _ _ _ c.begin_shared.ensures.goes_on c.serialize_knot.ensures.goes_on)
 
-pub serialize_each_shared_knot-returns-in-Err-serialize_inner-clause-refused : goal.serialize_each_shared_knot-returns-in-Err-serialize_inner-clause-refused
-serialize_each_shared_knot-returns-in-Err-serialize_inner-clause-refused g t c = continues_broken _ _ _ _ _ _ _ _ _ _ c.loop-value.value-index _ _ _ c.loop-value-test.true c.value-item.is (λ y. (rc_one_planned knot_definitions y.key (one knot_shape) knot_shape refl _ _ (knot_planned y.value.value))) c.loop-value.invariant.continues (goes_both _ _ _ c.serialize_knot.ensures.goes_on c.serialize_inner.ensures.goes_on) (let same : c.deref-inner.result.now ≡ c.value-item.result.value = grind (arith, common_steps) in rw (← same) (c.in-Err-serialize_inner.ensures.refused.since _ c.serialize_knot.ensures.goes_on c.in-Ok.ensures.serialized))
+pub serialize_each_shared_knot-returns-in-Err-serialize_knot-clause-refused : goal.serialize_each_shared_knot-returns-in-Err-serialize_knot-clause-refused
+serialize_each_shared_knot-returns-in-Err-serialize_knot-clause-refused g t c = continues_broken _ _ _ _ _ _ _ _ _ _ c.loop-value.value-index _ _ _ c.loop-value-test.true c.value-item.is (λ y. (rc_one_planned knot_definitions y.key (one knot_shape) knot_shape refl _ _ (knot_planned y.value.value))) c.loop-value.invariant.continues (goes_both _ _ _ c.begin_shared.ensures.goes_on c.serialize_knot.ensures.goes_on) (let same : c.deref-inner.result.now ≡ c.value-item.result.value.value = grind (arith, common_steps) in rw (← same) (region_refused knot_definitions (one knot_shape) 0 c.value-item.result.key _ _ rc_flavor _ _ _ _ (rw c.in-None.is at c.in-Ok.ensures.begun) c.serialize_knot.ensures.goes_on (one_owned knot_definitions knot_shape _ _ _ _ _ c.in-Err-serialize_knot.ensures.refused)))
 
-pub serialize_each_shared_knot-returns-in_err-map_err-clause-goes_on : goal.serialize_each_shared_knot-returns-in_err-map_err-clause-goes_on
-serialize_each_shared_knot-returns-in_err-map_err-clause-goes_on g t c = goes_both _ _ _ c.loop-value.invariant.continues.goes (goes_both _ _ _ c.serialize_knot.ensures.goes_on c.serialize_inner.ensures.goes_on)
+pub serialize_each_shared_knot-returns-in-Err-finish_shared-clause-goes_on : goal.serialize_each_shared_knot-returns-in-Err-finish_shared-clause-goes_on
+serialize_each_shared_knot-returns-in-Err-finish_shared-clause-goes_on g t c = goes_both _ _ _ c.loop-value.invariant.continues.goes (c.finish_shared.ensures.goes_on.since _ _ (rw c.in-None.is at c.in-Ok.ensures.begun) c.serialize_knot.ensures.goes_on)
 
-pub serialize_each_shared_knot-returns-in_err-map_err-clause-refused : goal.serialize_each_shared_knot-returns-in_err-map_err-clause-refused
-serialize_each_shared_knot-returns-in_err-map_err-clause-refused g t c = err_by c.from_residual-in_err-map_err.result OutOfMemory _ c.from_residual-in_err-map_err.ensures.1 no_memory
+pub serialize_each_shared_knot-returns-in-Err-finish_shared-clause-refused : goal.serialize_each_shared_knot-returns-in-Err-finish_shared-clause-refused
+serialize_each_shared_knot-returns-in-Err-finish_shared-clause-refused g t c = continues_broken _ _ _ _ _ _ _ _ _ _ c.loop-value.value-index _ _ _ c.loop-value-test.true c.value-item.is (λ y. (rc_one_planned knot_definitions y.key (one knot_shape) knot_shape refl _ _ (knot_planned y.value.value))) c.loop-value.invariant.continues (c.finish_shared.ensures.goes_on.since _ _ (rw c.in-None.is at c.in-Ok.ensures.begun) c.serialize_knot.ensures.goes_on) (let same : c.deref-inner.result.now ≡ c.value-item.result.value.value = grind (arith, common_steps) in rw (← same) (c.in-Err-finish_shared.ensures.refused.since rc_flavor _ _ (rw c.in-None.is at c.in-Ok.ensures.begun) c.serialize_knot.ensures.goes_on c.in-Ok-serialize_knot.ensures.serialized))
+
+pub serialize_each_shared_knot-returns-in_err-resolvers-clause-goes_on : goal.serialize_each_shared_knot-returns-in_err-resolvers-clause-goes_on
+serialize_each_shared_knot-returns-in_err-resolvers-clause-goes_on g t c = goes_nowhere _
+
+pub serialize_each_shared_knot-returns-in_err-map_err-in-Some-clause-goes_on : goal.serialize_each_shared_knot-returns-in_err-map_err-in-Some-clause-goes_on
+serialize_each_shared_knot-returns-in_err-map_err-in-Some-clause-goes_on g t c = goes_both _ _ _ c.loop-value.invariant.continues.goes c.begin_shared.ensures.goes_on
+
+pub serialize_each_shared_knot-returns-in_err-map_err-in-Some-clause-refused : goal.serialize_each_shared_knot-returns-in_err-map_err-in-Some-clause-refused
+serialize_each_shared_knot-returns-in_err-map_err-in-Some-clause-refused g t c = err_by c.from_residual-in_err-map_err-in-Some.result OutOfMemory _ c.from_residual-in_err-map_err-in-Some.ensures.1 no_memory
+
+pub serialize_each_shared_knot-returns-in_err-map_err-in-None-clause-goes_on : goal.serialize_each_shared_knot-returns-in_err-map_err-in-None-clause-goes_on
+serialize_each_shared_knot-returns-in_err-map_err-in-None-clause-goes_on g t c = goes_both _ _ _ c.loop-value.invariant.continues.goes (c.finish_shared.ensures.goes_on.since _ _ (rw c.in-None.is at c.in-Ok.ensures.begun) c.serialize_knot.ensures.goes_on)
+
+pub serialize_each_shared_knot-returns-in_err-map_err-in-None-clause-refused : goal.serialize_each_shared_knot-returns-in_err-map_err-in-None-clause-refused
+serialize_each_shared_knot-returns-in_err-map_err-in-None-clause-refused g t c = err_by c.from_residual-in_err-map_err-in-None.result OutOfMemory _ c.from_residual-in_err-map_err-in-None.ensures.1 no_memory
 
 pub serialize_each_shared_knot-loop-value-preserved : goal.serialize_each_shared_knot-loop-value-preserved
-serialize_each_shared_knot-loop-value-preserved g t c = record { continues = continues_step _ _ _ _ _ _ _ _ _ _ c.loop-value.value-index _ _ _ c.in-Ok-serialize_inner.resolver c.loop-value-test.true c.value-item.is (grind (arith, common_steps)) c.loop-value.invariant.continues (let same : c.deref-inner.result.now ≡ c.value-item.result.value = grind (arith, common_steps) in rw (← same) (c.in-Ok-serialize_inner.ensures.boxed.since _ c.serialize_knot.ensures.goes_on c.in-Ok.ensures.serialized)) tt (goes_both _ _ _ c.serialize_knot.ensures.goes_on c.serialize_inner.ensures.goes_on) }
+serialize_each_shared_knot-loop-value-preserved g t c = record { continues = elim c.match-known.branch [ serialize_each_shared_knot-in-Some+in_ok-map_err-in-Some w ↦ rw (w.serializer-is, w.resolvers-is) (continues_step _ _ _ _ _ _ _ _ _ _ c.loop-value.value-index _ _ _ w.in-Some.resolver c.loop-value-test.true c.value-item.is (grind (arith, common_steps, w.push.ensures.items, w.map_err.ensures.variant, w.branch-map_err.ensures, w.in_ok-map_err-in-Some.is)) c.loop-value.invariant.continues ((rw w.in-Some.is at c.in-Ok.ensures.known).said knot_definitions rc_flavor (one knot_shape) 0 (knot_keys c.value-item.result.value.value) (knot_meaning c.value-item.result.value.value)) tt c.begin_shared.ensures.goes_on) | serialize_each_shared_knot-in-None+in-Ok-serialize_knot+in-Ok-finish_shared+in_ok-map_err-in-None w ↦ rw (w.serializer-is, w.resolvers-is) (continues_step _ _ _ _ _ _ _ _ _ _ c.loop-value.value-index _ _ _ w.in-Ok-finish_shared.resolver c.loop-value-test.true c.value-item.is (grind (arith, common_steps, w.push-in-None.ensures.items, w.map_err-in-None.ensures.variant, w.branch-map_err-in-None.ensures, w.in_ok-map_err-in-None.is)) c.loop-value.invariant.continues (let same : c.deref-inner.result.now ≡ c.value-item.result.value.value = grind (arith, common_steps) in rw (← same) (w.in-Ok-finish_shared.ensures.shared.since rc_flavor _ _ (rw w.in-None.is at c.in-Ok.ensures.begun) w.serialize_knot.ensures.goes_on w.in-Ok-serialize_knot.ensures.serialized)) tt (w.finish_shared.ensures.goes_on.since _ _ (rw w.in-None.is at c.in-Ok.ensures.begun) w.serialize_knot.ensures.goes_on)) ] }
 
 pub serialize_each_shared_knot-returns-clause-serialized : goal.serialize_each_shared_knot-returns-clause-serialized
 serialize_each_shared_knot-returns-clause-serialized g t c = continues_end _ _ _ _ _ _ _ _ _ _ _ (drop_of_length-le _ c.loop-value-test.false) c.loop-value.invariant.continues

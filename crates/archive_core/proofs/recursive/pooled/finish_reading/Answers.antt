@@ -14,17 +14,17 @@ returns-in_err-kept-clause-refused g c = err_by c.from_residual-in_err-kept.resu
 
 pub returns-in_err-finish_pooling-clause-refused : goal.returns-in_err-finish_pooling-clause-refused
 returns-in_err-finish_pooling-clause-refused g c =
-    let answer = rw (c.part_behind.ensures.position) at c.finish_pooling.ensures.answer in
+    let answer = rw (c.part_behind-pos.ensures.position) at c.finish_pooling.ensures.answer in
     err_by c.from_residual-in_err-finish_pooling.result c.in_err-finish_pooling.field-0.0 _ c.from_residual-in_err-finish_pooling.ensures.1 (record {
       since = λ old started a h. inl (finish_refused _ _ _ _ _ _ _ g.D.Entries.keeps old started _ c.finish_pooling.result _ a h answer c.in_err-finish_pooling.ensures.refused c.in_err-finish_pooling.was);
     })
 
 pub returns-clause-read : goal.returns-clause-read
 returns-clause-read g c =
-    let is = rw (c.part_behind.ensures.position) at c.in_ok-shared.ensures.kept in
+    let is = rw (c.part_behind-pos.ensures.position) at c.in_ok-shared.ensures.kept in
     let cloned = g.met.T.Pooled.clone_law c.in_ok-shared.shared c.in_ok-kept.kept c.in_ok-kept.ensures.cases in
-    let finish = rw (c.part_behind.ensures.position) at c.in_ok-finish_pooling.ensures.after in
-    let viewed = rw (c.part_behind.ensures.buffer, c.part_behind.ensures.position, c.part_behind.ensures.length) at c.part_behind.ensures.viewed in
+    let finish = rw (c.part_behind-pos.ensures.position) at c.in_ok-finish_pooling.ensures.after in
+    let viewed = rw (c.part_behind-pos.ensures.buffer, c.part_behind-pos.ensures.position, c.part_behind-pos.ensures.length) at c.part_behind-pos.ensures.viewed in
     record {
       since = λ old started a h. shared_back _ c.args.part.bytes.now c.args.part.pos c.args.part.len _ _ old _ _ c.requires
           (kept_new _ _ _ _ _ g.D.Entries.keeps old started _ _ _ _ (g.T.Pooled.count c.args.value) _ _ (a.nothing) (a.begun)

@@ -42,22 +42,22 @@ returns-in_err-close_shared-in-Finished-clause-refused g c =
           (started_goes _ _ c.args.key c.start_sharing.ensures.bytes c.in_ok-start_sharing.ensures.after);
     })
 
-pub returns-then-pos-gt4294967295-in-Finished-clause-goes_on : goal.returns-then-pos-gt4294967295-in-Finished-clause-goes_on
-returns-then-pos-gt4294967295-in-Finished-clause-goes_on g c = goes_both _ _ _ (started_goes _ _ c.args.key c.start_sharing.ensures.bytes c.in_ok-start_sharing.ensures.after) c.close_shared.ensures.goes_on
+pub returns-then-pos-gt4294967295-clause-goes_on : goal.returns-then-pos-gt4294967295-clause-goes_on
+returns-then-pos-gt4294967295-clause-goes_on g c = goes_both _ _ _ (started_goes _ _ c.args.key c.start_sharing.ensures.bytes c.in_ok-start_sharing.ensures.after) c.close_shared.ensures.goes_on
 
-pub returns-then-pos-gt4294967295-in-Finished-clause-refused : goal.returns-then-pos-gt4294967295-in-Finished-clause-refused
-returns-then-pos-gt4294967295-in-Finished-clause-refused g c =
+pub returns-then-pos-gt4294967295-clause-refused : goal.returns-then-pos-gt4294967295-clause-refused
+returns-then-pos-gt4294967295-clause-refused g c =
     let at = finished_known _ _ _ c.in_ok-start_sharing.ensures.answer c.in-Finished.is in
     record {
       said = λ D flavor P n ks v. far_shared_refused D flavor P n c.in-Finished.pos _ _ _ _ (c.in_ok-close_shared-in-Finished.ensures.closed.since D flavor P n c.args.key ks v _
-          (known_lies D P n c.args.key ks v _ _ _ at c.start_sharing.ensures.bytes c.in_ok-start_sharing.ensures.after)) c.if-pos-gt4294967295-in-Finished.true;
+          (known_lies D P n c.args.key ks v _ _ _ at c.start_sharing.ensures.bytes c.in_ok-start_sharing.ensures.after)) c.if-pos-gt4294967295.true;
     }
 
-pub returns-in-Finished-clause-goes_on : goal.returns-in-Finished-clause-goes_on
-returns-in-Finished-clause-goes_on g c = goes_both _ _ _ (started_goes _ _ c.args.key c.start_sharing.ensures.bytes c.in_ok-start_sharing.ensures.after) c.close_shared.ensures.goes_on
+pub returns-else-pos-gt4294967295-clause-goes_on : goal.returns-else-pos-gt4294967295-clause-goes_on
+returns-else-pos-gt4294967295-clause-goes_on g c = goes_both _ _ _ (started_goes _ _ c.args.key c.start_sharing.ensures.bytes c.in_ok-start_sharing.ensures.after) c.close_shared.ensures.goes_on
 
-pub returns-in-Finished-clause-known : goal.returns-in-Finished-clause-known
-returns-in-Finished-clause-known g c =
+pub returns-else-pos-gt4294967295-clause-known : goal.returns-else-pos-gt4294967295-clause-known
+returns-else-pos-gt4294967295-clause-known g c =
     let at = finished_known _ _ _ c.in_ok-start_sharing.ensures.answer c.in-Finished.is in
     let same : c.from_pos.result ≡ c.in-Finished.pos = c.from_pos.ensures in
     rw same (record {
