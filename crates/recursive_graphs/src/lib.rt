@@ -1,7 +1,5 @@
-//! Graphs: recursive types behind shared pointers.
+//! Graphs, as a user declares them, with what tools/derive writes for them.
 #![tactic(auto)]
 
 pub mod graph;
 pub mod knot;
-#[cfg(test)]
-mod tests;
