@@ -46,10 +46,10 @@ pub record LiesAt (D : Definitions) (P : Pointee) (n key : ℕ) (ks : List Namin
   pub laid : old.states key ≡ None → SerializedShared D P n key ks v t old new
 
 -- From wherever it came to lie at t: nothing else will lie there, and so a pointer to it is serialized; and why it isn't.
-pub record IsClosed (t : ℕ) (mid new : WriterState) : Type 0 where
+pub record IsConcluded (t : ℕ) (mid new : WriterState) : Type 0 where
   pub since : (D : Definitions) (flavor : Flavor) (P : Pointee) (n key : ℕ) (ks : List Naming) (v : Value) (old : WriterState) → LiesAt D P n key ks v t old mid → SerializedUnder D flavor P n key ks v t old new
 
-pub record IsNotClosed (t : ℕ) (mid new : WriterState) (e : Error) : Type 0 where
+pub record IsNotConcluded (t : ℕ) (mid new : WriterState) (e : Error) : Type 0 where
   pub since : (D : Definitions) (flavor : Flavor) (P : Pointee) (n key : ℕ) (ks : List Naming) (v : Value) (old : WriterState) → LiesAt D P n key ks v t old mid → GoesOn old mid → RefusedUnder D flavor P n key ks v old new e
 
 -- From wherever the value was serialized: its region stands at t; and why it doesn't.

@@ -1,7 +1,7 @@
 // What is behind a shared pointer is written by the recursive type's own function, between the start of its key and the end of it.
 
 ghost use Rattle.std.specs.Prelude.{◌≡◌, ◌≤◌, IfOk, OnOk, IfErr, IfSome, IfNone};
-ghost use Rattle.archive_core.specs.recursive.SharedParts.{Begins, HasGoneOn, IsClosed, IsKnown, IsNotBegun, IsNotClosed, PutsInner, PutsNoInner, SharesInner, SharesNoInner};
+ghost use Rattle.archive_core.specs.recursive.SharedParts.{Begins, HasGoneOn, IsConcluded, IsKnown, IsNotBegun, IsNotConcluded, PutsInner, PutsNoInner, SharesInner, SharesNoInner};
 ghost use Rattle.archive_write.specs.Written.{GoesOn};
 
 use archive_check::format::error::Error;
@@ -95,9 +95,9 @@ fn write_region<T: Archive, S: Writer + ResolverAlloc>(
 
 // Writes a zero byte if the writer is still at this position, where a value of no size lies: what comes next would lie there, too.
 fn close_shared<S: Writer>(pos: usize, serializer: &mut S) -> Result<(), Error>
-    ensures closed { OnOk result (IsClosed pos (S.state serializer.old) (S.state serializer.new)) }
+    ensures closed { OnOk result (IsConcluded pos (S.state serializer.old) (S.state serializer.new)) }
     ensures goes_on { GoesOn (S.state serializer.old) (S.state serializer.new) }
-    ensures refused { IfErr result (IsNotClosed pos (S.state serializer.old)
+    ensures refused { IfErr result (IsNotConcluded pos (S.state serializer.old)
         (S.state serializer.new)) }
 {
     if serializer.pos() != pos {
