@@ -532,7 +532,8 @@ def measures(it, answers):
         for case in it.cases:
             if any(case.leads_back):
                 answers.invariant("", f"decreases-read_{case.n}", measure(it.size, deepest + 1))
-    answers.invariant("", f"decreases-read_{it.n}", measure(it.size, deepest + 2))
+    # where it shares, a value takes one of the levels for what it holds
+    answers.invariant("", f"decreases-read_{it.n}", measure(it.size, 0 if it.family.shares else deepest + 2))
 
 
 ARGS = "c.args.part.bytes.now c.args.part.pos c.args.part.len"
@@ -560,7 +561,7 @@ def shared_read(it, type, answers):
     item = type.args[0]
     function, inner = f"read_{it.word(type)}", f"read_{it.word(item)}"
     D, X = it.terms.definitions(item), it.terms.shape(item)
-    begun = "rw c.in-None.is at c.in_ok-begin_reading.ensures.begun"
+    begun = "rw c.in-None.is at c.in_ok-value.ensures.begun"
     steps = ", ".join(f"c.part_behind-behind.ensures.{clause}" for clause in ("buffer", "position", "length"))
     whole = f"{D} {ARGS} rc_flavor (one {X}) g.D.Entries.keeps"
     answers.answer(
@@ -568,10 +569,10 @@ def shared_read(it, type, answers):
         f"err_by c.from_residual-in_err-value-in-None.result c.in_err-value-in-None.field-0.0 _ c.from_residual-in_err-value-in-None.ensures.1"
         f" (unread_since {whole} _ _ _ c.requires ({begun}) (rw ({steps}) at c.in_err-value-in-None.ensures.refused))",
     )
-    answers.answer(function, "returns-in-Some-clause-read", "rw c.in-Some.is at c.in_ok-begin_reading.ensures.known")
+    answers.answer(function, "returns-in-Some-clause-read", "rw c.in-Some.is at c.in_ok-value.ensures.known")
     since = f"since _ _ ({begun}) (rw ({steps}) at c.in_ok-value-in-None.ensures.read)"
-    answers.answer(function, "returns-in-None-clause-read", f"if_ok c.finish_reading.result (λ s h. h.{since}) c.finish_reading.ensures.read")
-    answers.answer(function, "returns-in-None-clause-refused", f"err_from c.finish_reading.result c.finish_reading.ensures.refused (λ e h. h.{since})")
+    answers.answer(function, "returns-in_ok-value-in-None-clause-read", f"if_ok c.finish_reading.result (λ s h. h.{since}) c.finish_reading.ensures.read")
+    answers.answer(function, "returns-in_ok-value-in-None-clause-refused", f"err_from c.finish_reading.result c.finish_reading.ensures.refused (λ e h. h.{since})")
 
 
 def option_read(it, type, answers):
@@ -584,7 +585,7 @@ def option_read(it, type, answers):
     case = f"{D} {D} (λ s k. k) _ _ 1 {X} refl (record {{ size = {size}; align = {align} }}) (record {{ solved = λ s k. refl }}) {here} {align} refl {shown.format('Some')}"
     steps = [f"c.part.ensures.{clause}" for clause in ("buffer", "position", "length")] + [f"c.in-Some.ensures.{clause}" for clause in ("buffer", "position", "length")]
     told = f"rw ({', '.join(steps + ['c.at-view.ensures.buffer', 'c.at-view.ensures.position'])}) at"
-    answers.answer(function, "returns-in-None-clause-read", f"empty_case_read_back {D} _ _ 0 refl {here} {shown.format('None')} _ _ refl")
+    answers.answer(function, "returns-in_ok-value-in-None-clause-read", f"empty_case_read_back {D} _ _ 0 refl {here} {shown.format('None')} _ _ refl")
     answers.answer(
         function, "returns-in_err-value-in-Some-clause-refused",
         f"err_by c.from_residual.result c.in_err-value-in-Some.field-0.0 _ c.from_residual.ensures.1 (case_refuses {case} _ _ ({told} c.in_err-value-in-Some.ensures.refused))",

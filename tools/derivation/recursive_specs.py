@@ -349,7 +349,7 @@ def rolled(it, which, type, word):
 
     claim = f"{n}_{which} (roll-{N} {{0}}) ≡ {n}_{which}_layer {said_by(it.family, which)} {{0}}"
     said = f"pub {n}_{word}_roll : (x : {N}-F {sources(it)}) → {claim.format('x')}\n"
-    unfolded = ["meaning", "keys", "both"] if it.family.shares else [which]
+    unfolded = ["both", "meaning"] + ["keys"] * (which == "keys") if it.family.shares else [which]
     opened_ = f"unfolding {' '.join(f'{other.n}_{one}' for one in unfolded for other in it.family.members)}\n"
     if not it.is_record:
         lines = "".join(f"{n}_{word}_roll {layer_of(it, case, values)} = {step(case, layer_of(it, case, values), values)}\n" for case in it.cases for values in splits(it, case))

@@ -39,7 +39,7 @@ pub knot_meaning : Knot-Source → Value
 knot_meaning t = (knot_both t).0
 
 pub knot_means_roll : (x : Knot-F Knot-Source) → knot_meaning (roll-Knot x) ≡ knot_meaning_layer knot_meaning x
-unfolding knot_meaning knot_keys knot_both
+unfolding knot_both knot_meaning
 knot_means_roll t = ap (λ (p : (Value × (List Naming))). p.0) (fold-roll-Knot (Value × (List Naming)) (knot_both_layer (λ v. v)) t) ∙ ap (λ vs. product (value (number (pos t.id)) (value (list vs) no_value))) (each_alike _ (λ (y : (Shared (Value × (List Naming)))). (shared_value y.key)) (λ (y : (Shared Knot-Source)). (shared_value y.key)) (λ x. refl) t.next.items)
 
 pub knot_means : (t : Knot-Source) → knot_meaning t ≡ knot_meaning_layer knot_meaning (out-Knot t)
@@ -49,7 +49,7 @@ pub knot_keys : Knot-Source → (List Naming)
 knot_keys t = (knot_both t).1
 
 pub knot_has_keys_roll : (x : Knot-F Knot-Source) → knot_keys (roll-Knot x) ≡ knot_keys_layer knot_meaning knot_keys x
-unfolding knot_meaning knot_keys knot_both
+unfolding knot_both knot_meaning knot_keys
 knot_has_keys_roll t = ap (λ (p : (Value × (List Naming))). p.1) (fold-roll-Knot (Value × (List Naming)) (knot_both_layer (λ v. v)) t) ∙ ap (λ vs. ([] ++ (vs ++ []))) (each_alike_keys _ (λ (y : (Shared (Value × (List Naming)))). (rc_keys y.key (one knot_shape) 0 y.value.value.0 y.value.value.1)) (λ (y : (Shared Knot-Source)). (rc_keys y.key (one knot_shape) 0 (knot_meaning y.value.value) (knot_keys y.value.value))) (λ x. refl) t.next.items)
 
 pub knot_has_keys : (t : Knot-Source) → knot_keys t ≡ knot_keys_layer knot_meaning knot_keys (out-Knot t)

@@ -136,10 +136,8 @@ impl Archive for Graph {
         requires zeroed { ZeroedPlace ⟦<Self::Archived as Portable>⟧.layout.size place.pos
             place.bytes.now }
         requires same_value { ⟦<Self as Archive>⟧.belongs self.now resolver }
-        ensures {
-            ResolvesAs ⟦<Self::Archived as Portable>⟧ place
-                (⟦<Self as Archive>⟧.flat self.now resolver) result
-        }
+        ensures { ResolvesAs ⟦<Self::Archived as Portable>⟧ place
+            (⟦<Self as Archive>⟧.flat self.now resolver) result }
     {
         let Place { bytes, pos, .. } = place;
         resolve_record::<Self, GraphFields, Self::Archived>(self, resolver, Place::new(pos, bytes))
@@ -262,8 +260,7 @@ impl<'a> GraphView for Ref<'a, ArchivedGraph> {
 
     fn name(self) -> Ref<'a, ArchivedString>
         ensures buffer { result.bytes.now ≡ self.entry.bytes.now }
-        ensures
-            position { result.pos ≡ self.entry.pos
+        ensures position { result.pos ≡ self.entry.pos
             + ⟦<(ArchivedString, (ArchivedVec<ArchivedRc<ArchivedKnot, RcFlavor>>, ())) as PortableParts>⟧.begin 0 0 }
         ensures length { result.len ≡ 0 }
         ensures shows { ShowsValueOf result self.entry (field_in 0) }
@@ -273,8 +270,7 @@ impl<'a> GraphView for Ref<'a, ArchivedGraph> {
 
     fn nodes(self) -> Ref<'a, ArchivedVec<ArchivedRc<ArchivedKnot, RcFlavor>>>
         ensures buffer { result.bytes.now ≡ self.entry.bytes.now }
-        ensures
-            position { result.pos ≡ self.entry.pos
+        ensures position { result.pos ≡ self.entry.pos
             + ⟦<(ArchivedString, (ArchivedVec<ArchivedRc<ArchivedKnot, RcFlavor>>, ())) as PortableParts>⟧.begin 0 1 }
         ensures length { result.len ≡ 0 }
         ensures shows { ShowsValueOf result self.entry (field_in 1) }

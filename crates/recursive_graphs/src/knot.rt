@@ -25,7 +25,8 @@ ghost use Rattle.archive_core.specs.Runs.{EachBelongs, IsRunRefused, SerializedR
 ghost use Rattle.archive_core.specs.SealsWritten.{IsSealOf, SealsPart};
 ghost use Rattle.archive_core.specs.Seen.{IsPartOf, RefusesPart, ShowsValueOf};
 ghost use Rattle.archive_core.specs.SelfCheck.Laws.{by_schema};
-ghost use Rattle.archive_core.specs.Shape.{one, part, parts, vec};
+ghost use Rattle.archive_core.specs.Shape.{one, part, parts, shared, vec};
+ghost use Rattle.archive_core.specs.SharedSources.{rc_flavor};
 ghost use Rattle.archive_core.specs.Sources.{Read};
 ghost use Rattle.archive_core.specs.Value.{value};
 ghost use Rattle.archive_core.specs.Writing.{ZeroedPlace};

@@ -21,16 +21,16 @@ use Rattle.std.specs.Prelude.{[], ◌++◌, ◌≡◌, refl, pos, length}
 use Rattle.recursive_graphs.proofs.knot.+read_knot.Goals as goal
 
 pub read_shared_knot-returns-in_err-value-in-None-clause-refused : goal.read_shared_knot-returns-in_err-value-in-None-clause-refused
-read_shared_knot-returns-in_err-value-in-None-clause-refused g t c = err_by c.from_residual-in_err-value-in-None.result c.in_err-value-in-None.field-0.0 _ c.from_residual-in_err-value-in-None.ensures.1 (unread_since knot_definitions c.args.part.bytes.now c.args.part.pos c.args.part.len rc_flavor (one knot_shape) g.D.Entries.keeps _ _ _ c.requires (rw c.in-None.is at c.in_ok-begin_reading.ensures.begun) (rw (c.part_behind-behind.ensures.buffer, c.part_behind-behind.ensures.position, c.part_behind-behind.ensures.length) at c.in_err-value-in-None.ensures.refused))
+read_shared_knot-returns-in_err-value-in-None-clause-refused g t c = err_by c.from_residual-in_err-value-in-None.result c.in_err-value-in-None.field-0.0 _ c.from_residual-in_err-value-in-None.ensures.1 (unread_since knot_definitions c.args.part.bytes.now c.args.part.pos c.args.part.len rc_flavor (one knot_shape) g.D.Entries.keeps _ _ _ c.requires (rw c.in-None.is at c.in_ok-value.ensures.begun) (rw (c.part_behind-behind.ensures.buffer, c.part_behind-behind.ensures.position, c.part_behind-behind.ensures.length) at c.in_err-value-in-None.ensures.refused))
 
 pub read_shared_knot-returns-in-Some-clause-read : goal.read_shared_knot-returns-in-Some-clause-read
-read_shared_knot-returns-in-Some-clause-read g t c = rw c.in-Some.is at c.in_ok-begin_reading.ensures.known
+read_shared_knot-returns-in-Some-clause-read g t c = rw c.in-Some.is at c.in_ok-value.ensures.known
 
-pub read_shared_knot-returns-in-None-clause-read : goal.read_shared_knot-returns-in-None-clause-read
-read_shared_knot-returns-in-None-clause-read g t c = if_ok c.finish_reading.result (λ s h. h.since _ _ (rw c.in-None.is at c.in_ok-begin_reading.ensures.begun) (rw (c.part_behind-behind.ensures.buffer, c.part_behind-behind.ensures.position, c.part_behind-behind.ensures.length) at c.in_ok-value-in-None.ensures.read)) c.finish_reading.ensures.read
+pub read_shared_knot-returns-in_ok-value-in-None-clause-read : goal.read_shared_knot-returns-in_ok-value-in-None-clause-read
+read_shared_knot-returns-in_ok-value-in-None-clause-read g t c = if_ok c.finish_reading.result (λ s h. h.since _ _ (rw c.in-None.is at c.in_ok-value.ensures.begun) (rw (c.part_behind-behind.ensures.buffer, c.part_behind-behind.ensures.position, c.part_behind-behind.ensures.length) at c.in_ok-value-in-None.ensures.read)) c.finish_reading.ensures.read
 
-pub read_shared_knot-returns-in-None-clause-refused : goal.read_shared_knot-returns-in-None-clause-refused
-read_shared_knot-returns-in-None-clause-refused g t c = err_from c.finish_reading.result c.finish_reading.ensures.refused (λ e h. h.since _ _ (rw c.in-None.is at c.in_ok-begin_reading.ensures.begun) (rw (c.part_behind-behind.ensures.buffer, c.part_behind-behind.ensures.position, c.part_behind-behind.ensures.length) at c.in_ok-value-in-None.ensures.read))
+pub read_shared_knot-returns-in_ok-value-in-None-clause-refused : goal.read_shared_knot-returns-in_ok-value-in-None-clause-refused
+read_shared_knot-returns-in_ok-value-in-None-clause-refused g t c = err_from c.finish_reading.result c.finish_reading.ensures.refused (λ e h. h.since _ _ (rw c.in-None.is at c.in_ok-value.ensures.begun) (rw (c.part_behind-behind.ensures.buffer, c.part_behind-behind.ensures.position, c.part_behind-behind.ensures.length) at c.in_ok-value-in-None.ensures.read))
 
 pub read_vec_shared_knot-returns-in_err-item-clause-refused : goal.read_vec_shared_knot-returns-in_err-item-clause-refused
 read_vec_shared_knot-returns-in_err-item-clause-refused g t c = (let kept = c.loop-index.invariant in let b = c.before_vec-list.result.bytes.now in let q = c.before_vec-list.result.pos in let n = c.before_vec-list.result.len in let below : c.loop-index.index < n = omega (arith, c.loop-index-test.true, c.loop-index.auto.index-end, c.len-index-end.ensures) in let h = rw (c.part.ensures.buffer, c.part.ensures.position, c.part.ensures.length, c.index.ensures.buffer, c.index.ensures.position, c.index.ensures.length) at c.in_err-item.ensures.refused in let r = element_refused knot_definitions (shared rc_flavor (one knot_shape)) (record { size = 4; align = 4 }) (record { solved = λ s k. refl }) b q (run (shared rc_flavor (one knot_shape))) n n (all_have knot_definitions (shared rc_flavor (one knot_shape)) (record { size = 4; align = 4 }) (record { solved = λ s k. refl }) b q n (run (shared rc_flavor (one knot_shape))) n (inl (refl, refl))) (λ y. (shared_value y.key)) (λ y. (rc_keys y.key (one knot_shape) 0 (knot_meaning y.value.value) (knot_keys y.value.value))) (g.D.Entries.entry_of c.args.deserializer.now) (g.D.Entries.entry_of c.loop-index.deserializer) c.loop-index.items.items c.loop-index.index (one (shared rc_flavor (one knot_shape))) c.in_err-item.field-0.0 refl below (kept.3) h in err_by c.from_residual-in_err-item.result c.in_err-item.field-0.0 _ c.from_residual-in_err-item.ensures.1 (vec_unread knot_definitions c.args.part.bytes.now c.args.part.pos c.args.part.len (shared rc_flavor (one knot_shape)) (g.D.Entries.entry_of c.args.deserializer.now) c.in_err-item.field-0.0 c.requires (rw (c.before_vec-list.ensures.buffer, c.before_vec-list.ensures.position, c.before_vec-list.ensures.length, c.at-view.ensures.buffer, c.at-view.ensures.position) at r)))
