@@ -585,7 +585,7 @@ def option_read(it, type, answers):
     case = f"{D} {D} (λ s k. k) _ _ 1 {X} refl (record {{ size = {size}; align = {align} }}) (record {{ solved = λ s k. refl }}) {here} {align} refl {shown.format('Some')}"
     steps = [f"c.part.ensures.{clause}" for clause in ("buffer", "position", "length")] + [f"c.in-Some.ensures.{clause}" for clause in ("buffer", "position", "length")]
     told = f"rw ({', '.join(steps + ['c.at-view.ensures.buffer', 'c.at-view.ensures.position'])}) at"
-    answers.answer(function, "returns-in_ok-value-in-None-clause-read", f"empty_case_read_back {D} _ _ 0 refl {here} {shown.format('None')} _ _ refl")
+    answers.answer(function, "returns-in-None-clause-read", f"empty_case_read_back {D} _ _ 0 refl {here} {shown.format('None')} _ _ refl")
     answers.answer(
         function, "returns-in_err-value-in-Some-clause-refused",
         f"err_by c.from_residual.result c.in_err-value-in-Some.field-0.0 _ c.from_residual.ensures.1 (case_refuses {case} _ _ ({told} c.in_err-value-in-Some.ensures.refused))",
