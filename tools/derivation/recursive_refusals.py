@@ -63,10 +63,10 @@ def check_plain(it: Declaration, type: Type, line: int):
 
 
 def check_owner(it: Declaration, type: Type, line: int):
-    """What leads back is a box, an option of one, a vector of these or of the type itself, or a box of such a vector."""
+    """What leads back is a box, an option of one, a vector of these, of the type itself or of shared pointers to it, or a box of such a vector."""
     if is_pointer(it, type) or is_list(it, type) or is_named(type, "Box") and is_list(it, type.args[0]):
         return
-    written = f"a `Box<{it.name}>`, an `Option<Box<{it.name}>>`, a `Vec` of these or of `{it.name}`, or a `Box` of such a `Vec` is"
+    written = f"a `Box<{it.name}>`, an `Option<Box<{it.name}>>`, a `Vec` of these, of `{it.name}` or of `Shared<{it.name}>`, or a `Box` of such a `Vec` is"
     if type.name not in ("Box", "Option", "Vec") or type.own is not None:
         raise Refused(it.path, line, f"`{type.name}` around `{it.name}` isn't written yet; {written}")
     raise Refused(it.path, line, f"this {'option' if type.name == 'Option' else f'`{type.name}` of pointers'} to `{it.name}` isn't written yet; {written}")
@@ -87,7 +87,10 @@ def is_pointer(it: Declaration, type: Type) -> bool:
 
 
 def is_list(it: Declaration, type: Type) -> bool:
-    return is_named(type, "Vec") and (is_member(it, type.args[0]) or is_pointer(it, type.args[0]))
+    if not is_named(type, "Vec"):
+        return False
+    item = type.args[0]
+    return is_member(it, item) or is_pointer(it, item) or is_named(item, "Shared") and is_member(it, item.args[0])
 
 
 def leads_back(it: Declaration, type: Type) -> bool:

@@ -80,6 +80,16 @@ class Recursive(RepositoryTest):
         self.assertIn("(list (each_meaning (pair_meaning (λ y. (text_value (string_bytes y))) (λ y. (number (pos y)))) t.hours.entries))", text)
         self.assertIn("(sorted_map str_key (leaf (number_kind unsigned w8)))", self.beside("specs", "TaskShape.antt"))
 
+    def test_a_graph_is_keyed_by_what_its_values_mean(self):
+        path = self.put("use archive_core::rc::Shared;\n#[derive(Drop)]\npub struct Place { id: u32, next: Vec<Shared<Place>> }\n#[derive(Drop)]\npub struct Way { places: Vec<Shared<Place>> }\n")
+        self.assertEqual(self.run_command(path), (0, ""))
+        text, meaning = self.text(path), self.beside("specs", "PlaceMeaning.antt")
+        self.assertIn("(rc_keys y.key (one place_shape) 0 (m y.value.value) (k y.value.value))", meaning)
+        self.assertIn("fold-Place (Value × (List Naming)) (place_both_layer (λ v. v))", meaning)
+        self.assertIn("fn serialize_place<S: Sharing + Writer + ResolverAlloc>", text)
+        self.assertIn("fn read_place<D: Pooling<Shared<Place>>>", text)
+        self.assertIn("impl FromParts for Way", text)
+
     def test_two_files_of_one_run_are_both_named(self):
         paths = [self.put(LIST, "list"), self.put(TREE, "tree")]
         self.assertEqual(self.run_command(*paths), (0, ""))

@@ -173,11 +173,13 @@ class Circles(RepositoryTest):
     def test_behind_a_pointer(self):
         for text, said in [
             ("struct A { b: B }\nstruct B { a: Vec<A> }", "1: `B` leads back to `A`, and isn't written yet without a pointer between; put it into a `Box`"),
-            ("struct W<T>(Box<T>);\nstruct A { x: W<A> }", "2: `W` around `A` isn't written yet; a `Box<A>`, an `Option<Box<A>>`, a `Vec` of these or of `A`, or a `Box` of such a `Vec` is"),
+            ("struct W<T>(Box<T>);\nstruct A { x: W<A> }", "2: `W` around `A` isn't written yet; a `Box<A>`, an `Option<Box<A>>`, a `Vec` of these, of `A` or of `Shared<A>`, or a `Box` of such a `Vec` is"),
             ("struct A<T> { x: T, a: Vec<A<T>> }", "1: `A` is recursive (A > A) and has type parameters; name its arguments, one type for each"),
-            ("struct A { a: Option<Vec<A>> }", "1: this option to `A` isn't written yet; a `Box<A>`, an `Option<Box<A>>`, a `Vec` of these or of `A`, or a `Box` of such a `Vec` is"),
-            ("struct A { a: Vec<Vec<A>> }", "1: this `Vec` of pointers to `A` isn't written yet; a `Box<A>`, an `Option<Box<A>>`, a `Vec` of these or of `A`, or a `Box` of such a `Vec` is"),
-            ("struct A { a: Result<Box<A>, u8> }", "1: `Result` around `A` isn't written yet; a `Box<A>`, an `Option<Box<A>>`, a `Vec` of these or of `A`, or a `Box` of such a `Vec` is"),
+            ("struct A { a: Option<Vec<A>> }", "1: this option to `A` isn't written yet; a `Box<A>`, an `Option<Box<A>>`, a `Vec` of these, of `A` or of `Shared<A>`, or a `Box` of such a `Vec` is"),
+            ("struct A { a: Vec<Vec<A>> }", "1: this `Vec` of pointers to `A` isn't written yet; a `Box<A>`, an `Option<Box<A>>`, a `Vec` of these, of `A` or of `Shared<A>`, or a `Box` of such a `Vec` is"),
+            ("use archive_core::rc::Shared;\nstruct A { a: Option<Shared<A>> }", "2: this option to `A` isn't written yet; a `Box<A>`, an `Option<Box<A>>`, a `Vec` of these, of `A` or of `Shared<A>`, or a `Box` of such a `Vec` is"),
+            ("use archive_core::rc::SharedSlice;\nstruct A { a: Vec<SharedSlice<A>> }", "2: this `Vec` of pointers to `A` isn't written yet; a `Box<A>`, an `Option<Box<A>>`, a `Vec` of these, of `A` or of `Shared<A>`, or a `Box` of such a `Vec` is"),
+            ("struct A { a: Result<Box<A>, u8> }", "1: `Result` around `A` isn't written yet; a `Box<A>`, an `Option<Box<A>>`, a `Vec` of these, of `A` or of `Shared<A>`, or a `Box` of such a `Vec` is"),
             (f"enum A {{ X(Vec<A>),\n{LIST.join(f'V{i}' for i in range(70))} }}", "61: the recursive `A` has more variants up to here than the toolchain follows; put some into an enum of another file"),
             ("struct A { a: Vec<A>,\n b: [u8; 2] }", "2: this field of the recursive `A` is of a type that tools/derive doesn't write there; put it into a struct of another file"),
             ("struct B { x: u8 }\nstruct A { a: Vec<A>,\n b: B }", "3: `B` is held by the recursive `A`; move it to another file"),
