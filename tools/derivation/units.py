@@ -241,7 +241,7 @@ pub {step} : goal.{step}
         brought = self.brought(dotted, (f"{choice.archived}Portable", "shape-value"), (f"{name}Archive", values))
         kept = f"use Rattle.{choice.declaration.crate}.specs.declared.{'.'.join(choice.declaration.module)}.{choice.resolver}.TheVariants.{{{self.name} as {name}Kept}}\n"
         step = "returns-in-Ok-serialize_case_0" if self.apart() else "returns-in-Ok"
-        same = "ap (λ n. case n no_value) (sym tagged)"
+        same = "ap (λ n. case n no_value) (sym tagged)"  # where all are so, what is flat is the meaning by definition
         body = f"""λ none tagged. record {{
     keys = refl;
     meaning = {same};
@@ -264,7 +264,7 @@ pub {step} : goal.{step}
 {step} g c =
     let it = is_plain c.args.self.now c.tag.result {self.none()} c.tag.ensures in
     record {{
-      serialized = rw (it.keys, it.meaning, it.flat) c.in-Ok{"-serialize_case_0" if self.apart() else ""}.ensures.serialized;
+      serialized = rw (it.keys, it.meaning{", it.flat" if self.apart() else ""}) c.in-Ok{"-serialize_case_0" if self.apart() else ""}.ensures.serialized;
       same_value = it.belongs;
       goes_on = c.serialize_case_0.ensures.goes_on;
       refused = tt;
