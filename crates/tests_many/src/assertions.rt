@@ -3,7 +3,7 @@
 // that return a `Result` are made in here as well: the check writes out all locals of a body at each of its steps, and an `Error` in a hundred lines.
 
 ghost use Rattle.archive_core.specs.Definitions.{no_definition};
-ghost use Rattle.archive_core.specs.Shape.{str as str_shape};
+ghost use Rattle.archive_core.specs.Shape.{one, str as str_shape};
 ghost use Rattle.archive_core.specs.SealsWritten.{IsSealOf};
 
 use crate::judgements::assert_checked;
