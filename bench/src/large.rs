@@ -20,7 +20,7 @@ fn once(set: Set, operation: Operation) -> Option<(usize, f64, usize)> {
     let start = Instant::now();
     let _ = (ready.run)(0);
     let prepared = start.elapsed();
-    let peak = measure::peak(&mut ready);
+    let peak = measure::peak(&mut ready, operation);
     let start = Instant::now();
     assert!((ready.run)(1) != 0, "it is refused");
     let taken = start.elapsed().saturating_sub(prepared);

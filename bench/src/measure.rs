@@ -224,15 +224,22 @@ fn heap_call<F>(name: &[u8]) -> F {
     unsafe { std::mem::transmute_copy(&found) }
 }
 
-/// The most of the heap that an operation held beyond what it found, in bytes. What a run prepares is made first, and isn't counted.
-pub fn peak(ready: &mut Ready) -> usize {
+/// The most of the heap that an operation held beyond what it found, in bytes. What a run prepares is made first, and isn't counted; nor is the first
+/// growth of a buffer that is used again.
+pub fn peak(ready: &mut Ready, operation: Operation) -> usize {
     let restart: extern "C" fn(usize) = heap_call(b"heap_restart\0");
     let most: extern "C" fn() -> usize = heap_call(b"heap_most\0");
     let made: extern "C" fn() -> usize = heap_call(b"heap_made\0");
+    let earlier = match operation {
+        Operation::WriteReused => 1,
+        _ => 0,
+    };
+    // A buffer that is kept from run to run grows here.
+    let _ = (ready.run)(earlier);
     let before = made();
-    let _ = (ready.run)(0);
+    let _ = (ready.run)(earlier);
     restart(made() - before);
-    let _ = (ready.run)(1);
+    let _ = (ready.run)(earlier + 1);
     most()
 }
 
@@ -251,7 +258,7 @@ fn counted() -> Vec<(Set, Operation)> {
 pub fn heap() {
     for (set, operation) in counted() {
         let peaks = GROWING.map(|format| match format.task(set, operation, false) {
-            Task::Ready(mut ready) => peak(&mut ready).to_string(),
+            Task::Ready(mut ready) => peak(&mut ready, operation).to_string(),
             Task::Absent => "-".into(),
         });
         println!("{}", peaks.join(" "));

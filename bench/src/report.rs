@@ -345,7 +345,7 @@ pub struct Taken {
 const HEAP: &str = "\n## The heap
 
 The most bytes that an operation held beyond the value, the bytes or the schema it is given, what it makes included, as a counter in place of `malloc`
-tells (`bench/heap`). The ratio is archive-core's to the least of the peers'.
+tells (`bench/heap`); a buffer that is reused has grown before. The ratio is archive-core's to the least of the peers'.
 
 ";
 

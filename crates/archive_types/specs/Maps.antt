@@ -1,10 +1,14 @@
--- The entries of sorted maps: where their keys and values stand, and what these are of the list of pairs that a map is.
+-- The entries of sorted maps: where their keys and values stand, what these are of the list of pairs that a map is, and which keys are the same.
+use Rattle.std.proofs.Common.{◌≡◌, ℤ, refl, sym, ap, ◌∙◌}
+use Rattle.std.proofs.lemmas.Map.Lookups.{exact_signed, exact_bytes}
+use Rattle.std.specs.Cmp.Lexicographic.{slice_cmp}
 use Rattle.std.specs.Prelude.{ℕ, ◌+◌, Bool, true, ◌&&◌, List, [], ◌∷◌, Option, Some, None}
-use Rattle.std.specs.BTreeMap.{insert_entry}
-use Rattle.std.specs.Ordering.{is_lt}
+use Rattle.std.specs.Ordering.{is_lt, nat_cmp, int_cmp}
 use Rattle.std.specs.declared.cmp.Ordering.{Ordering}
+use Rattle.std.specs.declared.cmp.Ordering.TheVariants.{Equal}
+use Rattle.archive_check.specs.Denotes.{Naming}
 use Rattle.archive_check.specs.Layout.{Layout, up}
-use Rattle.archive_check.specs.Value.{Value}
+use Rattle.archive_check.specs.Value.{Value, number, text_value}
 use Rattle.archive_types.specs.Fields.{field_in}
 use Rattle.archive_types.specs.Views.{element_in}
 
@@ -24,11 +28,6 @@ key_in i w = entry_part 0 (element_in i w)
 abbrev pub value_in : ℕ → Value → Option Value
 value_in i w = entry_part 1 (element_in i w)
 
--- What a map holds into which these pairs were inserted in turn, where it held es before.
-abbrev pub inserted : {A B : Type 0} → (A → A → Ordering) → List (A × B) → List (A × B) → List (A × B)
-inserted cmp es [] = es
-inserted cmp es (x ∷ xs) = inserted cmp (insert_entry cmp es x.0 x.1) xs
-
 -- Whether the keys of pairs ascend strictly, from behind a key on; and from the first one on.
 abbrev pub ascending_from : {A B : Type 0} → (A → A → Ordering) → A → List (A × B) → Bool
 ascending_from cmp k [] = true
@@ -37,3 +36,16 @@ ascending_from cmp k (x ∷ xs) = is_lt (cmp k x.0) && ascending_from cmp x.0 xs
 abbrev pub ascending : {A B : Type 0} → (A → A → Ordering) → List (A × B) → Bool
 ascending cmp [] = true
 ascending cmp (x ∷ xs) = ascending_from cmp x.0 xs
+
+-- Two keys with these meanings and shared keys are the same in an archive.
+abbrev pub AreSame : Value → Value → List Naming → List Naming → Type 0
+AreSame v w ks ls = (v ≡ w) × (ks ≡ ls)
+
+-- Numbers are, by an order that is that of the numbers.
+pub numbers_exact : {A : Type 0} (R : A → A → Ordering) (value : A → ℤ) → ((x y : A) → R x y ≡ int_cmp (value x) (value y))
+    → (x y : A) → R x y ≡ Equal → AreSame (number (value x)) (number (value y)) [] []
+numbers_exact R value is x y e = (ap number (exact_signed (value x) (value y) (sym (is x y) ∙ e)), refl)
+
+-- And texts are, by the order of their bytes.
+pub texts_exact : (xs ys : List ℕ) → slice_cmp nat_cmp xs ys ≡ Equal → AreSame (text_value xs) (text_value ys) [] []
+texts_exact xs ys e = (ap text_value (exact_bytes xs ys e), refl)

@@ -11,7 +11,7 @@ ghost use Rattle.archive_types.specs.Words.Placed.{Pointed, Unpointed};
 ghost use Rattle.archive_types.specs.Runs.{EachBelongs};
 ghost use Rattle.archive_types.specs.Writing.{ZeroedPlace, Resolves};
 ghost use Rattle.archive_write.specs.Written.{GoesOn};
-ghost use Rattle.archive_types.specs.Outcomes.{ResolvesBytes, PutsRegion, PutsElements};
+ghost use Rattle.archive_types.specs.Outcomes.{ResolvesBytes, ResolvesPart, PutsRegion, PutsElements};
 ghost use Rattle.archive_types.specs.SourceOutcomes.{WritesOne};
 
 use crate::place::Place;
@@ -26,6 +26,9 @@ use std::alloc::Allocator;
 
 /// Regions of this size or less are resolved in a local array.
 const LOCAL_SIZE: usize = 64;
+
+// Of elements of that size or less as many as fit are resolved in a local array of this size.
+const BLOCK: usize = 256;
 
 // The same refusal. A loop hands its values' refusals on by this call: where no word of them is named, the compiled code keeps 16 bytes of each refusal that
 // may come on the way, and clears them for each value.
@@ -129,32 +132,78 @@ pub(crate) fn resolve_into<T: Archive>(
     value.resolve(resolver, Place::new(pos, bytes))
 }
 
-// Resolves values one after another at the writer's end, each into zeros over the same bytes. There is a resolver for each.
-#[tactic(auto, using(crate::proofs::Writing::Regions::fresh_zeros, crate::proofs::Writing::RunRegions::completes_start, crate::proofs::Writing::RunRegions::completes_step, crate::proofs::Writing::RunRegions::completes_more, crate::proofs::Writing::RunRegions::completes_end, crate::proofs::Writing::RunRegions::belongs_here, crate::proofs::Writing::RunRegions::place_here))]
+// Resolves a value over bytes that are to stand at a position, whatever they were.
+#[tactic(auto, using(crate::proofs::Writing::Regions::fresh_zeros))]
+#[inline(always)]
+fn resolve_over<T: Archive>(
+    value: &T,
+    resolver: T::Resolver,
+    pos: usize,
+    bytes: &mut [u8],
+) -> Result<(), Error>
+    requires sized { length bytes.old ≡ T.Archived.layout.size }
+    requires ends { pos + T.Archived.layout.size < 2 ^ 64 }
+    requires same_value { T.belongs value.now resolver }
+    ensures { ResolvesBytes T.Archived.Portable pos bytes (T.flat value.now resolver) result }
+{
+    bytes.fill(0);
+    resolve_into(value, resolver, pos, bytes)
+}
+
+// The same over a part of a block that is to stand at `pos`, from the offset `begin` on.
+#[inline(always)]
+fn resolve_in_block<T: Archive>(
+    value: &T,
+    resolver: T::Resolver,
+    pos: usize,
+    begin: usize,
+    block: &mut [u8],
+) -> Result<(), Error>
+    requires inside { begin + T.Archived.layout.size ≤ length block.old }
+    requires ends { pos + begin + T.Archived.layout.size < 2 ^ 64 }
+    requires same_value { T.belongs value.now resolver }
+    ensures { ResolvesPart T.Archived.Portable (T.flat value.now resolver) begin pos block.old
+        block.new result }
+{
+    let end = begin + T::Archived::size();
+    resolve_over(value, resolver, pos + begin, &mut block[begin..end])
+}
+
+// Resolves values one after another at the writer's end, as many as fit over the same block of bytes, which is then written. If each were written alone, the
+// processor would wait for its narrow stores before it copies it. There is a resolver for each.
+#[tactic(auto, using(crate::proofs::Writing::RunRegions::fills_start, crate::proofs::Writing::RunRegions::fills_more, crate::proofs::Writing::RunRegions::belongs_here, crate::proofs::Writing::RunRegions::place_here))]
 #[inline(always)]
 fn resolve_each<W: Writer, T: Archive, A: Allocator + Drop>(
     writer: &mut W,
     values: &[T],
     resolvers: Vec<T::Resolver, A>,
-    region: &mut [u8],
+    block: &mut [u8],
 ) -> Result<(), Error>
-    requires sized { length region.old ≡ T.Archived.layout.size }
+    requires sized { T.Archived.layout.size ≤ length block.old }
     requires ends { length (W.state writer.old).bytes + length values.now * T.Archived.layout.size
         < 2 ^ 64 }
     requires same_values { EachBelongs T.belongs values.now resolvers.items }
     ensures { PutsElements T.Archived.Portable T.flat values.now resolvers.items W.Keys writer
         result }
 {
+    let size = T::Archived::size();
     let mut rest = values;
+    let mut filled = 0;
     for resolver in resolvers {
         let Some((value, others)) = rest.split_first() else {
             unreachable!();
         };
-        region.fill(0);
-        if let Err(error) = resolve_region(writer, value, resolver, region) {
+        if let Err(error) = resolve_in_block(value, resolver, writer.pos(), filled, block) {
             return Err(by_words(error));
         }
+        filled += size;
         rest = others;
+        if rest.is_empty() || block.len() - filled < size {
+            if let Err(error) = writer.write(&block[..filled]) {
+                return Err(by_words(error));
+            }
+            filled = 0;
+        }
     }
     Ok(())
 }
@@ -252,8 +301,8 @@ pub trait ResolveExt: Writer {
             resolve_each_large(self, alloc, values, resolvers, size)?;
             return Ok(pos);
         }
-        let mut local = [0u8; LOCAL_SIZE];
-        resolve_each(self, values, resolvers, &mut local[..size])?;
+        let mut block = [0u8; BLOCK];
+        resolve_each(self, values, resolvers, &mut block)?;
         Ok(pos)
     }
 

@@ -77,6 +77,8 @@ impl<S: Writer + Keys> Serialize<S> for One {
 
 impl SortedKey for One {
     ghost sorted = { λ x y. refl };
+
+    ghost exact = { λ x y e. (refl, refl) };
 }
 
 // Such entries are refused so, and nothing is written.

@@ -1,11 +1,13 @@
 -- Maps are read back, or refused, as their entries are; and where these are named by their positions, their keys ascend.
-use Rattle.std.proofs.Common.{◌≡◌, ℕ, ◌+◌, ◌/◌, nat_eq, if◌then◌else◌, slice_index, Bool, true, false, List, [], ◌∷◌, Some, None, arith, inl, inr, ⊎_elim, refl, sym, ap, ◌∙◌, ap₂}
+use Rattle.std.proofs.Common.{◌≡◌, ℕ, ◌+◌, ◌/◌, nat_eq, if◌then◌else◌, slice_index, Bool, true, false, List, [], ◌∷◌, ◌++◌, Some, None, BTreeMap, arith, inl, inr, ⊎_elim, refl, sym, ap, ◌∙◌, ap₂}
 use Rattle.std.proofs.Math.Logic.{∥∥₁_elim}
 use Rattle.std.proofs.lemmas.Bool.Decides.{nat_tests}
 use mathlib.Core.Bool.{Bool-set}
+use Rattle.std.proofs.lemmas.Map.Lookups.{map_keys}
+use Rattle.std.specs.BTreeMap.{IsFromIterResult}
 use Rattle.std.specs.Cmp.{IsTotalOrder}
 use Rattle.std.specs.declared.cmp.Ordering.{Ordering}
-use Rattle.std.specs.declared.cmp.Ordering.TheVariants.{Less}
+use Rattle.std.specs.declared.cmp.Ordering.TheVariants.{Less, Equal}
 use Rattle.archive_check.specs.declared.format.error.Error.{Error}
 use Rattle.archive_check.specs.Shape.{Key, leaf_key, str_key, Shape, str, sorted_map, Pointee, one, run, text, parts, part, no_part, key_shape, entry_of}
 use Rattle.archive_check.specs.Layout.{size_of}
@@ -22,11 +24,12 @@ use Rattle.archive_check.specs.Entries.{AreNamedByPosition, meets_in_unique, IsC
 use Rattle.archive_check.proofs.Maps.Entries.{key_at}
 use Rattle.archive_check.proofs.Reading.ReadOwners.{owner_read_back}
 use Rattle.archive_check.proofs.Viewing.Viewed.{lies_reads, lies_leads}
-use Rattle.archive_types.specs.Maps.{inserted, ascending, ascending_from}
+use Rattle.archive_types.specs.MapPairs.{pair_meaning, pair_keys}
+use Rattle.archive_types.specs.Maps.{AreSame, ascending, ascending_from}
 use Rattle.archive_types.specs.Members.Maps.{entry_is}
 use Rattle.archive_types.specs.Runs.{each_meaning, each_keys}
 use Rattle.archive_types.specs.ValueOrder.{value_cmp}
-use Rattle.archive_types.proofs.Maps.InsertedPairs.{inserted_in_order}
+use Rattle.archive_types.proofs.Maps.InsertedPairs.{collected_alike}
 use Rattle.archive_types.proofs.Maps.AscendingKeys.{key_value, key_compared, map_followed}
 use Rattle.archive_types.proofs.Viewing.PartsShown.{map_has, map_shown}
 
@@ -133,20 +136,39 @@ said_ascend meaning of_value cmp sorted D K V bytes q n xs viewed says = ∥∥�
     let (u, j, a, c) = map_followed V K s bytes q n l in
     run_ascends s bytes meaning of_value cmp sorted K V xs a c (says.fills s u k j c))
 
--- A map is read back in which the pairs were inserted that its entries were read back as.
-module _ {A B : Type 0} (meaning : A → Value) (of_value : B → Value) (keys_of : A × B → List Naming) (cmp : A → A → Ordering) (total : IsTotalOrder cmp) (sorted : (x y : A) → cmp x y ≡ value_cmp (meaning x) (meaning y)) where
-  pub pairs_read : {keeps : Bool} (D : Definitions) (X V : Shape) (K : Key) → X ≡ key_shape K
-      → (bytes : List ℕ) (q n : ℕ) → Viewed D bytes q (one (sorted_map K V)) n
-      → (old new : Entries) (xs es : List (A × B)) → es ≡ inserted cmp [] xs
-      → ReadsBack keeps D bytes (target_from bytes q q) (run (parts (part X (part V no_part)))) (u32_at bytes (q + 4)) old new
-      (list (each_meaning (λ e. product (value (meaning e.0) (value (of_value e.1) no_value))) xs)) (each_keys keys_of xs)
-      → ReadsBack keeps D bytes q (one (sorted_map K V)) n old new (list (each_meaning (λ e. product (value (meaning e.0) (value (of_value e.1) no_value))) es)) (each_keys keys_of es)
-  pairs_read D X V K is bytes q n viewed old new xs es e h =
-      let there = rw (entry_is X V K is) at h in
-      let same : AreNamedByPosition old → xs ≡ es = λ named. sym (e ∙ inserted_in_order cmp total xs (said_ascend meaning of_value cmp sorted D K V bytes q n xs viewed (there.value named))) in
-      read_instead D bytes q n (one (sorted_map K V)) old new _ _ _ _
-      (λ named. (ap (λ l. list (each_meaning (λ e. product (value (meaning e.0) (value (of_value e.1) no_value))) l)) (same named), ap (each_keys keys_of) (same named)))
-      (map_read D bytes q n K V viewed old new _ _ there)
+-- What pairs mean, and their names, are told by what their keys mean and the names of these, with their values.
+module _ {A B : Type 0} (meaning : A → Value) (of_value : B → Value) (key_names : A → List Naming) (value_names : B → List Naming) where
+  abbrev told : A → Value × List Naming
+  told k = (meaning k, key_names k)
+
+  meaning_told : (xs : List (A × B)) → each_meaning (pair_meaning meaning of_value) xs ≡ each_meaning (pair_meaning (λ k. k.0) of_value) (map_keys told xs)
+  meaning_told [] = refl
+  meaning_told (x ∷ xs) = ap (value (pair_meaning meaning of_value x)) (meaning_told xs)
+
+  names_told : (xs : List (A × B)) → each_keys (pair_keys key_names value_names) xs ≡ each_keys (pair_keys (λ k. k.1) value_names) (map_keys told xs)
+  names_told [] = refl
+  names_told (x ∷ xs) = ap (λ l. pair_keys key_names value_names x ++ l) (names_told xs)
+
+  -- A map is read back that was made of the pairs that its entries were read back as.
+  module _ (cmp : A → A → Ordering) (total : IsTotalOrder cmp) (sorted : (x y : A) → cmp x y ≡ value_cmp (meaning x) (meaning y))
+      (exact : (x y : A) → cmp x y ≡ Equal → AreSame (meaning x) (meaning y) (key_names x) (key_names y)) where
+    pub pairs_read : {keeps : Bool} (D : Definitions) (X V : Shape) (K : Key) → X ≡ key_shape K
+        → (bytes : List ℕ) (q n : ℕ) → Viewed D bytes q (one (sorted_map K V)) n
+        → (old new : Entries) (xs : List (A × B)) (m : BTreeMap A B) → IsFromIterResult cmp xs m
+        → ReadsBack keeps D bytes (target_from bytes q q) (run (parts (part X (part V no_part)))) (u32_at bytes (q + 4)) old new
+        (list (each_meaning (pair_meaning meaning of_value) xs)) (each_keys (pair_keys key_names value_names) xs)
+        → ReadsBack keeps D bytes q (one (sorted_map K V)) n old new
+        (list (each_meaning (pair_meaning meaning of_value) m.entries)) (each_keys (pair_keys key_names value_names) m.entries)
+    pairs_read D X V K is bytes q n viewed old new xs m made h =
+        let there = rw (entry_is X V K is) at h in
+        let same : AreNamedByPosition old → map_keys told xs ≡ map_keys told m.entries = λ named.
+            sym (collected_alike cmp total told (λ x y e i. ((exact x y e).0 i, (exact x y e).1 i)) xs m made (said_ascend meaning of_value cmp sorted D K V bytes q n xs viewed (there.value named))) in
+        read_instead D bytes q n (one (sorted_map K V)) old new _ _ _ _
+        (λ named. (
+          ap list (meaning_told xs ∙ ap (each_meaning (pair_meaning (λ k. k.0) of_value)) (same named) ∙ sym (meaning_told m.entries)),
+          names_told xs ∙ ap (each_keys (pair_keys (λ k. k.1) value_names)) (same named) ∙ sym (names_told m.entries),
+        ))
+        (map_read D bytes q n K V viewed old new _ _ there)
 
 -- and refused where they are
 pub pairs_unread : (D : Definitions) (X V : Shape) (K : Key) → X ≡ key_shape K → (bytes : List ℕ) (q n : ℕ)

@@ -1,34 +1,105 @@
-use Rattle.std.proofs.Common.{rules, sym, ◌∙◌}
-use Rattle.archive_types.proofs.Planning.Causes.{goes_both}
-use Rattle.archive_types.proofs.Writing.RunRegions.{completes_more, completes_step, completes_broken, completes_end}
+use Rattle.std.proofs.Common.{rules, ◌≡◌, ◌+◌, ◌<◌, ◌^◌, length, take, refl, sym, ◌∙◌, arith}
+use Rattle.std.proofs.lemmas.Grind.{common_steps}
+use Rattle.std.proofs.lemmas.List.{length-take}
+use Rattle.archive_types.proofs.Planning.Causes.{goes_both, goes_written, goes_refused}
+use Rattle.archive_types.proofs.Writing.RunRegions.{fills_start, fills_more, belongs_here, place_here, fills_broken, fills_next, fills_written, fills_refused, fills_end, same_length}
 use Rattle.archive_types.proofs.ser.resolve_each.Goals as goal
 
-pub unreachable-requires : goal.unreachable-requires
-unreachable-requires g c = completes_more _ _ _ _ _ _ _ _ _ _ _ _ c.in-Some.resolver (c.in-Some.ensures.steps.0) c.in_default.ensures.cases c.loop-resolver.invariant.completes
-
-pub returns-in-Err : goal.returns-in-Err
-returns-in-Err g c = record {
-  put = search rules;
-  refused = rw (c.by_words.ensures)
-      (completes_broken _ _ _ _ _ _ _ _ _ _ _ _ _ c.in-Some-split_first.value.now c.in-Some.resolver _ _ c.in-Some-split_first.ensures.cases.0 c.in-Some.ensures.steps.0 c.loop-resolver.invariant.completes
-      c.resolve_region.ensures.outcome.goes_on c.in-Err.ensures.outcome.refused);
-  goes_on = goes_both _ _ _ c.loop-resolver.invariant.completes.goes c.resolve_region.ensures.outcome.goes_on;
-  keys = search rules;
-}
-
-pub loop-resolver-preserved : goal.loop-resolver-preserved
-loop-resolver-preserved g c = record {
+pub loop-resolver-init : goal.loop-resolver-init
+loop-resolver-init g c = record {
   can_next = tt;
   finite = tt;
-  sized = c.resolve_region.ensures.same_length ∙ c.fill.ensures.len ∙ c.loop-resolver.invariant.sized;
-  completes = completes_step _ _ _ _ _ _ _ _ _ _ _ _ _ c.in-Some-split_first.value.now c.in-Some.resolver _ c.in-Some-split_first.ensures.cases.0 c.in-Some.ensures.steps.0 c.loop-resolver.invariant.completes
-      c.in_default-resolve_region.ensures.outcome.region c.resolve_region.ensures.outcome.goes_on c.resolve_region.ensures.outcome.keys;
+  room = omega (arith, c.requires.sized);
+  emptied = λ e. refl;
+  fills = rw (c.into_iter-resolver-iterator.ensures.into_iter_gives.0) (fills_start _ _ _ _ _ _ _ c.args.resolvers.items c.requires.same_values);
 }
+
+pub unreachable-requires : goal.unreachable-requires
+unreachable-requires g c = fills_more _ _ _ _ _ _ _ _ _ _ _ _ _ c.in-Some.resolver (c.in-Some.ensures.steps.0) c.in_default.ensures.cases c.loop-resolver.invariant.fills
+
+pub resolve_in_block-requires-clause-ends : goal.resolve_in_block-requires-clause-ends
+resolve_in_block-requires-clause-ends g c =
+    let filled = c.loop-resolver.filled in
+    let held : length (take filled c.loop-resolver.block) ≡ filled = omega (arith, c.loop-resolver.invariant.room, length-take filled c.loop-resolver.block) in
+    let here : c.pos.result ≡ length (g.W.Keys.state c.loop-resolver.writer).bytes = c.pos.ensures ∙ g.met.W.Writer.position_law c.loop-resolver.writer in
+    let fits = place_here _ _ _ _ _ _ _ _ _ _ _ _ _ c.in-Some-split_first.value.now c.in-Some-split_first.ensures.cases.0 c.loop-resolver.invariant.fills c.requires.ends in
+    omega (arith, held, here, fits)
+
+pub returns-in-Err : goal.returns-in-Err
+returns-in-Err g c =
+    let filled = c.loop-resolver.filled in
+    let held : length (take filled c.loop-resolver.block) ≡ filled = omega (arith, c.loop-resolver.invariant.room, length-take filled c.loop-resolver.block) in
+    let here : c.pos.result ≡ length (g.W.Keys.state c.loop-resolver.writer).bytes = c.pos.ensures ∙ g.met.W.Writer.position_law c.loop-resolver.writer in
+    let there : c.pos.result + filled ≡ length (g.W.Keys.state c.loop-resolver.writer).bytes + length (take filled c.loop-resolver.block) = omega (arith, held, here) in
+    record {
+      put = search rules;
+      refused = rw (c.by_words.ensures)
+          (fills_broken _ _ _ _ _ _ _ _ _ _ _ _ _ _ c.in-Some-split_first.value.now c.in-Some.resolver c.in-Some-split_first.ensures.cases.0 c.loop-resolver.invariant.fills c.in-Some.ensures.steps.0
+          _ (rw there at c.in-Err.ensures.refused));
+      goes_on = c.loop-resolver.invariant.fills.goes;
+      keys = c.loop-resolver.invariant.fills.states;
+    }
+
+pub returns-in-Err-write : goal.returns-in-Err-write
+returns-in-Err-write g c =
+    let filled = c.loop-resolver.filled in
+    let here : c.pos.result ≡ length (g.W.Keys.state c.loop-resolver.writer).bytes = c.pos.ensures ∙ g.met.W.Writer.position_law c.loop-resolver.writer in
+    let fits = place_here _ _ _ _ _ _ _ _ _ _ _ _ _ c.in-Some-split_first.value.now c.in-Some-split_first.ensures.cases.0 c.loop-resolver.invariant.fills c.requires.ends in
+    let end : filled + c.size-size.result ≡ filled + g.T.Archived.Portable.layout.size = omega (arith, c.size-size.ensures, fits) in
+    let next = fills_next _ _ _ _ _ _ _ _ _ _ _ _ _ c.in-Some-split_first.value.now c.in-Some.resolver c.in-Some-split_first.ensures.cases.0 c.in-Some.ensures.steps.0 g.met.T.Archived.Portable.has_layout
+        filled c.pos.result (filled + c.size-size.result) c.loop-resolver.block c.resolve_in_block.new.block c.loop-resolver.invariant.room c.resolve_in_block.ensures.others_stay here end
+        c.loop-resolver.invariant.fills c.in_default-resolve_in_block.ensures.resolved in
+    let goes = goes_refused _ _ c.in-Err-write.ensures.kept c.in-Err-write.ensures.room c.in-Err-write.ensures.device c.in-Err-write.ensures.keys in
+    record {
+      put = search rules;
+      refused = rw (c.by_words-in-Err-write.ensures)
+          (fills_refused _ _ _ _ _ _ _ _ _ _ _ _ next _ _ _ _ (g.met.W.Writer.position_law c.loop-resolver.writer) refl goes c.in-Err-write.ensures.refusal);
+      goes_on = goes_both _ _ _ c.loop-resolver.invariant.fills.goes goes;
+      keys = λ k. c.in-Err-write.ensures.keys k ∙ c.loop-resolver.invariant.fills.states k;
+    }
+
+pub loop-resolver-preserved-in-loop-resolver : goal.loop-resolver-preserved-in-loop-resolver
+loop-resolver-preserved-in-loop-resolver g c =
+    let filled = c.loop-resolver.filled in
+    let here : c.pos.result ≡ length (g.W.Keys.state c.loop-resolver.writer).bytes = c.pos.ensures ∙ g.met.W.Writer.position_law c.loop-resolver.writer in
+    let fits = place_here _ _ _ _ _ _ _ _ _ _ _ _ _ c.in-Some-split_first.value.now c.in-Some-split_first.ensures.cases.0 c.loop-resolver.invariant.fills c.requires.ends in
+    let end : filled + c.size-size.result ≡ filled + g.T.Archived.Portable.layout.size = omega (arith, c.size-size.ensures, fits) in
+    let next = fills_next _ _ _ _ _ _ _ _ _ _ _ _ _ c.in-Some-split_first.value.now c.in-Some.resolver c.in-Some-split_first.ensures.cases.0 c.in-Some.ensures.steps.0 g.met.T.Archived.Portable.has_layout
+        filled c.pos.result (filled + c.size-size.result) c.loop-resolver.block c.resolve_in_block.new.block c.loop-resolver.invariant.room c.resolve_in_block.ensures.others_stay here end
+        c.loop-resolver.invariant.fills c.in_default-resolve_in_block.ensures.resolved in
+    let stays = same_length filled g.T.Archived.Portable.layout.size c.loop-resolver.block c.resolve_in_block.new.block c.loop-resolver.invariant.room c.resolve_in_block.ensures.others_stay in
+    record {
+      can_next = tt;
+      finite = tt;
+      room = omega (arith, c.loop-resolver.invariant.room, stays);
+      emptied = λ e. refl;
+      fills = fills_written _ _ _ _ _ _ _ _ _ _ _ _ next _ c.in_default-write.ensures.written c.in_default-write.ensures.keys
+          (goes_written _ _ _ c.in_default-write.ensures.written c.in_default-write.ensures.room c.in_default-write.ensures.device c.in_default-write.ensures.keys);
+    }
+
+pub loop-resolver-preserved : goal.loop-resolver-preserved
+loop-resolver-preserved g c =
+    let filled = c.loop-resolver.filled in
+    let here : c.pos.result ≡ length (g.W.Keys.state c.loop-resolver.writer).bytes = c.pos.ensures ∙ g.met.W.Writer.position_law c.loop-resolver.writer in
+    let fits = place_here _ _ _ _ _ _ _ _ _ _ _ _ _ c.in-Some-split_first.value.now c.in-Some-split_first.ensures.cases.0 c.loop-resolver.invariant.fills c.requires.ends in
+    let end : filled + c.size-size.result ≡ filled + g.T.Archived.Portable.layout.size = omega (arith, c.size-size.ensures, fits) in
+    let some : 0 < length c.in-Some-split_first.others.now = grind (arith, common_steps) in
+    let stays = same_length filled g.T.Archived.Portable.layout.size c.loop-resolver.block c.resolve_in_block.new.block c.loop-resolver.invariant.room c.resolve_in_block.ensures.others_stay in
+    record {
+      can_next = tt;
+      finite = tt;
+      room = omega (arith, c.if-block-filled.false, end, stays, c.loop-resolver.invariant.room);
+      emptied = λ e. absurd (omega (arith, some, e));
+      fills = fills_next _ _ _ _ _ _ _ _ _ _ _ _ _ c.in-Some-split_first.value.now c.in-Some.resolver c.in-Some-split_first.ensures.cases.0 c.in-Some.ensures.steps.0 g.met.T.Archived.Portable.has_layout
+          filled c.pos.result (filled + c.size-size.result) c.loop-resolver.block c.resolve_in_block.new.block c.loop-resolver.invariant.room c.resolve_in_block.ensures.others_stay here end
+          c.loop-resolver.invariant.fills c.in_default-resolve_in_block.ensures.resolved;
+    }
 
 pub returns : goal.returns
 returns g c = record {
-  put = completes_end _ _ _ _ _ _ _ _ _ _ _ g.met.T.Archived.Portable.has_layout (sym c.loop-resolver.resolver-iterator.rest.ok.0 ∙ c.in-None.ensures.steps.0) c.loop-resolver.invariant.completes;
+  put = fills_end _ _ _ _ _ _ _ c.loop-resolver.filled c.loop-resolver.block _ _ _ _ g.met.T.Archived.Portable.has_layout (sym c.loop-resolver.resolver-iterator.rest.ok.0 ∙ c.in-None.ensures.steps.0)
+      c.loop-resolver.invariant.emptied c.loop-resolver.invariant.fills;
   refused = search rules;
-  goes_on = search rules;
-  keys = search rules;
+  goes_on = c.loop-resolver.invariant.fills.goes;
+  keys = c.loop-resolver.invariant.fills.states;
 }

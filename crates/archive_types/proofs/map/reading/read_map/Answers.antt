@@ -1,5 +1,4 @@
 use Rattle.archive_check.specs.SelfCheck.Maps.{entry_definitions}
-use Rattle.archive_types.specs.MapPairs.{pair_keys}
 use Rattle.archive_types.proofs.Maps.MapsRead.{pairs_read, pairs_unread}
 use Rattle.archive_types.proofs.Planning.Causes.{err_by}
 use Rattle.archive_types.proofs.Reading.ReadElements.{ok_from}
@@ -16,6 +15,6 @@ pub returns-clause-read : goal.returns-clause-read
 returns-clause-read g c =
     let D = entry_definitions g.K.ArchivePointee.definitions g.V.ArchivePointee.definitions in
     let h = rw (c.part-entries.ensures.buffer, c.part-entries.ensures.position, c.part-entries.ensures.length, c.entries.ensures.buffer, c.entries.ensures.position, c.entries.ensures.length, c.at-view.ensures.buffer, c.at-view.ensures.position) at c.in_ok-pairs.ensures.read in
-    ok_from c.collect.result c.collect.ensures.entries (λ m e.
-    pairs_read g.A.Archive.meaning g.B.Archive.meaning (pair_keys g.A.Archive.keys g.B.Archive.keys) g.A.Ord.cmp g.met.A.Ord.total g.met.A.SortedKey.sorted D g.K.Portable.shape g.V.Portable.shape g.K.MapKey.key g.met.K.MapKey.is_key
-    c.args.part.bytes.now c.args.part.pos c.args.part.len c.requires _ _ _ m.entries e h)
+    ok_from c.collect.result c.collect.ensures.made (λ m made.
+    pairs_read g.A.Archive.meaning g.B.Archive.meaning g.A.Archive.keys g.B.Archive.keys g.A.Ord.cmp g.met.A.Ord.total g.met.A.SortedKey.sorted g.met.A.SortedKey.exact D g.K.Portable.shape g.V.Portable.shape g.K.MapKey.key g.met.K.MapKey.is_key
+    c.args.part.bytes.now c.args.part.pos c.args.part.len c.requires _ _ _ m made h)
