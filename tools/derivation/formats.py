@@ -101,6 +101,12 @@ def without(type, family):
     return [type]
 
 
+def has_shared(type, family):
+    """Whether the type leads to one of these behind a shared pointer."""
+    leads = any(arg is not part for arg in type.args for part in without(arg, family) or [None])
+    return leads and type.own is None and (type.name in SHARING or any(has_shared(arg, family) for arg in type.args))
+
+
 class Formats:
     """What a module says of types. It gathers the names that the module has to bring in."""
 
@@ -300,6 +306,8 @@ class Formats:
             return True
         held = self.fields(type) if type.own is not None else []
         if type.own is not None and type.own.recursive:
+            if any(has_shared(field.type, type.own.family) for it in type.own.family for field in it.all_fields()) and "Shared" in names:
+                return True
             held = [part for it in type.own.family for field in it.all_fields() for part in without(field.type, type.own.family)]
         return any(self.any_of(part, names) for part in held + type.args)
 
@@ -318,11 +326,21 @@ class Formats:
     def pooled(self, type):
         """The shared values that are kept to read it back, as types."""
         out = []
-        if type.own is not None and not type.own.recursive:
+        if type.own is not None and type.own.recursive:
+            out = [inner for it in type.own.family for field in it.all_fields() for inner in self.pooled_in(field.type, type.own.family)]
+        elif type.own is not None:
             out = [inner for field in self.fields(type) for inner in self.pooled(field)]
         elif type.name in SHARING:
             out = [replace(type, name="Shared", text="") if type.name == "WeakShared" else type]
         return out + [inner for arg in type.args for inner in self.pooled(arg)]
+
+    def pooled_in(self, type, family):
+        """The same of a field of a recursive type, whose family it may lead to."""
+        if any(type.own is it for it in family):
+            return []
+        if not any(arg is not part for arg in type.args for part in without(arg, family) or [None]):
+            return self.pooled(type)
+        return ([type] if type.own is None and type.name in SHARING else []) + [inner for arg in type.args for inner in self.pooled_in(arg, family)]
 
     def writer_bound(self, types, whole=False):
         """What the serializer has to be."""

@@ -36,6 +36,7 @@ class Family:
         self.n, self.name, self.crate, self.module = self.first.n, self.first.name, self.first.declaration.crate, self.first.declaration.module
         # as the toolchain has them in its folds: enums before structs
         self.ordered = sorted(self.members, key=lambda it: (it.is_record, it.name))
+        self.shares = self.first.terms.shares
         self.deepest = max(depth for it in self.members for depth in map(it.depth, it.owners))
 
     def member(self, declaration):
@@ -59,7 +60,9 @@ class Recursive:
         self.source = f"{declaration.name}-Source"  # the type as antt has it, under a name that nothing else has
         self.written = WRITTEN
         self.itself = Type(declaration.name, own=declaration)
-        self.writer = f"S: {formats.writer_bound([self.itself], whole=True).replace('Writer', 'Writer + Keys')}"
+        writer = formats.writer_bound([self.itself], whole=True)
+        self.writer = f"S: {writer if writer.startswith('Sharing') else writer.replace('Writer', 'Writer + Keys')}"
+        self.reader = f"D: {formats.reader_bound([self.itself])}"
         self.is_record = declaration.kind == "struct"
         self.is_alone = len(declaration.family) == 1
         self.is_chain = recursive_chains.is_chain(declaration, self.terms.leads_back)
@@ -120,7 +123,7 @@ class Recursive:
             return f"{type.name}-Source"
         if type.name == "Option":
             return f"(Option {self.antt(type.args[0], held)})"
-        return f"({type.name} {self.antt(type.args[0], held)} Global)"
+        return f"(Shared {self.antt(type.args[0], held)})" if type.name == "Shared" else f"({type.name} {self.antt(type.args[0], held)} Global)"
 
     def plain_types(self, body):
         """The lines that bring in the types of plain parts that `tools/derive` wrote."""

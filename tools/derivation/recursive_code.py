@@ -54,6 +54,7 @@ def bring(it):
     f.use("archive_core::boxed", "BoxResolver", "serialize_inner")
     f.use("archive_core::vec", "VecResolver")
     f.use("archive_core::recursive", "BoxAt", "OptionAt", "VecAt", "before_box", "before_vec", "choice_of", "define_name", "option_expression", "part_of_record", "part_of_variant", "read_part", "record_of")
+    f.use("archive_core::recursive", "begin_reading", "begin_shared", "finish_reading", "finish_shared", "part_behind", "shared_expression")
     f.use("archive_core::recursive", "serialize_inner_slice", "serialize_part", "tag_of_choice")
     f.use("archive_core::traits", "Archive", "ArchivePointee", "ArchiveUnsized", "Choice", "Deserialize", "Entries", "Keys", "Portable", "Record", "Serialize", "SerializeUnsized")
     f.use("archive_core::view", "RawView", "Ref")
@@ -63,7 +64,8 @@ def bring(it):
     f.ghost("SelfCheck.Laws", "by_schema")
     f.ghost("Expressions", "shape_of", "shapes_in", "table_of")
     f.ghost("Definitions", "Extended", "ExplainsConflict", "defines")
-    f.ghost("Shape", "one", "boxed", "vec")
+    f.ghost("Shape", "one", "boxed", "vec", "shared")
+    f.ghost("SharedSources", "rc_flavor")
     f.ghost("Choices", "option_shape")
     f.ghost("Hollow", "option_at")
     f.ghost("Value", "case", "product", "value", "no_value")
@@ -130,8 +132,8 @@ def expression(it, type):
     item = expression(it, type.args[0])
     if type.name == "Box":
         return f"Expr::Box(Box::new(alloc, Pointee::One({item}))?)"
-    if type.name == "Option":
-        return f"option_expression(alloc, {item})?"
+    if type.name in ("Option", "Shared"):
+        return f"{type.name.lower()}_expression(alloc, {item})?"
     return f"Expr::Vec(Box::new(alloc, {item})?)"
 
 
@@ -517,6 +519,8 @@ def element_written(it, item):
         }};
         {push.format("resolver")}
 """
+    if item.name == "Shared":
+        return shared_written(it, item, push)
     if item.name == "Box":
         return inner_written(it, item, "value", 8) + f"        {push.format('resolver')}\n"
     return f"""        match value {{
@@ -525,6 +529,32 @@ def element_written(it, item):
             }}
             Some(whole) => {{
 {inner_written(it, item.args[0], "whole", 16)}                {push.format("Some(resolver)")}
+            }}
+        }}
+"""
+
+
+def shared_written(it, item, push):
+    """The same of a shared pointer, whose value is written if its key is unknown."""
+    return f"""        let inner = &*value.value;
+        let known = match begin_shared(value.key, serializer) {{
+            Ok(known) => known,
+            Err(error) => return Err(error),
+        }};
+        match known {{
+            Some(resolver) => {{
+                {push.format("resolver")}
+            }}
+            None => {{
+                let kept = match serialize_{it.word(item.args[0])}(inner, serializer) {{
+                    Ok(kept) => kept,
+                    Err(error) => return Err(error),
+                }};
+                let resolver = match finish_shared(value.key, inner, kept, serializer) {{
+                    Ok(resolver) => resolver,
+                    Err(error) => return Err(error),
+                }};
+                {push.format("resolver")}
             }}
         }}
 """
@@ -691,7 +721,7 @@ def reading(it):
 def reader(it, name, T, contract_, body, said, cycle=True):
     mark = f"#[cycle(read_{it.family.n})]\n" if cycle else "#[inline(always)]\n"
     return f"""// {said}
-{mark}fn read_{name}<D: Entries>(alloc: Global, part: RawView<'_>, deserializer: &mut D) -> Result<{T}, Error>
+{mark}fn read_{name}<{it.reader}>(alloc: Global, part: RawView<'_>, {"levels: usize, " if it.family.shares and cycle else ""}deserializer: &mut D) -> Result<{T}, Error>
 {contract_}{{
 {body}}}
 """
@@ -702,9 +732,21 @@ def owner_reading(it, type):
     f = it.formats
     T, X = f.rust(type), f.archived(type)
     inner = f.archived(item)
-    if type.name == "Box":
+    levels = "levels, " if it.family.shares else ""
+    if type.name == "Shared":
+        of = f"{inner}, RcFlavor, {T}, D"
+        body = f"""    match begin_reading::<{of}>(part, deserializer)? {{
+        Some(value) => Ok(value),
+        None => {{
+            let behind = part_behind::<{inner}, RcFlavor>(part);
+            let value = read_{it.word(item)}(alloc, behind, levels, deserializer)?;
+            finish_reading::<{of}>(alloc, part, value, deserializer)
+        }}
+    }}
+"""
+    elif type.name == "Box":
         body = f"""    let view: Ref<'_, ArchivedBox<{inner}>> = Ref::at(part);
-    let value = read_{it.word(item)}(alloc, before_box(view).part(), deserializer)?;
+    let value = read_{it.word(item)}(alloc, before_box(view).part(), {levels}deserializer)?;
     let whole = Box::new(alloc, value)?;
     Ok(whole)
 """
@@ -713,7 +755,7 @@ def owner_reading(it, type):
     match view.as_ref() {{
         None => Ok(None),
         Some(inner) => {{
-            let value = read_{it.word(item)}(alloc, inner.part(), deserializer)?;
+            let value = read_{it.word(item)}(alloc, inner.part(), {levels}deserializer)?;
             Ok(Some(value))
         }}
     }}
@@ -723,12 +765,12 @@ def owner_reading(it, type):
     let list = before_vec(view);
     let mut items = Vec::with_capacity(alloc, list.len())?;
     for index in 0..list.len() {{
-        let item = read_{it.word(item)}(alloc, list.index(index).part(), deserializer)?;
+        let item = read_{it.word(item)}(alloc, list.index(index).part(), {levels}deserializer)?;
         items.push_reserved(item);
     }}
     Ok(items)
 """
-    return reader(it, it.word(type), T, READ.format(T=T, X=X), body, {"Box": "Reads a box back.", "Option": "Reads an option back.", "Vec": "Reads a vector back."}[type.name])
+    return reader(it, it.word(type), T, READ.format(T=T, X=X), body, {"Box": "Reads a box back.", "Option": "Reads an option back.", "Vec": "Reads a vector back.", "Shared": "Reads a shared value back."}[type.name])
 
 
 def parts_read(it, case):
@@ -743,7 +785,8 @@ def parts_read(it, case):
             read = Generic("read_part", [X, T, "D"], ["alloc", f"p{i}", "deserializer"])
             lines += statement(4, f"let {name} = match ", read, " {") + f"        Ok({name}) => {name},\n        Err(error) => return Err(error),\n    }};\n"
             continue
-        read = call(f"read_{it.word(type)}", ["alloc", f"p{i}", "deserializer"], "?") if back else Generic("read_part", [X, T, "D"], ["alloc", f"p{i}", "deserializer"], "?")
+        levels = ["levels"] if it.family.shares else []
+        read = call(f"read_{it.word(type)}", ["alloc", f"p{i}"] + levels + ["deserializer"], "?") if back else Generic("read_part", [X, T, "D"], ["alloc", f"p{i}", "deserializer"], "?")
         lines += statement(4, f"let {name} = ", read, ";")
     return lines
 
@@ -768,20 +811,28 @@ def choice_reading(it):
     arms = ""
     for case in it.cases:
         tag = "_" if case is it.cases[-1] else str(case.tag)
-        arms += f"        {tag} => read_{case.n}(alloc, part, deserializer),\n"
-    body = f"    match tag_of_choice::<{it.archived}>(part) {{\n{arms}    }}\n"
+        levels = "levels, " if it.family.shares and any(case.leads_back) else ""
+        arms += f"        {tag} => read_{case.n}(alloc, part, {levels}deserializer),\n"
+    body = f"{one_level(it)}    match tag_of_choice::<{it.archived}>(part) {{\n{arms}    }}\n"
     return reader(it, it.n, it.name, READ.format(T=it.name, X=it.archived), body, "Reads a value back.")
+
+
+def one_level(it):
+    """The lines by which reading terminates that follows shared pointers, which may lead anywhere: a value has fewer levels than its archive has bytes."""
+    return "    if levels == 0 {\n        return Err(Error::OutOfMemory);\n    }\n    let levels = levels - 1;\n" if it.family.shares else ""
 
 
 def record_reading(it):
     case = it.cases[0]
-    body = parts_read(it, case) + statement(4, "Ok(", built(it, case), ")")
+    body = one_level(it) + parts_read(it, case) + statement(4, "Ok(", built(it, case), ")")
     return reader(it, it.n, it.name, READ.format(T=it.name, X=it.archived), body, "Reads a value back, part by part.")
 
 
 def deserialize(it):
     read = f"read_chain::<{it.archived}, {it.name}, D>(alloc, part, deserializer)" if it.is_chain else f"read_{it.n}(alloc, part, deserializer)"
-    return f"""impl<D: Entries> Deserialize<{it.name}, D> for {it.archived} {{
+    if it.family.shares:
+        read = f"let levels = part.bytes.len();\n        read_{it.n}(alloc, part, levels, deserializer)"
+    return f"""impl<{it.reader}> Deserialize<{it.name}, D> for {it.archived} {{
     #[inline(always)]
     fn deserialize_part(
         alloc: Global,

@@ -1,5 +1,5 @@
 """Terms of antt on plain parts of recursive types, which lead to no value of the type: numbers, texts, other types that `tools/derive` wrote, and options,
-results, tuples, arrays, vectors and boxes of these.
+results, tuples, arrays, vectors, maps and boxes of these.
 
 A term is one at a value, which is a term itself.
 """
@@ -14,9 +14,15 @@ LEAVES = {
     "isize": ("leaf (number_kind signed w32)", "number {x}", "ℤ"),
     "char": ("leaf char", "number (pos {x})", "ℕ"),
     "bool": ("leaf bool", "number (pos (bool_byte {x}))", "Bool"),
+    "()": ("leaf unit", "number (pos 0)", "⊤"),
 }
 # Which resolvers are a leaf's own, where not all are.
 OWN_RESOLVERS = {"usize": "({x} < 2 ^ 32)", "isize": "(FitsSigned w32 {x})"}
+
+
+def items_of(type, x):
+    """The elements of a vector, or of a boxed slice."""
+    return f"{x}.items" if type.name == "Vec" else f"{x}.items.items"
 
 
 def product(words, end="no_value", head="value"):
@@ -50,11 +56,11 @@ class Plain:
         if type.name == "NonZero":
             return self.antt(type.args[0])
         args = [self.antt(arg) for arg in type.args]
-        if type.name == "String":
-            return "(String Global)"
+        if type.name in ("String", "BoxStr"):
+            return {"String": "(String Global)", "BoxStr": "BoxStr"}[type.name]
         if type.name == "tuple":
             return f"({' × '.join(args)})"
-        if type.name in ("Option", "Result"):
+        if type.name in ("Option", "Result", "BTreeMap", "BoxSlice"):
             return f"({type.name} {' '.join(args)})"
         return f"(List {args[0]})" if type.name == "OwnedArray" else f"({type.name} {args[0]} Global)"
 
@@ -65,20 +71,27 @@ class Plain:
             return f"({LEAVES[type.name][0]})"
         if type.name == "NonZero":
             return self.shape(type.args[0]).replace("number_kind", "non_zero")
-        if type.name == "String":
-            return "str"
+        if type.name in ("String", "BoxStr"):
+            return {"String": "str", "BoxStr": "(boxed text)"}[type.name]
         args = [self.shape(arg) for arg in type.args]
         if type.name == "tuple":
             return f"(parts {product(args, 'no_part', 'part')})"
         if type.name == "Result":
             return f"(result_shape {args[0]} {args[1]})"
-        shapes = {"Box": "(boxed (one {}))", "Option": "(option_shape {})", "Vec": "(vec {})", "OwnedArray": f"(array {type.length} {{}})"}
+        if type.name == "BTreeMap":
+            return f"(sorted_map {self.key(type)} {args[1]})"
+        shapes = {"Box": "(boxed (one {}))", "BoxSlice": "(boxed (run {}))", "Option": "(option_shape {})", "Vec": "(vec {})", "OwnedArray": f"(array {type.length} {{}})"}
         return shapes[type.name].format(args[0])
+
+    def key(self, type):
+        """What the keys of a map are."""
+        shape = self.shape(type.args[0])
+        return "str_key" if shape == "str" else shape.replace("(leaf ", "(leaf_key ", 1)
 
     def definitions(self, type):
         if type.own is None and type.name == "Result":
             return f"(both {self.definitions(type.args[0])} {self.definitions(type.args[1])})"
-        if type.own is None and type.name == "tuple":
+        if type.own is None and type.name in ("tuple", "BTreeMap"):
             return product([self.definitions(arg) for arg in type.args], "no_definition", "both")
         return self.definitions(type.args[0]) if type.own is None and type.args else "no_definition"
 
@@ -87,7 +100,7 @@ class Plain:
         nothing = "(knows_none s k.laid_out)"
         if type.own is None and type.name == "Result":
             return f"(knows_both s _ _ {self.known(type.args[0])} {self.known(type.args[1])})"
-        if type.own is None and type.name == "tuple":
+        if type.own is None and type.name in ("tuple", "BTreeMap"):
             return product([self.known(arg) for arg in type.args], nothing, "knows_both s _ _")
         return self.known(type.args[0]) if type.own is None and type.args else nothing
 
@@ -108,20 +121,25 @@ class Plain:
             return self.meaning(type.args[0], x)
         if type.name == "String":
             return f"(text_value (string_bytes {x}))"
+        if type.name == "BoxStr":
+            return f"(box (text_value (string_bytes {x}.text)))"
         if type.name == "tuple":
             return f"(product {product([self.meaning(arg, f'{x}.{i}') for i, arg in enumerate(type.args)])})"
         if type.name == "Box":
             return f"(box {self.meaning(type.args[0], f'{x}.value')})"
         each = [self.as_function("meaning", arg) for arg in type.args]
-        if type.name == "Vec":
-            return f"(list (each_meaning {each[0]} {x}.items))"
+        if type.name in ("Vec", "BoxSlice"):
+            its = f"(list (each_meaning {each[0]} {items_of(type, x)}))"
+            return its if type.name == "Vec" else f"(box {its})"
+        if type.name == "BTreeMap":
+            return f"(list (each_meaning (pair_meaning {' '.join(each)}) {x}.entries))"
         heads = {"Option": "option_meaning", "Result": "result_meaning", "OwnedArray": f"array_meaning {type.length}"}
         return f"({heads[type.name]} {' '.join(each)} {x})"
 
     def keys(self, type, x):
         if type.own is not None:
             return f"({self.source_of(type)}.keys {x})"
-        if type.name in LEAVES or type.name in ("NonZero", "String"):
+        if type.name in LEAVES or type.name in ("NonZero", "String", "BoxStr"):
             return "[]"
         if type.name == "tuple":
             out = "[]"
@@ -131,8 +149,10 @@ class Plain:
         if type.name == "Box":
             return self.keys(type.args[0], f"{x}.value")
         each = [self.as_function("keys", arg) for arg in type.args]
-        if type.name == "Vec":
-            return f"(each_keys {each[0]} {x}.items)"
+        if type.name in ("Vec", "BoxSlice"):
+            return f"(each_keys {each[0]} {items_of(type, x)})"
+        if type.name == "BTreeMap":
+            return f"(each_keys (pair_keys {' '.join(each)}) {x}.entries)"
         heads = {"Option": "option_keys", "Result": "result_keys", "OwnedArray": f"array_keys {type.length}"}
         return f"({heads[type.name]} {' '.join(each)} {x})"
 
@@ -147,8 +167,13 @@ class Plain:
             return f"(product {product([self.flat(arg, f'{x}.{i}', r + '.1' * i + '.0') for i, arg in enumerate(type.args)])})"
         if type.name == "Box":
             return f"(box (hole (to_pointee {r} (one {self.shape(type.args[0])}) 0)))"
-        if type.name == "Vec":
-            return f"(hole (to_pointee {r} (run {self.shape(type.args[0])}) (length {x}.items)))"
+        if type.name == "BoxStr":
+            return f"(box (hole (to_pointee {r} text (length (string_bytes {x}.text)))))"
+        if type.name in ("Vec", "BoxSlice"):
+            its = f"(hole (to_pointee {r} (run {self.shape(type.args[0])}) (length {items_of(type, x)})))"
+            return its if type.name == "Vec" else f"(box {its})"
+        if type.name == "BTreeMap":
+            return f"(map_flat {self.key(type)} {self.shape(type.args[1])} (btree_map_len {x}) {r})"
         each = [self.as_two("flat", arg) for arg in type.args]
         if type.name == "OwnedArray":
             return f"(list (each_flat {each[0]} {x} {r}.items))"
@@ -168,8 +193,12 @@ class Plain:
             for i, arg in reversed(list(enumerate(type.args))):
                 out = f"({self.belongs(arg, f'{x}.{i}', r + '.1' * i + '.0')} × {out})"
             return out
-        if type.name == "Vec":
-            return f"(length {x}.items ≤ 4294967295)"
+        if type.name == "BoxStr":
+            return f"(length (string_bytes {x}.text) ≤ 4294967295)"
+        if type.name in ("Vec", "BoxSlice"):
+            return f"(length {items_of(type, x)} ≤ 4294967295)"
+        if type.name == "BTreeMap":
+            return f"(btree_map_len {x} ≤ 4294967295)"
         each = [self.as_two("belongs", arg) for arg in type.args]
         if type.name == "OwnedArray":
             return f"(EachBelongs {each[0]} {x} {r}.items)"
@@ -184,13 +213,18 @@ class Plain:
             return "(number_keyed _)"
         if type.name == "String":
             return f"(text_keyed (string_bytes {x}))"
+        if type.name == "BoxStr":
+            return f"(box_keyed [] (text_value (string_bytes {x}.text)) (text_keyed (string_bytes {x}.text)))"
         if type.name == "tuple":
             return f"(record_keyed {product([self.keyed(arg, f'{x}.{i}') for i, arg in enumerate(type.args)], 'nothing_keyed', 'part_keyed')})"
         if type.name == "Box":
             return f"(box_keyed _ _ {self.keyed(type.args[0], f'{x}.value')})"
         said = " ".join(self.as_function(which, arg) for which in ("keys", "meaning", "keyed") for arg in type.args)
-        if type.name == "Vec":
-            return f"(each_keyed {said} {x}.items)"
+        if type.name in ("Vec", "BoxSlice"):
+            its = f"(each_keyed {said} {items_of(type, x)})"
+            return its if type.name == "Vec" else f"(box_keyed _ _ {its})"
+        if type.name == "BTreeMap":
+            return f"(pairs_keyed {said} {x}.entries)"
         heads = {"Option": "option_keyed", "Result": "result_keyed", "OwnedArray": f"array_keyed {type.length}"}
         return f"({heads[type.name]} {said} {x})"
 
@@ -201,6 +235,9 @@ class Plain:
             return "(leaf_planned no_definition _ _ [] _ refl)"
         if type.name == "String":
             return f"(string_planned no_definition [] (string_bytes {x}))"
+        if type.name == "BoxStr":
+            text = f"(string_bytes {x}.text)"
+            return f"(box_planned no_definition text (length {text}) [] (text_value {text}) (text_planned no_definition [] {text}))"
         if type.name == "tuple":
             return f"(product_planned _ _ _ _ {self.parts_plan(type.args, [f'{x}.{i}' for i in range(len(type.args))])})"
         D, X = ([getattr(self, which)(arg) for arg in type.args] for which in ("definitions", "shape"))
@@ -211,6 +248,10 @@ class Plain:
         each = " ".join(self.as_function("planned", arg) for arg in type.args)
         if type.name == "Result":
             return f"(result_planned {said} {' '.join(D + X)} {each} {x})"
+        if type.name == "BTreeMap":
+            return f"(map_of_pairs_planned {said} {' '.join(D + X)} {each} {self.key(type)} refl {x}.entries)"
+        if type.name == "BoxSlice":
+            return f"(box_planned {D[0]} (run {X[0]}) _ _ _ (slice_planned {D[0]} {X[0]} {said} {each} {x}.items.items))"
         if type.name == "Vec":
             return f"(vec_planned {D[0]} {X[0]} _ _ _ (slice_planned {D[0]} {X[0]} {said} {each} {x}.items))"
         head = "option_planned" if type.name == "Option" else f"array_planned {type.length}"

@@ -24,6 +24,9 @@ CITED = {
     "archive_core.specs.PlannedOwners": "each_planned",
     "archive_core.specs.PartsReading": "part_read_back no_part_read_back",
     "archive_core.proofs.Causes": "err_by err_from goes_both goes_nowhere",
+    "archive_core.proofs.fields.Ties": "if_ok",
+    "archive_core.proofs.recursive.KeysBegun": "region_refused",
+    "archive_core.proofs.recursive.PositionsBegun": "unread_since",
     "archive_core.proofs.OwnChoices": "serialized_variant variant_refused",
     "archive_core.proofs.Owners": "box_refused vec_refused",
     "archive_core.proofs.OwnersRead": "box_read box_unread vec_read vec_unread",
@@ -300,6 +303,8 @@ def vec_written(it, type, answers):
         answers.answer(each, f"returns-{err}-clause-refused", f"continues_broken {at} _ _ _ c.loop-value-test.true c.value-item.is {t.plan(item)} {kept} {goes} {refused}")
     if t.is_option(item):
         option_kept(it, item, answers, each, steps, kept, at)
+    elif t.is_shared(item):
+        shared_kept(it, item, answers, each, steps, kept, at)
     else:
         answers.answer(each, "returns-in_err-map_err-clause-goes_on", f"goes_both _ _ _ {kept}.goes {steps.goes}")
         answers.answer(each, "returns-in_err-map_err-clause-refused", not_pushed("in_err-map_err"))
@@ -340,6 +345,31 @@ def option_kept(it, item, answers, each, steps, kept, at):
     answers.more.append((f"{it.family.crate}.proofs.{'.'.join(it.family.module)}.+serialize_{it.family.n}.Goals", " ".join(f"{each}-{arm}" for arm, _ in arms)))
 
 
+def shared_kept(it, item, answers, each, steps, kept, at):
+    """The answers on a shared pointer whose resolver is kept, in each arm; and where the arms have met, by the arm that was taken."""
+    inner = f"serialize_{it.word(item.args[0])}"
+    answers.answer(each, "returns-in_err-resolvers-clause-goes_on", "goes_nowhere _")
+    for arm, goes in (("Some", steps.first), ("None", steps.goes)):
+        answers.answer(each, f"returns-in_err-map_err-in-{arm}-clause-goes_on", f"goes_both _ _ _ {kept}.goes {goes}")
+        answers.answer(each, f"returns-in_err-map_err-in-{arm}-clause-refused", not_pushed(f"in_err-map_err-in-{arm}"))
+    met = "rw (w.serializer-is, w.resolvers-is)"
+
+    def step(resolver, arm, serialized, goes):
+        behind = "" if arm == "Some" else f"-in-{arm}"
+        calls = f"w.push{behind}.ensures.items, w.map_err{behind}.ensures.variant, w.branch-map_err{behind}.ensures, w.in_ok-map_err-in-{arm}.is"
+        head = f"continues_step {at} _ _ _ {resolver} c.loop-value-test.true c.value-item.is (grind (arith, common_steps, {calls})) {kept}"
+        # in this arm the steps are those of `w`
+        return re.sub(r"c\.(in-|deref-inner|serialize_|finish_|begin_)", r"w.\1", f"{head} {serialized} tt {goes}").replace("w.begin_", "c.begin_").replace("w.in-Ok.", "c.in-Ok.").replace("w.deref-inner", "c.deref-inner")
+
+    arms = [
+        ("in-Some+in_ok-map_err-in-Some", step("w.in-Some.resolver", "Some", steps.known, steps.first)),
+        (f"in-None+in-Ok-{inner}+in-Ok-finish_shared+in_ok-map_err-in-None", step("w.in-Ok-finish_shared.resolver", "None", steps.serialized, steps.goes)),
+    ]
+    cases = " | ".join(f"{each}-{arm} w ↦ {met} ({body})" for arm, body in arms)
+    answers.answer(each, "loop-value-preserved", f"record {{ continues = elim c.match-known.branch [ {cases} ] }}")
+    answers.more.append((f"{it.family.crate}.proofs.{'.'.join(it.family.module)}.+serialize_{it.family.n}.Goals", " ".join(f"{each}-{arm}" for arm, _ in arms)))
+
+
 def functions_of(it, which, item):
     """What is read in the place of an element of a vector, or which resolvers are its own, as a function."""
     if it.terms.is_option(item):
@@ -352,6 +382,9 @@ class Element:
     """What is known of the calls that write an element of a vector: those that fail, and that none does; and the resolver that it leaves."""
 
     def __init__(self, it, item):
+        if it.terms.is_shared(item):
+            self.shared(it, item)
+            return
         box = item.args[0] if it.terms.is_option(item) else item
         D, X = it.terms.definitions(item), it.terms.shape(box if it.terms.is_member(box) else box.args[0])
         inner = f"serialize_{it.word(box if it.terms.is_member(box) else box.args[0])}"
@@ -375,6 +408,28 @@ class Element:
             if it.terms.is_option(item):
                 written = f"(serialized_case {case} _ _ _ {written})"
             self.serialized = f"({same} {written})"
+
+
+    def shared(self, it, item):
+        """Those of a shared pointer: its key is started, and then its value is written, if that wasn't known."""
+        t, value = it.terms, item.args[0]
+        D, X, inner = t.definitions(value), t.shape(value), f"serialize_{it.word(value)}"
+        y = "c.value-item.result.value.value"
+        keys, meaning = (f"({t.own(which)[value.own.name]} {y})" for which in ("keys", "meaning"))
+        said = f"said {D} rc_flavor (one {X}) 0 {keys} {meaning}"
+        begun, first, written = "(rw c.in-None.is at c.in-Ok.ensures.begun)", "c.begin_shared.ensures.goes_on", f"c.{inner}.ensures.goes_on"
+        same = f"let same : c.deref-inner.result.now ≡ {y} = grind (arith, common_steps) in rw (← same)"
+        ok = f"c.in-Ok-{inner}.ensures.serialized"
+        owned = f"(region_refused {D} (one {X}) 0 c.value-item.result.key _ _ rc_flavor _ _ _ _ {begun} {written} (one_owned {D} {X} _ _ _ _ _ c.in-Err-{inner}.ensures.refused))"
+        since = f"since rc_flavor _ _ {begun} {written} {ok}"
+        self.known = f"((rw c.in-Some.is at c.in-Ok.ensures.known).{said})"
+        self.first, self.goes = first, f"(c.finish_shared.ensures.goes_on.since _ _ {begun} {written})"
+        self.serialized = f"({same} (c.in-Ok-finish_shared.ensures.shared.{since}))"
+        self.refusals = [
+            ("in-Err", first, f"(c.in-Err.ensures.refused.{said})"),
+            (f"in-Err-{inner}", f"(goes_both _ _ _ {first} {written})", f"({same} {owned})"),
+            ("in-Err-finish_shared", self.goes, f"({same} (c.in-Err-finish_shared.ensures.refused.{since}))"),
+        ]
 
 
 def vec_owner_written(it, type, answers):
@@ -454,7 +509,7 @@ def reading(family):
     for it in family.members:
         measures(it, answers)
         for type in it.owners:
-            {"Box": box_read, "Option": option_read, "Vec": vec_read}[type.name](it, type, answers)
+            {"Box": box_read, "Option": option_read, "Vec": vec_read, "Shared": shared_read}[type.name](it, type, answers)
         for case in it.cases:
             here = answers if it.is_record or any(case.leads_back) else Answers(family, f"read_{case.n}")
             parts_read(it, case, here, f"read_{case.n}" if here is answers else "")
@@ -469,7 +524,7 @@ def measures(it, answers):
     deepest = it.family.deepest
 
     def measure(size, rank):
-        return f"(l.part.pos + {size}) * {deepest + 3} + {rank}"
+        return f"l.levels * {deepest + 3} + {rank}" if it.family.shares else f"(l.part.pos + {size}) * {deepest + 3} + {rank}"
 
     for type in it.owners:
         answers.invariant("", f"decreases-read_{it.word(type)}", measure(it.formats.layout(type)[0], it.depth(type)))
@@ -477,7 +532,8 @@ def measures(it, answers):
         for case in it.cases:
             if any(case.leads_back):
                 answers.invariant("", f"decreases-read_{case.n}", measure(it.size, deepest + 1))
-    answers.invariant("", f"decreases-read_{it.n}", measure(it.size, deepest + 2))
+    # where it shares, a value takes one of the levels for what it holds
+    answers.invariant("", f"decreases-read_{it.n}", measure(it.size, 0 if it.family.shares else deepest + 2))
 
 
 ARGS = "c.args.part.bytes.now c.args.part.pos c.args.part.len"
@@ -499,6 +555,24 @@ def box_read(it, type, answers):
         "(let same : c.in_ok-whole.whole.value ≡ c.in_ok-value.value = grind (arith, common_steps) in"
         f" rw same (box_read {D} {ARGS} (one {X}) _ _ _ _ c.requires (rw ({steps}) at c.in_ok-value.ensures.read)))",
     )
+
+
+def shared_read(it, type, answers):
+    item = type.args[0]
+    function, inner = f"read_{it.word(type)}", f"read_{it.word(item)}"
+    D, X = it.terms.definitions(item), it.terms.shape(item)
+    begun = "rw c.in-None.is at c.in_ok-value.ensures.begun"
+    steps = ", ".join(f"c.part_behind-behind.ensures.{clause}" for clause in ("buffer", "position", "length"))
+    whole = f"{D} {ARGS} rc_flavor (one {X}) g.D.Entries.keeps"
+    answers.answer(
+        function, "returns-in_err-value-in-None-clause-refused",
+        f"err_by c.from_residual-in_err-value-in-None.result c.in_err-value-in-None.field-0.0 _ c.from_residual-in_err-value-in-None.ensures.1"
+        f" (unread_since {whole} _ _ _ c.requires ({begun}) (rw ({steps}) at c.in_err-value-in-None.ensures.refused))",
+    )
+    answers.answer(function, "returns-in-Some-clause-read", "rw c.in-Some.is at c.in_ok-value.ensures.known")
+    since = f"since _ _ ({begun}) (rw ({steps}) at c.in_ok-value-in-None.ensures.read)"
+    answers.answer(function, "returns-in_ok-value-in-None-clause-read", f"if_ok c.finish_reading.result (λ s h. h.{since}) c.finish_reading.ensures.read")
+    answers.answer(function, "returns-in_ok-value-in-None-clause-refused", f"err_from c.finish_reading.result c.finish_reading.ensures.refused (λ e h. h.{since})")
 
 
 def option_read(it, type, answers):

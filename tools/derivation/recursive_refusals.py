@@ -1,9 +1,10 @@
 """What isn't written of recursive types, with what to write instead."""
 
 from .model import Declaration, Refused, Type
+from .recursive_plain import LEAVES
 
-# Plain parts that a recursive type may have beside those that lead back to it.
-PLAIN = {f"{sign}{bits}" for sign in "ui" for bits in (8, 16, 32, 64, 128)} | {"char", "String"}
+# What plain parts may be made of, which a recursive type has beside those that lead back to it.
+PLAIN = set(LEAVES) | {"String", "BoxStr", "NonZero", "Option", "Result", "tuple", "Box", "BoxSlice", "Vec", "BTreeMap", "OwnedArray"}
 MOST_FIELDS = 7
 
 
@@ -46,19 +47,26 @@ def check_part(it: Declaration, type: Type, line: int):
     held = recursive_in(type)
     if held:
         raise Refused(it.path, line, f"`{held}` is recursive or holds a type that is, and isn't written yet in the recursive `{it.name}`; archive the two beside each other")
+    check_plain(it, type, line)
+
+
+def check_plain(it: Declaration, type: Type, line: int):
+    """What leads to no value of the type."""
     if type.own is not None and not type.args:
         if type.own.path == it.path:
             raise Refused(it.path, line, f"`{type.own.name}` is held by the recursive `{it.name}`; move it to another file")
         return
     if type.own is not None or type.name not in PLAIN:
         raise Refused(it.path, line, f"this field of the recursive `{it.name}` is of a type that tools/derive doesn't write there; put it into a struct of another file")
+    for arg in type.args:
+        check_plain(it, arg, line)
 
 
 def check_owner(it: Declaration, type: Type, line: int):
-    """What leads back is a box, an option of one, a vector of these or of the type itself, or a box of such a vector."""
+    """What leads back is a box, an option of one, a vector of these, of the type itself or of shared pointers to it, or a box of such a vector."""
     if is_pointer(it, type) or is_list(it, type) or is_named(type, "Box") and is_list(it, type.args[0]):
         return
-    written = f"a `Box<{it.name}>`, an `Option<Box<{it.name}>>`, a `Vec` of these or of `{it.name}`, or a `Box` of such a `Vec` is"
+    written = f"a `Box<{it.name}>`, an `Option<Box<{it.name}>>`, a `Vec` of these, of `{it.name}` or of `Shared<{it.name}>`, or a `Box` of such a `Vec` is"
     if type.name not in ("Box", "Option", "Vec") or type.own is not None:
         raise Refused(it.path, line, f"`{type.name}` around `{it.name}` isn't written yet; {written}")
     raise Refused(it.path, line, f"this {'option' if type.name == 'Option' else f'`{type.name}` of pointers'} to `{it.name}` isn't written yet; {written}")
@@ -79,7 +87,10 @@ def is_pointer(it: Declaration, type: Type) -> bool:
 
 
 def is_list(it: Declaration, type: Type) -> bool:
-    return is_named(type, "Vec") and (is_member(it, type.args[0]) or is_pointer(it, type.args[0]))
+    if not is_named(type, "Vec"):
+        return False
+    item = type.args[0]
+    return is_member(it, item) or is_pointer(it, item) or is_named(item, "Shared") and is_member(it, item.args[0])
 
 
 def leads_back(it: Declaration, type: Type) -> bool:

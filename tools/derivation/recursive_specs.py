@@ -132,6 +132,7 @@ def mention_in(it, type, other):
         "Box": "mentions_boxed (mentions_one ({}))",
         "Option": "mentions_choice (mentions_other (mentions_variant (mentions_first ({}))))",
         "Vec": "mentions_vec ({})",
+        "Shared": "mentions_shared (mentions_one ({}))",
     }
     return around[type.name].format(inner) if inner else ""
 
@@ -178,12 +179,13 @@ LETTERS = "ABCDEFGHIJKLMNOPQRSTUVWXYZ"
 
 def meaning(family):
     """What values mean, layer by layer, and the laws of it."""
-    lines = []
+    lines = pairs(family) if family.shares else []
     for which, type, word in SAID:
+        if not family.shares:
+            lines += [layer(it, which, type) for it in family.members]
         for it in family.members:
-            lines.append(layer(it, which, type))
-        for it in family.members:
-            lines.append(f"pub {it.n}_{which} : {it.source} → {type}\n{it.n}_{which} = {fold(it, which, type, 'fold')}\n")
+            its = f" t = ({it.n}_both t){PLACES[which]}" if family.shares else f" = {fold(it, which, type, 'fold')}"
+            lines.append(f"pub {it.n}_{which} : {it.source} → {type}\n{it.n}_{which}{its}\n")
         for it in family.members:
             lines.append(rolled(it, which, type, word))
             lines.append(opened(it, which, word))
@@ -209,7 +211,27 @@ def meaning(family):
     return f"-- What {' and '.join(it.name for it in family.members)} mean{'s' if len(family.members) == 1 else ''}. {family.first.written}\n{brought(body, more)}{shape_}{aliases}{owns(family, body)}\n{body}"
 
 
-PRELUDE_COMMON = "ap subst sym ◌∙◌ inl inr ℤ Box Global String Vec"
+# What is said of a value whose keys have what it means, too; the places of both in a pair.
+BOTH = "(Value × (List Naming))"
+PLACES = {"meaning": ".0", "keys": ".1"}
+
+
+def pairs(family):
+    """What values mean and their keys, by one fold."""
+    lines = [layer(it, which, type) for which, type, _ in SAID for it in family.members]
+    letters = LETTERS[:len(family.members)]
+    names = ["p"] if len(letters) == 1 else [f"p{i}" for i in range(len(letters))]
+    firsts, seconds = ("".join(f" (λ v. ({name} v){place})" for name in names) for place in PLACES.values())
+    for it in family.members:
+        takes = "".join(f"({letter} → {BOTH}) → " for letter in letters)
+        out = f"abbrev pub {it.n}_both_layer : {{{' '.join(letters)} : Type 0}} → {takes}{it.name}-F {' '.join(letters)} → {BOTH}\n"
+        lines.append(f"{out}{it.n}_both_layer {' '.join(names)} t = ({it.n}_meaning_layer{firsts} t, {it.n}_keys_layer{firsts}{seconds} t)\n")
+    for it in family.members:
+        lines.append(f"pub {it.n}_both : {it.source} → {BOTH}\n{it.n}_both = {fold(it, 'both', BOTH, 'fold')}\n")
+    return lines
+
+
+PRELUDE_COMMON = "ap subst sym ◌∙◌ inl inr ℤ Box Global String Vec BTreeMap"
 
 
 def each_type(family, text):
@@ -227,10 +249,16 @@ def layer(it, which, type):
     """What a layer means, by what is said of the values in it."""
     n, family = it.n, it.family
     letters = dict(zip((other.name for other in family.ordered), LETTERS))
+    both = family.shares and which == "keys"
     names = {name: "m" if len(letters) == 1 else f"m{i}" for i, name in enumerate(letters)}
     takes = "".join(f"({letter} → {type}) → " for letter in letters.values())
+    taken = " ".join(names.values())
+    if both:
+        names = {name: f"k{m[1:]}" for name, m in names.items()}
+        takes = "".join(f"({letter} → Value) → " for letter in letters.values()) + takes
+        taken += " " + " ".join(names.values())
     out = f"abbrev pub {n}_{which}_layer : {{{' '.join(letters.values())} : Type 0}} → {takes}{it.name}-F {' '.join(letters.values())} → {type}\n"
-    return out + "".join(f"{n}_{which}_layer {' '.join(names.values())} {p} = {said_of(it, c, which, names)}\n" for p, c in layers(it))
+    return out + "".join(f"{n}_{which}_layer {taken} {p} = {said_of(it, c, which, names)}\n" for p, c in layers(it))
 
 
 def layers(it):
@@ -268,31 +296,40 @@ def arguments_of(it, case, held=None):
     return "".join(f" ({name} : {it.antt(type, held)})" for name, type in zip(case.names, case.types))
 
 
+def said_by(family, which):
+    """What a layer takes of the values in it: for keys also what they mean, where a family shares."""
+    before = each_type(family, lambda other: f"{other.n}_meaning") + " " if family.shares and which == "keys" else ""
+    return before + each_type(family, lambda other: f"{other.n}_{which}")
+
+
 def sources(it):
     return each_type(it.family, lambda other: other.source)
 
 
 def still_mapped(it, item, which, x):
     """What is said of a vector whose elements were mapped."""
+    its = PLACES[which] if it.family.shares else "(λ v. v)"
     if it.terms.is_member(item):
-        return f"(each_{which} (λ v. v) (map {it.terms.own(which)[item.name]} {x}.items))"
-    return f"(each_{which} {it.terms.function(which, item, '(λ v. v)')} (map _ {x}.items))"
+        return f"(each_{which} {it.terms.function(which, item, its)} (map {it.terms.own('both' if it.family.shares else which)[item.name]} {x}.items))"
+    return f"(each_{which} {it.terms.function(which, item, its)} (map _ {x}.items))"
 
 
 def mapped(it, item, which, x):
     """That it is what is said of the elements. What is said of an element has its type: antt finds no other."""
     keys, own = "" if which == "meaning" else "_keys", it.terms.own(which)
+    if it.terms.is_member(item) and it.family.shares:
+        return f"each_alike{keys} _ (λ (y : {BOTH}). y{PLACES[which]}) {own[item.name]} (λ x. refl) {x}.items"
     if it.terms.is_member(item):
         return f"each_mapped{keys} {own[item.name]} {x}.items"
     lemma, nothing = ("options_alike", "refl ") if it.terms.is_option(item) else ("each_alike", "")
     inner = item.args[0] if nothing else item
-    type = {"meaning": "Value", "keys": "(List Naming)"}[which]
+    type = BOTH if it.family.shares else {"meaning": "Value", "keys": "(List Naming)"}[which]
     held = {other.name: type for other in it.family.ordered}
 
     def said(m, held_):
         return f"(λ (y : {it.antt(inner, held_)}). {getattr(it.terms, which)(inner, 'y', m)})".replace("( ", "(")
 
-    return f"{lemma}{keys} _ {said('', held)} {said(own, None)} {nothing}(λ x. refl) {x}.items"
+    return f"{lemma}{keys} _ {said(PLACES[which] if it.family.shares else '', held)} {said(own, None)} {nothing}(λ x. refl) {x}.items"
 
 
 def rolled(it, which, type, word):
@@ -302,15 +339,18 @@ def rolled(it, which, type, word):
     def step(case, pattern, values):
         lists = {i: found for i, type_ in enumerate(case.types) if (found := it.terms.list_in(type_, values[i]))}
         out = f"{fold(it, which, type, 'fold-roll')} {pattern}"
+        if it.family.shares:
+            out = f"ap (λ (p : {BOTH}). p{PLACES[which]}) ({fold(it, 'both', BOTH, 'fold-roll')} {pattern})"
         for j, (vector, x) in lists.items():
             # those before it are the value's own already, those behind it are still mapped
             terms = {i: "vs" if i == j else still_mapped(it, other.args[0], which, y) for i, (other, y) in lists.items() if i >= j}
             out += f" ∙ ap (λ vs. {said_of(it, case, which, own, terms, values)}) ({mapped(it, vector.args[0], which, x)})"
         return out
 
-    claim = f"{n}_{which} (roll-{N} {{0}}) ≡ {n}_{which}_layer {each_type(it.family, lambda other: f'{other.n}_{which}')} {{0}}"
+    claim = f"{n}_{which} (roll-{N} {{0}}) ≡ {n}_{which}_layer {said_by(it.family, which)} {{0}}"
     said = f"pub {n}_{word}_roll : (x : {N}-F {sources(it)}) → {claim.format('x')}\n"
-    opened_ = f"unfolding {' '.join(f'{other.n}_{which}' for other in it.family.members)}\n"
+    unfolded = ["both", "meaning"] + ["keys"] * (which == "keys") if it.family.shares else [which]
+    opened_ = f"unfolding {' '.join(f'{other.n}_{one}' for one in unfolded for other in it.family.members)}\n"
     if not it.is_record:
         lines = "".join(f"{n}_{word}_roll {layer_of(it, case, values)} = {step(case, layer_of(it, case, values), values)}\n" for case in it.cases for values in splits(it, case))
         return said + opened_ + lines
@@ -325,7 +365,7 @@ def rolled(it, which, type, word):
 def opened(it, which, word):
     """The same of a value that is opened: of a record, and of each variant."""
     n, N = it.n, it.name
-    of_layer = f"{n}_{which}_layer {each_type(it.family, lambda other: f'{other.n}_{which}')}"
+    of_layer = f"{n}_{which}_layer {said_by(it.family, which)}"
     if it.is_record:
         return f"pub {n}_{word} : (t : {it.source}) → {n}_{which} t ≡ {of_layer} (out-{N} t)\n{n}_{word} t = ap {n}_{which} (sym (roll-out-{N} t)) ∙ {n}_{word}_roll (out-{N} t)\n"
     out = []

@@ -7,6 +7,7 @@ is one at a value, which is a term itself: `meaning(type, "a0", m)`, where `m` i
 from .formats import snake
 from .recursive_plain import Plain
 
+
 class Terms:
     """The terms of a recursive type. It gathers what a file has to bring in."""
 
@@ -31,6 +32,18 @@ class Terms:
         """What is said of values of each type of the family, by its name."""
         return {it.name: f"{snake(it.name)}_{which}" for it in self.declaration.family}
 
+    @property
+    def shares(self):
+        """Whether a type of the family leads to one of it behind a shared pointer: then the keys of a value have what it means, too."""
+        return any(self.has_shared(field.type) for it in self.declaration.family for field in it.all_fields())
+
+    def has_shared(self, type):
+        return self.leads_back(type) and (self.is_shared(type) or any(map(self.has_shared, type.args)))
+
+    def is_shared(self, type):
+        """Whether it is a shared pointer that leads back."""
+        return type.name == "Shared" and self.leads_back(type)
+
     def is_option(self, type):
         """Whether it is an option of a box that leads back."""
         return type.name == "Option" and self.leads_back(type)
@@ -51,7 +64,7 @@ class Terms:
         if not self.leads_back(type):
             return self.plain.shape(type)
         item = self.shape(type.args[0])
-        return {"Box": f"(boxed (one {item}))", "Option": f"(option_shape {item})", "Vec": f"(vec {item})"}[type.name]
+        return {"Box": f"(boxed (one {item}))", "Option": f"(option_shape {item})", "Vec": f"(vec {item})", "Shared": f"(shared rc_flavor (one {item}))"}[type.name]
 
     def definitions(self, type):
         return f"{self.n}_definitions" if self.leads_back(type) else self.plain.definitions(type)
@@ -60,14 +73,19 @@ class Terms:
 
     def function(self, which, type, m):
         """What a value means, or its keys, as a function."""
-        return said(m, type) if self.is_member(type) else f"(λ y. {getattr(self, which)(type, 'y', m)})"
+        if self.is_member(type):
+            its = said(m, type)
+            return f"(λ v. v{its})" if its.startswith(".") else its
+        return f"(λ y. {getattr(self, which)(type, 'y', m)})"
 
     def meaning(self, type, x, m):
         if self.is_member(type):
-            return f"({said(m, type)} {x})"
+            return applied(m, type, x)
         if not self.leads_back(type):
             return self.plain.meaning(type, x)
         item = type.args[0]
+        if type.name == "Shared":
+            return f"(shared_value {x}.key)"
         if type.name == "Box":
             return f"(box {self.meaning(item, f'{x}.value', m)})"
         if type.name == "Option":
@@ -76,10 +94,13 @@ class Terms:
 
     def keys(self, type, x, k):
         if self.is_member(type):
-            return f"({said(k, type)} {x})"
+            return applied(k, type, x)
         if not self.leads_back(type):
             return self.plain.keys(type, x)
         item = type.args[0]
+        if type.name == "Shared":
+            y = f"{x}.value.value"
+            return f"(rc_keys {x}.key (one {self.shape(item)}) 0 {self.meaning(item, y, meant(k))} {self.keys(item, y, k)})"
         if type.name == "Box":
             return self.keys(item, f"{x}.value", k)
         if type.name == "Option":
@@ -90,6 +111,8 @@ class Terms:
         if not self.leads_back(type):
             return self.plain.flat(type, x, r)
         item = self.shape(type.args[0])
+        if type.name == "Shared":
+            return f"(rc_flat {r} (one {item}) 0)"
         if type.name == "Box":
             return f"(box (hole (to_pointee {r} (one {item}) 0)))"
         if type.name == "Option":
@@ -99,7 +122,7 @@ class Terms:
     def belongs(self, type, x, r):
         if not self.leads_back(type):
             return self.plain.belongs(type, x, r)
-        if type.name in ("Box", "Option"):
+        if type.name in ("Box", "Option", "Shared"):
             return "⊤"
         return f"(length {x}.items ≤ 4294967295)"
 
@@ -112,6 +135,8 @@ class Terms:
         if not self.leads_back(type):
             return self.plain.keyed(type, x)
         item = type.args[0]
+        if type.name == "Shared":
+            return f"(rc_keyed {x}.key (one {self.shape(item)}) 0 _ _ {self.keyed(item, f'{x}.value.value')})"
         if type.name == "Box":
             return f"(box_keyed _ _ {self.keyed(item, f'{x}.value')})"
         if type.name == "Option":
@@ -130,6 +155,8 @@ class Terms:
             return self.plain.planned(type, x)
         item = type.args[0]
         D, X = f"{self.n}_definitions", self.shape(item)
+        if type.name == "Shared":
+            return f"(rc_one_planned {D} {x}.key (one {X}) {X} refl _ _ {self.planned(item, f'{x}.value.value', held)})"
         if type.name == "Box":
             return f"(boxed_one_planned {D} (one {X}) {X} refl _ _ {self.planned(item, f'{x}.value', held)})"
         if type.name == "Option" and held:
@@ -219,6 +246,19 @@ def said(m, type):
     return m if isinstance(m, str) else m[type.own.name]
 
 
+def applied(m, type, x):
+    """What is said of a value of a type of the family; a place of a pair is behind it."""
+    its = said(m, type)
+    return f"{x}{its}" if its.startswith(".") else f"({its} {x})"
+
+
+def meant(k):
+    """What values mean, where these are their keys."""
+    if isinstance(k, dict):
+        return {name: meant(its) for name, its in k.items()}
+    return ".0" if k == ".1" else f"m{k[1:]}" if k.startswith("k") and "_" not in k else k.replace("_keys", "_meaning")
+
+
 def something(x):
     """What `(Some x)` holds."""
     return x[len("(Some "):-1]
@@ -237,23 +277,28 @@ PRELUDE = {
     "archive_core.specs.PartsLayout": "IsRecord by_name knows_none",
     "archive_core.specs.Variants": "case_of",
     "archive_core.specs.VariantsLayout": "IsChoice is_recursive_choice",
-    "archive_core.specs.Shape": "Name Shape Parts Variants named choice parts boxed array vec str one run leaf bool char non_zero unsigned signed part no_part variant no_variant",
-    "archive_core.specs.Value": "Value Values case product list box hole number value no_value text_value",
+    "archive_core.specs.Shape": "Name Shape Parts Variants named choice parts boxed shared array vec sorted_map str one run text leaf unit bool char non_zero unsigned signed leaf_key str_key part no_part variant no_variant",
+    "archive_core.specs.SharedSources": "rc_flavor rc_flat rc_keys rc_keyed rc_one_planned",
+    "archive_core.specs.declared.rc.sources.Shared": "Shared",
+    "archive_core.specs.Value": "Value Values case product list box hole number value no_value text_value shared_value",
     "archive_core.specs.Keyed": "each_keyed case_keyed record_keyed nothing_keyed part_keyed number_keyed text_keyed box_keyed",
     "archive_core.specs.Choices": "option_shape",
     "archive_core.specs.Options": "option_keys option_meaning option_flat OptionBelongs option_keyed option_planned",
     "archive_core.specs.Results": "result_keys result_meaning result_flat ResultBelongs result_keyed result_planned",
     "archive_core.specs.ResultShapes": "result_shape",
     "archive_core.specs.Arrays": "array_keys array_meaning array_keyed array_planned",
-    "archive_core.specs.Planned": "leaf_planned string_planned",
-    "archive_core.specs.PlannedOwners": "boxed_one_planned vec_planned run_region_planned slice_planned",
+    "archive_core.specs.MapPairs": "pair_meaning pair_keys",
+    "archive_core.specs.PlannedMaps": "pairs_keyed map_of_pairs_planned",
+    "archive_core.specs.Planned": "leaf_planned string_planned text_planned",
+    "archive_core.specs.PlannedOwners": "box_planned boxed_one_planned vec_planned run_region_planned slice_planned",
     "archive_core.specs.PartsPlanned": "part_planned no_part_planned product_planned record_planned",
     "archive_core.specs.Plans": "HasPlan",
     "archive_core.specs.Reads": "SchemaTable",
     "archive_core.specs.SelfCheck.Laws": "IsCheckOf by_schema own_check",
     "archive_core.specs.Runs": "each_keys each_meaning each_flat EachBelongs HasRunPlan",
     "archive_core.specs.Strings": "string_flat",
-    "archive_core.specs.Writing": "IsKeyed to_pointee",
+    "archive_core.specs.Writing": "IsKeyed to_pointee map_flat",
+    "std.specs.BTreeMap": "btree_map_len",
     "archive_core.specs.Held": "member_has_layout knows_both each_mapped each_mapped_keys held_keyed held_planned variant_planned keyed_as planned_as",
     "archive_core.specs.HeldLists": "each_alike each_alike_keys held_each_keyed held_each_planned options_alike options_alike_keys held_options_keyed held_options_planned",
     "archive_core.specs.HeldOptions": "none_keyed some_keyed none_planned some_planned",

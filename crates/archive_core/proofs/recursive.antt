@@ -4,3 +4,5 @@ pub mod EndsBefore
 pub mod RecordAs
 pub mod ChainsWritten
 pub mod ChainsRead
+pub mod KeysBegun
+pub mod PositionsBegun

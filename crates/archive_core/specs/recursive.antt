@@ -5,3 +5,5 @@ pub mod Held
 pub mod HeldLists
 pub mod HeldOptions
 pub mod Hollow
+pub mod SharedParts
+pub mod PooledParts

@@ -8,6 +8,8 @@ mod hollow;
 mod inner;
 mod naming;
 mod part_of;
+mod pooled;
+mod sharing;
 mod views;
 
 pub use before::{before_box, before_vec};
@@ -23,6 +25,8 @@ pub use fields::{
 };
 pub use hollow::{BoxAt, OptionAt, VecAt};
 pub use inner::{serialize_inner_slice, serialize_part};
-pub use naming::{choice_of, define_name, option_expression, record_of};
+pub use naming::{choice_of, define_name, option_expression, record_of, shared_expression};
 pub use part_of::{part_of_record, part_of_variant, read_part, tag_of_choice};
+pub use pooled::{begin_reading, finish_reading, part_behind};
+pub use sharing::{begin_shared, finish_shared};
 pub use views::{seal_of_field, seal_of_payload, tag_of_view, view_of_field, view_of_payload};

@@ -1,4 +1,4 @@
-//! Tests of the types of recursive_types, through public calls.
+//! Tests of recursive types, through public calls.
 #![tactic(auto)]
 
 #[cfg(test)]
@@ -7,6 +7,8 @@ mod assertions;
 mod bytes;
 #[cfg(test)]
 mod damaged;
+#[cfg(test)]
+mod graphs;
 #[cfg(test)]
 mod kinds;
 #[cfg(test)]

@@ -1,0 +1,2 @@
+pub mod KnotMeaning
+pub mod KnotShape

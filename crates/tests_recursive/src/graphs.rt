@@ -1,0 +1,91 @@
+// Graphs, whose knots are behind shared pointers: written once for each key, validated, and read back once for each position; and knots that lead to
+// themselves.
+
+use crate::assertions::{assert_refused, assert_same, assert_written, made};
+use archive_core::api::{from_bytes, to_bytes};
+use archive_core::error::Error;
+use archive_core::pooling::{Pool, Unpool};
+use archive_core::rc::Shared;
+use recursive_graphs::graph::{ArchivedGraph, Graph};
+use recursive_graphs::knot::Knot;
+use std::alloc::{AllocError, Global};
+use std::rc::Rc;
+
+fn knot(alloc: Global, id: u32, next: Vec<Shared<Knot>>) -> Result<Rc<Knot>, AllocError> {
+    Ok(Rc::new(alloc, Knot { id, next })?)
+}
+
+// Knot 1 leads to knot 2, and the graph to both.
+fn graph(alloc: Global) -> Result<Graph, AllocError> {
+    let two = knot(alloc, 2, Vec::new(alloc))?;
+    let again = Shared {
+        key: 7,
+        value: two.clone()?,
+    };
+    let one = Shared {
+        key: 5,
+        value: knot(alloc, 1, vec![in alloc; again]?)?,
+    };
+    let two = Shared { key: 7, value: two };
+    Ok(Graph {
+        name: String::from_str(alloc, "net")?,
+        nodes: vec![in alloc; one, two]?,
+    })
+}
+
+// Knot 2 at 0, which leads to none; the pointer to it at 12, and knot 1 at 16; the two pointers at 28, and the graph at 36. A knot is its number, and an
+// offset and a length; a pointer is an offset.
+const GRAPH: &[u8] =
+    b"\x02\0\0\0\xfc\xff\xff\xff\0\0\0\0\xf4\xff\xff\xff\x01\0\0\0\xf8\xff\xff\xff\x01\0\0\0\xf4\xff\xff\xff\xe0\xff\xff\xffnet\xff\xff\xff\xff\xff\xf0\xff\xff\xff\x02\0\0\0";
+
+#[test]
+fn each_knot_once(rt: HostRuntime) {
+    let graph = graph(rt.alloc()).expect(&rt, "a graph");
+    assert_written(&rt, rt.alloc(), &graph, GRAPH);
+    let mut pool: Pool<Shared<Knot>> = Pool::new(rt.alloc());
+    let back: Result<Graph, Error> = from_bytes(rt.alloc(), GRAPH, &mut pool);
+    let back = made(&rt, "a graph", back);
+    assert_written(&rt, rt.alloc(), &back, GRAPH);
+    assert_same(&rt, "what is known", pool.is_known(0), true);
+    assert_same(&rt, "what is known", pool.is_known(16), true);
+}
+
+// Without a pool each pointer has a knot of its own, under the position as its key.
+#[test]
+fn each_pointer_alone(rt: HostRuntime) {
+    let back: Result<Graph, Error> = from_bytes(rt.alloc(), GRAPH, &mut Unpool);
+    let back = made(&rt, "a graph", back);
+    assert_written(&rt, rt.alloc(), &back, GRAPH);
+}
+
+// A knot under the key of a knot that leads to it.
+fn knot_within_itself(alloc: Global) -> Result<Graph, AllocError> {
+    let inner = Shared {
+        key: 5,
+        value: knot(alloc, 2, Vec::new(alloc))?,
+    };
+    let outer = Shared {
+        key: 5,
+        value: knot(alloc, 1, vec![in alloc; inner]?)?,
+    };
+    Ok(Graph {
+        name: String::new(alloc),
+        nodes: vec![in alloc; outer]?,
+    })
+}
+
+#[test]
+fn knot_that_leads_to_itself(rt: HostRuntime) {
+    let graph = knot_within_itself(rt.alloc()).expect(&rt, "a graph");
+    let refused = to_bytes(rt.alloc(), &graph).err();
+    assert_same(&rt, "a cycle", refused, Some(Error::CyclicSerialize));
+}
+
+// The pointer at 0 leads to the knot at 4, whose own pointer it is.
+const CYCLE: &[u8] =
+    b"\x04\0\0\0\x01\0\0\0\xf8\xff\xff\xff\x01\0\0\0\xf4\xff\xff\xffnet\xff\xff\xff\xff\xff\xf4\xff\xff\xff\x01\0\0\0";
+
+#[test]
+fn archive_of_a_cycle(rt: HostRuntime) {
+    assert_refused::<ArchivedGraph>(&rt, "a cycle", rt.alloc(), CYCLE, Error::CyclicValidate);
+}
