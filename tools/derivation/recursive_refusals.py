@@ -1,10 +1,9 @@
 """What isn't written of recursive types, with what to write instead."""
 
 from .model import Declaration, Refused, Type
-from .recursive_plain import LEAVES
 
-# What plain parts may be made of, which a recursive type has beside those that lead back to it.
-PLAIN = set(LEAVES) | {"String", "BoxStr", "NonZero", "Option", "Result", "tuple", "Box", "BoxSlice", "Vec", "BTreeMap", "OwnedArray"}
+# Plain parts that a recursive type may have beside those that lead back to it.
+PLAIN = {f"{sign}{bits}" for sign in "ui" for bits in (8, 16, 32, 64, 128)} | {"char", "String"}
 MOST_FIELDS = 7
 
 

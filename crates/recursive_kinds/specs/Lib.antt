@@ -2,7 +2,3 @@ pub mod KnotMeaning
 pub mod KnotShape
 pub mod BushMeaning
 pub mod BushShape
-pub mod FactMeaning
-pub mod FactShape
-pub mod RuleMeaning
-pub mod RuleShape

@@ -1,17 +1,10 @@
-// Recursive values behind vectors of boxes and of options, and beside fields of many kinds, byte for byte: written, validated and read back; and a
-// damaged one.
+// Recursive values behind vectors of boxes and of options, byte for byte: written, validated and read back; and a damaged one.
 
-use crate::assertions::{assert_read, assert_refused, assert_written, value_of};
-use archive_core::boxed::{BoxSlice, BoxStr};
-use archive_core::core_impls::OwnedArray;
+use crate::assertions::{assert_read, assert_refused, assert_written};
 use archive_core::error::Error;
-use archive_core::primitive::ArchivedNonZeroU32;
 use recursive_kinds::bush::Bush;
-use recursive_kinds::fact::Fact;
 use recursive_kinds::knot::{ArchivedKnot, Knot};
-use recursive_kinds::rule::Rule;
 use std::alloc::{AllocError, Global};
-use std::collections::BTreeMap;
 use std::process::Abort;
 
 fn knot(alloc: Global, id: u32, next: Vec<Box<Knot>>) -> Result<Box<Knot>, AllocError> {
@@ -94,95 +87,4 @@ fn options_in_a_vector(rt: HostRuntime) {
     let bushes = bushes(rt.alloc()).expect(&rt, "a bush");
     assert_written(&rt, rt.alloc(), &bushes, BUSHES);
     assert_read(&rt, rt.alloc(), BUSHES, &bushes);
-}
-
-fn notes(alloc: Global) -> Result<Fact, AllocError> {
-    let note = String::from_str(alloc, "abc")?;
-    let by = String::from_str(alloc, "nobody knows")?;
-    Ok(Fact::Notes(vec![in alloc; note]?, Some(by)))
-}
-
-fn hours(alloc: Global) -> Result<Fact, AllocError> {
-    let mut hours = BTreeMap::new(alloc);
-    hours.insert(3, -1)?;
-    Ok(Fact::Hours(hours))
-}
-
-fn rank(alloc: Global) -> Result<Fact, AllocError> {
-    Ok(Fact::Rank(ArchivedNonZeroU32::from_native(2), Box::new(alloc, 5)?))
-}
-
-fn facts(alloc: Global) -> Result<Fact, AllocError> {
-    let reason = String::from_str(alloc, "no")?;
-    let notes = notes(alloc)?;
-    let hours = hours(alloc)?;
-    let rank = rank(alloc)?;
-    let mut facts = Vec::new(alloc);
-    facts.push(Fact::Holds(true, ()))?;
-    facts.push(Fact::Due(Some((-7, 9))))?;
-    facts.push(Fact::Outcome(Err(reason)))?;
-    facts.push(notes)?;
-    facts.push(hours)?;
-    facts.push(rank)?;
-    Ok(Fact::All(facts))
-}
-
-// The note at 0, who wrote it at 8, the hours at 24, the number of the rank at 40, the six facts at 44, and all of them at 188. Of the 24 bytes of a fact
-// the first is its tag; what it holds lies at 4, except that it holds, at 1.
-const FACTS: &[u8] =
-    b"abc\xff\xff\xff\xff\xffnobody knows\0\0\0\0\x03\0\0\0\0\0\0\0\xff\xff\xff\xff\xff\xff\xff\xff\x05\0\0\0\0\x01\0\0\0\0\0\0\0\0\0\0\0\0\0\0\0\0\0\0\0\0\0\0\x01\0\0\0\x01\0\0\0\xf9\xff\xff\xff\x09\0\0\0\0\0\0\0\0\0\0\0\x02\0\0\0\x01\0\0\0no\xff\xff\xff\xff\xff\xff\0\0\0\0\0\0\0\0\x03\0\0\0\x88\xff\xff\xff\x01\0\0\0\x01\0\0\0\x8c\0\0\0\x84\xff\xff\xff\x04\0\0\0\x88\xff\xff\xff\x01\0\0\0\0\0\0\0\0\0\0\0\0\0\0\0\x05\0\0\0\x02\0\0\0|\xff\xff\xff\0\0\0\0\0\0\0\0\0\0\0\0\x06\0\0\0l\xff\xff\xff\x06\0\0\0\0\0\0\0\0\0\0\0\0\0\0\0";
-
-#[test]
-fn variants_of_many_kinds(rt: HostRuntime) {
-    let facts = facts(rt.alloc()).expect(&rt, "facts");
-    assert_written(&rt, rt.alloc(), &facts, FACTS);
-    assert_read(&rt, rt.alloc(), FACTS, &facts);
-}
-
-// An array of these bytes; they are four.
-fn version(alloc: Global, bytes: [u8; 4]) -> Result<OwnedArray<u8, 4>, AllocError> {
-    let bytes = Vec::from_array(alloc, bytes)?;
-    let Some(version) = OwnedArray::from_vec(bytes) else {
-        return Err(AllocError);
-    };
-    Ok(version)
-}
-
-fn rule(
-    alloc: Global,
-    words: &str,
-    version: OwnedArray<u8, 4>,
-    pages: Vec<u16>,
-    lines: usize,
-    parts: Vec<Rule>,
-) -> Result<Rule, AllocError> {
-    let text = String::from_str(alloc, words)?;
-    Ok(Rule {
-        words: BoxStr { text },
-        version,
-        pages: BoxSlice { items: pages },
-        lines,
-        parts,
-    })
-}
-
-fn rules(alloc: Global) -> Result<Rule, AllocError> {
-    let one = version(alloc, [1, 0, 0, 2])?;
-    let part = rule(alloc, "be", one, Vec::new(alloc), 3, Vec::new(alloc))?;
-    let two = version(alloc, [2, 0, 0, 1])?;
-    let parts = vec![in alloc; part]?;
-    rule(alloc, "all", two, vec![in alloc; 7, 300]?, 9, parts)
-}
-
-// The words of the rule at 0, its pages at 4, the words of its part at 8 and its pages, which are none, at 10; its part at 12 and itself at 44. Of the 32
-// bytes of a rule its words are the first, its version lies at 8, its pages at 12, its lines at 20, and its parts at 24.
-const RULES: &[u8] =
-    b"all\0\x07\0,\x01be\0\0\xfc\xff\xff\xff\x02\0\0\0\x01\0\0\x02\xf2\xff\xff\xff\0\0\0\0\x03\0\0\0\xe8\xff\xff\xff\0\0\0\0\xd4\xff\xff\xff\x03\0\0\0\x02\0\0\x01\xcc\xff\xff\xff\x02\0\0\0\x09\0\0\0\xc8\xff\xff\xff\x01\0\0\0";
-
-#[test]
-fn fields_of_many_kinds(rt: HostRuntime) {
-    let rules = rules(rt.alloc()).expect(&rt, "rules");
-    assert_written(&rt, rt.alloc(), &rules, RULES);
-    let back: Rule = value_of(&rt, rt.alloc(), RULES);
-    assert_written(&rt, rt.alloc(), &back, RULES);
 }
