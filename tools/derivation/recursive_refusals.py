@@ -1,9 +1,10 @@
 """What isn't written of recursive types, with what to write instead."""
 
 from .model import Declaration, Refused, Type
+from .recursive_plain import LEAVES
 
-# Plain parts that a recursive type may have beside those that lead back to it.
-PLAIN = {f"{sign}{bits}" for sign in "ui" for bits in (8, 16, 32, 64, 128)} | {"char", "String"}
+# What plain parts may be made of, which a recursive type has beside those that lead back to it.
+PLAIN = set(LEAVES) | {"String", "BoxStr", "NonZero", "Option", "Result", "tuple", "Box", "BoxSlice", "Vec", "BTreeMap", "OwnedArray"}
 MOST_FIELDS = 7
 
 
