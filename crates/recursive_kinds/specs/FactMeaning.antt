@@ -4,29 +4,26 @@ use Rattle.archive_core.specs.Definitions.{both, no_definition}
 use Rattle.archive_core.specs.Denotes.{Naming}
 use Rattle.archive_core.specs.Digits.{bool_byte}
 use Rattle.archive_core.specs.Held.{each_mapped, each_mapped_keys, held_keyed, held_planned, variant_planned, keyed_as, planned_as}
-use Rattle.archive_core.specs.Keyed.{each_keyed, case_keyed, record_keyed, nothing_keyed, part_keyed, number_keyed, text_keyed, box_keyed}
-use Rattle.archive_core.specs.MapPairs.{pair_meaning, pair_keys}
+use Rattle.archive_core.specs.Keyed.{case_keyed, record_keyed, nothing_keyed, part_keyed, number_keyed, text_keyed}
 use Rattle.archive_core.specs.Options.{option_keys, option_meaning, option_flat, OptionBelongs, option_keyed, option_planned}
 use Rattle.archive_core.specs.PartsPlanned.{part_planned, no_part_planned, product_planned}
 use Rattle.archive_core.specs.Planned.{leaf_planned, string_planned}
-use Rattle.archive_core.specs.PlannedMaps.{pairs_keyed, map_of_pairs_planned}
-use Rattle.archive_core.specs.PlannedOwners.{boxed_one_planned, vec_planned, run_region_planned, slice_planned}
+use Rattle.archive_core.specs.PlannedOwners.{vec_planned, run_region_planned}
 use Rattle.archive_core.specs.Plans.{HasPlan}
 use Rattle.archive_core.specs.ResultShapes.{result_shape}
 use Rattle.archive_core.specs.Results.{result_keys, result_meaning, result_flat, ResultBelongs, result_keyed, result_planned}
 use Rattle.archive_core.specs.Runs.{each_keys, each_meaning}
-use Rattle.archive_core.specs.Shape.{parts, boxed, vec, sorted_map, str, one, run, leaf, unit, bool, non_zero, unsigned, signed, leaf_key, part, no_part, variant, number as number_kind}
+use Rattle.archive_core.specs.Shape.{parts, vec, str, run, leaf, unit, bool, unsigned, signed, part, no_part, variant, number as number_kind}
 use Rattle.archive_core.specs.Strings.{string_flat}
-use Rattle.archive_core.specs.Value.{Value, case, product, list, box, hole, number, value, no_value, text_value}
-use Rattle.archive_core.specs.Writing.{IsKeyed, to_pointee, map_flat}
+use Rattle.archive_core.specs.Value.{Value, case, product, list, hole, number, value, no_value, text_value}
+use Rattle.archive_core.specs.Writing.{IsKeyed, to_pointee}
 use Rattle.recursive_kinds.specs.declared.fact.Fact.{Fact-F, out-Fact, roll-Fact, fold-Fact, fold-roll-Fact, ind-Fact, out-roll-Fact}
 use Rattle.recursive_kinds.specs.declared.fact.Fact.TheFolds.{map-Fact}
 use Rattle.recursive_kinds.specs.declared.fact.FactResolver.{FactResolver}
-use Rattle.std.proofs.Common.{ap, subst, sym, ◌∙◌, ℤ, Box, Global, String, Vec, BTreeMap}
-use Rattle.std.specs.BTreeMap.{btree_map_len}
-use Rattle.std.specs.Int.{w8, w16, w32, w64}
+use Rattle.std.proofs.Common.{ap, subst, sym, ◌∙◌, ℤ, Global, String, Vec}
+use Rattle.std.specs.Int.{w8, w32}
 use Rattle.std.specs.Prelude.{ℕ, List, [], ◌++◌, ◌≡◌, ◌≤◌, refl, pos, length, map, string_bytes, ⊤, Option, Bool, Result}
-use Rattle.recursive_kinds.specs.FactShape.{fact_name, fact_shape, fact_definitions, fact_variants, fact_variant_definitions, fact_has_variants, fact_holds_parts, fact_holds_definitions, fact_due_parts, fact_due_definitions, fact_outcome_parts, fact_outcome_definitions, fact_notes_parts, fact_notes_definitions, fact_hours_parts, fact_hours_definitions, fact_rank_parts, fact_rank_definitions, fact_all_parts, fact_all_definitions}
+use Rattle.recursive_kinds.specs.FactShape.{fact_name, fact_shape, fact_definitions, fact_variants, fact_variant_definitions, fact_has_variants, fact_holds_parts, fact_holds_definitions, fact_due_parts, fact_due_definitions, fact_outcome_parts, fact_outcome_definitions, fact_facts_parts, fact_facts_definitions}
 use Rattle.recursive_kinds.specs.declared.fact.Fact.{Fact as Fact-Source}
 use Rattle.recursive_kinds.specs.declared.fact.Fact.TheOpen as Layer
 use Rattle.recursive_kinds.specs.declared.fact.Fact.TheVariants as Its
@@ -36,10 +33,7 @@ abbrev pub fact_meaning_layer : {A : Type 0} → (A → Value) → Fact-F A → 
 fact_meaning_layer m (Layer.Holds a0 a1) = case 0 (value (number (pos (bool_byte a0))) (value (number (pos 0)) no_value))
 fact_meaning_layer m (Layer.Due a0) = case 1 (value (option_meaning (λ y. (product (value (number y.0) (value (number (pos y.1)) no_value)))) a0) no_value)
 fact_meaning_layer m (Layer.Outcome a0) = case 2 (value (result_meaning (λ y. (number (pos y))) (λ y. (text_value (string_bytes y))) a0) no_value)
-fact_meaning_layer m (Layer.Notes a0 a1) = case 3 (value (list (each_meaning (λ y. (text_value (string_bytes y))) a0.items)) (value (option_meaning (λ y. (text_value (string_bytes y))) a1) no_value))
-fact_meaning_layer m (Layer.Hours a0) = case 4 (value (list (each_meaning (pair_meaning (λ y. (number (pos y))) (λ y. (number y))) a0.entries)) no_value)
-fact_meaning_layer m (Layer.Rank a0 a1) = case 5 (value (number (pos a0)) (value (box (number (pos a1.value))) no_value))
-fact_meaning_layer m (Layer.All a0) = case 6 (value (list (each_meaning m a0.items)) no_value)
+fact_meaning_layer m (Layer.Facts a0) = case 3 (value (list (each_meaning m a0.items)) no_value)
 
 pub fact_meaning : Fact-Source → Value
 fact_meaning = fold-Fact Value (fact_meaning_layer (λ v. v))
@@ -49,10 +43,7 @@ unfolding fact_meaning
 fact_means_roll (Layer.Holds a0 a1) = fold-roll-Fact Value (fact_meaning_layer (λ v. v)) (Layer.Holds a0 a1)
 fact_means_roll (Layer.Due a0) = fold-roll-Fact Value (fact_meaning_layer (λ v. v)) (Layer.Due a0)
 fact_means_roll (Layer.Outcome a0) = fold-roll-Fact Value (fact_meaning_layer (λ v. v)) (Layer.Outcome a0)
-fact_means_roll (Layer.Notes a0 a1) = fold-roll-Fact Value (fact_meaning_layer (λ v. v)) (Layer.Notes a0 a1)
-fact_means_roll (Layer.Hours a0) = fold-roll-Fact Value (fact_meaning_layer (λ v. v)) (Layer.Hours a0)
-fact_means_roll (Layer.Rank a0 a1) = fold-roll-Fact Value (fact_meaning_layer (λ v. v)) (Layer.Rank a0 a1)
-fact_means_roll (Layer.All a0) = fold-roll-Fact Value (fact_meaning_layer (λ v. v)) (Layer.All a0) ∙ ap (λ vs. case 6 (value (list vs) no_value)) (each_mapped fact_meaning a0.items)
+fact_means_roll (Layer.Facts a0) = fold-roll-Fact Value (fact_meaning_layer (λ v. v)) (Layer.Facts a0) ∙ ap (λ vs. case 3 (value (list vs) no_value)) (each_mapped fact_meaning a0.items)
 
 pub fact_holds_means : (a0 : Bool) (a1 : ⊤) → fact_meaning (Its.Holds a0 a1) ≡ fact_meaning_layer fact_meaning (Layer.Holds a0 a1)
 fact_holds_means a0 a1 = ap fact_meaning (sym (Its.rolls-Holds a0 a1)) ∙ fact_means_roll (Layer.Holds a0 a1)
@@ -63,26 +54,14 @@ fact_due_means a0 = ap fact_meaning (sym (Its.rolls-Due a0)) ∙ fact_means_roll
 pub fact_outcome_means : (a0 : (Result ℕ (String Global))) → fact_meaning (Its.Outcome a0) ≡ fact_meaning_layer fact_meaning (Layer.Outcome a0)
 fact_outcome_means a0 = ap fact_meaning (sym (Its.rolls-Outcome a0)) ∙ fact_means_roll (Layer.Outcome a0)
 
-pub fact_notes_means : (a0 : (Vec (String Global) Global)) (a1 : (Option (String Global))) → fact_meaning (Its.Notes a0 a1) ≡ fact_meaning_layer fact_meaning (Layer.Notes a0 a1)
-fact_notes_means a0 a1 = ap fact_meaning (sym (Its.rolls-Notes a0 a1)) ∙ fact_means_roll (Layer.Notes a0 a1)
-
-pub fact_hours_means : (a0 : (BTreeMap ℕ ℤ)) → fact_meaning (Its.Hours a0) ≡ fact_meaning_layer fact_meaning (Layer.Hours a0)
-fact_hours_means a0 = ap fact_meaning (sym (Its.rolls-Hours a0)) ∙ fact_means_roll (Layer.Hours a0)
-
-pub fact_rank_means : (a0 : ℕ) (a1 : (Box ℕ Global)) → fact_meaning (Its.Rank a0 a1) ≡ fact_meaning_layer fact_meaning (Layer.Rank a0 a1)
-fact_rank_means a0 a1 = ap fact_meaning (sym (Its.rolls-Rank a0 a1)) ∙ fact_means_roll (Layer.Rank a0 a1)
-
-pub fact_all_means : (a0 : (Vec Fact-Source Global)) → fact_meaning (Its.All a0) ≡ fact_meaning_layer fact_meaning (Layer.All a0)
-fact_all_means a0 = ap fact_meaning (sym (Its.rolls-All a0)) ∙ fact_means_roll (Layer.All a0)
+pub fact_facts_means : (a0 : (Vec Fact-Source Global)) → fact_meaning (Its.Facts a0) ≡ fact_meaning_layer fact_meaning (Layer.Facts a0)
+fact_facts_means a0 = ap fact_meaning (sym (Its.rolls-Facts a0)) ∙ fact_means_roll (Layer.Facts a0)
 
 abbrev pub fact_keys_layer : {A : Type 0} → (A → (List Naming)) → Fact-F A → (List Naming)
 fact_keys_layer m (Layer.Holds a0 a1) = ([] ++ ([] ++ []))
 fact_keys_layer m (Layer.Due a0) = ((option_keys (λ y. ([] ++ ([] ++ []))) a0) ++ [])
 fact_keys_layer m (Layer.Outcome a0) = ((result_keys (λ y. []) (λ y. []) a0) ++ [])
-fact_keys_layer m (Layer.Notes a0 a1) = ((each_keys (λ y. []) a0.items) ++ ((option_keys (λ y. []) a1) ++ []))
-fact_keys_layer m (Layer.Hours a0) = ((each_keys (pair_keys (λ y. []) (λ y. [])) a0.entries) ++ [])
-fact_keys_layer m (Layer.Rank a0 a1) = ([] ++ ([] ++ []))
-fact_keys_layer m (Layer.All a0) = ((each_keys m a0.items) ++ [])
+fact_keys_layer m (Layer.Facts a0) = ((each_keys m a0.items) ++ [])
 
 pub fact_keys : Fact-Source → (List Naming)
 fact_keys = fold-Fact (List Naming) (fact_keys_layer (λ v. v))
@@ -92,10 +71,7 @@ unfolding fact_keys
 fact_has_keys_roll (Layer.Holds a0 a1) = fold-roll-Fact (List Naming) (fact_keys_layer (λ v. v)) (Layer.Holds a0 a1)
 fact_has_keys_roll (Layer.Due a0) = fold-roll-Fact (List Naming) (fact_keys_layer (λ v. v)) (Layer.Due a0)
 fact_has_keys_roll (Layer.Outcome a0) = fold-roll-Fact (List Naming) (fact_keys_layer (λ v. v)) (Layer.Outcome a0)
-fact_has_keys_roll (Layer.Notes a0 a1) = fold-roll-Fact (List Naming) (fact_keys_layer (λ v. v)) (Layer.Notes a0 a1)
-fact_has_keys_roll (Layer.Hours a0) = fold-roll-Fact (List Naming) (fact_keys_layer (λ v. v)) (Layer.Hours a0)
-fact_has_keys_roll (Layer.Rank a0 a1) = fold-roll-Fact (List Naming) (fact_keys_layer (λ v. v)) (Layer.Rank a0 a1)
-fact_has_keys_roll (Layer.All a0) = fold-roll-Fact (List Naming) (fact_keys_layer (λ v. v)) (Layer.All a0) ∙ ap (λ vs. (vs ++ [])) (each_mapped_keys fact_keys a0.items)
+fact_has_keys_roll (Layer.Facts a0) = fold-roll-Fact (List Naming) (fact_keys_layer (λ v. v)) (Layer.Facts a0) ∙ ap (λ vs. (vs ++ [])) (each_mapped_keys fact_keys a0.items)
 
 pub fact_holds_has_keys : (a0 : Bool) (a1 : ⊤) → fact_keys (Its.Holds a0 a1) ≡ fact_keys_layer fact_keys (Layer.Holds a0 a1)
 fact_holds_has_keys a0 a1 = ap fact_keys (sym (Its.rolls-Holds a0 a1)) ∙ fact_has_keys_roll (Layer.Holds a0 a1)
@@ -106,27 +82,15 @@ fact_due_has_keys a0 = ap fact_keys (sym (Its.rolls-Due a0)) ∙ fact_has_keys_r
 pub fact_outcome_has_keys : (a0 : (Result ℕ (String Global))) → fact_keys (Its.Outcome a0) ≡ fact_keys_layer fact_keys (Layer.Outcome a0)
 fact_outcome_has_keys a0 = ap fact_keys (sym (Its.rolls-Outcome a0)) ∙ fact_has_keys_roll (Layer.Outcome a0)
 
-pub fact_notes_has_keys : (a0 : (Vec (String Global) Global)) (a1 : (Option (String Global))) → fact_keys (Its.Notes a0 a1) ≡ fact_keys_layer fact_keys (Layer.Notes a0 a1)
-fact_notes_has_keys a0 a1 = ap fact_keys (sym (Its.rolls-Notes a0 a1)) ∙ fact_has_keys_roll (Layer.Notes a0 a1)
-
-pub fact_hours_has_keys : (a0 : (BTreeMap ℕ ℤ)) → fact_keys (Its.Hours a0) ≡ fact_keys_layer fact_keys (Layer.Hours a0)
-fact_hours_has_keys a0 = ap fact_keys (sym (Its.rolls-Hours a0)) ∙ fact_has_keys_roll (Layer.Hours a0)
-
-pub fact_rank_has_keys : (a0 : ℕ) (a1 : (Box ℕ Global)) → fact_keys (Its.Rank a0 a1) ≡ fact_keys_layer fact_keys (Layer.Rank a0 a1)
-fact_rank_has_keys a0 a1 = ap fact_keys (sym (Its.rolls-Rank a0 a1)) ∙ fact_has_keys_roll (Layer.Rank a0 a1)
-
-pub fact_all_has_keys : (a0 : (Vec Fact-Source Global)) → fact_keys (Its.All a0) ≡ fact_keys_layer fact_keys (Layer.All a0)
-fact_all_has_keys a0 = ap fact_keys (sym (Its.rolls-All a0)) ∙ fact_has_keys_roll (Layer.All a0)
+pub fact_facts_has_keys : (a0 : (Vec Fact-Source Global)) → fact_keys (Its.Facts a0) ≡ fact_keys_layer fact_keys (Layer.Facts a0)
+fact_facts_has_keys a0 = ap fact_keys (sym (Its.rolls-Facts a0)) ∙ fact_has_keys_roll (Layer.Facts a0)
 
 -- what is read in its place, by the resolver of the same variant
 abbrev pub fact_flat_layer : Fact-F Fact-Source → FactResolver → Value
 fact_flat_layer (Layer.Holds a0 a1) r = elim r [ Kept.Holds s ↦ case 0 (value (number (pos (bool_byte a0))) (value (number (pos 0)) no_value)) | _ ↦ case 0 no_value ]
 fact_flat_layer (Layer.Due a0) r = elim r [ Kept.Due s ↦ case 1 (value (option_flat (λ y s. (product (value (number y.0) (value (number (pos y.1)) no_value)))) a0 s.0) no_value) | _ ↦ case 1 no_value ]
 fact_flat_layer (Layer.Outcome a0) r = elim r [ Kept.Outcome s ↦ case 2 (value (result_flat (λ y s. (number (pos y))) (λ y s. (string_flat (string_bytes y) s)) a0 s.0) no_value) | _ ↦ case 2 no_value ]
-fact_flat_layer (Layer.Notes a0 a1) r = elim r [ Kept.Notes s ↦ case 3 (value (hole (to_pointee s.0 (run str) (length a0.items))) (value (option_flat (λ y s. (string_flat (string_bytes y) s)) a1 s.1.0) no_value)) | _ ↦ case 3 no_value ]
-fact_flat_layer (Layer.Hours a0) r = elim r [ Kept.Hours s ↦ case 4 (value (map_flat (leaf_key (number_kind unsigned w16)) (leaf (number_kind signed w64)) (btree_map_len a0) s.0) no_value) | _ ↦ case 4 no_value ]
-fact_flat_layer (Layer.Rank a0 a1) r = elim r [ Kept.Rank s ↦ case 5 (value (number (pos a0)) (value (box (hole (to_pointee s.1.0 (one (leaf (number_kind unsigned w32))) 0))) no_value)) | _ ↦ case 5 no_value ]
-fact_flat_layer (Layer.All a0) r = elim r [ Kept.All s ↦ case 6 (value (hole (to_pointee s.0 (run fact_shape) (length a0.items))) no_value) | _ ↦ case 6 no_value ]
+fact_flat_layer (Layer.Facts a0) r = elim r [ Kept.Facts s ↦ case 3 (value (hole (to_pointee s.0 (run fact_shape) (length a0.items))) no_value) | _ ↦ case 3 no_value ]
 
 abbrev pub fact_flat : Fact-Source → FactResolver → Value
 fact_flat v r = fact_flat_layer (out-Fact v) r
@@ -135,10 +99,7 @@ abbrev pub fact_belongs_layer : Fact-F Fact-Source → FactResolver → Type 0
 fact_belongs_layer (Layer.Holds a0 a1) r = elim r [ Kept.Holds s ↦ (⊤ × (⊤ × Unit {0})) | _ ↦ ⊥ ]
 fact_belongs_layer (Layer.Due a0) r = elim r [ Kept.Due s ↦ ((OptionBelongs (λ y s. (⊤ × (⊤ × Unit {0}))) a0 s.0) × Unit {0}) | _ ↦ ⊥ ]
 fact_belongs_layer (Layer.Outcome a0) r = elim r [ Kept.Outcome s ↦ ((ResultBelongs (λ y s. ⊤) (λ y s. (length (string_bytes y) ≤ 1073741823)) a0 s.0) × Unit {0}) | _ ↦ ⊥ ]
-fact_belongs_layer (Layer.Notes a0 a1) r = elim r [ Kept.Notes s ↦ ((length a0.items ≤ 4294967295) × ((OptionBelongs (λ y s. (length (string_bytes y) ≤ 1073741823)) a1 s.1.0) × Unit {0})) | _ ↦ ⊥ ]
-fact_belongs_layer (Layer.Hours a0) r = elim r [ Kept.Hours s ↦ ((btree_map_len a0 ≤ 4294967295) × Unit {0}) | _ ↦ ⊥ ]
-fact_belongs_layer (Layer.Rank a0 a1) r = elim r [ Kept.Rank s ↦ (⊤ × (⊤ × Unit {0})) | _ ↦ ⊥ ]
-fact_belongs_layer (Layer.All a0) r = elim r [ Kept.All s ↦ ((length a0.items ≤ 4294967295) × Unit {0}) | _ ↦ ⊥ ]
+fact_belongs_layer (Layer.Facts a0) r = elim r [ Kept.Facts s ↦ ((length a0.items ≤ 4294967295) × Unit {0}) | _ ↦ ⊥ ]
 
 abbrev pub fact_belongs : Fact-Source → FactResolver → Type 0
 fact_belongs v r = fact_belongs_layer (out-Fact v) r
@@ -152,26 +113,14 @@ fact_due_opens a0 = ap out-Fact (sym (Its.rolls-Due a0)) ∙ out-roll-Fact (Laye
 pub fact_outcome_opens : (a0 : (Result ℕ (String Global))) → out-Fact (Its.Outcome a0) ≡ (Layer.Outcome a0)
 fact_outcome_opens a0 = ap out-Fact (sym (Its.rolls-Outcome a0)) ∙ out-roll-Fact (Layer.Outcome a0)
 
-pub fact_notes_opens : (a0 : (Vec (String Global) Global)) (a1 : (Option (String Global))) → out-Fact (Its.Notes a0 a1) ≡ (Layer.Notes a0 a1)
-fact_notes_opens a0 a1 = ap out-Fact (sym (Its.rolls-Notes a0 a1)) ∙ out-roll-Fact (Layer.Notes a0 a1)
-
-pub fact_hours_opens : (a0 : (BTreeMap ℕ ℤ)) → out-Fact (Its.Hours a0) ≡ (Layer.Hours a0)
-fact_hours_opens a0 = ap out-Fact (sym (Its.rolls-Hours a0)) ∙ out-roll-Fact (Layer.Hours a0)
-
-pub fact_rank_opens : (a0 : ℕ) (a1 : (Box ℕ Global)) → out-Fact (Its.Rank a0 a1) ≡ (Layer.Rank a0 a1)
-fact_rank_opens a0 a1 = ap out-Fact (sym (Its.rolls-Rank a0 a1)) ∙ out-roll-Fact (Layer.Rank a0 a1)
-
-pub fact_all_opens : (a0 : (Vec Fact-Source Global)) → out-Fact (Its.All a0) ≡ (Layer.All a0)
-fact_all_opens a0 = ap out-Fact (sym (Its.rolls-All a0)) ∙ out-roll-Fact (Layer.All a0)
+pub fact_facts_opens : (a0 : (Vec Fact-Source Global)) → out-Fact (Its.Facts a0) ≡ (Layer.Facts a0)
+fact_facts_opens a0 = ap out-Fact (sym (Its.rolls-Facts a0)) ∙ out-roll-Fact (Layer.Facts a0)
 
 fact_keyed_layer : (y : Fact-F ((t : Fact-Source) × IsKeyed (fact_keys t) (fact_meaning t))) → IsKeyed (fact_keys (roll-Fact (map-Fact ((t : Fact-Source) × IsKeyed (fact_keys t) (fact_meaning t)) Fact-Source (λ e. e.0) y))) (fact_meaning (roll-Fact (map-Fact ((t : Fact-Source) × IsKeyed (fact_keys t) (fact_meaning t)) Fact-Source (λ e. e.0) y)))
 fact_keyed_layer (Layer.Holds a0 a1) = keyed_as (fact_has_keys_roll _) (fact_means_roll _) (case_keyed _ 0 _ (part_keyed (number_keyed _) (part_keyed (number_keyed _) nothing_keyed)))
 fact_keyed_layer (Layer.Due a0) = keyed_as (fact_has_keys_roll _) (fact_means_roll _) (case_keyed _ 1 _ (part_keyed (option_keyed (λ y. ([] ++ ([] ++ []))) (λ y. (product (value (number y.0) (value (number (pos y.1)) no_value)))) (λ y. (record_keyed (part_keyed (number_keyed _) (part_keyed (number_keyed _) nothing_keyed)))) a0) nothing_keyed))
 fact_keyed_layer (Layer.Outcome a0) = keyed_as (fact_has_keys_roll _) (fact_means_roll _) (case_keyed _ 2 _ (part_keyed (result_keyed (λ y. []) (λ y. []) (λ y. (number (pos y))) (λ y. (text_value (string_bytes y))) (λ y. (number_keyed _)) (λ y. (text_keyed (string_bytes y))) a0) nothing_keyed))
-fact_keyed_layer (Layer.Notes a0 a1) = keyed_as (fact_has_keys_roll _) (fact_means_roll _) (case_keyed _ 3 _ (part_keyed (each_keyed (λ y. []) (λ y. (text_value (string_bytes y))) (λ y. (text_keyed (string_bytes y))) a0.items) (part_keyed (option_keyed (λ y. []) (λ y. (text_value (string_bytes y))) (λ y. (text_keyed (string_bytes y))) a1) nothing_keyed)))
-fact_keyed_layer (Layer.Hours a0) = keyed_as (fact_has_keys_roll _) (fact_means_roll _) (case_keyed _ 4 _ (part_keyed (pairs_keyed (λ y. []) (λ y. []) (λ y. (number (pos y))) (λ y. (number y)) (λ y. (number_keyed _)) (λ y. (number_keyed _)) a0.entries) nothing_keyed))
-fact_keyed_layer (Layer.Rank a0 a1) = keyed_as (fact_has_keys_roll _) (fact_means_roll _) (case_keyed _ 5 _ (part_keyed (number_keyed _) (part_keyed (box_keyed _ _ (number_keyed _)) nothing_keyed)))
-fact_keyed_layer (Layer.All a0) = keyed_as (fact_has_keys_roll _) (fact_means_roll _) (case_keyed _ 6 _ (part_keyed (held_keyed fact_keys fact_meaning a0.items) nothing_keyed))
+fact_keyed_layer (Layer.Facts a0) = keyed_as (fact_has_keys_roll _) (fact_means_roll _) (case_keyed _ 3 _ (part_keyed (held_keyed fact_keys fact_meaning a0.items) nothing_keyed))
 
 pub fact_keyed : (t : Fact-Source) → IsKeyed (fact_keys t) (fact_meaning t)
 fact_keyed = ind-Fact (λ t. IsKeyed (fact_keys t) (fact_meaning t)) (λ x y is. subst (λ z. IsKeyed (fact_keys (roll-Fact z)) (fact_meaning (roll-Fact z))) is (fact_keyed_layer y))
@@ -180,10 +129,7 @@ fact_planned_layer : (y : Fact-F ((t : Fact-Source) × HasPlan fact_definitions 
 fact_planned_layer (Layer.Holds a0 a1) = planned_as (fact_has_keys_roll _) (fact_means_roll _) (variant_planned fact_definitions fact_shape fact_name fact_variant_definitions fact_variants fact_has_variants 0 fact_holds_parts refl fact_holds_definitions refl _ _ (part_planned no_definition (leaf bool) [] (number (pos (bool_byte a0))) (leaf_planned no_definition _ _ [] _ refl) (part_planned no_definition (leaf unit) [] (number (pos 0)) (leaf_planned no_definition _ _ [] _ refl) no_part_planned)))
 fact_planned_layer (Layer.Due a0) = planned_as (fact_has_keys_roll _) (fact_means_roll _) (variant_planned fact_definitions fact_shape fact_name fact_variant_definitions fact_variants fact_has_variants 1 fact_due_parts refl fact_due_definitions refl _ _ (part_planned (both no_definition (both no_definition no_definition)) (option_shape (parts (part (leaf (number_kind signed w32)) (part (leaf (number_kind unsigned w8)) no_part)))) (option_keys (λ y. ([] ++ ([] ++ []))) a0) (option_meaning (λ y. (product (value (number y.0) (value (number (pos y.1)) no_value)))) a0) (option_planned (both no_definition (both no_definition no_definition)) (parts (part (leaf (number_kind signed w32)) (part (leaf (number_kind unsigned w8)) no_part))) (λ y. ([] ++ ([] ++ []))) (λ y. (product (value (number y.0) (value (number (pos y.1)) no_value)))) (λ y. (product_planned _ _ _ _ (part_planned no_definition (leaf (number_kind signed w32)) [] (number y.0) (leaf_planned no_definition _ _ [] _ refl) (part_planned no_definition (leaf (number_kind unsigned w8)) [] (number (pos y.1)) (leaf_planned no_definition _ _ [] _ refl) no_part_planned)))) a0) no_part_planned))
 fact_planned_layer (Layer.Outcome a0) = planned_as (fact_has_keys_roll _) (fact_means_roll _) (variant_planned fact_definitions fact_shape fact_name fact_variant_definitions fact_variants fact_has_variants 2 fact_outcome_parts refl fact_outcome_definitions refl _ _ (part_planned (both no_definition no_definition) (result_shape (leaf (number_kind unsigned w32)) str) (result_keys (λ y. []) (λ y. []) a0) (result_meaning (λ y. (number (pos y))) (λ y. (text_value (string_bytes y))) a0) (result_planned (λ y. []) (λ y. []) (λ y. (number (pos y))) (λ y. (text_value (string_bytes y))) no_definition no_definition (leaf (number_kind unsigned w32)) str (λ y. (leaf_planned no_definition _ _ [] _ refl)) (λ y. (string_planned no_definition [] (string_bytes y))) a0) no_part_planned))
-fact_planned_layer (Layer.Notes a0 a1) = planned_as (fact_has_keys_roll _) (fact_means_roll _) (variant_planned fact_definitions fact_shape fact_name fact_variant_definitions fact_variants fact_has_variants 3 fact_notes_parts refl fact_notes_definitions refl _ _ (part_planned no_definition (vec str) (each_keys (λ y. []) a0.items) (list (each_meaning (λ y. (text_value (string_bytes y))) a0.items)) (vec_planned no_definition str _ _ _ (slice_planned no_definition str (λ y. []) (λ y. (text_value (string_bytes y))) (λ y. (string_planned no_definition [] (string_bytes y))) a0.items)) (part_planned no_definition (option_shape str) (option_keys (λ y. []) a1) (option_meaning (λ y. (text_value (string_bytes y))) a1) (option_planned no_definition str (λ y. []) (λ y. (text_value (string_bytes y))) (λ y. (string_planned no_definition [] (string_bytes y))) a1) no_part_planned)))
-fact_planned_layer (Layer.Hours a0) = planned_as (fact_has_keys_roll _) (fact_means_roll _) (variant_planned fact_definitions fact_shape fact_name fact_variant_definitions fact_variants fact_has_variants 4 fact_hours_parts refl fact_hours_definitions refl _ _ (part_planned (both no_definition (both no_definition no_definition)) (sorted_map (leaf_key (number_kind unsigned w16)) (leaf (number_kind signed w64))) (each_keys (pair_keys (λ y. []) (λ y. [])) a0.entries) (list (each_meaning (pair_meaning (λ y. (number (pos y))) (λ y. (number y))) a0.entries)) (map_of_pairs_planned (λ y. []) (λ y. []) (λ y. (number (pos y))) (λ y. (number y)) no_definition no_definition (leaf (number_kind unsigned w16)) (leaf (number_kind signed w64)) (λ y. (leaf_planned no_definition _ _ [] _ refl)) (λ y. (leaf_planned no_definition _ _ [] _ refl)) (leaf_key (number_kind unsigned w16)) refl a0.entries) no_part_planned))
-fact_planned_layer (Layer.Rank a0 a1) = planned_as (fact_has_keys_roll _) (fact_means_roll _) (variant_planned fact_definitions fact_shape fact_name fact_variant_definitions fact_variants fact_has_variants 5 fact_rank_parts refl fact_rank_definitions refl _ _ (part_planned no_definition (leaf (non_zero unsigned w32)) [] (number (pos a0)) (leaf_planned no_definition _ _ [] _ refl) (part_planned no_definition (boxed (one (leaf (number_kind unsigned w32)))) [] (box (number (pos a1.value))) (boxed_one_planned no_definition (one (leaf (number_kind unsigned w32))) (leaf (number_kind unsigned w32)) refl [] (number (pos a1.value)) (leaf_planned no_definition _ _ [] _ refl)) no_part_planned)))
-fact_planned_layer (Layer.All a0) = planned_as (fact_has_keys_roll _) (fact_means_roll _) (variant_planned fact_definitions fact_shape fact_name fact_variant_definitions fact_variants fact_has_variants 6 fact_all_parts refl fact_all_definitions refl _ _ (part_planned fact_definitions (vec fact_shape) (each_keys fact_keys (map (λ e. e.0) a0.items)) (list (each_meaning fact_meaning (map (λ e. e.0) a0.items))) (vec_planned fact_definitions fact_shape _ _ _ (run_region_planned fact_definitions fact_shape _ _ _ (held_planned fact_keys fact_meaning fact_definitions fact_shape a0.items))) no_part_planned))
+fact_planned_layer (Layer.Facts a0) = planned_as (fact_has_keys_roll _) (fact_means_roll _) (variant_planned fact_definitions fact_shape fact_name fact_variant_definitions fact_variants fact_has_variants 3 fact_facts_parts refl fact_facts_definitions refl _ _ (part_planned fact_definitions (vec fact_shape) (each_keys fact_keys (map (λ e. e.0) a0.items)) (list (each_meaning fact_meaning (map (λ e. e.0) a0.items))) (vec_planned fact_definitions fact_shape _ _ _ (run_region_planned fact_definitions fact_shape _ _ _ (held_planned fact_keys fact_meaning fact_definitions fact_shape a0.items))) no_part_planned))
 
 pub fact_planned : (t : Fact-Source) → HasPlan fact_definitions fact_shape (fact_keys t) (fact_meaning t)
 fact_planned = ind-Fact (λ t. HasPlan fact_definitions fact_shape (fact_keys t) (fact_meaning t)) (λ x y is. subst (λ z. HasPlan fact_definitions fact_shape (fact_keys (roll-Fact z)) (fact_meaning (roll-Fact z))) is (fact_planned_layer y))

@@ -6,10 +6,10 @@ use Rattle.archive_core.specs.Layout.{Layout}
 use Rattle.archive_core.specs.NamedLayout.{name_has_layout, name_reached}
 use Rattle.archive_core.specs.PartsLayout.{knows_none}
 use Rattle.archive_core.specs.ResultShapes.{result_shape}
-use Rattle.archive_core.specs.Shape.{Name, Shape, Parts, Variants, named, choice, parts, boxed, vec, sorted_map, str, one, leaf, unit, bool, non_zero, unsigned, signed, leaf_key, part, no_part, variant, no_variant, number as number_kind}
+use Rattle.archive_core.specs.Shape.{Name, Shape, Parts, Variants, named, choice, parts, vec, str, leaf, unit, bool, unsigned, signed, part, no_part, variant, no_variant, number as number_kind}
 use Rattle.archive_core.specs.VariantsLayout.{IsChoice, is_recursive_choice}
 use Rattle.std.proofs.Common.{inl, inr}
-use Rattle.std.specs.Int.{w8, w16, w32, w64}
+use Rattle.std.specs.Int.{w8, w32}
 use Rattle.std.specs.Prelude.{refl, codes}
 
 abbrev pub fact_name : Name
@@ -27,20 +27,11 @@ fact_due_parts = (part (option_shape (parts (part (leaf (number_kind signed w32)
 abbrev pub fact_outcome_parts : Parts
 fact_outcome_parts = (part (result_shape (leaf (number_kind unsigned w32)) str) no_part)
 
-abbrev pub fact_notes_parts : Parts
-fact_notes_parts = (part (vec str) (part (option_shape str) no_part))
-
-abbrev pub fact_hours_parts : Parts
-fact_hours_parts = (part (sorted_map (leaf_key (number_kind unsigned w16)) (leaf (number_kind signed w64))) no_part)
-
-abbrev pub fact_rank_parts : Parts
-fact_rank_parts = (part (leaf (non_zero unsigned w32)) (part (boxed (one (leaf (number_kind unsigned w32)))) no_part))
-
-abbrev pub fact_all_parts : Parts
-fact_all_parts = (part (vec fact_shape) no_part)
+abbrev pub fact_facts_parts : Parts
+fact_facts_parts = (part (vec fact_shape) no_part)
 
 abbrev pub fact_variants : Variants
-fact_variants = (variant fact_holds_parts (variant fact_due_parts (variant fact_outcome_parts (variant fact_notes_parts (variant fact_hours_parts (variant fact_rank_parts (variant fact_all_parts no_variant)))))))
+fact_variants = (variant fact_holds_parts (variant fact_due_parts (variant fact_outcome_parts (variant fact_facts_parts no_variant))))
 
 abbrev pub fact_stands_for : Shape
 fact_stands_for = choice fact_name fact_variants
@@ -49,7 +40,7 @@ abbrev pub fact_definitions : Definitions
 fact_definitions = defines fact_name fact_stands_for
 
 abbrev pub fact_layout : Layout
-fact_layout = record { size = 24; align = 4 }
+fact_layout = record { size = 16; align = 4 }
 
 pub fact_is_align : IsAlign 4
 fact_is_align = inr (inr (inl refl))
@@ -69,20 +60,11 @@ fact_due_definitions = (both (both no_definition (both no_definition no_definiti
 abbrev pub fact_outcome_definitions : Definitions
 fact_outcome_definitions = (both (both no_definition no_definition) no_definition)
 
-abbrev pub fact_notes_definitions : Definitions
-fact_notes_definitions = (both no_definition (both no_definition no_definition))
-
-abbrev pub fact_hours_definitions : Definitions
-fact_hours_definitions = (both (both no_definition (both no_definition no_definition)) no_definition)
-
-abbrev pub fact_rank_definitions : Definitions
-fact_rank_definitions = (both no_definition (both no_definition no_definition))
-
-abbrev pub fact_all_definitions : Definitions
-fact_all_definitions = (both fact_definitions no_definition)
+abbrev pub fact_facts_definitions : Definitions
+fact_facts_definitions = (both fact_definitions no_definition)
 
 abbrev pub fact_variant_definitions : Definitions
-fact_variant_definitions = (both fact_holds_definitions (both fact_due_definitions (both fact_outcome_definitions (both fact_notes_definitions (both fact_hours_definitions (both fact_rank_definitions (both fact_all_definitions no_definition)))))))
+fact_variant_definitions = (both fact_holds_definitions (both fact_due_definitions (both fact_outcome_definitions (both fact_facts_definitions no_definition))))
 
 pub fact_has_variants : IsChoice fact_definitions fact_shape fact_name fact_variant_definitions fact_variants
-fact_has_variants = is_recursive_choice fact_name fact_variant_definitions fact_variants (λ s k. (knows_both s _ _ (knows_both s _ _ (knows_none s k.laid_out) (knows_both s _ _ (knows_none s k.laid_out) (knows_none s k.laid_out))) (knows_both s _ _ (knows_both s _ _ (knows_both s _ _ (knows_none s k.laid_out) (knows_both s _ _ (knows_none s k.laid_out) (knows_none s k.laid_out))) (knows_none s k.laid_out)) (knows_both s _ _ (knows_both s _ _ (knows_both s _ _ (knows_none s k.laid_out) (knows_none s k.laid_out)) (knows_none s k.laid_out)) (knows_both s _ _ (knows_both s _ _ (knows_none s k.laid_out) (knows_both s _ _ (knows_none s k.laid_out) (knows_none s k.laid_out))) (knows_both s _ _ (knows_both s _ _ (knows_both s _ _ (knows_none s k.laid_out) (knows_both s _ _ (knows_none s k.laid_out) (knows_none s k.laid_out))) (knows_none s k.laid_out)) (knows_both s _ _ (knows_both s _ _ (knows_none s k.laid_out) (knows_both s _ _ (knows_none s k.laid_out) (knows_none s k.laid_out))) (knows_both s _ _ (knows_both s _ _ k (knows_none s k.laid_out)) (knows_none s k.laid_out)))))))))
+fact_has_variants = is_recursive_choice fact_name fact_variant_definitions fact_variants (λ s k. (knows_both s _ _ (knows_both s _ _ (knows_none s k.laid_out) (knows_both s _ _ (knows_none s k.laid_out) (knows_none s k.laid_out))) (knows_both s _ _ (knows_both s _ _ (knows_both s _ _ (knows_none s k.laid_out) (knows_both s _ _ (knows_none s k.laid_out) (knows_none s k.laid_out))) (knows_none s k.laid_out)) (knows_both s _ _ (knows_both s _ _ (knows_both s _ _ (knows_none s k.laid_out) (knows_none s k.laid_out)) (knows_none s k.laid_out)) (knows_both s _ _ (knows_both s _ _ k (knows_none s k.laid_out)) (knows_none s k.laid_out))))))

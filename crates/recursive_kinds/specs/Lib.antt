@@ -4,5 +4,7 @@ pub mod BushMeaning
 pub mod BushShape
 pub mod FactMeaning
 pub mod FactShape
+pub mod NoteMeaning
+pub mod NoteShape
 pub mod RuleMeaning
 pub mod RuleShape

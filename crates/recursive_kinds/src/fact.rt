@@ -1,7 +1,4 @@
-//! Facts of many kinds.
-
-use archive_core::primitive::ArchivedNonZeroU32;
-use std::collections::BTreeMap;
+//! Facts.
 
 /// A fact, or several.
 #[derive(Debug, PartialEq, Drop)]
@@ -12,14 +9,8 @@ pub enum Fact {
     Due(Option<(i32, u8)>),
     /// What came of something, or why nothing did.
     Outcome(Result<u32, String>),
-    /// Notes, and who wrote them.
-    Notes(Vec<String>, Option<String>),
-    /// Hours of work, by the day.
-    Hours(BTreeMap<u16, i64>),
-    /// How soon something is to be done, and by how many.
-    Rank(ArchivedNonZeroU32, Box<u32>),
     /// All of these.
-    All(Vec<Fact>),
+    Facts(Vec<Fact>),
 }
 
 // Below this line all is written by tools/derive: change what is above it, and run it again.
@@ -41,17 +32,15 @@ ghost use Rattle.archive_core.specs.Sources.{Read};
 ghost use Rattle.archive_core.specs.Value.{case, no_value, value};
 ghost use Rattle.archive_core.specs.Writing.{ZeroedPlace};
 ghost use Rattle.archive_core.specs.Written.{GoesOn};
-ghost use Rattle.recursive_kinds.specs.FactShape.{fact_all_parts, fact_definitions, fact_due_parts, fact_has_layout, fact_has_variants, fact_holds_parts, fact_hours_parts, fact_is_align, fact_layout, fact_name, fact_no_others, fact_notes_parts, fact_outcome_parts, fact_rank_parts, fact_shape, fact_stands_for};
+ghost use Rattle.recursive_kinds.specs.FactShape.{fact_definitions, fact_due_parts, fact_facts_parts, fact_has_layout, fact_has_variants, fact_holds_parts, fact_is_align, fact_layout, fact_name, fact_no_others, fact_outcome_parts, fact_shape, fact_stands_for};
 ghost use Rattle.std.proofs.Common.{lit≤};
 ghost use Rattle.std.specs.Prelude.{IfErr, IfOk, None, [], length, refl, ℕ, ◌++◌, ◌+◌, ◌≡◌, ◌≤◌};
 
-use archive_core::boxed::ArchivedBox;
 use archive_core::core_impls::ArchivedTuple2;
 use archive_core::error::Error;
-use archive_core::map::ArchivedSortedMap;
 use archive_core::option::ArchivedOption;
 use archive_core::place::Place;
-use archive_core::primitive::{ArchivedI32, ArchivedI64, ArchivedU16, ArchivedU32, NonZero};
+use archive_core::primitive::{ArchivedI32, ArchivedU32};
 use archive_core::recursive::{
     VecAt, before_vec, choice_of, define_name, part_of_variant, read_part, resolve_named_case_1,
     resolve_named_case_2, seal_of_payload, serialize_inner_slice, serialize_part, tag_of_choice,
@@ -71,7 +60,7 @@ use archive_core::vec::{ArchivedVec, VecResolver};
 use archive_core::view::{RawView, Ref};
 use std::alloc::{AllocError, Global};
 
-/// An archived `Fact`: 24 bytes at a multiple of 4. It is validated by its schema.
+/// An archived `Fact`: 16 bytes at a multiple of 4. It is validated by its schema.
 pub struct ArchivedFact;
 
 type FactHoldsParts = (bool, ((), ()));
@@ -80,29 +69,11 @@ type FactDueParts = (ArchivedOption<ArchivedTuple2<ArchivedI32, u8>>, ());
 
 type FactOutcomeParts = (ArchivedResult<ArchivedU32, ArchivedString>, ());
 
-type FactNotesParts = (
-    ArchivedVec<ArchivedString>,
-    (ArchivedOption<ArchivedString>, ()),
-);
-
-type FactHoursParts = (ArchivedSortedMap<ArchivedU16, ArchivedI64>, ());
-
-type FactRankParts = (NonZero<u32>, (ArchivedBox<ArchivedU32>, ()));
-
-type FactAllParts = (ArchivedVec<ArchivedFact>, ());
+type FactFactsParts = (ArchivedVec<ArchivedFact>, ());
 
 type FactVariants = (
     FactHoldsParts,
-    (
-        FactDueParts,
-        (
-            FactOutcomeParts,
-            (
-                FactNotesParts,
-                (FactHoursParts, (FactRankParts, (FactAllParts, ()))),
-            ),
-        ),
-    ),
+    (FactDueParts, (FactOutcomeParts, (FactFactsParts, ()))),
 );
 
 impl ArchivePointee for ArchivedFact {
@@ -147,38 +118,9 @@ fn fact_outcome_expressions(alloc: Global) -> Result<Vec<Expr>, Error>
     Ok(vec![in alloc; a0]?)
 }
 
-// The parts of `Notes`.
-fn fact_notes_expressions(alloc: Global) -> Result<Vec<Expr>, Error>
-    ensures shapes { IfOk result (λ list. shapes_in list.items ≡ fact_notes_parts) }
-    ensures refused { IfErr result (λ e. e ≡ OutOfMemory) }
-{
-    let a0 = <ArchivedVec<ArchivedString> as Portable>::expr(alloc)?;
-    let a1 = <ArchivedOption<ArchivedString> as Portable>::expr(alloc)?;
-    Ok(vec![in alloc; a0, a1]?)
-}
-
-// The parts of `Hours`.
-fn fact_hours_expressions(alloc: Global) -> Result<Vec<Expr>, Error>
-    ensures shapes { IfOk result (λ list. shapes_in list.items ≡ fact_hours_parts) }
-    ensures refused { IfErr result (λ e. e ≡ OutOfMemory) }
-{
-    let a0 = <ArchivedSortedMap<ArchivedU16, ArchivedI64> as Portable>::expr(alloc)?;
-    Ok(vec![in alloc; a0]?)
-}
-
-// The parts of `Rank`.
-fn fact_rank_expressions(alloc: Global) -> Result<Vec<Expr>, Error>
-    ensures shapes { IfOk result (λ list. shapes_in list.items ≡ fact_rank_parts) }
-    ensures refused { IfErr result (λ e. e ≡ OutOfMemory) }
-{
-    let a0 = <NonZero<u32> as Portable>::expr(alloc)?;
-    let a1 = <ArchivedBox<ArchivedU32> as Portable>::expr(alloc)?;
-    Ok(vec![in alloc; a0, a1]?)
-}
-
-// The parts of `All`.
-fn fact_all_expressions(alloc: Global) -> Result<Vec<Expr>, Error>
-    ensures shapes { IfOk result (λ list. shapes_in list.items ≡ fact_all_parts) }
+// The parts of `Facts`.
+fn fact_facts_expressions(alloc: Global) -> Result<Vec<Expr>, Error>
+    ensures shapes { IfOk result (λ list. shapes_in list.items ≡ fact_facts_parts) }
     ensures refused { IfErr result (λ e. e ≡ OutOfMemory) }
 {
     let a0 = Expr::Vec(Box::new(alloc, Expr::Named("ArchivedFact"))?);
@@ -193,11 +135,8 @@ fn fact_expression(alloc: Global) -> Result<Expr, Error>
     let v0 = fact_holds_expressions(alloc)?;
     let v1 = fact_due_expressions(alloc)?;
     let v2 = fact_outcome_expressions(alloc)?;
-    let v3 = fact_notes_expressions(alloc)?;
-    let v4 = fact_hours_expressions(alloc)?;
-    let v5 = fact_rank_expressions(alloc)?;
-    let v6 = fact_all_expressions(alloc)?;
-    let variants = vec![in alloc; v0, v1, v2, v3, v4, v5, v6]?;
+    let v3 = fact_facts_expressions(alloc)?;
+    let variants = vec![in alloc; v0, v1, v2, v3]?;
     Ok(choice_of("ArchivedFact", variants))
 }
 
@@ -219,7 +158,7 @@ impl Portable for ArchivedFact {
     ghost checks = { λ direct. by_schema direct };
 
     fn size() -> usize {
-        24
+        16
     }
 
     fn align() -> usize {
@@ -258,24 +197,8 @@ pub enum FactResolver {
     Due((<Option<(i32, u8)> as Archive>::Resolver, ())),
     /// Of `Outcome`.
     Outcome((<Result<u32, String> as Archive>::Resolver, ())),
-    /// Of `Notes`.
-    Notes(
-        (
-            <Vec<String> as Archive>::Resolver,
-            (<Option<String> as Archive>::Resolver, ()),
-        ),
-    ),
-    /// Of `Hours`.
-    Hours((<BTreeMap<u16, i64> as Archive>::Resolver, ())),
-    /// Of `Rank`.
-    Rank(
-        (
-            <ArchivedNonZeroU32 as Archive>::Resolver,
-            (<Box<u32> as Archive>::Resolver, ()),
-        ),
-    ),
-    /// Of `All`.
-    All((VecResolver, ())),
+    /// Of `Facts`.
+    Facts((VecResolver, ())),
 }
 
 impl Archive for Fact {
@@ -305,7 +228,7 @@ impl Archive for Fact {
         resolver: Self::Resolver,
         place: Place<'_, Self::Archived>,
     ) -> Result<(), Error>
-        requires zeroed { ZeroedPlace 24 place.pos place.bytes.now }
+        requires zeroed { ZeroedPlace 16 place.pos place.bytes.now }
         requires same_value { ⟦<Self as Archive>⟧.belongs self.now resolver }
         ensures { ResolvesAs ⟦<Self::Archived as Portable>⟧ place
             (⟦<Self as Archive>⟧.flat self.now resolver) result }
@@ -346,48 +269,13 @@ impl Archive for Fact {
                     Place::new(pos, bytes),
                 )
             }
-            Fact::Notes(a0, a1) => {
-                let FactResolver::Notes(kept) = resolver else {
-                    unreachable!();
-                };
-                resolve_named_case_2::<Vec<String>, Option<String>, ArchivedFact>(
-                    3,
-                    a0,
-                    a1,
-                    kept,
-                    Place::new(pos, bytes),
-                )
-            }
-            Fact::Hours(a0) => {
-                let FactResolver::Hours(kept) = resolver else {
-                    unreachable!();
-                };
-                resolve_named_case_1::<BTreeMap<u16, i64>, ArchivedFact>(
-                    4,
-                    a0,
-                    kept,
-                    Place::new(pos, bytes),
-                )
-            }
-            Fact::Rank(a0, a1) => {
-                let FactResolver::Rank(kept) = resolver else {
-                    unreachable!();
-                };
-                resolve_named_case_2::<ArchivedNonZeroU32, Box<u32>, ArchivedFact>(
-                    5,
-                    a0,
-                    a1,
-                    kept,
-                    Place::new(pos, bytes),
-                )
-            }
-            Fact::All(a0) => {
-                let FactResolver::All(kept) = resolver else {
+            Fact::Facts(a0) => {
+                let FactResolver::Facts(kept) = resolver else {
                     unreachable!();
                 };
                 let h0: VecAt<ArchivedFact> = VecAt::of(a0.len());
                 resolve_named_case_1::<VecAt<ArchivedFact>, ArchivedFact>(
-                    6,
+                    3,
                     &h0,
                     kept,
                     Place::new(pos, bytes),
@@ -413,7 +301,10 @@ impl Archive for Fact {
 
 // Writes what each of the values owns, in order.
 #[cycle(serialize_fact)]
-fn serialize_each_fact<S: Writer + Keys + ResolverAlloc>(values: &[Fact], serializer: &mut S) -> Result<Vec<<Fact as Archive>::Resolver, S::Alloc>, Error>
+fn serialize_each_fact<S: Writer + Keys + ResolverAlloc>(
+    values: &[Fact],
+    serializer: &mut S,
+) -> Result<Vec<<Fact as Archive>::Resolver, S::Alloc>, Error>
     ensures serialized { IfOk result (λ rs. SerializedRun fact_definitions fact_shape
         (length values.now) (each_keys ⟦<Fact as Archive>⟧.keys values.now)
         (each_meaning ⟦<Fact as Archive>⟧.meaning values.now)
@@ -441,7 +332,10 @@ fn serialize_each_fact<S: Writer + Keys + ResolverAlloc>(values: &[Fact], serial
 
 // Writes what a vector owns.
 #[cycle(serialize_fact)]
-fn serialize_vec_fact<S: Writer + Keys + ResolverAlloc>(value: &Vec<Fact>, serializer: &mut S) -> Result<VecResolver, Error>
+fn serialize_vec_fact<S: Writer + Keys + ResolverAlloc>(
+    value: &Vec<Fact>,
+    serializer: &mut S,
+) -> Result<VecResolver, Error>
     ensures serialized { IfOk result (λ r. Serialized fact_definitions (vec fact_shape)
         (⟦<Vec<Fact> as Archive>⟧.keys value.now) (⟦<Vec<Fact> as Archive>⟧.meaning value.now)
         (⟦<Vec<Fact> as Archive>⟧.flat value.now r) (S.state serializer.old)
@@ -549,125 +443,22 @@ fn serialize_fact_outcome<S: Writer + Keys + ResolverAlloc>(
     Ok((a0, ()))
 }
 
-// Writes what the parts of `Notes` own, in order.
-fn serialize_fact_notes<S: Writer + Keys + ResolverAlloc>(
-    a0: &Vec<String>,
-    a1: &Option<String>,
-    serializer: &mut S,
-) -> Result<
-    (
-        <Vec<String> as Archive>::Resolver,
-        (<Option<String> as Archive>::Resolver, ()),
-    ),
-    Error,
->
-    ensures serialized { IfOk result (λ r. Serialized fact_definitions fact_shape
-        (⟦<Vec<String> as Archive>⟧.keys a0.now ++ (⟦<Option<String> as Archive>⟧.keys a1.now
-        ++ [])) (case 3 (value (⟦<Vec<String> as Archive>⟧.meaning a0.now)
-        (value (⟦<Option<String> as Archive>⟧.meaning a1.now) no_value)))
-        (case 3 (value (⟦<Vec<String> as Archive>⟧.flat a0.now r.0)
-        (value (⟦<Option<String> as Archive>⟧.flat a1.now r.1.0) no_value)))
-        (S.state serializer.old) (S.state serializer.new)) }
-    ensures same_values { IfOk result (λ r. ⟦<Vec<String> as Archive>⟧.belongs a0.now r.0
-        × (⟦<Option<String> as Archive>⟧.belongs a1.now r.1.0 × Unit {0})) }
-    ensures goes_on { GoesOn (S.state serializer.old) (S.state serializer.new) }
-    ensures refused { IfErr result (IsRefused fact_definitions fact_shape
-        (⟦<Vec<String> as Archive>⟧.keys a0.now ++ (⟦<Option<String> as Archive>⟧.keys a1.now
-        ++ [])) (case 3 (value (⟦<Vec<String> as Archive>⟧.meaning a0.now)
-        (value (⟦<Option<String> as Archive>⟧.meaning a1.now) no_value))) (S.state serializer.old)
-        (S.state serializer.new)) }
-{
-    let a0 = match serialize_part(a0, serializer) {
-        Ok(a0) => a0,
-        Err(error) => return Err(error),
-    };
-    let a1 = match serialize_part(a1, serializer) {
-        Ok(a1) => a1,
-        Err(error) => return Err(error),
-    };
-    Ok((a0, (a1, ())))
-}
-
-// Writes what the parts of `Hours` own, in order.
-fn serialize_fact_hours<S: Writer + Keys + ResolverAlloc>(
-    a0: &BTreeMap<u16, i64>,
-    serializer: &mut S,
-) -> Result<(<BTreeMap<u16, i64> as Archive>::Resolver, ()), Error>
-    ensures serialized { IfOk result (λ r. Serialized fact_definitions fact_shape
-        (⟦<BTreeMap<u16, i64> as Archive>⟧.keys a0.now ++ [])
-        (case 4 (value (⟦<BTreeMap<u16, i64> as Archive>⟧.meaning a0.now) no_value))
-        (case 4 (value (⟦<BTreeMap<u16, i64> as Archive>⟧.flat a0.now r.0) no_value))
-        (S.state serializer.old) (S.state serializer.new)) }
-    ensures same_values { IfOk result (λ r. ⟦<BTreeMap<u16, i64> as Archive>⟧.belongs a0.now r.0
-        × Unit {0}) }
-    ensures goes_on { GoesOn (S.state serializer.old) (S.state serializer.new) }
-    ensures refused { IfErr result (IsRefused fact_definitions fact_shape
-        (⟦<BTreeMap<u16, i64> as Archive>⟧.keys a0.now ++ [])
-        (case 4 (value (⟦<BTreeMap<u16, i64> as Archive>⟧.meaning a0.now) no_value))
-        (S.state serializer.old) (S.state serializer.new)) }
-{
-    let a0 = match serialize_part(a0, serializer) {
-        Ok(a0) => a0,
-        Err(error) => return Err(error),
-    };
-    Ok((a0, ()))
-}
-
-// Writes what the parts of `Rank` own, in order.
-fn serialize_fact_rank<S: Writer + Keys + ResolverAlloc>(
-    a0: &ArchivedNonZeroU32,
-    a1: &Box<u32>,
-    serializer: &mut S,
-) -> Result<
-    (
-        <ArchivedNonZeroU32 as Archive>::Resolver,
-        (<Box<u32> as Archive>::Resolver, ()),
-    ),
-    Error,
->
-    ensures serialized { IfOk result (λ r. Serialized fact_definitions fact_shape
-        (⟦<ArchivedNonZeroU32 as Archive>⟧.keys a0.now ++ (⟦<Box<u32> as Archive>⟧.keys a1.now
-        ++ [])) (case 5 (value (⟦<ArchivedNonZeroU32 as Archive>⟧.meaning a0.now)
-        (value (⟦<Box<u32> as Archive>⟧.meaning a1.now) no_value)))
-        (case 5 (value (⟦<ArchivedNonZeroU32 as Archive>⟧.flat a0.now r.0)
-        (value (⟦<Box<u32> as Archive>⟧.flat a1.now r.1.0) no_value))) (S.state serializer.old)
-        (S.state serializer.new)) }
-    ensures same_values { IfOk result (λ r. ⟦<ArchivedNonZeroU32 as Archive>⟧.belongs a0.now r.0
-        × (⟦<Box<u32> as Archive>⟧.belongs a1.now r.1.0 × Unit {0})) }
-    ensures goes_on { GoesOn (S.state serializer.old) (S.state serializer.new) }
-    ensures refused { IfErr result (IsRefused fact_definitions fact_shape
-        (⟦<ArchivedNonZeroU32 as Archive>⟧.keys a0.now ++ (⟦<Box<u32> as Archive>⟧.keys a1.now
-        ++ [])) (case 5 (value (⟦<ArchivedNonZeroU32 as Archive>⟧.meaning a0.now)
-        (value (⟦<Box<u32> as Archive>⟧.meaning a1.now) no_value))) (S.state serializer.old)
-        (S.state serializer.new)) }
-{
-    let a0 = match serialize_part(a0, serializer) {
-        Ok(a0) => a0,
-        Err(error) => return Err(error),
-    };
-    let a1 = match serialize_part(a1, serializer) {
-        Ok(a1) => a1,
-        Err(error) => return Err(error),
-    };
-    Ok((a0, (a1, ())))
-}
-
-// Writes what the parts of `All` own, in order.
+// Writes what the parts of `Facts` own, in order.
 #[cycle(serialize_fact)]
-fn serialize_fact_all<S: Writer + Keys + ResolverAlloc>(
+fn serialize_fact_facts<S: Writer + Keys + ResolverAlloc>(
     a0: &Vec<Fact>,
     serializer: &mut S,
 ) -> Result<(VecResolver, ()), Error>
     ensures serialized { IfOk result (λ r. Serialized fact_definitions fact_shape
-        (⟦<Vec<Fact> as Archive>⟧.keys a0.now ++ []) (case 6
+        (⟦<Vec<Fact> as Archive>⟧.keys a0.now ++ []) (case 3
         (value (⟦<Vec<Fact> as Archive>⟧.meaning a0.now) no_value))
-        (case 6 (value (⟦<Vec<Fact> as Archive>⟧.flat a0.now r.0) no_value))
+        (case 3 (value (⟦<Vec<Fact> as Archive>⟧.flat a0.now r.0) no_value))
         (S.state serializer.old) (S.state serializer.new)) }
     ensures same_values { IfOk result (λ r. ⟦<Vec<Fact> as Archive>⟧.belongs a0.now r.0
         × Unit {0}) }
     ensures goes_on { GoesOn (S.state serializer.old) (S.state serializer.new) }
     ensures refused { IfErr result (IsRefused fact_definitions fact_shape
-        (⟦<Vec<Fact> as Archive>⟧.keys a0.now ++ []) (case 6
+        (⟦<Vec<Fact> as Archive>⟧.keys a0.now ++ []) (case 3
         (value (⟦<Vec<Fact> as Archive>⟧.meaning a0.now) no_value)) (S.state serializer.old)
         (S.state serializer.new)) }
 {
@@ -680,7 +471,10 @@ fn serialize_fact_all<S: Writer + Keys + ResolverAlloc>(
 
 // Writes what a value owns.
 #[cycle(serialize_fact)]
-fn serialize_fact<S: Writer + Keys + ResolverAlloc>(value: &Fact, serializer: &mut S) -> Result<FactResolver, Error>
+fn serialize_fact<S: Writer + Keys + ResolverAlloc>(
+    value: &Fact,
+    serializer: &mut S,
+) -> Result<FactResolver, Error>
     ensures serialized { IfOk result (λ r. Serialized fact_definitions fact_shape
         (⟦<Fact as Archive>⟧.keys value.now) (⟦<Fact as Archive>⟧.meaning value.now)
         (⟦<Fact as Archive>⟧.flat value.now r) (S.state serializer.old) (S.state serializer.new)) }
@@ -703,20 +497,8 @@ fn serialize_fact<S: Writer + Keys + ResolverAlloc>(value: &Fact, serializer: &m
             Ok(kept) => Ok(FactResolver::Outcome(kept)),
             Err(error) => Err(error),
         },
-        Fact::Notes(a0, a1) => match serialize_fact_notes(a0, a1, serializer) {
-            Ok(kept) => Ok(FactResolver::Notes(kept)),
-            Err(error) => Err(error),
-        },
-        Fact::Hours(a0) => match serialize_fact_hours(a0, serializer) {
-            Ok(kept) => Ok(FactResolver::Hours(kept)),
-            Err(error) => Err(error),
-        },
-        Fact::Rank(a0, a1) => match serialize_fact_rank(a0, a1, serializer) {
-            Ok(kept) => Ok(FactResolver::Rank(kept)),
-            Err(error) => Err(error),
-        },
-        Fact::All(a0) => match serialize_fact_all(a0, serializer) {
-            Ok(kept) => Ok(FactResolver::All(kept)),
+        Fact::Facts(a0) => match serialize_fact_facts(a0, serializer) {
+            Ok(kept) => Ok(FactResolver::Facts(kept)),
             Err(error) => Err(error),
         },
     }
@@ -763,7 +545,11 @@ impl<S: Writer + Keys + ResolverAlloc> SerializeUnsized<S> for Fact {
 
 // Reads a vector back.
 #[cycle(read_fact)]
-fn read_vec_fact<D: Entries>(alloc: Global, part: RawView<'_>, deserializer: &mut D) -> Result<Vec<Fact>, Error>
+fn read_vec_fact<D: Entries>(
+    alloc: Global,
+    part: RawView<'_>,
+    deserializer: &mut D,
+) -> Result<Vec<Fact>, Error>
     requires { IsPartOf ⟦<ArchivedVec<ArchivedFact> as ArchivePointee>⟧ part }
     ensures read { IfOk result (Read ⟦<ArchivedVec<ArchivedFact> as ArchivePointee>⟧ part D.Entries
         deserializer ⟦<Vec<Fact> as Archive>⟧) }
@@ -782,7 +568,11 @@ fn read_vec_fact<D: Entries>(alloc: Global, part: RawView<'_>, deserializer: &mu
 
 // Reads `Holds` back.
 #[inline(always)]
-fn read_fact_holds<D: Entries>(alloc: Global, part: RawView<'_>, deserializer: &mut D) -> Result<Fact, Error>
+fn read_fact_holds<D: Entries>(
+    alloc: Global,
+    part: RawView<'_>,
+    deserializer: &mut D,
+) -> Result<Fact, Error>
     requires viewed { IsPartOf ⟦<ArchivedFact as ArchivePointee>⟧ part }
     requires tag { part_tag part ≡ 0 }
     ensures read { IfOk result (Read ⟦<ArchivedFact as ArchivePointee>⟧ part D.Entries deserializer
@@ -799,7 +589,11 @@ fn read_fact_holds<D: Entries>(alloc: Global, part: RawView<'_>, deserializer: &
 
 // Reads `Due` back.
 #[inline(always)]
-fn read_fact_due<D: Entries>(alloc: Global, part: RawView<'_>, deserializer: &mut D) -> Result<Fact, Error>
+fn read_fact_due<D: Entries>(
+    alloc: Global,
+    part: RawView<'_>,
+    deserializer: &mut D,
+) -> Result<Fact, Error>
     requires viewed { IsPartOf ⟦<ArchivedFact as ArchivePointee>⟧ part }
     requires tag { part_tag part ≡ 1 }
     ensures read { IfOk result (Read ⟦<ArchivedFact as ArchivePointee>⟧ part D.Entries deserializer
@@ -820,7 +614,11 @@ fn read_fact_due<D: Entries>(alloc: Global, part: RawView<'_>, deserializer: &mu
 
 // Reads `Outcome` back.
 #[inline(always)]
-fn read_fact_outcome<D: Entries>(alloc: Global, part: RawView<'_>, deserializer: &mut D) -> Result<Fact, Error>
+fn read_fact_outcome<D: Entries>(
+    alloc: Global,
+    part: RawView<'_>,
+    deserializer: &mut D,
+) -> Result<Fact, Error>
     requires viewed { IsPartOf ⟦<ArchivedFact as ArchivePointee>⟧ part }
     requires tag { part_tag part ≡ 2 }
     ensures read { IfOk result (Read ⟦<ArchivedFact as ArchivePointee>⟧ part D.Entries deserializer
@@ -839,9 +637,13 @@ fn read_fact_outcome<D: Entries>(alloc: Global, part: RawView<'_>, deserializer:
     Ok(Fact::Outcome(a0))
 }
 
-// Reads `Notes` back.
-#[inline(always)]
-fn read_fact_notes<D: Entries>(alloc: Global, part: RawView<'_>, deserializer: &mut D) -> Result<Fact, Error>
+// Reads `Facts` back.
+#[cycle(read_fact)]
+fn read_fact_facts<D: Entries>(
+    alloc: Global,
+    part: RawView<'_>,
+    deserializer: &mut D,
+) -> Result<Fact, Error>
     requires viewed { IsPartOf ⟦<ArchivedFact as ArchivePointee>⟧ part }
     requires tag { part_tag part ≡ 3 }
     ensures read { IfOk result (Read ⟦<ArchivedFact as ArchivePointee>⟧ part D.Entries deserializer
@@ -849,76 +651,18 @@ fn read_fact_notes<D: Entries>(alloc: Global, part: RawView<'_>, deserializer: &
     ensures refused { IfErr result (RefusesPart ⟦<ArchivedFact as ArchivePointee>⟧ part D.Entries
         deserializer) }
 {
-    let p0 = part_of_variant::<ArchivedFact, ArchivedVec<ArchivedString>>(part, 3, 0, 4);
-    let a0 = read_part::<ArchivedVec<ArchivedString>, Vec<String>, D>(alloc, p0, deserializer)?;
-    let p1 = part_of_variant::<ArchivedFact, ArchivedOption<ArchivedString>>(part, 3, 1, 12);
-    let a1 = read_part::<ArchivedOption<ArchivedString>, Option<String>, D>(
-        alloc,
-        p1,
-        deserializer,
-    )?;
-    Ok(Fact::Notes(a0, a1))
-}
-
-// Reads `Hours` back.
-#[inline(always)]
-fn read_fact_hours<D: Entries>(alloc: Global, part: RawView<'_>, deserializer: &mut D) -> Result<Fact, Error>
-    requires viewed { IsPartOf ⟦<ArchivedFact as ArchivePointee>⟧ part }
-    requires tag { part_tag part ≡ 4 }
-    ensures read { IfOk result (Read ⟦<ArchivedFact as ArchivePointee>⟧ part D.Entries deserializer
-        ⟦<Fact as Archive>⟧) }
-    ensures refused { IfErr result (RefusesPart ⟦<ArchivedFact as ArchivePointee>⟧ part D.Entries
-        deserializer) }
-{
-    let p0 = part_of_variant::<ArchivedFact, ArchivedSortedMap<ArchivedU16, ArchivedI64>>(
-        part, 4, 0, 4,
-    );
-    let a0 = read_part::<ArchivedSortedMap<ArchivedU16, ArchivedI64>, BTreeMap<u16, i64>, D>(
-        alloc,
-        p0,
-        deserializer,
-    )?;
-    Ok(Fact::Hours(a0))
-}
-
-// Reads `Rank` back.
-#[inline(always)]
-fn read_fact_rank<D: Entries>(alloc: Global, part: RawView<'_>, deserializer: &mut D) -> Result<Fact, Error>
-    requires viewed { IsPartOf ⟦<ArchivedFact as ArchivePointee>⟧ part }
-    requires tag { part_tag part ≡ 5 }
-    ensures read { IfOk result (Read ⟦<ArchivedFact as ArchivePointee>⟧ part D.Entries deserializer
-        ⟦<Fact as Archive>⟧) }
-    ensures refused { IfErr result (RefusesPart ⟦<ArchivedFact as ArchivePointee>⟧ part D.Entries
-        deserializer) }
-{
-    let p0 = part_of_variant::<ArchivedFact, NonZero<u32>>(part, 5, 0, 4);
-    let a0 = match read_part::<NonZero<u32>, ArchivedNonZeroU32, D>(alloc, p0, deserializer) {
-        Ok(a0) => a0,
-        Err(error) => return Err(error),
-    };
-    let p1 = part_of_variant::<ArchivedFact, ArchivedBox<ArchivedU32>>(part, 5, 1, 8);
-    let a1 = read_part::<ArchivedBox<ArchivedU32>, Box<u32>, D>(alloc, p1, deserializer)?;
-    Ok(Fact::Rank(a0, a1))
-}
-
-// Reads `All` back.
-#[cycle(read_fact)]
-fn read_fact_all<D: Entries>(alloc: Global, part: RawView<'_>, deserializer: &mut D) -> Result<Fact, Error>
-    requires viewed { IsPartOf ⟦<ArchivedFact as ArchivePointee>⟧ part }
-    requires tag { part_tag part ≡ 6 }
-    ensures read { IfOk result (Read ⟦<ArchivedFact as ArchivePointee>⟧ part D.Entries deserializer
-        ⟦<Fact as Archive>⟧) }
-    ensures refused { IfErr result (RefusesPart ⟦<ArchivedFact as ArchivePointee>⟧ part D.Entries
-        deserializer) }
-{
-    let p0 = part_of_variant::<ArchivedFact, ArchivedVec<ArchivedFact>>(part, 6, 0, 4);
+    let p0 = part_of_variant::<ArchivedFact, ArchivedVec<ArchivedFact>>(part, 3, 0, 4);
     let a0 = read_vec_fact(alloc, p0, deserializer)?;
-    Ok(Fact::All(a0))
+    Ok(Fact::Facts(a0))
 }
 
 // Reads a value back.
 #[cycle(read_fact)]
-fn read_fact<D: Entries>(alloc: Global, part: RawView<'_>, deserializer: &mut D) -> Result<Fact, Error>
+fn read_fact<D: Entries>(
+    alloc: Global,
+    part: RawView<'_>,
+    deserializer: &mut D,
+) -> Result<Fact, Error>
     requires { IsPartOf ⟦<ArchivedFact as ArchivePointee>⟧ part }
     ensures read { IfOk result (Read ⟦<ArchivedFact as ArchivePointee>⟧ part D.Entries deserializer
         ⟦<Fact as Archive>⟧) }
@@ -929,10 +673,7 @@ fn read_fact<D: Entries>(alloc: Global, part: RawView<'_>, deserializer: &mut D)
         0 => read_fact_holds(alloc, part, deserializer),
         1 => read_fact_due(alloc, part, deserializer),
         2 => read_fact_outcome(alloc, part, deserializer),
-        3 => read_fact_notes(alloc, part, deserializer),
-        4 => read_fact_hours(alloc, part, deserializer),
-        5 => read_fact_rank(alloc, part, deserializer),
-        _ => read_fact_all(alloc, part, deserializer),
+        _ => read_fact_facts(alloc, part, deserializer),
     }
 }
 
@@ -962,14 +703,8 @@ pub enum ViewOfFact<'a> {
     Due(Ref<'a, ArchivedOption<ArchivedTuple2<ArchivedI32, u8>>>),
     /// What came of something, or why nothing did.
     Outcome(Ref<'a, ArchivedResult<ArchivedU32, ArchivedString>>),
-    /// Notes, and who wrote them.
-    Notes(Ref<'a, ArchivedVec<ArchivedString>>, Ref<'a, ArchivedOption<ArchivedString>>),
-    /// Hours of work, by the day.
-    Hours(Ref<'a, ArchivedSortedMap<ArchivedU16, ArchivedI64>>),
-    /// How soon something is to be done, and by how many.
-    Rank(Ref<'a, NonZero<u32>>, Ref<'a, ArchivedBox<ArchivedU32>>),
     /// All of these.
-    All(Ref<'a, ArchivedVec<ArchivedFact>>),
+    Facts(Ref<'a, ArchivedVec<ArchivedFact>>),
 }
 
 /// The variant of an archived `Fact`, as a view.
@@ -979,7 +714,7 @@ pub trait FactView<'a> {
 }
 
 impl<'a> FactView<'a> for Ref<'a, ArchivedFact> {
-    ghost use Rattle.recursive_kinds.specs.declared.fact.ViewOfFact.TheVariants.{All as FactAllShown, Due as FactDueShown, Holds as FactHoldsShown, Hours as FactHoursShown, Notes as FactNotesShown, Outcome as FactOutcomeShown, Rank as FactRankShown};
+    ghost use Rattle.recursive_kinds.specs.declared.fact.ViewOfFact.TheVariants.{Due as FactDueShown, Facts as FactFactsShown, Holds as FactHoldsShown, Outcome as FactOutcomeShown};
 
     fn variant(self) -> ViewOfFact<'a>
         ensures shows { elim result [
@@ -994,20 +729,7 @@ impl<'a> FactView<'a> for Ref<'a, ArchivedFact> {
           | FactOutcomeShown a0 ↦ (tag_of self.entry ≡ 2) × (a0.bytes.now ≡ self.entry.bytes.now)
               × (a0.pos ≡ self.entry.pos + 4) × (a0.len ≡ 0)
               × ShowsValueOf a0 self.entry (payload_in 0)
-          | FactNotesShown a0 a1 ↦ (tag_of self.entry ≡ 3) × (a0.bytes.now ≡ self.entry.bytes.now)
-              × (a0.pos ≡ self.entry.pos + 4) × (a0.len ≡ 0)
-              × ShowsValueOf a0 self.entry (payload_in 0) × (a1.bytes.now ≡ self.entry.bytes.now)
-              × (a1.pos ≡ self.entry.pos + 12) × (a1.len ≡ 0)
-              × ShowsValueOf a1 self.entry (payload_in 1)
-          | FactHoursShown a0 ↦ (tag_of self.entry ≡ 4) × (a0.bytes.now ≡ self.entry.bytes.now)
-              × (a0.pos ≡ self.entry.pos + 4) × (a0.len ≡ 0)
-              × ShowsValueOf a0 self.entry (payload_in 0)
-          | FactRankShown a0 a1 ↦ (tag_of self.entry ≡ 5) × (a0.bytes.now ≡ self.entry.bytes.now)
-              × (a0.pos ≡ self.entry.pos + 4) × (a0.len ≡ 0)
-              × ShowsValueOf a0 self.entry (payload_in 0) × (a1.bytes.now ≡ self.entry.bytes.now)
-              × (a1.pos ≡ self.entry.pos + 8) × (a1.len ≡ 0)
-              × ShowsValueOf a1 self.entry (payload_in 1)
-          | FactAllShown a0 ↦ (tag_of self.entry ≡ 6) × (a0.bytes.now ≡ self.entry.bytes.now)
+          | FactFactsShown a0 ↦ (tag_of self.entry ≡ 3) × (a0.bytes.now ≡ self.entry.bytes.now)
               × (a0.pos ≡ self.entry.pos + 4) × (a0.len ≡ 0)
               × ShowsValueOf a0 self.entry (payload_in 0)
         ] }
@@ -1026,32 +748,15 @@ impl<'a> FactView<'a> for Ref<'a, ArchivedFact> {
                 ViewOfFact::Due(a0)
             }
             2 => {
-                let a0 = view_of_payload::<ArchivedFact, ArchivedResult<ArchivedU32, ArchivedString>>(
-                    self, 2, 0, 4,
-                );
+                let a0 = view_of_payload::<
+                    ArchivedFact,
+                    ArchivedResult<ArchivedU32, ArchivedString>,
+                >(self, 2, 0, 4);
                 ViewOfFact::Outcome(a0)
             }
-            3 => {
-                let a0 = view_of_payload::<ArchivedFact, ArchivedVec<ArchivedString>>(self, 3, 0, 4);
-                let a1 = view_of_payload::<ArchivedFact, ArchivedOption<ArchivedString>>(
-                    self, 3, 1, 12,
-                );
-                ViewOfFact::Notes(a0, a1)
-            }
-            4 => {
-                let a0 = view_of_payload::<ArchivedFact, ArchivedSortedMap<ArchivedU16, ArchivedI64>>(
-                    self, 4, 0, 4,
-                );
-                ViewOfFact::Hours(a0)
-            }
-            5 => {
-                let a0 = view_of_payload::<ArchivedFact, NonZero<u32>>(self, 5, 0, 4);
-                let a1 = view_of_payload::<ArchivedFact, ArchivedBox<ArchivedU32>>(self, 5, 1, 8);
-                ViewOfFact::Rank(a0, a1)
-            }
             _ => {
-                let a0 = view_of_payload::<ArchivedFact, ArchivedVec<ArchivedFact>>(self, 6, 0, 4);
-                ViewOfFact::All(a0)
+                let a0 = view_of_payload::<ArchivedFact, ArchivedVec<ArchivedFact>>(self, 3, 0, 4);
+                ViewOfFact::Facts(a0)
             }
         }
     }
@@ -1085,35 +790,10 @@ pub trait FactSeal<'a> {
         requires come_to { sealed self }
         requires tag { tag self ≡ 2 };
 
-    /// The field `0` of `Notes`.
-    fn notes_0_mut(self) -> Seal<'a, ArchivedVec<ArchivedString>>
+    /// The field `0` of `Facts`.
+    fn facts_0_mut(self) -> Seal<'a, ArchivedVec<ArchivedFact>>
         requires come_to { sealed self }
         requires tag { tag self ≡ 3 };
-
-    /// The field `1` of `Notes`.
-    fn notes_1_mut(self) -> Seal<'a, ArchivedOption<ArchivedString>>
-        requires come_to { sealed self }
-        requires tag { tag self ≡ 3 };
-
-    /// The field `0` of `Hours`.
-    fn hours_0_mut(self) -> Seal<'a, ArchivedSortedMap<ArchivedU16, ArchivedI64>>
-        requires come_to { sealed self }
-        requires tag { tag self ≡ 4 };
-
-    /// The field `0` of `Rank`.
-    fn rank_0_mut(self) -> Seal<'a, NonZero<u32>>
-        requires come_to { sealed self }
-        requires tag { tag self ≡ 5 };
-
-    /// The field `1` of `Rank`.
-    fn rank_1_mut(self) -> Seal<'a, ArchivedBox<ArchivedU32>>
-        requires come_to { sealed self }
-        requires tag { tag self ≡ 5 };
-
-    /// The field `0` of `All`.
-    fn all_0_mut(self) -> Seal<'a, ArchivedVec<ArchivedFact>>
-        requires come_to { sealed self }
-        requires tag { tag self ≡ 6 };
 }
 
 impl<'a> FactSeal<'a> for Seal<'a, ArchivedFact> {
@@ -1160,71 +840,17 @@ impl<'a> FactSeal<'a> for Seal<'a, ArchivedFact> {
             ⟦<ArchivedResult<ArchivedU32, ArchivedString> as ArchivePointee>⟧.pointee
             (self.entry.pos + 4) 0 self.entry result }
     {
-        seal_of_payload::<ArchivedFact, ArchivedResult<ArchivedU32, ArchivedString>>(
-            self, 2, 0, 4,
-        )
+        seal_of_payload::<ArchivedFact, ArchivedResult<ArchivedU32, ArchivedString>>(self, 2, 0, 4)
     }
 
-    fn notes_0_mut(self) -> Seal<'a, ArchivedVec<ArchivedString>>
+    fn facts_0_mut(self) -> Seal<'a, ArchivedVec<ArchivedFact>>
         requires come_to { IsSealOf fact_definitions (one ⟦<ArchivedFact as Portable>⟧.shape) self }
         requires tag { seal_tag self ≡ 3 }
-        ensures { SealsPart fact_definitions (one ⟦<ArchivedFact as Portable>⟧.shape) no_definition
-            ⟦<ArchivedVec<ArchivedString> as ArchivePointee>⟧.pointee (self.entry.pos + 4) 0
-            self.entry result }
-    {
-        seal_of_payload::<ArchivedFact, ArchivedVec<ArchivedString>>(self, 3, 0, 4)
-    }
-
-    fn notes_1_mut(self) -> Seal<'a, ArchivedOption<ArchivedString>>
-        requires come_to { IsSealOf fact_definitions (one ⟦<ArchivedFact as Portable>⟧.shape) self }
-        requires tag { seal_tag self ≡ 3 }
-        ensures { SealsPart fact_definitions (one ⟦<ArchivedFact as Portable>⟧.shape) no_definition
-            ⟦<ArchivedOption<ArchivedString> as ArchivePointee>⟧.pointee (self.entry.pos + 12) 0
-            self.entry result }
-    {
-        seal_of_payload::<ArchivedFact, ArchivedOption<ArchivedString>>(self, 3, 1, 12)
-    }
-
-    fn hours_0_mut(self) -> Seal<'a, ArchivedSortedMap<ArchivedU16, ArchivedI64>>
-        requires come_to { IsSealOf fact_definitions (one ⟦<ArchivedFact as Portable>⟧.shape) self }
-        requires tag { seal_tag self ≡ 4 }
-        ensures { SealsPart fact_definitions (one ⟦<ArchivedFact as Portable>⟧.shape)
-            (both no_definition (both no_definition no_definition))
-            ⟦<ArchivedSortedMap<ArchivedU16, ArchivedI64> as ArchivePointee>⟧.pointee
-            (self.entry.pos + 4) 0 self.entry result }
-    {
-        seal_of_payload::<ArchivedFact, ArchivedSortedMap<ArchivedU16, ArchivedI64>>(
-            self, 4, 0, 4,
-        )
-    }
-
-    fn rank_0_mut(self) -> Seal<'a, NonZero<u32>>
-        requires come_to { IsSealOf fact_definitions (one ⟦<ArchivedFact as Portable>⟧.shape) self }
-        requires tag { seal_tag self ≡ 5 }
-        ensures { SealsPart fact_definitions (one ⟦<ArchivedFact as Portable>⟧.shape) no_definition
-            ⟦<NonZero<u32> as ArchivePointee>⟧.pointee (self.entry.pos + 4) 0 self.entry result }
-    {
-        seal_of_payload::<ArchivedFact, NonZero<u32>>(self, 5, 0, 4)
-    }
-
-    fn rank_1_mut(self) -> Seal<'a, ArchivedBox<ArchivedU32>>
-        requires come_to { IsSealOf fact_definitions (one ⟦<ArchivedFact as Portable>⟧.shape) self }
-        requires tag { seal_tag self ≡ 5 }
-        ensures { SealsPart fact_definitions (one ⟦<ArchivedFact as Portable>⟧.shape) no_definition
-            ⟦<ArchivedBox<ArchivedU32> as ArchivePointee>⟧.pointee (self.entry.pos + 8) 0 self.entry
-            result }
-    {
-        seal_of_payload::<ArchivedFact, ArchivedBox<ArchivedU32>>(self, 5, 1, 8)
-    }
-
-    fn all_0_mut(self) -> Seal<'a, ArchivedVec<ArchivedFact>>
-        requires come_to { IsSealOf fact_definitions (one ⟦<ArchivedFact as Portable>⟧.shape) self }
-        requires tag { seal_tag self ≡ 6 }
         ensures { SealsPart fact_definitions (one ⟦<ArchivedFact as Portable>⟧.shape)
             ⟦<ArchivedFact as ArchivePointee>⟧.definitions
             ⟦<ArchivedVec<ArchivedFact> as ArchivePointee>⟧.pointee (self.entry.pos + 4) 0
             self.entry result }
     {
-        seal_of_payload::<ArchivedFact, ArchivedVec<ArchivedFact>>(self, 6, 0, 4)
+        seal_of_payload::<ArchivedFact, ArchivedVec<ArchivedFact>>(self, 3, 0, 4)
     }
 }

@@ -56,8 +56,8 @@ use archive_core::shape::{Defs, Expr};
 use archive_core::slice::ArchivedSlice;
 use archive_core::string::ArchivedStr;
 use archive_core::traits::{
-    Archive, ArchivePointee, ArchiveUnsized, CopyOptimization, Deserialize, Entries, Keys, Portable,
-    Record, Serialize, SerializeUnsized,
+    Archive, ArchivePointee, ArchiveUnsized, CopyOptimization, Deserialize, Entries, Keys,
+    Portable, Record, Serialize, SerializeUnsized,
 };
 use archive_core::vec::{ArchivedVec, VecResolver};
 use archive_core::view::{RawView, Ref};
@@ -244,7 +244,10 @@ impl Archive for Rule {
 
 // Writes what each of the values owns, in order.
 #[cycle(serialize_rule)]
-fn serialize_each_rule<S: Writer + Keys + ResolverAlloc<Alloc = Global>>(values: &[Rule], serializer: &mut S) -> Result<Vec<<Rule as Archive>::Resolver, S::Alloc>, Error>
+fn serialize_each_rule<S: Writer + Keys + ResolverAlloc<Alloc = Global>>(
+    values: &[Rule],
+    serializer: &mut S,
+) -> Result<Vec<<Rule as Archive>::Resolver, S::Alloc>, Error>
     ensures serialized { IfOk result (λ rs. SerializedRun rule_definitions rule_shape
         (length values.now) (each_keys ⟦<Rule as Archive>⟧.keys values.now)
         (each_meaning ⟦<Rule as Archive>⟧.meaning values.now)
@@ -272,7 +275,10 @@ fn serialize_each_rule<S: Writer + Keys + ResolverAlloc<Alloc = Global>>(values:
 
 // Writes what a vector owns.
 #[cycle(serialize_rule)]
-fn serialize_vec_rule<S: Writer + Keys + ResolverAlloc<Alloc = Global>>(value: &Vec<Rule>, serializer: &mut S) -> Result<VecResolver, Error>
+fn serialize_vec_rule<S: Writer + Keys + ResolverAlloc<Alloc = Global>>(
+    value: &Vec<Rule>,
+    serializer: &mut S,
+) -> Result<VecResolver, Error>
     ensures serialized { IfOk result (λ r. Serialized rule_definitions (vec rule_shape)
         (⟦<Vec<Rule> as Archive>⟧.keys value.now) (⟦<Vec<Rule> as Archive>⟧.meaning value.now)
         (⟦<Vec<Rule> as Archive>⟧.flat value.now r) (S.state serializer.old)
@@ -299,7 +305,10 @@ fn serialize_vec_rule<S: Writer + Keys + ResolverAlloc<Alloc = Global>>(value: &
 
 // Writes what a value owns, part by part.
 #[cycle(serialize_rule)]
-fn serialize_rule<S: Writer + Keys + ResolverAlloc<Alloc = Global>>(value: &Rule, serializer: &mut S) -> Result<RuleResolver, Error>
+fn serialize_rule<S: Writer + Keys + ResolverAlloc<Alloc = Global>>(
+    value: &Rule,
+    serializer: &mut S,
+) -> Result<RuleResolver, Error>
     ensures serialized { IfOk result (λ r. Serialized rule_definitions rule_shape
         (⟦<Rule as Archive>⟧.keys value.now) (⟦<Rule as Archive>⟧.meaning value.now)
         (⟦<Rule as Archive>⟧.flat value.now r) (S.state serializer.old) (S.state serializer.new)) }
@@ -329,7 +338,9 @@ fn serialize_rule<S: Writer + Keys + ResolverAlloc<Alloc = Global>>(value: &Rule
         Ok(a4) => a4,
         Err(error) => return Err(error),
     };
-    Ok(RuleResolver { kept: (a0, (a1, (a2, (a3, (a4, ()))))) })
+    Ok(RuleResolver {
+        kept: (a0, (a1, (a2, (a3, (a4, ()))))),
+    })
 }
 
 impl<S: Writer + Keys + ResolverAlloc<Alloc = Global>> Serialize<S> for Rule {
@@ -373,7 +384,11 @@ impl<S: Writer + Keys + ResolverAlloc<Alloc = Global>> SerializeUnsized<S> for R
 
 // Reads a vector back.
 #[cycle(read_rule)]
-fn read_vec_rule<D: Entries>(alloc: Global, part: RawView<'_>, deserializer: &mut D) -> Result<Vec<Rule>, Error>
+fn read_vec_rule<D: Entries>(
+    alloc: Global,
+    part: RawView<'_>,
+    deserializer: &mut D,
+) -> Result<Vec<Rule>, Error>
     requires { IsPartOf ⟦<ArchivedVec<ArchivedRule> as ArchivePointee>⟧ part }
     ensures read { IfOk result (Read ⟦<ArchivedVec<ArchivedRule> as ArchivePointee>⟧ part D.Entries
         deserializer ⟦<Vec<Rule> as Archive>⟧) }
@@ -392,7 +407,11 @@ fn read_vec_rule<D: Entries>(alloc: Global, part: RawView<'_>, deserializer: &mu
 
 // Reads a value back, part by part.
 #[cycle(read_rule)]
-fn read_rule<D: Entries>(alloc: Global, part: RawView<'_>, deserializer: &mut D) -> Result<Rule, Error>
+fn read_rule<D: Entries>(
+    alloc: Global,
+    part: RawView<'_>,
+    deserializer: &mut D,
+) -> Result<Rule, Error>
     requires { IsPartOf ⟦<ArchivedRule as ArchivePointee>⟧ part }
     ensures read { IfOk result (Read ⟦<ArchivedRule as ArchivePointee>⟧ part D.Entries deserializer
         ⟦<Rule as Archive>⟧) }

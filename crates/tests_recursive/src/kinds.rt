@@ -1,14 +1,19 @@
-// Recursive values behind vectors of boxes and of options, and beside fields of many kinds, byte for byte: written, validated and read back; and a
-// damaged one.
+// Recursive values behind vectors of boxes and of options, and beside fields of many kinds, byte for byte: written, validated and read back; and damaged
+// ones.
 
-use crate::assertions::{assert_read, assert_refused, assert_written, value_of};
+ghost use Rattle.std.specs.Prelude.{◌<◌};
+
+use crate::assertions::{assert_read, assert_refused, assert_same, assert_written, value_of};
+use archive_core::api::{HighValidator, access_with_context};
 use archive_core::boxed::{BoxSlice, BoxStr};
 use archive_core::core_impls::OwnedArray;
 use archive_core::error::Error;
 use archive_core::primitive::ArchivedNonZeroU32;
+use archive_core::traits::Portable;
 use recursive_kinds::bush::Bush;
-use recursive_kinds::fact::Fact;
+use recursive_kinds::fact::{ArchivedFact, Fact};
 use recursive_kinds::knot::{ArchivedKnot, Knot};
+use recursive_kinds::note::{ArchivedNote, Note};
 use recursive_kinds::rule::Rule;
 use std::alloc::{AllocError, Global};
 use std::collections::BTreeMap;
@@ -48,9 +53,16 @@ fn damaged(alloc: Global, bytes: &[u8], at: usize, byte: u8) -> Result<Vec<u8>, 
     Ok(out)
 }
 
-fn assert_knots_refused(rt: &impl Abort, alloc: Global, at: usize, byte: u8, refusal: Error) {
-    let bytes = damaged(alloc, KNOTS, at, byte).expect(rt, "bytes");
-    assert_refused::<ArchivedKnot>(rt, "damaged knots", alloc, bytes.as_slice(), refusal);
+fn assert_damaged<T: Portable>(
+    rt: &impl Abort,
+    alloc: Global,
+    archive: &[u8],
+    at: usize,
+    byte: u8,
+    refusal: Error,
+) {
+    let bytes = damaged(alloc, archive, at, byte).expect(rt, "bytes");
+    assert_refused::<T>(rt, "a damaged archive", alloc, bytes.as_slice(), refusal);
 }
 
 // The box of knot 4 leads into itself. Knot 2 was left before, so knots may lie behind its 12 bytes.
@@ -62,7 +74,7 @@ fn a_box_that_leads_into_itself(rt: HostRuntime) {
         start: 12,
         end: 24,
     };
-    assert_knots_refused(&rt, rt.alloc(), 24, 0xfc, outside);
+    assert_damaged::<ArchivedKnot>(&rt, rt.alloc(), KNOTS, 24, 0xfc, outside);
 }
 
 fn bush(alloc: Global, id: u32) -> Result<Bush, AllocError> {
@@ -96,47 +108,121 @@ fn options_in_a_vector(rt: HostRuntime) {
     assert_read(&rt, rt.alloc(), BUSHES, &bushes);
 }
 
-fn notes(alloc: Global) -> Result<Fact, AllocError> {
-    let note = String::from_str(alloc, "abc")?;
-    let by = String::from_str(alloc, "nobody knows")?;
-    Ok(Fact::Notes(vec![in alloc; note]?, Some(by)))
-}
-
-fn hours(alloc: Global) -> Result<Fact, AllocError> {
-    let mut hours = BTreeMap::new(alloc);
-    hours.insert(3, -1)?;
-    Ok(Fact::Hours(hours))
-}
-
-fn rank(alloc: Global) -> Result<Fact, AllocError> {
-    Ok(Fact::Rank(ArchivedNonZeroU32::from_native(2), Box::new(alloc, 5)?))
-}
-
 fn facts(alloc: Global) -> Result<Fact, AllocError> {
     let reason = String::from_str(alloc, "no")?;
-    let notes = notes(alloc)?;
-    let hours = hours(alloc)?;
-    let rank = rank(alloc)?;
     let mut facts = Vec::new(alloc);
     facts.push(Fact::Holds(true, ()))?;
     facts.push(Fact::Due(Some((-7, 9))))?;
     facts.push(Fact::Outcome(Err(reason)))?;
-    facts.push(notes)?;
-    facts.push(hours)?;
-    facts.push(rank)?;
-    Ok(Fact::All(facts))
+    Ok(Fact::Facts(facts))
 }
 
-// The note at 0, who wrote it at 8, the hours at 24, the number of the rank at 40, the six facts at 44, and all of them at 188. Of the 24 bytes of a fact
-// the first is its tag; what it holds lies at 4, except that it holds, at 1.
+// The three facts at 0, and all of them at 48. Of the 16 bytes of a fact the first is its tag; what it holds lies at 4, except that it holds, at 1.
 const FACTS: &[u8] =
-    b"abc\xff\xff\xff\xff\xffnobody knows\0\0\0\0\x03\0\0\0\0\0\0\0\xff\xff\xff\xff\xff\xff\xff\xff\x05\0\0\0\0\x01\0\0\0\0\0\0\0\0\0\0\0\0\0\0\0\0\0\0\0\0\0\0\x01\0\0\0\x01\0\0\0\xf9\xff\xff\xff\x09\0\0\0\0\0\0\0\0\0\0\0\x02\0\0\0\x01\0\0\0no\xff\xff\xff\xff\xff\xff\0\0\0\0\0\0\0\0\x03\0\0\0\x88\xff\xff\xff\x01\0\0\0\x01\0\0\0\x8c\0\0\0\x84\xff\xff\xff\x04\0\0\0\x88\xff\xff\xff\x01\0\0\0\0\0\0\0\0\0\0\0\0\0\0\0\x05\0\0\0\x02\0\0\0|\xff\xff\xff\0\0\0\0\0\0\0\0\0\0\0\0\x06\0\0\0l\xff\xff\xff\x06\0\0\0\0\0\0\0\0\0\0\0\0\0\0\0";
+    b"\0\x01\0\0\0\0\0\0\0\0\0\0\0\0\0\0\x01\0\0\0\x01\0\0\0\xf9\xff\xff\xff\x09\0\0\0\x02\0\0\0\x01\0\0\0no\xff\xff\xff\xff\xff\xff\x03\0\0\0\xcc\xff\xff\xff\x03\0\0\0\0\0\0\0";
 
 #[test]
-fn variants_of_many_kinds(rt: HostRuntime) {
+fn facts_of_many_kinds(rt: HostRuntime) {
     let facts = facts(rt.alloc()).expect(&rt, "facts");
     assert_written(&rt, rt.alloc(), &facts, FACTS);
     assert_read(&rt, rt.alloc(), FACTS, &facts);
+}
+
+fn tag_of_none(name: &'static str, value: u8) -> Error {
+    Error::InvalidDiscriminant { name, value }
+}
+
+fn assert_damaged_facts(rt: &impl Abort, alloc: Global, at: usize, byte: u8, refusal: Error) {
+    assert_damaged::<ArchivedFact>(rt, alloc, FACTS, at, byte, refusal);
+}
+
+// Each variant, by a byte that it may not have.
+#[test]
+fn damaged_facts(rt: HostRuntime) {
+    let alloc = rt.alloc();
+    assert_damaged_facts(&rt, alloc, 1, 2, Error::InvalidBool);
+    assert_damaged_facts(&rt, alloc, 20, 2, tag_of_none("ArchivedOption", 2));
+    assert_damaged_facts(&rt, alloc, 36, 2, tag_of_none("ArchivedResult", 2));
+    assert_damaged_facts(&rt, alloc, 48, 4, tag_of_none("ArchivedFact", 4));
+}
+
+fn texts(alloc: Global) -> Result<Note, AllocError> {
+    let text = String::from_str(alloc, "abc")?;
+    let by = String::from_str(alloc, "nobody knows")?;
+    Ok(Note::Texts(vec![in alloc; text]?, Some(by)))
+}
+
+fn hours(alloc: Global) -> Result<Note, AllocError> {
+    let mut hours = BTreeMap::new(alloc);
+    hours.insert(3, -1)?;
+    Ok(Note::Hours(hours))
+}
+
+fn notes(alloc: Global) -> Result<Note, AllocError> {
+    let texts = texts(alloc)?;
+    let hours = hours(alloc)?;
+    let rank = Note::Rank(ArchivedNonZeroU32::from_native(2), Box::new(alloc, 5)?);
+    Ok(Note::Notes(vec![in alloc; texts, hours, rank]?))
+}
+
+// The text at 0, who wrote it at 8, the hours at 24, the number of the rank at 40, the three notes at 44, and all of them at 116. Of the 24 bytes of a note
+// the first is its tag; what it holds lies at 4.
+const NOTES: &[u8] =
+    b"abc\xff\xff\xff\xff\xffnobody knows\0\0\0\0\x03\0\0\0\0\0\0\0\xff\xff\xff\xff\xff\xff\xff\xff\x05\0\0\0\0\0\0\0\xd0\xff\xff\xff\x01\0\0\0\x01\0\0\0\x8c\0\0\0\xcc\xff\xff\xff\x01\0\0\0\xd0\xff\xff\xff\x01\0\0\0\0\0\0\0\0\0\0\0\0\0\0\0\x02\0\0\0\x02\0\0\0\xc4\xff\xff\xff\0\0\0\0\0\0\0\0\0\0\0\0\x03\0\0\0\xb4\xff\xff\xff\x03\0\0\0\0\0\0\0\0\0\0\0\0\0\0\0";
+
+#[test]
+fn notes_of_many_kinds(rt: HostRuntime) {
+    let notes = notes(rt.alloc()).expect(&rt, "notes");
+    assert_written(&rt, rt.alloc(), &notes, NOTES);
+    assert_read(&rt, rt.alloc(), NOTES, &notes);
+}
+
+fn assert_damaged_notes(rt: &impl Abort, alloc: Global, at: usize, byte: u8, refusal: Error) {
+    assert_damaged::<ArchivedNote>(rt, alloc, NOTES, at, byte, refusal);
+}
+
+// A number where the hours end and the notes begin, at 40.
+fn number_elsewhere(position: i128) -> Error {
+    Error::InvalidSubtreePointer {
+        position,
+        size: 4,
+        start: 40,
+        end: 44,
+    }
+}
+
+#[test]
+fn damaged_notes(rt: HostRuntime) {
+    let alloc = rt.alloc();
+    assert_damaged_notes(&rt, alloc, 1, 0x80, Error::InvalidUtf8);
+    assert_damaged_notes(&rt, alloc, 96, 0, Error::ZeroNumber);
+    assert_damaged_notes(&rt, alloc, 100, 4, number_elsewhere(-152));
+    assert_damaged_notes(&rt, alloc, 100, 0xbc, number_elsewhere(32));
+    assert_damaged_notes(&rt, alloc, 116, 4, tag_of_none("ArchivedNote", 4));
+}
+
+// How many regions a check of the notes enters, with a limit of depth.
+fn regions(alloc: Global, levels: usize) -> Result<usize, Error>
+    requires { 0 < levels }
+{
+    let mut context = HighValidator::with_max_depth(alloc, NOTES, Some(levels));
+    let _ = access_with_context::<ArchivedNote, HighValidator<'_>>(alloc, NOTES, &mut context)?;
+    Ok(context.subtrees())
+}
+
+fn assert_regions(rt: &impl Abort, alloc: Global, levels: usize, wanted: Result<usize, Error>)
+    requires { 0 < levels }
+{
+    let found = regions(alloc, levels);
+    assert_same(rt, "regions", found, wanted);
+}
+
+// The root, the notes, and in them the text, who wrote it, the hours and the number.
+#[test]
+fn limits_of_depth(rt: HostRuntime) {
+    let too_deep = Err(Error::ExceededMaximumSubtreeDepth);
+    assert_regions(&rt, rt.alloc(), 3, too_deep);
+    assert_regions(&rt, rt.alloc(), 4, Ok(6));
 }
 
 // An array of these bytes; they are four.

@@ -12,11 +12,11 @@ use Rattle.recursive_kinds.proofs.fact.+read_fact.Given as goal
 abbrev pub decreases-read_vec_fact : goal.decreases-read_vec_fact
 decreases-read_vec_fact g l = (l.part.pos + 8) * 4 + 1
 
-abbrev pub decreases-read_fact_all : goal.decreases-read_fact_all
-decreases-read_fact_all g l = (l.part.pos + 24) * 4 + 2
+abbrev pub decreases-read_fact_facts : goal.decreases-read_fact_facts
+decreases-read_fact_facts g l = (l.part.pos + 16) * 4 + 2
 
 abbrev pub decreases-read_fact : goal.decreases-read_fact
-decreases-read_fact g l = (l.part.pos + 24) * 4 + 3
+decreases-read_fact g l = (l.part.pos + 16) * 4 + 3
 
 abbrev pub invariant-read_vec_fact-loop-index : goal.invariant-read_vec_fact-loop-index
 invariant-read_vec_fact-loop-index g l = (length l.items.items ≡ l.index) × (vec_len l.items ≡ l.index) × (l.list.len ≤ vec_capacity l.items) × FirstElements g.D.Entries.keeps fact_definitions fact_shape fact_layout l.list.bytes.now l.list.pos (run fact_shape) l.list.len fact_meaning fact_keys (g.D.Entries.entry_of l.initial.deserializer) (g.D.Entries.entry_of l.deserializer) l.items.items

@@ -14,8 +14,8 @@ use Rattle.archive_core.specs.PlannedOwners.{each_planned}
 use Rattle.archive_core.specs.Runs.{each_keys, each_meaning}
 use Rattle.archive_core.specs.Shape.{vec, no_part}
 use Rattle.archive_core.specs.Value.{list, value, no_value}
-use Rattle.recursive_kinds.specs.FactMeaning.{fact_meaning, fact_keys, fact_planned, fact_holds_means, fact_holds_has_keys, fact_holds_opens, fact_due_means, fact_due_has_keys, fact_due_opens, fact_outcome_means, fact_outcome_has_keys, fact_outcome_opens, fact_notes_means, fact_notes_has_keys, fact_notes_opens, fact_hours_means, fact_hours_has_keys, fact_hours_opens, fact_rank_means, fact_rank_has_keys, fact_rank_opens, fact_all_means, fact_all_has_keys, fact_all_opens}
-use Rattle.recursive_kinds.specs.FactShape.{fact_name, fact_shape, fact_definitions, fact_variants, fact_variant_definitions, fact_has_variants, fact_all_parts, fact_all_definitions}
+use Rattle.recursive_kinds.specs.FactMeaning.{fact_meaning, fact_keys, fact_planned, fact_holds_means, fact_holds_has_keys, fact_holds_opens, fact_due_means, fact_due_has_keys, fact_due_opens, fact_outcome_means, fact_outcome_has_keys, fact_outcome_opens, fact_facts_means, fact_facts_has_keys, fact_facts_opens}
+use Rattle.recursive_kinds.specs.FactShape.{fact_name, fact_shape, fact_definitions, fact_variants, fact_variant_definitions, fact_has_variants, fact_facts_parts, fact_facts_definitions}
 use Rattle.std.proofs.Common.{◌≡◌, ◌<◌, [], length, refl, arith}
 use Rattle.std.proofs.Math.ListN.{drop_of_length-le}
 use Rattle.std.proofs.lemmas.Grind.{common_steps}
@@ -64,11 +64,11 @@ serialize_vec_fact-returns-in-Err-serialize_inner_slice-clause-goes_on g t c = (
 pub serialize_vec_fact-returns-in-Err-serialize_inner_slice-clause-refused : goal.serialize_vec_fact-returns-in-Err-serialize_inner_slice-clause-refused
 serialize_vec_fact-returns-in-Err-serialize_inner_slice-clause-refused g t c = (rw c.as_slice-items.ensures.value at c.in-Err-serialize_inner_slice.ensures.refused).since _ c.serialize_each_fact.ensures.goes_on (rw c.as_slice-items.ensures.value at c.in-Ok.ensures.serialized)
 
-pub serialize_fact_all-returns-in-Err-clause-refused : goal.serialize_fact_all-returns-in-Err-clause-refused
-serialize_fact_all-returns-in-Err-clause-refused g t c = (variant_refused fact_definitions fact_shape fact_name fact_variant_definitions fact_variants fact_has_variants 6 fact_all_parts refl fact_all_definitions refl _ _ _ _ _ (first_refused fact_definitions no_definition (vec fact_shape) no_part (each_keys fact_keys c.args.a0.now.items) [] (list (each_meaning fact_meaning c.args.a0.now.items)) no_value _ _ _ no_part_planned c.in-Err.ensures.refused))
+pub serialize_fact_facts-returns-in-Err-clause-refused : goal.serialize_fact_facts-returns-in-Err-clause-refused
+serialize_fact_facts-returns-in-Err-clause-refused g t c = (variant_refused fact_definitions fact_shape fact_name fact_variant_definitions fact_variants fact_has_variants 3 fact_facts_parts refl fact_facts_definitions refl _ _ _ _ _ (first_refused fact_definitions no_definition (vec fact_shape) no_part (each_keys fact_keys c.args.a0.now.items) [] (list (each_meaning fact_meaning c.args.a0.now.items)) no_value _ _ _ no_part_planned c.in-Err.ensures.refused))
 
-pub serialize_fact_all-returns-clause-serialized : goal.serialize_fact_all-returns-clause-serialized
-serialize_fact_all-returns-clause-serialized g t c = (serialized_variant fact_definitions fact_shape fact_name fact_variant_definitions fact_variants fact_has_variants 6 fact_all_parts refl fact_all_definitions refl _ _ _ _ _ (serialized_part fact_definitions no_definition (vec fact_shape) no_part (each_keys fact_keys c.args.a0.now.items) [] (list (each_meaning fact_meaning c.args.a0.now.items)) no_value _ _ _ _ _ c.in-Ok.ensures.serialized (serialized_no_part no_definition _)))
+pub serialize_fact_facts-returns-clause-serialized : goal.serialize_fact_facts-returns-clause-serialized
+serialize_fact_facts-returns-clause-serialized g t c = (serialized_variant fact_definitions fact_shape fact_name fact_variant_definitions fact_variants fact_has_variants 3 fact_facts_parts refl fact_facts_definitions refl _ _ _ _ _ (serialized_part fact_definitions no_definition (vec fact_shape) no_part (each_keys fact_keys c.args.a0.now.items) [] (list (each_meaning fact_meaning c.args.a0.now.items)) no_value _ _ _ _ _ c.in-Ok.ensures.serialized (serialized_no_part no_definition _)))
 
 pub serialize_fact-returns-in-Ok-clause-serialized : goal.serialize_fact-returns-in-Ok-clause-serialized
 serialize_fact-returns-in-Ok-clause-serialized g t c = rw c.in-Holds.is (written_as (fact_holds_has_keys c.in-Holds.a0 c.in-Holds.a1) (fact_holds_means c.in-Holds.a0 c.in-Holds.a1) (rw (fact_holds_opens c.in-Holds.a0 c.in-Holds.a1) refl) c.in-Ok.ensures.serialized)
@@ -97,38 +97,11 @@ serialize_fact-returns-in-Ok-serialize_fact_outcome-clause-same_value g t c = rw
 pub serialize_fact-returns-in-Err-serialize_fact_outcome-clause-refused : goal.serialize_fact-returns-in-Err-serialize_fact_outcome-clause-refused
 serialize_fact-returns-in-Err-serialize_fact_outcome-clause-refused g t c = rw c.in-Outcome.is (refused_as (fact_outcome_has_keys c.in-Outcome.a0) (fact_outcome_means c.in-Outcome.a0) c.in-Err-serialize_fact_outcome.ensures.refused)
 
-pub serialize_fact-returns-in-Ok-serialize_fact_notes-clause-serialized : goal.serialize_fact-returns-in-Ok-serialize_fact_notes-clause-serialized
-serialize_fact-returns-in-Ok-serialize_fact_notes-clause-serialized g t c = rw c.in-Notes.is (written_as (fact_notes_has_keys c.in-Notes.a0 c.in-Notes.a1) (fact_notes_means c.in-Notes.a0 c.in-Notes.a1) (rw (fact_notes_opens c.in-Notes.a0 c.in-Notes.a1) refl) c.in-Ok-serialize_fact_notes.ensures.serialized)
+pub serialize_fact-returns-in-Ok-serialize_fact_facts-clause-serialized : goal.serialize_fact-returns-in-Ok-serialize_fact_facts-clause-serialized
+serialize_fact-returns-in-Ok-serialize_fact_facts-clause-serialized g t c = rw c.in-Facts.is (written_as (fact_facts_has_keys c.in-Facts.a0) (fact_facts_means c.in-Facts.a0) (rw (fact_facts_opens c.in-Facts.a0) refl) c.in-Ok-serialize_fact_facts.ensures.serialized)
 
-pub serialize_fact-returns-in-Ok-serialize_fact_notes-clause-same_value : goal.serialize_fact-returns-in-Ok-serialize_fact_notes-clause-same_value
-serialize_fact-returns-in-Ok-serialize_fact_notes-clause-same_value g t c = rw (c.in-Notes.is, fact_notes_opens c.in-Notes.a0 c.in-Notes.a1) c.in-Ok-serialize_fact_notes.ensures.same_values
+pub serialize_fact-returns-in-Ok-serialize_fact_facts-clause-same_value : goal.serialize_fact-returns-in-Ok-serialize_fact_facts-clause-same_value
+serialize_fact-returns-in-Ok-serialize_fact_facts-clause-same_value g t c = rw (c.in-Facts.is, fact_facts_opens c.in-Facts.a0) c.in-Ok-serialize_fact_facts.ensures.same_values
 
-pub serialize_fact-returns-in-Err-serialize_fact_notes-clause-refused : goal.serialize_fact-returns-in-Err-serialize_fact_notes-clause-refused
-serialize_fact-returns-in-Err-serialize_fact_notes-clause-refused g t c = rw c.in-Notes.is (refused_as (fact_notes_has_keys c.in-Notes.a0 c.in-Notes.a1) (fact_notes_means c.in-Notes.a0 c.in-Notes.a1) c.in-Err-serialize_fact_notes.ensures.refused)
-
-pub serialize_fact-returns-in-Ok-serialize_fact_hours-clause-serialized : goal.serialize_fact-returns-in-Ok-serialize_fact_hours-clause-serialized
-serialize_fact-returns-in-Ok-serialize_fact_hours-clause-serialized g t c = rw c.in-Hours.is (written_as (fact_hours_has_keys c.in-Hours.a0) (fact_hours_means c.in-Hours.a0) (rw (fact_hours_opens c.in-Hours.a0) refl) c.in-Ok-serialize_fact_hours.ensures.serialized)
-
-pub serialize_fact-returns-in-Ok-serialize_fact_hours-clause-same_value : goal.serialize_fact-returns-in-Ok-serialize_fact_hours-clause-same_value
-serialize_fact-returns-in-Ok-serialize_fact_hours-clause-same_value g t c = rw (c.in-Hours.is, fact_hours_opens c.in-Hours.a0) c.in-Ok-serialize_fact_hours.ensures.same_values
-
-pub serialize_fact-returns-in-Err-serialize_fact_hours-clause-refused : goal.serialize_fact-returns-in-Err-serialize_fact_hours-clause-refused
-serialize_fact-returns-in-Err-serialize_fact_hours-clause-refused g t c = rw c.in-Hours.is (refused_as (fact_hours_has_keys c.in-Hours.a0) (fact_hours_means c.in-Hours.a0) c.in-Err-serialize_fact_hours.ensures.refused)
-
-pub serialize_fact-returns-in-Ok-serialize_fact_rank-clause-serialized : goal.serialize_fact-returns-in-Ok-serialize_fact_rank-clause-serialized
-serialize_fact-returns-in-Ok-serialize_fact_rank-clause-serialized g t c = rw c.in-Rank.is (written_as (fact_rank_has_keys c.in-Rank.a0 c.in-Rank.a1) (fact_rank_means c.in-Rank.a0 c.in-Rank.a1) (rw (fact_rank_opens c.in-Rank.a0 c.in-Rank.a1) refl) c.in-Ok-serialize_fact_rank.ensures.serialized)
-
-pub serialize_fact-returns-in-Ok-serialize_fact_rank-clause-same_value : goal.serialize_fact-returns-in-Ok-serialize_fact_rank-clause-same_value
-serialize_fact-returns-in-Ok-serialize_fact_rank-clause-same_value g t c = rw (c.in-Rank.is, fact_rank_opens c.in-Rank.a0 c.in-Rank.a1) c.in-Ok-serialize_fact_rank.ensures.same_values
-
-pub serialize_fact-returns-in-Err-serialize_fact_rank-clause-refused : goal.serialize_fact-returns-in-Err-serialize_fact_rank-clause-refused
-serialize_fact-returns-in-Err-serialize_fact_rank-clause-refused g t c = rw c.in-Rank.is (refused_as (fact_rank_has_keys c.in-Rank.a0 c.in-Rank.a1) (fact_rank_means c.in-Rank.a0 c.in-Rank.a1) c.in-Err-serialize_fact_rank.ensures.refused)
-
-pub serialize_fact-returns-in-Ok-serialize_fact_all-clause-serialized : goal.serialize_fact-returns-in-Ok-serialize_fact_all-clause-serialized
-serialize_fact-returns-in-Ok-serialize_fact_all-clause-serialized g t c = rw c.in-All.is (written_as (fact_all_has_keys c.in-All.a0) (fact_all_means c.in-All.a0) (rw (fact_all_opens c.in-All.a0) refl) c.in-Ok-serialize_fact_all.ensures.serialized)
-
-pub serialize_fact-returns-in-Ok-serialize_fact_all-clause-same_value : goal.serialize_fact-returns-in-Ok-serialize_fact_all-clause-same_value
-serialize_fact-returns-in-Ok-serialize_fact_all-clause-same_value g t c = rw (c.in-All.is, fact_all_opens c.in-All.a0) c.in-Ok-serialize_fact_all.ensures.same_values
-
-pub serialize_fact-returns-in-Err-serialize_fact_all-clause-refused : goal.serialize_fact-returns-in-Err-serialize_fact_all-clause-refused
-serialize_fact-returns-in-Err-serialize_fact_all-clause-refused g t c = rw c.in-All.is (refused_as (fact_all_has_keys c.in-All.a0) (fact_all_means c.in-All.a0) c.in-Err-serialize_fact_all.ensures.refused)
+pub serialize_fact-returns-in-Err-serialize_fact_facts-clause-refused : goal.serialize_fact-returns-in-Err-serialize_fact_facts-clause-refused
+serialize_fact-returns-in-Err-serialize_fact_facts-clause-refused g t c = rw c.in-Facts.is (refused_as (fact_facts_has_keys c.in-Facts.a0) (fact_facts_means c.in-Facts.a0) c.in-Err-serialize_fact_facts.ensures.refused)

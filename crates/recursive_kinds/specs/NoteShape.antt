@@ -1,0 +1,69 @@
+-- What an archived Note looks like. Written by tools/derive: change the declaration, and run it again.
+use Rattle.archive_core.specs.Choices.{option_shape}
+use Rattle.archive_core.specs.Definitions.{Definitions, defines, both, no_definition, HasLayout, IsAlign, NoOthers}
+use Rattle.archive_core.specs.Held.{knows_both}
+use Rattle.archive_core.specs.Layout.{Layout}
+use Rattle.archive_core.specs.NamedLayout.{name_has_layout, name_reached}
+use Rattle.archive_core.specs.PartsLayout.{knows_none}
+use Rattle.archive_core.specs.Shape.{Name, Shape, Parts, Variants, named, choice, boxed, vec, sorted_map, str, one, leaf, non_zero, unsigned, signed, leaf_key, part, no_part, variant, no_variant, number as number_kind}
+use Rattle.archive_core.specs.VariantsLayout.{IsChoice, is_recursive_choice}
+use Rattle.std.proofs.Common.{inl, inr}
+use Rattle.std.specs.Int.{w16, w32, w64}
+use Rattle.std.specs.Prelude.{refl, codes}
+
+abbrev pub note_name : Name
+note_name = codes "ArchivedNote"
+
+abbrev pub note_shape : Shape
+note_shape = named note_name
+
+abbrev pub note_texts_parts : Parts
+note_texts_parts = (part (vec str) (part (option_shape str) no_part))
+
+abbrev pub note_hours_parts : Parts
+note_hours_parts = (part (sorted_map (leaf_key (number_kind unsigned w16)) (leaf (number_kind signed w64))) no_part)
+
+abbrev pub note_rank_parts : Parts
+note_rank_parts = (part (leaf (non_zero unsigned w32)) (part (boxed (one (leaf (number_kind unsigned w32)))) no_part))
+
+abbrev pub note_notes_parts : Parts
+note_notes_parts = (part (vec note_shape) no_part)
+
+abbrev pub note_variants : Variants
+note_variants = (variant note_texts_parts (variant note_hours_parts (variant note_rank_parts (variant note_notes_parts no_variant))))
+
+abbrev pub note_stands_for : Shape
+note_stands_for = choice note_name note_variants
+
+abbrev pub note_definitions : Definitions
+note_definitions = defines note_name note_stands_for
+
+abbrev pub note_layout : Layout
+note_layout = record { size = 24; align = 4 }
+
+pub note_is_align : IsAlign 4
+note_is_align = inr (inr (inl refl))
+
+pub note_has_layout : HasLayout note_definitions note_shape note_layout
+note_has_layout = name_has_layout note_name note_stands_for note_layout (λ s k. refl)
+
+pub note_no_others : NoOthers note_definitions note_shape
+note_no_others = name_reached note_name note_stands_for
+
+abbrev pub note_texts_definitions : Definitions
+note_texts_definitions = (both no_definition (both no_definition no_definition))
+
+abbrev pub note_hours_definitions : Definitions
+note_hours_definitions = (both (both no_definition (both no_definition no_definition)) no_definition)
+
+abbrev pub note_rank_definitions : Definitions
+note_rank_definitions = (both no_definition (both no_definition no_definition))
+
+abbrev pub note_notes_definitions : Definitions
+note_notes_definitions = (both note_definitions no_definition)
+
+abbrev pub note_variant_definitions : Definitions
+note_variant_definitions = (both note_texts_definitions (both note_hours_definitions (both note_rank_definitions (both note_notes_definitions no_definition))))
+
+pub note_has_variants : IsChoice note_definitions note_shape note_name note_variant_definitions note_variants
+note_has_variants = is_recursive_choice note_name note_variant_definitions note_variants (λ s k. (knows_both s _ _ (knows_both s _ _ (knows_none s k.laid_out) (knows_both s _ _ (knows_none s k.laid_out) (knows_none s k.laid_out))) (knows_both s _ _ (knows_both s _ _ (knows_both s _ _ (knows_none s k.laid_out) (knows_both s _ _ (knows_none s k.laid_out) (knows_none s k.laid_out))) (knows_none s k.laid_out)) (knows_both s _ _ (knows_both s _ _ (knows_none s k.laid_out) (knows_both s _ _ (knows_none s k.laid_out) (knows_none s k.laid_out))) (knows_both s _ _ (knows_both s _ _ k (knows_none s k.laid_out)) (knows_none s k.laid_out))))))
