@@ -4,7 +4,7 @@ from .model import Declaration, Refused, Type
 from .recursive_plain import LEAVES
 
 # What plain parts may be made of, which a recursive type has beside those that lead back to it.
-PLAIN = set(LEAVES) | {"String", "BoxStr", "NonZero", "Option", "Result", "tuple", "Box", "BoxSlice", "Vec", "BTreeMap", "OwnedArray"}
+PLAIN = set(LEAVES) - {"usize", "isize"} | {"String", "NonZero", "Option", "Result", "Box", "Vec", "BTreeMap"}
 MOST_FIELDS = 7
 
 

@@ -6,5 +6,3 @@ pub mod FactMeaning
 pub mod FactShape
 pub mod NoteMeaning
 pub mod NoteShape
-pub mod RuleMeaning
-pub mod RuleShape

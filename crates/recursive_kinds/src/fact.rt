@@ -5,8 +5,6 @@
 pub enum Fact {
     /// Whether something holds; and nothing of when.
     Holds(bool, ()),
-    /// The day on which something is due, and the hour.
-    Due(Option<(i32, u8)>),
     /// What came of something, or why nothing did.
     Outcome(Result<u32, String>),
     /// All of these.
@@ -32,15 +30,13 @@ ghost use Rattle.archive_core.specs.Sources.{Read};
 ghost use Rattle.archive_core.specs.Value.{case, no_value, value};
 ghost use Rattle.archive_core.specs.Writing.{ZeroedPlace};
 ghost use Rattle.archive_core.specs.Written.{GoesOn};
-ghost use Rattle.recursive_kinds.specs.FactShape.{fact_definitions, fact_due_parts, fact_facts_parts, fact_has_layout, fact_has_variants, fact_holds_parts, fact_is_align, fact_layout, fact_name, fact_no_others, fact_outcome_parts, fact_shape, fact_stands_for};
+ghost use Rattle.recursive_kinds.specs.FactShape.{fact_definitions, fact_facts_parts, fact_has_layout, fact_has_variants, fact_holds_parts, fact_is_align, fact_layout, fact_name, fact_no_others, fact_outcome_parts, fact_shape, fact_stands_for};
 ghost use Rattle.std.proofs.Common.{lit≤};
 ghost use Rattle.std.specs.Prelude.{IfErr, IfOk, None, [], length, refl, ℕ, ◌++◌, ◌+◌, ◌≡◌, ◌≤◌};
 
-use archive_core::core_impls::ArchivedTuple2;
 use archive_core::error::Error;
-use archive_core::option::ArchivedOption;
 use archive_core::place::Place;
-use archive_core::primitive::{ArchivedI32, ArchivedU32};
+use archive_core::primitive::ArchivedU32;
 use archive_core::recursive::{
     VecAt, before_vec, choice_of, define_name, part_of_variant, read_part, resolve_named_case_1,
     resolve_named_case_2, seal_of_payload, serialize_inner_slice, serialize_part, tag_of_choice,
@@ -65,16 +61,11 @@ pub struct ArchivedFact;
 
 type FactHoldsParts = (bool, ((), ()));
 
-type FactDueParts = (ArchivedOption<ArchivedTuple2<ArchivedI32, u8>>, ());
-
 type FactOutcomeParts = (ArchivedResult<ArchivedU32, ArchivedString>, ());
 
 type FactFactsParts = (ArchivedVec<ArchivedFact>, ());
 
-type FactVariants = (
-    FactHoldsParts,
-    (FactDueParts, (FactOutcomeParts, (FactFactsParts, ()))),
-);
+type FactVariants = (FactHoldsParts, (FactOutcomeParts, (FactFactsParts, ())));
 
 impl ArchivePointee for ArchivedFact {
     type ArchivedMetadata = ();
@@ -98,15 +89,6 @@ fn fact_holds_expressions(alloc: Global) -> Result<Vec<Expr>, Error>
     let a0 = <bool as Portable>::expr(alloc)?;
     let a1 = <() as Portable>::expr(alloc)?;
     Ok(vec![in alloc; a0, a1]?)
-}
-
-// The parts of `Due`.
-fn fact_due_expressions(alloc: Global) -> Result<Vec<Expr>, Error>
-    ensures shapes { IfOk result (λ list. shapes_in list.items ≡ fact_due_parts) }
-    ensures refused { IfErr result (λ e. e ≡ OutOfMemory) }
-{
-    let a0 = <ArchivedOption<ArchivedTuple2<ArchivedI32, u8>> as Portable>::expr(alloc)?;
-    Ok(vec![in alloc; a0]?)
 }
 
 // The parts of `Outcome`.
@@ -133,10 +115,9 @@ fn fact_expression(alloc: Global) -> Result<Expr, Error>
     ensures refused { IfErr result (λ e. e ≡ OutOfMemory) }
 {
     let v0 = fact_holds_expressions(alloc)?;
-    let v1 = fact_due_expressions(alloc)?;
-    let v2 = fact_outcome_expressions(alloc)?;
-    let v3 = fact_facts_expressions(alloc)?;
-    let variants = vec![in alloc; v0, v1, v2, v3]?;
+    let v1 = fact_outcome_expressions(alloc)?;
+    let v2 = fact_facts_expressions(alloc)?;
+    let variants = vec![in alloc; v0, v1, v2]?;
     Ok(choice_of("ArchivedFact", variants))
 }
 
@@ -193,8 +174,6 @@ impl Choice for ArchivedFact {
 pub enum FactResolver {
     /// Of `Holds`.
     Holds((<bool as Archive>::Resolver, (<() as Archive>::Resolver, ()))),
-    /// Of `Due`.
-    Due((<Option<(i32, u8)> as Archive>::Resolver, ())),
     /// Of `Outcome`.
     Outcome((<Result<u32, String> as Archive>::Resolver, ())),
     /// Of `Facts`.
@@ -247,23 +226,12 @@ impl Archive for Fact {
                     Place::new(pos, bytes),
                 )
             }
-            Fact::Due(a0) => {
-                let FactResolver::Due(kept) = resolver else {
-                    unreachable!();
-                };
-                resolve_named_case_1::<Option<(i32, u8)>, ArchivedFact>(
-                    1,
-                    a0,
-                    kept,
-                    Place::new(pos, bytes),
-                )
-            }
             Fact::Outcome(a0) => {
                 let FactResolver::Outcome(kept) = resolver else {
                     unreachable!();
                 };
                 resolve_named_case_1::<Result<u32, String>, ArchivedFact>(
-                    2,
+                    1,
                     a0,
                     kept,
                     Place::new(pos, bytes),
@@ -275,7 +243,7 @@ impl Archive for Fact {
                 };
                 let h0: VecAt<ArchivedFact> = VecAt::of(a0.len());
                 resolve_named_case_1::<VecAt<ArchivedFact>, ArchivedFact>(
-                    3,
+                    2,
                     &h0,
                     kept,
                     Place::new(pos, bytes),
@@ -301,10 +269,7 @@ impl Archive for Fact {
 
 // Writes what each of the values owns, in order.
 #[cycle(serialize_fact)]
-fn serialize_each_fact<S: Writer + Keys + ResolverAlloc>(
-    values: &[Fact],
-    serializer: &mut S,
-) -> Result<Vec<<Fact as Archive>::Resolver, S::Alloc>, Error>
+fn serialize_each_fact<S: Writer + Keys + ResolverAlloc>(values: &[Fact], serializer: &mut S) -> Result<Vec<<Fact as Archive>::Resolver, S::Alloc>, Error>
     ensures serialized { IfOk result (λ rs. SerializedRun fact_definitions fact_shape
         (length values.now) (each_keys ⟦<Fact as Archive>⟧.keys values.now)
         (each_meaning ⟦<Fact as Archive>⟧.meaning values.now)
@@ -332,10 +297,7 @@ fn serialize_each_fact<S: Writer + Keys + ResolverAlloc>(
 
 // Writes what a vector owns.
 #[cycle(serialize_fact)]
-fn serialize_vec_fact<S: Writer + Keys + ResolverAlloc>(
-    value: &Vec<Fact>,
-    serializer: &mut S,
-) -> Result<VecResolver, Error>
+fn serialize_vec_fact<S: Writer + Keys + ResolverAlloc>(value: &Vec<Fact>, serializer: &mut S) -> Result<VecResolver, Error>
     ensures serialized { IfOk result (λ r. Serialized fact_definitions (vec fact_shape)
         (⟦<Vec<Fact> as Archive>⟧.keys value.now) (⟦<Vec<Fact> as Archive>⟧.meaning value.now)
         (⟦<Vec<Fact> as Archive>⟧.flat value.now r) (S.state serializer.old)
@@ -393,31 +355,6 @@ fn serialize_fact_holds<S: Writer + Keys + ResolverAlloc>(
     Ok((a0, (a1, ())))
 }
 
-// Writes what the parts of `Due` own, in order.
-fn serialize_fact_due<S: Writer + Keys + ResolverAlloc>(
-    a0: &Option<(i32, u8)>,
-    serializer: &mut S,
-) -> Result<(<Option<(i32, u8)> as Archive>::Resolver, ()), Error>
-    ensures serialized { IfOk result (λ r. Serialized fact_definitions fact_shape
-        (⟦<Option<(i32, u8)> as Archive>⟧.keys a0.now ++ [])
-        (case 1 (value (⟦<Option<(i32, u8)> as Archive>⟧.meaning a0.now) no_value))
-        (case 1 (value (⟦<Option<(i32, u8)> as Archive>⟧.flat a0.now r.0) no_value))
-        (S.state serializer.old) (S.state serializer.new)) }
-    ensures same_values { IfOk result (λ r. ⟦<Option<(i32, u8)> as Archive>⟧.belongs a0.now r.0
-        × Unit {0}) }
-    ensures goes_on { GoesOn (S.state serializer.old) (S.state serializer.new) }
-    ensures refused { IfErr result (IsRefused fact_definitions fact_shape
-        (⟦<Option<(i32, u8)> as Archive>⟧.keys a0.now ++ [])
-        (case 1 (value (⟦<Option<(i32, u8)> as Archive>⟧.meaning a0.now) no_value))
-        (S.state serializer.old) (S.state serializer.new)) }
-{
-    let a0 = match serialize_part(a0, serializer) {
-        Ok(a0) => a0,
-        Err(error) => return Err(error),
-    };
-    Ok((a0, ()))
-}
-
 // Writes what the parts of `Outcome` own, in order.
 fn serialize_fact_outcome<S: Writer + Keys + ResolverAlloc>(
     a0: &Result<u32, String>,
@@ -425,15 +362,15 @@ fn serialize_fact_outcome<S: Writer + Keys + ResolverAlloc>(
 ) -> Result<(<Result<u32, String> as Archive>::Resolver, ()), Error>
     ensures serialized { IfOk result (λ r. Serialized fact_definitions fact_shape
         (⟦<Result<u32, String> as Archive>⟧.keys a0.now ++ [])
-        (case 2 (value (⟦<Result<u32, String> as Archive>⟧.meaning a0.now) no_value))
-        (case 2 (value (⟦<Result<u32, String> as Archive>⟧.flat a0.now r.0) no_value))
+        (case 1 (value (⟦<Result<u32, String> as Archive>⟧.meaning a0.now) no_value))
+        (case 1 (value (⟦<Result<u32, String> as Archive>⟧.flat a0.now r.0) no_value))
         (S.state serializer.old) (S.state serializer.new)) }
     ensures same_values { IfOk result (λ r. ⟦<Result<u32, String> as Archive>⟧.belongs a0.now r.0
         × Unit {0}) }
     ensures goes_on { GoesOn (S.state serializer.old) (S.state serializer.new) }
     ensures refused { IfErr result (IsRefused fact_definitions fact_shape
         (⟦<Result<u32, String> as Archive>⟧.keys a0.now ++ [])
-        (case 2 (value (⟦<Result<u32, String> as Archive>⟧.meaning a0.now) no_value))
+        (case 1 (value (⟦<Result<u32, String> as Archive>⟧.meaning a0.now) no_value))
         (S.state serializer.old) (S.state serializer.new)) }
 {
     let a0 = match serialize_part(a0, serializer) {
@@ -450,15 +387,15 @@ fn serialize_fact_facts<S: Writer + Keys + ResolverAlloc>(
     serializer: &mut S,
 ) -> Result<(VecResolver, ()), Error>
     ensures serialized { IfOk result (λ r. Serialized fact_definitions fact_shape
-        (⟦<Vec<Fact> as Archive>⟧.keys a0.now ++ []) (case 3
+        (⟦<Vec<Fact> as Archive>⟧.keys a0.now ++ []) (case 2
         (value (⟦<Vec<Fact> as Archive>⟧.meaning a0.now) no_value))
-        (case 3 (value (⟦<Vec<Fact> as Archive>⟧.flat a0.now r.0) no_value))
+        (case 2 (value (⟦<Vec<Fact> as Archive>⟧.flat a0.now r.0) no_value))
         (S.state serializer.old) (S.state serializer.new)) }
     ensures same_values { IfOk result (λ r. ⟦<Vec<Fact> as Archive>⟧.belongs a0.now r.0
         × Unit {0}) }
     ensures goes_on { GoesOn (S.state serializer.old) (S.state serializer.new) }
     ensures refused { IfErr result (IsRefused fact_definitions fact_shape
-        (⟦<Vec<Fact> as Archive>⟧.keys a0.now ++ []) (case 3
+        (⟦<Vec<Fact> as Archive>⟧.keys a0.now ++ []) (case 2
         (value (⟦<Vec<Fact> as Archive>⟧.meaning a0.now) no_value)) (S.state serializer.old)
         (S.state serializer.new)) }
 {
@@ -471,10 +408,7 @@ fn serialize_fact_facts<S: Writer + Keys + ResolverAlloc>(
 
 // Writes what a value owns.
 #[cycle(serialize_fact)]
-fn serialize_fact<S: Writer + Keys + ResolverAlloc>(
-    value: &Fact,
-    serializer: &mut S,
-) -> Result<FactResolver, Error>
+fn serialize_fact<S: Writer + Keys + ResolverAlloc>(value: &Fact, serializer: &mut S) -> Result<FactResolver, Error>
     ensures serialized { IfOk result (λ r. Serialized fact_definitions fact_shape
         (⟦<Fact as Archive>⟧.keys value.now) (⟦<Fact as Archive>⟧.meaning value.now)
         (⟦<Fact as Archive>⟧.flat value.now r) (S.state serializer.old) (S.state serializer.new)) }
@@ -487,10 +421,6 @@ fn serialize_fact<S: Writer + Keys + ResolverAlloc>(
     match value {
         Fact::Holds(a0, a1) => match serialize_fact_holds(a0, a1, serializer) {
             Ok(kept) => Ok(FactResolver::Holds(kept)),
-            Err(error) => Err(error),
-        },
-        Fact::Due(a0) => match serialize_fact_due(a0, serializer) {
-            Ok(kept) => Ok(FactResolver::Due(kept)),
             Err(error) => Err(error),
         },
         Fact::Outcome(a0) => match serialize_fact_outcome(a0, serializer) {
@@ -545,11 +475,7 @@ impl<S: Writer + Keys + ResolverAlloc> SerializeUnsized<S> for Fact {
 
 // Reads a vector back.
 #[cycle(read_fact)]
-fn read_vec_fact<D: Entries>(
-    alloc: Global,
-    part: RawView<'_>,
-    deserializer: &mut D,
-) -> Result<Vec<Fact>, Error>
+fn read_vec_fact<D: Entries>(alloc: Global, part: RawView<'_>, deserializer: &mut D) -> Result<Vec<Fact>, Error>
     requires { IsPartOf ⟦<ArchivedVec<ArchivedFact> as ArchivePointee>⟧ part }
     ensures read { IfOk result (Read ⟦<ArchivedVec<ArchivedFact> as ArchivePointee>⟧ part D.Entries
         deserializer ⟦<Vec<Fact> as Archive>⟧) }
@@ -568,11 +494,7 @@ fn read_vec_fact<D: Entries>(
 
 // Reads `Holds` back.
 #[inline(always)]
-fn read_fact_holds<D: Entries>(
-    alloc: Global,
-    part: RawView<'_>,
-    deserializer: &mut D,
-) -> Result<Fact, Error>
+fn read_fact_holds<D: Entries>(alloc: Global, part: RawView<'_>, deserializer: &mut D) -> Result<Fact, Error>
     requires viewed { IsPartOf ⟦<ArchivedFact as ArchivePointee>⟧ part }
     requires tag { part_tag part ≡ 0 }
     ensures read { IfOk result (Read ⟦<ArchivedFact as ArchivePointee>⟧ part D.Entries deserializer
@@ -587,13 +509,9 @@ fn read_fact_holds<D: Entries>(
     Ok(Fact::Holds(a0, a1))
 }
 
-// Reads `Due` back.
+// Reads `Outcome` back.
 #[inline(always)]
-fn read_fact_due<D: Entries>(
-    alloc: Global,
-    part: RawView<'_>,
-    deserializer: &mut D,
-) -> Result<Fact, Error>
+fn read_fact_outcome<D: Entries>(alloc: Global, part: RawView<'_>, deserializer: &mut D) -> Result<Fact, Error>
     requires viewed { IsPartOf ⟦<ArchivedFact as ArchivePointee>⟧ part }
     requires tag { part_tag part ≡ 1 }
     ensures read { IfOk result (Read ⟦<ArchivedFact as ArchivePointee>⟧ part D.Entries deserializer
@@ -601,33 +519,8 @@ fn read_fact_due<D: Entries>(
     ensures refused { IfErr result (RefusesPart ⟦<ArchivedFact as ArchivePointee>⟧ part D.Entries
         deserializer) }
 {
-    let p0 = part_of_variant::<ArchivedFact, ArchivedOption<ArchivedTuple2<ArchivedI32, u8>>>(
-        part, 1, 0, 4,
-    );
-    let a0 = read_part::<ArchivedOption<ArchivedTuple2<ArchivedI32, u8>>, Option<(i32, u8)>, D>(
-        alloc,
-        p0,
-        deserializer,
-    )?;
-    Ok(Fact::Due(a0))
-}
-
-// Reads `Outcome` back.
-#[inline(always)]
-fn read_fact_outcome<D: Entries>(
-    alloc: Global,
-    part: RawView<'_>,
-    deserializer: &mut D,
-) -> Result<Fact, Error>
-    requires viewed { IsPartOf ⟦<ArchivedFact as ArchivePointee>⟧ part }
-    requires tag { part_tag part ≡ 2 }
-    ensures read { IfOk result (Read ⟦<ArchivedFact as ArchivePointee>⟧ part D.Entries deserializer
-        ⟦<Fact as Archive>⟧) }
-    ensures refused { IfErr result (RefusesPart ⟦<ArchivedFact as ArchivePointee>⟧ part D.Entries
-        deserializer) }
-{
     let p0 = part_of_variant::<ArchivedFact, ArchivedResult<ArchivedU32, ArchivedString>>(
-        part, 2, 0, 4,
+        part, 1, 0, 4,
     );
     let a0 = read_part::<ArchivedResult<ArchivedU32, ArchivedString>, Result<u32, String>, D>(
         alloc,
@@ -639,30 +532,22 @@ fn read_fact_outcome<D: Entries>(
 
 // Reads `Facts` back.
 #[cycle(read_fact)]
-fn read_fact_facts<D: Entries>(
-    alloc: Global,
-    part: RawView<'_>,
-    deserializer: &mut D,
-) -> Result<Fact, Error>
+fn read_fact_facts<D: Entries>(alloc: Global, part: RawView<'_>, deserializer: &mut D) -> Result<Fact, Error>
     requires viewed { IsPartOf ⟦<ArchivedFact as ArchivePointee>⟧ part }
-    requires tag { part_tag part ≡ 3 }
+    requires tag { part_tag part ≡ 2 }
     ensures read { IfOk result (Read ⟦<ArchivedFact as ArchivePointee>⟧ part D.Entries deserializer
         ⟦<Fact as Archive>⟧) }
     ensures refused { IfErr result (RefusesPart ⟦<ArchivedFact as ArchivePointee>⟧ part D.Entries
         deserializer) }
 {
-    let p0 = part_of_variant::<ArchivedFact, ArchivedVec<ArchivedFact>>(part, 3, 0, 4);
+    let p0 = part_of_variant::<ArchivedFact, ArchivedVec<ArchivedFact>>(part, 2, 0, 4);
     let a0 = read_vec_fact(alloc, p0, deserializer)?;
     Ok(Fact::Facts(a0))
 }
 
 // Reads a value back.
 #[cycle(read_fact)]
-fn read_fact<D: Entries>(
-    alloc: Global,
-    part: RawView<'_>,
-    deserializer: &mut D,
-) -> Result<Fact, Error>
+fn read_fact<D: Entries>(alloc: Global, part: RawView<'_>, deserializer: &mut D) -> Result<Fact, Error>
     requires { IsPartOf ⟦<ArchivedFact as ArchivePointee>⟧ part }
     ensures read { IfOk result (Read ⟦<ArchivedFact as ArchivePointee>⟧ part D.Entries deserializer
         ⟦<Fact as Archive>⟧) }
@@ -671,8 +556,7 @@ fn read_fact<D: Entries>(
 {
     match tag_of_choice::<ArchivedFact>(part) {
         0 => read_fact_holds(alloc, part, deserializer),
-        1 => read_fact_due(alloc, part, deserializer),
-        2 => read_fact_outcome(alloc, part, deserializer),
+        1 => read_fact_outcome(alloc, part, deserializer),
         _ => read_fact_facts(alloc, part, deserializer),
     }
 }
@@ -699,8 +583,6 @@ impl<D: Entries> Deserialize<Fact, D> for ArchivedFact {
 pub enum ViewOfFact<'a> {
     /// Whether something holds; and nothing of when.
     Holds(Ref<'a, bool>, Ref<'a, ()>),
-    /// The day on which something is due, and the hour.
-    Due(Ref<'a, ArchivedOption<ArchivedTuple2<ArchivedI32, u8>>>),
     /// What came of something, or why nothing did.
     Outcome(Ref<'a, ArchivedResult<ArchivedU32, ArchivedString>>),
     /// All of these.
@@ -714,7 +596,7 @@ pub trait FactView<'a> {
 }
 
 impl<'a> FactView<'a> for Ref<'a, ArchivedFact> {
-    ghost use Rattle.recursive_kinds.specs.declared.fact.ViewOfFact.TheVariants.{Due as FactDueShown, Facts as FactFactsShown, Holds as FactHoldsShown, Outcome as FactOutcomeShown};
+    ghost use Rattle.recursive_kinds.specs.declared.fact.ViewOfFact.TheVariants.{Facts as FactFactsShown, Holds as FactHoldsShown, Outcome as FactOutcomeShown};
 
     fn variant(self) -> ViewOfFact<'a>
         ensures shows { elim result [
@@ -723,13 +605,10 @@ impl<'a> FactView<'a> for Ref<'a, ArchivedFact> {
               × ShowsValueOf a0 self.entry (payload_in 0) × (a1.bytes.now ≡ self.entry.bytes.now)
               × (a1.pos ≡ self.entry.pos + 2) × (a1.len ≡ 0)
               × ShowsValueOf a1 self.entry (payload_in 1)
-          | FactDueShown a0 ↦ (tag_of self.entry ≡ 1) × (a0.bytes.now ≡ self.entry.bytes.now)
+          | FactOutcomeShown a0 ↦ (tag_of self.entry ≡ 1) × (a0.bytes.now ≡ self.entry.bytes.now)
               × (a0.pos ≡ self.entry.pos + 4) × (a0.len ≡ 0)
               × ShowsValueOf a0 self.entry (payload_in 0)
-          | FactOutcomeShown a0 ↦ (tag_of self.entry ≡ 2) × (a0.bytes.now ≡ self.entry.bytes.now)
-              × (a0.pos ≡ self.entry.pos + 4) × (a0.len ≡ 0)
-              × ShowsValueOf a0 self.entry (payload_in 0)
-          | FactFactsShown a0 ↦ (tag_of self.entry ≡ 3) × (a0.bytes.now ≡ self.entry.bytes.now)
+          | FactFactsShown a0 ↦ (tag_of self.entry ≡ 2) × (a0.bytes.now ≡ self.entry.bytes.now)
               × (a0.pos ≡ self.entry.pos + 4) × (a0.len ≡ 0)
               × ShowsValueOf a0 self.entry (payload_in 0)
         ] }
@@ -741,21 +620,13 @@ impl<'a> FactView<'a> for Ref<'a, ArchivedFact> {
                 ViewOfFact::Holds(a0, a1)
             }
             1 => {
-                let a0 = view_of_payload::<
-                    ArchivedFact,
-                    ArchivedOption<ArchivedTuple2<ArchivedI32, u8>>,
-                >(self, 1, 0, 4);
-                ViewOfFact::Due(a0)
-            }
-            2 => {
-                let a0 = view_of_payload::<
-                    ArchivedFact,
-                    ArchivedResult<ArchivedU32, ArchivedString>,
-                >(self, 2, 0, 4);
+                let a0 = view_of_payload::<ArchivedFact, ArchivedResult<ArchivedU32, ArchivedString>>(
+                    self, 1, 0, 4,
+                );
                 ViewOfFact::Outcome(a0)
             }
             _ => {
-                let a0 = view_of_payload::<ArchivedFact, ArchivedVec<ArchivedFact>>(self, 3, 0, 4);
+                let a0 = view_of_payload::<ArchivedFact, ArchivedVec<ArchivedFact>>(self, 2, 0, 4);
                 ViewOfFact::Facts(a0)
             }
         }
@@ -780,20 +651,15 @@ pub trait FactSeal<'a> {
         requires come_to { sealed self }
         requires tag { tag self ≡ 0 };
 
-    /// The field `0` of `Due`.
-    fn due_0_mut(self) -> Seal<'a, ArchivedOption<ArchivedTuple2<ArchivedI32, u8>>>
-        requires come_to { sealed self }
-        requires tag { tag self ≡ 1 };
-
     /// The field `0` of `Outcome`.
     fn outcome_0_mut(self) -> Seal<'a, ArchivedResult<ArchivedU32, ArchivedString>>
         requires come_to { sealed self }
-        requires tag { tag self ≡ 2 };
+        requires tag { tag self ≡ 1 };
 
     /// The field `0` of `Facts`.
     fn facts_0_mut(self) -> Seal<'a, ArchivedVec<ArchivedFact>>
         requires come_to { sealed self }
-        requires tag { tag self ≡ 3 };
+        requires tag { tag self ≡ 2 };
 }
 
 impl<'a> FactSeal<'a> for Seal<'a, ArchivedFact> {
@@ -819,38 +685,27 @@ impl<'a> FactSeal<'a> for Seal<'a, ArchivedFact> {
         seal_of_payload::<ArchivedFact, ()>(self, 0, 1, 2)
     }
 
-    fn due_0_mut(self) -> Seal<'a, ArchivedOption<ArchivedTuple2<ArchivedI32, u8>>>
-        requires come_to { IsSealOf fact_definitions (one ⟦<ArchivedFact as Portable>⟧.shape) self }
-        requires tag { seal_tag self ≡ 1 }
-        ensures { SealsPart fact_definitions (one ⟦<ArchivedFact as Portable>⟧.shape)
-            (both no_definition (both no_definition no_definition))
-            ⟦<ArchivedOption<ArchivedTuple2<ArchivedI32, u8>> as ArchivePointee>⟧.pointee
-            (self.entry.pos + 4) 0 self.entry result }
-    {
-        seal_of_payload::<ArchivedFact, ArchivedOption<ArchivedTuple2<ArchivedI32, u8>>>(
-            self, 1, 0, 4,
-        )
-    }
-
     fn outcome_0_mut(self) -> Seal<'a, ArchivedResult<ArchivedU32, ArchivedString>>
         requires come_to { IsSealOf fact_definitions (one ⟦<ArchivedFact as Portable>⟧.shape) self }
-        requires tag { seal_tag self ≡ 2 }
+        requires tag { seal_tag self ≡ 1 }
         ensures { SealsPart fact_definitions (one ⟦<ArchivedFact as Portable>⟧.shape)
             (both no_definition no_definition)
             ⟦<ArchivedResult<ArchivedU32, ArchivedString> as ArchivePointee>⟧.pointee
             (self.entry.pos + 4) 0 self.entry result }
     {
-        seal_of_payload::<ArchivedFact, ArchivedResult<ArchivedU32, ArchivedString>>(self, 2, 0, 4)
+        seal_of_payload::<ArchivedFact, ArchivedResult<ArchivedU32, ArchivedString>>(
+            self, 1, 0, 4,
+        )
     }
 
     fn facts_0_mut(self) -> Seal<'a, ArchivedVec<ArchivedFact>>
         requires come_to { IsSealOf fact_definitions (one ⟦<ArchivedFact as Portable>⟧.shape) self }
-        requires tag { seal_tag self ≡ 3 }
+        requires tag { seal_tag self ≡ 2 }
         ensures { SealsPart fact_definitions (one ⟦<ArchivedFact as Portable>⟧.shape)
             ⟦<ArchivedFact as ArchivePointee>⟧.definitions
             ⟦<ArchivedVec<ArchivedFact> as ArchivePointee>⟧.pointee (self.entry.pos + 4) 0
             self.entry result }
     {
-        seal_of_payload::<ArchivedFact, ArchivedVec<ArchivedFact>>(self, 3, 0, 4)
+        seal_of_payload::<ArchivedFact, ArchivedVec<ArchivedFact>>(self, 2, 0, 4)
     }
 }

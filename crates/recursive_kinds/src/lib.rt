@@ -5,4 +5,3 @@ pub mod bush;
 pub mod fact;
 pub mod knot;
 pub mod note;
-pub mod rule;
