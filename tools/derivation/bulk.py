@@ -1,4 +1,4 @@
-"""Structs whose slices are written in bulk: they derive `Copy`, and each value has the same bytes wherever it is archived, with no padding among them.
+"""Structs whose slices are written in bulk: each value has the same bytes wherever it is archived, with no padding among them.
 
 `archive_core::fields::copy_4` and its kin copy the fields one behind another; two short proofs are written beside the module.
 """
@@ -21,7 +21,7 @@ def is_copied(formats, type):
 
 def is_in_bulk(formats, declaration):
     """Whether those of a declared type are."""
-    if declaration.kind != "struct" or declaration.as_tuple or declaration.recursive or "Copy" not in declaration.derives:
+    if declaration.kind != "struct" or declaration.as_tuple or declaration.recursive:
         return False
     types = [field.type for field in declaration.fields]
     if not 0 < len(types) <= MOST_FIELDS or not all(is_copied(formats, type) for type in types):

@@ -51,7 +51,7 @@ class Terms:
         self.formats = formats
 
     def call(self, name, *arguments):
-        self.formats.ghost("ComparedLeaves" if name in OF_LEAVES else "ComparedTypes", name)
+        self.formats.ghost("ComparedLeaves" if name in OF_LEAVES else "ComparedUnits" if name == "units_compared" else "ComparedTypes", name)
         return f"({name} {' '.join(arguments)})" if arguments else name
 
     def laid(self, type):
@@ -116,11 +116,13 @@ class Terms:
     def record(self, types):
         return self.call("record_compared", self.fields(types), "refl")
 
-    def choice(self, name, lists):
-        out = self.call("no_case_compared")
-        for types in reversed(lists):
-            out = self.call("case_compared", self.fields(types), out)
-        return self.call("choice_compared", name, out, "refl")
+    def choice(self, name, units):
+        cases = units.folded(
+            lambda count, others: self.call("units_compared", str(count), others),
+            lambda case, others: self.call("case_compared", self.fields(case.types), others),
+            self.call("no_case_compared"),
+        )
+        return self.call("choice_compared", name, cases, "refl")
 
 
 OF_LEAVES = {f"{sign}{which}_compared" for sign in ("unsigned", "signed") for which in ("", "_non_zero")} | {"char_compared", "bool_compared"}
@@ -140,7 +142,7 @@ def choice(source):
     """The impl for an enum, where its views are compared."""
     if not is_compared(source.declaration):
         return ""
-    laws = Terms(source.formats).choice(f'(codes "{source.archived}")', [case.types for case in source.cases])
+    laws = Terms(source.formats).choice(f'(codes "{source.archived}")', source.units)
     nest = f"⟦<{source.name}Variants as ComparedCases>⟧"
     source.formats.use("archive_core::compared", "ComparedCases", "compare_choice", "hash_choice")
     source.formats.ghost("ComparedCases", "choice_order", "choice_fed")

@@ -216,7 +216,7 @@ class Loads:
         return self.of_fields(types, self.go_by_fours(types))
 
     def of_variants(self, variants):
-        """`PortableVariants`, of an enum with these fields in its variants."""
+        """`PortableVariants`, of an enum with these fields in its variants: those without fields that are written together count as one."""
         checks = [self.checked(types) for types in variants]
         return sum(2 + self.parts(types, self.go_by_fours(types)) + sum(checks[i:]) for i, types in enumerate(variants))
 

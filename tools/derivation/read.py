@@ -14,6 +14,7 @@ from .model import Declaration, Field, Module, Refused, Type
 from .names import ALIASES, FLOATS, LIBRARY, PRIMITIVES, STD, STD_MODULES, Found, Source, World
 from .parse import Declared
 from .items import number_of
+from .units import go_together
 
 MOST_FIELDS = 16
 # Of a type that is archived as a tuple with names.
@@ -419,10 +420,13 @@ def check_load(module: Module, loads: Loads, fields: List[Field]):
 
 def check_variants(module: Module, loads: Loads, it: Declaration):
     """Refuses the first variant with which there is too much in an enum."""
+    together = go_together(it)
     types = []
-    for count, v in enumerate(it.variants, 1):
-        types.append([field.type for field in v.fields])
-        if count + len(v.fields) > DEEPEST or loads.of_variants(types) > MOST_OF_VARIANTS:
+    for v in it.variants:
+        fields = [field.type for field in v.fields]
+        if fields or not together or not types or types[-1]:
+            types.append(fields)
+        if len(types) + len(fields) > DEEPEST or loads.of_variants(types) > MOST_OF_VARIANTS:
             recursive, own = ("the recursive ", "another file") if it.recursive else ("", "their own")
             raise Refused(module.path, v.line, f"{recursive}`{it.name}` has more variants up to here than the toolchain follows; put some into an enum of {own}")
 

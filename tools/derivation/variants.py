@@ -23,6 +23,7 @@ from .layout import Generic, Group, WIDTH, ended, flat, implementation, lay, lit
 from .loads import Loads
 from .long import is_long, lent, nest
 from .made import WRITTEN, Made
+from .units import Units
 
 
 class Case:
@@ -76,9 +77,10 @@ class Choice(Source):
         self.align = max(case.align for case in self.cases)
         self.span = max(case.end for case in self.cases)
         self.size = -(-self.span // self.align) * self.align
-        self.variants = chain("variant", [case.parts for case in self.cases], "no_variant")
+        self.units = Units(self)
+        self.variants = self.units.shapes()
         self.shape = f'choice (codes "{self.archived}") {self.variants}'
-        self.defined = chain("both", [case.defined for case in self.cases], "no_definition")
+        self.defined = self.units.definitions()
 
     def brought(self, **of):
         """The lines of an impl that bring in variants, by what their names end in. Within the impl, since at the head of the file they may go in a circle."""
@@ -86,7 +88,7 @@ class Choice(Source):
         lines = ""
         for suffix, path in of.items():
             suffix = "" if suffix == "own" else suffix
-            names = sorted(f"{case.name} as {case.word}{suffix}" for case in self.cases)
+            names = sorted(f"{name} as {word}{suffix}" for name, word in (self.units.kept() if suffix == "Kept" else [(it.name, it.word) for it in self.cases]))
             lines += f"    ghost use Rattle.{declared}.{path}.TheVariants.{{{', '.join(names)}}};\n"
         return lines + "\n"
 
@@ -97,7 +99,7 @@ class Choice(Source):
     def kept(self, case, yes, no):
         """By a resolver that has to be of the same variant."""
         bound = f"{case.word}Kept s" if case.count else f"{case.word}Kept"
-        other = f" | _ ↦ {no}" if len(self.cases) > 1 else ""
+        other = f" | _ ↦ {no}" if self.units.kept_count() > 1 else ""
         return f"elim r [ {bound} ↦ {yes}{other} ]"
 
 
@@ -114,6 +116,7 @@ def text(formats, declaration):
         check_of(choice),
         is_choice(choice),
         resolver(choice),
+        choice.units.tag(),
         archive(choice),
         serialize(choice),
         region(choice),
@@ -133,8 +136,7 @@ def enum(choice):
         if case.count:
             lines.append(statement(0, f"type {case.word}Parts = ", nest(case.archived, case.by_fours), ";"))
             lines.append(statement(0, f"type {case.word}Owned = ", nest(case.read, case.by_fours), ";"))
-    parts = [f"{case.word}Parts" if case.count else "()" for case in choice.cases]
-    lines.append(statement(0, f"type {choice.name}Variants = ", pair(parts), ";"))
+    lines.append(statement(0, f"type {choice.name}Variants = ", choice.units.nest(), ";"))
     return f"""/// An archived `{choice.name}`: {choice.size} bytes at a multiple of {choice.align}.
 {choice.visibility}struct {choice.archived};
 
@@ -166,8 +168,8 @@ def is_choice(choice):
 
 
 def resolver(choice):
-    lines = []
-    for case in choice.cases:
+    lines = choice.units.resolver()
+    for case in choice.units.apart():
         kept = pair([f"<{rust} as Archive>::Resolver" for rust in case.rust])
         doc = f"    /// Of `{case.name}`.\n"
         lines.append(doc + (statement(4, "", Group(f"{case.name}(", [kept], ")"), ",") if case.count else f"    {case.name},\n"))
@@ -197,6 +199,8 @@ def archive(choice):
         return infix("++", [f"{q}.keys {a}" for q, a in zip(case.sources, case.binders)], "[]")
 
     def belongs(case):
+        if choice.units.has(case):
+            return "Unit {0}"
         those = [f"{q}.belongs {a} s{'.1' * i}.0" for i, (q, a) in enumerate(zip(case.sources, case.binders))]
         return choice.kept(case, infix("×", those, "Unit {0}"), "⊥")
 
@@ -210,7 +214,7 @@ def archive(choice):
             out = f"(part_planned {f.definitions(type)} {f.shape(type)} ({q}.keys {a}) ({q}.meaning {a}) {f.planned(type, a)} {out})"
         return f"plain_variant_planned _ _ {case.tag} {case.parts} refl {case.defined} _ _ {out} refl"
 
-    arms = "".join(resolve_arm(choice, case) for case in choice.cases)
+    arms = "".join(resolve_arm(choice, case) for case in choice.units.apart()) + choice.units.resolve_arm()
     laws = (choice.elim("", keyed), choice.elim("", planned))
     told, calls = in_turn(f)
     brought = (f.law_lines() + choice.brought(own=choice.name, Kept=choice.resolver)).replace("\n\n    ghost", "\n    ghost")
@@ -234,9 +238,7 @@ def archive(choice):
 
 {resolve_head(choice)}    {{
         let Place {{ bytes, pos, .. }} = place;
-        match self {{
-{arms}        }}
-    }}
+{choice.units.matched("self", arms)}    }}
 
 {calls}}}
 """
@@ -254,7 +256,7 @@ def resolve_arm(choice, case):
             return one
         return f"            {pattern} => {{\n{statement(16, '', call, '')}            }}\n"
     opened = f"let {choice.resolver}::{case.name}(kept) = resolver"
-    other = " else {\n                    unreachable!();\n                }" if len(choice.cases) > 1 else ""
+    other = " else {\n                    unreachable!();\n                }" if choice.units.kept_count() > 1 else ""
     return f"""            {pattern} => {{
                 {opened}{other};
 {taken_apart(choice.formats, case.types, 16)}{lending(case, 16)}{statement(16, "", call, "")}            }}
@@ -287,18 +289,17 @@ def match_arm(pattern, call, values, made, first=""):
 def serialize(choice):
     bound = choice.formats.writer_bound(choice.all_types)
     arms = []
-    for case in choice.cases:
+    for case in choice.units.apart():
         call = Generic(f"serialize_case_{case.count}", case.rust + [choice.archived, "S"], [str(case.tag)] + case.names + ["serializer"])
         if case.is_long:
             call = Generic("serialize_case", [f"{case.word}Lent<'_>", f"{case.word}Fields", choice.archived, "S"], [str(case.tag), "&lent", "serializer"])
         made = f"{choice.resolver}::{case.name}" + ("(kept)" if case.count else "")
         arms.append(match_arm(case.pattern(), call, "kept" if case.count else "()", made, lending(case, 16)))
+    arms += choice.units.serialize_arm(match_arm)
     return f"""{implementation([f"S: {bound}"], "Serialize", ["S"], choice.name)}
     #[inline(always)]
     fn serialize(&self, serializer: &mut S) -> Result<Self::Resolver, Error> {{
-        match self {{
-{"".join(arms)}        }}
-    }}
+{choice.units.matched("self", "".join(arms))}    }}
 }}
 """
 
@@ -307,16 +308,17 @@ def read(choice):
     f = choice.formats
     f.use("archive_core::fields", "known_tag", "read_case")
     arms = []
-    for case in choice.cases:
+    for case in choice.units.apart():
         its = [f"{case.word}Parts", f"{case.word}Owned"] if case.count else ["()", "()"]
         call = Generic("read_case", ["Self"] + its + ["D"], [str(case.tag), "alloc", "part", "deserializer"])
-        tag = "_" if case is choice.cases[-1] else str(case.tag)
+        tag = "_" if case is choice.cases[-1] and not choice.units.are else str(case.tag)
         if case.by_fours:
             arms.append(match_arm(tag, call, "values", f"{made_of(case).name}(values)"))
         else:
             arms.append(match_arm(tag, call, flat(pair(case.names)), case.built()))
-    made = "".join(f"{made_of(case).text(case.names, case.built())}\n" for case in choice.cases if case.by_fours)
-    return made + deserialize(choice, f"        match known_tag::<Self>(part) {{\n{''.join(arms)}        }}\n")
+    arms += choice.units.read_arm()
+    made = "".join(f"{made_of(case).text(case.names, case.built())}\n" for case in choice.cases if case.by_fours) + choice.units.made()
+    return made + deserialize(choice, choice.units.matched("known_tag::<Self>(part)", "".join(arms)))
 
 
 def made_of(case):
@@ -337,35 +339,48 @@ def proofs(formats, declaration):
         answers = made and made.answers(dotted)
         if answers:
             out[f"proofs/{module}/{made.name}/Answers.antt"] = answers
-    if any(case.is_long for case in choice.cases):
+    if choice.units.are or any(case.is_long for case in choice.cases):
         out[f"proofs/{module}/{choice.name}Archive/resolve/Answers.antt"] = resolve_answers(choice, dotted)
         out[f"proofs/{module}/{choice.name}Serialize/serialize/Answers.antt"] = serialize_answers(choice, dotted)
     return out
 
 
 def serialize_answers(choice, dotted):
-    """The proof that the variant that is lent is serialized as it means."""
-    long = next(case for case in choice.cases if case.is_long)
-    its = "c.in-Ok-serialize_case"
+    """The proof that the variant that is lent is serialized as it means, and that one without fields is among many."""
+    longs = "".join(lent_serialized(case) for case in choice.cases if case.is_long)
+    brought, of_units = choice.units.serialize_answers(dotted) if choice.units.are else ("", "")
+    rules = "use Rattle.std.proofs.Common.{rules}\n" if longs else ""
     return f"""-- {WRITTEN}
-use Rattle.std.proofs.Common.{{rules}}
-use Rattle.{dotted}.{choice.name}Serialize.serialize.Goals as goal
+{rules}{brought}use Rattle.{dotted}.{choice.name}Serialize.serialize.Goals as goal
+{longs}{of_units}"""
 
+
+def lent_serialized(case):
+    its = "c.in-Ok-serialize_case"
+    return f"""
 pub returns-in-Ok-serialize_case : goal.returns-in-Ok-serialize_case
-returns-in-Ok-serialize_case g c = rw (c.in-{long.name}.is) record {{ serialized = {its}.ensures.serialized; same_value = {its}.ensures.same_value; goes_on = c.serialize_case.ensures.goes_on; refused = search rules }}
+returns-in-Ok-serialize_case g c = rw (c.in-{case.name}.is) record {{ serialized = {its}.ensures.serialized; same_value = {its}.ensures.same_value; goes_on = c.serialize_case.ensures.goes_on; refused = search rules }}
 """
 
 
 def resolve_answers(choice, dotted):
     """The proof that each variant is resolved as it is flat: of one that is lent the search doesn't find it."""
-    steps = [f"in-{case.name}+in-{case.name}-resolver" if case.count else f"in-{case.name}" for case in choice.cases]
-    found = ["grind (w.resolve_case.ensures, w.bytes-is, w.result-is, rules)" if case.is_long else "search rules" for case in choice.cases]
+    goals = f"Rattle.{dotted}.{choice.name}Archive.resolve.Goals"
+    brought, of_units = choice.units.resolve_answers(dotted) if choice.units.are else ("", "")
+    if not any(case.is_long for case in choice.cases):
+        return f"-- {WRITTEN}\n{brought}use {goals} as goal\n{of_units}"
+    apart = choice.units.apart()
+    steps = [f"in-{case.name}+in-{case.name}-resolver" if case.count else f"in-{case.name}" for case in apart]
+    found = ["grind (w.resolve_case.ensures, w.bytes-is, w.result-is, rules)" if case.is_long else "search rules" for case in apart]
+    if choice.units.are:
+        steps.append("in_default")
+        found.append("search rules")
     arms = " | ".join(f"{step} w ↦ {how}" for step, how in zip(steps, found))
     return f"""-- {WRITTEN}
 use Rattle.std.proofs.Common.{{rules}}
-use Rattle.{dotted}.{choice.name}Archive.resolve.Goals.{{{', '.join(steps)}}}
-use Rattle.{dotted}.{choice.name}Archive.resolve.Goals as goal
-
+{brought}use {goals}.{{{', '.join(steps)}}}
+use {goals} as goal
+{of_units}
 pub returns : goal.returns
 returns c = elim c.match-self.branch [ {arms} ]
 """

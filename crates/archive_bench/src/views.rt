@@ -3,18 +3,15 @@
 ghost use Rattle.std.specs.Prelude.{◌≡◌};
 
 use archive_core::api::access;
-use archive_core::primitive::ArchivedU32;
 use archive_core::slice::ArchivedSlice;
-use archive_core::string::ArchivedString;
 use archive_core::vec::ArchivedVec;
 use archive_core::view::Ref;
-use bench_sets::sets::ArchivedRow;
+use bench_sets::records::{ArchivedRow, RowView};
 use std::alloc::Global;
 
 // The lengths of a row's name and of its list.
 fn lengths(row: Ref<'_, ArchivedRow>) -> usize {
-    let name = row.field::<ArchivedString>(1).as_str().len();
-    name.wrapping_add(row.field::<ArchivedVec<ArchivedU32>>(2).len())
+    row.name().as_str().len().wrapping_add(row.values().len())
 }
 
 // The same of these rows.

@@ -2,7 +2,7 @@
 use Rattle.std.specs.Prelude.{◌≡◌, ◌≢◌, ◌⊎◌, ℕ, [], ◌∷◌, ◌++◌, Some, Contains}
 use Rattle.archive_check.specs.declared.format.error.Error.{Error}
 use Rattle.archive_check.specs.declared.format.error.Error.TheVariants.{OutOfMemory, ShapeConflict}
-use Rattle.archive_check.specs.Shape.{Name, Shape, parts, choice, Parts, Variants, Table, definition}
+use Rattle.archive_check.specs.Shape.{Name, Shape, Table, definition}
 use Rattle.archive_check.specs.Layout.{Layout, layout}
 use Rattle.archive_check.specs.Defined.{HeldIn, Involves}
 use Rattle.archive_check.specs.Reads.{SchemaTable, LaidOut}
@@ -41,13 +41,6 @@ pub record Conflicts (old : Table) (D : Definitions) : Type 0 where
 -- Why definitions aren't added to a table: memory was refused, or they conflict.
 abbrev pub ExplainsConflict : Table → Definitions → Error → Type 0
 ExplainsConflict old D e = (e ≡ OutOfMemory) ⊎ ((e ≡ ShapeConflict) × Conflicts old D)
-
--- The definition of a record under a name, and those that its parts bring; likewise of a choice.
-abbrev pub named_record : Name → Parts → Definitions → Definitions
-named_record name ps D = both (defines name (parts ps)) D
-
-abbrev pub named_choice : Name → Variants → Definitions → Definitions
-named_choice name vs D = both (defines name (choice name vs)) D
 
 -- The schema has each of these definitions.
 abbrev pub Has : SchemaTable → Definitions → Type 0

@@ -21,7 +21,7 @@ use Rattle.archive_check.proofs.Maps.NoKeySealed.{come_to_free}
 use Rattle.archive_check.proofs.Tours.RegionsApart.{bytes_few}
 use Rattle.archive_types.specs.Sealed.{Encodes, leaf_at, text_begin, string_leaf}
 use Rattle.archive_types.proofs.Viewing.Shown.{leaf_shown, text_shown, string_shown}
-use Rattle.archive_types.proofs.Viewing.StandingLeaves.{leaf_stands, text_stands, string_stands}
+use Rattle.archive_inspect.proofs.StandingLeaves.{leaf_stands, text_stands, string_stands}
 use Rattle.archive_core.specs.SealsKept.{IsFreeIn}
 use Rattle.archive_core.specs.SealsWritten.{WritesNumber, WritesText, WritesString, string_edit}
 use Rattle.archive_core.proofs.SealedParts.{text_comes}

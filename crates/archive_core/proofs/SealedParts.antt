@@ -21,7 +21,7 @@ use Rattle.archive_check.proofs.Viewing.ViewedVariants.{case_begins}
 use Rattle.archive_types.proofs.Reading.ReadRecords.{record_within}
 use Rattle.archive_types.proofs.SharedValues.SharedViews.{shared_hole, weak_hole}
 use Rattle.archive_types.proofs.Viewing.PartsShown.{box_has}
-use Rattle.archive_types.proofs.Viewing.StandingLeaves.{out_is}
+use Rattle.archive_inspect.proofs.StandingLeaves.{out_is}
 use Rattle.archive_types.specs.Members.KnownParts.{KnowsAlso}
 use Rattle.archive_types.specs.Standing.{View, view}
 use Rattle.archive_core.specs.SealsKept.{ComesWith}

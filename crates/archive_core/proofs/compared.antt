@@ -1,2 +1,3 @@
 -- Lemmas on variants that are viewed, by their tags.
 pub mod CasesViewed
+pub mod UnitsCompared

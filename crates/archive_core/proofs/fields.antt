@@ -7,3 +7,4 @@ pub mod Shown
 pub mod ShownFields
 pub mod Ties
 pub mod Viewing
+pub mod AmongUnits

@@ -3,6 +3,7 @@ pub mod ComparedFields
 pub mod ComparedCases
 pub mod ComparedTypes
 pub mod ComparedLeaves
+pub mod ComparedUnits
 pub use Rattle.archive_check.specs.Definitions
 pub use Rattle.archive_check.specs.Shape
 pub use Rattle.archive_core.specs.fields.Plain

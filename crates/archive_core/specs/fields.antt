@@ -4,3 +4,4 @@ pub mod FieldsAt
 pub mod Front
 pub mod OwnChoices
 pub mod Plain
+pub mod Units

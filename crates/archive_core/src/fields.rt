@@ -13,6 +13,7 @@ mod resolve_record_few;
 mod serialize_case_few;
 mod serialize_few;
 mod serialize_record_few;
+mod units;
 mod variants;
 
 pub use copy_few::{copy_1, copy_2, copy_3, copy_4, copy_5, copy_6, copy_7, copy_8};
@@ -45,4 +46,5 @@ pub use serialize_record_few::{
     serialize_record_4, serialize_record_5, serialize_record_6, serialize_record_7,
     serialize_record_8,
 };
+pub use units::UnitVariants;
 pub use variants::{known_tag, part_in_case, read_case, resolve_case, serialize_case, tag_in};

@@ -14,6 +14,7 @@ pub mod view;
 
 pub use archive_check::format::error;
 pub use archive_check::{context as validation, laws, self_check};
+pub use archive_inspect as inspect;
 pub use archive_schema::shape;
 pub use archive_types::{
     array, boxed, choice, compare, map, option, parts, place, primitive, record, rel_ptr, result,

@@ -8,6 +8,7 @@ pub mod LeavesMatched
 pub mod Opened
 pub mod Refused
 pub mod Searched
+pub mod StandingLeaves
 pub mod Variants
 pub mod WayParts
 pub mod WaySteps

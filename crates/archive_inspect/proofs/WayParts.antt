@@ -13,7 +13,7 @@ use Rattle.archive_check.proofs.Editing.Texts.{inline_bytes}
 use Rattle.archive_check.proofs.Maps.Entries.{key_at, value_at}
 use Rattle.archive_check.proofs.Meanings.ReachedParts.{LeadsInto, Closed, part_of_reads, accepted_closed, part_within, part_element}
 use Rattle.archive_check.proofs.Tours.ReadingUnique.{pos_one}
-use Rattle.archive_types.proofs.Viewing.StandingLeaves.{leaf_stands, text_stands}
+use Rattle.archive_inspect.proofs.StandingLeaves.{leaf_stands, text_stands}
 use Rattle.archive_inspect.specs.Ways.{WayEnd, a_value, a_payload, a_text, IsPartNumbered, numbered_first, numbered_later, PointsBy, points_box, points_vec, points_map, points_string, points_shared, points_weak, StepsTo, steps_part, steps_variant, steps_payload, steps_only, steps_array, steps_element, steps_target, steps_text, steps_key, steps_value, LeadsBy, leads_root, leads_named, leads_on}
 
 module _ (s : SchemaTable) (bytes : List ℕ) where

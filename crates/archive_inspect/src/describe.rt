@@ -305,7 +305,8 @@ fn is_archive(alloc: Global, form: &Form, bytes: &[u8]) -> Result<bool, AllocErr
 }
 
 /// What lies in the bytes of an archive of the form, whose root lies at their end: in order of
-/// position, with what is unused between. `None` if the bytes aren't one. Fails if memory from
+/// position, with what is unused between. `None` if the bytes aren't one. Takes memory for each
+/// piece: `Walker::by_position` goes over the same pieces, and keeps none. Fails if memory from
 /// `alloc` is refused.
 pub fn describe<'a>(
     alloc: Global,

@@ -51,25 +51,20 @@ impl fmt::Display for Explanation {
     }
 }
 
-/// Why the bytes are no archive of the form whose root lies at their end: `None` if they are one.
-/// The error is that of the check. Takes memory for each level, and for each shared position. Fails
-/// if memory from `alloc` is refused.
-pub fn explain(alloc: Global, form: &Form, bytes: &[u8]) -> Result<Option<Explanation>, AllocError>
-    ensures { IfOk result (ExplainsWhole form.now bytes.now) }
-{
-    let answer = form.schema().check_archive(alloc, bytes);
-    let root = form.schema().root_position(bytes.len());
-    explained(alloc, form, bytes, root, answer)
-}
-
 /// Why the bytes are no archive of a `T` whose root lies at their end: `None` if they are one. The
-/// error is that of `access`. Parts and variants have numbers for names in the way: `explain_by`
-/// has their names.
+/// error is that of `access`. Takes memory for each level, and for each shared position. Parts and
+/// variants have numbers for names in the way: `explain_by` has their names.
+///
+/// ```
+/// if let Some(explanation) = explain::<ArchivedVec<ArchivedBool>>(alloc, bytes.as_slice())? {
+///     println!(rt; "{explanation}")?;     // at [1], byte 1: the bool is 0x07, neither 0 nor 1
+/// }
+/// ```
 ///
 /// Errors:
 /// - `OutOfMemory`: memory from `alloc` is refused.
 /// - `ShapeConflict`, `RecursiveLayout`: the definitions of `T` have no meaning.
-pub fn explain_as<T: Portable>(alloc: Global, bytes: &[u8]) -> Result<Option<Explanation>, Error>
+pub fn explain<T: Portable>(alloc: Global, bytes: &[u8]) -> Result<Option<Explanation>, Error>
     ensures explained { IfOk result (ExplainsBuffer T.definitions bytes.now
         (root_in bytes.now T.layout) T.shape) }
     ensures refused { IfErr result (λ e. ExplainsNoSchema T.shape T.definitions e) }
@@ -82,7 +77,7 @@ pub fn explain_as<T: Portable>(alloc: Global, bytes: &[u8]) -> Result<Option<Exp
 /// The text's root, which is its last type if it names no other, must be `T`, else the way has
 /// numbers.
 ///
-/// Errors: as `explain_as` has them.
+/// Errors: as `explain` has them.
 pub fn explain_by<T: Portable>(
     alloc: Global,
     text: &str,
@@ -98,6 +93,19 @@ pub fn explain_by<T: Portable>(
         Err(error) if error.is_out_of_memory() => Err(Error::OutOfMemory),
         Err(_) => explained_as::<T>(alloc, form, bytes),
     }
+}
+
+/// The same of the form, with its names. Fails if memory from `alloc` is refused.
+pub fn explain_with(
+    alloc: Global,
+    form: &Form,
+    bytes: &[u8],
+) -> Result<Option<Explanation>, AllocError>
+    ensures { IfOk result (ExplainsWhole form.now bytes.now) }
+{
+    let answer = form.schema().check_archive(alloc, bytes);
+    let root = form.schema().root_position(bytes.len());
+    explained(alloc, form, bytes, root, answer)
 }
 
 // What is explained by a form of `T`.

@@ -20,9 +20,11 @@ use tokens::tokens_of;
 
 /// The form that a text writes: the definitions of structs and enums in any order, and then the
 /// root; without one the last definition is the root. Attributes, comments, `pub` and lines of
-/// `use` are skipped, and so is what `tools/derive` wrote. Memory comes from `alloc`; the names of
-/// types, fields and variants are kept until the program ends.
+/// `use` are skipped, and so are a byte order mark at the start and what `tools/derive` wrote.
+/// Memory comes from `alloc`; the names of types, fields and variants are kept until the program
+/// ends.
 pub fn parse(alloc: Global, text: &str) -> Result<Form, SchemaError> {
+    let text = text.strip_prefix('\u{feff}').unwrap_or(text);
     match read(alloc, text.as_bytes()) {
         Ok(form) => Ok(form),
         Err(wrong) => Err(wrong.located(text.as_bytes())),

@@ -132,6 +132,10 @@ pub struct Walker<'a> {
     met: BTreeMap<i128, Met<'a>>,
     // Whether elements of which all bytes are legal are passed at once.
     quick: bool,
+    // Whether each region is gone through again, once all that it leads to has been.
+    twice: bool,
+    // Whether the innermost region is gone through again, so that its pointers aren't followed.
+    again: bool,
 }
 
 impl<'a> Walker<'a> {
@@ -147,6 +151,8 @@ impl<'a> Walker<'a> {
             stop: bytes.len() as i128,
             met: BTreeMap::new(alloc),
             quick: false,
+            twice: false,
+            again: false,
         }
     }
 
@@ -154,6 +160,13 @@ impl<'a> Walker<'a> {
     pub fn quick(alloc: Global, form: &'a Form, bytes: &'a [u8]) -> Walker<'a> {
         let mut walk = Walker::new(alloc, form, bytes);
         walk.quick = true;
+        walk
+    }
+
+    /// A walk for `next_part`.
+    pub fn by_position(alloc: Global, form: &'a Form, bytes: &'a [u8]) -> Walker<'a> {
+        let mut walk = Walker::new(alloc, form, bytes);
+        walk.twice = true;
         walk
     }
 
@@ -170,8 +183,9 @@ impl<'a> Walker<'a> {
     /// What holds what was found last, from the root inwards: without that itself, where it opens.
     pub fn holders(&self, found: Visited<'_>) -> &[Frame<'a>] {
         let opened = match found.what {
-            What::Record(_) | What::Variant(_, _, _) | What::Array(_) | What::Pointer(_) => 1,
-            What::Leaf(_) | What::Text(_) | What::Again(_) | What::Null => 0,
+            What::Record(_) | What::Variant(_, _, _) | What::Array(_) => 1,
+            What::Pointer(_) if !self.again => 1,
+            _ => 0,
         };
         let frames = self.frames();
         let outer = frames.len().saturating_sub(opened);
@@ -193,6 +207,30 @@ impl<'a> Walker<'a> {
         }
     }
 
+    /// What has bytes of its own and lies next, in order of position: none at the end. A pointer
+    /// doesn't open, since what it leads to comes before it.
+    pub fn next_part(&mut self) -> Result<Option<Visited<'a>>, Stop> {
+        for _ in 0..u64::MAX {
+            let again = self.again;
+            match self.step()? {
+                Some(Event::Found(found)) if again && found.size > 0 => return Ok(Some(found)),
+                Some(_) => {}
+                None => break,
+            }
+        }
+        Ok(None)
+    }
+
+    /// Of what was found last, and opened, at most so many parts, elements or entries are looked at.
+    pub fn limit(&mut self, most: usize) {
+        if most == 0 {
+            self.next = Next::Nothing;
+        }
+        if let Some(frame) = self.frames.last_mut() {
+            frame.limit(most);
+        }
+    }
+
     // The next part or element of what is innermost, or its end.
     fn go_on(&mut self) -> Result<Option<Event<'a>>, Stop> {
         let form = self.form;
@@ -211,10 +249,32 @@ impl<'a> Walker<'a> {
         }
     }
 
+    // Begins the innermost region again, if that is what ends, and if it is to be gone through twice.
+    fn begin_again(&mut self) -> bool {
+        if !self.twice || self.again {
+            return false;
+        }
+        let Some(frame) = self.frames.last_mut() else {
+            return false;
+        };
+        if !frame.begin_again() {
+            return false;
+        }
+        if let Some(place) = frame.only() {
+            self.next = Next::Value(place);
+        }
+        self.again = true;
+        true
+    }
+
     // What is innermost has ended: a region is left, so that the range begins where it ends, and
     // ends where it did before.
     fn end(&mut self) -> Option<Event<'a>> {
+        if self.begin_again() {
+            return Some(Event::Ended);
+        }
         if let Some(Frame::Region(inside)) = self.frames.pop() {
+            self.again = false;
             self.depth = self.depth.saturating_sub(1);
             self.start = inside.end;
             self.stop = inside.stop;

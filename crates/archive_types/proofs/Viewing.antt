@@ -1,5 +1,4 @@
 -- What views show and lead to.
-pub mod StandingLeaves
 pub mod ViewsTogether
 pub mod Shown
 pub mod KnownParts

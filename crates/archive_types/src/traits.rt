@@ -24,8 +24,8 @@ use crate::view::{RawView, Ref};
 use archive_check::format::error::Error;
 pub use archive_check::format::traits::{
     ArchivePointee, Choice, Entries, FourParts, Keys, LayoutRaw, MapKey, Portable, PortableParts,
-    PortablePointee, PortableVariants, Record, align_of_choice, define_choice, define_record,
-    expr_of_choice, expr_of_record, layout_of_run, size_of_choice, size_of_record,
+    PortablePointee, PortableVariants, Record, align_of_choice, expr_of_choice, expr_of_record,
+    layout_of_run, size_of_choice, size_of_record,
 };
 use archive_write::ser::Writer;
 use std::alloc::Global;

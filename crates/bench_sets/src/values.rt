@@ -1,7 +1,7 @@
 //! What the sets are made of. bench/src/sets.rs makes the same values and their archives.
 
-use crate::records::RecordOf;
-use crate::sets::{hello, integers, name};
+use crate::records::{Plain, Row};
+use crate::sets::{Small, hello, integers, name};
 use archive_core::error::Error;
 use archive_core::rc::Shared;
 use own_types::node::{Node, node_of};
@@ -107,36 +107,37 @@ fn text(alloc: Global, size: usize) -> Result<String, AllocError> {
     Ok(text)
 }
 
-impl<F> Values<RecordOf<F, u8, String, Option<Vec<i32>>>> for Given {
-    fn values(
-        alloc: Global,
-        _size: usize,
-    ) -> Result<Vec<RecordOf<F, u8, String, Option<Vec<i32>>>>, Error> {
-        alone(
-            alloc,
-            RecordOf::new(42, hello(alloc)?, Some(integers(alloc)?)),
-        )
+impl Values<Small> for Given {
+    fn values(alloc: Global, _size: usize) -> Result<Vec<Small>, Error> {
+        let record = Small {
+            number: 42,
+            text: hello(alloc)?,
+            list: Some(integers(alloc)?),
+        };
+        alone(alloc, record)
     }
 
-    fn told(value: &RecordOf<F, u8, String, Option<Vec<i32>>>) -> usize {
-        let numbers = match &value.third {
+    fn told(value: &Small) -> usize {
+        let numbers = match &value.list {
             Some(numbers) => numbers.len(),
             None => 0,
         };
-        value.second.as_str().len().wrapping_add(numbers)
+        value.text.as_str().len().wrapping_add(numbers)
     }
 }
 
-impl<F> Values<RecordOf<F, u8, String, Vec<i32>>> for Given {
-    fn values(
-        alloc: Global,
-        _size: usize,
-    ) -> Result<Vec<RecordOf<F, u8, String, Vec<i32>>>, Error> {
-        alone(alloc, RecordOf::new(42, hello(alloc)?, integers(alloc)?))
+impl Values<Plain> for Given {
+    fn values(alloc: Global, _size: usize) -> Result<Vec<Plain>, Error> {
+        let record = Plain {
+            number: 42,
+            text: hello(alloc)?,
+            list: integers(alloc)?,
+        };
+        alone(alloc, record)
     }
 
-    fn told(value: &RecordOf<F, u8, String, Vec<i32>>) -> usize {
-        value.second.as_str().len().wrapping_add(value.third.len())
+    fn told(value: &Plain) -> usize {
+        value.text.as_str().len().wrapping_add(value.list.len())
     }
 }
 
@@ -194,15 +195,14 @@ fn row_numbers(alloc: Global, index: usize) -> Result<Vec<u32>, AllocError> {
     Ok(numbers)
 }
 
-impl<F> Elements<RecordOf<F, u64, String, Vec<u32>>> for Given {
-    fn next(
-        alloc: Global,
-        earlier: &[RecordOf<F, u64, String, Vec<u32>>],
-        _size: usize,
-    ) -> Result<RecordOf<F, u64, String, Vec<u32>>, Error> {
+impl Elements<Row> for Given {
+    fn next(alloc: Global, earlier: &[Row], _size: usize) -> Result<Row, Error> {
         let index = earlier.len();
-        let id = (index as u64).wrapping_mul(7919);
-        Ok(RecordOf::new(id, name(alloc, index)?, row_numbers(alloc, index)?))
+        Ok(Row {
+            id: (index as u64).wrapping_mul(7919),
+            name: name(alloc, index)?,
+            values: row_numbers(alloc, index)?,
+        })
     }
 }
 

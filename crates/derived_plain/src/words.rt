@@ -43,11 +43,11 @@ ghost use Rattle.archive_core.specs.Sources.{Read};
 ghost use Rattle.archive_core.specs.Value.{case, no_value, product, value};
 ghost use Rattle.archive_core.specs.Writing.{ZeroedPlace};
 ghost use Rattle.std.proofs.Common.{inl, lit≤};
-ghost use Rattle.std.specs.Prelude.{IfErr, IfOk, None, [], codes, length, refl, true, ℕ, ◌++◌, ◌+◌, ◌≡◌};
+ghost use Rattle.std.specs.Prelude.{IfErr, IfOk, None, Some, [], codes, length, refl, true, ℕ, ◌++◌, ◌+◌, ◌≡◌};
 
 use archive_core::error::Error;
 use archive_core::fields::{
-    known_tag, part_in_case, part_in_record, read_case, resolve_case_0, resolve_case_1,
+    copy_4, known_tag, part_in_case, part_in_record, read_case, resolve_case_0, resolve_case_1,
     resolve_record_4, serialize_case_0, serialize_case_1, serialize_record_4, tag_in,
 };
 use archive_core::place::Place;
@@ -56,9 +56,11 @@ use archive_core::seal::{Seal, sealed_part_in_case, sealed_part_in_record};
 use archive_core::self_check::{RecordCheck, SelfCheck, check_choice};
 use archive_core::ser::{ResolverAlloc, Writer, serialize_one};
 use archive_core::shape::{Defs, Expr};
+use archive_core::slice::copy_groups;
 use archive_core::traits::{
-    Archive, ArchivePointee, ArchiveUnsized, Choice, CopyOptimization, Deserialize, Entries, Keys,
-    Portable, Record, Serialize, SerializeUnsized, expr_of_choice, expr_of_record,
+    Archive, ArchivePointee, ArchiveUnsized, Choice, Copied, CopiedSource, CopyOptimization,
+    Deserialize, Entries, Keys, Portable, Record, Serialize, SerializeUnsized, expr_of_choice,
+    expr_of_record,
 };
 use archive_core::validation::ArchiveContext;
 use archive_core::view::{RawView, Ref};
@@ -204,7 +206,9 @@ impl Archive for Words {
         × (⟦<u8 as Archive>⟧.belongs v.pos r.kept.1.1.0
         × (⟦<u8 as Archive>⟧.belongs v.len r.kept.1.1.1.0 × Unit {0}))) };
 
-    ghost in_bulk = { None };
+    ghost in_bulk = { Some (λ v. ⟦<u8 as Copied>⟧.copied_bytes v.data
+        ++ (⟦<u8 as Copied>⟧.copied_bytes v.result ++ (⟦<u8 as Copied>⟧.copied_bytes v.pos
+        ++ (⟦<u8 as Copied>⟧.copied_bytes v.len ++ [])))) };
 
     ghost keyed = { λ v. record_keyed (part_keyed (number_keyed _)
         (part_keyed (number_keyed _) (part_keyed (number_keyed _)
@@ -249,17 +253,48 @@ impl Archive for Words {
 
     #[inline(always)]
     fn copy_optimization() -> CopyOptimization<Self> {
-        CopyOptimization::disable()
+        CopyOptimization::enable()
     }
 
     #[inline(always)]
     fn serialize_copied<S: Writer + Keys>(
-        _values: &[Self],
-        _together: usize,
-        _serializer: &mut S,
+        values: &[Self],
+        together: usize,
+        serializer: &mut S,
     ) -> Result<Option<usize>, Error> {
-        Ok(None)
+        copy_groups(values, together, serializer)
     }
+}
+
+/// Slices of it are written in bulk.
+impl Copied for Words {
+    type CopiedAs = ArchivedWords;
+
+    ghost copied_keys = { λ _. [] };
+
+    ghost copied_meaning = { λ v. product (value (⟦<u8 as Archive>⟧.meaning v.data)
+        (value (⟦<u8 as Archive>⟧.meaning v.result) (value (⟦<u8 as Archive>⟧.meaning v.pos)
+        (value (⟦<u8 as Archive>⟧.meaning v.len) no_value)))) };
+
+    ghost copied_bytes = { λ v. ⟦<u8 as Copied>⟧.copied_bytes v.data
+        ++ (⟦<u8 as Copied>⟧.copied_bytes v.result ++ (⟦<u8 as Copied>⟧.copied_bytes v.pos
+        ++ (⟦<u8 as Copied>⟧.copied_bytes v.len ++ []))) };
+
+    #[inline(always)]
+    fn copied_size() -> usize {
+        4
+    }
+
+    #[inline(always)]
+    fn copy_one(&self, bytes: &mut [u8]) {
+        copy_4(&self.data, &self.result, &self.pos, &self.len, bytes);
+    }
+}
+
+impl CopiedSource for Words {
+    ghost same_keys = { refl };
+
+    ghost same_meaning = { refl };
 }
 
 impl<S: Writer + ResolverAlloc> Serialize<S> for Words {

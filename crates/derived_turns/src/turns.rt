@@ -37,11 +37,11 @@ ghost use Rattle.archive_core.specs.Sources.{Read};
 ghost use Rattle.archive_core.specs.Value.{case, no_value, product, value};
 ghost use Rattle.archive_core.specs.Writing.{ZeroedPlace};
 ghost use Rattle.std.proofs.Common.{inl, inr, lit≤};
-ghost use Rattle.std.specs.Prelude.{IfErr, IfOk, None, [], codes, length, refl, true, ℕ, ◌++◌, ◌+◌, ◌≡◌};
+ghost use Rattle.std.specs.Prelude.{IfErr, IfOk, None, Some, [], codes, length, refl, true, ℕ, ◌++◌, ◌+◌, ◌≡◌};
 
 use archive_core::error::Error;
 use archive_core::fields::{
-    known_tag, part_in_case, part_in_record, read_case, resolve_case_1, resolve_record_2,
+    copy_2, known_tag, part_in_case, part_in_record, read_case, resolve_case_1, resolve_record_2,
     serialize_case_1, serialize_record_2, tag_in,
 };
 use archive_core::place::Place;
@@ -51,9 +51,11 @@ use archive_core::seal::{Seal, sealed_part_in_case, sealed_part_in_record};
 use archive_core::self_check::{RecordCheck, SelfCheck, check_choice};
 use archive_core::ser::{ResolverAlloc, Writer, serialize_one};
 use archive_core::shape::{Defs, Expr};
+use archive_core::slice::copy_groups;
 use archive_core::traits::{
-    Archive, ArchivePointee, ArchiveUnsized, Choice, CopyOptimization, Deserialize, Entries, Keys,
-    Portable, Record, Serialize, SerializeUnsized, expr_of_choice, expr_of_record,
+    Archive, ArchivePointee, ArchiveUnsized, Choice, Copied, CopiedSource, CopyOptimization,
+    Deserialize, Entries, Keys, Portable, Record, Serialize, SerializeUnsized, expr_of_choice,
+    expr_of_record,
 };
 use archive_core::validation::ArchiveContext;
 use archive_core::view::{RawView, Ref};
@@ -571,7 +573,8 @@ impl Archive for Steps {
     ghost belongs = { λ v r. ⟦<u16 as Archive>⟧.belongs v.first r.kept.0
         × (⟦<u16 as Archive>⟧.belongs v.second r.kept.1.0 × Unit {0}) };
 
-    ghost in_bulk = { None };
+    ghost in_bulk = { Some (λ v. ⟦<u16 as Copied>⟧.copied_bytes v.first
+        ++ (⟦<u16 as Copied>⟧.copied_bytes v.second ++ [])) };
 
     ghost keyed = { λ v. record_keyed (part_keyed (number_keyed _)
         (part_keyed (number_keyed _) nothing_keyed)) };
@@ -609,17 +612,46 @@ impl Archive for Steps {
 
     #[inline(always)]
     fn copy_optimization() -> CopyOptimization<Self> {
-        CopyOptimization::disable()
+        CopyOptimization::enable()
     }
 
     #[inline(always)]
     fn serialize_copied<S: Writer + Keys>(
-        _values: &[Self],
-        _together: usize,
-        _serializer: &mut S,
+        values: &[Self],
+        together: usize,
+        serializer: &mut S,
     ) -> Result<Option<usize>, Error> {
-        Ok(None)
+        copy_groups(values, together, serializer)
     }
+}
+
+/// Slices of it are written in bulk.
+impl Copied for Steps {
+    type CopiedAs = ArchivedSteps;
+
+    ghost copied_keys = { λ _. [] };
+
+    ghost copied_meaning = { λ v. product (value (⟦<u16 as Archive>⟧.meaning v.first)
+        (value (⟦<u16 as Archive>⟧.meaning v.second) no_value)) };
+
+    ghost copied_bytes = { λ v. ⟦<u16 as Copied>⟧.copied_bytes v.first
+        ++ (⟦<u16 as Copied>⟧.copied_bytes v.second ++ []) };
+
+    #[inline(always)]
+    fn copied_size() -> usize {
+        4
+    }
+
+    #[inline(always)]
+    fn copy_one(&self, bytes: &mut [u8]) {
+        copy_2(&self.first, &self.second, bytes);
+    }
+}
+
+impl CopiedSource for Steps {
+    ghost same_keys = { refl };
+
+    ghost same_meaning = { refl };
 }
 
 impl<S: Writer + ResolverAlloc> Serialize<S> for Steps {

@@ -11,6 +11,8 @@ pub struct Entry {
     pub event: Event,
 }
 
+// text: SCHEMA
+
 // Below this line all is written by tools/derive: change what is above it, and run it again.
 
 ghost use Rattle.archive_core.specs.CallOutcomes.{ResolvesAs};
@@ -48,6 +50,11 @@ use archive_core::traits::{
 use archive_core::validation::ArchiveContext;
 use archive_core::view::{RawView, Ref};
 use std::alloc::Global;
+
+/// The types of this file and those that they name, as a schema text.
+pub const SCHEMA: &str =
+    "enum Event { Quit, Key(char), Text(String), Move { x: i32, y: i32 }, Batch(Vec<u32>) }
+struct Entry { seconds: u64, event: Event }";
 
 /// An archived `Entry`: 24 bytes at a multiple of 8.
 pub struct ArchivedEntry;

@@ -61,13 +61,14 @@ ghost use Rattle.archive_core.specs.Sources.{Read};
 ghost use Rattle.archive_core.specs.Value.{no_value, product, value};
 ghost use Rattle.archive_core.specs.Writing.{ZeroedPlace};
 ghost use Rattle.std.proofs.Common.{inl, inr, lit≤};
-ghost use Rattle.std.specs.Prelude.{IfErr, IfOk, None, [], length, refl, true, ◌++◌, ◌+◌, ◌≡◌};
+ghost use Rattle.std.specs.Prelude.{IfErr, IfOk, None, Some, [], length, refl, true, ◌++◌, ◌+◌, ◌≡◌};
 
 use crate::event::ArchivedEvent;
 use archive_core::boxed::ArchivedBox;
 use archive_core::error::Error;
 use archive_core::fields::{
-    part_in_record, resolve_record_2, resolve_record_4, serialize_record_2, serialize_record_4,
+    copy_2, part_in_record, resolve_record_2, resolve_record_4, serialize_record_2,
+    serialize_record_4,
 };
 use archive_core::option::ArchivedOption;
 use archive_core::place::Place;
@@ -77,9 +78,10 @@ use archive_core::seal::{Seal, sealed_part_in_record};
 use archive_core::self_check::{RecordCheck, SelfCheck};
 use archive_core::ser::{ResolverAlloc, Writer, serialize_one};
 use archive_core::shape::{Defs, Expr};
+use archive_core::slice::copy_groups;
 use archive_core::traits::{
-    Archive, ArchivePointee, ArchiveUnsized, CopyOptimization, Deserialize, Entries, Keys,
-    Portable, Record, Serialize, SerializeUnsized, expr_of_record,
+    Archive, ArchivePointee, ArchiveUnsized, Copied, CopiedSource, CopyOptimization, Deserialize,
+    Entries, Keys, Portable, Record, Serialize, SerializeUnsized, expr_of_record,
 };
 use archive_core::validation::ArchiveContext;
 use archive_core::vec::ArchivedVec;
@@ -207,7 +209,8 @@ impl Archive for Spot {
     ghost belongs = { λ v r. ⟦<u16 as Archive>⟧.belongs v.right r.kept.0
         × (⟦<i16 as Archive>⟧.belongs v.up r.kept.1.0 × Unit {0}) };
 
-    ghost in_bulk = { None };
+    ghost in_bulk = { Some (λ v. ⟦<u16 as Copied>⟧.copied_bytes v.right
+        ++ (⟦<i16 as Copied>⟧.copied_bytes v.up ++ [])) };
 
     ghost keyed = { λ v. record_keyed (part_keyed (number_keyed _)
         (part_keyed (number_keyed _) nothing_keyed)) };
@@ -245,17 +248,46 @@ impl Archive for Spot {
 
     #[inline(always)]
     fn copy_optimization() -> CopyOptimization<Self> {
-        CopyOptimization::disable()
+        CopyOptimization::enable()
     }
 
     #[inline(always)]
     fn serialize_copied<S: Writer + Keys>(
-        _values: &[Self],
-        _together: usize,
-        _serializer: &mut S,
+        values: &[Self],
+        together: usize,
+        serializer: &mut S,
     ) -> Result<Option<usize>, Error> {
-        Ok(None)
+        copy_groups(values, together, serializer)
     }
+}
+
+/// Slices of it are written in bulk.
+impl Copied for Spot {
+    type CopiedAs = ArchivedSpot;
+
+    ghost copied_keys = { λ _. [] };
+
+    ghost copied_meaning = { λ v. product (value (⟦<u16 as Archive>⟧.meaning v.right)
+        (value (⟦<i16 as Archive>⟧.meaning v.up) no_value)) };
+
+    ghost copied_bytes = { λ v. ⟦<u16 as Copied>⟧.copied_bytes v.right
+        ++ (⟦<i16 as Copied>⟧.copied_bytes v.up ++ []) };
+
+    #[inline(always)]
+    fn copied_size() -> usize {
+        4
+    }
+
+    #[inline(always)]
+    fn copy_one(&self, bytes: &mut [u8]) {
+        copy_2(&self.right, &self.up, bytes);
+    }
+}
+
+impl CopiedSource for Spot {
+    ghost same_keys = { refl };
+
+    ghost same_meaning = { refl };
 }
 
 impl<S: Writer + ResolverAlloc> Serialize<S> for Spot {
@@ -510,7 +542,8 @@ impl Archive for Line {
     ghost belongs = { λ v r. ⟦<Spot as Archive>⟧.belongs v.from r.kept.0
         × (⟦<Spot as Archive>⟧.belongs v.to r.kept.1.0 × Unit {0}) };
 
-    ghost in_bulk = { None };
+    ghost in_bulk = { Some (λ v. ⟦<Spot as Copied>⟧.copied_bytes v.from
+        ++ (⟦<Spot as Copied>⟧.copied_bytes v.to ++ [])) };
 
     ghost keyed = { λ v. record_keyed (part_keyed (keyed_of_spot v.from)
         (part_keyed (keyed_of_spot v.to) nothing_keyed)) };
@@ -547,17 +580,46 @@ impl Archive for Line {
 
     #[inline(always)]
     fn copy_optimization() -> CopyOptimization<Self> {
-        CopyOptimization::disable()
+        CopyOptimization::enable()
     }
 
     #[inline(always)]
     fn serialize_copied<S: Writer + Keys>(
-        _values: &[Self],
-        _together: usize,
-        _serializer: &mut S,
+        values: &[Self],
+        together: usize,
+        serializer: &mut S,
     ) -> Result<Option<usize>, Error> {
-        Ok(None)
+        copy_groups(values, together, serializer)
     }
+}
+
+/// Slices of it are written in bulk.
+impl Copied for Line {
+    type CopiedAs = ArchivedLine;
+
+    ghost copied_keys = { λ _. [] };
+
+    ghost copied_meaning = { λ v. product (value (⟦<Spot as Archive>⟧.meaning v.from)
+        (value (⟦<Spot as Archive>⟧.meaning v.to) no_value)) };
+
+    ghost copied_bytes = { λ v. ⟦<Spot as Copied>⟧.copied_bytes v.from
+        ++ (⟦<Spot as Copied>⟧.copied_bytes v.to ++ []) };
+
+    #[inline(always)]
+    fn copied_size() -> usize {
+        8
+    }
+
+    #[inline(always)]
+    fn copy_one(&self, bytes: &mut [u8]) {
+        copy_2(&self.from, &self.to, bytes);
+    }
+}
+
+impl CopiedSource for Line {
+    ghost same_keys = { refl };
+
+    ghost same_meaning = { refl };
 }
 
 impl<S: Writer + ResolverAlloc> Serialize<S> for Line {

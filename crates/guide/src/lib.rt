@@ -1,7 +1,9 @@
-//! The programs of docs/GUIDE.md, each a test. Their declarations are those of derived_types, as if they were files of this crate.
+//! The programs of docs/GUIDE.md, each a test. Their declarations are those of derived_types and
+//! recursive_types, as if they were files of this crate.
 #![tactic(auto)]
 
 pub use derived_types::{entry, event, spot, track};
+pub use recursive_types::tree;
 
 #[cfg(test)]
 mod editing;
@@ -15,5 +17,7 @@ mod keeping;
 mod prices;
 #[cfg(test)]
 mod sharing;
+#[cfg(test)]
+mod trees;
 #[cfg(test)]
 mod words;

@@ -121,6 +121,18 @@ fn opens(found: Visited<'_>) -> Option<Kind> {
     }
 }
 
+// How many parts, elements or entries a value has.
+fn count_of(found: Visited<'_>) -> usize {
+    match found.what {
+        What::Record(count) | What::Variant(_, _, count) | What::Array(count) => count,
+        What::Pointer(region) => match region.count {
+            Count::Elements(count) => count,
+            Count::Root | Count::One | Count::Text(_) => 1,
+        },
+        What::Leaf(_) | What::Text(_) | What::Again(_) | What::Null => 0,
+    }
+}
+
 // Parts as an object, or as an array where they have no names.
 fn parts_of(
     alloc: Global,
@@ -208,7 +220,7 @@ fn closed(alloc: Global, open: Open) -> Result<Value, AllocError> {
         Kind::Variant(name) => variant_of(alloc, name, labels, values),
         Kind::Nothing => Ok(Value::Null),
         Kind::Something | Kind::Target | Kind::Text => Ok(only_of(values)),
-        Kind::Map => entries_of(alloc, values, left_out / 2),
+        Kind::Map => entries_of(alloc, values, left_out),
         Kind::List => {
             if left_out > 0 {
                 values.push(Value::String(format!(in alloc; ".. {left_out} more")?))?;
@@ -221,39 +233,47 @@ fn closed(alloc: Global, open: Open) -> Result<Value, AllocError> {
 impl Builder {
     // A value is a part of what was opened last, under a name.
     fn attach(&mut self, name: &'static str, value: Value) -> Result<(), AllocError> {
-        let level = self.open.len();
-        let most = self.elements;
         let Some(open) = self.open.last_mut() else {
             self.root = value;
             return Ok(());
         };
-        let is_full = match open.kind {
-            Kind::List => open.values.len() >= most,
-            Kind::Map => open.values.len() >= most.saturating_mul(2),
-            _ => false,
-        };
-        if is_full || (level > self.depth && open.kind != Kind::Text) {
-            open.left_out = open.left_out.saturating_add(1);
-            return Ok(());
-        }
         open.labels.push(name)?;
         open.values.push(value)?;
         Ok(())
     }
 
-    // What was found is a part, or opens.
+    // How much of what a value holds is told.
+    fn most_of(&self, kind: Kind) -> usize {
+        match kind {
+            Kind::Text => usize::MAX,
+            _ if self.open.len() >= self.depth => 0,
+            Kind::List | Kind::Map => self.elements,
+            _ => usize::MAX,
+        }
+    }
+
+    // What was found opens. How much of what it holds is told.
+    fn open(
+        &mut self,
+        kind: Kind,
+        found: Visited<'_>,
+        name: &'static str,
+    ) -> Result<usize, AllocError> {
+        let alloc = self.alloc;
+        let most = self.most_of(kind);
+        self.open.push(Open {
+            kind,
+            name,
+            labels: Vec::new(alloc),
+            values: Vec::new(alloc),
+            left_out: count_of(found).saturating_sub(most),
+        })?;
+        Ok(most)
+    }
+
+    // What was found is a part.
     fn found(&mut self, found: Visited<'_>, name: &'static str) -> Result<(), AllocError> {
         let alloc = self.alloc;
-        if let Some(kind) = opens(found) {
-            self.open.push(Open {
-                kind,
-                name,
-                labels: Vec::new(alloc),
-                values: Vec::new(alloc),
-                left_out: 0,
-            })?;
-            return Ok(());
-        }
         let value = match found.what {
             What::Leaf(leaf) => value_of(alloc, leaf)?,
             What::Text(text) => text_of(alloc, text)?,
@@ -307,7 +327,10 @@ pub fn json_of(
         match walk.step() {
             Ok(Some(Event::Found(found))) => {
                 let name = name_of(last_step(walk.holders(found)));
-                builder.found(found, name)?;
+                match opens(found) {
+                    Some(kind) => walk.limit(builder.open(kind, found, name)?),
+                    None => builder.found(found, name)?,
+                }
             }
             Ok(Some(Event::Ended)) => builder.end()?,
             Ok(None) => break,

@@ -67,12 +67,7 @@ pub fn command<'a>(alloc: Global) -> Result<Command<'a>, Error> {
         .required(true)
         .help("The archive's file, or - for standard input");
     let json = flag(alloc, "json", "Print the value as JSON").conflicts_with("map")?;
-    let map = flag(
-        alloc,
-        "map",
-        "Print what lies where, which takes memory for each part",
-    )
-    .conflicts_with("summary")?;
+    let map = flag(alloc, "map", "Print what lies where").conflicts_with("summary")?;
     let summary = flag(alloc, "summary", "Print numbers and sizes").conflicts_with("json")?;
     Ok(
         Command::new(alloc, "inspect")

@@ -6,8 +6,7 @@ use crate::options::{Options, Shown};
 use crate::refused::print_refused;
 use crate::summary::{print_summary, summary_of};
 use crate::tree::print_tree;
-use archive_inspect::describe::describe;
-use archive_inspect::explain::explain;
+use archive_inspect::explain::explain_with;
 use archive_inspect::form::Form;
 use std::alloc::Global;
 use std::io;
@@ -37,9 +36,7 @@ fn print_accepted<W: io::Write + Drop>(
             }
         }
         Shown::Map => {
-            if let Some(entries) = describe(alloc, form, bytes)? {
-                print_map(out, &entries)?;
-            }
+            let _ = print_map(alloc, out, form, bytes)?;
         }
         Shown::Summary => {
             if let Some(summary) = summary_of(alloc, form, bytes)? {
@@ -58,7 +55,7 @@ pub fn report<W: io::Write + Drop>(
     form: &Form,
     bytes: &[u8],
 ) -> io::Result<u8> {
-    match explain(alloc, form, bytes)? {
+    match explain_with(alloc, form, bytes)? {
         Some(explanation) => {
             print_refused(out, bytes, &explanation)?;
             Ok(1)

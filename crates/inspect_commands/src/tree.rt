@@ -18,8 +18,8 @@ struct Open {
     left_out: usize,
     // Whether it is a pointer to a text.
     is_text: bool,
-    // How its line begins, if it is shown: a text that it leads to is printed there.
-    line: Option<Line>,
+    // How its line begins: a text that it leads to is printed there.
+    line: Line,
 }
 
 // How a line begins: with a position, so many levels and a label.
@@ -40,21 +40,6 @@ struct Tree<'a, W> {
 }
 
 impl<W: io::Write + Drop> Tree<'_, W> {
-    // Whether a value is printed: the one that holds it is, and it is none of the elements left
-    // out.
-    fn is_shown(&self, step: Option<RouteStep>) -> bool {
-        let within = match self.open.last() {
-            Some(open) => open.shown,
-            None => true,
-        };
-        match step {
-            Some(RouteStep::Element(number))
-            | Some(RouteStep::Key(number))
-            | Some(RouteStep::Value(number)) => within && number < self.elements,
-            _ => within,
-        }
-    }
-
     // The line of what was found.
     fn line(&self, found: Visited<'_>, step: Option<RouteStep>) -> Line {
         Line {
@@ -88,21 +73,19 @@ impl<W: io::Write + Drop> Tree<'_, W> {
         Ok(())
     }
 
-    // What was found is printed, if it is shown, and opened, if it opens.
-    fn found(&mut self, found: Visited<'_>, step: Option<RouteStep>) -> io::Result<()> {
-        let shown = self.is_shown(step);
+    // What was found is printed, and opened, if it opens. How much of what it holds is printed.
+    fn found(&mut self, found: Visited<'_>, step: Option<RouteStep>) -> io::Result<usize> {
+        let line = self.line(found, step);
         match found.what {
             What::Text(text) if self.is_in_text() => self.text(found.position, text)?,
             What::Pointer(region) if is_text(region) => {}
             _ => {
-                if shown {
-                    self.begin(self.line(found, step))?;
-                    self.value(found)?;
-                    self.end_line(found)?;
-                }
+                self.begin(line)?;
+                self.value(found)?;
+                self.end_line(found)?;
             }
         }
-        self.open(found, step, shown)
+        self.open(found, line)
     }
 
     // Ends the line of a value, with a mark where what it holds is too deep to be printed.
@@ -126,36 +109,30 @@ impl<W: io::Write + Drop> Tree<'_, W> {
         let Some(open) = self.open.last() else {
             return Ok(());
         };
-        let Some(line) = open.line else {
-            return Ok(());
-        };
-        self.begin(line)?;
+        self.begin(open.line)?;
         writeln!(self.out, "{text:?} at {position}")
     }
 
-    // A value opens.
-    fn open(&mut self, found: Visited<'_>, step: Option<RouteStep>, shown: bool) -> io::Result<()> {
-        let count = match found.what {
-            What::Record(_) | What::Variant(_, _, _) => 0,
-            What::Array(count) => count,
+    // A value opens, if it does. How much of what it holds is printed.
+    fn open(&mut self, found: Visited<'_>, line: Line) -> io::Result<usize> {
+        let (most, count) = match found.what {
+            What::Record(_) | What::Variant(_, _, _) => (usize::MAX, 0),
+            What::Array(count) => (self.elements, count),
             What::Pointer(region) => match region.count {
-                Count::Elements(count) => count,
-                Count::Root | Count::One | Count::Text(_) => 0,
+                Count::Elements(count) => (self.elements, count),
+                Count::Root | Count::One | Count::Text(_) => (usize::MAX, 0),
             },
-            What::Leaf(_) | What::Text(_) | What::Again(_) | What::Null => return Ok(()),
+            What::Leaf(_) | What::Text(_) | What::Again(_) | What::Null => return Ok(usize::MAX),
         };
-        let line = if shown {
-            Some(self.line(found, step))
-        } else {
-            None
-        };
+        let is_text = is_to_text(found);
+        let shown = is_text || self.open.len() < self.depth;
         self.open.push(Open {
-            shown: shown && self.open.len() < self.depth,
-            left_out: count.saturating_sub(self.elements),
-            is_text: is_to_text(found),
+            shown,
+            left_out: count.saturating_sub(most),
+            is_text,
             line,
         })?;
-        Ok(())
+        if shown { Ok(most) } else { Ok(0) }
     }
 
     // What was opened last ends.
@@ -270,8 +247,8 @@ pub(crate) fn last_step(holders: &[Frame<'_>]) -> Option<RouteStep> {
 }
 
 /// Prints the value, a line for each part with its position, so many levels deep, and so many
-/// elements of each list. Whether the bytes are an archive of the form: else the tree ends at the
-/// fault.
+/// elements of each list: the rest isn't looked at. Whether no fault was met: else the tree ends
+/// there.
 pub fn print_tree<W: io::Write + Drop>(
     alloc: Global,
     out: &mut W,
@@ -290,7 +267,8 @@ pub fn print_tree<W: io::Write + Drop>(
         match walk.step() {
             Ok(Some(Event::Found(found))) => {
                 let step = last_step(walk.holders(found));
-                tree.found(found, step)?;
+                let most = tree.found(found, step)?;
+                walk.limit(most);
             }
             Ok(Some(Event::Ended)) => tree.end()?,
             Ok(None) => return Ok(true),

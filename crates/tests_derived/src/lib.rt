@@ -12,6 +12,8 @@ mod events;
 #[cfg(test)]
 mod judgements;
 #[cfg(test)]
+mod places;
+#[cfg(test)]
 mod points;
 #[cfg(test)]
 mod ranks;

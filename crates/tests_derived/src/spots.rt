@@ -1,11 +1,14 @@
 // Records of numbers, and records of such records.
 
-use crate::assertions::{assert_archived, assert_bytes, assert_same, sealed, viewed};
+use crate::assertions::{assert_archived, assert_bytes, assert_same, sealed, value_of, viewed};
 use crate::judgements::{assert_refused, outside, unaligned};
+use archive_core::api::to_bytes;
+use archive_core::traits::Archive;
 use archive_core::view::Ref;
 use derived_types::spot::{
-    ArchivedLine, ArchivedSpot, Line, LineSeal, LineView, Spot, SpotSeal, SpotView,
+    ArchivedLine, ArchivedSpot, Drawing, Line, LineSeal, LineView, Spot, SpotSeal, SpotView,
 };
+use std::alloc::{AllocError, Global};
 use std::process::Abort;
 
 // The number 7, and -2 in two's complement.
@@ -116,4 +119,35 @@ fn a_line_is_checked(rt: HostRuntime) {
             (b"\0\x01\0\xfe\xff\x03\0\x04\0", unaligned(1, 2)),
         ],
     );
+}
+
+// So many lines.
+fn lines(alloc: Global, count: usize) -> Result<Vec<Line>, AllocError> {
+    let mut lines = Vec::new(alloc);
+    for index in 0..count {
+        lines.push(rising((index & 0xff) as u8))?;
+    }
+    Ok(lines)
+}
+
+// The values of an archive that is written of these.
+fn again(rt: &impl Abort, alloc: Global, lines: &Vec<Line>) -> Vec<Line> {
+    let bytes = to_bytes(alloc, lines).expect(rt, "an archive");
+    assert_same(rt, "the length", bytes.len(), lines.len().saturating_mul(8).saturating_add(8));
+    value_of(rt, alloc, bytes.as_slice(), &mut ())
+}
+
+#[test]
+fn many_lines_are_written_in_bulk(rt: HostRuntime) {
+    let places = Spot::copy_optimization().is_enabled();
+    let structs = Line::copy_optimization().is_enabled();
+    let owners = Drawing::copy_optimization().is_enabled();
+    assert_same(
+        &rt,
+        "in bulk",
+        (places, structs, owners),
+        (true, true, false),
+    );
+    let lines = lines(rt.alloc(), 1_000).expect(&rt, "lines");
+    assert_same(&rt, "the lines", &again(&rt, rt.alloc(), &lines), &lines);
 }

@@ -6,8 +6,9 @@ use archive_core::error::Error;
 use archive_core::shape::Defs;
 use archive_core::traits::Portable;
 use archive_inspect::describe::{Content, Piece, describe};
-use archive_inspect::explain::{FaultPlace, explain};
+use archive_inspect::explain::{FaultPlace, explain_with};
 use archive_inspect::form::Form as ExplainedForm;
+use archive_inspect::walk::Walker;
 use std::alloc::Global;
 use std::fmt::Debug;
 use std::process::Abort;
@@ -62,7 +63,7 @@ fn place_of(alloc: Global, place: &FaultPlace) -> Option<Place> {
 
 // The fault that is explained, and its place, if there is one.
 fn fault_explained(alloc: Global, form: &Form, bytes: &[u8]) -> (Option<Error>, Option<Place>) {
-    match explain(alloc, &form.explained, bytes) {
+    match explain_with(alloc, &form.explained, bytes) {
         Ok(Some(explanation)) => match &explanation.place {
             Some(place) => {
                 let refusal = place.fault.reason.refusal();
@@ -87,10 +88,32 @@ fn leaves_among(alloc: Global, pieces: &[Piece<'_>]) -> Option<Vec<Range>> {
     Some(leaves)
 }
 
-// Those that are described: none if the bytes are no archive.
-fn leaves_described(alloc: Global, form: &Form, bytes: &[u8]) -> Option<Vec<Range>> {
-    let pieces = describe(alloc, &form.explained, bytes).ok()??;
-    leaves_among(alloc, &pieces)
+// The ranges of all pieces but the unused ones.
+fn ranges_among(alloc: Global, pieces: &[Piece<'_>]) -> Option<Vec<Range>> {
+    let mut ranges = Vec::new(alloc);
+    for piece in pieces {
+        if !matches!(piece.content, Content::Unused) {
+            let position = piece.position as i128;
+            let size = piece.size as i128;
+            ranges.push(Range { position, size }).ok()?;
+        }
+    }
+    Some(ranges)
+}
+
+// The ranges that a walk in order of position meets: none if it stops.
+fn ranges_met(alloc: Global, form: &Form, bytes: &[u8]) -> Option<Vec<Range>> {
+    let mut walk = Walker::by_position(alloc, &form.explained, bytes);
+    let mut ranges = Vec::new(alloc);
+    for _ in 0..u64::MAX {
+        let Some(found) = walk.next_part().ok()? else {
+            break;
+        };
+        let position = found.position;
+        let size = found.size;
+        ranges.push(Range { position, size }).ok()?;
+    }
+    Some(ranges)
 }
 
 // What is explained of the bytes is this fault, and leads to this place.
@@ -108,7 +131,8 @@ fn assert_explained(
     assert_same(rt, what, (bytes, found_place), (bytes, place));
 }
 
-// Nothing is explained of the bytes, and what is described of them has these leaves and texts, and no others, in this order.
+// Nothing is explained of the bytes, and what is described of them has these leaves and texts, and no others, in this order. A walk in order of position meets
+// the same ranges.
 fn assert_described(
     rt: &impl Abort,
     what: &str,
@@ -118,12 +142,18 @@ fn assert_described(
     leaves: Vec<Range>,
 ) {
     assert!(rt;
-        explain(alloc, &form.explained, bytes)
+        explain_with(alloc, &form.explained, bytes)
             .expect(rt, "an answer")
             .is_none()
     );
-    let found = leaves_described(alloc, form, bytes);
+    let Ok(Some(pieces)) = describe(alloc, &form.explained, bytes) else {
+        panic!(rt; "{what}: no pieces of {bytes:?}")
+    };
+    let found = leaves_among(alloc, &pieces);
     assert_same(rt, what, (bytes, found), (bytes, Some(leaves)));
+    let met = ranges_met(alloc, form, bytes);
+    let described = ranges_among(alloc, &pieces);
+    assert_same(rt, what, (bytes, met), (bytes, described));
 }
 
 // `access` refuses the bytes with the first fault that the slow check finds, with all its fields, and what is explained of them is the same fault at the same

@@ -3,7 +3,7 @@
 use crate::assertions::assert_same;
 use archive_core::shape::Schema;
 use archive_core::traits::Portable;
-use archive_inspect::explain::{Explanation, explain_as, explain_by};
+use archive_inspect::explain::{Explanation, explain, explain_by};
 use archive_inspect::form::Form;
 use archive_inspect::text::parse;
 use derived_kinds::kinds::{ArchivedNumbers, ArchivedOwners};
@@ -68,11 +68,11 @@ fn line_of(rt: &impl Abort, alloc: Global, explanation: Option<Explanation>) -> 
 #[test]
 fn a_type_is_explained(rt: HostRuntime) -> Result<(), Fail> {
     let alloc = rt.alloc();
-    let explanation = explain_as::<ArchivedEvent>(alloc, b"\x09\0\0\0\0\0\0\0\0\0\0\0")?;
+    let explanation = explain::<ArchivedEvent>(alloc, b"\x09\0\0\0\0\0\0\0\0\0\0\0")?;
     let line = line_of(&rt, alloc, explanation);
     let wanted = "at the root, byte 0: the tag is 9, and ArchivedEvent has 5 variants";
     assert_same(&rt, "a tag", line.as_str(), wanted);
-    assert!(&rt; explain_as::<ArchivedEvent>(alloc, &[0; 12])?.is_none());
+    assert!(&rt; explain::<ArchivedEvent>(alloc, &[0; 12])?.is_none());
     Ok(())
 }
 

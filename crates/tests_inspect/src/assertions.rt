@@ -1,7 +1,7 @@
 // What is asserted, proved once: `assert_eq!` stands in one function, since it takes the check
 // seconds.
 
-use archive_inspect::explain::explain;
+use archive_inspect::explain::explain_with;
 use archive_inspect::form::Form;
 use archive_inspect::text::parse;
 use std::alloc::{AllocError, Global};
@@ -25,7 +25,7 @@ pub(crate) fn form_of(rt: &impl Abort, alloc: Global, text: &str) -> Form {
 
 // The line that explains why bytes are no archive of the form: empty where they are one.
 pub(crate) fn line_of(alloc: Global, form: &Form, bytes: &[u8]) -> Result<String, AllocError> {
-    match explain(alloc, form, bytes)? {
+    match explain_with(alloc, form, bytes)? {
         Some(explanation) => format!(in alloc; "{explanation}"),
         None => Ok(String::new(alloc)),
     }

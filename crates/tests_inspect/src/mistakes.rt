@@ -14,9 +14,9 @@ fn told(alloc: Global, text: &str) -> Result<String, AllocError> {
 }
 
 // In each row a text, and what is told of it.
-const ROWS: [(&str, &str); 24] = [
+const ROWS: [(&str, &str); 28] = [
     ("", "line 1, column 1: expected a type"),
-    ("u33", "line 1, column 1: unknown type"),
+    ("u33", "line 1, column 1: unknown type `u33`"),
     ("Vec<u8", "line 1, column 7: expected `,` or `>`"),
     (
         "Vec<Vec<u8>>,",
@@ -48,7 +48,7 @@ const ROWS: [(&str, &str); 24] = [
         "Result<u8>",
         "line 1, column 1: expected two arguments between `<` and `>`",
     ),
-    ("f32", "line 1, column 1: unknown type"),
+    ("f32", "line 1, column 1: unknown type `f32`"),
     ("&str", "line 1, column 1: unexpected character"),
     (
         "struct A<T> { a: T } u8",
@@ -63,7 +63,10 @@ const ROWS: [(&str, &str); 24] = [
         "struct A { a: u8, }\n\nstruct A;\nA",
         "line 3, column 8: a type of this name is defined above",
     ),
-    ("struct A { a: B }\nA", "line 1, column 15: unknown type"),
+    (
+        "struct A { a: B }\nA",
+        "line 1, column 15: unknown type `B`",
+    ),
     (
         "enum E {}",
         "line 1, column 6: an enum must have 1 to 256 variants",
@@ -79,7 +82,23 @@ const ROWS: [(&str, &str); 24] = [
     ),
     (
         "// \u{e9}\u{e9}\n/* \u{e9} */ struct A { a: Optio<u8> }",
-        "line 2, column 23: unknown type",
+        "line 2, column 23: unknown type `Optio`",
+    ),
+    (
+        "struct A {\n    a: u8,\n    b: u8,\n    pub a: u16,\n}",
+        "line 4, column 9: a field of this name comes before",
+    ),
+    (
+        "enum E { A, B { x: u8, x: u8 } }",
+        "line 1, column 24: a field of this name comes before",
+    ),
+    (
+        "enum E { A, B(u8), A }",
+        "line 1, column 20: a variant of this name comes before",
+    ),
+    (
+        "\u{feff}u8 u16",
+        "line 1, column 4: expected the end of the text",
     ),
 ];
 
@@ -115,7 +134,7 @@ fn deep_and_large_types_are_told(rt: HostRuntime) -> Result<(), Fail> {
     let found = told(alloc, deep.as_str())?;
     let wanted = "line 1, column 401: types are nested more than 100 deep";
     assert_same(&rt, "a thousand vectors", found.as_str(), wanted);
-    let many = repeated(alloc, "struct A { ", "a: u8, ", "}", 2000)?;
+    let many = repeated(alloc, "struct A(", "u8, ", ");", 2000)?;
     assert_same(
         &rt,
         "a long struct",
@@ -132,4 +151,6 @@ fn a_declaration_is_read_as_it_stands(rt: HostRuntime) {
     let form = form_of(&rt, rt.alloc(), text);
     let same = form_of(&rt, rt.alloc(), "enum Event { Quit, Key(char) }");
     assert!(&rt; form.schema().root() == same.schema().root());
+    let marked = form_of(&rt, rt.alloc(), "\u{feff}enum Event { Quit, Key(char) }");
+    assert!(&rt; marked.schema().root() == same.schema().root());
 }

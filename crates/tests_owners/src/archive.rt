@@ -1,4 +1,4 @@
-// Boxes, vectors, arrays, tuples, options, results, and records and choices of their own.
+// Boxes, vectors, arrays, tuples, options and results.
 
 mod all_tuples;
 mod arrays;
@@ -6,8 +6,6 @@ mod boxed_slices;
 mod copies;
 mod iterators;
 mod options;
-mod own_choices;
-mod own_variants;
 mod owner_reading;
 mod owner_views;
 mod owners;

@@ -3,8 +3,13 @@
 use crate::assertions::{assert_refused, assert_same};
 use crate::bytes::TWO;
 use archive_core::api::{HighValidator, access};
+use archive_core::core_impls::ArchivedTuple2;
 use archive_core::error::Error;
+use archive_core::primitive::ArchivedU32;
+use archive_core::result::ArchivedResult;
+use archive_core::self_check::SelfCheck;
 use archive_core::shape::Schema;
+use archive_core::traits::Portable;
 use recursive_types::list::ArchivedList;
 use std::alloc::{AllocError, Global};
 use std::process::Abort;
@@ -73,4 +78,20 @@ fn tag_of_no_variant(rt: HostRuntime) {
         value: 2,
     };
     assert_damaged(&rt, rt.alloc(), 12, 2, refusal);
+}
+
+fn validates_itself<T: Portable>() -> bool {
+    T::Check::is_direct()
+}
+
+// Two types with a name each may bring different definitions of one name.
+#[test]
+fn two_lists_go_by_their_schema(rt: HostRuntime) {
+    type One = ArchivedTuple2<ArchivedU32, ArchivedList>;
+    type Two = ArchivedTuple2<ArchivedList, ArchivedList>;
+    type Either = ArchivedResult<ArchivedList, ArchivedList>;
+    assert_same(&rt, "a list", validates_itself::<ArchivedList>(), true);
+    assert_same(&rt, "and a number", validates_itself::<One>(), true);
+    assert_same(&rt, "two lists", validates_itself::<Two>(), false);
+    assert_same(&rt, "one of two", validates_itself::<Either>(), false);
 }

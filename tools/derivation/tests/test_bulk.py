@@ -5,9 +5,6 @@ from derivation import write
 from .repository import RepositoryTest
 
 
-COPY = "#[derive(Clone, Copy)]\n"
-
-
 class InBulk(RepositoryTest):
     def is_copied(self, text):
         module = self.module(text)
@@ -29,20 +26,19 @@ class InBulk(RepositoryTest):
             (", ".join(f"x{i}: u128" for i in range(16)), True),
         ]:
             with self.subTest(fields):
-                self.assertEqual(self.is_copied(f"{COPY}struct A {{ {fields} }}"), is_there)
-                self.assertFalse(self.is_copied(f"struct A {{ {fields} }}"))
+                self.assertEqual(self.is_copied(f"struct A {{ {fields} }}"), is_there)
 
     def test_in_other_structs(self):
-        self.assertTrue(self.is_copied(f"{COPY}struct A {{ x: B, y: B }}\n{COPY}struct B(u16, i16);"))
-        self.assertFalse(self.is_copied(f"{COPY}struct A {{ x: B }}\n{COPY}struct B(Option<u8>);"))
-        self.assertFalse(self.is_copied(f"{COPY}struct A {{ x: B }}\n{COPY}enum B {{ C, D }}"))
+        self.assertTrue(self.is_copied("struct A { x: B, y: B }\nstruct B(u16, i16);"))
+        self.assertFalse(self.is_copied("struct A { x: B }\nstruct B(Option<u8>);"))
+        self.assertFalse(self.is_copied("struct A { x: B }\nenum B { C, D }"))
 
     def test_neither_with_nothing_nor_with_parameters(self):
         for text in ["struct A;", "struct A<T> { x: T }", "enum A { B(u8) }"]:
             with self.subTest(text):
-                self.assertFalse(self.is_copied(f"{COPY}{text}"))
+                self.assertFalse(self.is_copied(text))
 
     def test_the_proof_of_a_nest(self):
-        proofs = write.proofs(self.module(f"{COPY}struct A {{ x: B }}\n{COPY}struct B {{ y: u8 }}"))
+        proofs = write.proofs(self.module("struct A { x: B }\nstruct B { y: u8 }"))
         owned = next(text for path, text in proofs.items() if path.endswith("ACopied/copied_size/Answers.antt"))
         self.assertIn("plain_owns_nothing (plain_parts (plain_part (plain_parts (plain_part plain_leaf plain_none)) plain_none))", owned)

@@ -5,6 +5,7 @@ from unittest import mock
 
 from derivation.files import PROOF_BEGINS, told
 from derivation.model import MARK
+from derivation.units import FROM
 
 from .repository import RepositoryTest
 
@@ -78,6 +79,29 @@ class Writing(RepositoryTest):
         proof = os.path.join(self.top, "crates", "game", "proofs", "types", "big_some_of", "Answers.antt")
         self.assertIn("c.args.values.rest.rest.rest.fourth", self.text(proof))
         self.assertEqual(self.run_command("--check", path), (0, ""))
+
+    def test_many_variants_without_fields(self):
+        names = [f"V{i}" for i in range(256)]
+        names[3], names[200] = "V3(String)", "V200 { x: u8 }"
+        path = self.put("#[derive(Drop)]\npub enum Many { " + ", ".join(names) + " }\n")
+        self.assertEqual(self.run_command(path), (0, ""))
+        written = " ".join(self.text(path).split())
+        for text in (
+            "type ManyVariants = UnitVariants< 3, ( ManyV3Parts, UnitVariants<196, (ManyV200Parts, UnitVariants<55, ()>)>, ), >;",
+            "(units 196 (variant (part ⟦<u8 as Portable>⟧.shape no_part) (units 55 no_variant)))",
+            "_ => match serialize_case_0::<ArchivedMany, S>(ManyTag::tag(self), serializer) {",
+            "requires not_200 { tag ≢ 200 }",
+            "254 => Many::V254, _ => Many::V255, }",
+        ):
+            self.assertTrue(text in written, text)
+        self.assertEqual(written.count("serialize_case_0::<"), 1)
+        self.assertIn("_ => match serialize_case_0::<ArchivedMany, S>(ManyTag::tag(self), serializer) {", written)
+        self.assertEqual(self.run_command("--check", path), (0, ""))
+
+    def test_few_variants_without_fields(self):
+        path = self.put("#[derive(Drop)]\npub enum Few { " + ", ".join(f"V{i}" for i in range(FROM - 1)) + " }\n")
+        self.assertEqual(self.run_command(path), (0, ""))
+        self.assertNotIn("UnitVariants", self.text(path))
 
     def test_names_that_the_library_has_too(self):
         text = "use std::fmt::Error;\n/// A Choice of these.\n#[derive(Drop)]\npub enum Choice { Record(Record), Choice }\n#[derive(Drop)]\npub struct Record { pub x: u8 }\n"

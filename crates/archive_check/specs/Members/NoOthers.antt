@@ -1,9 +1,9 @@
 -- That no definition is brought but of names that are reached goes together: of a type that holds others it follows from that of each.
-use Rattle.std.proofs.Common.{[], ◌∷◌, zero, suc, refl, ap, subst, arith, ⊎_elim, Contains}
+use Rattle.std.proofs.Common.{arith, ⊎_elim, Contains}
 use Rattle.std.proofs.lemmas.List.Elements.{Contains-append_left, Contains-append_right, Contains-append_cases}
-use Rattle.archive_check.specs.Shape.{Name, Shape, parts, named, Parts, no_part, part, Table}
-use Rattle.archive_check.specs.Defined.{holds_parts, holds_name, holds_later, Mentions, mentions_held, mentions_parts, mentions_first, mentions_later, Involves, involves, involves_through}
-use Rattle.archive_check.specs.Definitions.{Definitions, no_definition, defines, both, listed, NoOthers}
+use Rattle.archive_check.specs.Shape.{Name, Shape, parts, Parts, no_part, part, Table}
+use Rattle.archive_check.specs.Defined.{holds_parts, holds_later, Mentions, mentions_held, mentions_parts, mentions_first, mentions_later, Involves, involves, involves_through}
+use Rattle.archive_check.specs.Definitions.{Definitions, no_definition, both, listed, NoOthers}
 
 -- More definitions lead no less far.
 involves_more : {old new : Table} {name : Name} {X : Shape} → ((n : Name) (Y : Shape) → Contains old (n, Y) → Contains new (n, Y)) → Involves old name X → Involves new name X
@@ -24,14 +24,6 @@ both_reached D E X h k name Y c = ⊎_elim
     (λ here. involves_more (λ n Z i. Contains-append_left (listed D) (listed E) (n, Z) i) (h name Y here))
     (λ there. involves_more (λ n Z i. Contains-append_right (listed D) (listed E) (n, Z) i) (k name Y there))
     (Contains-append_cases (listed D) (listed E) (name, Y) c)
-
--- A name, its definition and those that this one brings.
-pub defined_reached : (name : Name) (X : Shape) (D : Definitions) → NoOthers D X → NoOthers (both (defines name X) D) (named name)
-defined_reached name X D h n Y (zero, l, e) =
-    subst (λ m. Involves (listed (both (defines name X) D)) m (named name)) (ap (λ (p : Name × Shape). p.0) e) (involves (mentions_held holds_name))
-defined_reached name X D h n Y (suc k, l, e) =
-    involves_through (mentions_held holds_name) (zero, omega arith, refl)
-    (involves_more (λ m Z i. Contains-append_right ((name, X) ∷ []) (listed D) (m, Z) i) (h n Y (k, omega (arith, l), e)))
 
 -- No part.
 pub no_parts_reached : NoOthers no_definition (parts no_part)

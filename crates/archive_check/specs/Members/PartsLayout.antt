@@ -1,5 +1,5 @@
 -- The parts of a record, as a type names them: where each lies, and what they take together, in each schema that knows their definitions.
-use Rattle.std.proofs.Common.{◌≡◌, ℕ, zero, suc, ◌+◌, ◌≤◌, max, Option, Some, None, refl, ap, subst, ◌∙◌, arith, inl, ⊎_elim}
+use Rattle.std.proofs.Common.{◌≡◌, ℕ, zero, suc, ◌+◌, ◌≤◌, max, Option, Some, None, refl, ap, subst, arith, inl, ⊎_elim}
 use Rattle.std.proofs.lemmas.Bool.{cases_lt}
 use Rattle.std.proofs.lemmas.List.Elements.{Contains-append_left, Contains-append_right}
 use Rattle.archive_check.specs.Shape.{Name, Shape, parts, named, Parts, no_part, part, definition}
@@ -79,10 +79,6 @@ knows_at s (defines n X) i k = knows_none s k.laid_out
 pub is_record : (D : Definitions) (ps : Parts) → IsRecord D (parts ps) D ps
 is_record D ps = record { stands = λ s k. for_itself; known = λ s k. k }
 
--- And under a name of their own.
-pub is_named_record : (name : Name) (D : Definitions) (ps : Parts) → IsRecord (both (defines name (parts ps)) D) (named name) D ps
-is_named_record name D ps = record { stands = λ s k. by_name k.has.0; known = λ s k. knows_right s (defines name (parts ps)) D k }
-
 pub no_part_laid_out : PartsLaidOut no_definition no_part 1 (λ n. n) (λ n i. n)
 no_part_laid_out = record { aligned = λ s k. refl; ends = λ s k n. refl; begins = λ s k p n i Y none. absurd (cc none); offsets = λ s k n i. refl }
 
@@ -143,10 +139,6 @@ begins_at n i = omega arith
 pub record_has_layout : (D : Definitions) (ps : Parts) (a : ℕ) (end : ℕ → ℕ) (begin : ℕ → ℕ → ℕ) → PartsLaidOut D ps a end begin
     → HasLayout D (parts ps) (record { size = up (end 0) a; align = a })
 record_has_layout D ps a end begin h = record { solved = λ s k. rw (h.aligned s k, h.ends s k 0) refl }
-
--- A name has the layout of what it stands for.
-pub named_has_layout : (name : Name) (X : Shape) (D : Definitions) (L : Layout) → HasLayout D X L → HasLayout (both (defines name X) D) (named name) L
-named_has_layout name X D L h = record { solved = λ s k. k.laid_out.solves name X k.has.0 ∙ h.solved s (knows_right s (defines name X) D k) }
 
 -- an offset doesn't lie before that from which the parts are laid out.
 pub begins_over : (n a z : ℕ) → IsAlign a → (later : ℕ → ℕ → ℕ) → ((m j : ℕ) → m ≤ later m j) → (i : ℕ) → n ≤ first_or (up n a) (later (up n a + z)) i

@@ -1,10 +1,10 @@
 -- The variants of a choice, as a type names them: where each part of each lies, and what they take together, in each schema that knows their definitions.
 use Rattle.std.proofs.Common.{◌≡◌, ℕ, zero, suc, max, Option, None, refl, arith}
 use Rattle.archive_check.specs.Shape.{Name, Shape, choice, named, parts, Parts, Variants, no_variant, variant}
-use Rattle.archive_check.specs.Layout.{Layouts, up, variants_align, variants_end}
+use Rattle.archive_check.specs.Layout.{Layouts, variants_align, variants_end}
 use Rattle.archive_check.specs.Reads.{SchemaTable}
 use Rattle.archive_check.specs.Defined.{holds_parts, holds_choice, holds_variant, holds_other, Mentions, mentions_held, mentions_parts, mentions_choice, mentions_variant, mentions_other}
-use Rattle.archive_check.specs.Definitions.{Definitions, no_definition, defines, both, Knows, NoOthers, HasLayout}
+use Rattle.archive_check.specs.Definitions.{Definitions, no_definition, defines, both, Knows, NoOthers}
 use Rattle.archive_check.specs.Members.NoOthers.{around_reached, both_reached}
 use Rattle.archive_check.specs.Members.PartsLayout.{part_at, offset_of_part, definitions_at, knows_none, knows_at, knows_left, knows_right, PartsLaidOut, StandsFor, by_name}
 
@@ -47,10 +47,6 @@ pub record IsChoice (D : Definitions) (X : Shape) (name : Name) (E : Definitions
   pub stands : (s : SchemaTable) → Knows s D → StandsFor s (choice name vs) X
   pub known : (s : SchemaTable) → Knows s D → Knows s E
 
--- Variants under a name of their own.
-pub is_named_choice : (name : Name) (D : Definitions) (vs : Variants) → IsChoice (both (defines name (choice name vs)) D) (named name) name D vs
-is_named_choice name D vs = record { stands = λ s k. by_name k.has.0; known = λ s k. knows_right s (defines name (choice name vs)) D k }
-
 -- Under a name whose definition is the only one that is brought, as where the choice contains itself.
 pub is_recursive_choice : (name : Name) (E : Definitions) (vs : Variants) → ((s : SchemaTable) → Knows s (defines name (choice name vs)) → Knows s E)
     → IsChoice (defines name (choice name vs)) (named name) name E vs
@@ -78,11 +74,6 @@ module _ (D E : Definitions) (ps : Parts) (a : ℕ) (end : ℕ → ℕ) (begin :
     ends = λ s k. rw (first.ends s (knows_left s D E k) 1, others.ends s (knows_right s D E k)) refl;
     offsets = variant_offsets;
   }
-
--- A choice's layout, by its variants.
-pub choice_has_layout : (D : Definitions) (name : Name) (vs : Variants) (a end : ℕ) (begin : ℕ → ℕ → ℕ) → VariantsLaidOut D vs a end begin
-    → HasLayout D (choice name vs) (record { size = up end a; align = a })
-choice_has_layout D name vs a end begin h = record { solved = λ s k. rw (h.aligned s k, h.ends s k) refl }
 
 -- No variant.
 pub no_variants_reached : (name : Name) → NoOthers no_definition (choice name no_variant)

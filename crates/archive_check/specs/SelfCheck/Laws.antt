@@ -4,13 +4,11 @@ use mathlib.Core.Bool.{true≢false}
 use Rattle.std.proofs.Common.{refl, sym, arith}
 use Rattle.std.proofs.lemmas.Bool.Decides.{nat_tests}
 use Rattle.std.specs.Int.{w8, w16, w32, w64, w128}
-use Rattle.archive_check.specs.Shape.{Name, Kind, unit, bool, char, number, non_zero, raw_rel, Shape, leaf, named, Table, definition}
+use Rattle.archive_check.specs.Shape.{Kind, unit, bool, char, number, non_zero, raw_rel, Shape, leaf, Table}
 use Rattle.archive_check.specs.Layout.{kind_size}
 use Rattle.archive_check.specs.Reads.{SchemaTable}
 use Rattle.archive_check.specs.Tour.{Seen}
-use Rattle.archive_check.specs.Outcomes.{Outcome, done, refused}
-use Rattle.archive_check.specs.Walk.{walk_named}
-use Rattle.archive_check.specs.Trail.{trips_named}
+use Rattle.archive_check.specs.Outcomes.{Outcome}
 use Rattle.archive_check.specs.Words.BoundedSizes.{fits}
 use Rattle.archive_check.specs.Definitions.{Definitions, no_definition, listed, Knows}
 use Rattle.archive_check.specs.SelfCheck.Ways.{shape_way}
@@ -78,8 +76,3 @@ leaf_fits (raw_rel sign w128) = refl
 -- The check of a leaf.
 pub leaf_check : {nameless : Bool} (kind : Kind) → IsCheckOf no_definition (leaf kind) (kind_size kind) no_definition (leaf kind) (kind_size kind) nameless
 leaf_check kind = plain_check (leaf kind) (kind_size kind) (leaf_fits kind) refl
-
--- What comes of a name's definition comes of the name.
-pub named_checks_as : (t : SchemaTable) (name : Name) (X : Shape) → definition t.table name ≡ Some X → ChecksAs t X (named name)
-named_checks_as t name X d bytes p pending depth stop start seen (done l k) w = walk_named d w
-named_checks_as t name X d bytes p pending depth stop start seen (refused f) w = trips_named d w

@@ -29,11 +29,9 @@ mod variants;
 pub use four_parts::FourParts;
 pub use layouts::{LayoutRaw, layout_of_run};
 pub use map_keys::MapKey;
-pub use parts::{PortableParts, Record, define_record, expr_of_record, size_of_record};
+pub use parts::{PortableParts, Record, expr_of_record, size_of_record};
 pub use pointees::PortablePointee;
-pub use variants::{
-    Choice, PortableVariants, align_of_choice, define_choice, expr_of_choice, size_of_choice,
-};
+pub use variants::{Choice, PortableVariants, align_of_choice, expr_of_choice, size_of_choice};
 
 /// What a pointer can lead to: an archived value, a slice (`ArchivedSlice`) or a text
 /// (`ArchivedStr`). As in rkyv 0.8.18, with a length in place of a pointer's metadata.

@@ -163,7 +163,7 @@ impl<A: Portable, R: CheckedParts> CheckedParts for (A, R) {
     }
 }
 
-/// The check of a record that has a name: its parts, as `CheckedParts` lists them. The name has a definition, so it isn't nameless.
+/// The check of parts one after another, which that of a struct calls. It is that of no type itself.
 pub struct RecordCheck<P> {
     of: PhantomData<P>,
 }

@@ -115,10 +115,10 @@ first_mean D E ps vs a ws m =
 others_mean : (D E : Definitions) (ps : Parts) (vs : Variants) (t : ℕ) (a : Standing) (ws : Values) → CaseMeans (both D E) (variant ps vs) (suc t) a ws → CaseMeans E vs t a ws
 others_mean D E ps vs t a ws m = record { schema = m.schema; values = m.values; fields = m.fields; knows = knows_right m.schema D E m.knows; at = m.at; reads = m.reads; follows = m.follows }
 
-zero_is_less : (u : ℕ) → Less ≡ nat_cmp 0 (suc u)
+pub zero_is_less : (u : ℕ) → Less ≡ nat_cmp 0 (suc u)
 zero_is_less u = nat_cmp_is 0 (suc u) Less (omega arith)
 
-more_than_zero : (t : ℕ) → Greater ≡ nat_cmp (suc t) 0
+pub more_than_zero : (t : ℕ) → Greater ≡ nat_cmp (suc t) 0
 more_than_zero t = nat_cmp_is (suc t) 0 Greater (omega arith)
 
 later_by_one : (r : Ordering) (t u : ℕ) → MatchOrdering r (t < u) (t ≡ u) (u < t) → MatchOrdering r (suc t < suc u) (suc t ≡ suc u) (suc u < suc t)
@@ -126,7 +126,7 @@ later_by_one Less t u h = omega (arith, h)
 later_by_one Equal t u h = ap (λ n. suc n) h
 later_by_one Greater t u h = omega (arith, h)
 
-as_one_later : (t u : ℕ) → nat_cmp t u ≡ nat_cmp (suc t) (suc u)
+pub as_one_later : (t u : ℕ) → nat_cmp t u ≡ nat_cmp (suc t) (suc u)
 as_one_later t u = nat_cmp_is (suc t) (suc u) (nat_cmp t u) (later_by_one (nat_cmp t u) t u (ranks t u))
 
 pub cases_ordered : (D E : Definitions) (ps : Parts) (vs : Variants) (R : ℕ → Standing → Standing → Ordering) (S : ℕ × Standing → ℕ × Standing → Ordering)

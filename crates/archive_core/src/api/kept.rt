@@ -12,11 +12,14 @@ ghost use Rattle.archive_check.specs.context.Pushes.{FewPushed};
 ghost use Rattle.archive_schema.specs.Schemas.{IsSchemaOf};
 ghost use Rattle.archive_core.specs.WholeArchives.{ReadsArchive};
 ghost use Rattle.archive_schema.specs.ContextAnswers.{AnswersIn};
+ghost use Rattle.archive_inspect.specs.Explained.{ExplainsBuffer};
+ghost use Rattle.archive_check.specs.declared.format.error.Error.TheVariants.{OutOfMemory};
 
 use super::access_direct;
 use archive_check::context::{ArchiveContext, HighValidator, SharedContext};
 use archive_check::format::error::Error;
 use archive_check::self_check::{SelfCheck, check_root};
+use archive_inspect::explain::{Explanation, explain};
 use archive_schema::shape::Schema;
 use archive_types::traits::{Archive, Deserialize, Entries, Portable};
 use archive_types::view::{RawView, Ref};
@@ -159,5 +162,18 @@ impl<T: Portable> Access<T> {
     {
         let root = self.access(bytes)?;
         <T as Deserialize<U, D>>::deserialize(self.alloc, root, deserializer)
+    }
+
+    /// Why the bytes are no archive whose root lies at their end: `None` if they are one. The
+    /// schema is compiled anew for it.
+    ///
+    /// Errors:
+    /// - `OutOfMemory`: memory is refused.
+    pub fn explain(&self, bytes: &[u8]) -> Result<Option<Explanation>, Error>
+        ensures explained { IfOk result (ExplainsBuffer T.definitions bytes.now
+            (root_in bytes.now T.layout) T.shape) }
+        ensures refused { IfErr result (λ e. e ≡ OutOfMemory) }
+    {
+        explain::<T>(self.alloc, bytes)
     }
 }

@@ -3,13 +3,14 @@
 ghost use Rattle.std.specs.Prelude.{◌≡◌, ◌++◌, [], ℕ, List, fold, true};
 ghost use Rattle.std.specs.declared.cmp.Ordering.{Ordering as Order};
 ghost use Rattle.archive_core.specs.compared.ComparedCases.{cases_order, cases_fed, tags_order, CaseViewed, choice_order, choice_fed, cases_of};
+ghost use Rattle.archive_core.specs.compared.ComparedUnits.{units_order, units_fed};
 ghost use Rattle.archive_types.specs.Compared.{Standing};
 ghost use Rattle.archive_check.specs.Definitions.{no_definition};
 ghost use Rattle.archive_core.specs.fields.Plain.{are_none, is_choice};
 ghost use Rattle.archive_types.specs.Words.Seen.{IsPartOf, part_shown};
 
 use crate::compared::fields::ComparedFields;
-use crate::fields::known_tag;
+use crate::fields::{UnitVariants, known_tag};
 use archive_check::format::traits::PortableVariants;
 use archive_types::traits::Portable;
 use archive_types::view::RawView;
@@ -78,6 +79,27 @@ impl<P: ComparedFields, R: ComparedCases> ComparedCases for (P, R) {
             P::hash_fields(part, 1, state);
         } else {
             R::hash_case(tag - 1, part, state);
+        }
+    }
+}
+
+impl<const N: usize, R: ComparedCases> ComparedCases for UnitVariants<N, R> {
+    ghost order = { units_order N R.order };
+
+    ghost hash_input = { units_fed N R.hash_input };
+
+    #[inline(always)]
+    fn compare_cases(tag: u8, a: RawView<'_>, other: u8, b: RawView<'_>) -> Ordering {
+        if (tag as usize) < N || (other as usize) < N {
+            return tag.cmp(&other);
+        }
+        R::compare_cases(tag - N as u8, a, other - N as u8, b)
+    }
+
+    #[inline(always)]
+    fn hash_case<H: Hasher>(tag: u8, part: RawView<'_>, state: &mut H) {
+        if (tag as usize) >= N {
+            R::hash_case(tag - N as u8, part, state);
         }
     }
 }

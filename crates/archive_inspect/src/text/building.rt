@@ -1,7 +1,7 @@
 //! What is made of a word and its arguments.
 
 use crate::form::labels::{Labels, VariantLabels};
-use crate::text::known::SHARED;
+use crate::text::known::{SHARED, kept};
 use crate::text::mistakes::{Mistake, Wrong};
 use crate::text::parser::{Read, ReadParts, leaf};
 use archive_check::format::expr::{Expr, Key, Kind, Pointee};
@@ -252,7 +252,7 @@ pub(super) fn built_of(
         }),
         _ => Err(Wrong {
             at,
-            mistake: Mistake::UnknownType,
+            mistake: Mistake::UnknownType(kept(alloc, "", word)?),
         }),
     }
 }

@@ -7,6 +7,7 @@ use crate::text::parser::{LEVELS, Parser, Read, ReadParts};
 use crate::text::tokens::{Token, TokenKind, text_of};
 use archive_check::format::expr::Expr;
 use std::alloc::Global;
+use std::collections::BTreeSet;
 
 // How many types may be defined.
 const TYPES: usize = 500;
@@ -160,15 +161,34 @@ impl Parser<'_> {
         Ok(parts.record(name))
     }
 
+    // The name in a token, as one that lasts. A name that those before it have is the mistake.
+    fn new_name(
+        &self,
+        token: Token,
+        before: &mut BTreeSet<&'static str>,
+        mistake: Mistake,
+    ) -> Result<&'static str, Wrong> {
+        let name = self.kept(token)?;
+        if before.insert(name)? {
+            Ok(name)
+        } else {
+            Err(Wrong {
+                at: token.start,
+                mistake,
+            })
+        }
+    }
+
     // Fields with names, up to the brace.
     fn read_fields(&mut self, parts: &mut ReadParts) -> Result<(), Wrong> {
+        let mut names = BTreeSet::new(self.alloc);
         for _ in 0..self.most() {
             if self.take_sign(b'}') {
                 return Ok(());
             }
             self.pass_visibility();
             let token = self.word("a field or `}`")?;
-            let name = self.kept(token)?;
+            let name = self.new_name(token, &mut names, Mistake::FieldTwice)?;
             self.sign(b':', "`:`")?;
             let read = self.read_type(LEVELS)?;
             parts.push(name, read)?;
@@ -187,12 +207,13 @@ impl Parser<'_> {
     ) -> Result<Read, Wrong> {
         let mut exprs = Vec::new(self.alloc);
         let mut labels = Vec::new(self.alloc);
+        let mut names = BTreeSet::new(self.alloc);
         self.sign(b'{', "`{`")?;
         for _ in 0..self.most() {
             if self.take_sign(b'}') {
                 break;
             }
-            let (parts, variant) = self.read_variant()?;
+            let (parts, variant) = self.read_variant(&mut names)?;
             exprs.push(parts)?;
             labels.push(variant)?;
             if !self.is_sign(b'}') {
@@ -211,9 +232,13 @@ impl Parser<'_> {
         })
     }
 
-    fn read_variant(&mut self) -> Result<(Vec<Expr>, VariantLabels), Wrong> {
+    // A variant; `before` has the names of those before it.
+    fn read_variant(
+        &mut self,
+        before: &mut BTreeSet<&'static str>,
+    ) -> Result<(Vec<Expr>, VariantLabels), Wrong> {
         let token = self.word("a variant or `}`")?;
-        let name = self.kept(token)?;
+        let name = self.new_name(token, before, Mistake::VariantTwice)?;
         let mut parts = ReadParts::new(self.alloc);
         if self.take_sign(b'{') {
             self.read_fields(&mut parts)?;

@@ -16,11 +16,17 @@ pub enum Mistake {
     #[error("expected {0}")]
     Expected(&'static str),
     /// A type is neither defined nor one of the library's.
-    #[error("unknown type")]
-    UnknownType,
+    #[error("unknown type `{0}`")]
+    UnknownType(&'static str),
     /// A type has the name of one above.
     #[error("a type of this name is defined above")]
     DefinedTwice,
+    /// A field has the name of one before it.
+    #[error("a field of this name comes before")]
+    FieldTwice,
+    /// A variant has the name of one before it.
+    #[error("a variant of this name comes before")]
+    VariantTwice,
     /// A defined type has parameters.
     #[error("generic types aren't supported: define one for each use")]
     Parameters,

@@ -326,7 +326,7 @@ fn wrong_of(error: Error) -> Wrong {
     let mistake = match error {
         Error::OutOfMemory => Mistake::OutOfMemory,
         Error::RecursiveLayout => Mistake::Recursive,
-        _ => Mistake::UnknownType,
+        _ => Mistake::Expected("types that are defined"),
     };
     Wrong { at: 0, mistake }
 }

@@ -53,8 +53,16 @@ impl<'a> Walker<'a> {
             at: position,
         };
         self.enter(region, Held::Root, None, (position, layout.size))?;
-        self.next = Next::Value(place);
+        self.begin_only(place);
         Ok(())
+    }
+
+    // The only value of the innermost region is looked at next.
+    pub(super) fn begin_only(&mut self, place: Place<'a>) {
+        if let Some(Frame::Region(inside)) = self.frames.last_mut() {
+            inside.only = Some(place);
+        }
+        self.next = Next::Value(place);
     }
 
     // A region is entered: the range ends where it begins. The pointer's bytes are faulty where it
@@ -76,6 +84,7 @@ impl<'a> Walker<'a> {
         }
         let inside = Inside {
             held,
+            only: None,
             end: region.end(),
             stop: self.stop,
             shared,
@@ -89,7 +98,8 @@ impl<'a> Walker<'a> {
     // Elements that lie one behind another. Those that need not be looked at one by one are passed
     // at once.
     pub(super) fn elements(&self, place: Place<'a>, count: usize, size: i128) -> OpenElements<'a> {
-        let passed = size == 0 || (self.quick && is_free(place.expr));
+        let quick = self.quick || (self.twice && !self.again);
+        let passed = size == 0 || (quick && is_free(place.expr));
         OpenElements {
             expr: place.expr,
             labels: place.labels,

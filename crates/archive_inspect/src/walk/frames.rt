@@ -117,6 +117,8 @@ pub enum Held<'a> {
 pub struct Inside<'a> {
     /// What lies in it.
     pub held: Held<'a>,
+    /// The only value in it.
+    pub only: Option<Place<'a>>,
     /// The position behind its last byte.
     pub end: i128,
     /// Where the range ends again, once it is left.
@@ -206,12 +208,63 @@ impl<'a> OpenEntries<'a> {
     }
 }
 
+impl Held<'_> {
+    // It begins again.
+    pub(super) fn begin_again(&mut self) {
+        match self {
+            Held::Elements(elements) if elements.size > 0 => elements.begun = 0,
+            Held::Entries(entries) => {
+                entries.begun = 0;
+                entries.in_value = false;
+            }
+            _ => {}
+        }
+    }
+
+    // It ends after so many elements or entries.
+    fn limit(&mut self, most: usize) {
+        match self {
+            Held::Elements(elements) => elements.count = elements.count.min(most),
+            Held::Entries(entries) => entries.count = entries.count.min(most),
+            Held::Root | Held::One | Held::Text => {}
+        }
+    }
+}
+
 // A value to be looked at, if there is one.
 fn value(place: Option<Place<'_>>) -> Option<Begun<'_>> {
     Some(Begun::Value(place?))
 }
 
 impl<'a> Frame<'a> {
+    // It begins again, if it is a region.
+    pub(super) fn begin_again(&mut self) -> bool {
+        match self {
+            Frame::Region(inside) => {
+                inside.held.begin_again();
+                true
+            }
+            Frame::Parts(_) | Frame::Array(_) => false,
+        }
+    }
+
+    // The only value of a region.
+    pub(super) fn only(&self) -> Option<Place<'a>> {
+        match self {
+            Frame::Region(inside) => inside.only,
+            Frame::Parts(_) | Frame::Array(_) => None,
+        }
+    }
+
+    // It ends after so many parts, elements or entries.
+    pub(super) fn limit(&mut self, most: usize) {
+        match self {
+            Frame::Parts(parts) => parts.exprs = parts.exprs.get(..most).unwrap_or(parts.exprs),
+            Frame::Array(elements) => elements.count = elements.count.min(most),
+            Frame::Region(inside) => inside.held.limit(most),
+        }
+    }
+
     // The next part, element, key or value.
     pub(super) fn advance(&mut self, form: &'a Form) -> Option<Begun<'a>> {
         match self {

@@ -4,7 +4,7 @@ use crate::form::layouts::layout_of_entry;
 use crate::walk::bytes::start_of;
 use crate::walk::faults::{FirstFault, Reason, Stop};
 use crate::walk::frames::{Frame, Held, OpenEntries, Place};
-use crate::walk::{Count, Event, Region, Visited, Walker, What};
+use crate::walk::{Count, Event, Region, Walker, What};
 use archive_check::format::expr::{Expr, Key};
 
 // Whether the key at a position comes before the one at another.
@@ -66,6 +66,9 @@ impl<'a> Walker<'a> {
             align: entry.align,
             count: Count::Elements(count),
         };
+        if self.again {
+            return Walker::found(place, 8, What::Pointer(region));
+        }
         let inner = self.within(place, value);
         let entries = OpenEntries {
             expr: place.expr,
@@ -80,12 +83,6 @@ impl<'a> Walker<'a> {
             offset,
         };
         self.enter(region, Held::Entries(entries), None, (place.at, 8))?;
-        Ok(Some(Event::Found(Visited {
-            position: place.at,
-            size: 8,
-            expr: place.expr,
-            labels: place.labels,
-            what: What::Pointer(region),
-        })))
+        Walker::found(place, 8, What::Pointer(region))
     }
 }

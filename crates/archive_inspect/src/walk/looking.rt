@@ -75,7 +75,11 @@ fn own_name(labels: Option<&Labels>, name: &'static str) -> &'static str {
 
 impl<'a> Walker<'a> {
     // What was found at a place, with so many bytes of its own.
-    fn found(place: Place<'a>, size: i128, what: What<'a>) -> Result<Option<Event<'a>>, Stop> {
+    pub(super) fn found(
+        place: Place<'a>,
+        size: i128,
+        what: What<'a>,
+    ) -> Result<Option<Event<'a>>, Stop> {
         Ok(Some(Event::Found(Visited {
             position: place.at,
             size,
@@ -297,10 +301,14 @@ impl<'a> Walker<'a> {
         flavor: FlavorInfo,
         pointee: &'a Pointee,
     ) -> Result<Option<Event<'a>>, Stop> {
+        if self.again {
+            return self.look_again(pointer, pointee);
+        }
         let met = Met {
             flavor,
             pointee,
             length: pointer.length,
+            pointer: pointer.place.at,
             pending: true,
         };
         match self.meet(pointer.target, met)? {
@@ -311,6 +319,21 @@ impl<'a> Walker<'a> {
             }
             Meeting::Refused(reason) => Err(fault_at(pointer.place.at, pointer.size, reason)),
         }
+    }
+
+    // A shared pointer of a region that is gone through again.
+    fn look_again(
+        &self,
+        pointer: Pointer<'a>,
+        pointee: &Pointee,
+    ) -> Result<Option<Event<'a>>, Stop> {
+        let region = self.region_of(pointer, pointee);
+        let what = if self.is_first(pointer.target, pointer.place.at) {
+            What::Pointer(region)
+        } else {
+            What::Again(region)
+        };
+        Walker::found(pointer.place, pointer.size, what)
     }
 
     // The region that a pointer leads to.
@@ -344,9 +367,12 @@ impl<'a> Walker<'a> {
         match pointee {
             Pointee::One(expr) => {
                 let region = self.region_of(pointer, pointee);
+                if self.again {
+                    return Walker::found(pointer.place, pointer.size, What::Pointer(region));
+                }
                 self.enter(region, Held::One, shared, (pointer.place.at, pointer.size))?;
                 let inner = self.within(pointer.place, expr);
-                self.next = Next::Value(Place {
+                self.begin_only(Place {
                     expr: inner.expr,
                     labels: inner.labels,
                     at: region.position,
@@ -372,6 +398,9 @@ impl<'a> Walker<'a> {
             align: layout.align,
             count: Count::Elements(pointer.length),
         };
+        if self.again {
+            return Walker::found(pointer.place, pointer.size, What::Pointer(region));
+        }
         let inner = self.within(pointer.place, element);
         let first = Place {
             expr: inner.expr,
@@ -400,8 +429,13 @@ impl<'a> Walker<'a> {
             align: 1,
             count: Count::Text(pointer.length),
         };
+        if self.again {
+            return Walker::found(pointer.place, pointer.size, What::Pointer(region));
+        }
         self.enter(region, Held::Text, shared, (pointer.place.at, pointer.size))?;
         self.next = Next::Text(pointer.place, region);
+        // Once is enough: a text leads nowhere.
+        self.again = self.twice;
         Walker::found(pointer.place, pointer.size, What::Pointer(region))
     }
 }

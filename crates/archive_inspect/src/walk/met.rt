@@ -10,6 +10,8 @@ pub(super) struct Met<'a> {
     pub(super) flavor: FlavorInfo,
     pub(super) pointee: &'a Pointee,
     pub(super) length: usize,
+    // Where the pointer lies by which it was met first.
+    pub(super) pointer: i128,
     // Whether it is being checked still.
     pub(super) pending: bool,
 }
@@ -47,6 +49,14 @@ impl<'a> Walker<'a> {
                 self.met.insert(position, met)?;
                 Ok(Meeting::First)
             }
+        }
+    }
+
+    // Whether a position was first met by the pointer that lies here.
+    pub(super) fn is_first(&self, position: i128, pointer: i128) -> bool {
+        match self.met.get(&position) {
+            Some(met) => met.pointer == pointer,
+            None => false,
         }
     }
 

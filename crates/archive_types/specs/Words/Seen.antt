@@ -108,10 +108,6 @@ RefusesPart g p d b e = RefusesReading g.definitions p.entry.bytes.now p.entry.p
 abbrev pub ReadsRecord : {T M D E X : Type 0} → ArchivePointee.Ghosts T M → Both RawView E → Entries.Ghosts D → Both (MutBor D) (MutBor D) → (X → Values) → (X → List Naming) → X → Type 0
 ReadsRecord g p d b meanings keys t = ReadsPart g p d b (product (meanings t)) (keys t)
 
--- The parts of a variant were, of the one that the tag names.
-abbrev pub ReadsVariant : {T M D E X : Type 0} → ArchivePointee.Ghosts T M → Both RawView E → Entries.Ghosts D → Both (MutBor D) (MutBor D) → (X → Values) → (X → List Naming) → X → Type 0
-ReadsVariant g p d b meanings keys t = ReadsPart g p d b (case (slice_index p.entry.bytes.now p.entry.pos) (meanings t)) (keys t)
-
 -- A view of the same buffer; one that begins n bytes behind another's beginning.
 abbrev pub IsBufferOf : {T M U N : Type 0} {g : ArchivePointee.Ghosts T M} {h : ArchivePointee.Ghosts U N} → Ref T M g → Ref U N h → Type 0
 IsBufferOf v u = u.bytes.now ≡ v.bytes.now

@@ -4,7 +4,6 @@ ghost use Rattle.std.specs.Prelude.{◌≡◌, ◌+◌, ◌<◌, ◌^◌, Some, 
 ghost use Rattle.archive_core.specs.PartsLayout.{part_at};
 ghost use Rattle.archive_core.specs.PlacedParts.{ChangesOnly, ZeroedPart};
 
-use super::own_choices::Event;
 use crate::assertions::assert_same;
 use archive_core::core_impls::ArchivedTuple2;
 use archive_core::error::Error;
@@ -37,20 +36,6 @@ fn an_element_is_written_where_it_stands(rt: HostRuntime) {
         element.write(258);
     }
     assert_same(&rt, "the bytes", bytes, [0xcc, 0xcc, 2, 1, 0xcc, 0xcc]);
-}
-
-#[test]
-fn a_variant_is_written_behind_its_tag(rt: HostRuntime) {
-    let mut bytes = [0xcc; 12];
-    let mut place: Place<'_, Event> = Place::new(16, &mut bytes);
-    place.write_tag(1);
-    let mut number = place.payload::<ArchivedU32>(1, 0);
-    assert_same(&rt, "the position", number.pos(), 20);
-    if number.as_slice().len() == 4 {
-        number.write(258);
-    }
-    let right = *b"\x01\xcc\xcc\xcc\x02\x01\0\0\xcc\xcc\xcc\xcc";
-    assert_same(&rt, "the bytes", bytes, right);
 }
 
 #[test]
@@ -96,15 +81,4 @@ fn an_element_is_resolved_where_it_lies(rt: HostRuntime) {
     let mut place: Place<'_, [ArchivedU16; 3]> = Place::new(16, &mut bytes);
     place.resolve_index(1, &258u16, ()).expect(&rt, "resolved");
     assert_same(&rt, "the bytes", bytes, [0xcc, 0, 2, 1, 0, 0]);
-}
-
-#[test]
-fn a_variant_is_resolved_behind_its_tag(rt: HostRuntime) {
-    let mut bytes = [0u8; 12];
-    let mut place: Place<'_, Event> = Place::new(16, &mut bytes);
-    place.write_tag(1);
-    place
-        .resolve_payload(1, 0, &258u32, ())
-        .expect(&rt, "resolved");
-    assert_same(&rt, "the bytes", bytes, *b"\x01\0\0\0\x02\x01\0\0\0\0\0\0");
 }

@@ -1,8 +1,6 @@
 // Types that check themselves answer as their schemas do; and a kept check answers views.
 
-ghost use Rattle.std.specs.Prelude.{◌≢◌, codes, refl, Some};
-ghost use Rattle.archive_core.specs.SelfCheck.Laws.{by_schema};
-ghost use Rattle.archive_core.specs.OwnRecords.{named_check};
+ghost use Rattle.std.specs.Prelude.{◌≢◌, Some};
 
 use crate::archive::HELLO_WORLD;
 use crate::assertions::{assert_holds, assert_same};
@@ -11,12 +9,12 @@ use archive_core::boxed::ArchivedBox;
 use archive_core::core_impls::{ArchivedTuple1, ArchivedTuple2, ArchivedTuple3};
 use archive_core::error::Error;
 use archive_core::map::ArchivedSortedMap;
-use archive_core::own::{ArchivedRecord, NamedRecord};
 use archive_core::primitive::{
     ArchivedChar, ArchivedI32, ArchivedNonZeroU16, ArchivedU16, ArchivedU32, ArchivedU128,
 };
+use archive_core::rc::{ArchivedRcWeak, RcFlavor};
 use archive_core::result::ArchivedResult;
-use archive_core::self_check::{BySchema, RecordCheck, SelfCheck};
+use archive_core::self_check::SelfCheck;
 use archive_core::shape::Schema;
 use archive_core::slice::ArchivedSlice;
 use archive_core::string::{ArchivedStr, ArchivedString};
@@ -26,43 +24,11 @@ use archive_core::view::Ref;
 use std::alloc::{AllocError, Global};
 use std::process::Abort;
 
-// Two numbers under a name, which their schema checks.
-struct TwoFormat;
+// A weak pointer to a number, which its schema checks: a null has the offset 1.
+type Weak = ArchivedRcWeak<ArchivedU32, RcFlavor>;
 
-impl NamedRecord for TwoFormat {
-    type Parts = (ArchivedU32, (ArchivedU32, ()));
-
-    type Check = BySchema;
-
-    ghost name = { codes "ArchivedTwo" };
-
-    ghost checks = { λ direct. by_schema direct };
-
-    fn name() -> &'static str {
-        "ArchivedTwo"
-    }
-}
-
-type ArchivedTwo = ArchivedRecord<TwoFormat>;
-
-// A bool and a byte under a name, which check themselves.
-struct LabelFormat;
-
-impl NamedRecord for LabelFormat {
-    type Parts = (bool, (u8, ()));
-
-    type Check = RecordCheck<Self::Parts>;
-
-    ghost name = { codes "ArchivedLabel" };
-
-    ghost checks = { λ direct. named_check refl refl refl refl refl refl };
-
-    fn name() -> &'static str {
-        "ArchivedLabel"
-    }
-}
-
-type ArchivedLabel = ArchivedRecord<LabelFormat>;
+// A bool and a byte, which check themselves.
+type Label = ArchivedTuple2<bool, u8>;
 
 // Whether a type checks itself.
 fn checks_itself<T: Portable>() -> bool {
@@ -207,8 +173,8 @@ fn maps_check_themselves_as_their_schemas_do(rt: HostRuntime) {
 
 #[test]
 fn maps_to_values_with_a_schema_go_by_their_schema(rt: HostRuntime) {
-    let named = b"\x01\0\0\0\x05\0\0\0\x06\0\0\0\xf4\xff\xff\xff\x01\0\0\0";
-    assert_map_agrees::<u8, ArchivedTwo>(&rt, rt.alloc(), false, named);
+    let weak = b"\x05\0\0\0\x01\0\0\0\xf8\xff\xff\xff\xf8\xff\xff\xff\x01\0\0\0";
+    assert_map_agrees::<u8, Weak>(&rt, rt.alloc(), false, weak);
 }
 
 #[test]
@@ -217,13 +183,13 @@ fn tuples_check_themselves_as_their_schemas_do(rt: HostRuntime) {
     let short = b"\x01\0\0\0hi\xff\xff\xff\xff\xff\xff";
     assert_agrees::<ArchivedTuple2<bool, ArchivedString>>(&rt, alloc, true, short);
     let items = b"\x01\0\0\0\x01\x02\x03\0\xf8\xff\xff\xff\x02\0\0\0";
-    type Labelled = ArchivedTuple3<ArchivedLabel, ArchivedNonZeroU16, ArchivedVec<bool>>;
+    type Labelled = ArchivedTuple3<Label, ArchivedNonZeroU16, ArchivedVec<bool>>;
     assert_agrees::<Labelled>(&rt, alloc, true, items);
-    let single = checks_itself::<ArchivedTuple1<ArchivedLabel>>();
+    let single = checks_itself::<ArchivedTuple1<Label>>();
     assert_holds(&rt, "a single label", single);
-    let nested = checks_itself::<ArchivedTuple2<ArchivedTuple1<bool>, ArchivedLabel>>();
+    let nested = checks_itself::<ArchivedTuple2<ArchivedTuple1<bool>, Label>>();
     assert_holds(&rt, "a tuple in a tuple", nested);
-    assert_agrees::<ArchivedTuple2<ArchivedTwo, bool>>(&rt, alloc, false, items);
+    assert_agrees::<ArchivedTuple2<Weak, bool>>(&rt, alloc, false, items);
 }
 
 #[test]
@@ -234,21 +200,11 @@ fn results_check_themselves_as_their_schemas_do(rt: HostRuntime) {
     assert_agrees::<Outcome>(&rt, alloc, true, ok);
     let error = b"\x01\0\x01\x02\0\0\0\0\0\0\0\0";
     assert_agrees::<Outcome>(&rt, alloc, true, error);
-    type Labelled = ArchivedResult<ArchivedLabel, ArchivedTuple2<bool, ArchivedVec<bool>>>;
+    type Labelled = ArchivedResult<Label, ArchivedTuple2<bool, ArchivedVec<bool>>>;
     let labelled = b"\x01\0\x01\0\x01\0\0\0\x01\0\0\0\xf4\xff\xff\xff\x02\0\0\0";
     assert_agrees::<Labelled>(&rt, alloc, true, labelled);
-    let direct = checks_itself::<ArchivedResult<bool, ArchivedTwo>>();
-    assert_holds(&rt, "two by their schema", !direct);
-}
-
-#[test]
-fn two_parts_with_definitions_go_by_their_schema(rt: HostRuntime) {
-    let alloc = rt.alloc();
-    type Pair = ArchivedTuple2<ArchivedLabel, ArchivedLabel>;
-    assert_agrees::<Pair>(&rt, alloc, false, b"\x01\x02\0\x03");
-    type Either = ArchivedResult<ArchivedLabel, ArchivedVec<ArchivedLabel>>;
-    let either = b"\0\x01\x02\0\0\0\0\0\0\0\0\0";
-    assert_agrees::<Either>(&rt, alloc, false, either);
+    let direct = checks_itself::<ArchivedResult<bool, Weak>>();
+    assert_holds(&rt, "one by its schema", !direct);
 }
 
 // A kept check.
@@ -284,8 +240,8 @@ fn a_kept_check_answers_views(rt: HostRuntime) {
 
 #[test]
 fn a_kept_schema_answers_views(rt: HostRuntime) {
-    let numbers = kept::<ArchivedTwo>(&rt, rt.alloc());
-    let bytes = b"\0\0\0\0\x01\0\0\0\x02\0\0\0";
+    let numbers = kept::<ArchivedTuple2<Weak, ArchivedU32>>(&rt, rt.alloc());
+    let bytes = b"\x01\0\0\0\x01\0\0\0\x02\0\0\0";
     assert_same(
         &rt,
         "the root's position, at the end",

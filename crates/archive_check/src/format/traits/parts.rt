@@ -4,11 +4,10 @@ ghost use Rattle.std.specs.Prelude.{◌≡◌, ℕ, ◌+◌, ◌≤◌, max, min
 ghost use Rattle.archive_check.specs.Shape.{parts, no_part, part};
 ghost use Rattle.archive_check.specs.Layout.{up};
 ghost use Rattle.archive_check.specs.Expressions.{shape_of, shapes_in, table_of};
-ghost use Rattle.archive_check.specs.Definitions.{IsAlign, NoOthers, Extended, ExplainsConflict, named_record};
+ghost use Rattle.archive_check.specs.Definitions.{IsAlign, NoOthers, Extended, ExplainsConflict};
 ghost use Rattle.archive_check.specs.Members.NoOthers.{no_parts_reached, part_reached};
 ghost use Rattle.archive_check.specs.Members.PartsLayout.{PartsLaidOut, HaveSizes, IsRecord, joined, first_or, no_part_laid_out, no_part_sized, part_laid_out, part_sized, greater_align, one_align, begins_at, begins_over, within_at, within_over};
 ghost use Rattle.archive_check.specs.declared.format.error.Error.TheVariants.{OutOfMemory};
-ghost use Rattle.archive_check.specs.Words.AddedDefinitions.{AreAdded};
 
 use super::Portable;
 use crate::format::error::Error;
@@ -205,21 +204,4 @@ pub fn expr_of_record<P: PortableParts>(alloc: Global) -> Result<Expr, Error>
     let mut list = Vec::new(alloc);
     P::push_exprs(alloc, &mut list)?;
     Ok(Expr::Record(list))
-}
-
-/// Adds the definition of a record that has a name, and those that its parts bring. Memory comes
-/// from `alloc` and from that of `defs`. Fails with `OutOfMemory` if memory is refused, and with
-/// `ShapeConflict` if a name has another definition already, or two.
-#[tactic(auto, using(crate::proofs::format::AddedDefinitions::adding))]
-pub fn define_record<P: PortableParts>(
-    alloc: Global,
-    name: &'static str,
-    defs: &mut Defs,
-) -> Result<(), Error>
-    ensures added { OnOk result (AreAdded defs (named_record name.now P.parts P.definitions)) }
-    ensures refused { IfErr result (ExplainsConflict (table_of defs.old)
-        (named_record name.now P.parts P.definitions)) }
-{
-    defs.add(name, expr_of_record::<P>(alloc)?)?;
-    P::define(alloc, defs)
 }

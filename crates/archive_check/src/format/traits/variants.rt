@@ -4,12 +4,11 @@ ghost use Rattle.std.specs.Prelude.{◌≡◌, ℕ, ◌+◌, ◌≤◌, max, min
 ghost use Rattle.archive_check.specs.Shape.{Name, choice, no_variant, variant};
 ghost use Rattle.archive_check.specs.Layout.{up};
 ghost use Rattle.archive_check.specs.Expressions.{shape_of, variants_in, table_of};
-ghost use Rattle.archive_check.specs.Definitions.{IsAlign, NoOthers, Extended, ExplainsConflict, named_choice};
+ghost use Rattle.archive_check.specs.Definitions.{IsAlign, NoOthers, Extended, ExplainsConflict};
 ghost use Rattle.archive_check.specs.Members.PartsLayout.{greater_align, one_align};
 ghost use Rattle.archive_check.specs.Members.VariantsHeld.{HavePayloadSizes, no_payload_sized, no_payload_within, payload_sized, payload_within};
 ghost use Rattle.archive_check.specs.Members.VariantsLayout.{VariantsLaidOut, IsChoice, joined_variants, first_variant_or, no_variant_laid_out, variant_laid_out, no_variants_reached, variant_reached};
 ghost use Rattle.archive_check.specs.declared.format.error.Error.TheVariants.{OutOfMemory};
-ghost use Rattle.archive_check.specs.Words.AddedDefinitions.{AreAdded};
 
 use super::Portable;
 use super::parts::PortableParts;
@@ -211,21 +210,4 @@ pub fn expr_of_choice<V: PortableVariants>(alloc: Global, name: &'static str) ->
     let mut list = Vec::new(alloc);
     V::push_variants(alloc, &mut list)?;
     Ok(Expr::Choice(name, list))
-}
-
-/// Adds the definition of a choice under its own name, and those that its parts bring. Memory comes
-/// from `alloc` and from that of `defs`. Fails with `OutOfMemory` if memory is refused, and with
-/// `ShapeConflict` if a name has another definition already, or two.
-#[tactic(auto, using(crate::proofs::format::AddedDefinitions::adding))]
-pub fn define_choice<V: PortableVariants>(
-    alloc: Global,
-    name: &'static str,
-    defs: &mut Defs,
-) -> Result<(), Error>
-    ensures added { OnOk result (AreAdded defs (named_choice name.now V.variants V.definitions)) }
-    ensures refused { IfErr result (ExplainsConflict (table_of defs.old)
-        (named_choice name.now V.variants V.definitions)) }
-{
-    defs.add(name, expr_of_choice::<V>(alloc, name)?)?;
-    V::define(alloc, defs)
 }

@@ -1,0 +1,5 @@
+//! Enums of many variants, as a user declares them, with what tools/derive writes for them. The tests are in tests_many.
+#![tactic(auto)]
+
+pub mod press;
+pub mod wind;
