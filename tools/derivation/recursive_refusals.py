@@ -3,8 +3,9 @@
 from .model import Declaration, Refused, Type
 from .recursive_plain import LEAVES
 
-# What plain parts may be made of, which a recursive type has beside those that lead back to it.
-PLAIN = set(LEAVES) | {"String", "BoxStr", "NonZero", "Option", "Result", "tuple", "Box", "BoxSlice", "Vec", "BTreeMap", "OwnedArray"}
+# What plain parts may be made of, which a recursive type has beside those that lead back to it. With a tuple or a `Result` the toolchain doesn't finish
+# what it makes of the functions that read it back.
+PLAIN = set(LEAVES) - {"bool", "()"} | {"String", "BoxStr", "NonZero", "Option", "Box", "BoxSlice", "Vec", "BTreeMap", "OwnedArray"}
 MOST_FIELDS = 7
 
 

@@ -2,7 +2,6 @@
 #![tactic(auto)]
 
 pub mod bush;
-pub mod fact;
 pub mod knot;
 pub mod note;
 pub mod rule;

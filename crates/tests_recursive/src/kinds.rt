@@ -11,7 +11,6 @@ use archive_core::error::Error;
 use archive_core::primitive::ArchivedNonZeroU32;
 use archive_core::traits::Portable;
 use recursive_kinds::bush::Bush;
-use recursive_kinds::fact::{ArchivedFact, Fact};
 use recursive_kinds::knot::{ArchivedKnot, Knot};
 use recursive_kinds::note::{ArchivedNote, Note};
 use recursive_kinds::rule::Rule;
@@ -108,42 +107,8 @@ fn options_in_a_vector(rt: HostRuntime) {
     assert_read(&rt, rt.alloc(), BUSHES, &bushes);
 }
 
-fn facts(alloc: Global) -> Result<Fact, AllocError> {
-    let reason = String::from_str(alloc, "no")?;
-    let mut facts = Vec::new(alloc);
-    facts.push(Fact::Holds(true, ()))?;
-    facts.push(Fact::Due(Some((-7, 9))))?;
-    facts.push(Fact::Outcome(Err(reason)))?;
-    Ok(Fact::Facts(facts))
-}
-
-// The three facts at 0, and all of them at 48. Of the 16 bytes of a fact the first is its tag; what it holds lies at 4, except that it holds, at 1.
-const FACTS: &[u8] =
-    b"\0\x01\0\0\0\0\0\0\0\0\0\0\0\0\0\0\x01\0\0\0\x01\0\0\0\xf9\xff\xff\xff\x09\0\0\0\x02\0\0\0\x01\0\0\0no\xff\xff\xff\xff\xff\xff\x03\0\0\0\xcc\xff\xff\xff\x03\0\0\0\0\0\0\0";
-
-#[test]
-fn facts_of_many_kinds(rt: HostRuntime) {
-    let facts = facts(rt.alloc()).expect(&rt, "facts");
-    assert_written(&rt, rt.alloc(), &facts, FACTS);
-    assert_read(&rt, rt.alloc(), FACTS, &facts);
-}
-
 fn tag_of_none(name: &'static str, value: u8) -> Error {
     Error::InvalidDiscriminant { name, value }
-}
-
-fn assert_damaged_facts(rt: &impl Abort, alloc: Global, at: usize, byte: u8, refusal: Error) {
-    assert_damaged::<ArchivedFact>(rt, alloc, FACTS, at, byte, refusal);
-}
-
-// Each variant, by a byte that it may not have.
-#[test]
-fn damaged_facts(rt: HostRuntime) {
-    let alloc = rt.alloc();
-    assert_damaged_facts(&rt, alloc, 1, 2, Error::InvalidBool);
-    assert_damaged_facts(&rt, alloc, 20, 2, tag_of_none("ArchivedOption", 2));
-    assert_damaged_facts(&rt, alloc, 36, 2, tag_of_none("ArchivedResult", 2));
-    assert_damaged_facts(&rt, alloc, 48, 4, tag_of_none("ArchivedFact", 4));
 }
 
 fn texts(alloc: Global) -> Result<Note, AllocError> {

@@ -70,13 +70,12 @@ class Recursive(RepositoryTest):
         self.assertIn("(λ vs. product (value (number (pos t.id)) (value (box (list vs)) no_value)))", self.beside("specs", "GroveMeaning.antt"))
 
     def test_plain_fields_are_told_by_what_they_are_made_of(self):
-        fields = "due: Option<(u16, i64)>, owner: Result<String, u8>, done: bool, hours: BTreeMap<String, u8>, parts: Vec<Task>"
-        path = self.put(f"use std::collections::BTreeMap;\n#[derive(Drop)]\npub struct Task {{ {fields} }}\n")
+        fields = "due: Option<u16>, owner: BoxStr, hours: BTreeMap<String, u8>, parts: Vec<Task>"
+        path = self.put(f"use archive_core::boxed::BoxStr;\nuse std::collections::BTreeMap;\n#[derive(Drop)]\npub struct Task {{ {fields} }}\n")
         self.assertEqual(self.run_command(path), (0, ""))
         text = self.beside("specs", "TaskMeaning.antt")
-        self.assertIn("(option_meaning (λ y. (product (value (number (pos y.0)) (value (number y.1) no_value)))) t.due)", text)
-        self.assertIn("(result_meaning (λ y. (text_value (string_bytes y))) (λ y. (number (pos y))) t.owner)", text)
-        self.assertIn("number (pos (bool_byte t.done))", text)
+        self.assertIn("(option_meaning (λ y. (number (pos y))) t.due)", text)
+        self.assertIn("(box (text_value (string_bytes t.owner.text)))", text)
         self.assertIn("(list (each_meaning (pair_meaning (λ y. (text_value (string_bytes y))) (λ y. (number (pos y)))) t.hours.entries))", text)
         self.assertIn("(sorted_map str_key (leaf (number_kind unsigned w8)))", self.beside("specs", "TaskShape.antt"))
 
