@@ -109,7 +109,8 @@ impl<W: io::Write + Drop> Tree<'_, W> {
         let Some(open) = self.open.last() else {
             return Ok(());
         };
-        self.begin(open.line)?;
+        let line = open.line;
+        self.begin(line)?;
         writeln!(self.out, "{text:?} at {position}")
     }
 

@@ -98,6 +98,16 @@ class Writing(RepositoryTest):
         self.assertIn("_ => match serialize_case_0::<ArchivedMany, S>(ManyTag::tag(self), serializer) {", written)
         self.assertEqual(self.run_command("--check", path), (0, ""))
 
+    def test_no_variant_with_fields(self):
+        path = self.put("#[derive(Drop)]\npub enum Many { " + ", ".join(f"V{i}" for i in range(FROM)) + " }\n")
+        self.assertEqual(self.run_command(path), (0, ""))
+        written = self.text(path)
+        self.assertTrue("let tag = known_tag::<Self>(part);\n        let value = many_without_fields(tag);\n" in written)
+        self.assertTrue("    fn serialize(&self, serializer: &mut S) -> Result<Self::Resolver, Error> {\n        match serialize_case_0::<" in written)
+        proof = os.path.join(os.path.dirname(path), "..", "proofs", "types", "ManySerialize", "serialize", "Answers.antt")
+        self.assertTrue("pub returns-in-Ok : goal.returns-in-Ok\n" in self.text(proof))
+        self.assertEqual(self.run_command("--check", path), (0, ""))
+
     def test_few_variants_without_fields(self):
         path = self.put("#[derive(Drop)]\npub enum Few { " + ", ".join(f"V{i}" for i in range(FROM - 1)) + " }\n")
         self.assertEqual(self.run_command(path), (0, ""))
