@@ -378,6 +378,9 @@ def functions_of(it, which, item):
     return f"{it.terms.n_of(item)}_{which}" if it.terms.is_member(item) else f"(λ y r. {getattr(it.terms, which)(item, 'y', 'r')})"
 
 
+SIMPLE = {f"{sign}{bits}" for sign in "ui" for bits in (8, 16, 32, 64, 128)} | {"char", "String"}
+
+
 class Element:
     """What is known of the calls that write an element of a vector: those that fail, and that none does; and the resolver that it leaves."""
 
@@ -390,6 +393,9 @@ class Element:
         inner = f"serialize_{it.word(box if it.terms.is_member(box) else box.args[0])}"
         first = f"c.{inner}.ensures.goes_on"
         self.goes, self.serialized, self.belongs, self.resolver = first, "c.in-Ok.ensures.serialized", "c.in-Ok.ensures.same_value", "_"
+        if not all(type.name in SIMPLE or type.own for case in it.cases for type in case.types if not it.terms.leads_back(type)):
+            # antt doesn't find it where a part keeps a resolver of its own
+            self.resolver = "c.in-Ok.resolver"
         self.refusals = [("in-Err", first, "c.in-Err.ensures.refused")]
         if not it.terms.is_member(box):
             self.goes, self.belongs = f"(goes_both _ _ _ {first} c.serialize_inner.ensures.goes_on)", "tt"

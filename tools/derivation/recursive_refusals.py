@@ -3,8 +3,9 @@
 from .model import Declaration, Refused, Type
 from .recursive_plain import LEAVES
 
-# What plain parts may be made of, which a recursive type has beside those that lead back to it.
-PLAIN = set(LEAVES) - {"usize", "isize"} | {"String", "NonZero", "Option", "Result", "Box", "Vec", "BTreeMap"}
+# What plain parts may be made of, which a recursive type has beside those that lead back to it. With an `Option` of a pair the toolchain doesn't finish what
+# it makes of the functions that read it back.
+PLAIN = set(LEAVES) | {"String", "BoxStr", "NonZero", "Option", "Result", "Box", "BoxSlice", "Vec", "BTreeMap", "OwnedArray"}
 MOST_FIELDS = 7
 
 

@@ -6,3 +6,5 @@ pub mod FactMeaning
 pub mod FactShape
 pub mod NoteMeaning
 pub mod NoteShape
+pub mod RuleMeaning
+pub mod RuleShape

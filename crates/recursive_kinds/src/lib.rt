@@ -5,3 +5,4 @@ pub mod bush;
 pub mod fact;
 pub mod knot;
 pub mod note;
+pub mod rule;

@@ -3,8 +3,10 @@
 
 ghost use Rattle.std.specs.Prelude.{◌<◌};
 
-use crate::assertions::{assert_read, assert_refused, assert_same, assert_written};
+use crate::assertions::{assert_read, assert_refused, assert_same, assert_written, value_of};
 use archive_core::api::{HighValidator, access_with_context};
+use archive_core::boxed::{BoxSlice, BoxStr};
+use archive_core::core_impls::OwnedArray;
 use archive_core::error::Error;
 use archive_core::primitive::ArchivedNonZeroU32;
 use archive_core::traits::Portable;
@@ -12,6 +14,7 @@ use recursive_kinds::bush::Bush;
 use recursive_kinds::fact::{ArchivedFact, Fact};
 use recursive_kinds::knot::{ArchivedKnot, Knot};
 use recursive_kinds::note::{ArchivedNote, Note};
+use recursive_kinds::rule::Rule;
 use std::alloc::{AllocError, Global};
 use std::collections::BTreeMap;
 use std::process::Abort;
@@ -218,4 +221,52 @@ fn limits_of_depth(rt: HostRuntime) {
     let too_deep = Err(Error::ExceededMaximumSubtreeDepth);
     assert_regions(&rt, rt.alloc(), 3, too_deep);
     assert_regions(&rt, rt.alloc(), 4, Ok(6));
+}
+
+// An array of these bytes; they are four.
+fn version(alloc: Global, bytes: [u8; 4]) -> Result<OwnedArray<u8, 4>, AllocError> {
+    let bytes = Vec::from_array(alloc, bytes)?;
+    let Some(version) = OwnedArray::from_vec(bytes) else {
+        return Err(AllocError);
+    };
+    Ok(version)
+}
+
+fn rule(
+    alloc: Global,
+    words: &str,
+    version: OwnedArray<u8, 4>,
+    pages: Vec<u16>,
+    lines: usize,
+    parts: Vec<Rule>,
+) -> Result<Rule, AllocError> {
+    let text = String::from_str(alloc, words)?;
+    Ok(Rule {
+        words: BoxStr { text },
+        version,
+        pages: BoxSlice { items: pages },
+        lines,
+        parts,
+    })
+}
+
+fn rules(alloc: Global) -> Result<Rule, AllocError> {
+    let one = version(alloc, [1, 0, 0, 2])?;
+    let part = rule(alloc, "be", one, Vec::new(alloc), 3, Vec::new(alloc))?;
+    let two = version(alloc, [2, 0, 0, 1])?;
+    let parts = vec![in alloc; part]?;
+    rule(alloc, "all", two, vec![in alloc; 7, 300]?, 9, parts)
+}
+
+// The words of the rule at 0, its pages at 4, the words of its part at 8 and its pages, which are none, at 10; its part at 12 and itself at 44. Of the 32
+// bytes of a rule its words are the first, its version lies at 8, its pages at 12, its lines at 20, and its parts at 24.
+const RULES: &[u8] =
+    b"all\0\x07\0,\x01be\0\0\xfc\xff\xff\xff\x02\0\0\0\x01\0\0\x02\xf2\xff\xff\xff\0\0\0\0\x03\0\0\0\xe8\xff\xff\xff\0\0\0\0\xd4\xff\xff\xff\x03\0\0\0\x02\0\0\x01\xcc\xff\xff\xff\x02\0\0\0\x09\0\0\0\xc8\xff\xff\xff\x01\0\0\0";
+
+#[test]
+fn fields_of_many_kinds(rt: HostRuntime) {
+    let rules = rules(rt.alloc()).expect(&rt, "rules");
+    assert_written(&rt, rt.alloc(), &rules, RULES);
+    let back: Rule = value_of(&rt, rt.alloc(), RULES);
+    assert_written(&rt, rt.alloc(), &back, RULES);
 }

@@ -38,7 +38,7 @@ pub serialize_each_note-returns-in_err-map_err-clause-refused : goal.serialize_e
 serialize_each_note-returns-in_err-map_err-clause-refused g t c = err_by c.from_residual-in_err-map_err.result OutOfMemory _ c.from_residual-in_err-map_err.ensures.1 no_memory
 
 pub serialize_each_note-loop-value-preserved : goal.serialize_each_note-loop-value-preserved
-serialize_each_note-loop-value-preserved g t c = record { continues = continues_step _ _ _ _ _ _ _ _ _ _ c.loop-value.value-index _ _ _ _ c.loop-value-test.true c.value-item.is (grind (arith, common_steps)) c.loop-value.invariant.continues c.in-Ok.ensures.serialized c.in-Ok.ensures.same_value c.serialize_note.ensures.goes_on }
+serialize_each_note-loop-value-preserved g t c = record { continues = continues_step _ _ _ _ _ _ _ _ _ _ c.loop-value.value-index _ _ _ c.in-Ok.resolver c.loop-value-test.true c.value-item.is (grind (arith, common_steps)) c.loop-value.invariant.continues c.in-Ok.ensures.serialized c.in-Ok.ensures.same_value c.serialize_note.ensures.goes_on }
 
 pub serialize_each_note-returns-clause-serialized : goal.serialize_each_note-returns-clause-serialized
 serialize_each_note-returns-clause-serialized g t c = continues_end _ _ _ _ _ _ _ _ _ _ _ (drop_of_length-le _ c.loop-value-test.false) c.loop-value.invariant.continues

@@ -1,0 +1,601 @@
+//! Rules with parts of their own.
+
+use archive_core::boxed::{BoxSlice, BoxStr};
+use archive_core::core_impls::OwnedArray;
+
+/// A rule.
+#[derive(Drop)]
+pub struct Rule {
+    /// Its words.
+    pub words: BoxStr,
+    /// Its version.
+    pub version: OwnedArray<u8, 4>,
+    /// The pages on which it is cited.
+    pub pages: BoxSlice<u16>,
+    /// How many lines it has.
+    pub lines: usize,
+    /// Its parts, each a rule.
+    pub parts: Vec<Rule>,
+}
+
+// Below this line all is written by tools/derive: change what is above it, and run it again.
+
+ghost use Rattle.archive_core.specs.CallOutcomes.{ResolvesAs};
+ghost use Rattle.archive_core.specs.Causes.{IsRefused};
+ghost use Rattle.archive_core.specs.Definitions.{no_definition};
+ghost use Rattle.archive_core.specs.Error.TheVariants.{OutOfMemory};
+ghost use Rattle.archive_core.specs.Expressions.{shape_of, shapes_in};
+ghost use Rattle.archive_core.specs.Fields.{field_in};
+ghost use Rattle.archive_core.specs.PlannedOwners.{one_planned};
+ghost use Rattle.archive_core.specs.Plans.{Serialized};
+ghost use Rattle.archive_core.specs.Runs.{EachBelongs, IsRunRefused, SerializedRun, each_flat, each_keys, each_meaning};
+ghost use Rattle.archive_core.specs.SealsWritten.{IsSealOf, SealsPart};
+ghost use Rattle.archive_core.specs.Seen.{IsPartOf, RefusesPart, ShowsValueOf};
+ghost use Rattle.archive_core.specs.SelfCheck.Laws.{by_schema};
+ghost use Rattle.archive_core.specs.Shape.{one, part, parts, vec};
+ghost use Rattle.archive_core.specs.Sources.{Read};
+ghost use Rattle.archive_core.specs.Value.{value};
+ghost use Rattle.archive_core.specs.Writing.{ZeroedPlace};
+ghost use Rattle.archive_core.specs.Written.{GoesOn};
+ghost use Rattle.recursive_kinds.specs.RuleShape.{rule_definitions, rule_has_layout, rule_has_parts, rule_is_align, rule_layout, rule_no_others, rule_parts, rule_shape, rule_stands_for};
+ghost use Rattle.std.proofs.Common.{lit≤};
+ghost use Rattle.std.specs.Prelude.{IfErr, IfOk, None, length, refl, ◌+◌, ◌≡◌, ◌≤◌};
+
+use archive_core::boxed::ArchivedBox;
+use archive_core::error::Error;
+use archive_core::place::Place;
+use archive_core::primitive::{ArchivedU16, ArchivedUsize};
+use archive_core::recursive::{
+    VecAt, before_vec, define_name, part_of_record, read_part, record_of, resolve_named_record_5,
+    seal_of_field, serialize_inner_slice, serialize_part, view_of_field,
+};
+use archive_core::seal::Seal;
+use archive_core::self_check::BySchema;
+use archive_core::ser::{ResolverAlloc, Writer, serialize_one};
+use archive_core::shape::{Defs, Expr};
+use archive_core::slice::ArchivedSlice;
+use archive_core::string::ArchivedStr;
+use archive_core::traits::{
+    Archive, ArchivePointee, ArchiveUnsized, CopyOptimization, Deserialize, Entries, Keys,
+    Portable, Record, Serialize, SerializeUnsized,
+};
+use archive_core::vec::{ArchivedVec, VecResolver};
+use archive_core::view::{RawView, Ref};
+use std::alloc::{AllocError, Global};
+
+/// An archived `Rule`: 32 bytes at a multiple of 4. It is validated by its schema.
+pub struct ArchivedRule;
+
+type RuleParts = (
+    ArchivedBox<ArchivedStr>,
+    (
+        [u8; 4],
+        (
+            ArchivedBox<ArchivedSlice<ArchivedU16>>,
+            (ArchivedUsize, (ArchivedVec<ArchivedRule>, ())),
+        ),
+    ),
+);
+
+impl ArchivePointee for ArchivedRule {
+    type ArchivedMetadata = ();
+
+    ghost pointee = { one rule_shape };
+
+    ghost definitions = { rule_definitions };
+
+    ghost metadata_length = { λ _. 0 };
+
+    fn pointer_metadata(_metadata: &()) -> usize {
+        0
+    }
+}
+
+// The parts of `Rule`.
+fn rule_expressions(alloc: Global) -> Result<Vec<Expr>, Error>
+    ensures shapes { IfOk result (λ list. shapes_in list.items ≡ rule_parts) }
+    ensures refused { IfErr result (λ e. e ≡ OutOfMemory) }
+{
+    let a0 = <ArchivedBox<ArchivedStr> as Portable>::expr(alloc)?;
+    let a1 = <[u8; 4] as Portable>::expr(alloc)?;
+    let a2 = <ArchivedBox<ArchivedSlice<ArchivedU16>> as Portable>::expr(alloc)?;
+    let a3 = <ArchivedUsize as Portable>::expr(alloc)?;
+    let a4 = Expr::Vec(Box::new(alloc, Expr::Named("ArchivedRule"))?);
+    Ok(vec![in alloc; a0, a1, a2, a3, a4]?)
+}
+
+// What the name stands for.
+fn rule_expression(alloc: Global) -> Result<Expr, Error>
+    ensures shape { IfOk result (λ e. shape_of e ≡ rule_stands_for) }
+    ensures refused { IfErr result (λ e. e ≡ OutOfMemory) }
+{
+    let parts = rule_expressions(alloc)?;
+    Ok(record_of(parts))
+}
+
+impl Portable for ArchivedRule {
+    ghost shape = { rule_shape };
+
+    ghost layout = { rule_layout };
+
+    type Check = BySchema;
+
+    ghost is_one = { refl };
+
+    ghost is_align = { rule_is_align };
+
+    ghost has_layout = { rule_has_layout };
+
+    ghost no_others = { rule_no_others };
+
+    ghost checks = { λ direct. by_schema direct };
+
+    fn size() -> usize {
+        32
+    }
+
+    fn align() -> usize {
+        4
+    }
+
+    fn expr(_alloc: Global) -> Result<Expr, Error> {
+        Ok(Expr::Named("ArchivedRule"))
+    }
+
+    fn define(alloc: Global, defs: &mut Defs) -> Result<(), Error> {
+        let stands_for = match rule_expression(alloc) {
+            Ok(stands_for) => stands_for,
+            Err(error) => return Err(error),
+        };
+        define_name("ArchivedRule", stands_for, defs)
+    }
+}
+
+impl Record for ArchivedRule {
+    type Parts = RuleParts;
+
+    ghost has_parts = { rule_has_parts };
+
+    ghost holds = { lit≤ tt };
+}
+
+/// What is kept of `Rule` between `serialize` and `resolve`.
+#[derive(Drop)]
+pub struct RuleResolver {
+    kept: (
+        <BoxStr as Archive>::Resolver,
+        (
+            <OwnedArray<u8, 4> as Archive>::Resolver,
+            (
+                <BoxSlice<u16> as Archive>::Resolver,
+                (<usize as Archive>::Resolver, (VecResolver, ())),
+            ),
+        ),
+    ),
+}
+
+impl Archive for Rule {
+    ghost use Rattle.recursive_kinds.specs.RuleMeaning.{rule_meaning, rule_flat, rule_keys, rule_belongs, rule_keyed, rule_planned};
+
+    type Archived = ArchivedRule;
+
+    type Resolver = RuleResolver;
+
+    ghost meaning = { rule_meaning };
+
+    ghost flat = { rule_flat };
+
+    ghost keys = { rule_keys };
+
+    ghost belongs = { rule_belongs };
+
+    ghost in_bulk = { None };
+
+    ghost keyed = { rule_keyed };
+
+    ghost planned = { rule_planned };
+
+    #[inline(always)]
+    fn resolve(
+        &self,
+        resolver: Self::Resolver,
+        place: Place<'_, Self::Archived>,
+    ) -> Result<(), Error>
+        requires zeroed { ZeroedPlace 32 place.pos place.bytes.now }
+        requires same_value { ⟦<Self as Archive>⟧.belongs self.now resolver }
+        ensures { ResolvesAs ⟦<Self::Archived as Portable>⟧ place
+            (⟦<Self as Archive>⟧.flat self.now resolver) result }
+    {
+        let Place { bytes, pos, .. } = place;
+        let RuleResolver { kept } = resolver;
+        let h4: VecAt<ArchivedRule> = VecAt::of(self.parts.len());
+        resolve_named_record_5::<
+            BoxStr,
+            OwnedArray<u8, 4>,
+            BoxSlice<u16>,
+            usize,
+            VecAt<ArchivedRule>,
+            ArchivedRule,
+        >(
+            &self.words,
+            &self.version,
+            &self.pages,
+            &self.lines,
+            &h4,
+            kept,
+            Place::new(pos, bytes),
+        )
+    }
+
+    #[inline(always)]
+    fn copy_optimization() -> CopyOptimization<Self> {
+        CopyOptimization::disable()
+    }
+
+    #[inline(always)]
+    fn serialize_copied<S: Writer + Keys>(
+        _values: &[Self],
+        _together: usize,
+        _serializer: &mut S,
+    ) -> Result<Option<usize>, Error> {
+        Ok(None)
+    }
+}
+
+// Writes what each of the values owns, in order.
+#[cycle(serialize_rule)]
+fn serialize_each_rule<S: Writer + Keys + ResolverAlloc<Alloc = Global>>(
+    values: &[Rule],
+    serializer: &mut S,
+) -> Result<Vec<<Rule as Archive>::Resolver, S::Alloc>, Error>
+    ensures serialized { IfOk result (λ rs. SerializedRun rule_definitions rule_shape
+        (length values.now) (each_keys ⟦<Rule as Archive>⟧.keys values.now)
+        (each_meaning ⟦<Rule as Archive>⟧.meaning values.now)
+        (each_flat ⟦<Rule as Archive>⟧.flat values.now rs.items) (S.state serializer.old)
+        (S.state serializer.new)) }
+    ensures same_values { IfOk result (λ rs. EachBelongs ⟦<Rule as Archive>⟧.belongs values.now
+        rs.items) }
+    ensures goes_on { GoesOn (S.state serializer.old) (S.state serializer.new) }
+    ensures refused { IfErr result (IsRunRefused rule_definitions rule_shape (length values.now)
+        (each_keys ⟦<Rule as Archive>⟧.keys values.now)
+        (each_meaning ⟦<Rule as Archive>⟧.meaning values.now) (S.state serializer.old)
+        (S.state serializer.new)) }
+{
+    let alloc = serializer.resolver_alloc();
+    let mut resolvers = Vec::with_capacity(alloc, values.len())?;
+    for value in values {
+        let resolver = match serialize_rule(value, serializer) {
+            Ok(resolver) => resolver,
+            Err(error) => return Err(error),
+        };
+        resolvers.push(resolver).map_err(AllocError::from)?;
+    }
+    Ok(resolvers)
+}
+
+// Writes what a vector owns.
+#[cycle(serialize_rule)]
+fn serialize_vec_rule<S: Writer + Keys + ResolverAlloc<Alloc = Global>>(
+    value: &Vec<Rule>,
+    serializer: &mut S,
+) -> Result<VecResolver, Error>
+    ensures serialized { IfOk result (λ r. Serialized rule_definitions (vec rule_shape)
+        (⟦<Vec<Rule> as Archive>⟧.keys value.now) (⟦<Vec<Rule> as Archive>⟧.meaning value.now)
+        (⟦<Vec<Rule> as Archive>⟧.flat value.now r) (S.state serializer.old)
+        (S.state serializer.new)) }
+    ensures same_value { IfOk result (λ r. ⟦<Vec<Rule> as Archive>⟧.belongs value.now r) }
+    ensures goes_on { GoesOn (S.state serializer.old) (S.state serializer.new) }
+    ensures refused { IfErr result (IsRefused rule_definitions (vec rule_shape)
+        (⟦<Vec<Rule> as Archive>⟧.keys value.now) (⟦<Vec<Rule> as Archive>⟧.meaning value.now)
+        (S.state serializer.old) (S.state serializer.new)) }
+{
+    if value.len() > u32::MAX as usize {
+        return Err(Error::LengthTooLarge);
+    }
+    let items = value.as_slice();
+    let kept = match serialize_each_rule(items, serializer) {
+        Ok(kept) => kept,
+        Err(error) => return Err(error),
+    };
+    match serialize_inner_slice(items, kept, serializer) {
+        Ok(at) => Ok(at),
+        Err(error) => Err(error),
+    }
+}
+
+// Writes what a value owns, part by part.
+#[cycle(serialize_rule)]
+fn serialize_rule<S: Writer + Keys + ResolverAlloc<Alloc = Global>>(
+    value: &Rule,
+    serializer: &mut S,
+) -> Result<RuleResolver, Error>
+    ensures serialized { IfOk result (λ r. Serialized rule_definitions rule_shape
+        (⟦<Rule as Archive>⟧.keys value.now) (⟦<Rule as Archive>⟧.meaning value.now)
+        (⟦<Rule as Archive>⟧.flat value.now r) (S.state serializer.old) (S.state serializer.new)) }
+    ensures same_value { IfOk result (λ r. ⟦<Rule as Archive>⟧.belongs value.now r) }
+    ensures goes_on { GoesOn (S.state serializer.old) (S.state serializer.new) }
+    ensures refused { IfErr result (IsRefused rule_definitions rule_shape
+        (⟦<Rule as Archive>⟧.keys value.now) (⟦<Rule as Archive>⟧.meaning value.now)
+        (S.state serializer.old) (S.state serializer.new)) }
+{
+    let a0 = match serialize_part(&value.words, serializer) {
+        Ok(a0) => a0,
+        Err(error) => return Err(error),
+    };
+    let a1 = match serialize_part(&value.version, serializer) {
+        Ok(a1) => a1,
+        Err(error) => return Err(error),
+    };
+    let a2 = match serialize_part(&value.pages, serializer) {
+        Ok(a2) => a2,
+        Err(error) => return Err(error),
+    };
+    let a3 = match serialize_part(&value.lines, serializer) {
+        Ok(a3) => a3,
+        Err(error) => return Err(error),
+    };
+    let a4 = match serialize_vec_rule(&value.parts, serializer) {
+        Ok(a4) => a4,
+        Err(error) => return Err(error),
+    };
+    Ok(RuleResolver {
+        kept: (a0, (a1, (a2, (a3, (a4, ()))))),
+    })
+}
+
+impl<S: Writer + Keys + ResolverAlloc<Alloc = Global>> Serialize<S> for Rule {
+    #[inline(always)]
+    fn serialize(&self, serializer: &mut S) -> Result<Self::Resolver, Error> {
+        serialize_rule(self, serializer)
+    }
+}
+
+/// As a region of its own: the value itself.
+impl ArchiveUnsized for Rule {
+    ghost use Rattle.recursive_kinds.specs.contracts.rule.RuleArchive.TheImpl.Laws.{keyed-law as keyed_of_rule, planned-law as planned_of_rule};
+
+    type Archived = ArchivedRule;
+
+    ghost source_length = { λ _. 0 };
+
+    ghost meaning = { ⟦<Rule as Archive>⟧.meaning };
+
+    ghost keys = { ⟦<Rule as Archive>⟧.keys };
+
+    ghost keyed = { keyed_of_rule };
+
+    ghost one_length = { λ _ _. refl };
+
+    ghost planned = { λ v. one_planned rule_definitions rule_shape (⟦<Rule as Archive>⟧.keys v)
+        (⟦<Rule as Archive>⟧.meaning v) (planned_of_rule v) };
+
+    #[inline(always)]
+    fn archived_metadata(&self) -> Result<(), Error> {
+        Ok(())
+    }
+}
+
+impl<S: Writer + Keys + ResolverAlloc<Alloc = Global>> SerializeUnsized<S> for Rule {
+    #[inline(always)]
+    fn serialize_unsized(&self, serializer: &mut S) -> Result<usize, Error> {
+        serialize_one(self, serializer)
+    }
+}
+
+// Reads a vector back.
+#[cycle(read_rule)]
+fn read_vec_rule<D: Entries>(
+    alloc: Global,
+    part: RawView<'_>,
+    deserializer: &mut D,
+) -> Result<Vec<Rule>, Error>
+    requires { IsPartOf ⟦<ArchivedVec<ArchivedRule> as ArchivePointee>⟧ part }
+    ensures read { IfOk result (Read ⟦<ArchivedVec<ArchivedRule> as ArchivePointee>⟧ part D.Entries
+        deserializer ⟦<Vec<Rule> as Archive>⟧) }
+    ensures refused { IfErr result (RefusesPart ⟦<ArchivedVec<ArchivedRule> as ArchivePointee>⟧ part
+        D.Entries deserializer) }
+{
+    let view: Ref<'_, ArchivedVec<ArchivedRule>> = Ref::at(part);
+    let list = before_vec(view);
+    let mut items = Vec::with_capacity(alloc, list.len())?;
+    for index in 0..list.len() {
+        let item = read_rule(alloc, list.index(index).part(), deserializer)?;
+        items.push_reserved(item);
+    }
+    Ok(items)
+}
+
+// Reads a value back, part by part.
+#[cycle(read_rule)]
+fn read_rule<D: Entries>(
+    alloc: Global,
+    part: RawView<'_>,
+    deserializer: &mut D,
+) -> Result<Rule, Error>
+    requires { IsPartOf ⟦<ArchivedRule as ArchivePointee>⟧ part }
+    ensures read { IfOk result (Read ⟦<ArchivedRule as ArchivePointee>⟧ part D.Entries deserializer
+        ⟦<Rule as Archive>⟧) }
+    ensures refused { IfErr result (RefusesPart ⟦<ArchivedRule as ArchivePointee>⟧ part D.Entries
+        deserializer) }
+{
+    let p0 = part_of_record::<ArchivedRule, ArchivedBox<ArchivedStr>>(part, 0, 0);
+    let a0 = read_part::<ArchivedBox<ArchivedStr>, BoxStr, D>(alloc, p0, deserializer)?;
+    let p1 = part_of_record::<ArchivedRule, [u8; 4]>(part, 1, 8);
+    let a1 = match read_part::<[u8; 4], OwnedArray<u8, 4>, D>(alloc, p1, deserializer) {
+        Ok(a1) => a1,
+        Err(error) => return Err(error),
+    };
+    let p2 = part_of_record::<ArchivedRule, ArchivedBox<ArchivedSlice<ArchivedU16>>>(part, 2, 12);
+    let a2 = read_part::<ArchivedBox<ArchivedSlice<ArchivedU16>>, BoxSlice<u16>, D>(
+        alloc,
+        p2,
+        deserializer,
+    )?;
+    let p3 = part_of_record::<ArchivedRule, ArchivedUsize>(part, 3, 20);
+    let a3 = read_part::<ArchivedUsize, usize, D>(alloc, p3, deserializer)?;
+    let p4 = part_of_record::<ArchivedRule, ArchivedVec<ArchivedRule>>(part, 4, 24);
+    let a4 = read_vec_rule(alloc, p4, deserializer)?;
+    Ok(Rule {
+        words: a0,
+        version: a1,
+        pages: a2,
+        lines: a3,
+        parts: a4,
+    })
+}
+
+impl<D: Entries> Deserialize<Rule, D> for ArchivedRule {
+    #[inline(always)]
+    fn deserialize_part(
+        alloc: Global,
+        part: RawView<'_>,
+        deserializer: &mut D,
+    ) -> Result<Rule, Error>
+        requires { IsPartOf ⟦<Self as ArchivePointee>⟧ part }
+        ensures read { IfOk result (Read ⟦<Self as ArchivePointee>⟧ part D.Entries deserializer
+            ⟦<Rule as Archive>⟧) }
+        ensures refused { IfErr result (RefusesPart ⟦<Self as ArchivePointee>⟧ part D.Entries
+            deserializer) }
+    {
+        read_rule(alloc, part, deserializer)
+    }
+}
+
+/// The fields of an archived `Rule`, as views.
+pub trait RuleView<'a> {
+    /// Its words.
+    fn words(self) -> Ref<'a, ArchivedBox<ArchivedStr>>;
+
+    /// Its version.
+    fn version(self) -> Ref<'a, [u8; 4]>;
+
+    /// The pages on which it is cited.
+    fn pages(self) -> Ref<'a, ArchivedBox<ArchivedSlice<ArchivedU16>>>;
+
+    /// How many lines it has.
+    fn lines(self) -> Ref<'a, ArchivedUsize>;
+
+    /// Its parts, each a rule.
+    fn parts(self) -> Ref<'a, ArchivedVec<ArchivedRule>>;
+}
+
+impl<'a> RuleView<'a> for Ref<'a, ArchivedRule> {
+    fn words(self) -> Ref<'a, ArchivedBox<ArchivedStr>>
+        ensures buffer { result.bytes.now ≡ self.entry.bytes.now }
+        ensures position { result.pos ≡ self.entry.pos + 0 }
+        ensures length { result.len ≡ 0 }
+        ensures shows { ShowsValueOf result self.entry (field_in 0) }
+    {
+        view_of_field::<ArchivedRule, ArchivedBox<ArchivedStr>>(self, 0, 0)
+    }
+
+    fn version(self) -> Ref<'a, [u8; 4]>
+        ensures buffer { result.bytes.now ≡ self.entry.bytes.now }
+        ensures position { result.pos ≡ self.entry.pos + 8 }
+        ensures length { result.len ≡ 0 }
+        ensures shows { ShowsValueOf result self.entry (field_in 1) }
+    {
+        view_of_field::<ArchivedRule, [u8; 4]>(self, 1, 8)
+    }
+
+    fn pages(self) -> Ref<'a, ArchivedBox<ArchivedSlice<ArchivedU16>>>
+        ensures buffer { result.bytes.now ≡ self.entry.bytes.now }
+        ensures position { result.pos ≡ self.entry.pos + 12 }
+        ensures length { result.len ≡ 0 }
+        ensures shows { ShowsValueOf result self.entry (field_in 2) }
+    {
+        view_of_field::<ArchivedRule, ArchivedBox<ArchivedSlice<ArchivedU16>>>(self, 2, 12)
+    }
+
+    fn lines(self) -> Ref<'a, ArchivedUsize>
+        ensures buffer { result.bytes.now ≡ self.entry.bytes.now }
+        ensures position { result.pos ≡ self.entry.pos + 20 }
+        ensures length { result.len ≡ 0 }
+        ensures shows { ShowsValueOf result self.entry (field_in 3) }
+    {
+        view_of_field::<ArchivedRule, ArchivedUsize>(self, 3, 20)
+    }
+
+    fn parts(self) -> Ref<'a, ArchivedVec<ArchivedRule>>
+        ensures buffer { result.bytes.now ≡ self.entry.bytes.now }
+        ensures position { result.pos ≡ self.entry.pos + 24 }
+        ensures length { result.len ≡ 0 }
+        ensures shows { ShowsValueOf result self.entry (field_in 4) }
+    {
+        view_of_field::<ArchivedRule, ArchivedVec<ArchivedRule>>(self, 4, 24)
+    }
+}
+
+/// The fields of an archived `Rule`, as seals.
+pub trait RuleSeal<'a> {
+    // The seal shows a part of a buffer that was checked.
+    ghost sealed: { Self → Type 0 };
+
+    /// Its words.
+    fn words_mut(self) -> Seal<'a, ArchivedBox<ArchivedStr>>
+        requires { sealed self };
+
+    /// Its version.
+    fn version_mut(self) -> Seal<'a, [u8; 4]>
+        requires { sealed self };
+
+    /// The pages on which it is cited.
+    fn pages_mut(self) -> Seal<'a, ArchivedBox<ArchivedSlice<ArchivedU16>>>
+        requires { sealed self };
+
+    /// How many lines it has.
+    fn lines_mut(self) -> Seal<'a, ArchivedUsize>
+        requires { sealed self };
+
+    /// Its parts, each a rule.
+    fn parts_mut(self) -> Seal<'a, ArchivedVec<ArchivedRule>>
+        requires { sealed self };
+}
+
+impl<'a> RuleSeal<'a> for Seal<'a, ArchivedRule> {
+    ghost sealed = { λ s. IsSealOf rule_definitions (one ⟦<ArchivedRule as Portable>⟧.shape) s };
+
+    fn words_mut(self) -> Seal<'a, ArchivedBox<ArchivedStr>>
+        requires come_to { IsSealOf rule_definitions (one ⟦<ArchivedRule as Portable>⟧.shape) self }
+        ensures { SealsPart rule_definitions (one ⟦<ArchivedRule as Portable>⟧.shape) no_definition
+            ⟦<ArchivedBox<ArchivedStr> as ArchivePointee>⟧.pointee (self.entry.pos + 0) 0 self.entry
+            result }
+    {
+        seal_of_field::<ArchivedRule, ArchivedBox<ArchivedStr>>(self, 0, 0)
+    }
+
+    fn version_mut(self) -> Seal<'a, [u8; 4]>
+        requires come_to { IsSealOf rule_definitions (one ⟦<ArchivedRule as Portable>⟧.shape) self }
+        ensures { SealsPart rule_definitions (one ⟦<ArchivedRule as Portable>⟧.shape) no_definition
+            ⟦<[u8; 4] as ArchivePointee>⟧.pointee (self.entry.pos + 8) 0 self.entry result }
+    {
+        seal_of_field::<ArchivedRule, [u8; 4]>(self, 1, 8)
+    }
+
+    fn pages_mut(self) -> Seal<'a, ArchivedBox<ArchivedSlice<ArchivedU16>>>
+        requires come_to { IsSealOf rule_definitions (one ⟦<ArchivedRule as Portable>⟧.shape) self }
+        ensures { SealsPart rule_definitions (one ⟦<ArchivedRule as Portable>⟧.shape) no_definition
+            ⟦<ArchivedBox<ArchivedSlice<ArchivedU16>> as ArchivePointee>⟧.pointee
+            (self.entry.pos + 12) 0 self.entry result }
+    {
+        seal_of_field::<ArchivedRule, ArchivedBox<ArchivedSlice<ArchivedU16>>>(self, 2, 12)
+    }
+
+    fn lines_mut(self) -> Seal<'a, ArchivedUsize>
+        requires come_to { IsSealOf rule_definitions (one ⟦<ArchivedRule as Portable>⟧.shape) self }
+        ensures { SealsPart rule_definitions (one ⟦<ArchivedRule as Portable>⟧.shape) no_definition
+            ⟦<ArchivedUsize as ArchivePointee>⟧.pointee (self.entry.pos + 20) 0 self.entry result }
+    {
+        seal_of_field::<ArchivedRule, ArchivedUsize>(self, 3, 20)
+    }
+
+    fn parts_mut(self) -> Seal<'a, ArchivedVec<ArchivedRule>>
+        requires come_to { IsSealOf rule_definitions (one ⟦<ArchivedRule as Portable>⟧.shape) self }
+        ensures { SealsPart rule_definitions (one ⟦<ArchivedRule as Portable>⟧.shape)
+            ⟦<ArchivedRule as ArchivePointee>⟧.definitions
+            ⟦<ArchivedVec<ArchivedRule> as ArchivePointee>⟧.pointee (self.entry.pos + 24) 0
+            self.entry result }
+    {
+        seal_of_field::<ArchivedRule, ArchivedVec<ArchivedRule>>(self, 4, 24)
+    }
+}
