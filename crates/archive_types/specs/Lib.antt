@@ -27,6 +27,7 @@ pub mod SaidOrder
 pub mod MeantOrder
 pub mod Outcomes
 pub mod SourceOutcomes
+pub mod KeptResolvers
 pub use Rattle.archive_check.specs.CleanRegions
 pub use Rattle.archive_check.specs.Definitions
 pub use Rattle.archive_check.specs.Denotes

@@ -7,6 +7,7 @@ ghost use Rattle.archive_check.specs.Layout.{has_length};
 ghost use Rattle.archive_check.specs.Shape.{one};
 ghost use Rattle.archive_num.specs.Offsets.{distance};
 ghost use Rattle.archive_types.specs.Causes.{HindersAt};
+ghost use Rattle.archive_types.specs.KeptResolvers.{all_left};
 ghost use Rattle.archive_types.specs.Words.Placed.{Pointed, Unpointed};
 ghost use Rattle.archive_types.specs.Runs.{EachBelongs};
 ghost use Rattle.archive_types.specs.Writing.{ZeroedPlace, Resolves};
@@ -23,6 +24,10 @@ use archive_num::FixedUsize;
 use archive_num::owners::emplace_pointer;
 pub use archive_write::ser::{Buffer, Positional, ResolverAlloc, Serializer, Writer, WriterExt};
 use std::alloc::Allocator;
+
+mod kept;
+
+pub(crate) use kept::{Kept, Left};
 
 /// Regions of this size or less are resolved in a local array.
 const LOCAL_SIZE: usize = 64;
@@ -176,14 +181,14 @@ fn resolve_in_block<T: Archive>(
 fn resolve_each<W: Writer, T: Archive, A: Allocator + Drop>(
     writer: &mut W,
     values: &[T],
-    resolvers: Vec<T::Resolver, A>,
+    resolvers: Left<T::Resolver, A>,
     block: &mut [u8],
 ) -> Result<(), Error>
     requires sized { T.Archived.layout.size ≤ length block.old }
     requires ends { length (W.state writer.old).bytes + length values.now * T.Archived.layout.size
         < 2 ^ 64 }
-    requires same_values { EachBelongs T.belongs values.now resolvers.items }
-    ensures { PutsElements T.Archived.Portable T.flat values.now resolvers.items W.Keys writer
+    requires same_values { EachBelongs T.belongs values.now (all_left resolvers) }
+    ensures { PutsElements T.Archived.Portable T.flat values.now (all_left resolvers) W.Keys writer
         result }
 {
     let size = T::Archived::size();
@@ -215,13 +220,13 @@ fn resolve_each_large<W: Writer, A: Allocator + Drop, T: Archive, B: Allocator +
     writer: &mut W,
     alloc: A,
     values: &[T],
-    resolvers: Vec<T::Resolver, B>,
+    resolvers: Left<T::Resolver, B>,
     size: usize,
 ) -> Result<(), Error>
     requires sized { size ≡ min T.Archived.layout.size 18446744073709551615 }
     requires ends { length (W.state writer.old).bytes + length values.now * size < 2 ^ 64 }
-    requires same_values { EachBelongs T.belongs values.now resolvers.items }
-    ensures { PutsElements T.Archived.Portable T.flat values.now resolvers.items W.Keys writer
+    requires same_values { EachBelongs T.belongs values.now (all_left resolvers) }
+    ensures { PutsElements T.Archived.Portable T.flat values.now (all_left resolvers) W.Keys writer
         result }
 {
     let mut region = vec![in alloc; 0u8; size]?;
@@ -237,6 +242,34 @@ pub(crate) fn run_fits(pos: usize, count: usize, size: usize) -> bool
         Some(sum) => pos.checked_add(sum).is_some(),
         None => false,
     }
+}
+
+// Resolves values into the next region, which is theirs, writes it and answers its position; memory for values above 64 bytes comes from `alloc`.
+#[tactic(auto, using(crate::proofs::Writing::RunRegions::run_too_large, crate::proofs::Planning::Causes::goes_nowhere))]
+#[inline(always)]
+pub(crate) fn resolve_run<W: Writer, A: Allocator + Drop, T: Archive, B: Allocator + Drop>(
+    writer: &mut W,
+    alloc: A,
+    values: &[T],
+    resolvers: Left<T::Resolver, B>,
+) -> Result<usize, Error>
+    requires same_values { EachBelongs T.belongs values.now (all_left resolvers) }
+    ensures outcome { PutsElements T.Archived.Portable T.flat values.now (all_left resolvers)
+        W.Keys writer result }
+    ensures position { IfOk result (λ p. p ≡ W.position writer.old) }
+{
+    let pos = writer.pos();
+    let size = T::Archived::size();
+    if !run_fits(pos, values.len(), size) {
+        return Err(Error::LayoutTooLarge);
+    }
+    if size > LOCAL_SIZE {
+        resolve_each_large(writer, alloc, values, resolvers, size)?;
+        return Ok(pos);
+    }
+    let mut block = [0u8; BLOCK];
+    resolve_each(writer, values, resolvers, &mut block)?;
+    Ok(pos)
 }
 
 /// The regions that every writer can take. rkyv 0.8.18 has the call in `WriterExt`.
@@ -276,7 +309,6 @@ pub trait ResolveExt: Writer {
     /// - `OutOfMemory`: memory from `alloc`, for values above 64 bytes, is refused.
     /// - `LayoutTooLarge`: the region would end above `usize::MAX`.
     /// - those of `resolve` and of the writer.
-    #[tactic(auto, using(crate::proofs::Writing::RunRegions::run_too_large, crate::proofs::Planning::Causes::goes_nowhere))]
     #[inline(always)]
     final fn resolve_slice_aligned<A: Allocator + Drop, T: Archive, B: Allocator + Drop>(
         &mut self,
@@ -292,18 +324,7 @@ pub trait ResolveExt: Writer {
             Self.Keys self result }
         ensures position { IfOk result (λ p. p ≡ Self.position self.old) }
     {
-        let pos = self.pos();
-        let size = T::Archived::size();
-        if !run_fits(pos, values.len(), size) {
-            return Err(Error::LayoutTooLarge);
-        }
-        if size > LOCAL_SIZE {
-            resolve_each_large(self, alloc, values, resolvers, size)?;
-            return Ok(pos);
-        }
-        let mut block = [0u8; BLOCK];
-        resolve_each(self, values, resolvers, &mut block)?;
-        Ok(pos)
+        resolve_run(self, alloc, values, Left::Listed(resolvers.into_iter()))
     }
 
     /// Writes a pointer to the region of `value` at `to`, and returns its position: an offset, and

@@ -5,6 +5,7 @@ ghost use Rattle.archive_check.specs.Shape.{array, one, run};
 ghost use Rattle.archive_check.specs.Value.{list};
 ghost use Rattle.archive_check.specs.declared.format.error.Error.TheVariants.{LengthTooLarge};
 ghost use Rattle.archive_types.specs.Causes.{IsRegionRefused};
+ghost use Rattle.archive_types.specs.KeptResolvers.{all_kept};
 ghost use Rattle.archive_types.specs.Members.Keyed.{each_keyed};
 ghost use Rattle.archive_types.specs.Words.CopiesWritten.{SliceInBulk};
 ghost use Rattle.archive_types.specs.Words.Placed.{AtOnce};
@@ -17,7 +18,7 @@ ghost use Rattle.archive_types.specs.SourceOutcomes.{WritesUnsized};
 
 use super::ArchivedSlice;
 use crate::primitive::ArchivedUsize;
-use crate::ser::{ResolveExt, by_words};
+use crate::ser::{Kept, by_words, resolve_run};
 use crate::traits::{Archive, ArchivePointee, ArchiveUnsized, Serialize, SerializeUnsized};
 use archive_check::format::error::Error;
 use archive_write::ser::{ResolverAlloc, Writer, WriterExt};
@@ -61,6 +62,37 @@ pub(crate) fn serialize_each<A: Allocator + Drop, S: Writer, T: Serialize<S>>(
     Ok(resolvers)
 }
 
+// The same, with the resolvers of few values in place.
+#[tactic(auto, using(crate::proofs::Planning::Runs::continues_start, crate::proofs::Planning::Runs::continues_step, crate::proofs::Planning::Runs::continues_end, crate::proofs::Planning::Runs::belongs_end))]
+#[inline(always)]
+fn serialize_kept<A: Allocator + Drop, S: Writer, T: Serialize<S>>(
+    alloc: A,
+    values: &[T],
+    serializer: &mut S,
+) -> Result<Kept<T::Resolver, A>, Error>
+    ensures serialized { IfOk result
+        (λ rs. SerializedRun T.Archived.definitions T.Archived.shape (length values.now)
+        (each_keys T.keys values.now) (each_meaning T.meaning values.now)
+        (each_flat T.flat values.now (all_kept rs)) (S.state serializer.old)
+        (S.state serializer.new)) }
+    ensures same_values { IfOk result (λ rs. EachBelongs T.belongs values.now (all_kept rs)) }
+    ensures goes_on { GoesOn (S.state serializer.old) (S.state serializer.new) }
+    ensures refused { IfErr result
+        (IsRunRefused T.Archived.definitions T.Archived.shape (length values.now)
+        (each_keys T.keys values.now) (each_meaning T.meaning values.now)
+        (S.state serializer.old) (S.state serializer.new)) }
+{
+    let mut resolvers = Kept::with_capacity(alloc, values.len())?;
+    for value in values {
+        let resolver = match value.serialize(serializer) {
+            Ok(resolver) => resolver,
+            Err(error) => return Err(by_words(error)),
+        };
+        resolvers.push(resolver)?;
+    }
+    Ok(resolvers)
+}
+
 // Writes what each of the values owns and then all of them as a region of its own, and answers the region's position. The region is that of an array of
 // them, too.
 #[inline(always)]
@@ -76,9 +108,9 @@ pub(crate) fn serialize_in_turn<S: Writer + ResolverAlloc, T: Serialize<S>>(
         result }
 {
     let alloc = serializer.resolver_alloc();
-    let resolvers = serialize_each(alloc, values, serializer)?;
+    let resolvers = serialize_kept(alloc, values, serializer)?;
     serializer.align_for_run::<T::Archived>(values.len())?;
-    serializer.resolve_slice_aligned(alloc, values, resolvers)
+    resolve_run(serializer, alloc, values, resolvers.into_left())
 }
 
 // The same in bulk, if the type is copied so. Fails with `LengthTooLarge`, before anything is written, exactly if there are more than

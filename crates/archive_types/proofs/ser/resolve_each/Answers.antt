@@ -1,6 +1,7 @@
-use Rattle.std.proofs.Common.{rules, ◌≡◌, ◌+◌, ◌<◌, ◌^◌, length, take, refl, sym, ◌∙◌, arith}
+use Rattle.std.proofs.Common.{rules, ◌≡◌, ◌+◌, ◌<◌, ◌^◌, length, take, refl, ap, ◌∙◌, arith}
 use Rattle.std.proofs.lemmas.Grind.{common_steps}
 use Rattle.std.proofs.lemmas.List.{length-take}
+use Rattle.archive_types.specs.KeptResolvers.{all_left}
 use Rattle.archive_types.proofs.Planning.Causes.{goes_both, goes_written, goes_refused}
 use Rattle.archive_types.proofs.Writing.RunRegions.{fills_start, fills_more, belongs_here, place_here, fills_broken, fills_next, fills_written, fills_refused, fills_end, same_length}
 use Rattle.archive_types.proofs.ser.resolve_each.Goals as goal
@@ -11,11 +12,11 @@ loop-resolver-init g c = record {
   finite = tt;
   room = omega (arith, c.requires.sized);
   emptied = λ e. refl;
-  fills = rw (c.into_iter-resolver-iterator.ensures.into_iter_gives.0) (fills_start _ _ _ _ _ _ _ c.args.resolvers.items c.requires.same_values);
+  fills = rw (c.into_iter-resolver-iterator.ensures.into_iter_gives) (fills_start _ _ _ _ _ _ _ (all_left c.args.resolvers) c.requires.same_values);
 }
 
 pub unreachable-requires : goal.unreachable-requires
-unreachable-requires g c = fills_more _ _ _ _ _ _ _ _ _ _ _ _ _ c.in-Some.resolver (c.in-Some.ensures.steps.0) c.in_default.ensures.cases c.loop-resolver.invariant.fills
+unreachable-requires g c = fills_more _ _ _ _ _ _ _ _ _ _ _ _ _ c.in-Some.resolver (c.in-Some.ensures.steps) c.in_default.ensures.cases c.loop-resolver.invariant.fills
 
 pub resolve_in_block-requires-clause-ends : goal.resolve_in_block-requires-clause-ends
 resolve_in_block-requires-clause-ends g c =
@@ -34,7 +35,7 @@ returns-in-Err g c =
     record {
       put = search rules;
       refused = rw (c.by_words.ensures)
-          (fills_broken _ _ _ _ _ _ _ _ _ _ _ _ _ _ c.in-Some-split_first.value.now c.in-Some.resolver c.in-Some-split_first.ensures.cases.0 c.loop-resolver.invariant.fills c.in-Some.ensures.steps.0
+          (fills_broken _ _ _ _ _ _ _ _ _ _ _ _ _ _ c.in-Some-split_first.value.now c.in-Some.resolver c.in-Some-split_first.ensures.cases.0 c.loop-resolver.invariant.fills c.in-Some.ensures.steps
           _ (rw there at c.in-Err.ensures.refused));
       goes_on = c.loop-resolver.invariant.fills.goes;
       keys = c.loop-resolver.invariant.fills.states;
@@ -46,7 +47,7 @@ returns-in-Err-write g c =
     let here : c.pos.result ≡ length (g.W.Keys.state c.loop-resolver.writer).bytes = c.pos.ensures ∙ g.met.W.Writer.position_law c.loop-resolver.writer in
     let fits = place_here _ _ _ _ _ _ _ _ _ _ _ _ _ c.in-Some-split_first.value.now c.in-Some-split_first.ensures.cases.0 c.loop-resolver.invariant.fills c.requires.ends in
     let end : filled + c.size-size.result ≡ filled + g.T.Archived.Portable.layout.size = omega (arith, c.size-size.ensures, fits) in
-    let next = fills_next _ _ _ _ _ _ _ _ _ _ _ _ _ c.in-Some-split_first.value.now c.in-Some.resolver c.in-Some-split_first.ensures.cases.0 c.in-Some.ensures.steps.0 g.met.T.Archived.Portable.has_layout
+    let next = fills_next _ _ _ _ _ _ _ _ _ _ _ _ _ c.in-Some-split_first.value.now c.in-Some.resolver c.in-Some-split_first.ensures.cases.0 c.in-Some.ensures.steps g.met.T.Archived.Portable.has_layout
         filled c.pos.result (filled + c.size-size.result) c.loop-resolver.block c.resolve_in_block.new.block c.loop-resolver.invariant.room c.resolve_in_block.ensures.others_stay here end
         c.loop-resolver.invariant.fills c.in_default-resolve_in_block.ensures.resolved in
     let goes = goes_refused _ _ c.in-Err-write.ensures.kept c.in-Err-write.ensures.room c.in-Err-write.ensures.device c.in-Err-write.ensures.keys in
@@ -64,7 +65,7 @@ loop-resolver-preserved-in-loop-resolver g c =
     let here : c.pos.result ≡ length (g.W.Keys.state c.loop-resolver.writer).bytes = c.pos.ensures ∙ g.met.W.Writer.position_law c.loop-resolver.writer in
     let fits = place_here _ _ _ _ _ _ _ _ _ _ _ _ _ c.in-Some-split_first.value.now c.in-Some-split_first.ensures.cases.0 c.loop-resolver.invariant.fills c.requires.ends in
     let end : filled + c.size-size.result ≡ filled + g.T.Archived.Portable.layout.size = omega (arith, c.size-size.ensures, fits) in
-    let next = fills_next _ _ _ _ _ _ _ _ _ _ _ _ _ c.in-Some-split_first.value.now c.in-Some.resolver c.in-Some-split_first.ensures.cases.0 c.in-Some.ensures.steps.0 g.met.T.Archived.Portable.has_layout
+    let next = fills_next _ _ _ _ _ _ _ _ _ _ _ _ _ c.in-Some-split_first.value.now c.in-Some.resolver c.in-Some-split_first.ensures.cases.0 c.in-Some.ensures.steps g.met.T.Archived.Portable.has_layout
         filled c.pos.result (filled + c.size-size.result) c.loop-resolver.block c.resolve_in_block.new.block c.loop-resolver.invariant.room c.resolve_in_block.ensures.others_stay here end
         c.loop-resolver.invariant.fills c.in_default-resolve_in_block.ensures.resolved in
     let stays = same_length filled g.T.Archived.Portable.layout.size c.loop-resolver.block c.resolve_in_block.new.block c.loop-resolver.invariant.room c.resolve_in_block.ensures.others_stay in
@@ -90,14 +91,14 @@ loop-resolver-preserved g c =
       finite = tt;
       room = omega (arith, c.if-block-filled.false, end, stays, c.loop-resolver.invariant.room);
       emptied = λ e. absurd (omega (arith, some, e));
-      fills = fills_next _ _ _ _ _ _ _ _ _ _ _ _ _ c.in-Some-split_first.value.now c.in-Some.resolver c.in-Some-split_first.ensures.cases.0 c.in-Some.ensures.steps.0 g.met.T.Archived.Portable.has_layout
+      fills = fills_next _ _ _ _ _ _ _ _ _ _ _ _ _ c.in-Some-split_first.value.now c.in-Some.resolver c.in-Some-split_first.ensures.cases.0 c.in-Some.ensures.steps g.met.T.Archived.Portable.has_layout
           filled c.pos.result (filled + c.size-size.result) c.loop-resolver.block c.resolve_in_block.new.block c.loop-resolver.invariant.room c.resolve_in_block.ensures.others_stay here end
           c.loop-resolver.invariant.fills c.in_default-resolve_in_block.ensures.resolved;
     }
 
 pub returns : goal.returns
 returns g c = record {
-  put = fills_end _ _ _ _ _ _ _ c.loop-resolver.filled c.loop-resolver.block _ _ _ _ g.met.T.Archived.Portable.has_layout (sym c.loop-resolver.resolver-iterator.rest.ok.0 ∙ c.in-None.ensures.steps.0)
+  put = fills_end _ _ _ _ _ _ _ c.loop-resolver.filled c.loop-resolver.block _ _ _ _ g.met.T.Archived.Portable.has_layout (ap length c.in-None.ensures.steps.0)
       c.loop-resolver.invariant.emptied c.loop-resolver.invariant.fills;
   refused = search rules;
   goes_on = c.loop-resolver.invariant.fills.goes;

@@ -1,4 +1,5 @@
 use Rattle.std.proofs.Common.{◌≡◌, ◌+◌, ◌≤◌, length, take}
+use Rattle.archive_types.specs.KeptResolvers.{all_left}
 use Rattle.archive_types.specs.Runs.{each_flat}
 use Rattle.archive_types.proofs.Writing.RunRegions.{Fills}
 use Rattle.archive_types.proofs.ser.resolve_each.Given as goal
@@ -10,5 +11,5 @@ invariant-loop-resolver g l = record {
   room : l.filled + g.T.Archived.Portable.layout.size ≤ length l.block;
   emptied : length l.rest ≡ 0 → l.filled ≡ 0;
   fills : Fills g.T.Archived.ArchivePointee.definitions g.T.Archived.Portable.shape g.T.Archived.Portable.layout g.T.Archive.flat g.T.Archive.belongs
-      (g.W.Keys.state l.initial.writer) (g.W.Keys.state l.writer) (take l.filled l.block) (length l.values) (each_flat g.T.Archive.flat l.values l.fn.resolvers.items) l.rest l.resolver-iterator.rest.items;
+      (g.W.Keys.state l.initial.writer) (g.W.Keys.state l.writer) (take l.filled l.block) (length l.values) (each_flat g.T.Archive.flat l.values (all_left l.fn.resolvers)) l.rest (all_left l.resolver-iterator);
 }

@@ -1,12 +1,7 @@
-use Rattle.std.proofs.Common.{rules, ◌∙◌, sym, arith}
-use Rattle.archive_types.proofs.Writing.RunRegions.{run_too_large, ends_above}
 use Rattle.archive_types.proofs.ser.ResolveExt.resolve_slice_aligned.Goals as goal
 
-pub returns-then-not-run_fits-clause-outcome : goal.returns-then-not-run_fits-clause-outcome
-returns-then-not-run_fits-clause-outcome g c = record {
-  put = search rules;
-  refused = run_too_large g.T.Archived.ArchivePointee.definitions g.T.Archived.Portable.shape g.T.Archived.Portable.layout _ _ _ _
-      (ends_above _ _ _ _ _ _ c.run_fits.ensures.1 c.if-not-run_fits.true c.size-size.ensures (c.pos-pos.ensures ∙ g.met.Self.Writer.position_law _));
-  goes_on = search rules;
-  keys = search rules;
-}
+pub resolve_run-requires-clause-same_values : goal.resolve_run-requires-clause-same_values
+resolve_run-requires-clause-same_values g c = rw (c.into_iter.ensures.rest) (c.requires.same_values)
+
+pub returns-clause-outcome : goal.returns-clause-outcome
+returns-clause-outcome g c = rw (c.into_iter.ensures.rest) at c.resolve_run.ensures.outcome
