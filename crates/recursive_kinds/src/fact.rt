@@ -269,7 +269,10 @@ impl Archive for Fact {
 
 // Writes what each of the values owns, in order.
 #[cycle(serialize_fact)]
-fn serialize_each_fact<S: Writer + Keys + ResolverAlloc>(values: &[Fact], serializer: &mut S) -> Result<Vec<<Fact as Archive>::Resolver, S::Alloc>, Error>
+fn serialize_each_fact<S: Writer + Keys + ResolverAlloc>(
+    values: &[Fact],
+    serializer: &mut S,
+) -> Result<Vec<<Fact as Archive>::Resolver, S::Alloc>, Error>
     ensures serialized { IfOk result (λ rs. SerializedRun fact_definitions fact_shape
         (length values.now) (each_keys ⟦<Fact as Archive>⟧.keys values.now)
         (each_meaning ⟦<Fact as Archive>⟧.meaning values.now)
@@ -297,7 +300,10 @@ fn serialize_each_fact<S: Writer + Keys + ResolverAlloc>(values: &[Fact], serial
 
 // Writes what a vector owns.
 #[cycle(serialize_fact)]
-fn serialize_vec_fact<S: Writer + Keys + ResolverAlloc>(value: &Vec<Fact>, serializer: &mut S) -> Result<VecResolver, Error>
+fn serialize_vec_fact<S: Writer + Keys + ResolverAlloc>(
+    value: &Vec<Fact>,
+    serializer: &mut S,
+) -> Result<VecResolver, Error>
     ensures serialized { IfOk result (λ r. Serialized fact_definitions (vec fact_shape)
         (⟦<Vec<Fact> as Archive>⟧.keys value.now) (⟦<Vec<Fact> as Archive>⟧.meaning value.now)
         (⟦<Vec<Fact> as Archive>⟧.flat value.now r) (S.state serializer.old)
@@ -408,7 +414,10 @@ fn serialize_fact_facts<S: Writer + Keys + ResolverAlloc>(
 
 // Writes what a value owns.
 #[cycle(serialize_fact)]
-fn serialize_fact<S: Writer + Keys + ResolverAlloc>(value: &Fact, serializer: &mut S) -> Result<FactResolver, Error>
+fn serialize_fact<S: Writer + Keys + ResolverAlloc>(
+    value: &Fact,
+    serializer: &mut S,
+) -> Result<FactResolver, Error>
     ensures serialized { IfOk result (λ r. Serialized fact_definitions fact_shape
         (⟦<Fact as Archive>⟧.keys value.now) (⟦<Fact as Archive>⟧.meaning value.now)
         (⟦<Fact as Archive>⟧.flat value.now r) (S.state serializer.old) (S.state serializer.new)) }
@@ -475,7 +484,11 @@ impl<S: Writer + Keys + ResolverAlloc> SerializeUnsized<S> for Fact {
 
 // Reads a vector back.
 #[cycle(read_fact)]
-fn read_vec_fact<D: Entries>(alloc: Global, part: RawView<'_>, deserializer: &mut D) -> Result<Vec<Fact>, Error>
+fn read_vec_fact<D: Entries>(
+    alloc: Global,
+    part: RawView<'_>,
+    deserializer: &mut D,
+) -> Result<Vec<Fact>, Error>
     requires { IsPartOf ⟦<ArchivedVec<ArchivedFact> as ArchivePointee>⟧ part }
     ensures read { IfOk result (Read ⟦<ArchivedVec<ArchivedFact> as ArchivePointee>⟧ part D.Entries
         deserializer ⟦<Vec<Fact> as Archive>⟧) }
@@ -494,7 +507,11 @@ fn read_vec_fact<D: Entries>(alloc: Global, part: RawView<'_>, deserializer: &mu
 
 // Reads `Holds` back.
 #[inline(always)]
-fn read_fact_holds<D: Entries>(alloc: Global, part: RawView<'_>, deserializer: &mut D) -> Result<Fact, Error>
+fn read_fact_holds<D: Entries>(
+    alloc: Global,
+    part: RawView<'_>,
+    deserializer: &mut D,
+) -> Result<Fact, Error>
     requires viewed { IsPartOf ⟦<ArchivedFact as ArchivePointee>⟧ part }
     requires tag { part_tag part ≡ 0 }
     ensures read { IfOk result (Read ⟦<ArchivedFact as ArchivePointee>⟧ part D.Entries deserializer
@@ -511,7 +528,11 @@ fn read_fact_holds<D: Entries>(alloc: Global, part: RawView<'_>, deserializer: &
 
 // Reads `Outcome` back.
 #[inline(always)]
-fn read_fact_outcome<D: Entries>(alloc: Global, part: RawView<'_>, deserializer: &mut D) -> Result<Fact, Error>
+fn read_fact_outcome<D: Entries>(
+    alloc: Global,
+    part: RawView<'_>,
+    deserializer: &mut D,
+) -> Result<Fact, Error>
     requires viewed { IsPartOf ⟦<ArchivedFact as ArchivePointee>⟧ part }
     requires tag { part_tag part ≡ 1 }
     ensures read { IfOk result (Read ⟦<ArchivedFact as ArchivePointee>⟧ part D.Entries deserializer
@@ -532,7 +553,11 @@ fn read_fact_outcome<D: Entries>(alloc: Global, part: RawView<'_>, deserializer:
 
 // Reads `Facts` back.
 #[cycle(read_fact)]
-fn read_fact_facts<D: Entries>(alloc: Global, part: RawView<'_>, deserializer: &mut D) -> Result<Fact, Error>
+fn read_fact_facts<D: Entries>(
+    alloc: Global,
+    part: RawView<'_>,
+    deserializer: &mut D,
+) -> Result<Fact, Error>
     requires viewed { IsPartOf ⟦<ArchivedFact as ArchivePointee>⟧ part }
     requires tag { part_tag part ≡ 2 }
     ensures read { IfOk result (Read ⟦<ArchivedFact as ArchivePointee>⟧ part D.Entries deserializer
@@ -547,7 +572,11 @@ fn read_fact_facts<D: Entries>(alloc: Global, part: RawView<'_>, deserializer: &
 
 // Reads a value back.
 #[cycle(read_fact)]
-fn read_fact<D: Entries>(alloc: Global, part: RawView<'_>, deserializer: &mut D) -> Result<Fact, Error>
+fn read_fact<D: Entries>(
+    alloc: Global,
+    part: RawView<'_>,
+    deserializer: &mut D,
+) -> Result<Fact, Error>
     requires { IsPartOf ⟦<ArchivedFact as ArchivePointee>⟧ part }
     ensures read { IfOk result (Read ⟦<ArchivedFact as ArchivePointee>⟧ part D.Entries deserializer
         ⟦<Fact as Archive>⟧) }
@@ -620,9 +649,10 @@ impl<'a> FactView<'a> for Ref<'a, ArchivedFact> {
                 ViewOfFact::Holds(a0, a1)
             }
             1 => {
-                let a0 = view_of_payload::<ArchivedFact, ArchivedResult<ArchivedU32, ArchivedString>>(
-                    self, 1, 0, 4,
-                );
+                let a0 = view_of_payload::<
+                    ArchivedFact,
+                    ArchivedResult<ArchivedU32, ArchivedString>,
+                >(self, 1, 0, 4);
                 ViewOfFact::Outcome(a0)
             }
             _ => {
@@ -693,9 +723,7 @@ impl<'a> FactSeal<'a> for Seal<'a, ArchivedFact> {
             ⟦<ArchivedResult<ArchivedU32, ArchivedString> as ArchivePointee>⟧.pointee
             (self.entry.pos + 4) 0 self.entry result }
     {
-        seal_of_payload::<ArchivedFact, ArchivedResult<ArchivedU32, ArchivedString>>(
-            self, 1, 0, 4,
-        )
+        seal_of_payload::<ArchivedFact, ArchivedResult<ArchivedU32, ArchivedString>>(self, 1, 0, 4)
     }
 
     fn facts_0_mut(self) -> Seal<'a, ArchivedVec<ArchivedFact>>

@@ -133,7 +133,12 @@ fn lines(alloc: Global, count: usize) -> Result<Vec<Line>, AllocError> {
 // The values of an archive that is written of these.
 fn again(rt: &impl Abort, alloc: Global, lines: &Vec<Line>) -> Vec<Line> {
     let bytes = to_bytes(alloc, lines).expect(rt, "an archive");
-    assert_same(rt, "the length", bytes.len(), lines.len().saturating_mul(8).saturating_add(8));
+    assert_same(
+        rt,
+        "the length",
+        bytes.len(),
+        lines.len().saturating_mul(8).saturating_add(8),
+    );
     value_of(rt, alloc, bytes.as_slice(), &mut ())
 }
 

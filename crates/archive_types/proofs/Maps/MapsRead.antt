@@ -162,7 +162,7 @@ module _ {A B : Type 0} (meaning : A → Value) (of_value : B → Value) (key_na
     pairs_read D X V K is bytes q n viewed old new xs m made h =
         let there = rw (entry_is X V K is) at h in
         let same : AreNamedByPosition old → map_keys told xs ≡ map_keys told m.entries = λ named.
-            sym (collected_alike cmp total told (λ x y e i. ((exact x y e).0 i, (exact x y e).1 i)) xs m made (said_ascend meaning of_value cmp sorted D K V bytes q n xs viewed (there.value named))) in
+        sym (collected_alike cmp total told (λ x y e i. ((exact x y e).0 i, (exact x y e).1 i)) xs m made (said_ascend meaning of_value cmp sorted D K V bytes q n xs viewed (there.value named))) in
         read_instead D bytes q n (one (sorted_map K V)) old new _ _ _ _
         (λ named. (
           ap list (meaning_told xs ∙ ap (each_meaning (pair_meaning (λ k. k.0) of_value)) (same named) ∙ sym (meaning_told m.entries)),

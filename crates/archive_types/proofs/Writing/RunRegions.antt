@@ -215,8 +215,17 @@ module _ (o n : ℕ) (old new : List ℕ) (inside : o + n ≤ length old) (only 
   unfolding bytes_at
   same_length =
       let part : List ℕ = take n (drop o new) in
-      omega (arith, inside, ap length only, length-append (take o old) (part ++ drop (o + length part) old), length-append part (drop (o + length part) old), length-take o old,
-      length-take n (drop o new), length-drop o new, length-drop (o + length part) old)
+      omega (
+        arith,
+        inside,
+        ap length only,
+        length-append (take o old) (part ++ drop (o + length part) old),
+        length-append part (drop (o + length part) old),
+        length-take o old,
+        length-take n (drop o new),
+        length-drop o new,
+        length-drop (o + length part) old,
+      )
 
   pub part_sized : length (bytes_at new o n) ≡ n
   unfolding bytes_at

@@ -47,8 +47,8 @@ returns-in-Err-write g c =
     let fits = place_here _ _ _ _ _ _ _ _ _ _ _ _ _ c.in-Some-split_first.value.now c.in-Some-split_first.ensures.cases.0 c.loop-resolver.invariant.fills c.requires.ends in
     let end : filled + c.size-size.result ≡ filled + g.T.Archived.Portable.layout.size = omega (arith, c.size-size.ensures, fits) in
     let next = fills_next _ _ _ _ _ _ _ _ _ _ _ _ _ c.in-Some-split_first.value.now c.in-Some.resolver c.in-Some-split_first.ensures.cases.0 c.in-Some.ensures.steps.0 g.met.T.Archived.Portable.has_layout
-        filled c.pos.result (filled + c.size-size.result) c.loop-resolver.block c.resolve_in_block.new.block c.loop-resolver.invariant.room c.resolve_in_block.ensures.others_stay here end
-        c.loop-resolver.invariant.fills c.in_default-resolve_in_block.ensures.resolved in
+    filled c.pos.result (filled + c.size-size.result) c.loop-resolver.block c.resolve_in_block.new.block c.loop-resolver.invariant.room c.resolve_in_block.ensures.others_stay here end
+    c.loop-resolver.invariant.fills c.in_default-resolve_in_block.ensures.resolved in
     let goes = goes_refused _ _ c.in-Err-write.ensures.kept c.in-Err-write.ensures.room c.in-Err-write.ensures.device c.in-Err-write.ensures.keys in
     record {
       put = search rules;
@@ -65,8 +65,8 @@ loop-resolver-preserved-in-loop-resolver g c =
     let fits = place_here _ _ _ _ _ _ _ _ _ _ _ _ _ c.in-Some-split_first.value.now c.in-Some-split_first.ensures.cases.0 c.loop-resolver.invariant.fills c.requires.ends in
     let end : filled + c.size-size.result ≡ filled + g.T.Archived.Portable.layout.size = omega (arith, c.size-size.ensures, fits) in
     let next = fills_next _ _ _ _ _ _ _ _ _ _ _ _ _ c.in-Some-split_first.value.now c.in-Some.resolver c.in-Some-split_first.ensures.cases.0 c.in-Some.ensures.steps.0 g.met.T.Archived.Portable.has_layout
-        filled c.pos.result (filled + c.size-size.result) c.loop-resolver.block c.resolve_in_block.new.block c.loop-resolver.invariant.room c.resolve_in_block.ensures.others_stay here end
-        c.loop-resolver.invariant.fills c.in_default-resolve_in_block.ensures.resolved in
+    filled c.pos.result (filled + c.size-size.result) c.loop-resolver.block c.resolve_in_block.new.block c.loop-resolver.invariant.room c.resolve_in_block.ensures.others_stay here end
+    c.loop-resolver.invariant.fills c.in_default-resolve_in_block.ensures.resolved in
     let stays = same_length filled g.T.Archived.Portable.layout.size c.loop-resolver.block c.resolve_in_block.new.block c.loop-resolver.invariant.room c.resolve_in_block.ensures.others_stay in
     record {
       can_next = tt;

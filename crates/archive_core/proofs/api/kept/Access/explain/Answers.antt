@@ -25,5 +25,5 @@ memory_alone X D well e (inr (inr (is, all, none))) = absurd (none well)
 pub returns-clause-refused : goal.returns-clause-refused
 returns-clause-refused g c =
     let well = kept_well g.T.Portable.shape g.T.ArchivePointee.definitions c.args.self.now.schema c.args.self.now.made c.args.self.now.needed
-      (λ h. let checks = g.met.T.Portable.checks h in ordered_well g.T.ArchivePointee.definitions g.T.Portable.shape checks.order checks.ordered g.met.T.Portable.no_others) in
+    (λ h. let checks = g.met.T.Portable.checks h in ordered_well g.T.ArchivePointee.definitions g.T.Portable.shape checks.order checks.ordered g.met.T.Portable.no_others) in
     IfErr-weaker c.explain.result _ _ (memory_alone g.T.Portable.shape g.T.ArchivePointee.definitions well) c.explain.ensures.refused
