@@ -8,4 +8,3 @@ pub mod Formats
 pub mod Faults
 pub mod LegalRuns
 pub mod AddedDefinitions
-pub mod TwoVariants

@@ -29,10 +29,6 @@ HandsOut v d b kept = (k : Kept) → d.entry_of b.entry.now v.pos ≡ Some (Some
 abbrev pub SaysShown : {T M D : Type 0} {g : ArchivePointee.Ghosts T M} → Ref T M g → Entries.Ghosts D → Both (MutBor D) (MutBor D) → Kept → Type 0
 SaysShown {g = g} v d b kept = d.entry_of b.entry.now v.pos ≡ None → AreNamedByPosition (d.entry_of b.entry.now) → Says g.definitions v.bytes.now v.pos g.pointee v.len kept.value
 
--- It is finished with this afterwards.
-abbrev pub IsFinishedWith : {T M D : Type 0} {g : ArchivePointee.Ghosts T M} → Ref T M g → Entries.Ghosts D → Both (MutBor D) (MutBor D) → Kept → Type 0
-IsFinishedWith v d b kept = d.entry_of b.exit.now v.pos ≡ Some (Some kept)
-
 -- A position has this state afterwards, and others are as they were.
 abbrev pub PutAt : {D : Type 0} → Entries.Ghosts D → Both (MutBor D) (MutBor D) → ℕ → EntryState → Type 0
 PutAt d b pos state = IsPut (d.entry_of b.entry.now) pos state (d.entry_of b.exit.now)

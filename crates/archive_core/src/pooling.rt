@@ -9,7 +9,7 @@ ghost use Rattle.archive_check.specs.Pooled.{Kept, pooled};
 ghost use Rattle.archive_check.specs.declared.format.error.Error.TheVariants.{OutOfMemory};
 ghost use Rattle.archive_core.specs.Pooling.{known_by, IsPoolAnswer, IsSame, Spans, IsFinishAnswer};
 ghost use Rattle.archive_core.specs.KeptValues.{kept_value};
-ghost use Rattle.archive_core.specs.SharedSeen.{ReadsKept, HandsOut, SaysShown, IsFinishedWith, RefusesKept, PutAt};
+ghost use Rattle.archive_core.specs.SharedSeen.{ReadsKept, HandsOut, SaysShown, RefusesKept, PutAt};
 
 use archive_check::format::error::Error;
 use archive_types::traits::{Archive, ArchivePointee, DeserializeUnsized, Entries};
@@ -116,7 +116,7 @@ pub trait PoolingExt<T: Pooled>: Pooling<T> {
         ensures handed_out { IfOk result (λ v. HandsOut view.entry Self.Entries self (T.kept v)) }
         ensures says { IfOk result (λ v. SaysShown view.entry Self.Entries self (T.kept v)) }
         ensures finished { Self.keeps ≡ true → IfOk result
-            (λ v. IsFinishedWith view.entry Self.Entries self (T.kept v)) }
+            (λ v. Self.entry_of self.new view.entry.pos ≡ Some (Some (T.kept v))) }
         ensures kept { OnOk result (KeepsEntries (Self.entry_of self.old)
             (Self.entry_of self.new)) }
         ensures refused { IfErr result (λ e. RefusesKept view.entry Self.Entries self e) }

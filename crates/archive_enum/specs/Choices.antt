@@ -1,17 +1,17 @@
 -- Options and results as archives hold them: what they look like, and the laws of that.
-use Rattle.std.specs.Prelude.{◌≡◌, ℕ, zero, suc, ◌+◌, ◌<◌, ◌≤◌, max, Bool, ◌&&◌, Some, IsTrue, is_some, nat_lt, nat_le, true, codes}
+use Rattle.std.specs.Prelude.{◌≡◌, ℕ, zero, suc, ◌+◌, ◌<◌, ◌≤◌, max, Bool, ◌&&◌, IsTrue, is_some, nat_lt, true, codes}
 use Rattle.std.proofs.Common.{refl, ap, ◌∙◌, inl, inr, arith}
 use Rattle.std.proofs.lemmas.Bool.{and_parts}
 use Rattle.std.proofs.lemmas.List.{append-nil}
-use Rattle.std.proofs.lemmas.Bool.Decides.{nat_tests}
 use Rattle.archive_check.specs.Shape.{Name, Shape, choice, no_part, part, no_variant, variant, variant_at}
 use Rattle.archive_check.specs.Layout.{Layout, up, size_of, align_of}
 use Rattle.archive_check.specs.Reads.{SchemaTable}
 use Rattle.archive_check.specs.Defined.{Mentions, mentions_choice, mentions_other, mentions_variant, mentions_first}
 use Rattle.archive_check.specs.Definitions.{Definitions, no_definition, both, Knows, NoOthers, HasLayout, IsAlign}
 use Rattle.archive_check.specs.Members.NoOthers.{around_reached}
-use Rattle.archive_check.specs.Words.BoundedSizes.{fits}
-use Rattle.archive_check.specs.SelfCheck.Laws.{IsCheckOf}
+use Rattle.archive_check.specs.SelfCheck.Laws.{IsCheckOf, no_more}
+use Rattle.archive_check.specs.SelfCheck.Lone.{small_fits}
+use Rattle.archive_check.specs.SelfCheck.Regions.{align_some}
 
 -- Nothing, or a value.
 abbrev pub option_shape : Shape → Shape
@@ -38,20 +38,12 @@ up_first a (inr (inr (inr (inl e)))) = rw e refl
 up_first a (inr (inr (inr (inr (inl e))))) = rw e refl
 up_first a (inr (inr (inr (inr (inr e))))) = rw e refl
 
-pub align_low : (a : ℕ) → IsAlign a → 1 ≤ a
-align_low a (inl e) = omega arith
-align_low a (inr (inl e)) = omega arith
-align_low a (inr (inr (inl e))) = omega arith
-align_low a (inr (inr (inr (inl e)))) = omega arith
-align_low a (inr (inr (inr (inr (inl e))))) = omega arith
-align_low a (inr (inr (inr (inr (inr e))))) = omega arith
-
 -- The value ends within the option.
 pub option_holds : (L : Layout) → IsAlign L.align → L.align + L.size ≤ (option_layout L).size
-option_holds L is = omega (arith, align_low L.align is)
+option_holds L is = omega (arith, align_some L.align is)
 
 pub align_low_first : (L : Layout) → IsAlign L.align → 0 < L.align
-align_low_first L is = omega (arith, align_low L.align is)
+align_low_first L is = omega (arith, align_some L.align is)
 
 -- A tag that isn't 0 is 1.
 pub option_tag : (X : Shape) (t : ℕ) → is_some (variant_at (variant no_part (variant (part X no_part) no_variant)) t) ≡ true → (t ≡ 0 → ⊥) → t ≡ 1
@@ -71,7 +63,7 @@ option_has_layout D X L is h = record {
   solved = λ s k. (
       let z : size_of s.layouts X ≡ L.size = ap (λ (l : Layout). l.size) (h.solved s k) in
       let a : align_of s.layouts X ≡ L.align = ap (λ (l : Layout). l.align) (h.solved s k) in
-      let low = align_low L.align is in
+      let low = align_some L.align is in
       let align : align_of s.layouts (option_shape X) ≡ L.align = ap (λ b. max 1 (max (max b 1) 1)) a ∙ option_align L.align low in
       let end : max 1 (max (up 1 (align_of s.layouts X) + size_of s.layouts X) 1) ≡ L.align + L.size = rw (a, z) (option_end L.align L.size low (up_first L.align is)) in
       let size : size_of s.layouts (option_shape X) ≡ up (L.align + L.size) L.align = rw (end, align) refl in
@@ -84,12 +76,6 @@ option_mentions X n m = mentions_choice (mentions_other (mentions_variant (menti
 
 pub option_reached : (D : Definitions) (X : Shape) → NoOthers D X → NoOthers D (option_shape X)
 option_reached D X h = around_reached D X (option_shape X) (option_mentions X) h
-
-no_more : (n : ℕ) → nat_le n n ≡ true
-no_more n = grind (arith, nat_tests)
-
-small_fits : (n : ℕ) → IsTrue (nat_lt n 18446744073709551615) → fits n ≡ Some n
-small_fits n h = grind (arith, nat_tests)
 
 known_below : (D : Definitions) (s : SchemaTable) → Knows s D → Knows s (option_definitions D)
 known_below D s k = record {

@@ -13,7 +13,8 @@ use Rattle.archive_check.specs.Members.PartsLayout.{knows_left, knows_right}
 use Rattle.archive_check.specs.MissingNames.{missing}
 use Rattle.archive_check.specs.SelfCheck.Laws.{IsCheckOf, no_more}
 use Rattle.archive_check.specs.SelfCheck.Lone.{HasOrder, none_missing, first_order, later_order, plain_order, or_parts, small_fits}
-use Rattle.archive_enum.specs.Choices.{up_first, align_low}
+use Rattle.archive_check.specs.SelfCheck.Regions.{align_some}
+use Rattle.archive_enum.specs.Choices.{up_first}
 
 -- The variants of a result: each with one part.
 abbrev pub result_variants : Shape → Shape → Variants
@@ -57,7 +58,7 @@ result_has_layout D E X Y L M is js h k = record {
       let a : align_of s.layouts X ≡ L.align = ap (λ (l : Layout). l.align) left in
       let y : size_of s.layouts Y ≡ M.size = ap (λ (l : Layout). l.size) right in
       let b : align_of s.layouts Y ≡ M.align = ap (λ (l : Layout). l.align) right in
-      let low = align_low L.align is in
+      let low = align_some L.align is in
       let align : align_of s.layouts (result_shape X Y) ≡ max L.align M.align = rw (a, b) (two_aligns L.align M.align low) in
       let end : max (up 1 (align_of s.layouts X) + size_of s.layouts X) (max (up 1 (align_of s.layouts Y) + size_of s.layouts Y) 1) ≡ max (L.align + L.size) (M.align + M.size)
       = rw (a, z, b, y, up_first L.align is, up_first M.align js) (two_ends (L.align + L.size) (M.align + M.size) (omega (arith, low))) in

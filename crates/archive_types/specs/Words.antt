@@ -8,6 +8,4 @@ pub mod Sources
 pub mod KindsWritten
 pub mod SharedWriting
 pub mod OffsetsWritten
-pub mod PointersWritten
-pub mod LengthsSeen
 pub mod SeenEntries

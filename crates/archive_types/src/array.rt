@@ -3,7 +3,8 @@
 
 ghost use Rattle.std.specs.Prelude.{◌≡◌, ◌+◌, ◌-◌, ◌*◌, ◌<◌, ◌↔◌, IfSome, IsSome, IsTrue};
 ghost use Rattle.archive_check.specs.Shape.{one};
-ghost use Rattle.archive_types.specs.Words.Seen.{ShowsPartOf, elements_between, elements_of};
+ghost use Rattle.archive_types.specs.Compared.{elements_from};
+ghost use Rattle.archive_types.specs.Words.Seen.{ShowsPartOf, elements_between};
 ghost use Rattle.archive_types.specs.Views.{element_in};
 
 mod owned;
@@ -66,7 +67,7 @@ impl<'a, T: Portable, const N: usize> Ref<'a, [T; N]> {
     /// Views of the elements, in order and from either end.
     pub fn iter(self) -> Iter<'a, T>
         ensures { elements_between result.slice T.layout.size result.front result.back
-            ≡ elements_of T.layout.size N self.entry }
+            ≡ elements_from self.entry.bytes.now self.entry.pos T.layout.size 0 N }
     {
         Iter::over(self.part(), N)
     }

@@ -7,7 +7,7 @@ ghost use Rattle.archive_check.specs.Value.{product};
 ghost use Rattle.archive_check.specs.Viewed.{Viewed};
 ghost use Rattle.archive_types.specs.Causes.{HindersAt, IsRefused};
 ghost use Rattle.archive_types.specs.Plans.{Serialized};
-ghost use Rattle.archive_types.specs.Words.Seen.{IsPartOf, RefusesPart, ReadsRecord};
+ghost use Rattle.archive_types.specs.Words.Seen.{IsPartOf, RefusesPart, ReadsPart};
 ghost use Rattle.archive_types.specs.Writing.{ZeroedPlace, Resolves};
 ghost use Rattle.archive_write.specs.Written.{GoesOn};
 ghost use Rattle.archive_types.specs.Outcomes.{ResolvesAs, SerializesAs};
@@ -66,8 +66,8 @@ pub fn deserialize_record<X: Record, T: OwnedParts, D: Entries>(
 where
     X::Parts: DeserializeParts<T, D>,
     requires { IsPartOf X.ArchivePointee part }
-    ensures read { IfOk result (ReadsRecord X.ArchivePointee part D.Entries deserializer T.meanings
-        T.keys) }
+    ensures read { IfOk result (λ t. ReadsPart X.ArchivePointee part D.Entries deserializer
+        (product (T.meanings t)) (T.keys t)) }
     ensures refused { IfErr result (RefusesPart X.ArchivePointee part D.Entries deserializer) }
 {
     let RawView { bytes, pos, .. } = part;

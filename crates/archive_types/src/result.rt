@@ -9,7 +9,7 @@ ghost use Rattle.archive_enum.specs.ResultShapes.{result_shape, result_layout};
 ghost use Rattle.archive_types.specs.Causes.{HindersAt};
 ghost use Rattle.archive_types.specs.Members.PlannedOwners.{one_planned};
 ghost use Rattle.archive_types.specs.Members.Results.{result_meaning, result_keys, result_flat, ResultBelongs, result_keyed, result_planned};
-ghost use Rattle.archive_types.specs.Words.Seen.{tag_of, StandsBeside, IsPartOf, RefusesPart, IsBufferOf, IsBehind};
+ghost use Rattle.archive_types.specs.Words.Seen.{tag_of, StandsBeside, IsPartOf, RefusesPart};
 ghost use Rattle.archive_types.specs.Words.Sources.{Read};
 ghost use Rattle.archive_types.specs.Writing.{ZeroedPlace, Resolves};
 ghost use Rattle.archive_types.specs.Outcomes.{ResolvesAs};
@@ -141,9 +141,10 @@ impl<'a, T: Portable, E: Portable> Ref<'a, ArchivedResult<T, E>> {
     /// at.
     pub fn as_ref(self) -> Result<Ref<'a, T>, Ref<'a, E>>
         ensures tag { MatchResult result (λ v. tag_of self.entry ≡ 0) (λ e. tag_of self.entry ≡ 1) }
-        ensures buffer { MatchResult result (IsBufferOf self.entry) (IsBufferOf self.entry) }
-        ensures position { MatchResult result (IsBehind self.entry T.layout.align)
-            (IsBehind self.entry E.layout.align) }
+        ensures buffer { MatchResult result (λ v. v.bytes.now ≡ self.entry.bytes.now)
+            (λ e. e.bytes.now ≡ self.entry.bytes.now) }
+        ensures position { MatchResult result (λ v. v.pos ≡ self.entry.pos + T.layout.align)
+            (λ e. e.pos ≡ self.entry.pos + E.layout.align) }
         ensures length { MatchResult result (λ v. v.len ≡ 0) (λ e. e.len ≡ 0) }
         ensures beside { MatchResult result (λ v. StandsBeside v self.entry)
             (λ e. StandsBeside e self.entry) }

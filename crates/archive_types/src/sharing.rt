@@ -4,7 +4,7 @@ ghost use Rattle.std.specs.Prelude.{◌≡◌, ◌⊎◌, None, Option, Some, �
 ghost use Rattle.archive_check.specs.WriterState.{KeepsBytes, KeepsKeys};
 ghost use Rattle.archive_types.specs.Causes.{Explains, HindersShared, HindersRegion, RegionReaches};
 ghost use Rattle.archive_types.specs.Plans.{cursor, begun, SerializedShared};
-ghost use Rattle.archive_types.specs.Words.SharedWriting.{IsUnchangedIfKnown, IsUnfinished, StoresIfUnknown, UnstoredUnder};
+ghost use Rattle.archive_types.specs.Words.SharedWriting.{IsUnchangedIfKnown, StoresIfUnknown, UnstoredUnder};
 ghost use Rattle.archive_write.specs.Sharing.{known_answer};
 ghost use Rattle.archive_write.specs.Written.{GoesOn};
 
@@ -41,7 +41,8 @@ pub trait SharingExt: Sharing + Writer {
         ensures refused { IfErr result (UnstoredUnder key T.ArchiveUnsized T.Archived.ArchivePointee
             value.now Self.Keys self) }
         ensures finished { IfOk result (λ p. (Self.state self.new).states key ≡ Some (Some p)) }
-        ensures unfinished { OnErr result (IsUnfinished key Self.Keys self) }
+        ensures unfinished { OnErr result (((Self.state self.new).states key ≡ None)
+            ⊎ ((Self.state self.new).states key ≡ Some None)) }
     {
         match self.start_sharing(key)? {
             SharingState::Started => {

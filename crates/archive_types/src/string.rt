@@ -18,7 +18,6 @@ ghost use Rattle.archive_check.specs.WriterState.{KeepsKeys};
 ghost use Rattle.archive_write.specs.Written.{GoesOn};
 ghost use Rattle.archive_types.specs.Causes.{HindersAt, IsRefused, IsRegionRefused};
 ghost use Rattle.archive_types.specs.Members.Keyed.{text_keyed};
-ghost use Rattle.archive_types.specs.Words.KindsWritten.{NoTextSince, NoStringSince};
 ghost use Rattle.archive_num.specs.Offsets.{distance, IsTooFar};
 ghost use Rattle.archive_types.specs.Words.Placed.{IsTooFarFrom, AtOnce, Added};
 ghost use Rattle.archive_types.specs.Members.Planned.{string_planned, text_planned};
@@ -225,7 +224,8 @@ impl<'a, S: Writer + Keys> SerializeUnsized<S> for Text<'a> {
         ensures keys { KeepsKeys (S.state serializer.old).states (S.state serializer.new).states }
         ensures too_long { 4294967295 < length self.now.text.now
             → AtOnce result LengthTooLarge S.Keys serializer }
-        ensures cause { IfErr result (NoTextSince self.now.text.now S.position S.Keys serializer) }
+        ensures cause { IfErr result (ExplainsTextRefusal self.now.text.now (S.position serializer.old)
+            (S.state serializer.old) (S.state serializer.new)) }
     {
         if let Err(error) = self.archived_metadata() {
             return Err(error);
@@ -279,7 +279,8 @@ impl ArchivedString {
             (length (S.state serializer.old).bytes ≤ 4294967295) }
         ensures elsewhere { 8 < length value.now → IfOk result (Added value.now S.Keys serializer) }
         ensures keys { KeepsKeys (S.state serializer.old).states (S.state serializer.new).states }
-        ensures cause { IfErr result (NoStringSince value.now S.position S.Keys serializer) }
+        ensures cause { IfErr result (ExplainsStringRefusal value.now (S.position serializer.old)
+            (S.state serializer.old) (S.state serializer.new)) }
     {
         if value.len() <= repr::INLINE_CAPACITY {
             return Ok(StringResolver { pos: 0 });
@@ -392,8 +393,8 @@ impl<S: Writer + Keys> Serialize<S> for String {
             → AtOnce result StringTooLong S.Keys serializer }
         ensures elsewhere { 8 < length (string_bytes self.now)
             → IfOk result (Added (string_bytes self.now) S.Keys serializer) }
-        ensures cause { IfErr result (NoStringSince (string_bytes self.now) S.position S.Keys
-            serializer) }
+        ensures cause { IfErr result (ExplainsStringRefusal (string_bytes self.now)
+            (S.position serializer.old) (S.state serializer.old) (S.state serializer.new)) }
     {
         ArchivedString::serialize_from_str(self.as_str(), serializer)
     }

@@ -5,9 +5,8 @@ use denote.Ref.{MutBor}
 use Rattle.std.specs.Prelude.{◌≡◌, ℕ, ◌-◌, List, ◌++◌, length, take, Some, replicate}
 use Rattle.archive_check.specs.WriterState.{WriterState, KeyState}
 use Rattle.archive_check.specs.declared.format.error.Error.{Error}
-use Rattle.archive_check.specs.declared.format.error.Error.TheVariants.{BufferOverflow}
 use Rattle.archive_write.specs.Sharing.{started_key, IsSet}
-use Rattle.archive_write.specs.Written.{IsBeginning, RoomFalls, ExplainsRefusal, padding}
+use Rattle.archive_write.specs.Written.{RoomFalls, ExplainsRefusal, padding}
 
 module _ {W : Type 0} (state : W → WriterState) (w : Both (MutBor W) (MutBor W)) where
   -- The room has fallen by as many bytes as came.
@@ -30,10 +29,6 @@ module _ {W : Type 0} (state : W → WriterState) (w : Both (MutBor W) (MutBor W
 abbrev pub IsStarted : (ℕ → KeyState) → ℕ → (ℕ → KeyState) → Type 0
 IsStarted before key after = IsSet before key (started_key (before key)) after
 
--- The n first bytes of a buffer are held: they come first in those held later.
-abbrev pub KeepsHeld : ℕ → List ℕ → ℕ → List ℕ → Type 0
-KeepsHeld n xs m ys = IsBeginning (take n xs) (take m ys)
-
 -- These came behind them.
 abbrev pub HoldsMore : ℕ → List ℕ → ℕ → List ℕ → List ℕ → Type 0
 HoldsMore n xs m ys more = take m ys ≡ take n xs ++ more
@@ -45,7 +40,3 @@ SpendsRest n xs m ys = RoomFalls (Some (length xs - n)) (Some (length ys - m)) (
 -- Why bytes don't fit behind them.
 abbrev pub ExplainsFull : List ℕ → ℕ → List ℕ → ℕ → List ℕ → Error → Type 0
 ExplainsFull bytes n xs m ys = ExplainsRefusal (length bytes) n (length (take m ys)) (Some (length xs - n)) 0 0
-
--- The refusal says how many were to come, how many the buffer has, and how many it holds.
-abbrev pub IsOverflow : List ℕ → ℕ → List ℕ → Error → Type 0
-IsOverflow bytes n xs = λ e. e ≡ BufferOverflow (length bytes) (length xs) n

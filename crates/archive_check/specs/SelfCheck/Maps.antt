@@ -28,13 +28,11 @@ entry_size k v = up (entry_end k v) (entry_align k v)
 abbrev pub entry_definitions : Definitions → Definitions → Definitions
 entry_definitions D E = both D (both E no_definition)
 
--- Whether both check themselves, and whether they bring no definitions, or one of them alone, as parts of a record do.
-abbrev pub entry_direct : Bool → Bool → Bool
-entry_direct k v = k && (v && true)
+-- Whether it holds of a key and of a value: that they check themselves, or that they bring no definition.
+abbrev pub entry_each : Bool → Bool → Bool
+entry_each k v = k && (v && true)
 
-abbrev pub entry_nameless : Bool → Bool → Bool
-entry_nameless k v = k && (v && true)
-
+-- Whether one of them at most brings definitions, as `lone` says it of parts.
 abbrev pub entry_lone : Bool → Bool → Bool
 entry_lone k v = (v && true) || (k && (true || (v && true)))
 

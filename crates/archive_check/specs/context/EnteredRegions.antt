@@ -1,9 +1,9 @@
 -- The region that a pointer leads to is entered, or why not, and is left.
-use Rattle.std.specs.Prelude.{◌≡◌, ℕ, ◌+◌, ◌%◌, ◌≤◌, ℤ, pos, Option, Some, None, Ok}
+use Rattle.std.specs.Prelude.{◌≡◌, ℕ, ◌+◌, ◌%◌, ◌≤◌, ℤ, pos, Option, Some, None}
 use Rattle.archive_check.specs.declared.format.error.Error.{Error}
 use Rattle.archive_check.specs.declared.context.range.Region.{Region}
 use Rattle.archive_check.specs.Depth.{Allows, inside}
-use Rattle.archive_check.specs.context.Ranges.{RangeState, Lands, pop_answer}
+use Rattle.archive_check.specs.context.Ranges.{RangeState, Lands}
 use Rattle.archive_check.specs.Trail.{Fault, too_large, outside, unaligned, too_deep}
 use Rattle.archive_check.specs.Words.Faults.{IsFor}
 use Rattle.archive_check.specs.context.FreshContexts.{HasLevels}
@@ -32,7 +32,3 @@ pub record Begun (s s' : RangeState) (z : ℤ) (align : ℕ) (r : Region) : Type
 -- The same of one of this size.
 abbrev pub Enters : RangeState → RangeState → ℤ → ℕ → Option ℕ → Region → Type 0
 Enters s s' z align size r = (size ≡ Some r.size) × Begun s s' z align r
-
--- A range that begins so is taken back.
-abbrev pub IsTakenBack : RangeState → ℕ → Type 0
-IsTakenBack s start = pop_answer s start ≡ Ok tt

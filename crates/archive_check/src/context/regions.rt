@@ -1,9 +1,9 @@
 //! Regions are entered and left; the error is kept beside the result. These calls are inlined,
 //! since what they return is wide.
 
-ghost use Rattle.std.specs.Prelude.{◌≡◌, ◌+◌, ◌<◌, ◌≤◌, ℕ, pos, OnSome, IfSome, IfNone, Some, Err, is_err, true};
+ghost use Rattle.std.specs.Prelude.{◌≡◌, ◌+◌, ◌<◌, ◌≤◌, ℕ, pos, OnSome, IfSome, IfNone, Some, Ok, Err, is_err, true};
 ghost use Rattle.archive_check.specs.context.Ranges.{subtree_answer, pop_answer, popped};
-ghost use Rattle.archive_check.specs.context.EnteredRegions.{Begun, Enters, EntersNot, IsTakenBack};
+ghost use Rattle.archive_check.specs.context.EnteredRegions.{Begun, Enters, EntersNot};
 
 use crate::context::ArchiveContext;
 use crate::context::range::Region;
@@ -64,7 +64,7 @@ pub fn leave<C: ArchiveContext>(
     refusal: &mut Error,
     context: &mut C,
 ) -> Option<()>
-    ensures taken { OnSome result (IsTakenBack (C.state context.old) start) }
+    ensures taken { OnSome result (pop_answer (C.state context.old) start ≡ Ok tt) }
     ensures left { OnSome result (C.state context.new ≡ popped (C.state context.old) start end) }
     ensures refused { IfNone result (pop_answer (C.state context.old) start ≡ Err refusal.new) }
     ensures unchanged { IfNone result (C.state context.new ≡ C.state context.old) }

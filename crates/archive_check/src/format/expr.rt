@@ -7,7 +7,7 @@ ghost use Rattle.std.specs.Cmp.{on_equiv, partial_equiv_from_equiv};
 ghost use Rattle.std.specs.Ordering.{on};
 ghost use Rattle.archive_check.specs.Expressions.{integer_of, kind_of, shape_of, pointee_of, shapes_in, variants_in};
 ghost use Rattle.archive_check.specs.Layout.{kind_size, kind_align};
-ghost use Rattle.archive_check.specs.Words.TwoVariants.{IsChoiceOfTwo};
+ghost use Rattle.archive_check.specs.Shape.{choice, variant, no_variant};
 ghost use Rattle.archive_check.specs.Equality.{is_same_shape, is_same_pointee, same_shape, same_pointee, same_parts, same_variants, same_shape-equiv, same_pointee-equiv};
 
 pub use crate::format::defs::{Def, Defs};
@@ -158,7 +158,9 @@ impl Expr {
         first: Vec<Expr>,
         second: Vec<Expr>,
     ) -> Result<Expr, AllocError>
-        ensures { IfOk result (IsChoiceOfTwo name.now first.items second.items) }
+        ensures { IfOk result (λ e. shape_of e ≡ choice name.now
+            (variant (shapes_in first.items)
+            (variant (shapes_in second.items) no_variant))) }
     {
         let variants = vec![in alloc; first, second]?;
         Ok(Expr::Choice(name, variants))

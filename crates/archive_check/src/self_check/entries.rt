@@ -6,7 +6,7 @@ ghost use Rattle.archive_check.specs.Keys.{ComesBehind};
 ghost use Rattle.archive_check.specs.SelfCheck.Lone.{tuple_direct};
 ghost use Rattle.archive_check.specs.SelfCheck.Ways.{shape_way};
 ghost use Rattle.archive_check.specs.SelfCheck.Regions.{entries_way};
-ghost use Rattle.archive_check.specs.SelfCheck.Maps.{entry_size, entry_definitions, entry_direct, entry_nameless, entry_lone, entries_at};
+ghost use Rattle.archive_check.specs.SelfCheck.Maps.{entry_size, entry_definitions, entry_each, entry_lone, entries_at};
 ghost use Rattle.archive_check.specs.context.Pushes.{Spends};
 ghost use Rattle.archive_check.specs.SelfCheck.Steps.{Went, WentOver, Stopped, StoppedIf};
 
@@ -65,7 +65,7 @@ fn check_entries<K: MapKey, V: Portable, C: ArchiveContext>(
     requires below { (C.state context.old).end ≤ length bytes.now }
     ensures through { Went C.Context context (entry_definitions K.definitions V.definitions)
         (entries_way bytes.now None at count K.key V.shape) result }
-    ensures stops { StoppedIf C.Context context (entry_direct K.Check.direct V.Check.direct)
+    ensures stops { StoppedIf C.Context context (entry_each K.Check.direct V.Check.direct)
         (entry_definitions K.definitions V.definitions)
         (entries_way bytes.now None at count K.key V.shape) result refusal }
     ensures spends { Spends (count * size) (C.state context.old) (C.state context.new) }
@@ -95,7 +95,7 @@ fn check_map<K: MapKey, V: Portable, C: ArchiveContext>(
     ensures through { Went C.Context context (entry_definitions K.definitions V.definitions)
         (entries_at bytes.now position count K.key V.shape) result }
     ensures stops { StoppedIf C.Context context (tuple_direct
-        (entry_direct K.Check.direct V.Check.direct) (entry_lone K.Check.nameless V.Check.nameless)
+        (entry_each K.Check.direct V.Check.direct) (entry_lone K.Check.nameless V.Check.nameless)
         (entry_size K.layout V.layout)) (entry_definitions K.definitions V.definitions)
         (entries_at bytes.now position count K.key V.shape) result refusal }
     ensures spends { Spends 4 (C.state context.old) (C.state context.new) }
@@ -123,10 +123,10 @@ impl<K: MapKey, V: Portable> SelfCheck for MapCheck<K, V> {
 
     ghost span = { 8 };
 
-    ghost direct = { tuple_direct (entry_direct K.Check.direct V.Check.direct)
+    ghost direct = { tuple_direct (entry_each K.Check.direct V.Check.direct)
         (entry_lone K.Check.nameless V.Check.nameless) (entry_size K.layout V.layout) };
 
-    ghost nameless = { entry_nameless K.Check.nameless V.Check.nameless };
+    ghost nameless = { entry_each K.Check.nameless V.Check.nameless };
 
     fn is_direct() -> bool {
         <TupleCheck<(K, (V, ()))>>::is_direct()

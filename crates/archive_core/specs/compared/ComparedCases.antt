@@ -1,5 +1,5 @@
 -- Variants: how they are ordered, by their tags and then by their fields, and that this is the order of what they mean.
-use Rattle.std.proofs.Common.{◌≡◌, ◌<◌, ℕ, zero, suc, true, IsTrue, List, [], ◌++◌, slice_index, Option, Some, None, Result, Ok, Err, pos as whole, arith, refl, sym, ap, ap₂, ◌∙◌}
+use Rattle.std.proofs.Common.{◌≡◌, ◌<◌, ℕ, zero, suc, true, IsTrue, List, [], ◌++◌, slice_index, Some, Result, Ok, Err, pos as whole, arith, refl, sym, ap, ap₂, ◌∙◌}
 use mathlib.Core.Bool.{true≢false}
 use Rattle.std.specs.Cmp.{IsTotalOrder, on_total, nat_cmp_total, nat_cmp_is, ranks}
 use Rattle.std.proofs.lemmas.Map.Lookups.{exact_unsigned}
@@ -9,7 +9,7 @@ use Rattle.std.specs.Ordering.{MatchOrdering, on, nat_cmp, ordering_then, eq_by_
 use Rattle.std.specs.Result.{result_cmp}
 use Rattle.std.specs.declared.cmp.Ordering.{Ordering}
 use Rattle.std.specs.declared.cmp.Ordering.TheVariants.{Less, Equal, Greater}
-use Rattle.archive_check.specs.Shape.{Name, Shape, choice, one, Parts, Variants, no_part, no_variant, variant, variant_at}
+use Rattle.archive_check.specs.Shape.{Name, Shape, choice, one, Parts, Variants, no_variant, variant, variant_at}
 use Rattle.archive_check.specs.Value.{Value, case, Values}
 use Rattle.archive_check.specs.Reads.{SchemaTable, ReadsParts, reads_choice}
 use Rattle.archive_check.specs.Tour.{Contents, contents_one}
@@ -20,6 +20,7 @@ use Rattle.archive_core.specs.fields.OwnChoices.{variant_definitions}
 use Rattle.archive_core.specs.fields.Plain.{are_none, knows_plain}
 use Rattle.archive_types.specs.Compared.{Standing, standing}
 use Rattle.archive_types.specs.PartsReading.{PartsViewed}
+use Rattle.archive_types.specs.Members.OrderedParts.{parts_of}
 use Rattle.archive_types.specs.ValueOrder.{values_cmp, Follows, FollowsAll, follows_case, OrdersValues}
 use Rattle.archive_core.specs.compared.ComparedFields.{FieldsMean, OrdersFields, FieldsFedAlike}
 
@@ -103,13 +104,9 @@ tags_alike t u a b h = (tells_apart exact_unsigned t u h, refl)
 pub no_cases_ordered : (D : Definitions) → OrdersCases D no_variant tags_order
 no_cases_ordered D t u a b ws xs m k = absurd (cc m.at)
 
-abbrev fields_of : Option Parts → Parts
-fields_of None = no_part
-fields_of (Some ps) = ps
-
 first_mean : (D E : Definitions) (ps : Parts) (vs : Variants) (a : Standing) (ws : Values) → CaseMeans (both D E) (variant ps vs) 0 a ws → FieldsMean D ps 1 a ws
 first_mean D E ps vs a ws m =
-    let same : m.fields ≡ ps = sym (ap fields_of m.at) in
+    let same : m.fields ≡ ps = sym (ap parts_of m.at) in
     record { schema = m.schema; values = m.values; knows = knows_left m.schema D E m.knows; reads = rw same at m.reads; follows = m.follows }
 
 others_mean : (D E : Definitions) (ps : Parts) (vs : Variants) (t : ℕ) (a : Standing) (ws : Values) → CaseMeans (both D E) (variant ps vs) (suc t) a ws → CaseMeans E vs t a ws

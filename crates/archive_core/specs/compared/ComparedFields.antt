@@ -1,20 +1,21 @@
 -- Fields one after another: how they are ordered, and that this is the order of what they mean.
-use Rattle.std.proofs.Common.{◌≡◌, ℕ, ◌+◌, true, IsTrue, List, ◌++◌, refl, sym, ap, ap₂}
-use mathlib.Core.Bool.{true≢false}
+use Rattle.std.proofs.Common.{◌≡◌, ℕ, ◌+◌, true, IsTrue, List, ◌++◌, refl, ap, ap₂}
 use Rattle.std.specs.Cmp.{IsTotalOrder, on_total, then_total}
-use Rattle.std.specs.Ordering.{on, then_cmp, ordering_then, eq_by_cmp, is_eq}
+use Rattle.std.specs.Ordering.{on, then_cmp, eq_by_cmp}
 use Rattle.std.specs.declared.cmp.Ordering.{Ordering}
-use Rattle.std.specs.declared.cmp.Ordering.TheVariants.{Less, Equal, Greater}
+use Rattle.std.specs.declared.cmp.Ordering.TheVariants.{Equal}
 use Rattle.archive_check.specs.Shape.{Shape, parts, one, Parts, no_part, part}
 use Rattle.archive_check.specs.Layout.{Layout, up, size_of, align_of}
-use Rattle.archive_check.specs.Value.{Value, product, Values, no_value, value}
-use Rattle.archive_check.specs.Reads.{SchemaTable, ReadsParts, reads_parts, reads_part, reads_no_part}
+use Rattle.archive_check.specs.Value.{Value, product, Values, value}
+use Rattle.archive_check.specs.Reads.{SchemaTable, ReadsParts, reads_parts, reads_part}
 use Rattle.archive_check.specs.Tour.{Contents, contents_one}
 use Rattle.archive_check.specs.Definitions.{Definitions, no_definition, both, Knows, HasLayout}
 use Rattle.archive_check.specs.Members.PartsLayout.{knows_left, knows_right}
 use Rattle.archive_core.specs.fields.Plain.{are_none, knows_plain}
 use Rattle.archive_types.specs.Compared.{Standing, standing}
-use Rattle.archive_types.specs.ValueOrder.{values_cmp, Follows, FollowsAll, follows_product, follows_no_value, follows_value, Means, OrdersValues}
+use Rattle.archive_types.specs.Members.OrderedPairs.{first_tied, second_tied}
+use Rattle.archive_types.specs.Members.OrderedParts.{nothing_follows}
+use Rattle.archive_types.specs.ValueOrder.{values_cmp, Follows, FollowsAll, follows_product, follows_value, Means, OrdersValues}
 
 -- The field of this layout that is laid out from an offset on.
 abbrev pub field_from : ℕ → Layout → Standing → Standing
@@ -55,16 +56,6 @@ pub fields_total : (L : Layout) {R : Standing → Standing → Ordering} {S : �
     → IsTotalOrder R → ((n : ℕ) → IsTotalOrder (S n)) → (n : ℕ) → IsTotalOrder (fields_order L R S n)
 fields_total L r s n = then_total (on_total (field_from n L) r) (s (behind n L))
 
-pub first_tied : (r s : Ordering) → is_eq (ordering_then r s) ≡ true → is_eq r ≡ true
-first_tied Less s h = h
-first_tied Equal s h = refl
-first_tied Greater s h = h
-
-pub second_tied : (r s : Ordering) → is_eq (ordering_then r s) ≡ true → is_eq s ≡ true
-second_tied Less s h = absurd (true≢false (sym h))
-second_tied Equal s h = h
-second_tied Greater s h = absurd (true≢false (sym h))
-
 pub fields_alike : (L : Layout) (R : Standing → Standing → Ordering) (S : ℕ → Standing → Standing → Ordering)
     (feed : Standing → List (List ℕ)) (others : ℕ → Standing → List (List ℕ))
     → ((x y : Standing) → IsTrue (eq_by_cmp R x y) → feed x ≡ feed y) → FieldsFedAlike S others
@@ -74,13 +65,9 @@ fields_alike L R S feed others alike also n x y h =
     let s = S (behind n L) x y in
     ap₂ (λ us ws. us ++ ws) (alike (field_from n L x) (field_from n L y) (first_tied r s h)) (also (behind n L) x y (second_tied r s h))
 
-no_field_is : {s : SchemaTable} {bytes : List ℕ} {q n : ℕ} {vs ws : Values} → ReadsParts s bytes q n no_part vs
-    → FollowsAll s bytes vs ws → ws ≡ no_value
-no_field_is reads_no_part follows_no_value = refl
-
 -- No field is as good as another.
 pub no_fields_ordered : (D : Definitions) → OrdersFields D no_part (λ n x y. Equal)
-no_fields_ordered D n a b vs ws m k = rw (no_field_is m.reads m.follows, no_field_is k.reads k.follows) refl
+no_fields_ordered D n a b vs ws m k = rw (nothing_follows m.reads m.follows, nothing_follows k.reads k.follows) refl
 
 -- What a field and those behind it mean.
 record NextMeans (D E : Definitions) (X : Shape) (ps : Parts) (L : Layout) (n : ℕ) (a : Standing) (ws : Values) : Type 0 where

@@ -4,7 +4,8 @@ ghost use Rattle.std.specs.Prelude.{◌≡◌, ◌≤◌, ⊤, None};
 ghost use Rattle.archive_check.specs.Layout.{pointer_size};
 ghost use Rattle.archive_check.specs.Value.{shared_value};
 ghost use Rattle.archive_enum.specs.Choices.{option_layout};
-ghost use Rattle.archive_core.specs.recursive.Hollow.{hollow_names, twice_keyed, no_two, option_at};
+ghost use Rattle.archive_core.specs.recursive.Hollow.{option_at};
+ghost use Rattle.archive_types.specs.Members.Arrays.{named_twice, twice_keyed, no_two};
 ghost use Rattle.archive_types.specs.Outcomes.{ResolvesAs};
 ghost use Rattle.archive_types.specs.Writing.{ZeroedPlace, box_flat, vec_flat};
 
@@ -40,7 +41,7 @@ impl<X: Portable> Archive for BoxAt<X> {
 
     ghost flat = { λ _ r. box_flat X.pointee 0 r };
 
-    ghost keys = { λ _. hollow_names };
+    ghost keys = { λ _. named_twice };
 
     ghost belongs = { λ _ _. ⊤ };
 
@@ -99,7 +100,7 @@ impl<X: Portable> Archive for OptionAt<X> {
 
     ghost flat = { λ _ r. option_at X.pointee r };
 
-    ghost keys = { λ _. hollow_names };
+    ghost keys = { λ _. named_twice };
 
     ghost belongs = { λ _ _. ⊤ };
 
@@ -179,7 +180,7 @@ impl<X: Portable> Archive for VecAt<X> {
 
     ghost flat = { λ v r. vec_flat X.shape v.len r };
 
-    ghost keys = { λ _. hollow_names };
+    ghost keys = { λ _. named_twice };
 
     ghost belongs = { λ v _. v.len ≤ 4294967295 };
 

@@ -1,5 +1,5 @@
 -- What the calls that enter a region answer, one lemma an exit.
-use Rattle.std.proofs.Common.{◌≡◌, ◌≢◌, inl, inr, ℕ, ℤ, ap, ◌∙◌, ◌+◌, ◌<◌, ◌≤◌, arith, List, ◌∷◌, length, false, slice_index_or, Option, Some, None, Err, OnSome, IfSome, IfNone, to_z, of_z, SFits}
+use Rattle.std.proofs.Common.{◌≡◌, ◌≢◌, inl, inr, ℕ, ℤ, ap, ◌∙◌, ◌+◌, ◌<◌, ◌≤◌, arith, List, ◌∷◌, length, false, slice_index_or, Option, Some, None, Ok, Err, OnSome, IfSome, IfNone, to_z, of_z, SFits}
 use mir.Syntax.{w128}
 use Rattle.std.proofs.lemmas.Int.{to_z-of_z}
 use Rattle.archive_check.specs.declared.format.error.Error.{Error}
@@ -14,7 +14,7 @@ use Rattle.archive_check.specs.declared.context.range.Region.{Region}
 use Rattle.archive_schema.specs.declared.check.worklist.Work.{Work}
 use Rattle.archive_schema.specs.declared.check.worklist.Work.TheVariants.{Part as PartWork, Elements, Entries, Leave}
 use Rattle.archive_check.specs.context.Ranges.{RangeState, pop_answer, popped}
-use Rattle.archive_check.specs.context.EnteredRegions.{NotEntered, not_sized, not_within, not_aligned, not_allowed, Enters, EntersNot, IsTakenBack}
+use Rattle.archive_check.specs.context.EnteredRegions.{NotEntered, not_sized, not_within, not_aligned, not_allowed, Enters, EntersNot}
 use Rattle.archive_check.specs.Tour.{Seen}
 use Rattle.archive_check.specs.Trail.{Fault}
 use Rattle.archive_check.specs.Outcomes.{refused}
@@ -70,7 +70,7 @@ enters_so None region some none met work = record {
 }
 
 -- the range is given back, or isn't
-pub leaves_so : {start end : ℕ} {x y : Stage} (r : Option (Unit {0})) {fault : Error} → OnSome r (IsTakenBack x.range start)
+pub leaves_so : {start end : ℕ} {x y : Stage} (r : Option (Unit {0})) {fault : Error} → OnSome r (pop_answer x.range start ≡ Ok tt)
     → OnSome r (y.range ≡ popped x.range start end) → IfNone r (pop_answer x.range start ≡ Err fault) → OnSome r (y.met ≡ x.met) → y.work ≡ x.work
     → LeavesFrom start end x y r fault
 leaves_so (Some u) taken left none met work = record { range = left; taken = taken; list = work; positions = met; none = tt }

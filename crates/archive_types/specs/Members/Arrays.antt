@@ -80,7 +80,7 @@ twice_first k (suc (suc i), l, e) = absurd (omega (arith, l))
 twice_has : {k : ℕ} → Names k (shared_value 0) → (x : Entry × Value) × Contains named_twice (k, x)
 twice_has names_itself = (text_of 0, (0, omega arith, refl))
 
-twice_keyed : IsKeyed named_twice (shared_value 0)
+pub twice_keyed : IsKeyed named_twice (shared_value 0)
 twice_keyed = record {
   value = λ k n. twice_has n;
   named = twice_null;
@@ -92,7 +92,7 @@ abbrev length_named : Option (Entry × Value) → ℕ
 length_named None = 0
 length_named (Some x) = x.0.length
 
-no_two : (names : NameMap) → AreNamed names named_twice → ⊥
+pub no_two : (names : NameMap) → AreNamed names named_twice → ⊥
 no_two names h = (let same : length_named (Some (text_of 0)) ≡ length_named (Some (text_of 1)) = ap length_named (sym (h.0) ∙ h.1.0) in omega (arith, same))
 
 -- The keys of an array, from those of each element.

@@ -50,12 +50,12 @@ pub pairs_total : (k l : Layout) {R S : Standing → Standing → Ordering} → 
     → IsTotalOrder (pair_order k l R S)
 pairs_total k l r s = then_total (on_total (first_of k) r) (on_total (second_of k l) s)
 
-first_tied : (r s : Ordering) → is_eq (ordering_then r s) ≡ true → is_eq r ≡ true
+pub first_tied : (r s : Ordering) → is_eq (ordering_then r s) ≡ true → is_eq r ≡ true
 first_tied Less s h = h
 first_tied Equal s h = refl
 first_tied Greater s h = h
 
-second_tied : (r s : Ordering) → is_eq (ordering_then r s) ≡ true → is_eq s ≡ true
+pub second_tied : (r s : Ordering) → is_eq (ordering_then r s) ≡ true → is_eq s ≡ true
 second_tied Less s h = absurd (true≢false (sym h))
 second_tied Equal s h = h
 second_tied Greater s h = absurd (true≢false (sym h))

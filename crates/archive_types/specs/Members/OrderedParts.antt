@@ -210,7 +210,7 @@ first_means D X L is layout s bytes q {v = v} k r f =
     let there : q + up 1 (align_of s.layouts X) ≡ q + L.align = rw (a, up_first L.align is) refl in
     record { schema = s; value = v; knows = k; contents = contents_one (rw there at r); follows = f }
 
-nothing_follows : {s : SchemaTable} {bytes : List ℕ} {q n : ℕ} {vs ws : Values} → ReadsParts s bytes q n no_part vs → FollowsAll s bytes vs ws → ws ≡ no_value
+pub nothing_follows : {s : SchemaTable} {bytes : List ℕ} {q n : ℕ} {vs ws : Values} → ReadsParts s bytes q n no_part vs → FollowsAll s bytes vs ws → ws ≡ no_value
 nothing_follows reads_no_part follows_no_value = refl
 
 -- A variant's one part.
@@ -224,7 +224,7 @@ record OnePart (s : SchemaTable) (bytes : List ℕ) (q : ℕ) (X : Shape) (ws : 
 one_follows : {s : SchemaTable} {bytes : List ℕ} {q : ℕ} {X : Shape} {vs ws : Values} → ReadsParts s bytes q 1 (part X no_part) vs → FollowsAll s bytes vs ws → OnePart s bytes q X ws
 one_follows (reads_part {v = v} r reads_no_part) (follows_value {w = w} f follows_no_value) = record { said = v; meant = w; is = refl; reads = r; follows = f }
 
-abbrev parts_of : (o : Option Parts) → Parts
+abbrev pub parts_of : Option Parts → Parts
 parts_of None = no_part
 parts_of (Some ps) = ps
 

@@ -14,6 +14,7 @@ use Rattle.archive_check.specs.Denotes.{Naming}
 use Rattle.archive_types.specs.Writing.{NameMap, HasKeys, LeadsToKey, key_at_once, key_through, IsKeyed, to_shared}
 use Rattle.archive_types.specs.Plans.{Cursor, begun, ended, Step, lays, meets, Plans, plans_shared, plans_null, plans_weak, PlansRegion, plans_region, plans_new, plans_finished, plans_pending, ValuePlan, HasPlan, HasRegionPlan}
 use Rattle.archive_types.specs.Members.Keyed.{keyed_by_none}
+use Rattle.archive_types.specs.Members.Options.{option_keys}
 
 -- A flavor, by its name and whether it allows cycles.
 abbrev pub flavor_as : Name → Bool → Flavor
@@ -27,10 +28,6 @@ naming_of key flavor P n v = (key, (record { flavor = flavor; pointee = P; lengt
 abbrev pub weak_value : {A : Type 0} → (A → Value) → Option A → Value
 weak_value meaning None = null
 weak_value meaning (Some x) = meaning x
-
-abbrev pub weak_keys : {A : Type 0} → (A → List Naming) → Option A → List Naming
-weak_keys keys None = []
-weak_keys keys (Some x) = keys x
 
 -- How many elements or bytes there are.
 abbrev pub weak_count : {A : Type 0} → (A → ℕ) → Option A → ℕ
@@ -66,7 +63,7 @@ module _ (key : ℕ) (flavor : Flavor) (P : Pointee) (n : ℕ) (ks : List Naming
       itself : HasKeys (k ∷ ks) (shared_value key)
       itself l names_itself = (k.1, contains_first ks k)
 
-pub weak_keyed : {A : Type 0} (keys : A → List Naming) (meaning : A → Value) → ((x : A) → IsKeyed (keys x) (meaning x)) → (o : Option A) → IsKeyed (weak_keys keys o) (weak_value meaning o)
+pub weak_keyed : {A : Type 0} (keys : A → List Naming) (meaning : A → Value) → ((x : A) → IsKeyed (keys x) (meaning x)) → (o : Option A) → IsKeyed (option_keys keys o) (weak_value meaning o)
 weak_keyed keys meaning h None = keyed_by_none null (λ k name. elim name [ ])
 weak_keyed keys meaning h (Some x) = h x
 
@@ -104,7 +101,7 @@ pub as_weak : {s : SchemaTable} {names : NameMap} {flavor : Flavor} {P : Pointee
 as_weak (plans_shared h) = plans_weak h
 
 pub weak_planned : {A : Type 0} (D : Definitions) (flavor : Flavor) (P : Pointee) (keys : A → List Naming) (meaning : A → Value) → ((x : A) → HasPlan D (shared flavor P) (keys x) (meaning x)) → (o : Option A)
-    → HasPlan D (weak flavor P) (weak_keys keys o) (weak_value meaning o)
+    → HasPlan D (weak flavor P) (option_keys keys o) (weak_value meaning o)
 weak_planned D flavor P keys meaning h None a s names k m = record { flat = null; steps = []; stop = a; plans = plans_null; such = tt }
 weak_planned D flavor P keys meaning h (Some x) a s names k m = let q = h x a s names k m in record { flat = q.flat; steps = q.steps; stop = q.stop; plans = as_weak q.plans; such = tt }
 

@@ -1,22 +1,12 @@
 -- What is said of the writing of each kind of value: leaves, texts and strings, slices, vectors and boxes. `Both` is a parameter as a clause names it: what
 -- it was as the call began, and what it is at the return.
 use denote.Triple.Both.{Both}
-use denote.Ref.{MutBor}
 use Rattle.std.specs.Prelude.{ℕ, List}
 use Rattle.archive_check.specs.Value.{Value}
-use Rattle.archive_check.specs.declared.format.error.Error.{Error}
 use Rattle.archive_check.specs.declared.format.traits.Keys as Keys
 use Rattle.archive_types.specs.Copies.{OwnsNothing, IsCopied, EachCopied}
 use Rattle.archive_check.specs.Words.Formats.{FormatOf}
 use Rattle.archive_check.specs.Denotes.{Naming}
-use Rattle.archive_types.specs.TextPlans.{ExplainsTextRefusal, ExplainsStringRefusal}
-
--- Why a text isn't written, by the one write that it takes.
-abbrev pub NoTextSince : {S : Type 0} → List ℕ → (S → ℕ) → Keys.Ghosts S → Both (MutBor S) (MutBor S) → Error → Type 0
-NoTextSince bytes position k w e = ExplainsTextRefusal bytes (position w.entry.now) (k.state w.entry.now) (k.state w.exit.now) e
-
-abbrev pub NoStringSince : {S : Type 0} → List ℕ → (S → ℕ) → Keys.Ghosts S → Both (MutBor S) (MutBor S) → Error → Type 0
-NoStringSince bytes position k w e = ExplainsStringRefusal bytes (position w.entry.now) (k.state w.entry.now) (k.state w.exit.now) e
 
 -- Values that are copied own nothing, and have these bytes wherever they are archived.
 abbrev pub OwnsNothingAs : {M : Type 0} → FormatOf M → List Naming → Value → Type 0

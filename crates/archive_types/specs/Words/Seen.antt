@@ -9,7 +9,7 @@ use Rattle.archive_check.specs.Shape.{Pointee}
 use Rattle.archive_check.specs.LittleEndian.{little_number}
 use Rattle.archive_check.specs.Reads.{bytes_at, length_at}
 use Rattle.archive_check.specs.Readable.{target_from, string_text}
-use Rattle.archive_check.specs.Value.{Value, Values, product, case, shared_value}
+use Rattle.archive_check.specs.Value.{Value, case, shared_value}
 use Rattle.archive_check.specs.Denotes.{Naming}
 use Rattle.archive_check.specs.Definitions.{Definitions}
 use Rattle.archive_check.specs.Entries.{ReadsBack, RefusesReading}
@@ -41,10 +41,6 @@ element_shown size i v = standing v.bytes.now (v.pos + i * size) 0
 
 abbrev pub result_to : {T M U W : Type 0} {g : ArchivePointee.Ghosts T M} → (Standing → U → Ordering) → (Standing → W → Ordering) → Layout → Layout → Ref T M g → Result U W → Ordering
 result_to R S L E v r = result_order R S (result_in L.align E.align (shown v)) r
-
--- The elements of an array of n that a view shows.
-abbrev pub elements_of : {T M : Type 0} {g : ArchivePointee.Ghosts T M} → ℕ → ℕ → Ref T M g → List Standing
-elements_of size n v = elements_from v.bytes.now v.pos size 0 n
 
 -- Elements from the beginning of a part on: the first n of them; and those from the one of index a up to b.
 abbrev pub first_elements : RawView → ℕ → ℕ → List Standing
@@ -103,17 +99,6 @@ ReadsPart g p d b w keys =
 -- Why it wasn't.
 abbrev pub RefusesPart : {T M D E : Type 0} → ArchivePointee.Ghosts T M → Both RawView E → Entries.Ghosts D → Both (MutBor D) (MutBor D) → Error → Type 0
 RefusesPart g p d b e = RefusesReading g.definitions p.entry.bytes.now p.entry.pos g.pointee p.entry.len (d.entry_of b.entry.now) e
-
--- The parts of a record were read back, with these meanings and keys.
-abbrev pub ReadsRecord : {T M D E X : Type 0} → ArchivePointee.Ghosts T M → Both RawView E → Entries.Ghosts D → Both (MutBor D) (MutBor D) → (X → Values) → (X → List Naming) → X → Type 0
-ReadsRecord g p d b meanings keys t = ReadsPart g p d b (product (meanings t)) (keys t)
-
--- A view of the same buffer; one that begins n bytes behind another's beginning.
-abbrev pub IsBufferOf : {T M U N : Type 0} {g : ArchivePointee.Ghosts T M} {h : ArchivePointee.Ghosts U N} → Ref T M g → Ref U N h → Type 0
-IsBufferOf v u = u.bytes.now ≡ v.bytes.now
-
-abbrev pub IsBehind : {T M U N : Type 0} {g : ArchivePointee.Ghosts T M} {h : ArchivePointee.Ghosts U N} → Ref T M g → ℕ → Ref U N h → Type 0
-IsBehind v o u = u.pos ≡ v.pos + o
 
 -- The second view shows what the pointer that the first one shows leads to, and says its name.
 abbrev pub IsTargetOf : {T M U N : Type 0} {g : ArchivePointee.Ghosts T M} {h : ArchivePointee.Ghosts U N} → Ref T M g → Ref U N h → Type 0

@@ -36,10 +36,6 @@ entry_count m = u32_at m.bytes.now (m.pos + 4)
 abbrev pub first_entry : {T M : Type 0} {g : ArchivePointee.Ghosts T M} → Ref T M g → ℕ
 first_entry m = target_from m.bytes.now m.pos m.pos
 
--- All its pairs; its key i.
-abbrev pub pairs_shown : {T M : Type 0} {g : ArchivePointee.Ghosts T M} → Layout → Layout → Ref T M g → List Pair
-pairs_shown k v m = pairs_from k v m.bytes.now (first_entry m) 0 (entry_count m)
-
 abbrev pub key_shown : {T M : Type 0} {g : ArchivePointee.Ghosts T M} → ℕ → ℕ → Ref T M g → Standing
 key_shown z i m = standing m.bytes.now (first_entry m + i * z) 0
 

@@ -2,7 +2,7 @@
 -- return.
 use denote.Triple.Both.{Both}
 use denote.Ref.{MutBor}
-use Rattle.std.specs.Prelude.{◌≡◌, ◌⊎◌, ℕ, List, ◌∷◌, Option, Some, None, Result, IfOk, IsErrOf}
+use Rattle.std.specs.Prelude.{◌≡◌, ℕ, List, ◌∷◌, Option, Some, None, Result, IfOk, IsErrOf}
 use Rattle.archive_check.specs.Shape.{Flavor, Pointee, one, weak}
 use Rattle.archive_check.specs.WriterState.{KeepsBytes, KeepsKeys}
 use Rattle.archive_check.specs.declared.format.error.Error.{Error}
@@ -35,10 +35,6 @@ abbrev pub IsUnchangedIfKnown : {S : Type 0} → ℕ → Keys.Ghosts S → Both 
 IsUnchangedIfKnown key k w =
     (s : Option ℕ) → (k.state w.entry.now).states key ≡ Some s
     → KeepsBytes (k.state w.entry.now) (k.state w.exit.now) × KeepsKeys (k.state w.entry.now).states (k.state w.exit.now).states
-
--- The key is unknown or pending.
-abbrev pub IsUnfinished : {S : Type 0} → ℕ → Keys.Ghosts S → Both (MutBor S) (MutBor S) → Type 0
-IsUnfinished key k w = ((k.state w.exit.now).states key ≡ None) ⊎ ((k.state w.exit.now).states key ≡ Some None)
 
 -- Where the key was unknown, the source was laid out under it; and why it wasn't.
 abbrev pub StoresIfUnknown : {U A M S : Type 0} → ℕ → ArchiveUnsized.Ghosts U A M → ArchivePointee.Ghosts A M → U → Keys.Ghosts S → Both (MutBor S) (MutBor S) → Result ℕ Error → Type 0

@@ -4,7 +4,7 @@ ghost use Rattle.std.specs.Prelude.{◌≡◌, ◌+◌, ◌*◌, ◌≤◌, ◌<
 ghost use Rattle.std.specs.Iterator.{YieldsFirstBy, YieldsLastBy, item_count};
 ghost use Rattle.archive_check.specs.SelfCheck.Maps.{entry_size, entry_definitions};
 ghost use Rattle.archive_check.specs.Shape.{one, no_part, part, parts};
-ghost use Rattle.archive_types.specs.Words.SeenEntries.{pairs_between, pairs_shown, shown_pair, pair_at};
+ghost use Rattle.archive_types.specs.Words.SeenEntries.{pairs_between, pairs_from, first_entry, entry_count, shown_pair, pair_at};
 ghost use Rattle.archive_types.specs.Views.{AreViewed};
 
 use super::ArchivedSortedMap;
@@ -44,7 +44,8 @@ impl<'a, K: MapKey, V: Portable> Ref<'a, ArchivedSortedMap<K, V>> {
     /// Views of the keys and values, in the order of the keys and from either end.
     pub fn iter(self) -> Iter<'a, K, V>
         ensures { pairs_between K.layout V.layout result.entries result.front result.back
-            ≡ pairs_shown K.layout V.layout self.entry }
+            ≡ pairs_from K.layout V.layout self.entry.bytes.now (first_entry self.entry) 0
+            (entry_count self.entry) }
     {
         let entries = self.entries();
         Iter {

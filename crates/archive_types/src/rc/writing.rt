@@ -12,7 +12,8 @@ ghost use Rattle.archive_num.specs.Offsets.{distance, IsTooFar};
 ghost use Rattle.archive_num.specs.OwnerBytes.{owner_bytes};
 ghost use Rattle.archive_types.specs.Words.Placed.{IsTooFarFrom};
 ghost use Rattle.archive_types.specs.Plans.{Serialized};
-ghost use Rattle.archive_types.specs.Members.SharedLaws.{flavor_as, naming_of, weak_value, weak_keys, weak_count, weak_flat};
+ghost use Rattle.archive_types.specs.Members.Options.{option_keys};
+ghost use Rattle.archive_types.specs.Members.SharedLaws.{flavor_as, naming_of, weak_value, weak_count, weak_flat};
 ghost use Rattle.archive_types.specs.Words.SharedWriting.{AnswersPending, flavor_of_type, keys_under};
 ghost use Rattle.archive_types.specs.Writing.{Resolves, to_shared, shared_flat};
 ghost use Rattle.archive_write.specs.Written.{GoesOn};
@@ -200,7 +201,7 @@ where
         serializer: &mut S,
     ) -> Result<RcWeakResolver, Error>
         ensures outcome { SerializesAs ⟦<Self as Portable>⟧
-            (weak_keys (λ u. keys_under F.Flavor T.ArchivePointee U.ArchiveUnsized key u.now)
+            (option_keys (λ u. keys_under F.Flavor T.ArchivePointee U.ArchiveUnsized key u.now)
             value.entry) (weak_value (λ u. shared_value key) value.entry)
             (weak_flat (flavor_of_type F.Flavor) T.pointee
             (weak_count (λ u. U.source_length u.now) value.entry))

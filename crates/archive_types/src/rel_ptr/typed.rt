@@ -9,13 +9,12 @@ ghost use Rattle.archive_check.specs.Definitions.{no_definition};
 ghost use Rattle.archive_check.specs.Expressions.{shape_of};
 ghost use Rattle.archive_check.specs.Members.LeafLayout.{no_definition_reached};
 ghost use Rattle.archive_check.specs.LittleEndian.{little_bytes};
+ghost use Rattle.archive_check.specs.Reads.{u32_at};
 ghost use Rattle.archive_check.specs.declared.format.error.Error.TheVariants.{OutOfMemory, OffsetOverflow};
 ghost use Rattle.archive_num.specs.Offsets.{distance, offset_at};
 ghost use Rattle.archive_types.specs.Words.OffsetsWritten.{RelWritten, RelPut, InvalidPut};
-ghost use Rattle.archive_types.specs.Words.PointersWritten.{PointerPut};
 ghost use Rattle.archive_types.specs.RelativePointers.{rel_parts, length_begin, rel_layout, written_at};
 ghost use Rattle.archive_types.specs.Members.RelativeLayout.{rel_align, rel_has_layout};
-ghost use Rattle.archive_types.specs.Words.LengthsSeen.{length_of};
 
 use super::metadata::Metadata;
 use super::raw::{raw_kind, read_offset, write_offset};
@@ -176,8 +175,8 @@ where
     ) -> Result<(), Error>
         requires { length place.bytes.now ≡ (rel_layout O.Number.width
             T.ArchivedMetadata.is_length).size }
-        ensures { PointerPut O.Number.sign O.Number.width T.ArchivedMetadata.Metadata metadata to
-            place result }
+        ensures { RelPut O.Number.sign O.Number.width T.ArchivedMetadata.is_length
+            (T.ArchivedMetadata.count metadata) to place result }
     {
         let Place { bytes, pos, .. } = place;
         let distance = signed_offset(pos, to)?;
@@ -234,7 +233,7 @@ where
     /// What is behind the offset: nothing, or a length.
     pub fn metadata(self) -> T::ArchivedMetadata
         ensures { T.ArchivedMetadata.is_length ≡ true → T.ArchivedMetadata.count result
-            ≡ length_of O.Number.width self.entry }
+            ≡ u32_at self.entry.bytes.now (self.entry.pos + length_begin O.Number.width) }
     {
         if !T::ArchivedMetadata::is_length() {
             return T::ArchivedMetadata::from_length(0);

@@ -4,7 +4,9 @@ ghost use Rattle.std.specs.Prelude.{◌≡◌, ◌+◌, ◌-◌, ◌≤◌, ◌+
 ghost use Rattle.std.proofs.Common.{sym};
 ghost use Rattle.std.proofs.lemmas.List.{length-take-le};
 ghost use Rattle.archive_check.specs.WriterState.{KeepsKeys, no_keys};
-ghost use Rattle.archive_write.specs.Writes.{KeepsHeld, HoldsMore, SpendsRest, ExplainsFull, IsOverflow};
+ghost use Rattle.archive_check.specs.declared.format.error.Error.TheVariants.{BufferOverflow};
+ghost use Rattle.archive_write.specs.Written.{IsBeginning};
+ghost use Rattle.archive_write.specs.Writes.{HoldsMore, SpendsRest, ExplainsFull};
 
 use crate::ser::{Positional, Writer};
 use archive_check::format::error::Error;
@@ -80,8 +82,8 @@ impl<'a> Writer for Buffer<'a> {
     fn write(&mut self, bytes: &[u8]) -> Result<(), Error>
         ensures written { OnOk result (HoldsMore self.old.len self.old.bytes.now self.new.len
             self.new.bytes.now bytes.now) }
-        ensures kept { OnErr result (KeepsHeld self.old.len self.old.bytes.now self.new.len
-            self.new.bytes.now) }
+        ensures kept { OnErr result (IsBeginning (take self.old.len self.old.bytes.now)
+            (take self.new.len self.new.bytes.now)) }
         ensures room { SpendsRest self.old.len self.old.bytes.now self.new.len self.new.bytes.now }
         ensures refusal { IfErr result (ExplainsFull bytes.now self.old.len self.old.bytes.now
             self.new.len self.new.bytes.now) }
@@ -89,7 +91,8 @@ impl<'a> Writer for Buffer<'a> {
         ensures keys { KeepsKeys no_keys no_keys }
         ensures memory { IsErrOf result Error.OutOfMemory → IsTrue false }
         ensures fits { IsOk result ↔ (self.old.len + length bytes.now ≤ length self.old.bytes.now) }
-        ensures overflow { IfErr result (IsOverflow bytes.now self.old.len self.old.bytes.now) }
+        ensures overflow { IfErr result (λ e. e ≡ BufferOverflow (length bytes.now)
+            (length self.old.bytes.now) self.old.len) }
         ensures unchanged { OnErr result ((self.new.bytes.now ≡ self.old.bytes.now)
             × (self.new.len ≡ self.old.len)) }
         ensures beyond { drop self.new.len self.new.bytes.now

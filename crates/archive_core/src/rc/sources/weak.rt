@@ -7,7 +7,8 @@ ghost use Rattle.archive_check.specs.Value.{shared_value};
 ghost use Rattle.archive_types.specs.Causes.{HindersAt, IsRefused};
 ghost use Rattle.archive_types.specs.Members.PlannedOwners.{one_planned};
 ghost use Rattle.archive_types.specs.Plans.{Serialized};
-ghost use Rattle.archive_types.specs.Members.SharedLaws.{weak_value, weak_keys, weak_flat, weak_keyed, weak_planned};
+ghost use Rattle.archive_types.specs.Members.Options.{option_keys};
+ghost use Rattle.archive_types.specs.Members.SharedLaws.{weak_value, weak_flat, weak_keyed, weak_planned};
 ghost use Rattle.archive_types.specs.Members.SharedSources.{rc_flavor, rc_keys, rc_keyed, rc_one_planned};
 ghost use Rattle.archive_types.specs.Writing.{ZeroedPlace, Resolves};
 ghost use Rattle.archive_write.specs.Written.{GoesOn};
@@ -40,7 +41,7 @@ impl<T: Archive> Archive for WeakShared<T> {
 
     ghost flat = { λ w r. weak_flat rc_flavor T.Archived.pointee 0 r };
 
-    ghost keys = { λ w. weak_keys (λ s. rc_keys s.key T.Archived.pointee 0 (T.meaning s.value.value)
+    ghost keys = { λ w. option_keys (λ s. rc_keys s.key T.Archived.pointee 0 (T.meaning s.value.value)
         (T.keys s.value.value)) w.value };
 
     ghost belongs = { λ _ _. ⊤ };
@@ -118,7 +119,7 @@ impl<T: Archive> ArchiveUnsized for WeakShared<T> {
 
     ghost meaning = { λ w. weak_value (λ s. shared_value s.key) w.value };
 
-    ghost keys = { λ w. weak_keys (λ s. rc_keys s.key T.Archived.pointee 0 (T.meaning s.value.value)
+    ghost keys = { λ w. option_keys (λ s. rc_keys s.key T.Archived.pointee 0 (T.meaning s.value.value)
         (T.keys s.value.value)) w.value };
 
     ghost keyed = { λ w. weak_keyed (λ s. rc_keys s.key T.Archived.pointee 0
@@ -129,7 +130,7 @@ impl<T: Archive> ArchiveUnsized for WeakShared<T> {
     ghost one_length = { λ _ _. refl };
 
     ghost planned = { λ w. one_planned T.Archived.definitions (weak rc_flavor T.Archived.pointee)
-        (weak_keys (λ s. rc_keys s.key T.Archived.pointee 0 (T.meaning s.value.value)
+        (option_keys (λ s. rc_keys s.key T.Archived.pointee 0 (T.meaning s.value.value)
         (T.keys s.value.value)) w.value) (weak_value (λ s. shared_value s.key) w.value)
         (weak_planned T.Archived.definitions rc_flavor T.Archived.pointee
         (λ s. rc_keys s.key T.Archived.pointee 0 (T.meaning s.value.value) (T.keys s.value.value))
