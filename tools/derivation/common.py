@@ -89,9 +89,9 @@ class Source:
         formats.ghost("Definitions", "no_definition", "both")
         formats.ghost("LeafLayout", "no_definition_reached")
         formats.ghost("Shape", "one", "parts", "part", "no_part", "choice", "variant", "no_variant")
-        formats.ghost("Seen", "IsPartOf", "RefusesPart")
+        formats.ghost("Seen", "IsPartOf")
         formats.ghost("CallOutcomes", "ResolvesAs")
-        formats.ghost("Sources", "Read")
+        formats.ghost("Sources", "ReadsAs")
         formats.ghost("Writing", "ZeroedPlace")
 
 
@@ -250,8 +250,7 @@ def deserialize(source, body):
         deserializer: &mut D,
     ) -> Result<{name}, Error>
         requires {{ IsPartOf ⟦<Self as ArchivePointee>⟧ part }}
-        ensures read {{ IfOk result (Read ⟦<Self as ArchivePointee>⟧ part D.Entries deserializer ⟦<{name} as Archive>⟧) }}
-        ensures refused {{ IfErr result (RefusesPart ⟦<Self as ArchivePointee>⟧ part D.Entries deserializer) }}
+        ensures {{ ReadsAs ⟦<Self as ArchivePointee>⟧ part D.Entries deserializer ⟦<{name} as Archive>⟧ result }}
     {{
 {body}    }}
 }}

@@ -26,8 +26,7 @@ SERIALIZED = """    ensures serialized {{ IfOk result (λ r. Serialized {D} {X} 
         (⟦<{T} as Archive>⟧.meaning {v}.now) (S.state serializer.old) (S.state serializer.new)) }}
 """
 READ = """    requires {{ IsPartOf ⟦<{X} as ArchivePointee>⟧ part }}
-    ensures read {{ IfOk result (Read ⟦<{X} as ArchivePointee>⟧ part D.Entries deserializer ⟦<{T} as Archive>⟧) }}
-    ensures refused {{ IfErr result (RefusesPart ⟦<{X} as ArchivePointee>⟧ part D.Entries deserializer) }}
+    ensures {{ ReadsAs ⟦<{X} as ArchivePointee>⟧ part D.Entries deserializer ⟦<{T} as Archive>⟧ result }}
 """
 
 
@@ -71,7 +70,7 @@ def bring(it):
     f.ghost("Value", "case", "product", "value", "no_value")
     f.ghost("Error.TheVariants", "OutOfMemory")
     f.ghost("Seen", "IsPartOf", "RefusesPart", "ReadsPart", "part_tag")
-    f.ghost("Sources", "Read")
+    f.ghost("Sources", "ReadsAs")
     f.ghost("CallOutcomes", "ResolvesAs")
     f.ghost("Causes", "IsRefused")
     f.ghost("Plans", "Serialized")
@@ -840,8 +839,7 @@ def deserialize(it):
         deserializer: &mut D,
     ) -> Result<{it.name}, Error>
         requires {{ IsPartOf ⟦<Self as ArchivePointee>⟧ part }}
-        ensures read {{ IfOk result (Read ⟦<Self as ArchivePointee>⟧ part D.Entries deserializer ⟦<{it.name} as Archive>⟧) }}
-        ensures refused {{ IfErr result (RefusesPart ⟦<Self as ArchivePointee>⟧ part D.Entries deserializer) }}
+        ensures {{ ReadsAs ⟦<Self as ArchivePointee>⟧ part D.Entries deserializer ⟦<{it.name} as Archive>⟧ result }}
     {{
         {read}
     }}

@@ -10,7 +10,7 @@ ghost use Rattle.archive_check.specs.Shape.{one};
 ghost use Rattle.archive_core.specs.WholeArchives.{AppendsArchive, AppendsTaken, MakesArchive, ReadsArchive, LacksSchema, AnswersRoot};
 ghost use Rattle.archive_types.specs.Causes.{IsRegionRefused};
 ghost use Rattle.archive_types.specs.Plans.{unshared};
-ghost use Rattle.archive_types.specs.Words.Seen.{ReadsView, RefusesView};
+ghost use Rattle.archive_types.specs.Words.Sources.{ViewReadsAs};
 ghost use Rattle.archive_write.specs.Written.{GoesOn};
 ghost use Rattle.archive_schema.specs.ContextAnswers.{AnswersIn};
 
@@ -346,9 +346,7 @@ pub fn deserialize_using<T: Archive, U: Deserialize<T, D>, D: Entries>(
     view: Ref<'_, U>,
     deserializer: &mut D,
 ) -> Result<T, Error>
-    ensures read { IfOk result (λ t. ReadsView view.entry D.Entries deserializer (T.meaning t)
-        (T.keys t)) }
-    ensures refused { IfErr result (RefusesView view.entry D.Entries deserializer) }
+    ensures { ViewReadsAs view.entry D.Entries deserializer T.Archive result }
 {
     U::deserialize(alloc, view, deserializer)
 }
@@ -366,9 +364,7 @@ pub fn deserialize<T: Archive, U: Deserialize<T, D>, D: Entries>(
     view: Ref<'_, U>,
     deserializer: &mut D,
 ) -> Result<T, Error>
-    ensures read { IfOk result (λ t. ReadsView view.entry D.Entries deserializer (T.meaning t)
-        (T.keys t)) }
-    ensures refused { IfErr result (RefusesView view.entry D.Entries deserializer) }
+    ensures { ViewReadsAs view.entry D.Entries deserializer T.Archive result }
 {
     deserialize_using(alloc, view, deserializer)
 }

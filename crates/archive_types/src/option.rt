@@ -1,6 +1,6 @@
 //! Options: how they are archived, viewed and read back.
 
-ghost use Rattle.std.specs.Prelude.{◌≡◌, ◌+◌, ◌<◌, length, slice_index, OnOk, IfOk, IfErr, IfSome, MatchOption, refl, None};
+ghost use Rattle.std.specs.Prelude.{◌≡◌, ◌+◌, ◌<◌, length, slice_index, OnOk, IfSome, MatchOption, refl, None};
 ghost use Rattle.archive_check.specs.Shape.{one};
 ghost use Rattle.archive_check.specs.Viewed.{Viewed};
 ghost use Rattle.archive_check.specs.Entries.{ReadsBack, RefusesReading};
@@ -8,8 +8,8 @@ ghost use Rattle.archive_enum.specs.Choices.{option_shape, option_layout};
 ghost use Rattle.archive_types.specs.Causes.{HindersAt};
 ghost use Rattle.archive_types.specs.Members.Options.{option_meaning, option_keys, option_flat, OptionBelongs, option_keyed, option_planned};
 ghost use Rattle.archive_types.specs.Members.PlannedOwners.{one_planned};
-ghost use Rattle.archive_types.specs.Words.Seen.{tag_of, StandsBeside, IsPartOf, RefusesPart};
-ghost use Rattle.archive_types.specs.Words.Sources.{Read};
+ghost use Rattle.archive_types.specs.Words.Seen.{tag_of, StandsBeside, IsPartOf};
+ghost use Rattle.archive_types.specs.Words.Sources.{ReadsAs};
 ghost use Rattle.archive_types.specs.Standing.{StandsWith, view};
 ghost use Rattle.archive_types.specs.Writing.{ZeroedPlace, Resolves};
 ghost use Rattle.archive_types.specs.Outcomes.{ResolvesAs};
@@ -169,10 +169,8 @@ impl<T: Archive, A: Portable + Deserialize<T, D>, D: Entries> Deserialize<Option
         deserializer: &mut D,
     ) -> Result<Option<T>, Error>
         requires { IsPartOf ⟦<Self as ArchivePointee>⟧ part }
-        ensures read { IfOk result (Read ⟦<Self as ArchivePointee>⟧ part D.Entries deserializer
-            ⟦<Option<T> as Archive>⟧) }
-        ensures refused { IfErr result (RefusesPart ⟦<Self as ArchivePointee>⟧ part D.Entries
-            deserializer) }
+        ensures { ReadsAs ⟦<Self as ArchivePointee>⟧ part D.Entries deserializer
+            ⟦<Option<T> as Archive>⟧ result }
     {
         let view: Ref<'_, ArchivedOption<A>> = Ref::at(part);
         match view.as_ref() {

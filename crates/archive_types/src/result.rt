@@ -1,6 +1,6 @@
 //! Results: how they are archived, viewed and read back.
 
-ghost use Rattle.std.specs.Prelude.{◌≡◌, ◌+◌, ◌<◌, length, slice_index, OnOk, IfOk, IfErr, MatchResult, IfSome, MatchOption, refl, None};
+ghost use Rattle.std.specs.Prelude.{◌≡◌, ◌+◌, ◌<◌, length, slice_index, OnOk, MatchResult, IfSome, MatchOption, refl, None};
 ghost use Rattle.archive_check.specs.Shape.{one};
 ghost use Rattle.archive_check.specs.Definitions.{both};
 ghost use Rattle.archive_check.specs.Viewed.{Viewed};
@@ -9,8 +9,8 @@ ghost use Rattle.archive_enum.specs.ResultShapes.{result_shape, result_layout};
 ghost use Rattle.archive_types.specs.Causes.{HindersAt};
 ghost use Rattle.archive_types.specs.Members.PlannedOwners.{one_planned};
 ghost use Rattle.archive_types.specs.Members.Results.{result_meaning, result_keys, result_flat, ResultBelongs, result_keyed, result_planned};
-ghost use Rattle.archive_types.specs.Words.Seen.{tag_of, StandsBeside, IsPartOf, RefusesPart};
-ghost use Rattle.archive_types.specs.Words.Sources.{Read};
+ghost use Rattle.archive_types.specs.Words.Seen.{tag_of, StandsBeside, IsPartOf};
+ghost use Rattle.archive_types.specs.Words.Sources.{ReadsAs};
 ghost use Rattle.archive_types.specs.Writing.{ZeroedPlace, Resolves};
 ghost use Rattle.archive_types.specs.Outcomes.{ResolvesAs};
 
@@ -193,10 +193,8 @@ impl<
         deserializer: &mut D,
     ) -> Result<Result<T, E>, Error>
         requires { IsPartOf ⟦<Self as ArchivePointee>⟧ part }
-        ensures read { IfOk result (Read ⟦<Self as ArchivePointee>⟧ part D.Entries deserializer
-            ⟦<Result<T, E> as Archive>⟧) }
-        ensures refused { IfErr result (RefusesPart ⟦<Self as ArchivePointee>⟧ part D.Entries
-            deserializer) }
+        ensures { ReadsAs ⟦<Self as ArchivePointee>⟧ part D.Entries deserializer
+            ⟦<Result<T, E> as Archive>⟧ result }
     {
         let view: Ref<'_, ArchivedResult<A, B>> = Ref::at(part);
         match view.as_ref() {

@@ -11,7 +11,7 @@ ghost use Rattle.archive_check.specs.Viewed.{Viewed};
 ghost use Rattle.archive_check.specs.declared.format.error.Error.TheVariants.{LengthTooLarge};
 ghost use Rattle.archive_types.specs.Words.CopiesWritten.{CopiesInBulk};
 ghost use Rattle.archive_types.specs.Words.Placed.{IsPlanned};
-ghost use Rattle.archive_types.specs.Words.Seen.{IsPartOf, RefusesPart, ReadsView, RefusesView};
+ghost use Rattle.archive_types.specs.Words.Seen.{IsPartOf};
 ghost use Rattle.archive_types.specs.Causes.{HindersAt, IsRefused, IsRegionRefused};
 ghost use Rattle.archive_types.specs.Plans.{HasPlan, HasRegionPlan, Serialized, SerializedRegion};
 ghost use Rattle.archive_types.specs.Runs.{each_keys, each_meaning};
@@ -160,17 +160,14 @@ pub trait Serialize<S: Writer + Keys>: Archive {
 /// As in rkyv 0.8.18, by views in place of references.
 pub trait Deserialize<T: Archive, D: Entries>: ArchivePointee {
     ghost use Rattle.archive_types.specs.FirstRead.{AreFirstRead};
-    ghost use Rattle.archive_types.specs.Words.Sources.{Read};
+    ghost use Rattle.archive_types.specs.Words.Sources.{ReadsAs, ViewReadsAs};
     ghost use Rattle.archive_types.specs.Views.{AreViewed};
 
     /// What implementors write, over the part of a view; callers use `deserialize`. The caller must
     /// ensure what a view promises of the part.
     fn deserialize_part(alloc: Global, part: RawView<'_>, deserializer: &mut D) -> Result<T, Error>
         requires { IsPartOf Self.ArchivePointee part }
-        ensures read { IfOk result (Read Self.ArchivePointee part D.Entries deserializer
-            T.Archive) }
-        ensures refused { IfErr result (RefusesPart Self.ArchivePointee part D.Entries
-            deserializer) };
+        ensures { ReadsAs Self.ArchivePointee part D.Entries deserializer T.Archive result };
 
     /// Reads the first of `count` values, which lie `step` bytes apart from the position `pos` on,
     /// into `items`: those that can be read in bulk, by default none. `deserialize_part` reads the
@@ -206,9 +203,7 @@ pub trait Deserialize<T: Archive, D: Entries>: ArchivePointee {
         view: Ref<'_, Self>,
         deserializer: &mut D,
     ) -> Result<T, Error>
-        ensures read { IfOk result (λ t. ReadsView view.entry D.Entries deserializer (T.meaning t)
-            (T.keys t)) }
-        ensures refused { IfErr result (RefusesView view.entry D.Entries deserializer) }
+        ensures { ViewReadsAs view.entry D.Entries deserializer T.Archive result }
     {
         Self::deserialize_part(alloc, view.part(), deserializer)
     }
@@ -267,7 +262,7 @@ pub trait SerializeUnsized<S: Writer + Keys>: ArchiveUnsized {
 
 /// A pointee that can be read back as a `T`: the value, a vector of the elements, or a string. As in rkyv 0.8.18, by views in place of references.
 pub trait DeserializeUnsized<T: Archive, D: Entries>: ArchivePointee {
-    ghost use Rattle.archive_types.specs.Words.Sources.{Read};
+    ghost use Rattle.archive_types.specs.Words.Sources.{ReadsAs, ViewReadsAs};
 
     /// What implementors write, over the part of a view; callers use `deserialize_unsized`. The
     /// caller must ensure what a view promises of the part.
@@ -277,10 +272,7 @@ pub trait DeserializeUnsized<T: Archive, D: Entries>: ArchivePointee {
         deserializer: &mut D,
     ) -> Result<T, Error>
         requires { IsPartOf Self.ArchivePointee part }
-        ensures read { IfOk result (Read Self.ArchivePointee part D.Entries deserializer
-            T.Archive) }
-        ensures refused { IfErr result (RefusesPart Self.ArchivePointee part D.Entries
-            deserializer) };
+        ensures { ReadsAs Self.ArchivePointee part D.Entries deserializer T.Archive result };
 
     /// What the view shows, as `Deserialize::deserialize` says it, with the same errors.
     final fn deserialize_unsized(
@@ -288,9 +280,7 @@ pub trait DeserializeUnsized<T: Archive, D: Entries>: ArchivePointee {
         view: Ref<'_, Self>,
         deserializer: &mut D,
     ) -> Result<T, Error>
-        ensures read { IfOk result (λ t. ReadsView view.entry D.Entries deserializer (T.meaning t)
-            (T.keys t)) }
-        ensures refused { IfErr result (RefusesView view.entry D.Entries deserializer) }
+        ensures { ViewReadsAs view.entry D.Entries deserializer T.Archive result }
     {
         Self::deserialize_unsized_part(alloc, view.part(), deserializer)
     }

@@ -75,13 +75,13 @@ ghost use Rattle.archive_core.specs.PlannedOwners.{box_planned, one_planned, sli
 ghost use Rattle.archive_core.specs.Results.{result_keyed, result_planned};
 ghost use Rattle.archive_core.specs.Runs.{each_keys, each_meaning};
 ghost use Rattle.archive_core.specs.SealsWritten.{IsSealOf, SealsPart};
-ghost use Rattle.archive_core.specs.Seen.{IsPartOf, RefusesPart, ShowsValueOf};
+ghost use Rattle.archive_core.specs.Seen.{IsPartOf, ShowsValueOf};
 ghost use Rattle.archive_core.specs.Shape.{no_part, one, part, parts, run, text};
-ghost use Rattle.archive_core.specs.Sources.{Read};
+ghost use Rattle.archive_core.specs.Sources.{ReadsAs};
 ghost use Rattle.archive_core.specs.Value.{list, no_value, product, text_value, value};
 ghost use Rattle.archive_core.specs.Writing.{ZeroedPlace};
 ghost use Rattle.std.proofs.Common.{inl, inr, lit≤};
-ghost use Rattle.std.specs.Prelude.{IfErr, IfOk, None, [], length, refl, string_bytes, true, ◌++◌, ◌+◌, ◌≡◌};
+ghost use Rattle.std.specs.Prelude.{None, [], length, refl, string_bytes, true, ◌++◌, ◌+◌, ◌≡◌};
 
 use crate::pair::ArchivedPair;
 use archive_core::boxed::ArchivedBox;
@@ -411,10 +411,8 @@ impl<D: Entries> Deserialize<Numbers, D> for ArchivedNumbers {
         deserializer: &mut D,
     ) -> Result<Numbers, Error>
         requires { IsPartOf ⟦<Self as ArchivePointee>⟧ part }
-        ensures read { IfOk result (Read ⟦<Self as ArchivePointee>⟧ part D.Entries deserializer
-            ⟦<Numbers as Archive>⟧) }
-        ensures refused { IfErr result (RefusesPart ⟦<Self as ArchivePointee>⟧ part D.Entries
-            deserializer) }
+        ensures { ReadsAs ⟦<Self as ArchivePointee>⟧ part D.Entries deserializer
+            ⟦<Numbers as Archive>⟧ result }
     {
         match deserialize_record::<Self, NumbersOwned, D>(alloc, part, deserializer) {
             Ok((a0, (a1, (a2, (a3, (a4, (a5, ()))))))) => Ok(Numbers {
@@ -941,10 +939,8 @@ impl<D: Entries> Deserialize<Owners, D> for ArchivedOwners {
         deserializer: &mut D,
     ) -> Result<Owners, Error>
         requires { IsPartOf ⟦<Self as ArchivePointee>⟧ part }
-        ensures read { IfOk result (Read ⟦<Self as ArchivePointee>⟧ part D.Entries deserializer
-            ⟦<Owners as Archive>⟧) }
-        ensures refused { IfErr result (RefusesPart ⟦<Self as ArchivePointee>⟧ part D.Entries
-            deserializer) }
+        ensures { ReadsAs ⟦<Self as ArchivePointee>⟧ part D.Entries deserializer
+            ⟦<Owners as Archive>⟧ result }
     {
         match deserialize_record::<Self, OwnersOwned, D>(alloc, part, deserializer) {
             Ok((a0, (a1, (a2, (a3, (a4, ())))))) => Ok(Owners {
@@ -1392,10 +1388,8 @@ impl<D: Entries> Deserialize<Lists, D> for ArchivedLists {
         deserializer: &mut D,
     ) -> Result<Lists, Error>
         requires { IsPartOf ⟦<Self as ArchivePointee>⟧ part }
-        ensures read { IfOk result (Read ⟦<Self as ArchivePointee>⟧ part D.Entries deserializer
-            ⟦<Lists as Archive>⟧) }
-        ensures refused { IfErr result (RefusesPart ⟦<Self as ArchivePointee>⟧ part D.Entries
-            deserializer) }
+        ensures { ReadsAs ⟦<Self as ArchivePointee>⟧ part D.Entries deserializer
+            ⟦<Lists as Archive>⟧ result }
     {
         match deserialize_record::<Self, ListsOwned, D>(alloc, part, deserializer) {
             Ok((a0, (a1, (a2, ())))) => Ok(Lists {
@@ -1690,10 +1684,8 @@ impl<D: Entries> Deserialize<Empty, D> for ArchivedEmpty {
         deserializer: &mut D,
     ) -> Result<Empty, Error>
         requires { IsPartOf ⟦<Self as ArchivePointee>⟧ part }
-        ensures read { IfOk result (Read ⟦<Self as ArchivePointee>⟧ part D.Entries deserializer
-            ⟦<Empty as Archive>⟧) }
-        ensures refused { IfErr result (RefusesPart ⟦<Self as ArchivePointee>⟧ part D.Entries
-            deserializer) }
+        ensures { ReadsAs ⟦<Self as ArchivePointee>⟧ part D.Entries deserializer
+            ⟦<Empty as Archive>⟧ result }
     {
         match deserialize_record::<Self, EmptyOwned, D>(alloc, part, deserializer) {
             Ok(()) => Ok(Empty),
@@ -1927,10 +1919,8 @@ impl<D: Entries> Deserialize<Unnamed, D> for ArchivedUnnamed {
         deserializer: &mut D,
     ) -> Result<Unnamed, Error>
         requires { IsPartOf ⟦<Self as ArchivePointee>⟧ part }
-        ensures read { IfOk result (Read ⟦<Self as ArchivePointee>⟧ part D.Entries deserializer
-            ⟦<Unnamed as Archive>⟧) }
-        ensures refused { IfErr result (RefusesPart ⟦<Self as ArchivePointee>⟧ part D.Entries
-            deserializer) }
+        ensures { ReadsAs ⟦<Self as ArchivePointee>⟧ part D.Entries deserializer
+            ⟦<Unnamed as Archive>⟧ result }
     {
         match deserialize_record::<Self, UnnamedOwned, D>(alloc, part, deserializer) {
             Ok((a0, (a1, ()))) => Ok(Unnamed(a0, a1)),

@@ -35,15 +35,15 @@ ghost use Rattle.archive_core.specs.Plain.{plain_choice, plain_own_check, plain_
 ghost use Rattle.archive_core.specs.Planned.{leaf_planned};
 ghost use Rattle.archive_core.specs.PlannedOwners.{one_planned};
 ghost use Rattle.archive_core.specs.SealsWritten.{IsSealOf, SealsPart, seal_tag};
-ghost use Rattle.archive_core.specs.Seen.{IsPartOf, RefusesPart, ShowsValueOf, tag_of};
+ghost use Rattle.archive_core.specs.Seen.{IsPartOf, ShowsValueOf, tag_of};
 ghost use Rattle.archive_core.specs.Shape.{choice, no_part, no_variant, one, part, variant};
-ghost use Rattle.archive_core.specs.Sources.{Read};
+ghost use Rattle.archive_core.specs.Sources.{ReadsAs};
 ghost use Rattle.archive_core.specs.Units.{unit_definitions, units};
 ghost use Rattle.archive_core.specs.Value.{case, no_value, value};
 ghost use Rattle.archive_core.specs.Writing.{ZeroedPlace};
 ghost use Rattle.std.proofs.Common.{inl, lit≤};
 ghost use Rattle.std.specs.Int.{w8};
-ghost use Rattle.std.specs.Prelude.{IfErr, IfOk, None, Some, [], codes, refl, true, ℕ, ◌++◌, ◌+◌, ◌<◌, ◌≡◌, ◌≢◌};
+ghost use Rattle.std.specs.Prelude.{None, Some, [], codes, refl, true, ℕ, ◌++◌, ◌+◌, ◌<◌, ◌≡◌, ◌≢◌};
 
 use archive_core::compare::Ordered;
 use archive_core::compared::{ComparedCases, compare_choice, hash_choice};
@@ -468,10 +468,8 @@ impl<D: Entries> Deserialize<Wind, D> for ArchivedWind {
         deserializer: &mut D,
     ) -> Result<Wind, Error>
         requires { IsPartOf ⟦<Self as ArchivePointee>⟧ part }
-        ensures read { IfOk result (Read ⟦<Self as ArchivePointee>⟧ part D.Entries deserializer
-            ⟦<Wind as Archive>⟧) }
-        ensures refused { IfErr result (RefusesPart ⟦<Self as ArchivePointee>⟧ part D.Entries
-            deserializer) }
+        ensures { ReadsAs ⟦<Self as ArchivePointee>⟧ part D.Entries deserializer ⟦<Wind as Archive>⟧
+            result }
     {
         match known_tag::<Self>(part) {
             12 => match read_case::<Self, WindHurricaneParts, WindHurricaneOwned, D>(

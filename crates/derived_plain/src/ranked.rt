@@ -51,14 +51,14 @@ ghost use Rattle.archive_core.specs.PlannedMaps.{map_of_pairs_planned, pairs_key
 ghost use Rattle.archive_core.specs.PlannedOwners.{boxed_one_planned, one_planned, slice_planned, vec_planned};
 ghost use Rattle.archive_core.specs.Results.{result_keyed, result_planned};
 ghost use Rattle.archive_core.specs.SealsWritten.{IsSealOf, SealsPart, seal_tag};
-ghost use Rattle.archive_core.specs.Seen.{IsPartOf, RefusesPart, ShowsValueOf, tag_of};
+ghost use Rattle.archive_core.specs.Seen.{IsPartOf, ShowsValueOf, tag_of};
 ghost use Rattle.archive_core.specs.Shape.{choice, no_part, no_variant, one, part, parts, variant};
-ghost use Rattle.archive_core.specs.Sources.{Read};
+ghost use Rattle.archive_core.specs.Sources.{ReadsAs};
 ghost use Rattle.archive_core.specs.Value.{case, no_value, product, value};
 ghost use Rattle.archive_core.specs.Writing.{ZeroedPlace};
 ghost use Rattle.std.proofs.Common.{inl, inr, lit≤};
 ghost use Rattle.std.specs.Int.{w16, w32, w64, w8};
-ghost use Rattle.std.specs.Prelude.{IfErr, IfOk, None, [], codes, length, refl, string_bytes, true, ℕ, ◌++◌, ◌+◌, ◌≡◌};
+ghost use Rattle.std.specs.Prelude.{None, [], codes, length, refl, string_bytes, true, ℕ, ◌++◌, ◌+◌, ◌≡◌};
 
 use archive_core::boxed::ArchivedBox;
 use archive_core::compare::Ordered;
@@ -424,10 +424,8 @@ impl<D: Entries> Deserialize<Label, D> for ArchivedLabel {
         deserializer: &mut D,
     ) -> Result<Label, Error>
         requires { IsPartOf ⟦<Self as ArchivePointee>⟧ part }
-        ensures read { IfOk result (Read ⟦<Self as ArchivePointee>⟧ part D.Entries deserializer
-            ⟦<Label as Archive>⟧) }
-        ensures refused { IfErr result (RefusesPart ⟦<Self as ArchivePointee>⟧ part D.Entries
-            deserializer) }
+        ensures { ReadsAs ⟦<Self as ArchivePointee>⟧ part D.Entries deserializer
+            ⟦<Label as Archive>⟧ result }
     {
         match known_tag::<Self>(part) {
             0 => match read_case::<Self, (), (), D>(0, alloc, part, deserializer) {
@@ -966,10 +964,8 @@ impl<D: Entries> Deserialize<Scores, D> for ArchivedScores {
         deserializer: &mut D,
     ) -> Result<Scores, Error>
         requires { IsPartOf ⟦<Self as ArchivePointee>⟧ part }
-        ensures read { IfOk result (Read ⟦<Self as ArchivePointee>⟧ part D.Entries deserializer
-            ⟦<Scores as Archive>⟧) }
-        ensures refused { IfErr result (RefusesPart ⟦<Self as ArchivePointee>⟧ part D.Entries
-            deserializer) }
+        ensures { ReadsAs ⟦<Self as ArchivePointee>⟧ part D.Entries deserializer
+            ⟦<Scores as Archive>⟧ result }
     {
         match deserialize_record::<Self, ScoresOwned, D>(alloc, part, deserializer) {
             Ok((a0, (a1, (a2, (a3, ()))))) => Ok(Scores {

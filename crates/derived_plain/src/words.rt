@@ -37,13 +37,13 @@ ghost use Rattle.archive_core.specs.Plain.{plain_choice, plain_own_check, plain_
 ghost use Rattle.archive_core.specs.Planned.{leaf_planned};
 ghost use Rattle.archive_core.specs.PlannedOwners.{one_planned};
 ghost use Rattle.archive_core.specs.SealsWritten.{IsSealOf, SealsPart, seal_tag};
-ghost use Rattle.archive_core.specs.Seen.{IsPartOf, RefusesPart, ShowsValueOf, tag_of};
+ghost use Rattle.archive_core.specs.Seen.{IsPartOf, ShowsValueOf, tag_of};
 ghost use Rattle.archive_core.specs.Shape.{choice, no_part, no_variant, one, part, parts, variant};
-ghost use Rattle.archive_core.specs.Sources.{Read};
+ghost use Rattle.archive_core.specs.Sources.{ReadsAs};
 ghost use Rattle.archive_core.specs.Value.{case, no_value, product, value};
 ghost use Rattle.archive_core.specs.Writing.{ZeroedPlace};
 ghost use Rattle.std.proofs.Common.{inl, lit≤};
-ghost use Rattle.std.specs.Prelude.{IfErr, IfOk, None, Some, [], codes, length, refl, true, ℕ, ◌++◌, ◌+◌, ◌≡◌};
+ghost use Rattle.std.specs.Prelude.{None, Some, [], codes, length, refl, true, ℕ, ◌++◌, ◌+◌, ◌≡◌};
 
 use archive_core::error::Error;
 use archive_core::fields::{
@@ -355,10 +355,8 @@ impl<D: Entries> Deserialize<Words, D> for ArchivedWords {
         deserializer: &mut D,
     ) -> Result<Words, Error>
         requires { IsPartOf ⟦<Self as ArchivePointee>⟧ part }
-        ensures read { IfOk result (Read ⟦<Self as ArchivePointee>⟧ part D.Entries deserializer
-            ⟦<Words as Archive>⟧) }
-        ensures refused { IfErr result (RefusesPart ⟦<Self as ArchivePointee>⟧ part D.Entries
-            deserializer) }
+        ensures { ReadsAs ⟦<Self as ArchivePointee>⟧ part D.Entries deserializer
+            ⟦<Words as Archive>⟧ result }
     {
         match deserialize_record::<Self, WordsOwned, D>(alloc, part, deserializer) {
             Ok((a0, (a1, (a2, (a3, ()))))) => Ok(Words {
@@ -760,10 +758,8 @@ impl<D: Entries> Deserialize<Level, D> for ArchivedLevel {
         deserializer: &mut D,
     ) -> Result<Level, Error>
         requires { IsPartOf ⟦<Self as ArchivePointee>⟧ part }
-        ensures read { IfOk result (Read ⟦<Self as ArchivePointee>⟧ part D.Entries deserializer
-            ⟦<Level as Archive>⟧) }
-        ensures refused { IfErr result (RefusesPart ⟦<Self as ArchivePointee>⟧ part D.Entries
-            deserializer) }
+        ensures { ReadsAs ⟦<Self as ArchivePointee>⟧ part D.Entries deserializer
+            ⟦<Level as Archive>⟧ result }
     {
         match known_tag::<Self>(part) {
             0 => match read_case::<Self, (), (), D>(0, alloc, part, deserializer) {

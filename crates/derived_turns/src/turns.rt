@@ -31,13 +31,13 @@ ghost use Rattle.archive_core.specs.Plain.{plain_choice, plain_own_check, plain_
 ghost use Rattle.archive_core.specs.Planned.{leaf_planned};
 ghost use Rattle.archive_core.specs.PlannedOwners.{one_planned};
 ghost use Rattle.archive_core.specs.SealsWritten.{IsSealOf, SealsPart, seal_tag};
-ghost use Rattle.archive_core.specs.Seen.{IsPartOf, RefusesPart, ShowsValueOf, tag_of};
+ghost use Rattle.archive_core.specs.Seen.{IsPartOf, ShowsValueOf, tag_of};
 ghost use Rattle.archive_core.specs.Shape.{choice, no_part, no_variant, one, part, parts, variant};
-ghost use Rattle.archive_core.specs.Sources.{Read};
+ghost use Rattle.archive_core.specs.Sources.{ReadsAs};
 ghost use Rattle.archive_core.specs.Value.{case, no_value, product, value};
 ghost use Rattle.archive_core.specs.Writing.{ZeroedPlace};
 ghost use Rattle.std.proofs.Common.{inl, inr, lit≤};
-ghost use Rattle.std.specs.Prelude.{IfErr, IfOk, None, Some, [], codes, length, refl, true, ℕ, ◌++◌, ◌+◌, ◌≡◌};
+ghost use Rattle.std.specs.Prelude.{None, Some, [], codes, length, refl, true, ℕ, ◌++◌, ◌+◌, ◌≡◌};
 
 use archive_core::error::Error;
 use archive_core::fields::{
@@ -345,10 +345,8 @@ impl<D: Entries> Deserialize<Turn, D> for ArchivedTurn {
         deserializer: &mut D,
     ) -> Result<Turn, Error>
         requires { IsPartOf ⟦<Self as ArchivePointee>⟧ part }
-        ensures read { IfOk result (Read ⟦<Self as ArchivePointee>⟧ part D.Entries deserializer
-            ⟦<Turn as Archive>⟧) }
-        ensures refused { IfErr result (RefusesPart ⟦<Self as ArchivePointee>⟧ part D.Entries
-            deserializer) }
+        ensures { ReadsAs ⟦<Self as ArchivePointee>⟧ part D.Entries deserializer ⟦<Turn as Archive>⟧
+            result }
     {
         match known_tag::<Self>(part) {
             0 => match read_case::<Self, TurnLeftParts, TurnLeftOwned, D>(
@@ -709,10 +707,8 @@ impl<D: Entries> Deserialize<Steps, D> for ArchivedSteps {
         deserializer: &mut D,
     ) -> Result<Steps, Error>
         requires { IsPartOf ⟦<Self as ArchivePointee>⟧ part }
-        ensures read { IfOk result (Read ⟦<Self as ArchivePointee>⟧ part D.Entries deserializer
-            ⟦<Steps as Archive>⟧) }
-        ensures refused { IfErr result (RefusesPart ⟦<Self as ArchivePointee>⟧ part D.Entries
-            deserializer) }
+        ensures { ReadsAs ⟦<Self as ArchivePointee>⟧ part D.Entries deserializer
+            ⟦<Steps as Archive>⟧ result }
     {
         match deserialize_record::<Self, StepsOwned, D>(alloc, part, deserializer) {
             Ok((a0, (a1, ()))) => Ok(Steps {

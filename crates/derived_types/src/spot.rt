@@ -55,13 +55,13 @@ ghost use Rattle.archive_core.specs.Plain.{plain_own_check, plain_record, plain_
 ghost use Rattle.archive_core.specs.Planned.{leaf_planned};
 ghost use Rattle.archive_core.specs.PlannedOwners.{boxed_one_planned, one_planned, slice_planned, vec_planned};
 ghost use Rattle.archive_core.specs.SealsWritten.{IsSealOf, SealsPart};
-ghost use Rattle.archive_core.specs.Seen.{IsPartOf, RefusesPart, ShowsValueOf};
+ghost use Rattle.archive_core.specs.Seen.{IsPartOf, ShowsValueOf};
 ghost use Rattle.archive_core.specs.Shape.{no_part, one, part, parts};
-ghost use Rattle.archive_core.specs.Sources.{Read};
+ghost use Rattle.archive_core.specs.Sources.{ReadsAs};
 ghost use Rattle.archive_core.specs.Value.{no_value, product, value};
 ghost use Rattle.archive_core.specs.Writing.{ZeroedPlace};
 ghost use Rattle.std.proofs.Common.{inl, inr, lit≤};
-ghost use Rattle.std.specs.Prelude.{IfErr, IfOk, None, Some, [], length, refl, true, ◌++◌, ◌+◌, ◌≡◌};
+ghost use Rattle.std.specs.Prelude.{None, Some, [], length, refl, true, ◌++◌, ◌+◌, ◌≡◌};
 
 use crate::event::ArchivedEvent;
 use archive_core::boxed::ArchivedBox;
@@ -341,10 +341,8 @@ impl<D: Entries> Deserialize<Spot, D> for ArchivedSpot {
         deserializer: &mut D,
     ) -> Result<Spot, Error>
         requires { IsPartOf ⟦<Self as ArchivePointee>⟧ part }
-        ensures read { IfOk result (Read ⟦<Self as ArchivePointee>⟧ part D.Entries deserializer
-            ⟦<Spot as Archive>⟧) }
-        ensures refused { IfErr result (RefusesPart ⟦<Self as ArchivePointee>⟧ part D.Entries
-            deserializer) }
+        ensures { ReadsAs ⟦<Self as ArchivePointee>⟧ part D.Entries deserializer ⟦<Spot as Archive>⟧
+            result }
     {
         match deserialize_record::<Self, SpotOwned, D>(alloc, part, deserializer) {
             Ok((a0, (a1, ()))) => Ok(Spot { right: a0, up: a1 }),
@@ -673,10 +671,8 @@ impl<D: Entries> Deserialize<Line, D> for ArchivedLine {
         deserializer: &mut D,
     ) -> Result<Line, Error>
         requires { IsPartOf ⟦<Self as ArchivePointee>⟧ part }
-        ensures read { IfOk result (Read ⟦<Self as ArchivePointee>⟧ part D.Entries deserializer
-            ⟦<Line as Archive>⟧) }
-        ensures refused { IfErr result (RefusesPart ⟦<Self as ArchivePointee>⟧ part D.Entries
-            deserializer) }
+        ensures { ReadsAs ⟦<Self as ArchivePointee>⟧ part D.Entries deserializer ⟦<Line as Archive>⟧
+            result }
     {
         match deserialize_record::<Self, LineOwned, D>(alloc, part, deserializer) {
             Ok((a0, (a1, ()))) => Ok(Line { from: a0, to: a1 }),
@@ -1042,10 +1038,8 @@ impl<D: Entries> Deserialize<Drawing, D> for ArchivedDrawing {
         deserializer: &mut D,
     ) -> Result<Drawing, Error>
         requires { IsPartOf ⟦<Self as ArchivePointee>⟧ part }
-        ensures read { IfOk result (Read ⟦<Self as ArchivePointee>⟧ part D.Entries deserializer
-            ⟦<Drawing as Archive>⟧) }
-        ensures refused { IfErr result (RefusesPart ⟦<Self as ArchivePointee>⟧ part D.Entries
-            deserializer) }
+        ensures { ReadsAs ⟦<Self as ArchivePointee>⟧ part D.Entries deserializer
+            ⟦<Drawing as Archive>⟧ result }
     {
         match deserialize_record::<Self, DrawingOwned, D>(alloc, part, deserializer) {
             Ok((a0, (a1, (a2, (a3, ()))))) => Ok(Drawing {
@@ -1412,10 +1406,8 @@ impl<D: Entries> Deserialize<Atlas, D> for ArchivedAtlas {
         deserializer: &mut D,
     ) -> Result<Atlas, Error>
         requires { IsPartOf ⟦<Self as ArchivePointee>⟧ part }
-        ensures read { IfOk result (Read ⟦<Self as ArchivePointee>⟧ part D.Entries deserializer
-            ⟦<Atlas as Archive>⟧) }
-        ensures refused { IfErr result (RefusesPart ⟦<Self as ArchivePointee>⟧ part D.Entries
-            deserializer) }
+        ensures { ReadsAs ⟦<Self as ArchivePointee>⟧ part D.Entries deserializer
+            ⟦<Atlas as Archive>⟧ result }
     {
         match deserialize_record::<Self, AtlasOwned, D>(alloc, part, deserializer) {
             Ok((a0, (a1, ()))) => Ok(Atlas {

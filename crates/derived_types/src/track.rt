@@ -47,16 +47,16 @@ ghost use Rattle.archive_core.specs.Planned.{leaf_planned, text_planned};
 ghost use Rattle.archive_core.specs.PlannedOwners.{boxed_one_planned, one_planned, slice_planned};
 ghost use Rattle.archive_core.specs.Runs.{each_keys, each_meaning};
 ghost use Rattle.archive_core.specs.SealsWritten.{IsSealOf, SealsPart, seal_tag};
-ghost use Rattle.archive_core.specs.Seen.{IsPartOf, RefusesPart, ShowsValueOf, tag_of};
+ghost use Rattle.archive_core.specs.Seen.{IsPartOf, ShowsValueOf, tag_of};
 ghost use Rattle.archive_core.specs.SelfCheck.Laws.{by_schema};
 ghost use Rattle.archive_core.specs.Shape.{choice, no_part, no_variant, one, part, parts, run, text, variant};
 ghost use Rattle.archive_core.specs.SharedLaws.{weak_keyed, weak_planned};
 ghost use Rattle.archive_core.specs.SharedSources.{rc_flavor, rc_keyed, rc_keys, rc_one_planned, rc_planned};
-ghost use Rattle.archive_core.specs.Sources.{Read};
+ghost use Rattle.archive_core.specs.Sources.{ReadsAs};
 ghost use Rattle.archive_core.specs.Value.{case, list, no_value, product, shared_value, text_value, value};
 ghost use Rattle.archive_core.specs.Writing.{ZeroedPlace};
 ghost use Rattle.std.proofs.Common.{inl, inr, lit≤};
-ghost use Rattle.std.specs.Prelude.{IfErr, IfOk, None, [], codes, length, refl, ℕ, ◌++◌, ◌+◌, ◌≡◌};
+ghost use Rattle.std.specs.Prelude.{None, [], codes, length, refl, ℕ, ◌++◌, ◌+◌, ◌≡◌};
 ghost use Rattle.std.specs.Rc.{rc_slice_items, rc_str_bytes};
 
 use crate::spot::ArchivedLine;
@@ -307,10 +307,8 @@ impl<D: Pooling<Shared<Line>>> Deserialize<Track, D> for ArchivedTrack {
         deserializer: &mut D,
     ) -> Result<Track, Error>
         requires { IsPartOf ⟦<Self as ArchivePointee>⟧ part }
-        ensures read { IfOk result (Read ⟦<Self as ArchivePointee>⟧ part D.Entries deserializer
-            ⟦<Track as Archive>⟧) }
-        ensures refused { IfErr result (RefusesPart ⟦<Self as ArchivePointee>⟧ part D.Entries
-            deserializer) }
+        ensures { ReadsAs ⟦<Self as ArchivePointee>⟧ part D.Entries deserializer
+            ⟦<Track as Archive>⟧ result }
     {
         match deserialize_record::<Self, TrackOwned, D>(alloc, part, deserializer) {
             Ok((a0, (a1, ()))) => Ok(Track {
@@ -650,10 +648,8 @@ impl<D: Pooling<SharedSlice<Line>> + Pooling<SharedStr> + Pooling<Shared<Line>>>
         deserializer: &mut D,
     ) -> Result<Runs, Error>
         requires { IsPartOf ⟦<Self as ArchivePointee>⟧ part }
-        ensures read { IfOk result (Read ⟦<Self as ArchivePointee>⟧ part D.Entries deserializer
-            ⟦<Runs as Archive>⟧) }
-        ensures refused { IfErr result (RefusesPart ⟦<Self as ArchivePointee>⟧ part D.Entries
-            deserializer) }
+        ensures { ReadsAs ⟦<Self as ArchivePointee>⟧ part D.Entries deserializer ⟦<Runs as Archive>⟧
+            result }
     {
         match deserialize_record::<Self, RunsOwned, D>(alloc, part, deserializer) {
             Ok((a0, (a1, (a2, ())))) => Ok(Runs {
@@ -1048,10 +1044,8 @@ impl<D: Pooling<Shared<Line>>> Deserialize<Either, D> for ArchivedEither {
         deserializer: &mut D,
     ) -> Result<Either, Error>
         requires { IsPartOf ⟦<Self as ArchivePointee>⟧ part }
-        ensures read { IfOk result (Read ⟦<Self as ArchivePointee>⟧ part D.Entries deserializer
-            ⟦<Either as Archive>⟧) }
-        ensures refused { IfErr result (RefusesPart ⟦<Self as ArchivePointee>⟧ part D.Entries
-            deserializer) }
+        ensures { ReadsAs ⟦<Self as ArchivePointee>⟧ part D.Entries deserializer
+            ⟦<Either as Archive>⟧ result }
     {
         match known_tag::<Self>(part) {
             0 => match read_case::<Self, EitherAloneParts, EitherAloneOwned, D>(

@@ -43,7 +43,7 @@ ghost use Rattle.archive_core.specs.PlannedOwners.{one_planned};
 ghost use Rattle.archive_core.specs.SealsWritten.{IsSealOf, SealsPart, seal_tag};
 ghost use Rattle.archive_core.specs.Seen.{IsPartOf, RefusesPart, ShowsValueOf, part_tag, tag_of};
 ghost use Rattle.archive_core.specs.Shape.{one, part, parts, variant, vec};
-ghost use Rattle.archive_core.specs.Sources.{Read};
+ghost use Rattle.archive_core.specs.Sources.{ReadsAs};
 ghost use Rattle.archive_core.specs.Value.{value};
 ghost use Rattle.archive_core.specs.Writing.{ZeroedPlace};
 ghost use Rattle.own_types.specs.NodeMeaning.{node_around, node_keys_around};
@@ -373,10 +373,8 @@ fn read_node_nil<D: Entries>(
 ) -> Result<Node, Error>
     requires viewed { IsPartOf ⟦<ArchivedNode as ArchivePointee>⟧ part }
     requires tag { part_tag part ≡ 0 }
-    ensures read { IfOk result (Read ⟦<ArchivedNode as ArchivePointee>⟧ part D.Entries _deserializer
-        ⟦<Node as Archive>⟧) }
-    ensures refused { IfErr result (RefusesPart ⟦<ArchivedNode as ArchivePointee>⟧ part D.Entries
-        _deserializer) }
+    ensures { ReadsAs ⟦<ArchivedNode as ArchivePointee>⟧ part D.Entries _deserializer
+        ⟦<Node as Archive>⟧ result }
 {
     Ok(Node::Nil)
 }
@@ -448,10 +446,8 @@ impl<D: Entries> Deserialize<Node, D> for ArchivedNode {
         deserializer: &mut D,
     ) -> Result<Node, Error>
         requires { IsPartOf ⟦<Self as ArchivePointee>⟧ part }
-        ensures read { IfOk result (Read ⟦<Self as ArchivePointee>⟧ part D.Entries deserializer
-            ⟦<Node as Archive>⟧) }
-        ensures refused { IfErr result (RefusesPart ⟦<Self as ArchivePointee>⟧ part D.Entries
-            deserializer) }
+        ensures { ReadsAs ⟦<Self as ArchivePointee>⟧ part D.Entries deserializer ⟦<Node as Archive>⟧
+            result }
     {
         read_chain::<ArchivedNode, Node, D>(alloc, part, deserializer)
     }

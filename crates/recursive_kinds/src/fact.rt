@@ -23,10 +23,10 @@ ghost use Rattle.archive_core.specs.PlannedOwners.{one_planned};
 ghost use Rattle.archive_core.specs.Plans.{Serialized};
 ghost use Rattle.archive_core.specs.Runs.{EachBelongs, IsRunRefused, SerializedRun, each_flat, each_keys, each_meaning};
 ghost use Rattle.archive_core.specs.SealsWritten.{IsSealOf, SealsPart, seal_tag};
-ghost use Rattle.archive_core.specs.Seen.{IsPartOf, RefusesPart, ShowsValueOf, part_tag, tag_of};
+ghost use Rattle.archive_core.specs.Seen.{IsPartOf, ShowsValueOf, part_tag, tag_of};
 ghost use Rattle.archive_core.specs.SelfCheck.Laws.{by_schema};
 ghost use Rattle.archive_core.specs.Shape.{one, part, parts, variant, vec};
-ghost use Rattle.archive_core.specs.Sources.{Read};
+ghost use Rattle.archive_core.specs.Sources.{ReadsAs};
 ghost use Rattle.archive_core.specs.Value.{case, no_value, value};
 ghost use Rattle.archive_core.specs.Writing.{ZeroedPlace};
 ghost use Rattle.archive_core.specs.Written.{GoesOn};
@@ -490,10 +490,8 @@ fn read_vec_fact<D: Entries>(
     deserializer: &mut D,
 ) -> Result<Vec<Fact>, Error>
     requires { IsPartOf ⟦<ArchivedVec<ArchivedFact> as ArchivePointee>⟧ part }
-    ensures read { IfOk result (Read ⟦<ArchivedVec<ArchivedFact> as ArchivePointee>⟧ part D.Entries
-        deserializer ⟦<Vec<Fact> as Archive>⟧) }
-    ensures refused { IfErr result (RefusesPart ⟦<ArchivedVec<ArchivedFact> as ArchivePointee>⟧ part
-        D.Entries deserializer) }
+    ensures { ReadsAs ⟦<ArchivedVec<ArchivedFact> as ArchivePointee>⟧ part D.Entries deserializer
+        ⟦<Vec<Fact> as Archive>⟧ result }
 {
     let view: Ref<'_, ArchivedVec<ArchivedFact>> = Ref::at(part);
     let list = before_vec(view);
@@ -514,10 +512,8 @@ fn read_fact_holds<D: Entries>(
 ) -> Result<Fact, Error>
     requires viewed { IsPartOf ⟦<ArchivedFact as ArchivePointee>⟧ part }
     requires tag { part_tag part ≡ 0 }
-    ensures read { IfOk result (Read ⟦<ArchivedFact as ArchivePointee>⟧ part D.Entries deserializer
-        ⟦<Fact as Archive>⟧) }
-    ensures refused { IfErr result (RefusesPart ⟦<ArchivedFact as ArchivePointee>⟧ part D.Entries
-        deserializer) }
+    ensures { ReadsAs ⟦<ArchivedFact as ArchivePointee>⟧ part D.Entries deserializer
+        ⟦<Fact as Archive>⟧ result }
 {
     let p0 = part_of_variant::<ArchivedFact, bool>(part, 0, 0, 1);
     let a0 = read_part::<bool, bool, D>(alloc, p0, deserializer)?;
@@ -535,10 +531,8 @@ fn read_fact_outcome<D: Entries>(
 ) -> Result<Fact, Error>
     requires viewed { IsPartOf ⟦<ArchivedFact as ArchivePointee>⟧ part }
     requires tag { part_tag part ≡ 1 }
-    ensures read { IfOk result (Read ⟦<ArchivedFact as ArchivePointee>⟧ part D.Entries deserializer
-        ⟦<Fact as Archive>⟧) }
-    ensures refused { IfErr result (RefusesPart ⟦<ArchivedFact as ArchivePointee>⟧ part D.Entries
-        deserializer) }
+    ensures { ReadsAs ⟦<ArchivedFact as ArchivePointee>⟧ part D.Entries deserializer
+        ⟦<Fact as Archive>⟧ result }
 {
     let p0 = part_of_variant::<ArchivedFact, ArchivedResult<ArchivedU32, ArchivedString>>(
         part, 1, 0, 4,
@@ -560,10 +554,8 @@ fn read_fact_facts<D: Entries>(
 ) -> Result<Fact, Error>
     requires viewed { IsPartOf ⟦<ArchivedFact as ArchivePointee>⟧ part }
     requires tag { part_tag part ≡ 2 }
-    ensures read { IfOk result (Read ⟦<ArchivedFact as ArchivePointee>⟧ part D.Entries deserializer
-        ⟦<Fact as Archive>⟧) }
-    ensures refused { IfErr result (RefusesPart ⟦<ArchivedFact as ArchivePointee>⟧ part D.Entries
-        deserializer) }
+    ensures { ReadsAs ⟦<ArchivedFact as ArchivePointee>⟧ part D.Entries deserializer
+        ⟦<Fact as Archive>⟧ result }
 {
     let p0 = part_of_variant::<ArchivedFact, ArchivedVec<ArchivedFact>>(part, 2, 0, 4);
     let a0 = read_vec_fact(alloc, p0, deserializer)?;
@@ -578,10 +570,8 @@ fn read_fact<D: Entries>(
     deserializer: &mut D,
 ) -> Result<Fact, Error>
     requires { IsPartOf ⟦<ArchivedFact as ArchivePointee>⟧ part }
-    ensures read { IfOk result (Read ⟦<ArchivedFact as ArchivePointee>⟧ part D.Entries deserializer
-        ⟦<Fact as Archive>⟧) }
-    ensures refused { IfErr result (RefusesPart ⟦<ArchivedFact as ArchivePointee>⟧ part D.Entries
-        deserializer) }
+    ensures { ReadsAs ⟦<ArchivedFact as ArchivePointee>⟧ part D.Entries deserializer
+        ⟦<Fact as Archive>⟧ result }
 {
     match tag_of_choice::<ArchivedFact>(part) {
         0 => read_fact_holds(alloc, part, deserializer),
@@ -598,10 +588,8 @@ impl<D: Entries> Deserialize<Fact, D> for ArchivedFact {
         deserializer: &mut D,
     ) -> Result<Fact, Error>
         requires { IsPartOf ⟦<Self as ArchivePointee>⟧ part }
-        ensures read { IfOk result (Read ⟦<Self as ArchivePointee>⟧ part D.Entries deserializer
-            ⟦<Fact as Archive>⟧) }
-        ensures refused { IfErr result (RefusesPart ⟦<Self as ArchivePointee>⟧ part D.Entries
-            deserializer) }
+        ensures { ReadsAs ⟦<Self as ArchivePointee>⟧ part D.Entries deserializer ⟦<Fact as Archive>⟧
+            result }
     {
         read_fact(alloc, part, deserializer)
     }

@@ -21,10 +21,10 @@ ghost use Rattle.archive_core.specs.PlannedOwners.{one_planned};
 ghost use Rattle.archive_core.specs.Plans.{Serialized};
 ghost use Rattle.archive_core.specs.Runs.{EachBelongs, IsRunRefused, SerializedRun, each_flat, each_keys, each_meaning};
 ghost use Rattle.archive_core.specs.SealsWritten.{IsSealOf, SealsPart};
-ghost use Rattle.archive_core.specs.Seen.{IsPartOf, RefusesPart, ShowsValueOf};
+ghost use Rattle.archive_core.specs.Seen.{IsPartOf, ShowsValueOf};
 ghost use Rattle.archive_core.specs.SelfCheck.Laws.{by_schema};
 ghost use Rattle.archive_core.specs.Shape.{boxed, one, part, parts, vec};
-ghost use Rattle.archive_core.specs.Sources.{Read};
+ghost use Rattle.archive_core.specs.Sources.{ReadsAs};
 ghost use Rattle.archive_core.specs.Value.{value};
 ghost use Rattle.archive_core.specs.Writing.{ZeroedPlace};
 ghost use Rattle.archive_core.specs.Written.{GoesOn};
@@ -345,10 +345,8 @@ fn read_box_knot<D: Entries>(
     deserializer: &mut D,
 ) -> Result<Box<Knot>, Error>
     requires { IsPartOf ⟦<ArchivedBox<ArchivedKnot> as ArchivePointee>⟧ part }
-    ensures read { IfOk result (Read ⟦<ArchivedBox<ArchivedKnot> as ArchivePointee>⟧ part D.Entries
-        deserializer ⟦<Box<Knot> as Archive>⟧) }
-    ensures refused { IfErr result (RefusesPart ⟦<ArchivedBox<ArchivedKnot> as ArchivePointee>⟧ part
-        D.Entries deserializer) }
+    ensures { ReadsAs ⟦<ArchivedBox<ArchivedKnot> as ArchivePointee>⟧ part D.Entries deserializer
+        ⟦<Box<Knot> as Archive>⟧ result }
 {
     let view: Ref<'_, ArchivedBox<ArchivedKnot>> = Ref::at(part);
     let value = read_knot(alloc, before_box(view).part(), deserializer)?;
@@ -364,11 +362,8 @@ fn read_vec_box_knot<D: Entries>(
     deserializer: &mut D,
 ) -> Result<Vec<Box<Knot>>, Error>
     requires { IsPartOf ⟦<ArchivedVec<ArchivedBox<ArchivedKnot>> as ArchivePointee>⟧ part }
-    ensures read { IfOk result (Read ⟦<ArchivedVec<ArchivedBox<ArchivedKnot>> as ArchivePointee>⟧
-        part D.Entries deserializer ⟦<Vec<Box<Knot>> as Archive>⟧) }
-    ensures refused { IfErr result
-        (RefusesPart ⟦<ArchivedVec<ArchivedBox<ArchivedKnot>> as ArchivePointee>⟧ part D.Entries
-        deserializer) }
+    ensures { ReadsAs ⟦<ArchivedVec<ArchivedBox<ArchivedKnot>> as ArchivePointee>⟧ part D.Entries
+        deserializer ⟦<Vec<Box<Knot>> as Archive>⟧ result }
 {
     let view: Ref<'_, ArchivedVec<ArchivedBox<ArchivedKnot>>> = Ref::at(part);
     let list = before_vec(view);
@@ -388,10 +383,8 @@ fn read_knot<D: Entries>(
     deserializer: &mut D,
 ) -> Result<Knot, Error>
     requires { IsPartOf ⟦<ArchivedKnot as ArchivePointee>⟧ part }
-    ensures read { IfOk result (Read ⟦<ArchivedKnot as ArchivePointee>⟧ part D.Entries deserializer
-        ⟦<Knot as Archive>⟧) }
-    ensures refused { IfErr result (RefusesPart ⟦<ArchivedKnot as ArchivePointee>⟧ part D.Entries
-        deserializer) }
+    ensures { ReadsAs ⟦<ArchivedKnot as ArchivePointee>⟧ part D.Entries deserializer
+        ⟦<Knot as Archive>⟧ result }
 {
     let p0 = part_of_record::<ArchivedKnot, ArchivedU32>(part, 0, 0);
     let a0 = read_part::<ArchivedU32, u32, D>(alloc, p0, deserializer)?;
@@ -408,10 +401,8 @@ impl<D: Entries> Deserialize<Knot, D> for ArchivedKnot {
         deserializer: &mut D,
     ) -> Result<Knot, Error>
         requires { IsPartOf ⟦<Self as ArchivePointee>⟧ part }
-        ensures read { IfOk result (Read ⟦<Self as ArchivePointee>⟧ part D.Entries deserializer
-            ⟦<Knot as Archive>⟧) }
-        ensures refused { IfErr result (RefusesPart ⟦<Self as ArchivePointee>⟧ part D.Entries
-            deserializer) }
+        ensures { ReadsAs ⟦<Self as ArchivePointee>⟧ part D.Entries deserializer ⟦<Knot as Archive>⟧
+            result }
     {
         read_knot(alloc, part, deserializer)
     }

@@ -28,10 +28,10 @@ ghost use Rattle.archive_core.specs.PlannedOwners.{one_planned};
 ghost use Rattle.archive_core.specs.Plans.{Serialized};
 ghost use Rattle.archive_core.specs.Runs.{EachBelongs, IsRunRefused, SerializedRun, each_flat, each_keys, each_meaning};
 ghost use Rattle.archive_core.specs.SealsWritten.{IsSealOf, SealsPart, seal_tag};
-ghost use Rattle.archive_core.specs.Seen.{IsPartOf, RefusesPart, ShowsValueOf, part_tag, tag_of};
+ghost use Rattle.archive_core.specs.Seen.{IsPartOf, ShowsValueOf, part_tag, tag_of};
 ghost use Rattle.archive_core.specs.SelfCheck.Laws.{by_schema};
 ghost use Rattle.archive_core.specs.Shape.{one, part, parts, variant, vec};
-ghost use Rattle.archive_core.specs.Sources.{Read};
+ghost use Rattle.archive_core.specs.Sources.{ReadsAs};
 ghost use Rattle.archive_core.specs.Value.{case, no_value, value};
 ghost use Rattle.archive_core.specs.Writing.{ZeroedPlace};
 ghost use Rattle.archive_core.specs.Written.{GoesOn};
@@ -589,10 +589,8 @@ fn read_vec_note<D: Entries>(
     deserializer: &mut D,
 ) -> Result<Vec<Note>, Error>
     requires { IsPartOf ⟦<ArchivedVec<ArchivedNote> as ArchivePointee>⟧ part }
-    ensures read { IfOk result (Read ⟦<ArchivedVec<ArchivedNote> as ArchivePointee>⟧ part D.Entries
-        deserializer ⟦<Vec<Note> as Archive>⟧) }
-    ensures refused { IfErr result (RefusesPart ⟦<ArchivedVec<ArchivedNote> as ArchivePointee>⟧ part
-        D.Entries deserializer) }
+    ensures { ReadsAs ⟦<ArchivedVec<ArchivedNote> as ArchivePointee>⟧ part D.Entries deserializer
+        ⟦<Vec<Note> as Archive>⟧ result }
 {
     let view: Ref<'_, ArchivedVec<ArchivedNote>> = Ref::at(part);
     let list = before_vec(view);
@@ -613,10 +611,8 @@ fn read_note_texts<D: Entries>(
 ) -> Result<Note, Error>
     requires viewed { IsPartOf ⟦<ArchivedNote as ArchivePointee>⟧ part }
     requires tag { part_tag part ≡ 0 }
-    ensures read { IfOk result (Read ⟦<ArchivedNote as ArchivePointee>⟧ part D.Entries deserializer
-        ⟦<Note as Archive>⟧) }
-    ensures refused { IfErr result (RefusesPart ⟦<ArchivedNote as ArchivePointee>⟧ part D.Entries
-        deserializer) }
+    ensures { ReadsAs ⟦<ArchivedNote as ArchivePointee>⟧ part D.Entries deserializer
+        ⟦<Note as Archive>⟧ result }
 {
     let p0 = part_of_variant::<ArchivedNote, ArchivedVec<ArchivedString>>(part, 0, 0, 4);
     let a0 = read_part::<ArchivedVec<ArchivedString>, Vec<String>, D>(alloc, p0, deserializer)?;
@@ -638,10 +634,8 @@ fn read_note_hours<D: Entries>(
 ) -> Result<Note, Error>
     requires viewed { IsPartOf ⟦<ArchivedNote as ArchivePointee>⟧ part }
     requires tag { part_tag part ≡ 1 }
-    ensures read { IfOk result (Read ⟦<ArchivedNote as ArchivePointee>⟧ part D.Entries deserializer
-        ⟦<Note as Archive>⟧) }
-    ensures refused { IfErr result (RefusesPart ⟦<ArchivedNote as ArchivePointee>⟧ part D.Entries
-        deserializer) }
+    ensures { ReadsAs ⟦<ArchivedNote as ArchivePointee>⟧ part D.Entries deserializer
+        ⟦<Note as Archive>⟧ result }
 {
     let p0 = part_of_variant::<ArchivedNote, ArchivedSortedMap<ArchivedU16, ArchivedI64>>(
         part, 1, 0, 4,
@@ -663,10 +657,8 @@ fn read_note_rank<D: Entries>(
 ) -> Result<Note, Error>
     requires viewed { IsPartOf ⟦<ArchivedNote as ArchivePointee>⟧ part }
     requires tag { part_tag part ≡ 2 }
-    ensures read { IfOk result (Read ⟦<ArchivedNote as ArchivePointee>⟧ part D.Entries deserializer
-        ⟦<Note as Archive>⟧) }
-    ensures refused { IfErr result (RefusesPart ⟦<ArchivedNote as ArchivePointee>⟧ part D.Entries
-        deserializer) }
+    ensures { ReadsAs ⟦<ArchivedNote as ArchivePointee>⟧ part D.Entries deserializer
+        ⟦<Note as Archive>⟧ result }
 {
     let p0 = part_of_variant::<ArchivedNote, NonZero<u32>>(part, 2, 0, 4);
     let a0 = match read_part::<NonZero<u32>, ArchivedNonZeroU32, D>(alloc, p0, deserializer) {
@@ -687,10 +679,8 @@ fn read_note_notes<D: Entries>(
 ) -> Result<Note, Error>
     requires viewed { IsPartOf ⟦<ArchivedNote as ArchivePointee>⟧ part }
     requires tag { part_tag part ≡ 3 }
-    ensures read { IfOk result (Read ⟦<ArchivedNote as ArchivePointee>⟧ part D.Entries deserializer
-        ⟦<Note as Archive>⟧) }
-    ensures refused { IfErr result (RefusesPart ⟦<ArchivedNote as ArchivePointee>⟧ part D.Entries
-        deserializer) }
+    ensures { ReadsAs ⟦<ArchivedNote as ArchivePointee>⟧ part D.Entries deserializer
+        ⟦<Note as Archive>⟧ result }
 {
     let p0 = part_of_variant::<ArchivedNote, ArchivedVec<ArchivedNote>>(part, 3, 0, 4);
     let a0 = read_vec_note(alloc, p0, deserializer)?;
@@ -705,10 +695,8 @@ fn read_note<D: Entries>(
     deserializer: &mut D,
 ) -> Result<Note, Error>
     requires { IsPartOf ⟦<ArchivedNote as ArchivePointee>⟧ part }
-    ensures read { IfOk result (Read ⟦<ArchivedNote as ArchivePointee>⟧ part D.Entries deserializer
-        ⟦<Note as Archive>⟧) }
-    ensures refused { IfErr result (RefusesPart ⟦<ArchivedNote as ArchivePointee>⟧ part D.Entries
-        deserializer) }
+    ensures { ReadsAs ⟦<ArchivedNote as ArchivePointee>⟧ part D.Entries deserializer
+        ⟦<Note as Archive>⟧ result }
 {
     match tag_of_choice::<ArchivedNote>(part) {
         0 => read_note_texts(alloc, part, deserializer),
@@ -726,10 +714,8 @@ impl<D: Entries> Deserialize<Note, D> for ArchivedNote {
         deserializer: &mut D,
     ) -> Result<Note, Error>
         requires { IsPartOf ⟦<Self as ArchivePointee>⟧ part }
-        ensures read { IfOk result (Read ⟦<Self as ArchivePointee>⟧ part D.Entries deserializer
-            ⟦<Note as Archive>⟧) }
-        ensures refused { IfErr result (RefusesPart ⟦<Self as ArchivePointee>⟧ part D.Entries
-            deserializer) }
+        ensures { ReadsAs ⟦<Self as ArchivePointee>⟧ part D.Entries deserializer ⟦<Note as Archive>⟧
+            result }
     {
         read_note(alloc, part, deserializer)
     }

@@ -30,10 +30,10 @@ ghost use Rattle.archive_core.specs.PlannedOwners.{one_planned};
 ghost use Rattle.archive_core.specs.Plans.{Serialized};
 ghost use Rattle.archive_core.specs.Runs.{EachBelongs, IsRunRefused, SerializedRun, each_flat, each_keys, each_meaning};
 ghost use Rattle.archive_core.specs.SealsWritten.{IsSealOf, SealsPart};
-ghost use Rattle.archive_core.specs.Seen.{IsPartOf, RefusesPart, ShowsValueOf};
+ghost use Rattle.archive_core.specs.Seen.{IsPartOf, ShowsValueOf};
 ghost use Rattle.archive_core.specs.SelfCheck.Laws.{by_schema};
 ghost use Rattle.archive_core.specs.Shape.{one, part, parts, vec};
-ghost use Rattle.archive_core.specs.Sources.{Read};
+ghost use Rattle.archive_core.specs.Sources.{ReadsAs};
 ghost use Rattle.archive_core.specs.Value.{value};
 ghost use Rattle.archive_core.specs.Writing.{ZeroedPlace};
 ghost use Rattle.archive_core.specs.Written.{GoesOn};
@@ -390,10 +390,8 @@ fn read_vec_rule<D: Entries>(
     deserializer: &mut D,
 ) -> Result<Vec<Rule>, Error>
     requires { IsPartOf ⟦<ArchivedVec<ArchivedRule> as ArchivePointee>⟧ part }
-    ensures read { IfOk result (Read ⟦<ArchivedVec<ArchivedRule> as ArchivePointee>⟧ part D.Entries
-        deserializer ⟦<Vec<Rule> as Archive>⟧) }
-    ensures refused { IfErr result (RefusesPart ⟦<ArchivedVec<ArchivedRule> as ArchivePointee>⟧ part
-        D.Entries deserializer) }
+    ensures { ReadsAs ⟦<ArchivedVec<ArchivedRule> as ArchivePointee>⟧ part D.Entries deserializer
+        ⟦<Vec<Rule> as Archive>⟧ result }
 {
     let view: Ref<'_, ArchivedVec<ArchivedRule>> = Ref::at(part);
     let list = before_vec(view);
@@ -413,10 +411,8 @@ fn read_rule<D: Entries>(
     deserializer: &mut D,
 ) -> Result<Rule, Error>
     requires { IsPartOf ⟦<ArchivedRule as ArchivePointee>⟧ part }
-    ensures read { IfOk result (Read ⟦<ArchivedRule as ArchivePointee>⟧ part D.Entries deserializer
-        ⟦<Rule as Archive>⟧) }
-    ensures refused { IfErr result (RefusesPart ⟦<ArchivedRule as ArchivePointee>⟧ part D.Entries
-        deserializer) }
+    ensures { ReadsAs ⟦<ArchivedRule as ArchivePointee>⟧ part D.Entries deserializer
+        ⟦<Rule as Archive>⟧ result }
 {
     let p0 = part_of_record::<ArchivedRule, ArchivedBox<ArchivedStr>>(part, 0, 0);
     let a0 = read_part::<ArchivedBox<ArchivedStr>, BoxStr, D>(alloc, p0, deserializer)?;
@@ -452,10 +448,8 @@ impl<D: Entries> Deserialize<Rule, D> for ArchivedRule {
         deserializer: &mut D,
     ) -> Result<Rule, Error>
         requires { IsPartOf ⟦<Self as ArchivePointee>⟧ part }
-        ensures read { IfOk result (Read ⟦<Self as ArchivePointee>⟧ part D.Entries deserializer
-            ⟦<Rule as Archive>⟧) }
-        ensures refused { IfErr result (RefusesPart ⟦<Self as ArchivePointee>⟧ part D.Entries
-            deserializer) }
+        ensures { ReadsAs ⟦<Self as ArchivePointee>⟧ part D.Entries deserializer ⟦<Rule as Archive>⟧
+            result }
     {
         read_rule(alloc, part, deserializer)
     }

@@ -33,10 +33,10 @@ ghost use Rattle.archive_core.specs.PlannedOwners.{one_planned};
 ghost use Rattle.archive_core.specs.Plans.{Serialized};
 ghost use Rattle.archive_core.specs.Runs.{EachBelongs, IsRunRefused, SerializedRun, each_flat, each_keys, each_meaning};
 ghost use Rattle.archive_core.specs.SealsWritten.{IsSealOf, SealsPart, seal_tag};
-ghost use Rattle.archive_core.specs.Seen.{IsPartOf, RefusesPart, ShowsValueOf, part_tag, tag_of};
+ghost use Rattle.archive_core.specs.Seen.{IsPartOf, ShowsValueOf, part_tag, tag_of};
 ghost use Rattle.archive_core.specs.SelfCheck.Laws.{by_schema};
 ghost use Rattle.archive_core.specs.Shape.{boxed, one, part, parts, variant, vec};
-ghost use Rattle.archive_core.specs.Sources.{Read};
+ghost use Rattle.archive_core.specs.Sources.{ReadsAs};
 ghost use Rattle.archive_core.specs.Value.{case, no_value, value};
 ghost use Rattle.archive_core.specs.Writing.{ZeroedPlace};
 ghost use Rattle.archive_core.specs.Written.{GoesOn};
@@ -361,10 +361,8 @@ fn read_vec_entry<D: Entries>(
     deserializer: &mut D,
 ) -> Result<Vec<Entry>, Error>
     requires { IsPartOf ⟦<ArchivedVec<ArchivedEntry> as ArchivePointee>⟧ part }
-    ensures read { IfOk result (Read ⟦<ArchivedVec<ArchivedEntry> as ArchivePointee>⟧ part D.Entries
-        deserializer ⟦<Vec<Entry> as Archive>⟧) }
-    ensures refused { IfErr result (RefusesPart ⟦<ArchivedVec<ArchivedEntry> as ArchivePointee>⟧
-        part D.Entries deserializer) }
+    ensures { ReadsAs ⟦<ArchivedVec<ArchivedEntry> as ArchivePointee>⟧ part D.Entries deserializer
+        ⟦<Vec<Entry> as Archive>⟧ result }
 {
     let view: Ref<'_, ArchivedVec<ArchivedEntry>> = Ref::at(part);
     let list = before_vec(view);
@@ -384,10 +382,8 @@ fn read_dir<D: Entries>(
     deserializer: &mut D,
 ) -> Result<Dir, Error>
     requires { IsPartOf ⟦<ArchivedDir as ArchivePointee>⟧ part }
-    ensures read { IfOk result (Read ⟦<ArchivedDir as ArchivePointee>⟧ part D.Entries deserializer
-        ⟦<Dir as Archive>⟧) }
-    ensures refused { IfErr result (RefusesPart ⟦<ArchivedDir as ArchivePointee>⟧ part D.Entries
-        deserializer) }
+    ensures { ReadsAs ⟦<ArchivedDir as ArchivePointee>⟧ part D.Entries deserializer
+        ⟦<Dir as Archive>⟧ result }
 {
     let p0 = part_of_record::<ArchivedDir, ArchivedString>(part, 0, 0);
     let a0 = read_part::<ArchivedString, String, D>(alloc, p0, deserializer)?;
@@ -407,10 +403,8 @@ impl<D: Entries> Deserialize<Dir, D> for ArchivedDir {
         deserializer: &mut D,
     ) -> Result<Dir, Error>
         requires { IsPartOf ⟦<Self as ArchivePointee>⟧ part }
-        ensures read { IfOk result (Read ⟦<Self as ArchivePointee>⟧ part D.Entries deserializer
-            ⟦<Dir as Archive>⟧) }
-        ensures refused { IfErr result (RefusesPart ⟦<Self as ArchivePointee>⟧ part D.Entries
-            deserializer) }
+        ensures { ReadsAs ⟦<Self as ArchivePointee>⟧ part D.Entries deserializer ⟦<Dir as Archive>⟧
+            result }
     {
         read_dir(alloc, part, deserializer)
     }
@@ -828,10 +822,8 @@ fn read_box_dir<D: Entries>(
     deserializer: &mut D,
 ) -> Result<Box<Dir>, Error>
     requires { IsPartOf ⟦<ArchivedBox<ArchivedDir> as ArchivePointee>⟧ part }
-    ensures read { IfOk result (Read ⟦<ArchivedBox<ArchivedDir> as ArchivePointee>⟧ part D.Entries
-        deserializer ⟦<Box<Dir> as Archive>⟧) }
-    ensures refused { IfErr result (RefusesPart ⟦<ArchivedBox<ArchivedDir> as ArchivePointee>⟧ part
-        D.Entries deserializer) }
+    ensures { ReadsAs ⟦<ArchivedBox<ArchivedDir> as ArchivePointee>⟧ part D.Entries deserializer
+        ⟦<Box<Dir> as Archive>⟧ result }
 {
     let view: Ref<'_, ArchivedBox<ArchivedDir>> = Ref::at(part);
     let value = read_dir(alloc, before_box(view).part(), deserializer)?;
@@ -848,10 +840,8 @@ fn read_entry_file<D: Entries>(
 ) -> Result<Entry, Error>
     requires viewed { IsPartOf ⟦<ArchivedEntry as ArchivePointee>⟧ part }
     requires tag { part_tag part ≡ 0 }
-    ensures read { IfOk result (Read ⟦<ArchivedEntry as ArchivePointee>⟧ part D.Entries deserializer
-        ⟦<Entry as Archive>⟧) }
-    ensures refused { IfErr result (RefusesPart ⟦<ArchivedEntry as ArchivePointee>⟧ part D.Entries
-        deserializer) }
+    ensures { ReadsAs ⟦<ArchivedEntry as ArchivePointee>⟧ part D.Entries deserializer
+        ⟦<Entry as Archive>⟧ result }
 {
     let p0 = part_of_variant::<ArchivedEntry, ArchivedU64>(part, 0, 0, 8);
     let a0 = read_part::<ArchivedU64, u64, D>(alloc, p0, deserializer)?;
@@ -867,10 +857,8 @@ fn read_entry_sub<D: Entries>(
 ) -> Result<Entry, Error>
     requires viewed { IsPartOf ⟦<ArchivedEntry as ArchivePointee>⟧ part }
     requires tag { part_tag part ≡ 1 }
-    ensures read { IfOk result (Read ⟦<ArchivedEntry as ArchivePointee>⟧ part D.Entries deserializer
-        ⟦<Entry as Archive>⟧) }
-    ensures refused { IfErr result (RefusesPart ⟦<ArchivedEntry as ArchivePointee>⟧ part D.Entries
-        deserializer) }
+    ensures { ReadsAs ⟦<ArchivedEntry as ArchivePointee>⟧ part D.Entries deserializer
+        ⟦<Entry as Archive>⟧ result }
 {
     let p0 = part_of_variant::<ArchivedEntry, ArchivedBox<ArchivedDir>>(part, 1, 0, 4);
     let a0 = read_box_dir(alloc, p0, deserializer)?;
@@ -885,10 +873,8 @@ fn read_entry<D: Entries>(
     deserializer: &mut D,
 ) -> Result<Entry, Error>
     requires { IsPartOf ⟦<ArchivedEntry as ArchivePointee>⟧ part }
-    ensures read { IfOk result (Read ⟦<ArchivedEntry as ArchivePointee>⟧ part D.Entries deserializer
-        ⟦<Entry as Archive>⟧) }
-    ensures refused { IfErr result (RefusesPart ⟦<ArchivedEntry as ArchivePointee>⟧ part D.Entries
-        deserializer) }
+    ensures { ReadsAs ⟦<ArchivedEntry as ArchivePointee>⟧ part D.Entries deserializer
+        ⟦<Entry as Archive>⟧ result }
 {
     match tag_of_choice::<ArchivedEntry>(part) {
         0 => read_entry_file(alloc, part, deserializer),
@@ -904,10 +890,8 @@ impl<D: Entries> Deserialize<Entry, D> for ArchivedEntry {
         deserializer: &mut D,
     ) -> Result<Entry, Error>
         requires { IsPartOf ⟦<Self as ArchivePointee>⟧ part }
-        ensures read { IfOk result (Read ⟦<Self as ArchivePointee>⟧ part D.Entries deserializer
-            ⟦<Entry as Archive>⟧) }
-        ensures refused { IfErr result (RefusesPart ⟦<Self as ArchivePointee>⟧ part D.Entries
-            deserializer) }
+        ensures { ReadsAs ⟦<Self as ArchivePointee>⟧ part D.Entries deserializer
+            ⟦<Entry as Archive>⟧ result }
     {
         read_entry(alloc, part, deserializer)
     }

@@ -23,10 +23,10 @@ ghost use Rattle.archive_core.specs.PlannedOwners.{one_planned};
 ghost use Rattle.archive_core.specs.Plans.{Serialized};
 ghost use Rattle.archive_core.specs.Runs.{EachBelongs, IsRunRefused, SerializedRun, each_flat, each_keys, each_meaning};
 ghost use Rattle.archive_core.specs.SealsWritten.{IsSealOf, SealsPart, seal_tag};
-ghost use Rattle.archive_core.specs.Seen.{IsPartOf, RefusesPart, ShowsValueOf, part_tag, tag_of};
+ghost use Rattle.archive_core.specs.Seen.{IsPartOf, ShowsValueOf, part_tag, tag_of};
 ghost use Rattle.archive_core.specs.SelfCheck.Laws.{by_schema};
 ghost use Rattle.archive_core.specs.Shape.{boxed, one, part, parts, variant, vec};
-ghost use Rattle.archive_core.specs.Sources.{Read};
+ghost use Rattle.archive_core.specs.Sources.{ReadsAs};
 ghost use Rattle.archive_core.specs.Value.{case, no_value, value};
 ghost use Rattle.archive_core.specs.Writing.{ZeroedPlace};
 ghost use Rattle.archive_core.specs.Written.{GoesOn};
@@ -495,10 +495,8 @@ fn read_box_expr<D: Entries>(
     deserializer: &mut D,
 ) -> Result<Box<Expr>, Error>
     requires { IsPartOf ⟦<ArchivedBox<ArchivedExpr> as ArchivePointee>⟧ part }
-    ensures read { IfOk result (Read ⟦<ArchivedBox<ArchivedExpr> as ArchivePointee>⟧ part D.Entries
-        deserializer ⟦<Box<Expr> as Archive>⟧) }
-    ensures refused { IfErr result (RefusesPart ⟦<ArchivedBox<ArchivedExpr> as ArchivePointee>⟧ part
-        D.Entries deserializer) }
+    ensures { ReadsAs ⟦<ArchivedBox<ArchivedExpr> as ArchivePointee>⟧ part D.Entries deserializer
+        ⟦<Box<Expr> as Archive>⟧ result }
 {
     let view: Ref<'_, ArchivedBox<ArchivedExpr>> = Ref::at(part);
     let value = read_expr(alloc, before_box(view).part(), deserializer)?;
@@ -514,10 +512,8 @@ fn read_vec_expr<D: Entries>(
     deserializer: &mut D,
 ) -> Result<Vec<Expr>, Error>
     requires { IsPartOf ⟦<ArchivedVec<ArchivedExpr> as ArchivePointee>⟧ part }
-    ensures read { IfOk result (Read ⟦<ArchivedVec<ArchivedExpr> as ArchivePointee>⟧ part D.Entries
-        deserializer ⟦<Vec<Expr> as Archive>⟧) }
-    ensures refused { IfErr result (RefusesPart ⟦<ArchivedVec<ArchivedExpr> as ArchivePointee>⟧ part
-        D.Entries deserializer) }
+    ensures { ReadsAs ⟦<ArchivedVec<ArchivedExpr> as ArchivePointee>⟧ part D.Entries deserializer
+        ⟦<Vec<Expr> as Archive>⟧ result }
 {
     let view: Ref<'_, ArchivedVec<ArchivedExpr>> = Ref::at(part);
     let list = before_vec(view);
@@ -538,10 +534,8 @@ fn read_expr_num<D: Entries>(
 ) -> Result<Expr, Error>
     requires viewed { IsPartOf ⟦<ArchivedExpr as ArchivePointee>⟧ part }
     requires tag { part_tag part ≡ 0 }
-    ensures read { IfOk result (Read ⟦<ArchivedExpr as ArchivePointee>⟧ part D.Entries deserializer
-        ⟦<Expr as Archive>⟧) }
-    ensures refused { IfErr result (RefusesPart ⟦<ArchivedExpr as ArchivePointee>⟧ part D.Entries
-        deserializer) }
+    ensures { ReadsAs ⟦<ArchivedExpr as ArchivePointee>⟧ part D.Entries deserializer
+        ⟦<Expr as Archive>⟧ result }
 {
     let p0 = part_of_variant::<ArchivedExpr, ArchivedI64>(part, 0, 0, 8);
     let a0 = read_part::<ArchivedI64, i64, D>(alloc, p0, deserializer)?;
@@ -557,10 +551,8 @@ fn read_expr_add<D: Entries>(
 ) -> Result<Expr, Error>
     requires viewed { IsPartOf ⟦<ArchivedExpr as ArchivePointee>⟧ part }
     requires tag { part_tag part ≡ 1 }
-    ensures read { IfOk result (Read ⟦<ArchivedExpr as ArchivePointee>⟧ part D.Entries deserializer
-        ⟦<Expr as Archive>⟧) }
-    ensures refused { IfErr result (RefusesPart ⟦<ArchivedExpr as ArchivePointee>⟧ part D.Entries
-        deserializer) }
+    ensures { ReadsAs ⟦<ArchivedExpr as ArchivePointee>⟧ part D.Entries deserializer
+        ⟦<Expr as Archive>⟧ result }
 {
     let p0 = part_of_variant::<ArchivedExpr, ArchivedBox<ArchivedExpr>>(part, 1, 0, 4);
     let a0 = read_box_expr(alloc, p0, deserializer)?;
@@ -578,10 +570,8 @@ fn read_expr_call<D: Entries>(
 ) -> Result<Expr, Error>
     requires viewed { IsPartOf ⟦<ArchivedExpr as ArchivePointee>⟧ part }
     requires tag { part_tag part ≡ 2 }
-    ensures read { IfOk result (Read ⟦<ArchivedExpr as ArchivePointee>⟧ part D.Entries deserializer
-        ⟦<Expr as Archive>⟧) }
-    ensures refused { IfErr result (RefusesPart ⟦<ArchivedExpr as ArchivePointee>⟧ part D.Entries
-        deserializer) }
+    ensures { ReadsAs ⟦<ArchivedExpr as ArchivePointee>⟧ part D.Entries deserializer
+        ⟦<Expr as Archive>⟧ result }
 {
     let p0 = part_of_variant::<ArchivedExpr, ArchivedString>(part, 2, 0, 4);
     let a0 = read_part::<ArchivedString, String, D>(alloc, p0, deserializer)?;
@@ -598,10 +588,8 @@ fn read_expr<D: Entries>(
     deserializer: &mut D,
 ) -> Result<Expr, Error>
     requires { IsPartOf ⟦<ArchivedExpr as ArchivePointee>⟧ part }
-    ensures read { IfOk result (Read ⟦<ArchivedExpr as ArchivePointee>⟧ part D.Entries deserializer
-        ⟦<Expr as Archive>⟧) }
-    ensures refused { IfErr result (RefusesPart ⟦<ArchivedExpr as ArchivePointee>⟧ part D.Entries
-        deserializer) }
+    ensures { ReadsAs ⟦<ArchivedExpr as ArchivePointee>⟧ part D.Entries deserializer
+        ⟦<Expr as Archive>⟧ result }
 {
     match tag_of_choice::<ArchivedExpr>(part) {
         0 => read_expr_num(alloc, part, deserializer),
@@ -618,10 +606,8 @@ impl<D: Entries> Deserialize<Expr, D> for ArchivedExpr {
         deserializer: &mut D,
     ) -> Result<Expr, Error>
         requires { IsPartOf ⟦<Self as ArchivePointee>⟧ part }
-        ensures read { IfOk result (Read ⟦<Self as ArchivePointee>⟧ part D.Entries deserializer
-            ⟦<Expr as Archive>⟧) }
-        ensures refused { IfErr result (RefusesPart ⟦<Self as ArchivePointee>⟧ part D.Entries
-            deserializer) }
+        ensures { ReadsAs ⟦<Self as ArchivePointee>⟧ part D.Entries deserializer ⟦<Expr as Archive>⟧
+            result }
     {
         read_expr(alloc, part, deserializer)
     }

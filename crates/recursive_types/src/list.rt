@@ -22,7 +22,7 @@ ghost use Rattle.archive_core.specs.PlannedOwners.{one_planned};
 ghost use Rattle.archive_core.specs.SealsWritten.{IsSealOf, SealsPart, seal_tag};
 ghost use Rattle.archive_core.specs.Seen.{IsPartOf, RefusesPart, ShowsValueOf, part_tag, tag_of};
 ghost use Rattle.archive_core.specs.Shape.{one, part, parts, variant, vec};
-ghost use Rattle.archive_core.specs.Sources.{Read};
+ghost use Rattle.archive_core.specs.Sources.{ReadsAs};
 ghost use Rattle.archive_core.specs.Value.{case, no_value, value};
 ghost use Rattle.archive_core.specs.Writing.{ZeroedPlace};
 ghost use Rattle.archive_core.specs.Written.{GoesOn};
@@ -394,10 +394,8 @@ fn read_list_nil<D: Entries>(
 ) -> Result<List, Error>
     requires viewed { IsPartOf ⟦<ArchivedList as ArchivePointee>⟧ part }
     requires tag { part_tag part ≡ 0 }
-    ensures read { IfOk result (Read ⟦<ArchivedList as ArchivePointee>⟧ part D.Entries _deserializer
-        ⟦<List as Archive>⟧) }
-    ensures refused { IfErr result (RefusesPart ⟦<ArchivedList as ArchivePointee>⟧ part D.Entries
-        _deserializer) }
+    ensures { ReadsAs ⟦<ArchivedList as ArchivePointee>⟧ part D.Entries _deserializer
+        ⟦<List as Archive>⟧ result }
 {
     Ok(List::Nil)
 }
@@ -471,10 +469,8 @@ impl<D: Entries> Deserialize<List, D> for ArchivedList {
         deserializer: &mut D,
     ) -> Result<List, Error>
         requires { IsPartOf ⟦<Self as ArchivePointee>⟧ part }
-        ensures read { IfOk result (Read ⟦<Self as ArchivePointee>⟧ part D.Entries deserializer
-            ⟦<List as Archive>⟧) }
-        ensures refused { IfErr result (RefusesPart ⟦<Self as ArchivePointee>⟧ part D.Entries
-            deserializer) }
+        ensures { ReadsAs ⟦<Self as ArchivePointee>⟧ part D.Entries deserializer ⟦<List as Archive>⟧
+            result }
     {
         read_chain::<ArchivedList, List, D>(alloc, part, deserializer)
     }

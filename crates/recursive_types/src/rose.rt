@@ -16,10 +16,10 @@ ghost use Rattle.archive_core.specs.PlannedOwners.{one_planned};
 ghost use Rattle.archive_core.specs.Plans.{Serialized};
 ghost use Rattle.archive_core.specs.Runs.{EachBelongs, IsRunRefused, SerializedRun, each_flat, each_keys, each_meaning};
 ghost use Rattle.archive_core.specs.SealsWritten.{IsSealOf, SealsPart};
-ghost use Rattle.archive_core.specs.Seen.{IsPartOf, RefusesPart, ShowsValueOf};
+ghost use Rattle.archive_core.specs.Seen.{IsPartOf, ShowsValueOf};
 ghost use Rattle.archive_core.specs.SelfCheck.Laws.{by_schema};
 ghost use Rattle.archive_core.specs.Shape.{one, part, parts, vec};
-ghost use Rattle.archive_core.specs.Sources.{Read};
+ghost use Rattle.archive_core.specs.Sources.{ReadsAs};
 ghost use Rattle.archive_core.specs.Value.{value};
 ghost use Rattle.archive_core.specs.Writing.{ZeroedPlace};
 ghost use Rattle.archive_core.specs.Written.{GoesOn};
@@ -330,10 +330,8 @@ fn read_vec_rose<D: Entries>(
     deserializer: &mut D,
 ) -> Result<Vec<Rose>, Error>
     requires { IsPartOf ⟦<ArchivedVec<ArchivedRose> as ArchivePointee>⟧ part }
-    ensures read { IfOk result (Read ⟦<ArchivedVec<ArchivedRose> as ArchivePointee>⟧ part D.Entries
-        deserializer ⟦<Vec<Rose> as Archive>⟧) }
-    ensures refused { IfErr result (RefusesPart ⟦<ArchivedVec<ArchivedRose> as ArchivePointee>⟧ part
-        D.Entries deserializer) }
+    ensures { ReadsAs ⟦<ArchivedVec<ArchivedRose> as ArchivePointee>⟧ part D.Entries deserializer
+        ⟦<Vec<Rose> as Archive>⟧ result }
 {
     let view: Ref<'_, ArchivedVec<ArchivedRose>> = Ref::at(part);
     let list = before_vec(view);
@@ -353,10 +351,8 @@ fn read_rose<D: Entries>(
     deserializer: &mut D,
 ) -> Result<Rose, Error>
     requires { IsPartOf ⟦<ArchivedRose as ArchivePointee>⟧ part }
-    ensures read { IfOk result (Read ⟦<ArchivedRose as ArchivePointee>⟧ part D.Entries deserializer
-        ⟦<Rose as Archive>⟧) }
-    ensures refused { IfErr result (RefusesPart ⟦<ArchivedRose as ArchivePointee>⟧ part D.Entries
-        deserializer) }
+    ensures { ReadsAs ⟦<ArchivedRose as ArchivePointee>⟧ part D.Entries deserializer
+        ⟦<Rose as Archive>⟧ result }
 {
     let p0 = part_of_record::<ArchivedRose, ArchivedU32>(part, 0, 0);
     let a0 = read_part::<ArchivedU32, u32, D>(alloc, p0, deserializer)?;
@@ -373,10 +369,8 @@ impl<D: Entries> Deserialize<Rose, D> for ArchivedRose {
         deserializer: &mut D,
     ) -> Result<Rose, Error>
         requires { IsPartOf ⟦<Self as ArchivePointee>⟧ part }
-        ensures read { IfOk result (Read ⟦<Self as ArchivePointee>⟧ part D.Entries deserializer
-            ⟦<Rose as Archive>⟧) }
-        ensures refused { IfErr result (RefusesPart ⟦<Self as ArchivePointee>⟧ part D.Entries
-            deserializer) }
+        ensures { ReadsAs ⟦<Self as ArchivePointee>⟧ part D.Entries deserializer ⟦<Rose as Archive>⟧
+            result }
     {
         read_rose(alloc, part, deserializer)
     }

@@ -24,10 +24,10 @@ ghost use Rattle.archive_core.specs.Hollow.{option_at};
 ghost use Rattle.archive_core.specs.PlannedOwners.{one_planned};
 ghost use Rattle.archive_core.specs.Plans.{Serialized};
 ghost use Rattle.archive_core.specs.SealsWritten.{IsSealOf, SealsPart};
-ghost use Rattle.archive_core.specs.Seen.{IsPartOf, RefusesPart, ShowsValueOf};
+ghost use Rattle.archive_core.specs.Seen.{IsPartOf, ShowsValueOf};
 ghost use Rattle.archive_core.specs.SelfCheck.Laws.{by_schema};
 ghost use Rattle.archive_core.specs.Shape.{boxed, one, part, parts, vec};
-ghost use Rattle.archive_core.specs.Sources.{Read};
+ghost use Rattle.archive_core.specs.Sources.{ReadsAs};
 ghost use Rattle.archive_core.specs.Value.{value};
 ghost use Rattle.archive_core.specs.Writing.{ZeroedPlace};
 ghost use Rattle.archive_core.specs.Written.{GoesOn};
@@ -333,10 +333,8 @@ fn read_box_search<D: Entries>(
     deserializer: &mut D,
 ) -> Result<Box<Search>, Error>
     requires { IsPartOf ⟦<ArchivedBox<ArchivedSearch> as ArchivePointee>⟧ part }
-    ensures read { IfOk result (Read ⟦<ArchivedBox<ArchivedSearch> as ArchivePointee>⟧ part
-        D.Entries deserializer ⟦<Box<Search> as Archive>⟧) }
-    ensures refused { IfErr result (RefusesPart ⟦<ArchivedBox<ArchivedSearch> as ArchivePointee>⟧
-        part D.Entries deserializer) }
+    ensures { ReadsAs ⟦<ArchivedBox<ArchivedSearch> as ArchivePointee>⟧ part D.Entries deserializer
+        ⟦<Box<Search> as Archive>⟧ result }
 {
     let view: Ref<'_, ArchivedBox<ArchivedSearch>> = Ref::at(part);
     let value = read_search(alloc, before_box(view).part(), deserializer)?;
@@ -352,11 +350,8 @@ fn read_option_box_search<D: Entries>(
     deserializer: &mut D,
 ) -> Result<Option<Box<Search>>, Error>
     requires { IsPartOf ⟦<ArchivedOption<ArchivedBox<ArchivedSearch>> as ArchivePointee>⟧ part }
-    ensures read { IfOk result (Read ⟦<ArchivedOption<ArchivedBox<ArchivedSearch>> as ArchivePointee>⟧
-        part D.Entries deserializer ⟦<Option<Box<Search>> as Archive>⟧) }
-    ensures refused { IfErr result
-        (RefusesPart ⟦<ArchivedOption<ArchivedBox<ArchivedSearch>> as ArchivePointee>⟧ part
-        D.Entries deserializer) }
+    ensures { ReadsAs ⟦<ArchivedOption<ArchivedBox<ArchivedSearch>> as ArchivePointee>⟧ part
+        D.Entries deserializer ⟦<Option<Box<Search>> as Archive>⟧ result }
 {
     let view: Ref<'_, ArchivedOption<ArchivedBox<ArchivedSearch>>> = Ref::at(part);
     match view.as_ref() {
@@ -376,10 +371,8 @@ fn read_search<D: Entries>(
     deserializer: &mut D,
 ) -> Result<Search, Error>
     requires { IsPartOf ⟦<ArchivedSearch as ArchivePointee>⟧ part }
-    ensures read { IfOk result (Read ⟦<ArchivedSearch as ArchivePointee>⟧ part D.Entries
-        deserializer ⟦<Search as Archive>⟧) }
-    ensures refused { IfErr result (RefusesPart ⟦<ArchivedSearch as ArchivePointee>⟧ part D.Entries
-        deserializer) }
+    ensures { ReadsAs ⟦<ArchivedSearch as ArchivePointee>⟧ part D.Entries deserializer
+        ⟦<Search as Archive>⟧ result }
 {
     let p0 = part_of_record::<ArchivedSearch, ArchivedOption<ArchivedBox<ArchivedSearch>>>(
         part, 0, 0,
@@ -406,10 +399,8 @@ impl<D: Entries> Deserialize<Search, D> for ArchivedSearch {
         deserializer: &mut D,
     ) -> Result<Search, Error>
         requires { IsPartOf ⟦<Self as ArchivePointee>⟧ part }
-        ensures read { IfOk result (Read ⟦<Self as ArchivePointee>⟧ part D.Entries deserializer
-            ⟦<Search as Archive>⟧) }
-        ensures refused { IfErr result (RefusesPart ⟦<Self as ArchivePointee>⟧ part D.Entries
-            deserializer) }
+        ensures { ReadsAs ⟦<Self as ArchivePointee>⟧ part D.Entries deserializer
+            ⟦<Search as Archive>⟧ result }
     {
         read_search(alloc, part, deserializer)
     }

@@ -21,10 +21,10 @@ ghost use Rattle.archive_core.specs.PlannedOwners.{one_planned};
 ghost use Rattle.archive_core.specs.Plans.{Serialized};
 ghost use Rattle.archive_core.specs.Runs.{EachBelongs, IsRunRefused, SerializedRun, each_flat, each_keys, each_meaning};
 ghost use Rattle.archive_core.specs.SealsWritten.{IsSealOf, SealsPart};
-ghost use Rattle.archive_core.specs.Seen.{IsPartOf, RefusesPart, ShowsValueOf};
+ghost use Rattle.archive_core.specs.Seen.{IsPartOf, ShowsValueOf};
 ghost use Rattle.archive_core.specs.SelfCheck.Laws.{by_schema};
 ghost use Rattle.archive_core.specs.Shape.{one, part, parts, vec};
-ghost use Rattle.archive_core.specs.Sources.{Read};
+ghost use Rattle.archive_core.specs.Sources.{ReadsAs};
 ghost use Rattle.archive_core.specs.Value.{value};
 ghost use Rattle.archive_core.specs.Writing.{ZeroedPlace};
 ghost use Rattle.archive_core.specs.Written.{GoesOn};
@@ -335,10 +335,8 @@ fn read_vec_tree<D: Entries>(
     deserializer: &mut D,
 ) -> Result<Vec<Tree>, Error>
     requires { IsPartOf ⟦<ArchivedVec<ArchivedTree> as ArchivePointee>⟧ part }
-    ensures read { IfOk result (Read ⟦<ArchivedVec<ArchivedTree> as ArchivePointee>⟧ part D.Entries
-        deserializer ⟦<Vec<Tree> as Archive>⟧) }
-    ensures refused { IfErr result (RefusesPart ⟦<ArchivedVec<ArchivedTree> as ArchivePointee>⟧ part
-        D.Entries deserializer) }
+    ensures { ReadsAs ⟦<ArchivedVec<ArchivedTree> as ArchivePointee>⟧ part D.Entries deserializer
+        ⟦<Vec<Tree> as Archive>⟧ result }
 {
     let view: Ref<'_, ArchivedVec<ArchivedTree>> = Ref::at(part);
     let list = before_vec(view);
@@ -358,10 +356,8 @@ fn read_tree<D: Entries>(
     deserializer: &mut D,
 ) -> Result<Tree, Error>
     requires { IsPartOf ⟦<ArchivedTree as ArchivePointee>⟧ part }
-    ensures read { IfOk result (Read ⟦<ArchivedTree as ArchivePointee>⟧ part D.Entries deserializer
-        ⟦<Tree as Archive>⟧) }
-    ensures refused { IfErr result (RefusesPart ⟦<ArchivedTree as ArchivePointee>⟧ part D.Entries
-        deserializer) }
+    ensures { ReadsAs ⟦<ArchivedTree as ArchivePointee>⟧ part D.Entries deserializer
+        ⟦<Tree as Archive>⟧ result }
 {
     let p0 = part_of_record::<ArchivedTree, ArchivedU32>(part, 0, 0);
     let a0 = read_part::<ArchivedU32, u32, D>(alloc, p0, deserializer)?;
@@ -381,10 +377,8 @@ impl<D: Entries> Deserialize<Tree, D> for ArchivedTree {
         deserializer: &mut D,
     ) -> Result<Tree, Error>
         requires { IsPartOf ⟦<Self as ArchivePointee>⟧ part }
-        ensures read { IfOk result (Read ⟦<Self as ArchivePointee>⟧ part D.Entries deserializer
-            ⟦<Tree as Archive>⟧) }
-        ensures refused { IfErr result (RefusesPart ⟦<Self as ArchivePointee>⟧ part D.Entries
-            deserializer) }
+        ensures { ReadsAs ⟦<Self as ArchivePointee>⟧ part D.Entries deserializer ⟦<Tree as Archive>⟧
+            result }
     {
         read_tree(alloc, part, deserializer)
     }

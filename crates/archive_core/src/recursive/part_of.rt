@@ -1,12 +1,12 @@
 // The parts of a recursive value, where it is read back: which part stands where, and its value.
 
-ghost use Rattle.std.specs.Prelude.{◌≡◌, ◌+◌, ◌<◌, Some, IfOk, IfErr};
+ghost use Rattle.std.specs.Prelude.{◌≡◌, ◌+◌, ◌<◌, Some};
 ghost use Rattle.archive_check.specs.Members.PartsLayout.{definitions_at, part_at};
 ghost use Rattle.archive_check.specs.Members.VariantsLayout.{payload_at, payload_definitions};
 ghost use Rattle.archive_core.specs.fields.Plain.{variant_count};
 ghost use Rattle.archive_types.specs.Members.KnownParts.{KnowsAlso};
-ghost use Rattle.archive_types.specs.Words.Seen.{IsPartOf, RefusesPart, part_tag};
-ghost use Rattle.archive_types.specs.Words.Sources.{Read};
+ghost use Rattle.archive_types.specs.Words.Seen.{IsPartOf, part_tag};
+ghost use Rattle.archive_types.specs.Words.Sources.{ReadsAs};
 
 use archive_check::format::error::Error;
 use archive_types::traits::{Archive, Choice, Deserialize, Entries, Portable, Record};
@@ -81,8 +81,7 @@ pub fn read_part<X: Deserialize<T, D>, T: Archive, D: Entries>(
     deserializer: &mut D,
 ) -> Result<T, Error>
     requires { IsPartOf X.ArchivePointee part }
-    ensures read { IfOk result (Read X.ArchivePointee part D.Entries deserializer T.Archive) }
-    ensures refused { IfErr result (RefusesPart X.ArchivePointee part D.Entries deserializer) }
+    ensures { ReadsAs X.ArchivePointee part D.Entries deserializer T.Archive result }
 {
     X::deserialize_part(alloc, part, deserializer)
 }

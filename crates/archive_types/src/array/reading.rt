@@ -1,8 +1,8 @@
 // The elements of an array are read back one after another.
 
-ghost use Rattle.std.specs.Prelude.{◌≡◌, IfOk, IfErr};
-ghost use Rattle.archive_types.specs.Words.Seen.{IsPartOf, RefusesPart};
-ghost use Rattle.archive_types.specs.Words.Sources.{Read};
+ghost use Rattle.std.specs.Prelude.{◌≡◌};
+ghost use Rattle.archive_types.specs.Words.Seen.{IsPartOf};
+ghost use Rattle.archive_types.specs.Words.Sources.{ReadsAs};
 
 use super::owned::OwnedArray;
 use crate::slice::read_each;
@@ -23,10 +23,8 @@ impl<T: Portable + Deserialize<U, D>, U: Archive + Drop, D: Entries, const N: us
         deserializer: &mut D,
     ) -> Result<OwnedArray<U, N>, Error>
         requires { IsPartOf ⟦<Self as ArchivePointee>⟧ part }
-        ensures read { IfOk result (Read ⟦<Self as ArchivePointee>⟧ part D.Entries deserializer
-            ⟦<OwnedArray<U, N> as Archive>⟧) }
-        ensures refused { IfErr result (RefusesPart ⟦<Self as ArchivePointee>⟧ part D.Entries
-            deserializer) }
+        ensures { ReadsAs ⟦<Self as ArchivePointee>⟧ part D.Entries deserializer
+            ⟦<OwnedArray<U, N> as Archive>⟧ result }
     {
         let items = read_each::<T, U, D>(alloc, part, N, deserializer)?;
         Ok(OwnedArray { items })

@@ -1,12 +1,12 @@
 // Boxes are read back.
 
-ghost use Rattle.std.specs.Prelude.{◌≡◌, IfOk, IfErr};
+ghost use Rattle.std.specs.Prelude.{◌≡◌};
 ghost use Rattle.archive_check.specs.Shape.{one, boxed};
 ghost use Rattle.archive_check.specs.Value.{box};
 ghost use Rattle.archive_check.specs.Viewed.{Viewed};
 ghost use Rattle.archive_check.specs.Entries.{ReadsBack, RefusesReading};
-ghost use Rattle.archive_types.specs.Words.Seen.{IsPartOf, RefusesPart};
-ghost use Rattle.archive_types.specs.Words.Sources.{Read};
+ghost use Rattle.archive_types.specs.Words.Seen.{IsPartOf};
+ghost use Rattle.archive_types.specs.Words.Sources.{ReadsAs};
 
 use super::ArchivedBox;
 use crate::traits::{Archive, ArchivePointee, Deserialize, Entries, PortablePointee};
@@ -23,10 +23,8 @@ impl<T: PortablePointee + Deserialize<U, D>, U: Archive + Drop, D: Entries> Dese
         deserializer: &mut D,
     ) -> Result<Box<U>, Error>
         requires { IsPartOf ⟦<Self as ArchivePointee>⟧ part }
-        ensures read { IfOk result (Read ⟦<Self as ArchivePointee>⟧ part D.Entries deserializer
-            ⟦<Box<U> as Archive>⟧) }
-        ensures refused { IfErr result (RefusesPart ⟦<Self as ArchivePointee>⟧ part D.Entries
-            deserializer) }
+        ensures { ReadsAs ⟦<Self as ArchivePointee>⟧ part D.Entries deserializer
+            ⟦<Box<U> as Archive>⟧ result }
     {
         let view: Ref<'_, ArchivedBox<T>> = Ref::at(part);
         let value = T::deserialize_part(alloc, view.get().part(), deserializer)?;

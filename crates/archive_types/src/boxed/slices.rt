@@ -17,8 +17,8 @@ ghost use Rattle.archive_types.specs.Members.Planned.{text_planned};
 ghost use Rattle.archive_types.specs.Members.PlannedOwners.{box_planned, one_planned, slice_planned};
 ghost use Rattle.archive_types.specs.Plans.{Serialized};
 ghost use Rattle.archive_types.specs.Runs.{each_keys, each_meaning};
-ghost use Rattle.archive_types.specs.Words.Seen.{IsPartOf, RefusesPart};
-ghost use Rattle.archive_types.specs.Words.Sources.{Read};
+ghost use Rattle.archive_types.specs.Words.Seen.{IsPartOf};
+ghost use Rattle.archive_types.specs.Words.Sources.{Read, ReadsAs};
 ghost use Rattle.archive_types.specs.Writing.{ZeroedPlace, Resolves, to_pointee};
 ghost use Rattle.archive_write.specs.Written.{GoesOn};
 ghost use Rattle.archive_types.specs.Outcomes.{ResolvesAs};
@@ -179,10 +179,8 @@ impl<T: Portable + Deserialize<U, D>, U: Archive + Drop, D: Entries> Deserialize
         deserializer: &mut D,
     ) -> Result<BoxSlice<U>, Error>
         requires { IsPartOf ⟦<Self as ArchivePointee>⟧ part }
-        ensures read { IfOk result (Read ⟦<Self as ArchivePointee>⟧ part D.Entries deserializer
-            ⟦<BoxSlice<U> as Archive>⟧) }
-        ensures refused { IfErr result (RefusesPart ⟦<Self as ArchivePointee>⟧ part D.Entries
-            deserializer) }
+        ensures { ReadsAs ⟦<Self as ArchivePointee>⟧ part D.Entries deserializer
+            ⟦<BoxSlice<U> as Archive>⟧ result }
     {
         let view: Ref<'_, ArchivedBox<ArchivedSlice<T>>> = Ref::at(part);
         let items = read_elements::<T, U, D>(alloc, view.get().part(), deserializer)?;

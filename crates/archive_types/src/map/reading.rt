@@ -7,7 +7,7 @@ ghost use Rattle.archive_check.specs.declared.format.error.Error.TheVariants.{Ou
 ghost use Rattle.archive_types.specs.MapPairs.{pair_meaning, pair_keys};
 ghost use Rattle.archive_types.specs.Runs.{each_meaning, each_keys};
 ghost use Rattle.archive_types.specs.Words.Seen.{IsPartOf, ReadsPart, RefusesPart};
-ghost use Rattle.archive_types.specs.Words.Sources.{Read};
+ghost use Rattle.archive_types.specs.Words.Sources.{ReadsAs};
 
 use super::ArchivedSortedMap;
 use super::sorted_keys::SortedKey;
@@ -68,10 +68,8 @@ where
         deserializer: &mut D,
     ) -> Result<BTreeMap<A, B>, Error>
         requires { IsPartOf ⟦<Self as ArchivePointee>⟧ part }
-        ensures read { IfOk result (Read ⟦<Self as ArchivePointee>⟧ part D.Entries deserializer
-            ⟦<BTreeMap<A, B> as Archive>⟧) }
-        ensures refused { IfErr result (RefusesPart ⟦<Self as ArchivePointee>⟧ part D.Entries
-            deserializer) }
+        ensures { ReadsAs ⟦<Self as ArchivePointee>⟧ part D.Entries deserializer
+            ⟦<BTreeMap<A, B> as Archive>⟧ result }
     {
         read_map::<K, V, A, B, D>(alloc, part, deserializer)
     }

@@ -9,8 +9,8 @@ ghost use Rattle.archive_check.specs.Entries.{ReadsBack, RefusesReading};
 ghost use Rattle.archive_types.specs.ElementsRead.{ReadsEach, RefusesEach};
 ghost use Rattle.archive_types.specs.FirstRead.{AreFirstRead};
 ghost use Rattle.archive_types.specs.Runs.{each_meaning, each_keys};
-ghost use Rattle.archive_types.specs.Words.Seen.{IsPartOf, RefusesPart};
-ghost use Rattle.archive_types.specs.Words.Sources.{Read, AreElementsOf, ReadsElements, RefusesElements};
+ghost use Rattle.archive_types.specs.Words.Seen.{IsPartOf};
+ghost use Rattle.archive_types.specs.Words.Sources.{AreElementsOf, ReadsAs, ReadsElements, RefusesElements};
 ghost use Rattle.archive_types.specs.Views.{AreViewed};
 
 use super::ArchivedSlice;
@@ -91,10 +91,8 @@ impl<T: Portable + Deserialize<U, D>, U: Archive + Drop, D: Entries> Deserialize
         deserializer: &mut D,
     ) -> Result<Vec<U>, Error>
         requires { IsPartOf ⟦<Self as ArchivePointee>⟧ part }
-        ensures read { IfOk result (Read ⟦<Self as ArchivePointee>⟧ part D.Entries deserializer
-            ⟦<Vec<U> as Archive>⟧) }
-        ensures refused { IfErr result (RefusesPart ⟦<Self as ArchivePointee>⟧ part D.Entries
-            deserializer) }
+        ensures { ReadsAs ⟦<Self as ArchivePointee>⟧ part D.Entries deserializer
+            ⟦<Vec<U> as Archive>⟧ result }
     {
         read_elements::<T, U, D>(alloc, part, deserializer)
     }

@@ -1,9 +1,10 @@
 // One value as a pointee.
 
-ghost use Rattle.std.specs.Prelude.{◌≡◌, IfOk, IfErr};
+ghost use Rattle.std.specs.Prelude.{◌≡◌};
 ghost use Rattle.archive_check.specs.Viewed.{Viewed};
 ghost use Rattle.archive_check.specs.Entries.{ReadsBack, RefusesReading};
-ghost use Rattle.archive_types.specs.Words.Seen.{IsPartOf, ReadsPart, RefusesPart};
+ghost use Rattle.archive_types.specs.Words.Seen.{IsPartOf};
+ghost use Rattle.archive_types.specs.Words.Sources.{ReadsAs};
 
 use super::{Archive, Deserialize, DeserializeUnsized, Entries, Portable};
 use crate::view::RawView;
@@ -18,9 +19,7 @@ impl<T: Portable + Deserialize<U, D>, U: Archive, D: Entries> DeserializeUnsized
         deserializer: &mut D,
     ) -> Result<U, Error>
         requires { IsPartOf T.ArchivePointee part }
-        ensures read { IfOk result (λ t. ReadsPart T.ArchivePointee part D.Entries deserializer
-            (U.meaning t) (U.keys t)) }
-        ensures refused { IfErr result (RefusesPart T.ArchivePointee part D.Entries deserializer) }
+        ensures { ReadsAs T.ArchivePointee part D.Entries deserializer U.Archive result }
     {
         T::deserialize_part(alloc, part, deserializer)
     }

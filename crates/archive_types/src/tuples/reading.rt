@@ -1,8 +1,7 @@
 // Tuples are read back: from their parts, one after another.
 
-ghost use Rattle.std.specs.Prelude.{IfOk, IfErr};
-ghost use Rattle.archive_types.specs.Words.Seen.{IsPartOf, RefusesPart};
-ghost use Rattle.archive_types.specs.Words.Sources.{Read};
+ghost use Rattle.archive_types.specs.Words.Seen.{IsPartOf};
+ghost use Rattle.archive_types.specs.Words.Sources.{ReadsAs};
 
 use crate::parts::{DeserializeParts, FromParts};
 use crate::record::deserialize_record;
@@ -19,10 +18,7 @@ where
     #[inline(always)]
     fn deserialize_part(alloc: Global, part: RawView<'_>, deserializer: &mut D) -> Result<T, Error>
         requires { IsPartOf ⟦<Self as ArchivePointee>⟧ part }
-        ensures read { IfOk result (Read ⟦<Self as ArchivePointee>⟧ part D.Entries deserializer
-            T.Archive) }
-        ensures refused { IfErr result (RefusesPart ⟦<Self as ArchivePointee>⟧ part D.Entries
-            deserializer) }
+        ensures { ReadsAs ⟦<Self as ArchivePointee>⟧ part D.Entries deserializer T.Archive result }
     {
         let values = deserialize_record::<Self, T::Owned, D>(alloc, part, deserializer)?;
         Ok(T::from_parts(values))

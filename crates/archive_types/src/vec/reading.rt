@@ -1,13 +1,13 @@
 // Vectors are read back.
 
-ghost use Rattle.std.specs.Prelude.{◌≡◌, IfOk, IfErr};
+ghost use Rattle.std.specs.Prelude.{◌≡◌};
 ghost use Rattle.archive_check.specs.Shape.{one, vec as vec_shape};
 ghost use Rattle.archive_check.specs.Value.{list};
 ghost use Rattle.archive_check.specs.Viewed.{Viewed};
 ghost use Rattle.archive_check.specs.Entries.{ReadsBack, RefusesReading};
 ghost use Rattle.archive_types.specs.Runs.{each_meaning, each_keys};
-ghost use Rattle.archive_types.specs.Words.Seen.{IsPartOf, RefusesPart};
-ghost use Rattle.archive_types.specs.Words.Sources.{Read};
+ghost use Rattle.archive_types.specs.Words.Seen.{IsPartOf};
+ghost use Rattle.archive_types.specs.Words.Sources.{ReadsAs};
 
 use super::ArchivedVec;
 use crate::slice::read_elements;
@@ -25,10 +25,8 @@ impl<T: Portable + Deserialize<U, D>, U: Archive + Drop, D: Entries> Deserialize
         deserializer: &mut D,
     ) -> Result<Vec<U>, Error>
         requires { IsPartOf ⟦<Self as ArchivePointee>⟧ part }
-        ensures read { IfOk result (Read ⟦<Self as ArchivePointee>⟧ part D.Entries deserializer
-            ⟦<Vec<U> as Archive>⟧) }
-        ensures refused { IfErr result (RefusesPart ⟦<Self as ArchivePointee>⟧ part D.Entries
-            deserializer) }
+        ensures { ReadsAs ⟦<Self as ArchivePointee>⟧ part D.Entries deserializer
+            ⟦<Vec<U> as Archive>⟧ result }
     {
         let view: Ref<'_, ArchivedVec<T>> = Ref::at(part);
         let items = read_elements::<T, U, D>(alloc, view.as_slice().part(), deserializer)?;

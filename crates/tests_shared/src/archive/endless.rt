@@ -9,7 +9,7 @@ ghost use Rattle.archive_core.specs.SelfCheck.Laws.{by_schema};
 ghost use Rattle.archive_core.specs.VariantsLayout.{is_recursive_choice};
 ghost use Rattle.archive_core.specs.Viewed.{Viewed};
 ghost use Rattle.archive_core.specs.Seen.{RefusesPart};
-ghost use Rattle.archive_core.specs.Sources.{Read};
+ghost use Rattle.archive_core.specs.Sources.{ReadsAs};
 ghost use Rattle.tests_shared.specs.LoopShape.{loop_name, loop_shape, loop_choice, loop_definitions, loop_layout, loop_has_layout, loop_variants, knows_variants};
 
 use super::rc::Looping;
@@ -150,10 +150,8 @@ impl<D: Pooling<Shared<u32>>> Deserialize<u32, D> for ArchivedLoop {
         deserializer: &mut D,
     ) -> Result<u32, Error>
         requires { Viewed loop_definitions part.bytes.now part.pos (one loop_shape) part.len }
-        ensures read { IfOk result (Read ⟦<Self as ArchivePointee>⟧ part D.Entries deserializer
-            ⟦<u32 as Archive>⟧) }
-        ensures refused { IfErr result (RefusesPart ⟦<Self as ArchivePointee>⟧ part D.Entries
-            deserializer) }
+        ensures { ReadsAs ⟦<Self as ArchivePointee>⟧ part D.Entries deserializer ⟦<u32 as Archive>⟧
+            result }
     {
         follow(part, deserializer, part.bytes.len())
     }
