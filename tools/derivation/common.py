@@ -79,7 +79,7 @@ class Source:
         self.shares = any(formats.shares(type) for type in self.all_types)
         formats.use("archive_core::error", "Error")
         formats.use("archive_core::place", "Place")
-        formats.use("archive_core::shape", "Defs", "Expr")
+        formats.use("archive_core::shape", "Defs")
         formats.use("archive_core::traits", "Archive", "ArchivePointee", "Deserialize", "Portable", "Serialize")
         formats.use("archive_core::traits", "expr_of_record", "expr_of_choice")
         formats.use("archive_core::view", "RawView")
@@ -151,7 +151,7 @@ def portable(source, expr):
         {source.align}
     }}
 
-    fn expr(alloc: Global) -> Result<Expr, Error> {{
+    fn expr(alloc: Global) -> Result<archive_core::shape::Expr, Error> {{
         {expr}
     }}
 

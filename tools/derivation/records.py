@@ -240,10 +240,14 @@ def proofs(formats, declaration):
     if answers:
         out[f"proofs/{module}/{made.name}/Answers.antt"] = answers
     out[f"proofs/{module}/{impl}/deserialize_part/Answers.antt"] = f"""-- {WRITTEN}
+use Rattle.std.proofs.Common.{{rules}}
 use Rattle.{dotted}.{impl}.deserialize_part.Goals as goal
 
-pub returns-in-Ok-clause-read : goal.returns-in-Ok-clause-read
-returns-in-Ok-clause-read g c = rw (c.{made.name}.ensures.meaning, c.{made.name}.ensures.keys) c.in-Ok.ensures.read
+pub returns-in-Ok : goal.returns-in-Ok
+returns-in-Ok g c = record {{
+  read = rw (c.{made.name}.ensures.meaning, c.{made.name}.ensures.keys) c.in-Ok.ensures.read;
+  refused = search rules;
+}}
 """
     return out
 

@@ -25,8 +25,11 @@ SERIALIZED = """    ensures serialized {{ IfOk result (λ r. Serialized {D} {X} 
     ensures refused {{ IfErr result (IsRefused {D} {X} (⟦<{T} as Archive>⟧.keys {v}.now)
         (⟦<{T} as Archive>⟧.meaning {v}.now) (S.state serializer.old) (S.state serializer.new)) }}
 """
+# By its path: with a `use` of it, the toolchain finds no clause of the module unless `crates.txt` names `archive_check`, whose type it is.
+EXPR = "archive_core::shape::Expr"
 READ = """    requires {{ IsPartOf ⟦<{X} as ArchivePointee>⟧ part }}
-    ensures {{ ReadsAs ⟦<{X} as ArchivePointee>⟧ part D.Entries deserializer ⟦<{T} as Archive>⟧ result }}
+    ensures read {{ IfOk result (Read ⟦<{X} as ArchivePointee>⟧ part D.Entries deserializer ⟦<{T} as Archive>⟧) }}
+    ensures refused {{ IfErr result (RefusesPart ⟦<{X} as ArchivePointee>⟧ part D.Entries deserializer) }}
 """
 
 
@@ -48,7 +51,7 @@ def bring(it):
     f.use("archive_core::error", "Error")
     f.use("archive_core::place", "Place")
     f.use("archive_core::self_check", "BySchema")
-    f.use("archive_core::shape", "Defs", "Expr", "Pointee")
+    f.use("archive_core::shape", "Defs")
     f.use("archive_core::ser", "ResolverAlloc", "Writer", "serialize_one")
     f.use("archive_core::boxed", "BoxResolver", "serialize_inner")
     f.use("archive_core::vec", "VecResolver")
@@ -70,7 +73,7 @@ def bring(it):
     f.ghost("Value", "case", "product", "value", "no_value")
     f.ghost("Error.TheVariants", "OutOfMemory")
     f.ghost("Seen", "IsPartOf", "RefusesPart", "ReadsPart", "part_tag")
-    f.ghost("Sources", "ReadsAs")
+    f.ghost("Sources", "Read", "ReadsAs")
     f.ghost("CallOutcomes", "ResolvesAs")
     f.ghost("Causes", "IsRefused")
     f.ghost("Plans", "Serialized")
@@ -125,15 +128,15 @@ def pointee(it):
 def expression(it, type):
     """The expression of a part."""
     if it.terms.is_member(type):
-        return f'Expr::Named("{type.own.archived}")'
+        return f'{EXPR}::Named("{type.own.archived}")'
     if not it.terms.leads_back(type):
         return f"<{it.formats.archived(type)} as Portable>::expr(alloc)?"
     item = expression(it, type.args[0])
     if type.name == "Box":
-        return f"Expr::Box(Box::new(alloc, Pointee::One({item}))?)"
+        return f"{EXPR}::Box(Box::new(alloc, archive_core::shape::Pointee::One({item}))?)"
     if type.name in ("Option", "Shared"):
         return f"{type.name.lower()}_expression(alloc, {item})?"
-    return f"Expr::Vec(Box::new(alloc, {item})?)"
+    return f"{EXPR}::Vec(Box::new(alloc, {item})?)"
 
 
 def stands_for(it):
@@ -145,7 +148,7 @@ def stands_for(it):
             continue
         lets = "".join(statement(4, f"let {name} = ", expression(it, type), ";") for name, type in zip(case.names, case.types))
         out.append(f"""// The parts of `{case.name}`.
-fn {case.n}_expressions(alloc: Global) -> Result<Vec<Expr>, Error>
+fn {case.n}_expressions(alloc: Global) -> Result<Vec<{EXPR}>, Error>
     ensures shapes {{ IfOk result (λ list. shapes_in list.items ≡ {case.n}_parts) }}
     ensures refused {{ IfErr result (λ e. e ≡ OutOfMemory) }}
 {{
@@ -158,7 +161,7 @@ fn {case.n}_expressions(alloc: Global) -> Result<Vec<Expr>, Error>
         lets = "".join(f"    let v{case.tag} = {case.n}_expressions(alloc)?;\n" if case.count else f"    let v{case.tag} = vec![in alloc]?;\n" for case in it.cases)
         body = lets + statement(4, "let variants = ", Group("vec![in alloc; ", [f"v{case.tag}" for case in it.cases], "]?"), ";") + f'    Ok(choice_of("{it.archived}", variants))\n'
     out.append(f"""// What the name stands for.
-fn {n}_expression(alloc: Global) -> Result<Expr, Error>
+fn {n}_expression(alloc: Global) -> Result<{EXPR}, Error>
     ensures shape {{ IfOk result (λ e. shape_of e ≡ {n}_stands_for) }}
     ensures refused {{ IfErr result (λ e. e ≡ OutOfMemory) }}
 {{
@@ -189,7 +192,7 @@ def defining(it):
 def defining_all(family):
     calls = [f"    define_{it.n}(alloc, defs)" for it in family.members]
     return f"""// Adds what the names stand for.
-#[tactic(auto, using(archive_check::proofs::format::AddedDefinitions::joining))]
+#[tactic(auto, using(archive_core::proofs::AddedDefinitions::joining))]
 {added(f"define_{family.n}_family", f"{family.n}_definitions")}{{
 {"?;".join(f"{call_}{chr(10)}" if i == len(calls) - 1 else call_ for i, call_ in enumerate(calls)).replace("?;    ", f"?;{chr(10)}    ")}}}
 """
@@ -234,8 +237,8 @@ def portable(it):
         {it.align}
     }}
 
-    fn expr(_alloc: Global) -> Result<Expr, Error> {{
-        Ok(Expr::Named("{it.archived}"))
+    fn expr(_alloc: Global) -> Result<{EXPR}, Error> {{
+        Ok({EXPR}::Named("{it.archived}"))
     }}
 
     fn define(alloc: Global, defs: &mut Defs) -> Result<(), Error> {{{define}    }}

@@ -102,7 +102,7 @@ use archive_core::result::ArchivedResult;
 use archive_core::seal::{Seal, sealed_part_in_record};
 use archive_core::self_check::{RecordCheck, SelfCheck};
 use archive_core::ser::{ResolverAlloc, Writer, serialize_one};
-use archive_core::shape::{Defs, Expr};
+use archive_core::shape::Defs;
 use archive_core::slice::ArchivedSlice;
 use archive_core::string::{ArchivedStr, ArchivedString};
 use archive_core::traits::{
@@ -176,7 +176,7 @@ impl Portable for ArchivedNumbers {
         16
     }
 
-    fn expr(alloc: Global) -> Result<Expr, Error> {
+    fn expr(alloc: Global) -> Result<archive_core::shape::Expr, Error> {
         expr_of_record::<NumbersParts>(alloc)
     }
 
@@ -661,7 +661,7 @@ impl Portable for ArchivedOwners {
         4
     }
 
-    fn expr(alloc: Global) -> Result<Expr, Error> {
+    fn expr(alloc: Global) -> Result<archive_core::shape::Expr, Error> {
         expr_of_record::<OwnersParts>(alloc)
     }
 
@@ -1160,7 +1160,7 @@ impl Portable for ArchivedLists {
         8
     }
 
-    fn expr(alloc: Global) -> Result<Expr, Error> {
+    fn expr(alloc: Global) -> Result<archive_core::shape::Expr, Error> {
         expr_of_record::<ListsParts>(alloc)
     }
 
@@ -1541,7 +1541,7 @@ impl Portable for ArchivedEmpty {
         1
     }
 
-    fn expr(alloc: Global) -> Result<Expr, Error> {
+    fn expr(alloc: Global) -> Result<archive_core::shape::Expr, Error> {
         expr_of_record::<EmptyParts>(alloc)
     }
 
@@ -1743,7 +1743,7 @@ impl Portable for ArchivedUnnamed {
         4
     }
 
-    fn expr(alloc: Global) -> Result<Expr, Error> {
+    fn expr(alloc: Global) -> Result<archive_core::shape::Expr, Error> {
         expr_of_record::<UnnamedParts>(alloc)
     }
 

@@ -145,7 +145,7 @@ use archive_core::primitive::{ArchivedChar, ArchivedU32};
 use archive_core::seal::{Seal, sealed_part_in_case};
 use archive_core::self_check::{SelfCheck, check_choice};
 use archive_core::ser::{ResolverAlloc, Writer, serialize_one};
-use archive_core::shape::{Defs, Expr};
+use archive_core::shape::Defs;
 use archive_core::string::ArchivedString;
 use archive_core::traits::{
     Archive, ArchivePointee, ArchiveUnsized, Choice, CopyOptimization, Deserialize, Entries, Keys,
@@ -235,7 +235,7 @@ impl Portable for ArchivedPress {
         4
     }
 
-    fn expr(alloc: Global) -> Result<Expr, Error> {
+    fn expr(alloc: Global) -> Result<archive_core::shape::Expr, Error> {
         expr_of_choice::<PressVariants>(alloc, "ArchivedPress")
     }
 

@@ -56,7 +56,7 @@ use archive_core::place::Place;
 use archive_core::seal::{Seal, sealed_part_in_case};
 use archive_core::self_check::{SelfCheck, check_choice};
 use archive_core::ser::{ResolverAlloc, Writer, serialize_one};
-use archive_core::shape::{Defs, Expr};
+use archive_core::shape::Defs;
 use archive_core::traits::{
     Archive, ArchivePointee, ArchiveUnsized, Choice, CopyOptimization, Deserialize, Entries, Keys,
     Portable, Serialize, SerializeUnsized, expr_of_choice,
@@ -118,7 +118,7 @@ impl Portable for ArchivedWind {
         1
     }
 
-    fn expr(alloc: Global) -> Result<Expr, Error> {
+    fn expr(alloc: Global) -> Result<archive_core::shape::Expr, Error> {
         expr_of_choice::<WindVariants>(alloc, "ArchivedWind")
     }
 

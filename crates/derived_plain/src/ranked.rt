@@ -81,7 +81,7 @@ use archive_core::result::ArchivedResult;
 use archive_core::seal::{Seal, sealed_part_in_case, sealed_part_in_record};
 use archive_core::self_check::{RecordCheck, SelfCheck, check_choice};
 use archive_core::ser::{ResolverAlloc, Writer, serialize_one};
-use archive_core::shape::{Defs, Expr};
+use archive_core::shape::Defs;
 use archive_core::string::ArchivedString;
 use archive_core::traits::{
     Archive, ArchivePointee, ArchiveUnsized, Choice, CopyOptimization, Deserialize, Entries, Keys,
@@ -155,7 +155,7 @@ impl Portable for ArchivedLabel {
         4
     }
 
-    fn expr(alloc: Global) -> Result<Expr, Error> {
+    fn expr(alloc: Global) -> Result<archive_core::shape::Expr, Error> {
         expr_of_choice::<LabelVariants>(alloc, "ArchivedLabel")
     }
 
@@ -684,7 +684,7 @@ impl Portable for ArchivedScores {
         4
     }
 
-    fn expr(alloc: Global) -> Result<Expr, Error> {
+    fn expr(alloc: Global) -> Result<archive_core::shape::Expr, Error> {
         expr_of_record::<ScoresParts>(alloc)
     }
 

@@ -55,7 +55,7 @@ use archive_core::record::deserialize_record;
 use archive_core::seal::{Seal, sealed_part_in_case, sealed_part_in_record};
 use archive_core::self_check::{RecordCheck, SelfCheck, check_choice};
 use archive_core::ser::{ResolverAlloc, Writer, serialize_one};
-use archive_core::shape::{Defs, Expr};
+use archive_core::shape::Defs;
 use archive_core::slice::copy_groups;
 use archive_core::traits::{
     Archive, ArchivePointee, ArchiveUnsized, Choice, Copied, CopiedSource, CopyOptimization,
@@ -118,7 +118,7 @@ impl Portable for ArchivedWords {
         1
     }
 
-    fn expr(alloc: Global) -> Result<Expr, Error> {
+    fn expr(alloc: Global) -> Result<archive_core::shape::Expr, Error> {
         expr_of_record::<WordsParts>(alloc)
     }
 
@@ -535,7 +535,7 @@ impl Portable for ArchivedLevel {
         1
     }
 
-    fn expr(alloc: Global) -> Result<Expr, Error> {
+    fn expr(alloc: Global) -> Result<archive_core::shape::Expr, Error> {
         expr_of_choice::<LevelVariants>(alloc, "ArchivedLevel")
     }
 

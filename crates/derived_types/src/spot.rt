@@ -77,7 +77,7 @@ use archive_core::record::deserialize_record;
 use archive_core::seal::{Seal, sealed_part_in_record};
 use archive_core::self_check::{RecordCheck, SelfCheck};
 use archive_core::ser::{ResolverAlloc, Writer, serialize_one};
-use archive_core::shape::{Defs, Expr};
+use archive_core::shape::Defs;
 use archive_core::slice::copy_groups;
 use archive_core::traits::{
     Archive, ArchivePointee, ArchiveUnsized, Copied, CopiedSource, CopyOptimization, Deserialize,
@@ -137,7 +137,7 @@ impl Portable for ArchivedSpot {
         2
     }
 
-    fn expr(alloc: Global) -> Result<Expr, Error> {
+    fn expr(alloc: Global) -> Result<archive_core::shape::Expr, Error> {
         expr_of_record::<SpotParts>(alloc)
     }
 
@@ -463,7 +463,7 @@ impl Portable for ArchivedLine {
         2
     }
 
-    fn expr(alloc: Global) -> Result<Expr, Error> {
+    fn expr(alloc: Global) -> Result<archive_core::shape::Expr, Error> {
         expr_of_record::<LineParts>(alloc)
     }
 
@@ -808,7 +808,7 @@ impl Portable for ArchivedDrawing {
         4
     }
 
-    fn expr(alloc: Global) -> Result<Expr, Error> {
+    fn expr(alloc: Global) -> Result<archive_core::shape::Expr, Error> {
         expr_of_record::<DrawingParts>(alloc)
     }
 
@@ -1218,7 +1218,7 @@ impl Portable for ArchivedAtlas {
         4
     }
 
-    fn expr(alloc: Global) -> Result<Expr, Error> {
+    fn expr(alloc: Global) -> Result<archive_core::shape::Expr, Error> {
         expr_of_record::<AtlasParts>(alloc)
     }
 

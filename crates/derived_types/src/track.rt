@@ -75,7 +75,7 @@ use archive_core::record::deserialize_record;
 use archive_core::seal::{Seal, sealed_part_in_case, sealed_part_in_record};
 use archive_core::self_check::BySchema;
 use archive_core::ser::{ResolverAlloc, Writer, serialize_one};
-use archive_core::shape::{Defs, Expr};
+use archive_core::shape::Defs;
 use archive_core::sharing::Sharing;
 use archive_core::slice::ArchivedSlice;
 use archive_core::string::ArchivedStr;
@@ -139,7 +139,7 @@ impl Portable for ArchivedTrack {
         4
     }
 
-    fn expr(alloc: Global) -> Result<Expr, Error> {
+    fn expr(alloc: Global) -> Result<archive_core::shape::Expr, Error> {
         expr_of_record::<TrackParts>(alloc)
     }
 
@@ -448,7 +448,7 @@ impl Portable for ArchivedRuns {
         4
     }
 
-    fn expr(alloc: Global) -> Result<Expr, Error> {
+    fn expr(alloc: Global) -> Result<archive_core::shape::Expr, Error> {
         expr_of_record::<RunsParts>(alloc)
     }
 
@@ -816,7 +816,7 @@ impl Portable for ArchivedEither {
         4
     }
 
-    fn expr(alloc: Global) -> Result<Expr, Error> {
+    fn expr(alloc: Global) -> Result<archive_core::shape::Expr, Error> {
         expr_of_choice::<EitherVariants>(alloc, "ArchivedEither")
     }
 

@@ -43,7 +43,7 @@ ghost use Rattle.archive_core.specs.PlannedOwners.{one_planned};
 ghost use Rattle.archive_core.specs.SealsWritten.{IsSealOf, SealsPart, seal_tag};
 ghost use Rattle.archive_core.specs.Seen.{IsPartOf, RefusesPart, ShowsValueOf, part_tag, tag_of};
 ghost use Rattle.archive_core.specs.Shape.{one, part, parts, variant, vec};
-ghost use Rattle.archive_core.specs.Sources.{ReadsAs};
+ghost use Rattle.archive_core.specs.Sources.{Read, ReadsAs};
 ghost use Rattle.archive_core.specs.Value.{value};
 ghost use Rattle.archive_core.specs.Writing.{ZeroedPlace};
 ghost use Rattle.own_types.specs.NodeMeaning.{node_around, node_keys_around};
@@ -60,7 +60,7 @@ use archive_core::recursive::{
 };
 use archive_core::seal::Seal;
 use archive_core::ser::{ResolverAlloc, Writer, serialize_one};
-use archive_core::shape::{Defs, Expr, Pointee};
+use archive_core::shape::Defs;
 use archive_core::traits::{
     Archive, ArchivePointee, ArchiveUnsized, Choice, CopyOptimization, Deserialize, Entries, Keys,
     Portable, Serialize, SerializeUnsized,
@@ -89,16 +89,19 @@ impl ArchivePointee for ArchivedNode {
 }
 
 // The parts of `Cons`.
-fn node_cons_expressions(alloc: Global) -> Result<Vec<Expr>, Error>
+fn node_cons_expressions(alloc: Global) -> Result<Vec<archive_core::shape::Expr>, Error>
     ensures shapes { IfOk result (λ list. shapes_in list.items ≡ node_cons_parts) }
     ensures refused { IfErr result (λ e. e ≡ OutOfMemory) }
 {
-    let a0 = Expr::Box(Box::new(alloc, Pointee::One(Expr::Named("ArchivedNode")))?);
+    let a0 = archive_core::shape::Expr::Box(Box::new(
+        alloc,
+        archive_core::shape::Pointee::One(archive_core::shape::Expr::Named("ArchivedNode")),
+    )?);
     Ok(vec![in alloc; a0]?)
 }
 
 // What the name stands for.
-fn node_expression(alloc: Global) -> Result<Expr, Error>
+fn node_expression(alloc: Global) -> Result<archive_core::shape::Expr, Error>
     ensures shape { IfOk result (λ e. shape_of e ≡ node_stands_for) }
     ensures refused { IfErr result (λ e. e ≡ OutOfMemory) }
 {
@@ -133,8 +136,8 @@ impl Portable for ArchivedNode {
         4
     }
 
-    fn expr(_alloc: Global) -> Result<Expr, Error> {
-        Ok(Expr::Named("ArchivedNode"))
+    fn expr(_alloc: Global) -> Result<archive_core::shape::Expr, Error> {
+        Ok(archive_core::shape::Expr::Named("ArchivedNode"))
     }
 
     fn define(alloc: Global, defs: &mut Defs) -> Result<(), Error> {
@@ -373,8 +376,10 @@ fn read_node_nil<D: Entries>(
 ) -> Result<Node, Error>
     requires viewed { IsPartOf ⟦<ArchivedNode as ArchivePointee>⟧ part }
     requires tag { part_tag part ≡ 0 }
-    ensures { ReadsAs ⟦<ArchivedNode as ArchivePointee>⟧ part D.Entries _deserializer
-        ⟦<Node as Archive>⟧ result }
+    ensures read { IfOk result (Read ⟦<ArchivedNode as ArchivePointee>⟧ part D.Entries _deserializer
+        ⟦<Node as Archive>⟧) }
+    ensures refused { IfErr result (RefusesPart ⟦<ArchivedNode as ArchivePointee>⟧ part D.Entries
+        _deserializer) }
 {
     Ok(Node::Nil)
 }

@@ -41,7 +41,7 @@ use archive_core::record::deserialize_record;
 use archive_core::seal::{Seal, sealed_part_in_record};
 use archive_core::self_check::{RecordCheck, SelfCheck};
 use archive_core::ser::{ResolverAlloc, Writer, serialize_one};
-use archive_core::shape::{Defs, Expr};
+use archive_core::shape::Defs;
 use archive_core::string::ArchivedString;
 use archive_core::traits::{
     Archive, ArchivePointee, ArchiveUnsized, CopyOptimization, Deserialize, Entries, Keys,
@@ -110,7 +110,7 @@ impl Portable for ArchivedTest {
         4
     }
 
-    fn expr(alloc: Global) -> Result<Expr, Error> {
+    fn expr(alloc: Global) -> Result<archive_core::shape::Expr, Error> {
         expr_of_record::<TestParts>(alloc)
     }
 

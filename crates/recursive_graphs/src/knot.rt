@@ -23,11 +23,11 @@ ghost use Rattle.archive_core.specs.PlannedOwners.{one_planned};
 ghost use Rattle.archive_core.specs.Plans.{Serialized};
 ghost use Rattle.archive_core.specs.Runs.{EachBelongs, IsRunRefused, SerializedRun, each_flat, each_keys, each_meaning};
 ghost use Rattle.archive_core.specs.SealsWritten.{IsSealOf, SealsPart};
-ghost use Rattle.archive_core.specs.Seen.{IsPartOf, ShowsValueOf};
+ghost use Rattle.archive_core.specs.Seen.{IsPartOf, RefusesPart, ShowsValueOf};
 ghost use Rattle.archive_core.specs.SelfCheck.Laws.{by_schema};
 ghost use Rattle.archive_core.specs.Shape.{one, part, parts, shared, vec};
 ghost use Rattle.archive_core.specs.SharedSources.{rc_flavor};
-ghost use Rattle.archive_core.specs.Sources.{ReadsAs};
+ghost use Rattle.archive_core.specs.Sources.{Read, ReadsAs};
 ghost use Rattle.archive_core.specs.Value.{value};
 ghost use Rattle.archive_core.specs.Writing.{ZeroedPlace};
 ghost use Rattle.archive_core.specs.Written.{GoesOn};
@@ -48,11 +48,11 @@ use archive_core::recursive::{
 use archive_core::seal::Seal;
 use archive_core::self_check::BySchema;
 use archive_core::ser::{ResolverAlloc, Writer, serialize_one};
-use archive_core::shape::{Defs, Expr};
+use archive_core::shape::Defs;
 use archive_core::sharing::Sharing;
 use archive_core::traits::{
-    Archive, ArchivePointee, ArchiveUnsized, CopyOptimization, Deserialize, Entries, Keys, Portable,
-    Record, Serialize, SerializeUnsized,
+    Archive, ArchivePointee, ArchiveUnsized, CopyOptimization, Deserialize, Entries, Keys,
+    Portable, Record, Serialize, SerializeUnsized,
 };
 use archive_core::vec::{ArchivedVec, VecResolver};
 use archive_core::view::{RawView, Ref};
@@ -81,17 +81,20 @@ impl ArchivePointee for ArchivedKnot {
 }
 
 // The parts of `Knot`.
-fn knot_expressions(alloc: Global) -> Result<Vec<Expr>, Error>
+fn knot_expressions(alloc: Global) -> Result<Vec<archive_core::shape::Expr>, Error>
     ensures shapes { IfOk result (λ list. shapes_in list.items ≡ knot_parts) }
     ensures refused { IfErr result (λ e. e ≡ OutOfMemory) }
 {
     let a0 = <ArchivedU32 as Portable>::expr(alloc)?;
-    let a1 = Expr::Vec(Box::new(alloc, shared_expression(alloc, Expr::Named("ArchivedKnot"))?)?);
+    let a1 = archive_core::shape::Expr::Vec(Box::new(
+        alloc,
+        shared_expression(alloc, archive_core::shape::Expr::Named("ArchivedKnot"))?,
+    )?);
     Ok(vec![in alloc; a0, a1]?)
 }
 
 // What the name stands for.
-fn knot_expression(alloc: Global) -> Result<Expr, Error>
+fn knot_expression(alloc: Global) -> Result<archive_core::shape::Expr, Error>
     ensures shape { IfOk result (λ e. shape_of e ≡ knot_stands_for) }
     ensures refused { IfErr result (λ e. e ≡ OutOfMemory) }
 {
@@ -124,8 +127,8 @@ impl Portable for ArchivedKnot {
         4
     }
 
-    fn expr(_alloc: Global) -> Result<Expr, Error> {
-        Ok(Expr::Named("ArchivedKnot"))
+    fn expr(_alloc: Global) -> Result<archive_core::shape::Expr, Error> {
+        Ok(archive_core::shape::Expr::Named("ArchivedKnot"))
     }
 
     fn define(alloc: Global, defs: &mut Defs) -> Result<(), Error> {
@@ -211,7 +214,10 @@ impl Archive for Knot {
 
 // Writes what each of the values owns, in order.
 #[cycle(serialize_knot)]
-fn serialize_each_shared_knot<S: Sharing + Writer + ResolverAlloc>(values: &[Shared<Knot>], serializer: &mut S) -> Result<Vec<<Shared<Knot> as Archive>::Resolver, S::Alloc>, Error>
+fn serialize_each_shared_knot<S: Sharing + Writer + ResolverAlloc>(
+    values: &[Shared<Knot>],
+    serializer: &mut S,
+) -> Result<Vec<<Shared<Knot> as Archive>::Resolver, S::Alloc>, Error>
     ensures serialized { IfOk result (λ rs. SerializedRun knot_definitions
         (shared rc_flavor (one knot_shape)) (length values.now)
         (each_keys ⟦<Shared<Knot> as Archive>⟧.keys values.now)
@@ -257,7 +263,10 @@ fn serialize_each_shared_knot<S: Sharing + Writer + ResolverAlloc>(values: &[Sha
 
 // Writes what a vector owns.
 #[cycle(serialize_knot)]
-fn serialize_vec_shared_knot<S: Sharing + Writer + ResolverAlloc>(value: &Vec<Shared<Knot>>, serializer: &mut S) -> Result<VecResolver, Error>
+fn serialize_vec_shared_knot<S: Sharing + Writer + ResolverAlloc>(
+    value: &Vec<Shared<Knot>>,
+    serializer: &mut S,
+) -> Result<VecResolver, Error>
     ensures serialized { IfOk result (λ r. Serialized knot_definitions
         (vec (shared rc_flavor (one knot_shape))) (⟦<Vec<Shared<Knot>> as Archive>⟧.keys value.now)
         (⟦<Vec<Shared<Knot>> as Archive>⟧.meaning value.now)
@@ -286,7 +295,10 @@ fn serialize_vec_shared_knot<S: Sharing + Writer + ResolverAlloc>(value: &Vec<Sh
 
 // Writes what a value owns, part by part.
 #[cycle(serialize_knot)]
-fn serialize_knot<S: Sharing + Writer + ResolverAlloc>(value: &Knot, serializer: &mut S) -> Result<KnotResolver, Error>
+fn serialize_knot<S: Sharing + Writer + ResolverAlloc>(
+    value: &Knot,
+    serializer: &mut S,
+) -> Result<KnotResolver, Error>
     ensures serialized { IfOk result (λ r. Serialized knot_definitions knot_shape
         (⟦<Knot as Archive>⟧.keys value.now) (⟦<Knot as Archive>⟧.meaning value.now)
         (⟦<Knot as Archive>⟧.flat value.now r) (S.state serializer.old) (S.state serializer.new)) }
@@ -304,7 +316,9 @@ fn serialize_knot<S: Sharing + Writer + ResolverAlloc>(value: &Knot, serializer:
         Ok(a1) => a1,
         Err(error) => return Err(error),
     };
-    Ok(KnotResolver { kept: (a0, (a1, ())) })
+    Ok(KnotResolver {
+        kept: (a0, (a1, ())),
+    })
 }
 
 impl<S: Sharing + Writer + ResolverAlloc> Serialize<S> for Knot {
@@ -348,27 +362,48 @@ impl<S: Sharing + Writer + ResolverAlloc> SerializeUnsized<S> for Knot {
 
 // Reads a shared value back.
 #[cycle(read_knot)]
-fn read_shared_knot<D: Pooling<Shared<Knot>>>(alloc: Global, part: RawView<'_>, levels: usize, deserializer: &mut D) -> Result<Shared<Knot>, Error>
+fn read_shared_knot<D: Pooling<Shared<Knot>>>(
+    alloc: Global,
+    part: RawView<'_>,
+    levels: usize,
+    deserializer: &mut D,
+) -> Result<Shared<Knot>, Error>
     requires { IsPartOf ⟦<ArchivedRc<ArchivedKnot, RcFlavor> as ArchivePointee>⟧ part }
-    ensures { ReadsAs ⟦<ArchivedRc<ArchivedKnot, RcFlavor> as ArchivePointee>⟧ part D.Entries
-        deserializer ⟦<Shared<Knot> as Archive>⟧ result }
+    ensures read { IfOk result (Read ⟦<ArchivedRc<ArchivedKnot, RcFlavor> as ArchivePointee>⟧ part
+        D.Entries deserializer ⟦<Shared<Knot> as Archive>⟧) }
+    ensures refused { IfErr result (RefusesPart ⟦<ArchivedRc<ArchivedKnot, RcFlavor> as ArchivePointee>⟧
+        part D.Entries deserializer) }
 {
     match begin_reading::<ArchivedKnot, RcFlavor, Shared<Knot>, D>(part, deserializer)? {
         Some(value) => Ok(value),
         None => {
             let behind = part_behind::<ArchivedKnot, RcFlavor>(part);
             let value = read_knot(alloc, behind, levels, deserializer)?;
-            finish_reading::<ArchivedKnot, RcFlavor, Shared<Knot>, D>(alloc, part, value, deserializer)
+            finish_reading::<ArchivedKnot, RcFlavor, Shared<Knot>, D>(
+                alloc,
+                part,
+                value,
+                deserializer,
+            )
         }
     }
 }
 
 // Reads a vector back.
 #[cycle(read_knot)]
-fn read_vec_shared_knot<D: Pooling<Shared<Knot>>>(alloc: Global, part: RawView<'_>, levels: usize, deserializer: &mut D) -> Result<Vec<Shared<Knot>>, Error>
+fn read_vec_shared_knot<D: Pooling<Shared<Knot>>>(
+    alloc: Global,
+    part: RawView<'_>,
+    levels: usize,
+    deserializer: &mut D,
+) -> Result<Vec<Shared<Knot>>, Error>
     requires { IsPartOf ⟦<ArchivedVec<ArchivedRc<ArchivedKnot, RcFlavor>> as ArchivePointee>⟧ part }
-    ensures { ReadsAs ⟦<ArchivedVec<ArchivedRc<ArchivedKnot, RcFlavor>> as ArchivePointee>⟧ part
-        D.Entries deserializer ⟦<Vec<Shared<Knot>> as Archive>⟧ result }
+    ensures read { IfOk result
+        (Read ⟦<ArchivedVec<ArchivedRc<ArchivedKnot, RcFlavor>> as ArchivePointee>⟧ part D.Entries
+        deserializer ⟦<Vec<Shared<Knot>> as Archive>⟧) }
+    ensures refused { IfErr result
+        (RefusesPart ⟦<ArchivedVec<ArchivedRc<ArchivedKnot, RcFlavor>> as ArchivePointee>⟧ part
+        D.Entries deserializer) }
 {
     let view: Ref<'_, ArchivedVec<ArchivedRc<ArchivedKnot, RcFlavor>>> = Ref::at(part);
     let list = before_vec(view);
@@ -382,10 +417,17 @@ fn read_vec_shared_knot<D: Pooling<Shared<Knot>>>(alloc: Global, part: RawView<'
 
 // Reads a value back, part by part.
 #[cycle(read_knot)]
-fn read_knot<D: Pooling<Shared<Knot>>>(alloc: Global, part: RawView<'_>, levels: usize, deserializer: &mut D) -> Result<Knot, Error>
+fn read_knot<D: Pooling<Shared<Knot>>>(
+    alloc: Global,
+    part: RawView<'_>,
+    levels: usize,
+    deserializer: &mut D,
+) -> Result<Knot, Error>
     requires { IsPartOf ⟦<ArchivedKnot as ArchivePointee>⟧ part }
-    ensures { ReadsAs ⟦<ArchivedKnot as ArchivePointee>⟧ part D.Entries deserializer
-        ⟦<Knot as Archive>⟧ result }
+    ensures read { IfOk result (Read ⟦<ArchivedKnot as ArchivePointee>⟧ part D.Entries deserializer
+        ⟦<Knot as Archive>⟧) }
+    ensures refused { IfErr result (RefusesPart ⟦<ArchivedKnot as ArchivePointee>⟧ part D.Entries
+        deserializer) }
 {
     if levels == 0 {
         return Err(Error::OutOfMemory);
@@ -477,8 +519,6 @@ impl<'a> KnotSeal<'a> for Seal<'a, ArchivedKnot> {
             ⟦<ArchivedVec<ArchivedRc<ArchivedKnot, RcFlavor>> as ArchivePointee>⟧.pointee
             (self.entry.pos + 4) 0 self.entry result }
     {
-        seal_of_field::<ArchivedKnot, ArchivedVec<ArchivedRc<ArchivedKnot, RcFlavor>>>(
-            self, 1, 4,
-        )
+        seal_of_field::<ArchivedKnot, ArchivedVec<ArchivedRc<ArchivedKnot, RcFlavor>>>(self, 1, 4)
     }
 }

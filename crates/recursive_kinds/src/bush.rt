@@ -24,10 +24,10 @@ ghost use Rattle.archive_core.specs.PlannedOwners.{one_planned};
 ghost use Rattle.archive_core.specs.Plans.{Serialized};
 ghost use Rattle.archive_core.specs.Runs.{EachBelongs, IsRunRefused, SerializedRun, each_flat, each_keys, each_meaning};
 ghost use Rattle.archive_core.specs.SealsWritten.{IsSealOf, SealsPart};
-ghost use Rattle.archive_core.specs.Seen.{IsPartOf, ShowsValueOf};
+ghost use Rattle.archive_core.specs.Seen.{IsPartOf, RefusesPart, ShowsValueOf};
 ghost use Rattle.archive_core.specs.SelfCheck.Laws.{by_schema};
 ghost use Rattle.archive_core.specs.Shape.{boxed, one, part, parts, vec};
-ghost use Rattle.archive_core.specs.Sources.{ReadsAs};
+ghost use Rattle.archive_core.specs.Sources.{Read, ReadsAs};
 ghost use Rattle.archive_core.specs.Value.{value};
 ghost use Rattle.archive_core.specs.Writing.{ZeroedPlace};
 ghost use Rattle.archive_core.specs.Written.{GoesOn};
@@ -41,17 +41,17 @@ use archive_core::option::ArchivedOption;
 use archive_core::place::Place;
 use archive_core::primitive::ArchivedU32;
 use archive_core::recursive::{
-    BoxAt, VecAt, before_box, before_vec, define_name, option_expression, part_of_record, read_part,
-    record_of, resolve_named_record_3, seal_of_field, serialize_inner_slice, serialize_part,
-    view_of_field,
+    BoxAt, VecAt, before_box, before_vec, define_name, option_expression, part_of_record,
+    read_part, record_of, resolve_named_record_3, seal_of_field, serialize_inner_slice,
+    serialize_part, view_of_field,
 };
 use archive_core::seal::Seal;
 use archive_core::self_check::BySchema;
 use archive_core::ser::{ResolverAlloc, Writer, serialize_one};
-use archive_core::shape::{Defs, Expr, Pointee};
+use archive_core::shape::Defs;
 use archive_core::traits::{
-    Archive, ArchivePointee, ArchiveUnsized, CopyOptimization, Deserialize, Entries, Keys, Portable,
-    Record, Serialize, SerializeUnsized,
+    Archive, ArchivePointee, ArchiveUnsized, CopyOptimization, Deserialize, Entries, Keys,
+    Portable, Record, Serialize, SerializeUnsized,
 };
 use archive_core::vec::{ArchivedVec, VecResolver};
 use archive_core::view::{RawView, Ref};
@@ -83,18 +83,33 @@ impl ArchivePointee for ArchivedBush {
 }
 
 // The parts of `Bush`.
-fn bush_expressions(alloc: Global) -> Result<Vec<Expr>, Error>
+fn bush_expressions(alloc: Global) -> Result<Vec<archive_core::shape::Expr>, Error>
     ensures shapes { IfOk result (λ list. shapes_in list.items ≡ bush_parts) }
     ensures refused { IfErr result (λ e. e ≡ OutOfMemory) }
 {
     let a0 = <ArchivedU32 as Portable>::expr(alloc)?;
-    let a1 = Expr::Vec(Box::new(alloc, option_expression(alloc, Expr::Box(Box::new(alloc, Pointee::One(Expr::Named("ArchivedBush")))?))?)?);
-    let a2 = Expr::Box(Box::new(alloc, Pointee::One(Expr::Vec(Box::new(alloc, Expr::Named("ArchivedBush"))?)))?);
+    let a1 = archive_core::shape::Expr::Vec(Box::new(
+        alloc,
+        option_expression(
+            alloc,
+            archive_core::shape::Expr::Box(Box::new(
+                alloc,
+                archive_core::shape::Pointee::One(archive_core::shape::Expr::Named("ArchivedBush")),
+            )?),
+        )?,
+    )?);
+    let a2 = archive_core::shape::Expr::Box(Box::new(
+        alloc,
+        archive_core::shape::Pointee::One(archive_core::shape::Expr::Vec(Box::new(
+            alloc,
+            archive_core::shape::Expr::Named("ArchivedBush"),
+        )?)),
+    )?);
     Ok(vec![in alloc; a0, a1, a2]?)
 }
 
 // What the name stands for.
-fn bush_expression(alloc: Global) -> Result<Expr, Error>
+fn bush_expression(alloc: Global) -> Result<archive_core::shape::Expr, Error>
     ensures shape { IfOk result (λ e. shape_of e ≡ bush_stands_for) }
     ensures refused { IfErr result (λ e. e ≡ OutOfMemory) }
 {
@@ -127,8 +142,8 @@ impl Portable for ArchivedBush {
         4
     }
 
-    fn expr(_alloc: Global) -> Result<Expr, Error> {
-        Ok(Expr::Named("ArchivedBush"))
+    fn expr(_alloc: Global) -> Result<archive_core::shape::Expr, Error> {
+        Ok(archive_core::shape::Expr::Named("ArchivedBush"))
     }
 
     fn define(alloc: Global, defs: &mut Defs) -> Result<(), Error> {
@@ -215,7 +230,10 @@ impl Archive for Bush {
 
 // Writes what each of the values owns, in order.
 #[cycle(serialize_bush)]
-fn serialize_each_option_box_bush<S: Writer + Keys + ResolverAlloc>(values: &[Option<Box<Bush>>], serializer: &mut S) -> Result<Vec<<Option<Box<Bush>> as Archive>::Resolver, S::Alloc>, Error>
+fn serialize_each_option_box_bush<S: Writer + Keys + ResolverAlloc>(
+    values: &[Option<Box<Bush>>],
+    serializer: &mut S,
+) -> Result<Vec<<Option<Box<Bush>> as Archive>::Resolver, S::Alloc>, Error>
     ensures serialized { IfOk result (λ rs. SerializedRun bush_definitions
         (option_shape (boxed (one bush_shape))) (length values.now)
         (each_keys ⟦<Option<Box<Bush>> as Archive>⟧.keys values.now)
@@ -257,7 +275,10 @@ fn serialize_each_option_box_bush<S: Writer + Keys + ResolverAlloc>(values: &[Op
 
 // Writes what a vector owns.
 #[cycle(serialize_bush)]
-fn serialize_vec_option_box_bush<S: Writer + Keys + ResolverAlloc>(value: &Vec<Option<Box<Bush>>>, serializer: &mut S) -> Result<VecResolver, Error>
+fn serialize_vec_option_box_bush<S: Writer + Keys + ResolverAlloc>(
+    value: &Vec<Option<Box<Bush>>>,
+    serializer: &mut S,
+) -> Result<VecResolver, Error>
     ensures serialized { IfOk result (λ r. Serialized bush_definitions
         (vec (option_shape (boxed (one bush_shape)))) (⟦<Vec<Option<Box<Bush>>> as Archive>⟧.keys
         value.now) (⟦<Vec<Option<Box<Bush>>> as Archive>⟧.meaning value.now)
@@ -287,7 +308,10 @@ fn serialize_vec_option_box_bush<S: Writer + Keys + ResolverAlloc>(value: &Vec<O
 
 // Writes what each of the values owns, in order.
 #[cycle(serialize_bush)]
-fn serialize_each_bush<S: Writer + Keys + ResolverAlloc>(values: &[Bush], serializer: &mut S) -> Result<Vec<<Bush as Archive>::Resolver, S::Alloc>, Error>
+fn serialize_each_bush<S: Writer + Keys + ResolverAlloc>(
+    values: &[Bush],
+    serializer: &mut S,
+) -> Result<Vec<<Bush as Archive>::Resolver, S::Alloc>, Error>
     ensures serialized { IfOk result (λ rs. SerializedRun bush_definitions bush_shape
         (length values.now) (each_keys ⟦<Bush as Archive>⟧.keys values.now)
         (each_meaning ⟦<Bush as Archive>⟧.meaning values.now)
@@ -315,7 +339,10 @@ fn serialize_each_bush<S: Writer + Keys + ResolverAlloc>(values: &[Bush], serial
 
 // Writes what a vector owns.
 #[cycle(serialize_bush)]
-fn serialize_vec_bush<S: Writer + Keys + ResolverAlloc>(value: &Vec<Bush>, serializer: &mut S) -> Result<VecResolver, Error>
+fn serialize_vec_bush<S: Writer + Keys + ResolverAlloc>(
+    value: &Vec<Bush>,
+    serializer: &mut S,
+) -> Result<VecResolver, Error>
     ensures serialized { IfOk result (λ r. Serialized bush_definitions (vec bush_shape)
         (⟦<Vec<Bush> as Archive>⟧.keys value.now) (⟦<Vec<Bush> as Archive>⟧.meaning value.now)
         (⟦<Vec<Bush> as Archive>⟧.flat value.now r) (S.state serializer.old)
@@ -342,7 +369,10 @@ fn serialize_vec_bush<S: Writer + Keys + ResolverAlloc>(value: &Vec<Bush>, seria
 
 // Writes what a box owns.
 #[cycle(serialize_bush)]
-fn serialize_box_vec_bush<S: Writer + Keys + ResolverAlloc>(value: &Box<Vec<Bush>>, serializer: &mut S) -> Result<BoxResolver, Error>
+fn serialize_box_vec_bush<S: Writer + Keys + ResolverAlloc>(
+    value: &Box<Vec<Bush>>,
+    serializer: &mut S,
+) -> Result<BoxResolver, Error>
     ensures serialized { IfOk result (λ r. Serialized bush_definitions
         (boxed (one (vec bush_shape))) (⟦<Box<Vec<Bush>> as Archive>⟧.keys value.now)
         (⟦<Box<Vec<Bush>> as Archive>⟧.meaning value.now)
@@ -367,7 +397,10 @@ fn serialize_box_vec_bush<S: Writer + Keys + ResolverAlloc>(value: &Box<Vec<Bush
 
 // Writes what a value owns, part by part.
 #[cycle(serialize_bush)]
-fn serialize_bush<S: Writer + Keys + ResolverAlloc>(value: &Bush, serializer: &mut S) -> Result<BushResolver, Error>
+fn serialize_bush<S: Writer + Keys + ResolverAlloc>(
+    value: &Bush,
+    serializer: &mut S,
+) -> Result<BushResolver, Error>
     ensures serialized { IfOk result (λ r. Serialized bush_definitions bush_shape
         (⟦<Bush as Archive>⟧.keys value.now) (⟦<Bush as Archive>⟧.meaning value.now)
         (⟦<Bush as Archive>⟧.flat value.now r) (S.state serializer.old) (S.state serializer.new)) }
@@ -389,7 +422,9 @@ fn serialize_bush<S: Writer + Keys + ResolverAlloc>(value: &Bush, serializer: &m
         Ok(a2) => a2,
         Err(error) => return Err(error),
     };
-    Ok(BushResolver { kept: (a0, (a1, (a2, ()))) })
+    Ok(BushResolver {
+        kept: (a0, (a1, (a2, ()))),
+    })
 }
 
 impl<S: Writer + Keys + ResolverAlloc> Serialize<S> for Bush {
@@ -433,10 +468,16 @@ impl<S: Writer + Keys + ResolverAlloc> SerializeUnsized<S> for Bush {
 
 // Reads a box back.
 #[cycle(read_bush)]
-fn read_box_bush<D: Entries>(alloc: Global, part: RawView<'_>, deserializer: &mut D) -> Result<Box<Bush>, Error>
+fn read_box_bush<D: Entries>(
+    alloc: Global,
+    part: RawView<'_>,
+    deserializer: &mut D,
+) -> Result<Box<Bush>, Error>
     requires { IsPartOf ⟦<ArchivedBox<ArchivedBush> as ArchivePointee>⟧ part }
-    ensures { ReadsAs ⟦<ArchivedBox<ArchivedBush> as ArchivePointee>⟧ part D.Entries deserializer
-        ⟦<Box<Bush> as Archive>⟧ result }
+    ensures read { IfOk result (Read ⟦<ArchivedBox<ArchivedBush> as ArchivePointee>⟧ part D.Entries
+        deserializer ⟦<Box<Bush> as Archive>⟧) }
+    ensures refused { IfErr result (RefusesPart ⟦<ArchivedBox<ArchivedBush> as ArchivePointee>⟧ part
+        D.Entries deserializer) }
 {
     let view: Ref<'_, ArchivedBox<ArchivedBush>> = Ref::at(part);
     let value = read_bush(alloc, before_box(view).part(), deserializer)?;
@@ -446,10 +487,17 @@ fn read_box_bush<D: Entries>(alloc: Global, part: RawView<'_>, deserializer: &mu
 
 // Reads an option back.
 #[cycle(read_bush)]
-fn read_option_box_bush<D: Entries>(alloc: Global, part: RawView<'_>, deserializer: &mut D) -> Result<Option<Box<Bush>>, Error>
+fn read_option_box_bush<D: Entries>(
+    alloc: Global,
+    part: RawView<'_>,
+    deserializer: &mut D,
+) -> Result<Option<Box<Bush>>, Error>
     requires { IsPartOf ⟦<ArchivedOption<ArchivedBox<ArchivedBush>> as ArchivePointee>⟧ part }
-    ensures { ReadsAs ⟦<ArchivedOption<ArchivedBox<ArchivedBush>> as ArchivePointee>⟧ part D.Entries
-        deserializer ⟦<Option<Box<Bush>> as Archive>⟧ result }
+    ensures read { IfOk result (Read ⟦<ArchivedOption<ArchivedBox<ArchivedBush>> as ArchivePointee>⟧
+        part D.Entries deserializer ⟦<Option<Box<Bush>> as Archive>⟧) }
+    ensures refused { IfErr result
+        (RefusesPart ⟦<ArchivedOption<ArchivedBox<ArchivedBush>> as ArchivePointee>⟧ part D.Entries
+        deserializer) }
 {
     let view: Ref<'_, ArchivedOption<ArchivedBox<ArchivedBush>>> = Ref::at(part);
     match view.as_ref() {
@@ -463,11 +511,19 @@ fn read_option_box_bush<D: Entries>(alloc: Global, part: RawView<'_>, deserializ
 
 // Reads a vector back.
 #[cycle(read_bush)]
-fn read_vec_option_box_bush<D: Entries>(alloc: Global, part: RawView<'_>, deserializer: &mut D) -> Result<Vec<Option<Box<Bush>>>, Error>
+fn read_vec_option_box_bush<D: Entries>(
+    alloc: Global,
+    part: RawView<'_>,
+    deserializer: &mut D,
+) -> Result<Vec<Option<Box<Bush>>>, Error>
     requires { IsPartOf ⟦<ArchivedVec<ArchivedOption<ArchivedBox<ArchivedBush>>> as ArchivePointee>⟧
         part }
-    ensures { ReadsAs ⟦<ArchivedVec<ArchivedOption<ArchivedBox<ArchivedBush>>> as ArchivePointee>⟧
-        part D.Entries deserializer ⟦<Vec<Option<Box<Bush>>> as Archive>⟧ result }
+    ensures read { IfOk result
+        (Read ⟦<ArchivedVec<ArchivedOption<ArchivedBox<ArchivedBush>>> as ArchivePointee>⟧ part
+        D.Entries deserializer ⟦<Vec<Option<Box<Bush>>> as Archive>⟧) }
+    ensures refused { IfErr result
+        (RefusesPart ⟦<ArchivedVec<ArchivedOption<ArchivedBox<ArchivedBush>>> as ArchivePointee>⟧
+        part D.Entries deserializer) }
 {
     let view: Ref<'_, ArchivedVec<ArchivedOption<ArchivedBox<ArchivedBush>>>> = Ref::at(part);
     let list = before_vec(view);
@@ -481,10 +537,16 @@ fn read_vec_option_box_bush<D: Entries>(alloc: Global, part: RawView<'_>, deseri
 
 // Reads a vector back.
 #[cycle(read_bush)]
-fn read_vec_bush<D: Entries>(alloc: Global, part: RawView<'_>, deserializer: &mut D) -> Result<Vec<Bush>, Error>
+fn read_vec_bush<D: Entries>(
+    alloc: Global,
+    part: RawView<'_>,
+    deserializer: &mut D,
+) -> Result<Vec<Bush>, Error>
     requires { IsPartOf ⟦<ArchivedVec<ArchivedBush> as ArchivePointee>⟧ part }
-    ensures { ReadsAs ⟦<ArchivedVec<ArchivedBush> as ArchivePointee>⟧ part D.Entries deserializer
-        ⟦<Vec<Bush> as Archive>⟧ result }
+    ensures read { IfOk result (Read ⟦<ArchivedVec<ArchivedBush> as ArchivePointee>⟧ part D.Entries
+        deserializer ⟦<Vec<Bush> as Archive>⟧) }
+    ensures refused { IfErr result (RefusesPart ⟦<ArchivedVec<ArchivedBush> as ArchivePointee>⟧ part
+        D.Entries deserializer) }
 {
     let view: Ref<'_, ArchivedVec<ArchivedBush>> = Ref::at(part);
     let list = before_vec(view);
@@ -498,10 +560,17 @@ fn read_vec_bush<D: Entries>(alloc: Global, part: RawView<'_>, deserializer: &mu
 
 // Reads a box back.
 #[cycle(read_bush)]
-fn read_box_vec_bush<D: Entries>(alloc: Global, part: RawView<'_>, deserializer: &mut D) -> Result<Box<Vec<Bush>>, Error>
+fn read_box_vec_bush<D: Entries>(
+    alloc: Global,
+    part: RawView<'_>,
+    deserializer: &mut D,
+) -> Result<Box<Vec<Bush>>, Error>
     requires { IsPartOf ⟦<ArchivedBox<ArchivedVec<ArchivedBush>> as ArchivePointee>⟧ part }
-    ensures { ReadsAs ⟦<ArchivedBox<ArchivedVec<ArchivedBush>> as ArchivePointee>⟧ part D.Entries
-        deserializer ⟦<Box<Vec<Bush>> as Archive>⟧ result }
+    ensures read { IfOk result (Read ⟦<ArchivedBox<ArchivedVec<ArchivedBush>> as ArchivePointee>⟧
+        part D.Entries deserializer ⟦<Box<Vec<Bush>> as Archive>⟧) }
+    ensures refused { IfErr result
+        (RefusesPart ⟦<ArchivedBox<ArchivedVec<ArchivedBush>> as ArchivePointee>⟧ part D.Entries
+        deserializer) }
 {
     let view: Ref<'_, ArchivedBox<ArchivedVec<ArchivedBush>>> = Ref::at(part);
     let value = read_vec_bush(alloc, before_box(view).part(), deserializer)?;
@@ -511,10 +580,16 @@ fn read_box_vec_bush<D: Entries>(alloc: Global, part: RawView<'_>, deserializer:
 
 // Reads a value back, part by part.
 #[cycle(read_bush)]
-fn read_bush<D: Entries>(alloc: Global, part: RawView<'_>, deserializer: &mut D) -> Result<Bush, Error>
+fn read_bush<D: Entries>(
+    alloc: Global,
+    part: RawView<'_>,
+    deserializer: &mut D,
+) -> Result<Bush, Error>
     requires { IsPartOf ⟦<ArchivedBush as ArchivePointee>⟧ part }
-    ensures { ReadsAs ⟦<ArchivedBush as ArchivePointee>⟧ part D.Entries deserializer
-        ⟦<Bush as Archive>⟧ result }
+    ensures read { IfOk result (Read ⟦<ArchivedBush as ArchivePointee>⟧ part D.Entries deserializer
+        ⟦<Bush as Archive>⟧) }
+    ensures refused { IfErr result (RefusesPart ⟦<ArchivedBush as ArchivePointee>⟧ part D.Entries
+        deserializer) }
 {
     let p0 = part_of_record::<ArchivedBush, ArchivedU32>(part, 0, 0);
     let a0 = read_part::<ArchivedU32, u32, D>(alloc, p0, deserializer)?;
@@ -625,10 +700,9 @@ impl<'a> BushSeal<'a> for Seal<'a, ArchivedBush> {
             ⟦<ArchivedVec<ArchivedOption<ArchivedBox<ArchivedBush>>> as ArchivePointee>⟧.pointee
             (self.entry.pos + 4) 0 self.entry result }
     {
-        seal_of_field::<
-            ArchivedBush,
-            ArchivedVec<ArchivedOption<ArchivedBox<ArchivedBush>>>,
-        >(self, 1, 4)
+        seal_of_field::<ArchivedBush, ArchivedVec<ArchivedOption<ArchivedBox<ArchivedBush>>>>(
+            self, 1, 4,
+        )
     }
 
     fn others_mut(self) -> Seal<'a, ArchivedBox<ArchivedVec<ArchivedBush>>>

@@ -23,10 +23,10 @@ ghost use Rattle.archive_core.specs.PlannedOwners.{one_planned};
 ghost use Rattle.archive_core.specs.Plans.{Serialized};
 ghost use Rattle.archive_core.specs.Runs.{EachBelongs, IsRunRefused, SerializedRun, each_flat, each_keys, each_meaning};
 ghost use Rattle.archive_core.specs.SealsWritten.{IsSealOf, SealsPart, seal_tag};
-ghost use Rattle.archive_core.specs.Seen.{IsPartOf, ShowsValueOf, part_tag, tag_of};
+ghost use Rattle.archive_core.specs.Seen.{IsPartOf, RefusesPart, ShowsValueOf, part_tag, tag_of};
 ghost use Rattle.archive_core.specs.SelfCheck.Laws.{by_schema};
 ghost use Rattle.archive_core.specs.Shape.{one, part, parts, variant, vec};
-ghost use Rattle.archive_core.specs.Sources.{ReadsAs};
+ghost use Rattle.archive_core.specs.Sources.{Read, ReadsAs};
 ghost use Rattle.archive_core.specs.Value.{case, no_value, value};
 ghost use Rattle.archive_core.specs.Writing.{ZeroedPlace};
 ghost use Rattle.archive_core.specs.Written.{GoesOn};
@@ -46,7 +46,7 @@ use archive_core::result::ArchivedResult;
 use archive_core::seal::Seal;
 use archive_core::self_check::BySchema;
 use archive_core::ser::{ResolverAlloc, Writer, serialize_one};
-use archive_core::shape::{Defs, Expr};
+use archive_core::shape::Defs;
 use archive_core::string::ArchivedString;
 use archive_core::traits::{
     Archive, ArchivePointee, ArchiveUnsized, Choice, CopyOptimization, Deserialize, Entries, Keys,
@@ -82,7 +82,7 @@ impl ArchivePointee for ArchivedFact {
 }
 
 // The parts of `Holds`.
-fn fact_holds_expressions(alloc: Global) -> Result<Vec<Expr>, Error>
+fn fact_holds_expressions(alloc: Global) -> Result<Vec<archive_core::shape::Expr>, Error>
     ensures shapes { IfOk result (λ list. shapes_in list.items ≡ fact_holds_parts) }
     ensures refused { IfErr result (λ e. e ≡ OutOfMemory) }
 {
@@ -92,7 +92,7 @@ fn fact_holds_expressions(alloc: Global) -> Result<Vec<Expr>, Error>
 }
 
 // The parts of `Outcome`.
-fn fact_outcome_expressions(alloc: Global) -> Result<Vec<Expr>, Error>
+fn fact_outcome_expressions(alloc: Global) -> Result<Vec<archive_core::shape::Expr>, Error>
     ensures shapes { IfOk result (λ list. shapes_in list.items ≡ fact_outcome_parts) }
     ensures refused { IfErr result (λ e. e ≡ OutOfMemory) }
 {
@@ -101,16 +101,19 @@ fn fact_outcome_expressions(alloc: Global) -> Result<Vec<Expr>, Error>
 }
 
 // The parts of `Facts`.
-fn fact_facts_expressions(alloc: Global) -> Result<Vec<Expr>, Error>
+fn fact_facts_expressions(alloc: Global) -> Result<Vec<archive_core::shape::Expr>, Error>
     ensures shapes { IfOk result (λ list. shapes_in list.items ≡ fact_facts_parts) }
     ensures refused { IfErr result (λ e. e ≡ OutOfMemory) }
 {
-    let a0 = Expr::Vec(Box::new(alloc, Expr::Named("ArchivedFact"))?);
+    let a0 = archive_core::shape::Expr::Vec(Box::new(
+        alloc,
+        archive_core::shape::Expr::Named("ArchivedFact"),
+    )?);
     Ok(vec![in alloc; a0]?)
 }
 
 // What the name stands for.
-fn fact_expression(alloc: Global) -> Result<Expr, Error>
+fn fact_expression(alloc: Global) -> Result<archive_core::shape::Expr, Error>
     ensures shape { IfOk result (λ e. shape_of e ≡ fact_stands_for) }
     ensures refused { IfErr result (λ e. e ≡ OutOfMemory) }
 {
@@ -146,8 +149,8 @@ impl Portable for ArchivedFact {
         4
     }
 
-    fn expr(_alloc: Global) -> Result<Expr, Error> {
-        Ok(Expr::Named("ArchivedFact"))
+    fn expr(_alloc: Global) -> Result<archive_core::shape::Expr, Error> {
+        Ok(archive_core::shape::Expr::Named("ArchivedFact"))
     }
 
     fn define(alloc: Global, defs: &mut Defs) -> Result<(), Error> {
@@ -490,8 +493,10 @@ fn read_vec_fact<D: Entries>(
     deserializer: &mut D,
 ) -> Result<Vec<Fact>, Error>
     requires { IsPartOf ⟦<ArchivedVec<ArchivedFact> as ArchivePointee>⟧ part }
-    ensures { ReadsAs ⟦<ArchivedVec<ArchivedFact> as ArchivePointee>⟧ part D.Entries deserializer
-        ⟦<Vec<Fact> as Archive>⟧ result }
+    ensures read { IfOk result (Read ⟦<ArchivedVec<ArchivedFact> as ArchivePointee>⟧ part D.Entries
+        deserializer ⟦<Vec<Fact> as Archive>⟧) }
+    ensures refused { IfErr result (RefusesPart ⟦<ArchivedVec<ArchivedFact> as ArchivePointee>⟧ part
+        D.Entries deserializer) }
 {
     let view: Ref<'_, ArchivedVec<ArchivedFact>> = Ref::at(part);
     let list = before_vec(view);
@@ -512,8 +517,10 @@ fn read_fact_holds<D: Entries>(
 ) -> Result<Fact, Error>
     requires viewed { IsPartOf ⟦<ArchivedFact as ArchivePointee>⟧ part }
     requires tag { part_tag part ≡ 0 }
-    ensures { ReadsAs ⟦<ArchivedFact as ArchivePointee>⟧ part D.Entries deserializer
-        ⟦<Fact as Archive>⟧ result }
+    ensures read { IfOk result (Read ⟦<ArchivedFact as ArchivePointee>⟧ part D.Entries deserializer
+        ⟦<Fact as Archive>⟧) }
+    ensures refused { IfErr result (RefusesPart ⟦<ArchivedFact as ArchivePointee>⟧ part D.Entries
+        deserializer) }
 {
     let p0 = part_of_variant::<ArchivedFact, bool>(part, 0, 0, 1);
     let a0 = read_part::<bool, bool, D>(alloc, p0, deserializer)?;
@@ -531,8 +538,10 @@ fn read_fact_outcome<D: Entries>(
 ) -> Result<Fact, Error>
     requires viewed { IsPartOf ⟦<ArchivedFact as ArchivePointee>⟧ part }
     requires tag { part_tag part ≡ 1 }
-    ensures { ReadsAs ⟦<ArchivedFact as ArchivePointee>⟧ part D.Entries deserializer
-        ⟦<Fact as Archive>⟧ result }
+    ensures read { IfOk result (Read ⟦<ArchivedFact as ArchivePointee>⟧ part D.Entries deserializer
+        ⟦<Fact as Archive>⟧) }
+    ensures refused { IfErr result (RefusesPart ⟦<ArchivedFact as ArchivePointee>⟧ part D.Entries
+        deserializer) }
 {
     let p0 = part_of_variant::<ArchivedFact, ArchivedResult<ArchivedU32, ArchivedString>>(
         part, 1, 0, 4,
@@ -554,8 +563,10 @@ fn read_fact_facts<D: Entries>(
 ) -> Result<Fact, Error>
     requires viewed { IsPartOf ⟦<ArchivedFact as ArchivePointee>⟧ part }
     requires tag { part_tag part ≡ 2 }
-    ensures { ReadsAs ⟦<ArchivedFact as ArchivePointee>⟧ part D.Entries deserializer
-        ⟦<Fact as Archive>⟧ result }
+    ensures read { IfOk result (Read ⟦<ArchivedFact as ArchivePointee>⟧ part D.Entries deserializer
+        ⟦<Fact as Archive>⟧) }
+    ensures refused { IfErr result (RefusesPart ⟦<ArchivedFact as ArchivePointee>⟧ part D.Entries
+        deserializer) }
 {
     let p0 = part_of_variant::<ArchivedFact, ArchivedVec<ArchivedFact>>(part, 2, 0, 4);
     let a0 = read_vec_fact(alloc, p0, deserializer)?;
@@ -570,8 +581,10 @@ fn read_fact<D: Entries>(
     deserializer: &mut D,
 ) -> Result<Fact, Error>
     requires { IsPartOf ⟦<ArchivedFact as ArchivePointee>⟧ part }
-    ensures { ReadsAs ⟦<ArchivedFact as ArchivePointee>⟧ part D.Entries deserializer
-        ⟦<Fact as Archive>⟧ result }
+    ensures read { IfOk result (Read ⟦<ArchivedFact as ArchivePointee>⟧ part D.Entries deserializer
+        ⟦<Fact as Archive>⟧) }
+    ensures refused { IfErr result (RefusesPart ⟦<ArchivedFact as ArchivePointee>⟧ part D.Entries
+        deserializer) }
 {
     match tag_of_choice::<ArchivedFact>(part) {
         0 => read_fact_holds(alloc, part, deserializer),

@@ -21,10 +21,10 @@ ghost use Rattle.archive_core.specs.PlannedOwners.{one_planned};
 ghost use Rattle.archive_core.specs.Plans.{Serialized};
 ghost use Rattle.archive_core.specs.Runs.{EachBelongs, IsRunRefused, SerializedRun, each_flat, each_keys, each_meaning};
 ghost use Rattle.archive_core.specs.SealsWritten.{IsSealOf, SealsPart};
-ghost use Rattle.archive_core.specs.Seen.{IsPartOf, ShowsValueOf};
+ghost use Rattle.archive_core.specs.Seen.{IsPartOf, RefusesPart, ShowsValueOf};
 ghost use Rattle.archive_core.specs.SelfCheck.Laws.{by_schema};
 ghost use Rattle.archive_core.specs.Shape.{boxed, one, part, parts, vec};
-ghost use Rattle.archive_core.specs.Sources.{ReadsAs};
+ghost use Rattle.archive_core.specs.Sources.{Read, ReadsAs};
 ghost use Rattle.archive_core.specs.Value.{value};
 ghost use Rattle.archive_core.specs.Writing.{ZeroedPlace};
 ghost use Rattle.archive_core.specs.Written.{GoesOn};
@@ -43,7 +43,7 @@ use archive_core::recursive::{
 use archive_core::seal::Seal;
 use archive_core::self_check::BySchema;
 use archive_core::ser::{ResolverAlloc, Writer, serialize_one};
-use archive_core::shape::{Defs, Expr, Pointee};
+use archive_core::shape::Defs;
 use archive_core::traits::{
     Archive, ArchivePointee, ArchiveUnsized, CopyOptimization, Deserialize, Entries, Keys,
     Portable, Record, Serialize, SerializeUnsized,
@@ -72,20 +72,23 @@ impl ArchivePointee for ArchivedKnot {
 }
 
 // The parts of `Knot`.
-fn knot_expressions(alloc: Global) -> Result<Vec<Expr>, Error>
+fn knot_expressions(alloc: Global) -> Result<Vec<archive_core::shape::Expr>, Error>
     ensures shapes { IfOk result (λ list. shapes_in list.items ≡ knot_parts) }
     ensures refused { IfErr result (λ e. e ≡ OutOfMemory) }
 {
     let a0 = <ArchivedU32 as Portable>::expr(alloc)?;
-    let a1 = Expr::Vec(Box::new(
+    let a1 = archive_core::shape::Expr::Vec(Box::new(
         alloc,
-        Expr::Box(Box::new(alloc, Pointee::One(Expr::Named("ArchivedKnot")))?),
+        archive_core::shape::Expr::Box(Box::new(
+            alloc,
+            archive_core::shape::Pointee::One(archive_core::shape::Expr::Named("ArchivedKnot")),
+        )?),
     )?);
     Ok(vec![in alloc; a0, a1]?)
 }
 
 // What the name stands for.
-fn knot_expression(alloc: Global) -> Result<Expr, Error>
+fn knot_expression(alloc: Global) -> Result<archive_core::shape::Expr, Error>
     ensures shape { IfOk result (λ e. shape_of e ≡ knot_stands_for) }
     ensures refused { IfErr result (λ e. e ≡ OutOfMemory) }
 {
@@ -118,8 +121,8 @@ impl Portable for ArchivedKnot {
         4
     }
 
-    fn expr(_alloc: Global) -> Result<Expr, Error> {
-        Ok(Expr::Named("ArchivedKnot"))
+    fn expr(_alloc: Global) -> Result<archive_core::shape::Expr, Error> {
+        Ok(archive_core::shape::Expr::Named("ArchivedKnot"))
     }
 
     fn define(alloc: Global, defs: &mut Defs) -> Result<(), Error> {
@@ -345,8 +348,10 @@ fn read_box_knot<D: Entries>(
     deserializer: &mut D,
 ) -> Result<Box<Knot>, Error>
     requires { IsPartOf ⟦<ArchivedBox<ArchivedKnot> as ArchivePointee>⟧ part }
-    ensures { ReadsAs ⟦<ArchivedBox<ArchivedKnot> as ArchivePointee>⟧ part D.Entries deserializer
-        ⟦<Box<Knot> as Archive>⟧ result }
+    ensures read { IfOk result (Read ⟦<ArchivedBox<ArchivedKnot> as ArchivePointee>⟧ part D.Entries
+        deserializer ⟦<Box<Knot> as Archive>⟧) }
+    ensures refused { IfErr result (RefusesPart ⟦<ArchivedBox<ArchivedKnot> as ArchivePointee>⟧ part
+        D.Entries deserializer) }
 {
     let view: Ref<'_, ArchivedBox<ArchivedKnot>> = Ref::at(part);
     let value = read_knot(alloc, before_box(view).part(), deserializer)?;
@@ -362,8 +367,11 @@ fn read_vec_box_knot<D: Entries>(
     deserializer: &mut D,
 ) -> Result<Vec<Box<Knot>>, Error>
     requires { IsPartOf ⟦<ArchivedVec<ArchivedBox<ArchivedKnot>> as ArchivePointee>⟧ part }
-    ensures { ReadsAs ⟦<ArchivedVec<ArchivedBox<ArchivedKnot>> as ArchivePointee>⟧ part D.Entries
-        deserializer ⟦<Vec<Box<Knot>> as Archive>⟧ result }
+    ensures read { IfOk result (Read ⟦<ArchivedVec<ArchivedBox<ArchivedKnot>> as ArchivePointee>⟧
+        part D.Entries deserializer ⟦<Vec<Box<Knot>> as Archive>⟧) }
+    ensures refused { IfErr result
+        (RefusesPart ⟦<ArchivedVec<ArchivedBox<ArchivedKnot>> as ArchivePointee>⟧ part D.Entries
+        deserializer) }
 {
     let view: Ref<'_, ArchivedVec<ArchivedBox<ArchivedKnot>>> = Ref::at(part);
     let list = before_vec(view);
@@ -383,8 +391,10 @@ fn read_knot<D: Entries>(
     deserializer: &mut D,
 ) -> Result<Knot, Error>
     requires { IsPartOf ⟦<ArchivedKnot as ArchivePointee>⟧ part }
-    ensures { ReadsAs ⟦<ArchivedKnot as ArchivePointee>⟧ part D.Entries deserializer
-        ⟦<Knot as Archive>⟧ result }
+    ensures read { IfOk result (Read ⟦<ArchivedKnot as ArchivePointee>⟧ part D.Entries deserializer
+        ⟦<Knot as Archive>⟧) }
+    ensures refused { IfErr result (RefusesPart ⟦<ArchivedKnot as ArchivePointee>⟧ part D.Entries
+        deserializer) }
 {
     let p0 = part_of_record::<ArchivedKnot, ArchivedU32>(part, 0, 0);
     let a0 = read_part::<ArchivedU32, u32, D>(alloc, p0, deserializer)?;

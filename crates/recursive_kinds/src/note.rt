@@ -28,10 +28,10 @@ ghost use Rattle.archive_core.specs.PlannedOwners.{one_planned};
 ghost use Rattle.archive_core.specs.Plans.{Serialized};
 ghost use Rattle.archive_core.specs.Runs.{EachBelongs, IsRunRefused, SerializedRun, each_flat, each_keys, each_meaning};
 ghost use Rattle.archive_core.specs.SealsWritten.{IsSealOf, SealsPart, seal_tag};
-ghost use Rattle.archive_core.specs.Seen.{IsPartOf, ShowsValueOf, part_tag, tag_of};
+ghost use Rattle.archive_core.specs.Seen.{IsPartOf, RefusesPart, ShowsValueOf, part_tag, tag_of};
 ghost use Rattle.archive_core.specs.SelfCheck.Laws.{by_schema};
 ghost use Rattle.archive_core.specs.Shape.{one, part, parts, variant, vec};
-ghost use Rattle.archive_core.specs.Sources.{ReadsAs};
+ghost use Rattle.archive_core.specs.Sources.{Read, ReadsAs};
 ghost use Rattle.archive_core.specs.Value.{case, no_value, value};
 ghost use Rattle.archive_core.specs.Writing.{ZeroedPlace};
 ghost use Rattle.archive_core.specs.Written.{GoesOn};
@@ -53,7 +53,7 @@ use archive_core::recursive::{
 use archive_core::seal::Seal;
 use archive_core::self_check::BySchema;
 use archive_core::ser::{ResolverAlloc, Writer, serialize_one};
-use archive_core::shape::{Defs, Expr};
+use archive_core::shape::Defs;
 use archive_core::string::ArchivedString;
 use archive_core::traits::{
     Archive, ArchivePointee, ArchiveUnsized, Choice, CopyOptimization, Deserialize, Entries, Keys,
@@ -97,7 +97,7 @@ impl ArchivePointee for ArchivedNote {
 }
 
 // The parts of `Texts`.
-fn note_texts_expressions(alloc: Global) -> Result<Vec<Expr>, Error>
+fn note_texts_expressions(alloc: Global) -> Result<Vec<archive_core::shape::Expr>, Error>
     ensures shapes { IfOk result (λ list. shapes_in list.items ≡ note_texts_parts) }
     ensures refused { IfErr result (λ e. e ≡ OutOfMemory) }
 {
@@ -107,7 +107,7 @@ fn note_texts_expressions(alloc: Global) -> Result<Vec<Expr>, Error>
 }
 
 // The parts of `Hours`.
-fn note_hours_expressions(alloc: Global) -> Result<Vec<Expr>, Error>
+fn note_hours_expressions(alloc: Global) -> Result<Vec<archive_core::shape::Expr>, Error>
     ensures shapes { IfOk result (λ list. shapes_in list.items ≡ note_hours_parts) }
     ensures refused { IfErr result (λ e. e ≡ OutOfMemory) }
 {
@@ -116,7 +116,7 @@ fn note_hours_expressions(alloc: Global) -> Result<Vec<Expr>, Error>
 }
 
 // The parts of `Rank`.
-fn note_rank_expressions(alloc: Global) -> Result<Vec<Expr>, Error>
+fn note_rank_expressions(alloc: Global) -> Result<Vec<archive_core::shape::Expr>, Error>
     ensures shapes { IfOk result (λ list. shapes_in list.items ≡ note_rank_parts) }
     ensures refused { IfErr result (λ e. e ≡ OutOfMemory) }
 {
@@ -126,16 +126,19 @@ fn note_rank_expressions(alloc: Global) -> Result<Vec<Expr>, Error>
 }
 
 // The parts of `Notes`.
-fn note_notes_expressions(alloc: Global) -> Result<Vec<Expr>, Error>
+fn note_notes_expressions(alloc: Global) -> Result<Vec<archive_core::shape::Expr>, Error>
     ensures shapes { IfOk result (λ list. shapes_in list.items ≡ note_notes_parts) }
     ensures refused { IfErr result (λ e. e ≡ OutOfMemory) }
 {
-    let a0 = Expr::Vec(Box::new(alloc, Expr::Named("ArchivedNote"))?);
+    let a0 = archive_core::shape::Expr::Vec(Box::new(
+        alloc,
+        archive_core::shape::Expr::Named("ArchivedNote"),
+    )?);
     Ok(vec![in alloc; a0]?)
 }
 
 // What the name stands for.
-fn note_expression(alloc: Global) -> Result<Expr, Error>
+fn note_expression(alloc: Global) -> Result<archive_core::shape::Expr, Error>
     ensures shape { IfOk result (λ e. shape_of e ≡ note_stands_for) }
     ensures refused { IfErr result (λ e. e ≡ OutOfMemory) }
 {
@@ -172,8 +175,8 @@ impl Portable for ArchivedNote {
         4
     }
 
-    fn expr(_alloc: Global) -> Result<Expr, Error> {
-        Ok(Expr::Named("ArchivedNote"))
+    fn expr(_alloc: Global) -> Result<archive_core::shape::Expr, Error> {
+        Ok(archive_core::shape::Expr::Named("ArchivedNote"))
     }
 
     fn define(alloc: Global, defs: &mut Defs) -> Result<(), Error> {
@@ -589,8 +592,10 @@ fn read_vec_note<D: Entries>(
     deserializer: &mut D,
 ) -> Result<Vec<Note>, Error>
     requires { IsPartOf ⟦<ArchivedVec<ArchivedNote> as ArchivePointee>⟧ part }
-    ensures { ReadsAs ⟦<ArchivedVec<ArchivedNote> as ArchivePointee>⟧ part D.Entries deserializer
-        ⟦<Vec<Note> as Archive>⟧ result }
+    ensures read { IfOk result (Read ⟦<ArchivedVec<ArchivedNote> as ArchivePointee>⟧ part D.Entries
+        deserializer ⟦<Vec<Note> as Archive>⟧) }
+    ensures refused { IfErr result (RefusesPart ⟦<ArchivedVec<ArchivedNote> as ArchivePointee>⟧ part
+        D.Entries deserializer) }
 {
     let view: Ref<'_, ArchivedVec<ArchivedNote>> = Ref::at(part);
     let list = before_vec(view);
@@ -611,8 +616,10 @@ fn read_note_texts<D: Entries>(
 ) -> Result<Note, Error>
     requires viewed { IsPartOf ⟦<ArchivedNote as ArchivePointee>⟧ part }
     requires tag { part_tag part ≡ 0 }
-    ensures { ReadsAs ⟦<ArchivedNote as ArchivePointee>⟧ part D.Entries deserializer
-        ⟦<Note as Archive>⟧ result }
+    ensures read { IfOk result (Read ⟦<ArchivedNote as ArchivePointee>⟧ part D.Entries deserializer
+        ⟦<Note as Archive>⟧) }
+    ensures refused { IfErr result (RefusesPart ⟦<ArchivedNote as ArchivePointee>⟧ part D.Entries
+        deserializer) }
 {
     let p0 = part_of_variant::<ArchivedNote, ArchivedVec<ArchivedString>>(part, 0, 0, 4);
     let a0 = read_part::<ArchivedVec<ArchivedString>, Vec<String>, D>(alloc, p0, deserializer)?;
@@ -634,8 +641,10 @@ fn read_note_hours<D: Entries>(
 ) -> Result<Note, Error>
     requires viewed { IsPartOf ⟦<ArchivedNote as ArchivePointee>⟧ part }
     requires tag { part_tag part ≡ 1 }
-    ensures { ReadsAs ⟦<ArchivedNote as ArchivePointee>⟧ part D.Entries deserializer
-        ⟦<Note as Archive>⟧ result }
+    ensures read { IfOk result (Read ⟦<ArchivedNote as ArchivePointee>⟧ part D.Entries deserializer
+        ⟦<Note as Archive>⟧) }
+    ensures refused { IfErr result (RefusesPart ⟦<ArchivedNote as ArchivePointee>⟧ part D.Entries
+        deserializer) }
 {
     let p0 = part_of_variant::<ArchivedNote, ArchivedSortedMap<ArchivedU16, ArchivedI64>>(
         part, 1, 0, 4,
@@ -657,8 +666,10 @@ fn read_note_rank<D: Entries>(
 ) -> Result<Note, Error>
     requires viewed { IsPartOf ⟦<ArchivedNote as ArchivePointee>⟧ part }
     requires tag { part_tag part ≡ 2 }
-    ensures { ReadsAs ⟦<ArchivedNote as ArchivePointee>⟧ part D.Entries deserializer
-        ⟦<Note as Archive>⟧ result }
+    ensures read { IfOk result (Read ⟦<ArchivedNote as ArchivePointee>⟧ part D.Entries deserializer
+        ⟦<Note as Archive>⟧) }
+    ensures refused { IfErr result (RefusesPart ⟦<ArchivedNote as ArchivePointee>⟧ part D.Entries
+        deserializer) }
 {
     let p0 = part_of_variant::<ArchivedNote, NonZero<u32>>(part, 2, 0, 4);
     let a0 = match read_part::<NonZero<u32>, ArchivedNonZeroU32, D>(alloc, p0, deserializer) {
@@ -679,8 +690,10 @@ fn read_note_notes<D: Entries>(
 ) -> Result<Note, Error>
     requires viewed { IsPartOf ⟦<ArchivedNote as ArchivePointee>⟧ part }
     requires tag { part_tag part ≡ 3 }
-    ensures { ReadsAs ⟦<ArchivedNote as ArchivePointee>⟧ part D.Entries deserializer
-        ⟦<Note as Archive>⟧ result }
+    ensures read { IfOk result (Read ⟦<ArchivedNote as ArchivePointee>⟧ part D.Entries deserializer
+        ⟦<Note as Archive>⟧) }
+    ensures refused { IfErr result (RefusesPart ⟦<ArchivedNote as ArchivePointee>⟧ part D.Entries
+        deserializer) }
 {
     let p0 = part_of_variant::<ArchivedNote, ArchivedVec<ArchivedNote>>(part, 3, 0, 4);
     let a0 = read_vec_note(alloc, p0, deserializer)?;
@@ -695,8 +708,10 @@ fn read_note<D: Entries>(
     deserializer: &mut D,
 ) -> Result<Note, Error>
     requires { IsPartOf ⟦<ArchivedNote as ArchivePointee>⟧ part }
-    ensures { ReadsAs ⟦<ArchivedNote as ArchivePointee>⟧ part D.Entries deserializer
-        ⟦<Note as Archive>⟧ result }
+    ensures read { IfOk result (Read ⟦<ArchivedNote as ArchivePointee>⟧ part D.Entries deserializer
+        ⟦<Note as Archive>⟧) }
+    ensures refused { IfErr result (RefusesPart ⟦<ArchivedNote as ArchivePointee>⟧ part D.Entries
+        deserializer) }
 {
     match tag_of_choice::<ArchivedNote>(part) {
         0 => read_note_texts(alloc, part, deserializer),

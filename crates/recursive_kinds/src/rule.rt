@@ -30,10 +30,10 @@ ghost use Rattle.archive_core.specs.PlannedOwners.{one_planned};
 ghost use Rattle.archive_core.specs.Plans.{Serialized};
 ghost use Rattle.archive_core.specs.Runs.{EachBelongs, IsRunRefused, SerializedRun, each_flat, each_keys, each_meaning};
 ghost use Rattle.archive_core.specs.SealsWritten.{IsSealOf, SealsPart};
-ghost use Rattle.archive_core.specs.Seen.{IsPartOf, ShowsValueOf};
+ghost use Rattle.archive_core.specs.Seen.{IsPartOf, RefusesPart, ShowsValueOf};
 ghost use Rattle.archive_core.specs.SelfCheck.Laws.{by_schema};
 ghost use Rattle.archive_core.specs.Shape.{one, part, parts, vec};
-ghost use Rattle.archive_core.specs.Sources.{ReadsAs};
+ghost use Rattle.archive_core.specs.Sources.{Read, ReadsAs};
 ghost use Rattle.archive_core.specs.Value.{value};
 ghost use Rattle.archive_core.specs.Writing.{ZeroedPlace};
 ghost use Rattle.archive_core.specs.Written.{GoesOn};
@@ -52,7 +52,7 @@ use archive_core::recursive::{
 use archive_core::seal::Seal;
 use archive_core::self_check::BySchema;
 use archive_core::ser::{ResolverAlloc, Writer, serialize_one};
-use archive_core::shape::{Defs, Expr};
+use archive_core::shape::Defs;
 use archive_core::slice::ArchivedSlice;
 use archive_core::string::ArchivedStr;
 use archive_core::traits::{
@@ -92,7 +92,7 @@ impl ArchivePointee for ArchivedRule {
 }
 
 // The parts of `Rule`.
-fn rule_expressions(alloc: Global) -> Result<Vec<Expr>, Error>
+fn rule_expressions(alloc: Global) -> Result<Vec<archive_core::shape::Expr>, Error>
     ensures shapes { IfOk result (λ list. shapes_in list.items ≡ rule_parts) }
     ensures refused { IfErr result (λ e. e ≡ OutOfMemory) }
 {
@@ -100,12 +100,15 @@ fn rule_expressions(alloc: Global) -> Result<Vec<Expr>, Error>
     let a1 = <[u8; 4] as Portable>::expr(alloc)?;
     let a2 = <ArchivedBox<ArchivedSlice<ArchivedU16>> as Portable>::expr(alloc)?;
     let a3 = <ArchivedUsize as Portable>::expr(alloc)?;
-    let a4 = Expr::Vec(Box::new(alloc, Expr::Named("ArchivedRule"))?);
+    let a4 = archive_core::shape::Expr::Vec(Box::new(
+        alloc,
+        archive_core::shape::Expr::Named("ArchivedRule"),
+    )?);
     Ok(vec![in alloc; a0, a1, a2, a3, a4]?)
 }
 
 // What the name stands for.
-fn rule_expression(alloc: Global) -> Result<Expr, Error>
+fn rule_expression(alloc: Global) -> Result<archive_core::shape::Expr, Error>
     ensures shape { IfOk result (λ e. shape_of e ≡ rule_stands_for) }
     ensures refused { IfErr result (λ e. e ≡ OutOfMemory) }
 {
@@ -138,8 +141,8 @@ impl Portable for ArchivedRule {
         4
     }
 
-    fn expr(_alloc: Global) -> Result<Expr, Error> {
-        Ok(Expr::Named("ArchivedRule"))
+    fn expr(_alloc: Global) -> Result<archive_core::shape::Expr, Error> {
+        Ok(archive_core::shape::Expr::Named("ArchivedRule"))
     }
 
     fn define(alloc: Global, defs: &mut Defs) -> Result<(), Error> {
@@ -390,8 +393,10 @@ fn read_vec_rule<D: Entries>(
     deserializer: &mut D,
 ) -> Result<Vec<Rule>, Error>
     requires { IsPartOf ⟦<ArchivedVec<ArchivedRule> as ArchivePointee>⟧ part }
-    ensures { ReadsAs ⟦<ArchivedVec<ArchivedRule> as ArchivePointee>⟧ part D.Entries deserializer
-        ⟦<Vec<Rule> as Archive>⟧ result }
+    ensures read { IfOk result (Read ⟦<ArchivedVec<ArchivedRule> as ArchivePointee>⟧ part D.Entries
+        deserializer ⟦<Vec<Rule> as Archive>⟧) }
+    ensures refused { IfErr result (RefusesPart ⟦<ArchivedVec<ArchivedRule> as ArchivePointee>⟧ part
+        D.Entries deserializer) }
 {
     let view: Ref<'_, ArchivedVec<ArchivedRule>> = Ref::at(part);
     let list = before_vec(view);
@@ -411,8 +416,10 @@ fn read_rule<D: Entries>(
     deserializer: &mut D,
 ) -> Result<Rule, Error>
     requires { IsPartOf ⟦<ArchivedRule as ArchivePointee>⟧ part }
-    ensures { ReadsAs ⟦<ArchivedRule as ArchivePointee>⟧ part D.Entries deserializer
-        ⟦<Rule as Archive>⟧ result }
+    ensures read { IfOk result (Read ⟦<ArchivedRule as ArchivePointee>⟧ part D.Entries deserializer
+        ⟦<Rule as Archive>⟧) }
+    ensures refused { IfErr result (RefusesPart ⟦<ArchivedRule as ArchivePointee>⟧ part D.Entries
+        deserializer) }
 {
     let p0 = part_of_record::<ArchivedRule, ArchivedBox<ArchivedStr>>(part, 0, 0);
     let a0 = read_part::<ArchivedBox<ArchivedStr>, BoxStr, D>(alloc, p0, deserializer)?;

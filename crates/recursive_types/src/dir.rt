@@ -33,10 +33,10 @@ ghost use Rattle.archive_core.specs.PlannedOwners.{one_planned};
 ghost use Rattle.archive_core.specs.Plans.{Serialized};
 ghost use Rattle.archive_core.specs.Runs.{EachBelongs, IsRunRefused, SerializedRun, each_flat, each_keys, each_meaning};
 ghost use Rattle.archive_core.specs.SealsWritten.{IsSealOf, SealsPart, seal_tag};
-ghost use Rattle.archive_core.specs.Seen.{IsPartOf, ShowsValueOf, part_tag, tag_of};
+ghost use Rattle.archive_core.specs.Seen.{IsPartOf, RefusesPart, ShowsValueOf, part_tag, tag_of};
 ghost use Rattle.archive_core.specs.SelfCheck.Laws.{by_schema};
 ghost use Rattle.archive_core.specs.Shape.{boxed, one, part, parts, variant, vec};
-ghost use Rattle.archive_core.specs.Sources.{ReadsAs};
+ghost use Rattle.archive_core.specs.Sources.{Read, ReadsAs};
 ghost use Rattle.archive_core.specs.Value.{case, no_value, value};
 ghost use Rattle.archive_core.specs.Writing.{ZeroedPlace};
 ghost use Rattle.archive_core.specs.Written.{GoesOn};
@@ -57,7 +57,7 @@ use archive_core::recursive::{
 use archive_core::seal::Seal;
 use archive_core::self_check::BySchema;
 use archive_core::ser::{ResolverAlloc, Writer, serialize_one};
-use archive_core::shape::{Defs, Expr, Pointee};
+use archive_core::shape::Defs;
 use archive_core::string::ArchivedString;
 use archive_core::traits::{
     Archive, ArchivePointee, ArchiveUnsized, Choice, CopyOptimization, Deserialize, Entries, Keys,
@@ -87,17 +87,20 @@ impl ArchivePointee for ArchivedDir {
 }
 
 // The parts of `Dir`.
-fn dir_expressions(alloc: Global) -> Result<Vec<Expr>, Error>
+fn dir_expressions(alloc: Global) -> Result<Vec<archive_core::shape::Expr>, Error>
     ensures shapes { IfOk result (λ list. shapes_in list.items ≡ dir_parts) }
     ensures refused { IfErr result (λ e. e ≡ OutOfMemory) }
 {
     let a0 = <ArchivedString as Portable>::expr(alloc)?;
-    let a1 = Expr::Vec(Box::new(alloc, Expr::Named("ArchivedEntry"))?);
+    let a1 = archive_core::shape::Expr::Vec(Box::new(
+        alloc,
+        archive_core::shape::Expr::Named("ArchivedEntry"),
+    )?);
     Ok(vec![in alloc; a0, a1]?)
 }
 
 // What the name stands for.
-fn dir_expression(alloc: Global) -> Result<Expr, Error>
+fn dir_expression(alloc: Global) -> Result<archive_core::shape::Expr, Error>
     ensures shape { IfOk result (λ e. shape_of e ≡ dir_stands_for) }
     ensures refused { IfErr result (λ e. e ≡ OutOfMemory) }
 {
@@ -144,8 +147,8 @@ impl Portable for ArchivedDir {
         4
     }
 
-    fn expr(_alloc: Global) -> Result<Expr, Error> {
-        Ok(Expr::Named("ArchivedDir"))
+    fn expr(_alloc: Global) -> Result<archive_core::shape::Expr, Error> {
+        Ok(archive_core::shape::Expr::Named("ArchivedDir"))
     }
 
     fn define(alloc: Global, defs: &mut Defs) -> Result<(), Error> {
@@ -361,8 +364,10 @@ fn read_vec_entry<D: Entries>(
     deserializer: &mut D,
 ) -> Result<Vec<Entry>, Error>
     requires { IsPartOf ⟦<ArchivedVec<ArchivedEntry> as ArchivePointee>⟧ part }
-    ensures { ReadsAs ⟦<ArchivedVec<ArchivedEntry> as ArchivePointee>⟧ part D.Entries deserializer
-        ⟦<Vec<Entry> as Archive>⟧ result }
+    ensures read { IfOk result (Read ⟦<ArchivedVec<ArchivedEntry> as ArchivePointee>⟧ part D.Entries
+        deserializer ⟦<Vec<Entry> as Archive>⟧) }
+    ensures refused { IfErr result (RefusesPart ⟦<ArchivedVec<ArchivedEntry> as ArchivePointee>⟧
+        part D.Entries deserializer) }
 {
     let view: Ref<'_, ArchivedVec<ArchivedEntry>> = Ref::at(part);
     let list = before_vec(view);
@@ -382,8 +387,10 @@ fn read_dir<D: Entries>(
     deserializer: &mut D,
 ) -> Result<Dir, Error>
     requires { IsPartOf ⟦<ArchivedDir as ArchivePointee>⟧ part }
-    ensures { ReadsAs ⟦<ArchivedDir as ArchivePointee>⟧ part D.Entries deserializer
-        ⟦<Dir as Archive>⟧ result }
+    ensures read { IfOk result (Read ⟦<ArchivedDir as ArchivePointee>⟧ part D.Entries deserializer
+        ⟦<Dir as Archive>⟧) }
+    ensures refused { IfErr result (RefusesPart ⟦<ArchivedDir as ArchivePointee>⟧ part D.Entries
+        deserializer) }
 {
     let p0 = part_of_record::<ArchivedDir, ArchivedString>(part, 0, 0);
     let a0 = read_part::<ArchivedString, String, D>(alloc, p0, deserializer)?;
@@ -499,7 +506,7 @@ impl ArchivePointee for ArchivedEntry {
 }
 
 // The parts of `File`.
-fn entry_file_expressions(alloc: Global) -> Result<Vec<Expr>, Error>
+fn entry_file_expressions(alloc: Global) -> Result<Vec<archive_core::shape::Expr>, Error>
     ensures shapes { IfOk result (λ list. shapes_in list.items ≡ entry_file_parts) }
     ensures refused { IfErr result (λ e. e ≡ OutOfMemory) }
 {
@@ -508,16 +515,19 @@ fn entry_file_expressions(alloc: Global) -> Result<Vec<Expr>, Error>
 }
 
 // The parts of `Sub`.
-fn entry_sub_expressions(alloc: Global) -> Result<Vec<Expr>, Error>
+fn entry_sub_expressions(alloc: Global) -> Result<Vec<archive_core::shape::Expr>, Error>
     ensures shapes { IfOk result (λ list. shapes_in list.items ≡ entry_sub_parts) }
     ensures refused { IfErr result (λ e. e ≡ OutOfMemory) }
 {
-    let a0 = Expr::Box(Box::new(alloc, Pointee::One(Expr::Named("ArchivedDir")))?);
+    let a0 = archive_core::shape::Expr::Box(Box::new(
+        alloc,
+        archive_core::shape::Pointee::One(archive_core::shape::Expr::Named("ArchivedDir")),
+    )?);
     Ok(vec![in alloc; a0]?)
 }
 
 // What the name stands for.
-fn entry_expression(alloc: Global) -> Result<Expr, Error>
+fn entry_expression(alloc: Global) -> Result<archive_core::shape::Expr, Error>
     ensures shape { IfOk result (λ e. shape_of e ≡ entry_stands_for) }
     ensures refused { IfErr result (λ e. e ≡ OutOfMemory) }
 {
@@ -542,7 +552,7 @@ fn define_entry(alloc: Global, defs: &mut Defs) -> Result<(), Error>
 }
 
 // Adds what the names stand for.
-#[tactic(auto, using(archive_check::proofs::format::AddedDefinitions::joining))]
+#[tactic(auto, using(archive_core::proofs::AddedDefinitions::joining))]
 fn define_dir_family(alloc: Global, defs: &mut Defs) -> Result<(), Error>
     ensures added { OnOk result (Extended (table_of defs.old) dir_definitions (table_of defs.new)) }
     ensures refused { IfErr result (ExplainsConflict (table_of defs.old) dir_definitions) }
@@ -576,8 +586,8 @@ impl Portable for ArchivedEntry {
         8
     }
 
-    fn expr(_alloc: Global) -> Result<Expr, Error> {
-        Ok(Expr::Named("ArchivedEntry"))
+    fn expr(_alloc: Global) -> Result<archive_core::shape::Expr, Error> {
+        Ok(archive_core::shape::Expr::Named("ArchivedEntry"))
     }
 
     fn define(alloc: Global, defs: &mut Defs) -> Result<(), Error> {
@@ -822,8 +832,10 @@ fn read_box_dir<D: Entries>(
     deserializer: &mut D,
 ) -> Result<Box<Dir>, Error>
     requires { IsPartOf ⟦<ArchivedBox<ArchivedDir> as ArchivePointee>⟧ part }
-    ensures { ReadsAs ⟦<ArchivedBox<ArchivedDir> as ArchivePointee>⟧ part D.Entries deserializer
-        ⟦<Box<Dir> as Archive>⟧ result }
+    ensures read { IfOk result (Read ⟦<ArchivedBox<ArchivedDir> as ArchivePointee>⟧ part D.Entries
+        deserializer ⟦<Box<Dir> as Archive>⟧) }
+    ensures refused { IfErr result (RefusesPart ⟦<ArchivedBox<ArchivedDir> as ArchivePointee>⟧ part
+        D.Entries deserializer) }
 {
     let view: Ref<'_, ArchivedBox<ArchivedDir>> = Ref::at(part);
     let value = read_dir(alloc, before_box(view).part(), deserializer)?;
@@ -840,8 +852,10 @@ fn read_entry_file<D: Entries>(
 ) -> Result<Entry, Error>
     requires viewed { IsPartOf ⟦<ArchivedEntry as ArchivePointee>⟧ part }
     requires tag { part_tag part ≡ 0 }
-    ensures { ReadsAs ⟦<ArchivedEntry as ArchivePointee>⟧ part D.Entries deserializer
-        ⟦<Entry as Archive>⟧ result }
+    ensures read { IfOk result (Read ⟦<ArchivedEntry as ArchivePointee>⟧ part D.Entries deserializer
+        ⟦<Entry as Archive>⟧) }
+    ensures refused { IfErr result (RefusesPart ⟦<ArchivedEntry as ArchivePointee>⟧ part D.Entries
+        deserializer) }
 {
     let p0 = part_of_variant::<ArchivedEntry, ArchivedU64>(part, 0, 0, 8);
     let a0 = read_part::<ArchivedU64, u64, D>(alloc, p0, deserializer)?;
@@ -857,8 +871,10 @@ fn read_entry_sub<D: Entries>(
 ) -> Result<Entry, Error>
     requires viewed { IsPartOf ⟦<ArchivedEntry as ArchivePointee>⟧ part }
     requires tag { part_tag part ≡ 1 }
-    ensures { ReadsAs ⟦<ArchivedEntry as ArchivePointee>⟧ part D.Entries deserializer
-        ⟦<Entry as Archive>⟧ result }
+    ensures read { IfOk result (Read ⟦<ArchivedEntry as ArchivePointee>⟧ part D.Entries deserializer
+        ⟦<Entry as Archive>⟧) }
+    ensures refused { IfErr result (RefusesPart ⟦<ArchivedEntry as ArchivePointee>⟧ part D.Entries
+        deserializer) }
 {
     let p0 = part_of_variant::<ArchivedEntry, ArchivedBox<ArchivedDir>>(part, 1, 0, 4);
     let a0 = read_box_dir(alloc, p0, deserializer)?;
@@ -873,8 +889,10 @@ fn read_entry<D: Entries>(
     deserializer: &mut D,
 ) -> Result<Entry, Error>
     requires { IsPartOf ⟦<ArchivedEntry as ArchivePointee>⟧ part }
-    ensures { ReadsAs ⟦<ArchivedEntry as ArchivePointee>⟧ part D.Entries deserializer
-        ⟦<Entry as Archive>⟧ result }
+    ensures read { IfOk result (Read ⟦<ArchivedEntry as ArchivePointee>⟧ part D.Entries deserializer
+        ⟦<Entry as Archive>⟧) }
+    ensures refused { IfErr result (RefusesPart ⟦<ArchivedEntry as ArchivePointee>⟧ part D.Entries
+        deserializer) }
 {
     match tag_of_choice::<ArchivedEntry>(part) {
         0 => read_entry_file(alloc, part, deserializer),

@@ -23,10 +23,10 @@ ghost use Rattle.archive_core.specs.PlannedOwners.{one_planned};
 ghost use Rattle.archive_core.specs.Plans.{Serialized};
 ghost use Rattle.archive_core.specs.Runs.{EachBelongs, IsRunRefused, SerializedRun, each_flat, each_keys, each_meaning};
 ghost use Rattle.archive_core.specs.SealsWritten.{IsSealOf, SealsPart, seal_tag};
-ghost use Rattle.archive_core.specs.Seen.{IsPartOf, ShowsValueOf, part_tag, tag_of};
+ghost use Rattle.archive_core.specs.Seen.{IsPartOf, RefusesPart, ShowsValueOf, part_tag, tag_of};
 ghost use Rattle.archive_core.specs.SelfCheck.Laws.{by_schema};
 ghost use Rattle.archive_core.specs.Shape.{boxed, one, part, parts, variant, vec};
-ghost use Rattle.archive_core.specs.Sources.{ReadsAs};
+ghost use Rattle.archive_core.specs.Sources.{Read, ReadsAs};
 ghost use Rattle.archive_core.specs.Value.{case, no_value, value};
 ghost use Rattle.archive_core.specs.Writing.{ZeroedPlace};
 ghost use Rattle.archive_core.specs.Written.{GoesOn};
@@ -46,7 +46,7 @@ use archive_core::recursive::{
 use archive_core::seal::Seal;
 use archive_core::self_check::BySchema;
 use archive_core::ser::{ResolverAlloc, Writer, serialize_one};
-use archive_core::shape::{Defs, Expr as CoreExpr, Pointee};
+use archive_core::shape::Defs;
 use archive_core::string::ArchivedString;
 use archive_core::traits::{
     Archive, ArchivePointee, ArchiveUnsized, Choice, CopyOptimization, Deserialize, Entries, Keys,
@@ -82,7 +82,7 @@ impl ArchivePointee for ArchivedExpr {
 }
 
 // The parts of `Num`.
-fn expr_num_expressions(alloc: Global) -> Result<Vec<CoreExpr>, Error>
+fn expr_num_expressions(alloc: Global) -> Result<Vec<archive_core::shape::Expr>, Error>
     ensures shapes { IfOk result (λ list. shapes_in list.items ≡ expr_num_parts) }
     ensures refused { IfErr result (λ e. e ≡ OutOfMemory) }
 {
@@ -91,27 +91,36 @@ fn expr_num_expressions(alloc: Global) -> Result<Vec<CoreExpr>, Error>
 }
 
 // The parts of `Add`.
-fn expr_add_expressions(alloc: Global) -> Result<Vec<CoreExpr>, Error>
+fn expr_add_expressions(alloc: Global) -> Result<Vec<archive_core::shape::Expr>, Error>
     ensures shapes { IfOk result (λ list. shapes_in list.items ≡ expr_add_parts) }
     ensures refused { IfErr result (λ e. e ≡ OutOfMemory) }
 {
-    let a0 = CoreExpr::Box(Box::new(alloc, Pointee::One(CoreExpr::Named("ArchivedExpr")))?);
-    let a1 = CoreExpr::Box(Box::new(alloc, Pointee::One(CoreExpr::Named("ArchivedExpr")))?);
+    let a0 = archive_core::shape::Expr::Box(Box::new(
+        alloc,
+        archive_core::shape::Pointee::One(archive_core::shape::Expr::Named("ArchivedExpr")),
+    )?);
+    let a1 = archive_core::shape::Expr::Box(Box::new(
+        alloc,
+        archive_core::shape::Pointee::One(archive_core::shape::Expr::Named("ArchivedExpr")),
+    )?);
     Ok(vec![in alloc; a0, a1]?)
 }
 
 // The parts of `Call`.
-fn expr_call_expressions(alloc: Global) -> Result<Vec<CoreExpr>, Error>
+fn expr_call_expressions(alloc: Global) -> Result<Vec<archive_core::shape::Expr>, Error>
     ensures shapes { IfOk result (λ list. shapes_in list.items ≡ expr_call_parts) }
     ensures refused { IfErr result (λ e. e ≡ OutOfMemory) }
 {
     let a0 = <ArchivedString as Portable>::expr(alloc)?;
-    let a1 = CoreExpr::Vec(Box::new(alloc, CoreExpr::Named("ArchivedExpr"))?);
+    let a1 = archive_core::shape::Expr::Vec(Box::new(
+        alloc,
+        archive_core::shape::Expr::Named("ArchivedExpr"),
+    )?);
     Ok(vec![in alloc; a0, a1]?)
 }
 
 // What the name stands for.
-fn expr_expression(alloc: Global) -> Result<CoreExpr, Error>
+fn expr_expression(alloc: Global) -> Result<archive_core::shape::Expr, Error>
     ensures shape { IfOk result (λ e. shape_of e ≡ expr_stands_for) }
     ensures refused { IfErr result (λ e. e ≡ OutOfMemory) }
 {
@@ -147,8 +156,8 @@ impl Portable for ArchivedExpr {
         8
     }
 
-    fn expr(_alloc: Global) -> Result<CoreExpr, Error> {
-        Ok(CoreExpr::Named("ArchivedExpr"))
+    fn expr(_alloc: Global) -> Result<archive_core::shape::Expr, Error> {
+        Ok(archive_core::shape::Expr::Named("ArchivedExpr"))
     }
 
     fn define(alloc: Global, defs: &mut Defs) -> Result<(), Error> {
@@ -495,8 +504,10 @@ fn read_box_expr<D: Entries>(
     deserializer: &mut D,
 ) -> Result<Box<Expr>, Error>
     requires { IsPartOf ⟦<ArchivedBox<ArchivedExpr> as ArchivePointee>⟧ part }
-    ensures { ReadsAs ⟦<ArchivedBox<ArchivedExpr> as ArchivePointee>⟧ part D.Entries deserializer
-        ⟦<Box<Expr> as Archive>⟧ result }
+    ensures read { IfOk result (Read ⟦<ArchivedBox<ArchivedExpr> as ArchivePointee>⟧ part D.Entries
+        deserializer ⟦<Box<Expr> as Archive>⟧) }
+    ensures refused { IfErr result (RefusesPart ⟦<ArchivedBox<ArchivedExpr> as ArchivePointee>⟧ part
+        D.Entries deserializer) }
 {
     let view: Ref<'_, ArchivedBox<ArchivedExpr>> = Ref::at(part);
     let value = read_expr(alloc, before_box(view).part(), deserializer)?;
@@ -512,8 +523,10 @@ fn read_vec_expr<D: Entries>(
     deserializer: &mut D,
 ) -> Result<Vec<Expr>, Error>
     requires { IsPartOf ⟦<ArchivedVec<ArchivedExpr> as ArchivePointee>⟧ part }
-    ensures { ReadsAs ⟦<ArchivedVec<ArchivedExpr> as ArchivePointee>⟧ part D.Entries deserializer
-        ⟦<Vec<Expr> as Archive>⟧ result }
+    ensures read { IfOk result (Read ⟦<ArchivedVec<ArchivedExpr> as ArchivePointee>⟧ part D.Entries
+        deserializer ⟦<Vec<Expr> as Archive>⟧) }
+    ensures refused { IfErr result (RefusesPart ⟦<ArchivedVec<ArchivedExpr> as ArchivePointee>⟧ part
+        D.Entries deserializer) }
 {
     let view: Ref<'_, ArchivedVec<ArchivedExpr>> = Ref::at(part);
     let list = before_vec(view);
@@ -534,8 +547,10 @@ fn read_expr_num<D: Entries>(
 ) -> Result<Expr, Error>
     requires viewed { IsPartOf ⟦<ArchivedExpr as ArchivePointee>⟧ part }
     requires tag { part_tag part ≡ 0 }
-    ensures { ReadsAs ⟦<ArchivedExpr as ArchivePointee>⟧ part D.Entries deserializer
-        ⟦<Expr as Archive>⟧ result }
+    ensures read { IfOk result (Read ⟦<ArchivedExpr as ArchivePointee>⟧ part D.Entries deserializer
+        ⟦<Expr as Archive>⟧) }
+    ensures refused { IfErr result (RefusesPart ⟦<ArchivedExpr as ArchivePointee>⟧ part D.Entries
+        deserializer) }
 {
     let p0 = part_of_variant::<ArchivedExpr, ArchivedI64>(part, 0, 0, 8);
     let a0 = read_part::<ArchivedI64, i64, D>(alloc, p0, deserializer)?;
@@ -551,8 +566,10 @@ fn read_expr_add<D: Entries>(
 ) -> Result<Expr, Error>
     requires viewed { IsPartOf ⟦<ArchivedExpr as ArchivePointee>⟧ part }
     requires tag { part_tag part ≡ 1 }
-    ensures { ReadsAs ⟦<ArchivedExpr as ArchivePointee>⟧ part D.Entries deserializer
-        ⟦<Expr as Archive>⟧ result }
+    ensures read { IfOk result (Read ⟦<ArchivedExpr as ArchivePointee>⟧ part D.Entries deserializer
+        ⟦<Expr as Archive>⟧) }
+    ensures refused { IfErr result (RefusesPart ⟦<ArchivedExpr as ArchivePointee>⟧ part D.Entries
+        deserializer) }
 {
     let p0 = part_of_variant::<ArchivedExpr, ArchivedBox<ArchivedExpr>>(part, 1, 0, 4);
     let a0 = read_box_expr(alloc, p0, deserializer)?;
@@ -570,8 +587,10 @@ fn read_expr_call<D: Entries>(
 ) -> Result<Expr, Error>
     requires viewed { IsPartOf ⟦<ArchivedExpr as ArchivePointee>⟧ part }
     requires tag { part_tag part ≡ 2 }
-    ensures { ReadsAs ⟦<ArchivedExpr as ArchivePointee>⟧ part D.Entries deserializer
-        ⟦<Expr as Archive>⟧ result }
+    ensures read { IfOk result (Read ⟦<ArchivedExpr as ArchivePointee>⟧ part D.Entries deserializer
+        ⟦<Expr as Archive>⟧) }
+    ensures refused { IfErr result (RefusesPart ⟦<ArchivedExpr as ArchivePointee>⟧ part D.Entries
+        deserializer) }
 {
     let p0 = part_of_variant::<ArchivedExpr, ArchivedString>(part, 2, 0, 4);
     let a0 = read_part::<ArchivedString, String, D>(alloc, p0, deserializer)?;
@@ -588,8 +607,10 @@ fn read_expr<D: Entries>(
     deserializer: &mut D,
 ) -> Result<Expr, Error>
     requires { IsPartOf ⟦<ArchivedExpr as ArchivePointee>⟧ part }
-    ensures { ReadsAs ⟦<ArchivedExpr as ArchivePointee>⟧ part D.Entries deserializer
-        ⟦<Expr as Archive>⟧ result }
+    ensures read { IfOk result (Read ⟦<ArchivedExpr as ArchivePointee>⟧ part D.Entries deserializer
+        ⟦<Expr as Archive>⟧) }
+    ensures refused { IfErr result (RefusesPart ⟦<ArchivedExpr as ArchivePointee>⟧ part D.Entries
+        deserializer) }
 {
     match tag_of_choice::<ArchivedExpr>(part) {
         0 => read_expr_num(alloc, part, deserializer),

@@ -22,7 +22,7 @@ ghost use Rattle.archive_core.specs.PlannedOwners.{one_planned};
 ghost use Rattle.archive_core.specs.SealsWritten.{IsSealOf, SealsPart, seal_tag};
 ghost use Rattle.archive_core.specs.Seen.{IsPartOf, RefusesPart, ShowsValueOf, part_tag, tag_of};
 ghost use Rattle.archive_core.specs.Shape.{one, part, parts, variant, vec};
-ghost use Rattle.archive_core.specs.Sources.{ReadsAs};
+ghost use Rattle.archive_core.specs.Sources.{Read, ReadsAs};
 ghost use Rattle.archive_core.specs.Value.{case, no_value, value};
 ghost use Rattle.archive_core.specs.Writing.{ZeroedPlace};
 ghost use Rattle.archive_core.specs.Written.{GoesOn};
@@ -43,7 +43,7 @@ use archive_core::recursive::{
 };
 use archive_core::seal::Seal;
 use archive_core::ser::{ResolverAlloc, Writer, serialize_one};
-use archive_core::shape::{Defs, Expr, Pointee};
+use archive_core::shape::Defs;
 use archive_core::traits::{
     Archive, ArchivePointee, ArchiveUnsized, Choice, CopyOptimization, Deserialize, Entries, Keys,
     Portable, Serialize, SerializeUnsized,
@@ -73,17 +73,20 @@ impl ArchivePointee for ArchivedList {
 }
 
 // The parts of `Cons`.
-fn list_cons_expressions(alloc: Global) -> Result<Vec<Expr>, Error>
+fn list_cons_expressions(alloc: Global) -> Result<Vec<archive_core::shape::Expr>, Error>
     ensures shapes { IfOk result (λ list. shapes_in list.items ≡ list_cons_parts) }
     ensures refused { IfErr result (λ e. e ≡ OutOfMemory) }
 {
     let a0 = <ArchivedU32 as Portable>::expr(alloc)?;
-    let a1 = Expr::Box(Box::new(alloc, Pointee::One(Expr::Named("ArchivedList")))?);
+    let a1 = archive_core::shape::Expr::Box(Box::new(
+        alloc,
+        archive_core::shape::Pointee::One(archive_core::shape::Expr::Named("ArchivedList")),
+    )?);
     Ok(vec![in alloc; a0, a1]?)
 }
 
 // What the name stands for.
-fn list_expression(alloc: Global) -> Result<Expr, Error>
+fn list_expression(alloc: Global) -> Result<archive_core::shape::Expr, Error>
     ensures shape { IfOk result (λ e. shape_of e ≡ list_stands_for) }
     ensures refused { IfErr result (λ e. e ≡ OutOfMemory) }
 {
@@ -118,8 +121,8 @@ impl Portable for ArchivedList {
         4
     }
 
-    fn expr(_alloc: Global) -> Result<Expr, Error> {
-        Ok(Expr::Named("ArchivedList"))
+    fn expr(_alloc: Global) -> Result<archive_core::shape::Expr, Error> {
+        Ok(archive_core::shape::Expr::Named("ArchivedList"))
     }
 
     fn define(alloc: Global, defs: &mut Defs) -> Result<(), Error> {
@@ -394,8 +397,10 @@ fn read_list_nil<D: Entries>(
 ) -> Result<List, Error>
     requires viewed { IsPartOf ⟦<ArchivedList as ArchivePointee>⟧ part }
     requires tag { part_tag part ≡ 0 }
-    ensures { ReadsAs ⟦<ArchivedList as ArchivePointee>⟧ part D.Entries _deserializer
-        ⟦<List as Archive>⟧ result }
+    ensures read { IfOk result (Read ⟦<ArchivedList as ArchivePointee>⟧ part D.Entries _deserializer
+        ⟦<List as Archive>⟧) }
+    ensures refused { IfErr result (RefusesPart ⟦<ArchivedList as ArchivePointee>⟧ part D.Entries
+        _deserializer) }
 {
     Ok(List::Nil)
 }

@@ -16,10 +16,10 @@ ghost use Rattle.archive_core.specs.PlannedOwners.{one_planned};
 ghost use Rattle.archive_core.specs.Plans.{Serialized};
 ghost use Rattle.archive_core.specs.Runs.{EachBelongs, IsRunRefused, SerializedRun, each_flat, each_keys, each_meaning};
 ghost use Rattle.archive_core.specs.SealsWritten.{IsSealOf, SealsPart};
-ghost use Rattle.archive_core.specs.Seen.{IsPartOf, ShowsValueOf};
+ghost use Rattle.archive_core.specs.Seen.{IsPartOf, RefusesPart, ShowsValueOf};
 ghost use Rattle.archive_core.specs.SelfCheck.Laws.{by_schema};
 ghost use Rattle.archive_core.specs.Shape.{one, part, parts, vec};
-ghost use Rattle.archive_core.specs.Sources.{ReadsAs};
+ghost use Rattle.archive_core.specs.Sources.{Read, ReadsAs};
 ghost use Rattle.archive_core.specs.Value.{value};
 ghost use Rattle.archive_core.specs.Writing.{ZeroedPlace};
 ghost use Rattle.archive_core.specs.Written.{GoesOn};
@@ -37,7 +37,7 @@ use archive_core::recursive::{
 use archive_core::seal::Seal;
 use archive_core::self_check::BySchema;
 use archive_core::ser::{ResolverAlloc, Writer, serialize_one};
-use archive_core::shape::{Defs, Expr};
+use archive_core::shape::Defs;
 use archive_core::traits::{
     Archive, ArchivePointee, ArchiveUnsized, CopyOptimization, Deserialize, Entries, Keys,
     Portable, Record, Serialize, SerializeUnsized,
@@ -66,17 +66,20 @@ impl ArchivePointee for ArchivedRose {
 }
 
 // The parts of `Rose`.
-fn rose_expressions(alloc: Global) -> Result<Vec<Expr>, Error>
+fn rose_expressions(alloc: Global) -> Result<Vec<archive_core::shape::Expr>, Error>
     ensures shapes { IfOk result (λ list. shapes_in list.items ≡ rose_parts) }
     ensures refused { IfErr result (λ e. e ≡ OutOfMemory) }
 {
     let a0 = <ArchivedU32 as Portable>::expr(alloc)?;
-    let a1 = Expr::Vec(Box::new(alloc, Expr::Named("ArchivedRose"))?);
+    let a1 = archive_core::shape::Expr::Vec(Box::new(
+        alloc,
+        archive_core::shape::Expr::Named("ArchivedRose"),
+    )?);
     Ok(vec![in alloc; a0, a1]?)
 }
 
 // What the name stands for.
-fn rose_expression(alloc: Global) -> Result<Expr, Error>
+fn rose_expression(alloc: Global) -> Result<archive_core::shape::Expr, Error>
     ensures shape { IfOk result (λ e. shape_of e ≡ rose_stands_for) }
     ensures refused { IfErr result (λ e. e ≡ OutOfMemory) }
 {
@@ -109,8 +112,8 @@ impl Portable for ArchivedRose {
         4
     }
 
-    fn expr(_alloc: Global) -> Result<Expr, Error> {
-        Ok(Expr::Named("ArchivedRose"))
+    fn expr(_alloc: Global) -> Result<archive_core::shape::Expr, Error> {
+        Ok(archive_core::shape::Expr::Named("ArchivedRose"))
     }
 
     fn define(alloc: Global, defs: &mut Defs) -> Result<(), Error> {
@@ -330,8 +333,10 @@ fn read_vec_rose<D: Entries>(
     deserializer: &mut D,
 ) -> Result<Vec<Rose>, Error>
     requires { IsPartOf ⟦<ArchivedVec<ArchivedRose> as ArchivePointee>⟧ part }
-    ensures { ReadsAs ⟦<ArchivedVec<ArchivedRose> as ArchivePointee>⟧ part D.Entries deserializer
-        ⟦<Vec<Rose> as Archive>⟧ result }
+    ensures read { IfOk result (Read ⟦<ArchivedVec<ArchivedRose> as ArchivePointee>⟧ part D.Entries
+        deserializer ⟦<Vec<Rose> as Archive>⟧) }
+    ensures refused { IfErr result (RefusesPart ⟦<ArchivedVec<ArchivedRose> as ArchivePointee>⟧ part
+        D.Entries deserializer) }
 {
     let view: Ref<'_, ArchivedVec<ArchivedRose>> = Ref::at(part);
     let list = before_vec(view);
@@ -351,8 +356,10 @@ fn read_rose<D: Entries>(
     deserializer: &mut D,
 ) -> Result<Rose, Error>
     requires { IsPartOf ⟦<ArchivedRose as ArchivePointee>⟧ part }
-    ensures { ReadsAs ⟦<ArchivedRose as ArchivePointee>⟧ part D.Entries deserializer
-        ⟦<Rose as Archive>⟧ result }
+    ensures read { IfOk result (Read ⟦<ArchivedRose as ArchivePointee>⟧ part D.Entries deserializer
+        ⟦<Rose as Archive>⟧) }
+    ensures refused { IfErr result (RefusesPart ⟦<ArchivedRose as ArchivePointee>⟧ part D.Entries
+        deserializer) }
 {
     let p0 = part_of_record::<ArchivedRose, ArchivedU32>(part, 0, 0);
     let a0 = read_part::<ArchivedU32, u32, D>(alloc, p0, deserializer)?;

@@ -24,10 +24,10 @@ ghost use Rattle.archive_core.specs.Hollow.{option_at};
 ghost use Rattle.archive_core.specs.PlannedOwners.{one_planned};
 ghost use Rattle.archive_core.specs.Plans.{Serialized};
 ghost use Rattle.archive_core.specs.SealsWritten.{IsSealOf, SealsPart};
-ghost use Rattle.archive_core.specs.Seen.{IsPartOf, ShowsValueOf};
+ghost use Rattle.archive_core.specs.Seen.{IsPartOf, RefusesPart, ShowsValueOf};
 ghost use Rattle.archive_core.specs.SelfCheck.Laws.{by_schema};
 ghost use Rattle.archive_core.specs.Shape.{boxed, one, part, parts, vec};
-ghost use Rattle.archive_core.specs.Sources.{ReadsAs};
+ghost use Rattle.archive_core.specs.Sources.{Read, ReadsAs};
 ghost use Rattle.archive_core.specs.Value.{value};
 ghost use Rattle.archive_core.specs.Writing.{ZeroedPlace};
 ghost use Rattle.archive_core.specs.Written.{GoesOn};
@@ -47,7 +47,7 @@ use archive_core::recursive::{
 use archive_core::seal::Seal;
 use archive_core::self_check::BySchema;
 use archive_core::ser::{ResolverAlloc, Writer, serialize_one};
-use archive_core::shape::{Defs, Expr, Pointee};
+use archive_core::shape::Defs;
 use archive_core::traits::{
     Archive, ArchivePointee, ArchiveUnsized, CopyOptimization, Deserialize, Entries, Keys,
     Portable, Record, Serialize, SerializeUnsized,
@@ -81,24 +81,30 @@ impl ArchivePointee for ArchivedSearch {
 }
 
 // The parts of `Search`.
-fn search_expressions(alloc: Global) -> Result<Vec<Expr>, Error>
+fn search_expressions(alloc: Global) -> Result<Vec<archive_core::shape::Expr>, Error>
     ensures shapes { IfOk result (λ list. shapes_in list.items ≡ search_parts) }
     ensures refused { IfErr result (λ e. e ≡ OutOfMemory) }
 {
     let a0 = option_expression(
         alloc,
-        Expr::Box(Box::new(alloc, Pointee::One(Expr::Named("ArchivedSearch")))?),
+        archive_core::shape::Expr::Box(Box::new(
+            alloc,
+            archive_core::shape::Pointee::One(archive_core::shape::Expr::Named("ArchivedSearch")),
+        )?),
     )?;
     let a1 = <ArchivedU32 as Portable>::expr(alloc)?;
     let a2 = option_expression(
         alloc,
-        Expr::Box(Box::new(alloc, Pointee::One(Expr::Named("ArchivedSearch")))?),
+        archive_core::shape::Expr::Box(Box::new(
+            alloc,
+            archive_core::shape::Pointee::One(archive_core::shape::Expr::Named("ArchivedSearch")),
+        )?),
     )?;
     Ok(vec![in alloc; a0, a1, a2]?)
 }
 
 // What the name stands for.
-fn search_expression(alloc: Global) -> Result<Expr, Error>
+fn search_expression(alloc: Global) -> Result<archive_core::shape::Expr, Error>
     ensures shape { IfOk result (λ e. shape_of e ≡ search_stands_for) }
     ensures refused { IfErr result (λ e. e ≡ OutOfMemory) }
 {
@@ -131,8 +137,8 @@ impl Portable for ArchivedSearch {
         4
     }
 
-    fn expr(_alloc: Global) -> Result<Expr, Error> {
-        Ok(Expr::Named("ArchivedSearch"))
+    fn expr(_alloc: Global) -> Result<archive_core::shape::Expr, Error> {
+        Ok(archive_core::shape::Expr::Named("ArchivedSearch"))
     }
 
     fn define(alloc: Global, defs: &mut Defs) -> Result<(), Error> {
@@ -333,8 +339,10 @@ fn read_box_search<D: Entries>(
     deserializer: &mut D,
 ) -> Result<Box<Search>, Error>
     requires { IsPartOf ⟦<ArchivedBox<ArchivedSearch> as ArchivePointee>⟧ part }
-    ensures { ReadsAs ⟦<ArchivedBox<ArchivedSearch> as ArchivePointee>⟧ part D.Entries deserializer
-        ⟦<Box<Search> as Archive>⟧ result }
+    ensures read { IfOk result (Read ⟦<ArchivedBox<ArchivedSearch> as ArchivePointee>⟧ part
+        D.Entries deserializer ⟦<Box<Search> as Archive>⟧) }
+    ensures refused { IfErr result (RefusesPart ⟦<ArchivedBox<ArchivedSearch> as ArchivePointee>⟧
+        part D.Entries deserializer) }
 {
     let view: Ref<'_, ArchivedBox<ArchivedSearch>> = Ref::at(part);
     let value = read_search(alloc, before_box(view).part(), deserializer)?;
@@ -350,8 +358,11 @@ fn read_option_box_search<D: Entries>(
     deserializer: &mut D,
 ) -> Result<Option<Box<Search>>, Error>
     requires { IsPartOf ⟦<ArchivedOption<ArchivedBox<ArchivedSearch>> as ArchivePointee>⟧ part }
-    ensures { ReadsAs ⟦<ArchivedOption<ArchivedBox<ArchivedSearch>> as ArchivePointee>⟧ part
-        D.Entries deserializer ⟦<Option<Box<Search>> as Archive>⟧ result }
+    ensures read { IfOk result (Read ⟦<ArchivedOption<ArchivedBox<ArchivedSearch>> as ArchivePointee>⟧
+        part D.Entries deserializer ⟦<Option<Box<Search>> as Archive>⟧) }
+    ensures refused { IfErr result
+        (RefusesPart ⟦<ArchivedOption<ArchivedBox<ArchivedSearch>> as ArchivePointee>⟧ part
+        D.Entries deserializer) }
 {
     let view: Ref<'_, ArchivedOption<ArchivedBox<ArchivedSearch>>> = Ref::at(part);
     match view.as_ref() {
@@ -371,8 +382,10 @@ fn read_search<D: Entries>(
     deserializer: &mut D,
 ) -> Result<Search, Error>
     requires { IsPartOf ⟦<ArchivedSearch as ArchivePointee>⟧ part }
-    ensures { ReadsAs ⟦<ArchivedSearch as ArchivePointee>⟧ part D.Entries deserializer
-        ⟦<Search as Archive>⟧ result }
+    ensures read { IfOk result (Read ⟦<ArchivedSearch as ArchivePointee>⟧ part D.Entries
+        deserializer ⟦<Search as Archive>⟧) }
+    ensures refused { IfErr result (RefusesPart ⟦<ArchivedSearch as ArchivePointee>⟧ part D.Entries
+        deserializer) }
 {
     let p0 = part_of_record::<ArchivedSearch, ArchivedOption<ArchivedBox<ArchivedSearch>>>(
         part, 0, 0,

@@ -21,10 +21,10 @@ ghost use Rattle.archive_core.specs.PlannedOwners.{one_planned};
 ghost use Rattle.archive_core.specs.Plans.{Serialized};
 ghost use Rattle.archive_core.specs.Runs.{EachBelongs, IsRunRefused, SerializedRun, each_flat, each_keys, each_meaning};
 ghost use Rattle.archive_core.specs.SealsWritten.{IsSealOf, SealsPart};
-ghost use Rattle.archive_core.specs.Seen.{IsPartOf, ShowsValueOf};
+ghost use Rattle.archive_core.specs.Seen.{IsPartOf, RefusesPart, ShowsValueOf};
 ghost use Rattle.archive_core.specs.SelfCheck.Laws.{by_schema};
 ghost use Rattle.archive_core.specs.Shape.{one, part, parts, vec};
-ghost use Rattle.archive_core.specs.Sources.{ReadsAs};
+ghost use Rattle.archive_core.specs.Sources.{Read, ReadsAs};
 ghost use Rattle.archive_core.specs.Value.{value};
 ghost use Rattle.archive_core.specs.Writing.{ZeroedPlace};
 ghost use Rattle.archive_core.specs.Written.{GoesOn};
@@ -42,7 +42,7 @@ use archive_core::recursive::{
 use archive_core::seal::Seal;
 use archive_core::self_check::BySchema;
 use archive_core::ser::{ResolverAlloc, Writer, serialize_one};
-use archive_core::shape::{Defs, Expr};
+use archive_core::shape::Defs;
 use archive_core::traits::{
     Archive, ArchivePointee, ArchiveUnsized, CopyOptimization, Deserialize, Entries, Keys,
     Portable, Record, Serialize, SerializeUnsized,
@@ -71,17 +71,20 @@ impl ArchivePointee for ArchivedTree {
 }
 
 // The parts of `Tree`.
-fn tree_expressions(alloc: Global) -> Result<Vec<Expr>, Error>
+fn tree_expressions(alloc: Global) -> Result<Vec<archive_core::shape::Expr>, Error>
     ensures shapes { IfOk result (λ list. shapes_in list.items ≡ tree_parts) }
     ensures refused { IfErr result (λ e. e ≡ OutOfMemory) }
 {
     let a0 = <ArchivedU32 as Portable>::expr(alloc)?;
-    let a1 = Expr::Vec(Box::new(alloc, Expr::Named("ArchivedTree"))?);
+    let a1 = archive_core::shape::Expr::Vec(Box::new(
+        alloc,
+        archive_core::shape::Expr::Named("ArchivedTree"),
+    )?);
     Ok(vec![in alloc; a0, a1]?)
 }
 
 // What the name stands for.
-fn tree_expression(alloc: Global) -> Result<Expr, Error>
+fn tree_expression(alloc: Global) -> Result<archive_core::shape::Expr, Error>
     ensures shape { IfOk result (λ e. shape_of e ≡ tree_stands_for) }
     ensures refused { IfErr result (λ e. e ≡ OutOfMemory) }
 {
@@ -114,8 +117,8 @@ impl Portable for ArchivedTree {
         4
     }
 
-    fn expr(_alloc: Global) -> Result<Expr, Error> {
-        Ok(Expr::Named("ArchivedTree"))
+    fn expr(_alloc: Global) -> Result<archive_core::shape::Expr, Error> {
+        Ok(archive_core::shape::Expr::Named("ArchivedTree"))
     }
 
     fn define(alloc: Global, defs: &mut Defs) -> Result<(), Error> {
@@ -335,8 +338,10 @@ fn read_vec_tree<D: Entries>(
     deserializer: &mut D,
 ) -> Result<Vec<Tree>, Error>
     requires { IsPartOf ⟦<ArchivedVec<ArchivedTree> as ArchivePointee>⟧ part }
-    ensures { ReadsAs ⟦<ArchivedVec<ArchivedTree> as ArchivePointee>⟧ part D.Entries deserializer
-        ⟦<Vec<Tree> as Archive>⟧ result }
+    ensures read { IfOk result (Read ⟦<ArchivedVec<ArchivedTree> as ArchivePointee>⟧ part D.Entries
+        deserializer ⟦<Vec<Tree> as Archive>⟧) }
+    ensures refused { IfErr result (RefusesPart ⟦<ArchivedVec<ArchivedTree> as ArchivePointee>⟧ part
+        D.Entries deserializer) }
 {
     let view: Ref<'_, ArchivedVec<ArchivedTree>> = Ref::at(part);
     let list = before_vec(view);
@@ -356,8 +361,10 @@ fn read_tree<D: Entries>(
     deserializer: &mut D,
 ) -> Result<Tree, Error>
     requires { IsPartOf ⟦<ArchivedTree as ArchivePointee>⟧ part }
-    ensures { ReadsAs ⟦<ArchivedTree as ArchivePointee>⟧ part D.Entries deserializer
-        ⟦<Tree as Archive>⟧ result }
+    ensures read { IfOk result (Read ⟦<ArchivedTree as ArchivePointee>⟧ part D.Entries deserializer
+        ⟦<Tree as Archive>⟧) }
+    ensures refused { IfErr result (RefusesPart ⟦<ArchivedTree as ArchivePointee>⟧ part D.Entries
+        deserializer) }
 {
     let p0 = part_of_record::<ArchivedTree, ArchivedU32>(part, 0, 0);
     let a0 = read_part::<ArchivedU32, u32, D>(alloc, p0, deserializer)?;

@@ -9,7 +9,7 @@ ghost use Rattle.archive_check.specs.Value.{Value};
 ghost use Rattle.archive_check.specs.Viewed.{Viewed};
 ghost use Rattle.archive_core.specs.recursive.Chains.{HeadIsRead};
 ghost use Rattle.archive_types.specs.Words.Seen.{IsPartOf, RefusesPart};
-ghost use Rattle.archive_types.specs.Words.Sources.{ReadsAs};
+ghost use Rattle.archive_types.specs.Words.Sources.{Read};
 
 use crate::recursive::before::before_box;
 use archive_check::format::error::Error;
@@ -64,7 +64,8 @@ pub fn read_chain<X: Portable, T: ChainBack<X, D>, D: Entries>(
     deserializer: &mut D,
 ) -> Result<T, Error>
     requires { IsPartOf X.ArchivePointee part }
-    ensures { ReadsAs X.ArchivePointee part D.Entries deserializer T.Archive result }
+    ensures read { IfOk result (Read X.ArchivePointee part D.Entries deserializer T.Archive) }
+    ensures refused { IfErr result (RefusesPart X.ArchivePointee part D.Entries deserializer) }
 {
     let mut fronts: Vec<T::Front> = Vec::new(alloc);
     let mut here = part;
