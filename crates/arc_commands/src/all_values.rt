@@ -5,7 +5,7 @@ ghost use Rattle.std.proofs.Common.{inl, inr};
 ghost use Rattle.arc_commands.specs.AllValues.{all_name, all_choice};
 
 use archive_core::own::{ArchivedRecursive, NamedRecursive, choice_of};
-use archive_core::shape::{Expr, FlavorInfo, Pointee};
+use archive_core::shape::{self, FlavorInfo};
 use std::alloc::{AllocError, Global};
 
 /// The choice `ArchivedAllValues`, whose one variant is a shared one of it. Eight bytes, at a multiple of four. No buffer is an archive of it: each
@@ -38,13 +38,16 @@ impl NamedRecursive for AllValues {
         4
     }
 
-    fn definition(alloc: Global) -> Result<Expr, AllocError> {
-        let pointee = Box::new(alloc, Pointee::One(Expr::Named("ArchivedAllValues")))?;
+    fn definition(alloc: Global) -> Result<shape::Expr, AllocError> {
+        let pointee = Box::new(
+            alloc,
+            shape::Pointee::One(shape::Expr::Named("ArchivedAllValues")),
+        )?;
         let flavor = FlavorInfo {
             name: "RcFlavor",
             cycles: false,
         };
-        let inner = Expr::Shared(flavor, pointee);
+        let inner = shape::Expr::Shared(flavor, pointee);
         let variants = vec![in alloc; vec![in alloc; inner]?]?;
         Ok(choice_of("ArchivedAllValues", variants))
     }

@@ -7,7 +7,7 @@ ghost use Rattle.archive_core.specs.Shape.{no_part, part, parts};
 ghost use Rattle.tests_hostile.specs.InnerShape.{inner_name, inner_record};
 
 use archive_core::own::{ArchivedRecursive, NamedRecursive};
-use archive_core::shape::{Expr, FlavorInfo, Pointee};
+use archive_core::shape::{self, FlavorInfo};
 use std::alloc::{AllocError, Global};
 
 // The name `Inner`, and what it stands for.
@@ -16,11 +16,11 @@ pub(crate) struct Inner;
 pub(crate) type ArchivedInner = ArchivedRecursive<Inner>;
 
 // A record of one field.
-#[tactic(auto, using(archive_check::proofs::format::Views::views))]
-fn record_of(alloc: Global, only: Expr) -> Result<Expr, AllocError>
+#[tactic(auto, using(archive_core::proofs::Views::views))]
+fn record_of(alloc: Global, only: shape::Expr) -> Result<shape::Expr, AllocError>
     ensures { IfOk result (λ e. shape_of e ≡ parts (part (shape_of only) no_part)) }
 {
-    Ok(Expr::Record(vec![in alloc; only]?))
+    Ok(shape::Expr::Record(vec![in alloc; only]?))
 }
 
 impl NamedRecursive for Inner {
@@ -46,12 +46,12 @@ impl NamedRecursive for Inner {
         4
     }
 
-    fn definition(alloc: Global) -> Result<Expr, AllocError> {
-        let pointee = Box::new(alloc, Pointee::One(Expr::Named("Inner")))?;
+    fn definition(alloc: Global) -> Result<shape::Expr, AllocError> {
+        let pointee = Box::new(alloc, shape::Pointee::One(shape::Expr::Named("Inner")))?;
         let flavor = FlavorInfo {
             name: "RcFlavor",
             cycles: false,
         };
-        record_of(alloc, Expr::Weak(flavor, pointee))
+        record_of(alloc, shape::Expr::Weak(flavor, pointee))
     }
 }

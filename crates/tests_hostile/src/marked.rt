@@ -8,7 +8,7 @@ ghost use Rattle.archive_core.specs.Shape.{Kind as KindOf, Name, bool, no_part, 
 ghost use Rattle.tests_hostile.specs.MarkedMaps.{marked_map};
 
 use archive_core::own::{ArchivedRecursive, NamedRecursive};
-use archive_core::shape::{Expr, IntegerKind, Key, Kind};
+use archive_core::shape::{self, IntegerKind, Key, Kind};
 use std::alloc::{AllocError, Global};
 use std::marker::PhantomData;
 
@@ -41,11 +41,11 @@ pub(crate) struct MarkedFormat<M> {
 pub(crate) type ArchivedMarked<M> = ArchivedRecursive<MarkedFormat<M>>;
 
 // A record of one field.
-#[tactic(auto, using(archive_check::proofs::format::Views::views))]
-fn record_of(alloc: Global, only: Expr) -> Result<Expr, AllocError>
+#[tactic(auto, using(archive_core::proofs::Views::views))]
+fn record_of(alloc: Global, only: shape::Expr) -> Result<shape::Expr, AllocError>
     ensures { IfOk result (λ e. shape_of e ≡ parts (part (shape_of only) no_part)) }
 {
-    Ok(Expr::Record(vec![in alloc; only]?))
+    Ok(shape::Expr::Record(vec![in alloc; only]?))
 }
 
 impl<M: Marked> NamedRecursive for MarkedFormat<M> {
@@ -71,9 +71,9 @@ impl<M: Marked> NamedRecursive for MarkedFormat<M> {
         4
     }
 
-    fn definition(alloc: Global) -> Result<Expr, AllocError> {
-        let value = Box::new(alloc, Expr::Leaf(M::values()))?;
-        record_of(alloc, Expr::Map(Key::Leaf(M::keys()), value))
+    fn definition(alloc: Global) -> Result<shape::Expr, AllocError> {
+        let value = Box::new(alloc, shape::Expr::Leaf(M::values()))?;
+        record_of(alloc, shape::Expr::Map(Key::Leaf(M::keys()), value))
     }
 }
 

@@ -6,7 +6,7 @@ ghost use Rattle.tests_shared.specs.CircleShape.{circle_name, circle_pointer};
 
 use crate::archive::contexts::assert_entered;
 use archive_core::own::{ArchivedRecursive, NamedRecursive};
-use archive_core::shape::{Expr, FlavorInfo, Pointee};
+use archive_core::shape::{self, FlavorInfo};
 use std::alloc::{AllocError, Global};
 
 // The name of a shared pointer to one of it.
@@ -37,13 +37,16 @@ impl NamedRecursive for Circle {
         4
     }
 
-    fn definition(alloc: Global) -> Result<Expr, AllocError> {
-        let pointee = Box::new(alloc, Pointee::One(Expr::Named("ArchivedCircle")))?;
+    fn definition(alloc: Global) -> Result<shape::Expr, AllocError> {
+        let pointee = Box::new(
+            alloc,
+            shape::Pointee::One(shape::Expr::Named("ArchivedCircle")),
+        )?;
         let flavor = FlavorInfo {
             name: "Looping",
             cycles: true,
         };
-        Ok(Expr::Shared(flavor, pointee))
+        Ok(shape::Expr::Shared(flavor, pointee))
     }
 }
 

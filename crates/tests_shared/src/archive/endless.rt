@@ -19,7 +19,7 @@ use archive_core::error::Error;
 use archive_core::pooling::{Pool, Pooling, PoolingState};
 use archive_core::rc::{ArchivedRc, Shared};
 use archive_core::self_check::BySchema;
-use archive_core::shape::{Defs, Expr, FlavorInfo, Pointee};
+use archive_core::shape::{self, Defs, FlavorInfo};
 use archive_core::traits::{Archive, ArchivePointee, Choice, Deserialize, Portable};
 use archive_core::view::{RawView, Ref};
 use std::alloc::{AllocError, Global};
@@ -43,24 +43,31 @@ impl ArchivePointee for ArchivedLoop {
 }
 
 // A choice of one variant with these parts.
-fn choice_of(alloc: Global, name: &'static str, only: Vec<Expr>) -> Result<Expr, AllocError>
+fn choice_of(
+    alloc: Global,
+    name: &'static str,
+    only: Vec<shape::Expr>,
+) -> Result<shape::Expr, AllocError>
     ensures { IfOk result (λ e. shape_of e ≡ choice name.now
         (variant (shapes_in only.items) no_variant)) }
 {
     let variants = vec![in alloc; only]?;
-    Ok(Expr::Choice(name, variants))
+    Ok(shape::Expr::Choice(name, variants))
 }
 
 // The definition of its name.
-fn definition(alloc: Global) -> Result<Expr, AllocError>
+fn definition(alloc: Global) -> Result<shape::Expr, AllocError>
     ensures { IfOk result (λ e. shape_of e ≡ loop_choice) }
 {
-    let pointee = Box::new(alloc, Pointee::One(Expr::Named("ArchivedLoop")))?;
+    let pointee = Box::new(
+        alloc,
+        shape::Pointee::One(shape::Expr::Named("ArchivedLoop")),
+    )?;
     let flavor = FlavorInfo {
         name: "Looping",
         cycles: true,
     };
-    let inner = Expr::Shared(flavor, pointee);
+    let inner = shape::Expr::Shared(flavor, pointee);
     choice_of(alloc, "ArchivedLoop", vec![in alloc; inner]?)
 }
 
@@ -89,11 +96,11 @@ impl Portable for ArchivedLoop {
         4
     }
 
-    fn expr(_alloc: Global) -> Result<Expr, Error> {
-        Ok(Expr::Named("ArchivedLoop"))
+    fn expr(_alloc: Global) -> Result<shape::Expr, Error> {
+        Ok(shape::Expr::Named("ArchivedLoop"))
     }
 
-    #[tactic(auto, using(archive_check::proofs::format::AddedDefinitions::not_extended))]
+    #[tactic(auto, using(archive_core::proofs::AddedDefinitions::not_extended))]
     fn define(alloc: Global, defs: &mut Defs) -> Result<(), Error> {
         defs.add("ArchivedLoop", definition(alloc)?)?;
         Ok(())

@@ -8,7 +8,7 @@ use archive_core::error::Error;
 use archive_core::place::Place;
 use archive_core::rc::{ArchivedRc, ArchivedRcWeak, Flavor, RcFlavor, RcResolver, RcWeakResolver};
 use archive_core::ser::{Serializer, Writer};
-use archive_core::shape::Expr;
+use archive_core::shape;
 use archive_core::sharing::{Share, Sharing};
 use archive_core::string::{ArchivedStr, Text};
 use archive_core::traits::Portable;
@@ -190,7 +190,7 @@ fn a_weak_pointer_to_the_next_byte_is_refused(rt: HostRuntime) {
     assert_refusal(&rt, "the refusal", resolved, Error::OffsetOverflow);
 }
 
-fn expression<T: Portable>(rt: &impl Abort, alloc: Global) -> Expr {
+fn expression<T: Portable>(rt: &impl Abort, alloc: Global) -> shape::Expr {
     T::expr(alloc).expect(rt, "memory")
 }
 

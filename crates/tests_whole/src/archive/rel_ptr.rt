@@ -14,7 +14,7 @@ use archive_core::rel_ptr::{
     self, Offset, RawRelPtr, RawRelPtrI8, RawRelPtrI16, RawRelPtrI32, RawRelPtrI64, RawRelPtrU8,
     RawRelPtrU16, RawRelPtrU32, RawRelPtrU64, signed_offset,
 };
-use archive_core::shape::{Expr, IntegerKind, Kind};
+use archive_core::shape::{self, IntegerKind, Kind};
 use archive_core::string::ArchivedStr;
 use archive_core::traits::Portable;
 use std::alloc::Global;
@@ -152,7 +152,7 @@ fn pointers_as_they_are_read(rt: HostRuntime) {
 // A pointer is a leaf of this number, with these many bytes.
 fn assert_leaf<P: Portable>(rt: &impl Abort, alloc: Global, kind: IntegerKind, size: usize) {
     let expression = P::expr(alloc).expect(rt, "an expression");
-    let wanted = Expr::Leaf(Kind::RawRel(kind));
+    let wanted = shape::Expr::Leaf(Kind::RawRel(kind));
     assert_same(rt, "the expression", expression, wanted);
     let found = (kind, P::size(), P::align());
     assert_same(rt, "its numbers", found, (kind, size, size));

@@ -12,7 +12,7 @@ ghost use Rattle.archive_core.specs.NamedLayout.{held_has_layout, name_reached, 
 use crate::assertions::assert_refused;
 use archive_core::error::Error;
 use archive_core::self_check::BySchema;
-use archive_core::shape::{Defs, Expr, Kind};
+use archive_core::shape::{self, Defs, Kind};
 use archive_core::traits::{ArchivePointee, Portable};
 use std::alloc::{AllocError, Global};
 
@@ -65,24 +65,24 @@ impl Portable for ArchivedTwice {
         1
     }
 
-    fn expr(_alloc: Global) -> Result<Expr, Error> {
-        Ok(Expr::Named("ArchivedTwice"))
+    fn expr(_alloc: Global) -> Result<shape::Expr, Error> {
+        Ok(shape::Expr::Named("ArchivedTwice"))
     }
 
     fn define(_alloc: Global, defs: &mut Defs) -> Result<(), Error> {
-        defs.add("ArchivedTwice", Expr::Leaf(Kind::Unit))?;
-        defs.add("ArchivedTwice", Expr::Leaf(Kind::Bool))?;
+        defs.add("ArchivedTwice", shape::Expr::Leaf(Kind::Unit))?;
+        defs.add("ArchivedTwice", shape::Expr::Leaf(Kind::Bool))?;
         Ok(())
     }
 }
 
-#[tactic(auto, using(archive_check::proofs::format::Views::views))]
-fn record_of_itself(alloc: Global) -> Result<Expr, AllocError>
+#[tactic(auto, using(archive_core::proofs::Views::views))]
+fn record_of_itself(alloc: Global) -> Result<shape::Expr, AllocError>
     ensures { IfOk result (λ e. shape_of e ≡ parts (part (named (codes "ArchivedItself"))
         no_part)) }
 {
-    let parts = vec![in alloc; Expr::Named("ArchivedItself")]?;
-    Ok(Expr::Record(parts))
+    let parts = vec![in alloc; shape::Expr::Named("ArchivedItself")]?;
+    Ok(shape::Expr::Record(parts))
 }
 
 impl ArchivePointee for ArchivedItself {
@@ -128,8 +128,8 @@ impl Portable for ArchivedItself {
         1
     }
 
-    fn expr(_alloc: Global) -> Result<Expr, Error> {
-        Ok(Expr::Named("ArchivedItself"))
+    fn expr(_alloc: Global) -> Result<shape::Expr, Error> {
+        Ok(shape::Expr::Named("ArchivedItself"))
     }
 
     fn define(alloc: Global, defs: &mut Defs) -> Result<(), Error> {
