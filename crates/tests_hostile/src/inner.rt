@@ -16,7 +16,7 @@ pub(crate) struct Inner;
 pub(crate) type ArchivedInner = ArchivedRecursive<Inner>;
 
 // A record of one field.
-#[tactic(auto, using(archive_core::proofs::Views::views))]
+#[tactic(auto, using(archive_check::proofs::format::Views::views))]
 fn record_of(alloc: Global, only: shape::Expr) -> Result<shape::Expr, AllocError>
     ensures { IfOk result (λ e. shape_of e ≡ parts (part (shape_of only) no_part)) }
 {

@@ -41,7 +41,7 @@ pub(crate) struct MarkedFormat<M> {
 pub(crate) type ArchivedMarked<M> = ArchivedRecursive<MarkedFormat<M>>;
 
 // A record of one field.
-#[tactic(auto, using(archive_core::proofs::Views::views))]
+#[tactic(auto, using(archive_check::proofs::format::Views::views))]
 fn record_of(alloc: Global, only: shape::Expr) -> Result<shape::Expr, AllocError>
     ensures { IfOk result (λ e. shape_of e ≡ parts (part (shape_of only) no_part)) }
 {

@@ -100,7 +100,7 @@ impl Portable for ArchivedLoop {
         Ok(shape::Expr::Named("ArchivedLoop"))
     }
 
-    #[tactic(auto, using(archive_core::proofs::AddedDefinitions::not_extended))]
+    #[tactic(auto, using(archive_check::proofs::format::AddedDefinitions::not_extended))]
     fn define(alloc: Global, defs: &mut Defs) -> Result<(), Error> {
         defs.add("ArchivedLoop", definition(alloc)?)?;
         Ok(())

@@ -76,7 +76,7 @@ impl Portable for ArchivedTwice {
     }
 }
 
-#[tactic(auto, using(archive_core::proofs::Views::views))]
+#[tactic(auto, using(archive_check::proofs::format::Views::views))]
 fn record_of_itself(alloc: Global) -> Result<shape::Expr, AllocError>
     ensures { IfOk result (λ e. shape_of e ≡ parts (part (named (codes "ArchivedItself"))
         no_part)) }
