@@ -87,7 +87,8 @@ type States<A> = HashMap<u64, Option<usize>, BuildHasherDefault<FoldHasher>, A>;
 #[derive(Drop)]
 pub struct Share<A: Allocator = Global> {
     alloc: A,
-    states: Option<States<A>>,
+    // In a box, made with the first key: what moves a serializer moves a word of it.
+    states: Option<Box<States<A>, A>>,
 }
 
 impl<A: Allocator + Clone> Share<A> {
@@ -108,7 +109,7 @@ impl<A: Allocator + Clone> Share<A> {
         ensures room { IfOk result (λ s. capacity ≤ spare_keys s.states) }
         ensures refusal { IfErr result (λ e. e ≡ Error.OutOfMemory) }
     {
-        let states = HashMap::with_capacity(alloc.clone()?, capacity)?;
+        let states = Box::new(alloc.clone()?, HashMap::with_capacity(alloc.clone()?, capacity)?)?;
         Ok(Share {
             alloc,
             states: Some(states),
@@ -154,8 +155,8 @@ impl<A: Allocator + Clone> Share<A> {
         ensures refusal { IfErr result (λ e. (e ≡ Error.OutOfMemory) × (self.old.states ≡ None)) }
     {
         if self.states.is_none() {
-            let alloc = self.alloc.clone()?;
-            self.states = Some(HashMap::new(alloc));
+            let states = HashMap::new(self.alloc.clone()?);
+            self.states = Some(Box::new(self.alloc.clone()?, states)?);
         }
         Ok(())
     }

@@ -61,8 +61,7 @@ pub trait WriterExt: Writer {
         if n == 0 {
             return Ok(());
         }
-        let zeros = [0; 32];
-        self.write(&zeros[..n])
+        self.write_zeros(n)
     }
 
     /// Writes zeros up to the next multiple of `align` bytes, and returns the position there, in

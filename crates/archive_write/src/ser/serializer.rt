@@ -112,6 +112,11 @@ impl<W: Writer, A, S: Keys> Writer for Serializer<W, A, S> {
     }
 
     #[inline(always)]
+    fn write_zeros(&mut self, n: usize) -> Result<(), Error> {
+        self.writer.write_zeros(n)
+    }
+
+    #[inline(always)]
     fn write_at_once(&mut self, bytes: &[u8]) -> bool {
         self.writer.write_at_once(bytes)
     }

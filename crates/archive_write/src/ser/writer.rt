@@ -1,6 +1,6 @@
 //! Writers.
 
-ghost use Rattle.std.specs.Prelude.{◌≡◌, ◌++◌, ◌≤◌, ℕ, Bool, true, IsTrue, IsFalse, None, length, OnOk, OnErr, IfErr, IsErrOf, refl};
+ghost use Rattle.std.specs.Prelude.{◌≡◌, ◌++◌, ◌≤◌, ℕ, Bool, true, IsTrue, IsFalse, None, length, OnOk, OnErr, IfErr, IsErrOf, refl, replicate, ◌<◌};
 ghost use Rattle.archive_check.specs.WriterState.{KeepsKeys, no_keys};
 ghost use Rattle.archive_write.specs.Written.{IsBeginning, RoomFalls, ExplainsRefusal};
 ghost use Rattle.archive_write.specs.Writes.{SpendsRoom, ExplainsWrite};
@@ -41,6 +41,24 @@ pub trait Writer: Positional + Keys {
         ensures device { (Self.state self.old).failures ≤ (Self.state self.new).failures }
         ensures keys { KeepsKeys (Self.state self.old).states (Self.state self.new).states }
         ensures memory { IsErrOf result Error.OutOfMemory → IsTrue takes_memory };
+
+    /// Appends `n` zeros, fewer than 32, as `write` does.
+    #[inline(always)]
+    fn write_zeros(&mut self, n: usize) -> Result<(), Error>
+        requires { n < 32 }
+        ensures written { OnOk result ((Self.state self.new).bytes ≡ (Self.state self.old).bytes
+            ++ replicate n 0) }
+        ensures kept { OnErr result (IsBeginning (Self.state self.old).bytes
+            (Self.state self.new).bytes) }
+        ensures room { SpendsRoom Self.state self }
+        ensures refusal { IfErr result (ExplainsWrite Self.state self Self.position n) }
+        ensures device { (Self.state self.old).failures ≤ (Self.state self.new).failures }
+        ensures keys { KeepsKeys (Self.state self.old).states (Self.state self.new).states }
+        ensures memory { IsErrOf result Error.OutOfMemory → IsTrue takes_memory }
+    {
+        let zeros = [0; 32];
+        self.write(&zeros[..n])
+    }
 
     /// Appends `bytes` if the room is at hand, so that no memory is requested and nothing can fail;
     /// else changes nothing and returns false. By default it returns false, and the caller then
@@ -100,6 +118,11 @@ impl<W: Writer> Writer for &mut W {
     }
 
     #[inline(always)]
+    fn write_zeros(&mut self, n: usize) -> Result<(), Error> {
+        W::write_zeros(&mut **self, n)
+    }
+
+    #[inline(always)]
     fn write_at_once(&mut self, bytes: &[u8]) -> bool {
         W::write_at_once(&mut **self, bytes)
     }
@@ -133,25 +156,15 @@ fn with_bytes<A: Allocator>(mut list: Vec<u8, A>, bytes: &[u8]) -> (Vec<u8, A>, 
     (list, written)
 }
 
-// The same where the list hasn't the room: it asks for memory. It takes the list itself: were the place of the list lent to a call, all of a serializer
-// would lie in memory. (That of `replace_with` is inlined where this isn't marked as cold.)
+// The list, with room for so many bytes more, and whether there is memory for it. It takes the list itself: were the place of the list lent to a call, all
+// of a serializer would lie in memory. Nor does it take the bytes: a local array that is lent to no call lies in registers. (The place of `replace_with` is
+// inlined where this isn't marked as cold.)
 #[inline(never)]
-fn with_growth<A: Allocator>(mut list: Vec<u8, A>, bytes: &[u8]) -> (Vec<u8, A>, bool)
-    ensures written { IsTrue result.1 → result.0.items ≡ list.items ++ bytes.now }
-    ensures untouched { IsFalse result.1 → result.0.items ≡ list.items }
-{
-    let grown = list.extend_from_slice(bytes).is_ok();
-    (list, grown)
-}
-
-// The list, with room for so many bytes more. Where memory for it is refused, the writes ask for what they need themselves. It takes the list itself, as
-// `with_growth` does.
-#[inline(never)]
-fn with_room<A: Allocator>(mut list: Vec<u8, A>, n: usize) -> (Vec<u8, A>, ())
+fn with_room<A: Allocator>(mut list: Vec<u8, A>, n: usize) -> (Vec<u8, A>, bool)
     ensures { result.0.items ≡ list.items }
 {
-    let _ = list.reserve(n);
-    (list, ())
+    let made = list.reserve(n).is_ok();
+    (list, made)
 }
 
 /// A vector has no limit but memory. Fails with `OutOfMemory` alone, and then unchanged.
@@ -173,13 +186,29 @@ impl<A: Allocator> Writer for Vec<u8, A> {
         ensures unchanged { OnErr result (self.new.items ≡ self.old.items) }
         ensures out_of_memory { IfErr result (λ e. e ≡ Error.OutOfMemory) }
     {
+        if self.capacity() - self.len() < bytes.len()
+            && !replace_with(self, bytes.len(), with_room)
+        {
+            return Err(Error::OutOfMemory);
+        }
+        // The room is asked for once more, so that the compiled code grows nothing here.
         if self.capacity() - self.len() < bytes.len() {
-            if replace_with(self, bytes, with_growth) {
-                return Ok(());
-            }
             return Err(Error::OutOfMemory);
         }
         Ok(self.extend_from_slice(bytes)?)
+    }
+
+    // Where there is room for 32 zeros they are written and cut: so many take one step.
+    #[inline(always)]
+    fn write_zeros(&mut self, n: usize) -> Result<(), Error> {
+        if self.capacity() - self.len() < 32 {
+            let zeros = [0; 32];
+            return self.write(&zeros[..n]);
+        }
+        let end = self.len() + n;
+        self.extend_from_slice(&[0; 32])?;
+        self.truncate(end);
+        Ok(())
     }
 
     #[inline(always)]
@@ -189,6 +218,6 @@ impl<A: Allocator> Writer for Vec<u8, A> {
 
     #[inline(always)]
     fn make_room(&mut self, n: usize) {
-        replace_with(self, n, with_room);
+        let _ = replace_with(self, n, with_room);
     }
 }

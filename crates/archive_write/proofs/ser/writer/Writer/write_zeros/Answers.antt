@@ -1,6 +1,6 @@
 use Rattle.std.proofs.Common.{ℕ, ◌≡◌, arith, replicate, take}
 use Rattle.std.proofs.lemmas.List.{take-replicate}
-use Rattle.archive_write.proofs.ser.extension.WriterExt.pad.Goals as goal
+use Rattle.archive_write.proofs.ser.writer.Writer.write_zeros.Goals as goal
 
 pub returns-clause-written : goal.returns-clause-written
 returns-clause-written g c =
