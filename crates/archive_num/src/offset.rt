@@ -139,6 +139,12 @@ pub(crate) fn offset_to(pos: usize, target: usize) -> Result<i32, Error>
     ensures distance { IfOk result (λ z. z ≡ distance pos target) }
     ensures refused { IfErr result (λ e. IsTooFar e (distance pos target)) }
 {
+    // Mostly a pointer lies behind what it leads to, and near it.
+    if let Some(back) = pos.checked_sub(target) {
+        if let Ok(back) = i32::try_from(back) {
+            return Ok(-back);
+        }
+    }
     i32::from_distance(signed_offset(pos, target)?)
 }
 

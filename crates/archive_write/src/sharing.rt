@@ -109,7 +109,10 @@ impl<A: Allocator + Clone> Share<A> {
         ensures room { IfOk result (λ s. capacity ≤ spare_keys s.states) }
         ensures refusal { IfErr result (λ e. e ≡ Error.OutOfMemory) }
     {
-        let states = Box::new(alloc.clone()?, HashMap::with_capacity(alloc.clone()?, capacity)?)?;
+        let states = Box::new(
+            alloc.clone()?,
+            HashMap::with_capacity(alloc.clone()?, capacity)?,
+        )?;
         Ok(Share {
             alloc,
             states: Some(states),

@@ -142,20 +142,6 @@ impl<A: Allocator> Positional for Vec<u8, A> {
     }
 }
 
-// The list, with the bytes behind it where it has the room for them, and whether it had. It isn't in its place meanwhile, so that nothing is written between
-// the filling of a local array and its appending.
-#[inline(always)]
-fn with_bytes<A: Allocator>(mut list: Vec<u8, A>, bytes: &[u8]) -> (Vec<u8, A>, bool)
-    ensures written { IsTrue result.1 → result.0.items ≡ list.items ++ bytes.now }
-    ensures untouched { IsFalse result.1 → result.0.items ≡ list.items }
-{
-    if list.capacity() - list.len() < bytes.len() {
-        return (list, false);
-    }
-    let written = list.extend_from_slice(bytes).is_ok();
-    (list, written)
-}
-
 // The list, with room for so many bytes more, and whether there is memory for it. It takes the list itself: were the place of the list lent to a call, all
 // of a serializer would lie in memory. Nor does it take the bytes: a local array that is lent to no call lies in registers. (The place of `replace_with` is
 // inlined where this isn't marked as cold.)
@@ -213,7 +199,10 @@ impl<A: Allocator> Writer for Vec<u8, A> {
 
     #[inline(always)]
     fn write_at_once(&mut self, bytes: &[u8]) -> bool {
-        replace_with(self, bytes, with_bytes)
+        if self.capacity() - self.len() < bytes.len() {
+            return false;
+        }
+        self.extend_from_slice(bytes).is_ok()
     }
 
     #[inline(always)]

@@ -14,5 +14,5 @@ returns-clause-written g c =
     let zeros : take c.args.n (replicate {A = ℕ} 32 0) ≡ replicate {A = ℕ} c.args.n 0 = take-replicate c.args.n 32 0 (omega arith) in
     let end : c.len-2.result + c.args.n ≡ length held + c.args.n = omega (arith, c.len-2.ensures) in
     c.truncate.ensures.items ∙ ap (λ k. take k c.extend_from_slice.new.self.items) end
-        ∙ ap (take (length held + c.args.n)) c.in_ok-extend_from_slice.ensures.items
-        ∙ take-append-add held (replicate {A = ℕ} 32 0) c.args.n ∙ ap (λ z. held ++ z) zeros
+    ∙ ap (take (length held + c.args.n)) c.in_ok-extend_from_slice.ensures.items
+    ∙ take-append-add held (replicate {A = ℕ} 32 0) c.args.n ∙ ap (λ z. held ++ z) zeros
