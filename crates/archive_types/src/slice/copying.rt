@@ -174,7 +174,11 @@ fn copy_short<W: Writer, T: Copied>(values: &[T], size: usize, writer: &mut W) -
     if size > SHORT {
         return 0;
     }
-    let done = copy_counted::<W, T, SHORT>(values, count_of_short(size), writer);
+    let count = count_of_short(size);
+    let done = copy_counted::<W, T, SHORT>(values, count, writer);
+    if count <= values.len() - done {
+        return done;
+    }
     done + copy_counted::<W, T, SHORT>(&values[done..], 1, writer)
 }
 
