@@ -38,9 +38,9 @@ use archive_core::error::Error;
 use archive_core::place::Place;
 use archive_core::primitive::ArchivedU32;
 use archive_core::recursive::{
-    VecAt, before_vec, choice_of, define_name, part_of_variant, read_part, resolve_named_case_1,
-    resolve_named_case_2, seal_of_payload, serialize_inner_slice, serialize_part, tag_of_choice,
-    tag_of_view, view_of_payload,
+    VecAt, before_vec, choice_of, define_name, handed_on, part_of_variant, read_part,
+    resolve_named_case_1, resolve_named_case_2, seal_of_payload, serialize_inner_slice,
+    serialize_part, tag_of_choice, tag_of_view, view_of_payload,
 };
 use archive_core::result::ArchivedResult;
 use archive_core::seal::Seal;
@@ -294,7 +294,7 @@ fn serialize_each_fact<S: Writer + Keys + ResolverAlloc>(
     for value in values {
         let resolver = match serialize_fact(value, serializer) {
             Ok(resolver) => resolver,
-            Err(error) => return Err(error),
+            Err(error) => return Err(handed_on(error)),
         };
         resolvers.push(resolver).map_err(AllocError::from)?;
     }

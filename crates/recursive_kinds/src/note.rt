@@ -46,9 +46,9 @@ use archive_core::option::ArchivedOption;
 use archive_core::place::Place;
 use archive_core::primitive::{ArchivedI64, ArchivedU16, ArchivedU32, NonZero};
 use archive_core::recursive::{
-    VecAt, before_vec, choice_of, define_name, part_of_variant, read_part, resolve_named_case_1,
-    resolve_named_case_2, seal_of_payload, serialize_inner_slice, serialize_part, tag_of_choice,
-    tag_of_view, view_of_payload,
+    VecAt, before_vec, choice_of, define_name, handed_on, part_of_variant, read_part,
+    resolve_named_case_1, resolve_named_case_2, seal_of_payload, serialize_inner_slice,
+    serialize_part, tag_of_choice, tag_of_view, view_of_payload,
 };
 use archive_core::seal::Seal;
 use archive_core::self_check::BySchema;
@@ -344,7 +344,7 @@ fn serialize_each_note<S: Writer + Keys + ResolverAlloc>(
     for value in values {
         let resolver = match serialize_note(value, serializer) {
             Ok(resolver) => resolver,
-            Err(error) => return Err(error),
+            Err(error) => return Err(handed_on(error)),
         };
         resolvers.push(resolver).map_err(AllocError::from)?;
     }
