@@ -21,7 +21,7 @@ def is_copied(formats, type):
 
 def is_in_bulk(formats, declaration):
     """Whether those of a declared type are."""
-    if declaration.kind != "struct" or declaration.as_tuple or declaration.recursive:
+    if declaration.kind != "struct" or declaration.as_tuple or declaration.part_by_part:
         return False
     types = [field.type for field in declaration.fields]
     if not 0 < len(types) <= MOST_FIELDS or not all(is_copied(formats, type) for type in types):

@@ -2,6 +2,7 @@
 
 from typing import Dict, Iterator, List, Optional, Tuple
 
+from . import recursive_holders as holders
 from . import recursive_refusals as refusals
 from .model import Declaration, Refused, Type
 
@@ -119,11 +120,13 @@ def check_circles(declarations: List[Declaration]):
         if it.recursive:
             it.family = sorted((x for x in reached[id(it)] if any(y is it for y in reached[id(x)])), key=lambda x: (x.path, x.line))
     for it in every:
+        holders.tell(it)
+    for it in every:
         way = circle(it, edges, True)
         if way:
             refuse_recursive(it, way)
         else:
-            refusals.check_held(it)
+            holders.check(it)
 
 
 def refuse_recursive(it: Declaration, way: List[Edge]):

@@ -22,7 +22,7 @@ NO_NAME = "no_definition"
 
 def is_compared(declaration):
     """Whether the views of a declared type are compared: it derives an order or a hash, and all fields can be."""
-    if declaration.as_tuple or declaration.recursive or not ASKING & set(declaration.derives):
+    if declaration.as_tuple or declaration.part_by_part or not ASKING & set(declaration.derives):
         return False
     lists = [declaration.fields] + [variant.fields for variant in declaration.variants]
     return all(len(fields) <= MOST and all(can_be(field.type) for field in fields) and in_pairs(fields) for fields in lists)

@@ -285,7 +285,7 @@ class Formats:
         kind = self.kind(type)
         if kind == "parameter":
             return f"{type.name}.Archived.definitions"
-        if kind == "own" and type.own.recursive:
+        if kind == "own" and type.own.part_by_part:
             return f"⟦<{self.archived(type)} as ArchivePointee>⟧.definitions"
         if kind == "Result":
             return f"(both {self.definitions(type.args[0])} {self.definitions(type.args[1])})"

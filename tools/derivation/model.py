@@ -91,6 +91,7 @@ class Declaration:
     recursive: bool = False  # holds itself behind a pointer
     family: List["Declaration"] = field(default_factory=list, compare=False, repr=False)  # of a recursive one: those that it holds and that hold it, itself among them
     holds_recursive: bool = False  # isn't recursive itself, and holds a type that is
+    holder: bool = False  # is one of these, and is written part by part
     path: str = ""  # the file that it stands in
     line: int = 0
     crate: str = ""
@@ -99,7 +100,12 @@ class Declaration:
     @property
     def as_tuple(self) -> bool:
         """Whether it is archived as a tuple whose fields have names, by impls that take any definitions."""
-        return bool(self.parameters) or self.holds_recursive
+        return bool(self.parameters) or self.holds_recursive and not self.holder
+
+    @property
+    def part_by_part(self) -> bool:
+        """Whether it is written and read by functions of its own, with definitions beside its module: it is recursive, or holds a type that is."""
+        return self.recursive or self.holder
 
     def all_fields(self) -> List[Field]:
         return self.fields if self.kind == "struct" else [f for v in self.variants for f in v.fields]

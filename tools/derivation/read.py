@@ -394,9 +394,9 @@ def check_loads(module: Module):
             kind = "with type parameters" if it.parameters else "that holds a recursive type"
             said = f"`{it.name}` has {len(it.fields)} fields, and {MOST_FEW} are the most of a struct {kind}; put some into a struct of their own"
             raise Refused(module.path, it.fields[MOST_FEW].line, said)
-        if it.recursive:
+        if it.part_by_part:
             check_variants(module, loads, it)
-        if it.as_tuple or it.recursive:
+        if it.as_tuple or it.part_by_part:
             continue
         for fields in [it.fields] + [v.fields for v in it.variants]:
             check_load(module, loads, fields)
@@ -427,7 +427,7 @@ def check_variants(module: Module, loads: Loads, it: Declaration):
         if fields or not together or not types or types[-1]:
             types.append(fields)
         if len(types) + len(fields) > DEEPEST or loads.of_variants(types) > MOST_OF_VARIANTS:
-            recursive, own = ("the recursive ", "another file") if it.recursive else ("", "their own")
+            recursive, own = ("the recursive " if it.recursive else "", "another file" if it.part_by_part else "their own")
             raise Refused(module.path, v.line, f"{recursive}`{it.name}` has more variants up to here than the toolchain follows; put some into an enum of {own}")
 
 

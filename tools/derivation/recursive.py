@@ -36,8 +36,11 @@ class Family:
         self.n, self.name, self.crate, self.module = self.first.n, self.first.name, self.first.declaration.crate, self.first.declaration.module
         # as the toolchain has them in its folds: enums before structs
         self.ordered = sorted(self.members, key=lambda it: (it.is_record, it.name))
+        # those first that others hold behind no pointer
+        self.inner_first = sorted(self.members, key=lambda it: it.nest)
+        self.most_nest = self.inner_first[-1].nest
         self.shares = self.first.terms.shares
-        self.deepest = max(depth for it in self.members for depth in map(it.depth, it.owners))
+        self.deepest = max((depth for it in self.members for depth in map(it.depth, it.owners)), default=0)
 
     def member(self, declaration):
         return next(it for it in self.members if it.declaration is declaration)
@@ -65,7 +68,8 @@ class Recursive:
         self.reader = f"D: {formats.reader_bound([self.itself])}"
         self.is_record = declaration.kind == "struct"
         self.is_alone = len(declaration.family) == 1
-        self.is_chain = recursive_chains.is_chain(declaration, self.terms.leads_back)
+        self.is_holder = declaration.holder  # nothing in it leads back to it
+        self.is_chain = not self.is_holder and recursive_chains.is_chain(declaration, self.terms.leads_back)
         # under which names the variants of layers, of a value and of its resolver are brought in
         several = sum(its.kind == "enum" for its in declaration.family) > 1
         self.layer, self.its, self.kept = "Layer", *(f"{word}{declaration.name}" if several else word for word in ("Its", "Kept"))
@@ -83,6 +87,7 @@ class Recursive:
         self.align = max(case.align for case in self.cases)
         self.size = -(-max(case.end for case in self.cases) // self.align) * self.align
         self.owners = self.owners_of()
+        self.nest = nest_of(declaration)
 
     def owners_of(self):
         """The owners of the family that its parts name and that no type before it does, each once, with what they hold first."""
@@ -153,6 +158,12 @@ class Recursive:
         return names + [f"{case.n}_{what}" for case in self.cases for what in ("parts", "definitions")]
 
 
+def nest_of(declaration):
+    """How many types of its family are in one another, behind no pointer, in a type."""
+    inner = [field.type.own for field in declaration.all_fields() if any(field.type.own is it for it in declaration.family)]
+    return 1 + max(map(nest_of, inner)) if inner else 0
+
+
 def text(formats, declaration):
     return recursive_code.text(Family(formats, declaration).member(declaration))
 
@@ -161,7 +172,7 @@ def files(module):
     """The files beside the module, by their paths in the crate's folder."""
     out, formats = {}, Formats(module)
     for declaration in module.declarations:
-        if declaration.recursive and declaration is declaration.family[0]:
+        if declaration.part_by_part and declaration is declaration.family[0]:
             family = Family(formats, declaration)
             out[f"specs/{family.name}Shape.antt"] = recursive_specs.shape(family)
             out[f"specs/{family.name}Meaning.antt"] = recursive_specs.meaning(family)

@@ -12,7 +12,8 @@ import re
 
 from . import records, variants
 from . import recursive_chains as chains
-from .common import chain, doc_lines, in_turn, infix
+from .common import chain, doc_lines, in_turn, infix, taken_apart
+from .common import kept_of as handed_on
 from .formats import snake
 from .recursive_reads import by_match
 from .layout import Generic, Group, call, flat, implementation, literal, pair, signature, statement
@@ -35,7 +36,7 @@ READ = """    requires {{ IsPartOf ⟦<{X} as ArchivePointee>⟧ part }}
 
 def text(it):
     bring(it)
-    pieces = [types(it), pointee(it), stands_for(it), portable(it), view_of(it), resolver(it), archive(it)]
+    pieces = [types(it), pointee(it), "" if it.is_holder else stands_for(it), portable(it), view_of(it), resolver(it), archive(it)]
     if it.is_chain:
         chains.refuse_derived_drop(it.declaration)
         chains.bring(it)
@@ -53,11 +54,12 @@ def bring(it):
     f.use("archive_core::self_check", "BySchema")
     f.use("archive_core::shape", "Defs")
     f.use("archive_core::ser", "ResolverAlloc", "Writer", "serialize_one")
-    f.use("archive_core::boxed", "BoxResolver", "serialize_inner")
+    f.use("archive_core::boxed", "BoxResolver")
     f.use("archive_core::vec", "VecResolver")
     f.use("archive_core::recursive", "BoxAt", "OptionAt", "VecAt", "before_box", "before_vec", "choice_of", "define_name", "option_expression", "part_of_record", "part_of_variant", "read_part", "record_of")
     f.use("archive_core::recursive", "begin_reading", "begin_shared", "finish_reading", "finish_shared", "part_behind", "shared_expression")
-    f.use("archive_core::recursive", "serialize_inner_slice", "serialize_part", "tag_of_choice")
+    f.use("archive_core::recursive", "handed_on", "serialize_inner", "serialize_inner_slice", "serialize_part", "tag_of_choice")
+    f.use("archive_core::traits", "PortableParts", "PortableVariants", "expr_of_choice", "expr_of_record")
     f.use("archive_core::traits", "Archive", "ArchivePointee", "ArchiveUnsized", "Choice", "Deserialize", "Entries", "Keys", "Portable", "Record", "Serialize", "SerializeUnsized")
     f.use("archive_core::view", "RawView", "Ref")
     f.use("std::alloc", "AllocError", "Global")
@@ -192,7 +194,6 @@ def defining(it):
 def defining_all(family):
     calls = [f"    define_{it.n}(alloc, defs)" for it in family.members]
     return f"""// Adds what the names stand for.
-#[tactic(auto, using(archive_core::proofs::AddedDefinitions::joining))]
 {added(f"define_{family.n}_family", f"{family.n}_definitions")}{{
 {"?;".join(f"{call_}{chr(10)}" if i == len(calls) - 1 else call_ for i, call_ in enumerate(calls)).replace("?;    ", f"?;{chr(10)}    ")}}}
 """
@@ -206,8 +207,12 @@ def added(name, definitions):
 
 
 def portable(it):
-    n = it.n
-    if it.is_alone:
+    n, allocs, named = it.n, "_alloc", f'Ok({EXPR}::Named("{it.archived}"))'
+    if it.is_holder:
+        allocs, parts = "alloc", f"{it.name}{'Parts' if it.is_record else 'Variants'}"
+        named = f"expr_of_record::<{parts}>(alloc)" if it.is_record else f'expr_of_choice::<{parts}>(alloc, "{it.archived}")'
+        define = f"\n        <{parts} as Portable{'Parts' if it.is_record else 'Variants'}>::define(alloc, defs)\n"
+    elif it.is_alone:
         define = DEFINING.format(n=n, archived=it.archived).replace("\n    ", "\n        ")
     else:
         define = f"\n        define_{it.family.n}_family(alloc, defs)\n"
@@ -237,8 +242,8 @@ def portable(it):
         {it.align}
     }}
 
-    fn expr(_alloc: Global) -> Result<{EXPR}, Error> {{
-        Ok({EXPR}::Named("{it.archived}"))
+    fn expr({allocs}: Global) -> Result<{EXPR}, Error> {{
+        {named}
     }}
 
     fn define(alloc: Global, defs: &mut Defs) -> Result<(), Error> {{{define}    }}
@@ -277,6 +282,8 @@ def kept(it, type):
     """The resolver of a part."""
     if not it.terms.leads_back(type):
         return f"<{it.formats.rust(type)} as Archive>::Resolver"
+    if it.terms.is_member(type):
+        return f"{type.own.name}Resolver"
     return {"Box": "BoxResolver", "Option": "Option<BoxResolver>", "Vec": "VecResolver"}[type.name]
 
 
@@ -313,7 +320,7 @@ def hollows(it, case):
     rust, values, lines = [], [], []
     for name, type, mine, back, field in zip(case.names, case.types, case.rust, case.leads_back, case.fields):
         at = f"self.{field.name}" if it.is_record else name
-        if not back:
+        if not back or it.terms.is_member(type):
             rust.append(mine)
             values.append(f"&{at}" if it.is_record else at)
             continue
@@ -337,8 +344,9 @@ def archive(it):
     if it.is_record:
         case = it.cases[0]
         rust, values, lines = hollows(it, case)
-        body = f"        let {it.resolver} {{ kept }} = resolver;\n" + "".join(statement(8, before, made, ";") for before, made in lines)
-        body += statement(8, "", Generic(f"resolve_named_record_{case.count}", rust + [it.archived], values + ["kept", "Place::new(pos, bytes)"]), "")
+        kept_, taken = handed_on(it.formats, case.types), taken_apart(it.formats, case.types, 8)
+        body = f"        let {it.resolver} {{ kept }} = resolver;\n{taken}" + "".join(statement(8, before, made, ";") for before, made in lines)
+        body += statement(8, "", Generic(f"resolve_named_record_{case.count}", rust + [it.archived], values + [kept_, "Place::new(pos, bytes)"]), "")
         it.formats.use("archive_core::recursive", f"resolve_named_record_{case.count}")
     else:
         body = "        match self {\n" + "".join(resolve_arm(it, case) for case in it.cases) + "        }\n"
@@ -384,15 +392,15 @@ def archive(it):
 def resolve_arm(it, case):
     it.formats.use("archive_core::recursive", f"resolve_named_case_{case.count}")
     rust, values, lines = hollows(it, case)
-    names = [name if not back or type.name == "Vec" else f"_{name}" for name, type, back in zip(case.names, case.types, case.leads_back)]
-    call_ = Generic(f"resolve_named_case_{case.count}", rust + [it.archived], [str(case.tag)] + values + ["kept" if case.count else "()", "Place::new(pos, bytes)"])
+    names = [name if not back or type.name == "Vec" or it.terms.is_member(type) else f"_{name}" for name, type, back in zip(case.names, case.types, case.leads_back)]
+    call_ = Generic(f"resolve_named_case_{case.count}", rust + [it.archived], [str(case.tag)] + values + [handed_on(it.formats, case.types), "Place::new(pos, bytes)"])
     opened = f"let {it.resolver}::{case.name}(kept) = resolver" if case.count else f"let {it.resolver}::{case.name} = resolver"
     other = " else {\n                    unreachable!();\n                }" if len(it.cases) > 1 else ""
     if not case.count:
         return f"            {flat(pattern(it, case, names))} => {{\n{statement(16, '', call_, '')}            }}\n"
     return f"""            {flat(pattern(it, case, names))} => {{
                 {opened}{other};
-{"".join(statement(16, before, made, ";") for before, made in lines)}{statement(16, "", call_, "")}            }}
+{taken_apart(it.formats, case.types, 16)}{"".join(statement(16, before, made, ";") for before, made in lines)}{statement(16, "", call_, "")}            }}
 """
 
 
@@ -441,7 +449,7 @@ fn serialize_{name}<{it.writer}>(value: &{T}, serializer: &mut S) -> Result<BoxR
     let inner = &**value;
     let kept = match serialize_{it.word(item)}(inner, serializer) {{
         Ok(kept) => kept,
-        Err(error) => return Err(error),
+        Err(error) => return Err(handed_on(error)),
     }};
     match serialize_inner(inner, kept, serializer) {{
         Ok(at) => Ok(at),
@@ -460,7 +468,7 @@ fn serialize_{name}<{it.writer}>(value: &{T}, serializer: &mut S) -> Result<{kep
             let inner = &**whole;
             let kept = match serialize_{it.word(item.args[0])}(inner, serializer) {{
                 Ok(kept) => kept,
-                Err(error) => return Err(error),
+                Err(error) => return Err(handed_on(error)),
             }};
             match serialize_inner(inner, kept, serializer) {{
                 Ok(at) => Ok(Some(at)),
@@ -517,7 +525,7 @@ def element_written(it, item):
     if it.terms.is_member(item):
         return f"""        let resolver = match serialize_{it.word(item)}(value, serializer) {{
             Ok(resolver) => resolver,
-            Err(error) => return Err(error),
+            Err(error) => return Err(handed_on(error)),
         }};
         {push.format("resolver")}
 """
@@ -568,7 +576,7 @@ def inner_written(it, box, name, indent):
     return f"""{pad}let inner = &**{name};
 {pad}let kept = match serialize_{it.word(box.args[0])}(inner, serializer) {{
 {pad}    Ok(kept) => kept,
-{pad}    Err(error) => return Err(error),
+{pad}    Err(error) => return Err(handed_on(error)),
 {pad}}};
 {pad}let resolver = match serialize_inner(inner, kept, serializer) {{
 {pad}    Ok(resolver) => resolver,
@@ -621,6 +629,11 @@ def is_inline(case):
     return sum(case.leads_back) > 1
 
 
+def cycle_of(it):
+    """That the function which writes a value calls itself by others."""
+    return "" if it.is_holder else f"#[cycle(serialize_{it.family.n})]\n"
+
+
 def choice_writing(it):
     arms = ""
     for case in it.cases:
@@ -640,8 +653,7 @@ def choice_writing(it):
         }},
 """
     return f"""// Writes what a value owns.
-#[cycle(serialize_{it.family.n})]
-fn serialize_{it.n}<{it.writer}>(value: &{it.name}, serializer: &mut S) -> Result<{it.resolver}, Error>
+{cycle_of(it)}fn serialize_{it.n}<{it.writer}>(value: &{it.name}, serializer: &mut S) -> Result<{it.resolver}, Error>
 {contract(it, it.itself, "value")}{{
     match value {{
 {arms}    }}
@@ -653,8 +665,7 @@ def record_writing(it):
     case = it.cases[0]
     values = [f"&value.{field.name}" for field in case.fields]
     return f"""// Writes what a value owns, part by part.
-#[cycle(serialize_{it.family.n})]
-fn serialize_{it.n}<{it.writer}>(value: &{it.name}, serializer: &mut S) -> Result<{it.resolver}, Error>
+{cycle_of(it)}fn serialize_{it.n}<{it.writer}>(value: &{it.name}, serializer: &mut S) -> Result<{it.resolver}, Error>
 {contract(it, it.itself, "value")}{{
 {parts_written(it, case, values)}    Ok({it.resolver} {{ kept: {flat(pair(case.names))} }})
 }}
@@ -816,7 +827,7 @@ def choice_reading(it):
         levels = "levels, " if it.family.shares and any(case.leads_back) else ""
         arms += f"        {tag} => read_{case.n}(alloc, part, {levels}deserializer),\n"
     body = f"{one_level(it)}    match tag_of_choice::<{it.archived}>(part) {{\n{arms}    }}\n"
-    return reader(it, it.n, it.name, READ.format(T=it.name, X=it.archived), body, "Reads a value back.")
+    return reader(it, it.n, it.name, READ.format(T=it.name, X=it.archived), body, "Reads a value back.", not it.is_holder)
 
 
 def one_level(it):
@@ -827,7 +838,7 @@ def one_level(it):
 def record_reading(it):
     case = it.cases[0]
     body = one_level(it) + parts_read(it, case) + statement(4, "Ok(", built(it, case), ")")
-    return reader(it, it.n, it.name, READ.format(T=it.name, X=it.archived), body, "Reads a value back, part by part.")
+    return reader(it, it.n, it.name, READ.format(T=it.name, X=it.archived), body, "Reads a value back, part by part.", not it.is_holder)
 
 
 def deserialize(it):

@@ -32,15 +32,32 @@ def product(words, end="no_value", head="value"):
     return out
 
 
+# What the shape of a type of the same file may be made of.
+SHAPED = set(LEAVES) | {"String", "BoxStr", "NonZero", "Option", "Result", "Box", "BoxSlice", "Vec", "BTreeMap", "OwnedArray", "array", "tuple"}
+
+
+def is_shaped(type, path):
+    """Whether the shape of a plain type can be told in a file: of those that stand in it, from what they are made of."""
+    if type.own is None:
+        return type.name in SHAPED and all(is_shaped(arg, path) for arg in type.args)
+    return not type.args and (type.own.path != path or all(is_shaped(field.type, path) for field in type.own.all_fields()))
+
+
 class Plain:
     """The terms of plain parts. It gathers what a file has to bring in."""
 
-    def __init__(self):
+    def __init__(self, path):
+        self.path = path  # the file that the type stands in
         self.owns = {}  # a plain part's declaration, by its name
 
     def format_of(self, type):
         self.owns[type.name] = type.own
         return f"(format_of_{snake(type.name)}.ghosts)"
+
+    def described(self, which, type):
+        """A definition that stands beside the module of a recursive type, or of one that holds such a type: by a name that no type of this file has."""
+        self.owns[type.name] = type.own
+        return f"{which}_of_{snake(type.name)}"
 
     def source_of(self, type):
         self.owns[type.name] = type.own
@@ -65,6 +82,10 @@ class Plain:
         return f"(List {args[0]})" if type.name == "OwnedArray" else f"({type.name} {args[0]} Global)"
 
     def shape(self, type):
+        if type.own is not None and type.own.part_by_part:
+            return self.described("shape", type)
+        if type.own is not None and type.own.path == self.path:
+            return self.written_out(type.own)
         if type.own is not None:
             return f"{self.format_of(type)}.shape"
         if type.name in LEAVES:
@@ -80,8 +101,16 @@ class Plain:
             return f"(result_shape {args[0]} {args[1]})"
         if type.name == "BTreeMap":
             return f"(sorted_map {self.key(type)} {args[1]})"
-        shapes = {"Box": "(boxed (one {}))", "BoxSlice": "(boxed (run {}))", "Option": "(option_shape {})", "Vec": "(vec {})", "OwnedArray": f"(array {type.length} {{}})"}
+        array = f"(array {type.length} {{}})"
+        shapes = {"Box": "(boxed (one {}))", "BoxSlice": "(boxed (run {}))", "Option": "(option_shape {})", "Vec": "(vec {})", "OwnedArray": array, "array": array}
         return shapes[type.name].format(args[0])
+
+    def written_out(self, own):
+        """What a type of this file looks like. Its impls can't be cited, since they bring in what stands beside the file."""
+        if own.kind == "struct":
+            return f"(parts {product([self.shape(field.type) for field in own.fields], 'no_part', 'part')})"
+        variants = [product([self.shape(field.type) for field in variant.fields], "no_part", "part") for variant in own.variants]
+        return f'(choice (codes "{own.archived}") {product(variants, "no_variant", "variant")})'
 
     def key(self, type):
         """What the keys of a map are."""
@@ -89,6 +118,8 @@ class Plain:
         return "str_key" if shape == "str" else shape.replace("(leaf ", "(leaf_key ", 1)
 
     def definitions(self, type):
+        if type.own is not None and type.own.part_by_part:
+            return self.described("definitions", type)
         if type.own is None and type.name == "Result":
             return f"(both {self.definitions(type.args[0])} {self.definitions(type.args[1])})"
         if type.own is None and type.name in ("tuple", "BTreeMap"):

@@ -5,6 +5,7 @@ import re
 from . import recursive_chain_proofs as chains
 from . import recursive_code
 from .formats import snake
+from .recursive_holders import laid
 from .recursive_reads import Reads
 from .recursive_specs import owns
 from .recursive_terms import brought
@@ -16,13 +17,14 @@ CITED = {
     "std.proofs.Math.ListN": "drop_of_length-le",
     "std.proofs.lemmas.Grind": "common_steps",
     "std.specs.Vec": "vec_len vec_capacity",
-    "std.specs.Prelude": "",
+    "std.specs.Prelude": "Result Ok Err OnOk",
     "archive_core.specs.Causes": "no_memory",
     "archive_core.specs.Error.TheVariants": "OutOfMemory",
     "archive_core.specs.Chains": "written_up_to_as",
     "archive_core.specs.Held": "keyed_as planned_as written_as refused_as read_as",
     "archive_core.specs.PlannedOwners": "each_planned",
     "archive_core.specs.PartsReading": "part_read_back no_part_read_back",
+    "archive_core.proofs.AddedDefinitions": "extended_both first_conflicts later_conflicts",
     "archive_core.proofs.Causes": "err_by err_from goes_both goes_nowhere",
     "archive_core.proofs.fields.Ties": "if_ok",
     "archive_core.proofs.recursive.KeysBegun": "region_refused",
@@ -216,9 +218,14 @@ def matched(arm, words):
     return [arm] + [f"{arm}-{word}" for word in numbered(words[1:])]
 
 
+def folder_of(family, does):
+    """Where the answers of functions are that call each other, or of one that doesn't call itself."""
+    return f"{'' if family.first.is_holder else '+'}{does}_{family.n}"
+
+
 def writing(family):
     out = {}
-    answers = Answers(family, f"+serialize_{family.n}")
+    answers = Answers(family, folder_of(family, "serialize"))
     for it in family.members:
         for type in it.owners:
             if it.is_written(type):
@@ -241,13 +248,15 @@ def writing(family):
 
 def record_written(it, answers):
     case = it.cases[0]
-    values = [f"(out-{it.name} c.args.value.now).{field.name}" for field in case.fields]
+    values = [f"{'c.args.value.now' if it.is_holder else f'(out-{it.name} c.args.value.now)'}.{field.name}" for field in case.fields]
 
     def as_(lemma, proof):
+        if it.is_holder:
+            return proof
         more = " refl" if lemma == "written_as" else ""
         return f"({lemma} ({it.n}_has_keys c.args.value.now) ({it.n}_means c.args.value.now){more} {proof})"
 
-    parts_written(it, case, answers, f"serialize_{it.n}", values, as_)
+    parts_written(it, case, answers, "" if it.is_holder else f"serialize_{it.n}", values, as_)
 
 
 def box_written(it, type, answers):
@@ -257,7 +266,7 @@ def box_written(it, type, answers):
     same = "let same : c.deref-inner.result.now ≡ c.args.value.now.value = grind (arith, common_steps) in rw (← same)"
     goes = f"(goes_both _ _ _ c.{inner}.ensures.goes_on c.serialize_inner.ensures.goes_on)"
     answers.answer(
-        function, "returns-in-Err-clause-refused", f"({same} (box_refused {D} (one {X}) 0 _ _ _ _ _ (one_owned {D} {X} _ _ _ _ _ c.in-Err.ensures.refused)))"
+        function, "returns-in-Err-clause-refused", f"rw c.handed_on.ensures ({same} (box_refused {D} (one {X}) 0 _ _ _ _ _ (one_owned {D} {X} _ _ _ _ _ c.in-Err.ensures.refused)))"
     )
     answers.answer(function, "returns-in-Ok-serialize_inner-clause-serialized", f"({same} (c.in-Ok-serialize_inner.ensures.boxed.since _ c.{inner}.ensures.goes_on c.in-Ok.ensures.serialized))")
     answers.answer(function, "returns-in-Ok-serialize_inner-clause-goes_on", goes)
@@ -276,7 +285,7 @@ def option_written(it, type, answers):
     since = f"ensures.{{}}.since _ c.{inner}.ensures.goes_on c.in-Ok.ensures.serialized"
     owned = f"(box_refused {D} (one {X}) 0 _ _ _ _ _ (one_owned {D} {X} _ _ _ _ _ c.in-Err.ensures.refused))"
     answers.answer(function, "returns-in-None-clause-serialized", f"rw c.in-None.is (serialized_empty_case {D} _ _ 0 refl _)")
-    answers.answer(function, "returns-in-Err-clause-refused", f"({same} (case_refused {case} _ _ _ {owned}))")
+    answers.answer(function, "returns-in-Err-clause-refused", f"rw c.handed_on.ensures ({same} (case_refused {case} _ _ _ {owned}))")
     answers.answer(function, "returns-in-Ok-serialize_inner-clause-serialized", f"({same} (serialized_case {case} _ _ _ (c.in-Ok-serialize_inner.{since.format('boxed')})))")
     answers.answer(function, "returns-in-Ok-serialize_inner-clause-goes_on", goes)
     answers.answer(function, "returns-in-Err-serialize_inner-clause-goes_on", goes)
@@ -300,7 +309,9 @@ def vec_written(it, type, answers):
     at = "_ _ _ _ _ _ _ _ _ _ c.loop-value.value-index"
     for err, goes, refused in steps.refusals:
         answers.answer(each, f"returns-{err}-clause-goes_on", f"goes_both _ _ _ {kept}.goes {goes}")
-        answers.answer(each, f"returns-{err}-clause-refused", f"continues_broken {at} _ _ _ c.loop-value-test.true c.value-item.is {t.plan(item)} {kept} {goes} {refused}")
+        broken = f"continues_broken {at} _ _ _ c.loop-value-test.true c.value-item.is {t.plan(item)} {kept} {goes} {refused}"
+        # the errors of the levels below come by a call
+        answers.answer(each, f"returns-{err}-clause-refused", f"rw c.handed_on.ensures ({broken})" if err == "in-Err" and not t.is_shared(item) else broken)
     if t.is_option(item):
         option_kept(it, item, answers, each, steps, kept, at)
     elif t.is_shared(item):
@@ -467,7 +478,7 @@ def vec_owner_written(it, type, answers):
 
 def choice_written(it, answers):
     """The answers of the function that goes by the variant."""
-    function = f"serialize_{it.n}"
+    function = "" if it.is_holder else f"serialize_{it.n}"
     inline = {case.name: recursive_code.is_inline(case) for case in it.cases}
     made = [(case.name, word) for case in it.cases for word in (words_of(it, case) if inline[case.name] else [f"serialize_{case.n}"] if case.count else [])]
     words = [word for _, word in made]
@@ -482,12 +493,14 @@ def choice_written(it, answers):
         is_ = f"c.in-{case.name}.is"
 
         def as_(lemma, proof):
+            if it.is_holder:
+                return f"rw {is_} {proof}"
             more = f" (rw ({case.n}_opens{opened}) refl)" if lemma == "written_as" else ""
             return f"rw {is_} ({lemma} ({case.n}_has_keys{opened}) ({case.n}_means{opened}){more} {proof})"
 
         until = at + (case.count if inline[case.name] else 1)
         ok, err = oks[until - 1], errs[until - 1]
-        belongs = f"rw ({is_}, {case.n}_opens{opened})"
+        belongs = f"rw {is_}" if it.is_holder else f"rw ({is_}, {case.n}_opens{opened})"
         if inline[case.name]:
             those_written(it, case, answers, function, values, as_, calls[at:until], oks[at:until], errs[at:until], f"returns-{ok}")
             same = "tt"
@@ -503,7 +516,8 @@ def choice_written(it, answers):
 
 def empty_written(it, case, answers, function):
     nothing = f"(serialized_variant {whole_of(it, case)} _ _ _ _ _ (serialized_no_part no_definition _))"
-    answers.answer(function, f"returns-in-{case.name}-clause-serialized", f"rw c.in-{case.name}.is (written_as {case.n}_has_keys {case.n}_means (rw {case.n}_opens refl) {nothing})")
+    its = nothing if it.is_holder else f"(written_as {case.n}_has_keys {case.n}_means (rw {case.n}_opens refl) {nothing})"
+    answers.answer(function, f"returns-in-{case.name}-clause-serialized", f"rw c.in-{case.name}.is {its}")
 
 
 # ---- reading back ----
@@ -511,14 +525,15 @@ def empty_written(it, case, answers, function):
 
 def reading(family):
     out = {}
-    answers = Answers(family, f"+read_{family.n}")
+    answers = Answers(family, folder_of(family, "read"))
     for it in family.members:
-        measures(it, answers)
+        if not it.is_holder:
+            measures(it, answers)
         for type in it.owners:
             {"Box": box_read, "Option": option_read, "Vec": vec_read, "Shared": shared_read}[type.name](it, type, answers)
         for case in it.cases:
             here = answers if it.is_record or any(case.leads_back) else Answers(family, f"read_{case.n}")
-            parts_read(it, case, here, f"read_{case.n}" if here is answers else "")
+            parts_read(it, case, here, f"read_{case.n}" if here is answers and not it.is_holder else "")
             if here is not answers:
                 out.update(here.files())
     out.update(answers.files())
@@ -527,19 +542,20 @@ def reading(family):
 
 def measures(it, answers):
     """Each function ends before its caller does: by the end of what it reads, and by which of them it is."""
-    deepest = it.family.deepest
+    deepest, above = it.family.deepest, 2 * it.nest
+    ranks = deepest + 3 + 2 * it.family.most_nest
 
     def measure(size, rank):
-        return f"l.levels * {deepest + 3} + {rank}" if it.family.shares else f"(l.part.pos + {size}) * {deepest + 3} + {rank}"
+        return f"l.levels * {ranks} + {rank}" if it.family.shares else f"(l.part.pos + {size}) * {ranks} + {rank}"
 
     for type in it.owners:
         answers.invariant("", f"decreases-read_{it.word(type)}", measure(it.formats.layout(type)[0], it.depth(type)))
     if not it.is_record:
         for case in it.cases:
             if any(case.leads_back):
-                answers.invariant("", f"decreases-read_{case.n}", measure(it.size, deepest + 1))
+                answers.invariant("", f"decreases-read_{case.n}", measure(it.size, deepest + 1 + above))
     # where it shares, a value takes one of the levels for what it holds
-    answers.invariant("", f"decreases-read_{it.n}", measure(it.size, 0 if it.family.shares else deepest + 2))
+    answers.invariant("", f"decreases-read_{it.n}", measure(it.size, 0 if it.family.shares else deepest + 2 + above))
 
 
 ARGS = "c.args.part.bytes.now c.args.part.pos c.args.part.len"
@@ -661,7 +677,7 @@ def parts_read(it, case, answers, function):
     reads = Reads(case.names, case.types)
     values = reads.values
     parts = Parts(it, case, values)
-    laid = "(record { solved = λ s k. refl })"
+    laws = [laid(it, type) for type in case.types]
     sizes = [it.formats.layout(type) for type in case.types]
     layouts = [f"(record {{ size = {size}; align = {align} }})" for size, align in sizes]
     first = "" if it.is_record else "c.requires.tag "
@@ -670,7 +686,7 @@ def parts_read(it, case, answers, function):
     def refused(i, at=0):
         D, X, _, _ = parts.first(at)
         E, P, _, _ = parts.rest(at + 1)
-        head = f"{D} {E} {X} {layouts[at]} {laid} {P} _ _ {starts[at]} _ _"
+        head = f"{D} {E} {X} {layouts[at]} {laws[at]} {P} _ _ {starts[at]} _ _"
         if at == i:
             return f"(first_refuses {head} ({told[i]}c.{reads.errs[i]}.ensures.refused))"
         return f"(later_refuses {head} _ c.{reads.oks[at]}.ensures.read.kept {refused(i, at + 1)})"
@@ -680,17 +696,19 @@ def parts_read(it, case, answers, function):
             return "no_part_read_back"
         _, _, K, _ = parts.first(at)
         _, _, L, _ = parts.rest(at + 1)
-        return f"(part_read_back {{L = {layouts[at]}}} {{ks = {K}}} {{ls = {L}}} {laid} ({told[at]}c.{reads.oks[at]}.ensures.read) {read(at + 1)})"
+        return f"(part_read_back {{L = {layouts[at]}}} {{ks = {K}}} {{ls = {L}}} {laws[at]} ({told[at]}c.{reads.oks[at]}.ensures.read) {read(at + 1)})"
 
     lemma = "record_refuses" if it.is_record else "variant_refuses"
     for i, err in enumerate(reads.errs):
         answers.answer(function, f"returns-{err}-clause-refused", reads.refused(i, f"({lemma} {whole_of(it, case)} _ _ _ {first}_ _ {refused(i)})"))
     if it.is_record:
+        its = f"(record_read_back {whole_of(it, case)} _ _ _ _ _ _ _ {read()})"
         made = "(record { " + "; ".join(f"{field.name} = {value}" for field, value in zip(case.fields, values)) + " })"
-        body = f"read_as ({it.n}_has_keys_roll {made}) ({it.n}_means_roll {made}) (record_read_back {whole_of(it, case)} _ _ _ _ _ _ _ {read()})"
+        body = its if it.is_holder else f"read_as ({it.n}_has_keys_roll {made}) ({it.n}_means_roll {made}) {its}"
     else:
-        its = "".join(f" {value}" for value in values)
-        body = f"read_as ({case.n}_has_keys{its}) ({case.n}_means{its}) (variant_read_back {whole_of(it, case)} _ _ _ {first}_ _ _ _ {read()})"
+        those = "".join(f" {value}" for value in values)
+        its = f"(variant_read_back {whole_of(it, case)} _ _ _ {first}_ _ _ _ {read()})"
+        body = its if it.is_holder else f"read_as ({case.n}_has_keys{those}) ({case.n}_means{those}) {its}"
     lets = signed_values(zip(case.types, case.names, values))
     answers.answer(function, "returns-clause-read", f"({lets}({body}))" if lets else body)
 
@@ -703,10 +721,46 @@ def defining(it):
     return answers.files()
 
 
+ON_OK = """on_ok : {A B P Q : Type 0} (r : Result A B) → (P → Q) → OnOk r P → OnOk r Q
+on_ok (Ok x) f h = f h
+on_ok (Err e) f h = tt
+"""
+
+
+def defining_all(family):
+    """The answers on the definitions of a family, added one after another. A tactic of the function can't cite these lemmas."""
+    answers = Answers(family, f"define_{family.n}_family")
+    answers.items.append(ON_OK)
+    calls = [f"define_{it.n}" for it in family.members]
+    *before, last = calls
+    added = [f"c.in_ok-{call}.ensures.added" for call in before]
+
+    def around(lemma, names, inner):
+        for name in reversed(names):
+            inner = f"({lemma} {name} {inner})"
+        return inner
+
+    joined = around("extended_both _ _ _ _ _", added, "k")
+    answers.answer("", "returns-clause-added", f"on_ok c.{last}.result (λ k. {joined}) c.{last}.ensures.added", "c")
+    later = "h"
+    for name in reversed(added):
+        later = f"(later_conflicts _ _ _ _ {name} e {later})"
+    answers.answer("", "returns-clause-refused", f"err_from c.{last}.result c.{last}.ensures.refused (λ e h. {later})", "c")
+    for i, call in enumerate(before):
+        error = f"c.in_err-{call}.field-0.0"
+        refused = f"(first_conflicts _ _ _ _ c.in_err-{call}.ensures.refused)"
+        for name in reversed(added[:i]):
+            refused = f"(later_conflicts _ _ _ _ {name} {error} {refused})"
+        behind = f"c.{residual(before, i)}"
+        answers.answer("", f"returns-in_err-{call}-clause-refused", f"err_by {behind}.result {error} _ {behind}.ensures.1 {refused}", "c")
+    return answers.files()
+
+
 def files(family):
-    out = {}
+    out = {} if family.first.is_alone else defining_all(family)
     for it in family.members:
-        out.update(defining(it))
+        if not it.is_holder:
+            out.update(defining(it))
     if family.first.is_chain:
         out.update(chains.files(family.first))
         return out

@@ -1,7 +1,7 @@
 """What isn't written of recursive types, with what to write instead."""
 
 from .model import Declaration, Refused, Type
-from .recursive_plain import LEAVES
+from .recursive_plain import LEAVES, is_shaped
 
 # What plain parts may be made of, which a recursive type has beside those that lead back to it. With an `Option` of a pair the toolchain doesn't finish what
 # it makes of the functions that read it back.
@@ -38,10 +38,8 @@ def check_parts(it: Declaration, fields):
 
 
 def check_part(it: Declaration, type: Type, line: int):
-    if type.own is it:
+    if is_member(it, type):
         return
-    if any(type.own is other for other in it.family):
-        raise Refused(it.path, line, f"`{type.own.name}` leads back to `{it.name}`, and isn't written yet without a pointer between; put it into a `Box`")
     if any(leads_back(it, x) for x in type.args):
         check_owner(it, type, line)
         return
@@ -54,8 +52,8 @@ def check_part(it: Declaration, type: Type, line: int):
 def check_plain(it: Declaration, type: Type, line: int):
     """What leads to no value of the type."""
     if type.own is not None and not type.args:
-        if type.own.path == it.path:
-            raise Refused(it.path, line, f"`{type.own.name}` is held by the recursive `{it.name}`; move it to another file")
+        if not is_shaped(type, it.path):
+            raise Refused(it.path, line, f"`{type.own.name}` has fields that tools/derive doesn't write beside the recursive `{it.name}`; move it to another file")
         return
     if type.own is not None or type.name not in PLAIN:
         raise Refused(it.path, line, f"this field of the recursive `{it.name}` is of a type that tools/derive doesn't write there; put it into a struct of another file")
@@ -96,16 +94,6 @@ def is_list(it: Declaration, type: Type) -> bool:
 
 def leads_back(it: Declaration, type: Type) -> bool:
     return any(type.own is other for other in it.family) or any(leads_back(it, x) for x in type.args)
-
-
-def check_held(it: Declaration):
-    """Refuses an enum that isn't recursive itself and holds a type that is."""
-    if not it.holds_recursive or it.kind == "struct":
-        return
-    for field in it.all_fields():
-        held = recursive_in(field.type)
-        if held:
-            raise Refused(it.path, field.line, f"`{held}` is recursive or holds a type that is, and an enum around it isn't written yet; put it into a struct")
 
 
 def recursive_in(type: Type) -> str:

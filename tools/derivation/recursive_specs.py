@@ -1,6 +1,7 @@
 """The definitions that stand beside the modules of recursive types: what they look like, and what their values mean. A family has one file of each."""
 
 from . import recursive_chain_specs as chains
+from . import recursive_holders as holders
 from .formats import ALIGNS
 from .recursive_terms import brought, brought_owns, something
 
@@ -26,8 +27,14 @@ SPOKEN = [("std.specs.Prelude", "false ◌∷◌ ◌<◌ ◌^◌ Bool Result")]
 
 def shape(family):
     """What the archived types look like: their names, and what the names stand for."""
-    lines = of_each(family, named) + of_each(family, stood_for)
-    lines += of_each(family, defined) + of_each(family, stands)
+    if family.first.is_holder:
+        lines = holders.shape(family.first)
+    else:
+        lines = of_each(family, named) + of_each(family, stood_for)
+        nested = family.most_nest > 0
+        lines += of_each(family, brings) if nested else []
+        lines += [line for it in family.inner_first for line in defined(it)]
+        lines += of_each(family, stands if nested else lambda it: brings(it) + stands(it))
     if family.first.is_chain:
         lines += chains.shape(family.first, knows_parts)
     body = "\n".join(lines)
@@ -58,14 +65,18 @@ def stood_for(it):
     return lines + [f"abbrev pub {n}_stands_for : Shape\n{n}_stands_for = choice {n}_name {n}_variants\n"]
 
 
-def defined(it):
-    """Its definitions, which are those of its family, with its layout."""
-    n = it.n
+def definitions_of(it):
     definitions = ""
     for other in reversed(it.family.members):
         one = f"defines {other.n}_name {other.n}_stands_for"
         definitions = f"both ({one}) ({definitions})" if definitions else one
-    lines = [f"abbrev pub {n}_definitions : Definitions\n{n}_definitions = {definitions}\n"]
+    return f"abbrev pub {it.n}_definitions : Definitions\n{it.n}_definitions = {definitions}\n"
+
+
+def defined(it):
+    """Its definitions, which are those of its family, with its layout."""
+    n = it.n
+    lines = [] if it.family.most_nest else [definitions_of(it)]
     lines.append(f"abbrev pub {n}_layout : Layout\n{n}_layout = record {{ size = {it.size}; align = {it.align} }}\n")
     lines.append(f"pub {n}_is_align : IsAlign {it.align}\n{n}_is_align = {ALIGNS[it.align]}\n")
     said = f"pub {n}_has_layout : HasLayout {n}_definitions {n}_shape {n}_layout\n{n}_has_layout ="
@@ -73,7 +84,7 @@ def defined(it):
     if it.is_alone:
         lines.append(f"{said} name_has_layout {n}_name {n}_stands_for {n}_layout (λ s k. refl)\n")
         return lines + [f"{reached}{n}_no_others = name_reached {n}_name {n}_stands_for\n"]
-    lines.append(f"{said} member_has_layout {n}_definitions {n}_name {n}_stands_for {n}_layout (λ s k. {has(it)}) (λ s k. refl)\n")
+    lines.append(f"{said} member_has_layout {n}_definitions {n}_name {n}_stands_for {n}_layout (λ s k. {has(it)}) (λ s k. {laid_out(it)})\n")
     index, cases = "zero", ""
     for other in it.family.members:
         cases += (
@@ -149,26 +160,44 @@ def knows_parts(it, types):
     return knows(it, ["k" if it.terms.leads_back(type) else it.terms.plain.known(type) for type in types])
 
 
-def stands(it):
-    """The definitions that its parts bring, and that it stands for them."""
-    n, t = it.n, it.terms
+def brings(it):
+    """The definitions that its parts bring."""
+    n, t, lines, chain = it.n, it.terms, [definitions_of(it)] if it.family.most_nest else [], "no_definition"
     if it.is_record:
-        return [
-            f"abbrev pub {n}_part_definitions : Definitions\n{n}_part_definitions = {t.parts_definitions(it.types)}\n",
-            f"pub {n}_has_parts : IsRecord {n}_definitions {n}_shape {n}_part_definitions {n}_parts\n"
-            f"{n}_has_parts = record {{ stands = λ s k. by_name {has(it)}; known = λ s k. {knows_parts(it, it.types)} }}\n",
-        ]
-    lines, chain = [], "no_definition"
+        return lines + [f"abbrev pub {n}_part_definitions : Definitions\n{n}_part_definitions = {t.parts_definitions(it.types)}\n"]
     for case in reversed(it.cases):
         chain = f"(both {case.n}_definitions {chain})"
     for case in it.cases:
         lines.append(f"abbrev pub {case.n}_definitions : Definitions\n{case.n}_definitions = {t.parts_definitions(case.types)}\n")
-    lines.append(f"abbrev pub {n}_variant_definitions : Definitions\n{n}_variant_definitions = {chain}\n")
-    known = knows(it, [knows_parts(it, case.types) for case in it.cases])
+    return lines + [f"abbrev pub {n}_variant_definitions : Definitions\n{n}_variant_definitions = {chain}\n"]
+
+
+def known_parts(it):
+    return knows_parts(it, it.types) if it.is_record else knows(it, [knows_parts(it, case.types) for case in it.cases])
+
+
+def laid_out(it):
+    """That what it stands for has its layout: by those of its parts, where a type of its family is one."""
+    if not it.nest:
+        return "refl"
+    if it.is_record:
+        return f"(record_has_layout {it.n}_part_definitions {it.n}_parts _ _ _ {holders.PartsOf(it, it.types).laid()}).solved s {known_parts(it)}"
+    return f"(let its = {holders.variants_laid(it)} in let known = {known_parts(it)} in rw (its.aligned s known, its.ends s known) refl)"
+
+
+def stands(it):
+    """That it stands for its parts."""
+    n = it.n
+    if it.is_record:
+        return [
+            f"pub {n}_has_parts : IsRecord {n}_definitions {n}_shape {n}_part_definitions {n}_parts\n"
+            f"{n}_has_parts = record {{ stands = λ s k. by_name {has(it)}; known = λ s k. {knows_parts(it, it.types)} }}\n",
+        ]
+    known = known_parts(it)
     said = f"pub {n}_has_variants : IsChoice {n}_definitions {n}_shape {n}_name {n}_variant_definitions {n}_variants\n{n}_has_variants ="
     if it.is_alone:
-        return lines + [f"{said} is_recursive_choice {n}_name {n}_variant_definitions {n}_variants (λ s k. {known})\n"]
-    return lines + [f"{said} record {{ stands = λ s k. by_name {has(it)}; known = λ s k. {known} }}\n"]
+        return [f"{said} is_recursive_choice {n}_name {n}_variant_definitions {n}_variants (λ s k. {known})\n"]
+    return [f"{said} record {{ stands = λ s k. by_name {has(it)}; known = λ s k. {known} }}\n"]
 
 
 # ---- what values mean ----
@@ -179,6 +208,8 @@ LETTERS = "ABCDEFGHIJKLMNOPQRSTUVWXYZ"
 
 def meaning(family):
     """What values mean, layer by layer, and the laws of it."""
+    if family.first.is_holder:
+        return meaning_of_holder(family.first)
     lines = pairs(family) if family.shares else []
     for which, type, word in SAID:
         if not family.shares:
@@ -189,7 +220,7 @@ def meaning(family):
         for it in family.members:
             lines.append(rolled(it, which, type, word))
             lines.append(opened(it, which, word))
-    lines += of_each(family, flats)
+    lines += [line for it in family.inner_first for line in flats(it)]
     if family.first.is_chain:
         lines += chains.meaning(family.first)
     lines += laws(family)
@@ -209,6 +240,19 @@ def meaning(family):
     names = [w for it in family.members for w in it.shape_names() if w in body]
     shape_ = f"use Rattle.{family.crate}.specs.{family.name}Shape.{{{', '.join(names)}}}\n"
     return f"-- What {' and '.join(it.name for it in family.members)} mean{'s' if len(family.members) == 1 else ''}. {family.first.written}\n{brought(body, more)}{shape_}{aliases}{owns(family, body)}\n{body}"
+
+
+def meaning_of_holder(it):
+    """The same of a type that isn't recursive."""
+    body = "\n".join(holders.meaning(it))
+    family = it.family
+    more = SPOKEN + [("std.proofs.Common", PRELUDE_COMMON), (family.declared(it.resolver), it.resolver)]
+    aliases = f"use Rattle.{family.declared(it.name)}.{{{it.name} as {it.source}}}\n" + it.plain_types(body)
+    if not it.is_record:
+        aliases += "".join(f"use Rattle.{family.declared(of, 'TheVariants')} as {alias}\n" for of, alias in ((it.name, it.its), (it.resolver, it.kept)))
+    names = ", ".join(w for w in it.shape_names() if w in body)
+    shape_ = f"use Rattle.{family.crate}.specs.{family.name}Shape.{{{names}}}\n"
+    return f"-- What {it.name} means. {it.written}\n{brought(body, more)}{shape_}{aliases}{owns(family, body)}\n{body}"
 
 
 # What is said of a value whose keys have what it means, too; the places of both in a pair.

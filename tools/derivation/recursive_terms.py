@@ -8,13 +8,22 @@ from .formats import snake
 from .recursive_plain import Plain
 
 
+def stem(name):
+    """What names of a type begin with: none of the library's that are brought in begin so."""
+    from .recursive_proofs import CITED
+
+    own = snake(name)
+    taken = any(it.startswith(f"{own}_") for names in [*PRELUDE.values(), *CITED.values()] for it in names.split())
+    return f"{own}_type" if taken else own
+
+
 class Terms:
     """The terms of a recursive type. It gathers what a file has to bring in."""
 
     def __init__(self, declaration):
         self.declaration = declaration
-        self.n = snake(declaration.name)
-        self.plain = Plain()
+        self.n = stem(declaration.name)
+        self.plain = Plain(declaration.path)
         self.owns = self.plain.owns  # plain parts that `tools/derive` wrote
 
     def is_member(self, type):
@@ -23,14 +32,14 @@ class Terms:
 
     def n_of(self, type):
         """What names of a type of the family begin with."""
-        return snake(type.own.name)
+        return stem(type.own.name)
 
     def leads_back(self, type):
         return self.is_member(type) or any(self.leads_back(arg) for arg in type.args)
 
     def own(self, which):
         """What is said of values of each type of the family, by its name."""
-        return {it.name: f"{snake(it.name)}_{which}" for it in self.declaration.family}
+        return {it.name: f"{stem(it.name)}_{which}" for it in self.declaration.family}
 
     @property
     def shares(self):
@@ -108,6 +117,8 @@ class Terms:
         return f"(each_keys {self.function('keys', item, k)} {x}.items)"
 
     def flat(self, type, x, r):
+        if self.is_member(type):
+            return f"({self.n_of(type)}_flat {x} {r})"
         if not self.leads_back(type):
             return self.plain.flat(type, x, r)
         item = self.shape(type.args[0])
@@ -120,6 +131,8 @@ class Terms:
         return f"(hole (to_pointee {r} (run {item}) (length {x}.items)))"
 
     def belongs(self, type, x, r):
+        if self.is_member(type):
+            return f"({self.n_of(type)}_belongs {x} {r})"
         if not self.leads_back(type):
             return self.plain.belongs(type, x, r)
         if type.name in ("Box", "Option", "Shared"):
@@ -274,18 +287,23 @@ PRELUDE = {
     "archive_core.specs.Denotes": "Naming",
     "archive_core.specs.Layout": "Layout",
     "archive_core.specs.NamedLayout": "name_has_layout name_reached",
-    "archive_core.specs.PartsLayout": "IsRecord by_name knows_none",
+    "archive_core.specs.NoOthers": "around_reached both_reached no_parts_reached part_reached",
+    "archive_core.specs.Defined": "mentions_map",
+    "archive_core.specs.LeafLayout": "no_definition_reached",
+    "archive_core.specs.PartsLayout": "IsRecord by_name knows_none for_itself is_record no_part_laid_out part_laid_out record_has_layout",
+    "archive_core.specs.SelfCheck.Arrays": "array_has_layout array_reaches",
+    "archive_core.specs.SelfCheck.Owners": "one_reaches run_reaches vec_reaches",
     "archive_core.specs.Variants": "case_of",
-    "archive_core.specs.VariantsLayout": "IsChoice is_recursive_choice",
+    "archive_core.specs.VariantsLayout": "IsChoice is_recursive_choice no_variant_laid_out no_variants_reached variant_laid_out variant_reached",
     "archive_core.specs.Shape": "Name Shape Parts Variants named choice parts boxed shared array vec sorted_map str one run text leaf unit bool char non_zero unsigned signed leaf_key str_key part no_part variant no_variant",
     "archive_core.specs.SharedSources": "rc_flavor rc_flat rc_keys rc_keyed rc_one_planned",
     "archive_core.specs.declared.rc.sources.Shared": "Shared",
     "archive_core.specs.Value": "Value Values case product list box hole number value no_value text_value shared_value",
     "archive_core.specs.Keyed": "each_keyed case_keyed record_keyed nothing_keyed part_keyed number_keyed text_keyed box_keyed",
-    "archive_core.specs.Choices": "option_shape",
+    "archive_core.specs.Choices": "option_has_layout option_reached option_shape",
     "archive_core.specs.Options": "option_keys option_meaning option_flat OptionBelongs option_keyed option_planned",
     "archive_core.specs.Results": "result_keys result_meaning result_flat ResultBelongs result_keyed result_planned",
-    "archive_core.specs.ResultShapes": "result_shape",
+    "archive_core.specs.ResultShapes": "result_has_layout result_reached result_shape",
     "archive_core.specs.Arrays": "array_keys array_meaning array_keyed array_planned",
     "archive_core.specs.MapPairs": "pair_meaning pair_keys",
     "archive_core.specs.PlannedMaps": "pairs_keyed map_of_pairs_planned",
@@ -340,6 +358,9 @@ def brought_owns(terms, body):
     for name, own in sorted(terms.owns.items()):
         path = ".".join(("Rattle", own.crate, "specs", "contracts") + tuple(own.module))
         n = snake(name)
+        if own.part_by_part:
+            described = [f"{stem(name)}_{it} as {it}_of_{n}" for it in ("shape", "definitions", "has_layout", "no_others") if f"{it}_of_{n}" in words(body)]
+            lines += [f"use Rattle.{own.crate}.specs.{own.family[0].name}Shape.{{{', '.join(described)}}}\n"] if described else []
         if f"format_of_{n}" in body:
             lines.append(f"use {path}.{own.archived}Portable.TheImpl as format_of_{n}\n")
         if f"source_of_{n}" in body:

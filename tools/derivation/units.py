@@ -13,7 +13,7 @@ FROM = 8
 
 def go_together(declaration):
     """Whether the variants without fields are written together."""
-    return not declaration.recursive and sum(not v.fields for v in declaration.variants) >= FROM
+    return not declaration.part_by_part and sum(not v.fields for v in declaration.variants) >= FROM
 
 
 class Units:

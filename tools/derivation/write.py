@@ -25,7 +25,7 @@ def proofs(module):
     formats = Formats(module)
     out = {}
     for declaration in module.declarations:
-        if not declaration.as_tuple and not declaration.recursive:
+        if not declaration.as_tuple and not declaration.part_by_part:
             its = records if declaration.kind == "struct" else variants
             out.update(its.proofs(formats, declaration))
     out.update(recursive.files(module))
@@ -34,7 +34,7 @@ def proofs(module):
 
 def form(declaration):
     """What writes the impls of a declaration."""
-    if declaration.recursive:
+    if declaration.part_by_part:
         return recursive.text
     if declaration.as_tuple:
         return generics.text

@@ -35,15 +35,15 @@ ghost use Rattle.recursive_kinds.specs.BushShape.{bush_definitions, bush_has_lay
 ghost use Rattle.std.proofs.Common.{lit≤};
 ghost use Rattle.std.specs.Prelude.{IfErr, IfOk, None, Some, length, refl, ◌+◌, ◌≡◌, ◌≤◌};
 
-use archive_core::boxed::{ArchivedBox, BoxResolver, serialize_inner};
+use archive_core::boxed::{ArchivedBox, BoxResolver};
 use archive_core::error::Error;
 use archive_core::option::ArchivedOption;
 use archive_core::place::Place;
 use archive_core::primitive::ArchivedU32;
 use archive_core::recursive::{
-    BoxAt, VecAt, before_box, before_vec, define_name, option_expression, part_of_record,
-    read_part, record_of, resolve_named_record_3, seal_of_field, serialize_inner_slice,
-    serialize_part, view_of_field,
+    BoxAt, VecAt, before_box, before_vec, define_name, handed_on, option_expression,
+    part_of_record, read_part, record_of, resolve_named_record_3, seal_of_field, serialize_inner,
+    serialize_inner_slice, serialize_part, view_of_field,
 };
 use archive_core::seal::Seal;
 use archive_core::self_check::BySchema;
@@ -260,7 +260,7 @@ fn serialize_each_option_box_bush<S: Writer + Keys + ResolverAlloc>(
                 let inner = &**whole;
                 let kept = match serialize_bush(inner, serializer) {
                     Ok(kept) => kept,
-                    Err(error) => return Err(error),
+                    Err(error) => return Err(handed_on(error)),
                 };
                 let resolver = match serialize_inner(inner, kept, serializer) {
                     Ok(resolver) => resolver,
@@ -330,7 +330,7 @@ fn serialize_each_bush<S: Writer + Keys + ResolverAlloc>(
     for value in values {
         let resolver = match serialize_bush(value, serializer) {
             Ok(resolver) => resolver,
-            Err(error) => return Err(error),
+            Err(error) => return Err(handed_on(error)),
         };
         resolvers.push(resolver).map_err(AllocError::from)?;
     }
@@ -387,7 +387,7 @@ fn serialize_box_vec_bush<S: Writer + Keys + ResolverAlloc>(
     let inner = &**value;
     let kept = match serialize_vec_bush(inner, serializer) {
         Ok(kept) => kept,
-        Err(error) => return Err(error),
+        Err(error) => return Err(handed_on(error)),
     };
     match serialize_inner(inner, kept, serializer) {
         Ok(at) => Ok(at),

@@ -32,13 +32,14 @@ ghost use Rattle.recursive_kinds.specs.KnotShape.{knot_definitions, knot_has_lay
 ghost use Rattle.std.proofs.Common.{lit≤};
 ghost use Rattle.std.specs.Prelude.{IfErr, IfOk, None, length, refl, ◌+◌, ◌≡◌, ◌≤◌};
 
-use archive_core::boxed::{ArchivedBox, serialize_inner};
+use archive_core::boxed::ArchivedBox;
 use archive_core::error::Error;
 use archive_core::place::Place;
 use archive_core::primitive::ArchivedU32;
 use archive_core::recursive::{
-    VecAt, before_box, before_vec, define_name, part_of_record, read_part, record_of,
-    resolve_named_record_2, seal_of_field, serialize_inner_slice, serialize_part, view_of_field,
+    VecAt, before_box, before_vec, define_name, handed_on, part_of_record, read_part, record_of,
+    resolve_named_record_2, seal_of_field, serialize_inner, serialize_inner_slice, serialize_part,
+    view_of_field,
 };
 use archive_core::seal::Seal;
 use archive_core::self_check::BySchema;
@@ -231,7 +232,7 @@ fn serialize_each_box_knot<S: Writer + Keys + ResolverAlloc>(
         let inner = &**value;
         let kept = match serialize_knot(inner, serializer) {
             Ok(kept) => kept,
-            Err(error) => return Err(error),
+            Err(error) => return Err(handed_on(error)),
         };
         let resolver = match serialize_inner(inner, kept, serializer) {
             Ok(resolver) => resolver,

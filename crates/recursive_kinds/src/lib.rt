@@ -1,8 +1,6 @@
-//! Recursive types whose values lie in boxes of a vector, and with fields of many kinds, as a user declares them, with what tools/derive writes for them.
+//! Recursive types whose values lie in boxes of a vector, and a struct with fields of many kinds, as a user declares them, with what tools/derive writes for them.
 #![tactic(auto)]
 
 pub mod bush;
-pub mod fact;
 pub mod knot;
-pub mod note;
 pub mod rule;

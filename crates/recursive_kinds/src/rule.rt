@@ -46,8 +46,8 @@ use archive_core::error::Error;
 use archive_core::place::Place;
 use archive_core::primitive::{ArchivedU16, ArchivedUsize};
 use archive_core::recursive::{
-    VecAt, before_vec, define_name, part_of_record, read_part, record_of, resolve_named_record_5,
-    seal_of_field, serialize_inner_slice, serialize_part, view_of_field,
+    VecAt, before_vec, define_name, handed_on, part_of_record, read_part, record_of,
+    resolve_named_record_5, seal_of_field, serialize_inner_slice, serialize_part, view_of_field,
 };
 use archive_core::seal::Seal;
 use archive_core::self_check::BySchema;
@@ -269,7 +269,7 @@ fn serialize_each_rule<S: Writer + Keys + ResolverAlloc<Alloc = Global>>(
     for value in values {
         let resolver = match serialize_rule(value, serializer) {
             Ok(resolver) => resolver,
-            Err(error) => return Err(error),
+            Err(error) => return Err(handed_on(error)),
         };
         resolvers.push(resolver).map_err(AllocError::from)?;
     }

@@ -10,3 +10,5 @@ pub mod RoseMeaning
 pub mod RoseShape
 pub mod DirMeaning
 pub mod DirShape
+pub mod OutlineMeaning
+pub mod OutlineShape

@@ -44,15 +44,15 @@ ghost use Rattle.recursive_types.specs.DirShape.{dir_definitions, dir_has_layout
 ghost use Rattle.std.proofs.Common.{lit≤};
 ghost use Rattle.std.specs.Prelude.{IfErr, IfOk, None, OnOk, [], length, refl, ℕ, ◌++◌, ◌+◌, ◌≡◌, ◌≤◌};
 
-use archive_core::boxed::{ArchivedBox, BoxResolver, serialize_inner};
+use archive_core::boxed::{ArchivedBox, BoxResolver};
 use archive_core::error::Error;
 use archive_core::place::Place;
 use archive_core::primitive::ArchivedU64;
 use archive_core::recursive::{
-    BoxAt, VecAt, before_box, before_vec, choice_of, define_name, part_of_record, part_of_variant,
-    read_part, record_of, resolve_named_case_1, resolve_named_record_2, seal_of_field,
-    seal_of_payload, serialize_inner_slice, serialize_part, tag_of_choice, tag_of_view,
-    view_of_field, view_of_payload,
+    BoxAt, VecAt, before_box, before_vec, choice_of, define_name, handed_on, part_of_record,
+    part_of_variant, read_part, record_of, resolve_named_case_1, resolve_named_record_2,
+    seal_of_field, seal_of_payload, serialize_inner, serialize_inner_slice, serialize_part,
+    tag_of_choice, tag_of_view, view_of_field, view_of_payload,
 };
 use archive_core::seal::Seal;
 use archive_core::self_check::BySchema;
@@ -252,7 +252,7 @@ fn serialize_each_entry<S: Writer + Keys + ResolverAlloc>(
     for value in values {
         let resolver = match serialize_entry(value, serializer) {
             Ok(resolver) => resolver,
-            Err(error) => return Err(error),
+            Err(error) => return Err(handed_on(error)),
         };
         resolvers.push(resolver).map_err(AllocError::from)?;
     }
@@ -552,7 +552,6 @@ fn define_entry(alloc: Global, defs: &mut Defs) -> Result<(), Error>
 }
 
 // Adds what the names stand for.
-#[tactic(auto, using(archive_core::proofs::AddedDefinitions::joining))]
 fn define_dir_family(alloc: Global, defs: &mut Defs) -> Result<(), Error>
     ensures added { OnOk result (Extended (table_of defs.old) dir_definitions (table_of defs.new)) }
     ensures refused { IfErr result (ExplainsConflict (table_of defs.old) dir_definitions) }
@@ -703,7 +702,7 @@ fn serialize_box_dir<S: Writer + Keys + ResolverAlloc>(
     let inner = &**value;
     let kept = match serialize_dir(inner, serializer) {
         Ok(kept) => kept,
-        Err(error) => return Err(error),
+        Err(error) => return Err(handed_on(error)),
     };
     match serialize_inner(inner, kept, serializer) {
         Ok(at) => Ok(at),

@@ -34,14 +34,14 @@ ghost use Rattle.recursive_types.specs.ExprShape.{expr_add_parts, expr_call_part
 ghost use Rattle.std.proofs.Common.{lit≤};
 ghost use Rattle.std.specs.Prelude.{IfErr, IfOk, None, [], length, refl, ℕ, ◌++◌, ◌+◌, ◌≡◌, ◌≤◌};
 
-use archive_core::boxed::{ArchivedBox, BoxResolver, serialize_inner};
+use archive_core::boxed::{ArchivedBox, BoxResolver};
 use archive_core::error::Error;
 use archive_core::place::Place;
 use archive_core::primitive::ArchivedI64;
 use archive_core::recursive::{
-    BoxAt, VecAt, before_box, before_vec, choice_of, define_name, part_of_variant, read_part,
-    resolve_named_case_1, resolve_named_case_2, seal_of_payload, serialize_inner_slice,
-    serialize_part, tag_of_choice, tag_of_view, view_of_payload,
+    BoxAt, VecAt, before_box, before_vec, choice_of, define_name, handed_on, part_of_variant,
+    read_part, resolve_named_case_1, resolve_named_case_2, seal_of_payload, serialize_inner,
+    serialize_inner_slice, serialize_part, tag_of_choice, tag_of_view, view_of_payload,
 };
 use archive_core::seal::Seal;
 use archive_core::self_check::BySchema;
@@ -294,7 +294,7 @@ fn serialize_box_expr<S: Writer + Keys + ResolverAlloc>(
     let inner = &**value;
     let kept = match serialize_expr(inner, serializer) {
         Ok(kept) => kept,
-        Err(error) => return Err(error),
+        Err(error) => return Err(handed_on(error)),
     };
     match serialize_inner(inner, kept, serializer) {
         Ok(at) => Ok(at),
@@ -326,7 +326,7 @@ fn serialize_each_expr<S: Writer + Keys + ResolverAlloc>(
     for value in values {
         let resolver = match serialize_expr(value, serializer) {
             Ok(resolver) => resolver,
-            Err(error) => return Err(error),
+            Err(error) => return Err(handed_on(error)),
         };
         resolvers.push(resolver).map_err(AllocError::from)?;
     }

@@ -16,123 +16,138 @@ pub struct Outline {
 // Below this line all is written by tools/derive: change what is above it, and run it again.
 
 ghost use Rattle.archive_core.specs.CallOutcomes.{ResolvesAs};
-ghost use Rattle.archive_core.specs.Definitions.{both, no_definition};
+ghost use Rattle.archive_core.specs.Causes.{IsRefused};
+ghost use Rattle.archive_core.specs.Definitions.{no_definition};
 ghost use Rattle.archive_core.specs.Fields.{field_in};
-ghost use Rattle.archive_core.specs.Keyed.{each_keyed, nothing_keyed, part_keyed, record_keyed, text_keyed};
-ghost use Rattle.archive_core.specs.PartsPlanned.{no_part_planned, part_planned, product_planned};
-ghost use Rattle.archive_core.specs.Planned.{string_planned};
-ghost use Rattle.archive_core.specs.PlannedOwners.{one_planned, slice_planned, vec_planned};
+ghost use Rattle.archive_core.specs.PlannedOwners.{one_planned};
+ghost use Rattle.archive_core.specs.Plans.{Serialized};
 ghost use Rattle.archive_core.specs.SealsWritten.{IsSealOf, SealsPart};
-ghost use Rattle.archive_core.specs.Seen.{ShowsValueOf};
-ghost use Rattle.archive_core.specs.Shape.{no_part, part};
-ghost use Rattle.archive_core.specs.Value.{no_value, product, value};
+ghost use Rattle.archive_core.specs.Seen.{IsPartOf, RefusesPart, ShowsValueOf};
+ghost use Rattle.archive_core.specs.SelfCheck.Laws.{by_schema};
+ghost use Rattle.archive_core.specs.Shape.{one, part};
+ghost use Rattle.archive_core.specs.Sources.{Read, ReadsAs};
+ghost use Rattle.archive_core.specs.Value.{value};
 ghost use Rattle.archive_core.specs.Writing.{ZeroedPlace};
-ghost use Rattle.std.specs.Prelude.{None, [], length, refl, string_bytes, ◌++◌, ◌+◌, ◌≡◌};
+ghost use Rattle.archive_core.specs.Written.{GoesOn};
+ghost use Rattle.recursive_types.specs.OutlineShape.{outline_definitions, outline_has_layout, outline_has_parts, outline_is_align, outline_layout, outline_no_others, outline_shape};
+ghost use Rattle.std.proofs.Common.{lit≤};
+ghost use Rattle.std.specs.Prelude.{IfErr, IfOk, None, length, refl, ◌+◌, ◌≡◌, ◌≤◌};
 
 use crate::tree::ArchivedTree;
-use archive_core::core_impls::ArchivedTuple;
 use archive_core::error::Error;
-use archive_core::own::{Field, FromParts, HasField};
-use archive_core::parts::SourceParts;
 use archive_core::place::Place;
-use archive_core::record::{resolve_record, serialize_record};
+use archive_core::recursive::{
+    part_of_record, read_part, resolve_named_record_3, seal_of_field, serialize_part, view_of_field,
+};
 use archive_core::seal::Seal;
+use archive_core::self_check::BySchema;
 use archive_core::ser::{ResolverAlloc, Writer, serialize_one};
+use archive_core::shape::Defs;
 use archive_core::string::ArchivedString;
 use archive_core::traits::{
-    Archive, ArchivePointee, ArchiveUnsized, CopyOptimization, Keys, Portable, PortableParts,
-    Serialize, SerializeUnsized,
+    Archive, ArchivePointee, ArchiveUnsized, CopyOptimization, Deserialize, Entries, Keys,
+    Portable, PortableParts, Record, Serialize, SerializeUnsized, expr_of_record,
 };
 use archive_core::vec::ArchivedVec;
-use archive_core::view::Ref;
+use archive_core::view::{RawView, Ref};
+use std::alloc::Global;
 
-/// An archived `Outline`: its fields one after another, as a tuple has them.
-pub type ArchivedOutline = ArchivedTuple<
-    (
-        ArchivedString,
-        (ArchivedTree, (ArchivedVec<ArchivedTree>, ())),
-    ),
->;
+/// An archived `Outline`: 28 bytes at a multiple of 4. It is validated by its schema.
+pub struct ArchivedOutline;
 
-impl HasField<0, String> for Outline {
-    ghost field = { λ v. v.title };
-
-    fn field(&self) -> &String {
-        &self.title
-    }
-}
-
-impl HasField<1, Tree> for Outline {
-    ghost field = { λ v. v.chapters };
-
-    fn field(&self) -> &Tree {
-        &self.chapters
-    }
-}
-
-impl HasField<2, Vec<Tree>> for Outline {
-    ghost field = { λ v. v.others };
-
-    fn field(&self) -> &Vec<Tree> {
-        &self.others
-    }
-}
-
-// Its fields as sources.
-type OutlineFields = (
-    Field<0, String>,
-    (Field<1, Tree>, (Field<2, Vec<Tree>>, ())),
+type OutlineParts = (
+    ArchivedString,
+    (ArchivedTree, (ArchivedVec<ArchivedTree>, ())),
 );
 
-impl Archive for Outline {
-    ghost use Rattle.recursive_types.specs.contracts.tree.TreeArchive.TheImpl.Laws.{keyed-law as keyed_of_tree, planned-law as planned_of_tree};
+impl ArchivePointee for ArchivedOutline {
+    type ArchivedMetadata = ();
 
-    type Archived = ArchivedTuple<
+    ghost pointee = { one outline_shape };
+
+    ghost definitions = { outline_definitions };
+
+    ghost metadata_length = { λ _. 0 };
+
+    fn pointer_metadata(_metadata: &()) -> usize {
+        0
+    }
+}
+
+impl Portable for ArchivedOutline {
+    ghost shape = { outline_shape };
+
+    ghost layout = { outline_layout };
+
+    type Check = BySchema;
+
+    ghost is_one = { refl };
+
+    ghost is_align = { outline_is_align };
+
+    ghost has_layout = { outline_has_layout };
+
+    ghost no_others = { outline_no_others };
+
+    ghost checks = { λ direct. by_schema direct };
+
+    fn size() -> usize {
+        28
+    }
+
+    fn align() -> usize {
+        4
+    }
+
+    fn expr(alloc: Global) -> Result<archive_core::shape::Expr, Error> {
+        expr_of_record::<OutlineParts>(alloc)
+    }
+
+    fn define(alloc: Global, defs: &mut Defs) -> Result<(), Error> {
+        <OutlineParts as PortableParts>::define(alloc, defs)
+    }
+}
+
+impl Record for ArchivedOutline {
+    type Parts = OutlineParts;
+
+    ghost has_parts = { outline_has_parts };
+
+    ghost holds = { lit≤ tt };
+}
+
+/// What is kept of `Outline` between `serialize` and `resolve`.
+#[derive(Drop)]
+pub struct OutlineResolver {
+    kept: (
+        <String as Archive>::Resolver,
         (
-            ArchivedString,
-            (ArchivedTree, (ArchivedVec<ArchivedTree>, ())),
+            <Tree as Archive>::Resolver,
+            (<Vec<Tree> as Archive>::Resolver, ()),
         ),
-    >;
+    ),
+}
 
-    type Resolver = <OutlineFields as SourceParts<Self>>::Resolvers;
+impl Archive for Outline {
+    ghost use Rattle.recursive_types.specs.OutlineMeaning.{outline_meaning, outline_flat, outline_keys, outline_belongs, outline_keyed, outline_planned};
 
-    ghost meaning = { λ v. product (⟦<OutlineFields as SourceParts<Self>>⟧.meanings v) };
+    type Archived = ArchivedOutline;
 
-    ghost flat = { λ v r. product (⟦<OutlineFields as SourceParts<Self>>⟧.flats v r) };
+    type Resolver = OutlineResolver;
 
-    ghost keys = { λ v. ⟦<OutlineFields as SourceParts<Self>>⟧.keys v };
+    ghost meaning = { outline_meaning };
 
-    ghost belongs = { λ v r. ⟦<OutlineFields as SourceParts<Self>>⟧.belongs v r };
+    ghost flat = { outline_flat };
+
+    ghost keys = { outline_keys };
+
+    ghost belongs = { outline_belongs };
 
     ghost in_bulk = { None };
 
-    ghost keyed = { λ v. record_keyed (part_keyed (text_keyed (string_bytes v.title))
-        (part_keyed (keyed_of_tree v.chapters) (part_keyed
-        (each_keyed ⟦<Tree as Archive>⟧.keys ⟦<Tree as Archive>⟧.meaning keyed_of_tree
-        v.others.items) nothing_keyed))) };
+    ghost keyed = { outline_keyed };
 
-    ghost planned = { λ v. product_planned (both no_definition
-        (both ⟦<ArchivedTree as ArchivePointee>⟧.definitions
-        (both ⟦<ArchivedTree as ArchivePointee>⟧.definitions no_definition)))
-        (part ⟦<ArchivedString as Portable>⟧.shape (part ⟦<ArchivedTree as Portable>⟧.shape
-        (part ⟦<ArchivedVec<ArchivedTree> as Portable>⟧.shape no_part)))
-        (⟦<String as Archive>⟧.keys v.title ++ (⟦<Tree as Archive>⟧.keys v.chapters
-        ++ (⟦<Vec<Tree> as Archive>⟧.keys v.others ++ [])))
-        (value (⟦<String as Archive>⟧.meaning v.title) (value
-        (⟦<Tree as Archive>⟧.meaning v.chapters) (value (⟦<Vec<Tree> as Archive>⟧.meaning v.others)
-        no_value))) (part_planned no_definition ⟦<ArchivedString as Portable>⟧.shape
-        (⟦<String as Archive>⟧.keys v.title) (⟦<String as Archive>⟧.meaning v.title)
-        (string_planned no_definition [] (string_bytes v.title))
-        (part_planned ⟦<ArchivedTree as ArchivePointee>⟧.definitions
-        ⟦<ArchivedTree as Portable>⟧.shape (⟦<Tree as Archive>⟧.keys v.chapters)
-        (⟦<Tree as Archive>⟧.meaning v.chapters) (planned_of_tree v.chapters)
-        (part_planned ⟦<ArchivedTree as ArchivePointee>⟧.definitions
-        ⟦<ArchivedVec<ArchivedTree> as Portable>⟧.shape (⟦<Vec<Tree> as Archive>⟧.keys v.others)
-        (⟦<Vec<Tree> as Archive>⟧.meaning v.others) (vec_planned
-        ⟦<ArchivedTree as ArchivePointee>⟧.definitions ⟦<ArchivedTree as Portable>⟧.shape _ _ _
-        (slice_planned ⟦<ArchivedTree as ArchivePointee>⟧.definitions
-        ⟦<ArchivedTree as Portable>⟧.shape ⟦<Tree as Archive>⟧.keys ⟦<Tree as Archive>⟧.meaning
-        planned_of_tree v.others.items)) no_part_planned))) };
+    ghost planned = { outline_planned };
 
     #[inline(always)]
     fn resolve(
@@ -140,16 +155,18 @@ impl Archive for Outline {
         resolver: Self::Resolver,
         place: Place<'_, Self::Archived>,
     ) -> Result<(), Error>
-        requires zeroed { ZeroedPlace ⟦<Self::Archived as Portable>⟧.layout.size place.pos
-            place.bytes.now }
+        requires zeroed { ZeroedPlace 28 place.pos place.bytes.now }
         requires same_value { ⟦<Self as Archive>⟧.belongs self.now resolver }
         ensures { ResolvesAs ⟦<Self::Archived as Portable>⟧ place
             (⟦<Self as Archive>⟧.flat self.now resolver) result }
     {
         let Place { bytes, pos, .. } = place;
-        resolve_record::<Self, OutlineFields, Self::Archived>(
-            self,
-            resolver,
+        let OutlineResolver { kept } = resolver;
+        resolve_named_record_3::<String, Tree, Vec<Tree>, ArchivedOutline>(
+            &self.title,
+            &self.chapters,
+            &self.others,
+            kept,
             Place::new(pos, bytes),
         )
     }
@@ -169,23 +186,50 @@ impl Archive for Outline {
     }
 }
 
-impl<S: Writer + ResolverAlloc> Serialize<S> for Outline {
+// Writes what a value owns, part by part.
+fn serialize_outline<S: Writer + Keys + ResolverAlloc>(
+    value: &Outline,
+    serializer: &mut S,
+) -> Result<OutlineResolver, Error>
+    ensures serialized { IfOk result (λ r. Serialized outline_definitions outline_shape
+        (⟦<Outline as Archive>⟧.keys value.now) (⟦<Outline as Archive>⟧.meaning value.now)
+        (⟦<Outline as Archive>⟧.flat value.now r) (S.state serializer.old)
+        (S.state serializer.new)) }
+    ensures same_value { IfOk result (λ r. ⟦<Outline as Archive>⟧.belongs value.now r) }
+    ensures goes_on { GoesOn (S.state serializer.old) (S.state serializer.new) }
+    ensures refused { IfErr result (IsRefused outline_definitions outline_shape
+        (⟦<Outline as Archive>⟧.keys value.now) (⟦<Outline as Archive>⟧.meaning value.now)
+        (S.state serializer.old) (S.state serializer.new)) }
+{
+    let a0 = match serialize_part(&value.title, serializer) {
+        Ok(a0) => a0,
+        Err(error) => return Err(error),
+    };
+    let a1 = match serialize_part(&value.chapters, serializer) {
+        Ok(a1) => a1,
+        Err(error) => return Err(error),
+    };
+    let a2 = match serialize_part(&value.others, serializer) {
+        Ok(a2) => a2,
+        Err(error) => return Err(error),
+    };
+    Ok(OutlineResolver {
+        kept: (a0, (a1, (a2, ()))),
+    })
+}
+
+impl<S: Writer + Keys + ResolverAlloc> Serialize<S> for Outline {
     #[inline(always)]
     fn serialize(&self, serializer: &mut S) -> Result<Self::Resolver, Error> {
-        serialize_record::<Self, OutlineFields, Self::Archived, S>(self, serializer)
+        serialize_outline(self, serializer)
     }
 }
 
 /// As a region of its own: the value itself.
 impl ArchiveUnsized for Outline {
-    ghost use Rattle.recursive_types.specs.contracts.tree.TreeArchive.TheImpl.Laws.{keyed-law as keyed_of_tree, planned-law as planned_of_tree};
+    ghost use Rattle.recursive_types.specs.contracts.outline.OutlineArchive.TheImpl.Laws.{keyed-law as keyed_of_outline, planned-law as planned_of_outline};
 
-    type Archived = ArchivedTuple<
-        (
-            ArchivedString,
-            (ArchivedTree, (ArchivedVec<ArchivedTree>, ())),
-        ),
-    >;
+    type Archived = ArchivedOutline;
 
     ghost source_length = { λ _. 0 };
 
@@ -193,35 +237,12 @@ impl ArchiveUnsized for Outline {
 
     ghost keys = { ⟦<Outline as Archive>⟧.keys };
 
-    ghost keyed = { λ v. record_keyed (part_keyed (text_keyed (string_bytes v.title))
-        (part_keyed (keyed_of_tree v.chapters) (part_keyed
-        (each_keyed ⟦<Tree as Archive>⟧.keys ⟦<Tree as Archive>⟧.meaning keyed_of_tree
-        v.others.items) nothing_keyed))) };
+    ghost keyed = { keyed_of_outline };
 
     ghost one_length = { λ _ _. refl };
 
-    ghost planned = { λ v. one_planned _ _ _ _ (product_planned
-        (both no_definition (both ⟦<ArchivedTree as ArchivePointee>⟧.definitions
-        (both ⟦<ArchivedTree as ArchivePointee>⟧.definitions no_definition)))
-        (part ⟦<ArchivedString as Portable>⟧.shape (part ⟦<ArchivedTree as Portable>⟧.shape
-        (part ⟦<ArchivedVec<ArchivedTree> as Portable>⟧.shape no_part)))
-        (⟦<String as Archive>⟧.keys v.title ++ (⟦<Tree as Archive>⟧.keys v.chapters
-        ++ (⟦<Vec<Tree> as Archive>⟧.keys v.others ++ [])))
-        (value (⟦<String as Archive>⟧.meaning v.title) (value
-        (⟦<Tree as Archive>⟧.meaning v.chapters) (value (⟦<Vec<Tree> as Archive>⟧.meaning v.others)
-        no_value))) (part_planned no_definition ⟦<ArchivedString as Portable>⟧.shape
-        (⟦<String as Archive>⟧.keys v.title) (⟦<String as Archive>⟧.meaning v.title)
-        (string_planned no_definition [] (string_bytes v.title))
-        (part_planned ⟦<ArchivedTree as ArchivePointee>⟧.definitions
-        ⟦<ArchivedTree as Portable>⟧.shape (⟦<Tree as Archive>⟧.keys v.chapters)
-        (⟦<Tree as Archive>⟧.meaning v.chapters) (planned_of_tree v.chapters)
-        (part_planned ⟦<ArchivedTree as ArchivePointee>⟧.definitions
-        ⟦<ArchivedVec<ArchivedTree> as Portable>⟧.shape (⟦<Vec<Tree> as Archive>⟧.keys v.others)
-        (⟦<Vec<Tree> as Archive>⟧.meaning v.others) (vec_planned
-        ⟦<ArchivedTree as ArchivePointee>⟧.definitions ⟦<ArchivedTree as Portable>⟧.shape _ _ _
-        (slice_planned ⟦<ArchivedTree as ArchivePointee>⟧.definitions
-        ⟦<ArchivedTree as Portable>⟧.shape ⟦<Tree as Archive>⟧.keys ⟦<Tree as Archive>⟧.meaning
-        planned_of_tree v.others.items)) no_part_planned)))) };
+    ghost planned = { λ v. one_planned outline_definitions outline_shape
+        (⟦<Outline as Archive>⟧.keys v) (⟦<Outline as Archive>⟧.meaning v) (planned_of_outline v) };
 
     #[inline(always)]
     fn archived_metadata(&self) -> Result<(), Error> {
@@ -229,155 +250,145 @@ impl ArchiveUnsized for Outline {
     }
 }
 
-impl<S: Writer + ResolverAlloc> SerializeUnsized<S> for Outline {
+impl<S: Writer + Keys + ResolverAlloc> SerializeUnsized<S> for Outline {
     #[inline(always)]
     fn serialize_unsized(&self, serializer: &mut S) -> Result<usize, Error> {
         serialize_one(self, serializer)
     }
 }
 
-impl FromParts for Outline {
-    type Owned = (String, (Tree, (Vec<Tree>, ())));
+// Reads a value back, part by part.
+#[inline(always)]
+fn read_outline<D: Entries>(
+    alloc: Global,
+    part: RawView<'_>,
+    deserializer: &mut D,
+) -> Result<Outline, Error>
+    requires { IsPartOf ⟦<ArchivedOutline as ArchivePointee>⟧ part }
+    ensures read { IfOk result (Read ⟦<ArchivedOutline as ArchivePointee>⟧ part D.Entries
+        deserializer ⟦<Outline as Archive>⟧) }
+    ensures refused { IfErr result (RefusesPart ⟦<ArchivedOutline as ArchivePointee>⟧ part D.Entries
+        deserializer) }
+{
+    let p0 = part_of_record::<ArchivedOutline, ArchivedString>(part, 0, 0);
+    let a0 = read_part::<ArchivedString, String, D>(alloc, p0, deserializer)?;
+    let p1 = part_of_record::<ArchivedOutline, ArchivedTree>(part, 1, 8);
+    let a1 = read_part::<ArchivedTree, Tree, D>(alloc, p1, deserializer)?;
+    let p2 = part_of_record::<ArchivedOutline, ArchivedVec<ArchivedTree>>(part, 2, 20);
+    let a2 = read_part::<ArchivedVec<ArchivedTree>, Vec<Tree>, D>(alloc, p2, deserializer)?;
+    Ok(Outline {
+        title: a0,
+        chapters: a1,
+        others: a2,
+    })
+}
 
-    fn from_parts((a0, (a1, (a2, ()))): Self::Owned) -> Self {
-        Outline {
-            title: a0,
-            chapters: a1,
-            others: a2,
-        }
+impl<D: Entries> Deserialize<Outline, D> for ArchivedOutline {
+    #[inline(always)]
+    fn deserialize_part(
+        alloc: Global,
+        part: RawView<'_>,
+        deserializer: &mut D,
+    ) -> Result<Outline, Error>
+        requires { IsPartOf ⟦<Self as ArchivePointee>⟧ part }
+        ensures { ReadsAs ⟦<Self as ArchivePointee>⟧ part D.Entries deserializer
+            ⟦<Outline as Archive>⟧ result }
+    {
+        read_outline(alloc, part, deserializer)
     }
 }
 
 /// The fields of an archived `Outline`, as views.
-pub trait OutlineView {
-    /// The view of `title`.
-    type Title;
-
-    /// The view of `chapters`.
-    type Chapters;
-
-    /// The view of `others`.
-    type Others;
-
+pub trait OutlineView<'a> {
     /// What it is called.
-    fn title(self) -> Self::Title;
+    fn title(self) -> Ref<'a, ArchivedString>;
 
     /// Its chapters.
-    fn chapters(self) -> Self::Chapters;
+    fn chapters(self) -> Ref<'a, ArchivedTree>;
 
     /// Others.
-    fn others(self) -> Self::Others;
+    fn others(self) -> Ref<'a, ArchivedVec<ArchivedTree>>;
 }
 
-impl<'a> OutlineView for Ref<'a, ArchivedOutline> {
-    type Title = Ref<'a, ArchivedString>;
-
-    type Chapters = Ref<'a, ArchivedTree>;
-
-    type Others = Ref<'a, ArchivedVec<ArchivedTree>>;
-
+impl<'a> OutlineView<'a> for Ref<'a, ArchivedOutline> {
     fn title(self) -> Ref<'a, ArchivedString>
         ensures buffer { result.bytes.now ≡ self.entry.bytes.now }
-        ensures position { result.pos ≡ self.entry.pos
-            + ⟦<(ArchivedString, (ArchivedTree, (ArchivedVec<ArchivedTree>, ()))) as PortableParts>⟧.begin 0 0 }
+        ensures position { result.pos ≡ self.entry.pos + 0 }
         ensures length { result.len ≡ 0 }
         ensures shows { ShowsValueOf result self.entry (field_in 0) }
     {
-        self.field(0)
+        view_of_field::<ArchivedOutline, ArchivedString>(self, 0, 0)
     }
 
     fn chapters(self) -> Ref<'a, ArchivedTree>
         ensures buffer { result.bytes.now ≡ self.entry.bytes.now }
-        ensures position { result.pos ≡ self.entry.pos
-            + ⟦<(ArchivedString, (ArchivedTree, (ArchivedVec<ArchivedTree>, ()))) as PortableParts>⟧.begin 0 1 }
+        ensures position { result.pos ≡ self.entry.pos + 8 }
         ensures length { result.len ≡ 0 }
         ensures shows { ShowsValueOf result self.entry (field_in 1) }
     {
-        self.field(1)
+        view_of_field::<ArchivedOutline, ArchivedTree>(self, 1, 8)
     }
 
     fn others(self) -> Ref<'a, ArchivedVec<ArchivedTree>>
         ensures buffer { result.bytes.now ≡ self.entry.bytes.now }
-        ensures position { result.pos ≡ self.entry.pos
-            + ⟦<(ArchivedString, (ArchivedTree, (ArchivedVec<ArchivedTree>, ()))) as PortableParts>⟧.begin 0 2 }
+        ensures position { result.pos ≡ self.entry.pos + 20 }
         ensures length { result.len ≡ 0 }
         ensures shows { ShowsValueOf result self.entry (field_in 2) }
     {
-        self.field(2)
+        view_of_field::<ArchivedOutline, ArchivedVec<ArchivedTree>>(self, 2, 20)
     }
 }
 
 /// The fields of an archived `Outline`, as seals.
-pub trait OutlineSeal {
+pub trait OutlineSeal<'a> {
     // The seal shows a part of a buffer that was checked.
     ghost sealed: { Self → Type 0 };
 
-    /// The seal of `title`.
-    type Title;
-
-    /// The seal of `chapters`.
-    type Chapters;
-
-    /// The seal of `others`.
-    type Others;
-
     /// What it is called.
-    fn title_mut(self) -> Self::Title
+    fn title_mut(self) -> Seal<'a, ArchivedString>
         requires { sealed self };
 
     /// Its chapters.
-    fn chapters_mut(self) -> Self::Chapters
+    fn chapters_mut(self) -> Seal<'a, ArchivedTree>
         requires { sealed self };
 
     /// Others.
-    fn others_mut(self) -> Self::Others
+    fn others_mut(self) -> Seal<'a, ArchivedVec<ArchivedTree>>
         requires { sealed self };
 }
 
-impl<'a> OutlineSeal for Seal<'a, ArchivedOutline> {
-    ghost sealed = { λ s. IsSealOf ⟦<ArchivedOutline as ArchivePointee>⟧.definitions
-        ⟦<ArchivedOutline as ArchivePointee>⟧.pointee s };
-
-    type Title = Seal<'a, ArchivedString>;
-
-    type Chapters = Seal<'a, ArchivedTree>;
-
-    type Others = Seal<'a, ArchivedVec<ArchivedTree>>;
+impl<'a> OutlineSeal<'a> for Seal<'a, ArchivedOutline> {
+    ghost sealed = { λ s. IsSealOf outline_definitions (one ⟦<ArchivedOutline as Portable>⟧.shape)
+        s };
 
     fn title_mut(self) -> Seal<'a, ArchivedString>
-        requires come_to { IsSealOf ⟦<ArchivedOutline as ArchivePointee>⟧.definitions
-            ⟦<ArchivedOutline as ArchivePointee>⟧.pointee self }
-        ensures { SealsPart ⟦<ArchivedOutline as ArchivePointee>⟧.definitions
-            ⟦<ArchivedOutline as ArchivePointee>⟧.pointee
-            ⟦<ArchivedString as ArchivePointee>⟧.definitions
-            ⟦<ArchivedString as ArchivePointee>⟧.pointee (self.entry.pos
-            + ⟦<(ArchivedString, (ArchivedTree, (ArchivedVec<ArchivedTree>, ()))) as PortableParts>⟧.begin 0 0) 0 self.entry result }
+        requires come_to { IsSealOf outline_definitions (one ⟦<ArchivedOutline as Portable>⟧.shape)
+            self }
+        ensures { SealsPart outline_definitions (one ⟦<ArchivedOutline as Portable>⟧.shape)
+            no_definition ⟦<ArchivedString as ArchivePointee>⟧.pointee (self.entry.pos + 0) 0
+            self.entry result }
     {
-        self.field(0)
+        seal_of_field::<ArchivedOutline, ArchivedString>(self, 0, 0)
     }
 
     fn chapters_mut(self) -> Seal<'a, ArchivedTree>
-        requires come_to { IsSealOf ⟦<ArchivedOutline as ArchivePointee>⟧.definitions
-            ⟦<ArchivedOutline as ArchivePointee>⟧.pointee self }
-        ensures { SealsPart ⟦<ArchivedOutline as ArchivePointee>⟧.definitions
-            ⟦<ArchivedOutline as ArchivePointee>⟧.pointee
+        requires come_to { IsSealOf outline_definitions (one ⟦<ArchivedOutline as Portable>⟧.shape)
+            self }
+        ensures { SealsPart outline_definitions (one ⟦<ArchivedOutline as Portable>⟧.shape)
             ⟦<ArchivedTree as ArchivePointee>⟧.definitions
-            ⟦<ArchivedTree as ArchivePointee>⟧.pointee (self.entry.pos
-            + ⟦<(ArchivedString, (ArchivedTree, (ArchivedVec<ArchivedTree>, ()))) as PortableParts>⟧.begin 0 1) 0 self.entry result }
+            ⟦<ArchivedTree as ArchivePointee>⟧.pointee (self.entry.pos + 8) 0 self.entry result }
     {
-        self.field(1)
+        seal_of_field::<ArchivedOutline, ArchivedTree>(self, 1, 8)
     }
 
     fn others_mut(self) -> Seal<'a, ArchivedVec<ArchivedTree>>
-        requires come_to { IsSealOf ⟦<ArchivedOutline as ArchivePointee>⟧.definitions
-            ⟦<ArchivedOutline as ArchivePointee>⟧.pointee self }
-        ensures { SealsPart ⟦<ArchivedOutline as ArchivePointee>⟧.definitions
-            ⟦<ArchivedOutline as ArchivePointee>⟧.pointee
-            ⟦<ArchivedVec<ArchivedTree> as ArchivePointee>⟧.definitions
-            ⟦<ArchivedVec<ArchivedTree> as ArchivePointee>⟧.pointee
-            (self.entry.pos
-            + ⟦<(ArchivedString, (ArchivedTree, (ArchivedVec<ArchivedTree>, ()))) as PortableParts>⟧.begin 0 2) 0 self.entry result }
+        requires come_to { IsSealOf outline_definitions (one ⟦<ArchivedOutline as Portable>⟧.shape)
+            self }
+        ensures { SealsPart outline_definitions (one ⟦<ArchivedOutline as Portable>⟧.shape)
+            ⟦<ArchivedTree as ArchivePointee>⟧.definitions
+            ⟦<ArchivedVec<ArchivedTree> as ArchivePointee>⟧.pointee (self.entry.pos + 20) 0
+            self.entry result }
     {
-        self.field(2)
+        seal_of_field::<ArchivedOutline, ArchivedVec<ArchivedTree>>(self, 2, 20)
     }
 }

@@ -31,8 +31,8 @@ use archive_core::error::Error;
 use archive_core::place::Place;
 use archive_core::primitive::ArchivedU32;
 use archive_core::recursive::{
-    VecAt, before_vec, define_name, part_of_record, read_part, record_of, resolve_named_record_2,
-    seal_of_field, serialize_inner_slice, serialize_part, view_of_field,
+    VecAt, before_vec, define_name, handed_on, part_of_record, read_part, record_of,
+    resolve_named_record_2, seal_of_field, serialize_inner_slice, serialize_part, view_of_field,
 };
 use archive_core::seal::Seal;
 use archive_core::self_check::BySchema;
@@ -221,7 +221,7 @@ fn serialize_each_rose<S: Writer + Keys + ResolverAlloc>(
     for value in values {
         let resolver = match serialize_rose(value, serializer) {
             Ok(resolver) => resolver,
-            Err(error) => return Err(error),
+            Err(error) => return Err(handed_on(error)),
         };
         resolvers.push(resolver).map_err(AllocError::from)?;
     }

@@ -35,14 +35,15 @@ ghost use Rattle.recursive_types.specs.SearchShape.{search_definitions, search_h
 ghost use Rattle.std.proofs.Common.{lit≤};
 ghost use Rattle.std.specs.Prelude.{IfErr, IfOk, None, Some, length, refl, ⊤, ◌+◌, ◌≡◌, ◌≤◌};
 
-use archive_core::boxed::{ArchivedBox, BoxResolver, serialize_inner};
+use archive_core::boxed::{ArchivedBox, BoxResolver};
 use archive_core::error::Error;
 use archive_core::option::ArchivedOption;
 use archive_core::place::Place;
 use archive_core::primitive::ArchivedU32;
 use archive_core::recursive::{
-    OptionAt, before_box, define_name, option_expression, part_of_record, read_part, record_of,
-    resolve_named_record_3, seal_of_field, serialize_part, view_of_field,
+    OptionAt, before_box, define_name, handed_on, option_expression, part_of_record, read_part,
+    record_of, resolve_named_record_3, seal_of_field, serialize_inner, serialize_part,
+    view_of_field,
 };
 use archive_core::seal::Seal;
 use archive_core::self_check::BySchema;
@@ -249,7 +250,7 @@ fn serialize_option_box_search<S: Writer + Keys + ResolverAlloc>(
             let inner = &**whole;
             let kept = match serialize_search(inner, serializer) {
                 Ok(kept) => kept,
-                Err(error) => return Err(error),
+                Err(error) => return Err(handed_on(error)),
             };
             match serialize_inner(inner, kept, serializer) {
                 Ok(at) => Ok(Some(at)),

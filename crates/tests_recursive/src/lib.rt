@@ -10,6 +10,8 @@ mod damaged;
 #[cfg(test)]
 mod graphs;
 #[cfg(test)]
+mod holders;
+#[cfg(test)]
 mod kinds;
 #[cfg(test)]
 mod long;

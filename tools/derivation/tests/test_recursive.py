@@ -106,6 +106,25 @@ class Recursive(RepositoryTest):
         self.assertEqual(self.text(path).count("fn define_dir_family("), 1)
         self.assertEqual(self.run_command("--check", path), (0, ""))
 
+    def test_a_type_of_the_family_may_be_in_another_behind_no_pointer(self):
+        path = self.put("#[derive(Drop)]\npub struct Member { name: String, value: Json }\n#[derive(Drop)]\npub enum Json { Null, Object(Vec<Member>) }\n")
+        self.assertEqual(self.run_command(path), (0, ""))
+        text, shape = self.text(path), self.beside("specs", "MemberShape.antt")
+        self.assertIn("kept: (<String as Archive>::Resolver, (JsonResolver, ()))", text)
+        self.assertIn("resolve_named_record_2::<String, Json, ArchivedMember>(", text)
+        self.assertIn("let a1 = read_json(alloc, p1, deserializer)?;", text)
+        self.assertLess(shape.index("pub json_has_layout"), shape.index("pub member_type_has_layout"))
+        self.assertIn("(part_laid_out member_type_definitions no_definition json_shape (record { size = 12; align = 4 }) json_has_layout no_part", shape)
+        invariants = self.beside("proofs", "types", "+read_member_type", "Invariants.antt")
+        self.assertIn("decreases-read_json g l = (l.part.pos + 12) * 6 + 3", invariants)
+        self.assertIn("decreases-read_member_type g l = (l.part.pos + 20) * 6 + 5", invariants)
+        self.assertEqual(self.run_command("--check", path), (0, ""))
+
+    def test_names_of_the_library_stay_its_own(self):
+        path = self.put("#[derive(Drop)]\npub struct Part { value: u8, parts: Vec<Part> }\n")
+        self.assertEqual(self.run_command(path), (0, ""))
+        self.assertIn("pub part_type_planned : ", self.beside("specs", "PartMeaning.antt"))
+
     def test_an_option_is_told_by_cases(self):
         path = self.put("#[derive(Drop)]\npub struct Search { left: Option<Box<Search>>, value: u8, right: Option<Box<Search>> }\n")
         self.assertEqual(self.run_command(path), (0, ""))
@@ -119,13 +138,32 @@ class Recursive(RepositoryTest):
         self.assertNotIn("fn serialize_sum_add", self.text(path))
         self.assertIn("fn read_sum_add", self.text(path))
 
-    def test_a_struct_around_a_recursive_type_is_a_tuple_with_names(self):
+    def test_a_struct_around_a_recursive_type_brings_its_definitions(self):
         path = self.put(TREE + "#[derive(Drop)]\npub struct Forest { pub name: String, pub trees: Vec<Tree> }\n")
         self.assertEqual(self.run_command(path), (0, ""))
-        text = self.text(path)
-        self.assertIn("pub type ArchivedForest = ArchivedTuple<(ArchivedString, (ArchivedVec<ArchivedTree>, ()))>;", text)
-        self.assertIn("both no_definition (both ⟦<ArchivedTree as ArchivePointee>⟧.definitions no_definition)", " ".join(text.split()))
+        self.assertIn("pub struct ArchivedForest;", self.text(path))
+        self.assertNotIn("#[cycle(serialize_forest)]", self.text(path))
+        self.assertIn("forest_definitions = (both no_definition (both definitions_of_tree no_definition))", self.beside("specs", "ForestShape.antt"))
         self.assertEqual(self.run_command("--check", path), (0, ""))
+
+    def test_what_holds_a_recursive_type_is_held_in_turn(self):
+        held = "#[derive(Drop)]\npub enum Post { Text(String), Of(Tree, Option<Tree>) }\n#[derive(Drop)]\npub struct Page { pub post: Post, pub next: Vec<Post> }\n"
+        path = self.put(TREE + held)
+        self.assertEqual(self.run_command(path), (0, ""))
+        self.assertIn("(both definitions_of_post (both definitions_of_post no_definition))", self.beside("specs", "PageShape.antt"))
+        self.assertIn("(option_has_layout definitions_of_tree shape_of_tree (record { size = 16; align = 8 }) (inr (inr (inr (inl refl)))) has_layout_of_tree)", self.beside("specs", "PostShape.antt"))
+        self.assertIn("post_meaning (Its.Of a0 a1) = case 1 ", self.beside("specs", "PostMeaning.antt"))
+        self.assertEqual(self.run_command("--check", path), (0, ""))
+
+    def test_a_struct_that_shares_around_a_recursive_type_is_a_tuple_with_names(self):
+        path = self.put("use archive_core::rc::SharedStr;\n" + TREE + "#[derive(Drop)]\npub struct Forest { pub by: SharedStr, pub trees: Vec<Tree> }\n")
+        self.assertEqual(self.run_command(path), (0, ""))
+        self.assertIn("pub type ArchivedForest = ArchivedTuple< ( ArchivedRc<ArchivedStr, RcFlavor>, (ArchivedVec<ArchivedTree>, ()), ), >;", " ".join(self.text(path).split()))
+
+    def test_a_plain_type_of_the_same_file_is_told_by_what_it_is_made_of(self):
+        path = self.put("#[derive(Drop)]\npub enum Kind { One, Two(u8) }\n#[derive(Drop)]\npub struct Tree { pub kind: Kind, pub children: Vec<Tree> }\n")
+        self.assertEqual(self.run_command(path), (0, ""))
+        self.assertIn('(choice (codes "ArchivedKind") (variant no_part (variant (part (leaf (number_kind unsigned w8)) no_part) no_variant)))', self.beside("specs", "TreeShape.antt"))
 
     def test_names_that_are_there_stay(self):
         self.assertEqual(naming("pub mod Other\n", ["ListShape", "Other"]), "pub mod Other\npub mod ListShape\n")

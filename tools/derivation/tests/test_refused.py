@@ -172,7 +172,7 @@ class Circles(RepositoryTest):
 
     def test_behind_a_pointer(self):
         for text, said in [
-            ("struct A { b: B }\nstruct B { a: Vec<A> }", "1: `B` leads back to `A`, and isn't written yet without a pointer between; put it into a `Box`"),
+            ("struct A { b: Option<B> }\nstruct B { a: Vec<A> }", "1: this option to `A` isn't written yet; a `Box<A>`, an `Option<Box<A>>`, a `Vec` of these, of `A` or of `Shared<A>`, or a `Box` of such a `Vec` is"),
             ("struct W<T>(Box<T>);\nstruct A { x: W<A> }", "2: `W` around `A` isn't written yet; a `Box<A>`, an `Option<Box<A>>`, a `Vec` of these, of `A` or of `Shared<A>`, or a `Box` of such a `Vec` is"),
             ("struct A<T> { x: T, a: Vec<A<T>> }", "1: `A` is recursive (A > A) and has type parameters; name its arguments, one type for each"),
             ("struct A { a: Option<Vec<A>> }", "1: this option to `A` isn't written yet; a `Box<A>`, an `Option<Box<A>>`, a `Vec` of these, of `A` or of `Shared<A>`, or a `Box` of such a `Vec` is"),
@@ -183,10 +183,14 @@ class Circles(RepositoryTest):
             (f"enum A {{ X(Vec<A>),\n{LIST.join(f'V{i}' for i in range(70))} }}", "61: the recursive `A` has more variants up to here than the toolchain follows; put some into an enum of another file"),
             ("struct A { a: Vec<A>,\n b: [u8; 2] }", "2: this field of the recursive `A` is of a type that tools/derive doesn't write there; put it into a struct of another file"),
             ("struct A { a: Vec<A>,\n b: Option<(u8, u8)> }", "2: this field of the recursive `A` is of a type that tools/derive doesn't write there; put it into a struct of another file"),
-            ("struct B { x: u8 }\nstruct A { a: Vec<A>,\n b: B }", "3: `B` is held by the recursive `A`; move it to another file"),
+            ("use archive_core::rc::SharedStr;\nstruct B { x: SharedStr }\nstruct A { a: Vec<A>,\n b: B }", "4: `B` has fields that tools/derive doesn't write beside the recursive `A`; move it to another file"),
             ("enum A { X,\n Y(Box<B>) }\nenum B { X, Z(Box<A>) }", "1: `X` is a variant of `A` and of `B`, which hold each other; give one of them another name"),
-            ("struct A { a: Vec<A> }\nenum B { C(A) }", "2: `A` is recursive or holds a type that is, and an enum around it isn't written yet; put it into a struct"),
-            ("struct A { a: Vec<A> }\nstruct B { a: A }\nstruct C { b: Vec<B> }", "3: `B` in a struct that holds a recursive type is too deep for the toolchain; write a struct without parameters in place"),
+            ("struct A { a: Vec<A> }\nenum B { C(A,\n (u8, u8)) }", "3: this field of `B` isn't written yet in an enum that holds a recursive type; put it into a struct of another file"),
+            (f"struct A {{ a: Vec<A> }}\nenum B {{ C({', '.join(['A'] * 8)}) }}", "2: a variant of `B`, which holds a recursive type, has up to 7 fields; put some of them into a struct of another file"),
+            ("use archive_core::rc::Shared;\nstruct A { a: Vec<Shared<A>> }\nenum B { C(A) }", "3: `A` leads to itself behind a shared pointer, and an enum around it isn't written yet; put it into a struct"),
+            ("use archive_core::rc::SharedStr;\nstruct A { a: Vec<A> }\nstruct B { x: SharedStr }\nenum C { D(A, B) }", "4: `B` has fields that tools/derive doesn't write beside `C`, which holds a recursive type; move it to another file"),
+            ("use archive_core::rc::SharedStr;\nstruct A { a: Vec<A> }\nstruct B { a: A, b: SharedStr }\nenum C { D(B) }", "4: `B` isn't written yet in an enum that holds a recursive type; put it into a struct of another file"),
+            ("use archive_core::rc::SharedStr;\nstruct A { a: Vec<A> }\nstruct B { a: A, b: SharedStr }\nstruct C { b: Vec<B> }", "4: `B` in a struct that holds a recursive type is too deep for the toolchain; write a struct without parameters in place"),
             ("struct A { a: Vec<A> }\nstruct B { a: A, b: [u8; 2] }", "2: an array in a struct that holds a recursive type isn't proved; write a `Vec` in place of `[u8; 2]`"),
             ("struct A { a: Vec<A> }\nstruct B { b: Vec<B>, a: A }", "2: `A` is recursive or holds a type that is, and isn't written yet in the recursive `B`; archive the two beside each other"),
         ]:

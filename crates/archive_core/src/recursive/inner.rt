@@ -1,12 +1,14 @@
-// What parts own is written, and the region of elements that were serialized before.
+// What parts own is written, and the region of a value or of elements that were serialized before. That takes memory of the machine's stack for a block of
+// bytes, so it is no part of the functions that call themselves for each level.
 
 ghost use Rattle.std.specs.Prelude.{◌≡◌, ◌≤◌, IfOk, IfErr, length};
 ghost use Rattle.archive_types.specs.Runs.{EachBelongs};
-ghost use Rattle.archive_types.specs.SourceOutcomes.{Serializes};
+ghost use Rattle.archive_types.specs.SourceOutcomes.{BoxesInner, Serializes};
 ghost use Rattle.archive_write.specs.Written.{GoesOn};
 ghost use Rattle.archive_core.specs.recursive.Held.{InnerListed, InnerUnlisted};
 
 use archive_check::format::error::Error;
+use archive_types::boxed::{self, BoxResolver};
 use archive_types::ser::{ResolveExt, ResolverAlloc, Writer, WriterExt};
 use archive_types::traits::{Archive, Keys, Serialize};
 use archive_types::vec::VecResolver;
@@ -16,7 +18,7 @@ use std::alloc::Allocator;
 /// The caller must ensure that each resolver is one of its value. Fails as the resolving of a value
 /// does, with `PositionTooLarge` where the region begins above 4,294,967,295, with `LayoutTooLarge`
 /// where it would end above `usize::MAX`, with `OutOfMemory`, or as the writer fails.
-#[inline(always)]
+#[inline(never)]
 pub fn serialize_inner_slice<S: Writer + ResolverAlloc, T: Archive, B: Allocator + Drop>(
     values: &[T],
     resolvers: Vec<T::Resolver, B>,
@@ -38,6 +40,20 @@ pub fn serialize_inner_slice<S: Writer + ResolverAlloc, T: Archive, B: Allocator
     Ok(VecResolver::from_pos(pos))
 }
 
+/// Writes the region of a value that was serialized, and returns the resolver of a box of it, as
+/// `boxed::serialize_inner` does.
+#[inline(never)]
+pub fn serialize_inner<S: Writer + ResolverAlloc, T: Archive>(
+    value: &T,
+    resolver: T::Resolver,
+    serializer: &mut S,
+) -> Result<BoxResolver, Error>
+    requires same_value { T.belongs value.now resolver }
+    ensures { BoxesInner T.Archive T.Archived.Portable value.now resolver S.Keys serializer result }
+{
+    boxed::serialize_inner(value, resolver, serializer)
+}
+
 /// Writes what a part owns, as `Serialize::serialize` does, and fails as that does.
 #[inline(always)]
 pub fn serialize_part<T: Serialize<S>, S: Writer + Keys>(
@@ -47,4 +63,25 @@ pub fn serialize_part<T: Serialize<S>, S: Writer + Keys>(
     ensures { Serializes T.Archive T.Archived.Portable value.now S.Keys serializer result }
 {
     value.serialize(serializer)
+}
+
+/// The same error. What calls itself for each level hands the errors of the levels below on by this
+/// call: where no word of them is named, the compiled code keeps 16 bytes of each that may come on
+/// the way, in each level.
+#[inline(always)]
+pub fn handed_on(error: Error) -> Error
+    ensures { result ≡ error }
+{
+    match error {
+        Error::BufferOverflow {
+            write_len,
+            cap,
+            len,
+        } => Error::BufferOverflow {
+            write_len,
+            cap,
+            len,
+        },
+        error => error,
+    }
 }

@@ -35,7 +35,7 @@ pub serialize_each_option_box_bush-returns-in-Err-clause-goes_on : goal.serializ
 serialize_each_option_box_bush-returns-in-Err-clause-goes_on g t c = goes_both _ _ _ c.loop-value.invariant.continues.goes c.serialize_bush.ensures.goes_on
 
 pub serialize_each_option_box_bush-returns-in-Err-clause-refused : goal.serialize_each_option_box_bush-returns-in-Err-clause-refused
-serialize_each_option_box_bush-returns-in-Err-clause-refused g t c = continues_broken _ _ _ _ _ _ _ _ _ _ c.loop-value.value-index _ _ _ c.loop-value-test.true c.value-item.is (λ y. (option_planned bush_definitions (boxed (one bush_shape)) (λ y. (bush_keys y.value)) (λ y. (box (bush_meaning y.value))) (λ y. (boxed_one_planned bush_definitions (one bush_shape) bush_shape refl _ _ (bush_planned y.value))) y)) c.loop-value.invariant.continues c.serialize_bush.ensures.goes_on (let same : c.deref-inner.result.now ≡ c.in-Some.whole.value = grind (arith, common_steps) in rw (c.in-Some.is, ← same) (case_refused bush_definitions bush_definitions (λ s k. k) _ _ 1 (boxed (one bush_shape)) refl _ _ _ _ _ (box_refused bush_definitions (one bush_shape) 0 _ _ _ _ _ (one_owned bush_definitions bush_shape _ _ _ _ _ c.in-Err.ensures.refused))))
+serialize_each_option_box_bush-returns-in-Err-clause-refused g t c = rw c.handed_on.ensures (continues_broken _ _ _ _ _ _ _ _ _ _ c.loop-value.value-index _ _ _ c.loop-value-test.true c.value-item.is (λ y. (option_planned bush_definitions (boxed (one bush_shape)) (λ y. (bush_keys y.value)) (λ y. (box (bush_meaning y.value))) (λ y. (boxed_one_planned bush_definitions (one bush_shape) bush_shape refl _ _ (bush_planned y.value))) y)) c.loop-value.invariant.continues c.serialize_bush.ensures.goes_on (let same : c.deref-inner.result.now ≡ c.in-Some.whole.value = grind (arith, common_steps) in rw (c.in-Some.is, ← same) (case_refused bush_definitions bush_definitions (λ s k. k) _ _ 1 (boxed (one bush_shape)) refl _ _ _ _ _ (box_refused bush_definitions (one bush_shape) 0 _ _ _ _ _ (one_owned bush_definitions bush_shape _ _ _ _ _ c.in-Err.ensures.refused)))))
 
 pub serialize_each_option_box_bush-returns-in-Err-serialize_inner-clause-goes_on : goal.serialize_each_option_box_bush-returns-in-Err-serialize_inner-clause-goes_on
 serialize_each_option_box_bush-returns-in-Err-serialize_inner-clause-goes_on g t c = goes_both _ _ _ c.loop-value.invariant.continues.goes (goes_both _ _ _ c.serialize_bush.ensures.goes_on c.serialize_inner.ensures.goes_on)
@@ -89,7 +89,7 @@ pub serialize_each_bush-returns-in-Err-clause-goes_on : goal.serialize_each_bush
 serialize_each_bush-returns-in-Err-clause-goes_on g t c = goes_both _ _ _ c.loop-value.invariant.continues.goes c.serialize_bush.ensures.goes_on
 
 pub serialize_each_bush-returns-in-Err-clause-refused : goal.serialize_each_bush-returns-in-Err-clause-refused
-serialize_each_bush-returns-in-Err-clause-refused g t c = continues_broken _ _ _ _ _ _ _ _ _ _ c.loop-value.value-index _ _ _ c.loop-value-test.true c.value-item.is bush_planned c.loop-value.invariant.continues c.serialize_bush.ensures.goes_on c.in-Err.ensures.refused
+serialize_each_bush-returns-in-Err-clause-refused g t c = rw c.handed_on.ensures (continues_broken _ _ _ _ _ _ _ _ _ _ c.loop-value.value-index _ _ _ c.loop-value-test.true c.value-item.is bush_planned c.loop-value.invariant.continues c.serialize_bush.ensures.goes_on c.in-Err.ensures.refused)
 
 pub serialize_each_bush-returns-in_err-map_err-clause-goes_on : goal.serialize_each_bush-returns-in_err-map_err-clause-goes_on
 serialize_each_bush-returns-in_err-map_err-clause-goes_on g t c = goes_both _ _ _ c.loop-value.invariant.continues.goes c.serialize_bush.ensures.goes_on
@@ -125,7 +125,7 @@ pub serialize_vec_bush-returns-in-Err-serialize_inner_slice-clause-refused : goa
 serialize_vec_bush-returns-in-Err-serialize_inner_slice-clause-refused g t c = (rw c.as_slice-items.ensures.value at c.in-Err-serialize_inner_slice.ensures.refused).since _ c.serialize_each_bush.ensures.goes_on (rw c.as_slice-items.ensures.value at c.in-Ok.ensures.serialized)
 
 pub serialize_box_vec_bush-returns-in-Err-clause-refused : goal.serialize_box_vec_bush-returns-in-Err-clause-refused
-serialize_box_vec_bush-returns-in-Err-clause-refused g t c = (let same : c.deref-inner.result.now ≡ c.args.value.now.value = grind (arith, common_steps) in rw (← same) (box_refused bush_definitions (one (vec bush_shape)) 0 _ _ _ _ _ (one_owned bush_definitions (vec bush_shape) _ _ _ _ _ c.in-Err.ensures.refused)))
+serialize_box_vec_bush-returns-in-Err-clause-refused g t c = rw c.handed_on.ensures (let same : c.deref-inner.result.now ≡ c.args.value.now.value = grind (arith, common_steps) in rw (← same) (box_refused bush_definitions (one (vec bush_shape)) 0 _ _ _ _ _ (one_owned bush_definitions (vec bush_shape) _ _ _ _ _ c.in-Err.ensures.refused)))
 
 pub serialize_box_vec_bush-returns-in-Ok-serialize_inner-clause-serialized : goal.serialize_box_vec_bush-returns-in-Ok-serialize_inner-clause-serialized
 serialize_box_vec_bush-returns-in-Ok-serialize_inner-clause-serialized g t c = (let same : c.deref-inner.result.now ≡ c.args.value.now.value = grind (arith, common_steps) in rw (← same) (c.in-Ok-serialize_inner.ensures.boxed.since _ c.serialize_vec_bush.ensures.goes_on c.in-Ok.ensures.serialized))

@@ -31,7 +31,7 @@ pub serialize_each_box_knot-returns-in-Err-clause-goes_on : goal.serialize_each_
 serialize_each_box_knot-returns-in-Err-clause-goes_on g t c = goes_both _ _ _ c.loop-value.invariant.continues.goes c.serialize_knot.ensures.goes_on
 
 pub serialize_each_box_knot-returns-in-Err-clause-refused : goal.serialize_each_box_knot-returns-in-Err-clause-refused
-serialize_each_box_knot-returns-in-Err-clause-refused g t c = continues_broken _ _ _ _ _ _ _ _ _ _ c.loop-value.value-index _ _ _ c.loop-value-test.true c.value-item.is (λ y. (boxed_one_planned knot_definitions (one knot_shape) knot_shape refl _ _ (knot_planned y.value))) c.loop-value.invariant.continues c.serialize_knot.ensures.goes_on (let same : c.deref-inner.result.now ≡ c.value-item.result.value = grind (arith, common_steps) in rw (← same) (box_refused knot_definitions (one knot_shape) 0 _ _ _ _ _ (one_owned knot_definitions knot_shape _ _ _ _ _ c.in-Err.ensures.refused)))
+serialize_each_box_knot-returns-in-Err-clause-refused g t c = rw c.handed_on.ensures (continues_broken _ _ _ _ _ _ _ _ _ _ c.loop-value.value-index _ _ _ c.loop-value-test.true c.value-item.is (λ y. (boxed_one_planned knot_definitions (one knot_shape) knot_shape refl _ _ (knot_planned y.value))) c.loop-value.invariant.continues c.serialize_knot.ensures.goes_on (let same : c.deref-inner.result.now ≡ c.value-item.result.value = grind (arith, common_steps) in rw (← same) (box_refused knot_definitions (one knot_shape) 0 _ _ _ _ _ (one_owned knot_definitions knot_shape _ _ _ _ _ c.in-Err.ensures.refused))))
 
 pub serialize_each_box_knot-returns-in-Err-serialize_inner-clause-goes_on : goal.serialize_each_box_knot-returns-in-Err-serialize_inner-clause-goes_on
 serialize_each_box_knot-returns-in-Err-serialize_inner-clause-goes_on g t c = goes_both _ _ _ c.loop-value.invariant.continues.goes (goes_both _ _ _ c.serialize_knot.ensures.goes_on c.serialize_inner.ensures.goes_on)

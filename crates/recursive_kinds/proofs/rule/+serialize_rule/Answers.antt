@@ -32,7 +32,7 @@ pub serialize_each_rule-returns-in-Err-clause-goes_on : goal.serialize_each_rule
 serialize_each_rule-returns-in-Err-clause-goes_on g t c = goes_both _ _ _ c.loop-value.invariant.continues.goes c.serialize_rule.ensures.goes_on
 
 pub serialize_each_rule-returns-in-Err-clause-refused : goal.serialize_each_rule-returns-in-Err-clause-refused
-serialize_each_rule-returns-in-Err-clause-refused g t c = continues_broken _ _ _ _ _ _ _ _ _ _ c.loop-value.value-index _ _ _ c.loop-value-test.true c.value-item.is rule_planned c.loop-value.invariant.continues c.serialize_rule.ensures.goes_on c.in-Err.ensures.refused
+serialize_each_rule-returns-in-Err-clause-refused g t c = rw c.handed_on.ensures (continues_broken _ _ _ _ _ _ _ _ _ _ c.loop-value.value-index _ _ _ c.loop-value-test.true c.value-item.is rule_planned c.loop-value.invariant.continues c.serialize_rule.ensures.goes_on c.in-Err.ensures.refused)
 
 pub serialize_each_rule-returns-in_err-map_err-clause-goes_on : goal.serialize_each_rule-returns-in_err-map_err-clause-goes_on
 serialize_each_rule-returns-in_err-map_err-clause-goes_on g t c = goes_both _ _ _ c.loop-value.invariant.continues.goes c.serialize_rule.ensures.goes_on

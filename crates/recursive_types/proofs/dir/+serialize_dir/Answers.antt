@@ -31,7 +31,7 @@ pub serialize_each_entry-returns-in-Err-clause-goes_on : goal.serialize_each_ent
 serialize_each_entry-returns-in-Err-clause-goes_on g t c = goes_both _ _ _ c.loop-value.invariant.continues.goes c.serialize_entry.ensures.goes_on
 
 pub serialize_each_entry-returns-in-Err-clause-refused : goal.serialize_each_entry-returns-in-Err-clause-refused
-serialize_each_entry-returns-in-Err-clause-refused g t c = continues_broken _ _ _ _ _ _ _ _ _ _ c.loop-value.value-index _ _ _ c.loop-value-test.true c.value-item.is entry_planned c.loop-value.invariant.continues c.serialize_entry.ensures.goes_on c.in-Err.ensures.refused
+serialize_each_entry-returns-in-Err-clause-refused g t c = rw c.handed_on.ensures (continues_broken _ _ _ _ _ _ _ _ _ _ c.loop-value.value-index _ _ _ c.loop-value-test.true c.value-item.is entry_planned c.loop-value.invariant.continues c.serialize_entry.ensures.goes_on c.in-Err.ensures.refused)
 
 pub serialize_each_entry-returns-in_err-map_err-clause-goes_on : goal.serialize_each_entry-returns-in_err-map_err-clause-goes_on
 serialize_each_entry-returns-in_err-map_err-clause-goes_on g t c = goes_both _ _ _ c.loop-value.invariant.continues.goes c.serialize_entry.ensures.goes_on
@@ -82,7 +82,7 @@ pub serialize_dir-returns-clause-goes_on : goal.serialize_dir-returns-clause-goe
 serialize_dir-returns-clause-goes_on g t c = (goes_both _ _ _ c.serialize_part.ensures.goes_on c.serialize_vec_entry.ensures.goes_on)
 
 pub serialize_box_dir-returns-in-Err-clause-refused : goal.serialize_box_dir-returns-in-Err-clause-refused
-serialize_box_dir-returns-in-Err-clause-refused g t c = (let same : c.deref-inner.result.now ≡ c.args.value.now.value = grind (arith, common_steps) in rw (← same) (box_refused entry_definitions (one dir_shape) 0 _ _ _ _ _ (one_owned entry_definitions dir_shape _ _ _ _ _ c.in-Err.ensures.refused)))
+serialize_box_dir-returns-in-Err-clause-refused g t c = rw c.handed_on.ensures (let same : c.deref-inner.result.now ≡ c.args.value.now.value = grind (arith, common_steps) in rw (← same) (box_refused entry_definitions (one dir_shape) 0 _ _ _ _ _ (one_owned entry_definitions dir_shape _ _ _ _ _ c.in-Err.ensures.refused)))
 
 pub serialize_box_dir-returns-in-Ok-serialize_inner-clause-serialized : goal.serialize_box_dir-returns-in-Ok-serialize_inner-clause-serialized
 serialize_box_dir-returns-in-Ok-serialize_inner-clause-serialized g t c = (let same : c.deref-inner.result.now ≡ c.args.value.now.value = grind (arith, common_steps) in rw (← same) (c.in-Ok-serialize_inner.ensures.boxed.since _ c.serialize_dir.ensures.goes_on c.in-Ok.ensures.serialized))

@@ -24,7 +24,7 @@ use Rattle.std.specs.Prelude.{[], ◌++◌, ◌≡◌, refl, length, string_byte
 use Rattle.recursive_types.proofs.expr.+serialize_expr.Goals as goal
 
 pub serialize_box_expr-returns-in-Err-clause-refused : goal.serialize_box_expr-returns-in-Err-clause-refused
-serialize_box_expr-returns-in-Err-clause-refused g t c = (let same : c.deref-inner.result.now ≡ c.args.value.now.value = grind (arith, common_steps) in rw (← same) (box_refused expr_definitions (one expr_shape) 0 _ _ _ _ _ (one_owned expr_definitions expr_shape _ _ _ _ _ c.in-Err.ensures.refused)))
+serialize_box_expr-returns-in-Err-clause-refused g t c = rw c.handed_on.ensures (let same : c.deref-inner.result.now ≡ c.args.value.now.value = grind (arith, common_steps) in rw (← same) (box_refused expr_definitions (one expr_shape) 0 _ _ _ _ _ (one_owned expr_definitions expr_shape _ _ _ _ _ c.in-Err.ensures.refused)))
 
 pub serialize_box_expr-returns-in-Ok-serialize_inner-clause-serialized : goal.serialize_box_expr-returns-in-Ok-serialize_inner-clause-serialized
 serialize_box_expr-returns-in-Ok-serialize_inner-clause-serialized g t c = (let same : c.deref-inner.result.now ≡ c.args.value.now.value = grind (arith, common_steps) in rw (← same) (c.in-Ok-serialize_inner.ensures.boxed.since _ c.serialize_expr.ensures.goes_on c.in-Ok.ensures.serialized))
@@ -45,7 +45,7 @@ pub serialize_each_expr-returns-in-Err-clause-goes_on : goal.serialize_each_expr
 serialize_each_expr-returns-in-Err-clause-goes_on g t c = goes_both _ _ _ c.loop-value.invariant.continues.goes c.serialize_expr.ensures.goes_on
 
 pub serialize_each_expr-returns-in-Err-clause-refused : goal.serialize_each_expr-returns-in-Err-clause-refused
-serialize_each_expr-returns-in-Err-clause-refused g t c = continues_broken _ _ _ _ _ _ _ _ _ _ c.loop-value.value-index _ _ _ c.loop-value-test.true c.value-item.is expr_planned c.loop-value.invariant.continues c.serialize_expr.ensures.goes_on c.in-Err.ensures.refused
+serialize_each_expr-returns-in-Err-clause-refused g t c = rw c.handed_on.ensures (continues_broken _ _ _ _ _ _ _ _ _ _ c.loop-value.value-index _ _ _ c.loop-value-test.true c.value-item.is expr_planned c.loop-value.invariant.continues c.serialize_expr.ensures.goes_on c.in-Err.ensures.refused)
 
 pub serialize_each_expr-returns-in_err-map_err-clause-goes_on : goal.serialize_each_expr-returns-in_err-map_err-clause-goes_on
 serialize_each_expr-returns-in_err-map_err-clause-goes_on g t c = goes_both _ _ _ c.loop-value.invariant.continues.goes c.serialize_expr.ensures.goes_on

@@ -26,7 +26,7 @@ pub serialize_option_box_search-returns-in-None-clause-serialized : goal.seriali
 serialize_option_box_search-returns-in-None-clause-serialized g t c = rw c.in-None.is (serialized_empty_case search_definitions _ _ 0 refl _)
 
 pub serialize_option_box_search-returns-in-Err-clause-refused : goal.serialize_option_box_search-returns-in-Err-clause-refused
-serialize_option_box_search-returns-in-Err-clause-refused g t c = (let same : c.deref-inner.result.now ≡ c.in-Some.whole.value = grind (arith, common_steps) in rw (c.in-Some.is, ← same) (case_refused search_definitions search_definitions (λ s k. k) _ _ 1 (boxed (one search_shape)) refl _ _ _ _ _ (box_refused search_definitions (one search_shape) 0 _ _ _ _ _ (one_owned search_definitions search_shape _ _ _ _ _ c.in-Err.ensures.refused))))
+serialize_option_box_search-returns-in-Err-clause-refused g t c = rw c.handed_on.ensures (let same : c.deref-inner.result.now ≡ c.in-Some.whole.value = grind (arith, common_steps) in rw (c.in-Some.is, ← same) (case_refused search_definitions search_definitions (λ s k. k) _ _ 1 (boxed (one search_shape)) refl _ _ _ _ _ (box_refused search_definitions (one search_shape) 0 _ _ _ _ _ (one_owned search_definitions search_shape _ _ _ _ _ c.in-Err.ensures.refused))))
 
 pub serialize_option_box_search-returns-in-Ok-serialize_inner-clause-serialized : goal.serialize_option_box_search-returns-in-Ok-serialize_inner-clause-serialized
 serialize_option_box_search-returns-in-Ok-serialize_inner-clause-serialized g t c = (let same : c.deref-inner.result.now ≡ c.in-Some.whole.value = grind (arith, common_steps) in rw (c.in-Some.is, ← same) (serialized_case search_definitions search_definitions (λ s k. k) _ _ 1 (boxed (one search_shape)) refl _ _ _ _ _ (c.in-Ok-serialize_inner.ensures.boxed.since _ c.serialize_search.ensures.goes_on c.in-Ok.ensures.serialized)))

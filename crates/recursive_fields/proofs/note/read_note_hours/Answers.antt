@@ -1,0 +1,22 @@
+-- Written by tools/derive: change the declaration, and run it again.
+use Rattle.archive_core.proofs.Causes.{err_by}
+use Rattle.archive_core.proofs.ReadChoices.{variant_read_back, variant_refuses}
+use Rattle.archive_core.proofs.ReadRecords.{first_refuses}
+use Rattle.archive_core.specs.Definitions.{both, no_definition}
+use Rattle.archive_core.specs.Held.{read_as}
+use Rattle.archive_core.specs.MapPairs.{pair_keys}
+use Rattle.archive_core.specs.PartsReading.{part_read_back, no_part_read_back}
+use Rattle.archive_core.specs.Runs.{each_keys}
+use Rattle.archive_core.specs.Shape.{sorted_map, leaf, unsigned, signed, leaf_key, no_part, number as number_kind}
+use Rattle.recursive_fields.specs.NoteMeaning.{note_hours_means, note_hours_has_keys}
+use Rattle.recursive_fields.specs.NoteShape.{note_name, note_shape, note_definitions, note_variants, note_variant_definitions, note_has_variants, note_hours_parts, note_hours_definitions}
+use Rattle.std.proofs.Common.{[], length, refl}
+use Rattle.std.specs.Int.{w16, w64}
+use Rattle.std.specs.Prelude.{[], refl, length}
+use Rattle.recursive_fields.proofs.note.read_note_hours.Goals as goal
+
+pub returns-in_err-a0-clause-refused : goal.returns-in_err-a0-clause-refused
+returns-in_err-a0-clause-refused g c = err_by c.from_residual.result c.in_err-a0.field-0.0 _ c.from_residual.ensures.1 (variant_refuses note_definitions note_shape note_name note_variant_definitions note_variants note_has_variants 1 note_hours_parts refl note_hours_definitions refl _ _ _ c.requires.tag _ _ (first_refuses (both no_definition (both no_definition no_definition)) no_definition (sorted_map (leaf_key (number_kind unsigned w16)) (leaf (number_kind signed w64))) (record { size = 8; align = 4 }) (record { solved = λ s k. refl }) no_part _ _ 1 _ _ (rw (c.part_of_variant-p0.ensures.buffer, c.part_of_variant-p0.ensures.position, c.part_of_variant-p0.ensures.length) at c.in_err-a0.ensures.refused)))
+
+pub returns-clause-read : goal.returns-clause-read
+returns-clause-read g c = read_as (note_hours_has_keys c.in_ok-a0.a0) (note_hours_means c.in_ok-a0.a0) (variant_read_back note_definitions note_shape note_name note_variant_definitions note_variants note_has_variants 1 note_hours_parts refl note_hours_definitions refl _ _ _ c.requires.tag _ _ _ _ (part_read_back {L = (record { size = 8; align = 4 })} {ks = (each_keys (pair_keys (λ y. []) (λ y. [])) c.in_ok-a0.a0.entries)} {ls = []} (record { solved = λ s k. refl }) (rw (c.part_of_variant-p0.ensures.buffer, c.part_of_variant-p0.ensures.position, c.part_of_variant-p0.ensures.length) at c.in_ok-a0.ensures.read) no_part_read_back))

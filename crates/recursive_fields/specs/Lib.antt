@@ -1,0 +1,4 @@
+pub mod FactMeaning
+pub mod FactShape
+pub mod NoteMeaning
+pub mod NoteShape

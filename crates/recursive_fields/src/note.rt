@@ -1,0 +1,915 @@
+//! Notes.
+
+use archive_core::primitive::ArchivedNonZeroU32;
+use std::collections::BTreeMap;
+
+/// What was noted.
+#[derive(Debug, PartialEq, Drop)]
+pub enum Note {
+    /// Texts, and who wrote them.
+    Texts(Vec<String>, Option<String>),
+    /// Hours of work, by the day.
+    Hours(BTreeMap<u16, i64>),
+    /// How soon something is to be done, and by how many.
+    Rank(ArchivedNonZeroU32, Box<u32>),
+    /// All of these.
+    Notes(Vec<Note>),
+}
+
+// Below this line all is written by tools/derive: change what is above it, and run it again.
+
+ghost use Rattle.archive_core.specs.CallOutcomes.{ResolvesAs};
+ghost use Rattle.archive_core.specs.Causes.{IsRefused};
+ghost use Rattle.archive_core.specs.Definitions.{both, no_definition};
+ghost use Rattle.archive_core.specs.Error.TheVariants.{OutOfMemory};
+ghost use Rattle.archive_core.specs.Expressions.{shape_of, shapes_in};
+ghost use Rattle.archive_core.specs.Payloads.{payload_in};
+ghost use Rattle.archive_core.specs.PlannedOwners.{one_planned};
+ghost use Rattle.archive_core.specs.Plans.{Serialized};
+ghost use Rattle.archive_core.specs.Runs.{EachBelongs, IsRunRefused, SerializedRun, each_flat, each_keys, each_meaning};
+ghost use Rattle.archive_core.specs.SealsWritten.{IsSealOf, SealsPart, seal_tag};
+ghost use Rattle.archive_core.specs.Seen.{IsPartOf, RefusesPart, ShowsValueOf, part_tag, tag_of};
+ghost use Rattle.archive_core.specs.SelfCheck.Laws.{by_schema};
+ghost use Rattle.archive_core.specs.Shape.{one, part, parts, variant, vec};
+ghost use Rattle.archive_core.specs.Sources.{Read, ReadsAs};
+ghost use Rattle.archive_core.specs.Value.{case, no_value, value};
+ghost use Rattle.archive_core.specs.Writing.{ZeroedPlace};
+ghost use Rattle.archive_core.specs.Written.{GoesOn};
+ghost use Rattle.recursive_fields.specs.NoteShape.{note_definitions, note_has_layout, note_has_variants, note_hours_parts, note_is_align, note_layout, note_name, note_no_others, note_notes_parts, note_rank_parts, note_shape, note_stands_for, note_texts_parts};
+ghost use Rattle.std.proofs.Common.{lit≤};
+ghost use Rattle.std.specs.Prelude.{IfErr, IfOk, None, [], length, refl, ℕ, ◌++◌, ◌+◌, ◌≡◌, ◌≤◌};
+
+use archive_core::boxed::ArchivedBox;
+use archive_core::error::Error;
+use archive_core::map::ArchivedSortedMap;
+use archive_core::option::ArchivedOption;
+use archive_core::place::Place;
+use archive_core::primitive::{ArchivedI64, ArchivedU16, ArchivedU32, NonZero};
+use archive_core::recursive::{
+    VecAt, before_vec, choice_of, define_name, handed_on, part_of_variant, read_part,
+    resolve_named_case_1, resolve_named_case_2, seal_of_payload, serialize_inner_slice,
+    serialize_part, tag_of_choice, tag_of_view, view_of_payload,
+};
+use archive_core::seal::Seal;
+use archive_core::self_check::BySchema;
+use archive_core::ser::{ResolverAlloc, Writer, serialize_one};
+use archive_core::shape::Defs;
+use archive_core::string::ArchivedString;
+use archive_core::traits::{
+    Archive, ArchivePointee, ArchiveUnsized, Choice, CopyOptimization, Deserialize, Entries, Keys,
+    Portable, Serialize, SerializeUnsized,
+};
+use archive_core::vec::{ArchivedVec, VecResolver};
+use archive_core::view::{RawView, Ref};
+use std::alloc::{AllocError, Global};
+
+/// An archived `Note`: 24 bytes at a multiple of 4. It is validated by its schema.
+pub struct ArchivedNote;
+
+type NoteTextsParts = (
+    ArchivedVec<ArchivedString>,
+    (ArchivedOption<ArchivedString>, ()),
+);
+
+type NoteHoursParts = (ArchivedSortedMap<ArchivedU16, ArchivedI64>, ());
+
+type NoteRankParts = (NonZero<u32>, (ArchivedBox<ArchivedU32>, ()));
+
+type NoteNotesParts = (ArchivedVec<ArchivedNote>, ());
+
+type NoteVariants = (
+    NoteTextsParts,
+    (NoteHoursParts, (NoteRankParts, (NoteNotesParts, ()))),
+);
+
+impl ArchivePointee for ArchivedNote {
+    type ArchivedMetadata = ();
+
+    ghost pointee = { one note_shape };
+
+    ghost definitions = { note_definitions };
+
+    ghost metadata_length = { λ _. 0 };
+
+    fn pointer_metadata(_metadata: &()) -> usize {
+        0
+    }
+}
+
+// The parts of `Texts`.
+fn note_texts_expressions(alloc: Global) -> Result<Vec<archive_core::shape::Expr>, Error>
+    ensures shapes { IfOk result (λ list. shapes_in list.items ≡ note_texts_parts) }
+    ensures refused { IfErr result (λ e. e ≡ OutOfMemory) }
+{
+    let a0 = <ArchivedVec<ArchivedString> as Portable>::expr(alloc)?;
+    let a1 = <ArchivedOption<ArchivedString> as Portable>::expr(alloc)?;
+    Ok(vec![in alloc; a0, a1]?)
+}
+
+// The parts of `Hours`.
+fn note_hours_expressions(alloc: Global) -> Result<Vec<archive_core::shape::Expr>, Error>
+    ensures shapes { IfOk result (λ list. shapes_in list.items ≡ note_hours_parts) }
+    ensures refused { IfErr result (λ e. e ≡ OutOfMemory) }
+{
+    let a0 = <ArchivedSortedMap<ArchivedU16, ArchivedI64> as Portable>::expr(alloc)?;
+    Ok(vec![in alloc; a0]?)
+}
+
+// The parts of `Rank`.
+fn note_rank_expressions(alloc: Global) -> Result<Vec<archive_core::shape::Expr>, Error>
+    ensures shapes { IfOk result (λ list. shapes_in list.items ≡ note_rank_parts) }
+    ensures refused { IfErr result (λ e. e ≡ OutOfMemory) }
+{
+    let a0 = <NonZero<u32> as Portable>::expr(alloc)?;
+    let a1 = <ArchivedBox<ArchivedU32> as Portable>::expr(alloc)?;
+    Ok(vec![in alloc; a0, a1]?)
+}
+
+// The parts of `Notes`.
+fn note_notes_expressions(alloc: Global) -> Result<Vec<archive_core::shape::Expr>, Error>
+    ensures shapes { IfOk result (λ list. shapes_in list.items ≡ note_notes_parts) }
+    ensures refused { IfErr result (λ e. e ≡ OutOfMemory) }
+{
+    let a0 = archive_core::shape::Expr::Vec(Box::new(
+        alloc,
+        archive_core::shape::Expr::Named("ArchivedNote"),
+    )?);
+    Ok(vec![in alloc; a0]?)
+}
+
+// What the name stands for.
+fn note_expression(alloc: Global) -> Result<archive_core::shape::Expr, Error>
+    ensures shape { IfOk result (λ e. shape_of e ≡ note_stands_for) }
+    ensures refused { IfErr result (λ e. e ≡ OutOfMemory) }
+{
+    let v0 = note_texts_expressions(alloc)?;
+    let v1 = note_hours_expressions(alloc)?;
+    let v2 = note_rank_expressions(alloc)?;
+    let v3 = note_notes_expressions(alloc)?;
+    let variants = vec![in alloc; v0, v1, v2, v3]?;
+    Ok(choice_of("ArchivedNote", variants))
+}
+
+impl Portable for ArchivedNote {
+    ghost shape = { note_shape };
+
+    ghost layout = { note_layout };
+
+    type Check = BySchema;
+
+    ghost is_one = { refl };
+
+    ghost is_align = { note_is_align };
+
+    ghost has_layout = { note_has_layout };
+
+    ghost no_others = { note_no_others };
+
+    ghost checks = { λ direct. by_schema direct };
+
+    fn size() -> usize {
+        24
+    }
+
+    fn align() -> usize {
+        4
+    }
+
+    fn expr(_alloc: Global) -> Result<archive_core::shape::Expr, Error> {
+        Ok(archive_core::shape::Expr::Named("ArchivedNote"))
+    }
+
+    fn define(alloc: Global, defs: &mut Defs) -> Result<(), Error> {
+        let stands_for = match note_expression(alloc) {
+            Ok(stands_for) => stands_for,
+            Err(error) => return Err(error),
+        };
+        define_name("ArchivedNote", stands_for, defs)
+    }
+}
+
+impl Choice for ArchivedNote {
+    type Variants = NoteVariants;
+
+    ghost name = { note_name };
+
+    ghost has_variants = { note_has_variants };
+
+    ghost holds = { lit≤ tt };
+}
+
+/// What is kept of `Note` between `serialize` and `resolve`.
+#[derive(Drop)]
+pub enum NoteResolver {
+    /// Of `Texts`.
+    Texts(
+        (
+            <Vec<String> as Archive>::Resolver,
+            (<Option<String> as Archive>::Resolver, ()),
+        ),
+    ),
+    /// Of `Hours`.
+    Hours((<BTreeMap<u16, i64> as Archive>::Resolver, ())),
+    /// Of `Rank`.
+    Rank(
+        (
+            <ArchivedNonZeroU32 as Archive>::Resolver,
+            (<Box<u32> as Archive>::Resolver, ()),
+        ),
+    ),
+    /// Of `Notes`.
+    Notes((VecResolver, ())),
+}
+
+impl Archive for Note {
+    ghost use Rattle.recursive_fields.specs.NoteMeaning.{note_meaning, note_flat, note_keys, note_belongs, note_keyed, note_planned};
+
+    type Archived = ArchivedNote;
+
+    type Resolver = NoteResolver;
+
+    ghost meaning = { note_meaning };
+
+    ghost flat = { note_flat };
+
+    ghost keys = { note_keys };
+
+    ghost belongs = { note_belongs };
+
+    ghost in_bulk = { None };
+
+    ghost keyed = { note_keyed };
+
+    ghost planned = { note_planned };
+
+    #[inline(always)]
+    fn resolve(
+        &self,
+        resolver: Self::Resolver,
+        place: Place<'_, Self::Archived>,
+    ) -> Result<(), Error>
+        requires zeroed { ZeroedPlace 24 place.pos place.bytes.now }
+        requires same_value { ⟦<Self as Archive>⟧.belongs self.now resolver }
+        ensures { ResolvesAs ⟦<Self::Archived as Portable>⟧ place
+            (⟦<Self as Archive>⟧.flat self.now resolver) result }
+    {
+        let Place { bytes, pos, .. } = place;
+        match self {
+            Note::Texts(a0, a1) => {
+                let NoteResolver::Texts(kept) = resolver else {
+                    unreachable!();
+                };
+                resolve_named_case_2::<Vec<String>, Option<String>, ArchivedNote>(
+                    0,
+                    a0,
+                    a1,
+                    kept,
+                    Place::new(pos, bytes),
+                )
+            }
+            Note::Hours(a0) => {
+                let NoteResolver::Hours(kept) = resolver else {
+                    unreachable!();
+                };
+                resolve_named_case_1::<BTreeMap<u16, i64>, ArchivedNote>(
+                    1,
+                    a0,
+                    kept,
+                    Place::new(pos, bytes),
+                )
+            }
+            Note::Rank(a0, a1) => {
+                let NoteResolver::Rank(kept) = resolver else {
+                    unreachable!();
+                };
+                resolve_named_case_2::<ArchivedNonZeroU32, Box<u32>, ArchivedNote>(
+                    2,
+                    a0,
+                    a1,
+                    kept,
+                    Place::new(pos, bytes),
+                )
+            }
+            Note::Notes(a0) => {
+                let NoteResolver::Notes(kept) = resolver else {
+                    unreachable!();
+                };
+                let h0: VecAt<ArchivedNote> = VecAt::of(a0.len());
+                resolve_named_case_1::<VecAt<ArchivedNote>, ArchivedNote>(
+                    3,
+                    &h0,
+                    kept,
+                    Place::new(pos, bytes),
+                )
+            }
+        }
+    }
+
+    #[inline(always)]
+    fn copy_optimization() -> CopyOptimization<Self> {
+        CopyOptimization::disable()
+    }
+
+    #[inline(always)]
+    fn serialize_copied<S: Writer + Keys>(
+        _values: &[Self],
+        _together: usize,
+        _serializer: &mut S,
+    ) -> Result<Option<usize>, Error> {
+        Ok(None)
+    }
+}
+
+// Writes what each of the values owns, in order.
+#[cycle(serialize_note)]
+fn serialize_each_note<S: Writer + Keys + ResolverAlloc>(
+    values: &[Note],
+    serializer: &mut S,
+) -> Result<Vec<<Note as Archive>::Resolver, S::Alloc>, Error>
+    ensures serialized { IfOk result (λ rs. SerializedRun note_definitions note_shape
+        (length values.now) (each_keys ⟦<Note as Archive>⟧.keys values.now)
+        (each_meaning ⟦<Note as Archive>⟧.meaning values.now)
+        (each_flat ⟦<Note as Archive>⟧.flat values.now rs.items) (S.state serializer.old)
+        (S.state serializer.new)) }
+    ensures same_values { IfOk result (λ rs. EachBelongs ⟦<Note as Archive>⟧.belongs values.now
+        rs.items) }
+    ensures goes_on { GoesOn (S.state serializer.old) (S.state serializer.new) }
+    ensures refused { IfErr result (IsRunRefused note_definitions note_shape (length values.now)
+        (each_keys ⟦<Note as Archive>⟧.keys values.now)
+        (each_meaning ⟦<Note as Archive>⟧.meaning values.now) (S.state serializer.old)
+        (S.state serializer.new)) }
+{
+    let alloc = serializer.resolver_alloc();
+    let mut resolvers = Vec::with_capacity(alloc, values.len())?;
+    for value in values {
+        let resolver = match serialize_note(value, serializer) {
+            Ok(resolver) => resolver,
+            Err(error) => return Err(handed_on(error)),
+        };
+        resolvers.push(resolver).map_err(AllocError::from)?;
+    }
+    Ok(resolvers)
+}
+
+// Writes what a vector owns.
+#[cycle(serialize_note)]
+fn serialize_vec_note<S: Writer + Keys + ResolverAlloc>(
+    value: &Vec<Note>,
+    serializer: &mut S,
+) -> Result<VecResolver, Error>
+    ensures serialized { IfOk result (λ r. Serialized note_definitions (vec note_shape)
+        (⟦<Vec<Note> as Archive>⟧.keys value.now) (⟦<Vec<Note> as Archive>⟧.meaning value.now)
+        (⟦<Vec<Note> as Archive>⟧.flat value.now r) (S.state serializer.old)
+        (S.state serializer.new)) }
+    ensures same_value { IfOk result (λ r. ⟦<Vec<Note> as Archive>⟧.belongs value.now r) }
+    ensures goes_on { GoesOn (S.state serializer.old) (S.state serializer.new) }
+    ensures refused { IfErr result (IsRefused note_definitions (vec note_shape)
+        (⟦<Vec<Note> as Archive>⟧.keys value.now) (⟦<Vec<Note> as Archive>⟧.meaning value.now)
+        (S.state serializer.old) (S.state serializer.new)) }
+{
+    if value.len() > u32::MAX as usize {
+        return Err(Error::LengthTooLarge);
+    }
+    let items = value.as_slice();
+    let kept = match serialize_each_note(items, serializer) {
+        Ok(kept) => kept,
+        Err(error) => return Err(error),
+    };
+    match serialize_inner_slice(items, kept, serializer) {
+        Ok(at) => Ok(at),
+        Err(error) => Err(error),
+    }
+}
+
+// Writes what the parts of `Texts` own, in order.
+fn serialize_note_texts<S: Writer + Keys + ResolverAlloc>(
+    a0: &Vec<String>,
+    a1: &Option<String>,
+    serializer: &mut S,
+) -> Result<
+    (
+        <Vec<String> as Archive>::Resolver,
+        (<Option<String> as Archive>::Resolver, ()),
+    ),
+    Error,
+>
+    ensures serialized { IfOk result (λ r. Serialized note_definitions note_shape
+        (⟦<Vec<String> as Archive>⟧.keys a0.now ++ (⟦<Option<String> as Archive>⟧.keys a1.now
+        ++ [])) (case 0 (value (⟦<Vec<String> as Archive>⟧.meaning a0.now)
+        (value (⟦<Option<String> as Archive>⟧.meaning a1.now) no_value)))
+        (case 0 (value (⟦<Vec<String> as Archive>⟧.flat a0.now r.0)
+        (value (⟦<Option<String> as Archive>⟧.flat a1.now r.1.0) no_value)))
+        (S.state serializer.old) (S.state serializer.new)) }
+    ensures same_values { IfOk result (λ r. ⟦<Vec<String> as Archive>⟧.belongs a0.now r.0
+        × (⟦<Option<String> as Archive>⟧.belongs a1.now r.1.0 × Unit {0})) }
+    ensures goes_on { GoesOn (S.state serializer.old) (S.state serializer.new) }
+    ensures refused { IfErr result (IsRefused note_definitions note_shape
+        (⟦<Vec<String> as Archive>⟧.keys a0.now ++ (⟦<Option<String> as Archive>⟧.keys a1.now
+        ++ [])) (case 0 (value (⟦<Vec<String> as Archive>⟧.meaning a0.now)
+        (value (⟦<Option<String> as Archive>⟧.meaning a1.now) no_value))) (S.state serializer.old)
+        (S.state serializer.new)) }
+{
+    let a0 = match serialize_part(a0, serializer) {
+        Ok(a0) => a0,
+        Err(error) => return Err(error),
+    };
+    let a1 = match serialize_part(a1, serializer) {
+        Ok(a1) => a1,
+        Err(error) => return Err(error),
+    };
+    Ok((a0, (a1, ())))
+}
+
+// Writes what the parts of `Hours` own, in order.
+fn serialize_note_hours<S: Writer + Keys + ResolverAlloc>(
+    a0: &BTreeMap<u16, i64>,
+    serializer: &mut S,
+) -> Result<(<BTreeMap<u16, i64> as Archive>::Resolver, ()), Error>
+    ensures serialized { IfOk result (λ r. Serialized note_definitions note_shape
+        (⟦<BTreeMap<u16, i64> as Archive>⟧.keys a0.now ++ [])
+        (case 1 (value (⟦<BTreeMap<u16, i64> as Archive>⟧.meaning a0.now) no_value))
+        (case 1 (value (⟦<BTreeMap<u16, i64> as Archive>⟧.flat a0.now r.0) no_value))
+        (S.state serializer.old) (S.state serializer.new)) }
+    ensures same_values { IfOk result (λ r. ⟦<BTreeMap<u16, i64> as Archive>⟧.belongs a0.now r.0
+        × Unit {0}) }
+    ensures goes_on { GoesOn (S.state serializer.old) (S.state serializer.new) }
+    ensures refused { IfErr result (IsRefused note_definitions note_shape
+        (⟦<BTreeMap<u16, i64> as Archive>⟧.keys a0.now ++ [])
+        (case 1 (value (⟦<BTreeMap<u16, i64> as Archive>⟧.meaning a0.now) no_value))
+        (S.state serializer.old) (S.state serializer.new)) }
+{
+    let a0 = match serialize_part(a0, serializer) {
+        Ok(a0) => a0,
+        Err(error) => return Err(error),
+    };
+    Ok((a0, ()))
+}
+
+// Writes what the parts of `Rank` own, in order.
+fn serialize_note_rank<S: Writer + Keys + ResolverAlloc>(
+    a0: &ArchivedNonZeroU32,
+    a1: &Box<u32>,
+    serializer: &mut S,
+) -> Result<
+    (
+        <ArchivedNonZeroU32 as Archive>::Resolver,
+        (<Box<u32> as Archive>::Resolver, ()),
+    ),
+    Error,
+>
+    ensures serialized { IfOk result (λ r. Serialized note_definitions note_shape
+        (⟦<ArchivedNonZeroU32 as Archive>⟧.keys a0.now ++ (⟦<Box<u32> as Archive>⟧.keys a1.now
+        ++ [])) (case 2 (value (⟦<ArchivedNonZeroU32 as Archive>⟧.meaning a0.now)
+        (value (⟦<Box<u32> as Archive>⟧.meaning a1.now) no_value)))
+        (case 2 (value (⟦<ArchivedNonZeroU32 as Archive>⟧.flat a0.now r.0)
+        (value (⟦<Box<u32> as Archive>⟧.flat a1.now r.1.0) no_value))) (S.state serializer.old)
+        (S.state serializer.new)) }
+    ensures same_values { IfOk result (λ r. ⟦<ArchivedNonZeroU32 as Archive>⟧.belongs a0.now r.0
+        × (⟦<Box<u32> as Archive>⟧.belongs a1.now r.1.0 × Unit {0})) }
+    ensures goes_on { GoesOn (S.state serializer.old) (S.state serializer.new) }
+    ensures refused { IfErr result (IsRefused note_definitions note_shape
+        (⟦<ArchivedNonZeroU32 as Archive>⟧.keys a0.now ++ (⟦<Box<u32> as Archive>⟧.keys a1.now
+        ++ [])) (case 2 (value (⟦<ArchivedNonZeroU32 as Archive>⟧.meaning a0.now)
+        (value (⟦<Box<u32> as Archive>⟧.meaning a1.now) no_value))) (S.state serializer.old)
+        (S.state serializer.new)) }
+{
+    let a0 = match serialize_part(a0, serializer) {
+        Ok(a0) => a0,
+        Err(error) => return Err(error),
+    };
+    let a1 = match serialize_part(a1, serializer) {
+        Ok(a1) => a1,
+        Err(error) => return Err(error),
+    };
+    Ok((a0, (a1, ())))
+}
+
+// Writes what the parts of `Notes` own, in order.
+#[cycle(serialize_note)]
+fn serialize_note_notes<S: Writer + Keys + ResolverAlloc>(
+    a0: &Vec<Note>,
+    serializer: &mut S,
+) -> Result<(VecResolver, ()), Error>
+    ensures serialized { IfOk result (λ r. Serialized note_definitions note_shape
+        (⟦<Vec<Note> as Archive>⟧.keys a0.now ++ []) (case 3
+        (value (⟦<Vec<Note> as Archive>⟧.meaning a0.now) no_value))
+        (case 3 (value (⟦<Vec<Note> as Archive>⟧.flat a0.now r.0) no_value))
+        (S.state serializer.old) (S.state serializer.new)) }
+    ensures same_values { IfOk result (λ r. ⟦<Vec<Note> as Archive>⟧.belongs a0.now r.0
+        × Unit {0}) }
+    ensures goes_on { GoesOn (S.state serializer.old) (S.state serializer.new) }
+    ensures refused { IfErr result (IsRefused note_definitions note_shape
+        (⟦<Vec<Note> as Archive>⟧.keys a0.now ++ []) (case 3
+        (value (⟦<Vec<Note> as Archive>⟧.meaning a0.now) no_value)) (S.state serializer.old)
+        (S.state serializer.new)) }
+{
+    let a0 = match serialize_vec_note(a0, serializer) {
+        Ok(a0) => a0,
+        Err(error) => return Err(error),
+    };
+    Ok((a0, ()))
+}
+
+// Writes what a value owns.
+#[cycle(serialize_note)]
+fn serialize_note<S: Writer + Keys + ResolverAlloc>(
+    value: &Note,
+    serializer: &mut S,
+) -> Result<NoteResolver, Error>
+    ensures serialized { IfOk result (λ r. Serialized note_definitions note_shape
+        (⟦<Note as Archive>⟧.keys value.now) (⟦<Note as Archive>⟧.meaning value.now)
+        (⟦<Note as Archive>⟧.flat value.now r) (S.state serializer.old) (S.state serializer.new)) }
+    ensures same_value { IfOk result (λ r. ⟦<Note as Archive>⟧.belongs value.now r) }
+    ensures goes_on { GoesOn (S.state serializer.old) (S.state serializer.new) }
+    ensures refused { IfErr result (IsRefused note_definitions note_shape
+        (⟦<Note as Archive>⟧.keys value.now) (⟦<Note as Archive>⟧.meaning value.now)
+        (S.state serializer.old) (S.state serializer.new)) }
+{
+    match value {
+        Note::Texts(a0, a1) => match serialize_note_texts(a0, a1, serializer) {
+            Ok(kept) => Ok(NoteResolver::Texts(kept)),
+            Err(error) => Err(error),
+        },
+        Note::Hours(a0) => match serialize_note_hours(a0, serializer) {
+            Ok(kept) => Ok(NoteResolver::Hours(kept)),
+            Err(error) => Err(error),
+        },
+        Note::Rank(a0, a1) => match serialize_note_rank(a0, a1, serializer) {
+            Ok(kept) => Ok(NoteResolver::Rank(kept)),
+            Err(error) => Err(error),
+        },
+        Note::Notes(a0) => match serialize_note_notes(a0, serializer) {
+            Ok(kept) => Ok(NoteResolver::Notes(kept)),
+            Err(error) => Err(error),
+        },
+    }
+}
+
+impl<S: Writer + Keys + ResolverAlloc> Serialize<S> for Note {
+    #[inline(always)]
+    fn serialize(&self, serializer: &mut S) -> Result<Self::Resolver, Error> {
+        serialize_note(self, serializer)
+    }
+}
+
+/// As a region of its own: the value itself.
+impl ArchiveUnsized for Note {
+    ghost use Rattle.recursive_fields.specs.contracts.note.NoteArchive.TheImpl.Laws.{keyed-law as keyed_of_note, planned-law as planned_of_note};
+
+    type Archived = ArchivedNote;
+
+    ghost source_length = { λ _. 0 };
+
+    ghost meaning = { ⟦<Note as Archive>⟧.meaning };
+
+    ghost keys = { ⟦<Note as Archive>⟧.keys };
+
+    ghost keyed = { keyed_of_note };
+
+    ghost one_length = { λ _ _. refl };
+
+    ghost planned = { λ v. one_planned note_definitions note_shape (⟦<Note as Archive>⟧.keys v)
+        (⟦<Note as Archive>⟧.meaning v) (planned_of_note v) };
+
+    #[inline(always)]
+    fn archived_metadata(&self) -> Result<(), Error> {
+        Ok(())
+    }
+}
+
+impl<S: Writer + Keys + ResolverAlloc> SerializeUnsized<S> for Note {
+    #[inline(always)]
+    fn serialize_unsized(&self, serializer: &mut S) -> Result<usize, Error> {
+        serialize_one(self, serializer)
+    }
+}
+
+// Reads a vector back.
+#[cycle(read_note)]
+fn read_vec_note<D: Entries>(
+    alloc: Global,
+    part: RawView<'_>,
+    deserializer: &mut D,
+) -> Result<Vec<Note>, Error>
+    requires { IsPartOf ⟦<ArchivedVec<ArchivedNote> as ArchivePointee>⟧ part }
+    ensures read { IfOk result (Read ⟦<ArchivedVec<ArchivedNote> as ArchivePointee>⟧ part D.Entries
+        deserializer ⟦<Vec<Note> as Archive>⟧) }
+    ensures refused { IfErr result (RefusesPart ⟦<ArchivedVec<ArchivedNote> as ArchivePointee>⟧ part
+        D.Entries deserializer) }
+{
+    let view: Ref<'_, ArchivedVec<ArchivedNote>> = Ref::at(part);
+    let list = before_vec(view);
+    let mut items = Vec::with_capacity(alloc, list.len())?;
+    for index in 0..list.len() {
+        let item = read_note(alloc, list.index(index).part(), deserializer)?;
+        items.push_reserved(item);
+    }
+    Ok(items)
+}
+
+// Reads `Texts` back.
+#[inline(always)]
+fn read_note_texts<D: Entries>(
+    alloc: Global,
+    part: RawView<'_>,
+    deserializer: &mut D,
+) -> Result<Note, Error>
+    requires viewed { IsPartOf ⟦<ArchivedNote as ArchivePointee>⟧ part }
+    requires tag { part_tag part ≡ 0 }
+    ensures read { IfOk result (Read ⟦<ArchivedNote as ArchivePointee>⟧ part D.Entries deserializer
+        ⟦<Note as Archive>⟧) }
+    ensures refused { IfErr result (RefusesPart ⟦<ArchivedNote as ArchivePointee>⟧ part D.Entries
+        deserializer) }
+{
+    let p0 = part_of_variant::<ArchivedNote, ArchivedVec<ArchivedString>>(part, 0, 0, 4);
+    let a0 = read_part::<ArchivedVec<ArchivedString>, Vec<String>, D>(alloc, p0, deserializer)?;
+    let p1 = part_of_variant::<ArchivedNote, ArchivedOption<ArchivedString>>(part, 0, 1, 12);
+    let a1 = read_part::<ArchivedOption<ArchivedString>, Option<String>, D>(
+        alloc,
+        p1,
+        deserializer,
+    )?;
+    Ok(Note::Texts(a0, a1))
+}
+
+// Reads `Hours` back.
+#[inline(always)]
+fn read_note_hours<D: Entries>(
+    alloc: Global,
+    part: RawView<'_>,
+    deserializer: &mut D,
+) -> Result<Note, Error>
+    requires viewed { IsPartOf ⟦<ArchivedNote as ArchivePointee>⟧ part }
+    requires tag { part_tag part ≡ 1 }
+    ensures read { IfOk result (Read ⟦<ArchivedNote as ArchivePointee>⟧ part D.Entries deserializer
+        ⟦<Note as Archive>⟧) }
+    ensures refused { IfErr result (RefusesPart ⟦<ArchivedNote as ArchivePointee>⟧ part D.Entries
+        deserializer) }
+{
+    let p0 = part_of_variant::<ArchivedNote, ArchivedSortedMap<ArchivedU16, ArchivedI64>>(
+        part, 1, 0, 4,
+    );
+    let a0 = read_part::<ArchivedSortedMap<ArchivedU16, ArchivedI64>, BTreeMap<u16, i64>, D>(
+        alloc,
+        p0,
+        deserializer,
+    )?;
+    Ok(Note::Hours(a0))
+}
+
+// Reads `Rank` back.
+#[inline(always)]
+fn read_note_rank<D: Entries>(
+    alloc: Global,
+    part: RawView<'_>,
+    deserializer: &mut D,
+) -> Result<Note, Error>
+    requires viewed { IsPartOf ⟦<ArchivedNote as ArchivePointee>⟧ part }
+    requires tag { part_tag part ≡ 2 }
+    ensures read { IfOk result (Read ⟦<ArchivedNote as ArchivePointee>⟧ part D.Entries deserializer
+        ⟦<Note as Archive>⟧) }
+    ensures refused { IfErr result (RefusesPart ⟦<ArchivedNote as ArchivePointee>⟧ part D.Entries
+        deserializer) }
+{
+    let p0 = part_of_variant::<ArchivedNote, NonZero<u32>>(part, 2, 0, 4);
+    let a0 = match read_part::<NonZero<u32>, ArchivedNonZeroU32, D>(alloc, p0, deserializer) {
+        Ok(a0) => a0,
+        Err(error) => return Err(error),
+    };
+    let p1 = part_of_variant::<ArchivedNote, ArchivedBox<ArchivedU32>>(part, 2, 1, 8);
+    let a1 = read_part::<ArchivedBox<ArchivedU32>, Box<u32>, D>(alloc, p1, deserializer)?;
+    Ok(Note::Rank(a0, a1))
+}
+
+// Reads `Notes` back.
+#[cycle(read_note)]
+fn read_note_notes<D: Entries>(
+    alloc: Global,
+    part: RawView<'_>,
+    deserializer: &mut D,
+) -> Result<Note, Error>
+    requires viewed { IsPartOf ⟦<ArchivedNote as ArchivePointee>⟧ part }
+    requires tag { part_tag part ≡ 3 }
+    ensures read { IfOk result (Read ⟦<ArchivedNote as ArchivePointee>⟧ part D.Entries deserializer
+        ⟦<Note as Archive>⟧) }
+    ensures refused { IfErr result (RefusesPart ⟦<ArchivedNote as ArchivePointee>⟧ part D.Entries
+        deserializer) }
+{
+    let p0 = part_of_variant::<ArchivedNote, ArchivedVec<ArchivedNote>>(part, 3, 0, 4);
+    let a0 = read_vec_note(alloc, p0, deserializer)?;
+    Ok(Note::Notes(a0))
+}
+
+// Reads a value back.
+#[cycle(read_note)]
+fn read_note<D: Entries>(
+    alloc: Global,
+    part: RawView<'_>,
+    deserializer: &mut D,
+) -> Result<Note, Error>
+    requires { IsPartOf ⟦<ArchivedNote as ArchivePointee>⟧ part }
+    ensures read { IfOk result (Read ⟦<ArchivedNote as ArchivePointee>⟧ part D.Entries deserializer
+        ⟦<Note as Archive>⟧) }
+    ensures refused { IfErr result (RefusesPart ⟦<ArchivedNote as ArchivePointee>⟧ part D.Entries
+        deserializer) }
+{
+    match tag_of_choice::<ArchivedNote>(part) {
+        0 => read_note_texts(alloc, part, deserializer),
+        1 => read_note_hours(alloc, part, deserializer),
+        2 => read_note_rank(alloc, part, deserializer),
+        _ => read_note_notes(alloc, part, deserializer),
+    }
+}
+
+impl<D: Entries> Deserialize<Note, D> for ArchivedNote {
+    #[inline(always)]
+    fn deserialize_part(
+        alloc: Global,
+        part: RawView<'_>,
+        deserializer: &mut D,
+    ) -> Result<Note, Error>
+        requires { IsPartOf ⟦<Self as ArchivePointee>⟧ part }
+        ensures { ReadsAs ⟦<Self as ArchivePointee>⟧ part D.Entries deserializer ⟦<Note as Archive>⟧
+            result }
+    {
+        read_note(alloc, part, deserializer)
+    }
+}
+
+/// What a view of an archived `Note` shows, by its tag.
+#[derive(Drop)]
+pub enum ViewOfNote<'a> {
+    /// Texts, and who wrote them.
+    Texts(Ref<'a, ArchivedVec<ArchivedString>>, Ref<'a, ArchivedOption<ArchivedString>>),
+    /// Hours of work, by the day.
+    Hours(Ref<'a, ArchivedSortedMap<ArchivedU16, ArchivedI64>>),
+    /// How soon something is to be done, and by how many.
+    Rank(Ref<'a, NonZero<u32>>, Ref<'a, ArchivedBox<ArchivedU32>>),
+    /// All of these.
+    Notes(Ref<'a, ArchivedVec<ArchivedNote>>),
+}
+
+/// The variant of an archived `Note`, as a view.
+pub trait NoteView<'a> {
+    /// The variant that the tag names, with views of its fields.
+    fn variant(self) -> ViewOfNote<'a>;
+}
+
+impl<'a> NoteView<'a> for Ref<'a, ArchivedNote> {
+    ghost use Rattle.recursive_fields.specs.declared.note.ViewOfNote.TheVariants.{Hours as NoteHoursShown, Notes as NoteNotesShown, Rank as NoteRankShown, Texts as NoteTextsShown};
+
+    fn variant(self) -> ViewOfNote<'a>
+        ensures shows { elim result [
+          | NoteTextsShown a0 a1 ↦ (tag_of self.entry ≡ 0) × (a0.bytes.now ≡ self.entry.bytes.now)
+              × (a0.pos ≡ self.entry.pos + 4) × (a0.len ≡ 0)
+              × ShowsValueOf a0 self.entry (payload_in 0) × (a1.bytes.now ≡ self.entry.bytes.now)
+              × (a1.pos ≡ self.entry.pos + 12) × (a1.len ≡ 0)
+              × ShowsValueOf a1 self.entry (payload_in 1)
+          | NoteHoursShown a0 ↦ (tag_of self.entry ≡ 1) × (a0.bytes.now ≡ self.entry.bytes.now)
+              × (a0.pos ≡ self.entry.pos + 4) × (a0.len ≡ 0)
+              × ShowsValueOf a0 self.entry (payload_in 0)
+          | NoteRankShown a0 a1 ↦ (tag_of self.entry ≡ 2) × (a0.bytes.now ≡ self.entry.bytes.now)
+              × (a0.pos ≡ self.entry.pos + 4) × (a0.len ≡ 0)
+              × ShowsValueOf a0 self.entry (payload_in 0) × (a1.bytes.now ≡ self.entry.bytes.now)
+              × (a1.pos ≡ self.entry.pos + 8) × (a1.len ≡ 0)
+              × ShowsValueOf a1 self.entry (payload_in 1)
+          | NoteNotesShown a0 ↦ (tag_of self.entry ≡ 3) × (a0.bytes.now ≡ self.entry.bytes.now)
+              × (a0.pos ≡ self.entry.pos + 4) × (a0.len ≡ 0)
+              × ShowsValueOf a0 self.entry (payload_in 0)
+        ] }
+    {
+        match tag_of_view(self) {
+            0 => {
+                let a0 = view_of_payload::<ArchivedNote, ArchivedVec<ArchivedString>>(
+                    self, 0, 0, 4,
+                );
+                let a1 = view_of_payload::<ArchivedNote, ArchivedOption<ArchivedString>>(
+                    self, 0, 1, 12,
+                );
+                ViewOfNote::Texts(a0, a1)
+            }
+            1 => {
+                let a0 = view_of_payload::<
+                    ArchivedNote,
+                    ArchivedSortedMap<ArchivedU16, ArchivedI64>,
+                >(self, 1, 0, 4);
+                ViewOfNote::Hours(a0)
+            }
+            2 => {
+                let a0 = view_of_payload::<ArchivedNote, NonZero<u32>>(self, 2, 0, 4);
+                let a1 = view_of_payload::<ArchivedNote, ArchivedBox<ArchivedU32>>(self, 2, 1, 8);
+                ViewOfNote::Rank(a0, a1)
+            }
+            _ => {
+                let a0 = view_of_payload::<ArchivedNote, ArchivedVec<ArchivedNote>>(self, 3, 0, 4);
+                ViewOfNote::Notes(a0)
+            }
+        }
+    }
+}
+
+/// The fields of an archived `Note`, as seals. The caller must ensure that the tag is the variant's.
+pub trait NoteSeal<'a> {
+    // The seal shows a part of a buffer that was checked.
+    ghost sealed: { Self → Type 0 };
+
+    // The tag that it shows.
+    ghost tag: { Self → ℕ };
+
+    /// The field `0` of `Texts`.
+    fn texts_0_mut(self) -> Seal<'a, ArchivedVec<ArchivedString>>
+        requires come_to { sealed self }
+        requires tag { tag self ≡ 0 };
+
+    /// The field `1` of `Texts`.
+    fn texts_1_mut(self) -> Seal<'a, ArchivedOption<ArchivedString>>
+        requires come_to { sealed self }
+        requires tag { tag self ≡ 0 };
+
+    /// The field `0` of `Hours`.
+    fn hours_0_mut(self) -> Seal<'a, ArchivedSortedMap<ArchivedU16, ArchivedI64>>
+        requires come_to { sealed self }
+        requires tag { tag self ≡ 1 };
+
+    /// The field `0` of `Rank`.
+    fn rank_0_mut(self) -> Seal<'a, NonZero<u32>>
+        requires come_to { sealed self }
+        requires tag { tag self ≡ 2 };
+
+    /// The field `1` of `Rank`.
+    fn rank_1_mut(self) -> Seal<'a, ArchivedBox<ArchivedU32>>
+        requires come_to { sealed self }
+        requires tag { tag self ≡ 2 };
+
+    /// The field `0` of `Notes`.
+    fn notes_0_mut(self) -> Seal<'a, ArchivedVec<ArchivedNote>>
+        requires come_to { sealed self }
+        requires tag { tag self ≡ 3 };
+}
+
+impl<'a> NoteSeal<'a> for Seal<'a, ArchivedNote> {
+    ghost sealed = { λ s. IsSealOf note_definitions (one ⟦<ArchivedNote as Portable>⟧.shape) s };
+
+    ghost tag = { λ s. seal_tag s };
+
+    fn texts_0_mut(self) -> Seal<'a, ArchivedVec<ArchivedString>>
+        requires come_to { IsSealOf note_definitions (one ⟦<ArchivedNote as Portable>⟧.shape) self }
+        requires tag { seal_tag self ≡ 0 }
+        ensures { SealsPart note_definitions (one ⟦<ArchivedNote as Portable>⟧.shape) no_definition
+            ⟦<ArchivedVec<ArchivedString> as ArchivePointee>⟧.pointee (self.entry.pos + 4) 0
+            self.entry result }
+    {
+        seal_of_payload::<ArchivedNote, ArchivedVec<ArchivedString>>(self, 0, 0, 4)
+    }
+
+    fn texts_1_mut(self) -> Seal<'a, ArchivedOption<ArchivedString>>
+        requires come_to { IsSealOf note_definitions (one ⟦<ArchivedNote as Portable>⟧.shape) self }
+        requires tag { seal_tag self ≡ 0 }
+        ensures { SealsPart note_definitions (one ⟦<ArchivedNote as Portable>⟧.shape) no_definition
+            ⟦<ArchivedOption<ArchivedString> as ArchivePointee>⟧.pointee (self.entry.pos + 12) 0
+            self.entry result }
+    {
+        seal_of_payload::<ArchivedNote, ArchivedOption<ArchivedString>>(self, 0, 1, 12)
+    }
+
+    fn hours_0_mut(self) -> Seal<'a, ArchivedSortedMap<ArchivedU16, ArchivedI64>>
+        requires come_to { IsSealOf note_definitions (one ⟦<ArchivedNote as Portable>⟧.shape) self }
+        requires tag { seal_tag self ≡ 1 }
+        ensures { SealsPart note_definitions (one ⟦<ArchivedNote as Portable>⟧.shape)
+            (both no_definition (both no_definition no_definition))
+            ⟦<ArchivedSortedMap<ArchivedU16, ArchivedI64> as ArchivePointee>⟧.pointee
+            (self.entry.pos + 4) 0 self.entry result }
+    {
+        seal_of_payload::<ArchivedNote, ArchivedSortedMap<ArchivedU16, ArchivedI64>>(self, 1, 0, 4)
+    }
+
+    fn rank_0_mut(self) -> Seal<'a, NonZero<u32>>
+        requires come_to { IsSealOf note_definitions (one ⟦<ArchivedNote as Portable>⟧.shape) self }
+        requires tag { seal_tag self ≡ 2 }
+        ensures { SealsPart note_definitions (one ⟦<ArchivedNote as Portable>⟧.shape) no_definition
+            ⟦<NonZero<u32> as ArchivePointee>⟧.pointee (self.entry.pos + 4) 0 self.entry result }
+    {
+        seal_of_payload::<ArchivedNote, NonZero<u32>>(self, 2, 0, 4)
+    }
+
+    fn rank_1_mut(self) -> Seal<'a, ArchivedBox<ArchivedU32>>
+        requires come_to { IsSealOf note_definitions (one ⟦<ArchivedNote as Portable>⟧.shape) self }
+        requires tag { seal_tag self ≡ 2 }
+        ensures { SealsPart note_definitions (one ⟦<ArchivedNote as Portable>⟧.shape) no_definition
+            ⟦<ArchivedBox<ArchivedU32> as ArchivePointee>⟧.pointee (self.entry.pos + 8) 0 self.entry
+            result }
+    {
+        seal_of_payload::<ArchivedNote, ArchivedBox<ArchivedU32>>(self, 2, 1, 8)
+    }
+
+    fn notes_0_mut(self) -> Seal<'a, ArchivedVec<ArchivedNote>>
+        requires come_to { IsSealOf note_definitions (one ⟦<ArchivedNote as Portable>⟧.shape) self }
+        requires tag { seal_tag self ≡ 3 }
+        ensures { SealsPart note_definitions (one ⟦<ArchivedNote as Portable>⟧.shape)
+            ⟦<ArchivedNote as ArchivePointee>⟧.definitions
+            ⟦<ArchivedVec<ArchivedNote> as ArchivePointee>⟧.pointee (self.entry.pos + 4) 0
+            self.entry result }
+    {
+        seal_of_payload::<ArchivedNote, ArchivedVec<ArchivedNote>>(self, 3, 0, 4)
+    }
+}

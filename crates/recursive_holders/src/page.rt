@@ -1,0 +1,695 @@
+//! Structs that hold what holds a recursive type.
+
+use crate::message::{Message, Topic};
+
+/// A page of messages.
+#[derive(Debug, PartialEq, Drop)]
+pub struct Page {
+    /// Its title.
+    pub title: String,
+    /// What it is on.
+    pub topic: Topic,
+    /// What is posted on it.
+    pub message: Message,
+}
+
+/// Pages one after another.
+#[derive(Debug, PartialEq, Drop)]
+pub struct Book {
+    /// The first page.
+    pub first: Page,
+    /// The others.
+    pub pages: Vec<Page>,
+}
+
+// Below this line all is written by tools/derive: change what is above it, and run it again.
+
+ghost use Rattle.archive_core.specs.CallOutcomes.{ResolvesAs};
+ghost use Rattle.archive_core.specs.Causes.{IsRefused};
+ghost use Rattle.archive_core.specs.Definitions.{no_definition};
+ghost use Rattle.archive_core.specs.Fields.{field_in};
+ghost use Rattle.archive_core.specs.PlannedOwners.{one_planned};
+ghost use Rattle.archive_core.specs.Plans.{Serialized};
+ghost use Rattle.archive_core.specs.SealsWritten.{IsSealOf, SealsPart};
+ghost use Rattle.archive_core.specs.Seen.{IsPartOf, RefusesPart, ShowsValueOf};
+ghost use Rattle.archive_core.specs.SelfCheck.Laws.{by_schema};
+ghost use Rattle.archive_core.specs.Shape.{one, part};
+ghost use Rattle.archive_core.specs.Sources.{Read, ReadsAs};
+ghost use Rattle.archive_core.specs.Value.{value};
+ghost use Rattle.archive_core.specs.Writing.{ZeroedPlace};
+ghost use Rattle.archive_core.specs.Written.{GoesOn};
+ghost use Rattle.recursive_holders.specs.BookShape.{book_definitions, book_has_layout, book_has_parts, book_is_align, book_layout, book_no_others, book_shape};
+ghost use Rattle.recursive_holders.specs.PageShape.{page_definitions, page_has_layout, page_has_parts, page_is_align, page_layout, page_no_others, page_shape};
+ghost use Rattle.std.proofs.Common.{lit≤};
+ghost use Rattle.std.specs.Prelude.{IfErr, IfOk, None, length, refl, ◌+◌, ◌≡◌, ◌≤◌};
+
+use crate::message::{ArchivedMessage, ArchivedTopic};
+use archive_core::error::Error;
+use archive_core::place::Place;
+use archive_core::recursive::{
+    part_of_record, read_part, resolve_named_record_2, resolve_named_record_3, seal_of_field,
+    serialize_part, view_of_field,
+};
+use archive_core::seal::Seal;
+use archive_core::self_check::BySchema;
+use archive_core::ser::{ResolverAlloc, Writer, serialize_one};
+use archive_core::shape::Defs;
+use archive_core::string::ArchivedString;
+use archive_core::traits::{
+    Archive, ArchivePointee, ArchiveUnsized, CopyOptimization, Deserialize, Entries, Keys,
+    Portable, PortableParts, Record, Serialize, SerializeUnsized, expr_of_record,
+};
+use archive_core::vec::ArchivedVec;
+use archive_core::view::{RawView, Ref};
+use std::alloc::Global;
+
+/// An archived `Page`: 64 bytes at a multiple of 4. It is validated by its schema.
+pub struct ArchivedPage;
+
+type PageParts = (ArchivedString, (ArchivedTopic, (ArchivedMessage, ())));
+
+impl ArchivePointee for ArchivedPage {
+    type ArchivedMetadata = ();
+
+    ghost pointee = { one page_shape };
+
+    ghost definitions = { page_definitions };
+
+    ghost metadata_length = { λ _. 0 };
+
+    fn pointer_metadata(_metadata: &()) -> usize {
+        0
+    }
+}
+
+impl Portable for ArchivedPage {
+    ghost shape = { page_shape };
+
+    ghost layout = { page_layout };
+
+    type Check = BySchema;
+
+    ghost is_one = { refl };
+
+    ghost is_align = { page_is_align };
+
+    ghost has_layout = { page_has_layout };
+
+    ghost no_others = { page_no_others };
+
+    ghost checks = { λ direct. by_schema direct };
+
+    fn size() -> usize {
+        64
+    }
+
+    fn align() -> usize {
+        4
+    }
+
+    fn expr(alloc: Global) -> Result<archive_core::shape::Expr, Error> {
+        expr_of_record::<PageParts>(alloc)
+    }
+
+    fn define(alloc: Global, defs: &mut Defs) -> Result<(), Error> {
+        <PageParts as PortableParts>::define(alloc, defs)
+    }
+}
+
+impl Record for ArchivedPage {
+    type Parts = PageParts;
+
+    ghost has_parts = { page_has_parts };
+
+    ghost holds = { lit≤ tt };
+}
+
+/// What is kept of `Page` between `serialize` and `resolve`.
+#[derive(Drop)]
+pub struct PageResolver {
+    kept: (
+        <String as Archive>::Resolver,
+        (
+            <Topic as Archive>::Resolver,
+            (<Message as Archive>::Resolver, ()),
+        ),
+    ),
+}
+
+impl Archive for Page {
+    ghost use Rattle.recursive_holders.specs.PageMeaning.{page_meaning, page_flat, page_keys, page_belongs, page_keyed, page_planned};
+
+    type Archived = ArchivedPage;
+
+    type Resolver = PageResolver;
+
+    ghost meaning = { page_meaning };
+
+    ghost flat = { page_flat };
+
+    ghost keys = { page_keys };
+
+    ghost belongs = { page_belongs };
+
+    ghost in_bulk = { None };
+
+    ghost keyed = { page_keyed };
+
+    ghost planned = { page_planned };
+
+    #[inline(always)]
+    fn resolve(
+        &self,
+        resolver: Self::Resolver,
+        place: Place<'_, Self::Archived>,
+    ) -> Result<(), Error>
+        requires zeroed { ZeroedPlace 64 place.pos place.bytes.now }
+        requires same_value { ⟦<Self as Archive>⟧.belongs self.now resolver }
+        ensures { ResolvesAs ⟦<Self::Archived as Portable>⟧ place
+            (⟦<Self as Archive>⟧.flat self.now resolver) result }
+    {
+        let Place { bytes, pos, .. } = place;
+        let PageResolver { kept } = resolver;
+        let (r0, (r1, (r2, ()))) = kept;
+        resolve_named_record_3::<String, Topic, Message, ArchivedPage>(
+            &self.title,
+            &self.topic,
+            &self.message,
+            (r0, (r1, (r2, ()))),
+            Place::new(pos, bytes),
+        )
+    }
+
+    #[inline(always)]
+    fn copy_optimization() -> CopyOptimization<Self> {
+        CopyOptimization::disable()
+    }
+
+    #[inline(always)]
+    fn serialize_copied<S: Writer + Keys>(
+        _values: &[Self],
+        _together: usize,
+        _serializer: &mut S,
+    ) -> Result<Option<usize>, Error> {
+        Ok(None)
+    }
+}
+
+// Writes what a value owns, part by part.
+fn serialize_page<S: Writer + Keys + ResolverAlloc>(
+    value: &Page,
+    serializer: &mut S,
+) -> Result<PageResolver, Error>
+    ensures serialized { IfOk result (λ r. Serialized page_definitions page_shape
+        (⟦<Page as Archive>⟧.keys value.now) (⟦<Page as Archive>⟧.meaning value.now)
+        (⟦<Page as Archive>⟧.flat value.now r) (S.state serializer.old) (S.state serializer.new)) }
+    ensures same_value { IfOk result (λ r. ⟦<Page as Archive>⟧.belongs value.now r) }
+    ensures goes_on { GoesOn (S.state serializer.old) (S.state serializer.new) }
+    ensures refused { IfErr result (IsRefused page_definitions page_shape
+        (⟦<Page as Archive>⟧.keys value.now) (⟦<Page as Archive>⟧.meaning value.now)
+        (S.state serializer.old) (S.state serializer.new)) }
+{
+    let a0 = match serialize_part(&value.title, serializer) {
+        Ok(a0) => a0,
+        Err(error) => return Err(error),
+    };
+    let a1 = match serialize_part(&value.topic, serializer) {
+        Ok(a1) => a1,
+        Err(error) => return Err(error),
+    };
+    let a2 = match serialize_part(&value.message, serializer) {
+        Ok(a2) => a2,
+        Err(error) => return Err(error),
+    };
+    Ok(PageResolver {
+        kept: (a0, (a1, (a2, ()))),
+    })
+}
+
+impl<S: Writer + Keys + ResolverAlloc> Serialize<S> for Page {
+    #[inline(always)]
+    fn serialize(&self, serializer: &mut S) -> Result<Self::Resolver, Error> {
+        serialize_page(self, serializer)
+    }
+}
+
+/// As a region of its own: the value itself.
+impl ArchiveUnsized for Page {
+    ghost use Rattle.recursive_holders.specs.contracts.page.PageArchive.TheImpl.Laws.{keyed-law as keyed_of_page, planned-law as planned_of_page};
+
+    type Archived = ArchivedPage;
+
+    ghost source_length = { λ _. 0 };
+
+    ghost meaning = { ⟦<Page as Archive>⟧.meaning };
+
+    ghost keys = { ⟦<Page as Archive>⟧.keys };
+
+    ghost keyed = { keyed_of_page };
+
+    ghost one_length = { λ _ _. refl };
+
+    ghost planned = { λ v. one_planned page_definitions page_shape (⟦<Page as Archive>⟧.keys v)
+        (⟦<Page as Archive>⟧.meaning v) (planned_of_page v) };
+
+    #[inline(always)]
+    fn archived_metadata(&self) -> Result<(), Error> {
+        Ok(())
+    }
+}
+
+impl<S: Writer + Keys + ResolverAlloc> SerializeUnsized<S> for Page {
+    #[inline(always)]
+    fn serialize_unsized(&self, serializer: &mut S) -> Result<usize, Error> {
+        serialize_one(self, serializer)
+    }
+}
+
+// Reads a value back, part by part.
+#[inline(always)]
+fn read_page<D: Entries>(
+    alloc: Global,
+    part: RawView<'_>,
+    deserializer: &mut D,
+) -> Result<Page, Error>
+    requires { IsPartOf ⟦<ArchivedPage as ArchivePointee>⟧ part }
+    ensures read { IfOk result (Read ⟦<ArchivedPage as ArchivePointee>⟧ part D.Entries deserializer
+        ⟦<Page as Archive>⟧) }
+    ensures refused { IfErr result (RefusesPart ⟦<ArchivedPage as ArchivePointee>⟧ part D.Entries
+        deserializer) }
+{
+    let p0 = part_of_record::<ArchivedPage, ArchivedString>(part, 0, 0);
+    let a0 = read_part::<ArchivedString, String, D>(alloc, p0, deserializer)?;
+    let p1 = part_of_record::<ArchivedPage, ArchivedTopic>(part, 1, 8);
+    let a1 = read_part::<ArchivedTopic, Topic, D>(alloc, p1, deserializer)?;
+    let p2 = part_of_record::<ArchivedPage, ArchivedMessage>(part, 2, 24);
+    let a2 = read_part::<ArchivedMessage, Message, D>(alloc, p2, deserializer)?;
+    Ok(Page {
+        title: a0,
+        topic: a1,
+        message: a2,
+    })
+}
+
+impl<D: Entries> Deserialize<Page, D> for ArchivedPage {
+    #[inline(always)]
+    fn deserialize_part(
+        alloc: Global,
+        part: RawView<'_>,
+        deserializer: &mut D,
+    ) -> Result<Page, Error>
+        requires { IsPartOf ⟦<Self as ArchivePointee>⟧ part }
+        ensures { ReadsAs ⟦<Self as ArchivePointee>⟧ part D.Entries deserializer ⟦<Page as Archive>⟧
+            result }
+    {
+        read_page(alloc, part, deserializer)
+    }
+}
+
+/// The fields of an archived `Page`, as views.
+pub trait PageView<'a> {
+    /// Its title.
+    fn title(self) -> Ref<'a, ArchivedString>;
+
+    /// What it is on.
+    fn topic(self) -> Ref<'a, ArchivedTopic>;
+
+    /// What is posted on it.
+    fn message(self) -> Ref<'a, ArchivedMessage>;
+}
+
+impl<'a> PageView<'a> for Ref<'a, ArchivedPage> {
+    fn title(self) -> Ref<'a, ArchivedString>
+        ensures buffer { result.bytes.now ≡ self.entry.bytes.now }
+        ensures position { result.pos ≡ self.entry.pos + 0 }
+        ensures length { result.len ≡ 0 }
+        ensures shows { ShowsValueOf result self.entry (field_in 0) }
+    {
+        view_of_field::<ArchivedPage, ArchivedString>(self, 0, 0)
+    }
+
+    fn topic(self) -> Ref<'a, ArchivedTopic>
+        ensures buffer { result.bytes.now ≡ self.entry.bytes.now }
+        ensures position { result.pos ≡ self.entry.pos + 8 }
+        ensures length { result.len ≡ 0 }
+        ensures shows { ShowsValueOf result self.entry (field_in 1) }
+    {
+        view_of_field::<ArchivedPage, ArchivedTopic>(self, 1, 8)
+    }
+
+    fn message(self) -> Ref<'a, ArchivedMessage>
+        ensures buffer { result.bytes.now ≡ self.entry.bytes.now }
+        ensures position { result.pos ≡ self.entry.pos + 24 }
+        ensures length { result.len ≡ 0 }
+        ensures shows { ShowsValueOf result self.entry (field_in 2) }
+    {
+        view_of_field::<ArchivedPage, ArchivedMessage>(self, 2, 24)
+    }
+}
+
+/// The fields of an archived `Page`, as seals.
+pub trait PageSeal<'a> {
+    // The seal shows a part of a buffer that was checked.
+    ghost sealed: { Self → Type 0 };
+
+    /// Its title.
+    fn title_mut(self) -> Seal<'a, ArchivedString>
+        requires { sealed self };
+
+    /// What it is on.
+    fn topic_mut(self) -> Seal<'a, ArchivedTopic>
+        requires { sealed self };
+
+    /// What is posted on it.
+    fn message_mut(self) -> Seal<'a, ArchivedMessage>
+        requires { sealed self };
+}
+
+impl<'a> PageSeal<'a> for Seal<'a, ArchivedPage> {
+    ghost sealed = { λ s. IsSealOf page_definitions (one ⟦<ArchivedPage as Portable>⟧.shape) s };
+
+    fn title_mut(self) -> Seal<'a, ArchivedString>
+        requires come_to { IsSealOf page_definitions (one ⟦<ArchivedPage as Portable>⟧.shape) self }
+        ensures { SealsPart page_definitions (one ⟦<ArchivedPage as Portable>⟧.shape) no_definition
+            ⟦<ArchivedString as ArchivePointee>⟧.pointee (self.entry.pos + 0) 0 self.entry result }
+    {
+        seal_of_field::<ArchivedPage, ArchivedString>(self, 0, 0)
+    }
+
+    fn topic_mut(self) -> Seal<'a, ArchivedTopic>
+        requires come_to { IsSealOf page_definitions (one ⟦<ArchivedPage as Portable>⟧.shape) self }
+        ensures { SealsPart page_definitions (one ⟦<ArchivedPage as Portable>⟧.shape)
+            ⟦<ArchivedTopic as ArchivePointee>⟧.definitions
+            ⟦<ArchivedTopic as ArchivePointee>⟧.pointee (self.entry.pos + 8) 0 self.entry result }
+    {
+        seal_of_field::<ArchivedPage, ArchivedTopic>(self, 1, 8)
+    }
+
+    fn message_mut(self) -> Seal<'a, ArchivedMessage>
+        requires come_to { IsSealOf page_definitions (one ⟦<ArchivedPage as Portable>⟧.shape) self }
+        ensures { SealsPart page_definitions (one ⟦<ArchivedPage as Portable>⟧.shape)
+            ⟦<ArchivedMessage as ArchivePointee>⟧.definitions
+            ⟦<ArchivedMessage as ArchivePointee>⟧.pointee (self.entry.pos + 24) 0 self.entry
+            result }
+    {
+        seal_of_field::<ArchivedPage, ArchivedMessage>(self, 2, 24)
+    }
+}
+
+/// An archived `Book`: 72 bytes at a multiple of 4. It is validated by its schema.
+pub struct ArchivedBook;
+
+type BookParts = (ArchivedPage, (ArchivedVec<ArchivedPage>, ()));
+
+impl ArchivePointee for ArchivedBook {
+    type ArchivedMetadata = ();
+
+    ghost pointee = { one book_shape };
+
+    ghost definitions = { book_definitions };
+
+    ghost metadata_length = { λ _. 0 };
+
+    fn pointer_metadata(_metadata: &()) -> usize {
+        0
+    }
+}
+
+impl Portable for ArchivedBook {
+    ghost shape = { book_shape };
+
+    ghost layout = { book_layout };
+
+    type Check = BySchema;
+
+    ghost is_one = { refl };
+
+    ghost is_align = { book_is_align };
+
+    ghost has_layout = { book_has_layout };
+
+    ghost no_others = { book_no_others };
+
+    ghost checks = { λ direct. by_schema direct };
+
+    fn size() -> usize {
+        72
+    }
+
+    fn align() -> usize {
+        4
+    }
+
+    fn expr(alloc: Global) -> Result<archive_core::shape::Expr, Error> {
+        expr_of_record::<BookParts>(alloc)
+    }
+
+    fn define(alloc: Global, defs: &mut Defs) -> Result<(), Error> {
+        <BookParts as PortableParts>::define(alloc, defs)
+    }
+}
+
+impl Record for ArchivedBook {
+    type Parts = BookParts;
+
+    ghost has_parts = { book_has_parts };
+
+    ghost holds = { lit≤ tt };
+}
+
+/// What is kept of `Book` between `serialize` and `resolve`.
+#[derive(Drop)]
+pub struct BookResolver {
+    kept: (
+        <Page as Archive>::Resolver,
+        (<Vec<Page> as Archive>::Resolver, ()),
+    ),
+}
+
+impl Archive for Book {
+    ghost use Rattle.recursive_holders.specs.BookMeaning.{book_meaning, book_flat, book_keys, book_belongs, book_keyed, book_planned};
+
+    type Archived = ArchivedBook;
+
+    type Resolver = BookResolver;
+
+    ghost meaning = { book_meaning };
+
+    ghost flat = { book_flat };
+
+    ghost keys = { book_keys };
+
+    ghost belongs = { book_belongs };
+
+    ghost in_bulk = { None };
+
+    ghost keyed = { book_keyed };
+
+    ghost planned = { book_planned };
+
+    #[inline(always)]
+    fn resolve(
+        &self,
+        resolver: Self::Resolver,
+        place: Place<'_, Self::Archived>,
+    ) -> Result<(), Error>
+        requires zeroed { ZeroedPlace 72 place.pos place.bytes.now }
+        requires same_value { ⟦<Self as Archive>⟧.belongs self.now resolver }
+        ensures { ResolvesAs ⟦<Self::Archived as Portable>⟧ place
+            (⟦<Self as Archive>⟧.flat self.now resolver) result }
+    {
+        let Place { bytes, pos, .. } = place;
+        let BookResolver { kept } = resolver;
+        let (r0, (r1, ())) = kept;
+        resolve_named_record_2::<Page, Vec<Page>, ArchivedBook>(
+            &self.first,
+            &self.pages,
+            (r0, (r1, ())),
+            Place::new(pos, bytes),
+        )
+    }
+
+    #[inline(always)]
+    fn copy_optimization() -> CopyOptimization<Self> {
+        CopyOptimization::disable()
+    }
+
+    #[inline(always)]
+    fn serialize_copied<S: Writer + Keys>(
+        _values: &[Self],
+        _together: usize,
+        _serializer: &mut S,
+    ) -> Result<Option<usize>, Error> {
+        Ok(None)
+    }
+}
+
+// Writes what a value owns, part by part.
+fn serialize_book<S: Writer + Keys + ResolverAlloc>(
+    value: &Book,
+    serializer: &mut S,
+) -> Result<BookResolver, Error>
+    ensures serialized { IfOk result (λ r. Serialized book_definitions book_shape
+        (⟦<Book as Archive>⟧.keys value.now) (⟦<Book as Archive>⟧.meaning value.now)
+        (⟦<Book as Archive>⟧.flat value.now r) (S.state serializer.old) (S.state serializer.new)) }
+    ensures same_value { IfOk result (λ r. ⟦<Book as Archive>⟧.belongs value.now r) }
+    ensures goes_on { GoesOn (S.state serializer.old) (S.state serializer.new) }
+    ensures refused { IfErr result (IsRefused book_definitions book_shape
+        (⟦<Book as Archive>⟧.keys value.now) (⟦<Book as Archive>⟧.meaning value.now)
+        (S.state serializer.old) (S.state serializer.new)) }
+{
+    let a0 = match serialize_part(&value.first, serializer) {
+        Ok(a0) => a0,
+        Err(error) => return Err(error),
+    };
+    let a1 = match serialize_part(&value.pages, serializer) {
+        Ok(a1) => a1,
+        Err(error) => return Err(error),
+    };
+    Ok(BookResolver {
+        kept: (a0, (a1, ())),
+    })
+}
+
+impl<S: Writer + Keys + ResolverAlloc> Serialize<S> for Book {
+    #[inline(always)]
+    fn serialize(&self, serializer: &mut S) -> Result<Self::Resolver, Error> {
+        serialize_book(self, serializer)
+    }
+}
+
+/// As a region of its own: the value itself.
+impl ArchiveUnsized for Book {
+    ghost use Rattle.recursive_holders.specs.contracts.page.BookArchive.TheImpl.Laws.{keyed-law as keyed_of_book, planned-law as planned_of_book};
+
+    type Archived = ArchivedBook;
+
+    ghost source_length = { λ _. 0 };
+
+    ghost meaning = { ⟦<Book as Archive>⟧.meaning };
+
+    ghost keys = { ⟦<Book as Archive>⟧.keys };
+
+    ghost keyed = { keyed_of_book };
+
+    ghost one_length = { λ _ _. refl };
+
+    ghost planned = { λ v. one_planned book_definitions book_shape (⟦<Book as Archive>⟧.keys v)
+        (⟦<Book as Archive>⟧.meaning v) (planned_of_book v) };
+
+    #[inline(always)]
+    fn archived_metadata(&self) -> Result<(), Error> {
+        Ok(())
+    }
+}
+
+impl<S: Writer + Keys + ResolverAlloc> SerializeUnsized<S> for Book {
+    #[inline(always)]
+    fn serialize_unsized(&self, serializer: &mut S) -> Result<usize, Error> {
+        serialize_one(self, serializer)
+    }
+}
+
+// Reads a value back, part by part.
+#[inline(always)]
+fn read_book<D: Entries>(
+    alloc: Global,
+    part: RawView<'_>,
+    deserializer: &mut D,
+) -> Result<Book, Error>
+    requires { IsPartOf ⟦<ArchivedBook as ArchivePointee>⟧ part }
+    ensures read { IfOk result (Read ⟦<ArchivedBook as ArchivePointee>⟧ part D.Entries deserializer
+        ⟦<Book as Archive>⟧) }
+    ensures refused { IfErr result (RefusesPart ⟦<ArchivedBook as ArchivePointee>⟧ part D.Entries
+        deserializer) }
+{
+    let p0 = part_of_record::<ArchivedBook, ArchivedPage>(part, 0, 0);
+    let a0 = read_part::<ArchivedPage, Page, D>(alloc, p0, deserializer)?;
+    let p1 = part_of_record::<ArchivedBook, ArchivedVec<ArchivedPage>>(part, 1, 64);
+    let a1 = read_part::<ArchivedVec<ArchivedPage>, Vec<Page>, D>(alloc, p1, deserializer)?;
+    Ok(Book {
+        first: a0,
+        pages: a1,
+    })
+}
+
+impl<D: Entries> Deserialize<Book, D> for ArchivedBook {
+    #[inline(always)]
+    fn deserialize_part(
+        alloc: Global,
+        part: RawView<'_>,
+        deserializer: &mut D,
+    ) -> Result<Book, Error>
+        requires { IsPartOf ⟦<Self as ArchivePointee>⟧ part }
+        ensures { ReadsAs ⟦<Self as ArchivePointee>⟧ part D.Entries deserializer ⟦<Book as Archive>⟧
+            result }
+    {
+        read_book(alloc, part, deserializer)
+    }
+}
+
+/// The fields of an archived `Book`, as views.
+pub trait BookView<'a> {
+    /// The first page.
+    fn first(self) -> Ref<'a, ArchivedPage>;
+
+    /// The others.
+    fn pages(self) -> Ref<'a, ArchivedVec<ArchivedPage>>;
+}
+
+impl<'a> BookView<'a> for Ref<'a, ArchivedBook> {
+    fn first(self) -> Ref<'a, ArchivedPage>
+        ensures buffer { result.bytes.now ≡ self.entry.bytes.now }
+        ensures position { result.pos ≡ self.entry.pos + 0 }
+        ensures length { result.len ≡ 0 }
+        ensures shows { ShowsValueOf result self.entry (field_in 0) }
+    {
+        view_of_field::<ArchivedBook, ArchivedPage>(self, 0, 0)
+    }
+
+    fn pages(self) -> Ref<'a, ArchivedVec<ArchivedPage>>
+        ensures buffer { result.bytes.now ≡ self.entry.bytes.now }
+        ensures position { result.pos ≡ self.entry.pos + 64 }
+        ensures length { result.len ≡ 0 }
+        ensures shows { ShowsValueOf result self.entry (field_in 1) }
+    {
+        view_of_field::<ArchivedBook, ArchivedVec<ArchivedPage>>(self, 1, 64)
+    }
+}
+
+/// The fields of an archived `Book`, as seals.
+pub trait BookSeal<'a> {
+    // The seal shows a part of a buffer that was checked.
+    ghost sealed: { Self → Type 0 };
+
+    /// The first page.
+    fn first_mut(self) -> Seal<'a, ArchivedPage>
+        requires { sealed self };
+
+    /// The others.
+    fn pages_mut(self) -> Seal<'a, ArchivedVec<ArchivedPage>>
+        requires { sealed self };
+}
+
+impl<'a> BookSeal<'a> for Seal<'a, ArchivedBook> {
+    ghost sealed = { λ s. IsSealOf book_definitions (one ⟦<ArchivedBook as Portable>⟧.shape) s };
+
+    fn first_mut(self) -> Seal<'a, ArchivedPage>
+        requires come_to { IsSealOf book_definitions (one ⟦<ArchivedBook as Portable>⟧.shape) self }
+        ensures { SealsPart book_definitions (one ⟦<ArchivedBook as Portable>⟧.shape)
+            ⟦<ArchivedPage as ArchivePointee>⟧.definitions
+            ⟦<ArchivedPage as ArchivePointee>⟧.pointee (self.entry.pos + 0) 0 self.entry result }
+    {
+        seal_of_field::<ArchivedBook, ArchivedPage>(self, 0, 0)
+    }
+
+    fn pages_mut(self) -> Seal<'a, ArchivedVec<ArchivedPage>>
+        requires come_to { IsSealOf book_definitions (one ⟦<ArchivedBook as Portable>⟧.shape) self }
+        ensures { SealsPart book_definitions (one ⟦<ArchivedBook as Portable>⟧.shape)
+            ⟦<ArchivedPage as ArchivePointee>⟧.definitions
+            ⟦<ArchivedVec<ArchivedPage> as ArchivePointee>⟧.pointee (self.entry.pos + 64) 0
+            self.entry result }
+    {
+        seal_of_field::<ArchivedBook, ArchivedVec<ArchivedPage>>(self, 1, 64)
+    }
+}
