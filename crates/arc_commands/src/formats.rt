@@ -64,7 +64,7 @@ pub enum Value<'a> {
     /// A text.
     String(&'a String),
     /// Bytes, or none.
-    OptBoxBytes(Option<Vec<u8>>),
+    OptBoxBytes(Option<BoxSlice<u8>>),
     /// Numbers.
     VecU32(Vec<u32>),
     /// Numbers with their values, in the order in which they are given.
@@ -174,23 +174,17 @@ impl Format {
 
 impl Value<'_> {
     /// The archive of the value. Memory comes from `alloc`. Fails as `to_bytes` does.
-    pub fn write(self, alloc: Global) -> Result<Vec<u8>, Error> {
+    pub fn write(&self, alloc: Global) -> Result<Vec<u8>, Error> {
         match self {
-            Value::U32(number) => to_bytes(alloc, &number),
-            Value::String(text) => to_bytes(alloc, text),
-            Value::OptBoxBytes(bytes) => {
-                let value = match bytes {
-                    Some(items) => Some(BoxSlice { items }),
-                    None => None,
-                };
-                to_bytes(alloc, &value)
-            }
-            Value::VecU32(numbers) => to_bytes(alloc, &numbers),
+            Value::U32(number) => to_bytes(alloc, number),
+            Value::String(text) => to_bytes(alloc, *text),
+            Value::OptBoxBytes(bytes) => to_bytes(alloc, bytes),
+            Value::VecU32(numbers) => to_bytes(alloc, numbers),
             Value::MapU32(entries) => write_entries(alloc, entries.as_slice()),
             Value::MapString(entries) => write_entries(alloc, entries.as_slice()),
-            Value::TwoRc(pair) => to_bytes(alloc, &pair),
-            Value::Node(node) => to_bytes(alloc, &node),
-            Value::Test(record) => to_bytes(alloc, &record),
+            Value::TwoRc(pair) => to_bytes(alloc, pair),
+            Value::Node(node) => to_bytes(alloc, node),
+            Value::Test(record) => to_bytes(alloc, record),
         }
     }
 }
@@ -270,7 +264,7 @@ fn one_or_two(word: &str) -> Option<(u32, Option<u32>)> {
 }
 
 // Bytes in hexadecimal behind `some:`, or `none`. No answer where the word is neither.
-fn optional_bytes(alloc: Global, word: &str) -> Result<Option<Option<Vec<u8>>>, Error> {
+fn optional_bytes(alloc: Global, word: &str) -> Result<Option<Option<BoxSlice<u8>>>, Error> {
     if word == "none" {
         return Ok(Some(None));
     }
@@ -278,7 +272,7 @@ fn optional_bytes(alloc: Global, word: &str) -> Result<Option<Option<Vec<u8>>>, 
         return Ok(None);
     };
     match hex::decode(alloc, digits) {
-        Ok(bytes) => Ok(Some(Some(bytes))),
+        Ok(items) => Ok(Some(Some(BoxSlice { items }))),
         Err(FromHexError::OutOfMemory) => Err(Error::OutOfMemory),
         Err(_) => Ok(None),
     }
