@@ -7,11 +7,11 @@ of the library's impls. Of some 80 lists of fields that were tried, all below 28
     25,588   six fields `Option<Box<Vec<String>>>`   taken         28,989   sixteen `(String, String)`     rejected
     32,804   two fields `Vec<Option<Vec<u32>>>`      taken         30,672   eleven `Vec<u32>`              rejected
 
-Up to eight fields are a nest of pairs, as long as that comes to less.
+Up to eight fields are a nest of pairs, as long as that comes to less. What reading them at once comes to grows fastest, so deep ones are read in pieces.
 """
 
 from .formats import substituted
-from .long import is_long
+from .long import MOST_BY_NUMBER, is_long
 
 # What is allowed of it over fields, and over the variants of an enum, where the count comes to less than the front end's: eleven `Option<Box<u32>>`, a
 # variant each, are 23,177 and rejected.
@@ -201,19 +201,40 @@ class Loads:
 
     # ---- calls ----
 
-    def of_fields(self, types, fours):
-        """The most that a call over these fields passes, of a struct or of a variant."""
-        parts = self.parts(types, fours)
-        written = parts + self.serialized(types, True) if is_long(types) else self.all(self.serialize, types)
-        return max(written, parts + self.owned(types) + self.read(types, fours))
+    def of_reading(self, types, fours):
+        """What a call passes that reads these fields."""
+        return self.parts(types, fours) + self.owned(types) + self.read(types, fours)
 
-    def go_by_fours(self, types):
-        """Whether a nest of these fields has four at once: where there are many, or in pairs it came to too much."""
-        return is_long(types) or len(types) >= 4 and self.of_fields(types, False) > MOST
+    def are_read_at_once(self, types):
+        """Whether one call reads them: by their nest in pairs, or where they are many in fours."""
+        return self.of_reading(types, is_long(types)) <= MOST
+
+    def pieces(self, types):
+        """Where each piece begins and ends in which fields are read that aren't read at once: as many fields each as are not too much."""
+        found, begin = [], 0
+        for end in range(1, len(types) + 1):
+            if end == len(types) or end - begin == MOST_BY_NUMBER or self.of_reading(types[begin:end + 1], False) > MOST:
+                found.append((begin, end))
+                begin = end
+        return found
+
+    def written(self, types, fours):
+        """What a call passes that checks or writes these fields: many go by their nest, others by their number."""
+        parts = self.parts(types, fours)
+        return parts + self.serialized(types, True) if is_long(types) else max(parts, self.all(self.serialize, types))
+
+    def at_once(self, types, fours):
+        """The most that a call over these fields passes, of a struct or of a variant, where they are read at once."""
+        return max(self.written(types, fours), self.of_reading(types, fours))
 
     def least_of_fields(self, types):
-        """The same of the nest that is written."""
-        return self.of_fields(types, self.go_by_fours(types))
+        """The same where they are read in pieces if that comes to less."""
+        pieces = [types] if self.are_read_at_once(types) else [types[begin:end] for begin, end in self.pieces(types)]
+        return max([self.written(types, self.go_by_fours(types))] + [self.of_reading(those, is_long(those)) for those in pieces])
+
+    def go_by_fours(self, types):
+        """Whether the nest by which these fields are checked has four at once: where there are many, or in pairs it came to too much."""
+        return is_long(types) or len(types) >= 4 and not self.are_read_at_once(types) and self.parts(types) > MOST_OF_VARIANTS
 
     def of_variants(self, variants):
         """`PortableVariants`, of an enum with these fields in its variants: those without fields that are written together count as one."""

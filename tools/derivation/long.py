@@ -78,3 +78,9 @@ def lent(formats, name, path, rust):
 struct {name}Lent<'a> {{
 {lines}}}
 {fields_of(formats, f"{name}Fields", f"{name}Lent<'_>", rust, names, lent=True)}"""
+
+
+def place(pieces, index):
+    """Where the value of the field with this index is, of fields that were read in these pieces."""
+    number = next(number for number, (_, end) in enumerate(pieces) if index < end)
+    return f"{'.1' * number}.0{'.1' * (index - pieces[number][0])}.0"

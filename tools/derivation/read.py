@@ -380,7 +380,7 @@ def module(reader: Reader, source: Source) -> Module:
     return out
 
 
-# What wasn't tried in a nest of four at once.
+# What wasn't tried beside more than eight fields, which are written by their nest.
 NOT_IN_FOURS = {"tuple", "array", "OwnedArray", "SharedSlice", "SharedStr", "WeakShared"}
 # Tuples nest up to 64 deep, as those of variants do.
 DEEPEST = 60
@@ -406,7 +406,7 @@ def check_loads(module: Module):
 def check_load(module: Module, loads: Loads, fields: List[Field]):
     """Refuses the first field with which there is too much in a struct or a variant."""
     types = [field.type for field in fields]
-    for field in fields if loads.go_by_fours(types) else []:
+    for field in fields if is_long(fields) else []:
         if found_in(field.type, lambda x: x.name in NOT_IN_FOURS and x.own is None or x.own is not None and x.own.as_tuple):
             said = f"`{field.type.text}` is too much for the toolchain beside so many fields; put it into a struct of its own"
             raise Refused(module.path, field.type.line, said)

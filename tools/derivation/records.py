@@ -24,6 +24,7 @@ from .layout import Generic, Group, flat, implementation, literal, pair, signatu
 from .loads import Loads
 from .long import fields_of, is_long, nest
 from .made import WRITTEN, Made
+from .pieces import Pieces
 
 
 # Up to so many fields a value is made where it is read.
@@ -38,7 +39,9 @@ class Record(Source):
         self.fields = declaration.fields
         self.types = [field.type for field in self.fields]
         self.count = len(self.types)
-        self.by_fours = Loads().go_by_fours(self.types)
+        loads = Loads()
+        self.by_fours = loads.go_by_fours(self.types)
+        self.pieces = () if loads.are_read_at_once(self.types) else loads.pieces(self.types)
         self.formats_of = [formats.archived(type) for type in self.types]
         self.rust = [formats.rust(type) for type in self.types]
         self.read = [formats.read_as(type) for type in self.types]
@@ -85,12 +88,16 @@ def text(formats, declaration):
     return "\n".join(piece for piece in pieces if piece)
 
 
+def pieces_of(record):
+    return Pieces(record, record, snake(record.name), record.name)
+
+
 def struct(record):
     archived = record.archived
     parts = statement(0, f"type {record.name}Parts = ", nest(record.formats_of, record.by_fours), ";")
     if record.by_fours:
         record.formats.use("archive_core::traits", "FourParts")
-    owned = statement(0, f"type {record.name}Owned = ", nest(record.read, record.by_fours), ";")
+    owned = "" if record.pieces else statement(0, f"type {record.name}Owned = ", nest(record.read, record.by_fours), ";")
     fields = ""
     if is_long(record.types):
         fields = fields_of(record.formats, f"{record.name}Fields", record.name, record.rust, [field.name for field in record.fields])
@@ -204,12 +211,15 @@ def serialize(record):
 
 def is_made_apart(record):
     """Whether a value is made of those of its fields by a function of its own, whose proof is written beside the module."""
-    return record.count > SHORT_RECORD or record.by_fours
+    return record.count > SHORT_RECORD or bool(record.pieces)
 
 
 def read(record):
     record.formats.use("archive_core::record", "deserialize_record")
     call = Generic("deserialize_record", ["Self", f"{record.name}Owned", "D"], ["alloc", "part", "deserializer"])
+    pieces = ""
+    if record.pieces:
+        call, pieces = pieces_of(record).call(), f"{pieces_of(record).text()}\n"
     if is_made_apart(record):
         ok = f"            Ok(values) => Ok({snake(record.name)}_of(values)),\n"
     else:
@@ -217,13 +227,13 @@ def read(record):
     impl = deserialize(record, f"""{statement(8, "match ", call, " {")}{ok}            Err(error) => Err(error),
         }}
 """)
-    return f"{made_of(record).text(record.names, record.built())}\n{impl}" if is_made_apart(record) else impl
+    return f"{pieces}{made_of(record).text(record.names, record.built())}\n{impl}" if is_made_apart(record) else impl
 
 
 def made_of(record):
     """The function that makes the record of the values of its fields."""
     name = f"{snake(record.name)}_of"
-    return Made(record.formats, record.types, record.by_fours, name, record.name, f"{record.name}Owned", "product", record.name)
+    return Made(record.formats, record.types, record.by_fours, name, record.name, f"{record.name}Owned", "product", record.name, record.pieces)
 
 
 def proofs(formats, declaration):
@@ -236,6 +246,8 @@ def proofs(formats, declaration):
     module = "/".join(declaration.module)
     dotted = ".".join((declaration.crate, "proofs") + tuple(declaration.module))
     impl = f"{record.archived}Deserialize{record.name}"
+    if record.pieces:
+        out.update(pieces_of(record).proofs(module, dotted))
     answers = made.answers(dotted)
     if answers:
         out[f"proofs/{module}/{made.name}/Answers.antt"] = answers

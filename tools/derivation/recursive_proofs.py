@@ -5,6 +5,7 @@ import re
 from . import recursive_chain_proofs as chains
 from . import recursive_code
 from .formats import snake
+from .pieces import numbered
 from .recursive_holders import laid
 from .recursive_reads import Reads
 from .recursive_specs import owns
@@ -140,15 +141,6 @@ def whole_of(it, case):
     if it.is_record:
         return f"{n}_definitions {n}_shape {n}_part_definitions {n}_parts {n}_has_parts"
     return f"{n}_definitions {n}_shape {n}_name {n}_variant_definitions {n}_variants {n}_has_variants {case.tag} {case.n}_parts refl {case.n}_definitions refl"
-
-
-def numbered(words):
-    """Names of calls one after another: the second of one name has `-2` behind it."""
-    seen, out = {}, []
-    for word in words:
-        seen[word] = seen.get(word, 0) + 1
-        out.append(word if seen[word] == 1 else f"{word}-{seen[word]}")
-    return out
 
 
 def in_arms(made):

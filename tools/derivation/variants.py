@@ -23,6 +23,7 @@ from .layout import Generic, Group, WIDTH, ended, flat, implementation, lay, lit
 from .loads import Loads
 from .long import is_long, lent, nest
 from .made import WRITTEN, Made
+from .pieces import Pieces
 from .units import Units
 
 
@@ -50,8 +51,15 @@ class Case:
         self.binders = [f"a{i}" for i in range(self.count)]
         self.names = self.binders
         self.word = f"{choice.name}{self.name}"
-        self.by_fours = Loads().go_by_fours(self.types)
+        loads = Loads()
+        self.by_fours = loads.go_by_fours(self.types)
+        self.pieces = () if loads.are_read_at_once(self.types) else loads.pieces(self.types)
+        self.is_made_apart = is_long(self.types) or bool(self.pieces)
         self.is_long = is_long(self.types)
+
+    def its_pieces(self):
+        choice = self.choice
+        return Pieces(choice, self, f"{snake(choice.name)}_{snake(self.name)}", self.word, self.tag)
 
     def pattern(self, values=()):
         """The variant with a name for each field, or with these values."""
@@ -135,7 +143,8 @@ def enum(choice):
             choice.formats.use("archive_core::traits", "FourParts")
         if case.count:
             lines.append(statement(0, f"type {case.word}Parts = ", nest(case.archived, case.by_fours), ";"))
-            lines.append(statement(0, f"type {case.word}Owned = ", nest(case.read, case.by_fours), ";"))
+        if case.count and not case.pieces:
+            lines.append(statement(0, f"type {case.word}Owned = ", nest(case.read, case.is_long), ";"))
     lines.append(statement(0, f"type {choice.name}Variants = ", choice.units.nest(), ";"))
     return f"""/// An archived `{choice.name}`: {choice.size} bytes at a multiple of {choice.align}.
 {choice.visibility}struct {choice.archived};
@@ -311,21 +320,24 @@ def read(choice):
     for case in choice.units.apart():
         its = [f"{case.word}Parts", f"{case.word}Owned"] if case.count else ["()", "()"]
         call = Generic("read_case", ["Self"] + its + ["D"], [str(case.tag), "alloc", "part", "deserializer"])
+        if case.pieces:
+            call = case.its_pieces().call()
         tag = "_" if case is choice.cases[-1] and not choice.units.are else str(case.tag)
-        if case.by_fours:
+        if case.is_made_apart:
             arms.append(match_arm(tag, call, "values", f"{made_of(case).name}(values)"))
         else:
             arms.append(match_arm(tag, call, flat(pair(case.names)), case.built()))
     arms += choice.units.read_arm()
-    made = "".join(f"{made_of(case).text(case.names, case.built())}\n" for case in choice.cases if case.by_fours) + choice.units.made()
+    made = "".join(f"{made_of(case).text(case.names, case.built())}\n" for case in choice.cases if case.is_made_apart) + choice.units.made()
+    made = "".join(f"{case.its_pieces().text()}\n" for case in choice.cases if case.pieces) + made
     return made + deserialize(choice, choice.units.matched("known_tag::<Self>(part)", "".join(arms)))
 
 
 def made_of(case):
-    """The function that makes a variant of the values of its fields, where they are in fours."""
+    """The function that makes a variant of the values of its fields, where they are many or read in pieces."""
     choice = case.choice
     name = f"{snake(choice.name)}_{snake(case.name)}_of"
-    return Made(choice.formats, case.types, case.by_fours, name, choice.name, f"{case.word}Owned", f"case {case.tag}", f"{choice.name}::{case.name}")
+    return Made(choice.formats, case.types, case.is_long, name, choice.name, f"{case.word}Owned", f"case {case.tag}", f"{choice.name}::{case.name}", case.pieces)
 
 
 def proofs(formats, declaration):
@@ -335,7 +347,9 @@ def proofs(formats, declaration):
     dotted = ".".join((declaration.crate, "proofs") + tuple(declaration.module))
     out = {}
     for case in choice.cases:
-        made = made_of(case) if case.by_fours else None
+        made = made_of(case) if case.is_made_apart else None
+        if case.pieces:
+            out.update(case.its_pieces().proofs(module, dotted))
         answers = made and made.answers(dotted)
         if answers:
             out[f"proofs/{module}/{made.name}/Answers.antt"] = answers

@@ -3,6 +3,7 @@ pub mod CloseFields
 pub mod FrontFields
 pub mod OwnChoices
 pub mod ReadChoices
+pub mod ReadPieces
 pub mod Shown
 pub mod ShownFields
 pub mod Ties

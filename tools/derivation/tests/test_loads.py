@@ -56,7 +56,7 @@ class LoadsTest(RepositoryTest):
         all_loads = loads.Loads()
         for count, type in REJECTED:
             with self.subTest(type):
-                self.assertGreater(all_loads.of_fields(self.types(count, type), count > 8), loads.MOST)
+                self.assertGreater(all_loads.at_once(self.types(count, type), count > 8), loads.MOST)
         for count, type in TAKEN:
             with self.subTest(type):
                 self.assertLessEqual(all_loads.least_of_fields(self.types(count, type)), loads.MOST)
@@ -70,10 +70,19 @@ class LoadsTest(RepositoryTest):
             with self.subTest(type):
                 self.assertLessEqual(all_loads.of_variants([self.types(fields, type)] * count), loads.MOST_OF_VARIANTS)
 
-    def test_fours_where_pairs_are_too_much(self):
+    def test_deep_fields_beside_others(self):
+        deep = ["[u8; 16]", "Option<(u32, String)>", "Vec<(String, u32)>", "Option<Vec<String>>", "BTreeMap<String, Vec<u32>>", "Result<String, Vec<u32>>"]
+        fields = [f"f{i}: {type}" for i, type in enumerate(deep + deep[:2])]
+        for declared in (f"pub struct A {{ {', '.join(fields)} }}", f"pub enum A {{ None, Some {{ {', '.join(fields[:4])} }} }}"):
+            path = self.put(f"use std::collections::BTreeMap;\n{declared}")
+            self.assertEqual(self.run_command(path), (0, ""))
+            self.assertIn("(alloc, part, deserializer) {", self.text(path))
+
+    def test_read_in_pieces_where_at_once_is_too_much(self):
         path = self.put("pub struct A { " + ", ".join(f"f{i}: Vec<u32>" for i in range(8)) + " }")
         self.assertEqual(self.run_command(path), (0, ""))
         written = self.text(path)
-        self.assertIn("type AParts = FourParts<", written)
+        self.assertIn("type AParts1 = (ArchivedVec<ArchivedU32>, (ArchivedVec<ArchivedU32>, ()));", written)
         self.assertIn("serialize_record_8::<", written)
+        self.assertIn("match read_a(alloc, part, deserializer) {", written)
         self.assertIn("Ok(values) => Ok(a_of(values)),", written)

@@ -69,7 +69,7 @@ DECLARATIONS = [
     (f"struct A {{ {LIST.join(f'f{i}: u8' for i in range(FEW))},\nx: (u8, u8) }}", f"{FEW + 1}: `(u8, u8)` is too much for the toolchain beside so many fields; put it into a struct of its own"),
     (f"struct A {{ {LIST.join(f'f{i}: Vec<u32>' for i in range(16))} }}", "11: `Vec<u32>` is too deep for the toolchain beside the fields before it; put some of them into a struct"),
     ("struct A { x: Vec<Option<Vec<Option<Vec<Option<u8>>>>>> }", "1: `Vec<Option<Vec<Option<Vec<Option<u8>>>>>>` is too deep for the toolchain; put a part of it into a struct"),
-    (f"struct A {{ {LIST.join(f'f{i}: Vec<Option<Vec<u32>>>' for i in range(5))} }}", "2: `Vec<Option<Vec<u32>>>` is too deep for the toolchain beside the fields before it; put some of them into a struct"),
+    (f"struct A {{ {LIST.join(f'f{i}: Vec<Option<Vec<u32>>>' for i in range(9))} }}", "9: `Vec<Option<Vec<u32>>>` is too deep for the toolchain beside the fields before it; put some of them into a struct"),
     (f"enum A {{\n{LIST.join(f'V{i}(u8)' for i in range(61))} }}", "61: `A` has more variants up to here than the toolchain follows; put some into an enum of their own"),
     (f"enum A {{\n{LIST.join(f'V{i}(Vec<u32>, Vec<u32>)' for i in range(29))} }}", "10: `A` has more variants up to here than the toolchain follows; put some into an enum of their own"),
     ("struct A<T, U> { x: Vec<T> }", "1: `A` has no field of its parameter `U`; remove it, or add a field, as `of: PhantomData<U>`"),

@@ -1,0 +1,4 @@
+//! Types with deep fields beside others, as tools/derive writes them.
+#![tactic(auto)]
+
+pub mod parcel;
