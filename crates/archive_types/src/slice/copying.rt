@@ -18,7 +18,7 @@ use core::mem::replace_with;
 /// The most bytes that are written at once, and that a copied value has.
 pub(crate) const PIECE: usize = 1024;
 
-/// Values that have so many bytes together are written four by four: by pieces it would take most of the time to clear one.
+/// As many bytes as values have whose buffer is cleared for them alone: one of `PIECE` bytes would take most of their time.
 const SHORT: usize = 64;
 
 /// The most bytes that are written at once if the writer has the room at hand; while there are
@@ -116,72 +116,6 @@ fn write_block<W: Writer, T: Copied>(values: &[T], bytes: &mut [u8], writer: &mu
     writer.write_at_once(bytes)
 }
 
-// Writes values `count` by `count`, which have `N` bytes at most, while the writer has the room at hand; answers how many were written. Where the count and
-// the size are known when the program is compiled, the filling of a block and its writing become one copy of memory.
-#[inline(always)]
-fn copy_counted<W: Writer, T: Copied, const N: usize>(
-    values: &[T],
-    count: usize,
-    writer: &mut W,
-) -> usize
-    requires some { 0 < count }
-    requires fit { count * T.CopiedAs.layout.size ≤ N }
-    requires few { N ≤ 16384 }
-    ensures within { result ≤ length values.now }
-    ensures copied { BytesAdded (each_bytes T.copied_bytes (take result values.now)) W.Keys writer }
-    ensures read { EachCopiedAs T.CopiedAs.Portable T.copied_meaning T.copied_bytes
-        (take result values.now) }
-    ensures goes_on { GoesOn (W.state writer.old) (W.state writer.new) }
-    ensures keys { KeepsKeys (W.state writer.old).states (W.state writer.new).states }
-{
-    let size = T::copied_size();
-    let mut block = [0; N];
-    let mut done = 0;
-    while count <= values.len() - done {
-        let next = &values[done..done + count];
-        if !write_block(next, &mut block[..count * size], writer) {
-            return done;
-        }
-        done += count;
-    }
-    done
-}
-
-// How many short values are written at once.
-#[inline(always)]
-fn count_of_short(size: usize) -> usize
-    requires { size ≤ 64 }
-    ensures some { 0 < result }
-    ensures fit { result * size ≤ 64 }
-{
-    if size <= SHORT / 4 {
-        return 4;
-    }
-    1
-}
-
-// Writes short values four by four and then one by one while the writer has the room at hand; answers how many were written.
-#[inline(always)]
-fn copy_short<W: Writer, T: Copied>(values: &[T], size: usize, writer: &mut W) -> usize
-    requires same { size ≡ T.CopiedAs.layout.size }
-    ensures within { result ≤ length values.now }
-    ensures copied { BytesAdded (each_bytes T.copied_bytes (take result values.now)) W.Keys writer }
-    ensures read { EachCopiedAs T.CopiedAs.Portable T.copied_meaning T.copied_bytes
-        (take result values.now) }
-    ensures goes_on { GoesOn (W.state writer.old) (W.state writer.new) }
-    ensures keys { KeepsKeys (W.state writer.old).states (W.state writer.new).states }
-{
-    if size > SHORT {
-        return 0;
-    }
-    let count = count_of_short(size);
-    let done = copy_counted::<W, T, SHORT>(values, count, writer);
-    if count <= values.len() - done {
-        return done;
-    }
-    done + copy_counted::<W, T, SHORT>(&values[done..], 1, writer)
-}
-
 // Writes blocks of whole pieces, `N` bytes at most, while the writer has the room at hand; answers how many values were written. It asks for the size itself,
 // so that a block has a length that is known when the program is compiled: then its filling and its writing become one copy of memory.
 #[inline(always)]
@@ -201,7 +135,16 @@ fn copy_blocks<W: Writer, T: Copied, const N: usize>(values: &[T], writer: &mut 
     if values.len() < count {
         return 0;
     }
-    copy_counted::<W, T, N>(values, count, writer)
+    let mut block = [0; N];
+    let mut done = 0;
+    while count <= values.len() - done {
+        let next = &values[done..done + count];
+        if !write_block(next, &mut block[..count * size], writer) {
+            return done;
+        }
+        done += count;
+    }
+    done
 }
 
 // Writes as many of the values by blocks as the writer has the room for at hand; answers how many.
@@ -234,7 +177,7 @@ fn with_blocks<W: Writer, T: Copied>(mut writer: W, values: &[T]) -> (W, usize)
     (writer, done)
 }
 
-// The same of values that may be written one by one, where they are short together or have as many bytes as a block; else nothing is written.
+// The same of values that may be written one by one, where they have as many bytes as a block; else nothing is written.
 #[inline(always)]
 fn copy_first<W: Writer, T: Copied>(
     values: &[T],
@@ -242,7 +185,6 @@ fn copy_first<W: Writer, T: Copied>(
     together: usize,
     writer: &mut W,
 ) -> usize
-    requires same { size ≡ T.CopiedAs.layout.size }
     requires counted { length values.now * size < 2 ^ 64 }
     ensures within { result ≤ length values.now }
     ensures copied { BytesAdded (each_bytes T.copied_bytes (take result values.now)) W.Keys writer }
@@ -251,19 +193,13 @@ fn copy_first<W: Writer, T: Copied>(
     ensures goes_on { GoesOn (W.state writer.old) (W.state writer.new) }
     ensures keys { KeepsKeys (W.state writer.old).states (W.state writer.new).states }
 {
-    if together != 1 {
-        return 0;
-    }
-    if values.len() * size <= SHORT {
-        return copy_short(values, size, writer);
-    }
-    if BLOCK <= values.len() * size {
+    if together == 1 && BLOCK <= values.len() * size {
         return replace_with(writer, values, with_blocks::<W, T>);
     }
     0
 }
 
-// Writes the bytes of values, which have so many each: the first at once where they may be, and what is left by pieces.
+// Writes the bytes of values, which have so many each: the first by blocks where they may be, and what is left by pieces.
 #[inline(always)]
 fn copy_long<W: Writer, T: Copied>(
     values: &[T],
@@ -285,9 +221,6 @@ fn copy_long<W: Writer, T: Copied>(
     ensures keys { KeepsKeys (W.state writer.old).states (W.state writer.new).states }
 {
     let done = copy_first(values, size, together, writer);
-    if done == values.len() {
-        return Ok(());
-    }
     copy_by::<W, T, PIECE>(&values[done..], size, together, writer)
 }
 
@@ -312,7 +245,7 @@ fn copy_pieces<W: Writer, T: Copied>(
     ensures goes_on { GoesOn (W.state writer.old) (W.state writer.new) }
     ensures keys { KeepsKeys (W.state writer.old).states (W.state writer.new).states }
 {
-    if together != 1 && together * size <= SHORT && values.len() * size <= SHORT {
+    if together * size <= SHORT && values.len() * size <= SHORT {
         return copy_by::<W, T, SHORT>(values, size, together, writer);
     }
     copy_long(values, size, together, writer)

@@ -1,12 +1,12 @@
 use Rattle.std.proofs.Common.{◌≡◌, ◌+◌, ◌-◌, take, drop, ap, arith, true}
 use Rattle.std.proofs.lemmas.Grind.{common_steps}
 use Rattle.archive_types.proofs.Copying.Copies.{first_more}
-use Rattle.archive_types.proofs.slice.copying.copy_counted.Goals as goal
+use Rattle.archive_types.proofs.slice.copying.copy_blocks.Goals as goal
 
 pub loop-done-preserved : goal.loop-done-preserved
 loop-done-preserved g c =
     let done = c.loop-done.done in
-    let count = c.args.count in
+    let count = c.count_at_once-count.result in
     let same : done + count - done ≡ count = omega arith in
     let wrote : c.write_block.result ≡ true = grind (arith, common_steps) in
     record {

@@ -1,6 +1,6 @@
 use Rattle.std.proofs.Common.{◌≤◌, ◌-◌, length}
 use Rattle.archive_types.proofs.Copying.Copies.{FirstCopied}
-use Rattle.archive_types.proofs.slice.copying.copy_counted.Given as goal
+use Rattle.archive_types.proofs.slice.copying.copy_blocks.Given as goal
 
 abbrev pub invariant-loop-done : goal.invariant-loop-done
 invariant-loop-done g l = record {
