@@ -26,14 +26,14 @@ class Generic:
     def __init__(self, name, generics, arguments, tail=""):
         self.name = name
         self.generics = list(generics)
-        self.group = call(f"{name}::<{', '.join(generics)}>", arguments, tail)
+        self.group = call(f"{name}::<{', '.join(flat(it) for it in generics)}>", arguments, tail)
         self.items = self.group.items
         self.short = call(">", arguments, tail)
 
     def lay(self, indent, column, tail):
         if column + len(self.group.head) <= WIDTH:
             return lay(self.group, indent, column, tail)
-        lines = "".join(f"{' ' * (indent + 4)}{generic},\n" for generic in self.generics)
+        lines = "".join(f"{' ' * (indent + 4)}{lay(it, indent + 4, indent + 4, 1)},\n" for it in self.generics)
         return f"{self.name}::<\n{lines}{' ' * indent}{lay(self.short, indent, indent, tail)}"
 
 

@@ -11,12 +11,12 @@ Up to eight fields are a nest of pairs, as long as that comes to less.
 """
 
 from .formats import substituted
-from .long import is_long
+from .long import MOST_BY_NUMBER, is_long
 
 # What is allowed of it over fields, and over the variants of an enum, where the count comes to less than the front end's: eleven `Option<Box<u32>>`, a
 # variant each, are 23,177 and rejected.
 MOST = 26_000
-MOST_OF_VARIANTS = 12_000
+MOST_OF_VARIANTS = 22_000
 # `Native` of a number, with all that this asks: `Copy`, `Ord`, `Hash` and theirs.
 NATIVE = 9
 PLAIN = {"u8", "i8", "bool", "()"}
@@ -202,14 +202,30 @@ class Loads:
     # ---- calls ----
 
     def of_fields(self, types, fours):
-        """The most that a call over these fields passes, of a struct or of a variant."""
-        parts = self.parts(types, fours)
-        written = parts + self.serialized(types, True) if is_long(types) else self.all(self.serialize, types)
-        return max(written, parts + self.owned(types) + self.read(types, fours))
+        """The most that a call over these fields passes, of a struct or of a variant: they are checked by their nest, written and read back in pieces."""
+        return max([self.parts(types, fours)] + [self.of_piece(types[begin:end]) for begin, end in self.pieces(types)])
+
+    def of_piece(self, types):
+        """What a call passes that writes or reads these fields."""
+        return max(self.all(self.serialize, types), self.all(self.item, types))
+
+    def pieces(self, types):
+        """Where each piece of the fields begins and ends: as few as are not too much each, of about as many fields."""
+        count = -(-len(types) // MOST_BY_NUMBER)
+        while True:
+            cuts = [len(types) * i // count for i in range(count + 1)] if count else [0]
+            found = list(zip(cuts, cuts[1:]))
+            if count >= len(types) or all(self.of_piece(types[begin:end]) <= MOST for begin, end in found):
+                return found
+            count += 1
+
+    def are_compared(self, types):
+        """Whether a call compares them, which goes by their nest in pairs."""
+        return not is_long(types) and (len(types) < 4 or self.parts(types) + self.owned(types) + self.read(types, False) <= MOST)
 
     def go_by_fours(self, types):
         """Whether a nest of these fields has four at once: where there are many, or in pairs it came to too much."""
-        return is_long(types) or len(types) >= 4 and self.of_fields(types, False) > MOST
+        return is_long(types) or len(types) >= 4 and self.parts(types) > MOST_OF_VARIANTS
 
     def least_of_fields(self, types):
         """The same of the nest that is written."""

@@ -1,20 +1,14 @@
-"""Fields one after another: up to eight by calls by their number, more as a nest of four at once.
+"""Fields one after another: by calls by their number, of up to eight, and more of them in pieces (pieces.py).
 
-The evidence of a call with a flat list of fields (`serialize_record_4` and its kin) is linear in the fields. Reading goes by the nest: by number, with a
-bound `A::Archived: Deserialize<A, R>` a field, it "stopped at the step limit (50000000 steps a task, the default)" at three. The front end doesn't take
-sixteen fields in pairs, but in fours.
-
-A part of a nest is found in each value of the whole, and a variant's fields aren't in each value of an enum. So a variant lends many fields in a struct of
-references. `serialize_case` and `resolve_case` ask for `Portable` of the enum: with `Choice`, whose variants are passed, too, "the impls to pass for
-`char: Eq` do not end, or are too many" at sixteen fields. By number, each field more adds a half to what the check takes: 21 seconds at nine, 30 at eleven.
+The evidence of a call with a flat list of fields (`serialize_record_4`, `read_record_4` and their kin) is linear in the fields, that of a nest grows with
+the square of its depth. They are checked by their nest, where they are many or deep as one of four at once. By number, each field more adds a half to what
+the check of the library takes: 21 seconds at nine, 30 at eleven.
 """
 
-from .layout import fours, implementation, literal, pair, statement
+from .layout import fours, pair
 
 # Up to so many fields there are calls by their number.
 MOST_BY_NUMBER = 8
-# The fields of a `FourParts`.
-ORDINALS = ("first", "second", "third", "fourth")
 
 
 def is_long(parts):
@@ -26,55 +20,9 @@ def nest(parts, by_fours):
     return fours(parts) if by_fours else pair(parts)
 
 
-def places(count, by_fours):
-    """Where each of so many fields is in the nest of their values."""
-    if not by_fours:
-        return [f"{'.1' * i}.0" for i in range(count)]
-    last = 4 * (count // 4)
-    quads = [f"{'.rest' * (i // 4)}.{ORDINALS[i % 4]}" for i in range(last)]
-    return quads + [f"{'.rest' * (last // 4)}{'.1' * i}.0" for i in range(count - last)]
-
-
-def opened(names, indent, by_fours):
-    """The lines that name each of `values`."""
-    if not by_fours:
-        return statement(indent, "let ", pair(names), " = values;")
-    lines, left, whole = "", list(names), "values"
-    while len(left) >= 4:
-        pattern = literal("FourParts", [f"{at}: {name}" for at, name in zip(ORDINALS, left)] + ["rest"])
-        lines += statement(indent, "let ", pattern, f" = {whole};")
-        left, whole = left[4:], "rest"
-    return lines + statement(indent, "let ", pair(left), " = rest;")
-
-
-def fields_of(formats, name, whole, rust, values, lent=False):
-    """Many fields of the struct `whole` as sources, and how each is found: `values` are their names. A struct of lent fields has references."""
-    formats.use("archive_core::own", "Field", "HasField")
-    those = statement(0, f"type {name} = ", fours([f"Field<{i}, {type}>" for i, type in enumerate(rust)]), ";")
-    now, by = (".now", "") if lent else ("", "&")
-    impls = "".join(
-        f"""
-{implementation([], "HasField", [str(i), type], whole)}
-    ghost field = {{ λ v. v.{value}{now} }};
-
-    fn field(&self) -> &{type} {{
-        {by}self.{value}
-    }}
-}}
-"""
-        for i, (type, value) in enumerate(zip(rust, values))
-    )
-    return f"""
-// The fields as sources.
-{those}{impls}"""
-
-
-def lent(formats, name, path, rust):
-    """The fields of a variant, lent: a struct of references."""
-    names = [f"a{i}" for i in range(len(rust))]
-    lines = "".join(f"    {value}: &'a {type},\n" for value, type in zip(names, rust))
-    return f"""// The fields of `{path}`, lent.
-#[derive(Drop)]
-struct {name}Lent<'a> {{
-{lines}}}
-{fields_of(formats, f"{name}Fields", f"{name}Lent<'_>", rust, names, lent=True)}"""
+def place(pieces, index):
+    """Where the field with this index is: in the nest of all, or in that of the nests of the pieces, where there are several."""
+    if len(pieces) < 2:
+        return f"{'.1' * index}.0"
+    number = next(number for number, (_, end) in enumerate(pieces) if index < end)
+    return f"{'.1' * number}.0{'.1' * (index - pieces[number][0])}.0"

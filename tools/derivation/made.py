@@ -1,8 +1,8 @@
 """Values of many fields, which a function of their own makes of those of their fields, with a proof that is written beside the module."""
 
 from .common import chain, infix
-from .layout import statement
-from .long import opened, places
+from .layout import pair, statement
+from .long import place
 
 SIGNED = ("i8", "i16", "i32", "i64", "i128", "isize")
 WRITTEN = "Written by tools/derive: change the declaration, and run it again."
@@ -11,12 +11,12 @@ WRITTEN = "Written by tools/derive: change the declaration, and run it again."
 class Made:
     """What is made, a struct or a variant."""
 
-    def __init__(self, formats, types, by_fours, name, of, owned, meaning, path):
+    def __init__(self, formats, types, pieces, name, of, owned, meaning, path):
         self.formats = formats
         self.types = types
         self.read = [formats.read_as(type) for type in types]
-        self.by_fours = by_fours
-        self.places = places(len(types), by_fours)
+        self.pieces = pieces
+        self.places = [place(pieces, i) for i in range(len(types))]
         self.name = name  # the function's
         self.of = of  # the type
         self.owned = owned  # the type of the values
@@ -34,8 +34,16 @@ fn {self.name}(values: {self.owned}) -> {self.of}
     ensures meaning {{ ⟦<{self.of} as Archive>⟧.meaning result ≡ {self.meaning} {meanings} }}
     ensures keys {{ ⟦<{self.of} as Archive>⟧.keys result ≡ {keys} }}
 {{
-{opened(names, 4, self.by_fours)}{statement(4, "", built, "")}}}
+{self.opened(names)}{statement(4, "", built, "")}}}
 """
+
+    def opened(self, names):
+        """The lines that name each of `values`."""
+        if len(self.pieces) < 2:
+            return statement(4, "let ", pair(names), " = values;")
+        wholes = [f"v{number}" for number in range(len(self.pieces))]
+        lines = statement(4, "let ", pair(wholes), " = values;")
+        return lines + "".join(statement(4, "let ", pair(names[begin:end]), f" = {whole};") for whole, (begin, end) in zip(wholes, self.pieces))
 
     def answers(self, dotted):
         """The proof that it means what the values do, where that needs one: the check doesn't see that a signed number is what its bits are."""

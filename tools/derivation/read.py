@@ -380,8 +380,6 @@ def module(reader: Reader, source: Source) -> Module:
     return out
 
 
-# What wasn't tried in a nest of four at once.
-NOT_IN_FOURS = {"tuple", "array", "OwnedArray", "SharedSlice", "SharedStr", "WeakShared"}
 # Tuples nest up to 64 deep, as those of variants do.
 DEEPEST = 60
 
@@ -406,10 +404,6 @@ def check_loads(module: Module):
 def check_load(module: Module, loads: Loads, fields: List[Field]):
     """Refuses the first field with which there is too much in a struct or a variant."""
     types = [field.type for field in fields]
-    for field in fields if loads.go_by_fours(types) else []:
-        if found_in(field.type, lambda x: x.name in NOT_IN_FOURS and x.own is None or x.own is not None and x.own.as_tuple):
-            said = f"`{field.type.text}` is too much for the toolchain beside so many fields; put it into a struct of its own"
-            raise Refused(module.path, field.type.line, said)
     if loads.least_of_fields(types) <= MOST_LOAD:
         return
     for count, field in enumerate(fields, 1):

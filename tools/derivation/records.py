@@ -22,8 +22,9 @@ from .common import (
 from .formats import layout_of, snake
 from .layout import Generic, Group, flat, implementation, literal, pair, signature, statement
 from .loads import Loads
-from .long import fields_of, is_long, nest
+from .long import nest, place
 from .made import WRITTEN, Made
+from .pieces import Pieces
 
 
 # Up to so many fields a value is made where it is read.
@@ -38,7 +39,10 @@ class Record(Source):
         self.fields = declaration.fields
         self.types = [field.type for field in self.fields]
         self.count = len(self.types)
-        self.by_fours = Loads().go_by_fours(self.types)
+        loads = Loads()
+        self.by_fours = loads.go_by_fours(self.types)
+        self.pieces = loads.pieces(self.types)
+        self.in_pieces = len(self.pieces) > 1
         self.formats_of = [formats.archived(type) for type in self.types]
         self.rust = [formats.rust(type) for type in self.types]
         self.read = [formats.read_as(type) for type in self.types]
@@ -62,9 +66,7 @@ class Record(Source):
 
 def text(formats, declaration):
     record = Record(formats, declaration)
-    if is_long(record.types):
-        formats.use("archive_core::record", "resolve_record", "serialize_record")
-    else:
+    if not record.in_pieces:
         formats.use("archive_core::fields", f"serialize_record_{record.count}", f"resolve_record_{record.count}")
     pieces = [
         struct(record),
@@ -72,6 +74,7 @@ def text(formats, declaration):
         portable(record, f"expr_of_record::<{record.name}Parts>(alloc)"),
         check_of(record),
         is_record(record),
+        pieces_of(record).text() if record.in_pieces else "",
         resolver(record),
         archive(record),
         bulk.impls(record) if record.in_bulk else "",
@@ -85,20 +88,21 @@ def text(formats, declaration):
     return "\n".join(piece for piece in pieces if piece)
 
 
+def pieces_of(record):
+    return Pieces(record, record, snake(record.name), record.name)
+
+
 def struct(record):
     archived = record.archived
     parts = statement(0, f"type {record.name}Parts = ", nest(record.formats_of, record.by_fours), ";")
     if record.by_fours:
         record.formats.use("archive_core::traits", "FourParts")
-    owned = statement(0, f"type {record.name}Owned = ", nest(record.read, record.by_fours), ";")
-    fields = ""
-    if is_long(record.types):
-        fields = fields_of(record.formats, f"{record.name}Fields", record.name, record.rust, [field.name for field in record.fields])
+    owned = statement(0, f"type {record.name}Owned = ", pair(record.read), ";") if has_owned(record) else ""
     return f"""/// An archived `{record.name}`: {record.size} bytes at a multiple of {record.align}.
 {record.visibility}struct {archived};
 
 {parts}
-{owned}{fields}"""
+{owned}"""
 
 
 def check_of(record):
@@ -125,7 +129,7 @@ def is_record(record):
 def resolver(record):
     if not record.count:
         return ""
-    kept = pair([f"<{rust} as Archive>::Resolver" for rust in record.rust])
+    kept = f"{record.name}Kept" if record.in_pieces else pair([f"<{rust} as Archive>::Resolver" for rust in record.rust])
     return f"""/// What is kept of `{record.name}` between `serialize` and `resolve`.
 #[derive(Drop)]
 {record.declared}struct {record.resolver} {{
@@ -141,19 +145,21 @@ def archive(record):
     f.ghost("Plain", "plain_record_planned")
     sources = [f.source(type) for type in types]
     meanings = chain("value", [f"({q}.meaning {v})" for q, v in zip(sources, values)], "no_value")
-    flats = chain("value", [f"({q}.flat {v} r.kept{'.1' * i}.0)" for i, (q, v) in enumerate(zip(sources, values))], "no_value")
+    kepts = [f"r.kept{place(record.pieces, i)}" for i in range(record.count)]
+    flats = chain("value", [f"({q}.flat {v} {r})" for q, v, r in zip(sources, values, kepts)], "no_value")
     keys = infix("++", [f"{q}.keys {v}" for q, v in zip(sources, values)], "[]")
-    belongs = infix("×", [f"{q}.belongs {v} r.kept{'.1' * i}.0" for i, (q, v) in enumerate(zip(sources, values))], "Unit {0}")
+    belongs = infix("×", [f"{q}.belongs {v} {r}" for q, v, r in zip(sources, values, kepts)], "Unit {0}")
     keyed = chain("part_keyed", [f.keyed(type, v) for type, v in zip(types, values)], "nothing_keyed")
     planned = "no_part_planned"
     for type, q, v in reversed(list(zip(types, sources, values))):
         planned = f"(part_planned {f.definitions(type)} {f.shape(type)} ({q}.keys {v}) ({q}.meaning {v}) {f.planned(type, v)} {planned})"
     kept = kept_of(f, types) if record.count else "resolver"
-    taken = f"        let {record.resolver} {{ kept }} = resolver;\n{taken_apart(f, types, 8)}" if record.count else ""
-    arguments = [f"&self.{field.name}" for field in record.fields] + [kept, "Place::new(pos, bytes)"]
-    call = Generic(f"resolve_record_{record.count}", record.rust + [record.archived], arguments)
-    if is_long(types):
-        call = Generic("resolve_record", ["Self", f"{record.name}Fields", record.archived], ["self", kept, "Place::new(pos, bytes)"])
+    borrowed = [f"&self.{field.name}" for field in record.fields]
+    call = Generic(f"resolve_record_{record.count}", record.rust + [record.archived], borrowed + [kept, "Place::new(pos, bytes)"])
+    apart = taken_apart(f, types, 8)
+    if record.in_pieces:
+        call, apart = pieces_of(record).resolve_call(borrowed, "kept"), ""
+    taken = f"        let {record.resolver} {{ kept }} = resolver;\n{apart}" if record.count else ""
     told, calls = bulk.told(record) if record.in_bulk else in_turn(f)
     return f"""impl Archive for {record.name} {{
 {f.law_lines()}    type Archived = {record.archived};
@@ -183,10 +189,10 @@ def archive(record):
 
 def serialize(record):
     bound = record.formats.writer_bound(record.types)
-    arguments = [f"&self.{field.name}" for field in record.fields] + ["serializer"]
-    call = Generic(f"serialize_record_{record.count}", record.rust + [record.archived, "S"], arguments)
-    if is_long(record.types):
-        call = Generic("serialize_record", ["Self", f"{record.name}Fields", record.archived, "S"], ["self", "serializer"])
+    borrowed = [f"&self.{field.name}" for field in record.fields]
+    call = Generic(f"serialize_record_{record.count}", record.rust + [record.archived, "S"], borrowed + ["serializer"])
+    if record.in_pieces:
+        call = pieces_of(record).serialize_call(borrowed)
     if record.count:
         body = f"""{statement(8, "match ", call, " {")}            Ok(kept) => Ok({record.resolver} {{ kept }}),
             Err(error) => Err(error),
@@ -204,12 +210,24 @@ def serialize(record):
 
 def is_made_apart(record):
     """Whether a value is made of those of its fields by a function of its own, whose proof is written beside the module."""
-    return record.count > SHORT_RECORD or record.by_fours
+    return record.count > SHORT_RECORD or record.in_pieces
+
+
+def has_owned(record):
+    """Whether the type of the fields' values has a name, as one nest."""
+    return not record.in_pieces and (is_made_apart(record) or not record.types)
 
 
 def read(record):
-    record.formats.use("archive_core::record", "deserialize_record")
-    call = Generic("deserialize_record", ["Self", f"{record.name}Owned", "D"], ["alloc", "part", "deserializer"])
+    if record.in_pieces:
+        call = pieces_of(record).read_call()
+    elif record.count:
+        name = f"read_record_{record.count}"
+        record.formats.use("archive_core::fields", name)
+        call = Generic(name, record.read + record.formats_of + ["Self", "D"], ["alloc", "part", "deserializer"])
+    else:
+        record.formats.use("archive_core::record", "deserialize_record")
+        call = Generic("deserialize_record", ["Self", f"{record.name}Owned", "D"], ["alloc", "part", "deserializer"])
     if is_made_apart(record):
         ok = f"            Ok(values) => Ok({snake(record.name)}_of(values)),\n"
     else:
@@ -223,7 +241,7 @@ def read(record):
 def made_of(record):
     """The function that makes the record of the values of its fields."""
     name = f"{snake(record.name)}_of"
-    return Made(record.formats, record.types, record.by_fours, name, record.name, f"{record.name}Owned", "product", record.name)
+    return Made(record.formats, record.types, record.pieces, name, record.name, f"{record.name}Owned", "product", record.name)
 
 
 def proofs(formats, declaration):
@@ -235,6 +253,8 @@ def proofs(formats, declaration):
     made = made_of(record)
     module = "/".join(declaration.module)
     dotted = ".".join((declaration.crate, "proofs") + tuple(declaration.module))
+    if record.in_pieces:
+        out.update(pieces_of(record).proofs(module, dotted))
     impl = f"{record.archived}Deserialize{record.name}"
     answers = made.answers(dotted)
     if answers:

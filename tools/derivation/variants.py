@@ -21,8 +21,9 @@ from .common import (
 from .formats import layout_of, snake
 from .layout import Generic, Group, WIDTH, ended, flat, implementation, lay, literal, pair, signature, statement
 from .loads import Loads
-from .long import is_long, lent, nest
+from .long import nest, place
 from .made import WRITTEN, Made
+from .pieces import Pieces
 from .units import Units
 
 
@@ -50,8 +51,18 @@ class Case:
         self.binders = [f"a{i}" for i in range(self.count)]
         self.names = self.binders
         self.word = f"{choice.name}{self.name}"
-        self.by_fours = Loads().go_by_fours(self.types)
-        self.is_long = is_long(self.types)
+        loads = Loads()
+        self.by_fours = loads.go_by_fours(self.types)
+        self.pieces = loads.pieces(self.types)
+        self.in_pieces = len(self.pieces) > 1
+
+    def its_pieces(self):
+        choice = self.choice
+        return Pieces(choice, self, f"{snake(choice.name)}_{snake(self.name)}", self.word, self.tag)
+
+    def kept(self, of):
+        """Where what is kept of each field is, in what is kept of the variant."""
+        return [f"{of}{place(self.pieces, i)}" for i in range(self.count)]
 
     def pattern(self, values=()):
         """The variant with a name for each field, or with these values."""
@@ -106,15 +117,15 @@ class Choice(Source):
 def text(formats, declaration):
     choice = Choice(formats, declaration)
     for case in choice.cases:
-        which = "" if case.is_long else f"_{case.count}"
-        formats.use("archive_core::fields", f"serialize_case{which}", f"resolve_case{which}")
+        if not case.in_pieces:
+            formats.use("archive_core::fields", f"serialize_case_{case.count}", f"resolve_case_{case.count}")
     pieces = [
         enum(choice),
-        *[lent(formats, case.word, f"{choice.name}::{case.name}", case.rust) for case in choice.cases if case.is_long],
         archive_pointee(choice),
         portable(choice, f'expr_of_choice::<{choice.name}Variants>(alloc, "{choice.archived}")'),
         check_of(choice),
         is_choice(choice),
+        *[case.its_pieces().text() for case in choice.cases if case.in_pieces],
         resolver(choice),
         choice.units.tag(),
         archive(choice),
@@ -135,7 +146,6 @@ def enum(choice):
             choice.formats.use("archive_core::traits", "FourParts")
         if case.count:
             lines.append(statement(0, f"type {case.word}Parts = ", nest(case.archived, case.by_fours), ";"))
-            lines.append(statement(0, f"type {case.word}Owned = ", nest(case.read, case.by_fours), ";"))
     lines.append(statement(0, f"type {choice.name}Variants = ", choice.units.nest(), ";"))
     return f"""/// An archived `{choice.name}`: {choice.size} bytes at a multiple of {choice.align}.
 {choice.visibility}struct {choice.archived};
@@ -170,7 +180,7 @@ def is_choice(choice):
 def resolver(choice):
     lines = choice.units.resolver()
     for case in choice.units.apart():
-        kept = pair([f"<{rust} as Archive>::Resolver" for rust in case.rust])
+        kept = f"{case.word}Kept" if case.in_pieces else pair([f"<{rust} as Archive>::Resolver" for rust in case.rust])
         doc = f"    /// Of `{case.name}`.\n"
         lines.append(doc + (statement(4, "", Group(f"{case.name}(", [kept], ")"), ",") if case.count else f"    {case.name},\n"))
     return f"""/// What is kept of `{choice.name}` between `serialize` and `resolve`.
@@ -191,7 +201,7 @@ def archive(choice):
         return f"case {case.tag} " + chain("value", [f"({q}.meaning {a})" for q, a in zip(case.sources, case.binders)], "no_value")
 
     def flats(case):
-        those = [f"({q}.flat {a} s{'.1' * i}.0)" for i, (q, a) in enumerate(zip(case.sources, case.binders))]
+        those = [f"({q}.flat {a} {s})" for q, a, s in zip(case.sources, case.binders, case.kept("s"))]
         yes = f"case {case.tag} " + chain("value", those, "no_value")
         return choice.kept(case, yes, f"case {case.tag} no_value") if case.count else yes
 
@@ -201,7 +211,7 @@ def archive(choice):
     def belongs(case):
         if choice.units.has(case):
             return "Unit {0}"
-        those = [f"{q}.belongs {a} s{'.1' * i}.0" for i, (q, a) in enumerate(zip(case.sources, case.binders))]
+        those = [f"{q}.belongs {a} {s}" for q, a, s in zip(case.sources, case.binders, case.kept("s"))]
         return choice.kept(case, infix("×", those, "Unit {0}"), "⊥")
 
     def keyed(case):
@@ -245,11 +255,12 @@ def archive(choice):
 
 
 def resolve_arm(choice, case):
-    kept, place = kept_of(choice.formats, case.types), "Place::new(pos, bytes)"
+    kept, there = kept_of(choice.formats, case.types), "Place::new(pos, bytes)"
     pattern = flat(case.pattern())
-    call = Generic(f"resolve_case_{case.count}", case.rust + [choice.archived], [str(case.tag)] + case.names + [kept, place])
-    if case.is_long:
-        call = Generic("resolve_case", [f"{case.word}Lent<'_>", f"{case.word}Fields", choice.archived], [str(case.tag), "&lent", kept, place])
+    call = Generic(f"resolve_case_{case.count}", case.rust + [choice.archived], [str(case.tag)] + case.names + [kept, there])
+    apart = taken_apart(choice.formats, case.types, 16)
+    if case.in_pieces:
+        call, apart = case.its_pieces().resolve_call(case.names, "kept"), ""
     if not case.count:
         one = f"            {pattern} => {flat(call)},\n"
         if len(one) <= WIDTH + 1:
@@ -259,28 +270,21 @@ def resolve_arm(choice, case):
     other = " else {\n                    unreachable!();\n                }" if choice.units.kept_count() > 1 else ""
     return f"""            {pattern} => {{
                 {opened}{other};
-{taken_apart(choice.formats, case.types, 16)}{lending(case, 16)}{statement(16, "", call, "")}            }}
+{apart}{statement(16, "", call, "")}            }}
 """
 
 
-def lending(case, indent):
-    """The line that lends many fields at once."""
-    if not case.is_long:
-        return ""
-    return statement(indent, "let lent = ", literal(f"{case.word}Lent", case.names), ";")
-
-
-def match_arm(pattern, call, values, made, first=""):
-    """An arm that answers what a call answers, by another name. `first` are lines before the call."""
+def match_arm(pattern, call, values, made):
+    """An arm that answers what a call answers, by another name."""
     before = f"{flat(pattern)} => match "
     whole = lay(call, 12, 12 + len(before), 2)
-    if not first and 12 + len(before) + len(whole.split("\n")[0]) <= WIDTH:
+    if 12 + len(before) + len(whole.split("\n")[0]) <= WIDTH:
         return f"""            {before}{ended(whole, 12, " {")}
 {ok_arm(values, made, 16)}                Err(error) => Err(error),
             }},
 """
     return f"""            {flat(pattern)} => {{
-{first}{statement(16, "match ", call, " {")}{ok_arm(values, made, 20)}                    Err(error) => Err(error),
+{statement(16, "match ", call, " {")}{ok_arm(values, made, 20)}                    Err(error) => Err(error),
                 }}
             }}
 """
@@ -291,10 +295,10 @@ def serialize(choice):
     arms = []
     for case in choice.units.apart():
         call = Generic(f"serialize_case_{case.count}", case.rust + [choice.archived, "S"], [str(case.tag)] + case.names + ["serializer"])
-        if case.is_long:
-            call = Generic("serialize_case", [f"{case.word}Lent<'_>", f"{case.word}Fields", choice.archived, "S"], [str(case.tag), "&lent", "serializer"])
+        if case.in_pieces:
+            call = case.its_pieces().serialize_call(case.names)
         made = f"{choice.resolver}::{case.name}" + ("(kept)" if case.count else "")
-        arms.append(match_arm(case.pattern(), call, "kept" if case.count else "()", made, lending(case, 16)))
+        arms.append(match_arm(case.pattern(), call, "kept" if case.count else "()", made))
     arms += choice.units.serialize_arm(match_arm)
     return f"""{implementation([f"S: {bound}"], "Serialize", ["S"], choice.name)}
     #[inline(always)]
@@ -306,26 +310,34 @@ def serialize(choice):
 
 def read(choice):
     f = choice.formats
-    f.use("archive_core::fields", "known_tag", "read_case")
+    f.use("archive_core::fields", "known_tag")
+    if choice.units.are:
+        f.use("archive_core::fields", "read_case")
     arms = []
     for case in choice.units.apart():
-        its = [f"{case.word}Parts", f"{case.word}Owned"] if case.count else ["()", "()"]
-        call = Generic("read_case", ["Self"] + its + ["D"], [str(case.tag), "alloc", "part", "deserializer"])
+        if case.in_pieces:
+            call = case.its_pieces().read_call()
+        elif case.count:
+            f.use("archive_core::fields", f"read_case_{case.count}")
+            call = Generic(f"read_case_{case.count}", case.read + case.archived + ["Self", "D"], [str(case.tag), "alloc", "part", "deserializer"])
+        else:
+            f.use("archive_core::fields", "read_case")
+            call = Generic("read_case", ["Self", "()", "()", "D"], [str(case.tag), "alloc", "part", "deserializer"])
         tag = "_" if case is choice.cases[-1] and not choice.units.are else str(case.tag)
-        if case.by_fours:
+        if case.in_pieces:
             arms.append(match_arm(tag, call, "values", f"{made_of(case).name}(values)"))
         else:
             arms.append(match_arm(tag, call, flat(pair(case.names)), case.built()))
     arms += choice.units.read_arm()
-    made = "".join(f"{made_of(case).text(case.names, case.built())}\n" for case in choice.cases if case.by_fours) + choice.units.made()
+    made = "".join(f"{made_of(case).text(case.names, case.built())}\n" for case in choice.cases if case.in_pieces) + choice.units.made()
     return made + deserialize(choice, choice.units.matched("known_tag::<Self>(part)", "".join(arms)))
 
 
 def made_of(case):
-    """The function that makes a variant of the values of its fields, where they are in fours."""
+    """The function that makes a variant of the values of its fields, where they are many."""
     choice = case.choice
     name = f"{snake(choice.name)}_{snake(case.name)}_of"
-    return Made(choice.formats, case.types, case.by_fours, name, choice.name, f"{case.word}Owned", f"case {case.tag}", f"{choice.name}::{case.name}")
+    return Made(choice.formats, case.types, case.pieces, name, choice.name, f"{case.word}Owned", f"case {case.tag}", f"{choice.name}::{case.name}")
 
 
 def proofs(formats, declaration):
@@ -335,55 +347,19 @@ def proofs(formats, declaration):
     dotted = ".".join((declaration.crate, "proofs") + tuple(declaration.module))
     out = {}
     for case in choice.cases:
-        made = made_of(case) if case.by_fours else None
-        answers = made and made.answers(dotted)
+        if not case.in_pieces:
+            continue
+        made = made_of(case)
+        answers = made.answers(dotted)
         if answers:
             out[f"proofs/{module}/{made.name}/Answers.antt"] = answers
-    if choice.units.are or any(case.is_long for case in choice.cases):
-        out[f"proofs/{module}/{choice.name}Archive/resolve/Answers.antt"] = resolve_answers(choice, dotted)
-        out[f"proofs/{module}/{choice.name}Serialize/serialize/Answers.antt"] = serialize_answers(choice, dotted)
-    return out
-
-
-def serialize_answers(choice, dotted):
-    """The proof that the variant that is lent is serialized as it means, and that one without fields is among many."""
-    longs = "".join(lent_serialized(case) for case in choice.cases if case.is_long)
-    brought, of_units = choice.units.serialize_answers(dotted) if choice.units.are else ("", "")
-    rules = "use Rattle.std.proofs.Common.{rules}\n" if longs else ""
-    return f"""-- {WRITTEN}
-{rules}{brought}use Rattle.{dotted}.{choice.name}Serialize.serialize.Goals as goal
-{longs}{of_units}"""
-
-
-def lent_serialized(case):
-    its = "c.in-Ok-serialize_case"
-    return f"""
-pub returns-in-Ok-serialize_case : goal.returns-in-Ok-serialize_case
-returns-in-Ok-serialize_case g c = rw (c.in-{case.name}.is) record {{ serialized = {its}.ensures.serialized; same_value = {its}.ensures.same_value; goes_on = c.serialize_case.ensures.goes_on; refused = search rules }}
-"""
-
-
-def resolve_answers(choice, dotted):
-    """The proof that each variant is resolved as it is flat: of one that is lent the search doesn't find it."""
-    goals = f"Rattle.{dotted}.{choice.name}Archive.resolve.Goals"
-    brought, of_units = choice.units.resolve_answers(dotted) if choice.units.are else ("", "")
-    if not any(case.is_long for case in choice.cases):
-        return f"-- {WRITTEN}\n{brought}use {goals} as goal\n{of_units}"
-    apart = choice.units.apart()
-    steps = [f"in-{case.name}+in-{case.name}-resolver" if case.count else f"in-{case.name}" for case in apart]
-    found = ["grind (w.resolve_case.ensures, w.bytes-is, w.result-is, rules)" if case.is_long else "search rules" for case in apart]
+        out.update(case.its_pieces().proofs(module, dotted))
     if choice.units.are:
-        steps.append("in_default")
-        found.append("search rules")
-    arms = " | ".join(f"{step} w ↦ {how}" for step, how in zip(steps, found))
-    return f"""-- {WRITTEN}
-use Rattle.std.proofs.Common.{{rules}}
-{brought}use {goals}.{{{', '.join(steps)}}}
-use {goals} as goal
-{of_units}
-pub returns : goal.returns
-returns c = elim c.match-self.branch [ {arms} ]
-"""
+        for trait, method, answers in (("Archive", "resolve", choice.units.resolve_answers), ("Serialize", "serialize", choice.units.serialize_answers)):
+            goals = f"Rattle.{dotted}.{choice.name}{trait}.{method}.Goals"
+            brought, text_ = answers(dotted)
+            out[f"proofs/{module}/{choice.name}{trait}/{method}/Answers.antt"] = f"-- {WRITTEN}\n{brought}use {goals} as goal\n{text_}"
+    return out
 
 
 def views(choice):

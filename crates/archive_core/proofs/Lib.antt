@@ -17,6 +17,7 @@ pub use Rattle.archive_check.proofs.format.AddedDefinitions
 pub use Rattle.archive_check.proofs.format.RecordParts
 pub use Rattle.archive_check.proofs.format.Views
 pub use Rattle.archive_core.proofs.fields.CloseFields
+pub use Rattle.archive_core.proofs.fields.FollowedFields
 pub use Rattle.archive_core.proofs.fields.OwnChoices
 pub use Rattle.archive_core.proofs.fields.ReadChoices
 pub use Rattle.archive_types.proofs.Planning.Causes

@@ -6,6 +6,11 @@ mod copy_more;
 mod copy_most;
 mod copying;
 mod front;
+pub mod pieces;
+mod plan_few;
+mod read_case_few;
+mod read_few;
+mod read_record_few;
 mod records;
 mod resolve_case_few;
 mod resolve_few;
@@ -20,14 +25,18 @@ pub use copy_few::{copy_1, copy_2, copy_3, copy_4, copy_5, copy_6, copy_7, copy_
 pub use copy_more::{copy_9, copy_10, copy_11, copy_12};
 pub use copy_most::{copy_13, copy_14, copy_15, copy_16};
 pub use copying::copy_0;
-pub use front::{resolve_0, serialize_0};
-pub use records::part_in_record;
+pub use read_case_few::{
+    read_case_1, read_case_2, read_case_3, read_case_4, read_case_5, read_case_6, read_case_7,
+    read_case_8,
+};
+pub use read_record_few::{
+    read_record_1, read_record_2, read_record_3, read_record_4, read_record_5, read_record_6,
+    read_record_7, read_record_8,
+};
+pub use records::{part_in_record, read_record};
 pub use resolve_case_few::{
     resolve_case_0, resolve_case_1, resolve_case_2, resolve_case_3, resolve_case_4, resolve_case_5,
     resolve_case_6, resolve_case_7, resolve_case_8,
-};
-pub use resolve_few::{
-    resolve_1, resolve_2, resolve_3, resolve_4, resolve_5, resolve_6, resolve_7, resolve_8,
 };
 pub use resolve_record_few::{
     resolve_record_0, resolve_record_1, resolve_record_2, resolve_record_3, resolve_record_4,
@@ -36,10 +45,6 @@ pub use resolve_record_few::{
 pub use serialize_case_few::{
     serialize_case_0, serialize_case_1, serialize_case_2, serialize_case_3, serialize_case_4,
     serialize_case_5, serialize_case_6, serialize_case_7, serialize_case_8,
-};
-pub use serialize_few::{
-    serialize_1, serialize_2, serialize_3, serialize_4, serialize_5, serialize_6, serialize_7,
-    serialize_8,
 };
 pub use serialize_record_few::{
     serialize_record_0, serialize_record_1, serialize_record_2, serialize_record_3,

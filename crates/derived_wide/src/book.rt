@@ -43,6 +43,7 @@ pub struct Book {
 // Below this line all is written by tools/derive: change what is above it, and run it again.
 
 ghost use Rattle.archive_core.specs.CallOutcomes.{ResolvesAs};
+ghost use Rattle.archive_core.specs.Causes.{HindersAt, IsRefused};
 ghost use Rattle.archive_core.specs.Definitions.{both, no_definition};
 ghost use Rattle.archive_core.specs.Fields.{field_in};
 ghost use Rattle.archive_core.specs.Keyed.{box_keyed, each_keyed, nothing_keyed, number_keyed, part_keyed, record_keyed, text_keyed};
@@ -52,26 +53,27 @@ ghost use Rattle.archive_core.specs.PartsPlanned.{no_part_planned, part_planned}
 ghost use Rattle.archive_core.specs.Plain.{plain_own_check, plain_record, plain_record_planned};
 ghost use Rattle.archive_core.specs.Planned.{leaf_planned, string_planned};
 ghost use Rattle.archive_core.specs.PlannedOwners.{boxed_one_planned, one_planned, slice_planned, vec_planned};
+ghost use Rattle.archive_core.specs.Plans.{Serialized};
 ghost use Rattle.archive_core.specs.SealsWritten.{IsSealOf, SealsPart};
-ghost use Rattle.archive_core.specs.Seen.{IsPartOf, ShowsValueOf};
+ghost use Rattle.archive_core.specs.Seen.{IsPartOf, ReadsPart, RefusesPart, ShowsValueOf};
 ghost use Rattle.archive_core.specs.Shape.{no_part, one, part, parts};
 ghost use Rattle.archive_core.specs.Sources.{ReadsAs};
 ghost use Rattle.archive_core.specs.Value.{no_value, product, value};
-ghost use Rattle.archive_core.specs.Writing.{ZeroedPlace};
+ghost use Rattle.archive_core.specs.Writing.{Resolves, ZeroedPlace};
+ghost use Rattle.archive_core.specs.Written.{GoesOn};
 ghost use Rattle.std.proofs.Common.{inl, inr, lit≤};
-ghost use Rattle.std.specs.Prelude.{None, [], length, refl, string_bytes, true, ◌++◌, ◌+◌, ◌≡◌};
+ghost use Rattle.std.specs.Prelude.{IfErr, IfOk, None, OnOk, [], length, refl, string_bytes, true, ◌++◌, ◌+◌, ◌≡◌};
 
 use archive_core::boxed::ArchivedBox;
 use archive_core::error::Error;
 use archive_core::fields::part_in_record;
+use archive_core::fields::pieces::{plan_8, read_8, resolve_8, serialize_8};
 use archive_core::option::ArchivedOption;
-use archive_core::own::{Field, HasField};
 use archive_core::place::Place;
 use archive_core::primitive::{
     ArchivedChar, ArchivedI16, ArchivedI32, ArchivedI64, ArchivedU16, ArchivedU32, ArchivedU64,
     ArchivedUsize,
 };
-use archive_core::record::{deserialize_record, resolve_record, serialize_record};
 use archive_core::seal::{Seal, sealed_part_in_record};
 use archive_core::self_check::{RecordCheck, SelfCheck};
 use archive_core::ser::{ResolverAlloc, Writer, serialize_one};
@@ -111,168 +113,6 @@ type BookParts = FourParts<
     >,
 >;
 
-type BookOwned = FourParts<
-    u64,
-    String,
-    Vec<String>,
-    char,
-    FourParts<
-        bool,
-        u16,
-        i16,
-        u8,
-        FourParts<i32, Option<u32>, Spot, i64, FourParts<usize, Box<u32>, i8, Event, ()>>,
-    >,
->;
-
-// The fields as sources.
-type BookFields = FourParts<
-    Field<0, u64>,
-    Field<1, String>,
-    Field<2, Vec<String>>,
-    Field<3, char>,
-    FourParts<
-        Field<4, bool>,
-        Field<5, u16>,
-        Field<6, i16>,
-        Field<7, u8>,
-        FourParts<
-            Field<8, i32>,
-            Field<9, Option<u32>>,
-            Field<10, Spot>,
-            Field<11, i64>,
-            FourParts<Field<12, usize>, Field<13, Box<u32>>, Field<14, i8>, Field<15, Event>, ()>,
-        >,
-    >,
->;
-
-impl HasField<0, u64> for Book {
-    ghost field = { λ v. v.number };
-
-    fn field(&self) -> &u64 {
-        &self.number
-    }
-}
-
-impl HasField<1, String> for Book {
-    ghost field = { λ v. v.title };
-
-    fn field(&self) -> &String {
-        &self.title
-    }
-}
-
-impl HasField<2, Vec<String>> for Book {
-    ghost field = { λ v. v.authors };
-
-    fn field(&self) -> &Vec<String> {
-        &self.authors
-    }
-}
-
-impl HasField<3, char> for Book {
-    ghost field = { λ v. v.shelf };
-
-    fn field(&self) -> &char {
-        &self.shelf
-    }
-}
-
-impl HasField<4, bool> for Book {
-    ghost field = { λ v. v.is_lent };
-
-    fn field(&self) -> &bool {
-        &self.is_lent
-    }
-}
-
-impl HasField<5, u16> for Book {
-    ghost field = { λ v. v.pages };
-
-    fn field(&self) -> &u16 {
-        &self.pages
-    }
-}
-
-impl HasField<6, i16> for Book {
-    ghost field = { λ v. v.year };
-
-    fn field(&self) -> &i16 {
-        &self.year
-    }
-}
-
-impl HasField<7, u8> for Book {
-    ghost field = { λ v. v.copies };
-
-    fn field(&self) -> &u8 {
-        &self.copies
-    }
-}
-
-impl HasField<8, i32> for Book {
-    ghost field = { λ v. v.earned };
-
-    fn field(&self) -> &i32 {
-        &self.earned
-    }
-}
-
-impl HasField<9, Option<u32>> for Book {
-    ghost field = { λ v. v.price };
-
-    fn field(&self) -> &Option<u32> {
-        &self.price
-    }
-}
-
-impl HasField<10, Spot> for Book {
-    ghost field = { λ v. v.spot };
-
-    fn field(&self) -> &Spot {
-        &self.spot
-    }
-}
-
-impl HasField<11, i64> for Book {
-    ghost field = { λ v. v.came };
-
-    fn field(&self) -> &i64 {
-        &self.came
-    }
-}
-
-impl HasField<12, usize> for Book {
-    ghost field = { λ v. v.reads };
-
-    fn field(&self) -> &usize {
-        &self.reads
-    }
-}
-
-impl HasField<13, Box<u32>> for Book {
-    ghost field = { λ v. v.before };
-
-    fn field(&self) -> &Box<u32> {
-        &self.before
-    }
-}
-
-impl HasField<14, i8> for Book {
-    ghost field = { λ v. v.thicker };
-
-    fn field(&self) -> &i8 {
-        &self.thicker
-    }
-}
-
-impl HasField<15, Event> for Book {
-    ghost field = { λ v. v.event };
-
-    fn field(&self) -> &Event {
-        &self.event
-    }
-}
 
 impl ArchivePointee for ArchivedBook {
     type ArchivedMetadata = ();
@@ -421,10 +261,8 @@ impl Record for ArchivedBook {
     ghost holds = { lit≤ tt };
 }
 
-/// What is kept of `Book` between `serialize` and `resolve`.
-#[derive(Drop)]
-pub struct BookResolver {
-    kept: (
+type BookKept = (
+    (
         <u64 as Archive>::Resolver,
         (
             <String as Archive>::Resolver,
@@ -436,32 +274,29 @@ pub struct BookResolver {
                         <bool as Archive>::Resolver,
                         (
                             <u16 as Archive>::Resolver,
+                            (<i16 as Archive>::Resolver, (<u8 as Archive>::Resolver, ())),
+                        ),
+                    ),
+                ),
+            ),
+        ),
+    ),
+    (
+        (
+            <i32 as Archive>::Resolver,
+            (
+                <Option<u32> as Archive>::Resolver,
+                (
+                    <Spot as Archive>::Resolver,
+                    (
+                        <i64 as Archive>::Resolver,
+                        (
+                            <usize as Archive>::Resolver,
                             (
-                                <i16 as Archive>::Resolver,
+                                <Box<u32> as Archive>::Resolver,
                                 (
-                                    <u8 as Archive>::Resolver,
-                                    (
-                                        <i32 as Archive>::Resolver,
-                                        (
-                                            <Option<u32> as Archive>::Resolver,
-                                            (
-                                                <Spot as Archive>::Resolver,
-                                                (
-                                                    <i64 as Archive>::Resolver,
-                                                    (
-                                                        <usize as Archive>::Resolver,
-                                                        (
-                                                            <Box<u32> as Archive>::Resolver,
-                                                            (
-                                                                <i8 as Archive>::Resolver,
-                                                                (<Event as Archive>::Resolver, ()),
-                                                            ),
-                                                        ),
-                                                    ),
-                                                ),
-                                            ),
-                                        ),
-                                    ),
+                                    <i8 as Archive>::Resolver,
+                                    (<Event as Archive>::Resolver, ()),
                                 ),
                             ),
                         ),
@@ -469,7 +304,341 @@ pub struct BookResolver {
                 ),
             ),
         ),
+        (),
     ),
+);
+
+type BookOwned = (
+    (
+        u64,
+        (
+            String,
+            (Vec<String>, (char, (bool, (u16, (i16, (u8, ())))))),
+        ),
+    ),
+    (
+        (
+            i32,
+            (
+                Option<u32>,
+                (Spot, (i64, (usize, (Box<u32>, (i8, (Event, ())))))),
+            ),
+        ),
+        (),
+    ),
+);
+
+// Writes what the fields of `Book` own, piece by piece.
+fn book_serialized<S: Writer + ResolverAlloc>(
+    a0: &u64,
+    a1: &String,
+    a2: &Vec<String>,
+    a3: &char,
+    a4: &bool,
+    a5: &u16,
+    a6: &i16,
+    a7: &u8,
+    a8: &i32,
+    a9: &Option<u32>,
+    a10: &Spot,
+    a11: &i64,
+    a12: &usize,
+    a13: &Box<u32>,
+    a14: &i8,
+    a15: &Event,
+    serializer: &mut S,
+) -> Result<BookKept, Error>
+    ensures serialized { IfOk result (λ r. Serialized no_definition
+        ⟦<ArchivedBook as Portable>⟧.shape (⟦<u64 as Archive>⟧.keys a0.now
+        ++ (⟦<String as Archive>⟧.keys a1.now ++ (⟦<Vec<String> as Archive>⟧.keys a2.now
+        ++ (⟦<char as Archive>⟧.keys a3.now ++ (⟦<bool as Archive>⟧.keys a4.now
+        ++ (⟦<u16 as Archive>⟧.keys a5.now ++ (⟦<i16 as Archive>⟧.keys a6.now
+        ++ (⟦<u8 as Archive>⟧.keys a7.now ++ (⟦<i32 as Archive>⟧.keys a8.now
+        ++ (⟦<Option<u32> as Archive>⟧.keys a9.now ++ (⟦<Spot as Archive>⟧.keys a10.now
+        ++ (⟦<i64 as Archive>⟧.keys a11.now ++ (⟦<usize as Archive>⟧.keys a12.now
+        ++ (⟦<Box<u32> as Archive>⟧.keys a13.now ++ (⟦<i8 as Archive>⟧.keys a14.now
+        ++ (⟦<Event as Archive>⟧.keys a15.now ++ []))))))))))))))))
+        (product (value (⟦<u64 as Archive>⟧.meaning a0.now)
+        (value (⟦<String as Archive>⟧.meaning a1.now) (value
+        (⟦<Vec<String> as Archive>⟧.meaning a2.now) (value (⟦<char as Archive>⟧.meaning a3.now)
+        (value (⟦<bool as Archive>⟧.meaning a4.now) (value (⟦<u16 as Archive>⟧.meaning a5.now)
+        (value (⟦<i16 as Archive>⟧.meaning a6.now) (value (⟦<u8 as Archive>⟧.meaning a7.now)
+        (value (⟦<i32 as Archive>⟧.meaning a8.now) (value
+        (⟦<Option<u32> as Archive>⟧.meaning a9.now) (value (⟦<Spot as Archive>⟧.meaning a10.now)
+        (value (⟦<i64 as Archive>⟧.meaning a11.now) (value (⟦<usize as Archive>⟧.meaning a12.now)
+        (value (⟦<Box<u32> as Archive>⟧.meaning a13.now)
+        (value (⟦<i8 as Archive>⟧.meaning a14.now) (value (⟦<Event as Archive>⟧.meaning a15.now)
+        no_value))))))))))))))))) (product (value (⟦<u64 as Archive>⟧.flat a0.now r.0.0)
+        (value (⟦<String as Archive>⟧.flat a1.now r.0.1.0)
+        (value (⟦<Vec<String> as Archive>⟧.flat a2.now r.0.1.1.0)
+        (value (⟦<char as Archive>⟧.flat a3.now r.0.1.1.1.0)
+        (value (⟦<bool as Archive>⟧.flat a4.now r.0.1.1.1.1.0)
+        (value (⟦<u16 as Archive>⟧.flat a5.now r.0.1.1.1.1.1.0)
+        (value (⟦<i16 as Archive>⟧.flat a6.now r.0.1.1.1.1.1.1.0)
+        (value (⟦<u8 as Archive>⟧.flat a7.now r.0.1.1.1.1.1.1.1.0)
+        (value (⟦<i32 as Archive>⟧.flat a8.now r.1.0.0)
+        (value (⟦<Option<u32> as Archive>⟧.flat a9.now r.1.0.1.0)
+        (value (⟦<Spot as Archive>⟧.flat a10.now r.1.0.1.1.0)
+        (value (⟦<i64 as Archive>⟧.flat a11.now r.1.0.1.1.1.0)
+        (value (⟦<usize as Archive>⟧.flat a12.now r.1.0.1.1.1.1.0)
+        (value (⟦<Box<u32> as Archive>⟧.flat a13.now r.1.0.1.1.1.1.1.0)
+        (value (⟦<i8 as Archive>⟧.flat a14.now r.1.0.1.1.1.1.1.1.0)
+        (value (⟦<Event as Archive>⟧.flat a15.now r.1.0.1.1.1.1.1.1.1.0) no_value)))))))))))))))))
+        (S.state serializer.old) (S.state serializer.new)) }
+    ensures same_values { IfOk result (λ r. ⟦<u64 as Archive>⟧.belongs a0.now r.0.0
+        × (⟦<String as Archive>⟧.belongs a1.now r.0.1.0
+        × (⟦<Vec<String> as Archive>⟧.belongs a2.now r.0.1.1.0
+        × (⟦<char as Archive>⟧.belongs a3.now r.0.1.1.1.0
+        × (⟦<bool as Archive>⟧.belongs a4.now r.0.1.1.1.1.0
+        × (⟦<u16 as Archive>⟧.belongs a5.now r.0.1.1.1.1.1.0
+        × (⟦<i16 as Archive>⟧.belongs a6.now r.0.1.1.1.1.1.1.0
+        × (⟦<u8 as Archive>⟧.belongs a7.now r.0.1.1.1.1.1.1.1.0
+        × (⟦<i32 as Archive>⟧.belongs a8.now r.1.0.0 × (⟦<Option<u32> as Archive>⟧.belongs a9.now
+        r.1.0.1.0 × (⟦<Spot as Archive>⟧.belongs a10.now r.1.0.1.1.0
+        × (⟦<i64 as Archive>⟧.belongs a11.now r.1.0.1.1.1.0
+        × (⟦<usize as Archive>⟧.belongs a12.now r.1.0.1.1.1.1.0
+        × (⟦<Box<u32> as Archive>⟧.belongs a13.now r.1.0.1.1.1.1.1.0
+        × (⟦<i8 as Archive>⟧.belongs a14.now r.1.0.1.1.1.1.1.1.0
+        × (⟦<Event as Archive>⟧.belongs a15.now r.1.0.1.1.1.1.1.1.1.0 × Unit {0})))))))))))))))) }
+    ensures goes_on { GoesOn (S.state serializer.old) (S.state serializer.new) }
+    ensures refused { IfErr result (IsRefused no_definition ⟦<ArchivedBook as Portable>⟧.shape
+        (⟦<u64 as Archive>⟧.keys a0.now ++ (⟦<String as Archive>⟧.keys a1.now
+        ++ (⟦<Vec<String> as Archive>⟧.keys a2.now ++ (⟦<char as Archive>⟧.keys a3.now
+        ++ (⟦<bool as Archive>⟧.keys a4.now ++ (⟦<u16 as Archive>⟧.keys a5.now
+        ++ (⟦<i16 as Archive>⟧.keys a6.now ++ (⟦<u8 as Archive>⟧.keys a7.now
+        ++ (⟦<i32 as Archive>⟧.keys a8.now ++ (⟦<Option<u32> as Archive>⟧.keys a9.now
+        ++ (⟦<Spot as Archive>⟧.keys a10.now ++ (⟦<i64 as Archive>⟧.keys a11.now
+        ++ (⟦<usize as Archive>⟧.keys a12.now ++ (⟦<Box<u32> as Archive>⟧.keys a13.now
+        ++ (⟦<i8 as Archive>⟧.keys a14.now ++ (⟦<Event as Archive>⟧.keys a15.now
+        ++ [])))))))))))))))) (product (value (⟦<u64 as Archive>⟧.meaning a0.now)
+        (value (⟦<String as Archive>⟧.meaning a1.now) (value
+        (⟦<Vec<String> as Archive>⟧.meaning a2.now) (value (⟦<char as Archive>⟧.meaning a3.now)
+        (value (⟦<bool as Archive>⟧.meaning a4.now) (value (⟦<u16 as Archive>⟧.meaning a5.now)
+        (value (⟦<i16 as Archive>⟧.meaning a6.now) (value (⟦<u8 as Archive>⟧.meaning a7.now)
+        (value (⟦<i32 as Archive>⟧.meaning a8.now) (value
+        (⟦<Option<u32> as Archive>⟧.meaning a9.now) (value (⟦<Spot as Archive>⟧.meaning a10.now)
+        (value (⟦<i64 as Archive>⟧.meaning a11.now) (value (⟦<usize as Archive>⟧.meaning a12.now)
+        (value (⟦<Box<u32> as Archive>⟧.meaning a13.now)
+        (value (⟦<i8 as Archive>⟧.meaning a14.now) (value (⟦<Event as Archive>⟧.meaning a15.now)
+        no_value))))))))))))))))) (S.state serializer.old) (S.state serializer.new)) }
+{
+    plan_8::<i32, Option<u32>, Spot, i64, usize, Box<u32>, i8, Event>(
+        a8, a9, a10, a11, a12, a13, a14, a15,
+    );
+    let k0 = match serialize_8::<u64, String, Vec<String>, char, bool, u16, i16, u8, S>(
+        a0, a1, a2, a3, a4, a5, a6, a7, serializer,
+    ) {
+        Ok(k0) => k0,
+        Err(error) => return Err(error),
+    };
+    let k1 = match serialize_8::<i32, Option<u32>, Spot, i64, usize, Box<u32>, i8, Event, S>(
+        a8, a9, a10, a11, a12, a13, a14, a15, serializer,
+    ) {
+        Ok(k1) => k1,
+        Err(error) => return Err(error),
+    };
+    Ok((k0, (k1, ())))
+}
+
+// Writes the fields of `Book` over zeros, piece by piece.
+fn book_resolved(
+    a0: &u64,
+    a1: &String,
+    a2: &Vec<String>,
+    a3: &char,
+    a4: &bool,
+    a5: &u16,
+    a6: &i16,
+    a7: &u8,
+    a8: &i32,
+    a9: &Option<u32>,
+    a10: &Spot,
+    a11: &i64,
+    a12: &usize,
+    a13: &Box<u32>,
+    a14: &i8,
+    a15: &Event,
+    kept: BookKept,
+    place: Place<'_, ArchivedBook>,
+) -> Result<(), Error>
+    requires zeroed { ZeroedPlace 88 place.pos place.bytes.now }
+    requires same_values { ⟦<u64 as Archive>⟧.belongs a0.now kept.0.0
+        × (⟦<String as Archive>⟧.belongs a1.now kept.0.1.0
+        × (⟦<Vec<String> as Archive>⟧.belongs a2.now kept.0.1.1.0
+        × (⟦<char as Archive>⟧.belongs a3.now kept.0.1.1.1.0
+        × (⟦<bool as Archive>⟧.belongs a4.now kept.0.1.1.1.1.0
+        × (⟦<u16 as Archive>⟧.belongs a5.now kept.0.1.1.1.1.1.0
+        × (⟦<i16 as Archive>⟧.belongs a6.now kept.0.1.1.1.1.1.1.0
+        × (⟦<u8 as Archive>⟧.belongs a7.now kept.0.1.1.1.1.1.1.1.0
+        × (⟦<i32 as Archive>⟧.belongs a8.now kept.1.0.0
+        × (⟦<Option<u32> as Archive>⟧.belongs a9.now kept.1.0.1.0
+        × (⟦<Spot as Archive>⟧.belongs a10.now kept.1.0.1.1.0
+        × (⟦<i64 as Archive>⟧.belongs a11.now kept.1.0.1.1.1.0
+        × (⟦<usize as Archive>⟧.belongs a12.now kept.1.0.1.1.1.1.0
+        × (⟦<Box<u32> as Archive>⟧.belongs a13.now kept.1.0.1.1.1.1.1.0
+        × (⟦<i8 as Archive>⟧.belongs a14.now kept.1.0.1.1.1.1.1.1.0
+        × (⟦<Event as Archive>⟧.belongs a15.now kept.1.0.1.1.1.1.1.1.1.0 × Unit {0}))))))))))))))) }
+    ensures resolved { OnOk result (Resolves no_definition place.entry.pos place.exit.0.now
+        ⟦<ArchivedBook as Portable>⟧.shape (product (value (⟦<u64 as Archive>⟧.flat a0.now kept.0.0)
+        (value (⟦<String as Archive>⟧.flat a1.now kept.0.1.0)
+        (value (⟦<Vec<String> as Archive>⟧.flat a2.now kept.0.1.1.0)
+        (value (⟦<char as Archive>⟧.flat a3.now kept.0.1.1.1.0)
+        (value (⟦<bool as Archive>⟧.flat a4.now kept.0.1.1.1.1.0)
+        (value (⟦<u16 as Archive>⟧.flat a5.now kept.0.1.1.1.1.1.0)
+        (value (⟦<i16 as Archive>⟧.flat a6.now kept.0.1.1.1.1.1.1.0)
+        (value (⟦<u8 as Archive>⟧.flat a7.now kept.0.1.1.1.1.1.1.1.0)
+        (value (⟦<i32 as Archive>⟧.flat a8.now kept.1.0.0)
+        (value (⟦<Option<u32> as Archive>⟧.flat a9.now kept.1.0.1.0)
+        (value (⟦<Spot as Archive>⟧.flat a10.now kept.1.0.1.1.0)
+        (value (⟦<i64 as Archive>⟧.flat a11.now kept.1.0.1.1.1.0)
+        (value (⟦<usize as Archive>⟧.flat a12.now kept.1.0.1.1.1.1.0)
+        (value (⟦<Box<u32> as Archive>⟧.flat a13.now kept.1.0.1.1.1.1.1.0)
+        (value (⟦<i8 as Archive>⟧.flat a14.now kept.1.0.1.1.1.1.1.1.0)
+        (value (⟦<Event as Archive>⟧.flat a15.now kept.1.0.1.1.1.1.1.1.1.0)
+        no_value)))))))))))))))))) }
+    ensures same_length { length place.exit.0.now ≡ length place.entry.bytes.now }
+    ensures refused { IfErr result (HindersAt no_definition ⟦<ArchivedBook as Portable>⟧.shape
+        (product (value (⟦<u64 as Archive>⟧.flat a0.now kept.0.0)
+        (value (⟦<String as Archive>⟧.flat a1.now kept.0.1.0)
+        (value (⟦<Vec<String> as Archive>⟧.flat a2.now kept.0.1.1.0)
+        (value (⟦<char as Archive>⟧.flat a3.now kept.0.1.1.1.0)
+        (value (⟦<bool as Archive>⟧.flat a4.now kept.0.1.1.1.1.0)
+        (value (⟦<u16 as Archive>⟧.flat a5.now kept.0.1.1.1.1.1.0)
+        (value (⟦<i16 as Archive>⟧.flat a6.now kept.0.1.1.1.1.1.1.0)
+        (value (⟦<u8 as Archive>⟧.flat a7.now kept.0.1.1.1.1.1.1.1.0)
+        (value (⟦<i32 as Archive>⟧.flat a8.now kept.1.0.0)
+        (value (⟦<Option<u32> as Archive>⟧.flat a9.now kept.1.0.1.0)
+        (value (⟦<Spot as Archive>⟧.flat a10.now kept.1.0.1.1.0)
+        (value (⟦<i64 as Archive>⟧.flat a11.now kept.1.0.1.1.1.0)
+        (value (⟦<usize as Archive>⟧.flat a12.now kept.1.0.1.1.1.1.0)
+        (value (⟦<Box<u32> as Archive>⟧.flat a13.now kept.1.0.1.1.1.1.1.0)
+        (value (⟦<i8 as Archive>⟧.flat a14.now kept.1.0.1.1.1.1.1.1.0)
+        (value (⟦<Event as Archive>⟧.flat a15.now kept.1.0.1.1.1.1.1.1.1.0)
+        no_value))))))))))))))))) place.entry.pos) }
+{
+    let Place { bytes, pos, .. } = place;
+    let (k0, (k1, ())) = kept;
+    match resolve_8::<u64, String, Vec<String>, char, bool, u16, i16, u8>(
+        a0,
+        a1,
+        a2,
+        a3,
+        a4,
+        a5,
+        a6,
+        a7,
+        k0,
+        pos,
+        0,
+        &mut bytes[..35],
+    ) {
+        Ok(()) => {}
+        Err(error) => return Err(error),
+    }
+    resolve_8::<i32, Option<u32>, Spot, i64, usize, Box<u32>, i8, Event>(
+        a8,
+        a9,
+        a10,
+        a11,
+        a12,
+        a13,
+        a14,
+        a15,
+        k1,
+        pos,
+        35,
+        &mut bytes[35..],
+    )
+}
+
+// Reads the fields of `Book` back, piece by piece.
+fn book_read<D: Entries>(
+    alloc: Global,
+    part: RawView<'_>,
+    deserializer: &mut D,
+) -> Result<BookOwned, Error>
+    requires viewed { IsPartOf ⟦<ArchivedBook as ArchivePointee>⟧ part }
+    ensures read { IfOk result (λ t. ReadsPart ⟦<ArchivedBook as ArchivePointee>⟧ part D.Entries
+        deserializer (product (value (⟦<u64 as Archive>⟧.meaning t.0.0)
+        (value (⟦<String as Archive>⟧.meaning t.0.1.0) (value
+        (⟦<Vec<String> as Archive>⟧.meaning t.0.1.1.0) (value
+        (⟦<char as Archive>⟧.meaning t.0.1.1.1.0) (value (⟦<bool as Archive>⟧.meaning t.0.1.1.1.1.0)
+        (value (⟦<u16 as Archive>⟧.meaning t.0.1.1.1.1.1.0)
+        (value (⟦<i16 as Archive>⟧.meaning t.0.1.1.1.1.1.1.0)
+        (value (⟦<u8 as Archive>⟧.meaning t.0.1.1.1.1.1.1.1.0)
+        (value (⟦<i32 as Archive>⟧.meaning t.1.0.0) (value
+        (⟦<Option<u32> as Archive>⟧.meaning t.1.0.1.0) (value
+        (⟦<Spot as Archive>⟧.meaning t.1.0.1.1.0) (value (⟦<i64 as Archive>⟧.meaning t.1.0.1.1.1.0)
+        (value (⟦<usize as Archive>⟧.meaning t.1.0.1.1.1.1.0)
+        (value (⟦<Box<u32> as Archive>⟧.meaning t.1.0.1.1.1.1.1.0)
+        (value (⟦<i8 as Archive>⟧.meaning t.1.0.1.1.1.1.1.1.0)
+        (value (⟦<Event as Archive>⟧.meaning t.1.0.1.1.1.1.1.1.1.0) no_value)))))))))))))))))
+        (⟦<u64 as Archive>⟧.keys t.0.0 ++ (⟦<String as Archive>⟧.keys t.0.1.0
+        ++ (⟦<Vec<String> as Archive>⟧.keys t.0.1.1.0 ++ (⟦<char as Archive>⟧.keys t.0.1.1.1.0
+        ++ (⟦<bool as Archive>⟧.keys t.0.1.1.1.1.0 ++ (⟦<u16 as Archive>⟧.keys t.0.1.1.1.1.1.0
+        ++ (⟦<i16 as Archive>⟧.keys t.0.1.1.1.1.1.1.0 ++ (⟦<u8 as Archive>⟧.keys t.0.1.1.1.1.1.1.1.0
+        ++ (⟦<i32 as Archive>⟧.keys t.1.0.0 ++ (⟦<Option<u32> as Archive>⟧.keys t.1.0.1.0
+        ++ (⟦<Spot as Archive>⟧.keys t.1.0.1.1.0 ++ (⟦<i64 as Archive>⟧.keys t.1.0.1.1.1.0
+        ++ (⟦<usize as Archive>⟧.keys t.1.0.1.1.1.1.0 ++ (⟦<Box<u32> as Archive>⟧.keys
+        t.1.0.1.1.1.1.1.0 ++ (⟦<i8 as Archive>⟧.keys t.1.0.1.1.1.1.1.1.0
+        ++ (⟦<Event as Archive>⟧.keys t.1.0.1.1.1.1.1.1.1.0 ++ []))))))))))))))))) }
+    ensures refused { IfErr result (RefusesPart ⟦<ArchivedBook as ArchivePointee>⟧ part D.Entries
+        deserializer) }
+{
+    let RawView { bytes, pos, .. } = part;
+    let v0 = match read_8::<
+        u64,
+        String,
+        Vec<String>,
+        char,
+        bool,
+        u16,
+        i16,
+        u8,
+        ArchivedU64,
+        ArchivedString,
+        ArchivedVec<ArchivedString>,
+        ArchivedChar,
+        bool,
+        ArchivedU16,
+        ArchivedI16,
+        u8,
+        D,
+    >(alloc, bytes, pos, 0, deserializer)
+    {
+        Ok(v0) => v0,
+        Err(error) => return Err(error),
+    };
+    let v1 = match read_8::<
+        i32,
+        Option<u32>,
+        Spot,
+        i64,
+        usize,
+        Box<u32>,
+        i8,
+        Event,
+        ArchivedI32,
+        ArchivedOption<ArchivedU32>,
+        ArchivedSpot,
+        ArchivedI64,
+        ArchivedUsize,
+        ArchivedBox<ArchivedU32>,
+        i8,
+        ArchivedEvent,
+        D,
+    >(alloc, bytes, pos, 35, deserializer)
+    {
+        Ok(v1) => v1,
+        Err(error) => return Err(error),
+    };
+    Ok((v0, (v1, ())))
+}
+
+/// What is kept of `Book` between `serialize` and `resolve`.
+#[derive(Drop)]
+pub struct BookResolver {
+    kept: BookKept,
 }
 
 impl Archive for Book {
@@ -492,22 +661,22 @@ impl Archive for Book {
         (value (⟦<i8 as Archive>⟧.meaning v.thicker) (value (⟦<Event as Archive>⟧.meaning v.event)
         no_value)))))))))))))))) };
 
-    ghost flat = { λ v r. product (value (⟦<u64 as Archive>⟧.flat v.number r.kept.0)
-        (value (⟦<String as Archive>⟧.flat v.title r.kept.1.0)
-        (value (⟦<Vec<String> as Archive>⟧.flat v.authors r.kept.1.1.0)
-        (value (⟦<char as Archive>⟧.flat v.shelf r.kept.1.1.1.0)
-        (value (⟦<bool as Archive>⟧.flat v.is_lent r.kept.1.1.1.1.0)
-        (value (⟦<u16 as Archive>⟧.flat v.pages r.kept.1.1.1.1.1.0)
-        (value (⟦<i16 as Archive>⟧.flat v.year r.kept.1.1.1.1.1.1.0)
-        (value (⟦<u8 as Archive>⟧.flat v.copies r.kept.1.1.1.1.1.1.1.0)
-        (value (⟦<i32 as Archive>⟧.flat v.earned r.kept.1.1.1.1.1.1.1.1.0)
-        (value (⟦<Option<u32> as Archive>⟧.flat v.price r.kept.1.1.1.1.1.1.1.1.1.0)
-        (value (⟦<Spot as Archive>⟧.flat v.spot r.kept.1.1.1.1.1.1.1.1.1.1.0)
-        (value (⟦<i64 as Archive>⟧.flat v.came r.kept.1.1.1.1.1.1.1.1.1.1.1.0)
-        (value (⟦<usize as Archive>⟧.flat v.reads r.kept.1.1.1.1.1.1.1.1.1.1.1.1.0)
-        (value (⟦<Box<u32> as Archive>⟧.flat v.before r.kept.1.1.1.1.1.1.1.1.1.1.1.1.1.0)
-        (value (⟦<i8 as Archive>⟧.flat v.thicker r.kept.1.1.1.1.1.1.1.1.1.1.1.1.1.1.0)
-        (value (⟦<Event as Archive>⟧.flat v.event r.kept.1.1.1.1.1.1.1.1.1.1.1.1.1.1.1.0)
+    ghost flat = { λ v r. product (value (⟦<u64 as Archive>⟧.flat v.number r.kept.0.0)
+        (value (⟦<String as Archive>⟧.flat v.title r.kept.0.1.0)
+        (value (⟦<Vec<String> as Archive>⟧.flat v.authors r.kept.0.1.1.0)
+        (value (⟦<char as Archive>⟧.flat v.shelf r.kept.0.1.1.1.0)
+        (value (⟦<bool as Archive>⟧.flat v.is_lent r.kept.0.1.1.1.1.0)
+        (value (⟦<u16 as Archive>⟧.flat v.pages r.kept.0.1.1.1.1.1.0)
+        (value (⟦<i16 as Archive>⟧.flat v.year r.kept.0.1.1.1.1.1.1.0)
+        (value (⟦<u8 as Archive>⟧.flat v.copies r.kept.0.1.1.1.1.1.1.1.0)
+        (value (⟦<i32 as Archive>⟧.flat v.earned r.kept.1.0.0)
+        (value (⟦<Option<u32> as Archive>⟧.flat v.price r.kept.1.0.1.0)
+        (value (⟦<Spot as Archive>⟧.flat v.spot r.kept.1.0.1.1.0)
+        (value (⟦<i64 as Archive>⟧.flat v.came r.kept.1.0.1.1.1.0)
+        (value (⟦<usize as Archive>⟧.flat v.reads r.kept.1.0.1.1.1.1.0)
+        (value (⟦<Box<u32> as Archive>⟧.flat v.before r.kept.1.0.1.1.1.1.1.0)
+        (value (⟦<i8 as Archive>⟧.flat v.thicker r.kept.1.0.1.1.1.1.1.1.0)
+        (value (⟦<Event as Archive>⟧.flat v.event r.kept.1.0.1.1.1.1.1.1.1.0)
         no_value)))))))))))))))) };
 
     ghost keys = { λ v. ⟦<u64 as Archive>⟧.keys v.number
@@ -520,22 +689,22 @@ impl Archive for Book {
         ++ (⟦<Box<u32> as Archive>⟧.keys v.before ++ (⟦<i8 as Archive>⟧.keys v.thicker
         ++ (⟦<Event as Archive>⟧.keys v.event ++ []))))))))))))))) };
 
-    ghost belongs = { λ v r. ⟦<u64 as Archive>⟧.belongs v.number r.kept.0
-        × (⟦<String as Archive>⟧.belongs v.title r.kept.1.0
-        × (⟦<Vec<String> as Archive>⟧.belongs v.authors r.kept.1.1.0
-        × (⟦<char as Archive>⟧.belongs v.shelf r.kept.1.1.1.0
-        × (⟦<bool as Archive>⟧.belongs v.is_lent r.kept.1.1.1.1.0
-        × (⟦<u16 as Archive>⟧.belongs v.pages r.kept.1.1.1.1.1.0
-        × (⟦<i16 as Archive>⟧.belongs v.year r.kept.1.1.1.1.1.1.0
-        × (⟦<u8 as Archive>⟧.belongs v.copies r.kept.1.1.1.1.1.1.1.0
-        × (⟦<i32 as Archive>⟧.belongs v.earned r.kept.1.1.1.1.1.1.1.1.0
-        × (⟦<Option<u32> as Archive>⟧.belongs v.price r.kept.1.1.1.1.1.1.1.1.1.0
-        × (⟦<Spot as Archive>⟧.belongs v.spot r.kept.1.1.1.1.1.1.1.1.1.1.0
-        × (⟦<i64 as Archive>⟧.belongs v.came r.kept.1.1.1.1.1.1.1.1.1.1.1.0
-        × (⟦<usize as Archive>⟧.belongs v.reads r.kept.1.1.1.1.1.1.1.1.1.1.1.1.0
-        × (⟦<Box<u32> as Archive>⟧.belongs v.before r.kept.1.1.1.1.1.1.1.1.1.1.1.1.1.0
-        × (⟦<i8 as Archive>⟧.belongs v.thicker r.kept.1.1.1.1.1.1.1.1.1.1.1.1.1.1.0
-        × (⟦<Event as Archive>⟧.belongs v.event r.kept.1.1.1.1.1.1.1.1.1.1.1.1.1.1.1.0
+    ghost belongs = { λ v r. ⟦<u64 as Archive>⟧.belongs v.number r.kept.0.0
+        × (⟦<String as Archive>⟧.belongs v.title r.kept.0.1.0
+        × (⟦<Vec<String> as Archive>⟧.belongs v.authors r.kept.0.1.1.0
+        × (⟦<char as Archive>⟧.belongs v.shelf r.kept.0.1.1.1.0
+        × (⟦<bool as Archive>⟧.belongs v.is_lent r.kept.0.1.1.1.1.0
+        × (⟦<u16 as Archive>⟧.belongs v.pages r.kept.0.1.1.1.1.1.0
+        × (⟦<i16 as Archive>⟧.belongs v.year r.kept.0.1.1.1.1.1.1.0
+        × (⟦<u8 as Archive>⟧.belongs v.copies r.kept.0.1.1.1.1.1.1.1.0
+        × (⟦<i32 as Archive>⟧.belongs v.earned r.kept.1.0.0
+        × (⟦<Option<u32> as Archive>⟧.belongs v.price r.kept.1.0.1.0
+        × (⟦<Spot as Archive>⟧.belongs v.spot r.kept.1.0.1.1.0
+        × (⟦<i64 as Archive>⟧.belongs v.came r.kept.1.0.1.1.1.0
+        × (⟦<usize as Archive>⟧.belongs v.reads r.kept.1.0.1.1.1.1.0
+        × (⟦<Box<u32> as Archive>⟧.belongs v.before r.kept.1.0.1.1.1.1.1.0
+        × (⟦<i8 as Archive>⟧.belongs v.thicker r.kept.1.0.1.1.1.1.1.1.0
+        × (⟦<Event as Archive>⟧.belongs v.event r.kept.1.0.1.1.1.1.1.1.1.0
         × Unit {0}))))))))))))))) };
 
     ghost in_bulk = { None };
@@ -627,12 +796,33 @@ impl Archive for Book {
     ) -> Result<(), Error>
         requires zeroed { ZeroedPlace 88 place.pos place.bytes.now }
         requires same_value { ⟦<Self as Archive>⟧.belongs self.now resolver }
-        ensures { ResolvesAs ⟦<Self::Archived as Portable>⟧ place
-            (⟦<Self as Archive>⟧.flat self.now resolver) result }
+        ensures {
+            ResolvesAs ⟦<Self::Archived as Portable>⟧ place
+                (⟦<Self as Archive>⟧.flat self.now resolver) result
+        }
     {
         let Place { bytes, pos, .. } = place;
         let BookResolver { kept } = resolver;
-        resolve_record::<Self, BookFields, ArchivedBook>(self, kept, Place::new(pos, bytes))
+        book_resolved(
+            &self.number,
+            &self.title,
+            &self.authors,
+            &self.shelf,
+            &self.is_lent,
+            &self.pages,
+            &self.year,
+            &self.copies,
+            &self.earned,
+            &self.price,
+            &self.spot,
+            &self.came,
+            &self.reads,
+            &self.before,
+            &self.thicker,
+            &self.event,
+            kept,
+            Place::new(pos, bytes),
+        )
     }
 
     #[inline(always)]
@@ -653,7 +843,25 @@ impl Archive for Book {
 impl<S: Writer + ResolverAlloc> Serialize<S> for Book {
     #[inline(always)]
     fn serialize(&self, serializer: &mut S) -> Result<Self::Resolver, Error> {
-        match serialize_record::<Self, BookFields, ArchivedBook, S>(self, serializer) {
+        match book_serialized(
+            &self.number,
+            &self.title,
+            &self.authors,
+            &self.shelf,
+            &self.is_lent,
+            &self.pages,
+            &self.year,
+            &self.copies,
+            &self.earned,
+            &self.price,
+            &self.spot,
+            &self.came,
+            &self.reads,
+            &self.before,
+            &self.thicker,
+            &self.event,
+            serializer,
+        ) {
             Ok(kept) => Ok(BookResolver { kept }),
             Err(error) => Err(error),
         }
@@ -705,66 +913,39 @@ impl<S: Writer + ResolverAlloc> SerializeUnsized<S> for Book {
 // The `Book` of these values, one after another.
 fn book_of(values: BookOwned) -> Book
     ensures meaning { ⟦<Book as Archive>⟧.meaning result
-        ≡ product (value (⟦<u64 as Archive>⟧.meaning values.first)
-        (value (⟦<String as Archive>⟧.meaning values.second)
-        (value (⟦<Vec<String> as Archive>⟧.meaning values.third)
-        (value (⟦<char as Archive>⟧.meaning values.fourth)
-        (value (⟦<bool as Archive>⟧.meaning values.rest.first)
-        (value (⟦<u16 as Archive>⟧.meaning values.rest.second)
-        (value (⟦<i16 as Archive>⟧.meaning values.rest.third)
-        (value (⟦<u8 as Archive>⟧.meaning values.rest.fourth)
-        (value (⟦<i32 as Archive>⟧.meaning values.rest.rest.first)
-        (value (⟦<Option<u32> as Archive>⟧.meaning values.rest.rest.second)
-        (value (⟦<Spot as Archive>⟧.meaning values.rest.rest.third)
-        (value (⟦<i64 as Archive>⟧.meaning values.rest.rest.fourth)
-        (value (⟦<usize as Archive>⟧.meaning values.rest.rest.rest.first)
-        (value (⟦<Box<u32> as Archive>⟧.meaning values.rest.rest.rest.second)
-        (value (⟦<i8 as Archive>⟧.meaning values.rest.rest.rest.third)
-        (value (⟦<Event as Archive>⟧.meaning values.rest.rest.rest.fourth)
-        no_value)))))))))))))))) }
-    ensures keys { ⟦<Book as Archive>⟧.keys result ≡ ⟦<u64 as Archive>⟧.keys values.first
-        ++ (⟦<String as Archive>⟧.keys values.second ++ (⟦<Vec<String> as Archive>⟧.keys
-        values.third ++ (⟦<char as Archive>⟧.keys values.fourth
-        ++ (⟦<bool as Archive>⟧.keys values.rest.first ++ (⟦<u16 as Archive>⟧.keys
-        values.rest.second ++ (⟦<i16 as Archive>⟧.keys values.rest.third
-        ++ (⟦<u8 as Archive>⟧.keys values.rest.fourth ++ (⟦<i32 as Archive>⟧.keys
-        values.rest.rest.first ++ (⟦<Option<u32> as Archive>⟧.keys values.rest.rest.second
-        ++ (⟦<Spot as Archive>⟧.keys values.rest.rest.third
-        ++ (⟦<i64 as Archive>⟧.keys values.rest.rest.fourth
-        ++ (⟦<usize as Archive>⟧.keys values.rest.rest.rest.first
-        ++ (⟦<Box<u32> as Archive>⟧.keys values.rest.rest.rest.second
-        ++ (⟦<i8 as Archive>⟧.keys values.rest.rest.rest.third
-        ++ (⟦<Event as Archive>⟧.keys values.rest.rest.rest.fourth ++ []))))))))))))))) }
+        ≡ product (value (⟦<u64 as Archive>⟧.meaning values.0.0)
+        (value (⟦<String as Archive>⟧.meaning values.0.1.0)
+        (value (⟦<Vec<String> as Archive>⟧.meaning values.0.1.1.0)
+        (value (⟦<char as Archive>⟧.meaning values.0.1.1.1.0)
+        (value (⟦<bool as Archive>⟧.meaning values.0.1.1.1.1.0)
+        (value (⟦<u16 as Archive>⟧.meaning values.0.1.1.1.1.1.0)
+        (value (⟦<i16 as Archive>⟧.meaning values.0.1.1.1.1.1.1.0)
+        (value (⟦<u8 as Archive>⟧.meaning values.0.1.1.1.1.1.1.1.0)
+        (value (⟦<i32 as Archive>⟧.meaning values.1.0.0)
+        (value (⟦<Option<u32> as Archive>⟧.meaning values.1.0.1.0)
+        (value (⟦<Spot as Archive>⟧.meaning values.1.0.1.1.0)
+        (value (⟦<i64 as Archive>⟧.meaning values.1.0.1.1.1.0)
+        (value (⟦<usize as Archive>⟧.meaning values.1.0.1.1.1.1.0)
+        (value (⟦<Box<u32> as Archive>⟧.meaning values.1.0.1.1.1.1.1.0)
+        (value (⟦<i8 as Archive>⟧.meaning values.1.0.1.1.1.1.1.1.0)
+        (value (⟦<Event as Archive>⟧.meaning values.1.0.1.1.1.1.1.1.1.0) no_value)))))))))))))))) }
+    ensures keys { ⟦<Book as Archive>⟧.keys result ≡ ⟦<u64 as Archive>⟧.keys values.0.0
+        ++ (⟦<String as Archive>⟧.keys values.0.1.0 ++ (⟦<Vec<String> as Archive>⟧.keys
+        values.0.1.1.0 ++ (⟦<char as Archive>⟧.keys values.0.1.1.1.0
+        ++ (⟦<bool as Archive>⟧.keys values.0.1.1.1.1.0
+        ++ (⟦<u16 as Archive>⟧.keys values.0.1.1.1.1.1.0
+        ++ (⟦<i16 as Archive>⟧.keys values.0.1.1.1.1.1.1.0
+        ++ (⟦<u8 as Archive>⟧.keys values.0.1.1.1.1.1.1.1.0
+        ++ (⟦<i32 as Archive>⟧.keys values.1.0.0 ++ (⟦<Option<u32> as Archive>⟧.keys values.1.0.1.0
+        ++ (⟦<Spot as Archive>⟧.keys values.1.0.1.1.0 ++ (⟦<i64 as Archive>⟧.keys values.1.0.1.1.1.0
+        ++ (⟦<usize as Archive>⟧.keys values.1.0.1.1.1.1.0
+        ++ (⟦<Box<u32> as Archive>⟧.keys values.1.0.1.1.1.1.1.0
+        ++ (⟦<i8 as Archive>⟧.keys values.1.0.1.1.1.1.1.1.0
+        ++ (⟦<Event as Archive>⟧.keys values.1.0.1.1.1.1.1.1.1.0 ++ []))))))))))))))) }
 {
-    let FourParts {
-        first: a0,
-        second: a1,
-        third: a2,
-        fourth: a3,
-        rest,
-    } = values;
-    let FourParts {
-        first: a4,
-        second: a5,
-        third: a6,
-        fourth: a7,
-        rest,
-    } = rest;
-    let FourParts {
-        first: a8,
-        second: a9,
-        third: a10,
-        fourth: a11,
-        rest,
-    } = rest;
-    let FourParts {
-        first: a12,
-        second: a13,
-        third: a14,
-        fourth: a15,
-        rest,
-    } = rest;
-    let () = rest;
+    let (v0, (v1, ())) = values;
+    let (a0, (a1, (a2, (a3, (a4, (a5, (a6, (a7, ())))))))) = v0;
+    let (a8, (a9, (a10, (a11, (a12, (a13, (a14, (a15, ())))))))) = v1;
     Book {
         number: a0,
         title: a1,
@@ -796,7 +977,7 @@ impl<D: Entries> Deserialize<Book, D> for ArchivedBook {
         ensures { ReadsAs ⟦<Self as ArchivePointee>⟧ part D.Entries deserializer ⟦<Book as Archive>⟧
             result }
     {
-        match deserialize_record::<Self, BookOwned, D>(alloc, part, deserializer) {
+        match book_read(alloc, part, deserializer) {
             Ok(values) => Ok(book_of(values)),
             Err(error) => Err(error),
         }

@@ -49,6 +49,7 @@ pub enum Weather {
 // Below this line all is written by tools/derive: change what is above it, and run it again.
 
 ghost use Rattle.archive_core.specs.CallOutcomes.{ResolvesAs};
+ghost use Rattle.archive_core.specs.Causes.{HindersAt, IsRefused};
 ghost use Rattle.archive_core.specs.Definitions.{both, no_definition};
 ghost use Rattle.archive_core.specs.Keyed.{box_keyed, case_keyed, each_keyed, nothing_keyed, number_keyed, part_keyed, text_keyed};
 ghost use Rattle.archive_core.specs.LeafLayout.{no_definition_reached};
@@ -58,23 +59,25 @@ ghost use Rattle.archive_core.specs.Payloads.{payload_in};
 ghost use Rattle.archive_core.specs.Plain.{plain_choice, plain_own_check, plain_variant_planned};
 ghost use Rattle.archive_core.specs.Planned.{leaf_planned, string_planned};
 ghost use Rattle.archive_core.specs.PlannedOwners.{boxed_one_planned, one_planned, slice_planned, vec_planned};
+ghost use Rattle.archive_core.specs.Plans.{Serialized};
 ghost use Rattle.archive_core.specs.SealsWritten.{IsSealOf, SealsPart, seal_tag};
-ghost use Rattle.archive_core.specs.Seen.{IsPartOf, ShowsValueOf, tag_of};
+ghost use Rattle.archive_core.specs.Seen.{IsPartOf, ReadsPart, RefusesPart, ShowsValueOf, part_tag, tag_of};
 ghost use Rattle.archive_core.specs.Shape.{choice, no_part, no_variant, one, part, variant};
 ghost use Rattle.archive_core.specs.Sources.{ReadsAs};
 ghost use Rattle.archive_core.specs.Value.{case, no_value, value};
-ghost use Rattle.archive_core.specs.Writing.{ZeroedPlace};
+ghost use Rattle.archive_core.specs.Writing.{Resolves, ZeroedPlace};
+ghost use Rattle.archive_core.specs.Written.{GoesOn};
 ghost use Rattle.std.proofs.Common.{inl, inr, lit≤};
-ghost use Rattle.std.specs.Prelude.{None, [], codes, refl, string_bytes, true, ℕ, ◌++◌, ◌+◌, ◌≡◌};
+ghost use Rattle.std.specs.Prelude.{IfErr, IfOk, None, OnOk, [], codes, length, refl, string_bytes, true, ℕ, ◌++◌, ◌+◌, ◌≡◌};
 
 use archive_core::boxed::ArchivedBox;
 use archive_core::error::Error;
 use archive_core::fields::{
-    known_tag, part_in_case, read_case, resolve_case, resolve_case_0, resolve_case_1,
-    serialize_case, serialize_case_0, serialize_case_1, tag_in,
+    known_tag, part_in_case, read_case, read_case_1, resolve_case_0, resolve_case_1,
+    serialize_case_0, serialize_case_1, tag_in,
 };
+use archive_core::fields::pieces::{plan_8, read_8, resolve_8, serialize_8};
 use archive_core::option::ArchivedOption;
-use archive_core::own::{Field, HasField};
 use archive_core::place::Place;
 use archive_core::primitive::{
     ArchivedChar, ArchivedI16, ArchivedI64, ArchivedU16, ArchivedU32, ArchivedU64, ArchivedUsize,
@@ -123,207 +126,9 @@ type WeatherMeasuredParts = FourParts<
     >,
 >;
 
-type WeatherMeasuredOwned = FourParts<
-    u64,
-    String,
-    i16,
-    i16,
-    FourParts<
-        i16,
-        u8,
-        bool,
-        char,
-        FourParts<
-            u32,
-            Vec<u16>,
-            Option<u32>,
-            Spot,
-            FourParts<i64, usize, Box<i16>, Vec<String>, ()>,
-        >,
-    >,
->;
-
 type WeatherBrokenParts = (ArchivedString, ());
 
-type WeatherBrokenOwned = (String, ());
-
 type WeatherVariants = ((), (WeatherMeasuredParts, (WeatherBrokenParts, ())));
-
-// The fields of `Weather::Measured`, lent.
-#[derive(Drop)]
-struct WeatherMeasuredLent<'a> {
-    a0: &'a u64,
-    a1: &'a String,
-    a2: &'a i16,
-    a3: &'a i16,
-    a4: &'a i16,
-    a5: &'a u8,
-    a6: &'a bool,
-    a7: &'a char,
-    a8: &'a u32,
-    a9: &'a Vec<u16>,
-    a10: &'a Option<u32>,
-    a11: &'a Spot,
-    a12: &'a i64,
-    a13: &'a usize,
-    a14: &'a Box<i16>,
-    a15: &'a Vec<String>,
-}
-
-// The fields as sources.
-type WeatherMeasuredFields = FourParts<
-    Field<0, u64>,
-    Field<1, String>,
-    Field<2, i16>,
-    Field<3, i16>,
-    FourParts<
-        Field<4, i16>,
-        Field<5, u8>,
-        Field<6, bool>,
-        Field<7, char>,
-        FourParts<
-            Field<8, u32>,
-            Field<9, Vec<u16>>,
-            Field<10, Option<u32>>,
-            Field<11, Spot>,
-            FourParts<
-                Field<12, i64>,
-                Field<13, usize>,
-                Field<14, Box<i16>>,
-                Field<15, Vec<String>>,
-                (),
-            >,
-        >,
-    >,
->;
-
-impl HasField<0, u64> for WeatherMeasuredLent<'_> {
-    ghost field = { λ v. v.a0.now };
-
-    fn field(&self) -> &u64 {
-        self.a0
-    }
-}
-
-impl HasField<1, String> for WeatherMeasuredLent<'_> {
-    ghost field = { λ v. v.a1.now };
-
-    fn field(&self) -> &String {
-        self.a1
-    }
-}
-
-impl HasField<2, i16> for WeatherMeasuredLent<'_> {
-    ghost field = { λ v. v.a2.now };
-
-    fn field(&self) -> &i16 {
-        self.a2
-    }
-}
-
-impl HasField<3, i16> for WeatherMeasuredLent<'_> {
-    ghost field = { λ v. v.a3.now };
-
-    fn field(&self) -> &i16 {
-        self.a3
-    }
-}
-
-impl HasField<4, i16> for WeatherMeasuredLent<'_> {
-    ghost field = { λ v. v.a4.now };
-
-    fn field(&self) -> &i16 {
-        self.a4
-    }
-}
-
-impl HasField<5, u8> for WeatherMeasuredLent<'_> {
-    ghost field = { λ v. v.a5.now };
-
-    fn field(&self) -> &u8 {
-        self.a5
-    }
-}
-
-impl HasField<6, bool> for WeatherMeasuredLent<'_> {
-    ghost field = { λ v. v.a6.now };
-
-    fn field(&self) -> &bool {
-        self.a6
-    }
-}
-
-impl HasField<7, char> for WeatherMeasuredLent<'_> {
-    ghost field = { λ v. v.a7.now };
-
-    fn field(&self) -> &char {
-        self.a7
-    }
-}
-
-impl HasField<8, u32> for WeatherMeasuredLent<'_> {
-    ghost field = { λ v. v.a8.now };
-
-    fn field(&self) -> &u32 {
-        self.a8
-    }
-}
-
-impl HasField<9, Vec<u16>> for WeatherMeasuredLent<'_> {
-    ghost field = { λ v. v.a9.now };
-
-    fn field(&self) -> &Vec<u16> {
-        self.a9
-    }
-}
-
-impl HasField<10, Option<u32>> for WeatherMeasuredLent<'_> {
-    ghost field = { λ v. v.a10.now };
-
-    fn field(&self) -> &Option<u32> {
-        self.a10
-    }
-}
-
-impl HasField<11, Spot> for WeatherMeasuredLent<'_> {
-    ghost field = { λ v. v.a11.now };
-
-    fn field(&self) -> &Spot {
-        self.a11
-    }
-}
-
-impl HasField<12, i64> for WeatherMeasuredLent<'_> {
-    ghost field = { λ v. v.a12.now };
-
-    fn field(&self) -> &i64 {
-        self.a12
-    }
-}
-
-impl HasField<13, usize> for WeatherMeasuredLent<'_> {
-    ghost field = { λ v. v.a13.now };
-
-    fn field(&self) -> &usize {
-        self.a13
-    }
-}
-
-impl HasField<14, Box<i16>> for WeatherMeasuredLent<'_> {
-    ghost field = { λ v. v.a14.now };
-
-    fn field(&self) -> &Box<i16> {
-        self.a14
-    }
-}
-
-impl HasField<15, Vec<String>> for WeatherMeasuredLent<'_> {
-    ghost field = { λ v. v.a15.now };
-
-    fn field(&self) -> &Vec<String> {
-        self.a15
-    }
-}
 
 impl ArchivePointee for ArchivedWeather {
     type ArchivedMetadata = ();
@@ -486,58 +291,22 @@ impl Choice for ArchivedWeather {
     ghost holds = { lit≤ tt };
 }
 
-/// What is kept of `Weather` between `serialize` and `resolve`.
-#[derive(Drop)]
-pub enum WeatherResolver {
-    /// Of `Unknown`.
-    Unknown,
-    /// Of `Measured`.
-    Measured(
+type WeatherMeasuredKept = (
+    (
+        <u64 as Archive>::Resolver,
         (
-            <u64 as Archive>::Resolver,
+            <String as Archive>::Resolver,
             (
-                <String as Archive>::Resolver,
+                <i16 as Archive>::Resolver,
                 (
                     <i16 as Archive>::Resolver,
                     (
                         <i16 as Archive>::Resolver,
                         (
-                            <i16 as Archive>::Resolver,
+                            <u8 as Archive>::Resolver,
                             (
-                                <u8 as Archive>::Resolver,
-                                (
-                                    <bool as Archive>::Resolver,
-                                    (
-                                        <char as Archive>::Resolver,
-                                        (
-                                            <u32 as Archive>::Resolver,
-                                            (
-                                                <Vec<u16> as Archive>::Resolver,
-                                                (
-                                                    <Option<u32> as Archive>::Resolver,
-                                                    (
-                                                        <Spot as Archive>::Resolver,
-                                                        (
-                                                            <i64 as Archive>::Resolver,
-                                                            (
-                                                                <usize as Archive>::Resolver,
-                                                                (
-                                                                    <Box<i16> as Archive>::Resolver,
-                                                                    (
-                                                                        <Vec<
-                                                                            String,
-                                                                        > as Archive>::Resolver,
-                                                                        (),
-                                                                    ),
-                                                                ),
-                                                            ),
-                                                        ),
-                                                    ),
-                                                ),
-                                            ),
-                                        ),
-                                    ),
-                                ),
+                                <bool as Archive>::Resolver,
+                                (<char as Archive>::Resolver, ()),
                             ),
                         ),
                     ),
@@ -545,6 +314,381 @@ pub enum WeatherResolver {
             ),
         ),
     ),
+    (
+        (
+            <u32 as Archive>::Resolver,
+            (
+                <Vec<u16> as Archive>::Resolver,
+                (
+                    <Option<u32> as Archive>::Resolver,
+                    (
+                        <Spot as Archive>::Resolver,
+                        (
+                            <i64 as Archive>::Resolver,
+                            (
+                                <usize as Archive>::Resolver,
+                                (
+                                    <Box<i16> as Archive>::Resolver,
+                                    (<Vec<String> as Archive>::Resolver, ()),
+                                ),
+                            ),
+                        ),
+                    ),
+                ),
+            ),
+        ),
+        (),
+    ),
+);
+
+type WeatherMeasuredOwned = (
+    (u64, (String, (i16, (i16, (i16, (u8, (bool, (char, ())))))))),
+    (
+        (
+            u32,
+            (
+                Vec<u16>,
+                (
+                    Option<u32>,
+                    (Spot, (i64, (usize, (Box<i16>, (Vec<String>, ()))))),
+                ),
+            ),
+        ),
+        (),
+    ),
+);
+
+// Writes what the fields of `Weather::Measured` own, piece by piece.
+fn weather_measured_serialized<S: Writer + ResolverAlloc>(
+    a0: &u64,
+    a1: &String,
+    a2: &i16,
+    a3: &i16,
+    a4: &i16,
+    a5: &u8,
+    a6: &bool,
+    a7: &char,
+    a8: &u32,
+    a9: &Vec<u16>,
+    a10: &Option<u32>,
+    a11: &Spot,
+    a12: &i64,
+    a13: &usize,
+    a14: &Box<i16>,
+    a15: &Vec<String>,
+    serializer: &mut S,
+) -> Result<WeatherMeasuredKept, Error>
+    ensures serialized { IfOk result (λ r. Serialized no_definition
+        ⟦<ArchivedWeather as Portable>⟧.shape (⟦<u64 as Archive>⟧.keys a0.now
+        ++ (⟦<String as Archive>⟧.keys a1.now ++ (⟦<i16 as Archive>⟧.keys a2.now
+        ++ (⟦<i16 as Archive>⟧.keys a3.now ++ (⟦<i16 as Archive>⟧.keys a4.now
+        ++ (⟦<u8 as Archive>⟧.keys a5.now ++ (⟦<bool as Archive>⟧.keys a6.now
+        ++ (⟦<char as Archive>⟧.keys a7.now ++ (⟦<u32 as Archive>⟧.keys a8.now
+        ++ (⟦<Vec<u16> as Archive>⟧.keys a9.now ++ (⟦<Option<u32> as Archive>⟧.keys a10.now
+        ++ (⟦<Spot as Archive>⟧.keys a11.now ++ (⟦<i64 as Archive>⟧.keys a12.now
+        ++ (⟦<usize as Archive>⟧.keys a13.now ++ (⟦<Box<i16> as Archive>⟧.keys a14.now
+        ++ (⟦<Vec<String> as Archive>⟧.keys a15.now ++ []))))))))))))))))
+        (case 1 (value (⟦<u64 as Archive>⟧.meaning a0.now)
+        (value (⟦<String as Archive>⟧.meaning a1.now) (value (⟦<i16 as Archive>⟧.meaning a2.now)
+        (value (⟦<i16 as Archive>⟧.meaning a3.now) (value (⟦<i16 as Archive>⟧.meaning a4.now)
+        (value (⟦<u8 as Archive>⟧.meaning a5.now) (value (⟦<bool as Archive>⟧.meaning a6.now)
+        (value (⟦<char as Archive>⟧.meaning a7.now) (value (⟦<u32 as Archive>⟧.meaning a8.now)
+        (value (⟦<Vec<u16> as Archive>⟧.meaning a9.now)
+        (value (⟦<Option<u32> as Archive>⟧.meaning a10.now)
+        (value (⟦<Spot as Archive>⟧.meaning a11.now) (value (⟦<i64 as Archive>⟧.meaning a12.now)
+        (value (⟦<usize as Archive>⟧.meaning a13.now) (value
+        (⟦<Box<i16> as Archive>⟧.meaning a14.now) (value
+        (⟦<Vec<String> as Archive>⟧.meaning a15.now) no_value)))))))))))))))))
+        (case 1 (value (⟦<u64 as Archive>⟧.flat a0.now r.0.0)
+        (value (⟦<String as Archive>⟧.flat a1.now r.0.1.0)
+        (value (⟦<i16 as Archive>⟧.flat a2.now r.0.1.1.0)
+        (value (⟦<i16 as Archive>⟧.flat a3.now r.0.1.1.1.0)
+        (value (⟦<i16 as Archive>⟧.flat a4.now r.0.1.1.1.1.0)
+        (value (⟦<u8 as Archive>⟧.flat a5.now r.0.1.1.1.1.1.0)
+        (value (⟦<bool as Archive>⟧.flat a6.now r.0.1.1.1.1.1.1.0)
+        (value (⟦<char as Archive>⟧.flat a7.now r.0.1.1.1.1.1.1.1.0)
+        (value (⟦<u32 as Archive>⟧.flat a8.now r.1.0.0)
+        (value (⟦<Vec<u16> as Archive>⟧.flat a9.now r.1.0.1.0)
+        (value (⟦<Option<u32> as Archive>⟧.flat a10.now r.1.0.1.1.0)
+        (value (⟦<Spot as Archive>⟧.flat a11.now r.1.0.1.1.1.0)
+        (value (⟦<i64 as Archive>⟧.flat a12.now r.1.0.1.1.1.1.0)
+        (value (⟦<usize as Archive>⟧.flat a13.now r.1.0.1.1.1.1.1.0)
+        (value (⟦<Box<i16> as Archive>⟧.flat a14.now r.1.0.1.1.1.1.1.1.0)
+        (value (⟦<Vec<String> as Archive>⟧.flat a15.now r.1.0.1.1.1.1.1.1.1.0)
+        no_value))))))))))))))))) (S.state serializer.old) (S.state serializer.new)) }
+    ensures same_values { IfOk result (λ r. ⟦<u64 as Archive>⟧.belongs a0.now r.0.0
+        × (⟦<String as Archive>⟧.belongs a1.now r.0.1.0
+        × (⟦<i16 as Archive>⟧.belongs a2.now r.0.1.1.0 × (⟦<i16 as Archive>⟧.belongs a3.now
+        r.0.1.1.1.0 × (⟦<i16 as Archive>⟧.belongs a4.now r.0.1.1.1.1.0
+        × (⟦<u8 as Archive>⟧.belongs a5.now r.0.1.1.1.1.1.0
+        × (⟦<bool as Archive>⟧.belongs a6.now r.0.1.1.1.1.1.1.0
+        × (⟦<char as Archive>⟧.belongs a7.now r.0.1.1.1.1.1.1.1.0
+        × (⟦<u32 as Archive>⟧.belongs a8.now r.1.0.0 × (⟦<Vec<u16> as Archive>⟧.belongs a9.now
+        r.1.0.1.0 × (⟦<Option<u32> as Archive>⟧.belongs a10.now r.1.0.1.1.0
+        × (⟦<Spot as Archive>⟧.belongs a11.now r.1.0.1.1.1.0
+        × (⟦<i64 as Archive>⟧.belongs a12.now r.1.0.1.1.1.1.0
+        × (⟦<usize as Archive>⟧.belongs a13.now r.1.0.1.1.1.1.1.0
+        × (⟦<Box<i16> as Archive>⟧.belongs a14.now r.1.0.1.1.1.1.1.1.0
+        × (⟦<Vec<String> as Archive>⟧.belongs a15.now r.1.0.1.1.1.1.1.1.1.0
+        × Unit {0})))))))))))))))) }
+    ensures goes_on { GoesOn (S.state serializer.old) (S.state serializer.new) }
+    ensures refused { IfErr result (IsRefused no_definition ⟦<ArchivedWeather as Portable>⟧.shape
+        (⟦<u64 as Archive>⟧.keys a0.now ++ (⟦<String as Archive>⟧.keys a1.now
+        ++ (⟦<i16 as Archive>⟧.keys a2.now ++ (⟦<i16 as Archive>⟧.keys a3.now
+        ++ (⟦<i16 as Archive>⟧.keys a4.now ++ (⟦<u8 as Archive>⟧.keys a5.now
+        ++ (⟦<bool as Archive>⟧.keys a6.now ++ (⟦<char as Archive>⟧.keys a7.now
+        ++ (⟦<u32 as Archive>⟧.keys a8.now ++ (⟦<Vec<u16> as Archive>⟧.keys a9.now
+        ++ (⟦<Option<u32> as Archive>⟧.keys a10.now ++ (⟦<Spot as Archive>⟧.keys a11.now
+        ++ (⟦<i64 as Archive>⟧.keys a12.now ++ (⟦<usize as Archive>⟧.keys a13.now
+        ++ (⟦<Box<i16> as Archive>⟧.keys a14.now ++ (⟦<Vec<String> as Archive>⟧.keys a15.now
+        ++ [])))))))))))))))) (case 1 (value (⟦<u64 as Archive>⟧.meaning a0.now)
+        (value (⟦<String as Archive>⟧.meaning a1.now) (value (⟦<i16 as Archive>⟧.meaning a2.now)
+        (value (⟦<i16 as Archive>⟧.meaning a3.now) (value (⟦<i16 as Archive>⟧.meaning a4.now)
+        (value (⟦<u8 as Archive>⟧.meaning a5.now) (value (⟦<bool as Archive>⟧.meaning a6.now)
+        (value (⟦<char as Archive>⟧.meaning a7.now) (value (⟦<u32 as Archive>⟧.meaning a8.now)
+        (value (⟦<Vec<u16> as Archive>⟧.meaning a9.now)
+        (value (⟦<Option<u32> as Archive>⟧.meaning a10.now)
+        (value (⟦<Spot as Archive>⟧.meaning a11.now) (value (⟦<i64 as Archive>⟧.meaning a12.now)
+        (value (⟦<usize as Archive>⟧.meaning a13.now) (value
+        (⟦<Box<i16> as Archive>⟧.meaning a14.now) (value
+        (⟦<Vec<String> as Archive>⟧.meaning a15.now) no_value)))))))))))))))))
+        (S.state serializer.old) (S.state serializer.new)) }
+{
+    plan_8::<u32, Vec<u16>, Option<u32>, Spot, i64, usize, Box<i16>, Vec<String>>(
+        a8, a9, a10, a11, a12, a13, a14, a15,
+    );
+    let k0 = match serialize_8::<u64, String, i16, i16, i16, u8, bool, char, S>(
+        a0, a1, a2, a3, a4, a5, a6, a7, serializer,
+    ) {
+        Ok(k0) => k0,
+        Err(error) => return Err(error),
+    };
+    let k1 = match serialize_8::<
+        u32,
+        Vec<u16>,
+        Option<u32>,
+        Spot,
+        i64,
+        usize,
+        Box<i16>,
+        Vec<String>,
+        S,
+    >(a8, a9, a10, a11, a12, a13, a14, a15, serializer)
+    {
+        Ok(k1) => k1,
+        Err(error) => return Err(error),
+    };
+    Ok((k0, (k1, ())))
+}
+
+// Writes the fields of `Weather::Measured` over zeros, piece by piece.
+fn weather_measured_resolved(
+    a0: &u64,
+    a1: &String,
+    a2: &i16,
+    a3: &i16,
+    a4: &i16,
+    a5: &u8,
+    a6: &bool,
+    a7: &char,
+    a8: &u32,
+    a9: &Vec<u16>,
+    a10: &Option<u32>,
+    a11: &Spot,
+    a12: &i64,
+    a13: &usize,
+    a14: &Box<i16>,
+    a15: &Vec<String>,
+    kept: WeatherMeasuredKept,
+    place: Place<'_, ArchivedWeather>,
+) -> Result<(), Error>
+    requires zeroed { ZeroedPlace 88 place.pos place.bytes.now }
+    requires same_values { ⟦<u64 as Archive>⟧.belongs a0.now kept.0.0
+        × (⟦<String as Archive>⟧.belongs a1.now kept.0.1.0
+        × (⟦<i16 as Archive>⟧.belongs a2.now kept.0.1.1.0
+        × (⟦<i16 as Archive>⟧.belongs a3.now kept.0.1.1.1.0
+        × (⟦<i16 as Archive>⟧.belongs a4.now kept.0.1.1.1.1.0
+        × (⟦<u8 as Archive>⟧.belongs a5.now kept.0.1.1.1.1.1.0
+        × (⟦<bool as Archive>⟧.belongs a6.now kept.0.1.1.1.1.1.1.0
+        × (⟦<char as Archive>⟧.belongs a7.now kept.0.1.1.1.1.1.1.1.0
+        × (⟦<u32 as Archive>⟧.belongs a8.now kept.1.0.0
+        × (⟦<Vec<u16> as Archive>⟧.belongs a9.now kept.1.0.1.0
+        × (⟦<Option<u32> as Archive>⟧.belongs a10.now kept.1.0.1.1.0
+        × (⟦<Spot as Archive>⟧.belongs a11.now kept.1.0.1.1.1.0
+        × (⟦<i64 as Archive>⟧.belongs a12.now kept.1.0.1.1.1.1.0
+        × (⟦<usize as Archive>⟧.belongs a13.now kept.1.0.1.1.1.1.1.0
+        × (⟦<Box<i16> as Archive>⟧.belongs a14.now kept.1.0.1.1.1.1.1.1.0
+        × (⟦<Vec<String> as Archive>⟧.belongs a15.now kept.1.0.1.1.1.1.1.1.1.0
+        × Unit {0}))))))))))))))) }
+    ensures resolved { OnOk result (Resolves no_definition place.entry.pos place.exit.0.now
+        ⟦<ArchivedWeather as Portable>⟧.shape (case 1 (value
+        (⟦<u64 as Archive>⟧.flat a0.now kept.0.0) (value
+        (⟦<String as Archive>⟧.flat a1.now kept.0.1.0) (value
+        (⟦<i16 as Archive>⟧.flat a2.now kept.0.1.1.0) (value
+        (⟦<i16 as Archive>⟧.flat a3.now kept.0.1.1.1.0)
+        (value (⟦<i16 as Archive>⟧.flat a4.now kept.0.1.1.1.1.0)
+        (value (⟦<u8 as Archive>⟧.flat a5.now kept.0.1.1.1.1.1.0)
+        (value (⟦<bool as Archive>⟧.flat a6.now kept.0.1.1.1.1.1.1.0)
+        (value (⟦<char as Archive>⟧.flat a7.now kept.0.1.1.1.1.1.1.1.0)
+        (value (⟦<u32 as Archive>⟧.flat a8.now kept.1.0.0)
+        (value (⟦<Vec<u16> as Archive>⟧.flat a9.now kept.1.0.1.0)
+        (value (⟦<Option<u32> as Archive>⟧.flat a10.now kept.1.0.1.1.0)
+        (value (⟦<Spot as Archive>⟧.flat a11.now kept.1.0.1.1.1.0)
+        (value (⟦<i64 as Archive>⟧.flat a12.now kept.1.0.1.1.1.1.0)
+        (value (⟦<usize as Archive>⟧.flat a13.now kept.1.0.1.1.1.1.1.0)
+        (value (⟦<Box<i16> as Archive>⟧.flat a14.now kept.1.0.1.1.1.1.1.1.0)
+        (value (⟦<Vec<String> as Archive>⟧.flat a15.now kept.1.0.1.1.1.1.1.1.1.0)
+        no_value)))))))))))))))))) }
+    ensures same_length { length place.exit.0.now ≡ length place.entry.bytes.now }
+    ensures refused { IfErr result (HindersAt no_definition ⟦<ArchivedWeather as Portable>⟧.shape
+        (case 1 (value (⟦<u64 as Archive>⟧.flat a0.now kept.0.0)
+        (value (⟦<String as Archive>⟧.flat a1.now kept.0.1.0)
+        (value (⟦<i16 as Archive>⟧.flat a2.now kept.0.1.1.0)
+        (value (⟦<i16 as Archive>⟧.flat a3.now kept.0.1.1.1.0)
+        (value (⟦<i16 as Archive>⟧.flat a4.now kept.0.1.1.1.1.0)
+        (value (⟦<u8 as Archive>⟧.flat a5.now kept.0.1.1.1.1.1.0)
+        (value (⟦<bool as Archive>⟧.flat a6.now kept.0.1.1.1.1.1.1.0)
+        (value (⟦<char as Archive>⟧.flat a7.now kept.0.1.1.1.1.1.1.1.0)
+        (value (⟦<u32 as Archive>⟧.flat a8.now kept.1.0.0)
+        (value (⟦<Vec<u16> as Archive>⟧.flat a9.now kept.1.0.1.0)
+        (value (⟦<Option<u32> as Archive>⟧.flat a10.now kept.1.0.1.1.0)
+        (value (⟦<Spot as Archive>⟧.flat a11.now kept.1.0.1.1.1.0)
+        (value (⟦<i64 as Archive>⟧.flat a12.now kept.1.0.1.1.1.1.0)
+        (value (⟦<usize as Archive>⟧.flat a13.now kept.1.0.1.1.1.1.1.0)
+        (value (⟦<Box<i16> as Archive>⟧.flat a14.now kept.1.0.1.1.1.1.1.1.0)
+        (value (⟦<Vec<String> as Archive>⟧.flat a15.now kept.1.0.1.1.1.1.1.1.1.0)
+        no_value))))))))))))))))) place.entry.pos) }
+{
+    let Place { bytes, pos, .. } = place;
+    let (k0, (k1, ())) = kept;
+    bytes[0] = 1;
+    match resolve_8::<u64, String, i16, i16, i16, u8, bool, char>(
+        a0,
+        a1,
+        a2,
+        a3,
+        a4,
+        a5,
+        a6,
+        a7,
+        k0,
+        pos,
+        1,
+        &mut bytes[1..36],
+    ) {
+        Ok(()) => {}
+        Err(error) => return Err(error),
+    }
+    resolve_8::<u32, Vec<u16>, Option<u32>, Spot, i64, usize, Box<i16>, Vec<String>>(
+        a8,
+        a9,
+        a10,
+        a11,
+        a12,
+        a13,
+        a14,
+        a15,
+        k1,
+        pos,
+        36,
+        &mut bytes[36..],
+    )
+}
+
+// Reads the fields of `Weather::Measured` back, piece by piece.
+fn weather_measured_read<D: Entries>(
+    alloc: Global,
+    part: RawView<'_>,
+    deserializer: &mut D,
+) -> Result<WeatherMeasuredOwned, Error>
+    requires viewed { IsPartOf ⟦<ArchivedWeather as ArchivePointee>⟧ part }
+    requires tag { part_tag part ≡ 1 }
+    ensures read { IfOk result (λ t. ReadsPart ⟦<ArchivedWeather as ArchivePointee>⟧ part D.Entries
+        deserializer (case 1 (value (⟦<u64 as Archive>⟧.meaning t.0.0)
+        (value (⟦<String as Archive>⟧.meaning t.0.1.0) (value (⟦<i16 as Archive>⟧.meaning t.0.1.1.0)
+        (value (⟦<i16 as Archive>⟧.meaning t.0.1.1.1.0)
+        (value (⟦<i16 as Archive>⟧.meaning t.0.1.1.1.1.0)
+        (value (⟦<u8 as Archive>⟧.meaning t.0.1.1.1.1.1.0)
+        (value (⟦<bool as Archive>⟧.meaning t.0.1.1.1.1.1.1.0)
+        (value (⟦<char as Archive>⟧.meaning t.0.1.1.1.1.1.1.1.0)
+        (value (⟦<u32 as Archive>⟧.meaning t.1.0.0) (value
+        (⟦<Vec<u16> as Archive>⟧.meaning t.1.0.1.0) (value
+        (⟦<Option<u32> as Archive>⟧.meaning t.1.0.1.1.0)
+        (value (⟦<Spot as Archive>⟧.meaning t.1.0.1.1.1.0)
+        (value (⟦<i64 as Archive>⟧.meaning t.1.0.1.1.1.1.0)
+        (value (⟦<usize as Archive>⟧.meaning t.1.0.1.1.1.1.1.0)
+        (value (⟦<Box<i16> as Archive>⟧.meaning t.1.0.1.1.1.1.1.1.0)
+        (value (⟦<Vec<String> as Archive>⟧.meaning t.1.0.1.1.1.1.1.1.1.0) no_value)))))))))))))))))
+        (⟦<u64 as Archive>⟧.keys t.0.0 ++ (⟦<String as Archive>⟧.keys t.0.1.0
+        ++ (⟦<i16 as Archive>⟧.keys t.0.1.1.0 ++ (⟦<i16 as Archive>⟧.keys t.0.1.1.1.0
+        ++ (⟦<i16 as Archive>⟧.keys t.0.1.1.1.1.0 ++ (⟦<u8 as Archive>⟧.keys t.0.1.1.1.1.1.0
+        ++ (⟦<bool as Archive>⟧.keys t.0.1.1.1.1.1.1.0 ++ (⟦<char as Archive>⟧.keys
+        t.0.1.1.1.1.1.1.1.0 ++ (⟦<u32 as Archive>⟧.keys t.1.0.0
+        ++ (⟦<Vec<u16> as Archive>⟧.keys t.1.0.1.0 ++ (⟦<Option<u32> as Archive>⟧.keys t.1.0.1.1.0
+        ++ (⟦<Spot as Archive>⟧.keys t.1.0.1.1.1.0 ++ (⟦<i64 as Archive>⟧.keys t.1.0.1.1.1.1.0
+        ++ (⟦<usize as Archive>⟧.keys t.1.0.1.1.1.1.1.0
+        ++ (⟦<Box<i16> as Archive>⟧.keys t.1.0.1.1.1.1.1.1.0
+        ++ (⟦<Vec<String> as Archive>⟧.keys t.1.0.1.1.1.1.1.1.1.0 ++ []))))))))))))))))) }
+    ensures refused { IfErr result (RefusesPart ⟦<ArchivedWeather as ArchivePointee>⟧ part D.Entries
+        deserializer) }
+{
+    let RawView { bytes, pos, .. } = part;
+    let v0 = match read_8::<
+        u64,
+        String,
+        i16,
+        i16,
+        i16,
+        u8,
+        bool,
+        char,
+        ArchivedU64,
+        ArchivedString,
+        ArchivedI16,
+        ArchivedI16,
+        ArchivedI16,
+        u8,
+        bool,
+        ArchivedChar,
+        D,
+    >(alloc, bytes, pos, 1, deserializer)
+    {
+        Ok(v0) => v0,
+        Err(error) => return Err(error),
+    };
+    let v1 = match read_8::<
+        u32,
+        Vec<u16>,
+        Option<u32>,
+        Spot,
+        i64,
+        usize,
+        Box<i16>,
+        Vec<String>,
+        ArchivedU32,
+        ArchivedVec<ArchivedU16>,
+        ArchivedOption<ArchivedU32>,
+        ArchivedSpot,
+        ArchivedI64,
+        ArchivedUsize,
+        ArchivedBox<ArchivedI16>,
+        ArchivedVec<ArchivedString>,
+        D,
+    >(alloc, bytes, pos, 36, deserializer)
+    {
+        Ok(v1) => v1,
+        Err(error) => return Err(error),
+    };
+    Ok((v0, (v1, ())))
+}
+
+/// What is kept of `Weather` between `serialize` and `resolve`.
+#[derive(Drop)]
+pub enum WeatherResolver {
+    /// Of `Unknown`.
+    Unknown,
+    /// Of `Measured`.
+    Measured(WeatherMeasuredKept),
     /// Of `Broken`.
     Broken((<String as Archive>::Resolver, ())),
 }
@@ -576,21 +720,22 @@ impl Archive for Weather {
     ghost flat = { λ v r. elim v [
       | WeatherUnknown ↦ case 0 no_value
       | WeatherMeasured a0 a1 a2 a3 a4 a5 a6 a7 a8 a9 a10 a11 a12 a13 a14 a15 ↦ elim r [
-        | WeatherMeasuredKept s ↦ case 1 (value (⟦<u64 as Archive>⟧.flat a0 s.0)
-            (value (⟦<String as Archive>⟧.flat a1 s.1.0) (value (⟦<i16 as Archive>⟧.flat a2 s.1.1.0)
-            (value (⟦<i16 as Archive>⟧.flat a3 s.1.1.1.0)
-            (value (⟦<i16 as Archive>⟧.flat a4 s.1.1.1.1.0)
-            (value (⟦<u8 as Archive>⟧.flat a5 s.1.1.1.1.1.0)
-            (value (⟦<bool as Archive>⟧.flat a6 s.1.1.1.1.1.1.0)
-            (value (⟦<char as Archive>⟧.flat a7 s.1.1.1.1.1.1.1.0)
-            (value (⟦<u32 as Archive>⟧.flat a8 s.1.1.1.1.1.1.1.1.0)
-            (value (⟦<Vec<u16> as Archive>⟧.flat a9 s.1.1.1.1.1.1.1.1.1.0)
-            (value (⟦<Option<u32> as Archive>⟧.flat a10 s.1.1.1.1.1.1.1.1.1.1.0)
-            (value (⟦<Spot as Archive>⟧.flat a11 s.1.1.1.1.1.1.1.1.1.1.1.0)
-            (value (⟦<i64 as Archive>⟧.flat a12 s.1.1.1.1.1.1.1.1.1.1.1.1.0)
-            (value (⟦<usize as Archive>⟧.flat a13 s.1.1.1.1.1.1.1.1.1.1.1.1.1.0)
-            (value (⟦<Box<i16> as Archive>⟧.flat a14 s.1.1.1.1.1.1.1.1.1.1.1.1.1.1.0)
-            (value (⟦<Vec<String> as Archive>⟧.flat a15 s.1.1.1.1.1.1.1.1.1.1.1.1.1.1.1.0)
+        | WeatherMeasuredKept s ↦ case 1 (value (⟦<u64 as Archive>⟧.flat a0 s.0.0)
+            (value (⟦<String as Archive>⟧.flat a1 s.0.1.0)
+            (value (⟦<i16 as Archive>⟧.flat a2 s.0.1.1.0)
+            (value (⟦<i16 as Archive>⟧.flat a3 s.0.1.1.1.0)
+            (value (⟦<i16 as Archive>⟧.flat a4 s.0.1.1.1.1.0)
+            (value (⟦<u8 as Archive>⟧.flat a5 s.0.1.1.1.1.1.0)
+            (value (⟦<bool as Archive>⟧.flat a6 s.0.1.1.1.1.1.1.0)
+            (value (⟦<char as Archive>⟧.flat a7 s.0.1.1.1.1.1.1.1.0)
+            (value (⟦<u32 as Archive>⟧.flat a8 s.1.0.0) (value
+            (⟦<Vec<u16> as Archive>⟧.flat a9 s.1.0.1.0) (value
+            (⟦<Option<u32> as Archive>⟧.flat a10 s.1.0.1.1.0)
+            (value (⟦<Spot as Archive>⟧.flat a11 s.1.0.1.1.1.0)
+            (value (⟦<i64 as Archive>⟧.flat a12 s.1.0.1.1.1.1.0)
+            (value (⟦<usize as Archive>⟧.flat a13 s.1.0.1.1.1.1.1.0)
+            (value (⟦<Box<i16> as Archive>⟧.flat a14 s.1.0.1.1.1.1.1.1.0)
+            (value (⟦<Vec<String> as Archive>⟧.flat a15 s.1.0.1.1.1.1.1.1.1.0)
             no_value))))))))))))))))
         | _ ↦ case 1 no_value
       ]
@@ -618,20 +763,19 @@ impl Archive for Weather {
     ghost belongs = { λ v r. elim v [
       | WeatherUnknown ↦ elim r [ WeatherUnknownKept ↦ Unit {0} | _ ↦ ⊥ ]
       | WeatherMeasured a0 a1 a2 a3 a4 a5 a6 a7 a8 a9 a10 a11 a12 a13 a14 a15 ↦ elim r [
-        | WeatherMeasuredKept s ↦ ⟦<u64 as Archive>⟧.belongs a0 s.0
-            × (⟦<String as Archive>⟧.belongs a1 s.1.0 × (⟦<i16 as Archive>⟧.belongs a2 s.1.1.0
-            × (⟦<i16 as Archive>⟧.belongs a3 s.1.1.1.0 × (⟦<i16 as Archive>⟧.belongs a4 s.1.1.1.1.0
-            × (⟦<u8 as Archive>⟧.belongs a5 s.1.1.1.1.1.0
-            × (⟦<bool as Archive>⟧.belongs a6 s.1.1.1.1.1.1.0
-            × (⟦<char as Archive>⟧.belongs a7 s.1.1.1.1.1.1.1.0
-            × (⟦<u32 as Archive>⟧.belongs a8 s.1.1.1.1.1.1.1.1.0
-            × (⟦<Vec<u16> as Archive>⟧.belongs a9 s.1.1.1.1.1.1.1.1.1.0
-            × (⟦<Option<u32> as Archive>⟧.belongs a10 s.1.1.1.1.1.1.1.1.1.1.0
-            × (⟦<Spot as Archive>⟧.belongs a11 s.1.1.1.1.1.1.1.1.1.1.1.0
-            × (⟦<i64 as Archive>⟧.belongs a12 s.1.1.1.1.1.1.1.1.1.1.1.1.0
-            × (⟦<usize as Archive>⟧.belongs a13 s.1.1.1.1.1.1.1.1.1.1.1.1.1.0
-            × (⟦<Box<i16> as Archive>⟧.belongs a14 s.1.1.1.1.1.1.1.1.1.1.1.1.1.1.0
-            × (⟦<Vec<String> as Archive>⟧.belongs a15 s.1.1.1.1.1.1.1.1.1.1.1.1.1.1.1.0
+        | WeatherMeasuredKept s ↦ ⟦<u64 as Archive>⟧.belongs a0 s.0.0
+            × (⟦<String as Archive>⟧.belongs a1 s.0.1.0 × (⟦<i16 as Archive>⟧.belongs a2 s.0.1.1.0
+            × (⟦<i16 as Archive>⟧.belongs a3 s.0.1.1.1.0 × (⟦<i16 as Archive>⟧.belongs a4
+            s.0.1.1.1.1.0 × (⟦<u8 as Archive>⟧.belongs a5 s.0.1.1.1.1.1.0
+            × (⟦<bool as Archive>⟧.belongs a6 s.0.1.1.1.1.1.1.0
+            × (⟦<char as Archive>⟧.belongs a7 s.0.1.1.1.1.1.1.1.0
+            × (⟦<u32 as Archive>⟧.belongs a8 s.1.0.0 × (⟦<Vec<u16> as Archive>⟧.belongs a9 s.1.0.1.0
+            × (⟦<Option<u32> as Archive>⟧.belongs a10 s.1.0.1.1.0
+            × (⟦<Spot as Archive>⟧.belongs a11 s.1.0.1.1.1.0
+            × (⟦<i64 as Archive>⟧.belongs a12 s.1.0.1.1.1.1.0
+            × (⟦<usize as Archive>⟧.belongs a13 s.1.0.1.1.1.1.1.0
+            × (⟦<Box<i16> as Archive>⟧.belongs a14 s.1.0.1.1.1.1.1.1.0
+            × (⟦<Vec<String> as Archive>⟧.belongs a15 s.1.0.1.1.1.1.1.1.1.0
             × Unit {0})))))))))))))))
         | _ ↦ ⊥
       ]
@@ -748,34 +892,19 @@ impl Archive for Weather {
     ) -> Result<(), Error>
         requires zeroed { ZeroedPlace 88 place.pos place.bytes.now }
         requires same_value { ⟦<Self as Archive>⟧.belongs self.now resolver }
-        ensures { ResolvesAs ⟦<Self::Archived as Portable>⟧ place
-            (⟦<Self as Archive>⟧.flat self.now resolver) result }
+        ensures {
+            ResolvesAs ⟦<Self::Archived as Portable>⟧ place
+                (⟦<Self as Archive>⟧.flat self.now resolver) result
+        }
     {
         let Place { bytes, pos, .. } = place;
         match self {
             Weather::Unknown => resolve_case_0::<ArchivedWeather>(0, (), Place::new(pos, bytes)),
-            Weather::Measured {
-                seconds: a0,
-                station: a1,
-                warmth: a2,
-                least: a3,
-                most: a4,
-                moisture: a5,
-                rains: a6,
-                wind: a7,
-                speed: a8,
-                gusts: a9,
-                sight: a10,
-                spot: a11,
-                change: a12,
-                before: a13,
-                other: a14,
-                faults: a15,
-            } => {
+            Weather::Measured { seconds: a0, station: a1, warmth: a2, least: a3, most: a4, moisture: a5, rains: a6, wind: a7, speed: a8, gusts: a9, sight: a10, spot: a11, change: a12, before: a13, other: a14, faults: a15 } => {
                 let WeatherResolver::Measured(kept) = resolver else {
                     unreachable!();
                 };
-                let lent = WeatherMeasuredLent {
+                weather_measured_resolved(
                     a0,
                     a1,
                     a2,
@@ -792,10 +921,6 @@ impl Archive for Weather {
                     a13,
                     a14,
                     a15,
-                };
-                resolve_case::<WeatherMeasuredLent<'_>, WeatherMeasuredFields, ArchivedWeather>(
-                    1,
-                    &lent,
                     kept,
                     Place::new(pos, bytes),
                 )
@@ -832,49 +957,11 @@ impl<S: Writer + ResolverAlloc> Serialize<S> for Weather {
                 Ok(()) => Ok(WeatherResolver::Unknown),
                 Err(error) => Err(error),
             },
-            Weather::Measured {
-                seconds: a0,
-                station: a1,
-                warmth: a2,
-                least: a3,
-                most: a4,
-                moisture: a5,
-                rains: a6,
-                wind: a7,
-                speed: a8,
-                gusts: a9,
-                sight: a10,
-                spot: a11,
-                change: a12,
-                before: a13,
-                other: a14,
-                faults: a15,
-            } => {
-                let lent = WeatherMeasuredLent {
-                    a0,
-                    a1,
-                    a2,
-                    a3,
-                    a4,
-                    a5,
-                    a6,
-                    a7,
-                    a8,
-                    a9,
-                    a10,
-                    a11,
-                    a12,
-                    a13,
-                    a14,
-                    a15,
-                };
-                match serialize_case::<
-                    WeatherMeasuredLent<'_>,
-                    WeatherMeasuredFields,
-                    ArchivedWeather,
-                    S,
-                >(1, &lent, serializer)
-                {
+            Weather::Measured { seconds: a0, station: a1, warmth: a2, least: a3, most: a4, moisture: a5, rains: a6, wind: a7, speed: a8, gusts: a9, sight: a10, spot: a11, change: a12, before: a13, other: a14, faults: a15 } => {
+                match weather_measured_serialized(
+                    a0, a1, a2, a3, a4, a5, a6, a7, a8, a9, a10, a11, a12, a13, a14, a15,
+                    serializer,
+                ) {
                     Ok(kept) => Ok(WeatherResolver::Measured(kept)),
                     Err(error) => Err(error),
                 }
@@ -936,66 +1023,40 @@ impl<S: Writer + ResolverAlloc> SerializeUnsized<S> for Weather {
 // The `Weather::Measured` of these values, one after another.
 fn weather_measured_of(values: WeatherMeasuredOwned) -> Weather
     ensures meaning { ⟦<Weather as Archive>⟧.meaning result
-        ≡ case 1 (value (⟦<u64 as Archive>⟧.meaning values.first)
-        (value (⟦<String as Archive>⟧.meaning values.second)
-        (value (⟦<i16 as Archive>⟧.meaning values.third)
-        (value (⟦<i16 as Archive>⟧.meaning values.fourth)
-        (value (⟦<i16 as Archive>⟧.meaning values.rest.first)
-        (value (⟦<u8 as Archive>⟧.meaning values.rest.second)
-        (value (⟦<bool as Archive>⟧.meaning values.rest.third)
-        (value (⟦<char as Archive>⟧.meaning values.rest.fourth)
-        (value (⟦<u32 as Archive>⟧.meaning values.rest.rest.first)
-        (value (⟦<Vec<u16> as Archive>⟧.meaning values.rest.rest.second)
-        (value (⟦<Option<u32> as Archive>⟧.meaning values.rest.rest.third)
-        (value (⟦<Spot as Archive>⟧.meaning values.rest.rest.fourth)
-        (value (⟦<i64 as Archive>⟧.meaning values.rest.rest.rest.first)
-        (value (⟦<usize as Archive>⟧.meaning values.rest.rest.rest.second)
-        (value (⟦<Box<i16> as Archive>⟧.meaning values.rest.rest.rest.third)
-        (value (⟦<Vec<String> as Archive>⟧.meaning values.rest.rest.rest.fourth)
+        ≡ case 1 (value (⟦<u64 as Archive>⟧.meaning values.0.0)
+        (value (⟦<String as Archive>⟧.meaning values.0.1.0)
+        (value (⟦<i16 as Archive>⟧.meaning values.0.1.1.0)
+        (value (⟦<i16 as Archive>⟧.meaning values.0.1.1.1.0)
+        (value (⟦<i16 as Archive>⟧.meaning values.0.1.1.1.1.0)
+        (value (⟦<u8 as Archive>⟧.meaning values.0.1.1.1.1.1.0)
+        (value (⟦<bool as Archive>⟧.meaning values.0.1.1.1.1.1.1.0)
+        (value (⟦<char as Archive>⟧.meaning values.0.1.1.1.1.1.1.1.0)
+        (value (⟦<u32 as Archive>⟧.meaning values.1.0.0)
+        (value (⟦<Vec<u16> as Archive>⟧.meaning values.1.0.1.0)
+        (value (⟦<Option<u32> as Archive>⟧.meaning values.1.0.1.1.0)
+        (value (⟦<Spot as Archive>⟧.meaning values.1.0.1.1.1.0)
+        (value (⟦<i64 as Archive>⟧.meaning values.1.0.1.1.1.1.0)
+        (value (⟦<usize as Archive>⟧.meaning values.1.0.1.1.1.1.1.0)
+        (value (⟦<Box<i16> as Archive>⟧.meaning values.1.0.1.1.1.1.1.1.0)
+        (value (⟦<Vec<String> as Archive>⟧.meaning values.1.0.1.1.1.1.1.1.1.0)
         no_value)))))))))))))))) }
-    ensures keys { ⟦<Weather as Archive>⟧.keys result ≡ ⟦<u64 as Archive>⟧.keys values.first
-        ++ (⟦<String as Archive>⟧.keys values.second ++ (⟦<i16 as Archive>⟧.keys values.third
-        ++ (⟦<i16 as Archive>⟧.keys values.fourth ++ (⟦<i16 as Archive>⟧.keys values.rest.first
-        ++ (⟦<u8 as Archive>⟧.keys values.rest.second ++ (⟦<bool as Archive>⟧.keys values.rest.third
-        ++ (⟦<char as Archive>⟧.keys values.rest.fourth
-        ++ (⟦<u32 as Archive>⟧.keys values.rest.rest.first
-        ++ (⟦<Vec<u16> as Archive>⟧.keys values.rest.rest.second
-        ++ (⟦<Option<u32> as Archive>⟧.keys values.rest.rest.third
-        ++ (⟦<Spot as Archive>⟧.keys values.rest.rest.fourth
-        ++ (⟦<i64 as Archive>⟧.keys values.rest.rest.rest.first
-        ++ (⟦<usize as Archive>⟧.keys values.rest.rest.rest.second
-        ++ (⟦<Box<i16> as Archive>⟧.keys values.rest.rest.rest.third
-        ++ (⟦<Vec<String> as Archive>⟧.keys values.rest.rest.rest.fourth ++ []))))))))))))))) }
+    ensures keys { ⟦<Weather as Archive>⟧.keys result ≡ ⟦<u64 as Archive>⟧.keys values.0.0
+        ++ (⟦<String as Archive>⟧.keys values.0.1.0 ++ (⟦<i16 as Archive>⟧.keys values.0.1.1.0
+        ++ (⟦<i16 as Archive>⟧.keys values.0.1.1.1.0 ++ (⟦<i16 as Archive>⟧.keys values.0.1.1.1.1.0
+        ++ (⟦<u8 as Archive>⟧.keys values.0.1.1.1.1.1.0
+        ++ (⟦<bool as Archive>⟧.keys values.0.1.1.1.1.1.1.0
+        ++ (⟦<char as Archive>⟧.keys values.0.1.1.1.1.1.1.1.0
+        ++ (⟦<u32 as Archive>⟧.keys values.1.0.0 ++ (⟦<Vec<u16> as Archive>⟧.keys values.1.0.1.0
+        ++ (⟦<Option<u32> as Archive>⟧.keys values.1.0.1.1.0
+        ++ (⟦<Spot as Archive>⟧.keys values.1.0.1.1.1.0
+        ++ (⟦<i64 as Archive>⟧.keys values.1.0.1.1.1.1.0
+        ++ (⟦<usize as Archive>⟧.keys values.1.0.1.1.1.1.1.0
+        ++ (⟦<Box<i16> as Archive>⟧.keys values.1.0.1.1.1.1.1.1.0
+        ++ (⟦<Vec<String> as Archive>⟧.keys values.1.0.1.1.1.1.1.1.1.0 ++ []))))))))))))))) }
 {
-    let FourParts {
-        first: a0,
-        second: a1,
-        third: a2,
-        fourth: a3,
-        rest,
-    } = values;
-    let FourParts {
-        first: a4,
-        second: a5,
-        third: a6,
-        fourth: a7,
-        rest,
-    } = rest;
-    let FourParts {
-        first: a8,
-        second: a9,
-        third: a10,
-        fourth: a11,
-        rest,
-    } = rest;
-    let FourParts {
-        first: a12,
-        second: a13,
-        third: a14,
-        fourth: a15,
-        rest,
-    } = rest;
-    let () = rest;
+    let (v0, (v1, ())) = values;
+    let (a0, (a1, (a2, (a3, (a4, (a5, (a6, (a7, ())))))))) = v0;
+    let (a8, (a9, (a10, (a11, (a12, (a13, (a14, (a15, ())))))))) = v1;
     Weather::Measured {
         seconds: a0,
         station: a1,
@@ -1032,16 +1093,11 @@ impl<D: Entries> Deserialize<Weather, D> for ArchivedWeather {
                 Ok(()) => Ok(Weather::Unknown),
                 Err(error) => Err(error),
             },
-            1 => match read_case::<Self, WeatherMeasuredParts, WeatherMeasuredOwned, D>(
-                1,
-                alloc,
-                part,
-                deserializer,
-            ) {
+            1 => match weather_measured_read(alloc, part, deserializer) {
                 Ok(values) => Ok(weather_measured_of(values)),
                 Err(error) => Err(error),
             },
-            _ => match read_case::<Self, WeatherBrokenParts, WeatherBrokenOwned, D>(
+            _ => match read_case_1::<String, ArchivedString, Self, D>(
                 2,
                 alloc,
                 part,

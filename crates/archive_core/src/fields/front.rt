@@ -1,10 +1,11 @@
-// The first of several fields, and none.
+// The first of several fields, and none: written and read back.
 
-ghost use Rattle.std.specs.Prelude.{◌≡◌, ◌+◌, ◌-◌, ◌≤◌, [], length, min, IfOk, OnOk, IfErr};
-ghost use Rattle.archive_check.specs.Definitions.{no_definition};
+ghost use Rattle.std.specs.Prelude.{◌≡◌, ◌+◌, ◌-◌, ◌≤◌, ◌++◌, [], length, min, IfOk, OnOk, IfErr};
+ghost use Rattle.archive_check.specs.Definitions.{both, no_definition};
 ghost use Rattle.archive_check.specs.Layout.{up};
-ghost use Rattle.archive_check.specs.Shape.{no_part};
-ghost use Rattle.archive_check.specs.Value.{no_value};
+ghost use Rattle.archive_check.specs.Shape.{no_part, part};
+ghost use Rattle.archive_check.specs.Value.{no_value, value};
+ghost use Rattle.archive_core.specs.fields.Followed.{ReadsFirst, RefusesFirst, ViewedFirst};
 ghost use Rattle.archive_core.specs.fields.Front.{FrontPut};
 ghost use Rattle.archive_types.specs.Causes.{HindersAt};
 ghost use Rattle.archive_types.specs.Outcomes.{ResolvesBytes};
@@ -15,8 +16,10 @@ ghost use Rattle.archive_write.specs.Written.{GoesOn};
 use archive_check::format::error::Error;
 use archive_check::format::extents::multiple_of;
 use archive_types::place::Place;
-use archive_types::traits::{Archive, Keys, Portable, Serialize};
+use archive_types::traits::{Archive, Deserialize, Entries, Keys, Portable, Serialize};
+use archive_types::view::RawView;
 use archive_write::ser::Writer;
+use std::alloc::Global;
 
 // Resolves a value into zeros that stand at a position.
 #[inline(always)]
@@ -70,6 +73,36 @@ pub(super) fn resolve_front<T: Archive>(
         &mut bytes[first - start..end - start],
     )?;
     Ok(end)
+}
+
+// Reads back the first of several fields, and answers where it ends, too.
+#[inline(always)]
+pub(super) fn read_front<T: Archive + Drop, F: Portable + Deserialize<T, D>, D: Entries>(
+    alloc: Global,
+    bytes: &[u8],
+    pos: usize,
+    start: usize,
+    deserializer: &mut D,
+) -> Result<(T, usize), Error>
+    requires viewed { ViewedFirst (λ ds. both F.definitions ds) (λ ps. part F.shape ps) bytes.now
+        pos start }
+    ensures ends { IfOk result (λ t. t.1 ≡ up start F.layout.align + F.layout.size) }
+    ensures read { IfOk result (λ t. ReadsFirst bytes.now pos (λ ds. both F.definitions ds)
+        (λ ps. part F.shape ps) start t.1 D.Entries deserializer (λ vs. value (T.meaning t.0) vs)
+        (λ ks. T.keys t.0 ++ ks)) }
+    ensures refused { IfErr result (RefusesFirst bytes.now pos (λ ds. both F.definitions ds)
+        (λ ps. part F.shape ps) start D.Entries deserializer) }
+{
+    prove!(bytes.len() <= usize::MAX);
+    let first = begin_of::<F>(start);
+    let part = RawView {
+        bytes,
+        pos: pos + first,
+        len: 0,
+    };
+    let value = F::deserialize_part(alloc, part, deserializer)?;
+    let end = first + F::size();
+    Ok((value, end))
 }
 
 /// Writes what no field owns, which is nothing.

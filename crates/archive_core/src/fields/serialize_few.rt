@@ -1,69 +1,64 @@
 // What fields own is written, by their number: 1 to 8.
 // Written by tools/fields: change that, and run it again.
 
-ghost use Rattle.std.specs.Prelude.{◌≡◌, ◌++◌, [], IfOk, IfErr};
-ghost use Rattle.archive_check.specs.Definitions.{both, no_definition};
-ghost use Rattle.archive_check.specs.Shape.{part, no_part};
-ghost use Rattle.archive_check.specs.Value.{value, no_value};
-ghost use Rattle.archive_types.specs.Parts.{SerializedParts, ArePartsRefused};
+ghost use Rattle.std.specs.Prelude.{◌++◌, IfOk, IfErr};
+ghost use Rattle.archive_check.specs.Definitions.{both};
+ghost use Rattle.archive_check.specs.Shape.{part};
+ghost use Rattle.archive_check.specs.Value.{value};
+ghost use Rattle.archive_core.specs.fields.Followed.{SerializedFirst, RefusedFirst};
 ghost use Rattle.archive_write.specs.Written.{GoesOn};
 
-use super::front::serialize_0;
 use archive_check::format::error::Error;
 use archive_types::traits::{Keys, Serialize};
 use archive_write::ser::Writer;
 
-/// Writes what one field owns, and returns its resolver.
+/// Writes what one field owns, and returns its resolver. Others may follow.
 #[inline(always)]
 pub fn serialize_1<A: Serialize<S>, S: Writer + Keys>(
     a: &A,
     serializer: &mut S,
 ) -> Result<(A::Resolver, ()), Error>
-    ensures serialized { IfOk result (λ r. SerializedParts
-        (both A.Archived.definitions no_definition) (part A.Archived.shape no_part)
-        (A.keys a.now ++ []) (value (A.meaning a.now) no_value) (value (A.flat a.now r.0) no_value)
+    ensures serialized { IfOk result (λ r. SerializedFirst (λ ds. both A.Archived.definitions ds)
+        (λ ps. part A.Archived.shape ps) (λ ks. A.keys a.now ++ ks)
+        (λ vs. value (A.meaning a.now) vs) (λ vs. value (A.flat a.now r.0) vs)
         (S.state serializer.old) (S.state serializer.new)) }
     ensures same_values { IfOk result (λ r. A.belongs a.now r.0 × Unit {0}) }
     ensures goes_on { GoesOn (S.state serializer.old) (S.state serializer.new) }
-    ensures refused { IfErr result (λ refusal. ArePartsRefused
-        (both A.Archived.definitions no_definition) (part A.Archived.shape no_part)
-        (A.keys a.now ++ []) (value (A.meaning a.now) no_value) (S.state serializer.old)
-        (S.state serializer.new) refusal) }
+    ensures refused { IfErr result (RefusedFirst (λ ds. both A.Archived.definitions ds)
+        (λ ps. part A.Archived.shape ps) (λ ks. A.keys a.now ++ ks)
+        (λ vs. value (A.meaning a.now) vs) (S.state serializer.old) (S.state serializer.new)) }
 {
     let first = a.serialize(serializer)?;
-    let others = serialize_0(serializer)?;
-    Ok((first, others))
+    Ok((first, ()))
 }
 
-/// Writes what 2 fields own, one after another, and returns their resolvers.
+/// Writes what 2 fields own, one after another, and returns their resolvers. Others may follow.
 #[inline(always)]
 pub fn serialize_2<A: Serialize<S>, B: Serialize<S>, S: Writer + Keys>(
     a: &A,
     b: &B,
     serializer: &mut S,
 ) -> Result<(A::Resolver, (B::Resolver, ())), Error>
-    ensures serialized { IfOk result (λ r. SerializedParts
-        (both A.Archived.definitions (both B.Archived.definitions no_definition))
-        (part A.Archived.shape (part B.Archived.shape no_part))
-        (A.keys a.now ++ (B.keys b.now ++ [])) (value (A.meaning a.now)
-        (value (B.meaning b.now) no_value)) (value (A.flat a.now r.0)
-        (value (B.flat b.now r.1.0) no_value)) (S.state serializer.old) (S.state serializer.new)) }
+    ensures serialized { IfOk result (λ r. SerializedFirst
+        (λ ds. both A.Archived.definitions (both B.Archived.definitions ds))
+        (λ ps. part A.Archived.shape (part B.Archived.shape ps))
+        (λ ks. A.keys a.now ++ (B.keys b.now ++ ks)) (λ vs. value (A.meaning a.now)
+        (value (B.meaning b.now) vs)) (λ vs. value (A.flat a.now r.0)
+        (value (B.flat b.now r.1.0) vs)) (S.state serializer.old) (S.state serializer.new)) }
     ensures same_values { IfOk result (λ r. A.belongs a.now r.0
         × (B.belongs b.now r.1.0 × Unit {0})) }
     ensures goes_on { GoesOn (S.state serializer.old) (S.state serializer.new) }
-    ensures refused { IfErr result (λ refusal. ArePartsRefused
-        (both A.Archived.definitions (both B.Archived.definitions no_definition))
-        (part A.Archived.shape (part B.Archived.shape no_part))
-        (A.keys a.now ++ (B.keys b.now ++ [])) (value (A.meaning a.now)
-        (value (B.meaning b.now) no_value)) (S.state serializer.old) (S.state serializer.new)
-        refusal) }
+    ensures refused { IfErr result (RefusedFirst (λ ds. both A.Archived.definitions
+        (both B.Archived.definitions ds)) (λ ps. part A.Archived.shape (part B.Archived.shape ps))
+        (λ ks. A.keys a.now ++ (B.keys b.now ++ ks)) (λ vs. value (A.meaning a.now)
+        (value (B.meaning b.now) vs)) (S.state serializer.old) (S.state serializer.new)) }
 {
     let first = a.serialize(serializer)?;
     let others = serialize_1(b, serializer)?;
     Ok((first, others))
 }
 
-/// Writes what 3 fields own, one after another, and returns their resolvers.
+/// Writes what 3 fields own, one after another, and returns their resolvers. Others may follow.
 #[inline(always)]
 pub fn serialize_3<A: Serialize<S>, B: Serialize<S>, C: Serialize<S>, S: Writer + Keys>(
     a: &A,
@@ -71,32 +66,30 @@ pub fn serialize_3<A: Serialize<S>, B: Serialize<S>, C: Serialize<S>, S: Writer 
     c: &C,
     serializer: &mut S,
 ) -> Result<(A::Resolver, (B::Resolver, (C::Resolver, ()))), Error>
-    ensures serialized { IfOk result (λ r. SerializedParts
-        (both A.Archived.definitions (both B.Archived.definitions
-        (both C.Archived.definitions no_definition))) (part A.Archived.shape
-        (part B.Archived.shape (part C.Archived.shape no_part)))
-        (A.keys a.now ++ (B.keys b.now ++ (C.keys c.now ++ [])))
-        (value (A.meaning a.now) (value (B.meaning b.now) (value (C.meaning c.now) no_value)))
-        (value (A.flat a.now r.0) (value (B.flat b.now r.1.0)
-        (value (C.flat c.now r.1.1.0) no_value))) (S.state serializer.old)
-        (S.state serializer.new)) }
+    ensures serialized { IfOk result (λ r. SerializedFirst
+        (λ ds. both A.Archived.definitions (both B.Archived.definitions
+        (both C.Archived.definitions ds))) (λ ps. part A.Archived.shape
+        (part B.Archived.shape (part C.Archived.shape ps)))
+        (λ ks. A.keys a.now ++ (B.keys b.now ++ (C.keys c.now ++ ks)))
+        (λ vs. value (A.meaning a.now) (value (B.meaning b.now) (value (C.meaning c.now) vs)))
+        (λ vs. value (A.flat a.now r.0) (value (B.flat b.now r.1.0)
+        (value (C.flat c.now r.1.1.0) vs))) (S.state serializer.old) (S.state serializer.new)) }
     ensures same_values { IfOk result (λ r. A.belongs a.now r.0
         × (B.belongs b.now r.1.0 × (C.belongs c.now r.1.1.0 × Unit {0}))) }
     ensures goes_on { GoesOn (S.state serializer.old) (S.state serializer.new) }
-    ensures refused { IfErr result (λ refusal. ArePartsRefused
-        (both A.Archived.definitions (both B.Archived.definitions
-        (both C.Archived.definitions no_definition))) (part A.Archived.shape
-        (part B.Archived.shape (part C.Archived.shape no_part)))
-        (A.keys a.now ++ (B.keys b.now ++ (C.keys c.now ++ [])))
-        (value (A.meaning a.now) (value (B.meaning b.now) (value (C.meaning c.now) no_value)))
-        (S.state serializer.old) (S.state serializer.new) refusal) }
+    ensures refused { IfErr result (RefusedFirst (λ ds. both A.Archived.definitions
+        (both B.Archived.definitions (both C.Archived.definitions ds)))
+        (λ ps. part A.Archived.shape (part B.Archived.shape (part C.Archived.shape ps)))
+        (λ ks. A.keys a.now ++ (B.keys b.now ++ (C.keys c.now ++ ks)))
+        (λ vs. value (A.meaning a.now) (value (B.meaning b.now) (value (C.meaning c.now) vs)))
+        (S.state serializer.old) (S.state serializer.new)) }
 {
     let first = a.serialize(serializer)?;
     let others = serialize_2(b, c, serializer)?;
     Ok((first, others))
 }
 
-/// Writes what 4 fields own, one after another, and returns their resolvers.
+/// Writes what 4 fields own, one after another, and returns their resolvers. Others may follow.
 #[inline(always)]
 pub fn serialize_4<
     A: Serialize<S>,
@@ -111,37 +104,36 @@ pub fn serialize_4<
     d: &D,
     serializer: &mut S,
 ) -> Result<(A::Resolver, (B::Resolver, (C::Resolver, (D::Resolver, ())))), Error>
-    ensures serialized { IfOk result (λ r. SerializedParts
-        (both A.Archived.definitions (both B.Archived.definitions
-        (both C.Archived.definitions (both D.Archived.definitions no_definition))))
-        (part A.Archived.shape (part B.Archived.shape (part C.Archived.shape
-        (part D.Archived.shape no_part)))) (A.keys a.now
-        ++ (B.keys b.now ++ (C.keys c.now ++ (D.keys d.now ++ []))))
-        (value (A.meaning a.now) (value (B.meaning b.now)
-        (value (C.meaning c.now) (value (D.meaning d.now) no_value))))
-        (value (A.flat a.now r.0) (value (B.flat b.now r.1.0)
-        (value (C.flat c.now r.1.1.0) (value (D.flat d.now r.1.1.1.0) no_value))))
+    ensures serialized { IfOk result (λ r. SerializedFirst
+        (λ ds. both A.Archived.definitions (both B.Archived.definitions
+        (both C.Archived.definitions (both D.Archived.definitions ds))))
+        (λ ps. part A.Archived.shape (part B.Archived.shape
+        (part C.Archived.shape (part D.Archived.shape ps))))
+        (λ ks. A.keys a.now ++ (B.keys b.now ++ (C.keys c.now ++ (D.keys d.now ++ ks))))
+        (λ vs. value (A.meaning a.now) (value (B.meaning b.now)
+        (value (C.meaning c.now) (value (D.meaning d.now) vs))))
+        (λ vs. value (A.flat a.now r.0) (value (B.flat b.now r.1.0)
+        (value (C.flat c.now r.1.1.0) (value (D.flat d.now r.1.1.1.0) vs))))
         (S.state serializer.old) (S.state serializer.new)) }
     ensures same_values { IfOk result (λ r. A.belongs a.now r.0
         × (B.belongs b.now r.1.0 × (C.belongs c.now r.1.1.0
         × (D.belongs d.now r.1.1.1.0 × Unit {0})))) }
     ensures goes_on { GoesOn (S.state serializer.old) (S.state serializer.new) }
-    ensures refused { IfErr result (λ refusal. ArePartsRefused
-        (both A.Archived.definitions (both B.Archived.definitions
-        (both C.Archived.definitions (both D.Archived.definitions no_definition))))
-        (part A.Archived.shape (part B.Archived.shape (part C.Archived.shape
-        (part D.Archived.shape no_part)))) (A.keys a.now
-        ++ (B.keys b.now ++ (C.keys c.now ++ (D.keys d.now ++ []))))
-        (value (A.meaning a.now) (value (B.meaning b.now)
-        (value (C.meaning c.now) (value (D.meaning d.now) no_value)))) (S.state serializer.old)
-        (S.state serializer.new) refusal) }
+    ensures refused { IfErr result (RefusedFirst (λ ds. both A.Archived.definitions
+        (both B.Archived.definitions (both C.Archived.definitions
+        (both D.Archived.definitions ds)))) (λ ps. part A.Archived.shape
+        (part B.Archived.shape (part C.Archived.shape (part D.Archived.shape ps))))
+        (λ ks. A.keys a.now ++ (B.keys b.now ++ (C.keys c.now ++ (D.keys d.now ++ ks))))
+        (λ vs. value (A.meaning a.now) (value (B.meaning b.now)
+        (value (C.meaning c.now) (value (D.meaning d.now) vs)))) (S.state serializer.old)
+        (S.state serializer.new)) }
 {
     let first = a.serialize(serializer)?;
     let others = serialize_3(b, c, d, serializer)?;
     Ok((first, others))
 }
 
-/// Writes what 5 fields own, one after another, and returns their resolvers.
+/// Writes what 5 fields own, one after another, and returns their resolvers. Others may follow.
 #[inline(always)]
 pub fn serialize_5<
     A: Serialize<S>,
@@ -164,40 +156,40 @@ pub fn serialize_5<
     ),
     Error,
 >
-    ensures serialized { IfOk result (λ r. SerializedParts
-        (both A.Archived.definitions (both B.Archived.definitions
+    ensures serialized { IfOk result (λ r. SerializedFirst
+        (λ ds. both A.Archived.definitions (both B.Archived.definitions
         (both C.Archived.definitions (both D.Archived.definitions
-        (both E.Archived.definitions no_definition)))))
-        (part A.Archived.shape (part B.Archived.shape (part C.Archived.shape
-        (part D.Archived.shape (part E.Archived.shape no_part)))))
-        (A.keys a.now ++ (B.keys b.now ++ (C.keys c.now ++ (D.keys d.now ++ (E.keys e.now ++ [])))))
-        (value (A.meaning a.now) (value (B.meaning b.now)
-        (value (C.meaning c.now) (value (D.meaning d.now) (value (E.meaning e.now) no_value)))))
-        (value (A.flat a.now r.0) (value (B.flat b.now r.1.0)
+        (both E.Archived.definitions ds))))) (λ ps. part A.Archived.shape
+        (part B.Archived.shape (part C.Archived.shape (part D.Archived.shape
+        (part E.Archived.shape ps))))) (λ ks. A.keys a.now
+        ++ (B.keys b.now ++ (C.keys c.now ++ (D.keys d.now ++ (E.keys e.now ++ ks)))))
+        (λ vs. value (A.meaning a.now) (value (B.meaning b.now)
+        (value (C.meaning c.now) (value (D.meaning d.now) (value (E.meaning e.now) vs)))))
+        (λ vs. value (A.flat a.now r.0) (value (B.flat b.now r.1.0)
         (value (C.flat c.now r.1.1.0) (value (D.flat d.now r.1.1.1.0)
-        (value (E.flat e.now r.1.1.1.1.0) no_value))))) (S.state serializer.old)
+        (value (E.flat e.now r.1.1.1.1.0) vs))))) (S.state serializer.old)
         (S.state serializer.new)) }
     ensures same_values { IfOk result (λ r. A.belongs a.now r.0
         × (B.belongs b.now r.1.0 × (C.belongs c.now r.1.1.0
         × (D.belongs d.now r.1.1.1.0 × (E.belongs e.now r.1.1.1.1.0 × Unit {0}))))) }
     ensures goes_on { GoesOn (S.state serializer.old) (S.state serializer.new) }
-    ensures refused { IfErr result (λ refusal. ArePartsRefused
-        (both A.Archived.definitions (both B.Archived.definitions
-        (both C.Archived.definitions (both D.Archived.definitions
-        (both E.Archived.definitions no_definition)))))
-        (part A.Archived.shape (part B.Archived.shape (part C.Archived.shape
-        (part D.Archived.shape (part E.Archived.shape no_part)))))
-        (A.keys a.now ++ (B.keys b.now ++ (C.keys c.now ++ (D.keys d.now ++ (E.keys e.now ++ [])))))
-        (value (A.meaning a.now) (value (B.meaning b.now)
-        (value (C.meaning c.now) (value (D.meaning d.now) (value (E.meaning e.now) no_value)))))
-        (S.state serializer.old) (S.state serializer.new) refusal) }
+    ensures refused { IfErr result (RefusedFirst (λ ds. both A.Archived.definitions
+        (both B.Archived.definitions (both C.Archived.definitions
+        (both D.Archived.definitions (both E.Archived.definitions ds)))))
+        (λ ps. part A.Archived.shape (part B.Archived.shape
+        (part C.Archived.shape (part D.Archived.shape (part E.Archived.shape ps)))))
+        (λ ks. A.keys a.now ++ (B.keys b.now ++ (C.keys c.now
+        ++ (D.keys d.now ++ (E.keys e.now ++ ks))))) (λ vs. value (A.meaning a.now)
+        (value (B.meaning b.now) (value (C.meaning c.now)
+        (value (D.meaning d.now) (value (E.meaning e.now) vs))))) (S.state serializer.old)
+        (S.state serializer.new)) }
 {
     let first = a.serialize(serializer)?;
     let others = serialize_4(b, c, d, e, serializer)?;
     Ok((first, others))
 }
 
-/// Writes what 6 fields own, one after another, and returns their resolvers.
+/// Writes what 6 fields own, one after another, and returns their resolvers. Others may follow.
 #[inline(always)]
 pub fn serialize_6<
     A: Serialize<S>,
@@ -225,45 +217,45 @@ pub fn serialize_6<
     ),
     Error,
 >
-    ensures serialized { IfOk result (λ r. SerializedParts
-        (both A.Archived.definitions (both B.Archived.definitions
+    ensures serialized { IfOk result (λ r. SerializedFirst
+        (λ ds. both A.Archived.definitions (both B.Archived.definitions
         (both C.Archived.definitions (both D.Archived.definitions
-        (both E.Archived.definitions (both F.Archived.definitions no_definition))))))
-        (part A.Archived.shape (part B.Archived.shape (part C.Archived.shape
-        (part D.Archived.shape (part E.Archived.shape (part F.Archived.shape no_part))))))
-        (A.keys a.now ++ (B.keys b.now ++ (C.keys c.now
-        ++ (D.keys d.now ++ (E.keys e.now ++ (F.keys f.now ++ []))))))
-        (value (A.meaning a.now) (value (B.meaning b.now)
-        (value (C.meaning c.now) (value (D.meaning d.now)
-        (value (E.meaning e.now) (value (F.meaning f.now) no_value))))))
-        (value (A.flat a.now r.0) (value (B.flat b.now r.1.0)
+        (both E.Archived.definitions (both F.Archived.definitions ds))))))
+        (λ ps. part A.Archived.shape (part B.Archived.shape
+        (part C.Archived.shape (part D.Archived.shape (part E.Archived.shape
+        (part F.Archived.shape ps)))))) (λ ks. A.keys a.now
+        ++ (B.keys b.now ++ (C.keys c.now ++ (D.keys d.now
+        ++ (E.keys e.now ++ (F.keys f.now ++ ks)))))) (λ vs. value (A.meaning a.now)
+        (value (B.meaning b.now) (value (C.meaning c.now)
+        (value (D.meaning d.now) (value (E.meaning e.now) (value (F.meaning f.now) vs))))))
+        (λ vs. value (A.flat a.now r.0) (value (B.flat b.now r.1.0)
         (value (C.flat c.now r.1.1.0) (value (D.flat d.now r.1.1.1.0)
-        (value (E.flat e.now r.1.1.1.1.0) (value (F.flat f.now r.1.1.1.1.1.0) no_value))))))
+        (value (E.flat e.now r.1.1.1.1.0) (value (F.flat f.now r.1.1.1.1.1.0) vs))))))
         (S.state serializer.old) (S.state serializer.new)) }
     ensures same_values { IfOk result (λ r. A.belongs a.now r.0
         × (B.belongs b.now r.1.0 × (C.belongs c.now r.1.1.0
         × (D.belongs d.now r.1.1.1.0 × (E.belongs e.now r.1.1.1.1.0
         × (F.belongs f.now r.1.1.1.1.1.0 × Unit {0})))))) }
     ensures goes_on { GoesOn (S.state serializer.old) (S.state serializer.new) }
-    ensures refused { IfErr result (λ refusal. ArePartsRefused
-        (both A.Archived.definitions (both B.Archived.definitions
-        (both C.Archived.definitions (both D.Archived.definitions
-        (both E.Archived.definitions (both F.Archived.definitions no_definition))))))
-        (part A.Archived.shape (part B.Archived.shape (part C.Archived.shape
-        (part D.Archived.shape (part E.Archived.shape (part F.Archived.shape no_part))))))
-        (A.keys a.now ++ (B.keys b.now ++ (C.keys c.now
-        ++ (D.keys d.now ++ (E.keys e.now ++ (F.keys f.now ++ []))))))
-        (value (A.meaning a.now) (value (B.meaning b.now)
+    ensures refused { IfErr result (RefusedFirst (λ ds. both A.Archived.definitions
+        (both B.Archived.definitions (both C.Archived.definitions
+        (both D.Archived.definitions (both E.Archived.definitions
+        (both F.Archived.definitions ds)))))) (λ ps. part A.Archived.shape
+        (part B.Archived.shape (part C.Archived.shape (part D.Archived.shape
+        (part E.Archived.shape (part F.Archived.shape ps))))))
+        (λ ks. A.keys a.now ++ (B.keys b.now ++ (C.keys c.now
+        ++ (D.keys d.now ++ (E.keys e.now ++ (F.keys f.now ++ ks))))))
+        (λ vs. value (A.meaning a.now) (value (B.meaning b.now)
         (value (C.meaning c.now) (value (D.meaning d.now)
-        (value (E.meaning e.now) (value (F.meaning f.now) no_value)))))) (S.state serializer.old)
-        (S.state serializer.new) refusal) }
+        (value (E.meaning e.now) (value (F.meaning f.now) vs)))))) (S.state serializer.old)
+        (S.state serializer.new)) }
 {
     let first = a.serialize(serializer)?;
     let others = serialize_5(b, c, d, e, f, serializer)?;
     Ok((first, others))
 }
 
-/// Writes what 7 fields own, one after another, and returns their resolvers.
+/// Writes what 7 fields own, one after another, and returns their resolvers. Others may follow.
 #[inline(always)]
 pub fn serialize_7<
     A: Serialize<S>,
@@ -296,50 +288,48 @@ pub fn serialize_7<
     ),
     Error,
 >
-    ensures serialized { IfOk result (λ r. SerializedParts
-        (both A.Archived.definitions (both B.Archived.definitions
+    ensures serialized { IfOk result (λ r. SerializedFirst
+        (λ ds. both A.Archived.definitions (both B.Archived.definitions
         (both C.Archived.definitions (both D.Archived.definitions
         (both E.Archived.definitions (both F.Archived.definitions
-        (both G.Archived.definitions no_definition)))))))
-        (part A.Archived.shape (part B.Archived.shape (part C.Archived.shape
-        (part D.Archived.shape (part E.Archived.shape (part F.Archived.shape
-        (part G.Archived.shape no_part))))))) (A.keys a.now
-        ++ (B.keys b.now ++ (C.keys c.now ++ (D.keys d.now
-        ++ (E.keys e.now ++ (F.keys f.now ++ (G.keys g.now ++ [])))))))
-        (value (A.meaning a.now) (value (B.meaning b.now)
+        (both G.Archived.definitions ds))))))) (λ ps. part A.Archived.shape
+        (part B.Archived.shape (part C.Archived.shape (part D.Archived.shape
+        (part E.Archived.shape (part F.Archived.shape (part G.Archived.shape ps)))))))
+        (λ ks. A.keys a.now ++ (B.keys b.now ++ (C.keys c.now
+        ++ (D.keys d.now ++ (E.keys e.now ++ (F.keys f.now ++ (G.keys g.now ++ ks)))))))
+        (λ vs. value (A.meaning a.now) (value (B.meaning b.now)
         (value (C.meaning c.now) (value (D.meaning d.now)
-        (value (E.meaning e.now) (value (F.meaning f.now) (value (G.meaning g.now) no_value)))))))
-        (value (A.flat a.now r.0) (value (B.flat b.now r.1.0)
+        (value (E.meaning e.now) (value (F.meaning f.now) (value (G.meaning g.now) vs)))))))
+        (λ vs. value (A.flat a.now r.0) (value (B.flat b.now r.1.0)
         (value (C.flat c.now r.1.1.0) (value (D.flat d.now r.1.1.1.0)
         (value (E.flat e.now r.1.1.1.1.0) (value (F.flat f.now r.1.1.1.1.1.0)
-        (value (G.flat g.now r.1.1.1.1.1.1.0) no_value))))))) (S.state serializer.old)
+        (value (G.flat g.now r.1.1.1.1.1.1.0) vs))))))) (S.state serializer.old)
         (S.state serializer.new)) }
     ensures same_values { IfOk result (λ r. A.belongs a.now r.0
         × (B.belongs b.now r.1.0 × (C.belongs c.now r.1.1.0
         × (D.belongs d.now r.1.1.1.0 × (E.belongs e.now r.1.1.1.1.0
         × (F.belongs f.now r.1.1.1.1.1.0 × (G.belongs g.now r.1.1.1.1.1.1.0 × Unit {0}))))))) }
     ensures goes_on { GoesOn (S.state serializer.old) (S.state serializer.new) }
-    ensures refused { IfErr result (λ refusal. ArePartsRefused
-        (both A.Archived.definitions (both B.Archived.definitions
-        (both C.Archived.definitions (both D.Archived.definitions
-        (both E.Archived.definitions (both F.Archived.definitions
-        (both G.Archived.definitions no_definition)))))))
-        (part A.Archived.shape (part B.Archived.shape (part C.Archived.shape
-        (part D.Archived.shape (part E.Archived.shape (part F.Archived.shape
-        (part G.Archived.shape no_part))))))) (A.keys a.now
-        ++ (B.keys b.now ++ (C.keys c.now ++ (D.keys d.now
-        ++ (E.keys e.now ++ (F.keys f.now ++ (G.keys g.now ++ [])))))))
-        (value (A.meaning a.now) (value (B.meaning b.now)
+    ensures refused { IfErr result (RefusedFirst (λ ds. both A.Archived.definitions
+        (both B.Archived.definitions (both C.Archived.definitions
+        (both D.Archived.definitions (both E.Archived.definitions
+        (both F.Archived.definitions (both G.Archived.definitions ds)))))))
+        (λ ps. part A.Archived.shape (part B.Archived.shape
+        (part C.Archived.shape (part D.Archived.shape (part E.Archived.shape
+        (part F.Archived.shape (part G.Archived.shape ps)))))))
+        (λ ks. A.keys a.now ++ (B.keys b.now ++ (C.keys c.now
+        ++ (D.keys d.now ++ (E.keys e.now ++ (F.keys f.now ++ (G.keys g.now ++ ks)))))))
+        (λ vs. value (A.meaning a.now) (value (B.meaning b.now)
         (value (C.meaning c.now) (value (D.meaning d.now)
-        (value (E.meaning e.now) (value (F.meaning f.now) (value (G.meaning g.now) no_value)))))))
-        (S.state serializer.old) (S.state serializer.new) refusal) }
+        (value (E.meaning e.now) (value (F.meaning f.now) (value (G.meaning g.now) vs)))))))
+        (S.state serializer.old) (S.state serializer.new)) }
 {
     let first = a.serialize(serializer)?;
     let others = serialize_6(b, c, d, e, f, g, serializer)?;
     Ok((first, others))
 }
 
-/// Writes what 8 fields own, one after another, and returns their resolvers.
+/// Writes what 8 fields own, one after another, and returns their resolvers. Others may follow.
 #[inline(always)]
 pub fn serialize_8<
     A: Serialize<S>,
@@ -377,48 +367,47 @@ pub fn serialize_8<
     ),
     Error,
 >
-    ensures serialized { IfOk result (λ r. SerializedParts
-        (both A.Archived.definitions (both B.Archived.definitions
+    ensures serialized { IfOk result (λ r. SerializedFirst
+        (λ ds. both A.Archived.definitions (both B.Archived.definitions
         (both C.Archived.definitions (both D.Archived.definitions
         (both E.Archived.definitions (both F.Archived.definitions
-        (both G.Archived.definitions (both H.Archived.definitions no_definition))))))))
-        (part A.Archived.shape (part B.Archived.shape (part C.Archived.shape
-        (part D.Archived.shape (part E.Archived.shape (part F.Archived.shape
-        (part G.Archived.shape (part H.Archived.shape no_part))))))))
-        (A.keys a.now ++ (B.keys b.now ++ (C.keys c.now
+        (both G.Archived.definitions (both H.Archived.definitions ds))))))))
+        (λ ps. part A.Archived.shape (part B.Archived.shape
+        (part C.Archived.shape (part D.Archived.shape (part E.Archived.shape
+        (part F.Archived.shape (part G.Archived.shape (part H.Archived.shape ps))))))))
+        (λ ks. A.keys a.now ++ (B.keys b.now ++ (C.keys c.now
         ++ (D.keys d.now ++ (E.keys e.now ++ (F.keys f.now
-        ++ (G.keys g.now ++ (H.keys h.now ++ []))))))))
-        (value (A.meaning a.now) (value (B.meaning b.now)
+        ++ (G.keys g.now ++ (H.keys h.now ++ ks))))))))
+        (λ vs. value (A.meaning a.now) (value (B.meaning b.now)
         (value (C.meaning c.now) (value (D.meaning d.now)
         (value (E.meaning e.now) (value (F.meaning f.now)
-        (value (G.meaning g.now) (value (H.meaning h.now) no_value))))))))
-        (value (A.flat a.now r.0) (value (B.flat b.now r.1.0)
+        (value (G.meaning g.now) (value (H.meaning h.now) vs))))))))
+        (λ vs. value (A.flat a.now r.0) (value (B.flat b.now r.1.0)
         (value (C.flat c.now r.1.1.0) (value (D.flat d.now r.1.1.1.0)
         (value (E.flat e.now r.1.1.1.1.0) (value (F.flat f.now r.1.1.1.1.1.0)
-        (value (G.flat g.now r.1.1.1.1.1.1.0) (value (H.flat h.now r.1.1.1.1.1.1.1.0)
-        no_value)))))))) (S.state serializer.old) (S.state serializer.new)) }
+        (value (G.flat g.now r.1.1.1.1.1.1.0) (value (H.flat h.now r.1.1.1.1.1.1.1.0) vs))))))))
+        (S.state serializer.old) (S.state serializer.new)) }
     ensures same_values { IfOk result (λ r. A.belongs a.now r.0
         × (B.belongs b.now r.1.0 × (C.belongs c.now r.1.1.0
         × (D.belongs d.now r.1.1.1.0 × (E.belongs e.now r.1.1.1.1.0
         × (F.belongs f.now r.1.1.1.1.1.0 × (G.belongs g.now r.1.1.1.1.1.1.0
         × (H.belongs h.now r.1.1.1.1.1.1.1.0 × Unit {0})))))))) }
     ensures goes_on { GoesOn (S.state serializer.old) (S.state serializer.new) }
-    ensures refused { IfErr result (λ refusal. ArePartsRefused
-        (both A.Archived.definitions (both B.Archived.definitions
-        (both C.Archived.definitions (both D.Archived.definitions
-        (both E.Archived.definitions (both F.Archived.definitions
-        (both G.Archived.definitions (both H.Archived.definitions no_definition))))))))
-        (part A.Archived.shape (part B.Archived.shape (part C.Archived.shape
-        (part D.Archived.shape (part E.Archived.shape (part F.Archived.shape
-        (part G.Archived.shape (part H.Archived.shape no_part))))))))
-        (A.keys a.now ++ (B.keys b.now ++ (C.keys c.now
-        ++ (D.keys d.now ++ (E.keys e.now ++ (F.keys f.now
-        ++ (G.keys g.now ++ (H.keys h.now ++ []))))))))
-        (value (A.meaning a.now) (value (B.meaning b.now)
+    ensures refused { IfErr result (RefusedFirst (λ ds. both A.Archived.definitions
+        (both B.Archived.definitions (both C.Archived.definitions
+        (both D.Archived.definitions (both E.Archived.definitions
+        (both F.Archived.definitions (both G.Archived.definitions
+        (both H.Archived.definitions ds)))))))) (λ ps. part A.Archived.shape
+        (part B.Archived.shape (part C.Archived.shape (part D.Archived.shape
+        (part E.Archived.shape (part F.Archived.shape (part G.Archived.shape
+        (part H.Archived.shape ps)))))))) (λ ks. A.keys a.now
+        ++ (B.keys b.now ++ (C.keys c.now ++ (D.keys d.now
+        ++ (E.keys e.now ++ (F.keys f.now ++ (G.keys g.now ++ (H.keys h.now ++ ks))))))))
+        (λ vs. value (A.meaning a.now) (value (B.meaning b.now)
         (value (C.meaning c.now) (value (D.meaning d.now)
         (value (E.meaning e.now) (value (F.meaning f.now)
-        (value (G.meaning g.now) (value (H.meaning h.now) no_value)))))))) (S.state serializer.old)
-        (S.state serializer.new) refusal) }
+        (value (G.meaning g.now) (value (H.meaning h.now) vs)))))))) (S.state serializer.old)
+        (S.state serializer.new)) }
 {
     let first = a.serialize(serializer)?;
     let others = serialize_7(b, c, d, e, f, g, h, serializer)?;

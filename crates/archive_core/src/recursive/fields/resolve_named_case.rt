@@ -10,7 +10,7 @@ ghost use Rattle.archive_core.specs.fields.OwnChoices.{variant_definitions};
 ghost use Rattle.archive_types.specs.Causes.{HindersAt};
 ghost use Rattle.archive_types.specs.Writing.{ZeroedPlace, Resolves};
 
-use crate::fields::{
+use crate::fields::pieces::{
     resolve_0, resolve_1, resolve_2, resolve_3, resolve_4, resolve_5, resolve_6, resolve_7,
 };
 use archive_check::format::error::Error;

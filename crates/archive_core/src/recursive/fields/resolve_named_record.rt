@@ -9,7 +9,7 @@ ghost use Rattle.archive_check.specs.Value.{value, no_value, product};
 ghost use Rattle.archive_types.specs.Causes.{HindersAt};
 ghost use Rattle.archive_types.specs.Writing.{ZeroedPlace, Resolves};
 
-use crate::fields::{
+use crate::fields::pieces::{
     resolve_0, resolve_1, resolve_2, resolve_3, resolve_4, resolve_5, resolve_6, resolve_7,
 };
 use archive_check::format::error::Error;

@@ -7,8 +7,8 @@ use Rattle.derived_wide.proofs.book.book_of.Goals as goal
 
 pub returns-clause-meaning : goal.returns-clause-meaning
 returns-clause-meaning c =
-    let e0 : SFits w16 c.args.values.rest.third = search rules in
-    let e1 : SFits w32 c.args.values.rest.rest.first = search rules in
-    let e2 : SFits w64 c.args.values.rest.rest.fourth = search rules in
-    let e3 : SFits w8 c.args.values.rest.rest.rest.third = search rules in
-    rw (to_z-of_z w16 c.args.values.rest.third e0, to_z-of_z w32 c.args.values.rest.rest.first e1, to_z-of_z w64 c.args.values.rest.rest.fourth e2, to_z-of_z w8 c.args.values.rest.rest.rest.third e3) refl
+    let e0 : SFits w16 c.args.values.0.1.1.1.1.1.1.0 = search rules in
+    let e1 : SFits w32 c.args.values.1.0.0 = search rules in
+    let e2 : SFits w64 c.args.values.1.0.1.1.1.0 = search rules in
+    let e3 : SFits w8 c.args.values.1.0.1.1.1.1.1.1.0 = search rules in
+    rw (to_z-of_z w16 c.args.values.0.1.1.1.1.1.1.0 e0, to_z-of_z w32 c.args.values.1.0.0 e1, to_z-of_z w64 c.args.values.1.0.1.1.1.0 e2, to_z-of_z w8 c.args.values.1.0.1.1.1.1.1.1.0 e3) refl

@@ -7,8 +7,8 @@ use Rattle.derived_wide.proofs.weather.weather_measured_of.Goals as goal
 
 pub returns-clause-meaning : goal.returns-clause-meaning
 returns-clause-meaning c =
-    let e0 : SFits w16 c.args.values.third = search rules in
-    let e1 : SFits w16 c.args.values.fourth = search rules in
-    let e2 : SFits w16 c.args.values.rest.first = search rules in
-    let e3 : SFits w64 c.args.values.rest.rest.rest.first = search rules in
-    rw (to_z-of_z w16 c.args.values.third e0, to_z-of_z w16 c.args.values.fourth e1, to_z-of_z w16 c.args.values.rest.first e2, to_z-of_z w64 c.args.values.rest.rest.rest.first e3) refl
+    let e0 : SFits w16 c.args.values.0.1.1.0 = search rules in
+    let e1 : SFits w16 c.args.values.0.1.1.1.0 = search rules in
+    let e2 : SFits w16 c.args.values.0.1.1.1.1.0 = search rules in
+    let e3 : SFits w64 c.args.values.1.0.1.1.1.1.0 = search rules in
+    rw (to_z-of_z w16 c.args.values.0.1.1.0 e0, to_z-of_z w16 c.args.values.0.1.1.1.0 e1, to_z-of_z w16 c.args.values.0.1.1.1.1.0 e2, to_z-of_z w64 c.args.values.1.0.1.1.1.1.0 e3) refl

@@ -1,0 +1,24 @@
+-- Written by tools/derive: change the declaration, and run it again.
+use Rattle.std.proofs.Common.{refl}
+use Rattle.archive_core.specs.Definitions.{both, no_definition}
+use Rattle.archive_core.specs.Shape.{no_part}
+use Rattle.archive_core.specs.Plain.{plain_choice}
+use Rattle.archive_core.proofs.fields.Ties.{lone, lone_at}
+use Rattle.archive_core.proofs.ReadChoices.{variant_viewed, variant_read_back, variant_refuses}
+use Rattle.archive_core.proofs.FollowedFields.{all_read, read_both}
+use Rattle.derived_wide.proofs.weather.weather_measured_read.Goals as goal
+
+pub read_8-requires : goal.read_8-requires
+read_8-requires g c = record { viewed = record { definitions = no_definition; others = _; viewed = (variant_viewed _ _ _ _ _ (plain_choice _ _ (lone 1 (both no_definition (both no_definition (both no_definition (both no_definition (both no_definition (both no_definition (both no_definition (both no_definition no_definition))))))))) refl) 1 _ refl (both no_definition (both no_definition (both no_definition (both no_definition (both no_definition (both no_definition (both no_definition (both no_definition no_definition)))))))) (lone_at 1 (both no_definition (both no_definition (both no_definition (both no_definition (both no_definition (both no_definition (both no_definition (both no_definition no_definition))))))))) _ _ _ c.requires.tag c.requires.viewed) } }
+
+pub read_8-2-requires : goal.read_8-2-requires
+read_8-2-requires g c = record { viewed = record { definitions = no_definition; others = no_part; viewed = (c.in-Ok.ensures.read.viewed _ _ (variant_viewed _ _ _ _ _ (plain_choice _ _ (lone 1 (both no_definition (both no_definition (both no_definition (both no_definition (both no_definition (both no_definition (both no_definition (both no_definition (both no_definition (both no_definition (both no_definition (both no_definition (both no_definition (both no_definition (both no_definition (both no_definition no_definition))))))))))))))))) refl) 1 _ refl (both no_definition (both no_definition (both no_definition (both no_definition (both no_definition (both no_definition (both no_definition (both no_definition (both no_definition (both no_definition (both no_definition (both no_definition (both no_definition (both no_definition (both no_definition (both no_definition no_definition)))))))))))))))) (lone_at 1 (both no_definition (both no_definition (both no_definition (both no_definition (both no_definition (both no_definition (both no_definition (both no_definition (both no_definition (both no_definition (both no_definition (both no_definition (both no_definition (both no_definition (both no_definition (both no_definition no_definition))))))))))))))))) _ _ _ c.requires.tag c.requires.viewed)) } }
+
+pub returns-in-Err-clause-refused : goal.returns-in-Err-clause-refused
+returns-in-Err-clause-refused g c = variant_refuses _ _ _ _ _ (plain_choice _ _ (lone 1 (both no_definition (both no_definition (both no_definition (both no_definition (both no_definition (both no_definition (both no_definition (both no_definition no_definition))))))))) refl) 1 _ refl (both no_definition (both no_definition (both no_definition (both no_definition (both no_definition (both no_definition (both no_definition (both no_definition no_definition)))))))) (lone_at 1 (both no_definition (both no_definition (both no_definition (both no_definition (both no_definition (both no_definition (both no_definition (both no_definition no_definition))))))))) _ _ _ c.requires.tag _ _ (c.in-Err.ensures.refused.refused no_definition _)
+
+pub returns-in-Err-read_8-clause-refused : goal.returns-in-Err-read_8-clause-refused
+returns-in-Err-read_8-clause-refused g c = variant_refuses _ _ _ _ _ (plain_choice _ _ (lone 1 (both no_definition (both no_definition (both no_definition (both no_definition (both no_definition (both no_definition (both no_definition (both no_definition (both no_definition (both no_definition (both no_definition (both no_definition (both no_definition (both no_definition (both no_definition (both no_definition no_definition))))))))))))))))) refl) 1 _ refl (both no_definition (both no_definition (both no_definition (both no_definition (both no_definition (both no_definition (both no_definition (both no_definition (both no_definition (both no_definition (both no_definition (both no_definition (both no_definition (both no_definition (both no_definition (both no_definition no_definition)))))))))))))))) (lone_at 1 (both no_definition (both no_definition (both no_definition (both no_definition (both no_definition (both no_definition (both no_definition (both no_definition (both no_definition (both no_definition (both no_definition (both no_definition (both no_definition (both no_definition (both no_definition (both no_definition no_definition))))))))))))))))) _ _ _ c.requires.tag _ _ (c.in-Ok.ensures.read.refused _ _ _ (c.in-Err-read_8.ensures.refused.refused no_definition no_part))
+
+pub returns-clause-read : goal.returns-clause-read
+returns-clause-read g c = variant_read_back _ _ _ _ _ (plain_choice _ _ (lone 1 (both no_definition (both no_definition (both no_definition (both no_definition (both no_definition (both no_definition (both no_definition (both no_definition (both no_definition (both no_definition (both no_definition (both no_definition (both no_definition (both no_definition (both no_definition (both no_definition no_definition))))))))))))))))) refl) 1 _ refl (both no_definition (both no_definition (both no_definition (both no_definition (both no_definition (both no_definition (both no_definition (both no_definition (both no_definition (both no_definition (both no_definition (both no_definition (both no_definition (both no_definition (both no_definition (both no_definition no_definition)))))))))))))))) (lone_at 1 (both no_definition (both no_definition (both no_definition (both no_definition (both no_definition (both no_definition (both no_definition (both no_definition (both no_definition (both no_definition (both no_definition (both no_definition (both no_definition (both no_definition (both no_definition (both no_definition no_definition))))))))))))))))) _ _ _ c.requires.tag _ _ _ _ (all_read (read_both c.in-Ok.ensures.read c.in-Ok-read_8.ensures.read))
