@@ -30,7 +30,7 @@ def is_compared(declaration):
 
 def in_pairs(fields):
     """Whether the nest of these fields is one of pairs."""
-    return Loads().are_compared([field.type for field in fields])
+    return Loads().read_by_nest([field.type for field in fields])
 
 
 def can_be(type):

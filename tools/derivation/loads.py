@@ -219,9 +219,9 @@ class Loads:
                 return found
             count += 1
 
-    def are_compared(self, types):
-        """Whether a call compares them, which goes by their nest in pairs."""
-        return not is_long(types) and (len(types) < 4 or self.parts(types) + self.owned(types) + self.read(types, False) <= MOST)
+    def read_by_nest(self, types):
+        """Whether a call reads them by their nest in pairs: where they are few and not too deep."""
+        return not is_long(types) and self.parts(types) + self.owned(types) + self.read(types, False) <= MOST
 
     def go_by_fours(self, types):
         """Whether a nest of these fields has four at once: where there are many, or in pairs it came to too much."""

@@ -43,6 +43,7 @@ class Record(Source):
         self.by_fours = loads.go_by_fours(self.types)
         self.pieces = loads.pieces(self.types)
         self.in_pieces = len(self.pieces) > 1
+        self.by_nest = loads.read_by_nest(self.types)
         self.formats_of = [formats.archived(type) for type in self.types]
         self.rust = [formats.rust(type) for type in self.types]
         self.read = [formats.read_as(type) for type in self.types]
@@ -215,13 +216,13 @@ def is_made_apart(record):
 
 def has_owned(record):
     """Whether the type of the fields' values has a name, as one nest."""
-    return not record.in_pieces and (is_made_apart(record) or not record.types)
+    return not record.in_pieces and (is_made_apart(record) or record.by_nest)
 
 
 def read(record):
     if record.in_pieces:
         call = pieces_of(record).read_call()
-    elif record.count:
+    elif not record.by_nest:
         name = f"read_record_{record.count}"
         record.formats.use("archive_core::fields", name)
         call = Generic(name, record.read + record.formats_of + ["Self", "D"], ["alloc", "part", "deserializer"])

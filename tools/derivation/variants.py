@@ -55,6 +55,7 @@ class Case:
         self.by_fours = loads.go_by_fours(self.types)
         self.pieces = loads.pieces(self.types)
         self.in_pieces = len(self.pieces) > 1
+        self.by_nest = loads.read_by_nest(self.types)
 
     def its_pieces(self):
         choice = self.choice
@@ -146,6 +147,8 @@ def enum(choice):
             choice.formats.use("archive_core::traits", "FourParts")
         if case.count:
             lines.append(statement(0, f"type {case.word}Parts = ", nest(case.archived, case.by_fours), ";"))
+        if case.count and case.by_nest:
+            lines.append(statement(0, f"type {case.word}Owned = ", pair(case.read), ";"))
     lines.append(statement(0, f"type {choice.name}Variants = ", choice.units.nest(), ";"))
     return f"""/// An archived `{choice.name}`: {choice.size} bytes at a multiple of {choice.align}.
 {choice.visibility}struct {choice.archived};
@@ -317,12 +320,13 @@ def read(choice):
     for case in choice.units.apart():
         if case.in_pieces:
             call = case.its_pieces().read_call()
-        elif case.count:
+        elif case.by_nest:
+            its = [f"{case.word}Parts", f"{case.word}Owned"] if case.count else ["()", "()"]
+            f.use("archive_core::fields", "read_case")
+            call = Generic("read_case", ["Self"] + its + ["D"], [str(case.tag), "alloc", "part", "deserializer"])
+        else:
             f.use("archive_core::fields", f"read_case_{case.count}")
             call = Generic(f"read_case_{case.count}", case.read + case.archived + ["Self", "D"], [str(case.tag), "alloc", "part", "deserializer"])
-        else:
-            f.use("archive_core::fields", "read_case")
-            call = Generic("read_case", ["Self", "()", "()", "D"], [str(case.tag), "alloc", "part", "deserializer"])
         tag = "_" if case is choice.cases[-1] and not choice.units.are else str(case.tag)
         if case.in_pieces:
             arms.append(match_arm(tag, call, "values", f"{made_of(case).name}(values)"))

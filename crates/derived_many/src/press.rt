@@ -137,8 +137,8 @@ ghost use Rattle.std.specs.Prelude.{None, Some, [], codes, refl, string_bytes, t
 
 use archive_core::error::Error;
 use archive_core::fields::{
-    UnitVariants, known_tag, part_in_case, read_case, read_case_1, read_case_2, resolve_case_0,
-    resolve_case_1, resolve_case_2, serialize_case_0, serialize_case_1, serialize_case_2, tag_in,
+    UnitVariants, known_tag, part_in_case, read_case, resolve_case_0, resolve_case_1,
+    resolve_case_2, serialize_case_0, serialize_case_1, serialize_case_2, tag_in,
 };
 use archive_core::place::Place;
 use archive_core::primitive::{ArchivedChar, ArchivedU32};
@@ -160,9 +160,15 @@ pub struct ArchivedPress;
 
 type PressScannedParts = (ArchivedU32, ());
 
+type PressScannedOwned = (u32, ());
+
 type PressNamedParts = (ArchivedString, ());
 
+type PressNamedOwned = (String, ());
+
 type PressChordParts = (u8, (ArchivedChar, ()));
+
+type PressChordOwned = (u8, (char, ()));
 
 type PressVariants = UnitVariants<
     1,
@@ -1242,10 +1248,8 @@ impl Archive for Press {
     ) -> Result<(), Error>
         requires zeroed { ZeroedPlace 12 place.pos place.bytes.now }
         requires same_value { ⟦<Self as Archive>⟧.belongs self.now resolver }
-        ensures {
-            ResolvesAs ⟦<Self::Archived as Portable>⟧ place
-                (⟦<Self as Archive>⟧.flat self.now resolver) result
-        }
+        ensures { ResolvesAs ⟦<Self::Archived as Portable>⟧ place
+            (⟦<Self as Archive>⟧.flat self.now resolver) result }
     {
         let Place { bytes, pos, .. } = place;
         match self {
@@ -1261,7 +1265,10 @@ impl Archive for Press {
                 };
                 resolve_case_1::<String, ArchivedPress>(38, a0, kept, Place::new(pos, bytes))
             }
-            Press::Chord { modifiers: a0, key: a1 } => {
+            Press::Chord {
+                modifiers: a0,
+                key: a1,
+            } => {
                 let PressResolver::Chord(kept) = resolver else {
                     unreachable!();
                 };
@@ -1302,13 +1309,10 @@ impl<S: Writer + ResolverAlloc> Serialize<S> for Press {
                 Ok(kept) => Ok(PressResolver::Named(kept)),
                 Err(error) => Err(error),
             },
-            Press::Chord { modifiers: a0, key: a1 } => match serialize_case_2::<
-                u8,
-                char,
-                ArchivedPress,
-                S,
-            >(92, a0, a1, serializer)
-            {
+            Press::Chord {
+                modifiers: a0,
+                key: a1,
+            } => match serialize_case_2::<u8, char, ArchivedPress, S>(92, a0, a1, serializer) {
                 Ok(kept) => Ok(PressResolver::Chord(kept)),
                 Err(error) => Err(error),
             },
@@ -1480,11 +1484,16 @@ impl<D: Entries> Deserialize<Press, D> for ArchivedPress {
             ⟦<Press as Archive>⟧ result }
     {
         match known_tag::<Self>(part) {
-            1 => match read_case_1::<u32, ArchivedU32, Self, D>(1, alloc, part, deserializer) {
+            1 => match read_case::<Self, PressScannedParts, PressScannedOwned, D>(
+                1,
+                alloc,
+                part,
+                deserializer,
+            ) {
                 Ok((a0, ())) => Ok(Press::Scanned(a0)),
                 Err(error) => Err(error),
             },
-            38 => match read_case_1::<String, ArchivedString, Self, D>(
+            38 => match read_case::<Self, PressNamedParts, PressNamedOwned, D>(
                 38,
                 alloc,
                 part,
@@ -1493,7 +1502,7 @@ impl<D: Entries> Deserialize<Press, D> for ArchivedPress {
                 Ok((a0, ())) => Ok(Press::Named(a0)),
                 Err(error) => Err(error),
             },
-            92 => match read_case_2::<u8, char, u8, ArchivedChar, Self, D>(
+            92 => match read_case::<Self, PressChordParts, PressChordOwned, D>(
                 92,
                 alloc,
                 part,

@@ -49,7 +49,7 @@ use archive_core::compare::Ordered;
 use archive_core::compared::{ComparedCases, compare_choice, hash_choice};
 use archive_core::error::Error;
 use archive_core::fields::{
-    UnitVariants, known_tag, part_in_case, read_case, read_case_1, resolve_case_0, resolve_case_1,
+    UnitVariants, known_tag, part_in_case, read_case, resolve_case_0, resolve_case_1,
     serialize_case_0, serialize_case_1, tag_in,
 };
 use archive_core::place::Place;
@@ -71,6 +71,8 @@ use std::hash::{Hash, Hasher};
 pub struct ArchivedWind;
 
 type WindHurricaneParts = (u8, ());
+
+type WindHurricaneOwned = (u8, ());
 
 type WindVariants = UnitVariants<12, (WindHurricaneParts, ())>;
 
@@ -353,10 +355,8 @@ impl Archive for Wind {
     ) -> Result<(), Error>
         requires zeroed { ZeroedPlace 2 place.pos place.bytes.now }
         requires same_value { ⟦<Self as Archive>⟧.belongs self.now resolver }
-        ensures {
-            ResolvesAs ⟦<Self::Archived as Portable>⟧ place
-                (⟦<Self as Archive>⟧.flat self.now resolver) result
-        }
+        ensures { ResolvesAs ⟦<Self::Archived as Portable>⟧ place
+            (⟦<Self as Archive>⟧.flat self.now resolver) result }
     {
         let Place { bytes, pos, .. } = place;
         match self {
@@ -472,7 +472,12 @@ impl<D: Entries> Deserialize<Wind, D> for ArchivedWind {
             result }
     {
         match known_tag::<Self>(part) {
-            12 => match read_case_1::<u8, u8, Self, D>(12, alloc, part, deserializer) {
+            12 => match read_case::<Self, WindHurricaneParts, WindHurricaneOwned, D>(
+                12,
+                alloc,
+                part,
+                deserializer,
+            ) {
                 Ok((a0, ())) => Ok(Wind::Hurricane(a0)),
                 Err(error) => Err(error),
             },

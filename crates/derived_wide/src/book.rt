@@ -113,7 +113,6 @@ type BookParts = FourParts<
     >,
 >;
 
-
 impl ArchivePointee for ArchivedBook {
     type ArchivedMetadata = ();
 
@@ -796,10 +795,8 @@ impl Archive for Book {
     ) -> Result<(), Error>
         requires zeroed { ZeroedPlace 88 place.pos place.bytes.now }
         requires same_value { ⟦<Self as Archive>⟧.belongs self.now resolver }
-        ensures {
-            ResolvesAs ⟦<Self::Archived as Portable>⟧ place
-                (⟦<Self as Archive>⟧.flat self.now resolver) result
-        }
+        ensures { ResolvesAs ⟦<Self::Archived as Portable>⟧ place
+            (⟦<Self as Archive>⟧.flat self.now resolver) result }
     {
         let Place { bytes, pos, .. } = place;
         let BookResolver { kept } = resolver;

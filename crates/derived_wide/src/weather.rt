@@ -72,11 +72,11 @@ ghost use Rattle.std.specs.Prelude.{IfErr, IfOk, None, OnOk, [], codes, length, 
 
 use archive_core::boxed::ArchivedBox;
 use archive_core::error::Error;
-use archive_core::fields::{
-    known_tag, part_in_case, read_case, read_case_1, resolve_case_0, resolve_case_1,
-    serialize_case_0, serialize_case_1, tag_in,
-};
 use archive_core::fields::pieces::{plan_8, read_8, resolve_8, serialize_8};
+use archive_core::fields::{
+    known_tag, part_in_case, read_case, resolve_case_0, resolve_case_1, serialize_case_0,
+    serialize_case_1, tag_in,
+};
 use archive_core::option::ArchivedOption;
 use archive_core::place::Place;
 use archive_core::primitive::{
@@ -127,6 +127,8 @@ type WeatherMeasuredParts = FourParts<
 >;
 
 type WeatherBrokenParts = (ArchivedString, ());
+
+type WeatherBrokenOwned = (String, ());
 
 type WeatherVariants = ((), (WeatherMeasuredParts, (WeatherBrokenParts, ())));
 
@@ -892,15 +894,30 @@ impl Archive for Weather {
     ) -> Result<(), Error>
         requires zeroed { ZeroedPlace 88 place.pos place.bytes.now }
         requires same_value { ⟦<Self as Archive>⟧.belongs self.now resolver }
-        ensures {
-            ResolvesAs ⟦<Self::Archived as Portable>⟧ place
-                (⟦<Self as Archive>⟧.flat self.now resolver) result
-        }
+        ensures { ResolvesAs ⟦<Self::Archived as Portable>⟧ place
+            (⟦<Self as Archive>⟧.flat self.now resolver) result }
     {
         let Place { bytes, pos, .. } = place;
         match self {
             Weather::Unknown => resolve_case_0::<ArchivedWeather>(0, (), Place::new(pos, bytes)),
-            Weather::Measured { seconds: a0, station: a1, warmth: a2, least: a3, most: a4, moisture: a5, rains: a6, wind: a7, speed: a8, gusts: a9, sight: a10, spot: a11, change: a12, before: a13, other: a14, faults: a15 } => {
+            Weather::Measured {
+                seconds: a0,
+                station: a1,
+                warmth: a2,
+                least: a3,
+                most: a4,
+                moisture: a5,
+                rains: a6,
+                wind: a7,
+                speed: a8,
+                gusts: a9,
+                sight: a10,
+                spot: a11,
+                change: a12,
+                before: a13,
+                other: a14,
+                faults: a15,
+            } => {
                 let WeatherResolver::Measured(kept) = resolver else {
                     unreachable!();
                 };
@@ -957,7 +974,24 @@ impl<S: Writer + ResolverAlloc> Serialize<S> for Weather {
                 Ok(()) => Ok(WeatherResolver::Unknown),
                 Err(error) => Err(error),
             },
-            Weather::Measured { seconds: a0, station: a1, warmth: a2, least: a3, most: a4, moisture: a5, rains: a6, wind: a7, speed: a8, gusts: a9, sight: a10, spot: a11, change: a12, before: a13, other: a14, faults: a15 } => {
+            Weather::Measured {
+                seconds: a0,
+                station: a1,
+                warmth: a2,
+                least: a3,
+                most: a4,
+                moisture: a5,
+                rains: a6,
+                wind: a7,
+                speed: a8,
+                gusts: a9,
+                sight: a10,
+                spot: a11,
+                change: a12,
+                before: a13,
+                other: a14,
+                faults: a15,
+            } => {
                 match weather_measured_serialized(
                     a0, a1, a2, a3, a4, a5, a6, a7, a8, a9, a10, a11, a12, a13, a14, a15,
                     serializer,
@@ -1097,7 +1131,7 @@ impl<D: Entries> Deserialize<Weather, D> for ArchivedWeather {
                 Ok(values) => Ok(weather_measured_of(values)),
                 Err(error) => Err(error),
             },
-            _ => match read_case_1::<String, ArchivedString, Self, D>(
+            _ => match read_case::<Self, WeatherBrokenParts, WeatherBrokenOwned, D>(
                 2,
                 alloc,
                 part,

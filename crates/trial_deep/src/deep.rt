@@ -27,7 +27,13 @@ pub enum Move {
     /// Nothing.
     Rest,
     /// A parcel's.
-    Sent { number: u64, key: [u8; 16], weighed: Option<(u32, String)>, content: Vec<(String, u32)>, notes: Option<Vec<String>> },
+    Sent {
+        number: u64,
+        key: [u8; 16],
+        weighed: Option<(u32, String)>,
+        content: Vec<(String, u32)>,
+        notes: Option<Vec<String>>,
+    },
     /// A note.
     Note(Option<Vec<String>>, BTreeMap<String, Vec<u32>>),
 }
@@ -431,10 +437,8 @@ impl Archive for Parcel {
     ) -> Result<(), Error>
         requires zeroed { ZeroedPlace 80 place.pos place.bytes.now }
         requires same_value { ⟦<Self as Archive>⟧.belongs self.now resolver }
-        ensures {
-            ResolvesAs ⟦<Self::Archived as Portable>⟧ place
-                (⟦<Self as Archive>⟧.flat self.now resolver) result
-        }
+        ensures { ResolvesAs ⟦<Self::Archived as Portable>⟧ place
+            (⟦<Self as Archive>⟧.flat self.now resolver) result }
     {
         let Place { bytes, pos, .. } = place;
         let ParcelResolver { kept } = resolver;
@@ -1204,15 +1208,19 @@ impl Archive for Move {
     ) -> Result<(), Error>
         requires zeroed { ZeroedPlace 72 place.pos place.bytes.now }
         requires same_value { ⟦<Self as Archive>⟧.belongs self.now resolver }
-        ensures {
-            ResolvesAs ⟦<Self::Archived as Portable>⟧ place
-                (⟦<Self as Archive>⟧.flat self.now resolver) result
-        }
+        ensures { ResolvesAs ⟦<Self::Archived as Portable>⟧ place
+            (⟦<Self as Archive>⟧.flat self.now resolver) result }
     {
         let Place { bytes, pos, .. } = place;
         match self {
             Move::Rest => resolve_case_0::<ArchivedMove>(0, (), Place::new(pos, bytes)),
-            Move::Sent { number: a0, key: a1, weighed: a2, content: a3, notes: a4 } => {
+            Move::Sent {
+                number: a0,
+                key: a1,
+                weighed: a2,
+                content: a3,
+                notes: a4,
+            } => {
                 let MoveResolver::Sent(kept) = resolver else {
                     unreachable!();
                 };
@@ -1263,7 +1271,13 @@ impl<S: Writer + ResolverAlloc<Alloc = Global>> Serialize<S> for Move {
                 Ok(()) => Ok(MoveResolver::Rest),
                 Err(error) => Err(error),
             },
-            Move::Sent { number: a0, key: a1, weighed: a2, content: a3, notes: a4 } => {
+            Move::Sent {
+                number: a0,
+                key: a1,
+                weighed: a2,
+                content: a3,
+                notes: a4,
+            } => {
                 match serialize_case_5::<
                     u64,
                     [u8; 16],
