@@ -203,7 +203,7 @@ class Loads:
 
     def of_fields(self, types, fours):
         """The most that a call over these fields passes, of a struct or of a variant: they are checked by their nest, written and read back in pieces."""
-        return max([self.parts(types, fours)] + [self.of_piece(types[begin:end]) for begin, end in self.pieces(types)])
+        return max([self.parts(types, fours), 0 if is_long(types) else self.all(self.serialize, types)] + [self.of_piece(types[begin:end]) for begin, end in self.pieces(types)])
 
     def of_piece(self, types):
         """What a call passes that writes or reads these fields."""

@@ -45,6 +45,7 @@ class Pieces:
         self.count = len(its.types)
         self.whole = "product" if tag is None else f"case {tag}"
         self.start = 0 if tag is None else 1
+        self.is_written = its.is_long  # in pieces
         self.places = [place(self.pieces, i) for i in range(self.count)]
         self.names = [f"a{i}" for i in range(self.count)]
         sizes = [self.formats.layout(type)[0] for type in its.types]
@@ -52,7 +53,11 @@ class Pieces:
         self.starts = [self.start] + [ends[end - 1] for _, end in self.pieces[:-1]]
 
     def nest(self, parts):
-        return pair([pair(parts[begin:end]) for begin, end in self.pieces])
+        return self.together([pair(parts[begin:end]) for begin, end in self.pieces])
+
+    def together(self, wholes):
+        """What is said of each piece, as one."""
+        return pair(wholes) if len(wholes) > 1 else wholes[0]
 
     def kept(self):
         return self.nest([f"<{rust} as Archive>::Resolver" for rust in self.its.rust])
@@ -64,7 +69,8 @@ class Pieces:
 
     def bring(self):
         f = self.formats
-        f.use("archive_core::fields::pieces", *(f"{base}_{end - begin}" for base in ("plan", "read", "resolve", "serialize") for begin, end in self.pieces))
+        bases = ("plan", "read", "resolve", "serialize") if self.is_written else ("read",)
+        f.use("archive_core::fields::pieces", *(f"{base}_{end - begin}" for base in bases for begin, end in self.pieces))
         f.ghost("std.specs.Prelude", "IfOk", "IfErr", "OnOk", "length", "◌≡◌", "◌++◌", "[]")
         f.ghost("Causes", "IsRefused", "HindersAt")
         f.ghost("Plans", "Serialized")
@@ -87,8 +93,10 @@ class Pieces:
 
     def text(self):
         self.bring()
-        types = statement(0, f"type {self.word}Kept = ", self.kept(), ";") + "\n" + statement(0, f"type {self.word}Owned = ", self.nest(self.its.read), ";")
-        return "\n".join([types, self.serialized(), self.resolved(), self.read_back()])
+        out = [statement(0, f"type {self.word}Owned = ", self.nest(self.its.read), ";"), self.read_back()]
+        if self.is_written:
+            out = [statement(0, f"type {self.word}Kept = ", self.kept(), ";"), self.serialized(), self.resolved()] + out
+        return "\n".join(out)
 
     def borrowed(self):
         return [f"{name}: &{rust}" for name, rust in zip(self.names, self.its.rust)]
@@ -108,7 +116,7 @@ class Pieces:
         return f"""// Writes what the fields of `{self.its_path()}` own, piece by piece.
 {head}
 {clauses}{{
-{body}    Ok({flat(pair([f"k{number}" for number in range(len(self.pieces))]))})
+{body}    Ok({flat(self.together([f"k{number}" for number in range(len(self.pieces))]))})
 }}
 """
 
@@ -164,7 +172,7 @@ class Pieces:
 {tag}    ensures read {{ IfOk result (λ t. ReadsPart {its} part D.Entries deserializer ({self.whole} {meanings}) ({keys})) }}
     ensures refused {{ IfErr result (RefusesPart {its} part D.Entries deserializer) }}
 {{
-{body}    Ok({flat(pair([f"v{number}" for number in range(len(self.pieces))]))})
+{body}    Ok({flat(self.together([f"v{number}" for number in range(len(self.pieces))]))})
 }}
 """
 
@@ -186,7 +194,8 @@ class Pieces:
 
     def proofs(self, folder, dotted):
         out = {}
-        for what, text in (("serialized", self.serialize_answers()), ("read", self.read_answers())):
+        both = [("serialized", self.serialize_answers()), ("read", self.read_answers())]
+        for what, text in both if self.is_written else both[1:]:
             name = f"{self.name}_{what}"
             brought, answers = text
             out[f"proofs/{folder}/{name}/Answers.antt"] = f"-- {WRITTEN}\n{brought}use Rattle.{dotted}.{name}.Goals as goal\n{answers}"

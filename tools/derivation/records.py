@@ -22,7 +22,7 @@ from .common import (
 from .formats import layout_of, snake
 from .layout import Generic, Group, flat, implementation, literal, pair, signature, statement
 from .loads import Loads
-from .long import nest, place
+from .long import is_long, nest, place
 from .made import WRITTEN, Made
 from .pieces import Pieces
 
@@ -42,8 +42,9 @@ class Record(Source):
         loads = Loads()
         self.by_fours = loads.go_by_fours(self.types)
         self.pieces = loads.pieces(self.types)
-        self.in_pieces = len(self.pieces) > 1
-        self.by_nest = loads.read_by_nest(self.types)
+        self.is_long = is_long(self.types)
+        self.in_pieces = not loads.read_by_nest(self.types)
+        self.written = self.pieces if self.is_long else [(0, self.count)]
         self.formats_of = [formats.archived(type) for type in self.types]
         self.rust = [formats.rust(type) for type in self.types]
         self.read = [formats.read_as(type) for type in self.types]
@@ -67,7 +68,7 @@ class Record(Source):
 
 def text(formats, declaration):
     record = Record(formats, declaration)
-    if not record.in_pieces:
+    if not record.is_long:
         formats.use("archive_core::fields", f"serialize_record_{record.count}", f"resolve_record_{record.count}")
     pieces = [
         struct(record),
@@ -98,7 +99,7 @@ def struct(record):
     parts = statement(0, f"type {record.name}Parts = ", nest(record.formats_of, record.by_fours), ";")
     if record.by_fours:
         record.formats.use("archive_core::traits", "FourParts")
-    owned = statement(0, f"type {record.name}Owned = ", pair(record.read), ";") if has_owned(record) else ""
+    owned = statement(0, f"type {record.name}Owned = ", pair(record.read), ";") if not record.in_pieces else ""
     return f"""/// An archived `{record.name}`: {record.size} bytes at a multiple of {record.align}.
 {record.visibility}struct {archived};
 
@@ -130,7 +131,7 @@ def is_record(record):
 def resolver(record):
     if not record.count:
         return ""
-    kept = f"{record.name}Kept" if record.in_pieces else pair([f"<{rust} as Archive>::Resolver" for rust in record.rust])
+    kept = f"{record.name}Kept" if record.is_long else pair([f"<{rust} as Archive>::Resolver" for rust in record.rust])
     return f"""/// What is kept of `{record.name}` between `serialize` and `resolve`.
 #[derive(Drop)]
 {record.declared}struct {record.resolver} {{
@@ -146,7 +147,7 @@ def archive(record):
     f.ghost("Plain", "plain_record_planned")
     sources = [f.source(type) for type in types]
     meanings = chain("value", [f"({q}.meaning {v})" for q, v in zip(sources, values)], "no_value")
-    kepts = [f"r.kept{place(record.pieces, i)}" for i in range(record.count)]
+    kepts = [f"r.kept{place(record.written, i)}" for i in range(record.count)]
     flats = chain("value", [f"({q}.flat {v} {r})" for q, v, r in zip(sources, values, kepts)], "no_value")
     keys = infix("++", [f"{q}.keys {v}" for q, v in zip(sources, values)], "[]")
     belongs = infix("×", [f"{q}.belongs {v} {r}" for q, v, r in zip(sources, values, kepts)], "Unit {0}")
@@ -158,7 +159,7 @@ def archive(record):
     borrowed = [f"&self.{field.name}" for field in record.fields]
     call = Generic(f"resolve_record_{record.count}", record.rust + [record.archived], borrowed + [kept, "Place::new(pos, bytes)"])
     apart = taken_apart(f, types, 8)
-    if record.in_pieces:
+    if record.is_long:
         call, apart = pieces_of(record).resolve_call(borrowed, "kept"), ""
     taken = f"        let {record.resolver} {{ kept }} = resolver;\n{apart}" if record.count else ""
     told, calls = bulk.told(record) if record.in_bulk else in_turn(f)
@@ -192,7 +193,7 @@ def serialize(record):
     bound = record.formats.writer_bound(record.types)
     borrowed = [f"&self.{field.name}" for field in record.fields]
     call = Generic(f"serialize_record_{record.count}", record.rust + [record.archived, "S"], borrowed + ["serializer"])
-    if record.in_pieces:
+    if record.is_long:
         call = pieces_of(record).serialize_call(borrowed)
     if record.count:
         body = f"""{statement(8, "match ", call, " {")}            Ok(kept) => Ok({record.resolver} {{ kept }}),
@@ -214,18 +215,9 @@ def is_made_apart(record):
     return record.count > SHORT_RECORD or record.in_pieces
 
 
-def has_owned(record):
-    """Whether the type of the fields' values has a name, as one nest."""
-    return not record.in_pieces and (is_made_apart(record) or record.by_nest)
-
-
 def read(record):
     if record.in_pieces:
         call = pieces_of(record).read_call()
-    elif not record.by_nest:
-        name = f"read_record_{record.count}"
-        record.formats.use("archive_core::fields", name)
-        call = Generic(name, record.read + record.formats_of + ["Self", "D"], ["alloc", "part", "deserializer"])
     else:
         record.formats.use("archive_core::record", "deserialize_record")
         call = Generic("deserialize_record", ["Self", f"{record.name}Owned", "D"], ["alloc", "part", "deserializer"])

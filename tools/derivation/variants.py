@@ -21,7 +21,7 @@ from .common import (
 from .formats import layout_of, snake
 from .layout import Generic, Group, WIDTH, ended, flat, implementation, lay, literal, pair, signature, statement
 from .loads import Loads
-from .long import nest, place
+from .long import is_long, nest, place
 from .made import WRITTEN, Made
 from .pieces import Pieces
 from .units import Units
@@ -54,8 +54,9 @@ class Case:
         loads = Loads()
         self.by_fours = loads.go_by_fours(self.types)
         self.pieces = loads.pieces(self.types)
-        self.in_pieces = len(self.pieces) > 1
-        self.by_nest = loads.read_by_nest(self.types)
+        self.is_long = is_long(self.types)
+        self.in_pieces = not loads.read_by_nest(self.types)
+        self.written = self.pieces if self.is_long else [(0, self.count)]
 
     def its_pieces(self):
         choice = self.choice
@@ -63,7 +64,7 @@ class Case:
 
     def kept(self, of):
         """Where what is kept of each field is, in what is kept of the variant."""
-        return [f"{of}{place(self.pieces, i)}" for i in range(self.count)]
+        return [f"{of}{place(self.written, i)}" for i in range(self.count)]
 
     def pattern(self, values=()):
         """The variant with a name for each field, or with these values."""
@@ -118,7 +119,7 @@ class Choice(Source):
 def text(formats, declaration):
     choice = Choice(formats, declaration)
     for case in choice.cases:
-        if not case.in_pieces:
+        if not case.is_long:
             formats.use("archive_core::fields", f"serialize_case_{case.count}", f"resolve_case_{case.count}")
     pieces = [
         enum(choice),
@@ -147,7 +148,7 @@ def enum(choice):
             choice.formats.use("archive_core::traits", "FourParts")
         if case.count:
             lines.append(statement(0, f"type {case.word}Parts = ", nest(case.archived, case.by_fours), ";"))
-        if case.count and case.by_nest:
+        if case.count and not case.in_pieces:
             lines.append(statement(0, f"type {case.word}Owned = ", pair(case.read), ";"))
     lines.append(statement(0, f"type {choice.name}Variants = ", choice.units.nest(), ";"))
     return f"""/// An archived `{choice.name}`: {choice.size} bytes at a multiple of {choice.align}.
@@ -183,7 +184,7 @@ def is_choice(choice):
 def resolver(choice):
     lines = choice.units.resolver()
     for case in choice.units.apart():
-        kept = f"{case.word}Kept" if case.in_pieces else pair([f"<{rust} as Archive>::Resolver" for rust in case.rust])
+        kept = f"{case.word}Kept" if case.is_long else pair([f"<{rust} as Archive>::Resolver" for rust in case.rust])
         doc = f"    /// Of `{case.name}`.\n"
         lines.append(doc + (statement(4, "", Group(f"{case.name}(", [kept], ")"), ",") if case.count else f"    {case.name},\n"))
     return f"""/// What is kept of `{choice.name}` between `serialize` and `resolve`.
@@ -262,7 +263,7 @@ def resolve_arm(choice, case):
     pattern = flat(case.pattern())
     call = Generic(f"resolve_case_{case.count}", case.rust + [choice.archived], [str(case.tag)] + case.names + [kept, there])
     apart = taken_apart(choice.formats, case.types, 16)
-    if case.in_pieces:
+    if case.is_long:
         call, apart = case.its_pieces().resolve_call(case.names, "kept"), ""
     if not case.count:
         one = f"            {pattern} => {flat(call)},\n"
@@ -298,7 +299,7 @@ def serialize(choice):
     arms = []
     for case in choice.units.apart():
         call = Generic(f"serialize_case_{case.count}", case.rust + [choice.archived, "S"], [str(case.tag)] + case.names + ["serializer"])
-        if case.in_pieces:
+        if case.is_long:
             call = case.its_pieces().serialize_call(case.names)
         made = f"{choice.resolver}::{case.name}" + ("(kept)" if case.count else "")
         arms.append(match_arm(case.pattern(), call, "kept" if case.count else "()", made))
@@ -320,13 +321,10 @@ def read(choice):
     for case in choice.units.apart():
         if case.in_pieces:
             call = case.its_pieces().read_call()
-        elif case.by_nest:
+        else:
             its = [f"{case.word}Parts", f"{case.word}Owned"] if case.count else ["()", "()"]
             f.use("archive_core::fields", "read_case")
             call = Generic("read_case", ["Self"] + its + ["D"], [str(case.tag), "alloc", "part", "deserializer"])
-        else:
-            f.use("archive_core::fields", f"read_case_{case.count}")
-            call = Generic(f"read_case_{case.count}", case.read + case.archived + ["Self", "D"], [str(case.tag), "alloc", "part", "deserializer"])
         tag = "_" if case is choice.cases[-1] and not choice.units.are else str(case.tag)
         if case.in_pieces:
             arms.append(match_arm(tag, call, "values", f"{made_of(case).name}(values)"))

@@ -8,9 +8,7 @@ mod copying;
 mod front;
 pub mod pieces;
 mod plan_few;
-mod read_case_few;
 mod read_few;
-mod read_record_few;
 mod records;
 mod resolve_case_few;
 mod resolve_few;
@@ -25,15 +23,7 @@ pub use copy_few::{copy_1, copy_2, copy_3, copy_4, copy_5, copy_6, copy_7, copy_
 pub use copy_more::{copy_9, copy_10, copy_11, copy_12};
 pub use copy_most::{copy_13, copy_14, copy_15, copy_16};
 pub use copying::copy_0;
-pub use read_case_few::{
-    read_case_1, read_case_2, read_case_3, read_case_4, read_case_5, read_case_6, read_case_7,
-    read_case_8,
-};
-pub use read_record_few::{
-    read_record_1, read_record_2, read_record_3, read_record_4, read_record_5, read_record_6,
-    read_record_7, read_record_8,
-};
-pub use records::{part_in_record, read_record};
+pub use records::part_in_record;
 pub use resolve_case_few::{
     resolve_case_0, resolve_case_1, resolve_case_2, resolve_case_3, resolve_case_4, resolve_case_5,
     resolve_case_6, resolve_case_7, resolve_case_8,

@@ -307,26 +307,6 @@ type BookKept = (
     ),
 );
 
-type BookOwned = (
-    (
-        u64,
-        (
-            String,
-            (Vec<String>, (char, (bool, (u16, (i16, (u8, ())))))),
-        ),
-    ),
-    (
-        (
-            i32,
-            (
-                Option<u32>,
-                (Spot, (i64, (usize, (Box<u32>, (i8, (Event, ())))))),
-            ),
-        ),
-        (),
-    ),
-);
-
 // Writes what the fields of `Book` own, piece by piece.
 fn book_serialized<S: Writer + ResolverAlloc>(
     a0: &u64,
@@ -549,6 +529,26 @@ fn book_resolved(
         &mut bytes[35..],
     )
 }
+
+type BookOwned = (
+    (
+        u64,
+        (
+            String,
+            (Vec<String>, (char, (bool, (u16, (i16, (u8, ())))))),
+        ),
+    ),
+    (
+        (
+            i32,
+            (
+                Option<u32>,
+                (Spot, (i64, (usize, (Box<u32>, (i8, (Event, ())))))),
+            ),
+        ),
+        (),
+    ),
+);
 
 // Reads the fields of `Book` back, piece by piece.
 fn book_read<D: Entries>(

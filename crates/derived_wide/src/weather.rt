@@ -343,23 +343,6 @@ type WeatherMeasuredKept = (
     ),
 );
 
-type WeatherMeasuredOwned = (
-    (u64, (String, (i16, (i16, (i16, (u8, (bool, (char, ())))))))),
-    (
-        (
-            u32,
-            (
-                Vec<u16>,
-                (
-                    Option<u32>,
-                    (Spot, (i64, (usize, (Box<i16>, (Vec<String>, ()))))),
-                ),
-            ),
-        ),
-        (),
-    ),
-);
-
 // Writes what the fields of `Weather::Measured` own, piece by piece.
 fn weather_measured_serialized<S: Writer + ResolverAlloc>(
     a0: &u64,
@@ -596,6 +579,23 @@ fn weather_measured_resolved(
         &mut bytes[36..],
     )
 }
+
+type WeatherMeasuredOwned = (
+    (u64, (String, (i16, (i16, (i16, (u8, (bool, (char, ())))))))),
+    (
+        (
+            u32,
+            (
+                Vec<u16>,
+                (
+                    Option<u32>,
+                    (Spot, (i64, (usize, (Box<i16>, (Vec<String>, ()))))),
+                ),
+            ),
+        ),
+        (),
+    ),
+);
 
 // Reads the fields of `Weather::Measured` back, piece by piece.
 fn weather_measured_read<D: Entries>(

@@ -55,20 +55,21 @@ ghost use Rattle.archive_core.specs.PlannedMaps.{map_of_pairs_planned, pairs_key
 ghost use Rattle.archive_core.specs.PlannedOwners.{one_planned, slice_planned, vec_planned};
 ghost use Rattle.archive_core.specs.Results.{result_keyed, result_planned};
 ghost use Rattle.archive_core.specs.SealsWritten.{IsSealOf, SealsPart, seal_tag};
-ghost use Rattle.archive_core.specs.Seen.{IsPartOf, ShowsValueOf, tag_of};
+ghost use Rattle.archive_core.specs.Seen.{IsPartOf, ReadsPart, RefusesPart, ShowsValueOf, part_tag, tag_of};
 ghost use Rattle.archive_core.specs.Shape.{choice, no_part, no_variant, one, part, parts, variant};
 ghost use Rattle.archive_core.specs.Sources.{ReadsAs};
 ghost use Rattle.archive_core.specs.Value.{case, no_value, product, value};
 ghost use Rattle.archive_core.specs.Writing.{ZeroedPlace};
 ghost use Rattle.std.proofs.Common.{inl, inr, lit≤};
-ghost use Rattle.std.specs.Prelude.{None, [], codes, length, refl, string_bytes, true, ℕ, ◌++◌, ◌+◌, ◌≡◌};
+ghost use Rattle.std.specs.Prelude.{IfErr, IfOk, None, [], codes, length, refl, string_bytes, true, ℕ, ◌++◌, ◌+◌, ◌≡◌};
 
 use archive_core::core_impls::{ArchivedTuple2, OwnedArray};
 use archive_core::error::Error;
+use archive_core::fields::pieces::{read_5, read_7};
 use archive_core::fields::{
-    known_tag, part_in_case, part_in_record, read_case, read_case_2, read_case_5, read_record_7,
-    resolve_case_0, resolve_case_2, resolve_case_5, resolve_record_7, serialize_case_0,
-    serialize_case_2, serialize_case_5, serialize_record_7, tag_in,
+    known_tag, part_in_case, part_in_record, read_case, resolve_case_0, resolve_case_2,
+    resolve_case_5, resolve_record_7, serialize_case_0, serialize_case_2, serialize_case_5,
+    serialize_record_7, tag_in,
 };
 use archive_core::map::ArchivedSortedMap;
 use archive_core::option::ArchivedOption;
@@ -106,23 +107,6 @@ type ParcelParts = (
                         ArchivedSortedMap<ArchivedString, ArchivedVec<ArchivedU32>>,
                         (ArchivedResult<ArchivedString, ArchivedVec<ArchivedU32>>, ()),
                     ),
-                ),
-            ),
-        ),
-    ),
-);
-
-type ParcelOwned = (
-    u64,
-    (
-        OwnedArray<u8, 16>,
-        (
-            Option<(u32, String)>,
-            (
-                Vec<(String, u32)>,
-                (
-                    Option<Vec<String>>,
-                    (BTreeMap<String, Vec<u32>>, (Result<String, Vec<u32>>, ())),
                 ),
             ),
         ),
@@ -256,6 +240,72 @@ impl Record for ArchivedParcel {
         (both (both no_definition no_definition) no_definition))))))) refl };
 
     ghost holds = { lit≤ tt };
+}
+
+type ParcelOwned = (
+    u64,
+    (
+        OwnedArray<u8, 16>,
+        (
+            Option<(u32, String)>,
+            (
+                Vec<(String, u32)>,
+                (
+                    Option<Vec<String>>,
+                    (BTreeMap<String, Vec<u32>>, (Result<String, Vec<u32>>, ())),
+                ),
+            ),
+        ),
+    ),
+);
+
+// Reads the fields of `Parcel` back, piece by piece.
+fn parcel_read<D: Entries>(
+    alloc: Global,
+    part: RawView<'_>,
+    deserializer: &mut D,
+) -> Result<ParcelOwned, Error>
+    requires viewed { IsPartOf ⟦<ArchivedParcel as ArchivePointee>⟧ part }
+    ensures read { IfOk result (λ t. ReadsPart ⟦<ArchivedParcel as ArchivePointee>⟧ part D.Entries
+        deserializer (product (value (⟦<u64 as Archive>⟧.meaning t.0)
+        (value (⟦<OwnedArray<u8, 16> as Archive>⟧.meaning t.1.0)
+        (value (⟦<Option<(u32, String)> as Archive>⟧.meaning t.1.1.0)
+        (value (⟦<Vec<(String, u32)> as Archive>⟧.meaning t.1.1.1.0)
+        (value (⟦<Option<Vec<String>> as Archive>⟧.meaning t.1.1.1.1.0)
+        (value (⟦<BTreeMap<String, Vec<u32>> as Archive>⟧.meaning t.1.1.1.1.1.0)
+        (value (⟦<Result<String, Vec<u32>> as Archive>⟧.meaning t.1.1.1.1.1.1.0) no_value))))))))
+        (⟦<u64 as Archive>⟧.keys t.0 ++ (⟦<OwnedArray<u8, 16> as Archive>⟧.keys t.1.0
+        ++ (⟦<Option<(u32, String)> as Archive>⟧.keys t.1.1.0
+        ++ (⟦<Vec<(String, u32)> as Archive>⟧.keys t.1.1.1.0
+        ++ (⟦<Option<Vec<String>> as Archive>⟧.keys t.1.1.1.1.0
+        ++ (⟦<BTreeMap<String, Vec<u32>> as Archive>⟧.keys t.1.1.1.1.1.0
+        ++ (⟦<Result<String, Vec<u32>> as Archive>⟧.keys t.1.1.1.1.1.1.0 ++ [])))))))) }
+    ensures refused { IfErr result (RefusesPart ⟦<ArchivedParcel as ArchivePointee>⟧ part D.Entries
+        deserializer) }
+{
+    let RawView { bytes, pos, .. } = part;
+    let v0 = match read_7::<
+        u64,
+        OwnedArray<u8, 16>,
+        Option<(u32, String)>,
+        Vec<(String, u32)>,
+        Option<Vec<String>>,
+        BTreeMap<String, Vec<u32>>,
+        Result<String, Vec<u32>>,
+        ArchivedU64,
+        [u8; 16],
+        ArchivedOption<ArchivedTuple2<ArchivedU32, ArchivedString>>,
+        ArchivedVec<ArchivedTuple2<ArchivedString, ArchivedU32>>,
+        ArchivedOption<ArchivedVec<ArchivedString>>,
+        ArchivedSortedMap<ArchivedString, ArchivedVec<ArchivedU32>>,
+        ArchivedResult<ArchivedString, ArchivedVec<ArchivedU32>>,
+        D,
+    >(alloc, bytes, pos, 0, deserializer)
+    {
+        Ok(v0) => v0,
+        Err(error) => return Err(error),
+    };
+    Ok(v0)
 }
 
 /// What is kept of `Parcel` between `serialize` and `resolve`.
@@ -589,25 +639,7 @@ impl<D: Entries> Deserialize<Parcel, D> for ArchivedParcel {
         ensures { ReadsAs ⟦<Self as ArchivePointee>⟧ part D.Entries deserializer
             ⟦<Parcel as Archive>⟧ result }
     {
-        match read_record_7::<
-            u64,
-            OwnedArray<u8, 16>,
-            Option<(u32, String)>,
-            Vec<(String, u32)>,
-            Option<Vec<String>>,
-            BTreeMap<String, Vec<u32>>,
-            Result<String, Vec<u32>>,
-            ArchivedU64,
-            [u8; 16],
-            ArchivedOption<ArchivedTuple2<ArchivedU32, ArchivedString>>,
-            ArchivedVec<ArchivedTuple2<ArchivedString, ArchivedU32>>,
-            ArchivedOption<ArchivedVec<ArchivedString>>,
-            ArchivedSortedMap<ArchivedString, ArchivedVec<ArchivedU32>>,
-            ArchivedResult<ArchivedString, ArchivedVec<ArchivedU32>>,
-            Self,
-            D,
-        >(alloc, part, deserializer)
-        {
+        match parcel_read(alloc, part, deserializer) {
             Ok(values) => Ok(parcel_of(values)),
             Err(error) => Err(error),
         }
@@ -853,6 +885,8 @@ type MoveNoteParts = (
     ),
 );
 
+type MoveNoteOwned = (Option<Vec<String>>, (BTreeMap<String, Vec<u32>>, ()));
+
 type MoveVariants = ((), (MoveSentParts, (MoveNoteParts, ())));
 
 impl ArchivePointee for ArchivedMove {
@@ -991,6 +1025,59 @@ impl Choice for ArchivedMove {
         no_definition)) no_definition))) refl };
 
     ghost holds = { lit≤ tt };
+}
+
+type MoveSentOwned = (
+    u64,
+    (
+        OwnedArray<u8, 16>,
+        (
+            Option<(u32, String)>,
+            (Vec<(String, u32)>, (Option<Vec<String>>, ())),
+        ),
+    ),
+);
+
+// Reads the fields of `Move::Sent` back, piece by piece.
+fn move_sent_read<D: Entries>(
+    alloc: Global,
+    part: RawView<'_>,
+    deserializer: &mut D,
+) -> Result<MoveSentOwned, Error>
+    requires viewed { IsPartOf ⟦<ArchivedMove as ArchivePointee>⟧ part }
+    requires tag { part_tag part ≡ 1 }
+    ensures read { IfOk result (λ t. ReadsPart ⟦<ArchivedMove as ArchivePointee>⟧ part D.Entries
+        deserializer (case 1 (value (⟦<u64 as Archive>⟧.meaning t.0)
+        (value (⟦<OwnedArray<u8, 16> as Archive>⟧.meaning t.1.0)
+        (value (⟦<Option<(u32, String)> as Archive>⟧.meaning t.1.1.0)
+        (value (⟦<Vec<(String, u32)> as Archive>⟧.meaning t.1.1.1.0)
+        (value (⟦<Option<Vec<String>> as Archive>⟧.meaning t.1.1.1.1.0) no_value))))))
+        (⟦<u64 as Archive>⟧.keys t.0 ++ (⟦<OwnedArray<u8, 16> as Archive>⟧.keys t.1.0
+        ++ (⟦<Option<(u32, String)> as Archive>⟧.keys t.1.1.0
+        ++ (⟦<Vec<(String, u32)> as Archive>⟧.keys t.1.1.1.0
+        ++ (⟦<Option<Vec<String>> as Archive>⟧.keys t.1.1.1.1.0 ++ [])))))) }
+    ensures refused { IfErr result (RefusesPart ⟦<ArchivedMove as ArchivePointee>⟧ part D.Entries
+        deserializer) }
+{
+    let RawView { bytes, pos, .. } = part;
+    let v0 = match read_5::<
+        u64,
+        OwnedArray<u8, 16>,
+        Option<(u32, String)>,
+        Vec<(String, u32)>,
+        Option<Vec<String>>,
+        ArchivedU64,
+        [u8; 16],
+        ArchivedOption<ArchivedTuple2<ArchivedU32, ArchivedString>>,
+        ArchivedVec<ArchivedTuple2<ArchivedString, ArchivedU32>>,
+        ArchivedOption<ArchivedVec<ArchivedString>>,
+        D,
+    >(alloc, bytes, pos, 1, deserializer)
+    {
+        Ok(v0) => v0,
+        Err(error) => return Err(error),
+    };
+    Ok(v0)
 }
 
 /// What is kept of `Move` between `serialize` and `resolve`.
@@ -1346,6 +1433,30 @@ impl<S: Writer + ResolverAlloc<Alloc = Global>> SerializeUnsized<S> for Move {
     }
 }
 
+// The `Move::Sent` of these values, one after another.
+fn move_sent_of(values: MoveSentOwned) -> Move
+    ensures meaning { ⟦<Move as Archive>⟧.meaning result
+        ≡ case 1 (value (⟦<u64 as Archive>⟧.meaning values.0)
+        (value (⟦<OwnedArray<u8, 16> as Archive>⟧.meaning values.1.0)
+        (value (⟦<Option<(u32, String)> as Archive>⟧.meaning values.1.1.0)
+        (value (⟦<Vec<(String, u32)> as Archive>⟧.meaning values.1.1.1.0)
+        (value (⟦<Option<Vec<String>> as Archive>⟧.meaning values.1.1.1.1.0) no_value))))) }
+    ensures keys { ⟦<Move as Archive>⟧.keys result ≡ ⟦<u64 as Archive>⟧.keys values.0
+        ++ (⟦<OwnedArray<u8, 16> as Archive>⟧.keys values.1.0
+        ++ (⟦<Option<(u32, String)> as Archive>⟧.keys values.1.1.0
+        ++ (⟦<Vec<(String, u32)> as Archive>⟧.keys values.1.1.1.0
+        ++ (⟦<Option<Vec<String>> as Archive>⟧.keys values.1.1.1.1.0 ++ [])))) }
+{
+    let (a0, (a1, (a2, (a3, (a4, ()))))) = values;
+    Move::Sent {
+        number: a0,
+        key: a1.into_array(),
+        weighed: a2,
+        content: a3,
+        notes: a4,
+    }
+}
+
 impl<D: Entries> Deserialize<Move, D> for ArchivedMove {
     #[inline(always)]
     fn deserialize_part(
@@ -1362,39 +1473,16 @@ impl<D: Entries> Deserialize<Move, D> for ArchivedMove {
                 Ok(()) => Ok(Move::Rest),
                 Err(error) => Err(error),
             },
-            1 => match read_case_5::<
-                u64,
-                OwnedArray<u8, 16>,
-                Option<(u32, String)>,
-                Vec<(String, u32)>,
-                Option<Vec<String>>,
-                ArchivedU64,
-                [u8; 16],
-                ArchivedOption<ArchivedTuple2<ArchivedU32, ArchivedString>>,
-                ArchivedVec<ArchivedTuple2<ArchivedString, ArchivedU32>>,
-                ArchivedOption<ArchivedVec<ArchivedString>>,
-                Self,
-                D,
-            >(1, alloc, part, deserializer)
-            {
-                Ok((a0, (a1, (a2, (a3, (a4, ())))))) => Ok(Move::Sent {
-                    number: a0,
-                    key: a1.into_array(),
-                    weighed: a2,
-                    content: a3,
-                    notes: a4,
-                }),
+            1 => match move_sent_read(alloc, part, deserializer) {
+                Ok(values) => Ok(move_sent_of(values)),
                 Err(error) => Err(error),
             },
-            _ => match read_case_2::<
-                Option<Vec<String>>,
-                BTreeMap<String, Vec<u32>>,
-                ArchivedOption<ArchivedVec<ArchivedString>>,
-                ArchivedSortedMap<ArchivedString, ArchivedVec<ArchivedU32>>,
-                Self,
-                D,
-            >(2, alloc, part, deserializer)
-            {
+            _ => match read_case::<Self, MoveNoteParts, MoveNoteOwned, D>(
+                2,
+                alloc,
+                part,
+                deserializer,
+            ) {
                 Ok((a0, (a1, ()))) => Ok(Move::Note(a0, a1)),
                 Err(error) => Err(error),
             },
