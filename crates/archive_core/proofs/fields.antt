@@ -1,10 +1,10 @@
 -- Lemmas on fields by their number, and on the variants that have them.
-pub mod CloseFields
-pub mod FrontFields
-pub mod OwnChoices
-pub mod ReadChoices
-pub mod Shown
-pub mod ShownFields
-pub mod Ties
-pub mod Viewing
-pub mod AmongUnits
+pub use Rattle.archive_fields.proofs.CloseFields
+pub use Rattle.archive_fields.proofs.FrontFields
+pub use Rattle.archive_fields.proofs.OwnChoices
+pub use Rattle.archive_fields.proofs.ReadChoices
+pub use Rattle.archive_fields.proofs.Shown
+pub use Rattle.archive_fields.proofs.ShownFields
+pub use Rattle.archive_fields.proofs.Ties
+pub use Rattle.archive_fields.proofs.Viewing
+pub use Rattle.archive_fields.proofs.AmongUnits

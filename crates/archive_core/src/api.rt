@@ -18,13 +18,13 @@ mod editing;
 mod kept;
 mod using;
 
-use crate::pooling::Pool;
 pub use archive_check::context::HighValidator;
 use archive_check::context::{ArchiveContext, ArchiveValidator, SharedContext};
 use archive_check::format::error::Error;
 use archive_check::self_check::{SelfCheck, check_root};
 pub use archive_inspect::explain::{explain, explain_by};
 use archive_schema::shape::Schema;
+use archive_shared::pooling::Pool;
 use archive_types::ser::{Serializer, Writer, serialize_one};
 use archive_types::sharing::Share;
 use archive_types::traits::{Archive, Deserialize, Entries, Keys, Portable, Serialize};

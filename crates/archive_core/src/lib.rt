@@ -2,20 +2,19 @@
 #![tactic(auto)]
 
 pub mod api;
-pub mod compared;
 pub mod core_impls;
 pub mod fields;
 pub mod own;
-pub mod pooling;
-pub mod rc;
 pub mod recursive;
-pub mod seal;
 pub mod view;
 
 pub use archive_check::format::error;
 pub use archive_check::{context as validation, laws, self_check};
 pub use archive_inspect as inspect;
+pub use archive_records::compared;
 pub use archive_schema::shape;
+pub use archive_seal as seal;
+pub use archive_shared::{pooling, rc};
 pub use archive_types::{
     array, boxed, choice, compare, map, option, parts, place, primitive, record, rel_ptr, result,
     ser, sharing, slice, string, traits, tuples, vec,

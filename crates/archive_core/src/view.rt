@@ -1,4 +1,4 @@
 //! Views of archived values, slices and texts, and the seals of those that are written over where they lie.
 
-pub use crate::seal::Seal;
+pub use archive_seal::Seal;
 pub use archive_types::view::{RawView, Ref};

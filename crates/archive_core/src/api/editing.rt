@@ -2,11 +2,11 @@
 
 ghost use Rattle.std.specs.Prelude.{◌≡◌, None, IfOk};
 ghost use Rattle.archive_check.specs.Archives.{Answers, root_in};
-ghost use Rattle.archive_core.specs.SealsWritten.{IsSealOf};
+ghost use Rattle.archive_seal.specs.SealsWritten.{IsSealOf};
 
 use super::{access_pos, root_position};
-use crate::seal::{Seal, SpotExt};
 use archive_check::format::error::Error;
+use archive_seal::{Seal, SpotExt};
 use archive_types::traits::Portable;
 use std::alloc::Global;
 

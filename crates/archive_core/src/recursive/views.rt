@@ -3,19 +3,19 @@
 ghost use Rattle.std.specs.Prelude.{◌≡◌, ◌+◌, ◌<◌, Some};
 ghost use Rattle.archive_check.specs.Members.PartsLayout.{definitions_at, part_at};
 ghost use Rattle.archive_check.specs.Members.VariantsLayout.{payload_at, payload_definitions};
-ghost use Rattle.archive_core.specs.SealsWritten.{IsSealOf, SealsPart, seal_tag};
-ghost use Rattle.archive_core.specs.fields.Plain.{variant_count};
+ghost use Rattle.archive_seal.specs.SealsWritten.{IsSealOf, SealsPart, seal_tag};
+ghost use Rattle.archive_fields.specs.Plain.{variant_count};
 ghost use Rattle.archive_types.specs.Fields.{field_in};
 ghost use Rattle.archive_types.specs.Members.KnownParts.{KnowsAlso};
 ghost use Rattle.archive_types.specs.Payloads.{payload_in};
 ghost use Rattle.archive_types.specs.Words.Seen.{ShowsValueOf, tag_of};
 
-use crate::seal::Seal;
+use archive_seal::Seal;
 use archive_types::traits::{Choice, Portable, Record};
 use archive_types::view::Ref;
 
 /// The tag that a view shows, which names one of the variants.
-#[tactic(auto, using(crate::proofs::fields::Ties::some_below))]
+#[tactic(auto, using(archive_fields::proofs::Ties::some_below))]
 #[inline(always)]
 pub fn tag_of_view<X: Choice>(view: Ref<'_, X>) -> u8
     ensures tag { result ≡ tag_of view.entry }

@@ -1,4 +1,4 @@
-use Rattle.archive_core.proofs.SealedParts.{root_comes}
+use Rattle.archive_seal.proofs.SealedParts.{root_comes}
 use Rattle.archive_core.proofs.api.editing.access_pos_mut.Goals as goal
 
 pub seal-requires : goal.seal-requires

@@ -1,5 +1,0 @@
-use Rattle.archive_core.proofs.fields.CloseFields.{first_close}
-use Rattle.archive_core.proofs.fields.copy_few.copy_3.Goals as goal
-
-pub returns-clause-read : goal.returns-clause-read
-returns-clause-read g c = first_close g.met.A.CopiedAs.Portable.has_layout c.copy_front-end.ensures.read c.copy_2.ensures.read

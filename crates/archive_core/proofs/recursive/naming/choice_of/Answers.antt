@@ -1,5 +1,0 @@
-use Rattle.archive_check.proofs.format.Views.{shape_of-Choice}
-use Rattle.archive_core.proofs.recursive.naming.choice_of.Goals as goal
-
-pub returns : goal.returns
-returns c = shape_of-Choice c.args.name c.args.variants

@@ -1,5 +1,0 @@
-use Rattle.archive_core.proofs.ComePart.{come_viewed}
-use Rattle.archive_core.proofs.seal.Seal.as_ref.Goals as goal
-
-pub at-requires : goal.at-requires
-at-requires g c = come_viewed _ _ _ _ _ c.requires

@@ -1,4 +1,0 @@
-use Rattle.archive_core.proofs.seal.Spot.of.Goals as goal
-
-pub returns-clause-viewed : goal.returns-clause-viewed
-returns-clause-viewed g c = rw (c.at.ensures.position, c.at.ensures.length, ← c.part-pos.ensures.buffer) c.part-pos.ensures.viewed

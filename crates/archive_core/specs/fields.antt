@@ -1,7 +1,0 @@
--- What is said of records and variants by the number of their fields.
-pub mod CloseFields
-pub mod FieldsAt
-pub mod Front
-pub mod OwnChoices
-pub mod Plain
-pub mod Units

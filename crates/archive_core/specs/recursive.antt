@@ -1,9 +1,0 @@
--- What is said of the calls that write, check and read back recursive types.
-pub mod ChainSteps
-pub mod Chains
-pub mod Held
-pub mod HeldLists
-pub mod HeldOptions
-pub mod Hollow
-pub mod SharedParts
-pub mod PooledParts

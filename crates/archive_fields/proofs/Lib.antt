@@ -1,0 +1,10 @@
+pub mod CloseFields
+pub mod FrontFields
+pub mod OwnChoices
+pub mod ReadChoices
+pub mod RecordAs
+pub mod Shown
+pub mod ShownFields
+pub mod Ties
+pub mod Viewing
+pub mod AmongUnits

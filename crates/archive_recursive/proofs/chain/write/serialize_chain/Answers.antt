@@ -1,0 +1,175 @@
+use Rattle.std.proofs.Common.{◌≡◌, ◌++◌, ◌∷◌, [], refl, sym, subst, ◌∙◌, arith, rules}
+use Rattle.std.proofs.lemmas.Grind.{common_steps}
+use Rattle.archive_check.specs.declared.format.error.Error.TheVariants.{OutOfMemory}
+use Rattle.archive_types.specs.Causes.{no_memory}
+use Rattle.archive_types.proofs.Planning.Causes.{err_by, goes_both}
+use Rattle.archive_recursive.proofs.ChainsWritten.{Down, Up, down_more, down_goes, down_refused, up_goes, up_ends, up_its, up_more, up_refused, some_same}
+use Rattle.archive_recursive.proofs.chain.write.serialize_chain.Goals as goal
+
+pub loop-head-init : goal.loop-head-init
+loop-head-init g c =
+    let D = g.T.Archived.ArchivePointee.definitions in
+    let X = g.T.Archived.Portable.shape in
+    let a = g.T.Archive in
+    let closed = g.T.ChainSource.closed in
+    let v0 = c.args.value.now in
+    let w0 = g.S.Keys.state c.args.serializer.now in
+    subst (λ xs. Down D X a.keys a.meaning a.flat a.belongs closed v0 w0 xs v0 w0) (sym c.new-chain.ensures.items) (refl, refl)
+
+pub returns-in-Err : goal.returns-in-Err
+returns-in-Err g c =
+    let D = g.T.Archived.ArchivePointee.definitions in
+    let X = g.T.Archived.Portable.shape in
+    let a = g.T.Archive in
+    let closed = g.T.ChainSource.closed in
+    let v0 = c.args.value.now in
+    let w0 = g.S.Keys.state c.args.serializer.now in
+    let kept = c.loop-head.invariant in
+    let here = c.loop-head.here.now in
+    let fs = c.loop-head.chain.items in
+    let w1 = g.S.Keys.state c.loop-head.serializer in
+    let w2 = g.S.Keys.state c.serialize_head.new.serializer in
+    record {
+      serialized = search rules;
+      same_value = search rules;
+      goes_on = goes_both _ _ _ (down_goes D X a.keys a.meaning a.flat a.belongs closed fs v0 w0 here w1 kept) c.serialize_head.ensures.goes_on;
+      refused = down_refused D X a.keys a.meaning a.flat a.belongs closed fs v0 w0 here w1 kept w2 _ c.serialize_head.ensures.goes_on c.in-Err.ensures.refused;
+    }
+
+pub returns-in_err-map_err : goal.returns-in_err-map_err
+returns-in_err-map_err g c =
+    let D = g.T.Archived.ArchivePointee.definitions in
+    let X = g.T.Archived.Portable.shape in
+    let a = g.T.Archive in
+    let closed = g.T.ChainSource.closed in
+    let v0 = c.args.value.now in
+    let w0 = g.S.Keys.state c.args.serializer.now in
+    let kept = c.loop-head.invariant in
+    let here = c.loop-head.here.now in
+    let fs = c.loop-head.chain.items in
+    let w1 = g.S.Keys.state c.loop-head.serializer in
+    let w2 = g.S.Keys.state c.serialize_head.new.serializer in
+    record {
+      serialized = search rules;
+      same_value = search rules;
+      goes_on = goes_both _ _ _ (down_goes D X a.keys a.meaning a.flat a.belongs closed fs v0 w0 here w1 kept) c.serialize_head.ensures.goes_on;
+      refused = err_by c.from_residual.result OutOfMemory _ c.from_residual.ensures.1 no_memory;
+    }
+
+pub loop-head-smaller : goal.loop-head-smaller
+loop-head-smaller g c =
+    let h = rw c.in-Open.is at c.in-Ok.ensures.serialized in
+    let same : h.0 ≡ c.in-Some.rest.now = some_same (sym h.1 ∙ c.in-Some.ensures) in
+    rw same at h.2.lighter
+
+pub loop-head-preserved : goal.loop-head-preserved
+loop-head-preserved g c =
+    let D = g.T.Archived.ArchivePointee.definitions in
+    let X = g.T.Archived.Portable.shape in
+    let a = g.T.Archive in
+    let closed = g.T.ChainSource.closed in
+    let v0 = c.args.value.now in
+    let w0 = g.S.Keys.state c.args.serializer.now in
+    let kept = c.loop-head.invariant in
+    let here = c.loop-head.here.now in
+    let fs = c.loop-head.chain.items in
+    let w1 = g.S.Keys.state c.loop-head.serializer in
+    let w2 = g.S.Keys.state c.serialize_head.new.serializer in
+    let x = c.in-Some.rest in
+    let k = c.in-Open.kept in
+    let h = rw c.in-Open.is at c.in-Ok.ensures.serialized in
+    let same : h.0 ≡ x.now = some_same (sym h.1 ∙ c.in-Some.ensures) in
+    let pushed : c.push.new.self.items ≡ fs ++ (x, k) ∷ [] = grind (arith, common_steps) in
+    subst (λ xs. Down D X a.keys a.meaning a.flat a.belongs closed v0 w0 xs x.now w2) (sym pushed) (down_more D X a.keys a.meaning a.flat a.belongs closed fs v0 w0 here w1 w2 x k kept (record { head = rw same at h.2; goes = c.serialize_head.ensures.goes_on }))
+
+pub loop-rest-init : goal.loop-rest-init
+loop-rest-init g c = record {
+  here = c.loop-head.here.now;
+  since = g.S.Keys.state c.loop-head.serializer;
+  down = c.loop-head.invariant;
+  goes = c.serialize_head.ensures.goes_on;
+  written = (rw c.in-Whole.is at c.in-Ok.ensures.serialized).0;
+  its = (rw c.in-Whole.is at c.in-Ok.ensures.serialized).1;
+}
+
+pub serialize_inner-requires : goal.serialize_inner-requires
+serialize_inner-requires g c =
+    let D = g.T.Archived.ArchivePointee.definitions in
+    let X = g.T.Archived.Portable.shape in
+    let a = g.T.Archive in
+    let closed = g.T.ChainSource.closed in
+    let v0 = c.args.value.now in
+    let w0 = g.S.Keys.state c.args.serializer.now in
+    let kept = c.loop-rest.invariant in
+    let fs = c.loop-rest.chain.items in
+    let r = c.loop-rest.resolver in
+    let now = g.S.Keys.state c.loop-rest.serializer in
+    let gs = c.pop.new.self.items in
+    let x = c.in-Some-pop.rest in
+    let k = c.in-Some-pop.kept in
+    let popped : fs ≡ gs ++ (x, k) ∷ [] = grind (arith, common_steps) in
+    record { same_value = up_its D X a.keys a.meaning a.flat a.belongs closed v0 w0 fs gs x k r now popped kept }
+
+pub loop-rest-preserved : goal.loop-rest-preserved
+loop-rest-preserved g c =
+    let D = g.T.Archived.ArchivePointee.definitions in
+    let X = g.T.Archived.Portable.shape in
+    let a = g.T.Archive in
+    let closed = g.T.ChainSource.closed in
+    let v0 = c.args.value.now in
+    let w0 = g.S.Keys.state c.args.serializer.now in
+    let kept = c.loop-rest.invariant in
+    let fs = c.loop-rest.chain.items in
+    let r = c.loop-rest.resolver in
+    let now = g.S.Keys.state c.loop-rest.serializer in
+    let gs = c.pop.new.self.items in
+    let x = c.in-Some-pop.rest in
+    let k = c.in-Some-pop.kept in
+    let next = g.S.Keys.state c.serialize_inner.new.serializer in
+    let popped : fs ≡ gs ++ (x, k) ∷ [] = grind (arith, common_steps) in
+    subst (λ q. Up D X a.keys a.meaning a.flat a.belongs closed v0 w0 gs q next) (sym c.close-resolver.ensures) (up_more D X a.keys a.meaning a.flat a.belongs closed v0 w0 fs gs x k r now popped kept next c.serialize_inner.ensures.goes_on c.in-Ok-serialize_inner.at c.in-Ok-serialize_inner.ensures.boxed)
+
+pub returns-in-Err-serialize_inner : goal.returns-in-Err-serialize_inner
+returns-in-Err-serialize_inner g c =
+    let D = g.T.Archived.ArchivePointee.definitions in
+    let X = g.T.Archived.Portable.shape in
+    let a = g.T.Archive in
+    let closed = g.T.ChainSource.closed in
+    let v0 = c.args.value.now in
+    let w0 = g.S.Keys.state c.args.serializer.now in
+    let kept = c.loop-rest.invariant in
+    let fs = c.loop-rest.chain.items in
+    let r = c.loop-rest.resolver in
+    let now = g.S.Keys.state c.loop-rest.serializer in
+    let gs = c.pop.new.self.items in
+    let x = c.in-Some-pop.rest in
+    let k = c.in-Some-pop.kept in
+    let next = g.S.Keys.state c.serialize_inner.new.serializer in
+    let popped : fs ≡ gs ++ (x, k) ∷ [] = grind (arith, common_steps) in
+    record {
+      serialized = search rules;
+      same_value = search rules;
+      goes_on = goes_both _ _ _ (up_goes D X a.keys a.meaning a.flat a.belongs closed v0 w0 fs r now kept) c.serialize_inner.ensures.goes_on;
+      refused = up_refused D X a.keys a.meaning a.flat a.belongs closed v0 w0 fs gs x k r now popped kept next c.serialize_inner.ensures.goes_on _ c.in-Err-serialize_inner.ensures.refused;
+    }
+
+pub returns : goal.returns
+returns g c =
+    let D = g.T.Archived.ArchivePointee.definitions in
+    let X = g.T.Archived.Portable.shape in
+    let a = g.T.Archive in
+    let closed = g.T.ChainSource.closed in
+    let v0 = c.args.value.now in
+    let w0 = g.S.Keys.state c.args.serializer.now in
+    let kept = c.loop-rest.invariant in
+    let fs = c.loop-rest.chain.items in
+    let r = c.loop-rest.resolver in
+    let now = g.S.Keys.state c.loop-rest.serializer in
+    let none : fs ≡ [] = grind (arith, common_steps) in
+    let done = up_ends D X a.keys a.meaning a.flat a.belongs closed v0 w0 r now (subst (λ xs. Up D X a.keys a.meaning a.flat a.belongs closed v0 w0 xs r now) none kept) in
+    record {
+      serialized = done.0;
+      same_value = done.1;
+      goes_on = up_goes D X a.keys a.meaning a.flat a.belongs closed v0 w0 fs r now kept;
+      refused = search rules;
+    }

@@ -1,0 +1,4 @@
+pub mod PooledReading
+pub mod PooledPointers
+pub mod PooledPositions
+pub mod SharedOnes

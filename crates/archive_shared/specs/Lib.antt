@@ -1,0 +1,4 @@
+pub mod KeptValues
+pub mod Pooling
+pub mod SharedSeen
+pub mod Spans
