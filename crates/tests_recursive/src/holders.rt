@@ -6,9 +6,7 @@ use crate::assertions::{
 use archive_core::error::Error;
 use archive_core::option::ArchivedOption;
 use archive_core::view::Ref;
-use recursive_holders::json::{
-    ArchivedJson, ArchivedMember, Json, JsonView, Member, MemberView, ViewOfJson,
-};
+use recursive_holders::json::{ArchivedJson, Json, JsonView, Member, MemberView, ViewOfJson};
 use recursive_holders::message::{
     ArchivedTopic, Author, AuthorView, Message, MessageView, Topic, TopicView, ViewOfAuthor,
     ViewOfMessage,
@@ -174,14 +172,6 @@ fn a_type_of_its_family_behind_no_pointer(rt: HostRuntime) {
     assert_read(&rt, rt.alloc(), DOCUMENT, &document);
 }
 
-// The number that a member has; 0 of other values.
-fn number_of(member: Ref<'_, ArchivedMember>) -> i64 {
-    match member.value().variant() {
-        ViewOfJson::Number(number) => number.get(),
-        _ => 0,
-    }
-}
-
 fn assert_members(rt: &impl Abort, alloc: Global) {
     match viewed::<ArchivedJson>(rt, alloc, DOCUMENT).variant() {
         ViewOfJson::Object(members) => {
@@ -190,7 +180,6 @@ fn assert_members(rt: &impl Abort, alloc: Global) {
                 return;
             };
             assert_same(rt, "name", first.name().as_str(), "a");
-            assert_same(rt, "number", number_of(first), -1);
         }
         _ => assert_holds(rt, "an object", false),
     }
