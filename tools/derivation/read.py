@@ -278,9 +278,6 @@ def check_shape(it: Declaration):
         check_names(it, it.variants, "variant")
         if len(it.variants) == 1 and is_long(it.variants[0].fields):
             raise Refused(it.path, it.line, f"`{it.name}` has one variant, of more than {MOST_BY_NUMBER} fields; write a struct")
-        long = [v for v in it.variants if is_long(v.fields)]
-        if len(long) > 1:
-            raise Refused(it.path, long[1].line, f"a second variant of `{it.name}` has more than {MOST_BY_NUMBER} fields; put some into a struct of their own")
     for of, fields in [(it.name, it.fields)] + [(f"{it.name}::{v.name}", v.fields) for v in it.variants]:
         check_names(it, fields, "field")
         for x in fields:

@@ -112,7 +112,7 @@ class Recursive:
 
     def word(self, type):
         """What functions of an owner are called by: `box_expr`."""
-        return self.terms.n_of(type) if self.terms.is_member(type) else f"{snake(type.name)}_{self.word(type.args[0])}"
+        return self.terms.word(type)
 
     def depth(self, type):
         """How many owners a type has around one of the family."""

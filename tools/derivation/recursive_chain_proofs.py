@@ -172,7 +172,7 @@ def whole_read(it, case):
 def front_read(it, case):
     """What reads the parts of a variant before its box."""
     answers = proofs.Answers(it.family, f"read_{case.n}")
-    reads = Reads(case.names[:-1], case.types[:-1])
+    reads = Reads(it, case.names[:-1], case.types[:-1])
     for i, err in enumerate(reads.errs):
         refused = parts_refused(it, case, reads, i, f"c.{err}.ensures.refused")
         answers.answer("", f"returns-{err}-clause-refused", reads.refused(i, f"({refused})"))

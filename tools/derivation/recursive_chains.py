@@ -274,10 +274,10 @@ def fronts(it):
 
 
 def reading(it):
-    out = [fronts(it)]
+    out = [fronts(it), code.made_reading(it)]
     for case in it.cases:
         out.append(head_reading(it, case) if opens(case) else code.case_reading(it, case))
-    return "\n".join(out + [back(it)])
+    return "\n".join(piece for piece in out + [back(it)] if piece)
 
 
 def head_contract(it):

@@ -15,7 +15,7 @@ from . import recursive_chains as chains
 from .common import chain, doc_lines, in_turn, infix, taken_apart
 from .common import kept_of as handed_on
 from .formats import snake
-from .recursive_reads import by_match
+from .recursive_reads import by_match, is_made, word_of
 from .layout import Generic, Group, call, flat, implementation, literal, pair, signature, statement
 
 SERIALIZED = """    ensures serialized {{ IfOk result (λ r. Serialized {D} {X} (⟦<{T} as Archive>⟧.keys {v}.now)
@@ -722,12 +722,42 @@ impl<{it.writer}> SerializeUnsized<S> for {it.name} {{
 
 
 def reading(it):
-    out = [owner_reading(it, type) for type in it.owners]
+    out = [made_reading(it)] + [owner_reading(it, type) for type in it.owners]
     if it.is_record:
         out.append(record_reading(it))
     else:
         out += [case_reading(it, case) for case in it.cases]
         out.append(choice_reading(it))
+    return "\n".join(piece for piece in out if piece)
+
+
+def made_parts(it):
+    """The plain parts that are made of tuples, each by the function that reads it: of several types of a family the first has it."""
+    found = {}
+    for other in it.family.members:
+        here = {}
+        for case in other.cases:
+            for type in case.types:
+                name = word_of(it, type)
+                if is_made(type) and not it.terms.leads_back(type) and name not in found:
+                    here[name] = type
+        if other is it:
+            return here
+        found.update(here)
+
+
+def made_reading(it):
+    f, out = it.formats, []
+    for name, type in made_parts(it).items():
+        T, X = f.rust(type), f.archived(type)
+        out.append(f"""// Reads a part back.
+#[inline(always)]
+fn {name}<{it.reader}>(alloc: Global, part: RawView<'_>, deserializer: &mut D) -> Result<{T}, Error>
+    requires {{ IsPartOf ⟦<{X} as ArchivePointee>⟧ part }}
+    ensures {{ ReadsAs ⟦<{X} as ArchivePointee>⟧ part D.Entries deserializer ⟦<{T} as Archive>⟧ result }}
+{{
+{statement(4, "", Generic("read_part", [X, T, "D"], ["alloc", "part", "deserializer"]), "")}}}
+""")
     return "\n".join(out)
 
 
@@ -795,11 +825,11 @@ def parts_read(it, case):
             where = Generic("part_of_variant", [it.archived, X], ["part", str(case.tag), str(i), str(offset)])
         lines += statement(4, f"let p{i} = ", where, ";")
         if by_match(type):
-            read = Generic("read_part", [X, T, "D"], ["alloc", f"p{i}", "deserializer"])
+            read = call(word_of(it, type), ["alloc", f"p{i}", "deserializer"]) if is_made(type) else Generic("read_part", [X, T, "D"], ["alloc", f"p{i}", "deserializer"])
             lines += statement(4, f"let {name} = match ", read, " {") + f"        Ok({name}) => {name},\n        Err(error) => return Err(error),\n    }};\n"
             continue
-        levels = ["levels"] if it.family.shares else []
-        read = call(f"read_{it.word(type)}", ["alloc", f"p{i}"] + levels + ["deserializer"], "?") if back else Generic("read_part", [X, T, "D"], ["alloc", f"p{i}", "deserializer"], "?")
+        levels = ["levels"] if it.family.shares and back else []
+        read = call(word_of(it, type), ["alloc", f"p{i}"] + levels + ["deserializer"], "?") if back or is_made(type) else Generic("read_part", [X, T, "D"], ["alloc", f"p{i}", "deserializer"], "?")
         lines += statement(4, f"let {name} = ", read, ";")
     return lines
 

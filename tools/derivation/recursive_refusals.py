@@ -3,8 +3,7 @@
 from .model import Declaration, Refused, Type
 from .recursive_plain import LEAVES, is_shaped
 
-# What plain parts may be made of, which a recursive type has beside those that lead back to it. With an `Option` of a pair the toolchain doesn't finish what
-# it makes of the functions that read it back.
+# What plain parts may be made of, which a recursive type has beside those that lead back to it.
 PLAIN = set(LEAVES) | {"String", "BoxStr", "NonZero", "Option", "Result", "Box", "BoxSlice", "Vec", "BTreeMap", "OwnedArray"}
 MOST_FIELDS = 7
 
@@ -49,16 +48,18 @@ def check_part(it: Declaration, type: Type, line: int):
     check_plain(it, type, line)
 
 
-def check_plain(it: Declaration, type: Type, line: int):
-    """What leads to no value of the type."""
+def check_plain(it: Declaration, type: Type, line: int, behind: bool = False):
+    """What leads to no value of the type. A tuple is behind a vector's pointer: else the check doesn't finish what the type's own impls make of its layout."""
     if type.own is not None and not type.args:
         if not is_shaped(type, it.path):
             raise Refused(it.path, line, f"`{type.own.name}` has fields that tools/derive doesn't write beside the recursive `{it.name}`; move it to another file")
         return
-    if type.own is not None or type.name not in PLAIN:
+    if is_named(type, "tuple") and not behind:
+        raise Refused(it.path, line, f"a plain tuple in the recursive `{it.name}` is written in a `Vec` alone; write a struct of another file, or its parts as fields")
+    if type.own is not None or type.name not in PLAIN | {"tuple"}:
         raise Refused(it.path, line, f"this field of the recursive `{it.name}` is of a type that tools/derive doesn't write there; put it into a struct of another file")
     for arg in type.args:
-        check_plain(it, arg, line)
+        check_plain(it, arg, line, behind or type.name == "Vec")
 
 
 def check_owner(it: Declaration, type: Type, line: int):

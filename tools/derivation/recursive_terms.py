@@ -34,6 +34,13 @@ class Terms:
         """What names of a type of the family begin with."""
         return stem(type.own.name)
 
+    def word(self, type):
+        """What functions of an owner, or of a part, are called by: `box_expr`."""
+        if self.is_member(type):
+            return self.n_of(type)
+        name = {"()": "unit", "tuple": "pair" if len(type.args) == 2 else f"tuple{len(type.args)}"}.get(type.name, snake(type.name) + type.length)
+        return "_".join([name] + [self.word(arg) for arg in type.args])
+
     def leads_back(self, type):
         return self.is_member(type) or any(self.leads_back(arg) for arg in type.args)
 

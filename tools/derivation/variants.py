@@ -23,7 +23,7 @@ from .layout import Generic, Group, WIDTH, ended, flat, implementation, lay, lit
 from .loads import Loads
 from .long import is_long, lent, nest
 from .made import WRITTEN, Made
-from .pieces import Pieces
+from .pieces import Pieces, numbered
 from .units import Units
 
 
@@ -361,7 +361,7 @@ def proofs(formats, declaration):
 
 def serialize_answers(choice, dotted):
     """The proof that the variant that is lent is serialized as it means, and that one without fields is among many."""
-    longs = "".join(lent_serialized(case) for case in choice.cases if case.is_long)
+    longs = "".join(lent_serialized(case, *names) for case, *names in serialize_calls(choice) if case.is_long)
     brought, of_units = choice.units.serialize_answers(dotted) if choice.units.are else ("", "")
     rules = "use Rattle.std.proofs.Common.{rules}\n" if longs else ""
     return f"""-- {WRITTEN}
@@ -369,11 +369,24 @@ def serialize_answers(choice, dotted):
 {longs}{of_units}"""
 
 
-def lent_serialized(case):
-    its = "c.in-Ok-serialize_case"
+def serialize_calls(choice):
+    """The variants with arms of their own, each with the names in a proof of its call and of the arm that takes what that returns: the first is `in-Ok`."""
+    cases = choice.units.apart()
+    words = ["serialize_case" if case.is_long else f"serialize_case_{case.count}" for case in cases]
+    arms = ["in-Ok"] + numbered([f"in-Ok-{word}" for word in words[1:]])
+    return list(zip(cases, by_arms(cases, words), arms))
+
+
+def by_arms(cases, words):
+    """The names in a proof of a call in each arm: the second of one name has its variant's behind it."""
+    return [word if word not in words[:i] else f"{word}-in-{case.name}" for i, (case, word) in enumerate(zip(cases, words))]
+
+
+def lent_serialized(case, call, arm):
+    goal = f"returns-{arm}"
     return f"""
-pub returns-in-Ok-serialize_case : goal.returns-in-Ok-serialize_case
-returns-in-Ok-serialize_case g c = rw (c.in-{case.name}.is) record {{ serialized = {its}.ensures.serialized; same_value = {its}.ensures.same_value; goes_on = c.serialize_case.ensures.goes_on; refused = search rules }}
+pub {goal} : goal.{goal}
+{goal} g c = rw (c.in-{case.name}.is) record {{ serialized = c.{arm}.ensures.serialized; same_value = c.{arm}.ensures.same_value; goes_on = c.{call}.ensures.goes_on; refused = search rules }}
 """
 
 
@@ -385,7 +398,8 @@ def resolve_answers(choice, dotted):
         return f"-- {WRITTEN}\n{brought}use {goals} as goal\n{of_units}"
     apart = choice.units.apart()
     steps = [f"in-{case.name}+in-{case.name}-resolver" if case.count else f"in-{case.name}" for case in apart]
-    found = ["grind (w.resolve_case.ensures, w.bytes-is, w.result-is, rules)" if case.is_long else "search rules" for case in apart]
+    calls = by_arms(apart, ["resolve_case" if case.is_long else "" for case in apart])
+    found = [f"grind (w.{call}.ensures, w.bytes-is, w.result-is, rules)" if case.is_long else "search rules" for case, call in zip(apart, calls)]
     if choice.units.are:
         steps.append("in_default")
         found.append("search rules")

@@ -198,12 +198,19 @@ fn resolve_each<W: Writer, T: Archive, A: Allocator + Drop>(
         }
         filled += size;
         rest = others;
-        if rest.is_empty() || block.len() - filled < size {
-            if let Err(error) = writer.write(&block[..filled]) {
-                return Err(by_words(error));
-            }
-            filled = 0;
+        if size <= block.len() - filled {
+            continue;
         }
+        if let Err(error) = writer.write(&block[..filled]) {
+            return Err(by_words(error));
+        }
+        filled = 0;
+    }
+    if filled == 0 {
+        return Ok(());
+    }
+    if let Err(error) = writer.write(&block[..filled]) {
+        return Err(by_words(error));
     }
     Ok(())
 }
@@ -296,6 +303,9 @@ pub trait ResolveExt: Writer {
         let size = T::Archived::size();
         if !run_fits(pos, values.len(), size) {
             return Err(Error::LayoutTooLarge);
+        }
+        if values.is_empty() {
+            return Ok(pos);
         }
         if size > LOCAL_SIZE {
             resolve_each_large(self, alloc, values, resolvers, size)?;

@@ -8,6 +8,7 @@ ghost use Rattle.archive_types.specs.Words.SharedWriting.{IsUnchangedIfKnown, St
 ghost use Rattle.archive_write.specs.Sharing.{known_answer};
 ghost use Rattle.archive_write.specs.Written.{GoesOn};
 
+use crate::ser::by_words;
 use crate::traits::SerializeUnsized;
 use archive_check::format::error::Error;
 use archive_write::ser::Writer;
@@ -46,7 +47,10 @@ pub trait SharingExt: Sharing + Writer {
     {
         match self.start_sharing(key)? {
             SharingState::Started => {
-                let pos = value.serialize_unsized(self)?;
+                let pos = match value.serialize_unsized(self) {
+                    Ok(pos) => pos,
+                    Err(error) => return Err(by_words(error)),
+                };
                 self.finish_sharing(key, pos)?;
                 Ok(pos)
             }

@@ -1,4 +1,4 @@
-//! A module of derived types that wrong bodies are tried on, in a crate of its own, since each wrong body proves its crate anew.
+//! Derived types that wrong bodies are tried on, in a crate of its own, since each crate with wrong bodies is proved once more.
 #![tactic(auto)]
 
 pub mod turns;

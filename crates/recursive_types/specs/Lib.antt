@@ -6,9 +6,5 @@ pub mod ExprMeaning
 pub mod ExprShape
 pub mod SearchMeaning
 pub mod SearchShape
-pub mod RoseMeaning
-pub mod RoseShape
 pub mod DirMeaning
 pub mod DirShape
-pub mod OutlineMeaning
-pub mod OutlineShape

@@ -4,7 +4,5 @@
 pub mod dir;
 pub mod expr;
 pub mod list;
-pub mod outline;
-pub mod rose;
 pub mod search;
 pub mod tree;

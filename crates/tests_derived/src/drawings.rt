@@ -8,7 +8,7 @@ use crate::assertions::{
     assert_archived, assert_bytes, assert_holds, assert_same, sealed, viewed, write_second,
 };
 use crate::events::{batch, variant_of};
-use crate::judgements::{assert_faults, outside, unaligned, unknown_tag};
+use crate::judgements::{assert_faults, outside, unknown_tag};
 use crate::spots::{assert_spot, line, rising};
 use archive_core::seal::Seal;
 use archive_core::traits::Portable;
@@ -66,12 +66,6 @@ fn atlas(rt: &impl Abort, alloc: Global) -> Atlas {
 }
 
 #[test]
-fn a_drawing_is_written_and_read_back(rt: HostRuntime) {
-    let drawing = drawing(&rt, rt.alloc());
-    assert_archived(&rt, rt.alloc(), &drawing, 36, DRAWING);
-}
-
-#[test]
 fn an_atlas_is_written_and_read_back(rt: HostRuntime) {
     let atlas = atlas(&rt, rt.alloc());
     assert_archived(&rt, rt.alloc(), &atlas, 12, ATLAS);
@@ -104,12 +98,6 @@ fn assert_blank(rt: &impl Abort, view: Ref<'_, ArchivedDrawing>) {
     assert_holds(rt, "no line", view.lines().is_empty());
     assert_holds(rt, "no last one", view.last().as_ref().is_none());
     assert_same(rt, "the event", variant_of(rt, view.event()), 0);
-}
-
-#[test]
-fn a_drawing_is_viewed(rt: HostRuntime) {
-    let view = viewed::<ArchivedDrawing>(&rt, rt.alloc(), DRAWING);
-    assert_drawing(&rt, view);
 }
 
 #[test]
@@ -190,19 +178,6 @@ fn an_atlas_is_edited(rt: HostRuntime) {
     wanted[61] = 1;
     wanted[104] = 4;
     assert_bytes(&rt, "the edited atlas", &bytes, &wanted);
-}
-
-#[test]
-fn faults_of_drawings_are_found(rt: HostRuntime) {
-    let rows = [
-        (36, 4, outside(0, 32, 0, 24)),
-        (40, 2, unknown_tag("ArchivedOption", 2)),
-        (44, 0xdd, unaligned(9, 2)),
-        (44, 0xd4, outside(0, 8, 8, 24)),
-        (48, 7, unknown_tag("ArchivedEvent", 7)),
-        (52, 0xdd, outside(17, 8, 16, 24)),
-    ];
-    assert_faults::<ArchivedDrawing>(&rt, rt.alloc(), DRAWING, &rows);
 }
 
 #[test]

@@ -1,8 +1,11 @@
-//! Tests of the types of derived_types, derived_plain and derived_turns, as a user's own, through public calls. The bytes of each archive were worked out by hand, from docs/FORMAT.md.
+//! Tests of the types of derived_types, derived_plain, derived_turns, derived_many, derived_deep and derived_blocks, as a user's own, through public calls.
+//! The bytes of each archive were worked out by hand, from docs/FORMAT.md.
 #![tactic(auto)]
 
 #[cfg(test)]
 mod assertions;
+#[cfg(test)]
+mod depots;
 #[cfg(test)]
 mod drawings;
 #[cfg(test)]
@@ -12,9 +15,13 @@ mod events;
 #[cfg(test)]
 mod judgements;
 #[cfg(test)]
+mod parcels;
+#[cfg(test)]
 mod places;
 #[cfg(test)]
 mod points;
+#[cfg(test)]
+mod presses;
 #[cfg(test)]
 mod ranks;
 #[cfg(test)]
@@ -25,5 +32,7 @@ mod spots;
 mod tracks;
 #[cfg(test)]
 mod turns;
+#[cfg(test)]
+mod winds;
 #[cfg(test)]
 mod words;

@@ -1,7 +1,7 @@
 // A record that shares a slice, a text and, by a weak pointer, a value.
 
 use crate::assertions::{
-    assert_bytes, assert_holds, assert_same, assert_written, sealed, text, value_of, viewed,
+    assert_bytes, assert_same, assert_written, sealed, text, value_of, viewed,
 };
 use crate::judgements::{assert_faults, outside, unaligned};
 use crate::spots::{line, rising};
@@ -9,7 +9,6 @@ use crate::tracks::{assert_line, shared_line};
 use archive_core::error::Error;
 use archive_core::pooling::Unpool;
 use archive_core::rc::{Shared, SharedSlice, SharedStr, WeakShared};
-use archive_core::view::Ref;
 use derived_types::spot::{Line, LineSeal, LineView, SpotSeal, SpotView};
 use derived_types::track::{ArchivedRuns, Runs, RunsSeal, RunsView};
 use std::alloc::Global;
@@ -92,12 +91,6 @@ fn runs_are_viewed(rt: HostRuntime) {
         panic!(&rt; "no other line")
     };
     assert_line(&rt, weak);
-}
-
-#[test]
-fn a_null_is_viewed(rt: HostRuntime) {
-    let view = viewed::<ArchivedRuns>(&rt, rt.alloc(), NULL);
-    assert_holds(&rt, "a null", view.weak().upgrade().is_none());
 }
 
 // Writes over the first line of the slice, and over the text.

@@ -1,13 +1,10 @@
 // Records of numbers, and records of such records.
 
-use crate::assertions::{assert_archived, assert_bytes, assert_same, sealed, value_of, viewed};
-use crate::judgements::{assert_refused, outside, unaligned};
+use crate::assertions::{assert_archived, assert_same, value_of};
 use archive_core::api::to_bytes;
 use archive_core::traits::Archive;
 use archive_core::view::Ref;
-use derived_types::spot::{
-    ArchivedLine, ArchivedSpot, Drawing, Line, LineSeal, LineView, Spot, SpotSeal, SpotView,
-};
+use derived_types::spot::{ArchivedSpot, Drawing, Line, Spot, SpotView};
 use std::alloc::{AllocError, Global};
 use std::process::Abort;
 
@@ -55,70 +52,8 @@ pub(crate) fn assert_spot(rt: &impl Abort, view: Ref<'_, ArchivedSpot>, right: u
 }
 
 #[test]
-fn a_spot_is_viewed_and_edited(rt: HostRuntime) {
-    let view = viewed::<ArchivedSpot>(&rt, rt.alloc(), SPOT);
-    assert_spot(&rt, view, 7, -2);
-    let mut bytes = *SPOT;
-    sealed::<ArchivedSpot>(&rt, rt.alloc(), &mut bytes)
-        .right_mut()
-        .write(258);
-    assert_bytes(&rt, "another right", &bytes, b"\x02\x01\xfe\xff");
-    sealed::<ArchivedSpot>(&rt, rt.alloc(), &mut bytes)
-        .up_mut()
-        .write(5);
-    assert_bytes(&rt, "another up", &bytes, b"\x02\x01\x05\0");
-}
-
-#[test]
-fn a_spot_is_checked(rt: HostRuntime) {
-    assert_refused::<ArchivedSpot>(
-        &rt,
-        rt.alloc(),
-        &[
-            (b"\x07\0\xfe", outside(0, 4, 0, 3)),
-            (b"\0\x07\0\xfe\xff", unaligned(1, 2)),
-        ],
-    );
-}
-
-#[test]
 fn a_line_is_written_and_read_back(rt: HostRuntime) {
     assert_archived(&rt, rt.alloc(), &line(), 8, LINE);
-}
-
-#[test]
-fn a_line_is_viewed_and_edited(rt: HostRuntime) {
-    let view = viewed::<ArchivedLine>(&rt, rt.alloc(), LINE);
-    assert_spot(&rt, view.from(), 1, -2);
-    assert_spot(&rt, view.to(), 3, 4);
-    let mut bytes = *LINE;
-    sealed::<ArchivedLine>(&rt, rt.alloc(), &mut bytes)
-        .to_mut()
-        .up_mut()
-        .write(-1);
-    assert_bytes(&rt, "another end", &bytes, b"\x01\0\xfe\xff\x03\0\xff\xff");
-    sealed::<ArchivedLine>(&rt, rt.alloc(), &mut bytes)
-        .from_mut()
-        .right_mut()
-        .write(9);
-    assert_bytes(
-        &rt,
-        "another beginning",
-        &bytes,
-        b"\x09\0\xfe\xff\x03\0\xff\xff",
-    );
-}
-
-#[test]
-fn a_line_is_checked(rt: HostRuntime) {
-    assert_refused::<ArchivedLine>(
-        &rt,
-        rt.alloc(),
-        &[
-            (b"\x01\0\xfe\xff\x03\0\x04", outside(0, 8, 0, 7)),
-            (b"\0\x01\0\xfe\xff\x03\0\x04\0", unaligned(1, 2)),
-        ],
-    );
 }
 
 // So many lines.

@@ -9,7 +9,6 @@ use archive_core::error::Error;
 use archive_core::pooling::Pool;
 use archive_core::rc::Shared;
 use archive_core::traits::{Archive, Deserialize};
-use archive_core::vec::ArchivedVec;
 use archive_core::view::Ref;
 use derived_types::spot::{ArchivedLine, Line, LineSeal, LineView, SpotSeal};
 use derived_types::track::{
@@ -61,15 +60,6 @@ fn tracks(rt: &impl Abort, alloc: Global) -> Vec<Track> {
 }
 
 #[test]
-fn a_track_is_written(rt: HostRuntime) {
-    let track = Track {
-        line: shared_line(&rt, rt.alloc(), 1),
-        other: Some(boxed(&rt, rt.alloc(), rising(5))),
-    };
-    assert_written(&rt, rt.alloc(), &track, 12, TRACK);
-}
-
-#[test]
 fn a_line_of_two_tracks_is_written_once(rt: HostRuntime) {
     let tracks = tracks(&rt, rt.alloc());
     assert_written(&rt, rt.alloc(), &tracks, 8, TRACKS);
@@ -82,21 +72,6 @@ where
 {
     let mut pool: Pool<Shared<Line>> = Pool::new(alloc);
     value_of(rt, alloc, archive, &mut pool)
-}
-
-#[test]
-fn a_track_is_read_back(rt: HostRuntime) {
-    let back: Track = read(&rt, rt.alloc(), TRACK);
-    let Track {
-        line: shared,
-        other,
-    } = back;
-    assert_same(&rt, "the line's position", shared.key, 0);
-    assert_same(&rt, "the line", &*shared.value, &line());
-    let Some(other) = other else {
-        panic!(&rt; "no other line")
-    };
-    assert_same(&rt, "the other one", &*other, &rising(5));
 }
 
 #[test]
@@ -156,15 +131,6 @@ fn faults_of_tracks_are_found(rt: HostRuntime) {
         (24, 0xe8, outside(0, 8, 8, 16)),
     ];
     assert_faults::<ArchivedTrack>(&rt, rt.alloc(), TRACK, &rows);
-}
-
-#[test]
-fn faults_of_lists_of_tracks_are_found(rt: HostRuntime) {
-    let rows = [
-        (28, 0xec, outside(8, 8, 16, 16)),
-        (44, 3, outside(16, 36, 0, 40)),
-    ];
-    assert_faults::<ArchivedVec<ArchivedTrack>>(&rt, rt.alloc(), TRACKS, &rows);
 }
 
 // These bytes are the archive of such a value.

@@ -1,7 +1,7 @@
 // Names that mean something elsewhere: a struct whose fields are called as words of contracts and as calls of views, and an enum as `Option` and `Result`.
 
 use crate::assertions::{assert_archived, assert_bytes, assert_same, sealed, viewed};
-use crate::judgements::{assert_faults, assert_refused, outside, unknown_tag};
+use crate::judgements::{assert_faults, unknown_tag};
 use archive_core::view::Ref;
 use derived_plain::words::{
     ArchivedLevel, ArchivedWords, Level, LevelSeal, LevelView, ViewOfLevel, Words, WordsSeal,
@@ -24,13 +24,6 @@ fn words() -> Words {
         pos: 3,
         len: 4,
     }
-}
-
-#[test]
-fn words_are_written_and_read_back(rt: HostRuntime) {
-    assert_archived(&rt, rt.alloc(), &words(), 4, WORDS);
-    let short = (b"\x01\x02\x03".as_slice(), outside(0, 4, 0, 3));
-    assert_refused::<ArchivedWords>(&rt, rt.alloc(), &[short]);
 }
 
 // A view shows these words. The field `pos` is shown by `pos_field`, since each view has a position.

@@ -4,10 +4,10 @@
 ghost use Rattle.std.specs.Prelude.{◌≡◌};
 ghost use Rattle.archive_core.specs.SealsWritten.{IsSealOf};
 
-use archive_core::api::{HighSerializer, access, access_mut, to_bytes};
+use archive_core::api::{HighSerializer, access, access_mut, from_bytes, to_bytes};
 use archive_core::error::Error;
 use archive_core::seal::Seal;
-use archive_core::traits::{Portable, Serialize};
+use archive_core::traits::{Archive, Deserialize, Portable, Serialize};
 use archive_core::view::Ref;
 use std::alloc::Global;
 use std::fmt::Debug;
@@ -50,6 +50,33 @@ pub(crate) fn archived<T: Serialize<HighSerializer<Vec<u8>, Global>>>(
     value: &T,
 ) -> Vec<u8> {
     to_bytes(alloc, value).expect(rt, "an archive")
+}
+
+// These bytes are the archive of a value; `what` names it.
+pub(crate) fn assert_written<T: Serialize<HighSerializer<Vec<u8>, Global>>>(
+    rt: &impl Abort,
+    what: &str,
+    alloc: Global,
+    value: &T,
+    archive: &[u8],
+) {
+    let bytes = archived(rt, alloc, value);
+    assert_bytes(rt, what, bytes.as_slice(), archive);
+}
+
+// An archive is read back as this value; `what` names it.
+pub(crate) fn assert_read<T: Archive + PartialEq + Debug + Drop>(
+    rt: &impl Abort,
+    what: &str,
+    alloc: Global,
+    archive: &[u8],
+    value: &T,
+)
+where
+    T::Archived: Deserialize<T, ()>,
+{
+    let back: T = from_bytes(alloc, archive, &mut ()).expect(rt, "a value is read back");
+    assert_same(rt, what, &back, value);
 }
 
 // The view of a `T` at the end of the bytes.

@@ -1,9 +1,11 @@
-//! Tests of comparisons and edits in place, through public calls.
+//! Tests of comparisons, of edits in place and of sorted maps, through public calls.
 #![tactic(auto)]
 
 #[cfg(test)]
 mod assertions;
 #[cfg(test)]
 mod comparisons;
+#[cfg(test)]
+mod maps;
 #[cfg(test)]
 mod seals;

@@ -2,10 +2,10 @@
 
 use crate::assertions::{
     assert_archived, assert_bytes, assert_holds, assert_same, assert_written, sealed, text,
-    value_of, viewed, write_text,
+    value_of, viewed,
 };
 use crate::judgements::{assert_faults, assert_refused, outside, unaligned, unknown_tag};
-use crate::shown::{assert_spot, variant_of};
+use crate::shown::assert_spot;
 use archive_core::core_impls::OwnedArray;
 use archive_core::error::Error;
 use archive_core::option::ArchivedOption;
@@ -14,7 +14,7 @@ use archive_core::string::ArchivedString;
 use archive_core::view::Ref;
 use derived_kinds::kinds::{ArchivedLists, Lists, ListsSeal, ListsView};
 use derived_kinds::pair::{ArchivedPair, Pair, PairSeal, PairView};
-use derived_types::event::{ArchivedEvent, Event};
+use derived_types::event::ArchivedEvent;
 use derived_types::spot::{ArchivedSpot, Spot, SpotSeal};
 use std::alloc::Global;
 use std::process::Abort;
@@ -146,35 +146,6 @@ fn a_pair_of_a_number_and_a_text(rt: HostRuntime) {
     );
     let found = (view.left().get(), view.right().as_str());
     assert_same(&rt, "both", found, (258, "hello world"));
-}
-
-// Writes over both.
-fn write_pair(rt: &impl Abort, alloc: Global, bytes: &mut [u8], number: u16, text: &str) {
-    type Archived = ArchivedPair<ArchivedU16, ArchivedString>;
-    sealed::<Archived>(rt, alloc, bytes)
-        .left_mut()
-        .write(number);
-    write_text(sealed::<Archived>(rt, alloc, bytes).right_mut(), text);
-}
-
-#[test]
-fn a_pair_is_edited(rt: HostRuntime) {
-    let mut bytes = *NUMBER_AND_TEXT;
-    write_pair(&rt, rt.alloc(), &mut bytes, 3, "good-bye...");
-    let wanted = b"good-bye...\0\x03\0\0\0\x8b\0\0\0\xf0\xff\xff\xff";
-    assert_bytes(&rt, "both", &bytes, wanted);
-}
-
-#[test]
-fn a_pair_of_an_event_and_a_number(rt: HostRuntime) {
-    let pair = Pair {
-        left: Event::Move { x: -2, y: 258 },
-        right: 7u64,
-    };
-    assert_archived(&rt, rt.alloc(), &pair, 24, STEP_AND_NUMBER);
-    let view = viewed::<ArchivedPair<ArchivedEvent, ArchivedU64>>(&rt, rt.alloc(), STEP_AND_NUMBER);
-    let found = (variant_of(&rt, view.left()), view.right().get());
-    assert_same(&rt, "both", found, (3, 7));
 }
 
 #[test]

@@ -109,15 +109,6 @@ fn assert_reason(rt: &impl Abort, view: Ref<'_, ArchivedOwners>, reason: &str) {
     assert_same(rt, "the reason", text.as_str(), reason);
 }
 
-// It is this number.
-fn assert_number(rt: &impl Abort, view: Ref<'_, ArchivedOwners>, number: u8) {
-    let outcome: Ref<'_, ArchivedResult<u8, ArchivedString>> = view.outcome();
-    let Ok(found) = outcome.as_ref() else {
-        panic!(rt; "no number")
-    };
-    assert_same(rt, "the number", found.get(), number);
-}
-
 // The box holds these numbers.
 fn assert_numbers(rt: &impl Abort, view: Ref<'_, ArchivedOwners>, numbers: &[u16]) {
     let boxed: Ref<'_, ArchivedBox<ArchivedSlice<ArchivedU16>>> = view.numbers();
@@ -140,14 +131,6 @@ fn owners_are_viewed(rt: HostRuntime) {
     assert_same(&rt, "the text", view.text().get().as_str(), "hé");
     assert_pair(&rt, view, "hi");
     assert_same(&rt, "the end", view.of().pos(), 60);
-}
-
-#[test]
-fn other_owners_are_viewed(rt: HostRuntime) {
-    let view = viewed::<ArchivedOwners>(&rt, rt.alloc(), OTHERS);
-    assert_number(&rt, view, 7);
-    assert_numbers(&rt, view, &[]);
-    assert_pair(&rt, view, "hello world");
 }
 
 // Writes over the texts of the outcome and of the pair.

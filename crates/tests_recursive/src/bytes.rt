@@ -4,8 +4,6 @@ use crate::assertions::{assert_read, assert_written};
 use recursive_types::dir::{Dir, Entry};
 use recursive_types::expr::Expr;
 use recursive_types::list::List;
-use recursive_types::outline::Outline;
-use recursive_types::rose::Rose;
 use recursive_types::search::Search;
 use recursive_types::tree::Tree;
 use std::alloc::{AllocError, Global};
@@ -113,16 +111,6 @@ fn binary_tree(rt: HostRuntime) {
     assert_read(&rt, rt.alloc(), SEARCH, &search);
 }
 
-// A tree without names for its fields is as one with names.
-#[test]
-fn rose(rt: HostRuntime) {
-    let below = vec![in rt.alloc(); Rose(4, Vec::new(rt.alloc()))].expect(&rt, "a list");
-    let rose = Rose(3, below);
-    let bytes = b"\x04\0\0\0\xfc\xff\xff\xff\0\0\0\0\x03\0\0\0\xf0\xff\xff\xff\x01\0\0\0";
-    assert_written(&rt, rt.alloc(), &rose, bytes);
-    assert_read(&rt, rt.alloc(), bytes, &rose);
-}
-
 fn folder(alloc: Global) -> Result<Dir, AllocError> {
     let inner = Dir {
         name: String::from_str(alloc, "e")?,
@@ -144,23 +132,4 @@ fn folders(rt: HostRuntime) {
     let folder = folder(rt.alloc()).expect(&rt, "a folder");
     assert_written(&rt, rt.alloc(), &folder, FOLDER);
     assert_read(&rt, rt.alloc(), FOLDER, &folder);
-}
-
-fn outline(alloc: Global) -> Result<Outline, AllocError> {
-    Ok(Outline {
-        title: String::from_str(alloc, "t")?,
-        chapters: leaf(alloc, 1),
-        others: vec![in alloc; leaf(alloc, 2)]?,
-    })
-}
-
-// The tree 2 at 0, which is the one of the others; and at 12 the outline: its title in place, the tree 1 at 20, and the vector of the others at 32.
-const OUTLINE: &[u8] =
-    b"\x02\0\0\0\xfc\xff\xff\xff\0\0\0\0t\xff\xff\xff\xff\xff\xff\xff\x01\0\0\0\xe8\xff\xff\xff\0\0\0\0\xe0\xff\xff\xff\x01\0\0\0";
-
-#[test]
-fn struct_of_trees(rt: HostRuntime) {
-    let outline = outline(rt.alloc()).expect(&rt, "an outline");
-    assert_written(&rt, rt.alloc(), &outline, OUTLINE);
-    assert_read(&rt, rt.alloc(), OUTLINE, &outline);
 }

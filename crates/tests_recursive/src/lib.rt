@@ -15,3 +15,5 @@ mod holders;
 mod kinds;
 #[cfg(test)]
 mod long;
+#[cfg(test)]
+mod tuples;

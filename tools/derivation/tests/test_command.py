@@ -80,6 +80,19 @@ class Writing(RepositoryTest):
         self.assertIn("c.args.values.rest.rest.rest.fourth", self.text(proof))
         self.assertEqual(self.run_command("--check", path), (0, ""))
 
+    def test_variants_of_many_fields_by_their_calls(self):
+        """The first arm has no name of its call, the second one of a call has a number, and the call itself its variant."""
+        many = ", ".join(["u8"] * 9)
+        path = self.put(f"#[derive(Drop)]\npub enum Big {{ A({many}), B({many}), C({many}) }}\n")
+        self.assertEqual(self.run_command(path), (0, ""))
+        folder = os.path.join(self.top, "crates", "game", "proofs", "types")
+        written = self.text(os.path.join(folder, "BigSerialize", "serialize", "Answers.antt"))
+        resolved = self.text(os.path.join(folder, "BigArchive", "resolve", "Answers.antt"))
+        for name in ("returns-in-Ok", "returns-in-Ok-serialize_case", "returns-in-Ok-serialize_case-2"):
+            self.assertTrue(f"pub {name} : goal.{name}\n" in written, name)
+        self.assertTrue("c.serialize_case-in-C.ensures.goes_on" in written)
+        self.assertTrue("w.resolve_case-in-C.ensures" in resolved)
+
     def test_many_variants_without_fields(self):
         names = [f"V{i}" for i in range(256)]
         names[3], names[200] = "V3(String)", "V200 { x: u8 }"

@@ -80,6 +80,15 @@ class Recursive(RepositoryTest):
         self.assertIn("(list (each_meaning (pair_meaning (λ y. (text_value (string_bytes y))) (λ y. (number (pos y)))) t.hours.entries))", text)
         self.assertIn("(sorted_map str_key (leaf (number_kind unsigned w8)))", self.beside("specs", "TaskShape.antt"))
 
+    def test_what_is_made_of_tuples_is_read_by_a_function_of_its_own(self):
+        path = self.put("#[derive(Drop)]\npub enum Setting { Ranges(Vec<(i32, u8)>, Option<Vec<(u8, String)>>), Group(Vec<Setting>) }\n")
+        self.assertEqual(self.run_command(path), (0, ""))
+        text = self.text(path)
+        self.assertIn("fn read_vec_pair_i32_u8_of_setting<D: Entries>(", text)
+        self.assertIn("let a0 = read_vec_pair_i32_u8_of_setting(alloc, p0, deserializer)?;", text)
+        self.assertEqual(text.count("fn read_option_vec_pair_u8_string_of_setting<"), 1)
+        self.assertIn("(vec (parts (part (leaf (number_kind signed w32)) (part (leaf (number_kind unsigned w8)) no_part))))", self.beside("specs", "SettingShape.antt"))
+
     def test_a_graph_is_keyed_by_what_its_values_mean(self):
         path = self.put("use archive_core::rc::Shared;\n#[derive(Drop)]\npub struct Place { id: u32, next: Vec<Shared<Place>> }\n#[derive(Drop)]\npub struct Way { places: Vec<Shared<Place>> }\n")
         self.assertEqual(self.run_command(path), (0, ""))

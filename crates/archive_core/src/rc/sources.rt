@@ -15,6 +15,7 @@ ghost use Rattle.archive_types.specs.Outcomes.{ResolvesAs};
 mod long;
 mod weak;
 
+use crate::recursive::handed_on;
 use archive_check::format::error::Error;
 use archive_types::place::Place;
 use archive_types::rc::{ArchivedRc, RcFlavor, RcResolver, write_pointer, write_shared};
@@ -154,7 +155,10 @@ impl<T: Serialize<S>, S: Sharing + Writer + ResolverAlloc> Serialize<S> for Shar
         let value = One {
             value: &*self.value,
         };
-        let pos = write_shared::<RcFlavor, One<'_, T>, S>(self.key, &value, serializer)?;
+        let pos = match write_shared::<RcFlavor, One<'_, T>, S>(self.key, &value, serializer) {
+            Ok(pos) => pos,
+            Err(error) => return Err(handed_on(error)),
+        };
         let Ok(pos) = u32::try_from(pos) else {
             return Err(Error::PositionTooLarge);
         };

@@ -18,8 +18,28 @@ use std::alloc::Allocator;
 /// The caller must ensure that each resolver is one of its value. Fails as the resolving of a value
 /// does, with `PositionTooLarge` where the region begins above 4,294,967,295, with `LayoutTooLarge`
 /// where it would end above `usize::MAX`, with `OutOfMemory`, or as the writer fails.
-#[inline(never)]
+#[inline(always)]
 pub fn serialize_inner_slice<S: Writer + ResolverAlloc, T: Archive, B: Allocator + Drop>(
+    values: &[T],
+    resolvers: Vec<T::Resolver, B>,
+    serializer: &mut S,
+) -> Result<VecResolver, Error>
+    requires same_values { EachBelongs T.belongs values.now resolvers.items }
+    ensures listed { IfOk result (InnerListed T.Archive T.Archived.Portable values.now
+        resolvers.items S.Keys serializer) }
+    ensures goes_on { GoesOn (S.state serializer.old) (S.state serializer.new) }
+    ensures refused { IfErr result (InnerUnlisted T.Archive T.Archived.Portable values.now
+        resolvers.items S.Keys serializer) }
+{
+    if values.is_empty() {
+        return resolve_inner_slice(values, resolvers, serializer);
+    }
+    serialize_elements(values, resolvers, serializer)
+}
+
+// The same in line.
+#[inline(always)]
+fn resolve_inner_slice<S: Writer + ResolverAlloc, T: Archive, B: Allocator + Drop>(
     values: &[T],
     resolvers: Vec<T::Resolver, B>,
     serializer: &mut S,
@@ -38,6 +58,23 @@ pub fn serialize_inner_slice<S: Writer + ResolverAlloc, T: Archive, B: Allocator
         return Err(Error::PositionTooLarge);
     }
     Ok(VecResolver::from_pos(pos))
+}
+
+// The same by a call.
+#[inline(never)]
+fn serialize_elements<S: Writer + ResolverAlloc, T: Archive, B: Allocator + Drop>(
+    values: &[T],
+    resolvers: Vec<T::Resolver, B>,
+    serializer: &mut S,
+) -> Result<VecResolver, Error>
+    requires same_values { EachBelongs T.belongs values.now resolvers.items }
+    ensures listed { IfOk result (InnerListed T.Archive T.Archived.Portable values.now
+        resolvers.items S.Keys serializer) }
+    ensures goes_on { GoesOn (S.state serializer.old) (S.state serializer.new) }
+    ensures refused { IfErr result (InnerUnlisted T.Archive T.Archived.Portable values.now
+        resolvers.items S.Keys serializer) }
+{
+    resolve_inner_slice(values, resolvers, serializer)
 }
 
 /// Writes the region of a value that was serialized, and returns the resolver of a box of it, as

@@ -1,6 +1,5 @@
 -- How a shared pointer is written: its value under its key, and a byte of 0 where that has no size; and why not.
 use Rattle.std.proofs.Common.{◌≡◌, ◌⊎◌, ⊎_elim, inl, inr, ℕ, zero, suc, pos, slice_index, ◌+◌, ◌<◌, ◌≤◌, List, [], ◌∷◌, ◌++◌, length, refl, sym, ap, subst, ◌∙◌, arith, Option, Some, None, Result, Ok, Err, true, false, cond, ◌&&◌, nat_eq, Contains}
-use Rattle.std.specs.Prelude.{IsErrAnd, IsErrOf}
 use Rattle.std.proofs.lemmas.Bool.{cases_eq}
 use Rattle.std.proofs.lemmas.List.Elements.{Contains-append_left, Contains-append_right, Contains-append_cases}
 use Rattle.archive_check.specs.Shape.{Flavor, Shape, shared, weak, Pointee}
@@ -199,12 +198,6 @@ weak_refused D flavor P ks v old new e h = explains_sooner _ _ _ _ old new e
 pub null_serialized : (D : Definitions) (flavor : Flavor) (P : Pointee) (w : WriterState) → Serialized D (weak flavor P) [] null null w w
 null_serialized D flavor P w = serialized (writes_nothing D w null refl (λ k n. elim n [ ]) (λ x. fills_null))
     (λ below s names k n. record { flat = null; steps = []; stop = cursor w; plans = plans_null; such = (refl, is_here w) })
-
--- a pending key is refused at once
-pub pending_said : {A : Type 0} (q : Result A Error) (r : Result ℕ Error) (e : Error) (state : KeyState) → r ≡ Err e → IsErrAnd q (λ d. d ≡ e) → ((s : Option ℕ) → state ≡ Some s → r ≡ known_answer s) → state ≡ Some None
-    → IsErrOf q CyclicSerialize
-pending_said (Ok x) r e state is said known pending = absurd said
-pending_said (Err d) r e state is said known pending = let f = known None pending in let same : e ≡ CyclicSerialize = cc in ap Err (said ∙ same)
 
 no_byte : (a p : ℕ) → (a ≡ p → ⊥) → ◌≡◌ {A = ℕ} 0 (cond (nat_eq a p) 1 0)
 no_byte a p h = elim (cases_eq a p) [ inl e ↦ absurd (h e) | inr n ↦ grind arith ]

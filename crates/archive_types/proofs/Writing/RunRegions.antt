@@ -36,6 +36,12 @@ use Rattle.archive_types.proofs.Planning.Causes.{explains_write, explains_sooner
 pub puts_none : (D : Definitions) (told : WriterState) (X : Shape) (L : Layout) → HasLayout D X L → PutsRun D told told X L 0 no_value
 puts_none D told X L layout = record { layout = layout; added = []; grown = sym (append-nil told.bytes); sized = omega arith; reads = λ s bytes k stands. reads_none; clean = λ s bytes k stands. clean_none; states = refl }
 
+-- no value, whatever is kept
+pub puts_nothing : {A R : Type 0} (D : Definitions) (told : WriterState) (X : Shape) (L : Layout) (f : A → R → Value) (xs : List A) (rs : List R) → HasLayout D X L → length xs ≡ 0
+    → PutsRun D told told X L (length xs) (each_flat f xs rs)
+puts_nothing D told X L f [] rs layout none = puts_none D told X L layout
+puts_nothing D told X L f (x ∷ xs) rs layout none = absurd (omega (arith, none))
+
 -- one in front of others
 pub puts_element : (D : Definitions) (old mid new : WriterState) (X : Shape) (L : Layout) (n : ℕ) (v : Value) (vs : Values)
     → Puts D old mid X L v → PutsRun D mid new X L n vs → PutsRun D old new X L (suc n) (value v vs)

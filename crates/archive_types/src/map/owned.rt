@@ -135,9 +135,7 @@ fn entries_of<'a, M: Allocator + Drop, A: Ord, B>(
 {
     let mut entries = Vec::with_capacity(alloc, source.len())?;
     for (key, value) in source {
-        entries
-            .push(Entry { key, value })
-            .map_err(AllocError::from)?;
+        entries.push_reserved(Entry { key, value });
     }
     Ok(entries)
 }

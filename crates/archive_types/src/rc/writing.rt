@@ -22,7 +22,7 @@ ghost use Rattle.archive_types.specs.Outcomes.{ResolvesAs, SerializesTo, Seriali
 use super::{ArchivedRc, ArchivedRcWeak, Flavor};
 use crate::owner_pointers::position_of;
 use crate::place::Place;
-use crate::ser::Writer;
+use crate::ser::{Writer, by_words};
 use crate::sharing::{Sharing, SharingExt};
 use crate::traits::{ArchiveUnsized, Portable, PortablePointee, SerializeUnsized};
 use archive_check::format::error::Error;
@@ -76,7 +76,10 @@ pub fn write_shared<F: Flavor, U: SerializeUnsized<S>, S: Sharing + Writer>(
         (U.source_length value.now)) (λ _. ⊤) (S.state writer.old) (S.state writer.new) result }
     ensures pending { AnswersPending key result S.Keys writer }
 {
-    let pos = writer.serialize_shared(key, value)?;
+    let pos = match writer.serialize_shared(key, value) {
+        Ok(pos) => pos,
+        Err(error) => return Err(by_words(error)),
+    };
     if writer.pos() != pos {
         return Ok(pos);
     }

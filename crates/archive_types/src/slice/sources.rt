@@ -21,7 +21,7 @@ use crate::ser::{ResolveExt, by_words};
 use crate::traits::{Archive, ArchivePointee, ArchiveUnsized, Serialize, SerializeUnsized};
 use archive_check::format::error::Error;
 use archive_write::ser::{ResolverAlloc, Writer, WriterExt};
-use std::alloc::{AllocError, Allocator};
+use std::alloc::Allocator;
 
 /// A borrowed slice, as a source. In its place rkyv 0.8.18 has a slice.
 #[derive(Drop)]
@@ -56,7 +56,7 @@ pub(crate) fn serialize_each<A: Allocator + Drop, S: Writer, T: Serialize<S>>(
             Ok(resolver) => resolver,
             Err(error) => return Err(by_words(error)),
         };
-        resolvers.push(resolver).map_err(AllocError::from)?;
+        resolvers.push_reserved(resolver);
     }
     Ok(resolvers)
 }

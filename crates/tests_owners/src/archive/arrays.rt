@@ -1,8 +1,8 @@
 // Arrays.
 
 use crate::assertions::{
-    assert_accepted_by_schema, assert_holds, assert_same, assert_written, found, is_refused,
-    value_of, viewed, written,
+    assert_accepted_by_schema, assert_holds, assert_same, assert_written, is_refused, value_of,
+    viewed, written,
 };
 use archive_core::api::{HighSerializer, access_mut, serialize_using};
 use archive_core::array::OwnedArray;
@@ -108,43 +108,7 @@ fn an_array_of_texts_comes_back(rt: HostRuntime) {
     assert_same(&rt, "the second", texts.as_slice()[1].as_str(), "");
 }
 
-#[test]
-fn an_array_of_arrays_comes_back(rt: HostRuntime) {
-    let bytes = b"\x01\0\x02\0\x03\0\x04\0".as_slice();
-    let rows = read_and_written::<OwnedArray<OwnedArray<u16, 2>, 2>>(&rt, rt.alloc(), bytes);
-    let first = rows.as_slice()[0].as_slice();
-    assert_same(&rt, "the first", first, [1, 2].as_slice());
-    let second = rows.as_slice()[1].as_slice();
-    assert_same(&rt, "the second", second, [3, 4].as_slice());
-}
-
-#[test]
-fn an_array_of_none_comes_back(rt: HostRuntime) {
-    let none = read_and_written::<OwnedArray<u32, 0>>(&rt, rt.alloc(), b"");
-    assert_holds(&rt, "no element", none.as_slice().is_empty());
-}
-
 type Pair = (u8, OwnedArray<u16, 2>);
-
-// A number and an array, that are read back.
-fn read_pair(alloc: Global, bytes: &[u8]) -> Option<Pair> {
-    found(alloc, bytes)
-}
-
-// The archive of a number and an array.
-fn written_pair(rt: &impl Abort, alloc: Global, pair: &Pair) -> Vec<u8> {
-    written(rt, alloc, pair)
-}
-
-#[test]
-fn an_array_in_a_tuple_comes_back(rt: HostRuntime) {
-    let bytes = b"\x07\0\x01\0\x02\0".as_slice();
-    let pair = read_pair(rt.alloc(), bytes).expect(&rt, "a tuple");
-    let again = written_pair(&rt, rt.alloc(), &pair);
-    assert_same(&rt, "the bytes", again.as_slice(), bytes);
-    assert_same(&rt, "the number", pair.0, 7);
-    assert_same(&rt, "the array", pair.1.as_slice(), [1, 2].as_slice());
-}
 
 #[test]
 fn an_owned_array_has_as_many_as_it_says(rt: HostRuntime) {
@@ -174,14 +138,4 @@ fn an_array_is_a_region_of_its_own(rt: HostRuntime) {
     assert_same(&rt, "the pointer", pointer, 4);
     let bytes = serializer.into_writer();
     assert_same(&rt, "the bytes", bytes.as_slice(), POINTED);
-}
-
-#[test]
-fn an_array_that_was_read_back_is_a_region_of_its_own(rt: HostRuntime) {
-    let texts: OwnedArray<String, 2> = value_of(&rt, rt.alloc(), TEXTS);
-    let mut serializer = Serializer::new(Vec::new(rt.alloc()), rt.alloc(), ());
-    let region = serialize_using(&texts, &mut serializer).expect(&rt, "an array");
-    assert_same(&rt, "the array", region, 0);
-    let bytes = serializer.into_writer();
-    assert_same(&rt, "the bytes", bytes.as_slice(), TEXTS);
 }

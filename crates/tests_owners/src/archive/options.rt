@@ -2,11 +2,10 @@
 
 use crate::assertions::{
     assert_accepted_by_schema, assert_holds, assert_no_variant, assert_no_variant_by_schema,
-    assert_read, assert_same, assert_written, value_of, viewed,
+    assert_same, assert_written, value_of, viewed,
 };
 use archive_core::option::ArchivedOption;
 use archive_core::primitive::{ArchivedU32, ArchivedU128};
-use archive_core::string::ArchivedString;
 use archive_core::view::Ref;
 use std::alloc::Global;
 use std::marker::PhantomData;
@@ -66,19 +65,6 @@ fn a_value_that_owns_a_text_is_an_option(rt: HostRuntime) {
     let value = Some(hello_world(&rt, rt.alloc()));
     assert_text_written(&rt, rt.alloc(), &value, SOME_TEXT);
     assert_text_written(&rt, rt.alloc(), &None, &[0; 12]);
-}
-
-#[test]
-fn an_option_of_a_text_is_read_back(rt: HostRuntime) {
-    let value = Some(hello_world(&rt, rt.alloc()));
-    assert_read(&rt, rt.alloc(), SOME_TEXT, &value);
-}
-
-#[test]
-fn an_option_shows_the_text_that_its_value_owns(rt: HostRuntime) {
-    let view = viewed::<ArchivedOption<ArchivedString>>(&rt, rt.alloc(), SOME_TEXT);
-    let text = view.as_ref().map(|text| text.as_str());
-    assert_same(&rt, "the view", text, Some("hello world"));
 }
 
 #[test]

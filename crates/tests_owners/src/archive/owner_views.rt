@@ -30,16 +30,6 @@ fn a_box_shows_its_value(rt: HostRuntime) {
 }
 
 #[test]
-fn a_box_shows_its_slice(rt: HostRuntime) {
-    let view = viewed::<ArchivedBox<ArchivedSlice<u8>>>(&rt, rt.alloc(), BOXED_HELLO_WORLD);
-    let slice = view.get();
-    assert_same(&rt, "the slice's length", slice.len(), 11);
-    if slice.len() > 4 {
-        assert_same(&rt, "the slice's byte at 4", slice.index(4).get(), b'o');
-    }
-}
-
-#[test]
 fn a_box_shows_its_text(rt: HostRuntime) {
     let text = viewed::<ArchivedBox<ArchivedStr>>(&rt, rt.alloc(), BOXED_HELLO_WORLD).get();
     assert_same(&rt, "the text", text.as_str(), "hello world");

@@ -48,12 +48,6 @@ fn what_elements_own_comes_first(rt: HostRuntime) {
 }
 
 #[test]
-fn boxes_and_their_archives(rt: HostRuntime) {
-    let one = Box::new(rt.alloc(), 1u32).expect(&rt, "memory");
-    assert_written(&rt, rt.alloc(), &one, b"\x01\0\0\0\xfc\xff\xff\xff");
-}
-
-#[test]
 fn boxes_in_a_vector_come_first(rt: HostRuntime) {
     let one = Box::new(rt.alloc(), 1u32).expect(&rt, "memory");
     let two = Box::new(rt.alloc(), 2u32).expect(&rt, "memory");

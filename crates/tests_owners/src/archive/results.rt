@@ -1,13 +1,10 @@
 // Results.
 
 use crate::assertions::{
-    assert_holds, assert_no_variant, assert_read, assert_refused_by_schema, assert_same,
-    assert_written, value_of, viewed,
+    assert_holds, assert_no_variant, assert_same, assert_written, value_of, viewed,
 };
-use archive_core::error::Error;
 use archive_core::primitive::{ArchivedU16, ArchivedU32};
 use archive_core::result::ArchivedResult;
-use archive_core::string::ArchivedString;
 use archive_core::view::Ref;
 use std::alloc::Global;
 use std::process::Abort;
@@ -71,13 +68,6 @@ fn a_result_owns_what_its_value_owns(rt: HostRuntime) {
 }
 
 #[test]
-fn a_result_that_owns_a_text_is_read_back(rt: HostRuntime) {
-    let text = String::from_str(rt.alloc(), "hello world").expect(&rt, "memory");
-    let value: Outcome = Ok(text);
-    assert_read(&rt, rt.alloc(), OK_TEXT, &value);
-}
-
-#[test]
 fn a_tag_above_1_names_no_variant(rt: HostRuntime) {
     let refusal = ("ArchivedResult", 2);
     let unknown = b"\x02\0\0\0";
@@ -88,31 +78,4 @@ fn a_tag_above_1_names_no_variant(rt: HostRuntime) {
         unknown,
         refusal,
     );
-}
-
-// A check by its schema refuses an archived text or error, for this reason.
-fn assert_outcome_refused(rt: &impl Abort, alloc: Global, bytes: &[u8], refusal: Error) {
-    type ArchivedOutcome = ArchivedResult<ArchivedString, ArchivedU16>;
-    assert_refused_by_schema::<ArchivedOutcome>(rt, "by the schema", alloc, bytes, refusal);
-}
-
-#[test]
-fn a_tag_above_1_is_refused_by_the_schema(rt: HostRuntime) {
-    let unknown = Error::InvalidDiscriminant {
-        name: "ArchivedResult",
-        value: 2,
-    };
-    let whole = b"\x02\0\0\0\0\0\0\0\0\0\0\0";
-    assert_outcome_refused(&rt, rt.alloc(), whole, unknown);
-}
-
-#[test]
-fn too_few_bytes_are_refused_by_the_schema(rt: HostRuntime) {
-    let outside = Error::InvalidSubtreePointer {
-        position: 0,
-        size: 12,
-        start: 0,
-        end: 4,
-    };
-    assert_outcome_refused(&rt, rt.alloc(), b"\x02\0\0\0", outside);
 }

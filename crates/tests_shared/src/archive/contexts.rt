@@ -7,10 +7,10 @@ use crate::archive::pairs::ONE_NUMBER;
 use crate::assertions::{assert_refusal, assert_same, assert_served};
 use archive_core::api::{HighValidator, access_with_context};
 use archive_core::boxed::ArchivedBox;
-use archive_core::core_impls::{ArchivedTuple2, ArchivedTuple3};
+use archive_core::core_impls::ArchivedTuple2;
 use archive_core::error::Error;
 use archive_core::option::ArchivedOption;
-use archive_core::primitive::{ArchivedI32, ArchivedU32};
+use archive_core::primitive::ArchivedU32;
 use archive_core::rc::{ArchivedRc, RcFlavor};
 use archive_core::slice::ArchivedSlice;
 use archive_core::string::{ArchivedStr, ArchivedString};
@@ -67,32 +67,11 @@ fn assert_two_entered<A: Portable, B: Portable>(
     assert_entered::<ArchivedTuple2<A, B>>(rt, what, alloc, bytes, regions);
 }
 
-// And one of three.
-fn assert_three_entered<A: Portable, B: Portable, C: Portable>(
-    rt: &impl Abort,
-    what: &str,
-    alloc: Global,
-    bytes: &[u8],
-    regions: usize,
-) {
-    assert_entered::<ArchivedTuple3<A, B, C>>(rt, what, alloc, bytes, regions);
-}
-
-// Perhaps a list.
-type Optional = ArchivedOption<ArchivedVec<ArchivedI32>>;
-
 #[test]
 fn a_check_enters_each_region_once(rt: HostRuntime) {
     assert_entered::<ArchivedString>(&rt, "a text", rt.alloc(), HELLO_WORLD, 2);
     let empty = b"\0\0\0\0\0\0\0\0";
     assert_entered::<ArchivedVec<ArchivedU32>>(&rt, "an empty vector", rt.alloc(), empty, 2);
-}
-
-#[test]
-fn a_check_enters_each_region_of_a_record_once(rt: HostRuntime) {
-    let record =
-        b"hello world\0\x01\0\0\0\x02\0\0\0\x03\0\0\0\x04\0\0\0\x2a\0\0\0\x8b\0\0\0\xe0\xff\xff\xff\x01\0\0\0\xe0\xff\xff\xff\x04\0\0\0";
-    assert_three_entered::<u8, ArchivedString, Optional>(&rt, "three", rt.alloc(), record, 3);
 }
 
 #[test]

@@ -61,16 +61,6 @@ fn share_texts<S: Sharing + Writer>(rt: &impl Abort, serializer: &mut S) {
     assert_pending(rt, serializer, 3, &hello);
 }
 
-// A value is shared first of all, and again: one call of a test at the tuple's type does for both.
-fn share_again<T: SerializeUnsized<S>, S: Sharing + Writer>(
-    rt: &impl Abort,
-    serializer: &mut S,
-    value: &T,
-) {
-    assert_shared(rt, "at first", serializer, 5, value, 0);
-    assert_shared(rt, "again", serializer, 5, value, 0);
-}
-
 #[test]
 fn a_shared_value_is_written_once(rt: HostRuntime) {
     let sharing = Share::new(rt.alloc());
@@ -101,17 +91,6 @@ fn a_pair_is_appended_to_a_lent_writer(rt: HostRuntime) {
     assert_appended(&rt, rt.alloc(), &pair, &mut bytes, 16);
     let right =
         b"\x0a\0\0\0\xfc\xff\xff\xff\xf8\xff\xff\xff\x0a\0\0\0\xfc\xff\xff\xff\xf8\xff\xff\xff";
-    assert_same(&rt, "the bytes", bytes.as_slice(), right);
-}
-
-#[test]
-fn a_tuple_of_four_is_shared(rt: HostRuntime) {
-    let sharing = Share::new(rt.alloc());
-    let mut serializer = Serializer::new(Vec::new(rt.alloc()), rt.alloc(), sharing);
-    let value = (1u32, 2u32, 3u32, 4u32);
-    share_again(&rt, &mut serializer, &value);
-    let bytes = serializer.into_writer();
-    let right = b"\x01\0\0\0\x02\0\0\0\x03\0\0\0\x04\0\0\0";
     assert_same(&rt, "the bytes", bytes.as_slice(), right);
 }
 

@@ -162,27 +162,10 @@ fn two_pointers_to_one_number_without_a_pool(rt: HostRuntime) {
 }
 
 #[test]
-fn two_pointers_to_two_numbers(rt: HostRuntime) {
-    let archive = b"\x0a\0\0\0\x14\0\0\0\xf8\xff\xff\xff\xf8\xff\xff\xff";
-    let pair = (
-        shared(&rt, rt.alloc(), 1, 10),
-        shared(&rt, rt.alloc(), 2, 20),
-    );
-    assert_numbers_written(&rt, rt.alloc(), &pair, archive);
-}
-
-#[test]
 fn two_pointers_to_one_unit(rt: HostRuntime) {
     let pair = twice(&rt, rt.alloc(), ());
     assert_two_written(&rt, rt.alloc(), &pair, ONE_UNIT);
     assert_two::<()>(&rt, rt.alloc(), ONE_UNIT);
-}
-
-#[test]
-fn two_pointers_to_one_unit_are_read_back(rt: HostRuntime) {
-    let mut pool: Pool<Shared<()>> = Pool::new(rt.alloc());
-    let (first, second): (Shared<()>, Shared<()>) = read_two(&rt, rt.alloc(), ONE_UNIT, &mut pool);
-    assert_same(&rt, "the keys", (first.key, second.key), (0, 0));
 }
 
 #[test]
@@ -195,36 +178,9 @@ fn an_empty_slice_and_one_of_a_number(rt: HostRuntime) {
 }
 
 #[test]
-fn an_empty_slice_and_one_of_a_number_are_read_back(rt: HostRuntime) {
-    let mut pool: Pool<SharedSlice<u32>> = Pool::new(rt.alloc());
-    let (empty, numbers) = read_slices(&rt, rt.alloc(), TWO_SLICES, &mut pool);
-    let length = empty.value.len();
-    assert_same(&rt, "the empty one", (empty.key, length), (0, 0));
-    assert_same(&rt, "the key", numbers.key, 4);
-    assert_same(&rt, "the number", numbers.value.as_slice(), &[100]);
-}
-
-#[test]
 fn two_pointers_to_one_slice_of_texts(rt: HostRuntime) {
     let slices = slice_twice(&rt, hello_and_world(&rt, rt.alloc()));
     assert_slices_written(&rt, rt.alloc(), &slices, ONE_SLICE_OF_TEXTS);
-}
-
-// The key of a slice is 0, and its texts are "hello" and "world".
-fn assert_hello_world(rt: &impl Abort, slice: &SharedSlice<String>) {
-    let [hello, world] = slice.value.as_slice() else {
-        panic!(rt; "not two")
-    };
-    let found = (slice.key, hello.as_str(), world.as_str());
-    assert_same(rt, "the texts", found, (0, "hello", "world"));
-}
-
-#[test]
-fn two_pointers_to_one_slice_of_texts_are_read_back(rt: HostRuntime) {
-    let mut pool: Pool<SharedSlice<String>> = Pool::new(rt.alloc());
-    let (first, second) = read_slices(&rt, rt.alloc(), ONE_SLICE_OF_TEXTS, &mut pool);
-    assert_hello_world(&rt, &first);
-    assert_hello_world(&rt, &second);
 }
 
 #[test]

@@ -93,14 +93,6 @@ fn leaves_of_every_kind_are_viewed(rt: HostRuntime) {
 }
 
 #[test]
-fn leaves_are_read_back(rt: HostRuntime) {
-    let alloc = rt.alloc();
-    assert_read(&rt, alloc, b"\xfe\xff", &-2i16);
-    assert_read(&rt, alloc, b"\x07", &7u8);
-    assert_read(&rt, alloc, b"\x03\0", &ArchivedNonZeroU16::from_native(3));
-}
-
-#[test]
 fn bytes_that_are_no_leaf_are_refused(rt: HostRuntime) {
     let alloc = rt.alloc();
     assert_refused::<bool>(&rt, "a bool", alloc, b"\x02", Error::InvalidBool);

@@ -10,11 +10,7 @@ use archive_core::place::Place;
 use archive_core::primitive::{
     ArchivedI16, ArchivedI32, ArchivedI64, ArchivedU16, ArchivedU32, ArchivedU64, ArchivedUsize,
 };
-use archive_core::rel_ptr::{
-    self, Offset, RawRelPtr, RawRelPtrI8, RawRelPtrI16, RawRelPtrI32, RawRelPtrI64, RawRelPtrU8,
-    RawRelPtrU16, RawRelPtrU32, RawRelPtrU64, signed_offset,
-};
-use archive_core::shape::{self, IntegerKind, Kind};
+use archive_core::rel_ptr::{self, Offset, RawRelPtr, RawRelPtrI64, signed_offset};
 use archive_core::string::ArchivedStr;
 use archive_core::traits::Portable;
 use std::alloc::Global;
@@ -147,28 +143,6 @@ fn pointers_as_they_are_read(rt: HostRuntime) {
     least[15] = 0x80;
     let target = 8 - 9223372036854775808;
     assert_pointed::<ArchivedI64>(&rt, alloc, "i64", &least, (8, isize::MIN, target));
-}
-
-// A pointer is a leaf of this number, with these many bytes.
-fn assert_leaf<P: Portable>(rt: &impl Abort, alloc: Global, kind: IntegerKind, size: usize) {
-    let expression = P::expr(alloc).expect(rt, "an expression");
-    let wanted = shape::Expr::Leaf(Kind::RawRel(kind));
-    assert_same(rt, "the expression", expression, wanted);
-    let found = (kind, P::size(), P::align());
-    assert_same(rt, "its numbers", found, (kind, size, size));
-}
-
-#[test]
-fn pointers_are_leaves(rt: HostRuntime) {
-    let alloc = rt.alloc();
-    assert_leaf::<RawRelPtrI8>(&rt, alloc, IntegerKind::I8, 1);
-    assert_leaf::<RawRelPtrI16>(&rt, alloc, IntegerKind::I16, 2);
-    assert_leaf::<RawRelPtrI32>(&rt, alloc, IntegerKind::I32, 4);
-    assert_leaf::<RawRelPtrI64>(&rt, alloc, IntegerKind::I64, 8);
-    assert_leaf::<RawRelPtrU8>(&rt, alloc, IntegerKind::U8, 1);
-    assert_leaf::<RawRelPtrU16>(&rt, alloc, IntegerKind::U16, 2);
-    assert_leaf::<RawRelPtrU32>(&rt, alloc, IntegerKind::U32, 4);
-    assert_leaf::<RawRelPtrU64>(&rt, alloc, IntegerKind::U64, 8);
 }
 
 // The pointer to a text of 11 bytes, 16 bytes before it.

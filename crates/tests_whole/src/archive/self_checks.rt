@@ -10,7 +10,7 @@ use archive_core::core_impls::{ArchivedTuple1, ArchivedTuple2, ArchivedTuple3};
 use archive_core::error::Error;
 use archive_core::map::ArchivedSortedMap;
 use archive_core::primitive::{
-    ArchivedChar, ArchivedI32, ArchivedNonZeroU16, ArchivedU16, ArchivedU32, ArchivedU128,
+    ArchivedChar, ArchivedI32, ArchivedNonZeroU16, ArchivedU32, ArchivedU128,
 };
 use archive_core::rc::{ArchivedRcWeak, RcFlavor};
 use archive_core::result::ArchivedResult;
@@ -112,11 +112,8 @@ fn assert_agrees<T: Portable>(rt: &impl Abort, alloc: Global, checks_itself: boo
 #[test]
 fn leaves_check_themselves_as_their_schemas_do(rt: HostRuntime) {
     let alloc = rt.alloc();
-    assert_agrees::<()>(&rt, alloc, true, b"\x01");
     assert_agrees::<bool>(&rt, alloc, true, b"\x01\0\x02");
-    assert_agrees::<u8>(&rt, alloc, true, b"\x01\xff");
     assert_agrees::<i8>(&rt, alloc, true, b"\x01\xff");
-    assert_agrees::<ArchivedU16>(&rt, alloc, true, b"\x01\0\x02\0");
     assert_agrees::<ArchivedU32>(&rt, alloc, true, b"\x01\0\0\0\x02\0\0\0");
     assert_agrees::<ArchivedU128>(&rt, alloc, true, HELLO_WORLD);
     assert_agrees::<ArchivedChar>(&rt, alloc, true, b"\x41\0\0\0\xff\xd7\0\0");

@@ -5,7 +5,6 @@ ghost use Rattle.archive_core.specs.Error.TheVariants.{OutOfMemory};
 ghost use Rattle.archive_core.specs.Written.{IsBeginning};
 ghost use Rattle.tests_whole.specs.Wholes.{ArchivesText, ArchivesTextAt};
 
-use crate::archive::HELLO_WORLD;
 use crate::assertions::{assert_holds, assert_refusal, assert_same, text, viewed};
 use archive_core::api::{HighSerializer, to_bytes, to_bytes_in, to_bytes_into};
 use archive_core::error::Error;
@@ -183,14 +182,6 @@ fn assert_untouched_beyond(rt: &impl Abort, bytes: &[u8], archive: &[u8]) {
     assert_same(rt, "in the array", written, archive);
     let untouched = beyond.iter().all(|byte| *byte == 0xcc);
     assert_holds(rt, "untouched beyond", untouched);
-}
-
-#[test]
-fn a_buffer_leaves_the_bytes_beyond(rt: HostRuntime) {
-    let value = text(&rt, rt.alloc(), "hello world");
-    let mut bytes = [0xcc; 256];
-    write_to_array(&rt, rt.alloc(), &value, &mut bytes, HELLO_WORLD);
-    assert_untouched_beyond(&rt, &bytes, HELLO_WORLD);
 }
 
 #[test]

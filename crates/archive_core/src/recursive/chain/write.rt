@@ -9,7 +9,7 @@ ghost use Rattle.archive_write.specs.Written.{GoesOn};
 use archive_check::format::error::Error;
 use archive_types::boxed::{BoxResolver, serialize_inner};
 use archive_types::ser::{ResolverAlloc, Writer};
-use archive_types::traits::{Archive, Keys};
+use archive_types::traits::{Archive, Keys, Portable};
 use std::alloc::AllocError;
 
 /// What a value comes to whose parts before its box are written.
@@ -80,6 +80,7 @@ pub fn serialize_chain<T: ChainSource<S>, S: Writer + Keys + ResolverAlloc>(
         chain.push((rest, kept)).map_err(AllocError::from)?;
         here = rest;
     };
+    serializer.make_room(chain.len().saturating_mul(T::Archived::size()));
     while let Some((rest, kept)) = chain.pop() {
         match serialize_inner(rest, resolver, serializer) {
             Ok(at) => resolver = T::close(kept, at),

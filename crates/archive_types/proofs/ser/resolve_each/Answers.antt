@@ -10,7 +10,6 @@ loop-resolver-init g c = record {
   can_next = tt;
   finite = tt;
   room = omega (arith, c.requires.sized);
-  emptied = λ e. refl;
   fills = rw (c.into_iter-resolver-iterator.ensures.into_iter_gives.0) (fills_start _ _ _ _ _ _ _ c.args.resolvers.items c.requires.same_values);
 }
 
@@ -58,8 +57,8 @@ returns-in-Err-write g c =
       keys = λ k. c.in-Err-write.ensures.keys k ∙ c.loop-resolver.invariant.fills.states k;
     }
 
-pub loop-resolver-preserved-in-loop-resolver : goal.loop-resolver-preserved-in-loop-resolver
-loop-resolver-preserved-in-loop-resolver g c =
+pub loop-resolver-preserved : goal.loop-resolver-preserved
+loop-resolver-preserved g c =
     let filled = c.loop-resolver.filled in
     let here : c.pos.result ≡ length (g.W.Keys.state c.loop-resolver.writer).bytes = c.pos.ensures ∙ g.met.W.Writer.position_law c.loop-resolver.writer in
     let fits = place_here _ _ _ _ _ _ _ _ _ _ _ _ _ c.in-Some-split_first.value.now c.in-Some-split_first.ensures.cases.0 c.loop-resolver.invariant.fills c.requires.ends in
@@ -72,34 +71,55 @@ loop-resolver-preserved-in-loop-resolver g c =
       can_next = tt;
       finite = tt;
       room = omega (arith, c.loop-resolver.invariant.room, stays);
-      emptied = λ e. refl;
       fills = fills_written _ _ _ _ _ _ _ _ _ _ _ _ next _ c.in_default-write.ensures.written c.in_default-write.ensures.keys
           (goes_written _ _ _ c.in_default-write.ensures.written c.in_default-write.ensures.room c.in_default-write.ensures.device c.in_default-write.ensures.keys);
     }
 
-pub loop-resolver-preserved : goal.loop-resolver-preserved
-loop-resolver-preserved g c =
+pub loop-resolver-preserved-then-size-block : goal.loop-resolver-preserved-then-size-block
+loop-resolver-preserved-then-size-block g c =
     let filled = c.loop-resolver.filled in
     let here : c.pos.result ≡ length (g.W.Keys.state c.loop-resolver.writer).bytes = c.pos.ensures ∙ g.met.W.Writer.position_law c.loop-resolver.writer in
     let fits = place_here _ _ _ _ _ _ _ _ _ _ _ _ _ c.in-Some-split_first.value.now c.in-Some-split_first.ensures.cases.0 c.loop-resolver.invariant.fills c.requires.ends in
     let end : filled + c.size-size.result ≡ filled + g.T.Archived.Portable.layout.size = omega (arith, c.size-size.ensures, fits) in
-    let some : 0 < length c.in-Some-split_first.others.now = grind (arith, common_steps) in
     let stays = same_length filled g.T.Archived.Portable.layout.size c.loop-resolver.block c.resolve_in_block.new.block c.loop-resolver.invariant.room c.resolve_in_block.ensures.others_stay in
     record {
       can_next = tt;
       finite = tt;
-      room = omega (arith, c.if-block-filled.false, end, stays, c.loop-resolver.invariant.room);
-      emptied = λ e. absurd (omega (arith, some, e));
+      room = omega (arith, c.if-size-block.true, c.size-size.ensures, end, stays, c.loop-resolver.invariant.room);
       fills = fills_next _ _ _ _ _ _ _ _ _ _ _ _ _ c.in-Some-split_first.value.now c.in-Some.resolver c.in-Some-split_first.ensures.cases.0 c.in-Some.ensures.steps.0 g.met.T.Archived.Portable.has_layout
           filled c.pos.result (filled + c.size-size.result) c.loop-resolver.block c.resolve_in_block.new.block c.loop-resolver.invariant.room c.resolve_in_block.ensures.others_stay here end
           c.loop-resolver.invariant.fills c.in_default-resolve_in_block.ensures.resolved;
     }
 
-pub returns : goal.returns
-returns g c = record {
+-- what waits at the end
+
+pub returns-then-filled-eq0 : goal.returns-then-filled-eq0
+returns-then-filled-eq0 g c = record {
   put = fills_end _ _ _ _ _ _ _ c.loop-resolver.filled c.loop-resolver.block _ _ _ _ g.met.T.Archived.Portable.has_layout (sym c.loop-resolver.resolver-iterator.rest.ok.0 ∙ c.in-None.ensures.steps.0)
-      c.loop-resolver.invariant.emptied c.loop-resolver.invariant.fills;
+      (λ e. omega (arith, c.if-filled-eq0.true)) c.loop-resolver.invariant.fills;
   refused = search rules;
   goes_on = c.loop-resolver.invariant.fills.goes;
   keys = c.loop-resolver.invariant.fills.states;
 }
+
+pub returns-in-Err-write-2 : goal.returns-in-Err-write-2
+returns-in-Err-write-2 g c =
+    let goes = goes_refused _ _ c.in-Err-write-2.ensures.kept c.in-Err-write-2.ensures.room c.in-Err-write-2.ensures.device c.in-Err-write-2.ensures.keys in
+    record {
+      put = search rules;
+      refused = rw (c.by_words-in-Err-write-2.ensures)
+          (fills_refused _ _ _ _ _ _ _ _ _ _ _ _ c.loop-resolver.invariant.fills _ _ _ _ (g.met.W.Writer.position_law c.loop-resolver.writer) refl goes c.in-Err-write-2.ensures.refusal);
+      goes_on = goes_both _ _ _ c.loop-resolver.invariant.fills.goes goes;
+      keys = λ k. c.in-Err-write-2.ensures.keys k ∙ c.loop-resolver.invariant.fills.states k;
+    }
+
+pub returns : goal.returns
+returns g c =
+    let goes = goes_written _ _ _ c.in_default-write-2.ensures.written c.in_default-write-2.ensures.room c.in_default-write-2.ensures.device c.in_default-write-2.ensures.keys in
+    let done = fills_written _ _ _ _ _ _ _ _ _ _ _ _ c.loop-resolver.invariant.fills _ c.in_default-write-2.ensures.written c.in_default-write-2.ensures.keys goes in
+    record {
+      put = fills_end _ _ _ _ _ _ _ 0 c.loop-resolver.block _ _ _ _ g.met.T.Archived.Portable.has_layout (sym c.loop-resolver.resolver-iterator.rest.ok.0 ∙ c.in-None.ensures.steps.0) (λ e. refl) done;
+      refused = search rules;
+      goes_on = done.goes;
+      keys = done.states;
+    }

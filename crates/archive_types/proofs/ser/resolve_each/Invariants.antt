@@ -8,7 +8,6 @@ invariant-loop-resolver g l = record {
   can_next : (goal.iterator-loop-resolver g).can_next l.resolver-iterator;
   finite : (goal.iterator-loop-resolver g).is_finite l.resolver-iterator;
   room : l.filled + g.T.Archived.Portable.layout.size ≤ length l.block;
-  emptied : length l.rest ≡ 0 → l.filled ≡ 0;
   fills : Fills g.T.Archived.ArchivePointee.definitions g.T.Archived.Portable.shape g.T.Archived.Portable.layout g.T.Archive.flat g.T.Archive.belongs
       (g.W.Keys.state l.initial.writer) (g.W.Keys.state l.writer) (take l.filled l.block) (length l.values) (each_flat g.T.Archive.flat l.values l.fn.resolvers.items) l.rest l.resolver-iterator.rest.items;
 }

@@ -6,10 +6,10 @@ use Rattle.archive_types.proofs.sharing.SharingExt.serialize_shared.Goals as goa
 pub returns-in_err-start_sharing-clause-refused : goal.returns-in_err-start_sharing-clause-refused
 returns-in_err-start_sharing-clause-refused g c = err_by c.from_residual.result c.in_err-start_sharing.field-0.0 _ c.from_residual.ensures.1 (rw (c.in_err-start_sharing.ensures.refusal.0) no_memory)
 
-pub returns-in_err-pos-in-Started-clause-refused : goal.returns-in_err-pos-in-Started-clause-refused
-returns-in_err-pos-in-Started-clause-refused g c = err_by c.from_residual-in_err-pos-in-Started.result c.in_err-pos-in-Started.field-0.0 _ c.from_residual-in_err-pos-in-Started.ensures.1
+pub returns-in-Err-clause-refused : goal.returns-in-Err-clause-refused
+returns-in-Err-clause-refused g c = rw (c.by_words.ensures)
     (shared_hindered _ _ _ _ _ c.args.key _ _ _ _ (started_unknown _ _ c.in_ok-start_sharing.ensures.answer c.in-Started.is) c.start_sharing.ensures.bytes c.in_ok-start_sharing.ensures.after
-    c.serialize_unsized.ensures.goes_on c.in_err-pos-in-Started.ensures.refused)
+    c.serialize_unsized.ensures.goes_on c.in-Err.ensures.refused)
 
 pub returns-in-Pending-clause-refused : goal.returns-in-Pending-clause-refused
 returns-in-Pending-clause-refused g c = shared_pending _ _ _ _ _ _ (g.Self.Keys.state c.args.self.now) _ _ (pending_known _ _ c.in_ok-start_sharing.ensures.answer c.in-Pending.is)
@@ -20,4 +20,4 @@ returns-in_err-finish_sharing-in-Started-clause-goes_on g c = absurd (finished_s
 
 pub returns-in_ok-finish_sharing-in-Started-clause-serialized : goal.returns-in_ok-finish_sharing-in-Started-clause-serialized
 returns-in_ok-finish_sharing-in-Started-clause-serialized g c none = laid_shared _ _ _ _ _ c.args.key _ _ _ _ _ none c.start_sharing.ensures.bytes c.in_ok-start_sharing.ensures.after
-    c.in_ok-pos-in-Started.ensures.serialized c.finish_sharing.ensures.bytes c.in_ok-finish_sharing-in-Started.ensures.after
+    c.in-Ok.ensures.serialized c.finish_sharing.ensures.bytes c.in_ok-finish_sharing-in-Started.ensures.after

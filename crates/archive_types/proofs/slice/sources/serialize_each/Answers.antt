@@ -18,14 +18,10 @@ returns-in-Err-clause-refused g c = rw (c.by_words.ensures)
     (continues_broken _ _ _ _ _ _ _ _ _ _ c.loop-value.value-index _ _ _ c.loop-value-test.true c.value-item.is g.met.T.Archive.planned c.loop-value.invariant.continues
     c.serialize.ensures.goes_on c.in-Err.ensures.refused)
 
-pub returns-in_err-map_err-clause-goes_on : goal.returns-in_err-map_err-clause-goes_on
-returns-in_err-map_err-clause-goes_on g c = goes_both _ _ _ c.loop-value.invariant.continues.goes c.serialize.ensures.goes_on
-
-pub returns-in_err-map_err-clause-refused : goal.returns-in_err-map_err-clause-refused
-returns-in_err-map_err-clause-refused g c = err_by c.from_residual-in_err-map_err.result OutOfMemory _ c.from_residual-in_err-map_err.ensures.1 no_memory
-
 pub loop-value-preserved : goal.loop-value-preserved
 loop-value-preserved g c = record {
+  count = omega (arith, c.loop-value.invariant.count, c.push_reserved.ensures.len);
+  room = omega (arith, c.loop-value.invariant.room, c.push_reserved.ensures.capacity);
   continues = continues_step _ _ _ _ _ _ _ _ _ _ c.loop-value.value-index _ _ _ _ c.loop-value-test.true c.value-item.is (grind (arith, common_steps)) c.loop-value.invariant.continues
       c.in-Ok.ensures.serialized c.in-Ok.ensures.same_value c.serialize.ensures.goes_on;
 }

@@ -83,14 +83,14 @@ loop-head-preserved g c =
     subst (λ xs. Down D X a.keys a.meaning a.flat a.belongs closed v0 w0 xs x.now w2) (sym pushed) (down_more D X a.keys a.meaning a.flat a.belongs closed fs v0 w0 here w1 w2 x k kept (record { head = rw same at h.2; goes = c.serialize_head.ensures.goes_on }))
 
 pub loop-rest-init : goal.loop-rest-init
-loop-rest-init g c = record {
+loop-rest-init g c = rw (c.make_room.ensures.unchanged) (record {
   here = c.loop-head.here.now;
   since = g.S.Keys.state c.loop-head.serializer;
   down = c.loop-head.invariant;
   goes = c.serialize_head.ensures.goes_on;
   written = (rw c.in-Whole.is at c.in-Ok.ensures.serialized).0;
   its = (rw c.in-Whole.is at c.in-Ok.ensures.serialized).1;
-}
+})
 
 pub serialize_inner-requires : goal.serialize_inner-requires
 serialize_inner-requires g c =

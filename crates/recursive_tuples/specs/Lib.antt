@@ -1,0 +1,2 @@
+pub mod SettingMeaning
+pub mod SettingShape
