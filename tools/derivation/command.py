@@ -35,6 +35,8 @@ that each view has (`pos`, `part`, `field`, `eq`, `hash`, ..) is shown by `pos_f
 A line `// text: SCHEMA` has a constant of this name written, the text of these types and of those that they name, by which the crate `archive_inspect` names
 their fields and variants.
 
+An enum with type parameters is archived by an alias for each use, in the same file: `pub type Sum = Outcome<u32, String>;` gives `ArchivedSum`.
+
 The archived type of `Point` is `ArchivedPoint`. A line `// name: Spot` above a declaration gives it the name `Spot` in place of that.
 
 Status: 0; 1 where --check finds a difference, with the first line that differs; 2 where a file can't be archived, with a line that says why and what to

@@ -2,7 +2,6 @@
 
 from .common import doc_lines, in_turn, infix, resolve_head
 from .layout import Generic, Group, flat, implementation, literal, pair, signature, statement
-from .model import Refused
 
 
 def camel(name):
@@ -13,12 +12,6 @@ class Tuple:
     """Such a struct, and the names of what is written for it."""
 
     def __init__(self, formats, declaration):
-        if declaration.kind == "enum":
-            raise Refused(
-                declaration.path,
-                declaration.line,
-                f"`{declaration.name}` is an enum with type parameters: write one enum for each type that it is used with",
-            )
         self.formats = formats
         self.declaration = declaration
         self.name = declaration.name

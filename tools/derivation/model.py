@@ -87,6 +87,7 @@ class Declaration:
     docs: List[str] = field(default_factory=list)
     visibility: str = ""
     archived: str = ""  # the name of the archived type: `ArchivedPoint`, or another on demand
+    instance_of: str = ""  # the name of an enum with type parameters: this is what an alias of it with arguments stands for, and has that alias's name
     named: bool = False  # `// name: ArchivedTest` stands above it
     recursive: bool = False  # holds itself behind a pointer
     family: List["Declaration"] = field(default_factory=list, compare=False, repr=False)  # of a recursive one: those that it holds and that hold it, itself among them
@@ -106,6 +107,11 @@ class Declaration:
     def part_by_part(self) -> bool:
         """Whether it is written and read by functions of its own, with definitions beside its module: it is recursive, or holds a type that is."""
         return self.recursive or self.holder
+
+    @property
+    def declared_name(self) -> str:
+        """The name under which its variants are declared."""
+        return self.instance_of or self.name
 
     def all_fields(self) -> List[Field]:
         return self.fields if self.kind == "struct" else [f for v in self.variants for f in v.fields]

@@ -3,6 +3,7 @@
 How much the toolchain takes at once is counted in loads.py.
 """
 
+import copy
 from typing import Dict, List, Optional, Sequence, Set
 
 from .circles import check_circles
@@ -12,7 +13,7 @@ from .loads import MOST_OF_VARIANTS, Loads
 from .long import MOST_BY_NUMBER, is_long
 from .model import Declaration, Field, Module, Refused, Type
 from .names import ALIASES, FLOATS, LIBRARY, PRIMITIVES, STD, STD_MODULES, Found, Source, World
-from .parse import Declared
+from .parse import Alias, Declared
 from .items import number_of
 from .units import go_together
 
@@ -85,6 +86,7 @@ class Reader:
     def __init__(self, world: World):
         self.world = world
         self.read: List[int] = []
+        self.instances: Dict[int, Declaration] = {}  # by the alias that each is the meaning of
 
     def declaration(self, declared: Declared, source: Source) -> Declaration:
         """The declaration with its types looked up. A type that holds itself meets itself here unfinished."""
@@ -93,16 +95,72 @@ class Reader:
             return it
         self.read.append(id(it))
         it.crate, it.module = source.crate, source.module
-        self.check_is_written(it, source)
+        self.check(declared, source)
+        return self.looked_up(it, Scope(source, {p.name: None for p in it.parameters}, it))
+
+    def check(self, declared: Declared, source: Source):
+        """Refuses a declaration that can't be archived, whatever its fields are."""
+        self.check_is_written(declared.declaration, source)
         for fault in sorted(declared.faults, key=lambda x: x.line)[:1]:
             raise fault
-        check_shape(it)
-        scope = Scope(source, {p.name: None for p in it.parameters}, it)
+        check_shape(declared.declaration)
+
+    def looked_up(self, it: Declaration, scope: Scope) -> Declaration:
+        """The declaration, once its types are looked up."""
         for field in it.all_fields():
             field.type = self.type(field.type, scope)
             field.accessor = accessor(field)
         check_accessors(it)
         return it
+
+    # ---- enums with type parameters ----
+
+    def declarations(self, declared: Declared, source: Source) -> List[Declaration]:
+        """What is archived of a declaration: of an enum with type parameters what its aliases stand for."""
+        if not is_generic_enum(declared.declaration):
+            return [self.declaration(declared, source)]
+        it, aliases = declared.declaration, self.aliases_of(declared, source)
+        if not aliases:
+            like = f"pub type {it.name}Of.. = {it.name}<{', '.join('..' for _ in it.parameters)}>;"
+            raise Refused(it.path, it.line, f"`{it.name}` has type parameters: name the types that it is used with, each by an alias in this file, as `{like}`")
+        if it.named:
+            raise Refused(it.path, it.line, f"`{it.name}` has type parameters, so its archived types have the names of its aliases; remove the line `// name:`")
+        return [self.instance(declared, source, alias) for alias in aliases]
+
+    def aliases_of(self, declared: Declared, source: Source) -> List[Alias]:
+        """The aliases in its file that hand arguments to an enum with type parameters."""
+        stands_for = lambda alias: alias.type.path and (found := self.world.find(alias.type.path, source)) and found.declared is declared
+        return [it for it in source.file.aliases.values() if not it.parameters and stands_for(it)]
+
+    def arguments_of(self, alias: Alias, declared: Declared, source: Source) -> List[Type]:
+        scope = Scope(source, {}, None)
+        self.want_arguments(alias.type, scope, len(declared.declaration.parameters))
+        return [self.type(it, scope) for it in alias.type.args]
+
+    def instance(self, declared: Declared, source: Source, alias: Alias) -> Declaration:
+        """What an alias of an enum stands for: a declaration of its name, with the alias's arguments in place of parameters."""
+        if id(alias) in self.instances:
+            return self.instances[id(alias)]
+        generic = declared.declaration
+        it = self.instances[id(alias)] = copy.deepcopy(generic)
+        it.name, it.instance_of, it.archived, it.line = alias.name, generic.name, f"Archived{alias.name}", alias.line
+        it.crate, it.module, it.parameters = source.crate, source.module, []
+        self.check(declared, source)
+        args = self.arguments_of(alias, declared, source)
+        for other in self.aliases_of(declared, source):
+            if other is not alias and all(map(is_same, self.arguments_of(other, declared, source), args)):
+                raise Refused(source.path, max(alias.line, other.line), f"`{alias.name}` and `{other.name}` are one type; remove one of these aliases")
+        return self.looked_up(it, Scope(source, {p.name: x for p, x in zip(generic.parameters, args)}, it))
+
+    def instance_type(self, it: Type, args: List[Type], found: Found, scope: Scope) -> Type:
+        """An enum with its arguments, by the alias that is written for these."""
+        declared, source = found.declared, found.source
+        for alias in self.aliases_of(declared, source):
+            if all(map(is_same, self.arguments_of(alias, declared, source), args)):
+                own = self.instance(declared, source, alias)
+                return Type(own.name, [], it.line, it.path, own=own, text=shown(Type(it.name, args, path=it.path)).text)
+        text = shown(Type(it.name, args, path=(it.name,))).text
+        raise self.no_format(it, scope, f"no alias stands for `{text}`; write one into {source.path}, as `pub type {it.name}Of.. = {text};`")
 
     def check_is_written(self, it: Declaration, source: Source):
         by_hand = ("Archive", it.name) in source.file.impls
@@ -217,6 +275,8 @@ class Reader:
         self.check_is_no_parameter(it, scope)
         self.want_arguments(it, scope, len(declared.declaration.parameters))
         args = [self.type(x, scope) for x in it.args]
+        if is_generic_enum(declared.declaration):
+            return self.instance_type(it, args, found, scope)
         own = self.declaration(declared, found.source)
         return shown(Type(own.name, args, it.line, it.path, own=own))
 
@@ -247,6 +307,17 @@ class Reader:
         if not 0 <= number <= MOST_ITEMS:
             raise self.no_format(it, scope, f"an array of {number} items is too long; write at most {MOST_ITEMS}")
         return str(number)
+
+
+def is_generic_enum(it: Declaration) -> bool:
+    return it.kind == "enum" and bool(it.parameters)
+
+
+def is_same(one: Type, other: Type) -> bool:
+    """Whether two types that were looked up are the same."""
+    if (one.name, one.length, one.own is None) != (other.name, other.length, other.own is None) or one.own is not other.own:
+        return False
+    return len(one.args) == len(other.args) and all(map(is_same, one.args, other.args))
 
 
 def shown(it: Type) -> Type:
@@ -366,7 +437,7 @@ def module(reader: Reader, source: Source) -> Module:
     out = Module(source.path, source.crate, source.module, source.head, source.written)
     out.uses, out.ghost_uses = dict(source.file.uses), dict(source.file.ghost_uses)
     out.names = dict(source.file.items)
-    out.declarations = [reader.declaration(it, source) for it in source.declared.values()]
+    out.declarations = [one for it in source.declared.values() for one in reader.declarations(it, source)]
     if not out.declarations:
         raise Refused(source.path, 1, "no struct and no enum is declared here; declare one above the marker")
     check_circles(out.declarations)
@@ -397,6 +468,8 @@ def check_loads(module: Module):
             continue
         for fields in [it.fields] + [v.fields for v in it.variants]:
             check_load(module, loads, fields)
+        for v in it.variants:
+            check_signed(module, v.fields)
         check_variants(module, loads, it)
 
 
@@ -413,6 +486,13 @@ def check_load(module: Module, loads: Loads, fields: List[Field]):
         if loads.least_of_fields(types[:count]) > MOST_LOAD:
             what = "beside the fields before it; put some of them" if count > 1 else "; put a part of it"
             raise Refused(module.path, field.type.line, f"`{field.type.text}` is too deep for the toolchain{' ' if count > 1 else ''}{what} into a struct")
+
+
+def check_signed(module: Module, fields: List[Field]):
+    """Refuses an `isize` among many fields of a variant, whose `resolve` isn't proved then."""
+    for field in fields if is_long(fields) else []:
+        if field.type.own is None and field.type.name == "isize":
+            raise Refused(module.path, field.type.line, "an `isize` beside so many fields of a variant isn't proved; write an `i32` or an `i64`")
 
 
 def check_variants(module: Module, loads: Loads, it: Declaration):

@@ -14,7 +14,7 @@ from .recursive_refusals import MOST_FIELDS, PLAIN
 
 def tell(it: Declaration):
     """Tells whether a declaration is written so. A struct that isn't is archived as a tuple."""
-    if it.holds_recursive and not it.parameters and not it.holder and all(fits(it, fields) for fields in groups(it)):
+    if it.holds_recursive and not it.parameters and not it.instance_of and not it.holder and all(fits(it, fields) for fields in groups(it)):
         it.holder, it.family = True, [it]
 
 
@@ -49,6 +49,8 @@ def check(it: Declaration):
     """Refuses an enum that holds a recursive type and can't be written."""
     if not it.holds_recursive or it.holder or it.kind == "struct":
         return
+    if it.instance_of:
+        raise Refused(it.path, it.line, f"`{it.name}` holds a recursive type and is of an enum with type parameters; write one without")
     for fields in groups(it):
         if len(fields) > MOST_FIELDS:
             raise Refused(it.path, fields[-1].line, f"a variant of `{it.name}`, which holds a recursive type, has up to {MOST_FIELDS} fields; put some of them into a struct of another file")

@@ -10,6 +10,8 @@ MOST_FIELDS = 7
 
 def check_recursive(it: Declaration, line: int, names: str):
     """Refuses a recursive declaration that has no templates."""
+    if it.instance_of:
+        raise Refused(it.path, line, f"`{it.name}` is recursive ({names}) and of an enum with type parameters; write one without")
     if it.parameters:
         raise Refused(it.path, line, f"`{it.name}` is recursive ({names}) and has type parameters; name its arguments, one type for each")
     check_family(it, names)
@@ -56,6 +58,9 @@ def check_plain(it: Declaration, type: Type, line: int, behind: bool = False):
         return
     if is_named(type, "tuple") and not behind:
         raise Refused(it.path, line, f"a plain tuple in the recursive `{it.name}` is written in a `Vec` alone; write a struct of another file, or its parts as fields")
+    if type.own is None and type.name in ("BoxStr", "BoxSlice") and it.kind == "enum":
+        instead = "`String`" if type.name == "BoxStr" else "`Vec`"
+        raise Refused(it.path, line, f"a `{type.name}` in the recursive enum `{it.name}` isn't written yet; write a {instead}")
     if type.own is not None or type.name not in PLAIN | {"tuple"}:
         raise Refused(it.path, line, f"this field of the recursive `{it.name}` is of a type that tools/derive doesn't write there; put it into a struct of another file")
     for arg in type.args:

@@ -51,7 +51,7 @@ def mark(module: Module, taken: Set[str]):
             put_type(x)
 
     for it in module.declarations:
-        put(it, "name", "where", "docs")
+        put(it, "name", "instance_of", "where", "docs")
         for variant in it.variants:
             put(variant, "name", "docs")
         for field in it.all_fields():

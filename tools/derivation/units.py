@@ -12,8 +12,8 @@ FROM = 8
 
 
 def go_together(declaration):
-    """Whether the variants without fields are written together."""
-    return not declaration.part_by_part and sum(not v.fields for v in declaration.variants) >= FROM
+    """Whether the variants without fields are written together: not of an enum with arguments, whose type a proof by cases would have to name with them."""
+    return not declaration.part_by_part and not declaration.instance_of and sum(not v.fields for v in declaration.variants) >= FROM
 
 
 class Units:

@@ -97,6 +97,7 @@ class Choice(Source):
         for suffix, path in of.items():
             suffix = "" if suffix == "own" else suffix
             names = sorted(f"{name} as {word}{suffix}" for name, word in (self.units.kept() if suffix == "Kept" else [(it.name, it.word) for it in self.cases]))
+            path = self.declaration.declared_name if path == self.name else path
             lines += f"    ghost use Rattle.{declared}.{path}.TheVariants.{{{', '.join(names)}}};\n"
         return lines + "\n"
 

@@ -2,6 +2,7 @@
 //! tests_derived.
 #![tactic(auto)]
 
+pub mod outcome;
 pub mod point;
+pub mod press;
 pub mod ranked;
-pub mod words;

@@ -1,5 +1,4 @@
-//! Types of up to sixteen fields, as a user declares them, with what tools/derive writes for them. The tests are in tests_kinds.
+//! A struct of sixteen fields, as a user declares it, with what tools/derive writes for it. The tests are in tests_kinds.
 #![tactic(auto)]
 
 pub mod book;
-pub mod weather;

@@ -1,4 +1,4 @@
-//! Tests of the types of derived_types, derived_plain, derived_turns, derived_many, derived_deep and derived_blocks, as a user's own, through public calls.
+//! Tests of the types of derived_types, derived_plain, derived_turns, derived_deep and derived_blocks, as a user's own, through public calls.
 //! The bytes of each archive were worked out by hand, from docs/FORMAT.md.
 #![tactic(auto)]
 
@@ -15,6 +15,8 @@ mod events;
 #[cfg(test)]
 mod judgements;
 #[cfg(test)]
+mod outcomes;
+#[cfg(test)]
 mod parcels;
 #[cfg(test)]
 mod places;
@@ -25,14 +27,8 @@ mod presses;
 #[cfg(test)]
 mod ranks;
 #[cfg(test)]
-mod runs;
-#[cfg(test)]
 mod spots;
 #[cfg(test)]
 mod tracks;
 #[cfg(test)]
 mod turns;
-#[cfg(test)]
-mod winds;
-#[cfg(test)]
-mod words;

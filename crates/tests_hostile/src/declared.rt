@@ -9,7 +9,7 @@ use archive_inspect::text::parse;
 use derived_kinds::kinds::{ArchivedNumbers, ArchivedOwners};
 use derived_types::entry::ArchivedEntry;
 use derived_types::event::ArchivedEvent;
-use derived_types::track::ArchivedRuns;
+use derived_types::track::ArchivedEither;
 use recursive_types::expr::ArchivedExpr;
 use std::alloc::Global;
 use std::process::Abort;
@@ -120,13 +120,13 @@ fn structs_of_every_kind(rt: HostRuntime) {
     assert_declared::<ArchivedOwners>(&rt, rt.alloc(), owners);
 }
 
-const RUNS: &str = "pub struct Spot { pub right: u16, pub up: i16 }
+const EITHER: &str = "pub struct Spot { pub right: u16, pub up: i16 }
 pub struct Line { pub from: Spot, pub to: Spot }
-pub struct Runs { pub lines: SharedSlice<Line>, pub text: SharedStr, pub weak: WeakShared<Line> }";
+pub enum Either { Alone(u8), Together { lines: SharedSlice<Line>, text: SharedStr, weak: WeakShared<Line> } }";
 
 #[test]
-fn a_struct_that_shares(rt: HostRuntime) {
-    assert_declared::<ArchivedRuns>(&rt, rt.alloc(), RUNS);
+fn an_enum_that_shares(rt: HostRuntime) {
+    assert_declared::<ArchivedEither>(&rt, rt.alloc(), EITHER);
 }
 
 #[test]

@@ -18,5 +18,3 @@ mod owners;
 mod shown;
 #[cfg(test)]
 mod stock;
-#[cfg(test)]
-mod weathers;
