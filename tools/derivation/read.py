@@ -16,7 +16,9 @@ from .parse import Declared
 from .items import number_of
 from .units import go_together
 
-MOST_FIELDS = 16
+# Of a struct, and of a variant.
+MOST_FIELDS = 32
+MOST_OF_VARIANT = 16
 # Of a type that is archived as a tuple with names.
 MOST_FEW = 8
 MOST_PARTS = 13
@@ -283,8 +285,9 @@ def check_shape(it: Declaration):
         for x in fields:
             if x.name == "now" and it.kind == "struct":
                 raise Refused(it.path, x.line, "`now` has a meaning in contracts; choose another name for the field")
-        if len(fields) > MOST_FIELDS:
-            raise Refused(it.path, fields[MOST_FIELDS].line, f"`{of}` has {len(fields)} fields, and {MOST_FIELDS} are the most; put some into a struct of their own")
+        most = MOST_FIELDS if it.kind == "struct" else MOST_OF_VARIANT
+        if len(fields) > most:
+            raise Refused(it.path, fields[most].line, f"`{of}` has {len(fields)} fields, and {most} are the most; put some into a struct of their own")
     for p in it.parameters:
         if not any(names_parameter(field.type, p.name) for field in it.all_fields()):
             raise Refused(it.path, it.line, f"`{it.name}` has no field of its parameter `{p.name}`; remove it, or add a field, as `of: PhantomData<{p.name}>`")
@@ -396,21 +399,21 @@ def check_loads(module: Module):
         if it.as_tuple or it.part_by_part:
             continue
         for fields in [it.fields] + [v.fields for v in it.variants]:
-            check_load(module, loads, fields)
+            check_load(module, loads, fields, it.kind == "struct")
         check_variants(module, loads, it)
 
 
-def check_load(module: Module, loads: Loads, fields: List[Field]):
-    """Refuses the first field with which there is too much in a struct or a variant."""
+def check_load(module: Module, loads: Loads, fields: List[Field], in_blocks: bool):
+    """Refuses the first field with which there is too much in a struct, where many fields are in blocks, or in a variant."""
     types = [field.type for field in fields]
-    for field in fields if is_long(fields) else []:
+    for field in fields if is_long(fields) and not in_blocks else []:
         if found_in(field.type, lambda x: x.name in NOT_IN_FOURS and x.own is None or x.own is not None and x.own.as_tuple):
             said = f"`{field.type.text}` is too much for the toolchain beside so many fields; put it into a struct of its own"
             raise Refused(module.path, field.type.line, said)
-    if loads.least_of_fields(types) <= MOST_LOAD:
+    if loads.least_of_fields(types, in_blocks) <= MOST_LOAD:
         return
     for count, field in enumerate(fields, 1):
-        if loads.least_of_fields(types[:count]) > MOST_LOAD:
+        if loads.least_of_fields(types[:count], in_blocks) > MOST_LOAD:
             what = "beside the fields before it; put some of them" if count > 1 else "; put a part of it"
             raise Refused(module.path, field.type.line, f"`{field.type.text}` is too deep for the toolchain{' ' if count > 1 else ''}{what} into a struct")
 

@@ -3,6 +3,7 @@
 from derivation.model import MARK
 from derivation.read import MOST_FIELDS as MOST
 from derivation.read import MOST_FEW as FEW
+from derivation.read import MOST_OF_VARIANT
 
 from .repository import RepositoryTest
 
@@ -64,11 +65,14 @@ DECLARATIONS = [
     ("struct W<T>(T);\nstruct A { x: Vec<W<Option<W<u8>>>> }", "2: `W<u8>` in a tuple or a struct with type parameters is too deep for the toolchain; write a struct without"),
     (f"struct A<T> {{ t: T, {LIST.join(f'f{i}: u8' for i in range(FEW))} }}", f"{FEW}: `A` has {FEW + 1} fields, and {FEW} are the most of a struct with type parameters; put some into a struct of their own"),
     (f"enum A {{ X({LIST.join('u8' for _ in range(FEW + 1))}) }}", f"1: `A` has one variant, of more than {FEW} fields; write a struct"),
-    (f"enum A {{ X, Y({LIST.join('u8' for _ in range(MOST + 1))}) }}", f"{MOST + 1}: `A::Y` has {MOST + 1} fields, and {MOST} are the most; put some into a struct of their own"),
-    (f"struct A {{ {LIST.join(f'f{i}: u8' for i in range(FEW))},\nx: (u8, u8) }}", f"{FEW + 1}: `(u8, u8)` is too much for the toolchain beside so many fields; put it into a struct of its own"),
-    (f"struct A {{ {LIST.join(f'f{i}: Vec<u32>' for i in range(16))} }}", "11: `Vec<u32>` is too deep for the toolchain beside the fields before it; put some of them into a struct"),
+    (
+        f"enum A {{ X, Y({LIST.join('u8' for _ in range(MOST_OF_VARIANT + 1))}) }}",
+        f"{MOST_OF_VARIANT + 1}: `A::Y` has {MOST_OF_VARIANT + 1} fields, and {MOST_OF_VARIANT} are the most; put some into a struct of their own",
+    ),
+    (f"enum A {{ X, Y {{ {LIST.join(f'f{i}: u8' for i in range(FEW))},\nx: (u8, u8) }} }}", f"{FEW + 1}: `(u8, u8)` is too much for the toolchain beside so many fields; put it into a struct of its own"),
+    (f"enum A {{ X, Y {{ {LIST.join(f'f{i}: Vec<u32>' for i in range(16))} }} }}", "11: `Vec<u32>` is too deep for the toolchain beside the fields before it; put some of them into a struct"),
     ("struct A { x: Vec<Option<Vec<Option<Vec<Option<u8>>>>>> }", "1: `Vec<Option<Vec<Option<Vec<Option<u8>>>>>>` is too deep for the toolchain; put a part of it into a struct"),
-    (f"struct A {{ {LIST.join(f'f{i}: Vec<Option<Vec<u32>>>' for i in range(9))} }}", "9: `Vec<Option<Vec<u32>>>` is too deep for the toolchain beside the fields before it; put some of them into a struct"),
+    (f"enum A {{ X, Y {{ {LIST.join(f'f{i}: Vec<Option<Vec<u32>>>' for i in range(9))} }} }}", "9: `Vec<Option<Vec<u32>>>` is too deep for the toolchain beside the fields before it; put some of them into a struct"),
     (f"enum A {{\n{LIST.join(f'V{i}(u8)' for i in range(61))} }}", "61: `A` has more variants up to here than the toolchain follows; put some into an enum of their own"),
     (f"enum A {{\n{LIST.join(f'V{i}(Vec<u32>, Vec<u32>)' for i in range(29))} }}", "10: `A` has more variants up to here than the toolchain follows; put some into an enum of their own"),
     ("struct A<T, U> { x: Vec<T> }", "1: `A` has no field of its parameter `U`; remove it, or add a field, as `of: PhantomData<U>`"),
