@@ -49,6 +49,7 @@ class Rest:
         f.use("archive_core::parts", "SerializeParts", "SourceParts")
         f.use("archive_core::self_check", "CheckedParts")
         f.use("archive_core::traits", "PortableParts")
+        f.use("archive_core::validation", "ArchiveContext")
         first = self.record.fields[self.begin].name
         return f"""/// The fields of `{self.record.name}` from `{first}` on, as one type: it has no values.
 {self.record.visibility}struct {self.name};

@@ -27,6 +27,8 @@ mod ranks;
 #[cfg(test)]
 mod runs;
 #[cfg(test)]
+mod shipments;
+#[cfg(test)]
 mod spots;
 #[cfg(test)]
 mod tracks;

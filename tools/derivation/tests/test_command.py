@@ -71,13 +71,13 @@ class Writing(RepositoryTest):
         self.assertEqual(self.run_command("--check", path), (0, ""))
 
     def test_more_fields_than_at_once_go_in_blocks(self):
-        fields = ", ".join(f"f{i}: u8" for i in range(17))
+        fields = ", ".join(f"f{i}: u8" for i in range(25))
         path = self.put(f"#[derive(Drop)]\npub struct Big {{ {fields} }}\n")
         self.assertEqual(self.run_command(path), (0, ""))
         written = self.text(path)
-        self.assertIn("type BigParts = FourParts<u8, u8, u8, u8, FourParts<u8, u8, u8, u8, BigRest1>>;", written)
+        self.assertIn("    FourParts<u8, u8, u8, u8, FourParts<u8, u8, u8, u8, BigRest1>>,\n", written)
         self.assertIn("type BigBlock2 = (u8, ());", written)
-        self.assertIn("type BigFields2 = (Field<16, u8>, ());", written)
+        self.assertIn("type BigFields2 = (Field<24, u8>, ());", written)
         self.assertIn("impl PortableParts for BigRest2 {", written)
         self.assertIn("BigRest2CheckedParts.TheImpl.Laws.{rises-law as rises_behind};", written)
         self.assertIn("match read_big(alloc, part, deserializer) {", written)
