@@ -32,11 +32,16 @@ READ = """    requires {{ IsPartOf ⟦<{X} as ArchivePointee>⟧ part }}
     ensures read {{ IfOk result (Read ⟦<{X} as ArchivePointee>⟧ part D.Entries deserializer ⟦<{T} as Archive>⟧) }}
     ensures refused {{ IfErr result (RefusesPart ⟦<{X} as ArchivePointee>⟧ part D.Entries deserializer) }}
 """
+READ_ROWS = """    requires {{ IsPartOf ⟦<{X} as ArchivePointee>⟧ part }}
+    ensures read {{ IfOk result (λ t. ReadsPart ⟦<{X} as ArchivePointee>⟧ part D.Entries deserializer {meaning}
+        {keys}) }}
+    ensures refused {{ IfErr result (RefusesPart ⟦<{X} as ArchivePointee>⟧ part D.Entries deserializer) }}
+"""
 
 
 def text(it):
     bring(it)
-    pieces = [types(it), pointee(it), "" if it.is_holder else stands_for(it), portable(it), view_of(it), resolver(it), archive(it)]
+    pieces = [types(it), pointee(it), "\n".join(row_format(it, type) for type in it.rows), "" if it.is_holder else stands_for(it), portable(it), view_of(it), resolver(it), archive(it)]
     if it.is_chain:
         chains.refuse_derived_drop(it.declaration)
         chains.bring(it)
@@ -87,6 +92,11 @@ def bring(it):
     names = [f"{n}_{w}" for w in ("name", "shape", "stands_for", "definitions", "layout", "is_align", "has_layout", "no_others")]
     names += [f"{n}_has_parts", f"{n}_parts"] if it.is_record else [f"{n}_has_variants"] + [f"{case.n}_parts" for case in it.cases]
     names += [f"{other.n}_{w}" for other in it.family.members for w in ("shape", "definitions")]
+    for type in it.family.rows:
+        f.ghost("Value", "list")
+        names += [f"{it.word(type)}_{w}" for w in ("shape", "definitions", "layout", "is_align", "has_layout", "no_others", "has_parts")]
+        said = {f"{it.word(type)}_{w}" for w in ("meaning", "keys")}
+        f.ghosts.setdefault(f"{it.declaration.crate}.specs.{it.family.name}Meaning", set()).update(said)
     f.ghosts.setdefault(f"{it.declaration.crate}.specs.{it.family.name}Shape", set()).update(names)
 
 
@@ -97,13 +107,91 @@ def types(it):
     lines = []
     for case in it.cases:
         if case.count:
-            lines.append(statement(0, f"type {word(it, case)}Parts = ", pair(case.archived), ";"))
+            lines.append(statement(0, f"type {word(it, case)}Parts = ", pair([inside(it, type) for type in case.types]), ";"))
     if not it.is_record:
         lines.append(statement(0, f"type {it.name}Variants = ", pair([f"{word(it, case)}Parts" if case.count else "()" for case in it.cases]), ";"))
     return f"""/// An archived `{it.name}`: {it.size} bytes at a multiple of {it.align}. It {'validates itself' if it.is_chain else 'is validated by its schema'}.
 pub struct {it.archived};
 
 {chr(10).join(lines)}"""
+
+
+def row_format(it, type):
+    """A tuple that leads back, as all but its views know it: with the type of the library, each view of it would bring all that is known of its parts."""
+    row, w, R = it.row(type), it.word(type), it.row_name(type)
+    size, align = it.formats.layout(type)
+    its = pair([inside(it, arg) for arg in row.types])
+    return f"""/// `{row.whole}` by a name, for the functions below.
+pub struct {R};
+
+{statement(0, f"type {R}Parts = ", its, ";")}
+impl ArchivePointee for {R} {{
+    type ArchivedMetadata = ();
+
+    ghost pointee = {{ one {w}_shape }};
+
+    ghost definitions = {{ {w}_definitions }};
+
+    ghost metadata_length = {{ λ _. 0 }};
+
+    fn pointer_metadata(_metadata: &()) -> usize {{
+        0
+    }}
+}}
+
+impl Portable for {R} {{
+    ghost shape = {{ {w}_shape }};
+
+    ghost layout = {{ {w}_layout }};
+
+    type Check = BySchema;
+
+    ghost is_one = {{ refl }};
+
+    ghost is_align = {{ {w}_is_align }};
+
+    ghost has_layout = {{ {w}_has_layout }};
+
+    ghost no_others = {{ {w}_no_others }};
+
+    ghost checks = {{ λ direct. by_schema direct }};
+
+    fn size() -> usize {{
+        {size}
+    }}
+
+    fn align() -> usize {{
+        {align}
+    }}
+
+    fn expr(alloc: Global) -> Result<{EXPR}, Error> {{
+        expr_of_record::<{R}Parts>(alloc)
+    }}
+
+    fn define(alloc: Global, defs: &mut Defs) -> Result<(), Error> {{
+        <{R}Parts as PortableParts>::define(alloc, defs)
+    }}
+}}
+
+impl Record for {R} {{
+    type Parts = {R}Parts;
+
+    ghost has_parts = {{ {w}_has_parts }};
+
+    ghost holds = {{ lit≤ tt }};
+}}
+"""
+
+
+def inside(it, type):
+    """The archived type of a part, as all but its views know it."""
+    if it.terms.is_row(type):
+        return it.row_name(type)
+    if type.name == "Vec" and it.terms.is_row(type.args[0]):
+        return f"ArchivedVec<{inside(it, type.args[0])}>"
+    if type.name == "Box" and it.terms.leads_back(type):
+        return f"ArchivedBox<{inside(it, type.args[0])}>"
+    return it.formats.archived(type)
 
 
 def word(it, case):
@@ -133,6 +221,8 @@ def expression(it, type):
         return f'{EXPR}::Named("{type.own.archived}")'
     if not it.terms.leads_back(type):
         return f"<{it.formats.archived(type)} as Portable>::expr(alloc)?"
+    if type.name == "tuple":
+        return f"{it.word(type)}_expression(alloc)?"
     item = expression(it, type.args[0])
     if type.name == "Box":
         return f"{EXPR}::Box(Box::new(alloc, archive_core::shape::Pointee::One({item}))?)"
@@ -144,7 +234,7 @@ def expression(it, type):
 def stands_for(it):
     """What the name stands for, as an expression: of each variant one after another."""
     n = it.n
-    out = []
+    out = [row_expression(it, type) for type in it.rows]
     for case in it.cases:
         if not case.count:
             continue
@@ -172,6 +262,21 @@ fn {n}_expression(alloc: Global) -> Result<{EXPR}, Error>
     if it.is_alone:
         return "\n".join(out)
     return "\n".join(out + [defining(it)] + ([defining_all(it.family)] if it is it.family.members[-1] else []))
+
+
+def row_expression(it, type):
+    """The expression of a tuple."""
+    row, w = it.row(type), it.word(type)
+    lets = "".join(statement(4, f"let {name} = ", expression(it, arg), ";") for name, arg in zip(row.names, row.types))
+    return f"""// What a tuple looks like.
+fn {w}_expression(alloc: Global) -> Result<{EXPR}, Error>
+    ensures shape {{ IfOk result (λ e. shape_of e ≡ {w}_shape) }}
+    ensures refused {{ IfErr result (λ e. e ≡ OutOfMemory) }}
+{{
+{lets}    let parts = vec![in alloc; {', '.join(row.names)}]?;
+    Ok(record_of(parts))
+}}
+"""
 
 
 DEFINING = """
@@ -312,7 +417,7 @@ pub enum {it.resolver} {{
 def hollow(it, type):
     """What stands for a part that was written: its type."""
     item = type.args[0].args[0] if type.name == "Option" else type.args[0]
-    return f"{type.name}At<{it.formats.archived(item)}>"
+    return f"{type.name}At<{inside(it, item)}>"
 
 
 def hollows(it, case):
@@ -519,9 +624,13 @@ fn serialize_{name}<{it.writer}>(value: &{T}, serializer: &mut S) -> Result<VecR
 
 
 def element_written(it, item):
-    """The lines that write what an element of a vector owns, and keep its resolver. A box's value is written where the vector is gone over: of a function that
-    is passed the box the toolchain doesn't see that it ends."""
+    """The lines that write what an element of a vector owns, and keep its resolver. A box's value is written where the vector is gone over, and a tuple's: of a
+    function that is passed the box or the tuple the toolchain doesn't see that it ends."""
     push = "resolvers.push({}).map_err(AllocError::from)?;"
+    if it.terms.is_row(item):
+        row = it.row(item)
+        written = parts_written(it, row, [f"&value.{i}" for i in range(row.count)], 8, row.first_back)
+        return f"{written}        {push.format(flat(pair(row.names)))}\n"
     if it.terms.is_member(item):
         return f"""        let resolver = match serialize_{it.word(item)}(value, serializer) {{
             Ok(resolver) => resolver,
@@ -585,11 +694,12 @@ def inner_written(it, box, name, indent):
 """
 
 
-def parts_written(it, case, values, indent=4):
+def parts_written(it, case, values, indent=4, by_call=None):
+    """The lines that write parts one after another; `by_call` is the index of one whose error comes by a call."""
     lines, pad = "", " " * indent
-    for name, type, back, value in zip(case.names, case.types, case.leads_back, values):
-        function = f"serialize_{it.word(type)}" if back else "serialize_part"
-        lines += f"{pad}let {name} = match {function}({value}, serializer) {{\n{pad}    Ok({name}) => {name},\n{pad}    Err(error) => return Err(error),\n{pad}}};\n"
+    for i, (name, type, back, value) in enumerate(zip(case.names, case.types, case.leads_back, values)):
+        function, error = f"serialize_{it.word(type)}" if back else "serialize_part", "handed_on(error)" if i == by_call else "error"
+        lines += f"{pad}let {name} = match {function}({value}, serializer) {{\n{pad}    Ok({name}) => {name},\n{pad}    Err(error) => return Err({error}),\n{pad}}};\n"
     return lines
 
 
@@ -761,6 +871,25 @@ fn {name}<{it.reader}>(alloc: Global, part: RawView<'_>, deserializer: &mut D) -
     return "\n".join(out)
 
 
+def read_contract(it, type):
+    """What a function that reads a value promises: of one with tuples, by what these mean."""
+    X, said = inside(it, type), rows_said(it, type, "t")
+    return READ_ROWS.format(X=X, meaning=said[0], keys=said[1]) if said else READ.format(T=it.formats.rust(type), X=X)
+
+
+def rows_said(it, type, x):
+    """What a tuple means, or what is made of tuples, and its keys; nothing of another type."""
+    w = it.word(type)
+    if it.terms.is_row(type):
+        return f"({w}_meaning {x})", f"({w}_keys {x})"
+    if type.name == "Box" and (said := rows_said(it, type.args[0], f"{x}.value")):
+        return f"(box {said[0]})", said[1]
+    if type.name == "Vec" and it.terms.is_row(type.args[0]):
+        item = it.word(type.args[0])
+        return f"(list (each_meaning {item}_meaning {x}.items))", f"(each_keys {item}_keys {x}.items)"
+    return None
+
+
 def reader(it, name, T, contract_, body, said, cycle=True):
     mark = f"#[cycle(read_{it.family.n})]\n" if cycle else "#[inline(always)]\n"
     return f"""// {said}
@@ -772,11 +901,13 @@ def reader(it, name, T, contract_, body, said, cycle=True):
 
 def owner_reading(it, type):
     item = type.args[0]
-    f = it.formats
-    T, X = f.rust(type), f.archived(type)
-    inner = f.archived(item)
+    T = it.formats.rust(type)
+    inner = inside(it, item)
     levels = "levels, " if it.family.shares else ""
-    if type.name == "Shared":
+    if type.name == "tuple":
+        row = it.row(type)
+        body = parts_read(it, row) + statement(4, "Ok(", Group("(", row.names, ")"), ")")
+    elif type.name == "Shared":
         of = f"{inner}, RcFlavor, {T}, D"
         body = f"""    match begin_reading::<{of}>(part, deserializer)? {{
         Some(value) => Ok(value),
@@ -813,14 +944,15 @@ def owner_reading(it, type):
     }}
     Ok(items)
 """
-    return reader(it, it.word(type), T, READ.format(T=T, X=X), body, {"Box": "Reads a box back.", "Option": "Reads an option back.", "Vec": "Reads a vector back.", "Shared": "Reads a shared value back."}[type.name])
+    return reader(it, it.word(type), T, read_contract(it, type), body, {"Box": "Reads a box back.", "Option": "Reads an option back.", "Vec": "Reads a vector back.", "Shared": "Reads a shared value back.", "tuple": "Reads a tuple back, part by part."}[type.name])
 
 
 def parts_read(it, case):
     lines = ""
-    for i, (name, type, back, X, T, offset) in enumerate(zip(case.names, case.types, case.leads_back, case.archived, case.rust, case.offsets)):
-        if it.is_record:
-            where = Generic("part_of_record", [it.archived, X], ["part", str(i), str(offset)])
+    for i, (name, type, back, T, offset) in enumerate(zip(case.names, case.types, case.leads_back, case.rust, case.offsets)):
+        X = inside(it, type)
+        if case.is_record:
+            where = Generic("part_of_record", [it.row_name(case.tuple) if case.is_row else it.archived, X], ["part", str(i), str(offset)])
         else:
             where = Generic("part_of_variant", [it.archived, X], ["part", str(case.tag), str(i), str(offset)])
         lines += statement(4, f"let p{i} = ", where, ";")

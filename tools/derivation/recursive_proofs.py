@@ -83,7 +83,8 @@ def head(family, body, brings):
     for it in family.members:
         meaning += [f"{it.n}_{w}" for w in ("meaning", "keys", "flat", "belongs", "keyed", "planned", "means", "means_roll", "has_keys", "has_keys_roll", "kept_is", "front_is")]
         meaning += [f"{case.n}_{w}" for case in it.cases for w in ("means", "has_keys", "opens")]
-        shape += [f"{it.n}_{w}" for w in ("layout", "has_layout")] + it.shape_names()
+        meaning += [f"{it.word(type)}_{w}" for type in it.rows for w in ("meaning", "keys")]
+        shape += [f"{n}_{w}" for n in [it.n, *map(it.word, it.rows)] for w in ("layout", "has_layout")] + it.shape_names()
         more.append((family.declared(it.name), f"out-{it.name}"))
     more.append((f"{crate}.specs.{family.name}Shape", " ".join(shape)))
     more.append((f"{crate}.specs.{family.name}Meaning", " ".join(dict.fromkeys(meaning))))
@@ -138,6 +139,8 @@ class Parts:
 def whole_of(it, case):
     """The arguments of a lemma on the whole: of a record, or of a variant."""
     n = it.n
+    if case.is_row:
+        return f"{case.n}_definitions {case.n}_shape {case.n}_definitions {case.n}_parts {case.n}_has_parts"
     if it.is_record:
         return f"{n}_definitions {n}_shape {n}_part_definitions {n}_parts {n}_has_parts"
     return f"{n}_definitions {n}_shape {n}_name {n}_variant_definitions {n}_variants {n}_has_variants {case.tag} {case.n}_parts refl {case.n}_definitions refl"
@@ -192,14 +195,14 @@ def those_written(it, case, answers, function, values, as_, calls, oks, errs, en
     written = [f"c.{ok}.ensures.serialized" for ok in oks]
     goes = [f"c.{call}.ensures.goes_on" for call in calls]
     parts = Parts(it, case, values)
-    lemma = "record_refused" if it.is_record else "variant_refused"
+    lemma = "record_refused" if case.is_record else "variant_refused"
     for i, err in enumerate(errs):
         # both lemmas take the keys, the meaning, the states and the error
         refused = f"({lemma} {whole_of(it, case)} _ _ _ _ _ {parts.refused(i, written, goes, f'c.{err}.ensures.refused')})"
         answers.answer(function, f"returns-{err}-clause-refused", as_("refused_as", refused))
         if i:
             answers.answer(function, f"returns-{err}-clause-goes_on", all_goes(goes[:i + 1]))
-    lemma = "serialized_record" if it.is_record else "serialized_variant"
+    lemma = "serialized_record" if case.is_record else "serialized_variant"
     answers.answer(function, f"{end}-clause-serialized", as_("written_as", f"({lemma} {whole_of(it, case)} _ _ _ _ _ {parts.written(written)})"))
     if case.count > 1:
         answers.answer(function, f"{end}-clause-goes_on", all_goes(goes))
@@ -303,7 +306,7 @@ def vec_written(it, type, answers):
         answers.answer(each, f"returns-{err}-clause-goes_on", f"goes_both _ _ _ {kept}.goes {goes}")
         broken = f"continues_broken {at} _ _ _ c.loop-value-test.true c.value-item.is {t.plan(item)} {kept} {goes} {refused}"
         # the errors of the levels below come by a call
-        answers.answer(each, f"returns-{err}-clause-refused", f"rw c.handed_on.ensures ({broken})" if err == "in-Err" and not t.is_shared(item) else broken)
+        answers.answer(each, f"returns-{err}-clause-refused", f"rw c.handed_on.ensures ({broken})" if err == steps.by_call else broken)
     if t.is_option(item):
         option_kept(it, item, answers, each, steps, kept, at)
     elif t.is_shared(item):
@@ -387,9 +390,14 @@ SIMPLE = {f"{sign}{bits}" for sign in "ui" for bits in (8, 16, 32, 64, 128)} | {
 class Element:
     """What is known of the calls that write an element of a vector: those that fail, and that none does; and the resolver that it leaves."""
 
+    by_call = "in-Err"  # whose error comes by a call
+
     def __init__(self, it, item):
         if it.terms.is_shared(item):
             self.shared(it, item)
+            return
+        if it.terms.is_row(item):
+            self.row(it, it.row(item))
             return
         box = item.args[0] if it.terms.is_option(item) else item
         D, X = it.terms.definitions(item), it.terms.shape(box if it.terms.is_member(box) else box.args[0])
@@ -419,6 +427,20 @@ class Element:
             self.serialized = f"({same} {written})"
 
 
+    def row(self, it, row):
+        """Those of a tuple: its parts are written one after another."""
+        words = words_of(it, row)
+        calls, oks, errs = numbered(words), matched("in-Ok", words), matched("in-Err", words)
+        written, goes = [f"c.{ok}.ensures.serialized" for ok in oks], [f"c.{call}.ensures.goes_on" for call in calls]
+        parts, whole = Parts(it, row, [f"c.value-item.result.{i}" for i in range(row.count)]), f"{whole_of(it, row)} _ _ _ _ _"
+        self.by_call, self.goes = errs[row.first_back], all_goes(goes)
+        self.serialized = f"(serialized_record {whole} {parts.written(written)})"
+        self.belongs = self.resolver = "tt"
+        for ok, name in reversed(list(zip(oks, row.names))):
+            self.belongs, self.resolver = f"(c.{ok}.ensures.same_value, {self.belongs})", f"(c.{ok}.{name}, {self.resolver})"
+        refused = [parts.refused(i, written, goes, f"c.{err}.ensures.refused") for i, err in enumerate(errs)]
+        self.refusals = [(err, all_goes(goes[:i + 1]), f"(record_refused {whole} {refused[i]})") for i, err in enumerate(errs)]
+
     def shared(self, it, item):
         """Those of a shared pointer: its key is started, and then its value is written, if that wasn't known."""
         t, value = it.terms, item.args[0]
@@ -434,6 +456,7 @@ class Element:
         self.known = f"((rw c.in-Some.is at c.in-Ok.ensures.known).{said})"
         self.first, self.goes = first, f"(c.finish_shared.ensures.goes_on.since _ _ {begun} {written})"
         self.serialized = f"({same} (c.in-Ok-finish_shared.ensures.shared.{since}))"
+        self.by_call = ""
         self.refusals = [
             ("in-Err", first, f"(c.in-Err.ensures.refused.{said})"),
             (f"in-Err-{inner}", f"(goes_both _ _ _ {first} {written})", f"({same} {owned})"),
@@ -522,7 +545,7 @@ def reading(family):
         if not it.is_holder:
             measures(it, answers)
         for type in it.owners:
-            {"Box": box_read, "Option": option_read, "Vec": vec_read, "Shared": shared_read}[type.name](it, type, answers)
+            {"Box": box_read, "Option": option_read, "Vec": vec_read, "Shared": shared_read, "tuple": row_read}[type.name](it, type, answers)
         for case in it.cases:
             here = answers if it.is_record or any(case.leads_back) else Answers(family, f"read_{case.n}")
             parts_read(it, case, here, f"read_{case.n}" if here is answers and not it.is_holder else "")
@@ -535,13 +558,17 @@ def reading(family):
 def measures(it, answers):
     """Each function ends before its caller does: by the end of what it reads, and by which of them it is."""
     deepest, above = it.family.deepest, 2 * it.nest
-    ranks = deepest + 3 + 2 * it.family.most_nest
+    ranks = deepest + 3 + 2 * it.family.most_nest + any(other.rows for other in it.family.members)
+
+    def rank(type):
+        # a tuple may end where a value in it does
+        return ranks - 1 if it.terms.is_row(type) and not it.family.shares else it.depth(type)
 
     def measure(size, rank):
         return f"l.levels * {ranks} + {rank}" if it.family.shares else f"(l.part.pos + {size}) * {ranks} + {rank}"
 
     for type in it.owners:
-        answers.invariant("", f"decreases-read_{it.word(type)}", measure(it.formats.layout(type)[0], it.depth(type)))
+        answers.invariant("", f"decreases-read_{it.word(type)}", measure(it.formats.layout(type)[0], rank(type)))
     if not it.is_record:
         for case in it.cases:
             if any(case.leads_back):
@@ -589,6 +616,10 @@ def shared_read(it, type, answers):
     answers.answer(function, "returns-in_ok-value-in-None-clause-refused", f"err_from c.finish_reading.result c.finish_reading.ensures.refused (λ e h. h.{since})")
 
 
+def row_read(it, type, answers):
+    parts_read(it, it.row(type), answers, f"read_{it.word(type)}")
+
+
 def option_read(it, type, answers):
     inner = type.args[0]
     function = f"read_{it.word(type)}"
@@ -612,7 +643,10 @@ def vec_read(it, type, answers):
     w, t = it.word(item), it.terms
     function = f"read_{it.word(type)}"
     D, X = t.definitions(item), t.shape(item)
-    if t.is_member(item):
+    if t.is_row(item):
+        w = it.word(item)
+        L, laid, its = f"{w}_layout", f"{w}_has_layout", f"{w}_meaning {w}_keys"
+    elif t.is_member(item):
         n = t.n_of(item)
         L, laid, its = f"{n}_layout", f"{n}_has_layout", f"{n}_meaning {n}_keys"
     else:
@@ -664,7 +698,7 @@ def signed_values(values):
 
 def parts_read(it, case, answers, function):
     """The answers on parts that are read one after another."""
-    where = "part_of_record" if it.is_record else "part_of_variant"
+    where = "part_of_record" if case.is_record else "part_of_variant"
     told = ["rw (" + ", ".join(f"c.{where}-p{i}.ensures.{clause}" for clause in ("buffer", "position", "length")) + ") at " for i in range(case.count)]
     reads = Reads(it, case.names, case.types)
     values = reads.values
@@ -672,8 +706,8 @@ def parts_read(it, case, answers, function):
     laws = [laid(it, type) for type in case.types]
     sizes = [it.formats.layout(type) for type in case.types]
     layouts = [f"(record {{ size = {size}; align = {align} }})" for size, align in sizes]
-    first = "" if it.is_record else "c.requires.tag "
-    starts = [0 if it.is_record else 1] + [offset + size for offset, (size, _) in zip(case.offsets, sizes)]
+    first = "" if case.is_record else "c.requires.tag "
+    starts = [0 if case.is_record else 1] + [offset + size for offset, (size, _) in zip(case.offsets, sizes)]
 
     def refused(i, at=0):
         D, X, _, _ = parts.first(at)
@@ -690,10 +724,12 @@ def parts_read(it, case, answers, function):
         _, _, L, _ = parts.rest(at + 1)
         return f"(part_read_back {{L = {layouts[at]}}} {{ks = {K}}} {{ls = {L}}} {laws[at]} ({told[at]}c.{reads.oks[at]}.ensures.read) {read(at + 1)})"
 
-    lemma = "record_refuses" if it.is_record else "variant_refuses"
+    lemma = "record_refuses" if case.is_record else "variant_refuses"
     for i, err in enumerate(reads.errs):
         answers.answer(function, f"returns-{err}-clause-refused", reads.refused(i, f"({lemma} {whole_of(it, case)} _ _ _ {first}_ _ {refused(i)})"))
-    if it.is_record:
+    if case.is_row:
+        body = f"record_read_back {whole_of(it, case)} _ _ _ _ _ _ _ {read()}"
+    elif it.is_record:
         its = f"(record_read_back {whole_of(it, case)} _ _ _ _ _ _ _ {read()})"
         made = "(record { " + "; ".join(f"{field.name} = {value}" for field, value in zip(case.fields, values)) + " })"
         body = its if it.is_holder else f"read_as ({it.n}_has_keys_roll {made}) ({it.n}_means_roll {made}) {its}"

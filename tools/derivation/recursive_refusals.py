@@ -1,11 +1,15 @@
 """What isn't written of recursive types, with what to write instead."""
 
+from typing import List
+
+from .formats import has_shared
 from .model import Declaration, Refused, Type
 from .recursive_plain import LEAVES, is_shaped
 
 # What plain parts may be made of, which a recursive type has beside those that lead back to it.
 PLAIN = set(LEAVES) | {"String", "BoxStr", "NonZero", "Option", "Result", "Box", "BoxSlice", "Vec", "BTreeMap", "OwnedArray"}
 MOST_FIELDS = 7
+MOST_PLACES = 3
 
 
 def check_recursive(it: Declaration, line: int, names: str):
@@ -63,13 +67,34 @@ def check_plain(it: Declaration, type: Type, line: int, behind: bool = False):
 
 
 def check_owner(it: Declaration, type: Type, line: int):
-    """What leads back is a box, an option of one, a vector of these, of the type itself or of shared pointers to it, or a box of such a vector."""
+    """What leads back is a box, an option of one, a vector of these, of the type itself, of shared pointers to it or of tuples, or a box of such a vector."""
+    for row in rows_in(it, type):
+        check_row(it, row, line)
     if is_pointer(it, type) or is_list(it, type) or is_named(type, "Box") and is_list(it, type.args[0]):
         return
-    written = f"a `Box<{it.name}>`, an `Option<Box<{it.name}>>`, a `Vec` of these, of `{it.name}` or of `Shared<{it.name}>`, or a `Box` of such a `Vec` is"
+    written = f"a `Box<{it.name}>`, an `Option<Box<{it.name}>>`, a `Vec` of these, of `{it.name}`, of `Shared<{it.name}>` or of tuples, or a `Box` of such a `Vec` is"
     if type.name not in ("Box", "Option", "Vec") or type.own is not None:
         raise Refused(it.path, line, f"`{type.name}` around `{it.name}` isn't written yet; {written}")
     raise Refused(it.path, line, f"this {'option' if type.name == 'Option' else f'`{type.name}` of pointers'} to `{it.name}` isn't written yet; {written}")
+
+
+def rows_in(it: Declaration, type: Type) -> List[Type]:
+    """The tuples that lead back, in a vector or in a box of one."""
+    vec = type.args[0] if is_named(type, "Box") else type
+    return [item for item in vec.args if is_named(vec, "Vec") and is_named(item, "tuple") and leads_back(it, item)]
+
+
+def check_row(it: Declaration, row: Type, line: int):
+    """A tuple has plain parts, and types of the family themselves."""
+    if len(row.args) > MOST_PLACES:
+        raise Refused(it.path, line, f"a tuple that leads back to `{it.name}` has up to {MOST_PLACES} parts; write a struct of this file")
+    if any(has_shared(field.type, it.family) for other in it.family for field in other.all_fields()):
+        raise Refused(it.path, line, f"`{it.name}` leads to itself behind a shared pointer, and a tuple around it isn't written yet; write a struct of this file")
+    for arg in row.args:
+        if leads_back(it, arg) and not is_member(it, arg):
+            raise Refused(it.path, line, f"`{arg.name}` around `{it.name}` isn't written yet in a tuple; write a struct of this file")
+        if not leads_back(it, arg):
+            check_part(it, arg, line)
 
 
 def is_named(type: Type, name: str) -> bool:
@@ -90,7 +115,7 @@ def is_list(it: Declaration, type: Type) -> bool:
     if not is_named(type, "Vec"):
         return False
     item = type.args[0]
-    return is_member(it, item) or is_pointer(it, item) or is_named(item, "Shared") and is_member(it, item.args[0])
+    return is_member(it, item) or is_pointer(it, item) or is_named(item, "tuple") or is_named(item, "Shared") and is_member(it, item.args[0])
 
 
 def leads_back(it: Declaration, type: Type) -> bool:

@@ -30,11 +30,11 @@ def shape(family):
     if family.first.is_holder:
         lines = holders.shape(family.first)
     else:
-        lines = of_each(family, named) + of_each(family, stood_for)
+        lines = of_each(family, named) + of_each(family, rows) + of_each(family, stood_for)
         nested = family.most_nest > 0
         lines += of_each(family, brings) if nested else []
         lines += [line for it in family.inner_first for line in defined(it)]
-        lines += of_each(family, stands if nested else lambda it: brings(it) + stands(it))
+        lines += of_each(family, lambda it: ([] if nested else brings(it)) + rows_laid(it) + stands(it))
     if family.first.is_chain:
         lines += chains.shape(family.first, knows_parts)
     body = "\n".join(lines)
@@ -49,6 +49,32 @@ def owns(family, body):
 def named(it):
     n = it.n
     return [f"abbrev pub {n}_name : Name\n{n}_name = codes \"{it.archived}\"\n", f"abbrev pub {n}_shape : Shape\n{n}_shape = named {n}_name\n"]
+
+
+def rows(it):
+    """The tuples in vectors that lead back: what they look like."""
+    lines = []
+    for type in it.rows:
+        w = it.word(type)
+        lines.append(f"abbrev pub {w}_parts : Parts\n{w}_parts = {it.terms.parts(type.args)}\n")
+        lines.append(f"abbrev pub {w}_shape : Shape\n{w}_shape = parts {w}_parts\n")
+    return lines
+
+
+def rows_laid(it):
+    """And where their parts lie."""
+    lines = []
+    for type in it.rows:
+        w = it.word(type)
+        size, align = it.formats.layout(type)
+        lines.append(f"abbrev pub {w}_layout : Layout\n{w}_layout = record {{ size = {size}; align = {align} }}\n")
+        parts = holders.PartsOf(it, type.args)
+        its = f"record_has_layout {w}_definitions {w}_parts _ _ _ {parts.laid()}"
+        lines.append(f"pub {w}_is_align : IsAlign {align}\n{w}_is_align = {ALIGNS[align]}\n")
+        lines.append(f"pub {w}_has_layout : HasLayout {w}_definitions {w}_shape {w}_layout\n{w}_has_layout = {its}\n")
+        lines.append(f"pub {w}_no_others : NoOthers {w}_definitions {w}_shape\n{w}_no_others = {parts.reached()}\n")
+        lines.append(f"pub {w}_has_parts : IsRecord {w}_definitions {w}_shape {w}_definitions {w}_parts\n{w}_has_parts = is_record {w}_definitions {w}_parts\n")
+    return lines
 
 
 def stood_for(it):
@@ -138,6 +164,9 @@ def mention_in(it, type, other):
         return "mentions_held holds_name"
     if not it.terms.leads_back(type) or it.terms.is_member(type):
         return ""
+    if it.terms.is_row(type):
+        its = [(i, inner) for i, arg in enumerate(type.args) if (inner := mention_in(it, arg, other))]
+        return f"mentions_parts ({'mentions_later (' * its[0][0]}mentions_first ({its[0][1]}){')' * its[0][0]})" if its else ""
     inner = mention_in(it, type.args[0], other)
     around = {
         "Box": "mentions_boxed (mentions_one ({}))",
@@ -157,12 +186,15 @@ def knows(it, known):
 
 
 def knows_parts(it, types):
-    return knows(it, ["k" if it.terms.leads_back(type) else it.terms.plain.known(type) for type in types])
+    return knows(it, [it.terms.known(type) for type in types])
 
 
 def brings(it):
     """The definitions that its parts bring."""
     n, t, lines, chain = it.n, it.terms, [definitions_of(it)] if it.family.most_nest else [], "no_definition"
+    for type in it.rows:
+        w = it.word(type)
+        lines.append(f"abbrev pub {w}_definitions : Definitions\n{w}_definitions = {t.parts_definitions(type.args)}\n")
     if it.is_record:
         return lines + [f"abbrev pub {n}_part_definitions : Definitions\n{n}_part_definitions = {t.parts_definitions(it.types)}\n"]
     for case in reversed(it.cases):
@@ -221,6 +253,7 @@ def meaning(family):
             lines.append(rolled(it, which, type, word))
             lines.append(opened(it, which, word))
     lines += [line for it in family.inner_first for line in flats(it)]
+    lines += of_each(family, rows_meaning)
     if family.first.is_chain:
         lines += chains.meaning(family.first)
     lines += laws(family)
@@ -258,6 +291,16 @@ def meaning_of_holder(it):
 # What is said of a value whose keys have what it means, too; the places of both in a pair.
 BOTH = "(Value × (List Naming))"
 PLACES = {"meaning": ".0", "keys": ".1"}
+
+
+def rows_meaning(it):
+    """What the tuples in vectors mean that lead back."""
+    lines = []
+    for type in it.rows:
+        for which, its, _ in SAID:
+            body = getattr(it.terms, which)(type, "t", it.terms.own(which))
+            lines.append(f"abbrev pub {it.word(type)}_{which} : {it.antt(type)} → {its}\n{it.word(type)}_{which} t = {body}\n")
+    return lines
 
 
 def pairs(family):

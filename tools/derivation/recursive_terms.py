@@ -1,11 +1,11 @@
 """Terms of antt on the parts of recursive types: what a part looks like, what it means, and the laws of it.
 
-A part is plain (a number, a text, another type that `tools/derive` wrote), the type itself, or an owner of it: a box, an option of a box, or a vector. A term
-is one at a value, which is a term itself: `meaning(type, "a0", m)`, where `m` is the meaning of the type itself.
+A part is plain (a number, a text, another type that `tools/derive` wrote), the type itself, or an owner of it: a box, an option of a box, or a vector, of
+which an element may be a tuple of plain parts and of values of the type. A term is one at a value, which is a term itself: `meaning(type, "a0", m)`, where `m` is the meaning of the type itself.
 """
 
 from .formats import snake
-from .recursive_plain import Plain
+from .recursive_plain import Plain, product
 
 
 def stem(name):
@@ -60,6 +60,10 @@ class Terms:
         """Whether it is a shared pointer that leads back."""
         return type.name == "Shared" and self.leads_back(type)
 
+    def is_row(self, type):
+        """Whether it is a tuple that leads back."""
+        return type.name == "tuple" and self.leads_back(type)
+
     def is_option(self, type):
         """Whether it is an option of a box that leads back."""
         return type.name == "Option" and self.leads_back(type)
@@ -79,11 +83,25 @@ class Terms:
             return f"{self.n_of(type)}_shape"
         if not self.leads_back(type):
             return self.plain.shape(type)
+        if type.name == "tuple":
+            return f"{self.word(type)}_shape"
         item = self.shape(type.args[0])
         return {"Box": f"(boxed (one {item}))", "Option": f"(option_shape {item})", "Vec": f"(vec {item})", "Shared": f"(shared rc_flavor (one {item}))"}[type.name]
 
     def definitions(self, type):
-        return f"{self.n}_definitions" if self.leads_back(type) else self.plain.definitions(type)
+        if not self.leads_back(type):
+            return self.plain.definitions(type)
+        if type.name == "tuple":
+            return f"{self.word(type)}_definitions"
+        return f"{self.n}_definitions" if self.is_member(type) else self.definitions(type.args[0])
+
+    def known(self, type):
+        """A proof that its definitions are known where the type's own are."""
+        if not self.leads_back(type):
+            return self.plain.known(type)
+        if type.name == "tuple":
+            return product([self.known(arg) for arg in type.args], "(knows_none s k.laid_out)", "knows_both s _ _")
+        return "k" if self.is_member(type) else self.known(type.args[0])
 
     # ---- values ----
 
@@ -99,6 +117,8 @@ class Terms:
             return applied(m, type, x)
         if not self.leads_back(type):
             return self.plain.meaning(type, x)
+        if type.name == "tuple":
+            return f"(product {self.parts_meaning(type.args, places(type, x), m)})"
         item = type.args[0]
         if type.name == "Shared":
             return f"(shared_value {x}.key)"
@@ -113,6 +133,8 @@ class Terms:
             return applied(k, type, x)
         if not self.leads_back(type):
             return self.plain.keys(type, x)
+        if type.name == "tuple":
+            return self.parts_keys(type.args, places(type, x), k)
         item = type.args[0]
         if type.name == "Shared":
             y = f"{x}.value.value"
@@ -128,6 +150,8 @@ class Terms:
             return f"({self.n_of(type)}_flat {x} {r})"
         if not self.leads_back(type):
             return self.plain.flat(type, x, r)
+        if type.name == "tuple":
+            return f"(product {self.parts_flat(type.args, places(type, x), r)})"
         item = self.shape(type.args[0])
         if type.name == "Shared":
             return f"(rc_flat {r} (one {item}) 0)"
@@ -142,6 +166,8 @@ class Terms:
             return f"({self.n_of(type)}_belongs {x} {r})"
         if not self.leads_back(type):
             return self.plain.belongs(type, x, r)
+        if type.name == "tuple":
+            return self.parts_belong(type.args, places(type, x), r)
         if type.name in ("Box", "Option", "Shared"):
             return "⊤"
         return f"(length {x}.items ≤ 4294967295)"
@@ -154,6 +180,8 @@ class Terms:
             return f"{x}.1"
         if not self.leads_back(type):
             return self.plain.keyed(type, x)
+        if type.name == "tuple":
+            return f"(record_keyed {self.parts_keyed(type.args, places(type, x))})"
         item = type.args[0]
         if type.name == "Shared":
             return f"(rc_keyed {x}.key (one {self.shape(item)}) 0 _ _ {self.keyed(item, f'{x}.value.value')})"
@@ -173,8 +201,10 @@ class Terms:
             return f"{x}.1" if held else f"({self.n_of(type)}_planned {x})"
         if not self.leads_back(type):
             return self.plain.planned(type, x)
+        if type.name == "tuple":
+            return f"(product_planned _ _ _ _ {self.row_planned(type, x, held)})"
         item = type.args[0]
-        D, X = f"{self.n}_definitions", self.shape(item)
+        D, X = self.definitions(type), self.shape(item)
         if type.name == "Shared":
             return f"(rc_one_planned {D} {x}.key (one {X}) {X} refl _ _ {self.planned(item, f'{x}.value.value', held)})"
         if type.name == "Box":
@@ -193,6 +223,12 @@ class Terms:
         if held:
             return f"(vec_planned {D} {X} _ _ _ (run_region_planned {D} {X} _ _ _ ({its})))"
         return f"(vec_planned {D} {X} _ _ _ (slice_planned {D} {X} {self.said(item)} {self.plan(item)} {x}.items))"
+
+    def row_planned(self, type, x, held):
+        """A proof that there are plans of the parts of a tuple."""
+        values = places(type, x)
+        shown = [f"{y}.0" if held and self.is_member(arg) else y for arg, y in zip(type.args, values)]
+        return self.parts_planned(type.args, values, shown, held)
 
     def said(self, item):
         """The keys and the meaning of the elements of a vector, as functions."""
@@ -259,6 +295,11 @@ class Terms:
                 f" {self.planned(type, x, held)} {out})"
             )
         return out
+
+
+def places(type, x):
+    """The parts of a tuple."""
+    return [f"{x}.{i}" for i in range(len(type.args))]
 
 
 def said(m, type):

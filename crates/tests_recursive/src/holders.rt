@@ -5,8 +5,9 @@ use crate::assertions::{
 };
 use archive_core::error::Error;
 use archive_core::option::ArchivedOption;
+use archive_core::string::ArchivedString;
 use archive_core::view::Ref;
-use recursive_holders::json::{ArchivedJson, Json, JsonView, Member, MemberView, ViewOfJson};
+use recursive_holders::json::{ArchivedJson, Comment, CommentView, Json, JsonView, ViewOfJson};
 use recursive_holders::message::{
     ArchivedTopic, Author, AuthorView, Message, MessageView, Topic, TopicView, ViewOfAuthor,
     ViewOfMessage,
@@ -145,11 +146,9 @@ fn damaged_books(rt: HostRuntime) {
     assert_damaged(&rt, alloc, 18, 0xc0, Error::InvalidUtf8);
 }
 
-fn named(alloc: Global, name: &str, value: Json) -> Result<Member, AllocError> {
-    Ok(Member {
-        name: String::from_str(alloc, name)?,
-        value,
-    })
+fn named(alloc: Global, name: &str, value: Json) -> Result<(String, Json), AllocError> {
+    let name = String::from_str(alloc, name)?;
+    Ok((name, value))
 }
 
 fn document(alloc: Global) -> Result<Json, AllocError> {
@@ -160,13 +159,13 @@ fn document(alloc: Global) -> Result<Json, AllocError> {
     Ok(Json::Object(vec![in alloc; number, values]?))
 }
 
-// The two values of the list at 0, the two members at 32, and the object at 80. A value is its tag, at 8 a number, or at 4 a text or an offset and a length; a
-// member is its name, and at 8 its value.
+// The two values of the list at 0, the two tuples at 32, and the object at 80. A value is its tag, at 8 a number, or at 4 a text or an offset and a length; a
+// tuple is a name, and at 8 the value.
 const DOCUMENT: &[u8] =
     b"\0\0\0\0\0\0\0\0\0\0\0\0\0\0\0\0\x02\0\0\0x\xff\xff\xff\xff\xff\xff\xff\0\0\0\0a\xff\xff\xff\xff\xff\xff\xff\x01\0\0\0\0\0\0\0\xff\xff\xff\xff\xff\xff\xff\xfflist\xff\xff\xff\xff\x03\0\0\0\xbc\xff\xff\xff\x02\0\0\0\0\0\0\0\x04\0\0\0\xcc\xff\xff\xff\x02\0\0\0\0\0\0\0";
 
 #[test]
-fn a_type_of_its_family_behind_no_pointer(rt: HostRuntime) {
+fn tuples_that_lead_back(rt: HostRuntime) {
     let document = document(rt.alloc()).expect(&rt, "a document");
     assert_written(&rt, rt.alloc(), &document, DOCUMENT);
     assert_read(&rt, rt.alloc(), DOCUMENT, &document);
@@ -176,18 +175,49 @@ fn assert_members(rt: &impl Abort, alloc: Global) {
     match viewed::<ArchivedJson>(rt, alloc, DOCUMENT).variant() {
         ViewOfJson::Object(members) => {
             let Some(first) = members.as_slice().get(0) else {
-                assert_holds(rt, "there is a member", false);
+                assert_holds(rt, "there is a value with a name", false);
                 return;
             };
-            assert_same(rt, "name", first.name().as_str(), "a");
+            let name = first.field::<ArchivedString>(0);
+            assert_same(rt, "name", name.as_str(), "a");
         }
         _ => assert_holds(rt, "an object", false),
     }
 }
 
 #[test]
-fn views_of_a_family(rt: HostRuntime) {
+fn views_of_tuples_that_lead_back(rt: HostRuntime) {
     assert_members(&rt, rt.alloc());
+}
+
+fn commented(alloc: Global) -> Result<Json, AllocError> {
+    Ok(Json::Commented(Comment {
+        text: String::from_str(alloc, "so")?,
+        value: Box::new(alloc, Json::Number(5))?,
+    }))
+}
+
+// The number at 0, and at 16 the value with the comment: its tag, at 4 the text, and at 12 an offset.
+const COMMENTED: &[u8] =
+    b"\x01\0\0\0\0\0\0\0\x05\0\0\0\0\0\0\0\x05\0\0\0so\xff\xff\xff\xff\xff\xff\xe4\xff\xff\xff";
+
+#[test]
+fn a_type_of_its_family_behind_no_pointer(rt: HostRuntime) {
+    let commented = commented(rt.alloc()).expect(&rt, "a comment");
+    assert_written(&rt, rt.alloc(), &commented, COMMENTED);
+    assert_read(&rt, rt.alloc(), COMMENTED, &commented);
+}
+
+fn assert_commented(rt: &impl Abort, alloc: Global) {
+    match viewed::<ArchivedJson>(rt, alloc, COMMENTED).variant() {
+        ViewOfJson::Commented(comment) => assert_same(rt, "text", comment.text().as_str(), "so"),
+        _ => assert_holds(rt, "a comment", false),
+    }
+}
+
+#[test]
+fn views_of_a_family(rt: HostRuntime) {
+    assert_commented(&rt, rt.alloc());
 }
 
 fn changed(alloc: Global, at: usize, byte: u8) -> Result<Vec<u8>, AllocError> {
@@ -203,11 +233,11 @@ fn assert_changed(rt: &impl Abort, alloc: Global, at: usize, byte: u8, refusal: 
     assert_refused::<ArchivedJson>(rt, "a damaged document", alloc, bytes.as_slice(), refusal);
 }
 
-// Tags of the second member's value, of the first one and of a value of the list; and the list where its own members lie.
+// Tags of the second tuple's value, of the first one's and of a value of the list; and the list where the tuples lie that it is in.
 #[test]
 fn damaged_documents(rt: HostRuntime) {
     let alloc = rt.alloc();
-    assert_changed(&rt, alloc, 64, 5, tag_of_none("ArchivedJson", 5));
+    assert_changed(&rt, alloc, 64, 6, tag_of_none("ArchivedJson", 6));
     assert_changed(&rt, alloc, 40, 9, tag_of_none("ArchivedJson", 9));
     assert_changed(&rt, alloc, 16, 7, tag_of_none("ArchivedJson", 7));
     let outside = Error::InvalidSubtreePointer {

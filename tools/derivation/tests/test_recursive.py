@@ -89,6 +89,23 @@ class Recursive(RepositoryTest):
         self.assertEqual(text.count("fn read_option_vec_pair_u8_string_of_setting<"), 1)
         self.assertIn("(vec (parts (part (leaf (number_kind signed w32)) (part (leaf (number_kind unsigned w8)) no_part))))", self.beside("specs", "SettingShape.antt"))
 
+    def test_a_tuple_that_leads_back_is_read_by_a_name(self):
+        path = self.put("#[derive(Drop)]\npub enum Json { Null, Number(i64), Object(Vec<(String, Json)>) }\n")
+        self.assertEqual(self.run_command(path), (0, ""))
+        text, shape, meaning = self.text(path), self.beside("specs", "JsonShape.antt"), self.beside("specs", "JsonMeaning.antt")
+        for word in ("Object(Ref<'a, ArchivedVec<ArchivedTuple2<ArchivedString, ArchivedJson>>>)", "type PairStringJsonParts = (ArchivedString, (ArchivedJson, ()));"):
+            self.assertIn(word, text)
+        for word in ("let a1 = match serialize_json(&value.1, serializer) {", "let p1 = part_of_record::<PairStringJson, ArchivedJson>(part, 1, 8);"):
+            self.assertIn(word, text)
+        self.assertIn("pair_string_json_parts = (part str (part json_shape no_part))", shape)
+        self.assertIn("pair_string_json_definitions = (both no_definition (both json_definitions no_definition))", shape)
+        self.assertIn("(each_meaning (λ y. (product (value (text_value (string_bytes y.0)) (value (m y.1) no_value)))) a0.items)", meaning)
+        self.assertIn("(part_planned json_definitions json_shape (json_keys e.1.0) (json_meaning e.1.0) e.1.1 no_part_planned)", meaning)
+        invariants = self.beside("proofs", "types", "+read_json", "Invariants.antt")
+        self.assertIn("decreases-read_json g l = (l.part.pos + 16) * 6 + 4", invariants)
+        self.assertIn("decreases-read_pair_string_json g l = (l.part.pos + 24) * 6 + 5", invariants)
+        self.assertEqual(self.run_command("--check", path), (0, ""))
+
     def test_a_graph_is_keyed_by_what_its_values_mean(self):
         path = self.put("use archive_core::rc::Shared;\n#[derive(Drop)]\npub struct Place { id: u32, next: Vec<Shared<Place>> }\n#[derive(Drop)]\npub struct Way { places: Vec<Shared<Place>> }\n")
         self.assertEqual(self.run_command(path), (0, ""))

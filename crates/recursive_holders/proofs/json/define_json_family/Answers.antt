@@ -9,10 +9,10 @@ on_ok (Ok x) f h = f h
 on_ok (Err e) f h = tt
 
 pub returns-clause-added : goal.returns-clause-added
-returns-clause-added c = on_ok c.define_member_type.result (λ k. (extended_both _ _ _ _ _ c.in_ok-define_json.ensures.added k)) c.define_member_type.ensures.added
+returns-clause-added c = on_ok c.define_comment.result (λ k. (extended_both _ _ _ _ _ c.in_ok-define_json.ensures.added k)) c.define_comment.ensures.added
 
 pub returns-clause-refused : goal.returns-clause-refused
-returns-clause-refused c = err_from c.define_member_type.result c.define_member_type.ensures.refused (λ e h. (later_conflicts _ _ _ _ c.in_ok-define_json.ensures.added e h))
+returns-clause-refused c = err_from c.define_comment.result c.define_comment.ensures.refused (λ e h. (later_conflicts _ _ _ _ c.in_ok-define_json.ensures.added e h))
 
 pub returns-in_err-define_json-clause-refused : goal.returns-in_err-define_json-clause-refused
 returns-in_err-define_json-clause-refused c = err_by c.from_residual.result c.in_err-define_json.field-0.0 _ c.from_residual.ensures.1 (first_conflicts _ _ _ _ c.in_err-define_json.ensures.refused)
