@@ -12,37 +12,59 @@ use archive_core::primitive::ArchivedNonZeroU32;
 use archive_core::traits::Portable;
 use recursive_fields::fact::{ArchivedFact, Fact};
 use recursive_fields::note::{ArchivedNote, Note};
-use recursive_kinds::bush::Bush;
-use recursive_kinds::knot::{ArchivedKnot, Knot};
-use recursive_kinds::rule::Rule;
+use recursive_kinds::rule::{ArchivedRule, Rule};
 use std::alloc::{AllocError, Global};
 use std::collections::BTreeMap;
 use std::process::Abort;
 
-fn knot(alloc: Global, id: u32, next: Vec<Box<Knot>>) -> Result<Box<Knot>, AllocError> {
-    Ok(Box::new(alloc, Knot { id, next })?)
+// An array of these bytes; they are four.
+fn version(alloc: Global, bytes: [u8; 4]) -> Result<OwnedArray<u8, 4>, AllocError> {
+    let bytes = Vec::from_array(alloc, bytes)?;
+    let Some(version) = OwnedArray::from_vec(bytes) else {
+        return Err(AllocError);
+    };
+    Ok(version)
 }
 
-fn knots(alloc: Global) -> Result<Knot, AllocError> {
-    let two = knot(alloc, 2, Vec::new(alloc))?;
-    let four = knot(alloc, 4, Vec::new(alloc))?;
-    let three = knot(alloc, 3, vec![in alloc; four]?)?;
-    Ok(Knot {
-        id: 1,
-        next: vec![in alloc; two, three]?,
-    })
+fn words(alloc: Global) -> Result<Rule, AllocError> {
+    let text = String::from_str(alloc, "be")?;
+    let version = version(alloc, [1, 0, 0, 2])?;
+    Ok(Rule::Words(BoxStr { text }, version))
 }
 
-// Knot 2 at 0, which leads to none; knot 4 at 12, the box of it at 24, and knot 3 at 28; the two boxes at 40, and knot 1 at 48. A knot is its number,
-// and an offset and a length; a box is an offset.
-const KNOTS: &[u8] =
-    b"\x02\0\0\0\xfc\xff\xff\xff\0\0\0\0\x04\0\0\0\xfc\xff\xff\xff\0\0\0\0\xf4\xff\xff\xff\x03\0\0\0\xf8\xff\xff\xff\x01\0\0\0\xd8\xff\xff\xff\xf0\xff\xff\xff\x01\0\0\0\xf4\xff\xff\xff\x02\0\0\0";
+fn changed(alloc: Global) -> Result<Rule, AllocError> {
+    let words = words(alloc)?;
+    let words = Box::new(alloc, words)?;
+    Ok(Rule::Changed(vec![in alloc; None, Some(words)]?))
+}
+
+fn together(alloc: Global) -> Result<Rule, AllocError> {
+    let items = vec![in alloc; 7, 300]?;
+    let cited = Rule::Cited(BoxSlice { items }, 9);
+    let rules = vec![in alloc; cited]?;
+    Ok(Rule::Together(Box::new(alloc, rules)?))
+}
+
+fn chapter(alloc: Global) -> Result<Rule, AllocError> {
+    let changed = changed(alloc)?;
+    let changed = Box::new(alloc, changed)?;
+    let together = together(alloc)?;
+    let together = Box::new(alloc, together)?;
+    Ok(Rule::Chapter(1, vec![in alloc; changed, together]?))
+}
+
+// The words at 0, and the rule that has them at 4; the two options at 20, each a tag and a box, and the rule that has them at 36; the pages at 52, the rule
+// that is cited on them at 56, the vector of it at 72, and the rule of its box at 80; the two boxes at 96, and the chapter at 104. Of the 16 bytes of a rule
+// the first is its tag; what it has lies at 4, and behind 8 bytes of words or pages, or 4 of a number, the next. A box is an offset.
+const CHAPTER: &[u8] =
+    b"be\0\0\0\0\0\0\xf8\xff\xff\xff\x02\0\0\0\x01\0\0\x02\0\0\0\0\0\0\0\0\x01\0\0\0\xe4\xff\xff\xff\x03\0\0\0\xec\xff\xff\xff\x02\0\0\0\0\0\0\0\x07\0,\x01\x01\0\0\0\xf8\xff\xff\xff\x02\0\0\0\x09\0\0\0\xf0\xff\xff\xff\x01\0\0\0\x04\0\0\0\xf4\xff\xff\xff\0\0\0\0\0\0\0\0\xc4\xff\xff\xff\xec\xff\xff\xff\x02\0\0\0\x01\0\0\0\xf0\xff\xff\xff\x02\0\0\0";
 
 #[test]
-fn boxes_in_a_vector(rt: HostRuntime) {
-    let knots = knots(rt.alloc()).expect(&rt, "a knot");
-    assert_written(&rt, rt.alloc(), &knots, KNOTS);
-    assert_read(&rt, rt.alloc(), KNOTS, &knots);
+fn rules_of_many_kinds(rt: HostRuntime) {
+    let chapter = chapter(rt.alloc()).expect(&rt, "a chapter");
+    assert_written(&rt, rt.alloc(), &chapter, CHAPTER);
+    let back: Rule = value_of(&rt, rt.alloc(), CHAPTER);
+    assert_written(&rt, rt.alloc(), &back, CHAPTER);
 }
 
 fn damaged(alloc: Global, bytes: &[u8], at: usize, byte: u8) -> Result<Vec<u8>, AllocError> {
@@ -65,47 +87,33 @@ fn assert_damaged<T: Portable>(
     assert_refused::<T>(rt, "a damaged archive", alloc, bytes.as_slice(), refusal);
 }
 
-// The box of knot 4 leads into itself. Knot 2 was left before, so knots may lie behind its 12 bytes.
+fn tag_of_none(name: &'static str, value: u8) -> Error {
+    Error::InvalidDiscriminant { name, value }
+}
+
+fn assert_damaged_rules(rt: &impl Abort, alloc: Global, at: usize, byte: u8, refusal: Error) {
+    assert_damaged::<ArchivedRule>(rt, alloc, CHAPTER, at, byte, refusal);
+}
+
+fn outside(position: i128, size: usize, start: usize, end: usize) -> Error {
+    Error::InvalidSubtreePointer {
+        position,
+        size,
+        start,
+        end,
+    }
+}
+
+// Words that are none; the tags of an option and of the chapter; and boxes that lead into themselves. Of these the second lies behind a rule that was left
+// before, so what it leads to may lie behind that, at 52.
 #[test]
-fn a_box_that_leads_into_itself(rt: HostRuntime) {
-    let outside = Error::InvalidSubtreePointer {
-        position: 20,
-        size: 12,
-        start: 12,
-        end: 24,
-    };
-    assert_damaged::<ArchivedKnot>(&rt, rt.alloc(), KNOTS, 24, 0xfc, outside);
-}
-
-fn bush(alloc: Global, id: u32) -> Result<Bush, AllocError> {
-    Ok(Bush {
-        id,
-        sides: Vec::new(alloc),
-        others: Box::new(alloc, Vec::new(alloc))?,
-    })
-}
-
-fn bushes(alloc: Global) -> Result<Bush, AllocError> {
-    let two = Box::new(alloc, bush(alloc, 2)?)?;
-    let three = bush(alloc, 3)?;
-    let others = vec![in alloc; three]?;
-    Ok(Bush {
-        id: 1,
-        sides: vec![in alloc; None, Some(two)]?,
-        others: Box::new(alloc, others)?,
-    })
-}
-
-// The vector that the box of bush 2 holds at 0, which is empty, and bush 2 at 8; the two options at 24, each a tag and a box; the empty vector of bush 3
-// at 40, bush 3 at 48, the vector of it at 64, and bush 1 at 72. A bush is its number, an offset and a length, and a box.
-const BUSHES: &[u8] =
-    b"\0\0\0\0\0\0\0\0\x02\0\0\0\xf4\xff\xff\xff\0\0\0\0\xec\xff\xff\xff\0\0\0\0\0\0\0\0\x01\0\0\0\xe4\xff\xff\xff\0\0\0\0\0\0\0\0\x03\0\0\0\xf4\xff\xff\xff\0\0\0\0\xec\xff\xff\xff\xf0\xff\xff\xff\x01\0\0\0\x01\0\0\0\xcc\xff\xff\xff\x02\0\0\0\xec\xff\xff\xff";
-
-#[test]
-fn options_in_a_vector(rt: HostRuntime) {
-    let bushes = bushes(rt.alloc()).expect(&rt, "a bush");
-    assert_written(&rt, rt.alloc(), &bushes, BUSHES);
-    assert_read(&rt, rt.alloc(), BUSHES, &bushes);
+fn damaged_rules(rt: HostRuntime) {
+    let alloc = rt.alloc();
+    assert_damaged_rules(&rt, alloc, 1, 0x80, Error::InvalidUtf8);
+    assert_damaged_rules(&rt, alloc, 28, 2, tag_of_none("ArchivedOption", 2));
+    assert_damaged_rules(&rt, alloc, 104, 5, tag_of_none("ArchivedRule", 5));
+    assert_damaged_rules(&rt, alloc, 32, 0xfc, outside(28, 16, 0, 20));
+    assert_damaged_rules(&rt, alloc, 84, 0xfc, outside(80, 8, 52, 80));
 }
 
 fn facts(alloc: Global) -> Result<Fact, AllocError> {
@@ -125,10 +133,6 @@ fn facts_of_many_kinds(rt: HostRuntime) {
     let facts = facts(rt.alloc()).expect(&rt, "facts");
     assert_written(&rt, rt.alloc(), &facts, FACTS);
     assert_read(&rt, rt.alloc(), FACTS, &facts);
-}
-
-fn tag_of_none(name: &'static str, value: u8) -> Error {
-    Error::InvalidDiscriminant { name, value }
 }
 
 fn assert_damaged_facts(rt: &impl Abort, alloc: Global, at: usize, byte: u8, refusal: Error) {
@@ -181,12 +185,7 @@ fn assert_damaged_notes(rt: &impl Abort, alloc: Global, at: usize, byte: u8, ref
 
 // A number where the hours end and the notes begin, at 40.
 fn number_elsewhere(position: i128) -> Error {
-    Error::InvalidSubtreePointer {
-        position,
-        size: 4,
-        start: 40,
-        end: 44,
-    }
+    outside(position, 4, 40, 44)
 }
 
 #[test]
@@ -221,52 +220,4 @@ fn limits_of_depth(rt: HostRuntime) {
     let too_deep = Err(Error::ExceededMaximumSubtreeDepth);
     assert_regions(&rt, rt.alloc(), 3, too_deep);
     assert_regions(&rt, rt.alloc(), 4, Ok(6));
-}
-
-// An array of these bytes; they are four.
-fn version(alloc: Global, bytes: [u8; 4]) -> Result<OwnedArray<u8, 4>, AllocError> {
-    let bytes = Vec::from_array(alloc, bytes)?;
-    let Some(version) = OwnedArray::from_vec(bytes) else {
-        return Err(AllocError);
-    };
-    Ok(version)
-}
-
-fn rule(
-    alloc: Global,
-    words: &str,
-    version: OwnedArray<u8, 4>,
-    pages: Vec<u16>,
-    lines: usize,
-    parts: Vec<Rule>,
-) -> Result<Rule, AllocError> {
-    let text = String::from_str(alloc, words)?;
-    Ok(Rule {
-        words: BoxStr { text },
-        version,
-        pages: BoxSlice { items: pages },
-        lines,
-        parts,
-    })
-}
-
-fn rules(alloc: Global) -> Result<Rule, AllocError> {
-    let one = version(alloc, [1, 0, 0, 2])?;
-    let part = rule(alloc, "be", one, Vec::new(alloc), 3, Vec::new(alloc))?;
-    let two = version(alloc, [2, 0, 0, 1])?;
-    let parts = vec![in alloc; part]?;
-    rule(alloc, "all", two, vec![in alloc; 7, 300]?, 9, parts)
-}
-
-// The words of the rule at 0, its pages at 4, the words of its part at 8 and its pages, which are none, at 10; its part at 12 and itself at 44. Of the 32
-// bytes of a rule its words are the first, its version lies at 8, its pages at 12, its lines at 20, and its parts at 24.
-const RULES: &[u8] =
-    b"all\0\x07\0,\x01be\0\0\xfc\xff\xff\xff\x02\0\0\0\x01\0\0\x02\xf2\xff\xff\xff\0\0\0\0\x03\0\0\0\xe8\xff\xff\xff\0\0\0\0\xd4\xff\xff\xff\x03\0\0\0\x02\0\0\x01\xcc\xff\xff\xff\x02\0\0\0\x09\0\0\0\xc8\xff\xff\xff\x01\0\0\0";
-
-#[test]
-fn fields_of_many_kinds(rt: HostRuntime) {
-    let rules = rules(rt.alloc()).expect(&rt, "rules");
-    assert_written(&rt, rt.alloc(), &rules, RULES);
-    let back: Rule = value_of(&rt, rt.alloc(), RULES);
-    assert_written(&rt, rt.alloc(), &back, RULES);
 }
