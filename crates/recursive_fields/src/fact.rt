@@ -122,7 +122,10 @@ fn fact_facts_expressions(alloc: Global) -> Result<Vec<archive_core::shape::Expr
     ensures shapes { IfOk result (λ list. shapes_in list.items ≡ fact_facts_parts) }
     ensures refused { IfErr result (λ e. e ≡ OutOfMemory) }
 {
-    let a0 = archive_core::shape::Expr::Vec(Box::new(alloc, archive_core::shape::Expr::Named("ArchivedFact"))?);
+    let a0 = archive_core::shape::Expr::Vec(Box::new(
+        alloc,
+        archive_core::shape::Expr::Named("ArchivedFact"),
+    )?);
     Ok(vec![in alloc; a0]?)
 }
 
@@ -300,7 +303,10 @@ impl Archive for Fact {
 
 // Writes what each of the values owns, in order.
 #[cycle(serialize_fact)]
-fn serialize_each_fact<S: Writer + Keys + ResolverAlloc>(values: &[Fact], serializer: &mut S) -> Result<Vec<<Fact as Archive>::Resolver, S::Alloc>, Error>
+fn serialize_each_fact<S: Writer + Keys + ResolverAlloc>(
+    values: &[Fact],
+    serializer: &mut S,
+) -> Result<Vec<<Fact as Archive>::Resolver, S::Alloc>, Error>
     ensures serialized { IfOk result (λ rs. SerializedRun fact_definitions fact_shape
         (length values.now) (each_keys ⟦<Fact as Archive>⟧.keys values.now)
         (each_meaning ⟦<Fact as Archive>⟧.meaning values.now)
@@ -328,7 +334,10 @@ fn serialize_each_fact<S: Writer + Keys + ResolverAlloc>(values: &[Fact], serial
 
 // Writes what a vector owns.
 #[cycle(serialize_fact)]
-fn serialize_vec_fact<S: Writer + Keys + ResolverAlloc>(value: &Vec<Fact>, serializer: &mut S) -> Result<VecResolver, Error>
+fn serialize_vec_fact<S: Writer + Keys + ResolverAlloc>(
+    value: &Vec<Fact>,
+    serializer: &mut S,
+) -> Result<VecResolver, Error>
     ensures serialized { IfOk result (λ r. Serialized fact_definitions (vec fact_shape)
         (⟦<Vec<Fact> as Archive>⟧.keys value.now) (⟦<Vec<Fact> as Archive>⟧.meaning value.now)
         (⟦<Vec<Fact> as Archive>⟧.flat value.now r) (S.state serializer.old)
@@ -464,7 +473,10 @@ fn serialize_fact_facts<S: Writer + Keys + ResolverAlloc>(
 
 // Writes what a value owns.
 #[cycle(serialize_fact)]
-fn serialize_fact<S: Writer + Keys + ResolverAlloc>(value: &Fact, serializer: &mut S) -> Result<FactResolver, Error>
+fn serialize_fact<S: Writer + Keys + ResolverAlloc>(
+    value: &Fact,
+    serializer: &mut S,
+) -> Result<FactResolver, Error>
     ensures serialized { IfOk result (λ r. Serialized fact_definitions fact_shape
         (⟦<Fact as Archive>⟧.keys value.now) (⟦<Fact as Archive>⟧.meaning value.now)
         (⟦<Fact as Archive>⟧.flat value.now r) (S.state serializer.old) (S.state serializer.new)) }
@@ -535,7 +547,11 @@ impl<S: Writer + Keys + ResolverAlloc> SerializeUnsized<S> for Fact {
 
 // Reads a part back.
 #[inline(always)]
-fn read_vec_pair_i32_u8_of_fact<D: Entries>(alloc: Global, part: RawView<'_>, deserializer: &mut D) -> Result<Vec<(i32, u8)>, Error>
+fn read_vec_pair_i32_u8_of_fact<D: Entries>(
+    alloc: Global,
+    part: RawView<'_>,
+    deserializer: &mut D,
+) -> Result<Vec<(i32, u8)>, Error>
     requires { IsPartOf ⟦<ArchivedVec<ArchivedTuple2<ArchivedI32, u8>> as ArchivePointee>⟧ part }
     ensures { ReadsAs ⟦<ArchivedVec<ArchivedTuple2<ArchivedI32, u8>> as ArchivePointee>⟧ part
         D.Entries deserializer ⟦<Vec<(i32, u8)> as Archive>⟧ result }
@@ -549,7 +565,11 @@ fn read_vec_pair_i32_u8_of_fact<D: Entries>(alloc: Global, part: RawView<'_>, de
 
 // Reads a vector back.
 #[cycle(read_fact)]
-fn read_vec_fact<D: Entries>(alloc: Global, part: RawView<'_>, deserializer: &mut D) -> Result<Vec<Fact>, Error>
+fn read_vec_fact<D: Entries>(
+    alloc: Global,
+    part: RawView<'_>,
+    deserializer: &mut D,
+) -> Result<Vec<Fact>, Error>
     requires { IsPartOf ⟦<ArchivedVec<ArchivedFact> as ArchivePointee>⟧ part }
     ensures read { IfOk result (Read ⟦<ArchivedVec<ArchivedFact> as ArchivePointee>⟧ part D.Entries
         deserializer ⟦<Vec<Fact> as Archive>⟧) }
@@ -568,7 +588,11 @@ fn read_vec_fact<D: Entries>(alloc: Global, part: RawView<'_>, deserializer: &mu
 
 // Reads `Holds` back.
 #[inline(always)]
-fn read_fact_holds<D: Entries>(alloc: Global, part: RawView<'_>, deserializer: &mut D) -> Result<Fact, Error>
+fn read_fact_holds<D: Entries>(
+    alloc: Global,
+    part: RawView<'_>,
+    deserializer: &mut D,
+) -> Result<Fact, Error>
     requires viewed { IsPartOf ⟦<ArchivedFact as ArchivePointee>⟧ part }
     requires tag { part_tag part ≡ 0 }
     ensures read { IfOk result (Read ⟦<ArchivedFact as ArchivePointee>⟧ part D.Entries deserializer
@@ -585,7 +609,11 @@ fn read_fact_holds<D: Entries>(alloc: Global, part: RawView<'_>, deserializer: &
 
 // Reads `Outcome` back.
 #[inline(always)]
-fn read_fact_outcome<D: Entries>(alloc: Global, part: RawView<'_>, deserializer: &mut D) -> Result<Fact, Error>
+fn read_fact_outcome<D: Entries>(
+    alloc: Global,
+    part: RawView<'_>,
+    deserializer: &mut D,
+) -> Result<Fact, Error>
     requires viewed { IsPartOf ⟦<ArchivedFact as ArchivePointee>⟧ part }
     requires tag { part_tag part ≡ 1 }
     ensures read { IfOk result (Read ⟦<ArchivedFact as ArchivePointee>⟧ part D.Entries deserializer
@@ -606,7 +634,11 @@ fn read_fact_outcome<D: Entries>(alloc: Global, part: RawView<'_>, deserializer:
 
 // Reads `Ranges` back.
 #[inline(always)]
-fn read_fact_ranges<D: Entries>(alloc: Global, part: RawView<'_>, deserializer: &mut D) -> Result<Fact, Error>
+fn read_fact_ranges<D: Entries>(
+    alloc: Global,
+    part: RawView<'_>,
+    deserializer: &mut D,
+) -> Result<Fact, Error>
     requires viewed { IsPartOf ⟦<ArchivedFact as ArchivePointee>⟧ part }
     requires tag { part_tag part ≡ 2 }
     ensures read { IfOk result (Read ⟦<ArchivedFact as ArchivePointee>⟧ part D.Entries deserializer
@@ -623,7 +655,11 @@ fn read_fact_ranges<D: Entries>(alloc: Global, part: RawView<'_>, deserializer: 
 
 // Reads `Facts` back.
 #[cycle(read_fact)]
-fn read_fact_facts<D: Entries>(alloc: Global, part: RawView<'_>, deserializer: &mut D) -> Result<Fact, Error>
+fn read_fact_facts<D: Entries>(
+    alloc: Global,
+    part: RawView<'_>,
+    deserializer: &mut D,
+) -> Result<Fact, Error>
     requires viewed { IsPartOf ⟦<ArchivedFact as ArchivePointee>⟧ part }
     requires tag { part_tag part ≡ 3 }
     ensures read { IfOk result (Read ⟦<ArchivedFact as ArchivePointee>⟧ part D.Entries deserializer
@@ -638,7 +674,11 @@ fn read_fact_facts<D: Entries>(alloc: Global, part: RawView<'_>, deserializer: &
 
 // Reads a value back.
 #[cycle(read_fact)]
-fn read_fact<D: Entries>(alloc: Global, part: RawView<'_>, deserializer: &mut D) -> Result<Fact, Error>
+fn read_fact<D: Entries>(
+    alloc: Global,
+    part: RawView<'_>,
+    deserializer: &mut D,
+) -> Result<Fact, Error>
     requires { IsPartOf ⟦<ArchivedFact as ArchivePointee>⟧ part }
     ensures read { IfOk result (Read ⟦<ArchivedFact as ArchivePointee>⟧ part D.Entries deserializer
         ⟦<Fact as Archive>⟧) }
@@ -715,15 +755,17 @@ impl<'a> FactView<'a> for Ref<'a, ArchivedFact> {
                 ViewOfFact::Holds(a0, a1)
             }
             1 => {
-                let a0 = view_of_payload::<ArchivedFact, ArchivedResult<ArchivedU32, ArchivedString>>(
-                    self, 1, 0, 4,
-                );
+                let a0 = view_of_payload::<
+                    ArchivedFact,
+                    ArchivedResult<ArchivedU32, ArchivedString>,
+                >(self, 1, 0, 4);
                 ViewOfFact::Outcome(a0)
             }
             2 => {
-                let a0 = view_of_payload::<ArchivedFact, ArchivedVec<ArchivedTuple2<ArchivedI32, u8>>>(
-                    self, 2, 0, 4,
-                );
+                let a0 = view_of_payload::<
+                    ArchivedFact,
+                    ArchivedVec<ArchivedTuple2<ArchivedI32, u8>>,
+                >(self, 2, 0, 4);
                 ViewOfFact::Ranges(a0)
             }
             _ => {
@@ -799,9 +841,7 @@ impl<'a> FactSeal<'a> for Seal<'a, ArchivedFact> {
             ⟦<ArchivedResult<ArchivedU32, ArchivedString> as ArchivePointee>⟧.pointee
             (self.entry.pos + 4) 0 self.entry result }
     {
-        seal_of_payload::<ArchivedFact, ArchivedResult<ArchivedU32, ArchivedString>>(
-            self, 1, 0, 4,
-        )
+        seal_of_payload::<ArchivedFact, ArchivedResult<ArchivedU32, ArchivedString>>(self, 1, 0, 4)
     }
 
     fn ranges_0_mut(self) -> Seal<'a, ArchivedVec<ArchivedTuple2<ArchivedI32, u8>>>
@@ -812,9 +852,7 @@ impl<'a> FactSeal<'a> for Seal<'a, ArchivedFact> {
             ⟦<ArchivedVec<ArchivedTuple2<ArchivedI32, u8>> as ArchivePointee>⟧.pointee
             (self.entry.pos + 4) 0 self.entry result }
     {
-        seal_of_payload::<ArchivedFact, ArchivedVec<ArchivedTuple2<ArchivedI32, u8>>>(
-            self, 2, 0, 4,
-        )
+        seal_of_payload::<ArchivedFact, ArchivedVec<ArchivedTuple2<ArchivedI32, u8>>>(self, 2, 0, 4)
     }
 
     fn facts_0_mut(self) -> Seal<'a, ArchivedVec<ArchivedFact>>

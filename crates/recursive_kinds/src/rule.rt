@@ -131,7 +131,13 @@ fn rule_chapter_expressions(alloc: Global) -> Result<Vec<archive_core::shape::Ex
     ensures refused { IfErr result (λ e. e ≡ OutOfMemory) }
 {
     let a0 = <ArchivedU32 as Portable>::expr(alloc)?;
-    let a1 = archive_core::shape::Expr::Vec(Box::new(alloc, archive_core::shape::Expr::Box(Box::new(alloc, archive_core::shape::Pointee::One(archive_core::shape::Expr::Named("ArchivedRule")))?))?);
+    let a1 = archive_core::shape::Expr::Vec(Box::new(
+        alloc,
+        archive_core::shape::Expr::Box(Box::new(
+            alloc,
+            archive_core::shape::Pointee::One(archive_core::shape::Expr::Named("ArchivedRule")),
+        )?),
+    )?);
     Ok(vec![in alloc; a0, a1]?)
 }
 
@@ -140,7 +146,16 @@ fn rule_changed_expressions(alloc: Global) -> Result<Vec<archive_core::shape::Ex
     ensures shapes { IfOk result (λ list. shapes_in list.items ≡ rule_changed_parts) }
     ensures refused { IfErr result (λ e. e ≡ OutOfMemory) }
 {
-    let a0 = archive_core::shape::Expr::Vec(Box::new(alloc, option_expression(alloc, archive_core::shape::Expr::Box(Box::new(alloc, archive_core::shape::Pointee::One(archive_core::shape::Expr::Named("ArchivedRule")))?))?)?);
+    let a0 = archive_core::shape::Expr::Vec(Box::new(
+        alloc,
+        option_expression(
+            alloc,
+            archive_core::shape::Expr::Box(Box::new(
+                alloc,
+                archive_core::shape::Pointee::One(archive_core::shape::Expr::Named("ArchivedRule")),
+            )?),
+        )?,
+    )?);
     Ok(vec![in alloc; a0]?)
 }
 
@@ -149,7 +164,13 @@ fn rule_together_expressions(alloc: Global) -> Result<Vec<archive_core::shape::E
     ensures shapes { IfOk result (λ list. shapes_in list.items ≡ rule_together_parts) }
     ensures refused { IfErr result (λ e. e ≡ OutOfMemory) }
 {
-    let a0 = archive_core::shape::Expr::Box(Box::new(alloc, archive_core::shape::Pointee::One(archive_core::shape::Expr::Vec(Box::new(alloc, archive_core::shape::Expr::Named("ArchivedRule"))?)))?);
+    let a0 = archive_core::shape::Expr::Box(Box::new(
+        alloc,
+        archive_core::shape::Pointee::One(archive_core::shape::Expr::Vec(Box::new(
+            alloc,
+            archive_core::shape::Expr::Named("ArchivedRule"),
+        )?)),
+    )?);
     Ok(vec![in alloc; a0]?)
 }
 
@@ -353,7 +374,10 @@ impl Archive for Rule {
 
 // Writes what each of the values owns, in order.
 #[cycle(serialize_rule)]
-fn serialize_each_box_rule<S: Writer + Keys + ResolverAlloc<Alloc = Global>>(values: &[Box<Rule>], serializer: &mut S) -> Result<Vec<<Box<Rule> as Archive>::Resolver, S::Alloc>, Error>
+fn serialize_each_box_rule<S: Writer + Keys + ResolverAlloc<Alloc = Global>>(
+    values: &[Box<Rule>],
+    serializer: &mut S,
+) -> Result<Vec<<Box<Rule> as Archive>::Resolver, S::Alloc>, Error>
     ensures serialized { IfOk result (λ rs. SerializedRun rule_definitions (boxed (one rule_shape))
         (length values.now) (each_keys ⟦<Box<Rule> as Archive>⟧.keys values.now)
         (each_meaning ⟦<Box<Rule> as Archive>⟧.meaning values.now)
@@ -386,7 +410,10 @@ fn serialize_each_box_rule<S: Writer + Keys + ResolverAlloc<Alloc = Global>>(val
 
 // Writes what a vector owns.
 #[cycle(serialize_rule)]
-fn serialize_vec_box_rule<S: Writer + Keys + ResolverAlloc<Alloc = Global>>(value: &Vec<Box<Rule>>, serializer: &mut S) -> Result<VecResolver, Error>
+fn serialize_vec_box_rule<S: Writer + Keys + ResolverAlloc<Alloc = Global>>(
+    value: &Vec<Box<Rule>>,
+    serializer: &mut S,
+) -> Result<VecResolver, Error>
     ensures serialized { IfOk result (λ r. Serialized rule_definitions
         (vec (boxed (one rule_shape))) (⟦<Vec<Box<Rule>> as Archive>⟧.keys value.now)
         (⟦<Vec<Box<Rule>> as Archive>⟧.meaning value.now)
@@ -414,7 +441,10 @@ fn serialize_vec_box_rule<S: Writer + Keys + ResolverAlloc<Alloc = Global>>(valu
 
 // Writes what each of the values owns, in order.
 #[cycle(serialize_rule)]
-fn serialize_each_option_box_rule<S: Writer + Keys + ResolverAlloc<Alloc = Global>>(values: &[Option<Box<Rule>>], serializer: &mut S) -> Result<Vec<<Option<Box<Rule>> as Archive>::Resolver, S::Alloc>, Error>
+fn serialize_each_option_box_rule<S: Writer + Keys + ResolverAlloc<Alloc = Global>>(
+    values: &[Option<Box<Rule>>],
+    serializer: &mut S,
+) -> Result<Vec<<Option<Box<Rule>> as Archive>::Resolver, S::Alloc>, Error>
     ensures serialized { IfOk result (λ rs. SerializedRun rule_definitions
         (option_shape (boxed (one rule_shape))) (length values.now)
         (each_keys ⟦<Option<Box<Rule>> as Archive>⟧.keys values.now)
@@ -456,7 +486,10 @@ fn serialize_each_option_box_rule<S: Writer + Keys + ResolverAlloc<Alloc = Globa
 
 // Writes what a vector owns.
 #[cycle(serialize_rule)]
-fn serialize_vec_option_box_rule<S: Writer + Keys + ResolverAlloc<Alloc = Global>>(value: &Vec<Option<Box<Rule>>>, serializer: &mut S) -> Result<VecResolver, Error>
+fn serialize_vec_option_box_rule<S: Writer + Keys + ResolverAlloc<Alloc = Global>>(
+    value: &Vec<Option<Box<Rule>>>,
+    serializer: &mut S,
+) -> Result<VecResolver, Error>
     ensures serialized { IfOk result (λ r. Serialized rule_definitions
         (vec (option_shape (boxed (one rule_shape)))) (⟦<Vec<Option<Box<Rule>>> as Archive>⟧.keys
         value.now) (⟦<Vec<Option<Box<Rule>>> as Archive>⟧.meaning value.now)
@@ -486,7 +519,10 @@ fn serialize_vec_option_box_rule<S: Writer + Keys + ResolverAlloc<Alloc = Global
 
 // Writes what each of the values owns, in order.
 #[cycle(serialize_rule)]
-fn serialize_each_rule<S: Writer + Keys + ResolverAlloc<Alloc = Global>>(values: &[Rule], serializer: &mut S) -> Result<Vec<<Rule as Archive>::Resolver, S::Alloc>, Error>
+fn serialize_each_rule<S: Writer + Keys + ResolverAlloc<Alloc = Global>>(
+    values: &[Rule],
+    serializer: &mut S,
+) -> Result<Vec<<Rule as Archive>::Resolver, S::Alloc>, Error>
     ensures serialized { IfOk result (λ rs. SerializedRun rule_definitions rule_shape
         (length values.now) (each_keys ⟦<Rule as Archive>⟧.keys values.now)
         (each_meaning ⟦<Rule as Archive>⟧.meaning values.now)
@@ -514,7 +550,10 @@ fn serialize_each_rule<S: Writer + Keys + ResolverAlloc<Alloc = Global>>(values:
 
 // Writes what a vector owns.
 #[cycle(serialize_rule)]
-fn serialize_vec_rule<S: Writer + Keys + ResolverAlloc<Alloc = Global>>(value: &Vec<Rule>, serializer: &mut S) -> Result<VecResolver, Error>
+fn serialize_vec_rule<S: Writer + Keys + ResolverAlloc<Alloc = Global>>(
+    value: &Vec<Rule>,
+    serializer: &mut S,
+) -> Result<VecResolver, Error>
     ensures serialized { IfOk result (λ r. Serialized rule_definitions (vec rule_shape)
         (⟦<Vec<Rule> as Archive>⟧.keys value.now) (⟦<Vec<Rule> as Archive>⟧.meaning value.now)
         (⟦<Vec<Rule> as Archive>⟧.flat value.now r) (S.state serializer.old)
@@ -541,7 +580,10 @@ fn serialize_vec_rule<S: Writer + Keys + ResolverAlloc<Alloc = Global>>(value: &
 
 // Writes what a box owns.
 #[cycle(serialize_rule)]
-fn serialize_box_vec_rule<S: Writer + Keys + ResolverAlloc<Alloc = Global>>(value: &Box<Vec<Rule>>, serializer: &mut S) -> Result<BoxResolver, Error>
+fn serialize_box_vec_rule<S: Writer + Keys + ResolverAlloc<Alloc = Global>>(
+    value: &Box<Vec<Rule>>,
+    serializer: &mut S,
+) -> Result<BoxResolver, Error>
     ensures serialized { IfOk result (λ r. Serialized rule_definitions
         (boxed (one (vec rule_shape))) (⟦<Box<Vec<Rule>> as Archive>⟧.keys value.now)
         (⟦<Box<Vec<Rule>> as Archive>⟧.meaning value.now)
@@ -730,7 +772,10 @@ fn serialize_rule_together<S: Writer + Keys + ResolverAlloc<Alloc = Global>>(
 
 // Writes what a value owns.
 #[cycle(serialize_rule)]
-fn serialize_rule<S: Writer + Keys + ResolverAlloc<Alloc = Global>>(value: &Rule, serializer: &mut S) -> Result<RuleResolver, Error>
+fn serialize_rule<S: Writer + Keys + ResolverAlloc<Alloc = Global>>(
+    value: &Rule,
+    serializer: &mut S,
+) -> Result<RuleResolver, Error>
     ensures serialized { IfOk result (λ r. Serialized rule_definitions rule_shape
         (⟦<Rule as Archive>⟧.keys value.now) (⟦<Rule as Archive>⟧.meaning value.now)
         (⟦<Rule as Archive>⟧.flat value.now r) (S.state serializer.old) (S.state serializer.new)) }
@@ -805,7 +850,11 @@ impl<S: Writer + Keys + ResolverAlloc<Alloc = Global>> SerializeUnsized<S> for R
 
 // Reads a box back.
 #[cycle(read_rule)]
-fn read_box_rule<D: Entries>(alloc: Global, part: RawView<'_>, deserializer: &mut D) -> Result<Box<Rule>, Error>
+fn read_box_rule<D: Entries>(
+    alloc: Global,
+    part: RawView<'_>,
+    deserializer: &mut D,
+) -> Result<Box<Rule>, Error>
     requires { IsPartOf ⟦<ArchivedBox<ArchivedRule> as ArchivePointee>⟧ part }
     ensures read { IfOk result (Read ⟦<ArchivedBox<ArchivedRule> as ArchivePointee>⟧ part D.Entries
         deserializer ⟦<Box<Rule> as Archive>⟧) }
@@ -820,12 +869,15 @@ fn read_box_rule<D: Entries>(alloc: Global, part: RawView<'_>, deserializer: &mu
 
 // Reads a vector back.
 #[cycle(read_rule)]
-fn read_vec_box_rule<D: Entries>(alloc: Global, part: RawView<'_>, deserializer: &mut D) -> Result<Vec<Box<Rule>>, Error>
+fn read_vec_box_rule<D: Entries>(
+    alloc: Global,
+    part: RawView<'_>,
+    deserializer: &mut D,
+) -> Result<Vec<Box<Rule>>, Error>
     requires { IsPartOf ⟦<ArchivedVec<ArchivedBox<ArchivedRule>> as ArchivePointee>⟧ part }
     ensures read { IfOk result (Read ⟦<ArchivedVec<ArchivedBox<ArchivedRule>> as ArchivePointee>⟧
         part D.Entries deserializer ⟦<Vec<Box<Rule>> as Archive>⟧) }
-    ensures
-        refused { IfErr result
+    ensures refused { IfErr result
         (RefusesPart ⟦<ArchivedVec<ArchivedBox<ArchivedRule>> as ArchivePointee>⟧ part D.Entries
         deserializer) }
 {
@@ -841,12 +893,15 @@ fn read_vec_box_rule<D: Entries>(alloc: Global, part: RawView<'_>, deserializer:
 
 // Reads an option back.
 #[cycle(read_rule)]
-fn read_option_box_rule<D: Entries>(alloc: Global, part: RawView<'_>, deserializer: &mut D) -> Result<Option<Box<Rule>>, Error>
+fn read_option_box_rule<D: Entries>(
+    alloc: Global,
+    part: RawView<'_>,
+    deserializer: &mut D,
+) -> Result<Option<Box<Rule>>, Error>
     requires { IsPartOf ⟦<ArchivedOption<ArchivedBox<ArchivedRule>> as ArchivePointee>⟧ part }
     ensures read { IfOk result (Read ⟦<ArchivedOption<ArchivedBox<ArchivedRule>> as ArchivePointee>⟧
         part D.Entries deserializer ⟦<Option<Box<Rule>> as Archive>⟧) }
-    ensures
-        refused { IfErr result
+    ensures refused { IfErr result
         (RefusesPart ⟦<ArchivedOption<ArchivedBox<ArchivedRule>> as ArchivePointee>⟧ part D.Entries
         deserializer) }
 {
@@ -862,15 +917,17 @@ fn read_option_box_rule<D: Entries>(alloc: Global, part: RawView<'_>, deserializ
 
 // Reads a vector back.
 #[cycle(read_rule)]
-fn read_vec_option_box_rule<D: Entries>(alloc: Global, part: RawView<'_>, deserializer: &mut D) -> Result<Vec<Option<Box<Rule>>>, Error>
+fn read_vec_option_box_rule<D: Entries>(
+    alloc: Global,
+    part: RawView<'_>,
+    deserializer: &mut D,
+) -> Result<Vec<Option<Box<Rule>>>, Error>
     requires { IsPartOf ⟦<ArchivedVec<ArchivedOption<ArchivedBox<ArchivedRule>>> as ArchivePointee>⟧
         part }
-    ensures
-        read { IfOk result
+    ensures read { IfOk result
         (Read ⟦<ArchivedVec<ArchivedOption<ArchivedBox<ArchivedRule>>> as ArchivePointee>⟧ part
         D.Entries deserializer ⟦<Vec<Option<Box<Rule>>> as Archive>⟧) }
-    ensures
-        refused { IfErr result
+    ensures refused { IfErr result
         (RefusesPart ⟦<ArchivedVec<ArchivedOption<ArchivedBox<ArchivedRule>>> as ArchivePointee>⟧
         part D.Entries deserializer) }
 {
@@ -886,7 +943,11 @@ fn read_vec_option_box_rule<D: Entries>(alloc: Global, part: RawView<'_>, deseri
 
 // Reads a vector back.
 #[cycle(read_rule)]
-fn read_vec_rule<D: Entries>(alloc: Global, part: RawView<'_>, deserializer: &mut D) -> Result<Vec<Rule>, Error>
+fn read_vec_rule<D: Entries>(
+    alloc: Global,
+    part: RawView<'_>,
+    deserializer: &mut D,
+) -> Result<Vec<Rule>, Error>
     requires { IsPartOf ⟦<ArchivedVec<ArchivedRule> as ArchivePointee>⟧ part }
     ensures read { IfOk result (Read ⟦<ArchivedVec<ArchivedRule> as ArchivePointee>⟧ part D.Entries
         deserializer ⟦<Vec<Rule> as Archive>⟧) }
@@ -905,12 +966,15 @@ fn read_vec_rule<D: Entries>(alloc: Global, part: RawView<'_>, deserializer: &mu
 
 // Reads a box back.
 #[cycle(read_rule)]
-fn read_box_vec_rule<D: Entries>(alloc: Global, part: RawView<'_>, deserializer: &mut D) -> Result<Box<Vec<Rule>>, Error>
+fn read_box_vec_rule<D: Entries>(
+    alloc: Global,
+    part: RawView<'_>,
+    deserializer: &mut D,
+) -> Result<Box<Vec<Rule>>, Error>
     requires { IsPartOf ⟦<ArchivedBox<ArchivedVec<ArchivedRule>> as ArchivePointee>⟧ part }
     ensures read { IfOk result (Read ⟦<ArchivedBox<ArchivedVec<ArchivedRule>> as ArchivePointee>⟧
         part D.Entries deserializer ⟦<Box<Vec<Rule>> as Archive>⟧) }
-    ensures
-        refused { IfErr result
+    ensures refused { IfErr result
         (RefusesPart ⟦<ArchivedBox<ArchivedVec<ArchivedRule>> as ArchivePointee>⟧ part D.Entries
         deserializer) }
 {
@@ -922,7 +986,11 @@ fn read_box_vec_rule<D: Entries>(alloc: Global, part: RawView<'_>, deserializer:
 
 // Reads `Words` back.
 #[inline(always)]
-fn read_rule_words<D: Entries>(alloc: Global, part: RawView<'_>, deserializer: &mut D) -> Result<Rule, Error>
+fn read_rule_words<D: Entries>(
+    alloc: Global,
+    part: RawView<'_>,
+    deserializer: &mut D,
+) -> Result<Rule, Error>
     requires viewed { IsPartOf ⟦<ArchivedRule as ArchivePointee>⟧ part }
     requires tag { part_tag part ≡ 0 }
     ensures read { IfOk result (Read ⟦<ArchivedRule as ArchivePointee>⟧ part D.Entries deserializer
@@ -942,7 +1010,11 @@ fn read_rule_words<D: Entries>(alloc: Global, part: RawView<'_>, deserializer: &
 
 // Reads `Cited` back.
 #[inline(always)]
-fn read_rule_cited<D: Entries>(alloc: Global, part: RawView<'_>, deserializer: &mut D) -> Result<Rule, Error>
+fn read_rule_cited<D: Entries>(
+    alloc: Global,
+    part: RawView<'_>,
+    deserializer: &mut D,
+) -> Result<Rule, Error>
     requires viewed { IsPartOf ⟦<ArchivedRule as ArchivePointee>⟧ part }
     requires tag { part_tag part ≡ 1 }
     ensures read { IfOk result (Read ⟦<ArchivedRule as ArchivePointee>⟧ part D.Entries deserializer
@@ -965,7 +1037,11 @@ fn read_rule_cited<D: Entries>(alloc: Global, part: RawView<'_>, deserializer: &
 
 // Reads `Chapter` back.
 #[cycle(read_rule)]
-fn read_rule_chapter<D: Entries>(alloc: Global, part: RawView<'_>, deserializer: &mut D) -> Result<Rule, Error>
+fn read_rule_chapter<D: Entries>(
+    alloc: Global,
+    part: RawView<'_>,
+    deserializer: &mut D,
+) -> Result<Rule, Error>
     requires viewed { IsPartOf ⟦<ArchivedRule as ArchivePointee>⟧ part }
     requires tag { part_tag part ≡ 2 }
     ensures read { IfOk result (Read ⟦<ArchivedRule as ArchivePointee>⟧ part D.Entries deserializer
@@ -982,7 +1058,11 @@ fn read_rule_chapter<D: Entries>(alloc: Global, part: RawView<'_>, deserializer:
 
 // Reads `Changed` back.
 #[cycle(read_rule)]
-fn read_rule_changed<D: Entries>(alloc: Global, part: RawView<'_>, deserializer: &mut D) -> Result<Rule, Error>
+fn read_rule_changed<D: Entries>(
+    alloc: Global,
+    part: RawView<'_>,
+    deserializer: &mut D,
+) -> Result<Rule, Error>
     requires viewed { IsPartOf ⟦<ArchivedRule as ArchivePointee>⟧ part }
     requires tag { part_tag part ≡ 3 }
     ensures read { IfOk result (Read ⟦<ArchivedRule as ArchivePointee>⟧ part D.Entries deserializer
@@ -1000,7 +1080,11 @@ fn read_rule_changed<D: Entries>(alloc: Global, part: RawView<'_>, deserializer:
 
 // Reads `Together` back.
 #[cycle(read_rule)]
-fn read_rule_together<D: Entries>(alloc: Global, part: RawView<'_>, deserializer: &mut D) -> Result<Rule, Error>
+fn read_rule_together<D: Entries>(
+    alloc: Global,
+    part: RawView<'_>,
+    deserializer: &mut D,
+) -> Result<Rule, Error>
     requires viewed { IsPartOf ⟦<ArchivedRule as ArchivePointee>⟧ part }
     requires tag { part_tag part ≡ 4 }
     ensures read { IfOk result (Read ⟦<ArchivedRule as ArchivePointee>⟧ part D.Entries deserializer
@@ -1015,7 +1099,11 @@ fn read_rule_together<D: Entries>(alloc: Global, part: RawView<'_>, deserializer
 
 // Reads a value back.
 #[cycle(read_rule)]
-fn read_rule<D: Entries>(alloc: Global, part: RawView<'_>, deserializer: &mut D) -> Result<Rule, Error>
+fn read_rule<D: Entries>(
+    alloc: Global,
+    part: RawView<'_>,
+    deserializer: &mut D,
+) -> Result<Rule, Error>
     requires { IsPartOf ⟦<ArchivedRule as ArchivePointee>⟧ part }
     ensures read { IfOk result (Read ⟦<ArchivedRule as ArchivePointee>⟧ part D.Entries deserializer
         ⟦<Rule as Archive>⟧) }
