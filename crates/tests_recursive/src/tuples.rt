@@ -1,8 +1,6 @@
 // Tuples in a recursive type, byte for byte: written, validated, viewed and read back; and damaged ones.
 
-use crate::assertions::{
-    assert_holds, assert_read, assert_refused, assert_same, assert_written, viewed,
-};
+use crate::assertions::{assert_read, assert_refused, assert_same, assert_written, viewed};
 use archive_core::error::Error;
 use recursive_tuples::setting::{ArchivedSetting, Setting, SettingView, ViewOfSetting};
 use std::alloc::{AllocError, Global};
@@ -25,15 +23,22 @@ fn tuples_of_a_recursive_type(rt: HostRuntime) {
     assert_read(&rt, rt.alloc(), SETTING, &setting);
 }
 
+fn assert_tag(rt: &impl Abort, alloc: Global) {
+    let view = viewed::<ArchivedSetting>(rt, alloc, SETTING);
+    assert_same(rt, "tag", view.tag(), 1);
+}
+
+// Each variant is named: of one with tuples, behind `_`, the borrow checker can't read the impls.
 fn assert_settings(rt: &impl Abort, alloc: Global) {
     match viewed::<ArchivedSetting>(rt, alloc, SETTING).variant() {
         ViewOfSetting::Group(settings) => assert_same(rt, "settings", settings.len(), 2),
-        _ => assert_holds(rt, "a group", false),
+        ViewOfSetting::Ranges(ranges) => assert_same(rt, "ranges", ranges.len(), 2),
     }
 }
 
 #[test]
 fn views_beside_tuples(rt: HostRuntime) {
+    assert_tag(&rt, rt.alloc());
     assert_settings(&rt, rt.alloc());
 }
 
