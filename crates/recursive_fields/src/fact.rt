@@ -7,6 +7,8 @@ pub enum Fact {
     Holds(bool, ()),
     /// What came of something, or why nothing did.
     Outcome(Result<u32, String>),
+    /// Where it holds: ranges, each by its least number and how many more it has.
+    Ranges(Vec<(i32, u8)>),
     /// All of these.
     Facts(Vec<Fact>),
 }
@@ -30,13 +32,14 @@ ghost use Rattle.archive_core.specs.Sources.{Read, ReadsAs};
 ghost use Rattle.archive_core.specs.Value.{case, no_value, value};
 ghost use Rattle.archive_core.specs.Writing.{ZeroedPlace};
 ghost use Rattle.archive_core.specs.Written.{GoesOn};
-ghost use Rattle.recursive_fields.specs.FactShape.{fact_definitions, fact_facts_parts, fact_has_layout, fact_has_variants, fact_holds_parts, fact_is_align, fact_layout, fact_name, fact_no_others, fact_outcome_parts, fact_shape, fact_stands_for};
+ghost use Rattle.recursive_fields.specs.FactShape.{fact_definitions, fact_facts_parts, fact_has_layout, fact_has_variants, fact_holds_parts, fact_is_align, fact_layout, fact_name, fact_no_others, fact_outcome_parts, fact_ranges_parts, fact_shape, fact_stands_for};
 ghost use Rattle.std.proofs.Common.{lit≤};
 ghost use Rattle.std.specs.Prelude.{IfErr, IfOk, None, [], length, refl, ℕ, ◌++◌, ◌+◌, ◌≡◌, ◌≤◌};
 
+use archive_core::core_impls::ArchivedTuple2;
 use archive_core::error::Error;
 use archive_core::place::Place;
-use archive_core::primitive::ArchivedU32;
+use archive_core::primitive::{ArchivedI32, ArchivedU32};
 use archive_core::recursive::{
     VecAt, before_vec, choice_of, define_name, handed_on, part_of_variant, read_part,
     resolve_named_case_1, resolve_named_case_2, seal_of_payload, serialize_inner_slice,
@@ -63,9 +66,14 @@ type FactHoldsParts = (bool, ((), ()));
 
 type FactOutcomeParts = (ArchivedResult<ArchivedU32, ArchivedString>, ());
 
+type FactRangesParts = (ArchivedVec<ArchivedTuple2<ArchivedI32, u8>>, ());
+
 type FactFactsParts = (ArchivedVec<ArchivedFact>, ());
 
-type FactVariants = (FactHoldsParts, (FactOutcomeParts, (FactFactsParts, ())));
+type FactVariants = (
+    FactHoldsParts,
+    (FactOutcomeParts, (FactRangesParts, (FactFactsParts, ()))),
+);
 
 impl ArchivePointee for ArchivedFact {
     type ArchivedMetadata = ();
@@ -100,6 +108,15 @@ fn fact_outcome_expressions(alloc: Global) -> Result<Vec<archive_core::shape::Ex
     Ok(vec![in alloc; a0]?)
 }
 
+// The parts of `Ranges`.
+fn fact_ranges_expressions(alloc: Global) -> Result<Vec<archive_core::shape::Expr>, Error>
+    ensures shapes { IfOk result (λ list. shapes_in list.items ≡ fact_ranges_parts) }
+    ensures refused { IfErr result (λ e. e ≡ OutOfMemory) }
+{
+    let a0 = <ArchivedVec<ArchivedTuple2<ArchivedI32, u8>> as Portable>::expr(alloc)?;
+    Ok(vec![in alloc; a0]?)
+}
+
 // The parts of `Facts`.
 fn fact_facts_expressions(alloc: Global) -> Result<Vec<archive_core::shape::Expr>, Error>
     ensures shapes { IfOk result (λ list. shapes_in list.items ≡ fact_facts_parts) }
@@ -119,8 +136,9 @@ fn fact_expression(alloc: Global) -> Result<archive_core::shape::Expr, Error>
 {
     let v0 = fact_holds_expressions(alloc)?;
     let v1 = fact_outcome_expressions(alloc)?;
-    let v2 = fact_facts_expressions(alloc)?;
-    let variants = vec![in alloc; v0, v1, v2]?;
+    let v2 = fact_ranges_expressions(alloc)?;
+    let v3 = fact_facts_expressions(alloc)?;
+    let variants = vec![in alloc; v0, v1, v2, v3]?;
     Ok(choice_of("ArchivedFact", variants))
 }
 
@@ -179,6 +197,8 @@ pub enum FactResolver {
     Holds((<bool as Archive>::Resolver, (<() as Archive>::Resolver, ()))),
     /// Of `Outcome`.
     Outcome((<Result<u32, String> as Archive>::Resolver, ())),
+    /// Of `Ranges`.
+    Ranges((<Vec<(i32, u8)> as Archive>::Resolver, ())),
     /// Of `Facts`.
     Facts((VecResolver, ())),
 }
@@ -240,13 +260,24 @@ impl Archive for Fact {
                     Place::new(pos, bytes),
                 )
             }
+            Fact::Ranges(a0) => {
+                let FactResolver::Ranges(kept) = resolver else {
+                    unreachable!();
+                };
+                resolve_named_case_1::<Vec<(i32, u8)>, ArchivedFact>(
+                    2,
+                    a0,
+                    kept,
+                    Place::new(pos, bytes),
+                )
+            }
             Fact::Facts(a0) => {
                 let FactResolver::Facts(kept) = resolver else {
                     unreachable!();
                 };
                 let h0: VecAt<ArchivedFact> = VecAt::of(a0.len());
                 resolve_named_case_1::<VecAt<ArchivedFact>, ArchivedFact>(
-                    2,
+                    3,
                     &h0,
                     kept,
                     Place::new(pos, bytes),
@@ -389,6 +420,31 @@ fn serialize_fact_outcome<S: Writer + Keys + ResolverAlloc>(
     Ok((a0, ()))
 }
 
+// Writes what the parts of `Ranges` own, in order.
+fn serialize_fact_ranges<S: Writer + Keys + ResolverAlloc>(
+    a0: &Vec<(i32, u8)>,
+    serializer: &mut S,
+) -> Result<(<Vec<(i32, u8)> as Archive>::Resolver, ()), Error>
+    ensures serialized { IfOk result (λ r. Serialized fact_definitions fact_shape
+        (⟦<Vec<(i32, u8)> as Archive>⟧.keys a0.now ++ [])
+        (case 2 (value (⟦<Vec<(i32, u8)> as Archive>⟧.meaning a0.now) no_value))
+        (case 2 (value (⟦<Vec<(i32, u8)> as Archive>⟧.flat a0.now r.0) no_value))
+        (S.state serializer.old) (S.state serializer.new)) }
+    ensures same_values { IfOk result (λ r. ⟦<Vec<(i32, u8)> as Archive>⟧.belongs a0.now r.0
+        × Unit {0}) }
+    ensures goes_on { GoesOn (S.state serializer.old) (S.state serializer.new) }
+    ensures refused { IfErr result (IsRefused fact_definitions fact_shape
+        (⟦<Vec<(i32, u8)> as Archive>⟧.keys a0.now ++ [])
+        (case 2 (value (⟦<Vec<(i32, u8)> as Archive>⟧.meaning a0.now) no_value))
+        (S.state serializer.old) (S.state serializer.new)) }
+{
+    let a0 = match serialize_part(a0, serializer) {
+        Ok(a0) => a0,
+        Err(error) => return Err(error),
+    };
+    Ok((a0, ()))
+}
+
 // Writes what the parts of `Facts` own, in order.
 #[cycle(serialize_fact)]
 fn serialize_fact_facts<S: Writer + Keys + ResolverAlloc>(
@@ -396,15 +452,15 @@ fn serialize_fact_facts<S: Writer + Keys + ResolverAlloc>(
     serializer: &mut S,
 ) -> Result<(VecResolver, ()), Error>
     ensures serialized { IfOk result (λ r. Serialized fact_definitions fact_shape
-        (⟦<Vec<Fact> as Archive>⟧.keys a0.now ++ []) (case 2
+        (⟦<Vec<Fact> as Archive>⟧.keys a0.now ++ []) (case 3
         (value (⟦<Vec<Fact> as Archive>⟧.meaning a0.now) no_value))
-        (case 2 (value (⟦<Vec<Fact> as Archive>⟧.flat a0.now r.0) no_value))
+        (case 3 (value (⟦<Vec<Fact> as Archive>⟧.flat a0.now r.0) no_value))
         (S.state serializer.old) (S.state serializer.new)) }
     ensures same_values { IfOk result (λ r. ⟦<Vec<Fact> as Archive>⟧.belongs a0.now r.0
         × Unit {0}) }
     ensures goes_on { GoesOn (S.state serializer.old) (S.state serializer.new) }
     ensures refused { IfErr result (IsRefused fact_definitions fact_shape
-        (⟦<Vec<Fact> as Archive>⟧.keys a0.now ++ []) (case 2
+        (⟦<Vec<Fact> as Archive>⟧.keys a0.now ++ []) (case 3
         (value (⟦<Vec<Fact> as Archive>⟧.meaning a0.now) no_value)) (S.state serializer.old)
         (S.state serializer.new)) }
 {
@@ -437,6 +493,10 @@ fn serialize_fact<S: Writer + Keys + ResolverAlloc>(
         },
         Fact::Outcome(a0) => match serialize_fact_outcome(a0, serializer) {
             Ok(kept) => Ok(FactResolver::Outcome(kept)),
+            Err(error) => Err(error),
+        },
+        Fact::Ranges(a0) => match serialize_fact_ranges(a0, serializer) {
+            Ok(kept) => Ok(FactResolver::Ranges(kept)),
             Err(error) => Err(error),
         },
         Fact::Facts(a0) => match serialize_fact_facts(a0, serializer) {
@@ -483,6 +543,24 @@ impl<S: Writer + Keys + ResolverAlloc> SerializeUnsized<S> for Fact {
     fn serialize_unsized(&self, serializer: &mut S) -> Result<usize, Error> {
         serialize_one(self, serializer)
     }
+}
+
+// Reads a part back.
+#[inline(always)]
+fn read_vec_pair_i32_u8_of_fact<D: Entries>(
+    alloc: Global,
+    part: RawView<'_>,
+    deserializer: &mut D,
+) -> Result<Vec<(i32, u8)>, Error>
+    requires { IsPartOf ⟦<ArchivedVec<ArchivedTuple2<ArchivedI32, u8>> as ArchivePointee>⟧ part }
+    ensures { ReadsAs ⟦<ArchivedVec<ArchivedTuple2<ArchivedI32, u8>> as ArchivePointee>⟧ part
+        D.Entries deserializer ⟦<Vec<(i32, u8)> as Archive>⟧ result }
+{
+    read_part::<ArchivedVec<ArchivedTuple2<ArchivedI32, u8>>, Vec<(i32, u8)>, D>(
+        alloc,
+        part,
+        deserializer,
+    )
 }
 
 // Reads a vector back.
@@ -554,9 +632,9 @@ fn read_fact_outcome<D: Entries>(
     Ok(Fact::Outcome(a0))
 }
 
-// Reads `Facts` back.
-#[cycle(read_fact)]
-fn read_fact_facts<D: Entries>(
+// Reads `Ranges` back.
+#[inline(always)]
+fn read_fact_ranges<D: Entries>(
     alloc: Global,
     part: RawView<'_>,
     deserializer: &mut D,
@@ -568,7 +646,28 @@ fn read_fact_facts<D: Entries>(
     ensures refused { IfErr result (RefusesPart ⟦<ArchivedFact as ArchivePointee>⟧ part D.Entries
         deserializer) }
 {
-    let p0 = part_of_variant::<ArchivedFact, ArchivedVec<ArchivedFact>>(part, 2, 0, 4);
+    let p0 = part_of_variant::<ArchivedFact, ArchivedVec<ArchivedTuple2<ArchivedI32, u8>>>(
+        part, 2, 0, 4,
+    );
+    let a0 = read_vec_pair_i32_u8_of_fact(alloc, p0, deserializer)?;
+    Ok(Fact::Ranges(a0))
+}
+
+// Reads `Facts` back.
+#[cycle(read_fact)]
+fn read_fact_facts<D: Entries>(
+    alloc: Global,
+    part: RawView<'_>,
+    deserializer: &mut D,
+) -> Result<Fact, Error>
+    requires viewed { IsPartOf ⟦<ArchivedFact as ArchivePointee>⟧ part }
+    requires tag { part_tag part ≡ 3 }
+    ensures read { IfOk result (Read ⟦<ArchivedFact as ArchivePointee>⟧ part D.Entries deserializer
+        ⟦<Fact as Archive>⟧) }
+    ensures refused { IfErr result (RefusesPart ⟦<ArchivedFact as ArchivePointee>⟧ part D.Entries
+        deserializer) }
+{
+    let p0 = part_of_variant::<ArchivedFact, ArchivedVec<ArchivedFact>>(part, 3, 0, 4);
     let a0 = read_vec_fact(alloc, p0, deserializer)?;
     Ok(Fact::Facts(a0))
 }
@@ -589,6 +688,7 @@ fn read_fact<D: Entries>(
     match tag_of_choice::<ArchivedFact>(part) {
         0 => read_fact_holds(alloc, part, deserializer),
         1 => read_fact_outcome(alloc, part, deserializer),
+        2 => read_fact_ranges(alloc, part, deserializer),
         _ => read_fact_facts(alloc, part, deserializer),
     }
 }
@@ -615,6 +715,8 @@ pub enum ViewOfFact<'a> {
     Holds(Ref<'a, bool>, Ref<'a, ()>),
     /// What came of something, or why nothing did.
     Outcome(Ref<'a, ArchivedResult<ArchivedU32, ArchivedString>>),
+    /// Where it holds: ranges, each by its least number and how many more it has.
+    Ranges(Ref<'a, ArchivedVec<ArchivedTuple2<ArchivedI32, u8>>>),
     /// All of these.
     Facts(Ref<'a, ArchivedVec<ArchivedFact>>),
 }
@@ -626,7 +728,7 @@ pub trait FactView<'a> {
 }
 
 impl<'a> FactView<'a> for Ref<'a, ArchivedFact> {
-    ghost use Rattle.recursive_fields.specs.declared.fact.ViewOfFact.TheVariants.{Facts as FactFactsShown, Holds as FactHoldsShown, Outcome as FactOutcomeShown};
+    ghost use Rattle.recursive_fields.specs.declared.fact.ViewOfFact.TheVariants.{Facts as FactFactsShown, Holds as FactHoldsShown, Outcome as FactOutcomeShown, Ranges as FactRangesShown};
 
     fn variant(self) -> ViewOfFact<'a>
         ensures shows { elim result [
@@ -638,7 +740,10 @@ impl<'a> FactView<'a> for Ref<'a, ArchivedFact> {
           | FactOutcomeShown a0 ↦ (tag_of self.entry ≡ 1) × (a0.bytes.now ≡ self.entry.bytes.now)
               × (a0.pos ≡ self.entry.pos + 4) × (a0.len ≡ 0)
               × ShowsValueOf a0 self.entry (payload_in 0)
-          | FactFactsShown a0 ↦ (tag_of self.entry ≡ 2) × (a0.bytes.now ≡ self.entry.bytes.now)
+          | FactRangesShown a0 ↦ (tag_of self.entry ≡ 2) × (a0.bytes.now ≡ self.entry.bytes.now)
+              × (a0.pos ≡ self.entry.pos + 4) × (a0.len ≡ 0)
+              × ShowsValueOf a0 self.entry (payload_in 0)
+          | FactFactsShown a0 ↦ (tag_of self.entry ≡ 3) × (a0.bytes.now ≡ self.entry.bytes.now)
               × (a0.pos ≡ self.entry.pos + 4) × (a0.len ≡ 0)
               × ShowsValueOf a0 self.entry (payload_in 0)
         ] }
@@ -656,8 +761,15 @@ impl<'a> FactView<'a> for Ref<'a, ArchivedFact> {
                 >(self, 1, 0, 4);
                 ViewOfFact::Outcome(a0)
             }
+            2 => {
+                let a0 = view_of_payload::<
+                    ArchivedFact,
+                    ArchivedVec<ArchivedTuple2<ArchivedI32, u8>>,
+                >(self, 2, 0, 4);
+                ViewOfFact::Ranges(a0)
+            }
             _ => {
-                let a0 = view_of_payload::<ArchivedFact, ArchivedVec<ArchivedFact>>(self, 2, 0, 4);
+                let a0 = view_of_payload::<ArchivedFact, ArchivedVec<ArchivedFact>>(self, 3, 0, 4);
                 ViewOfFact::Facts(a0)
             }
         }
@@ -687,10 +799,15 @@ pub trait FactSeal<'a> {
         requires come_to { sealed self }
         requires tag { tag self ≡ 1 };
 
+    /// The field `0` of `Ranges`.
+    fn ranges_0_mut(self) -> Seal<'a, ArchivedVec<ArchivedTuple2<ArchivedI32, u8>>>
+        requires come_to { sealed self }
+        requires tag { tag self ≡ 2 };
+
     /// The field `0` of `Facts`.
     fn facts_0_mut(self) -> Seal<'a, ArchivedVec<ArchivedFact>>
         requires come_to { sealed self }
-        requires tag { tag self ≡ 2 };
+        requires tag { tag self ≡ 3 };
 }
 
 impl<'a> FactSeal<'a> for Seal<'a, ArchivedFact> {
@@ -727,14 +844,25 @@ impl<'a> FactSeal<'a> for Seal<'a, ArchivedFact> {
         seal_of_payload::<ArchivedFact, ArchivedResult<ArchivedU32, ArchivedString>>(self, 1, 0, 4)
     }
 
-    fn facts_0_mut(self) -> Seal<'a, ArchivedVec<ArchivedFact>>
+    fn ranges_0_mut(self) -> Seal<'a, ArchivedVec<ArchivedTuple2<ArchivedI32, u8>>>
         requires come_to { IsSealOf fact_definitions (one ⟦<ArchivedFact as Portable>⟧.shape) self }
         requires tag { seal_tag self ≡ 2 }
+        ensures { SealsPart fact_definitions (one ⟦<ArchivedFact as Portable>⟧.shape)
+            (both no_definition (both no_definition no_definition))
+            ⟦<ArchivedVec<ArchivedTuple2<ArchivedI32, u8>> as ArchivePointee>⟧.pointee
+            (self.entry.pos + 4) 0 self.entry result }
+    {
+        seal_of_payload::<ArchivedFact, ArchivedVec<ArchivedTuple2<ArchivedI32, u8>>>(self, 2, 0, 4)
+    }
+
+    fn facts_0_mut(self) -> Seal<'a, ArchivedVec<ArchivedFact>>
+        requires come_to { IsSealOf fact_definitions (one ⟦<ArchivedFact as Portable>⟧.shape) self }
+        requires tag { seal_tag self ≡ 3 }
         ensures { SealsPart fact_definitions (one ⟦<ArchivedFact as Portable>⟧.shape)
             ⟦<ArchivedFact as ArchivePointee>⟧.definitions
             ⟦<ArchivedVec<ArchivedFact> as ArchivePointee>⟧.pointee (self.entry.pos + 4) 0
             self.entry result }
     {
-        seal_of_payload::<ArchivedFact, ArchivedVec<ArchivedFact>>(self, 2, 0, 4)
+        seal_of_payload::<ArchivedFact, ArchivedVec<ArchivedFact>>(self, 3, 0, 4)
     }
 }

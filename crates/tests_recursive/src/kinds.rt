@@ -65,16 +65,20 @@ fn assert_damaged<T: Portable>(
     assert_refused::<T>(rt, "a damaged archive", alloc, bytes.as_slice(), refusal);
 }
 
+fn outside(position: i128, size: usize, start: usize, end: usize) -> Error {
+    Error::InvalidSubtreePointer {
+        position,
+        size,
+        start,
+        end,
+    }
+}
+
 // The box of knot 4 leads into itself. Knot 2 was left before, so knots may lie behind its 12 bytes.
 #[test]
 fn a_box_that_leads_into_itself(rt: HostRuntime) {
-    let outside = Error::InvalidSubtreePointer {
-        position: 20,
-        size: 12,
-        start: 12,
-        end: 24,
-    };
-    assert_damaged::<ArchivedKnot>(&rt, rt.alloc(), KNOTS, 24, 0xfc, outside);
+    let refusal = outside(20, 12, 12, 24);
+    assert_damaged::<ArchivedKnot>(&rt, rt.alloc(), KNOTS, 24, 0xfc, refusal);
 }
 
 fn bush(alloc: Global, id: u32) -> Result<Bush, AllocError> {
@@ -110,15 +114,18 @@ fn options_in_a_vector(rt: HostRuntime) {
 
 fn facts(alloc: Global) -> Result<Fact, AllocError> {
     let reason = String::from_str(alloc, "no")?;
+    let ranges = vec![in alloc; (-2, 7), (258, 1)]?;
     let mut facts = Vec::new(alloc);
     facts.push(Fact::Holds(true, ()))?;
     facts.push(Fact::Outcome(Err(reason)))?;
+    facts.push(Fact::Ranges(ranges))?;
     Ok(Fact::Facts(facts))
 }
 
-// The two facts at 0, and both of them at 32. Of the 16 bytes of a fact the first is its tag; what it holds lies at 4, except that it holds, at 1.
+// The two ranges at 0, the three facts at 16, and all of them at 64. Of the 16 bytes of a fact the first is its tag; what it holds lies at 4, except that it
+// holds, at 1. A range is two numbers.
 const FACTS: &[u8] =
-    b"\0\x01\0\0\0\0\0\0\0\0\0\0\0\0\0\0\x01\0\0\0\x01\0\0\0no\xff\xff\xff\xff\xff\xff\x02\0\0\0\xdc\xff\xff\xff\x02\0\0\0\0\0\0\0";
+    b"\xfe\xff\xff\xff\x07\0\0\0\x02\x01\0\0\x01\0\0\0\0\x01\0\0\0\0\0\0\0\0\0\0\0\0\0\0\x01\0\0\0\x01\0\0\0no\xff\xff\xff\xff\xff\xff\x02\0\0\0\xcc\xff\xff\xff\x02\0\0\0\0\0\0\0\x03\0\0\0\xcc\xff\xff\xff\x03\0\0\0\0\0\0\0";
 
 #[test]
 fn facts_of_many_kinds(rt: HostRuntime) {
@@ -135,13 +142,14 @@ fn assert_damaged_facts(rt: &impl Abort, alloc: Global, at: usize, byte: u8, ref
     assert_damaged::<ArchivedFact>(rt, alloc, FACTS, at, byte, refusal);
 }
 
-// Each variant, by a byte that it may not have.
+// Each variant, by a byte that it may not have: of the ranges, more than there are.
 #[test]
 fn damaged_facts(rt: HostRuntime) {
     let alloc = rt.alloc();
-    assert_damaged_facts(&rt, alloc, 1, 2, Error::InvalidBool);
-    assert_damaged_facts(&rt, alloc, 20, 2, tag_of_none("ArchivedResult", 2));
-    assert_damaged_facts(&rt, alloc, 32, 3, tag_of_none("ArchivedFact", 3));
+    assert_damaged_facts(&rt, alloc, 17, 2, Error::InvalidBool);
+    assert_damaged_facts(&rt, alloc, 36, 2, tag_of_none("ArchivedResult", 2));
+    assert_damaged_facts(&rt, alloc, 56, 9, outside(0, 72, 0, 16));
+    assert_damaged_facts(&rt, alloc, 64, 4, tag_of_none("ArchivedFact", 4));
 }
 
 fn texts(alloc: Global) -> Result<Note, AllocError> {
@@ -181,12 +189,7 @@ fn assert_damaged_notes(rt: &impl Abort, alloc: Global, at: usize, byte: u8, ref
 
 // A number where the hours end and the notes begin, at 40.
 fn number_elsewhere(position: i128) -> Error {
-    Error::InvalidSubtreePointer {
-        position,
-        size: 4,
-        start: 40,
-        end: 44,
-    }
+    outside(position, 4, 40, 44)
 }
 
 #[test]

@@ -15,5 +15,3 @@ mod holders;
 mod kinds;
 #[cfg(test)]
 mod long;
-#[cfg(test)]
-mod tuples;

@@ -26,7 +26,7 @@ pub read_vec_fact-returns-clause-read : goal.read_vec_fact-returns-clause-read
 read_vec_fact-returns-clause-read g t c = (let kept = c.loop-index.invariant in let b = c.before_vec-list.result.bytes.now in let q = c.before_vec-list.result.pos in let n = c.before_vec-list.result.len in let whole : length c.loop-index.items.items ≡ n = omega (arith, kept.0, c.loop-index-test.false, c.loop-index.auto.index-end, c.len-index-end.ensures) in let r = elements_all fact_definitions fact_shape fact_layout fact_has_layout b q (run fact_shape) n n (all_have fact_definitions fact_shape fact_layout fact_has_layout b q n (run fact_shape) n (inl (refl, refl))) fact_meaning fact_keys (g.D.Entries.entry_of c.args.deserializer.now) (g.D.Entries.entry_of c.loop-index.deserializer) c.loop-index.items.items whole (kept.3) in vec_read fact_definitions c.args.part.bytes.now c.args.part.pos c.args.part.len fact_shape _ _ _ _ c.requires (rw (c.before_vec-list.ensures.buffer, c.before_vec-list.ensures.position, c.before_vec-list.ensures.length, c.at-view.ensures.buffer, c.at-view.ensures.position) at r))
 
 pub read_fact_facts-returns-in_err-a0-clause-refused : goal.read_fact_facts-returns-in_err-a0-clause-refused
-read_fact_facts-returns-in_err-a0-clause-refused g t c = err_by c.from_residual.result c.in_err-a0.field-0.0 _ c.from_residual.ensures.1 (variant_refuses fact_definitions fact_shape fact_name fact_variant_definitions fact_variants fact_has_variants 2 fact_facts_parts refl fact_facts_definitions refl _ _ _ c.requires.tag _ _ (first_refuses fact_definitions no_definition (vec fact_shape) (record { size = 8; align = 4 }) (record { solved = λ s k. refl }) no_part _ _ 1 _ _ (rw (c.part_of_variant-p0.ensures.buffer, c.part_of_variant-p0.ensures.position, c.part_of_variant-p0.ensures.length) at c.in_err-a0.ensures.refused)))
+read_fact_facts-returns-in_err-a0-clause-refused g t c = err_by c.from_residual.result c.in_err-a0.field-0.0 _ c.from_residual.ensures.1 (variant_refuses fact_definitions fact_shape fact_name fact_variant_definitions fact_variants fact_has_variants 3 fact_facts_parts refl fact_facts_definitions refl _ _ _ c.requires.tag _ _ (first_refuses fact_definitions no_definition (vec fact_shape) (record { size = 8; align = 4 }) (record { solved = λ s k. refl }) no_part _ _ 1 _ _ (rw (c.part_of_variant-p0.ensures.buffer, c.part_of_variant-p0.ensures.position, c.part_of_variant-p0.ensures.length) at c.in_err-a0.ensures.refused)))
 
 pub read_fact_facts-returns-clause-read : goal.read_fact_facts-returns-clause-read
-read_fact_facts-returns-clause-read g t c = read_as (fact_facts_has_keys c.in_ok-a0.a0) (fact_facts_means c.in_ok-a0.a0) (variant_read_back fact_definitions fact_shape fact_name fact_variant_definitions fact_variants fact_has_variants 2 fact_facts_parts refl fact_facts_definitions refl _ _ _ c.requires.tag _ _ _ _ (part_read_back {L = (record { size = 8; align = 4 })} {ks = (each_keys fact_keys c.in_ok-a0.a0.items)} {ls = []} (record { solved = λ s k. refl }) (rw (c.part_of_variant-p0.ensures.buffer, c.part_of_variant-p0.ensures.position, c.part_of_variant-p0.ensures.length) at c.in_ok-a0.ensures.read) no_part_read_back))
+read_fact_facts-returns-clause-read g t c = read_as (fact_facts_has_keys c.in_ok-a0.a0) (fact_facts_means c.in_ok-a0.a0) (variant_read_back fact_definitions fact_shape fact_name fact_variant_definitions fact_variants fact_has_variants 3 fact_facts_parts refl fact_facts_definitions refl _ _ _ c.requires.tag _ _ _ _ (part_read_back {L = (record { size = 8; align = 4 })} {ks = (each_keys fact_keys c.in_ok-a0.a0.items)} {ls = []} (record { solved = λ s k. refl }) (rw (c.part_of_variant-p0.ensures.buffer, c.part_of_variant-p0.ensures.position, c.part_of_variant-p0.ensures.length) at c.in_ok-a0.ensures.read) no_part_read_back))

@@ -14,7 +14,7 @@ use Rattle.archive_core.specs.PlannedOwners.{each_planned}
 use Rattle.archive_core.specs.Runs.{each_keys, each_meaning}
 use Rattle.archive_core.specs.Shape.{vec, no_part}
 use Rattle.archive_core.specs.Value.{list, value, no_value}
-use Rattle.recursive_fields.specs.FactMeaning.{fact_meaning, fact_keys, fact_planned, fact_holds_means, fact_holds_has_keys, fact_holds_opens, fact_outcome_means, fact_outcome_has_keys, fact_outcome_opens, fact_facts_means, fact_facts_has_keys, fact_facts_opens}
+use Rattle.recursive_fields.specs.FactMeaning.{fact_meaning, fact_keys, fact_planned, fact_holds_means, fact_holds_has_keys, fact_holds_opens, fact_outcome_means, fact_outcome_has_keys, fact_outcome_opens, fact_ranges_means, fact_ranges_has_keys, fact_ranges_opens, fact_facts_means, fact_facts_has_keys, fact_facts_opens}
 use Rattle.recursive_fields.specs.FactShape.{fact_name, fact_shape, fact_definitions, fact_variants, fact_variant_definitions, fact_has_variants, fact_facts_parts, fact_facts_definitions}
 use Rattle.std.proofs.Common.{◌≡◌, ◌<◌, [], length, refl, arith}
 use Rattle.std.proofs.Math.ListN.{drop_of_length-le}
@@ -65,10 +65,10 @@ pub serialize_vec_fact-returns-in-Err-serialize_inner_slice-clause-refused : goa
 serialize_vec_fact-returns-in-Err-serialize_inner_slice-clause-refused g t c = (rw c.as_slice-items.ensures.value at c.in-Err-serialize_inner_slice.ensures.refused).since _ c.serialize_each_fact.ensures.goes_on (rw c.as_slice-items.ensures.value at c.in-Ok.ensures.serialized)
 
 pub serialize_fact_facts-returns-in-Err-clause-refused : goal.serialize_fact_facts-returns-in-Err-clause-refused
-serialize_fact_facts-returns-in-Err-clause-refused g t c = (variant_refused fact_definitions fact_shape fact_name fact_variant_definitions fact_variants fact_has_variants 2 fact_facts_parts refl fact_facts_definitions refl _ _ _ _ _ (first_refused fact_definitions no_definition (vec fact_shape) no_part (each_keys fact_keys c.args.a0.now.items) [] (list (each_meaning fact_meaning c.args.a0.now.items)) no_value _ _ _ no_part_planned c.in-Err.ensures.refused))
+serialize_fact_facts-returns-in-Err-clause-refused g t c = (variant_refused fact_definitions fact_shape fact_name fact_variant_definitions fact_variants fact_has_variants 3 fact_facts_parts refl fact_facts_definitions refl _ _ _ _ _ (first_refused fact_definitions no_definition (vec fact_shape) no_part (each_keys fact_keys c.args.a0.now.items) [] (list (each_meaning fact_meaning c.args.a0.now.items)) no_value _ _ _ no_part_planned c.in-Err.ensures.refused))
 
 pub serialize_fact_facts-returns-clause-serialized : goal.serialize_fact_facts-returns-clause-serialized
-serialize_fact_facts-returns-clause-serialized g t c = (serialized_variant fact_definitions fact_shape fact_name fact_variant_definitions fact_variants fact_has_variants 2 fact_facts_parts refl fact_facts_definitions refl _ _ _ _ _ (serialized_part fact_definitions no_definition (vec fact_shape) no_part (each_keys fact_keys c.args.a0.now.items) [] (list (each_meaning fact_meaning c.args.a0.now.items)) no_value _ _ _ _ _ c.in-Ok.ensures.serialized (serialized_no_part no_definition _)))
+serialize_fact_facts-returns-clause-serialized g t c = (serialized_variant fact_definitions fact_shape fact_name fact_variant_definitions fact_variants fact_has_variants 3 fact_facts_parts refl fact_facts_definitions refl _ _ _ _ _ (serialized_part fact_definitions no_definition (vec fact_shape) no_part (each_keys fact_keys c.args.a0.now.items) [] (list (each_meaning fact_meaning c.args.a0.now.items)) no_value _ _ _ _ _ c.in-Ok.ensures.serialized (serialized_no_part no_definition _)))
 
 pub serialize_fact-returns-in-Ok-clause-serialized : goal.serialize_fact-returns-in-Ok-clause-serialized
 serialize_fact-returns-in-Ok-clause-serialized g t c = rw c.in-Holds.is (written_as (fact_holds_has_keys c.in-Holds.a0 c.in-Holds.a1) (fact_holds_means c.in-Holds.a0 c.in-Holds.a1) (rw (fact_holds_opens c.in-Holds.a0 c.in-Holds.a1) refl) c.in-Ok.ensures.serialized)
@@ -87,6 +87,15 @@ serialize_fact-returns-in-Ok-serialize_fact_outcome-clause-same_value g t c = rw
 
 pub serialize_fact-returns-in-Err-serialize_fact_outcome-clause-refused : goal.serialize_fact-returns-in-Err-serialize_fact_outcome-clause-refused
 serialize_fact-returns-in-Err-serialize_fact_outcome-clause-refused g t c = rw c.in-Outcome.is (refused_as (fact_outcome_has_keys c.in-Outcome.a0) (fact_outcome_means c.in-Outcome.a0) c.in-Err-serialize_fact_outcome.ensures.refused)
+
+pub serialize_fact-returns-in-Ok-serialize_fact_ranges-clause-serialized : goal.serialize_fact-returns-in-Ok-serialize_fact_ranges-clause-serialized
+serialize_fact-returns-in-Ok-serialize_fact_ranges-clause-serialized g t c = rw c.in-Ranges.is (written_as (fact_ranges_has_keys c.in-Ranges.a0) (fact_ranges_means c.in-Ranges.a0) (rw (fact_ranges_opens c.in-Ranges.a0) refl) c.in-Ok-serialize_fact_ranges.ensures.serialized)
+
+pub serialize_fact-returns-in-Ok-serialize_fact_ranges-clause-same_value : goal.serialize_fact-returns-in-Ok-serialize_fact_ranges-clause-same_value
+serialize_fact-returns-in-Ok-serialize_fact_ranges-clause-same_value g t c = rw (c.in-Ranges.is, fact_ranges_opens c.in-Ranges.a0) c.in-Ok-serialize_fact_ranges.ensures.same_values
+
+pub serialize_fact-returns-in-Err-serialize_fact_ranges-clause-refused : goal.serialize_fact-returns-in-Err-serialize_fact_ranges-clause-refused
+serialize_fact-returns-in-Err-serialize_fact_ranges-clause-refused g t c = rw c.in-Ranges.is (refused_as (fact_ranges_has_keys c.in-Ranges.a0) (fact_ranges_means c.in-Ranges.a0) c.in-Err-serialize_fact_ranges.ensures.refused)
 
 pub serialize_fact-returns-in-Ok-serialize_fact_facts-clause-serialized : goal.serialize_fact-returns-in-Ok-serialize_fact_facts-clause-serialized
 serialize_fact-returns-in-Ok-serialize_fact_facts-clause-serialized g t c = rw c.in-Facts.is (written_as (fact_facts_has_keys c.in-Facts.a0) (fact_facts_means c.in-Facts.a0) (rw (fact_facts_opens c.in-Facts.a0) refl) c.in-Ok-serialize_fact_facts.ensures.serialized)

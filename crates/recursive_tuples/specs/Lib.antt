@@ -1,2 +1,0 @@
-pub mod SettingMeaning
-pub mod SettingShape
