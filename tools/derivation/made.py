@@ -49,7 +49,7 @@ fn {self.name}(values: {self.owned}) -> {self.of}
     def answers(self, dotted):
         """The proof that it means what the values do, where that needs one: the check doesn't see that a signed number is what its bits are."""
         signed = [
-            (f"w{8 * self.formats.layout(type)[0]}", f"c.args.values{place}")
+            (f"w{64 if type.name == 'isize' else 8 * self.formats.layout(type)[0]}", f"c.args.values{place}")
             for place, type in zip(self.places, self.types)
             if type.name in SIGNED and type.own is None
         ]

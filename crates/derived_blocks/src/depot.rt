@@ -1,4 +1,7 @@
-//! An enum with two variants of nine fields.
+//! An enum with variants of sixteen fields and of nine.
+
+use archive_core::primitive::NonZero;
+use derived_types::spot::Spot;
 
 /// What a depot tells.
 #[derive(Debug, PartialEq, Drop)]
@@ -9,24 +12,38 @@ pub enum Depot {
     Held(u8, u8, u8, u8, u8, u8, u8, u8, i16),
     /// What was sent.
     Sent {
-        /// Its number.
-        number: u8,
-        /// The row in which it lay.
-        row: u8,
-        /// The shelf.
-        shelf: u8,
-        /// The place.
-        place: u8,
-        /// The letter on it.
-        letter: char,
-        /// How high it was.
-        height: u8,
-        /// How wide.
-        width: u8,
-        /// Whether it was open.
-        is_open: bool,
+        /// Its number, which isn't 0.
+        number: NonZero<u32>,
         /// Who took it.
         to: String,
+        /// What its parts weigh.
+        weights: Vec<u16>,
+        /// What it costs, if that is known.
+        price: Option<u32>,
+        /// The number of the one that it replaced.
+        other: Box<i16>,
+        /// Where it lay.
+        spot: Spot,
+        /// How many parts it has.
+        size: usize,
+        /// How far it goes.
+        distance: isize,
+        /// The letter on it.
+        letter: char,
+        /// Whether it was open.
+        is_open: bool,
+        /// What was said of it.
+        nothing: (),
+        /// A number of 128 bits.
+        wide: i128,
+        /// When it was sent, in seconds.
+        seconds: u64,
+        /// How warm it was, in tenths of a degree.
+        warmth: i16,
+        /// The row in which it lay.
+        row: u8,
+        /// What is noted of it.
+        notes: Vec<String>,
     },
 }
 
@@ -34,30 +51,36 @@ pub enum Depot {
 
 ghost use Rattle.archive_core.specs.CallOutcomes.{ResolvesAs};
 ghost use Rattle.archive_core.specs.Definitions.{both, no_definition};
-ghost use Rattle.archive_core.specs.Keyed.{case_keyed, nothing_keyed, number_keyed, part_keyed, text_keyed};
+ghost use Rattle.archive_core.specs.Keyed.{box_keyed, case_keyed, each_keyed, nothing_keyed, number_keyed, part_keyed, text_keyed};
 ghost use Rattle.archive_core.specs.LeafLayout.{no_definition_reached};
+ghost use Rattle.archive_core.specs.Options.{option_keyed, option_planned};
 ghost use Rattle.archive_core.specs.PartsPlanned.{no_part_planned, part_planned};
 ghost use Rattle.archive_core.specs.Payloads.{payload_in};
 ghost use Rattle.archive_core.specs.Plain.{plain_choice, plain_own_check, plain_variant_planned};
 ghost use Rattle.archive_core.specs.Planned.{leaf_planned, string_planned};
-ghost use Rattle.archive_core.specs.PlannedOwners.{one_planned};
+ghost use Rattle.archive_core.specs.PlannedOwners.{boxed_one_planned, one_planned, slice_planned, vec_planned};
 ghost use Rattle.archive_core.specs.SealsWritten.{IsSealOf, SealsPart, seal_tag};
 ghost use Rattle.archive_core.specs.Seen.{IsPartOf, ShowsValueOf, tag_of};
-ghost use Rattle.archive_core.specs.Shape.{choice, no_part, no_variant, one, part, variant};
+ghost use Rattle.archive_core.specs.Shape.{choice, no_part, no_variant, one, part, parts, variant};
 ghost use Rattle.archive_core.specs.Sources.{ReadsAs};
 ghost use Rattle.archive_core.specs.Value.{case, no_value, value};
 ghost use Rattle.archive_core.specs.Writing.{ZeroedPlace};
 ghost use Rattle.std.proofs.Common.{inl, inr, lit≤};
 ghost use Rattle.std.specs.Prelude.{None, [], codes, refl, string_bytes, true, ℕ, ◌++◌, ◌+◌, ◌≡◌};
 
+use archive_core::boxed::ArchivedBox;
 use archive_core::error::Error;
 use archive_core::fields::{
     known_tag, part_in_case, read_case, resolve_case, resolve_case_0, serialize_case,
     serialize_case_0, tag_in,
 };
+use archive_core::option::ArchivedOption;
 use archive_core::own::{Field, HasField};
 use archive_core::place::Place;
-use archive_core::primitive::{ArchivedChar, ArchivedI16};
+use archive_core::primitive::{
+    ArchivedChar, ArchivedI16, ArchivedI128, ArchivedIsize, ArchivedU16, ArchivedU32, ArchivedU64,
+    ArchivedUsize,
+};
 use archive_core::seal::{Seal, sealed_part_in_case};
 use archive_core::self_check::{SelfCheck, check_choice};
 use archive_core::ser::{ResolverAlloc, Writer, serialize_one};
@@ -68,10 +91,12 @@ use archive_core::traits::{
     FourParts, Keys, Portable, Serialize, SerializeUnsized, expr_of_choice,
 };
 use archive_core::validation::ArchiveContext;
+use archive_core::vec::ArchivedVec;
 use archive_core::view::{RawView, Ref};
+use derived_types::spot::ArchivedSpot;
 use std::alloc::Global;
 
-/// An archived `Depot`: 24 bytes at a multiple of 4.
+/// An archived `Depot`: 112 bytes at a multiple of 16.
 pub struct ArchivedDepot;
 
 type DepotHeldParts = FourParts<u8, u8, u8, u8, FourParts<u8, u8, u8, u8, (ArchivedI16, ())>>;
@@ -79,14 +104,38 @@ type DepotHeldParts = FourParts<u8, u8, u8, u8, FourParts<u8, u8, u8, u8, (Archi
 type DepotHeldOwned = FourParts<u8, u8, u8, u8, FourParts<u8, u8, u8, u8, (i16, ())>>;
 
 type DepotSentParts = FourParts<
-    u8,
-    u8,
-    u8,
-    u8,
-    FourParts<ArchivedChar, u8, u8, bool, (ArchivedString, ())>,
+    NonZero<u32>,
+    ArchivedString,
+    ArchivedVec<ArchivedU16>,
+    ArchivedOption<ArchivedU32>,
+    FourParts<
+        ArchivedBox<ArchivedI16>,
+        ArchivedSpot,
+        ArchivedUsize,
+        ArchivedIsize,
+        FourParts<
+            ArchivedChar,
+            bool,
+            (),
+            ArchivedI128,
+            FourParts<ArchivedU64, ArchivedI16, u8, ArchivedVec<ArchivedString>, ()>,
+        >,
+    >,
 >;
 
-type DepotSentOwned = FourParts<u8, u8, u8, u8, FourParts<char, u8, u8, bool, (String, ())>>;
+type DepotSentOwned = FourParts<
+    NonZero<u32>,
+    String,
+    Vec<u16>,
+    Option<u32>,
+    FourParts<
+        Box<i16>,
+        Spot,
+        usize,
+        isize,
+        FourParts<char, bool, (), i128, FourParts<u64, i16, u8, Vec<String>, ()>>,
+    >,
+>;
 
 type DepotVariants = ((), (DepotHeldParts, (DepotSentParts, ())));
 
@@ -188,95 +237,170 @@ impl HasField<8, i16> for DepotHeldLent<'_> {
 // The fields of `Depot::Sent`, lent.
 #[derive(Drop)]
 struct DepotSentLent<'a> {
-    a0: &'a u8,
-    a1: &'a u8,
-    a2: &'a u8,
-    a3: &'a u8,
-    a4: &'a char,
-    a5: &'a u8,
-    a6: &'a u8,
-    a7: &'a bool,
-    a8: &'a String,
+    a0: &'a NonZero<u32>,
+    a1: &'a String,
+    a2: &'a Vec<u16>,
+    a3: &'a Option<u32>,
+    a4: &'a Box<i16>,
+    a5: &'a Spot,
+    a6: &'a usize,
+    a7: &'a isize,
+    a8: &'a char,
+    a9: &'a bool,
+    a10: &'a (),
+    a11: &'a i128,
+    a12: &'a u64,
+    a13: &'a i16,
+    a14: &'a u8,
+    a15: &'a Vec<String>,
 }
 
 // The fields as sources.
 type DepotSentFields = FourParts<
-    Field<0, u8>,
-    Field<1, u8>,
-    Field<2, u8>,
-    Field<3, u8>,
-    FourParts<Field<4, char>, Field<5, u8>, Field<6, u8>, Field<7, bool>, (Field<8, String>, ())>,
+    Field<0, NonZero<u32>>,
+    Field<1, String>,
+    Field<2, Vec<u16>>,
+    Field<3, Option<u32>>,
+    FourParts<
+        Field<4, Box<i16>>,
+        Field<5, Spot>,
+        Field<6, usize>,
+        Field<7, isize>,
+        FourParts<
+            Field<8, char>,
+            Field<9, bool>,
+            Field<10, ()>,
+            Field<11, i128>,
+            FourParts<Field<12, u64>, Field<13, i16>, Field<14, u8>, Field<15, Vec<String>>, ()>,
+        >,
+    >,
 >;
 
-impl HasField<0, u8> for DepotSentLent<'_> {
+impl HasField<0, NonZero<u32>> for DepotSentLent<'_> {
     ghost field = { λ v. v.a0.now };
 
-    fn field(&self) -> &u8 {
+    fn field(&self) -> &NonZero<u32> {
         self.a0
     }
 }
 
-impl HasField<1, u8> for DepotSentLent<'_> {
+impl HasField<1, String> for DepotSentLent<'_> {
     ghost field = { λ v. v.a1.now };
 
-    fn field(&self) -> &u8 {
+    fn field(&self) -> &String {
         self.a1
     }
 }
 
-impl HasField<2, u8> for DepotSentLent<'_> {
+impl HasField<2, Vec<u16>> for DepotSentLent<'_> {
     ghost field = { λ v. v.a2.now };
 
-    fn field(&self) -> &u8 {
+    fn field(&self) -> &Vec<u16> {
         self.a2
     }
 }
 
-impl HasField<3, u8> for DepotSentLent<'_> {
+impl HasField<3, Option<u32>> for DepotSentLent<'_> {
     ghost field = { λ v. v.a3.now };
 
-    fn field(&self) -> &u8 {
+    fn field(&self) -> &Option<u32> {
         self.a3
     }
 }
 
-impl HasField<4, char> for DepotSentLent<'_> {
+impl HasField<4, Box<i16>> for DepotSentLent<'_> {
     ghost field = { λ v. v.a4.now };
 
-    fn field(&self) -> &char {
+    fn field(&self) -> &Box<i16> {
         self.a4
     }
 }
 
-impl HasField<5, u8> for DepotSentLent<'_> {
+impl HasField<5, Spot> for DepotSentLent<'_> {
     ghost field = { λ v. v.a5.now };
 
-    fn field(&self) -> &u8 {
+    fn field(&self) -> &Spot {
         self.a5
     }
 }
 
-impl HasField<6, u8> for DepotSentLent<'_> {
+impl HasField<6, usize> for DepotSentLent<'_> {
     ghost field = { λ v. v.a6.now };
 
-    fn field(&self) -> &u8 {
+    fn field(&self) -> &usize {
         self.a6
     }
 }
 
-impl HasField<7, bool> for DepotSentLent<'_> {
+impl HasField<7, isize> for DepotSentLent<'_> {
     ghost field = { λ v. v.a7.now };
 
-    fn field(&self) -> &bool {
+    fn field(&self) -> &isize {
         self.a7
     }
 }
 
-impl HasField<8, String> for DepotSentLent<'_> {
+impl HasField<8, char> for DepotSentLent<'_> {
     ghost field = { λ v. v.a8.now };
 
-    fn field(&self) -> &String {
+    fn field(&self) -> &char {
         self.a8
+    }
+}
+
+impl HasField<9, bool> for DepotSentLent<'_> {
+    ghost field = { λ v. v.a9.now };
+
+    fn field(&self) -> &bool {
+        self.a9
+    }
+}
+
+impl HasField<10, ()> for DepotSentLent<'_> {
+    ghost field = { λ v. v.a10.now };
+
+    fn field(&self) -> &() {
+        self.a10
+    }
+}
+
+impl HasField<11, i128> for DepotSentLent<'_> {
+    ghost field = { λ v. v.a11.now };
+
+    fn field(&self) -> &i128 {
+        self.a11
+    }
+}
+
+impl HasField<12, u64> for DepotSentLent<'_> {
+    ghost field = { λ v. v.a12.now };
+
+    fn field(&self) -> &u64 {
+        self.a12
+    }
+}
+
+impl HasField<13, i16> for DepotSentLent<'_> {
+    ghost field = { λ v. v.a13.now };
+
+    fn field(&self) -> &i16 {
+        self.a13
+    }
+}
+
+impl HasField<14, u8> for DepotSentLent<'_> {
+    ghost field = { λ v. v.a14.now };
+
+    fn field(&self) -> &u8 {
+        self.a14
+    }
+}
+
+impl HasField<15, Vec<String>> for DepotSentLent<'_> {
+    ghost field = { λ v. v.a15.now };
+
+    fn field(&self) -> &Vec<String> {
+        self.a15
     }
 }
 
@@ -289,11 +413,18 @@ impl ArchivePointee for ArchivedDepot {
         (part ⟦<u8 as Portable>⟧.shape (part ⟦<u8 as Portable>⟧.shape
         (part ⟦<u8 as Portable>⟧.shape (part ⟦<u8 as Portable>⟧.shape
         (part ⟦<u8 as Portable>⟧.shape (part ⟦<ArchivedI16 as Portable>⟧.shape no_part)))))))))
-        (variant (part ⟦<u8 as Portable>⟧.shape (part ⟦<u8 as Portable>⟧.shape
-        (part ⟦<u8 as Portable>⟧.shape (part ⟦<u8 as Portable>⟧.shape
-        (part ⟦<ArchivedChar as Portable>⟧.shape (part ⟦<u8 as Portable>⟧.shape
-        (part ⟦<u8 as Portable>⟧.shape (part ⟦<bool as Portable>⟧.shape
-        (part ⟦<ArchivedString as Portable>⟧.shape no_part))))))))) no_variant)))) };
+        (variant (part ⟦<NonZero<u32> as Portable>⟧.shape
+        (part ⟦<ArchivedString as Portable>⟧.shape (part
+        ⟦<ArchivedVec<ArchivedU16> as Portable>⟧.shape (part
+        ⟦<ArchivedOption<ArchivedU32> as Portable>⟧.shape
+        (part ⟦<ArchivedBox<ArchivedI16> as Portable>⟧.shape
+        (part ⟦<ArchivedSpot as Portable>⟧.shape (part ⟦<ArchivedUsize as Portable>⟧.shape
+        (part ⟦<ArchivedIsize as Portable>⟧.shape (part ⟦<ArchivedChar as Portable>⟧.shape
+        (part ⟦<bool as Portable>⟧.shape (part ⟦<() as Portable>⟧.shape
+        (part ⟦<ArchivedI128 as Portable>⟧.shape (part ⟦<ArchivedU64 as Portable>⟧.shape
+        (part ⟦<ArchivedI16 as Portable>⟧.shape (part ⟦<u8 as Portable>⟧.shape
+        (part ⟦<ArchivedVec<ArchivedString> as Portable>⟧.shape no_part))))))))))))))))
+        no_variant)))) };
 
     ghost definitions = { no_definition };
 
@@ -311,19 +442,26 @@ impl Portable for ArchivedDepot {
         (part ⟦<u8 as Portable>⟧.shape (part ⟦<u8 as Portable>⟧.shape
         (part ⟦<u8 as Portable>⟧.shape (part ⟦<u8 as Portable>⟧.shape
         (part ⟦<ArchivedI16 as Portable>⟧.shape no_part)))))))))
-        (variant (part ⟦<u8 as Portable>⟧.shape (part ⟦<u8 as Portable>⟧.shape
-        (part ⟦<u8 as Portable>⟧.shape (part ⟦<u8 as Portable>⟧.shape
-        (part ⟦<ArchivedChar as Portable>⟧.shape (part ⟦<u8 as Portable>⟧.shape
-        (part ⟦<u8 as Portable>⟧.shape (part ⟦<bool as Portable>⟧.shape
-        (part ⟦<ArchivedString as Portable>⟧.shape no_part))))))))) no_variant))) };
+        (variant (part ⟦<NonZero<u32> as Portable>⟧.shape
+        (part ⟦<ArchivedString as Portable>⟧.shape (part
+        ⟦<ArchivedVec<ArchivedU16> as Portable>⟧.shape (part
+        ⟦<ArchivedOption<ArchivedU32> as Portable>⟧.shape
+        (part ⟦<ArchivedBox<ArchivedI16> as Portable>⟧.shape
+        (part ⟦<ArchivedSpot as Portable>⟧.shape (part ⟦<ArchivedUsize as Portable>⟧.shape
+        (part ⟦<ArchivedIsize as Portable>⟧.shape (part ⟦<ArchivedChar as Portable>⟧.shape
+        (part ⟦<bool as Portable>⟧.shape (part ⟦<() as Portable>⟧.shape
+        (part ⟦<ArchivedI128 as Portable>⟧.shape (part ⟦<ArchivedU64 as Portable>⟧.shape
+        (part ⟦<ArchivedI16 as Portable>⟧.shape (part ⟦<u8 as Portable>⟧.shape
+        (part ⟦<ArchivedVec<ArchivedString> as Portable>⟧.shape no_part))))))))))))))))
+        no_variant))) };
 
-    ghost layout = { record { size = 24; align = 4 } };
+    ghost layout = { record { size = 112; align = 16 } };
 
     type Check = ArchivedDepot;
 
     ghost is_one = { refl };
 
-    ghost is_align = { inr (inr (inl refl)) };
+    ghost is_align = { inr (inr (inr (inr (inl refl)))) };
 
     ghost has_layout = { record { solved = λ s k. refl } };
 
@@ -333,20 +471,27 @@ impl Portable for ArchivedDepot {
         (part ⟦<u8 as Portable>⟧.shape (part ⟦<u8 as Portable>⟧.shape
         (part ⟦<u8 as Portable>⟧.shape (part ⟦<u8 as Portable>⟧.shape
         (part ⟦<u8 as Portable>⟧.shape (part ⟦<ArchivedI16 as Portable>⟧.shape no_part)))))))))
-        (variant (part ⟦<u8 as Portable>⟧.shape (part ⟦<u8 as Portable>⟧.shape
-        (part ⟦<u8 as Portable>⟧.shape (part ⟦<u8 as Portable>⟧.shape
-        (part ⟦<ArchivedChar as Portable>⟧.shape (part ⟦<u8 as Portable>⟧.shape
-        (part ⟦<u8 as Portable>⟧.shape (part ⟦<bool as Portable>⟧.shape
-        (part ⟦<ArchivedString as Portable>⟧.shape no_part))))))))) no_variant)))) };
+        (variant (part ⟦<NonZero<u32> as Portable>⟧.shape
+        (part ⟦<ArchivedString as Portable>⟧.shape (part
+        ⟦<ArchivedVec<ArchivedU16> as Portable>⟧.shape (part
+        ⟦<ArchivedOption<ArchivedU32> as Portable>⟧.shape
+        (part ⟦<ArchivedBox<ArchivedI16> as Portable>⟧.shape
+        (part ⟦<ArchivedSpot as Portable>⟧.shape (part ⟦<ArchivedUsize as Portable>⟧.shape
+        (part ⟦<ArchivedIsize as Portable>⟧.shape (part ⟦<ArchivedChar as Portable>⟧.shape
+        (part ⟦<bool as Portable>⟧.shape (part ⟦<() as Portable>⟧.shape
+        (part ⟦<ArchivedI128 as Portable>⟧.shape (part ⟦<ArchivedU64 as Portable>⟧.shape
+        (part ⟦<ArchivedI16 as Portable>⟧.shape (part ⟦<u8 as Portable>⟧.shape
+        (part ⟦<ArchivedVec<ArchivedString> as Portable>⟧.shape no_part))))))))))))))))
+        no_variant)))) };
 
     ghost checks = { λ _. plain_own_check _ _ _ _ _ refl refl refl refl };
 
     fn size() -> usize {
-        24
+        112
     }
 
     fn align() -> usize {
-        4
+        16
     }
 
     fn expr(alloc: Global) -> Result<archive_core::shape::Expr, Error> {
@@ -365,11 +510,18 @@ impl SelfCheck for ArchivedDepot {
         (part ⟦<u8 as Portable>⟧.shape (part ⟦<u8 as Portable>⟧.shape
         (part ⟦<u8 as Portable>⟧.shape (part ⟦<u8 as Portable>⟧.shape
         (part ⟦<ArchivedI16 as Portable>⟧.shape no_part)))))))))
-        (variant (part ⟦<u8 as Portable>⟧.shape (part ⟦<u8 as Portable>⟧.shape
-        (part ⟦<u8 as Portable>⟧.shape (part ⟦<u8 as Portable>⟧.shape
-        (part ⟦<ArchivedChar as Portable>⟧.shape (part ⟦<u8 as Portable>⟧.shape
-        (part ⟦<u8 as Portable>⟧.shape (part ⟦<bool as Portable>⟧.shape
-        (part ⟦<ArchivedString as Portable>⟧.shape no_part))))))))) no_variant))) };
+        (variant (part ⟦<NonZero<u32> as Portable>⟧.shape
+        (part ⟦<ArchivedString as Portable>⟧.shape (part
+        ⟦<ArchivedVec<ArchivedU16> as Portable>⟧.shape (part
+        ⟦<ArchivedOption<ArchivedU32> as Portable>⟧.shape
+        (part ⟦<ArchivedBox<ArchivedI16> as Portable>⟧.shape
+        (part ⟦<ArchivedSpot as Portable>⟧.shape (part ⟦<ArchivedUsize as Portable>⟧.shape
+        (part ⟦<ArchivedIsize as Portable>⟧.shape (part ⟦<ArchivedChar as Portable>⟧.shape
+        (part ⟦<bool as Portable>⟧.shape (part ⟦<() as Portable>⟧.shape
+        (part ⟦<ArchivedI128 as Portable>⟧.shape (part ⟦<ArchivedU64 as Portable>⟧.shape
+        (part ⟦<ArchivedI16 as Portable>⟧.shape (part ⟦<u8 as Portable>⟧.shape
+        (part ⟦<ArchivedVec<ArchivedString> as Portable>⟧.shape no_part))))))))))))))))
+        no_variant))) };
 
     ghost definitions = { (both no_definition (both (both no_definition
         (both no_definition (both no_definition (both no_definition
@@ -377,10 +529,12 @@ impl SelfCheck for ArchivedDepot {
         (both no_definition (both no_definition no_definition)))))))))
         (both (both no_definition (both no_definition (both no_definition
         (both no_definition (both no_definition (both no_definition
-        (both no_definition (both no_definition (both no_definition no_definition)))))))))
-        no_definition))) };
+        (both no_definition (both no_definition (both no_definition
+        (both no_definition (both no_definition (both no_definition
+        (both no_definition (both no_definition (both no_definition
+        (both no_definition no_definition)))))))))))))))) no_definition))) };
 
-    ghost span = { 24 };
+    ghost span = { 100 };
 
     ghost direct = { true };
 
@@ -416,19 +570,27 @@ impl Choice for ArchivedDepot {
         (part ⟦<u8 as Portable>⟧.shape (part ⟦<u8 as Portable>⟧.shape
         (part ⟦<u8 as Portable>⟧.shape (part ⟦<u8 as Portable>⟧.shape
         (part ⟦<u8 as Portable>⟧.shape (part ⟦<ArchivedI16 as Portable>⟧.shape no_part)))))))))
-        (variant (part ⟦<u8 as Portable>⟧.shape (part ⟦<u8 as Portable>⟧.shape
-        (part ⟦<u8 as Portable>⟧.shape (part ⟦<u8 as Portable>⟧.shape
-        (part ⟦<ArchivedChar as Portable>⟧.shape (part ⟦<u8 as Portable>⟧.shape
-        (part ⟦<u8 as Portable>⟧.shape (part ⟦<bool as Portable>⟧.shape
-        (part ⟦<ArchivedString as Portable>⟧.shape no_part))))))))) no_variant)))
-        (both no_definition (both (both no_definition (both no_definition
+        (variant (part ⟦<NonZero<u32> as Portable>⟧.shape
+        (part ⟦<ArchivedString as Portable>⟧.shape (part
+        ⟦<ArchivedVec<ArchivedU16> as Portable>⟧.shape (part
+        ⟦<ArchivedOption<ArchivedU32> as Portable>⟧.shape
+        (part ⟦<ArchivedBox<ArchivedI16> as Portable>⟧.shape
+        (part ⟦<ArchivedSpot as Portable>⟧.shape (part ⟦<ArchivedUsize as Portable>⟧.shape
+        (part ⟦<ArchivedIsize as Portable>⟧.shape (part ⟦<ArchivedChar as Portable>⟧.shape
+        (part ⟦<bool as Portable>⟧.shape (part ⟦<() as Portable>⟧.shape
+        (part ⟦<ArchivedI128 as Portable>⟧.shape (part ⟦<ArchivedU64 as Portable>⟧.shape
+        (part ⟦<ArchivedI16 as Portable>⟧.shape (part ⟦<u8 as Portable>⟧.shape
+        (part ⟦<ArchivedVec<ArchivedString> as Portable>⟧.shape no_part))))))))))))))))
+        no_variant))) (both no_definition (both (both no_definition
         (both no_definition (both no_definition (both no_definition
         (both no_definition (both no_definition (both no_definition
-        (both no_definition no_definition))))))))) (both
+        (both no_definition (both no_definition no_definition)))))))))
+        (both (both no_definition (both no_definition (both no_definition
         (both no_definition (both no_definition (both no_definition
         (both no_definition (both no_definition (both no_definition
-        (both no_definition (both no_definition (both no_definition no_definition)))))))))
-        no_definition))) refl };
+        (both no_definition (both no_definition (both no_definition
+        (both no_definition (both no_definition (both no_definition
+        (both no_definition no_definition)))))))))))))))) no_definition))) refl };
 
     ghost holds = { lit≤ tt };
 }
@@ -466,22 +628,46 @@ pub enum DepotResolver {
     /// Of `Sent`.
     Sent(
         (
-            <u8 as Archive>::Resolver,
+            <NonZero<u32> as Archive>::Resolver,
             (
-                <u8 as Archive>::Resolver,
+                <String as Archive>::Resolver,
                 (
-                    <u8 as Archive>::Resolver,
+                    <Vec<u16> as Archive>::Resolver,
                     (
-                        <u8 as Archive>::Resolver,
+                        <Option<u32> as Archive>::Resolver,
                         (
-                            <char as Archive>::Resolver,
+                            <Box<i16> as Archive>::Resolver,
                             (
-                                <u8 as Archive>::Resolver,
+                                <Spot as Archive>::Resolver,
                                 (
-                                    <u8 as Archive>::Resolver,
+                                    <usize as Archive>::Resolver,
                                     (
-                                        <bool as Archive>::Resolver,
-                                        (<String as Archive>::Resolver, ()),
+                                        <isize as Archive>::Resolver,
+                                        (
+                                            <char as Archive>::Resolver,
+                                            (
+                                                <bool as Archive>::Resolver,
+                                                (
+                                                    <() as Archive>::Resolver,
+                                                    (
+                                                        <i128 as Archive>::Resolver,
+                                                        (
+                                                            <u64 as Archive>::Resolver,
+                                                            (
+                                                                <i16 as Archive>::Resolver,
+                                                                (
+                                                                    <u8 as Archive>::Resolver,
+                                                                    (
+                                                                        <Vec<String> as Archive>::Resolver,
+                                                                        (),
+                                                                    ),
+                                                                ),
+                                                            ),
+                                                        ),
+                                                    ),
+                                                ),
+                                            ),
+                                        ),
                                     ),
                                 ),
                             ),
@@ -494,6 +680,7 @@ pub enum DepotResolver {
 }
 
 impl Archive for Depot {
+    ghost use Rattle.derived_types.specs.contracts.spot.SpotArchive.TheImpl.Laws.{keyed-law as keyed_of_spot, planned-law as planned_of_spot};
     ghost use Rattle.derived_blocks.specs.declared.depot.Depot.TheVariants.{Free as DepotFree, Held as DepotHeld, Sent as DepotSent};
     ghost use Rattle.derived_blocks.specs.declared.depot.DepotResolver.TheVariants.{Free as DepotFreeKept, Held as DepotHeldKept, Sent as DepotSentKept};
 
@@ -509,12 +696,17 @@ impl Archive for Depot {
           (value (⟦<u8 as Archive>⟧.meaning a5) (value (⟦<u8 as Archive>⟧.meaning a6)
           (value (⟦<u8 as Archive>⟧.meaning a7) (value (⟦<i16 as Archive>⟧.meaning a8)
           no_value)))))))))
-      | DepotSent a0 a1 a2 a3 a4 a5 a6 a7 a8 ↦ case 2 (value (⟦<u8 as Archive>⟧.meaning a0)
-          (value (⟦<u8 as Archive>⟧.meaning a1) (value (⟦<u8 as Archive>⟧.meaning a2)
-          (value (⟦<u8 as Archive>⟧.meaning a3) (value (⟦<char as Archive>⟧.meaning a4)
-          (value (⟦<u8 as Archive>⟧.meaning a5) (value (⟦<u8 as Archive>⟧.meaning a6)
-          (value (⟦<bool as Archive>⟧.meaning a7) (value (⟦<String as Archive>⟧.meaning a8)
-          no_value)))))))))
+      | DepotSent a0 a1 a2 a3 a4 a5 a6 a7 a8 a9 a10 a11 a12 a13 a14 a15 ↦ case 2
+          (value (⟦<NonZero<u32> as Archive>⟧.meaning a0)
+          (value (⟦<String as Archive>⟧.meaning a1) (value (⟦<Vec<u16> as Archive>⟧.meaning a2)
+          (value (⟦<Option<u32> as Archive>⟧.meaning a3)
+          (value (⟦<Box<i16> as Archive>⟧.meaning a4) (value (⟦<Spot as Archive>⟧.meaning a5)
+          (value (⟦<usize as Archive>⟧.meaning a6) (value (⟦<isize as Archive>⟧.meaning a7)
+          (value (⟦<char as Archive>⟧.meaning a8) (value (⟦<bool as Archive>⟧.meaning a9)
+          (value (⟦<() as Archive>⟧.meaning a10) (value (⟦<i128 as Archive>⟧.meaning a11)
+          (value (⟦<u64 as Archive>⟧.meaning a12) (value (⟦<i16 as Archive>⟧.meaning a13)
+          (value (⟦<u8 as Archive>⟧.meaning a14) (value (⟦<Vec<String> as Archive>⟧.meaning a15)
+          no_value))))))))))))))))
     ] };
 
     ghost flat = { λ v r. elim v [
@@ -529,15 +721,24 @@ impl Archive for Depot {
             (value (⟦<i16 as Archive>⟧.flat a8 s.1.1.1.1.1.1.1.1.0) no_value)))))))))
         | _ ↦ case 1 no_value
       ]
-      | DepotSent a0 a1 a2 a3 a4 a5 a6 a7 a8 ↦ elim r [
-        | DepotSentKept s ↦ case 2 (value (⟦<u8 as Archive>⟧.flat a0 s.0)
-            (value (⟦<u8 as Archive>⟧.flat a1 s.1.0) (value (⟦<u8 as Archive>⟧.flat a2 s.1.1.0)
-            (value (⟦<u8 as Archive>⟧.flat a3 s.1.1.1.0) (value
-            (⟦<char as Archive>⟧.flat a4 s.1.1.1.1.0) (value
-            (⟦<u8 as Archive>⟧.flat a5 s.1.1.1.1.1.0) (value
-            (⟦<u8 as Archive>⟧.flat a6 s.1.1.1.1.1.1.0) (value
-            (⟦<bool as Archive>⟧.flat a7 s.1.1.1.1.1.1.1.0)
-            (value (⟦<String as Archive>⟧.flat a8 s.1.1.1.1.1.1.1.1.0) no_value)))))))))
+      | DepotSent a0 a1 a2 a3 a4 a5 a6 a7 a8 a9 a10 a11 a12 a13 a14 a15 ↦ elim r [
+        | DepotSentKept s ↦ case 2 (value (⟦<NonZero<u32> as Archive>⟧.flat a0 s.0)
+            (value (⟦<String as Archive>⟧.flat a1 s.1.0) (value
+            (⟦<Vec<u16> as Archive>⟧.flat a2 s.1.1.0) (value
+            (⟦<Option<u32> as Archive>⟧.flat a3 s.1.1.1.0)
+            (value (⟦<Box<i16> as Archive>⟧.flat a4 s.1.1.1.1.0)
+            (value (⟦<Spot as Archive>⟧.flat a5 s.1.1.1.1.1.0)
+            (value (⟦<usize as Archive>⟧.flat a6 s.1.1.1.1.1.1.0)
+            (value (⟦<isize as Archive>⟧.flat a7 s.1.1.1.1.1.1.1.0)
+            (value (⟦<char as Archive>⟧.flat a8 s.1.1.1.1.1.1.1.1.0)
+            (value (⟦<bool as Archive>⟧.flat a9 s.1.1.1.1.1.1.1.1.1.0)
+            (value (⟦<() as Archive>⟧.flat a10 s.1.1.1.1.1.1.1.1.1.1.0)
+            (value (⟦<i128 as Archive>⟧.flat a11 s.1.1.1.1.1.1.1.1.1.1.1.0)
+            (value (⟦<u64 as Archive>⟧.flat a12 s.1.1.1.1.1.1.1.1.1.1.1.1.0)
+            (value (⟦<i16 as Archive>⟧.flat a13 s.1.1.1.1.1.1.1.1.1.1.1.1.1.0)
+            (value (⟦<u8 as Archive>⟧.flat a14 s.1.1.1.1.1.1.1.1.1.1.1.1.1.1.0)
+            (value (⟦<Vec<String> as Archive>⟧.flat a15 s.1.1.1.1.1.1.1.1.1.1.1.1.1.1.1.0)
+            no_value))))))))))))))))
         | _ ↦ case 2 no_value
       ]
     ] };
@@ -549,11 +750,16 @@ impl Archive for Depot {
           ++ (⟦<u8 as Archive>⟧.keys a3 ++ (⟦<u8 as Archive>⟧.keys a4
           ++ (⟦<u8 as Archive>⟧.keys a5 ++ (⟦<u8 as Archive>⟧.keys a6
           ++ (⟦<u8 as Archive>⟧.keys a7 ++ (⟦<i16 as Archive>⟧.keys a8 ++ []))))))))
-      | DepotSent a0 a1 a2 a3 a4 a5 a6 a7 a8 ↦ ⟦<u8 as Archive>⟧.keys a0
-          ++ (⟦<u8 as Archive>⟧.keys a1 ++ (⟦<u8 as Archive>⟧.keys a2
-          ++ (⟦<u8 as Archive>⟧.keys a3 ++ (⟦<char as Archive>⟧.keys a4
-          ++ (⟦<u8 as Archive>⟧.keys a5 ++ (⟦<u8 as Archive>⟧.keys a6
-          ++ (⟦<bool as Archive>⟧.keys a7 ++ (⟦<String as Archive>⟧.keys a8 ++ []))))))))
+      | DepotSent a0 a1 a2 a3 a4 a5 a6 a7 a8 a9 a10 a11 a12 a13 a14 a15 ↦
+          ⟦<NonZero<u32> as Archive>⟧.keys a0 ++ (⟦<String as Archive>⟧.keys a1
+          ++ (⟦<Vec<u16> as Archive>⟧.keys a2 ++ (⟦<Option<u32> as Archive>⟧.keys a3
+          ++ (⟦<Box<i16> as Archive>⟧.keys a4 ++ (⟦<Spot as Archive>⟧.keys a5
+          ++ (⟦<usize as Archive>⟧.keys a6 ++ (⟦<isize as Archive>⟧.keys a7
+          ++ (⟦<char as Archive>⟧.keys a8 ++ (⟦<bool as Archive>⟧.keys a9
+          ++ (⟦<() as Archive>⟧.keys a10 ++ (⟦<i128 as Archive>⟧.keys a11
+          ++ (⟦<u64 as Archive>⟧.keys a12 ++ (⟦<i16 as Archive>⟧.keys a13
+          ++ (⟦<u8 as Archive>⟧.keys a14 ++ (⟦<Vec<String> as Archive>⟧.keys a15
+          ++ [])))))))))))))))
     ] };
 
     ghost belongs = { λ v r. elim v [
@@ -568,14 +774,23 @@ impl Archive for Depot {
             × (⟦<i16 as Archive>⟧.belongs a8 s.1.1.1.1.1.1.1.1.0 × Unit {0}))))))))
         | _ ↦ ⊥
       ]
-      | DepotSent a0 a1 a2 a3 a4 a5 a6 a7 a8 ↦ elim r [
-        | DepotSentKept s ↦ ⟦<u8 as Archive>⟧.belongs a0 s.0
-            × (⟦<u8 as Archive>⟧.belongs a1 s.1.0 × (⟦<u8 as Archive>⟧.belongs a2 s.1.1.0
-            × (⟦<u8 as Archive>⟧.belongs a3 s.1.1.1.0 × (⟦<char as Archive>⟧.belongs a4 s.1.1.1.1.0
-            × (⟦<u8 as Archive>⟧.belongs a5 s.1.1.1.1.1.0
-            × (⟦<u8 as Archive>⟧.belongs a6 s.1.1.1.1.1.1.0
-            × (⟦<bool as Archive>⟧.belongs a7 s.1.1.1.1.1.1.1.0
-            × (⟦<String as Archive>⟧.belongs a8 s.1.1.1.1.1.1.1.1.0 × Unit {0}))))))))
+      | DepotSent a0 a1 a2 a3 a4 a5 a6 a7 a8 a9 a10 a11 a12 a13 a14 a15 ↦ elim r [
+        | DepotSentKept s ↦ ⟦<NonZero<u32> as Archive>⟧.belongs a0 s.0
+            × (⟦<String as Archive>⟧.belongs a1 s.1.0 × (⟦<Vec<u16> as Archive>⟧.belongs a2 s.1.1.0
+            × (⟦<Option<u32> as Archive>⟧.belongs a3 s.1.1.1.0
+            × (⟦<Box<i16> as Archive>⟧.belongs a4 s.1.1.1.1.0
+            × (⟦<Spot as Archive>⟧.belongs a5 s.1.1.1.1.1.0
+            × (⟦<usize as Archive>⟧.belongs a6 s.1.1.1.1.1.1.0
+            × (⟦<isize as Archive>⟧.belongs a7 s.1.1.1.1.1.1.1.0
+            × (⟦<char as Archive>⟧.belongs a8 s.1.1.1.1.1.1.1.1.0
+            × (⟦<bool as Archive>⟧.belongs a9 s.1.1.1.1.1.1.1.1.1.0
+            × (⟦<() as Archive>⟧.belongs a10 s.1.1.1.1.1.1.1.1.1.1.0
+            × (⟦<i128 as Archive>⟧.belongs a11 s.1.1.1.1.1.1.1.1.1.1.1.0
+            × (⟦<u64 as Archive>⟧.belongs a12 s.1.1.1.1.1.1.1.1.1.1.1.1.0
+            × (⟦<i16 as Archive>⟧.belongs a13 s.1.1.1.1.1.1.1.1.1.1.1.1.1.0
+            × (⟦<u8 as Archive>⟧.belongs a14 s.1.1.1.1.1.1.1.1.1.1.1.1.1.1.0
+            × (⟦<Vec<String> as Archive>⟧.belongs a15 s.1.1.1.1.1.1.1.1.1.1.1.1.1.1.1.0
+            × Unit {0})))))))))))))))
         | _ ↦ ⊥
       ]
     ] };
@@ -590,12 +805,20 @@ impl Archive for Depot {
           (part_keyed (number_keyed _) (part_keyed (number_keyed _)
           (part_keyed (number_keyed _) (part_keyed (number_keyed _)
           (part_keyed (number_keyed _) nothing_keyed)))))))))
-      | DepotSent a0 a1 a2 a3 a4 a5 a6 a7 a8 ↦ case_keyed _ 2 _
+      | DepotSent a0 a1 a2 a3 a4 a5 a6 a7 a8 a9 a10 a11 a12 a13 a14 a15 ↦ case_keyed _ 2 _
+          (part_keyed (number_keyed _) (part_keyed (text_keyed (string_bytes a1))
+          (part_keyed (each_keyed ⟦<u16 as Archive>⟧.keys ⟦<u16 as Archive>⟧.meaning
+          (λ x. number_keyed _) a2.items) (part_keyed (option_keyed ⟦<u32 as Archive>⟧.keys
+          ⟦<u32 as Archive>⟧.meaning (λ x. number_keyed _) a3)
+          (part_keyed (box_keyed (⟦<i16 as Archive>⟧.keys a4.value)
+          (⟦<i16 as Archive>⟧.meaning a4.value) (number_keyed _))
+          (part_keyed (keyed_of_spot a5) (part_keyed (number_keyed _)
           (part_keyed (number_keyed _) (part_keyed (number_keyed _)
           (part_keyed (number_keyed _) (part_keyed (number_keyed _)
           (part_keyed (number_keyed _) (part_keyed (number_keyed _)
           (part_keyed (number_keyed _) (part_keyed (number_keyed _)
-          (part_keyed (text_keyed (string_bytes a8)) nothing_keyed)))))))))
+          (part_keyed (each_keyed ⟦<String as Archive>⟧.keys ⟦<String as Archive>⟧.meaning
+          (λ x. text_keyed (string_bytes x)) a15.items) nothing_keyed))))))))))))))))
     ] };
 
     ghost planned = { elim [
@@ -628,35 +851,72 @@ impl Archive for Depot {
           (part_planned no_definition ⟦<ArchivedI16 as Portable>⟧.shape (⟦<i16 as Archive>⟧.keys a8)
           (⟦<i16 as Archive>⟧.meaning a8) (leaf_planned no_definition _ _ [] _ refl)
           no_part_planned))))))))) refl
-      | DepotSent a0 a1 a2 a3 a4 a5 a6 a7 a8 ↦ plain_variant_planned _ _ 2
-          (part ⟦<u8 as Portable>⟧.shape (part ⟦<u8 as Portable>⟧.shape
-          (part ⟦<u8 as Portable>⟧.shape (part ⟦<u8 as Portable>⟧.shape
-          (part ⟦<ArchivedChar as Portable>⟧.shape (part ⟦<u8 as Portable>⟧.shape
-          (part ⟦<u8 as Portable>⟧.shape (part ⟦<bool as Portable>⟧.shape
-          (part ⟦<ArchivedString as Portable>⟧.shape no_part))))))))) refl
+      | DepotSent a0 a1 a2 a3 a4 a5 a6 a7 a8 a9 a10 a11 a12 a13 a14 a15 ↦ plain_variant_planned _ _
+          2 (part ⟦<NonZero<u32> as Portable>⟧.shape (part ⟦<ArchivedString as Portable>⟧.shape
+          (part ⟦<ArchivedVec<ArchivedU16> as Portable>⟧.shape
+          (part ⟦<ArchivedOption<ArchivedU32> as Portable>⟧.shape
+          (part ⟦<ArchivedBox<ArchivedI16> as Portable>⟧.shape
+          (part ⟦<ArchivedSpot as Portable>⟧.shape (part ⟦<ArchivedUsize as Portable>⟧.shape
+          (part ⟦<ArchivedIsize as Portable>⟧.shape (part ⟦<ArchivedChar as Portable>⟧.shape
+          (part ⟦<bool as Portable>⟧.shape (part ⟦<() as Portable>⟧.shape
+          (part ⟦<ArchivedI128 as Portable>⟧.shape (part ⟦<ArchivedU64 as Portable>⟧.shape
+          (part ⟦<ArchivedI16 as Portable>⟧.shape (part ⟦<u8 as Portable>⟧.shape
+          (part ⟦<ArchivedVec<ArchivedString> as Portable>⟧.shape no_part)))))))))))))))) refl
           (both no_definition (both no_definition (both no_definition
           (both no_definition (both no_definition (both no_definition
-          (both no_definition (both no_definition (both no_definition no_definition))))))))) _ _
-          (part_planned no_definition ⟦<u8 as Portable>⟧.shape (⟦<u8 as Archive>⟧.keys a0)
-          (⟦<u8 as Archive>⟧.meaning a0) (leaf_planned no_definition _ _ [] _ refl)
-          (part_planned no_definition ⟦<u8 as Portable>⟧.shape (⟦<u8 as Archive>⟧.keys a1)
-          (⟦<u8 as Archive>⟧.meaning a1) (leaf_planned no_definition _ _ [] _ refl)
-          (part_planned no_definition ⟦<u8 as Portable>⟧.shape (⟦<u8 as Archive>⟧.keys a2)
-          (⟦<u8 as Archive>⟧.meaning a2) (leaf_planned no_definition _ _ [] _ refl)
-          (part_planned no_definition ⟦<u8 as Portable>⟧.shape (⟦<u8 as Archive>⟧.keys a3)
-          (⟦<u8 as Archive>⟧.meaning a3) (leaf_planned no_definition _ _ [] _ refl)
+          (both no_definition (both no_definition (both no_definition
+          (both no_definition (both no_definition (both no_definition
+          (both no_definition (both no_definition (both no_definition
+          (both no_definition no_definition)))))))))))))))) _ _
+          (part_planned no_definition ⟦<NonZero<u32> as Portable>⟧.shape
+          (⟦<NonZero<u32> as Archive>⟧.keys a0) (⟦<NonZero<u32> as Archive>⟧.meaning a0)
+          (leaf_planned no_definition _ _ [] _ refl) (part_planned no_definition
+          ⟦<ArchivedString as Portable>⟧.shape (⟦<String as Archive>⟧.keys a1)
+          (⟦<String as Archive>⟧.meaning a1) (string_planned no_definition [] (string_bytes a1))
+          (part_planned no_definition ⟦<ArchivedVec<ArchivedU16> as Portable>⟧.shape
+          (⟦<Vec<u16> as Archive>⟧.keys a2) (⟦<Vec<u16> as Archive>⟧.meaning a2)
+          (vec_planned no_definition ⟦<ArchivedU16 as Portable>⟧.shape _ _ _
+          (slice_planned no_definition ⟦<ArchivedU16 as Portable>⟧.shape ⟦<u16 as Archive>⟧.keys
+          ⟦<u16 as Archive>⟧.meaning (λ x. leaf_planned no_definition _ _ [] _ refl) a2.items))
+          (part_planned no_definition ⟦<ArchivedOption<ArchivedU32> as Portable>⟧.shape
+          (⟦<Option<u32> as Archive>⟧.keys a3) (⟦<Option<u32> as Archive>⟧.meaning a3)
+          (option_planned no_definition ⟦<ArchivedU32 as Portable>⟧.shape ⟦<u32 as Archive>⟧.keys
+          ⟦<u32 as Archive>⟧.meaning (λ x. leaf_planned no_definition _ _ [] _ refl) a3)
+          (part_planned no_definition ⟦<ArchivedBox<ArchivedI16> as Portable>⟧.shape
+          (⟦<Box<i16> as Archive>⟧.keys a4) (⟦<Box<i16> as Archive>⟧.meaning a4)
+          (boxed_one_planned no_definition (one ⟦<ArchivedI16 as Portable>⟧.shape)
+          ⟦<ArchivedI16 as Portable>⟧.shape refl (⟦<i16 as Archive>⟧.keys a4.value)
+          (⟦<i16 as Archive>⟧.meaning a4.value) (leaf_planned no_definition _ _ [] _ refl))
+          (part_planned no_definition ⟦<ArchivedSpot as Portable>⟧.shape
+          (⟦<Spot as Archive>⟧.keys a5) (⟦<Spot as Archive>⟧.meaning a5) (planned_of_spot a5)
+          (part_planned no_definition ⟦<ArchivedUsize as Portable>⟧.shape
+          (⟦<usize as Archive>⟧.keys a6) (⟦<usize as Archive>⟧.meaning a6)
+          (leaf_planned no_definition _ _ [] _ refl) (part_planned no_definition
+          ⟦<ArchivedIsize as Portable>⟧.shape (⟦<isize as Archive>⟧.keys a7)
+          (⟦<isize as Archive>⟧.meaning a7) (leaf_planned no_definition _ _ [] _ refl)
           (part_planned no_definition ⟦<ArchivedChar as Portable>⟧.shape
-          (⟦<char as Archive>⟧.keys a4) (⟦<char as Archive>⟧.meaning a4)
+          (⟦<char as Archive>⟧.keys a8) (⟦<char as Archive>⟧.meaning a8)
           (leaf_planned no_definition _ _ [] _ refl) (part_planned no_definition
-          ⟦<u8 as Portable>⟧.shape (⟦<u8 as Archive>⟧.keys a5) (⟦<u8 as Archive>⟧.meaning a5)
+          ⟦<bool as Portable>⟧.shape (⟦<bool as Archive>⟧.keys a9) (⟦<bool as Archive>⟧.meaning a9)
           (leaf_planned no_definition _ _ [] _ refl) (part_planned no_definition
-          ⟦<u8 as Portable>⟧.shape (⟦<u8 as Archive>⟧.keys a6) (⟦<u8 as Archive>⟧.meaning a6)
+          ⟦<() as Portable>⟧.shape (⟦<() as Archive>⟧.keys a10) (⟦<() as Archive>⟧.meaning a10)
           (leaf_planned no_definition _ _ [] _ refl) (part_planned no_definition
-          ⟦<bool as Portable>⟧.shape (⟦<bool as Archive>⟧.keys a7) (⟦<bool as Archive>⟧.meaning a7)
+          ⟦<ArchivedI128 as Portable>⟧.shape (⟦<i128 as Archive>⟧.keys a11)
+          (⟦<i128 as Archive>⟧.meaning a11) (leaf_planned no_definition _ _ [] _ refl)
+          (part_planned no_definition ⟦<ArchivedU64 as Portable>⟧.shape
+          (⟦<u64 as Archive>⟧.keys a12) (⟦<u64 as Archive>⟧.meaning a12)
           (leaf_planned no_definition _ _ [] _ refl) (part_planned no_definition
-          ⟦<ArchivedString as Portable>⟧.shape (⟦<String as Archive>⟧.keys a8)
-          (⟦<String as Archive>⟧.meaning a8) (string_planned no_definition [] (string_bytes a8))
-          no_part_planned))))))))) refl
+          ⟦<ArchivedI16 as Portable>⟧.shape (⟦<i16 as Archive>⟧.keys a13)
+          (⟦<i16 as Archive>⟧.meaning a13) (leaf_planned no_definition _ _ [] _ refl)
+          (part_planned no_definition ⟦<u8 as Portable>⟧.shape (⟦<u8 as Archive>⟧.keys a14)
+          (⟦<u8 as Archive>⟧.meaning a14) (leaf_planned no_definition _ _ [] _ refl)
+          (part_planned no_definition ⟦<ArchivedVec<ArchivedString> as Portable>⟧.shape
+          (⟦<Vec<String> as Archive>⟧.keys a15) (⟦<Vec<String> as Archive>⟧.meaning a15)
+          (vec_planned no_definition ⟦<ArchivedString as Portable>⟧.shape _ _ _
+          (slice_planned no_definition ⟦<ArchivedString as Portable>⟧.shape
+          ⟦<String as Archive>⟧.keys ⟦<String as Archive>⟧.meaning
+          (λ x. string_planned no_definition [] (string_bytes x)) a15.items))
+          no_part_planned)))))))))))))))) refl
     ] };
 
     #[inline(always)]
@@ -665,10 +925,12 @@ impl Archive for Depot {
         resolver: Self::Resolver,
         place: Place<'_, Self::Archived>,
     ) -> Result<(), Error>
-        requires zeroed { ZeroedPlace 24 place.pos place.bytes.now }
+        requires zeroed { ZeroedPlace 112 place.pos place.bytes.now }
         requires same_value { ⟦<Self as Archive>⟧.belongs self.now resolver }
-        ensures { ResolvesAs ⟦<Self::Archived as Portable>⟧ place
-            (⟦<Self as Archive>⟧.flat self.now resolver) result }
+        ensures {
+            ResolvesAs ⟦<Self::Archived as Portable>⟧ place
+                (⟦<Self as Archive>⟧.flat self.now resolver) result
+        }
     {
         let Place { bytes, pos, .. } = place;
         match self {
@@ -695,17 +957,7 @@ impl Archive for Depot {
                     Place::new(pos, bytes),
                 )
             }
-            Depot::Sent {
-                number: a0,
-                row: a1,
-                shelf: a2,
-                place: a3,
-                letter: a4,
-                height: a5,
-                width: a6,
-                is_open: a7,
-                to: a8,
-            } => {
+            Depot::Sent { number: a0, to: a1, weights: a2, price: a3, other: a4, spot: a5, size: a6, distance: a7, letter: a8, is_open: a9, nothing: a10, wide: a11, seconds: a12, warmth: a13, row: a14, notes: a15 } => {
                 let DepotResolver::Sent(kept) = resolver else {
                     unreachable!();
                 };
@@ -719,6 +971,13 @@ impl Archive for Depot {
                     a6,
                     a7,
                     a8,
+                    a9,
+                    a10,
+                    a11,
+                    a12,
+                    a13,
+                    a14,
+                    a15,
                 };
                 resolve_case::<DepotSentLent<'_>, DepotSentFields, ArchivedDepot>(
                     2,
@@ -772,17 +1031,7 @@ impl<S: Writer + ResolverAlloc> Serialize<S> for Depot {
                     Err(error) => Err(error),
                 }
             }
-            Depot::Sent {
-                number: a0,
-                row: a1,
-                shelf: a2,
-                place: a3,
-                letter: a4,
-                height: a5,
-                width: a6,
-                is_open: a7,
-                to: a8,
-            } => {
+            Depot::Sent { number: a0, to: a1, weights: a2, price: a3, other: a4, spot: a5, size: a6, distance: a7, letter: a8, is_open: a9, nothing: a10, wide: a11, seconds: a12, warmth: a13, row: a14, notes: a15 } => {
                 let lent = DepotSentLent {
                     a0,
                     a1,
@@ -793,6 +1042,13 @@ impl<S: Writer + ResolverAlloc> Serialize<S> for Depot {
                     a6,
                     a7,
                     a8,
+                    a9,
+                    a10,
+                    a11,
+                    a12,
+                    a13,
+                    a14,
+                    a15,
                 };
                 match serialize_case::<DepotSentLent<'_>, DepotSentFields, ArchivedDepot, S>(
                     2, &lent, serializer,
@@ -827,12 +1083,19 @@ impl ArchiveUnsized for Depot {
         (part ⟦<u8 as Portable>⟧.shape (part ⟦<u8 as Portable>⟧.shape
         (part ⟦<u8 as Portable>⟧.shape (part ⟦<u8 as Portable>⟧.shape
         (part ⟦<u8 as Portable>⟧.shape (part ⟦<ArchivedI16 as Portable>⟧.shape no_part)))))))))
-        (variant (part ⟦<u8 as Portable>⟧.shape (part ⟦<u8 as Portable>⟧.shape
-        (part ⟦<u8 as Portable>⟧.shape (part ⟦<u8 as Portable>⟧.shape
-        (part ⟦<ArchivedChar as Portable>⟧.shape (part ⟦<u8 as Portable>⟧.shape
-        (part ⟦<u8 as Portable>⟧.shape (part ⟦<bool as Portable>⟧.shape
-        (part ⟦<ArchivedString as Portable>⟧.shape no_part))))))))) no_variant))))
-        (⟦<Depot as Archive>⟧.keys v) (⟦<Depot as Archive>⟧.meaning v) (planned_of_depot v) };
+        (variant (part ⟦<NonZero<u32> as Portable>⟧.shape
+        (part ⟦<ArchivedString as Portable>⟧.shape (part
+        ⟦<ArchivedVec<ArchivedU16> as Portable>⟧.shape (part
+        ⟦<ArchivedOption<ArchivedU32> as Portable>⟧.shape
+        (part ⟦<ArchivedBox<ArchivedI16> as Portable>⟧.shape
+        (part ⟦<ArchivedSpot as Portable>⟧.shape (part ⟦<ArchivedUsize as Portable>⟧.shape
+        (part ⟦<ArchivedIsize as Portable>⟧.shape (part ⟦<ArchivedChar as Portable>⟧.shape
+        (part ⟦<bool as Portable>⟧.shape (part ⟦<() as Portable>⟧.shape
+        (part ⟦<ArchivedI128 as Portable>⟧.shape (part ⟦<ArchivedU64 as Portable>⟧.shape
+        (part ⟦<ArchivedI16 as Portable>⟧.shape (part ⟦<u8 as Portable>⟧.shape
+        (part ⟦<ArchivedVec<ArchivedString> as Portable>⟧.shape no_part))))))))))))))))
+        no_variant)))) (⟦<Depot as Archive>⟧.keys v) (⟦<Depot as Archive>⟧.meaning v)
+        (planned_of_depot v) };
 
     #[inline(always)]
     fn archived_metadata(&self) -> Result<(), Error> {
@@ -887,21 +1150,38 @@ fn depot_held_of(values: DepotHeldOwned) -> Depot
 // The `Depot::Sent` of these values, one after another.
 fn depot_sent_of(values: DepotSentOwned) -> Depot
     ensures meaning { ⟦<Depot as Archive>⟧.meaning result
-        ≡ case 2 (value (⟦<u8 as Archive>⟧.meaning values.first)
-        (value (⟦<u8 as Archive>⟧.meaning values.second)
-        (value (⟦<u8 as Archive>⟧.meaning values.third)
-        (value (⟦<u8 as Archive>⟧.meaning values.fourth)
-        (value (⟦<char as Archive>⟧.meaning values.rest.first)
-        (value (⟦<u8 as Archive>⟧.meaning values.rest.second)
-        (value (⟦<u8 as Archive>⟧.meaning values.rest.third)
-        (value (⟦<bool as Archive>⟧.meaning values.rest.fourth)
-        (value (⟦<String as Archive>⟧.meaning values.rest.rest.0) no_value))))))))) }
-    ensures keys { ⟦<Depot as Archive>⟧.keys result ≡ ⟦<u8 as Archive>⟧.keys values.first
-        ++ (⟦<u8 as Archive>⟧.keys values.second ++ (⟦<u8 as Archive>⟧.keys values.third
-        ++ (⟦<u8 as Archive>⟧.keys values.fourth ++ (⟦<char as Archive>⟧.keys values.rest.first
-        ++ (⟦<u8 as Archive>⟧.keys values.rest.second ++ (⟦<u8 as Archive>⟧.keys values.rest.third
-        ++ (⟦<bool as Archive>⟧.keys values.rest.fourth
-        ++ (⟦<String as Archive>⟧.keys values.rest.rest.0 ++ [])))))))) }
+        ≡ case 2 (value (⟦<NonZero<u32> as Archive>⟧.meaning values.first)
+        (value (⟦<String as Archive>⟧.meaning values.second)
+        (value (⟦<Vec<u16> as Archive>⟧.meaning values.third)
+        (value (⟦<Option<u32> as Archive>⟧.meaning values.fourth)
+        (value (⟦<Box<i16> as Archive>⟧.meaning values.rest.first)
+        (value (⟦<Spot as Archive>⟧.meaning values.rest.second)
+        (value (⟦<usize as Archive>⟧.meaning values.rest.third)
+        (value (⟦<isize as Archive>⟧.meaning values.rest.fourth)
+        (value (⟦<char as Archive>⟧.meaning values.rest.rest.first)
+        (value (⟦<bool as Archive>⟧.meaning values.rest.rest.second)
+        (value (⟦<() as Archive>⟧.meaning values.rest.rest.third)
+        (value (⟦<i128 as Archive>⟧.meaning values.rest.rest.fourth)
+        (value (⟦<u64 as Archive>⟧.meaning values.rest.rest.rest.first)
+        (value (⟦<i16 as Archive>⟧.meaning values.rest.rest.rest.second)
+        (value (⟦<u8 as Archive>⟧.meaning values.rest.rest.rest.third)
+        (value (⟦<Vec<String> as Archive>⟧.meaning values.rest.rest.rest.fourth)
+        no_value)))))))))))))))) }
+    ensures keys { ⟦<Depot as Archive>⟧.keys result ≡ ⟦<NonZero<u32> as Archive>⟧.keys values.first
+        ++ (⟦<String as Archive>⟧.keys values.second ++ (⟦<Vec<u16> as Archive>⟧.keys values.third
+        ++ (⟦<Option<u32> as Archive>⟧.keys values.fourth
+        ++ (⟦<Box<i16> as Archive>⟧.keys values.rest.first
+        ++ (⟦<Spot as Archive>⟧.keys values.rest.second
+        ++ (⟦<usize as Archive>⟧.keys values.rest.third
+        ++ (⟦<isize as Archive>⟧.keys values.rest.fourth
+        ++ (⟦<char as Archive>⟧.keys values.rest.rest.first
+        ++ (⟦<bool as Archive>⟧.keys values.rest.rest.second
+        ++ (⟦<() as Archive>⟧.keys values.rest.rest.third
+        ++ (⟦<i128 as Archive>⟧.keys values.rest.rest.fourth
+        ++ (⟦<u64 as Archive>⟧.keys values.rest.rest.rest.first
+        ++ (⟦<i16 as Archive>⟧.keys values.rest.rest.rest.second
+        ++ (⟦<u8 as Archive>⟧.keys values.rest.rest.rest.third
+        ++ (⟦<Vec<String> as Archive>⟧.keys values.rest.rest.rest.fourth ++ []))))))))))))))) }
 {
     let FourParts {
         first: a0,
@@ -917,17 +1197,38 @@ fn depot_sent_of(values: DepotSentOwned) -> Depot
         fourth: a7,
         rest,
     } = rest;
-    let (a8, ()) = rest;
+    let FourParts {
+        first: a8,
+        second: a9,
+        third: a10,
+        fourth: a11,
+        rest,
+    } = rest;
+    let FourParts {
+        first: a12,
+        second: a13,
+        third: a14,
+        fourth: a15,
+        rest,
+    } = rest;
+    let () = rest;
     Depot::Sent {
         number: a0,
-        row: a1,
-        shelf: a2,
-        place: a3,
-        letter: a4,
-        height: a5,
-        width: a6,
-        is_open: a7,
-        to: a8,
+        to: a1,
+        weights: a2,
+        price: a3,
+        other: a4,
+        spot: a5,
+        size: a6,
+        distance: a7,
+        letter: a8,
+        is_open: a9,
+        nothing: a10,
+        wide: a11,
+        seconds: a12,
+        warmth: a13,
+        row: a14,
+        notes: a15,
     }
 }
 
@@ -988,24 +1289,38 @@ pub enum ViewOfDepot<'a> {
     ),
     /// What was sent.
     Sent {
-        /// Its number.
-        number: Ref<'a, u8>,
-        /// The row in which it lay.
-        row: Ref<'a, u8>,
-        /// The shelf.
-        shelf: Ref<'a, u8>,
-        /// The place.
-        place: Ref<'a, u8>,
-        /// The letter on it.
-        letter: Ref<'a, ArchivedChar>,
-        /// How high it was.
-        height: Ref<'a, u8>,
-        /// How wide.
-        width: Ref<'a, u8>,
-        /// Whether it was open.
-        is_open: Ref<'a, bool>,
+        /// Its number, which isn't 0.
+        number: Ref<'a, NonZero<u32>>,
         /// Who took it.
         to: Ref<'a, ArchivedString>,
+        /// What its parts weigh.
+        weights: Ref<'a, ArchivedVec<ArchivedU16>>,
+        /// What it costs, if that is known.
+        price: Ref<'a, ArchivedOption<ArchivedU32>>,
+        /// The number of the one that it replaced.
+        other: Ref<'a, ArchivedBox<ArchivedI16>>,
+        /// Where it lay.
+        spot: Ref<'a, ArchivedSpot>,
+        /// How many parts it has.
+        size: Ref<'a, ArchivedUsize>,
+        /// How far it goes.
+        distance: Ref<'a, ArchivedIsize>,
+        /// The letter on it.
+        letter: Ref<'a, ArchivedChar>,
+        /// Whether it was open.
+        is_open: Ref<'a, bool>,
+        /// What was said of it.
+        nothing: Ref<'a, ()>,
+        /// A number of 128 bits.
+        wide: Ref<'a, ArchivedI128>,
+        /// When it was sent, in seconds.
+        seconds: Ref<'a, ArchivedU64>,
+        /// How warm it was, in tenths of a degree.
+        warmth: Ref<'a, ArchivedI16>,
+        /// The row in which it lay.
+        row: Ref<'a, u8>,
+        /// What is noted of it.
+        notes: Ref<'a, ArchivedVec<ArchivedString>>,
     },
 }
 
@@ -1040,25 +1355,40 @@ impl<'a> DepotView<'a> for Ref<'a, ArchivedDepot> {
               × ShowsValueOf a7 self.entry (payload_in 7) × (a8.bytes.now ≡ self.entry.bytes.now)
               × (a8.pos ≡ self.entry.pos + 10) × (a8.len ≡ 0)
               × ShowsValueOf a8 self.entry (payload_in 8)
-          | DepotSentShown a0 a1 a2 a3 a4 a5 a6 a7 a8 ↦ (tag_of self.entry ≡ 2)
-              × (a0.bytes.now ≡ self.entry.bytes.now) × (a0.pos ≡ self.entry.pos + 1) × (a0.len ≡ 0)
+          | DepotSentShown a0 a1 a2 a3 a4 a5 a6 a7 a8 a9 a10 a11 a12 a13 a14 a15 ↦
+              (tag_of self.entry ≡ 2) × (a0.bytes.now ≡ self.entry.bytes.now)
+              × (a0.pos ≡ self.entry.pos + 4) × (a0.len ≡ 0)
               × ShowsValueOf a0 self.entry (payload_in 0) × (a1.bytes.now ≡ self.entry.bytes.now)
-              × (a1.pos ≡ self.entry.pos + 2) × (a1.len ≡ 0)
+              × (a1.pos ≡ self.entry.pos + 8) × (a1.len ≡ 0)
               × ShowsValueOf a1 self.entry (payload_in 1) × (a2.bytes.now ≡ self.entry.bytes.now)
-              × (a2.pos ≡ self.entry.pos + 3) × (a2.len ≡ 0)
+              × (a2.pos ≡ self.entry.pos + 16) × (a2.len ≡ 0)
               × ShowsValueOf a2 self.entry (payload_in 2) × (a3.bytes.now ≡ self.entry.bytes.now)
-              × (a3.pos ≡ self.entry.pos + 4) × (a3.len ≡ 0)
+              × (a3.pos ≡ self.entry.pos + 24) × (a3.len ≡ 0)
               × ShowsValueOf a3 self.entry (payload_in 3) × (a4.bytes.now ≡ self.entry.bytes.now)
-              × (a4.pos ≡ self.entry.pos + 8) × (a4.len ≡ 0)
+              × (a4.pos ≡ self.entry.pos + 32) × (a4.len ≡ 0)
               × ShowsValueOf a4 self.entry (payload_in 4) × (a5.bytes.now ≡ self.entry.bytes.now)
-              × (a5.pos ≡ self.entry.pos + 12) × (a5.len ≡ 0)
+              × (a5.pos ≡ self.entry.pos + 36) × (a5.len ≡ 0)
               × ShowsValueOf a5 self.entry (payload_in 5) × (a6.bytes.now ≡ self.entry.bytes.now)
-              × (a6.pos ≡ self.entry.pos + 13) × (a6.len ≡ 0)
+              × (a6.pos ≡ self.entry.pos + 40) × (a6.len ≡ 0)
               × ShowsValueOf a6 self.entry (payload_in 6) × (a7.bytes.now ≡ self.entry.bytes.now)
-              × (a7.pos ≡ self.entry.pos + 14) × (a7.len ≡ 0)
+              × (a7.pos ≡ self.entry.pos + 44) × (a7.len ≡ 0)
               × ShowsValueOf a7 self.entry (payload_in 7) × (a8.bytes.now ≡ self.entry.bytes.now)
-              × (a8.pos ≡ self.entry.pos + 16) × (a8.len ≡ 0)
-              × ShowsValueOf a8 self.entry (payload_in 8)
+              × (a8.pos ≡ self.entry.pos + 48) × (a8.len ≡ 0)
+              × ShowsValueOf a8 self.entry (payload_in 8) × (a9.bytes.now ≡ self.entry.bytes.now)
+              × (a9.pos ≡ self.entry.pos + 52) × (a9.len ≡ 0)
+              × ShowsValueOf a9 self.entry (payload_in 9) × (a10.bytes.now ≡ self.entry.bytes.now)
+              × (a10.pos ≡ self.entry.pos + 53) × (a10.len ≡ 0)
+              × ShowsValueOf a10 self.entry (payload_in 10) × (a11.bytes.now ≡ self.entry.bytes.now)
+              × (a11.pos ≡ self.entry.pos + 64) × (a11.len ≡ 0)
+              × ShowsValueOf a11 self.entry (payload_in 11) × (a12.bytes.now ≡ self.entry.bytes.now)
+              × (a12.pos ≡ self.entry.pos + 80) × (a12.len ≡ 0)
+              × ShowsValueOf a12 self.entry (payload_in 12) × (a13.bytes.now ≡ self.entry.bytes.now)
+              × (a13.pos ≡ self.entry.pos + 88) × (a13.len ≡ 0)
+              × ShowsValueOf a13 self.entry (payload_in 13) × (a14.bytes.now ≡ self.entry.bytes.now)
+              × (a14.pos ≡ self.entry.pos + 90) × (a14.len ≡ 0)
+              × ShowsValueOf a14 self.entry (payload_in 14) × (a15.bytes.now ≡ self.entry.bytes.now)
+              × (a15.pos ≡ self.entry.pos + 92) × (a15.len ≡ 0)
+              × ShowsValueOf a15 self.entry (payload_in 15)
         ] }
     {
         match tag_in(self) {
@@ -1076,15 +1406,22 @@ impl<'a> DepotView<'a> for Ref<'a, ArchivedDepot> {
                 ViewOfDepot::Held(a0, a1, a2, a3, a4, a5, a6, a7, a8)
             }
             _ => ViewOfDepot::Sent {
-                number: part_in_case::<ArchivedDepot, u8>(self, 2, 0, 1),
-                row: part_in_case::<ArchivedDepot, u8>(self, 2, 1, 2),
-                shelf: part_in_case::<ArchivedDepot, u8>(self, 2, 2, 3),
-                place: part_in_case::<ArchivedDepot, u8>(self, 2, 3, 4),
-                letter: part_in_case::<ArchivedDepot, ArchivedChar>(self, 2, 4, 8),
-                height: part_in_case::<ArchivedDepot, u8>(self, 2, 5, 12),
-                width: part_in_case::<ArchivedDepot, u8>(self, 2, 6, 13),
-                is_open: part_in_case::<ArchivedDepot, bool>(self, 2, 7, 14),
-                to: part_in_case::<ArchivedDepot, ArchivedString>(self, 2, 8, 16),
+                number: part_in_case::<ArchivedDepot, NonZero<u32>>(self, 2, 0, 4),
+                to: part_in_case::<ArchivedDepot, ArchivedString>(self, 2, 1, 8),
+                weights: part_in_case::<ArchivedDepot, ArchivedVec<ArchivedU16>>(self, 2, 2, 16),
+                price: part_in_case::<ArchivedDepot, ArchivedOption<ArchivedU32>>(self, 2, 3, 24),
+                other: part_in_case::<ArchivedDepot, ArchivedBox<ArchivedI16>>(self, 2, 4, 32),
+                spot: part_in_case::<ArchivedDepot, ArchivedSpot>(self, 2, 5, 36),
+                size: part_in_case::<ArchivedDepot, ArchivedUsize>(self, 2, 6, 40),
+                distance: part_in_case::<ArchivedDepot, ArchivedIsize>(self, 2, 7, 44),
+                letter: part_in_case::<ArchivedDepot, ArchivedChar>(self, 2, 8, 48),
+                is_open: part_in_case::<ArchivedDepot, bool>(self, 2, 9, 52),
+                nothing: part_in_case::<ArchivedDepot, ()>(self, 2, 10, 53),
+                wide: part_in_case::<ArchivedDepot, ArchivedI128>(self, 2, 11, 64),
+                seconds: part_in_case::<ArchivedDepot, ArchivedU64>(self, 2, 12, 80),
+                warmth: part_in_case::<ArchivedDepot, ArchivedI16>(self, 2, 13, 88),
+                row: part_in_case::<ArchivedDepot, u8>(self, 2, 14, 90),
+                notes: part_in_case::<ArchivedDepot, ArchivedVec<ArchivedString>>(self, 2, 15, 92),
             },
         }
     }
@@ -1143,23 +1480,43 @@ pub trait DepotSeal<'a> {
         requires come_to { sealed self }
         requires tag { tag self ≡ 1 };
 
-    /// Its number.
-    fn sent_number_mut(self) -> Seal<'a, u8>
+    /// Its number, which isn't 0.
+    fn sent_number_mut(self) -> Seal<'a, NonZero<u32>>
         requires come_to { sealed self }
         requires tag { tag self ≡ 2 };
 
-    /// The row in which it lay.
-    fn sent_row_mut(self) -> Seal<'a, u8>
+    /// Who took it.
+    fn sent_to_mut(self) -> Seal<'a, ArchivedString>
         requires come_to { sealed self }
         requires tag { tag self ≡ 2 };
 
-    /// The shelf.
-    fn sent_shelf_mut(self) -> Seal<'a, u8>
+    /// What its parts weigh.
+    fn sent_weights_mut(self) -> Seal<'a, ArchivedVec<ArchivedU16>>
         requires come_to { sealed self }
         requires tag { tag self ≡ 2 };
 
-    /// The place.
-    fn sent_place_mut(self) -> Seal<'a, u8>
+    /// What it costs, if that is known.
+    fn sent_price_mut(self) -> Seal<'a, ArchivedOption<ArchivedU32>>
+        requires come_to { sealed self }
+        requires tag { tag self ≡ 2 };
+
+    /// The number of the one that it replaced.
+    fn sent_other_mut(self) -> Seal<'a, ArchivedBox<ArchivedI16>>
+        requires come_to { sealed self }
+        requires tag { tag self ≡ 2 };
+
+    /// Where it lay.
+    fn sent_spot_mut(self) -> Seal<'a, ArchivedSpot>
+        requires come_to { sealed self }
+        requires tag { tag self ≡ 2 };
+
+    /// How many parts it has.
+    fn sent_size_mut(self) -> Seal<'a, ArchivedUsize>
+        requires come_to { sealed self }
+        requires tag { tag self ≡ 2 };
+
+    /// How far it goes.
+    fn sent_distance_mut(self) -> Seal<'a, ArchivedIsize>
         requires come_to { sealed self }
         requires tag { tag self ≡ 2 };
 
@@ -1168,23 +1525,38 @@ pub trait DepotSeal<'a> {
         requires come_to { sealed self }
         requires tag { tag self ≡ 2 };
 
-    /// How high it was.
-    fn sent_height_mut(self) -> Seal<'a, u8>
-        requires come_to { sealed self }
-        requires tag { tag self ≡ 2 };
-
-    /// How wide.
-    fn sent_width_mut(self) -> Seal<'a, u8>
-        requires come_to { sealed self }
-        requires tag { tag self ≡ 2 };
-
     /// Whether it was open.
     fn sent_is_open_mut(self) -> Seal<'a, bool>
         requires come_to { sealed self }
         requires tag { tag self ≡ 2 };
 
-    /// Who took it.
-    fn sent_to_mut(self) -> Seal<'a, ArchivedString>
+    /// What was said of it.
+    fn sent_nothing_mut(self) -> Seal<'a, ()>
+        requires come_to { sealed self }
+        requires tag { tag self ≡ 2 };
+
+    /// A number of 128 bits.
+    fn sent_wide_mut(self) -> Seal<'a, ArchivedI128>
+        requires come_to { sealed self }
+        requires tag { tag self ≡ 2 };
+
+    /// When it was sent, in seconds.
+    fn sent_seconds_mut(self) -> Seal<'a, ArchivedU64>
+        requires come_to { sealed self }
+        requires tag { tag self ≡ 2 };
+
+    /// How warm it was, in tenths of a degree.
+    fn sent_warmth_mut(self) -> Seal<'a, ArchivedI16>
+        requires come_to { sealed self }
+        requires tag { tag self ≡ 2 };
+
+    /// The row in which it lay.
+    fn sent_row_mut(self) -> Seal<'a, u8>
+        requires come_to { sealed self }
+        requires tag { tag self ≡ 2 };
+
+    /// What is noted of it.
+    fn sent_notes_mut(self) -> Seal<'a, ArchivedVec<ArchivedString>>
         requires come_to { sealed self }
         requires tag { tag self ≡ 2 };
 }
@@ -1275,84 +1647,151 @@ impl<'a> DepotSeal<'a> for Seal<'a, ArchivedDepot> {
         sealed_part_in_case::<ArchivedDepot, ArchivedI16>(self, 1, 8, 10)
     }
 
-    fn sent_number_mut(self) -> Seal<'a, u8>
+    fn sent_number_mut(self) -> Seal<'a, NonZero<u32>>
         requires come_to { IsSealOf no_definition (one ⟦<ArchivedDepot as Portable>⟧.shape) self }
         requires tag { seal_tag self ≡ 2 }
         ensures { SealsPart no_definition (one ⟦<ArchivedDepot as Portable>⟧.shape) no_definition
-            ⟦<u8 as ArchivePointee>⟧.pointee (self.entry.pos + 1) 0 self.entry result }
+            ⟦<NonZero<u32> as ArchivePointee>⟧.pointee (self.entry.pos + 4) 0 self.entry result }
     {
-        sealed_part_in_case::<ArchivedDepot, u8>(self, 2, 0, 1)
-    }
-
-    fn sent_row_mut(self) -> Seal<'a, u8>
-        requires come_to { IsSealOf no_definition (one ⟦<ArchivedDepot as Portable>⟧.shape) self }
-        requires tag { seal_tag self ≡ 2 }
-        ensures { SealsPart no_definition (one ⟦<ArchivedDepot as Portable>⟧.shape) no_definition
-            ⟦<u8 as ArchivePointee>⟧.pointee (self.entry.pos + 2) 0 self.entry result }
-    {
-        sealed_part_in_case::<ArchivedDepot, u8>(self, 2, 1, 2)
-    }
-
-    fn sent_shelf_mut(self) -> Seal<'a, u8>
-        requires come_to { IsSealOf no_definition (one ⟦<ArchivedDepot as Portable>⟧.shape) self }
-        requires tag { seal_tag self ≡ 2 }
-        ensures { SealsPart no_definition (one ⟦<ArchivedDepot as Portable>⟧.shape) no_definition
-            ⟦<u8 as ArchivePointee>⟧.pointee (self.entry.pos + 3) 0 self.entry result }
-    {
-        sealed_part_in_case::<ArchivedDepot, u8>(self, 2, 2, 3)
-    }
-
-    fn sent_place_mut(self) -> Seal<'a, u8>
-        requires come_to { IsSealOf no_definition (one ⟦<ArchivedDepot as Portable>⟧.shape) self }
-        requires tag { seal_tag self ≡ 2 }
-        ensures { SealsPart no_definition (one ⟦<ArchivedDepot as Portable>⟧.shape) no_definition
-            ⟦<u8 as ArchivePointee>⟧.pointee (self.entry.pos + 4) 0 self.entry result }
-    {
-        sealed_part_in_case::<ArchivedDepot, u8>(self, 2, 3, 4)
-    }
-
-    fn sent_letter_mut(self) -> Seal<'a, ArchivedChar>
-        requires come_to { IsSealOf no_definition (one ⟦<ArchivedDepot as Portable>⟧.shape) self }
-        requires tag { seal_tag self ≡ 2 }
-        ensures { SealsPart no_definition (one ⟦<ArchivedDepot as Portable>⟧.shape) no_definition
-            ⟦<ArchivedChar as ArchivePointee>⟧.pointee (self.entry.pos + 8) 0 self.entry result }
-    {
-        sealed_part_in_case::<ArchivedDepot, ArchivedChar>(self, 2, 4, 8)
-    }
-
-    fn sent_height_mut(self) -> Seal<'a, u8>
-        requires come_to { IsSealOf no_definition (one ⟦<ArchivedDepot as Portable>⟧.shape) self }
-        requires tag { seal_tag self ≡ 2 }
-        ensures { SealsPart no_definition (one ⟦<ArchivedDepot as Portable>⟧.shape) no_definition
-            ⟦<u8 as ArchivePointee>⟧.pointee (self.entry.pos + 12) 0 self.entry result }
-    {
-        sealed_part_in_case::<ArchivedDepot, u8>(self, 2, 5, 12)
-    }
-
-    fn sent_width_mut(self) -> Seal<'a, u8>
-        requires come_to { IsSealOf no_definition (one ⟦<ArchivedDepot as Portable>⟧.shape) self }
-        requires tag { seal_tag self ≡ 2 }
-        ensures { SealsPart no_definition (one ⟦<ArchivedDepot as Portable>⟧.shape) no_definition
-            ⟦<u8 as ArchivePointee>⟧.pointee (self.entry.pos + 13) 0 self.entry result }
-    {
-        sealed_part_in_case::<ArchivedDepot, u8>(self, 2, 6, 13)
-    }
-
-    fn sent_is_open_mut(self) -> Seal<'a, bool>
-        requires come_to { IsSealOf no_definition (one ⟦<ArchivedDepot as Portable>⟧.shape) self }
-        requires tag { seal_tag self ≡ 2 }
-        ensures { SealsPart no_definition (one ⟦<ArchivedDepot as Portable>⟧.shape) no_definition
-            ⟦<bool as ArchivePointee>⟧.pointee (self.entry.pos + 14) 0 self.entry result }
-    {
-        sealed_part_in_case::<ArchivedDepot, bool>(self, 2, 7, 14)
+        sealed_part_in_case::<ArchivedDepot, NonZero<u32>>(self, 2, 0, 4)
     }
 
     fn sent_to_mut(self) -> Seal<'a, ArchivedString>
         requires come_to { IsSealOf no_definition (one ⟦<ArchivedDepot as Portable>⟧.shape) self }
         requires tag { seal_tag self ≡ 2 }
         ensures { SealsPart no_definition (one ⟦<ArchivedDepot as Portable>⟧.shape) no_definition
-            ⟦<ArchivedString as ArchivePointee>⟧.pointee (self.entry.pos + 16) 0 self.entry result }
+            ⟦<ArchivedString as ArchivePointee>⟧.pointee (self.entry.pos + 8) 0 self.entry result }
     {
-        sealed_part_in_case::<ArchivedDepot, ArchivedString>(self, 2, 8, 16)
+        sealed_part_in_case::<ArchivedDepot, ArchivedString>(self, 2, 1, 8)
+    }
+
+    fn sent_weights_mut(self) -> Seal<'a, ArchivedVec<ArchivedU16>>
+        requires come_to { IsSealOf no_definition (one ⟦<ArchivedDepot as Portable>⟧.shape) self }
+        requires tag { seal_tag self ≡ 2 }
+        ensures { SealsPart no_definition (one ⟦<ArchivedDepot as Portable>⟧.shape) no_definition
+            ⟦<ArchivedVec<ArchivedU16> as ArchivePointee>⟧.pointee (self.entry.pos + 16) 0
+            self.entry result }
+    {
+        sealed_part_in_case::<ArchivedDepot, ArchivedVec<ArchivedU16>>(self, 2, 2, 16)
+    }
+
+    fn sent_price_mut(self) -> Seal<'a, ArchivedOption<ArchivedU32>>
+        requires come_to { IsSealOf no_definition (one ⟦<ArchivedDepot as Portable>⟧.shape) self }
+        requires tag { seal_tag self ≡ 2 }
+        ensures { SealsPart no_definition (one ⟦<ArchivedDepot as Portable>⟧.shape) no_definition
+            ⟦<ArchivedOption<ArchivedU32> as ArchivePointee>⟧.pointee (self.entry.pos + 24) 0
+            self.entry result }
+    {
+        sealed_part_in_case::<ArchivedDepot, ArchivedOption<ArchivedU32>>(self, 2, 3, 24)
+    }
+
+    fn sent_other_mut(self) -> Seal<'a, ArchivedBox<ArchivedI16>>
+        requires come_to { IsSealOf no_definition (one ⟦<ArchivedDepot as Portable>⟧.shape) self }
+        requires tag { seal_tag self ≡ 2 }
+        ensures { SealsPart no_definition (one ⟦<ArchivedDepot as Portable>⟧.shape) no_definition
+            ⟦<ArchivedBox<ArchivedI16> as ArchivePointee>⟧.pointee (self.entry.pos + 32) 0
+            self.entry result }
+    {
+        sealed_part_in_case::<ArchivedDepot, ArchivedBox<ArchivedI16>>(self, 2, 4, 32)
+    }
+
+    fn sent_spot_mut(self) -> Seal<'a, ArchivedSpot>
+        requires come_to { IsSealOf no_definition (one ⟦<ArchivedDepot as Portable>⟧.shape) self }
+        requires tag { seal_tag self ≡ 2 }
+        ensures { SealsPart no_definition (one ⟦<ArchivedDepot as Portable>⟧.shape) no_definition
+            ⟦<ArchivedSpot as ArchivePointee>⟧.pointee (self.entry.pos + 36) 0 self.entry result }
+    {
+        sealed_part_in_case::<ArchivedDepot, ArchivedSpot>(self, 2, 5, 36)
+    }
+
+    fn sent_size_mut(self) -> Seal<'a, ArchivedUsize>
+        requires come_to { IsSealOf no_definition (one ⟦<ArchivedDepot as Portable>⟧.shape) self }
+        requires tag { seal_tag self ≡ 2 }
+        ensures { SealsPart no_definition (one ⟦<ArchivedDepot as Portable>⟧.shape) no_definition
+            ⟦<ArchivedUsize as ArchivePointee>⟧.pointee (self.entry.pos + 40) 0 self.entry result }
+    {
+        sealed_part_in_case::<ArchivedDepot, ArchivedUsize>(self, 2, 6, 40)
+    }
+
+    fn sent_distance_mut(self) -> Seal<'a, ArchivedIsize>
+        requires come_to { IsSealOf no_definition (one ⟦<ArchivedDepot as Portable>⟧.shape) self }
+        requires tag { seal_tag self ≡ 2 }
+        ensures { SealsPart no_definition (one ⟦<ArchivedDepot as Portable>⟧.shape) no_definition
+            ⟦<ArchivedIsize as ArchivePointee>⟧.pointee (self.entry.pos + 44) 0 self.entry result }
+    {
+        sealed_part_in_case::<ArchivedDepot, ArchivedIsize>(self, 2, 7, 44)
+    }
+
+    fn sent_letter_mut(self) -> Seal<'a, ArchivedChar>
+        requires come_to { IsSealOf no_definition (one ⟦<ArchivedDepot as Portable>⟧.shape) self }
+        requires tag { seal_tag self ≡ 2 }
+        ensures { SealsPart no_definition (one ⟦<ArchivedDepot as Portable>⟧.shape) no_definition
+            ⟦<ArchivedChar as ArchivePointee>⟧.pointee (self.entry.pos + 48) 0 self.entry result }
+    {
+        sealed_part_in_case::<ArchivedDepot, ArchivedChar>(self, 2, 8, 48)
+    }
+
+    fn sent_is_open_mut(self) -> Seal<'a, bool>
+        requires come_to { IsSealOf no_definition (one ⟦<ArchivedDepot as Portable>⟧.shape) self }
+        requires tag { seal_tag self ≡ 2 }
+        ensures { SealsPart no_definition (one ⟦<ArchivedDepot as Portable>⟧.shape) no_definition
+            ⟦<bool as ArchivePointee>⟧.pointee (self.entry.pos + 52) 0 self.entry result }
+    {
+        sealed_part_in_case::<ArchivedDepot, bool>(self, 2, 9, 52)
+    }
+
+    fn sent_nothing_mut(self) -> Seal<'a, ()>
+        requires come_to { IsSealOf no_definition (one ⟦<ArchivedDepot as Portable>⟧.shape) self }
+        requires tag { seal_tag self ≡ 2 }
+        ensures { SealsPart no_definition (one ⟦<ArchivedDepot as Portable>⟧.shape) no_definition
+            ⟦<() as ArchivePointee>⟧.pointee (self.entry.pos + 53) 0 self.entry result }
+    {
+        sealed_part_in_case::<ArchivedDepot, ()>(self, 2, 10, 53)
+    }
+
+    fn sent_wide_mut(self) -> Seal<'a, ArchivedI128>
+        requires come_to { IsSealOf no_definition (one ⟦<ArchivedDepot as Portable>⟧.shape) self }
+        requires tag { seal_tag self ≡ 2 }
+        ensures { SealsPart no_definition (one ⟦<ArchivedDepot as Portable>⟧.shape) no_definition
+            ⟦<ArchivedI128 as ArchivePointee>⟧.pointee (self.entry.pos + 64) 0 self.entry result }
+    {
+        sealed_part_in_case::<ArchivedDepot, ArchivedI128>(self, 2, 11, 64)
+    }
+
+    fn sent_seconds_mut(self) -> Seal<'a, ArchivedU64>
+        requires come_to { IsSealOf no_definition (one ⟦<ArchivedDepot as Portable>⟧.shape) self }
+        requires tag { seal_tag self ≡ 2 }
+        ensures { SealsPart no_definition (one ⟦<ArchivedDepot as Portable>⟧.shape) no_definition
+            ⟦<ArchivedU64 as ArchivePointee>⟧.pointee (self.entry.pos + 80) 0 self.entry result }
+    {
+        sealed_part_in_case::<ArchivedDepot, ArchivedU64>(self, 2, 12, 80)
+    }
+
+    fn sent_warmth_mut(self) -> Seal<'a, ArchivedI16>
+        requires come_to { IsSealOf no_definition (one ⟦<ArchivedDepot as Portable>⟧.shape) self }
+        requires tag { seal_tag self ≡ 2 }
+        ensures { SealsPart no_definition (one ⟦<ArchivedDepot as Portable>⟧.shape) no_definition
+            ⟦<ArchivedI16 as ArchivePointee>⟧.pointee (self.entry.pos + 88) 0 self.entry result }
+    {
+        sealed_part_in_case::<ArchivedDepot, ArchivedI16>(self, 2, 13, 88)
+    }
+
+    fn sent_row_mut(self) -> Seal<'a, u8>
+        requires come_to { IsSealOf no_definition (one ⟦<ArchivedDepot as Portable>⟧.shape) self }
+        requires tag { seal_tag self ≡ 2 }
+        ensures { SealsPart no_definition (one ⟦<ArchivedDepot as Portable>⟧.shape) no_definition
+            ⟦<u8 as ArchivePointee>⟧.pointee (self.entry.pos + 90) 0 self.entry result }
+    {
+        sealed_part_in_case::<ArchivedDepot, u8>(self, 2, 14, 90)
+    }
+
+    fn sent_notes_mut(self) -> Seal<'a, ArchivedVec<ArchivedString>>
+        requires come_to { IsSealOf no_definition (one ⟦<ArchivedDepot as Portable>⟧.shape) self }
+        requires tag { seal_tag self ≡ 2 }
+        ensures { SealsPart no_definition (one ⟦<ArchivedDepot as Portable>⟧.shape) no_definition
+            ⟦<ArchivedVec<ArchivedString> as ArchivePointee>⟧.pointee (self.entry.pos + 92) 0
+            self.entry result }
+    {
+        sealed_part_in_case::<ArchivedDepot, ArchivedVec<ArchivedString>>(self, 2, 15, 92)
     }
 }

@@ -1,6 +1,6 @@
-//! Types with fields of every kind, as a user declares them, with what tools/derive writes for them. The tests are in tests_kinds.
+//! Types with fields of every kind, as a user declares them, with what tools/derive writes for them. The tests are in tests_derived.
 #![tactic(auto)]
 
+pub mod book;
 pub mod kinds;
 pub mod pair;
-pub mod stock;

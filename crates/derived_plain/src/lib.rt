@@ -3,5 +3,5 @@
 #![tactic(auto)]
 
 pub mod point;
+pub mod press;
 pub mod ranked;
-pub mod words;

@@ -1,4 +1,5 @@
-//! What is ordered and hashed, as views and as values.
+//! What is ordered and hashed, as views and as values, by names that mean something elsewhere: words of contracts, calls of views, variants of `Option` and
+//! `Result`.
 
 use archive_core::primitive::NonZero;
 use std::collections::BTreeMap;
@@ -6,12 +7,12 @@ use std::collections::BTreeMap;
 /// What something is called.
 #[derive(Debug, PartialEq, Eq, PartialOrd, Ord, Hash, Drop)]
 pub enum Label {
-    /// Nothing.
+    /// Nothing, as `Option` has it.
     None,
-    /// A number.
-    Number(u16),
-    /// A name, and which of them.
-    Name {
+    /// A number. `Option` has this name, too.
+    Some(u16),
+    /// A name, and which of them. `Result` has this one.
+    Ok {
         /// The name.
         name: String,
         /// Which of them, from below 0 on.
@@ -22,14 +23,14 @@ pub enum Label {
 /// What is compared of each kind: the first field that differs decides.
 #[derive(Debug, PartialEq, Eq, Drop)]
 pub struct Scores {
-    /// A letter, or whether there is one.
-    pub letter: Result<char, bool>,
-    /// Not 0, and the other one maybe below it.
-    pub both: (NonZero<u16>, NonZero<i8>),
-    /// Numbers by names, boxed.
-    pub by_name: BTreeMap<String, Box<i64>>,
-    /// Labels, perhaps.
-    pub labels: Option<Vec<Label>>,
+    /// A letter, or whether there is one. A word of contracts.
+    pub data: Result<char, bool>,
+    /// Not 0, and the other one maybe below it. What contracts call an answer.
+    pub result: (NonZero<u16>, NonZero<i8>),
+    /// Numbers by names, boxed. A call of views: the accessor is `pos_field`.
+    pub pos: BTreeMap<String, Box<i64>>,
+    /// Labels, perhaps. A call of vectors alone.
+    pub len: Option<Vec<Label>>,
 }
 
 // Below this line all is written by tools/derive: change what is above it, and run it again.
@@ -97,15 +98,15 @@ use std::hash::{Hash, Hasher};
 /// An archived `Label`: 16 bytes at a multiple of 4.
 pub struct ArchivedLabel;
 
-type LabelNumberParts = (ArchivedU16, ());
+type LabelSomeParts = (ArchivedU16, ());
 
-type LabelNumberOwned = (u16, ());
+type LabelSomeOwned = (u16, ());
 
-type LabelNameParts = (ArchivedString, (ArchivedI32, ()));
+type LabelOkParts = (ArchivedString, (ArchivedI32, ()));
 
-type LabelNameOwned = (String, (i32, ()));
+type LabelOkOwned = (String, (i32, ()));
 
-type LabelVariants = ((), (LabelNumberParts, (LabelNameParts, ())));
+type LabelVariants = ((), (LabelSomeParts, (LabelOkParts, ())));
 
 impl ArchivePointee for ArchivedLabel {
     type ArchivedMetadata = ();
@@ -218,10 +219,10 @@ impl Choice for ArchivedLabel {
 pub enum LabelResolver {
     /// Of `None`.
     None,
-    /// Of `Number`.
-    Number((<u16 as Archive>::Resolver, ())),
-    /// Of `Name`.
-    Name(
+    /// Of `Some`.
+    Some((<u16 as Archive>::Resolver, ())),
+    /// Of `Ok`.
+    Ok(
         (
             <String as Archive>::Resolver,
             (<i32 as Archive>::Resolver, ()),
@@ -230,8 +231,8 @@ pub enum LabelResolver {
 }
 
 impl Archive for Label {
-    ghost use Rattle.derived_plain.specs.declared.ranked.Label.TheVariants.{Name as LabelName, None as LabelNone, Number as LabelNumber};
-    ghost use Rattle.derived_plain.specs.declared.ranked.LabelResolver.TheVariants.{Name as LabelNameKept, None as LabelNoneKept, Number as LabelNumberKept};
+    ghost use Rattle.derived_plain.specs.declared.ranked.Label.TheVariants.{None as LabelNone, Ok as LabelOk, Some as LabelSome};
+    ghost use Rattle.derived_plain.specs.declared.ranked.LabelResolver.TheVariants.{None as LabelNoneKept, Ok as LabelOkKept, Some as LabelSomeKept};
 
     type Archived = ArchivedLabel;
 
@@ -239,19 +240,19 @@ impl Archive for Label {
 
     ghost meaning = { elim [
       | LabelNone ↦ case 0 no_value
-      | LabelNumber a0 ↦ case 1 (value (⟦<u16 as Archive>⟧.meaning a0) no_value)
-      | LabelName a0 a1 ↦ case 2 (value (⟦<String as Archive>⟧.meaning a0)
+      | LabelSome a0 ↦ case 1 (value (⟦<u16 as Archive>⟧.meaning a0) no_value)
+      | LabelOk a0 a1 ↦ case 2 (value (⟦<String as Archive>⟧.meaning a0)
           (value (⟦<i32 as Archive>⟧.meaning a1) no_value))
     ] };
 
     ghost flat = { λ v r. elim v [
       | LabelNone ↦ case 0 no_value
-      | LabelNumber a0 ↦ elim r [
-        | LabelNumberKept s ↦ case 1 (value (⟦<u16 as Archive>⟧.flat a0 s.0) no_value)
+      | LabelSome a0 ↦ elim r [
+        | LabelSomeKept s ↦ case 1 (value (⟦<u16 as Archive>⟧.flat a0 s.0) no_value)
         | _ ↦ case 1 no_value
       ]
-      | LabelName a0 a1 ↦ elim r [
-        | LabelNameKept s ↦ case 2 (value (⟦<String as Archive>⟧.flat a0 s.0)
+      | LabelOk a0 a1 ↦ elim r [
+        | LabelOkKept s ↦ case 2 (value (⟦<String as Archive>⟧.flat a0 s.0)
             (value (⟦<i32 as Archive>⟧.flat a1 s.1.0) no_value))
         | _ ↦ case 2 no_value
       ]
@@ -259,18 +260,18 @@ impl Archive for Label {
 
     ghost keys = { elim [
       | LabelNone ↦ []
-      | LabelNumber a0 ↦ ⟦<u16 as Archive>⟧.keys a0 ++ []
-      | LabelName a0 a1 ↦ ⟦<String as Archive>⟧.keys a0 ++ (⟦<i32 as Archive>⟧.keys a1 ++ [])
+      | LabelSome a0 ↦ ⟦<u16 as Archive>⟧.keys a0 ++ []
+      | LabelOk a0 a1 ↦ ⟦<String as Archive>⟧.keys a0 ++ (⟦<i32 as Archive>⟧.keys a1 ++ [])
     ] };
 
     ghost belongs = { λ v r. elim v [
       | LabelNone ↦ elim r [ LabelNoneKept ↦ Unit {0} | _ ↦ ⊥ ]
-      | LabelNumber a0 ↦ elim r [
-        | LabelNumberKept s ↦ ⟦<u16 as Archive>⟧.belongs a0 s.0 × Unit {0}
+      | LabelSome a0 ↦ elim r [
+        | LabelSomeKept s ↦ ⟦<u16 as Archive>⟧.belongs a0 s.0 × Unit {0}
         | _ ↦ ⊥
       ]
-      | LabelName a0 a1 ↦ elim r [
-        | LabelNameKept s ↦ ⟦<String as Archive>⟧.belongs a0 s.0
+      | LabelOk a0 a1 ↦ elim r [
+        | LabelOkKept s ↦ ⟦<String as Archive>⟧.belongs a0 s.0
             × (⟦<i32 as Archive>⟧.belongs a1 s.1.0 × Unit {0})
         | _ ↦ ⊥
       ]
@@ -280,19 +281,19 @@ impl Archive for Label {
 
     ghost keyed = { elim [
       | LabelNone ↦ case_keyed _ 0 _ nothing_keyed
-      | LabelNumber a0 ↦ case_keyed _ 1 _ (part_keyed (number_keyed _) nothing_keyed)
-      | LabelName a0 a1 ↦ case_keyed _ 2 _ (part_keyed (text_keyed (string_bytes a0))
+      | LabelSome a0 ↦ case_keyed _ 1 _ (part_keyed (number_keyed _) nothing_keyed)
+      | LabelOk a0 a1 ↦ case_keyed _ 2 _ (part_keyed (text_keyed (string_bytes a0))
           (part_keyed (number_keyed _) nothing_keyed))
     ] };
 
     ghost planned = { elim [
       | LabelNone ↦ plain_variant_planned _ _ 0 no_part refl no_definition _ _ no_part_planned refl
-      | LabelNumber a0 ↦ plain_variant_planned _ _ 1 (part ⟦<ArchivedU16 as Portable>⟧.shape
-          no_part) refl (both no_definition no_definition) _ _
-          (part_planned no_definition ⟦<ArchivedU16 as Portable>⟧.shape (⟦<u16 as Archive>⟧.keys a0)
+      | LabelSome a0 ↦ plain_variant_planned _ _ 1 (part ⟦<ArchivedU16 as Portable>⟧.shape no_part)
+          refl (both no_definition no_definition) _ _ (part_planned no_definition
+          ⟦<ArchivedU16 as Portable>⟧.shape (⟦<u16 as Archive>⟧.keys a0)
           (⟦<u16 as Archive>⟧.meaning a0) (leaf_planned no_definition _ _ [] _ refl)
           no_part_planned) refl
-      | LabelName a0 a1 ↦ plain_variant_planned _ _ 2 (part ⟦<ArchivedString as Portable>⟧.shape
+      | LabelOk a0 a1 ↦ plain_variant_planned _ _ 2 (part ⟦<ArchivedString as Portable>⟧.shape
           (part ⟦<ArchivedI32 as Portable>⟧.shape no_part)) refl
           (both no_definition (both no_definition no_definition)) _ _
           (part_planned no_definition ⟦<ArchivedString as Portable>⟧.shape
@@ -311,23 +312,22 @@ impl Archive for Label {
     ) -> Result<(), Error>
         requires zeroed { ZeroedPlace 16 place.pos place.bytes.now }
         requires same_value { ⟦<Self as Archive>⟧.belongs self.now resolver }
-        ensures { ResolvesAs ⟦<Self::Archived as Portable>⟧ place
-            (⟦<Self as Archive>⟧.flat self.now resolver) result }
+        ensures {
+            ResolvesAs ⟦<Self::Archived as Portable>⟧ place
+                (⟦<Self as Archive>⟧.flat self.now resolver) result
+        }
     {
         let Place { bytes, pos, .. } = place;
         match self {
             Label::None => resolve_case_0::<ArchivedLabel>(0, (), Place::new(pos, bytes)),
-            Label::Number(a0) => {
-                let LabelResolver::Number(kept) = resolver else {
+            Label::Some(a0) => {
+                let LabelResolver::Some(kept) = resolver else {
                     unreachable!();
                 };
                 resolve_case_1::<u16, ArchivedLabel>(1, a0, kept, Place::new(pos, bytes))
             }
-            Label::Name {
-                name: a0,
-                which: a1,
-            } => {
-                let LabelResolver::Name(kept) = resolver else {
+            Label::Ok { name: a0, which: a1 } => {
+                let LabelResolver::Ok(kept) = resolver else {
                     unreachable!();
                 };
                 resolve_case_2::<String, i32, ArchivedLabel>(
@@ -364,17 +364,18 @@ impl<S: Writer + ResolverAlloc> Serialize<S> for Label {
                 Ok(()) => Ok(LabelResolver::None),
                 Err(error) => Err(error),
             },
-            Label::Number(a0) => match serialize_case_1::<u16, ArchivedLabel, S>(
-                1, a0, serializer,
-            ) {
-                Ok(kept) => Ok(LabelResolver::Number(kept)),
+            Label::Some(a0) => match serialize_case_1::<u16, ArchivedLabel, S>(1, a0, serializer) {
+                Ok(kept) => Ok(LabelResolver::Some(kept)),
                 Err(error) => Err(error),
             },
-            Label::Name {
-                name: a0,
-                which: a1,
-            } => match serialize_case_2::<String, i32, ArchivedLabel, S>(2, a0, a1, serializer) {
-                Ok(kept) => Ok(LabelResolver::Name(kept)),
+            Label::Ok { name: a0, which: a1 } => match serialize_case_2::<
+                String,
+                i32,
+                ArchivedLabel,
+                S,
+            >(2, a0, a1, serializer)
+            {
+                Ok(kept) => Ok(LabelResolver::Ok(kept)),
                 Err(error) => Err(error),
             },
         }
@@ -432,22 +433,22 @@ impl<D: Entries> Deserialize<Label, D> for ArchivedLabel {
                 Ok(()) => Ok(Label::None),
                 Err(error) => Err(error),
             },
-            1 => match read_case::<Self, LabelNumberParts, LabelNumberOwned, D>(
+            1 => match read_case::<Self, LabelSomeParts, LabelSomeOwned, D>(
                 1,
                 alloc,
                 part,
                 deserializer,
             ) {
-                Ok((a0, ())) => Ok(Label::Number(a0)),
+                Ok((a0, ())) => Ok(Label::Some(a0)),
                 Err(error) => Err(error),
             },
-            _ => match read_case::<Self, LabelNameParts, LabelNameOwned, D>(
+            _ => match read_case::<Self, LabelOkParts, LabelOkOwned, D>(
                 2,
                 alloc,
                 part,
                 deserializer,
             ) {
-                Ok((a0, (a1, ()))) => Ok(Label::Name {
+                Ok((a0, (a1, ()))) => Ok(Label::Ok {
                     name: a0,
                     which: a1,
                 }),
@@ -460,12 +461,12 @@ impl<D: Entries> Deserialize<Label, D> for ArchivedLabel {
 /// What a view of an archived `Label` shows, by its tag.
 #[derive(Drop)]
 pub enum ViewOfLabel<'a> {
-    /// Nothing.
+    /// Nothing, as `Option` has it.
     None,
-    /// A number.
-    Number(Ref<'a, ArchivedU16>),
-    /// A name, and which of them.
-    Name {
+    /// A number. `Option` has this name, too.
+    Some(Ref<'a, ArchivedU16>),
+    /// A name, and which of them. `Result` has this one.
+    Ok {
         /// The name.
         name: Ref<'a, ArchivedString>,
         /// Which of them, from below 0 on.
@@ -480,15 +481,15 @@ pub trait LabelView<'a> {
 }
 
 impl<'a> LabelView<'a> for Ref<'a, ArchivedLabel> {
-    ghost use Rattle.derived_plain.specs.declared.ranked.ViewOfLabel.TheVariants.{Name as LabelNameShown, None as LabelNoneShown, Number as LabelNumberShown};
+    ghost use Rattle.derived_plain.specs.declared.ranked.ViewOfLabel.TheVariants.{None as LabelNoneShown, Ok as LabelOkShown, Some as LabelSomeShown};
 
     fn variant(self) -> ViewOfLabel<'a>
         ensures shows { elim result [
           | LabelNoneShown ↦ (tag_of self.entry ≡ 0)
-          | LabelNumberShown a0 ↦ (tag_of self.entry ≡ 1) × (a0.bytes.now ≡ self.entry.bytes.now)
+          | LabelSomeShown a0 ↦ (tag_of self.entry ≡ 1) × (a0.bytes.now ≡ self.entry.bytes.now)
               × (a0.pos ≡ self.entry.pos + 2) × (a0.len ≡ 0)
               × ShowsValueOf a0 self.entry (payload_in 0)
-          | LabelNameShown a0 a1 ↦ (tag_of self.entry ≡ 2) × (a0.bytes.now ≡ self.entry.bytes.now)
+          | LabelOkShown a0 a1 ↦ (tag_of self.entry ≡ 2) × (a0.bytes.now ≡ self.entry.bytes.now)
               × (a0.pos ≡ self.entry.pos + 4) × (a0.len ≡ 0)
               × ShowsValueOf a0 self.entry (payload_in 0) × (a1.bytes.now ≡ self.entry.bytes.now)
               × (a1.pos ≡ self.entry.pos + 12) × (a1.len ≡ 0)
@@ -497,8 +498,8 @@ impl<'a> LabelView<'a> for Ref<'a, ArchivedLabel> {
     {
         match tag_in(self) {
             0 => ViewOfLabel::None,
-            1 => ViewOfLabel::Number(part_in_case::<ArchivedLabel, ArchivedU16>(self, 1, 0, 2)),
-            _ => ViewOfLabel::Name {
+            1 => ViewOfLabel::Some(part_in_case::<ArchivedLabel, ArchivedU16>(self, 1, 0, 2)),
+            _ => ViewOfLabel::Ok {
                 name: part_in_case::<ArchivedLabel, ArchivedString>(self, 2, 0, 4),
                 which: part_in_case::<ArchivedLabel, ArchivedI32>(self, 2, 1, 12),
             },
@@ -514,18 +515,18 @@ pub trait LabelSeal<'a> {
     // The tag that it shows.
     ghost tag: { Self → ℕ };
 
-    /// The field `0` of `Number`.
-    fn number_0_mut(self) -> Seal<'a, ArchivedU16>
+    /// The field `0` of `Some`.
+    fn some_0_mut(self) -> Seal<'a, ArchivedU16>
         requires come_to { sealed self }
         requires tag { tag self ≡ 1 };
 
     /// The name.
-    fn name_name_mut(self) -> Seal<'a, ArchivedString>
+    fn ok_name_mut(self) -> Seal<'a, ArchivedString>
         requires come_to { sealed self }
         requires tag { tag self ≡ 2 };
 
     /// Which of them, from below 0 on.
-    fn name_which_mut(self) -> Seal<'a, ArchivedI32>
+    fn ok_which_mut(self) -> Seal<'a, ArchivedI32>
         requires come_to { sealed self }
         requires tag { tag self ≡ 2 };
 }
@@ -535,7 +536,7 @@ impl<'a> LabelSeal<'a> for Seal<'a, ArchivedLabel> {
 
     ghost tag = { λ s. seal_tag s };
 
-    fn number_0_mut(self) -> Seal<'a, ArchivedU16>
+    fn some_0_mut(self) -> Seal<'a, ArchivedU16>
         requires come_to { IsSealOf no_definition (one ⟦<ArchivedLabel as Portable>⟧.shape) self }
         requires tag { seal_tag self ≡ 1 }
         ensures { SealsPart no_definition (one ⟦<ArchivedLabel as Portable>⟧.shape) no_definition
@@ -544,7 +545,7 @@ impl<'a> LabelSeal<'a> for Seal<'a, ArchivedLabel> {
         sealed_part_in_case::<ArchivedLabel, ArchivedU16>(self, 1, 0, 2)
     }
 
-    fn name_name_mut(self) -> Seal<'a, ArchivedString>
+    fn ok_name_mut(self) -> Seal<'a, ArchivedString>
         requires come_to { IsSealOf no_definition (one ⟦<ArchivedLabel as Portable>⟧.shape) self }
         requires tag { seal_tag self ≡ 2 }
         ensures { SealsPart no_definition (one ⟦<ArchivedLabel as Portable>⟧.shape) no_definition
@@ -553,7 +554,7 @@ impl<'a> LabelSeal<'a> for Seal<'a, ArchivedLabel> {
         sealed_part_in_case::<ArchivedLabel, ArchivedString>(self, 2, 0, 4)
     }
 
-    fn name_which_mut(self) -> Seal<'a, ArchivedI32>
+    fn ok_which_mut(self) -> Seal<'a, ArchivedI32>
         requires come_to { IsSealOf no_definition (one ⟦<ArchivedLabel as Portable>⟧.shape) self }
         requires tag { seal_tag self ≡ 2 }
         ensures { SealsPart no_definition (one ⟦<ArchivedLabel as Portable>⟧.shape) no_definition
@@ -765,40 +766,40 @@ impl Archive for Scores {
 
     type Resolver = ScoresResolver;
 
-    ghost meaning = { λ v. product (value (⟦<Result<char, bool> as Archive>⟧.meaning v.letter)
-        (value (⟦<(NonZero<u16>, NonZero<i8>) as Archive>⟧.meaning v.both)
-        (value (⟦<BTreeMap<String, Box<i64>> as Archive>⟧.meaning v.by_name)
-        (value (⟦<Option<Vec<Label>> as Archive>⟧.meaning v.labels) no_value)))) };
+    ghost meaning = { λ v. product (value (⟦<Result<char, bool> as Archive>⟧.meaning v.data)
+        (value (⟦<(NonZero<u16>, NonZero<i8>) as Archive>⟧.meaning v.result)
+        (value (⟦<BTreeMap<String, Box<i64>> as Archive>⟧.meaning v.pos)
+        (value (⟦<Option<Vec<Label>> as Archive>⟧.meaning v.len) no_value)))) };
 
-    ghost flat = { λ v r. product (value (⟦<Result<char, bool> as Archive>⟧.flat v.letter r.kept.0)
-        (value (⟦<(NonZero<u16>, NonZero<i8>) as Archive>⟧.flat v.both r.kept.1.0)
-        (value (⟦<BTreeMap<String, Box<i64>> as Archive>⟧.flat v.by_name r.kept.1.1.0)
-        (value (⟦<Option<Vec<Label>> as Archive>⟧.flat v.labels r.kept.1.1.1.0) no_value)))) };
+    ghost flat = { λ v r. product (value (⟦<Result<char, bool> as Archive>⟧.flat v.data r.kept.0)
+        (value (⟦<(NonZero<u16>, NonZero<i8>) as Archive>⟧.flat v.result r.kept.1.0)
+        (value (⟦<BTreeMap<String, Box<i64>> as Archive>⟧.flat v.pos r.kept.1.1.0)
+        (value (⟦<Option<Vec<Label>> as Archive>⟧.flat v.len r.kept.1.1.1.0) no_value)))) };
 
-    ghost keys = { λ v. ⟦<Result<char, bool> as Archive>⟧.keys v.letter
-        ++ (⟦<(NonZero<u16>, NonZero<i8>) as Archive>⟧.keys v.both
-        ++ (⟦<BTreeMap<String, Box<i64>> as Archive>⟧.keys v.by_name
-        ++ (⟦<Option<Vec<Label>> as Archive>⟧.keys v.labels ++ []))) };
+    ghost keys = { λ v. ⟦<Result<char, bool> as Archive>⟧.keys v.data
+        ++ (⟦<(NonZero<u16>, NonZero<i8>) as Archive>⟧.keys v.result
+        ++ (⟦<BTreeMap<String, Box<i64>> as Archive>⟧.keys v.pos
+        ++ (⟦<Option<Vec<Label>> as Archive>⟧.keys v.len ++ []))) };
 
-    ghost belongs = { λ v r. ⟦<Result<char, bool> as Archive>⟧.belongs v.letter r.kept.0
-        × (⟦<(NonZero<u16>, NonZero<i8>) as Archive>⟧.belongs v.both r.kept.1.0
-        × (⟦<BTreeMap<String, Box<i64>> as Archive>⟧.belongs v.by_name r.kept.1.1.0
-        × (⟦<Option<Vec<Label>> as Archive>⟧.belongs v.labels r.kept.1.1.1.0 × Unit {0}))) };
+    ghost belongs = { λ v r. ⟦<Result<char, bool> as Archive>⟧.belongs v.data r.kept.0
+        × (⟦<(NonZero<u16>, NonZero<i8>) as Archive>⟧.belongs v.result r.kept.1.0
+        × (⟦<BTreeMap<String, Box<i64>> as Archive>⟧.belongs v.pos r.kept.1.1.0
+        × (⟦<Option<Vec<Label>> as Archive>⟧.belongs v.len r.kept.1.1.1.0 × Unit {0}))) };
 
     ghost in_bulk = { None };
 
     ghost keyed = { λ v. record_keyed (part_keyed (result_keyed ⟦<char as Archive>⟧.keys
         ⟦<bool as Archive>⟧.keys ⟦<char as Archive>⟧.meaning ⟦<bool as Archive>⟧.meaning
-        (λ x. number_keyed _) (λ x. number_keyed _) v.letter)
+        (λ x. number_keyed _) (λ x. number_keyed _) v.data)
         (part_keyed (record_keyed (part_keyed (number_keyed _)
         (part_keyed (number_keyed _) nothing_keyed))) (part_keyed
         (pairs_keyed ⟦<String as Archive>⟧.keys ⟦<Box<i64> as Archive>⟧.keys
         ⟦<String as Archive>⟧.meaning ⟦<Box<i64> as Archive>⟧.meaning
         (λ x. text_keyed (string_bytes x)) (λ x. box_keyed (⟦<i64 as Archive>⟧.keys x.value)
-        (⟦<i64 as Archive>⟧.meaning x.value) (number_keyed _)) v.by_name.entries)
+        (⟦<i64 as Archive>⟧.meaning x.value) (number_keyed _)) v.pos.entries)
         (part_keyed (option_keyed ⟦<Vec<Label> as Archive>⟧.keys ⟦<Vec<Label> as Archive>⟧.meaning
         (λ x. each_keyed ⟦<Label as Archive>⟧.keys ⟦<Label as Archive>⟧.meaning keyed_of_label
-        x.items) v.labels) nothing_keyed)))) };
+        x.items) v.len) nothing_keyed)))) };
 
     ghost planned = { λ v. plain_record_planned (both (both no_definition no_definition)
         (both (both no_definition (both no_definition no_definition))
@@ -810,31 +811,32 @@ impl Archive for Scores {
         (part ⟦<ArchivedOption<ArchivedVec<ArchivedLabel>> as Portable>⟧.shape no_part)))) _ _
         (part_planned (both no_definition no_definition)
         ⟦<ArchivedResult<ArchivedChar, bool> as Portable>⟧.shape
-        (⟦<Result<char, bool> as Archive>⟧.keys v.letter)
-        (⟦<Result<char, bool> as Archive>⟧.meaning v.letter)
+        (⟦<Result<char, bool> as Archive>⟧.keys v.data)
+        (⟦<Result<char, bool> as Archive>⟧.meaning v.data)
         (result_planned ⟦<char as Archive>⟧.keys ⟦<bool as Archive>⟧.keys
         ⟦<char as Archive>⟧.meaning ⟦<bool as Archive>⟧.meaning no_definition no_definition
         ⟦<ArchivedChar as Portable>⟧.shape ⟦<bool as Portable>⟧.shape
         (λ x. leaf_planned no_definition _ _ [] _ refl)
-        (λ x. leaf_planned no_definition _ _ [] _ refl) v.letter)
+        (λ x. leaf_planned no_definition _ _ [] _ refl) v.data)
         (part_planned (both no_definition (both no_definition no_definition))
         ⟦<ArchivedTuple2<NonZero<u16>, NonZero<i8>> as Portable>⟧.shape
-        (⟦<(NonZero<u16>, NonZero<i8>) as Archive>⟧.keys v.both)
-        (⟦<(NonZero<u16>, NonZero<i8>) as Archive>⟧.meaning v.both)
+        (⟦<(NonZero<u16>, NonZero<i8>) as Archive>⟧.keys v.result)
+        (⟦<(NonZero<u16>, NonZero<i8>) as Archive>⟧.meaning v.result)
         (product_planned (both no_definition (both no_definition no_definition))
         (part ⟦<NonZero<u16> as Portable>⟧.shape (part ⟦<NonZero<i8> as Portable>⟧.shape no_part))
-        (⟦<NonZero<u16> as Archive>⟧.keys v.both.0 ++ (⟦<NonZero<i8> as Archive>⟧.keys v.both.1
-        ++ [])) (value (⟦<NonZero<u16> as Archive>⟧.meaning v.both.0)
-        (value (⟦<NonZero<i8> as Archive>⟧.meaning v.both.1) no_value))
+        (⟦<NonZero<u16> as Archive>⟧.keys v.result.0 ++ (⟦<NonZero<i8> as Archive>⟧.keys v.result.1
+        ++ [])) (value (⟦<NonZero<u16> as Archive>⟧.meaning v.result.0)
+        (value (⟦<NonZero<i8> as Archive>⟧.meaning v.result.1) no_value))
         (part_planned no_definition ⟦<NonZero<u16> as Portable>⟧.shape
-        (⟦<NonZero<u16> as Archive>⟧.keys v.both.0) (⟦<NonZero<u16> as Archive>⟧.meaning v.both.0)
-        (leaf_planned no_definition _ _ [] _ refl) (part_planned no_definition
-        ⟦<NonZero<i8> as Portable>⟧.shape (⟦<NonZero<i8> as Archive>⟧.keys v.both.1)
-        (⟦<NonZero<i8> as Archive>⟧.meaning v.both.1) (leaf_planned no_definition _ _ [] _ refl)
-        no_part_planned))) (part_planned (both no_definition (both no_definition no_definition))
+        (⟦<NonZero<u16> as Archive>⟧.keys v.result.0) (⟦<NonZero<u16> as Archive>⟧.meaning
+        v.result.0) (leaf_planned no_definition _ _ [] _ refl)
+        (part_planned no_definition ⟦<NonZero<i8> as Portable>⟧.shape
+        (⟦<NonZero<i8> as Archive>⟧.keys v.result.1) (⟦<NonZero<i8> as Archive>⟧.meaning v.result.1)
+        (leaf_planned no_definition _ _ [] _ refl) no_part_planned)))
+        (part_planned (both no_definition (both no_definition no_definition))
         ⟦<ArchivedSortedMap<ArchivedString, ArchivedBox<ArchivedI64>> as Portable>⟧.shape
-        (⟦<BTreeMap<String, Box<i64>> as Archive>⟧.keys v.by_name)
-        (⟦<BTreeMap<String, Box<i64>> as Archive>⟧.meaning v.by_name)
+        (⟦<BTreeMap<String, Box<i64>> as Archive>⟧.keys v.pos)
+        (⟦<BTreeMap<String, Box<i64>> as Archive>⟧.meaning v.pos)
         (map_of_pairs_planned ⟦<String as Archive>⟧.keys ⟦<Box<i64> as Archive>⟧.keys
         ⟦<String as Archive>⟧.meaning ⟦<Box<i64> as Archive>⟧.meaning no_definition no_definition
         ⟦<ArchivedString as Portable>⟧.shape ⟦<ArchivedBox<ArchivedI64> as Portable>⟧.shape
@@ -842,16 +844,14 @@ impl Archive for Scores {
         (λ x. boxed_one_planned no_definition (one ⟦<ArchivedI64 as Portable>⟧.shape)
         ⟦<ArchivedI64 as Portable>⟧.shape refl (⟦<i64 as Archive>⟧.keys x.value)
         (⟦<i64 as Archive>⟧.meaning x.value) (leaf_planned no_definition _ _ [] _ refl))
-        ⟦<ArchivedString as MapKey>⟧.key refl v.by_name.entries)
+        ⟦<ArchivedString as MapKey>⟧.key refl v.pos.entries)
         (part_planned no_definition ⟦<ArchivedOption<ArchivedVec<ArchivedLabel>> as Portable>⟧.shape
-        (⟦<Option<Vec<Label>> as Archive>⟧.keys v.labels)
-        (⟦<Option<Vec<Label>> as Archive>⟧.meaning v.labels)
-        (option_planned no_definition ⟦<ArchivedVec<ArchivedLabel> as Portable>⟧.shape
+        (⟦<Option<Vec<Label>> as Archive>⟧.keys v.len) (⟦<Option<Vec<Label>> as Archive>⟧.meaning
+        v.len) (option_planned no_definition ⟦<ArchivedVec<ArchivedLabel> as Portable>⟧.shape
         ⟦<Vec<Label> as Archive>⟧.keys ⟦<Vec<Label> as Archive>⟧.meaning
         (λ x. vec_planned no_definition ⟦<ArchivedLabel as Portable>⟧.shape _ _ _
         (slice_planned no_definition ⟦<ArchivedLabel as Portable>⟧.shape ⟦<Label as Archive>⟧.keys
-        ⟦<Label as Archive>⟧.meaning planned_of_label x.items)) v.labels) no_part_planned))))
-        refl };
+        ⟦<Label as Archive>⟧.meaning planned_of_label x.items)) v.len) no_part_planned)))) refl };
 
     #[inline(always)]
     fn resolve(
@@ -861,8 +861,10 @@ impl Archive for Scores {
     ) -> Result<(), Error>
         requires zeroed { ZeroedPlace 32 place.pos place.bytes.now }
         requires same_value { ⟦<Self as Archive>⟧.belongs self.now resolver }
-        ensures { ResolvesAs ⟦<Self::Archived as Portable>⟧ place
-            (⟦<Self as Archive>⟧.flat self.now resolver) result }
+        ensures {
+            ResolvesAs ⟦<Self::Archived as Portable>⟧ place
+                (⟦<Self as Archive>⟧.flat self.now resolver) result
+        }
     {
         let Place { bytes, pos, .. } = place;
         let ScoresResolver { kept } = resolver;
@@ -873,10 +875,10 @@ impl Archive for Scores {
             Option<Vec<Label>>,
             ArchivedScores,
         >(
-            &self.letter,
-            &self.both,
-            &self.by_name,
-            &self.labels,
+            &self.data,
+            &self.result,
+            &self.pos,
+            &self.len,
             kept,
             Place::new(pos, bytes),
         )
@@ -907,13 +909,8 @@ impl<S: Writer + ResolverAlloc> Serialize<S> for Scores {
             Option<Vec<Label>>,
             ArchivedScores,
             S,
-        >(
-            &self.letter,
-            &self.both,
-            &self.by_name,
-            &self.labels,
-            serializer,
-        ) {
+        >(&self.data, &self.result, &self.pos, &self.len, serializer)
+        {
             Ok(kept) => Ok(ScoresResolver { kept }),
             Err(error) => Err(error),
         }
@@ -969,10 +966,10 @@ impl<D: Entries> Deserialize<Scores, D> for ArchivedScores {
     {
         match deserialize_record::<Self, ScoresOwned, D>(alloc, part, deserializer) {
             Ok((a0, (a1, (a2, (a3, ()))))) => Ok(Scores {
-                letter: a0,
-                both: a1,
-                by_name: a2,
-                labels: a3,
+                data: a0,
+                result: a1,
+                pos: a2,
+                len: a3,
             }),
             Err(error) => Err(error),
         }
@@ -981,21 +978,21 @@ impl<D: Entries> Deserialize<Scores, D> for ArchivedScores {
 
 /// The fields of an archived `Scores`, as views.
 pub trait ScoresView<'a> {
-    /// A letter, or whether there is one.
-    fn letter(self) -> Ref<'a, ArchivedResult<ArchivedChar, bool>>;
+    /// A letter, or whether there is one. A word of contracts.
+    fn data(self) -> Ref<'a, ArchivedResult<ArchivedChar, bool>>;
 
-    /// Not 0, and the other one maybe below it.
-    fn both(self) -> Ref<'a, ArchivedTuple2<NonZero<u16>, NonZero<i8>>>;
+    /// Not 0, and the other one maybe below it. What contracts call an answer.
+    fn result(self) -> Ref<'a, ArchivedTuple2<NonZero<u16>, NonZero<i8>>>;
 
-    /// Numbers by names, boxed.
-    fn by_name(self) -> Ref<'a, ArchivedSortedMap<ArchivedString, ArchivedBox<ArchivedI64>>>;
+    /// Numbers by names, boxed. A call of views: the accessor is `pos_field`.
+    fn pos_field(self) -> Ref<'a, ArchivedSortedMap<ArchivedString, ArchivedBox<ArchivedI64>>>;
 
-    /// Labels, perhaps.
-    fn labels(self) -> Ref<'a, ArchivedOption<ArchivedVec<ArchivedLabel>>>;
+    /// Labels, perhaps. A call of vectors alone.
+    fn len(self) -> Ref<'a, ArchivedOption<ArchivedVec<ArchivedLabel>>>;
 }
 
 impl<'a> ScoresView<'a> for Ref<'a, ArchivedScores> {
-    fn letter(self) -> Ref<'a, ArchivedResult<ArchivedChar, bool>>
+    fn data(self) -> Ref<'a, ArchivedResult<ArchivedChar, bool>>
         ensures buffer { result.bytes.now ≡ self.entry.bytes.now }
         ensures position { result.pos ≡ self.entry.pos + 0 }
         ensures length { result.len ≡ 0 }
@@ -1004,7 +1001,7 @@ impl<'a> ScoresView<'a> for Ref<'a, ArchivedScores> {
         part_in_record::<ArchivedScores, ArchivedResult<ArchivedChar, bool>>(self, 0, 0)
     }
 
-    fn both(self) -> Ref<'a, ArchivedTuple2<NonZero<u16>, NonZero<i8>>>
+    fn result(self) -> Ref<'a, ArchivedTuple2<NonZero<u16>, NonZero<i8>>>
         ensures buffer { result.bytes.now ≡ self.entry.bytes.now }
         ensures position { result.pos ≡ self.entry.pos + 8 }
         ensures length { result.len ≡ 0 }
@@ -1013,7 +1010,7 @@ impl<'a> ScoresView<'a> for Ref<'a, ArchivedScores> {
         part_in_record::<ArchivedScores, ArchivedTuple2<NonZero<u16>, NonZero<i8>>>(self, 1, 8)
     }
 
-    fn by_name(self) -> Ref<'a, ArchivedSortedMap<ArchivedString, ArchivedBox<ArchivedI64>>>
+    fn pos_field(self) -> Ref<'a, ArchivedSortedMap<ArchivedString, ArchivedBox<ArchivedI64>>>
         ensures buffer { result.bytes.now ≡ self.entry.bytes.now }
         ensures position { result.pos ≡ self.entry.pos + 12 }
         ensures length { result.len ≡ 0 }
@@ -1025,7 +1022,7 @@ impl<'a> ScoresView<'a> for Ref<'a, ArchivedScores> {
         >(self, 2, 12)
     }
 
-    fn labels(self) -> Ref<'a, ArchivedOption<ArchivedVec<ArchivedLabel>>>
+    fn len(self) -> Ref<'a, ArchivedOption<ArchivedVec<ArchivedLabel>>>
         ensures buffer { result.bytes.now ≡ self.entry.bytes.now }
         ensures position { result.pos ≡ self.entry.pos + 20 }
         ensures length { result.len ≡ 0 }
@@ -1040,27 +1037,27 @@ pub trait ScoresSeal<'a> {
     // The seal shows a part of a buffer that was checked.
     ghost sealed: { Self → Type 0 };
 
-    /// A letter, or whether there is one.
-    fn letter_mut(self) -> Seal<'a, ArchivedResult<ArchivedChar, bool>>
+    /// A letter, or whether there is one. A word of contracts.
+    fn data_mut(self) -> Seal<'a, ArchivedResult<ArchivedChar, bool>>
         requires { sealed self };
 
-    /// Not 0, and the other one maybe below it.
-    fn both_mut(self) -> Seal<'a, ArchivedTuple2<NonZero<u16>, NonZero<i8>>>
+    /// Not 0, and the other one maybe below it. What contracts call an answer.
+    fn result_mut(self) -> Seal<'a, ArchivedTuple2<NonZero<u16>, NonZero<i8>>>
         requires { sealed self };
 
-    /// Numbers by names, boxed.
-    fn by_name_mut(self) -> Seal<'a, ArchivedSortedMap<ArchivedString, ArchivedBox<ArchivedI64>>>
+    /// Numbers by names, boxed. A call of views: the accessor is `pos_field`.
+    fn pos_field_mut(self) -> Seal<'a, ArchivedSortedMap<ArchivedString, ArchivedBox<ArchivedI64>>>
         requires { sealed self };
 
-    /// Labels, perhaps.
-    fn labels_mut(self) -> Seal<'a, ArchivedOption<ArchivedVec<ArchivedLabel>>>
+    /// Labels, perhaps. A call of vectors alone.
+    fn len_mut(self) -> Seal<'a, ArchivedOption<ArchivedVec<ArchivedLabel>>>
         requires { sealed self };
 }
 
 impl<'a> ScoresSeal<'a> for Seal<'a, ArchivedScores> {
     ghost sealed = { λ s. IsSealOf no_definition (one ⟦<ArchivedScores as Portable>⟧.shape) s };
 
-    fn letter_mut(self) -> Seal<'a, ArchivedResult<ArchivedChar, bool>>
+    fn data_mut(self) -> Seal<'a, ArchivedResult<ArchivedChar, bool>>
         requires come_to { IsSealOf no_definition (one ⟦<ArchivedScores as Portable>⟧.shape) self }
         ensures { SealsPart no_definition (one ⟦<ArchivedScores as Portable>⟧.shape)
             (both no_definition no_definition)
@@ -1070,7 +1067,7 @@ impl<'a> ScoresSeal<'a> for Seal<'a, ArchivedScores> {
         sealed_part_in_record::<ArchivedScores, ArchivedResult<ArchivedChar, bool>>(self, 0, 0)
     }
 
-    fn both_mut(self) -> Seal<'a, ArchivedTuple2<NonZero<u16>, NonZero<i8>>>
+    fn result_mut(self) -> Seal<'a, ArchivedTuple2<NonZero<u16>, NonZero<i8>>>
         requires come_to { IsSealOf no_definition (one ⟦<ArchivedScores as Portable>⟧.shape) self }
         ensures { SealsPart no_definition (one ⟦<ArchivedScores as Portable>⟧.shape)
             (both no_definition (both no_definition no_definition))
@@ -1082,7 +1079,7 @@ impl<'a> ScoresSeal<'a> for Seal<'a, ArchivedScores> {
         )
     }
 
-    fn by_name_mut(self) -> Seal<'a, ArchivedSortedMap<ArchivedString, ArchivedBox<ArchivedI64>>>
+    fn pos_field_mut(self) -> Seal<'a, ArchivedSortedMap<ArchivedString, ArchivedBox<ArchivedI64>>>
         requires come_to { IsSealOf no_definition (one ⟦<ArchivedScores as Portable>⟧.shape) self }
         ensures { SealsPart no_definition (one ⟦<ArchivedScores as Portable>⟧.shape)
             (both no_definition (both no_definition no_definition))
@@ -1094,7 +1091,7 @@ impl<'a> ScoresSeal<'a> for Seal<'a, ArchivedScores> {
         >(self, 2, 12)
     }
 
-    fn labels_mut(self) -> Seal<'a, ArchivedOption<ArchivedVec<ArchivedLabel>>>
+    fn len_mut(self) -> Seal<'a, ArchivedOption<ArchivedVec<ArchivedLabel>>>
         requires come_to { IsSealOf no_definition (one ⟦<ArchivedScores as Portable>⟧.shape) self }
         ensures { SealsPart no_definition (one ⟦<ArchivedScores as Portable>⟧.shape) no_definition
             ⟦<ArchivedOption<ArchivedVec<ArchivedLabel>> as ArchivePointee>⟧.pointee

@@ -1,4 +1,4 @@
-//! Records in records, in one module, four deep.
+//! Records in records, in one module, three deep.
 
 use crate::event::Event;
 
@@ -31,15 +31,6 @@ pub struct Drawing {
     pub last: Option<Box<Line>>,
     /// What happened.
     pub event: Event,
-}
-
-/// Drawings.
-#[derive(Debug, PartialEq, Drop)]
-pub struct Atlas {
-    /// All of them.
-    pub drawings: Vec<Drawing>,
-    /// A number.
-    pub pages: u8,
 }
 
 // Below this line all is written by tools/derive: change what is above it, and run it again.
@@ -233,8 +224,10 @@ impl Archive for Spot {
     ) -> Result<(), Error>
         requires zeroed { ZeroedPlace 4 place.pos place.bytes.now }
         requires same_value { ⟦<Self as Archive>⟧.belongs self.now resolver }
-        ensures { ResolvesAs ⟦<Self::Archived as Portable>⟧ place
-            (⟦<Self as Archive>⟧.flat self.now resolver) result }
+        ensures {
+            ResolvesAs ⟦<Self::Archived as Portable>⟧ place
+                (⟦<Self as Archive>⟧.flat self.now resolver) result
+        }
     {
         let Place { bytes, pos, .. } = place;
         let SpotResolver { kept } = resolver;
@@ -563,8 +556,10 @@ impl Archive for Line {
     ) -> Result<(), Error>
         requires zeroed { ZeroedPlace 8 place.pos place.bytes.now }
         requires same_value { ⟦<Self as Archive>⟧.belongs self.now resolver }
-        ensures { ResolvesAs ⟦<Self::Archived as Portable>⟧ place
-            (⟦<Self as Archive>⟧.flat self.now resolver) result }
+        ensures {
+            ResolvesAs ⟦<Self::Archived as Portable>⟧ place
+                (⟦<Self as Archive>⟧.flat self.now resolver) result
+        }
     {
         let Place { bytes, pos, .. } = place;
         let LineResolver { kept } = resolver;
@@ -948,8 +943,10 @@ impl Archive for Drawing {
     ) -> Result<(), Error>
         requires zeroed { ZeroedPlace 36 place.pos place.bytes.now }
         requires same_value { ⟦<Self as Archive>⟧.belongs self.now resolver }
-        ensures { ResolvesAs ⟦<Self::Archived as Portable>⟧ place
-            (⟦<Self as Archive>⟧.flat self.now resolver) result }
+        ensures {
+            ResolvesAs ⟦<Self::Archived as Portable>⟧ place
+                (⟦<Self as Archive>⟧.flat self.now resolver) result
+        }
     {
         let Place { bytes, pos, .. } = place;
         let DrawingResolver { kept } = resolver;
@@ -1165,320 +1162,5 @@ impl<'a> DrawingSeal<'a> for Seal<'a, ArchivedDrawing> {
             ⟦<ArchivedEvent as ArchivePointee>⟧.pointee (self.entry.pos + 24) 0 self.entry result }
     {
         sealed_part_in_record::<ArchivedDrawing, ArchivedEvent>(self, 3, 24)
-    }
-}
-
-/// An archived `Atlas`: 12 bytes at a multiple of 4.
-pub struct ArchivedAtlas;
-
-type AtlasParts = (ArchivedVec<ArchivedDrawing>, (u8, ()));
-
-type AtlasOwned = (Vec<Drawing>, (u8, ()));
-
-impl ArchivePointee for ArchivedAtlas {
-    type ArchivedMetadata = ();
-
-    ghost pointee = { one (parts (part ⟦<ArchivedVec<ArchivedDrawing> as Portable>⟧.shape
-        (part ⟦<u8 as Portable>⟧.shape no_part))) };
-
-    ghost definitions = { no_definition };
-
-    ghost metadata_length = { λ _. 0 };
-
-    fn pointer_metadata(_metadata: &()) -> usize {
-        0
-    }
-}
-
-impl Portable for ArchivedAtlas {
-    ghost shape = { parts (part ⟦<ArchivedVec<ArchivedDrawing> as Portable>⟧.shape
-        (part ⟦<u8 as Portable>⟧.shape no_part)) };
-
-    ghost layout = { record { size = 12; align = 4 } };
-
-    type Check = ArchivedAtlas;
-
-    ghost is_one = { refl };
-
-    ghost is_align = { inr (inr (inl refl)) };
-
-    ghost has_layout = { record { solved = λ s k. refl } };
-
-    ghost no_others = { no_definition_reached (parts (part
-        ⟦<ArchivedVec<ArchivedDrawing> as Portable>⟧.shape
-        (part ⟦<u8 as Portable>⟧.shape no_part))) };
-
-    ghost checks = { λ _. plain_own_check _ _ _ _ _ refl refl refl refl };
-
-    fn size() -> usize {
-        12
-    }
-
-    fn align() -> usize {
-        4
-    }
-
-    fn expr(alloc: Global) -> Result<archive_core::shape::Expr, Error> {
-        expr_of_record::<AtlasParts>(alloc)
-    }
-
-    fn define(_alloc: Global, _defs: &mut Defs) -> Result<(), Error> {
-        Ok(())
-    }
-}
-
-impl SelfCheck for ArchivedAtlas {
-    ghost shape = { parts (part ⟦<ArchivedVec<ArchivedDrawing> as Portable>⟧.shape
-        (part ⟦<u8 as Portable>⟧.shape no_part)) };
-
-    ghost definitions = { (both no_definition (both no_definition no_definition)) };
-
-    ghost span = { 9 };
-
-    ghost direct = { true };
-
-    ghost nameless = { true };
-
-    fn is_direct() -> bool {
-        true
-    }
-
-    fn is_nameless() -> bool {
-        true
-    }
-
-    #[inline(always)]
-    fn check_at<C: ArchiveContext>(
-        bytes: &[u8],
-        at: usize,
-        refusal: &mut Error,
-        context: &mut C,
-    ) -> Option<()> {
-        RecordCheck::<AtlasParts>::check_at(bytes, at, refusal, context)
-    }
-}
-
-impl Record for ArchivedAtlas {
-    type Parts = AtlasParts;
-
-    ghost has_parts = { plain_record (part ⟦<ArchivedVec<ArchivedDrawing> as Portable>⟧.shape
-        (part ⟦<u8 as Portable>⟧.shape no_part)) (both no_definition
-        (both no_definition no_definition)) refl };
-
-    ghost holds = { lit≤ tt };
-}
-
-/// What is kept of `Atlas` between `serialize` and `resolve`.
-#[derive(Drop)]
-pub struct AtlasResolver {
-    kept: (
-        <Vec<Drawing> as Archive>::Resolver,
-        (<u8 as Archive>::Resolver, ()),
-    ),
-}
-
-impl Archive for Atlas {
-    ghost use Rattle.derived_types.specs.contracts.spot.DrawingArchive.TheImpl.Laws.{keyed-law as keyed_of_drawing, planned-law as planned_of_drawing};
-
-    type Archived = ArchivedAtlas;
-
-    type Resolver = AtlasResolver;
-
-    ghost meaning = { λ v. product (value (⟦<Vec<Drawing> as Archive>⟧.meaning v.drawings)
-        (value (⟦<u8 as Archive>⟧.meaning v.pages) no_value)) };
-
-    ghost flat = { λ v r. product (value (⟦<Vec<Drawing> as Archive>⟧.flat v.drawings r.kept.0)
-        (value (⟦<u8 as Archive>⟧.flat v.pages r.kept.1.0) no_value)) };
-
-    ghost keys = { λ v. ⟦<Vec<Drawing> as Archive>⟧.keys v.drawings
-        ++ (⟦<u8 as Archive>⟧.keys v.pages ++ []) };
-
-    ghost belongs = { λ v r. ⟦<Vec<Drawing> as Archive>⟧.belongs v.drawings r.kept.0
-        × (⟦<u8 as Archive>⟧.belongs v.pages r.kept.1.0 × Unit {0}) };
-
-    ghost in_bulk = { None };
-
-    ghost keyed = { λ v. record_keyed (part_keyed (each_keyed ⟦<Drawing as Archive>⟧.keys
-        ⟦<Drawing as Archive>⟧.meaning keyed_of_drawing v.drawings.items)
-        (part_keyed (number_keyed _) nothing_keyed)) };
-
-    ghost planned = { λ v. plain_record_planned (both no_definition
-        (both no_definition no_definition)) (part ⟦<ArchivedVec<ArchivedDrawing> as Portable>⟧.shape
-        (part ⟦<u8 as Portable>⟧.shape no_part)) _ _ (part_planned no_definition
-        ⟦<ArchivedVec<ArchivedDrawing> as Portable>⟧.shape
-        (⟦<Vec<Drawing> as Archive>⟧.keys v.drawings) (⟦<Vec<Drawing> as Archive>⟧.meaning
-        v.drawings) (vec_planned no_definition ⟦<ArchivedDrawing as Portable>⟧.shape _ _ _
-        (slice_planned no_definition ⟦<ArchivedDrawing as Portable>⟧.shape
-        ⟦<Drawing as Archive>⟧.keys ⟦<Drawing as Archive>⟧.meaning planned_of_drawing
-        v.drawings.items)) (part_planned no_definition ⟦<u8 as Portable>⟧.shape
-        (⟦<u8 as Archive>⟧.keys v.pages) (⟦<u8 as Archive>⟧.meaning v.pages)
-        (leaf_planned no_definition _ _ [] _ refl) no_part_planned)) refl };
-
-    #[inline(always)]
-    fn resolve(
-        &self,
-        resolver: Self::Resolver,
-        place: Place<'_, Self::Archived>,
-    ) -> Result<(), Error>
-        requires zeroed { ZeroedPlace 12 place.pos place.bytes.now }
-        requires same_value { ⟦<Self as Archive>⟧.belongs self.now resolver }
-        ensures { ResolvesAs ⟦<Self::Archived as Portable>⟧ place
-            (⟦<Self as Archive>⟧.flat self.now resolver) result }
-    {
-        let Place { bytes, pos, .. } = place;
-        let AtlasResolver { kept } = resolver;
-        resolve_record_2::<Vec<Drawing>, u8, ArchivedAtlas>(
-            &self.drawings,
-            &self.pages,
-            kept,
-            Place::new(pos, bytes),
-        )
-    }
-
-    #[inline(always)]
-    fn copy_optimization() -> CopyOptimization<Self> {
-        CopyOptimization::disable()
-    }
-
-    #[inline(always)]
-    fn serialize_copied<S: Writer + Keys>(
-        _values: &[Self],
-        _together: usize,
-        _serializer: &mut S,
-    ) -> Result<Option<usize>, Error> {
-        Ok(None)
-    }
-}
-
-impl<S: Writer + ResolverAlloc> Serialize<S> for Atlas {
-    #[inline(always)]
-    fn serialize(&self, serializer: &mut S) -> Result<Self::Resolver, Error> {
-        match serialize_record_2::<Vec<Drawing>, u8, ArchivedAtlas, S>(
-            &self.drawings,
-            &self.pages,
-            serializer,
-        ) {
-            Ok(kept) => Ok(AtlasResolver { kept }),
-            Err(error) => Err(error),
-        }
-    }
-}
-
-/// As a region of its own: the value itself.
-impl ArchiveUnsized for Atlas {
-    ghost use Rattle.derived_types.specs.contracts.spot.AtlasArchive.TheImpl.Laws.{keyed-law as keyed_of_atlas, planned-law as planned_of_atlas};
-
-    type Archived = ArchivedAtlas;
-
-    ghost source_length = { λ _. 0 };
-
-    ghost meaning = { ⟦<Atlas as Archive>⟧.meaning };
-
-    ghost keys = { ⟦<Atlas as Archive>⟧.keys };
-
-    ghost keyed = { keyed_of_atlas };
-
-    ghost one_length = { λ _ _. refl };
-
-    ghost planned = { λ v. one_planned no_definition (parts
-        (part ⟦<ArchivedVec<ArchivedDrawing> as Portable>⟧.shape
-        (part ⟦<u8 as Portable>⟧.shape no_part))) (⟦<Atlas as Archive>⟧.keys v)
-        (⟦<Atlas as Archive>⟧.meaning v) (planned_of_atlas v) };
-
-    #[inline(always)]
-    fn archived_metadata(&self) -> Result<(), Error> {
-        Ok(())
-    }
-}
-
-impl<S: Writer + ResolverAlloc> SerializeUnsized<S> for Atlas {
-    #[inline(always)]
-    fn serialize_unsized(&self, serializer: &mut S) -> Result<usize, Error> {
-        serialize_one(self, serializer)
-    }
-}
-
-impl<D: Entries> Deserialize<Atlas, D> for ArchivedAtlas {
-    #[inline(always)]
-    fn deserialize_part(
-        alloc: Global,
-        part: RawView<'_>,
-        deserializer: &mut D,
-    ) -> Result<Atlas, Error>
-        requires { IsPartOf ⟦<Self as ArchivePointee>⟧ part }
-        ensures { ReadsAs ⟦<Self as ArchivePointee>⟧ part D.Entries deserializer
-            ⟦<Atlas as Archive>⟧ result }
-    {
-        match deserialize_record::<Self, AtlasOwned, D>(alloc, part, deserializer) {
-            Ok((a0, (a1, ()))) => Ok(Atlas {
-                drawings: a0,
-                pages: a1,
-            }),
-            Err(error) => Err(error),
-        }
-    }
-}
-
-/// The fields of an archived `Atlas`, as views.
-pub trait AtlasView<'a> {
-    /// All of them.
-    fn drawings(self) -> Ref<'a, ArchivedVec<ArchivedDrawing>>;
-
-    /// A number.
-    fn pages(self) -> Ref<'a, u8>;
-}
-
-impl<'a> AtlasView<'a> for Ref<'a, ArchivedAtlas> {
-    fn drawings(self) -> Ref<'a, ArchivedVec<ArchivedDrawing>>
-        ensures buffer { result.bytes.now ≡ self.entry.bytes.now }
-        ensures position { result.pos ≡ self.entry.pos + 0 }
-        ensures length { result.len ≡ 0 }
-        ensures shows { ShowsValueOf result self.entry (field_in 0) }
-    {
-        part_in_record::<ArchivedAtlas, ArchivedVec<ArchivedDrawing>>(self, 0, 0)
-    }
-
-    fn pages(self) -> Ref<'a, u8>
-        ensures buffer { result.bytes.now ≡ self.entry.bytes.now }
-        ensures position { result.pos ≡ self.entry.pos + 8 }
-        ensures length { result.len ≡ 0 }
-        ensures shows { ShowsValueOf result self.entry (field_in 1) }
-    {
-        part_in_record::<ArchivedAtlas, u8>(self, 1, 8)
-    }
-}
-
-/// The fields of an archived `Atlas`, as seals.
-pub trait AtlasSeal<'a> {
-    // The seal shows a part of a buffer that was checked.
-    ghost sealed: { Self → Type 0 };
-
-    /// All of them.
-    fn drawings_mut(self) -> Seal<'a, ArchivedVec<ArchivedDrawing>>
-        requires { sealed self };
-
-    /// A number.
-    fn pages_mut(self) -> Seal<'a, u8>
-        requires { sealed self };
-}
-
-impl<'a> AtlasSeal<'a> for Seal<'a, ArchivedAtlas> {
-    ghost sealed = { λ s. IsSealOf no_definition (one ⟦<ArchivedAtlas as Portable>⟧.shape) s };
-
-    fn drawings_mut(self) -> Seal<'a, ArchivedVec<ArchivedDrawing>>
-        requires come_to { IsSealOf no_definition (one ⟦<ArchivedAtlas as Portable>⟧.shape) self }
-        ensures { SealsPart no_definition (one ⟦<ArchivedAtlas as Portable>⟧.shape) no_definition
-            ⟦<ArchivedVec<ArchivedDrawing> as ArchivePointee>⟧.pointee (self.entry.pos + 0) 0
-            self.entry result }
-    {
-        sealed_part_in_record::<ArchivedAtlas, ArchivedVec<ArchivedDrawing>>(self, 0, 0)
-    }
-
-    fn pages_mut(self) -> Seal<'a, u8>
-        requires come_to { IsSealOf no_definition (one ⟦<ArchivedAtlas as Portable>⟧.shape) self }
-        ensures { SealsPart no_definition (one ⟦<ArchivedAtlas as Portable>⟧.shape) no_definition
-            ⟦<u8 as ArchivePointee>⟧.pointee (self.entry.pos + 8) 0 self.entry result }
-    {
-        sealed_part_in_record::<ArchivedAtlas, u8>(self, 1, 8)
     }
 }

@@ -12,24 +12,20 @@ pub struct Track {
     pub other: Option<Box<Line>>,
 }
 
-/// What shares runs.
-#[derive(Drop)]
-pub struct Runs {
-    /// Lines.
-    pub lines: SharedSlice<Line>,
-    /// A text.
-    pub text: SharedStr,
-    /// Perhaps a line.
-    pub weak: WeakShared<Line>,
-}
-
 /// What shares, or doesn't.
 #[derive(Drop)]
 pub enum Either {
     /// It doesn't.
     Alone(u8),
     /// It does.
-    Together(Shared<Line>, u8),
+    Together {
+        /// Lines.
+        lines: SharedSlice<Line>,
+        /// A text.
+        text: SharedStr,
+        /// Perhaps a line.
+        weak: WeakShared<Line>,
+    },
 }
 
 // Below this line all is written by tools/derive: change what is above it, and run it again.
@@ -63,9 +59,8 @@ use crate::spot::ArchivedLine;
 use archive_core::boxed::ArchivedBox;
 use archive_core::error::Error;
 use archive_core::fields::{
-    known_tag, part_in_case, part_in_record, read_case, resolve_case_1, resolve_case_2,
-    resolve_record_2, resolve_record_3, serialize_case_1, serialize_case_2, serialize_record_2,
-    serialize_record_3, tag_in,
+    known_tag, part_in_case, part_in_record, read_case, resolve_case_1, resolve_case_3,
+    resolve_record_2, serialize_case_1, serialize_case_3, serialize_record_2, tag_in,
 };
 use archive_core::option::ArchivedOption;
 use archive_core::place::Place;
@@ -223,8 +218,10 @@ impl Archive for Track {
     ) -> Result<(), Error>
         requires zeroed { ZeroedPlace 12 place.pos place.bytes.now }
         requires same_value { ⟦<Self as Archive>⟧.belongs self.now resolver }
-        ensures { ResolvesAs ⟦<Self::Archived as Portable>⟧ place
-            (⟦<Self as Archive>⟧.flat self.now resolver) result }
+        ensures {
+            ResolvesAs ⟦<Self::Archived as Portable>⟧ place
+                (⟦<Self as Archive>⟧.flat self.now resolver) result
+        }
     {
         let Place { bytes, pos, .. } = place;
         let TrackResolver { kept } = resolver;
@@ -387,10 +384,14 @@ impl<'a> TrackSeal<'a> for Seal<'a, ArchivedTrack> {
     }
 }
 
-/// An archived `Runs`: 20 bytes at a multiple of 4.
-pub struct ArchivedRuns;
+/// An archived `Either`: 24 bytes at a multiple of 4.
+pub struct ArchivedEither;
 
-type RunsParts = (
+type EitherAloneParts = (u8, ());
+
+type EitherAloneOwned = (u8, ());
+
+type EitherTogetherParts = (
     ArchivedRc<ArchivedSlice<ArchivedLine>, RcFlavor>,
     (
         ArchivedRc<ArchivedStr, RcFlavor>,
@@ -398,374 +399,7 @@ type RunsParts = (
     ),
 );
 
-type RunsOwned = (SharedSlice<Line>, (SharedStr, (WeakShared<Line>, ())));
-
-impl ArchivePointee for ArchivedRuns {
-    type ArchivedMetadata = ();
-
-    ghost pointee = { one
-        (parts (part ⟦<ArchivedRc<ArchivedSlice<ArchivedLine>, RcFlavor> as Portable>⟧.shape
-        (part ⟦<ArchivedRc<ArchivedStr, RcFlavor> as Portable>⟧.shape
-        (part ⟦<ArchivedRcWeak<ArchivedLine, RcFlavor> as Portable>⟧.shape no_part)))) };
-
-    ghost definitions = { no_definition };
-
-    ghost metadata_length = { λ _. 0 };
-
-    fn pointer_metadata(_metadata: &()) -> usize {
-        0
-    }
-}
-
-impl Portable for ArchivedRuns {
-    ghost shape = { parts
-        (part ⟦<ArchivedRc<ArchivedSlice<ArchivedLine>, RcFlavor> as Portable>⟧.shape
-        (part ⟦<ArchivedRc<ArchivedStr, RcFlavor> as Portable>⟧.shape
-        (part ⟦<ArchivedRcWeak<ArchivedLine, RcFlavor> as Portable>⟧.shape no_part))) };
-
-    ghost layout = { record { size = 20; align = 4 } };
-
-    type Check = BySchema;
-
-    ghost is_one = { refl };
-
-    ghost is_align = { inr (inr (inl refl)) };
-
-    ghost has_layout = { record { solved = λ s k. refl } };
-
-    ghost no_others = { no_definition_reached (parts (part
-        ⟦<ArchivedRc<ArchivedSlice<ArchivedLine>, RcFlavor> as Portable>⟧.shape
-        (part ⟦<ArchivedRc<ArchivedStr, RcFlavor> as Portable>⟧.shape
-        (part ⟦<ArchivedRcWeak<ArchivedLine, RcFlavor> as Portable>⟧.shape no_part)))) };
-
-    ghost checks = { λ direct. by_schema direct };
-
-    fn size() -> usize {
-        20
-    }
-
-    fn align() -> usize {
-        4
-    }
-
-    fn expr(alloc: Global) -> Result<archive_core::shape::Expr, Error> {
-        expr_of_record::<RunsParts>(alloc)
-    }
-
-    fn define(_alloc: Global, _defs: &mut Defs) -> Result<(), Error> {
-        Ok(())
-    }
-}
-
-impl Record for ArchivedRuns {
-    type Parts = RunsParts;
-
-    ghost has_parts = { plain_record
-        (part ⟦<ArchivedRc<ArchivedSlice<ArchivedLine>, RcFlavor> as Portable>⟧.shape
-        (part ⟦<ArchivedRc<ArchivedStr, RcFlavor> as Portable>⟧.shape
-        (part ⟦<ArchivedRcWeak<ArchivedLine, RcFlavor> as Portable>⟧.shape no_part)))
-        (both no_definition (both no_definition (both no_definition no_definition))) refl };
-
-    ghost holds = { lit≤ tt };
-}
-
-/// What is kept of `Runs` between `serialize` and `resolve`.
-#[derive(Drop)]
-pub struct RunsResolver {
-    kept: (
-        <SharedSlice<Line> as Archive>::Resolver,
-        (
-            <SharedStr as Archive>::Resolver,
-            (<WeakShared<Line> as Archive>::Resolver, ()),
-        ),
-    ),
-}
-
-impl Archive for Runs {
-    ghost use Rattle.derived_types.specs.contracts.spot.LineArchive.TheImpl.Laws.{keyed-law as keyed_of_line, planned-law as planned_of_line};
-
-    type Archived = ArchivedRuns;
-
-    type Resolver = RunsResolver;
-
-    ghost meaning = { λ v. product (value (⟦<SharedSlice<Line> as Archive>⟧.meaning v.lines)
-        (value (⟦<SharedStr as Archive>⟧.meaning v.text)
-        (value (⟦<WeakShared<Line> as Archive>⟧.meaning v.weak) no_value))) };
-
-    ghost flat = { λ v r. product (value (⟦<SharedSlice<Line> as Archive>⟧.flat v.lines r.kept.0)
-        (value (⟦<SharedStr as Archive>⟧.flat v.text r.kept.1.0)
-        (value (⟦<WeakShared<Line> as Archive>⟧.flat v.weak r.kept.1.1.0) no_value))) };
-
-    ghost keys = { λ v. ⟦<SharedSlice<Line> as Archive>⟧.keys v.lines
-        ++ (⟦<SharedStr as Archive>⟧.keys v.text ++ (⟦<WeakShared<Line> as Archive>⟧.keys v.weak
-        ++ [])) };
-
-    ghost belongs = { λ v r. ⟦<SharedSlice<Line> as Archive>⟧.belongs v.lines r.kept.0
-        × (⟦<SharedStr as Archive>⟧.belongs v.text r.kept.1.0
-        × (⟦<WeakShared<Line> as Archive>⟧.belongs v.weak r.kept.1.1.0 × Unit {0})) };
-
-    ghost in_bulk = { None };
-
-    ghost keyed = { λ v. record_keyed (part_keyed (rc_keyed v.lines.key
-        (run ⟦<ArchivedLine as Portable>⟧.shape) (length (rc_slice_items v.lines.value))
-        (list (each_meaning ⟦<Line as Archive>⟧.meaning (rc_slice_items v.lines.value)))
-        (each_keys ⟦<Line as Archive>⟧.keys (rc_slice_items v.lines.value))
-        (each_keyed ⟦<Line as Archive>⟧.keys ⟦<Line as Archive>⟧.meaning keyed_of_line
-        (rc_slice_items v.lines.value))) (part_keyed (rc_keyed v.text.key text
-        (length (rc_str_bytes v.text.value)) (text_value (rc_str_bytes v.text.value)) []
-        (text_keyed (rc_str_bytes v.text.value))) (part_keyed
-        (weak_keyed (λ s. rc_keys s.key ⟦<ArchivedLine as ArchivePointee>⟧.pointee 0
-        (⟦<Line as Archive>⟧.meaning s.value.value) (⟦<Line as Archive>⟧.keys s.value.value))
-        (λ s. shared_value s.key) (λ s. rc_keyed s.key ⟦<ArchivedLine as ArchivePointee>⟧.pointee 0
-        (⟦<Line as Archive>⟧.meaning s.value.value) (⟦<Line as Archive>⟧.keys s.value.value)
-        (keyed_of_line s.value.value)) v.weak.value) nothing_keyed))) };
-
-    ghost planned = { λ v. plain_record_planned (both no_definition
-        (both no_definition (both no_definition no_definition)))
-        (part ⟦<ArchivedRc<ArchivedSlice<ArchivedLine>, RcFlavor> as Portable>⟧.shape
-        (part ⟦<ArchivedRc<ArchivedStr, RcFlavor> as Portable>⟧.shape
-        (part ⟦<ArchivedRcWeak<ArchivedLine, RcFlavor> as Portable>⟧.shape no_part))) _ _
-        (part_planned no_definition
-        ⟦<ArchivedRc<ArchivedSlice<ArchivedLine>, RcFlavor> as Portable>⟧.shape
-        (⟦<SharedSlice<Line> as Archive>⟧.keys v.lines)
-        (⟦<SharedSlice<Line> as Archive>⟧.meaning v.lines)
-        (rc_planned no_definition v.lines.key (run ⟦<ArchivedLine as Portable>⟧.shape)
-        (length (rc_slice_items v.lines.value)) (list (each_meaning ⟦<Line as Archive>⟧.meaning
-        (rc_slice_items v.lines.value))) (each_keys ⟦<Line as Archive>⟧.keys
-        (rc_slice_items v.lines.value)) (slice_planned no_definition
-        ⟦<ArchivedLine as Portable>⟧.shape ⟦<Line as Archive>⟧.keys ⟦<Line as Archive>⟧.meaning
-        planned_of_line (rc_slice_items v.lines.value)))
-        (part_planned no_definition ⟦<ArchivedRc<ArchivedStr, RcFlavor> as Portable>⟧.shape
-        (⟦<SharedStr as Archive>⟧.keys v.text) (⟦<SharedStr as Archive>⟧.meaning v.text)
-        (rc_planned no_definition v.text.key text (length (rc_str_bytes v.text.value))
-        (text_value (rc_str_bytes v.text.value)) [] (text_planned no_definition []
-        (rc_str_bytes v.text.value))) (part_planned no_definition
-        ⟦<ArchivedRcWeak<ArchivedLine, RcFlavor> as Portable>⟧.shape
-        (⟦<WeakShared<Line> as Archive>⟧.keys v.weak) (⟦<WeakShared<Line> as Archive>⟧.meaning
-        v.weak) (weak_planned no_definition rc_flavor ⟦<ArchivedLine as ArchivePointee>⟧.pointee
-        (λ s. rc_keys s.key ⟦<ArchivedLine as ArchivePointee>⟧.pointee 0
-        (⟦<Line as Archive>⟧.meaning s.value.value) (⟦<Line as Archive>⟧.keys s.value.value))
-        (λ s. shared_value s.key) (λ s. rc_one_planned no_definition s.key
-        ⟦<ArchivedLine as ArchivePointee>⟧.pointee ⟦<ArchivedLine as Portable>⟧.shape refl
-        (⟦<Line as Archive>⟧.meaning s.value.value) (⟦<Line as Archive>⟧.keys s.value.value)
-        (planned_of_line s.value.value)) v.weak.value) no_part_planned))) refl };
-
-    #[inline(always)]
-    fn resolve(
-        &self,
-        resolver: Self::Resolver,
-        place: Place<'_, Self::Archived>,
-    ) -> Result<(), Error>
-        requires zeroed { ZeroedPlace 20 place.pos place.bytes.now }
-        requires same_value { ⟦<Self as Archive>⟧.belongs self.now resolver }
-        ensures { ResolvesAs ⟦<Self::Archived as Portable>⟧ place
-            (⟦<Self as Archive>⟧.flat self.now resolver) result }
-    {
-        let Place { bytes, pos, .. } = place;
-        let RunsResolver { kept } = resolver;
-        resolve_record_3::<SharedSlice<Line>, SharedStr, WeakShared<Line>, ArchivedRuns>(
-            &self.lines,
-            &self.text,
-            &self.weak,
-            kept,
-            Place::new(pos, bytes),
-        )
-    }
-
-    #[inline(always)]
-    fn copy_optimization() -> CopyOptimization<Self> {
-        CopyOptimization::disable()
-    }
-
-    #[inline(always)]
-    fn serialize_copied<S: Writer + Keys>(
-        _values: &[Self],
-        _together: usize,
-        _serializer: &mut S,
-    ) -> Result<Option<usize>, Error> {
-        Ok(None)
-    }
-}
-
-impl<S: Sharing + Writer + ResolverAlloc> Serialize<S> for Runs {
-    #[inline(always)]
-    fn serialize(&self, serializer: &mut S) -> Result<Self::Resolver, Error> {
-        match serialize_record_3::<SharedSlice<Line>, SharedStr, WeakShared<Line>, ArchivedRuns, S>(
-            &self.lines,
-            &self.text,
-            &self.weak,
-            serializer,
-        ) {
-            Ok(kept) => Ok(RunsResolver { kept }),
-            Err(error) => Err(error),
-        }
-    }
-}
-
-/// As a region of its own: the value itself.
-impl ArchiveUnsized for Runs {
-    ghost use Rattle.derived_types.specs.contracts.track.RunsArchive.TheImpl.Laws.{keyed-law as keyed_of_runs, planned-law as planned_of_runs};
-
-    type Archived = ArchivedRuns;
-
-    ghost source_length = { λ _. 0 };
-
-    ghost meaning = { ⟦<Runs as Archive>⟧.meaning };
-
-    ghost keys = { ⟦<Runs as Archive>⟧.keys };
-
-    ghost keyed = { keyed_of_runs };
-
-    ghost one_length = { λ _ _. refl };
-
-    ghost planned = { λ v. one_planned no_definition (parts
-        (part ⟦<ArchivedRc<ArchivedSlice<ArchivedLine>, RcFlavor> as Portable>⟧.shape
-        (part ⟦<ArchivedRc<ArchivedStr, RcFlavor> as Portable>⟧.shape
-        (part ⟦<ArchivedRcWeak<ArchivedLine, RcFlavor> as Portable>⟧.shape no_part))))
-        (⟦<Runs as Archive>⟧.keys v) (⟦<Runs as Archive>⟧.meaning v) (planned_of_runs v) };
-
-    #[inline(always)]
-    fn archived_metadata(&self) -> Result<(), Error> {
-        Ok(())
-    }
-}
-
-impl<S: Sharing + Writer + ResolverAlloc> SerializeUnsized<S> for Runs {
-    #[inline(always)]
-    fn serialize_unsized(&self, serializer: &mut S) -> Result<usize, Error> {
-        serialize_one(self, serializer)
-    }
-}
-
-impl<D: Pooling<SharedSlice<Line>> + Pooling<SharedStr> + Pooling<Shared<Line>>> Deserialize<
-    Runs,
-    D,
-> for ArchivedRuns {
-    #[inline(always)]
-    fn deserialize_part(
-        alloc: Global,
-        part: RawView<'_>,
-        deserializer: &mut D,
-    ) -> Result<Runs, Error>
-        requires { IsPartOf ⟦<Self as ArchivePointee>⟧ part }
-        ensures { ReadsAs ⟦<Self as ArchivePointee>⟧ part D.Entries deserializer ⟦<Runs as Archive>⟧
-            result }
-    {
-        match deserialize_record::<Self, RunsOwned, D>(alloc, part, deserializer) {
-            Ok((a0, (a1, (a2, ())))) => Ok(Runs {
-                lines: a0,
-                text: a1,
-                weak: a2,
-            }),
-            Err(error) => Err(error),
-        }
-    }
-}
-
-/// The fields of an archived `Runs`, as views.
-pub trait RunsView<'a> {
-    /// Lines.
-    fn lines(self) -> Ref<'a, ArchivedRc<ArchivedSlice<ArchivedLine>, RcFlavor>>;
-
-    /// A text.
-    fn text(self) -> Ref<'a, ArchivedRc<ArchivedStr, RcFlavor>>;
-
-    /// Perhaps a line.
-    fn weak(self) -> Ref<'a, ArchivedRcWeak<ArchivedLine, RcFlavor>>;
-}
-
-impl<'a> RunsView<'a> for Ref<'a, ArchivedRuns> {
-    fn lines(self) -> Ref<'a, ArchivedRc<ArchivedSlice<ArchivedLine>, RcFlavor>>
-        ensures buffer { result.bytes.now ≡ self.entry.bytes.now }
-        ensures position { result.pos ≡ self.entry.pos + 0 }
-        ensures length { result.len ≡ 0 }
-        ensures shows { ShowsValueOf result self.entry (field_in 0) }
-    {
-        part_in_record::<ArchivedRuns, ArchivedRc<ArchivedSlice<ArchivedLine>, RcFlavor>>(
-            self, 0, 0,
-        )
-    }
-
-    fn text(self) -> Ref<'a, ArchivedRc<ArchivedStr, RcFlavor>>
-        ensures buffer { result.bytes.now ≡ self.entry.bytes.now }
-        ensures position { result.pos ≡ self.entry.pos + 8 }
-        ensures length { result.len ≡ 0 }
-        ensures shows { ShowsValueOf result self.entry (field_in 1) }
-    {
-        part_in_record::<ArchivedRuns, ArchivedRc<ArchivedStr, RcFlavor>>(self, 1, 8)
-    }
-
-    fn weak(self) -> Ref<'a, ArchivedRcWeak<ArchivedLine, RcFlavor>>
-        ensures buffer { result.bytes.now ≡ self.entry.bytes.now }
-        ensures position { result.pos ≡ self.entry.pos + 16 }
-        ensures length { result.len ≡ 0 }
-        ensures shows { ShowsValueOf result self.entry (field_in 2) }
-    {
-        part_in_record::<ArchivedRuns, ArchivedRcWeak<ArchivedLine, RcFlavor>>(self, 2, 16)
-    }
-}
-
-/// The fields of an archived `Runs`, as seals.
-pub trait RunsSeal<'a> {
-    // The seal shows a part of a buffer that was checked.
-    ghost sealed: { Self → Type 0 };
-
-    /// Lines.
-    fn lines_mut(self) -> Seal<'a, ArchivedRc<ArchivedSlice<ArchivedLine>, RcFlavor>>
-        requires { sealed self };
-
-    /// A text.
-    fn text_mut(self) -> Seal<'a, ArchivedRc<ArchivedStr, RcFlavor>>
-        requires { sealed self };
-
-    /// Perhaps a line.
-    fn weak_mut(self) -> Seal<'a, ArchivedRcWeak<ArchivedLine, RcFlavor>>
-        requires { sealed self };
-}
-
-impl<'a> RunsSeal<'a> for Seal<'a, ArchivedRuns> {
-    ghost sealed = { λ s. IsSealOf no_definition (one ⟦<ArchivedRuns as Portable>⟧.shape) s };
-
-    fn lines_mut(self) -> Seal<'a, ArchivedRc<ArchivedSlice<ArchivedLine>, RcFlavor>>
-        requires come_to { IsSealOf no_definition (one ⟦<ArchivedRuns as Portable>⟧.shape) self }
-        ensures { SealsPart no_definition (one ⟦<ArchivedRuns as Portable>⟧.shape) no_definition
-            ⟦<ArchivedRc<ArchivedSlice<ArchivedLine>, RcFlavor> as ArchivePointee>⟧.pointee
-            (self.entry.pos + 0) 0 self.entry result }
-    {
-        sealed_part_in_record::<ArchivedRuns, ArchivedRc<ArchivedSlice<ArchivedLine>, RcFlavor>>(
-            self, 0, 0,
-        )
-    }
-
-    fn text_mut(self) -> Seal<'a, ArchivedRc<ArchivedStr, RcFlavor>>
-        requires come_to { IsSealOf no_definition (one ⟦<ArchivedRuns as Portable>⟧.shape) self }
-        ensures { SealsPart no_definition (one ⟦<ArchivedRuns as Portable>⟧.shape) no_definition
-            ⟦<ArchivedRc<ArchivedStr, RcFlavor> as ArchivePointee>⟧.pointee (self.entry.pos + 8) 0
-            self.entry result }
-    {
-        sealed_part_in_record::<ArchivedRuns, ArchivedRc<ArchivedStr, RcFlavor>>(self, 1, 8)
-    }
-
-    fn weak_mut(self) -> Seal<'a, ArchivedRcWeak<ArchivedLine, RcFlavor>>
-        requires come_to { IsSealOf no_definition (one ⟦<ArchivedRuns as Portable>⟧.shape) self }
-        ensures { SealsPart no_definition (one ⟦<ArchivedRuns as Portable>⟧.shape) no_definition
-            ⟦<ArchivedRcWeak<ArchivedLine, RcFlavor> as ArchivePointee>⟧.pointee
-            (self.entry.pos + 16) 0 self.entry result }
-    {
-        sealed_part_in_record::<ArchivedRuns, ArchivedRcWeak<ArchivedLine, RcFlavor>>(self, 2, 16)
-    }
-}
-
-/// An archived `Either`: 12 bytes at a multiple of 4.
-pub struct ArchivedEither;
-
-type EitherAloneParts = (u8, ());
-
-type EitherAloneOwned = (u8, ());
-
-type EitherTogetherParts = (ArchivedRc<ArchivedLine, RcFlavor>, (u8, ()));
-
-type EitherTogetherOwned = (Shared<Line>, (u8, ()));
+type EitherTogetherOwned = (SharedSlice<Line>, (SharedStr, (WeakShared<Line>, ())));
 
 type EitherVariants = (EitherAloneParts, (EitherTogetherParts, ()));
 
@@ -774,8 +408,10 @@ impl ArchivePointee for ArchivedEither {
 
     ghost pointee = { one (choice (codes "ArchivedEither")
         (variant (part ⟦<u8 as Portable>⟧.shape no_part)
-        (variant (part ⟦<ArchivedRc<ArchivedLine, RcFlavor> as Portable>⟧.shape
-        (part ⟦<u8 as Portable>⟧.shape no_part)) no_variant))) };
+        (variant (part ⟦<ArchivedRc<ArchivedSlice<ArchivedLine>, RcFlavor> as Portable>⟧.shape
+        (part ⟦<ArchivedRc<ArchivedStr, RcFlavor> as Portable>⟧.shape
+        (part ⟦<ArchivedRcWeak<ArchivedLine, RcFlavor> as Portable>⟧.shape no_part)))
+        no_variant))) };
 
     ghost definitions = { no_definition };
 
@@ -788,10 +424,12 @@ impl ArchivePointee for ArchivedEither {
 
 impl Portable for ArchivedEither {
     ghost shape = { choice (codes "ArchivedEither") (variant (part ⟦<u8 as Portable>⟧.shape no_part)
-        (variant (part ⟦<ArchivedRc<ArchivedLine, RcFlavor> as Portable>⟧.shape
-        (part ⟦<u8 as Portable>⟧.shape no_part)) no_variant)) };
+        (variant (part ⟦<ArchivedRc<ArchivedSlice<ArchivedLine>, RcFlavor> as Portable>⟧.shape
+        (part ⟦<ArchivedRc<ArchivedStr, RcFlavor> as Portable>⟧.shape
+        (part ⟦<ArchivedRcWeak<ArchivedLine, RcFlavor> as Portable>⟧.shape no_part)))
+        no_variant)) };
 
-    ghost layout = { record { size = 12; align = 4 } };
+    ghost layout = { record { size = 24; align = 4 } };
 
     type Check = BySchema;
 
@@ -803,13 +441,15 @@ impl Portable for ArchivedEither {
 
     ghost no_others = { no_definition_reached (choice (codes "ArchivedEither")
         (variant (part ⟦<u8 as Portable>⟧.shape no_part)
-        (variant (part ⟦<ArchivedRc<ArchivedLine, RcFlavor> as Portable>⟧.shape
-        (part ⟦<u8 as Portable>⟧.shape no_part)) no_variant))) };
+        (variant (part ⟦<ArchivedRc<ArchivedSlice<ArchivedLine>, RcFlavor> as Portable>⟧.shape
+        (part ⟦<ArchivedRc<ArchivedStr, RcFlavor> as Portable>⟧.shape
+        (part ⟦<ArchivedRcWeak<ArchivedLine, RcFlavor> as Portable>⟧.shape no_part)))
+        no_variant))) };
 
     ghost checks = { λ direct. by_schema direct };
 
     fn size() -> usize {
-        12
+        24
     }
 
     fn align() -> usize {
@@ -832,10 +472,11 @@ impl Choice for ArchivedEither {
 
     ghost has_variants = { plain_choice (codes "ArchivedEither")
         (variant (part ⟦<u8 as Portable>⟧.shape no_part)
-        (variant (part ⟦<ArchivedRc<ArchivedLine, RcFlavor> as Portable>⟧.shape
-        (part ⟦<u8 as Portable>⟧.shape no_part)) no_variant))
+        (variant (part ⟦<ArchivedRc<ArchivedSlice<ArchivedLine>, RcFlavor> as Portable>⟧.shape
+        (part ⟦<ArchivedRc<ArchivedStr, RcFlavor> as Portable>⟧.shape
+        (part ⟦<ArchivedRcWeak<ArchivedLine, RcFlavor> as Portable>⟧.shape no_part))) no_variant))
         (both (both no_definition no_definition) (both (both no_definition
-        (both no_definition no_definition)) no_definition)) refl };
+        (both no_definition (both no_definition no_definition))) no_definition)) refl };
 
     ghost holds = { lit≤ tt };
 }
@@ -848,8 +489,11 @@ pub enum EitherResolver {
     /// Of `Together`.
     Together(
         (
-            <Shared<Line> as Archive>::Resolver,
-            (<u8 as Archive>::Resolver, ()),
+            <SharedSlice<Line> as Archive>::Resolver,
+            (
+                <SharedStr as Archive>::Resolver,
+                (<WeakShared<Line> as Archive>::Resolver, ()),
+            ),
         ),
     ),
 }
@@ -865,8 +509,9 @@ impl Archive for Either {
 
     ghost meaning = { elim [
       | EitherAlone a0 ↦ case 0 (value (⟦<u8 as Archive>⟧.meaning a0) no_value)
-      | EitherTogether a0 a1 ↦ case 1 (value (⟦<Shared<Line> as Archive>⟧.meaning a0)
-          (value (⟦<u8 as Archive>⟧.meaning a1) no_value))
+      | EitherTogether a0 a1 a2 ↦ case 1 (value (⟦<SharedSlice<Line> as Archive>⟧.meaning a0)
+          (value (⟦<SharedStr as Archive>⟧.meaning a1) (value
+          (⟦<WeakShared<Line> as Archive>⟧.meaning a2) no_value)))
     ] };
 
     ghost flat = { λ v r. elim v [
@@ -874,17 +519,18 @@ impl Archive for Either {
         | EitherAloneKept s ↦ case 0 (value (⟦<u8 as Archive>⟧.flat a0 s.0) no_value)
         | _ ↦ case 0 no_value
       ]
-      | EitherTogether a0 a1 ↦ elim r [
-        | EitherTogetherKept s ↦ case 1 (value (⟦<Shared<Line> as Archive>⟧.flat a0 s.0)
-            (value (⟦<u8 as Archive>⟧.flat a1 s.1.0) no_value))
+      | EitherTogether a0 a1 a2 ↦ elim r [
+        | EitherTogetherKept s ↦ case 1 (value (⟦<SharedSlice<Line> as Archive>⟧.flat a0 s.0)
+            (value (⟦<SharedStr as Archive>⟧.flat a1 s.1.0)
+            (value (⟦<WeakShared<Line> as Archive>⟧.flat a2 s.1.1.0) no_value)))
         | _ ↦ case 1 no_value
       ]
     ] };
 
     ghost keys = { elim [
       | EitherAlone a0 ↦ ⟦<u8 as Archive>⟧.keys a0 ++ []
-      | EitherTogether a0 a1 ↦ ⟦<Shared<Line> as Archive>⟧.keys a0
-          ++ (⟦<u8 as Archive>⟧.keys a1 ++ [])
+      | EitherTogether a0 a1 a2 ↦ ⟦<SharedSlice<Line> as Archive>⟧.keys a0
+          ++ (⟦<SharedStr as Archive>⟧.keys a1 ++ (⟦<WeakShared<Line> as Archive>⟧.keys a2 ++ []))
     ] };
 
     ghost belongs = { λ v r. elim v [
@@ -892,9 +538,10 @@ impl Archive for Either {
         | EitherAloneKept s ↦ ⟦<u8 as Archive>⟧.belongs a0 s.0 × Unit {0}
         | _ ↦ ⊥
       ]
-      | EitherTogether a0 a1 ↦ elim r [
-        | EitherTogetherKept s ↦ ⟦<Shared<Line> as Archive>⟧.belongs a0 s.0
-            × (⟦<u8 as Archive>⟧.belongs a1 s.1.0 × Unit {0})
+      | EitherTogether a0 a1 a2 ↦ elim r [
+        | EitherTogetherKept s ↦ ⟦<SharedSlice<Line> as Archive>⟧.belongs a0 s.0
+            × (⟦<SharedStr as Archive>⟧.belongs a1 s.1.0 × (⟦<WeakShared<Line> as Archive>⟧.belongs
+            a2 s.1.1.0 × Unit {0}))
         | _ ↦ ⊥
       ]
     ] };
@@ -903,10 +550,19 @@ impl Archive for Either {
 
     ghost keyed = { elim [
       | EitherAlone a0 ↦ case_keyed _ 0 _ (part_keyed (number_keyed _) nothing_keyed)
-      | EitherTogether a0 a1 ↦ case_keyed _ 1 _ (part_keyed
-          (rc_keyed a0.key ⟦<ArchivedLine as ArchivePointee>⟧.pointee 0
-          (⟦<Line as Archive>⟧.meaning a0.value.value) (⟦<Line as Archive>⟧.keys a0.value.value)
-          (keyed_of_line a0.value.value)) (part_keyed (number_keyed _) nothing_keyed))
+      | EitherTogether a0 a1 a2 ↦ case_keyed _ 1 _ (part_keyed
+          (rc_keyed a0.key (run ⟦<ArchivedLine as Portable>⟧.shape)
+          (length (rc_slice_items a0.value)) (list (each_meaning ⟦<Line as Archive>⟧.meaning
+          (rc_slice_items a0.value))) (each_keys ⟦<Line as Archive>⟧.keys (rc_slice_items a0.value))
+          (each_keyed ⟦<Line as Archive>⟧.keys ⟦<Line as Archive>⟧.meaning keyed_of_line
+          (rc_slice_items a0.value))) (part_keyed (rc_keyed a1.key text
+          (length (rc_str_bytes a1.value)) (text_value (rc_str_bytes a1.value)) []
+          (text_keyed (rc_str_bytes a1.value))) (part_keyed
+          (weak_keyed (λ s. rc_keys s.key ⟦<ArchivedLine as ArchivePointee>⟧.pointee 0
+          (⟦<Line as Archive>⟧.meaning s.value.value) (⟦<Line as Archive>⟧.keys s.value.value))
+          (λ s. shared_value s.key) (λ s. rc_keyed s.key ⟦<ArchivedLine as ArchivePointee>⟧.pointee
+          0 (⟦<Line as Archive>⟧.meaning s.value.value) (⟦<Line as Archive>⟧.keys s.value.value)
+          (keyed_of_line s.value.value)) a2.value) nothing_keyed)))
     ] };
 
     ghost planned = { elim [
@@ -914,18 +570,33 @@ impl Archive for Either {
           (both no_definition no_definition) _ _ (part_planned no_definition
           ⟦<u8 as Portable>⟧.shape (⟦<u8 as Archive>⟧.keys a0) (⟦<u8 as Archive>⟧.meaning a0)
           (leaf_planned no_definition _ _ [] _ refl) no_part_planned) refl
-      | EitherTogether a0 a1 ↦ plain_variant_planned _ _ 1
-          (part ⟦<ArchivedRc<ArchivedLine, RcFlavor> as Portable>⟧.shape
-          (part ⟦<u8 as Portable>⟧.shape no_part)) refl (both no_definition
-          (both no_definition no_definition)) _ _ (part_planned no_definition
-          ⟦<ArchivedRc<ArchivedLine, RcFlavor> as Portable>⟧.shape
-          (⟦<Shared<Line> as Archive>⟧.keys a0) (⟦<Shared<Line> as Archive>⟧.meaning a0)
-          (rc_one_planned no_definition a0.key ⟦<ArchivedLine as ArchivePointee>⟧.pointee
-          ⟦<ArchivedLine as Portable>⟧.shape refl (⟦<Line as Archive>⟧.meaning a0.value.value)
-          (⟦<Line as Archive>⟧.keys a0.value.value) (planned_of_line a0.value.value))
-          (part_planned no_definition ⟦<u8 as Portable>⟧.shape (⟦<u8 as Archive>⟧.keys a1)
-          (⟦<u8 as Archive>⟧.meaning a1) (leaf_planned no_definition _ _ [] _ refl)
-          no_part_planned)) refl
+      | EitherTogether a0 a1 a2 ↦ plain_variant_planned _ _ 1
+          (part ⟦<ArchivedRc<ArchivedSlice<ArchivedLine>, RcFlavor> as Portable>⟧.shape
+          (part ⟦<ArchivedRc<ArchivedStr, RcFlavor> as Portable>⟧.shape
+          (part ⟦<ArchivedRcWeak<ArchivedLine, RcFlavor> as Portable>⟧.shape no_part))) refl
+          (both no_definition (both no_definition (both no_definition no_definition))) _ _
+          (part_planned no_definition
+          ⟦<ArchivedRc<ArchivedSlice<ArchivedLine>, RcFlavor> as Portable>⟧.shape
+          (⟦<SharedSlice<Line> as Archive>⟧.keys a0) (⟦<SharedSlice<Line> as Archive>⟧.meaning a0)
+          (rc_planned no_definition a0.key (run ⟦<ArchivedLine as Portable>⟧.shape)
+          (length (rc_slice_items a0.value)) (list (each_meaning ⟦<Line as Archive>⟧.meaning
+          (rc_slice_items a0.value))) (each_keys ⟦<Line as Archive>⟧.keys (rc_slice_items a0.value))
+          (slice_planned no_definition ⟦<ArchivedLine as Portable>⟧.shape ⟦<Line as Archive>⟧.keys
+          ⟦<Line as Archive>⟧.meaning planned_of_line (rc_slice_items a0.value)))
+          (part_planned no_definition ⟦<ArchivedRc<ArchivedStr, RcFlavor> as Portable>⟧.shape
+          (⟦<SharedStr as Archive>⟧.keys a1) (⟦<SharedStr as Archive>⟧.meaning a1)
+          (rc_planned no_definition a1.key text (length (rc_str_bytes a1.value))
+          (text_value (rc_str_bytes a1.value)) [] (text_planned no_definition []
+          (rc_str_bytes a1.value))) (part_planned no_definition
+          ⟦<ArchivedRcWeak<ArchivedLine, RcFlavor> as Portable>⟧.shape
+          (⟦<WeakShared<Line> as Archive>⟧.keys a2) (⟦<WeakShared<Line> as Archive>⟧.meaning a2)
+          (weak_planned no_definition rc_flavor ⟦<ArchivedLine as ArchivePointee>⟧.pointee
+          (λ s. rc_keys s.key ⟦<ArchivedLine as ArchivePointee>⟧.pointee 0
+          (⟦<Line as Archive>⟧.meaning s.value.value) (⟦<Line as Archive>⟧.keys s.value.value))
+          (λ s. shared_value s.key) (λ s. rc_one_planned no_definition s.key
+          ⟦<ArchivedLine as ArchivePointee>⟧.pointee ⟦<ArchivedLine as Portable>⟧.shape refl
+          (⟦<Line as Archive>⟧.meaning s.value.value) (⟦<Line as Archive>⟧.keys s.value.value)
+          (planned_of_line s.value.value)) a2.value) no_part_planned))) refl
     ] };
 
     #[inline(always)]
@@ -934,10 +605,12 @@ impl Archive for Either {
         resolver: Self::Resolver,
         place: Place<'_, Self::Archived>,
     ) -> Result<(), Error>
-        requires zeroed { ZeroedPlace 12 place.pos place.bytes.now }
+        requires zeroed { ZeroedPlace 24 place.pos place.bytes.now }
         requires same_value { ⟦<Self as Archive>⟧.belongs self.now resolver }
-        ensures { ResolvesAs ⟦<Self::Archived as Portable>⟧ place
-            (⟦<Self as Archive>⟧.flat self.now resolver) result }
+        ensures {
+            ResolvesAs ⟦<Self::Archived as Portable>⟧ place
+                (⟦<Self as Archive>⟧.flat self.now resolver) result
+        }
     {
         let Place { bytes, pos, .. } = place;
         match self {
@@ -947,14 +620,15 @@ impl Archive for Either {
                 };
                 resolve_case_1::<u8, ArchivedEither>(0, a0, kept, Place::new(pos, bytes))
             }
-            Either::Together(a0, a1) => {
+            Either::Together { lines: a0, text: a1, weak: a2 } => {
                 let EitherResolver::Together(kept) = resolver else {
                     unreachable!();
                 };
-                resolve_case_2::<Shared<Line>, u8, ArchivedEither>(
+                resolve_case_3::<SharedSlice<Line>, SharedStr, WeakShared<Line>, ArchivedEither>(
                     1,
                     a0,
                     a1,
+                    a2,
                     kept,
                     Place::new(pos, bytes),
                 )
@@ -987,12 +661,13 @@ impl<S: Sharing + Writer + ResolverAlloc> Serialize<S> for Either {
                 Ok(kept) => Ok(EitherResolver::Alone(kept)),
                 Err(error) => Err(error),
             },
-            Either::Together(a0, a1) => match serialize_case_2::<
-                Shared<Line>,
-                u8,
+            Either::Together { lines: a0, text: a1, weak: a2 } => match serialize_case_3::<
+                SharedSlice<Line>,
+                SharedStr,
+                WeakShared<Line>,
                 ArchivedEither,
                 S,
-            >(1, a0, a1, serializer)
+            >(1, a0, a1, a2, serializer)
             {
                 Ok(kept) => Ok(EitherResolver::Together(kept)),
                 Err(error) => Err(error),
@@ -1019,9 +694,10 @@ impl ArchiveUnsized for Either {
 
     ghost planned = { λ v. one_planned no_definition (choice (codes "ArchivedEither")
         (variant (part ⟦<u8 as Portable>⟧.shape no_part)
-        (variant (part ⟦<ArchivedRc<ArchivedLine, RcFlavor> as Portable>⟧.shape
-        (part ⟦<u8 as Portable>⟧.shape no_part)) no_variant))) (⟦<Either as Archive>⟧.keys v)
-        (⟦<Either as Archive>⟧.meaning v) (planned_of_either v) };
+        (variant (part ⟦<ArchivedRc<ArchivedSlice<ArchivedLine>, RcFlavor> as Portable>⟧.shape
+        (part ⟦<ArchivedRc<ArchivedStr, RcFlavor> as Portable>⟧.shape
+        (part ⟦<ArchivedRcWeak<ArchivedLine, RcFlavor> as Portable>⟧.shape no_part))) no_variant)))
+        (⟦<Either as Archive>⟧.keys v) (⟦<Either as Archive>⟧.meaning v) (planned_of_either v) };
 
     #[inline(always)]
     fn archived_metadata(&self) -> Result<(), Error> {
@@ -1036,7 +712,10 @@ impl<S: Sharing + Writer + ResolverAlloc> SerializeUnsized<S> for Either {
     }
 }
 
-impl<D: Pooling<Shared<Line>>> Deserialize<Either, D> for ArchivedEither {
+impl<D: Pooling<SharedSlice<Line>> + Pooling<SharedStr> + Pooling<Shared<Line>>> Deserialize<
+    Either,
+    D,
+> for ArchivedEither {
     #[inline(always)]
     fn deserialize_part(
         alloc: Global,
@@ -1063,7 +742,11 @@ impl<D: Pooling<Shared<Line>>> Deserialize<Either, D> for ArchivedEither {
                 part,
                 deserializer,
             ) {
-                Ok((a0, (a1, ()))) => Ok(Either::Together(a0, a1)),
+                Ok((a0, (a1, (a2, ())))) => Ok(Either::Together {
+                    lines: a0,
+                    text: a1,
+                    weak: a2,
+                }),
                 Err(error) => Err(error),
             },
         }
@@ -1076,7 +759,14 @@ pub enum ViewOfEither<'a> {
     /// It doesn't.
     Alone(Ref<'a, u8>),
     /// It does.
-    Together(Ref<'a, ArchivedRc<ArchivedLine, RcFlavor>>, Ref<'a, u8>),
+    Together {
+        /// Lines.
+        lines: Ref<'a, ArchivedRc<ArchivedSlice<ArchivedLine>, RcFlavor>>,
+        /// A text.
+        text: Ref<'a, ArchivedRc<ArchivedStr, RcFlavor>>,
+        /// Perhaps a line.
+        weak: Ref<'a, ArchivedRcWeak<ArchivedLine, RcFlavor>>,
+    },
 }
 
 /// The variant of an archived `Either`, as a view.
@@ -1093,22 +783,29 @@ impl<'a> EitherView<'a> for Ref<'a, ArchivedEither> {
           | EitherAloneShown a0 ↦ (tag_of self.entry ≡ 0) × (a0.bytes.now ≡ self.entry.bytes.now)
               × (a0.pos ≡ self.entry.pos + 1) × (a0.len ≡ 0)
               × ShowsValueOf a0 self.entry (payload_in 0)
-          | EitherTogetherShown a0 a1 ↦ (tag_of self.entry ≡ 1)
+          | EitherTogetherShown a0 a1 a2 ↦ (tag_of self.entry ≡ 1)
               × (a0.bytes.now ≡ self.entry.bytes.now) × (a0.pos ≡ self.entry.pos + 4) × (a0.len ≡ 0)
               × ShowsValueOf a0 self.entry (payload_in 0) × (a1.bytes.now ≡ self.entry.bytes.now)
-              × (a1.pos ≡ self.entry.pos + 8) × (a1.len ≡ 0)
-              × ShowsValueOf a1 self.entry (payload_in 1)
+              × (a1.pos ≡ self.entry.pos + 12) × (a1.len ≡ 0)
+              × ShowsValueOf a1 self.entry (payload_in 1) × (a2.bytes.now ≡ self.entry.bytes.now)
+              × (a2.pos ≡ self.entry.pos + 20) × (a2.len ≡ 0)
+              × ShowsValueOf a2 self.entry (payload_in 2)
         ] }
     {
         match tag_in(self) {
             0 => ViewOfEither::Alone(part_in_case::<ArchivedEither, u8>(self, 0, 0, 1)),
-            _ => {
-                let a0 = part_in_case::<ArchivedEither, ArchivedRc<ArchivedLine, RcFlavor>>(
-                    self, 1, 0, 4,
-                );
-                let a1 = part_in_case::<ArchivedEither, u8>(self, 1, 1, 8);
-                ViewOfEither::Together(a0, a1)
-            }
+            _ => ViewOfEither::Together {
+                lines: part_in_case::<
+                    ArchivedEither,
+                    ArchivedRc<ArchivedSlice<ArchivedLine>, RcFlavor>,
+                >(self, 1, 0, 4),
+                text: part_in_case::<ArchivedEither, ArchivedRc<ArchivedStr, RcFlavor>>(
+                    self, 1, 1, 12,
+                ),
+                weak: part_in_case::<ArchivedEither, ArchivedRcWeak<ArchivedLine, RcFlavor>>(
+                    self, 1, 2, 20,
+                ),
+            },
         }
     }
 }
@@ -1126,13 +823,18 @@ pub trait EitherSeal<'a> {
         requires come_to { sealed self }
         requires tag { tag self ≡ 0 };
 
-    /// The field `0` of `Together`.
-    fn together_0_mut(self) -> Seal<'a, ArchivedRc<ArchivedLine, RcFlavor>>
+    /// Lines.
+    fn together_lines_mut(self) -> Seal<'a, ArchivedRc<ArchivedSlice<ArchivedLine>, RcFlavor>>
         requires come_to { sealed self }
         requires tag { tag self ≡ 1 };
 
-    /// The field `1` of `Together`.
-    fn together_1_mut(self) -> Seal<'a, u8>
+    /// A text.
+    fn together_text_mut(self) -> Seal<'a, ArchivedRc<ArchivedStr, RcFlavor>>
+        requires come_to { sealed self }
+        requires tag { tag self ≡ 1 };
+
+    /// Perhaps a line.
+    fn together_weak_mut(self) -> Seal<'a, ArchivedRcWeak<ArchivedLine, RcFlavor>>
         requires come_to { sealed self }
         requires tag { tag self ≡ 1 };
 }
@@ -1151,22 +853,37 @@ impl<'a> EitherSeal<'a> for Seal<'a, ArchivedEither> {
         sealed_part_in_case::<ArchivedEither, u8>(self, 0, 0, 1)
     }
 
-    fn together_0_mut(self) -> Seal<'a, ArchivedRc<ArchivedLine, RcFlavor>>
+    fn together_lines_mut(self) -> Seal<'a, ArchivedRc<ArchivedSlice<ArchivedLine>, RcFlavor>>
         requires come_to { IsSealOf no_definition (one ⟦<ArchivedEither as Portable>⟧.shape) self }
         requires tag { seal_tag self ≡ 1 }
         ensures { SealsPart no_definition (one ⟦<ArchivedEither as Portable>⟧.shape) no_definition
-            ⟦<ArchivedRc<ArchivedLine, RcFlavor> as ArchivePointee>⟧.pointee (self.entry.pos + 4) 0
-            self.entry result }
+            ⟦<ArchivedRc<ArchivedSlice<ArchivedLine>, RcFlavor> as ArchivePointee>⟧.pointee
+            (self.entry.pos + 4) 0 self.entry result }
     {
-        sealed_part_in_case::<ArchivedEither, ArchivedRc<ArchivedLine, RcFlavor>>(self, 1, 0, 4)
+        sealed_part_in_case::<ArchivedEither, ArchivedRc<ArchivedSlice<ArchivedLine>, RcFlavor>>(
+            self, 1, 0, 4,
+        )
     }
 
-    fn together_1_mut(self) -> Seal<'a, u8>
+    fn together_text_mut(self) -> Seal<'a, ArchivedRc<ArchivedStr, RcFlavor>>
         requires come_to { IsSealOf no_definition (one ⟦<ArchivedEither as Portable>⟧.shape) self }
         requires tag { seal_tag self ≡ 1 }
         ensures { SealsPart no_definition (one ⟦<ArchivedEither as Portable>⟧.shape) no_definition
-            ⟦<u8 as ArchivePointee>⟧.pointee (self.entry.pos + 8) 0 self.entry result }
+            ⟦<ArchivedRc<ArchivedStr, RcFlavor> as ArchivePointee>⟧.pointee (self.entry.pos + 12) 0
+            self.entry result }
     {
-        sealed_part_in_case::<ArchivedEither, u8>(self, 1, 1, 8)
+        sealed_part_in_case::<ArchivedEither, ArchivedRc<ArchivedStr, RcFlavor>>(self, 1, 1, 12)
+    }
+
+    fn together_weak_mut(self) -> Seal<'a, ArchivedRcWeak<ArchivedLine, RcFlavor>>
+        requires come_to { IsSealOf no_definition (one ⟦<ArchivedEither as Portable>⟧.shape) self }
+        requires tag { seal_tag self ≡ 1 }
+        ensures { SealsPart no_definition (one ⟦<ArchivedEither as Portable>⟧.shape) no_definition
+            ⟦<ArchivedRcWeak<ArchivedLine, RcFlavor> as ArchivePointee>⟧.pointee
+            (self.entry.pos + 20) 0 self.entry result }
+    {
+        sealed_part_in_case::<ArchivedEither, ArchivedRcWeak<ArchivedLine, RcFlavor>>(
+            self, 1, 2, 20,
+        )
     }
 }

@@ -10,6 +10,7 @@ use crate::judgements::assert_checked;
 use archive_core::api::{
     HighSerializer, access, access_mut, from_bytes, serialize_using, to_bytes,
 };
+use archive_core::error::Error;
 use archive_core::seal::{Seal, SealedLeaf};
 use archive_core::ser::Serializer;
 use archive_core::sharing::Share;
@@ -92,6 +93,18 @@ where
     assert_written(rt, alloc, value, size, archive);
     let back: T = value_of(rt, alloc, archive, &mut ());
     assert_same(rt, "what is read back", &back, value);
+}
+
+// A value has no archive, for this reason.
+pub(crate) fn assert_unwritten<T: Serialize<HighSerializer<Vec<u8>, Global>>>(
+    rt: &impl Abort,
+    what: &str,
+    alloc: Global,
+    value: &T,
+    refusal: Error,
+) {
+    let refused = to_bytes(alloc, value).err();
+    assert_same(rt, what, refused, Some(refusal));
 }
 
 // The value of an archive, with a deserializer.

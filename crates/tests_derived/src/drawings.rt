@@ -1,4 +1,4 @@
-// Records in records, four deep: atlases of drawings of lines between places.
+// Records in records: drawings of lines between places.
 
 ghost use Rattle.archive_core.specs.Definitions.{no_definition};
 ghost use Rattle.archive_core.specs.Shape.{one};
@@ -15,8 +15,8 @@ use archive_core::traits::Portable;
 use archive_core::view::Ref;
 use derived_types::event::{Event, EventSeal};
 use derived_types::spot::{
-    ArchivedAtlas, ArchivedDrawing, ArchivedLine, Atlas, AtlasSeal, AtlasView, Drawing,
-    DrawingSeal, DrawingView, Line, LineSeal, LineView, Spot, SpotSeal,
+    ArchivedDrawing, ArchivedLine, Drawing, DrawingSeal, DrawingView, Line, LineSeal, LineView,
+    Spot, SpotSeal,
 };
 use std::alloc::Global;
 use std::process::Abort;
@@ -27,13 +27,12 @@ use std::process::Abort;
 const DRAWING: &[u8; 60] =
     b"\x05\0\x06\0\x07\0\x08\0\x09\0\x0a\0\x0b\0\x0c\0\x01\0\0\0\x02\0\0\0\x01\0\xfe\xff\x03\0\x04\0\xe0\xff\xff\xff\x01\0\0\0\x01\0\0\0\xdc\xff\xff\xff\x04\0\0\0\xdc\xff\xff\xff\x02\0\0\0";
 
-// The same drawing at 24, and behind it one of zeros, but for the vector at 68, which points 44 bytes back at no line. At 96 the vector that points 72 bytes
-// back at both, and the number 3.
-const ATLAS: &[u8; 108] =
-    b"\x05\0\x06\0\x07\0\x08\0\x09\0\x0a\0\x0b\0\x0c\0\x01\0\0\0\x02\0\0\0\x01\0\xfe\xff\x03\0\x04\0\xe0\xff\xff\xff\x01\0\0\0\x01\0\0\0\xdc\xff\xff\xff\x04\0\0\0\xdc\xff\xff\xff\x02\0\0\0\0\0\0\0\0\0\0\0\xd4\xff\xff\xff\0\0\0\0\0\0\0\0\0\0\0\0\0\0\0\0\0\0\0\0\0\0\0\0\xb8\xff\xff\xff\x02\0\0\0\x03\0\0\0";
+// Zeros, but for the vector at 8, which points 8 bytes back at no line.
+const BLANK: &[u8; 36] =
+    b"\0\0\0\0\0\0\0\0\xf8\xff\xff\xff\0\0\0\0\0\0\0\0\0\0\0\0\0\0\0\0\0\0\0\0\0\0\0\0";
 
-// The drawing that those bytes are the archive of.
-fn drawing(rt: &impl Abort, alloc: Global) -> Drawing {
+// The drawing that the first bytes are the archive of.
+pub(crate) fn drawing(rt: &impl Abort, alloc: Global) -> Drawing {
     let lines = vec![in alloc; rising(5)];
     let last = Box::new(alloc, rising(9)).expect(rt, "memory for a line");
     Drawing {
@@ -45,7 +44,7 @@ fn drawing(rt: &impl Abort, alloc: Global) -> Drawing {
 }
 
 // And the one of zeros.
-fn blank(alloc: Global) -> Drawing {
+pub(crate) fn blank(alloc: Global) -> Drawing {
     let from = Spot { right: 0, up: 0 };
     let to = Spot { right: 0, up: 0 };
     Drawing {
@@ -56,19 +55,16 @@ fn blank(alloc: Global) -> Drawing {
     }
 }
 
-// Both, and three pages.
-fn atlas(rt: &impl Abort, alloc: Global) -> Atlas {
-    let drawings = vec![in alloc; drawing(rt, alloc), blank(alloc)];
-    Atlas {
-        drawings: drawings.expect(rt, "memory for drawings"),
-        pages: 3,
-    }
-}
-
 #[test]
-fn an_atlas_is_written_and_read_back(rt: HostRuntime) {
-    let atlas = atlas(&rt, rt.alloc());
-    assert_archived(&rt, rt.alloc(), &atlas, 12, ATLAS);
+fn drawings_are_written_and_read_back(rt: HostRuntime) {
+    let alloc = rt.alloc();
+    let rows = [
+        (drawing(&rt, alloc), DRAWING.as_slice()),
+        (blank(alloc), BLANK.as_slice()),
+    ];
+    for (drawing, archive) in rows {
+        assert_archived(&rt, alloc, &drawing, 36, archive);
+    }
 }
 
 // A view shows a line between places of which each number is by one greater than the one before.
@@ -79,7 +75,7 @@ fn assert_rising(rt: &impl Abort, view: Ref<'_, ArchivedLine>, first: u8) {
 }
 
 // A view shows the drawing above.
-fn assert_drawing(rt: &impl Abort, view: Ref<'_, ArchivedDrawing>) {
+pub(crate) fn assert_drawing(rt: &impl Abort, view: Ref<'_, ArchivedDrawing>) {
     assert_spot(rt, view.first().from(), 1, -2);
     assert_spot(rt, view.first().to(), 3, 4);
     let lines = view.lines().as_slice();
@@ -101,16 +97,10 @@ fn assert_blank(rt: &impl Abort, view: Ref<'_, ArchivedDrawing>) {
 }
 
 #[test]
-fn an_atlas_is_viewed(rt: HostRuntime) {
-    let view = viewed::<ArchivedAtlas>(&rt, rt.alloc(), ATLAS);
-    assert_same(&rt, "the pages", view.pages().get(), 3);
-    let drawings = view.drawings().as_slice();
-    assert_same(&rt, "how many drawings", drawings.len(), 2);
-    let (Some(first), Some(second)) = (drawings.get(0), drawings.get(1)) else {
-        panic!(&rt; "no drawings")
-    };
-    assert_drawing(&rt, first);
-    assert_blank(&rt, second);
+fn drawings_are_viewed(rt: HostRuntime) {
+    let alloc = rt.alloc();
+    assert_drawing(&rt, viewed::<ArchivedDrawing>(&rt, alloc, DRAWING));
+    assert_blank(&rt, viewed::<ArchivedDrawing>(&rt, alloc, BLANK));
 }
 
 // Writes over the end of a line.
@@ -155,39 +145,15 @@ fn a_drawing_is_edited(rt: HostRuntime) {
     assert_bytes(&rt, "the edited drawing", &bytes, wanted);
 }
 
-// Writes over the beginning of the first line of the second drawing of an atlas, and over its pages.
-fn edit_atlas(rt: &impl Abort, alloc: Global, bytes: &mut [u8]) {
-    sealed::<ArchivedAtlas>(rt, alloc, bytes)
-        .pages_mut()
-        .write(4);
-    let drawings = sealed::<ArchivedAtlas>(rt, alloc, bytes)
-        .drawings_mut()
-        .as_slice_seal();
-    if drawings.len() > 1 {
-        let line = drawings.index(1).first_mut();
-        line.from_mut().right_mut().write(258);
-    }
-}
-
 #[test]
-fn an_atlas_is_edited(rt: HostRuntime) {
-    let mut bytes = *ATLAS;
-    edit_atlas(&rt, rt.alloc(), &mut bytes);
-    let mut wanted = *ATLAS;
-    wanted[60] = 2;
-    wanted[61] = 1;
-    wanted[104] = 4;
-    assert_bytes(&rt, "the edited atlas", &bytes, &wanted);
-}
-
-#[test]
-fn faults_of_atlases_are_found(rt: HostRuntime) {
+fn faults_of_drawings_are_found(rt: HostRuntime) {
     let rows = [
+        (36, 4, outside(0, 32, 0, 24)),
         (40, 3, unknown_tag("ArchivedOption", 3)),
-        (68, 0xd0, outside(20, 0, 24, 24)),
-        (84, 5, unknown_tag("ArchivedEvent", 5)),
-        (96, 0xb9, outside(25, 72, 0, 96)),
-        (100, 3, outside(24, 108, 0, 96)),
+        (44, 0xd8, outside(4, 8, 8, 24)),
+        (48, 5, unknown_tag("ArchivedEvent", 5)),
     ];
-    assert_faults::<ArchivedAtlas>(&rt, rt.alloc(), ATLAS, &rows);
+    assert_faults::<ArchivedDrawing>(&rt, rt.alloc(), DRAWING, &rows);
+    let rows = [(8, 0xf4, outside(-4, 0, 0, 0))];
+    assert_faults::<ArchivedDrawing>(&rt, rt.alloc(), BLANK, &rows);
 }

@@ -1,9 +1,11 @@
-//! Tests of the types of derived_types, derived_plain, derived_turns, derived_many, derived_deep and derived_blocks, as a user's own, through public calls.
+//! Tests of the types of derived_types, derived_plain, derived_kinds, derived_turns, derived_deep and derived_blocks, as a user's own, through public calls.
 //! The bytes of each archive were worked out by hand, from docs/FORMAT.md.
 #![tactic(auto)]
 
 #[cfg(test)]
 mod assertions;
+#[cfg(test)]
+mod books;
 #[cfg(test)]
 mod depots;
 #[cfg(test)]
@@ -15,6 +17,10 @@ mod events;
 #[cfg(test)]
 mod judgements;
 #[cfg(test)]
+mod owners;
+#[cfg(test)]
+mod pairs;
+#[cfg(test)]
 mod parcels;
 #[cfg(test)]
 mod places;
@@ -25,14 +31,8 @@ mod presses;
 #[cfg(test)]
 mod ranks;
 #[cfg(test)]
-mod runs;
-#[cfg(test)]
 mod spots;
 #[cfg(test)]
 mod tracks;
 #[cfg(test)]
 mod turns;
-#[cfg(test)]
-mod winds;
-#[cfg(test)]
-mod words;

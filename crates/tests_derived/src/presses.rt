@@ -1,4 +1,4 @@
-// An enum of a hundred and one variants.
+// An enum of a hundred and one variants, whose views are compared as the values that they show.
 
 ghost use Rattle.archive_core.specs.Definitions.{no_definition};
 ghost use Rattle.archive_core.specs.Shape.{one};
@@ -8,11 +8,12 @@ use crate::assertions::{
     assert_archived, assert_bytes, assert_same, sealed, text, viewed, write_text,
 };
 use crate::judgements::{assert_faults, unknown_tag};
+use crate::ranks::assert_ascending;
 use archive_core::error::Error;
 use archive_core::seal::Seal;
 use archive_core::traits::Portable;
 use archive_core::view::Ref;
-use derived_many::press::{ArchivedPress, Press, PressSeal, PressView, ViewOfPress};
+use derived_plain::press::{ArchivedPress, Press, PressSeal, PressView, ViewOfPress};
 use std::alloc::Global;
 use std::process::Abort;
 
@@ -93,6 +94,22 @@ fn keys_are_viewed(rt: HostRuntime) {
         let view = viewed::<ArchivedPress>(&rt, rt.alloc(), archive);
         assert_same(&rt, "the variant with fields", variant_of(&rt, view), tag);
     }
+}
+
+#[test]
+fn views_of_keys_are_ordered(rt: HostRuntime) {
+    let archives = [
+        b"\0\0\0\0\0\0\0\0\0\0\0\0".as_slice(),
+        SCANNED.as_slice(),
+        b"\x01\0\0\0\x01\x02\0\0\0\0\0\0".as_slice(),
+        b"\x02\0\0\0\0\0\0\0\0\0\0\0".as_slice(),
+        b"\x25\0\0\0\0\0\0\0\0\0\0\0".as_slice(),
+        NAMED.as_slice(),
+        b"\x5c\x04\0\0\xe9\0\0\0\0\0\0\0".as_slice(),
+        CHORD.as_slice(),
+        b"\x64\0\0\0\0\0\0\0\0\0\0\0".as_slice(),
+    ];
+    assert_ascending::<ArchivedPress>(&rt, rt.alloc(), &archives);
 }
 
 // Writes over the fields of a key that has some.

@@ -1,4 +1,9 @@
-// A record and an enum that share a line, and lists of such records, in which it is written once and read back once.
+// A record that shares a line, and lists of such records, in which it is written once and read back once. An enum that shares a slice, a text and, by a weak
+// pointer, a value.
+
+ghost use Rattle.archive_core.specs.Definitions.{no_definition};
+ghost use Rattle.archive_core.specs.Shape.{one};
+ghost use Rattle.archive_core.specs.SealsWritten.{IsSealOf};
 
 use crate::assertions::{
     assert_bytes, assert_holds, assert_same, assert_written, sealed, value_of, viewed,
@@ -6,18 +11,19 @@ use crate::assertions::{
 use crate::judgements::{assert_faults, outside, unaligned, unknown_tag};
 use crate::spots::{assert_spot, line, rising};
 use archive_core::error::Error;
-use archive_core::pooling::Pool;
-use archive_core::rc::Shared;
-use archive_core::traits::{Archive, Deserialize};
+use archive_core::pooling::{Pool, Unpool};
+use archive_core::rc::{Shared, SharedSlice, SharedStr, WeakShared};
+use archive_core::seal::Seal;
+use archive_core::traits::{Archive, Deserialize, Portable};
 use archive_core::view::Ref;
-use derived_types::spot::{ArchivedLine, Line, LineSeal, LineView, SpotSeal};
+use derived_types::spot::{ArchivedLine, Line, LineSeal, LineView, SpotSeal, SpotView};
 use derived_types::track::{
     ArchivedEither, ArchivedTrack, Either, EitherSeal, EitherView, Track, TrackSeal, TrackView,
     ViewOfEither,
 };
 use std::alloc::Global;
 use std::process::Abort;
-use std::rc::Rc;
+use std::rc::{Rc, RcSlice, RcStr};
 
 // The line from 1, -2 to 3, 4, and that from 5, 6 to 7, 8. At 16 the pointer that leads 16 bytes back to the first one, the tag 1, and the box that points 16
 // bytes back at the second one.
@@ -29,14 +35,20 @@ const TRACK: &[u8; 28] =
 const TRACKS: &[u8; 48] =
     b"\x01\0\xfe\xff\x03\0\x04\0\x05\0\x06\0\x07\0\x08\0\xf0\xff\xff\xff\0\0\0\0\0\0\0\0\xe4\xff\xff\xff\x01\0\0\0\xe4\xff\xff\xff\xe8\xff\xff\xff\x02\0\0\0";
 
-// The tag 0 and the number 7, and ten bytes of no field.
-const ALONE: &[u8; 12] = b"\0\x07\0\0\0\0\0\0\0\0\0\0";
+// The tag 0 and the number 7, and bytes of no field.
+const ALONE: &[u8; 24] = b"\0\x07\0\0\0\0\0\0\0\0\0\0\0\0\0\0\0\0\0\0\0\0\0\0";
 
-// The line, and at 8 the tag 1, the pointer that leads 12 bytes back to it, and the number 9.
-const TOGETHER: &[u8; 20] = b"\x01\0\xfe\xff\x03\0\x04\0\x01\0\0\0\xf4\xff\xff\xff\x09\0\0\0";
+// The line from 5, 6 to 7, 8, the text "hé" and a zero, and at 12 the line from 1, -2 to 3, 4. At 20 the tag 1, the pointer that leads 24 bytes back to one line,
+// the one that leads 24 bytes back to three bytes, and the weak one that leads 28 bytes back to the other line.
+const TOGETHER: &[u8; 44] =
+    b"\x05\0\x06\0\x07\0\x08\0h\xc3\xa9\0\x01\0\xfe\xff\x03\0\x04\0\x01\0\0\0\xe8\xff\xff\xff\x01\0\0\0\xe8\xff\xff\xff\x03\0\0\0\xe4\xff\xff\xff";
+
+// The same line and text. At 12 the tag 1, the pointers that lead 16 bytes back each, and a null, whose offset is 1.
+const NULL: &[u8; 36] =
+    b"\x05\0\x06\0\x07\0\x08\0h\xc3\xa9\0\x01\0\0\0\xf0\xff\xff\xff\x01\0\0\0\xf0\xff\xff\xff\x03\0\0\0\x01\0\0\0";
 
 // The line from 1, -2 to 3, 4, with a key.
-pub(crate) fn shared_line(rt: &impl Abort, alloc: Global, key: u64) -> Shared<Line> {
+fn shared_line(rt: &impl Abort, alloc: Global, key: u64) -> Shared<Line> {
     let value = Rc::new(alloc, line()).expect(rt, "memory for a line");
     Shared { key, value }
 }
@@ -88,7 +100,7 @@ fn a_line_of_two_tracks_is_read_back_once(rt: HostRuntime) {
 }
 
 // A view shows the line from 1, -2 to 3, 4.
-pub(crate) fn assert_line(rt: &impl Abort, view: Ref<'_, ArchivedLine>) {
+fn assert_line(rt: &impl Abort, view: Ref<'_, ArchivedLine>) {
     assert_spot(rt, view.from(), 1, -2);
     assert_spot(rt, view.to(), 3, 4);
 }
@@ -133,105 +145,165 @@ fn faults_of_tracks_are_found(rt: HostRuntime) {
     assert_faults::<ArchivedTrack>(&rt, rt.alloc(), TRACK, &rows);
 }
 
-// These bytes are the archive of such a value.
-fn assert_either_written(rt: &impl Abort, alloc: Global, value: &Either, archive: &[u8]) {
-    assert_written(rt, alloc, value, 12, archive);
+// What shares lines, a text, and perhaps another line.
+fn together(rt: &impl Abort, alloc: Global, weak: Option<Shared<Line>>) -> Either {
+    let lines = vec![in alloc; rising(5)].expect(rt, "memory for lines");
+    let lines = RcSlice::from_vec(lines).expect(rt, "memory for a slice");
+    let text = RcStr::from_str(alloc, "hé").expect(rt, "memory for a text");
+    Either::Together {
+        lines: SharedSlice {
+            key: 1,
+            value: lines,
+        },
+        text: SharedStr {
+            key: 2,
+            value: text,
+        },
+        weak: WeakShared { value: weak },
+    }
 }
 
 #[test]
 fn either_is_written(rt: HostRuntime) {
-    assert_either_written(&rt, rt.alloc(), &Either::Alone(7), ALONE);
-    let together = Either::Together(shared_line(&rt, rt.alloc(), 1), 9);
-    assert_either_written(&rt, rt.alloc(), &together, TOGETHER);
+    let alloc = rt.alloc();
+    let line = shared_line(&rt, alloc, 3);
+    let rows = [
+        (Either::Alone(7), ALONE.as_slice()),
+        (together(&rt, alloc, Some(line)), TOGETHER.as_slice()),
+        (together(&rt, alloc, None), NULL.as_slice()),
+    ];
+    for (either, archive) in rows {
+        assert_written(&rt, alloc, &either, 24, archive);
+    }
 }
 
-// What is read back of an archive: a line, if there is one, and a number.
-fn parts_of(rt: &impl Abort, alloc: Global, archive: &[u8]) -> (Option<Shared<Line>>, u8) {
-    match read::<Either>(rt, alloc, archive) {
-        Either::Alone(number) => (None, number),
-        Either::Together(line, number) => (Some(line), number),
+// What is read back without a pool shares a line, a text, and perhaps another line; or it is the number 7.
+fn assert_either(rt: &impl Abort, alloc: Global, archive: &[u8], wanted: Option<&Line>) {
+    match value_of(rt, alloc, archive, &mut Unpool) {
+        Either::Alone(number) => assert_same(rt, "the number", number, 7),
+        Either::Together { lines, text, weak } => {
+            let line = [rising(5)];
+            assert_same(rt, "the lines", lines.value.as_slice(), line.as_slice());
+            assert_same(rt, "the text", text.value.as_str(), "hé");
+            let found = match &weak.value {
+                None => None,
+                Some(shared) => Some(&*shared.value),
+            };
+            assert_same(rt, "the other line", found, wanted);
+        }
     }
 }
 
 #[test]
 fn either_is_read_back(rt: HostRuntime) {
-    let (none, number) = parts_of(&rt, rt.alloc(), ALONE);
-    let alone = (none.is_none(), number);
-    assert_same(&rt, "alone", alone, (true, 7));
-    let (line_read, number) = parts_of(&rt, rt.alloc(), TOGETHER);
-    let Some(shared) = line_read else {
-        panic!(&rt; "no line")
-    };
-    assert_same(&rt, "the line", &*shared.value, &line());
-    assert_same(&rt, "the number", number, 9);
+    let line = line();
+    for (archive, weak) in [
+        (ALONE.as_slice(), None),
+        (TOGETHER.as_slice(), Some(&line)),
+        (NULL.as_slice(), None),
+    ] {
+        assert_either(&rt, rt.alloc(), archive, weak);
+    }
 }
 
-// A view shows a number, alone or with a line.
-fn number_of(rt: &impl Abort, view: Ref<'_, ArchivedEither>) -> u8 {
+// A view shows a number, or what is shared.
+fn assert_shown(rt: &impl Abort, view: Ref<'_, ArchivedEither>) {
     match view.variant() {
-        ViewOfEither::Alone(number) => number.get(),
-        ViewOfEither::Together(line, number) => {
-            assert_line(rt, line.get());
-            number.get()
+        ViewOfEither::Alone(number) => assert_same(rt, "the number", number.get(), 7),
+        ViewOfEither::Together { lines, text, weak } => {
+            let (Some(first), Some(other)) = (lines.get().get(0), weak.upgrade()) else {
+                panic!(rt; "no line")
+            };
+            assert_same(rt, "the line", first.to().up().get(), 8);
+            assert_same(rt, "the text", text.get().as_str(), "hé");
+            assert_line(rt, other);
         }
     }
 }
 
 #[test]
 fn either_is_viewed(rt: HostRuntime) {
-    let alone = viewed::<ArchivedEither>(&rt, rt.alloc(), ALONE);
-    assert_same(&rt, "alone", number_of(&rt, alone), 7);
-    let together = viewed::<ArchivedEither>(&rt, rt.alloc(), TOGETHER);
-    assert_same(&rt, "together", number_of(&rt, together), 9);
+    for (archive, tag) in [(ALONE.as_slice(), 0), (TOGETHER.as_slice(), 1)] {
+        let view = viewed::<ArchivedEither>(&rt, rt.alloc(), archive);
+        assert_same(&rt, "the tag", view.tag(), tag);
+        assert_shown(&rt, view);
+    }
 }
 
-// Writes over the number.
-fn write_number(rt: &impl Abort, alloc: Global, bytes: &mut [u8], number: u8) {
-    let either = sealed::<ArchivedEither>(rt, alloc, bytes);
+// Writes over the number, or over the first line of the slice.
+fn write_first(either: Seal<'_, ArchivedEither>)
+    requires { IsSealOf no_definition (one ⟦<ArchivedEither as Portable>⟧.shape) either }
+{
     match either.as_ref().tag() {
-        0 => either.alone_0_mut().write(number),
-        1 => either.together_1_mut().write(number),
+        0 => either.alone_0_mut().write(8),
+        1 => {
+            let lines = either.together_lines_mut().get_seal();
+            if lines.len() > 0 {
+                lines.index(0).from_mut().up_mut().write(9);
+            }
+        }
         _ => {}
     }
 }
 
-// And over the line, if there is one.
-fn write_line(rt: &impl Abort, alloc: Global, bytes: &mut [u8], right: u16) {
-    let either = sealed::<ArchivedEither>(rt, alloc, bytes);
+// And over the text, and over the line that the weak pointer leads to, if there are such.
+fn write_shared(either: Seal<'_, ArchivedEither>)
+    requires { IsSealOf no_definition (one ⟦<ArchivedEither as Portable>⟧.shape) either }
+{
     if either.as_ref().tag() == 1 {
-        let line = either.together_0_mut().get_seal();
-        line.to_mut().right_mut().write(right);
+        let text = either.together_text_mut().get_seal();
+        if text.as_ref().len() == 3 {
+            text.write_str("abc");
+        }
     }
+}
+
+fn write_weak(either: Seal<'_, ArchivedEither>)
+    requires { IsSealOf no_definition (one ⟦<ArchivedEither as Portable>⟧.shape) either }
+{
+    if either.as_ref().tag() == 1 {
+        if let Some(line) = either.together_weak_mut().upgrade_seal() {
+            line.to_mut().right_mut().write(258);
+        }
+    }
+}
+
+// Writes over all of these bytes that are shown.
+fn write_either(rt: &impl Abort, alloc: Global, bytes: &mut [u8]) {
+    write_first(sealed(rt, alloc, bytes));
+    write_shared(sealed(rt, alloc, bytes));
+    write_weak(sealed(rt, alloc, bytes));
 }
 
 #[test]
 fn either_is_edited(rt: HostRuntime) {
     let mut alone = *ALONE;
-    write_number(&rt, rt.alloc(), &mut alone, 8);
-    write_line(&rt, rt.alloc(), &mut alone, 5);
-    assert_bytes(&rt, "alone", &alone, b"\0\x08\0\0\0\0\0\0\0\0\0\0");
+    write_either(&rt, rt.alloc(), &mut alone);
+    let mut wanted = *ALONE;
+    wanted[1] = 8;
+    assert_bytes(&rt, "alone", &alone, &wanted);
     let mut together = *TOGETHER;
-    write_number(&rt, rt.alloc(), &mut together, 8);
-    write_line(&rt, rt.alloc(), &mut together, 5);
-    let wanted = b"\x01\0\xfe\xff\x05\0\x04\0\x01\0\0\0\xf4\xff\xff\xff\x08\0\0\0";
+    write_either(&rt, rt.alloc(), &mut together);
+    let wanted =
+        b"\x05\0\x09\0\x07\0\x08\0abc\0\x01\0\xfe\xff\x02\x01\x04\0\x01\0\0\0\xe8\xff\xff\xff\x01\0\0\0\xe8\xff\xff\xff\x03\0\0\0\xe4\xff\xff\xff";
     assert_bytes(&rt, "together", &together, wanted);
-}
-
-// In each row an index, another byte that is put there, and the fault that all checks find then.
-fn assert_either_faults(
-    rt: &impl Abort,
-    alloc: Global,
-    archive: &[u8],
-    rows: &[(usize, u8, Error)],
-) {
-    assert_faults::<ArchivedEither>(rt, alloc, archive, rows);
+    let mut null = *NULL;
+    write_either(&rt, rt.alloc(), &mut null);
+    let wanted =
+        b"\x05\0\x09\0\x07\0\x08\0abc\0\x01\0\0\0\xf0\xff\xff\xff\x01\0\0\0\xf0\xff\xff\xff\x03\0\0\0\x01\0\0\0";
+    assert_bytes(&rt, "a null", &null, wanted);
 }
 
 #[test]
 fn faults_of_either_are_found(rt: HostRuntime) {
-    let unknown = unknown_tag("ArchivedEither", 2);
-    let rows = [(0, 1, outside(4, 8, 0, 0)), (0, 2, unknown)];
-    assert_either_faults(&rt, rt.alloc(), ALONE, &rows);
-    let rows = [(8, 2, unknown), (12, 0xf6, outside(2, 8, 0, 8))];
-    assert_either_faults(&rt, rt.alloc(), TOGETHER, &rows);
+    let rows = [
+        (8, 0xff, Error::InvalidUtf8),
+        (20, 2, unknown_tag("ArchivedEither", 2)),
+        (24, 0xe9, unaligned(1, 2)),
+        (28, 2, outside(8, 3, 16, 20)),
+        (32, 0xe0, Error::TypeMismatch),
+        (40, 0xd8, Error::TypeMismatch),
+        (40, 1, outside(-215, 8, 11, 20)),
+    ];
+    assert_faults::<ArchivedEither>(&rt, rt.alloc(), TOGETHER, &rows);
 }

@@ -6,10 +6,11 @@ use archive_core::traits::Portable;
 use archive_inspect::explain::{Explanation, explain, explain_by};
 use archive_inspect::form::Form;
 use archive_inspect::text::parse;
-use derived_kinds::kinds::{ArchivedNumbers, ArchivedOwners};
+use derived_blocks::depot::ArchivedDepot;
+use derived_kinds::kinds::ArchivedOwners;
 use derived_types::entry::ArchivedEntry;
 use derived_types::event::ArchivedEvent;
-use derived_types::track::ArchivedRuns;
+use derived_types::track::ArchivedEither;
 use recursive_types::expr::ArchivedExpr;
 use std::alloc::Global;
 use std::process::Abort;
@@ -110,23 +111,36 @@ fn a_type_names_its_fields_and_variants(rt: HostRuntime) -> Result<(), Fail> {
     Ok(())
 }
 
+const DEPOT: &str = "struct Spot { right: u16, up: i16 }
+enum Depot {
+    Free,
+    Held(u8, u8, u8, u8, u8, u8, u8, u8, i16),
+    Sent {
+        number: NonZero<u32>, to: String, weights: Vec<u16>, price: Option<u32>, other: Box<i16>, spot: Spot, size: usize, distance: isize,
+        letter: char, is_open: bool, nothing: (), wide: i128, seconds: u64, warmth: i16, row: u8, notes: Vec<String>,
+    },
+}";
+
+const OWNERS: &str = "enum Event { Quit, Key(char), Text(String), Move { x: i32, y: i32 }, Batch(Vec<u32>) }
+struct Spot { right: u16, up: i16 }
+struct Line { from: Spot, to: Spot }
+struct Drawing { first: Line, lines: Vec<Line>, last: Option<Box<Line>>, event: Event }
+struct Pair { left: u64, right: Drawing }
+struct Owners(BoxSlice<u16>, BoxStr, OwnedArray<i16, 4>, BTreeMap<u16, Option<Spot>>, Pair, PhantomData<u64>);";
+
 #[test]
-fn structs_of_every_kind(rt: HostRuntime) {
-    let numbers =
-        "struct Numbers { some: NonZero<u32>, size: usize, distance: isize, wide: i128, so: bool, nothing: () }";
-    assert_declared::<ArchivedNumbers>(&rt, rt.alloc(), numbers);
-    let owners =
-        "struct Owners { outcome: Result<u8, String>, numbers: BoxSlice<u16>, text: BoxStr, both: (u8, String), of: PhantomData<u64> }";
-    assert_declared::<ArchivedOwners>(&rt, rt.alloc(), owners);
+fn fields_of_every_kind(rt: HostRuntime) {
+    assert_declared::<ArchivedDepot>(&rt, rt.alloc(), DEPOT);
+    assert_declared::<ArchivedOwners>(&rt, rt.alloc(), OWNERS);
 }
 
-const RUNS: &str = "pub struct Spot { pub right: u16, pub up: i16 }
+const EITHER: &str = "pub struct Spot { pub right: u16, pub up: i16 }
 pub struct Line { pub from: Spot, pub to: Spot }
-pub struct Runs { pub lines: SharedSlice<Line>, pub text: SharedStr, pub weak: WeakShared<Line> }";
+pub enum Either { Alone(u8), Together { lines: SharedSlice<Line>, text: SharedStr, weak: WeakShared<Line> } }";
 
 #[test]
-fn a_struct_that_shares(rt: HostRuntime) {
-    assert_declared::<ArchivedRuns>(&rt, rt.alloc(), RUNS);
+fn an_enum_that_shares(rt: HostRuntime) {
+    assert_declared::<ArchivedEither>(&rt, rt.alloc(), EITHER);
 }
 
 #[test]

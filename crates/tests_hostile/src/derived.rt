@@ -8,7 +8,7 @@ use archive_core::error::Error;
 use archive_core::vec::ArchivedVec;
 use derived_types::event::ArchivedEvent;
 use derived_types::spot::ArchivedDrawing;
-use derived_types::track::{ArchivedEither, ArchivedRuns, ArchivedTrack};
+use derived_types::track::{ArchivedEither, ArchivedTrack};
 
 // Two lines and two numbers, and at 24 the drawing: a line, the vector that points back at the first of those, the box that points back at the second one, and
 // the event whose vector points back at the numbers.
@@ -23,12 +23,9 @@ const EVENTS: &[u8] =
 const TRACKS: &[u8] =
     b"\x01\0\xfe\xff\x03\0\x04\0\x05\0\x06\0\x07\0\x08\0\xf0\xff\xff\xff\0\0\0\0\0\0\0\0\xe4\xff\xff\xff\x01\0\0\0\xe4\xff\xff\xff\xe8\xff\xff\xff\x02\0\0\0";
 
-// A line, a text and a zero, and a line; and at 20 a shared slice of the first one, the shared text, and a weak pointer to the second one.
-const RUNS: &[u8] =
-    b"\x05\0\x06\0\x07\0\x08\0h\xc3\xa9\0\x01\0\xfe\xff\x03\0\x04\0\xec\xff\xff\xff\x01\0\0\0\xec\xff\xff\xff\x03\0\0\0\xe8\xff\xff\xff";
-
-// A line, and at 8 the variant with a pointer to it.
-const TOGETHER: &[u8] = b"\x01\0\xfe\xff\x03\0\x04\0\x01\0\0\0\xf4\xff\xff\xff\x09\0\0\0";
+// A line, a text and a zero, and a line; and at 20 the variant with a shared slice of the first one, the shared text, and a weak pointer to the second one.
+const TOGETHER: &[u8] =
+    b"\x05\0\x06\0\x07\0\x08\0h\xc3\xa9\0\x01\0\xfe\xff\x03\0\x04\0\x01\0\0\0\xe8\xff\xff\xff\x01\0\0\0\xe8\xff\xff\xff\x03\0\0\0\xe4\xff\xff\xff";
 
 #[test]
 fn hostile_structs_of_structs(rt: HostRuntime) {
@@ -55,11 +52,6 @@ fn hostile_cuts_of_enums_in_a_vector(rt: HostRuntime) {
 #[test]
 fn hostile_structs_that_share(rt: HostRuntime) {
     assert_hostile_vectors::<ArchivedTrack>(&rt, rt.alloc(), &[("two tracks", TRACKS)]);
-}
-
-#[test]
-fn hostile_structs_that_share_runs(rt: HostRuntime) {
-    assert_hostile::<ArchivedRuns>(&rt, rt.alloc(), &[("runs", RUNS)]);
 }
 
 #[test]

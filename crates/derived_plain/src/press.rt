@@ -1,0 +1,2116 @@
+//! The keys of a keyboard: an enum of many variants, which are compared.
+
+/// A key that is pressed.
+#[derive(Debug, PartialEq, Eq, Drop)]
+pub enum Press {
+    Unknown,
+    /// A key that has no name here.
+    Scanned(u32),
+    A,
+    B,
+    C,
+    D,
+    E,
+    F,
+    G,
+    H,
+    I,
+    J,
+    K,
+    L,
+    M,
+    N,
+    O,
+    P,
+    Q,
+    R,
+    S,
+    T,
+    U,
+    V,
+    W,
+    X,
+    Y,
+    Z,
+    Digit0,
+    Digit1,
+    Digit2,
+    Digit3,
+    Digit4,
+    Digit5,
+    Digit6,
+    Digit7,
+    Digit8,
+    Digit9,
+    /// A key of its own name.
+    Named(String),
+    F1,
+    F2,
+    F3,
+    F4,
+    F5,
+    F6,
+    F7,
+    F8,
+    F9,
+    F10,
+    F11,
+    F12,
+    F13,
+    F14,
+    F15,
+    F16,
+    F17,
+    F18,
+    F19,
+    F20,
+    F21,
+    F22,
+    F23,
+    F24,
+    Numpad0,
+    Numpad1,
+    Numpad2,
+    Numpad3,
+    Numpad4,
+    Numpad5,
+    Numpad6,
+    Numpad7,
+    Numpad8,
+    Numpad9,
+    NumpadAdd,
+    NumpadSubtract,
+    NumpadEnter,
+    Escape,
+    Tab,
+    CapsLock,
+    Space,
+    Enter,
+    Backspace,
+    Insert,
+    Delete,
+    Home,
+    End,
+    PageUp,
+    PageDown,
+    Left,
+    Right,
+    Up,
+    Down,
+    /// A character with modifiers.
+    Chord {
+        /// The modifiers, a bit each.
+        modifiers: u8,
+        /// The character.
+        key: char,
+    },
+    Mute,
+    VolumeUp,
+    VolumeDown,
+    Play,
+    Stop,
+    Sleep,
+    Wake,
+    Power,
+}
+
+// Below this line all is written by tools/derive: change what is above it, and run it again.
+
+ghost use Rattle.archive_core.specs.CallOutcomes.{ResolvesAs};
+ghost use Rattle.archive_core.specs.ComparedCases.{choice_fed, choice_order};
+ghost use Rattle.archive_core.specs.ComparedLeaves.{char_compared, unsigned_compared};
+ghost use Rattle.archive_core.specs.ComparedTypes.{case_compared, choice_compared, field_compared, no_case_compared, no_field_compared, string_compared};
+ghost use Rattle.archive_core.specs.ComparedUnits.{units_compared};
+ghost use Rattle.archive_core.specs.Definitions.{both, no_definition};
+ghost use Rattle.archive_core.specs.Keyed.{case_keyed, nothing_keyed, number_keyed, part_keyed, text_keyed};
+ghost use Rattle.archive_core.specs.LeafLayout.{no_definition_reached};
+ghost use Rattle.archive_core.specs.PartsPlanned.{no_part_planned, part_planned};
+ghost use Rattle.archive_core.specs.Payloads.{payload_in};
+ghost use Rattle.archive_core.specs.Plain.{plain_choice, plain_own_check, plain_variant_planned, variant_in};
+ghost use Rattle.archive_core.specs.Planned.{leaf_planned, string_planned};
+ghost use Rattle.archive_core.specs.PlannedOwners.{one_planned};
+ghost use Rattle.archive_core.specs.SealsWritten.{IsSealOf, SealsPart, seal_tag};
+ghost use Rattle.archive_core.specs.Seen.{IsPartOf, ShowsValueOf, tag_of};
+ghost use Rattle.archive_core.specs.Shape.{choice, no_part, no_variant, one, part, variant};
+ghost use Rattle.archive_core.specs.Sources.{ReadsAs};
+ghost use Rattle.archive_core.specs.Units.{unit_definitions, units};
+ghost use Rattle.archive_core.specs.Value.{case, no_value, value};
+ghost use Rattle.archive_core.specs.Writing.{ZeroedPlace};
+ghost use Rattle.std.proofs.Common.{inl, inr, lit≤};
+ghost use Rattle.std.specs.Int.{w32, w8};
+ghost use Rattle.std.specs.Prelude.{None, Some, [], codes, refl, string_bytes, true, ℕ, ◌++◌, ◌+◌, ◌<◌, ◌≡◌, ◌≢◌};
+
+use archive_core::compare::Ordered;
+use archive_core::compared::{ComparedCases, compare_choice, hash_choice};
+use archive_core::error::Error;
+use archive_core::fields::{
+    UnitVariants, known_tag, part_in_case, read_case, resolve_case_0, resolve_case_1,
+    resolve_case_2, serialize_case_0, serialize_case_1, serialize_case_2, tag_in,
+};
+use archive_core::place::Place;
+use archive_core::primitive::{ArchivedChar, ArchivedU32};
+use archive_core::seal::{Seal, sealed_part_in_case};
+use archive_core::self_check::{SelfCheck, check_choice};
+use archive_core::ser::{ResolverAlloc, Writer, serialize_one};
+use archive_core::shape::Defs;
+use archive_core::string::ArchivedString;
+use archive_core::traits::{
+    Archive, ArchivePointee, ArchiveUnsized, Choice, CopyOptimization, Deserialize, Entries, Keys,
+    Portable, Serialize, SerializeUnsized, expr_of_choice,
+};
+use archive_core::validation::ArchiveContext;
+use archive_core::view::{RawView, Ref};
+use std::alloc::Global;
+use std::cmp::Ordering;
+use std::hash::{Hash, Hasher};
+
+/// An archived `Press`: 12 bytes at a multiple of 4.
+pub struct ArchivedPress;
+
+type PressScannedParts = (ArchivedU32, ());
+
+type PressScannedOwned = (u32, ());
+
+type PressNamedParts = (ArchivedString, ());
+
+type PressNamedOwned = (String, ());
+
+type PressChordParts = (u8, (ArchivedChar, ()));
+
+type PressChordOwned = (u8, (char, ()));
+
+type PressVariants = UnitVariants<
+    1,
+    (
+        PressScannedParts,
+        UnitVariants<
+            36,
+            (
+                PressNamedParts,
+                UnitVariants<53, (PressChordParts, UnitVariants<8, ()>)>,
+            ),
+        >,
+    ),
+>;
+
+impl ArchivePointee for ArchivedPress {
+    type ArchivedMetadata = ();
+
+    ghost pointee = { one (choice (codes "ArchivedPress")
+        (units 1 (variant (part ⟦<ArchivedU32 as Portable>⟧.shape no_part)
+        (units 36 (variant (part ⟦<ArchivedString as Portable>⟧.shape no_part)
+        (units 53 (variant (part ⟦<u8 as Portable>⟧.shape
+        (part ⟦<ArchivedChar as Portable>⟧.shape no_part)) (units 8 no_variant)))))))) };
+
+    ghost definitions = { no_definition };
+
+    ghost metadata_length = { λ _. 0 };
+
+    fn pointer_metadata(_metadata: &()) -> usize {
+        0
+    }
+}
+
+impl Portable for ArchivedPress {
+    ghost shape = { choice (codes "ArchivedPress") (units 1
+        (variant (part ⟦<ArchivedU32 as Portable>⟧.shape no_part)
+        (units 36 (variant (part ⟦<ArchivedString as Portable>⟧.shape no_part)
+        (units 53 (variant (part ⟦<u8 as Portable>⟧.shape
+        (part ⟦<ArchivedChar as Portable>⟧.shape no_part)) (units 8 no_variant))))))) };
+
+    ghost layout = { record { size = 12; align = 4 } };
+
+    type Check = ArchivedPress;
+
+    ghost is_one = { refl };
+
+    ghost is_align = { inr (inr (inl refl)) };
+
+    ghost has_layout = { record { solved = λ s k. refl } };
+
+    ghost no_others = { no_definition_reached (choice (codes "ArchivedPress")
+        (units 1 (variant (part ⟦<ArchivedU32 as Portable>⟧.shape no_part)
+        (units 36 (variant (part ⟦<ArchivedString as Portable>⟧.shape no_part)
+        (units 53 (variant (part ⟦<u8 as Portable>⟧.shape
+        (part ⟦<ArchivedChar as Portable>⟧.shape no_part)) (units 8 no_variant)))))))) };
+
+    ghost checks = { λ _. plain_own_check _ _ _ _ _ refl refl refl refl };
+
+    fn size() -> usize {
+        12
+    }
+
+    fn align() -> usize {
+        4
+    }
+
+    fn expr(alloc: Global) -> Result<archive_core::shape::Expr, Error> {
+        expr_of_choice::<PressVariants>(alloc, "ArchivedPress")
+    }
+
+    fn define(_alloc: Global, _defs: &mut Defs) -> Result<(), Error> {
+        Ok(())
+    }
+}
+
+impl SelfCheck for ArchivedPress {
+    ghost shape = { choice (codes "ArchivedPress") (units 1
+        (variant (part ⟦<ArchivedU32 as Portable>⟧.shape no_part)
+        (units 36 (variant (part ⟦<ArchivedString as Portable>⟧.shape no_part)
+        (units 53 (variant (part ⟦<u8 as Portable>⟧.shape
+        (part ⟦<ArchivedChar as Portable>⟧.shape no_part)) (units 8 no_variant))))))) };
+
+    ghost definitions = { (unit_definitions 1 (both (both no_definition no_definition)
+        (unit_definitions 36 (both (both no_definition no_definition)
+        (unit_definitions 53 (both (both no_definition (both no_definition no_definition))
+        (unit_definitions 8 no_definition))))))) };
+
+    ghost span = { 12 };
+
+    ghost direct = { true };
+
+    ghost nameless = { true };
+
+    fn is_direct() -> bool {
+        true
+    }
+
+    fn is_nameless() -> bool {
+        true
+    }
+
+    #[inline(always)]
+    fn check_at<C: ArchiveContext>(
+        bytes: &[u8],
+        at: usize,
+        refusal: &mut Error,
+        context: &mut C,
+    ) -> Option<()> {
+        check_choice::<PressVariants, C>("ArchivedPress", bytes, at, refusal, context)
+    }
+}
+
+impl Choice for ArchivedPress {
+    type Variants = PressVariants;
+
+    ghost name = { codes "ArchivedPress" };
+
+    ghost has_variants = { plain_choice (codes "ArchivedPress")
+        (units 1 (variant (part ⟦<ArchivedU32 as Portable>⟧.shape no_part)
+        (units 36 (variant (part ⟦<ArchivedString as Portable>⟧.shape no_part)
+        (units 53 (variant (part ⟦<u8 as Portable>⟧.shape
+        (part ⟦<ArchivedChar as Portable>⟧.shape no_part)) (units 8 no_variant)))))))
+        (unit_definitions 1 (both (both no_definition no_definition)
+        (unit_definitions 36 (both (both no_definition no_definition)
+        (unit_definitions 53 (both (both no_definition (both no_definition no_definition))
+        (unit_definitions 8 no_definition))))))) refl };
+
+    ghost holds = { lit≤ tt };
+}
+
+/// What is kept of `Press` between `serialize` and `resolve`.
+#[derive(Drop)]
+pub enum PressResolver {
+    /// Of a variant without fields.
+    Unit,
+    /// Of `Scanned`.
+    Scanned((<u32 as Archive>::Resolver, ())),
+    /// Of `Named`.
+    Named((<String as Archive>::Resolver, ())),
+    /// Of `Chord`.
+    Chord((<u8 as Archive>::Resolver, (<char as Archive>::Resolver, ()))),
+}
+
+// The tag of each variant.
+trait PressTag {
+    fn tag(&self) -> u8;
+}
+
+impl PressTag for Press {
+    ghost use Rattle.derived_plain.specs.declared.press.Press.TheVariants.{A as PressA, B as PressB, Backspace as PressBackspace, C as PressC, CapsLock as PressCapsLock, Chord as PressChord, D as PressD, Delete as PressDelete, Digit0 as PressDigit0, Digit1 as PressDigit1, Digit2 as PressDigit2, Digit3 as PressDigit3, Digit4 as PressDigit4, Digit5 as PressDigit5, Digit6 as PressDigit6, Digit7 as PressDigit7, Digit8 as PressDigit8, Digit9 as PressDigit9, Down as PressDown, E as PressE, End as PressEnd, Enter as PressEnter, Escape as PressEscape, F as PressF, F1 as PressF1, F10 as PressF10, F11 as PressF11, F12 as PressF12, F13 as PressF13, F14 as PressF14, F15 as PressF15, F16 as PressF16, F17 as PressF17, F18 as PressF18, F19 as PressF19, F2 as PressF2, F20 as PressF20, F21 as PressF21, F22 as PressF22, F23 as PressF23, F24 as PressF24, F3 as PressF3, F4 as PressF4, F5 as PressF5, F6 as PressF6, F7 as PressF7, F8 as PressF8, F9 as PressF9, G as PressG, H as PressH, Home as PressHome, I as PressI, Insert as PressInsert, J as PressJ, K as PressK, L as PressL, Left as PressLeft, M as PressM, Mute as PressMute, N as PressN, Named as PressNamed, Numpad0 as PressNumpad0, Numpad1 as PressNumpad1, Numpad2 as PressNumpad2, Numpad3 as PressNumpad3, Numpad4 as PressNumpad4, Numpad5 as PressNumpad5, Numpad6 as PressNumpad6, Numpad7 as PressNumpad7, Numpad8 as PressNumpad8, Numpad9 as PressNumpad9, NumpadAdd as PressNumpadAdd, NumpadEnter as PressNumpadEnter, NumpadSubtract as PressNumpadSubtract, O as PressO, P as PressP, PageDown as PressPageDown, PageUp as PressPageUp, Play as PressPlay, Power as PressPower, Q as PressQ, R as PressR, Right as PressRight, S as PressS, Scanned as PressScanned, Sleep as PressSleep, Space as PressSpace, Stop as PressStop, T as PressT, Tab as PressTab, U as PressU, Unknown as PressUnknown, Up as PressUp, V as PressV, VolumeDown as PressVolumeDown, VolumeUp as PressVolumeUp, W as PressW, Wake as PressWake, X as PressX, Y as PressY, Z as PressZ};
+
+    fn tag(&self) -> u8
+        ensures { elim self.now [
+          | PressUnknown ↦ result ≡ 0
+          | PressScanned a0 ↦ result ≡ 1
+          | PressA ↦ result ≡ 2
+          | PressB ↦ result ≡ 3
+          | PressC ↦ result ≡ 4
+          | PressD ↦ result ≡ 5
+          | PressE ↦ result ≡ 6
+          | PressF ↦ result ≡ 7
+          | PressG ↦ result ≡ 8
+          | PressH ↦ result ≡ 9
+          | PressI ↦ result ≡ 10
+          | PressJ ↦ result ≡ 11
+          | PressK ↦ result ≡ 12
+          | PressL ↦ result ≡ 13
+          | PressM ↦ result ≡ 14
+          | PressN ↦ result ≡ 15
+          | PressO ↦ result ≡ 16
+          | PressP ↦ result ≡ 17
+          | PressQ ↦ result ≡ 18
+          | PressR ↦ result ≡ 19
+          | PressS ↦ result ≡ 20
+          | PressT ↦ result ≡ 21
+          | PressU ↦ result ≡ 22
+          | PressV ↦ result ≡ 23
+          | PressW ↦ result ≡ 24
+          | PressX ↦ result ≡ 25
+          | PressY ↦ result ≡ 26
+          | PressZ ↦ result ≡ 27
+          | PressDigit0 ↦ result ≡ 28
+          | PressDigit1 ↦ result ≡ 29
+          | PressDigit2 ↦ result ≡ 30
+          | PressDigit3 ↦ result ≡ 31
+          | PressDigit4 ↦ result ≡ 32
+          | PressDigit5 ↦ result ≡ 33
+          | PressDigit6 ↦ result ≡ 34
+          | PressDigit7 ↦ result ≡ 35
+          | PressDigit8 ↦ result ≡ 36
+          | PressDigit9 ↦ result ≡ 37
+          | PressNamed a0 ↦ result ≡ 38
+          | PressF1 ↦ result ≡ 39
+          | PressF2 ↦ result ≡ 40
+          | PressF3 ↦ result ≡ 41
+          | PressF4 ↦ result ≡ 42
+          | PressF5 ↦ result ≡ 43
+          | PressF6 ↦ result ≡ 44
+          | PressF7 ↦ result ≡ 45
+          | PressF8 ↦ result ≡ 46
+          | PressF9 ↦ result ≡ 47
+          | PressF10 ↦ result ≡ 48
+          | PressF11 ↦ result ≡ 49
+          | PressF12 ↦ result ≡ 50
+          | PressF13 ↦ result ≡ 51
+          | PressF14 ↦ result ≡ 52
+          | PressF15 ↦ result ≡ 53
+          | PressF16 ↦ result ≡ 54
+          | PressF17 ↦ result ≡ 55
+          | PressF18 ↦ result ≡ 56
+          | PressF19 ↦ result ≡ 57
+          | PressF20 ↦ result ≡ 58
+          | PressF21 ↦ result ≡ 59
+          | PressF22 ↦ result ≡ 60
+          | PressF23 ↦ result ≡ 61
+          | PressF24 ↦ result ≡ 62
+          | PressNumpad0 ↦ result ≡ 63
+          | PressNumpad1 ↦ result ≡ 64
+          | PressNumpad2 ↦ result ≡ 65
+          | PressNumpad3 ↦ result ≡ 66
+          | PressNumpad4 ↦ result ≡ 67
+          | PressNumpad5 ↦ result ≡ 68
+          | PressNumpad6 ↦ result ≡ 69
+          | PressNumpad7 ↦ result ≡ 70
+          | PressNumpad8 ↦ result ≡ 71
+          | PressNumpad9 ↦ result ≡ 72
+          | PressNumpadAdd ↦ result ≡ 73
+          | PressNumpadSubtract ↦ result ≡ 74
+          | PressNumpadEnter ↦ result ≡ 75
+          | PressEscape ↦ result ≡ 76
+          | PressTab ↦ result ≡ 77
+          | PressCapsLock ↦ result ≡ 78
+          | PressSpace ↦ result ≡ 79
+          | PressEnter ↦ result ≡ 80
+          | PressBackspace ↦ result ≡ 81
+          | PressInsert ↦ result ≡ 82
+          | PressDelete ↦ result ≡ 83
+          | PressHome ↦ result ≡ 84
+          | PressEnd ↦ result ≡ 85
+          | PressPageUp ↦ result ≡ 86
+          | PressPageDown ↦ result ≡ 87
+          | PressLeft ↦ result ≡ 88
+          | PressRight ↦ result ≡ 89
+          | PressUp ↦ result ≡ 90
+          | PressDown ↦ result ≡ 91
+          | PressChord a0 a1 ↦ result ≡ 92
+          | PressMute ↦ result ≡ 93
+          | PressVolumeUp ↦ result ≡ 94
+          | PressVolumeDown ↦ result ≡ 95
+          | PressPlay ↦ result ≡ 96
+          | PressStop ↦ result ≡ 97
+          | PressSleep ↦ result ≡ 98
+          | PressWake ↦ result ≡ 99
+          | PressPower ↦ result ≡ 100
+        ] }
+    {
+        match self {
+            Press::Unknown => 0,
+            Press::Scanned(..) => 1,
+            Press::A => 2,
+            Press::B => 3,
+            Press::C => 4,
+            Press::D => 5,
+            Press::E => 6,
+            Press::F => 7,
+            Press::G => 8,
+            Press::H => 9,
+            Press::I => 10,
+            Press::J => 11,
+            Press::K => 12,
+            Press::L => 13,
+            Press::M => 14,
+            Press::N => 15,
+            Press::O => 16,
+            Press::P => 17,
+            Press::Q => 18,
+            Press::R => 19,
+            Press::S => 20,
+            Press::T => 21,
+            Press::U => 22,
+            Press::V => 23,
+            Press::W => 24,
+            Press::X => 25,
+            Press::Y => 26,
+            Press::Z => 27,
+            Press::Digit0 => 28,
+            Press::Digit1 => 29,
+            Press::Digit2 => 30,
+            Press::Digit3 => 31,
+            Press::Digit4 => 32,
+            Press::Digit5 => 33,
+            Press::Digit6 => 34,
+            Press::Digit7 => 35,
+            Press::Digit8 => 36,
+            Press::Digit9 => 37,
+            Press::Named(..) => 38,
+            Press::F1 => 39,
+            Press::F2 => 40,
+            Press::F3 => 41,
+            Press::F4 => 42,
+            Press::F5 => 43,
+            Press::F6 => 44,
+            Press::F7 => 45,
+            Press::F8 => 46,
+            Press::F9 => 47,
+            Press::F10 => 48,
+            Press::F11 => 49,
+            Press::F12 => 50,
+            Press::F13 => 51,
+            Press::F14 => 52,
+            Press::F15 => 53,
+            Press::F16 => 54,
+            Press::F17 => 55,
+            Press::F18 => 56,
+            Press::F19 => 57,
+            Press::F20 => 58,
+            Press::F21 => 59,
+            Press::F22 => 60,
+            Press::F23 => 61,
+            Press::F24 => 62,
+            Press::Numpad0 => 63,
+            Press::Numpad1 => 64,
+            Press::Numpad2 => 65,
+            Press::Numpad3 => 66,
+            Press::Numpad4 => 67,
+            Press::Numpad5 => 68,
+            Press::Numpad6 => 69,
+            Press::Numpad7 => 70,
+            Press::Numpad8 => 71,
+            Press::Numpad9 => 72,
+            Press::NumpadAdd => 73,
+            Press::NumpadSubtract => 74,
+            Press::NumpadEnter => 75,
+            Press::Escape => 76,
+            Press::Tab => 77,
+            Press::CapsLock => 78,
+            Press::Space => 79,
+            Press::Enter => 80,
+            Press::Backspace => 81,
+            Press::Insert => 82,
+            Press::Delete => 83,
+            Press::Home => 84,
+            Press::End => 85,
+            Press::PageUp => 86,
+            Press::PageDown => 87,
+            Press::Left => 88,
+            Press::Right => 89,
+            Press::Up => 90,
+            Press::Down => 91,
+            Press::Chord { .. } => 92,
+            Press::Mute => 93,
+            Press::VolumeUp => 94,
+            Press::VolumeDown => 95,
+            Press::Play => 96,
+            Press::Stop => 97,
+            Press::Sleep => 98,
+            Press::Wake => 99,
+            Press::Power => 100,
+        }
+    }
+}
+
+impl Archive for Press {
+    ghost use Rattle.derived_plain.specs.declared.press.Press.TheVariants.{A as PressA, B as PressB, Backspace as PressBackspace, C as PressC, CapsLock as PressCapsLock, Chord as PressChord, D as PressD, Delete as PressDelete, Digit0 as PressDigit0, Digit1 as PressDigit1, Digit2 as PressDigit2, Digit3 as PressDigit3, Digit4 as PressDigit4, Digit5 as PressDigit5, Digit6 as PressDigit6, Digit7 as PressDigit7, Digit8 as PressDigit8, Digit9 as PressDigit9, Down as PressDown, E as PressE, End as PressEnd, Enter as PressEnter, Escape as PressEscape, F as PressF, F1 as PressF1, F10 as PressF10, F11 as PressF11, F12 as PressF12, F13 as PressF13, F14 as PressF14, F15 as PressF15, F16 as PressF16, F17 as PressF17, F18 as PressF18, F19 as PressF19, F2 as PressF2, F20 as PressF20, F21 as PressF21, F22 as PressF22, F23 as PressF23, F24 as PressF24, F3 as PressF3, F4 as PressF4, F5 as PressF5, F6 as PressF6, F7 as PressF7, F8 as PressF8, F9 as PressF9, G as PressG, H as PressH, Home as PressHome, I as PressI, Insert as PressInsert, J as PressJ, K as PressK, L as PressL, Left as PressLeft, M as PressM, Mute as PressMute, N as PressN, Named as PressNamed, Numpad0 as PressNumpad0, Numpad1 as PressNumpad1, Numpad2 as PressNumpad2, Numpad3 as PressNumpad3, Numpad4 as PressNumpad4, Numpad5 as PressNumpad5, Numpad6 as PressNumpad6, Numpad7 as PressNumpad7, Numpad8 as PressNumpad8, Numpad9 as PressNumpad9, NumpadAdd as PressNumpadAdd, NumpadEnter as PressNumpadEnter, NumpadSubtract as PressNumpadSubtract, O as PressO, P as PressP, PageDown as PressPageDown, PageUp as PressPageUp, Play as PressPlay, Power as PressPower, Q as PressQ, R as PressR, Right as PressRight, S as PressS, Scanned as PressScanned, Sleep as PressSleep, Space as PressSpace, Stop as PressStop, T as PressT, Tab as PressTab, U as PressU, Unknown as PressUnknown, Up as PressUp, V as PressV, VolumeDown as PressVolumeDown, VolumeUp as PressVolumeUp, W as PressW, Wake as PressWake, X as PressX, Y as PressY, Z as PressZ};
+    ghost use Rattle.derived_plain.specs.declared.press.PressResolver.TheVariants.{Chord as PressChordKept, Named as PressNamedKept, Scanned as PressScannedKept, Unit as PressUnitKept};
+
+    type Archived = ArchivedPress;
+
+    type Resolver = PressResolver;
+
+    ghost meaning = { elim [
+      | PressUnknown ↦ case 0 no_value
+      | PressScanned a0 ↦ case 1 (value (⟦<u32 as Archive>⟧.meaning a0) no_value)
+      | PressA ↦ case 2 no_value
+      | PressB ↦ case 3 no_value
+      | PressC ↦ case 4 no_value
+      | PressD ↦ case 5 no_value
+      | PressE ↦ case 6 no_value
+      | PressF ↦ case 7 no_value
+      | PressG ↦ case 8 no_value
+      | PressH ↦ case 9 no_value
+      | PressI ↦ case 10 no_value
+      | PressJ ↦ case 11 no_value
+      | PressK ↦ case 12 no_value
+      | PressL ↦ case 13 no_value
+      | PressM ↦ case 14 no_value
+      | PressN ↦ case 15 no_value
+      | PressO ↦ case 16 no_value
+      | PressP ↦ case 17 no_value
+      | PressQ ↦ case 18 no_value
+      | PressR ↦ case 19 no_value
+      | PressS ↦ case 20 no_value
+      | PressT ↦ case 21 no_value
+      | PressU ↦ case 22 no_value
+      | PressV ↦ case 23 no_value
+      | PressW ↦ case 24 no_value
+      | PressX ↦ case 25 no_value
+      | PressY ↦ case 26 no_value
+      | PressZ ↦ case 27 no_value
+      | PressDigit0 ↦ case 28 no_value
+      | PressDigit1 ↦ case 29 no_value
+      | PressDigit2 ↦ case 30 no_value
+      | PressDigit3 ↦ case 31 no_value
+      | PressDigit4 ↦ case 32 no_value
+      | PressDigit5 ↦ case 33 no_value
+      | PressDigit6 ↦ case 34 no_value
+      | PressDigit7 ↦ case 35 no_value
+      | PressDigit8 ↦ case 36 no_value
+      | PressDigit9 ↦ case 37 no_value
+      | PressNamed a0 ↦ case 38 (value (⟦<String as Archive>⟧.meaning a0) no_value)
+      | PressF1 ↦ case 39 no_value
+      | PressF2 ↦ case 40 no_value
+      | PressF3 ↦ case 41 no_value
+      | PressF4 ↦ case 42 no_value
+      | PressF5 ↦ case 43 no_value
+      | PressF6 ↦ case 44 no_value
+      | PressF7 ↦ case 45 no_value
+      | PressF8 ↦ case 46 no_value
+      | PressF9 ↦ case 47 no_value
+      | PressF10 ↦ case 48 no_value
+      | PressF11 ↦ case 49 no_value
+      | PressF12 ↦ case 50 no_value
+      | PressF13 ↦ case 51 no_value
+      | PressF14 ↦ case 52 no_value
+      | PressF15 ↦ case 53 no_value
+      | PressF16 ↦ case 54 no_value
+      | PressF17 ↦ case 55 no_value
+      | PressF18 ↦ case 56 no_value
+      | PressF19 ↦ case 57 no_value
+      | PressF20 ↦ case 58 no_value
+      | PressF21 ↦ case 59 no_value
+      | PressF22 ↦ case 60 no_value
+      | PressF23 ↦ case 61 no_value
+      | PressF24 ↦ case 62 no_value
+      | PressNumpad0 ↦ case 63 no_value
+      | PressNumpad1 ↦ case 64 no_value
+      | PressNumpad2 ↦ case 65 no_value
+      | PressNumpad3 ↦ case 66 no_value
+      | PressNumpad4 ↦ case 67 no_value
+      | PressNumpad5 ↦ case 68 no_value
+      | PressNumpad6 ↦ case 69 no_value
+      | PressNumpad7 ↦ case 70 no_value
+      | PressNumpad8 ↦ case 71 no_value
+      | PressNumpad9 ↦ case 72 no_value
+      | PressNumpadAdd ↦ case 73 no_value
+      | PressNumpadSubtract ↦ case 74 no_value
+      | PressNumpadEnter ↦ case 75 no_value
+      | PressEscape ↦ case 76 no_value
+      | PressTab ↦ case 77 no_value
+      | PressCapsLock ↦ case 78 no_value
+      | PressSpace ↦ case 79 no_value
+      | PressEnter ↦ case 80 no_value
+      | PressBackspace ↦ case 81 no_value
+      | PressInsert ↦ case 82 no_value
+      | PressDelete ↦ case 83 no_value
+      | PressHome ↦ case 84 no_value
+      | PressEnd ↦ case 85 no_value
+      | PressPageUp ↦ case 86 no_value
+      | PressPageDown ↦ case 87 no_value
+      | PressLeft ↦ case 88 no_value
+      | PressRight ↦ case 89 no_value
+      | PressUp ↦ case 90 no_value
+      | PressDown ↦ case 91 no_value
+      | PressChord a0 a1 ↦ case 92 (value (⟦<u8 as Archive>⟧.meaning a0)
+          (value (⟦<char as Archive>⟧.meaning a1) no_value))
+      | PressMute ↦ case 93 no_value
+      | PressVolumeUp ↦ case 94 no_value
+      | PressVolumeDown ↦ case 95 no_value
+      | PressPlay ↦ case 96 no_value
+      | PressStop ↦ case 97 no_value
+      | PressSleep ↦ case 98 no_value
+      | PressWake ↦ case 99 no_value
+      | PressPower ↦ case 100 no_value
+    ] };
+
+    ghost flat = { λ v r. elim v [
+      | PressUnknown ↦ case 0 no_value
+      | PressScanned a0 ↦ elim r [
+        | PressScannedKept s ↦ case 1 (value (⟦<u32 as Archive>⟧.flat a0 s.0) no_value)
+        | _ ↦ case 1 no_value
+      ]
+      | PressA ↦ case 2 no_value
+      | PressB ↦ case 3 no_value
+      | PressC ↦ case 4 no_value
+      | PressD ↦ case 5 no_value
+      | PressE ↦ case 6 no_value
+      | PressF ↦ case 7 no_value
+      | PressG ↦ case 8 no_value
+      | PressH ↦ case 9 no_value
+      | PressI ↦ case 10 no_value
+      | PressJ ↦ case 11 no_value
+      | PressK ↦ case 12 no_value
+      | PressL ↦ case 13 no_value
+      | PressM ↦ case 14 no_value
+      | PressN ↦ case 15 no_value
+      | PressO ↦ case 16 no_value
+      | PressP ↦ case 17 no_value
+      | PressQ ↦ case 18 no_value
+      | PressR ↦ case 19 no_value
+      | PressS ↦ case 20 no_value
+      | PressT ↦ case 21 no_value
+      | PressU ↦ case 22 no_value
+      | PressV ↦ case 23 no_value
+      | PressW ↦ case 24 no_value
+      | PressX ↦ case 25 no_value
+      | PressY ↦ case 26 no_value
+      | PressZ ↦ case 27 no_value
+      | PressDigit0 ↦ case 28 no_value
+      | PressDigit1 ↦ case 29 no_value
+      | PressDigit2 ↦ case 30 no_value
+      | PressDigit3 ↦ case 31 no_value
+      | PressDigit4 ↦ case 32 no_value
+      | PressDigit5 ↦ case 33 no_value
+      | PressDigit6 ↦ case 34 no_value
+      | PressDigit7 ↦ case 35 no_value
+      | PressDigit8 ↦ case 36 no_value
+      | PressDigit9 ↦ case 37 no_value
+      | PressNamed a0 ↦ elim r [
+        | PressNamedKept s ↦ case 38 (value (⟦<String as Archive>⟧.flat a0 s.0) no_value)
+        | _ ↦ case 38 no_value
+      ]
+      | PressF1 ↦ case 39 no_value
+      | PressF2 ↦ case 40 no_value
+      | PressF3 ↦ case 41 no_value
+      | PressF4 ↦ case 42 no_value
+      | PressF5 ↦ case 43 no_value
+      | PressF6 ↦ case 44 no_value
+      | PressF7 ↦ case 45 no_value
+      | PressF8 ↦ case 46 no_value
+      | PressF9 ↦ case 47 no_value
+      | PressF10 ↦ case 48 no_value
+      | PressF11 ↦ case 49 no_value
+      | PressF12 ↦ case 50 no_value
+      | PressF13 ↦ case 51 no_value
+      | PressF14 ↦ case 52 no_value
+      | PressF15 ↦ case 53 no_value
+      | PressF16 ↦ case 54 no_value
+      | PressF17 ↦ case 55 no_value
+      | PressF18 ↦ case 56 no_value
+      | PressF19 ↦ case 57 no_value
+      | PressF20 ↦ case 58 no_value
+      | PressF21 ↦ case 59 no_value
+      | PressF22 ↦ case 60 no_value
+      | PressF23 ↦ case 61 no_value
+      | PressF24 ↦ case 62 no_value
+      | PressNumpad0 ↦ case 63 no_value
+      | PressNumpad1 ↦ case 64 no_value
+      | PressNumpad2 ↦ case 65 no_value
+      | PressNumpad3 ↦ case 66 no_value
+      | PressNumpad4 ↦ case 67 no_value
+      | PressNumpad5 ↦ case 68 no_value
+      | PressNumpad6 ↦ case 69 no_value
+      | PressNumpad7 ↦ case 70 no_value
+      | PressNumpad8 ↦ case 71 no_value
+      | PressNumpad9 ↦ case 72 no_value
+      | PressNumpadAdd ↦ case 73 no_value
+      | PressNumpadSubtract ↦ case 74 no_value
+      | PressNumpadEnter ↦ case 75 no_value
+      | PressEscape ↦ case 76 no_value
+      | PressTab ↦ case 77 no_value
+      | PressCapsLock ↦ case 78 no_value
+      | PressSpace ↦ case 79 no_value
+      | PressEnter ↦ case 80 no_value
+      | PressBackspace ↦ case 81 no_value
+      | PressInsert ↦ case 82 no_value
+      | PressDelete ↦ case 83 no_value
+      | PressHome ↦ case 84 no_value
+      | PressEnd ↦ case 85 no_value
+      | PressPageUp ↦ case 86 no_value
+      | PressPageDown ↦ case 87 no_value
+      | PressLeft ↦ case 88 no_value
+      | PressRight ↦ case 89 no_value
+      | PressUp ↦ case 90 no_value
+      | PressDown ↦ case 91 no_value
+      | PressChord a0 a1 ↦ elim r [
+        | PressChordKept s ↦ case 92 (value (⟦<u8 as Archive>⟧.flat a0 s.0)
+            (value (⟦<char as Archive>⟧.flat a1 s.1.0) no_value))
+        | _ ↦ case 92 no_value
+      ]
+      | PressMute ↦ case 93 no_value
+      | PressVolumeUp ↦ case 94 no_value
+      | PressVolumeDown ↦ case 95 no_value
+      | PressPlay ↦ case 96 no_value
+      | PressStop ↦ case 97 no_value
+      | PressSleep ↦ case 98 no_value
+      | PressWake ↦ case 99 no_value
+      | PressPower ↦ case 100 no_value
+    ] };
+
+    ghost keys = { elim [
+      | PressUnknown ↦ []
+      | PressScanned a0 ↦ ⟦<u32 as Archive>⟧.keys a0 ++ []
+      | PressA ↦ []
+      | PressB ↦ []
+      | PressC ↦ []
+      | PressD ↦ []
+      | PressE ↦ []
+      | PressF ↦ []
+      | PressG ↦ []
+      | PressH ↦ []
+      | PressI ↦ []
+      | PressJ ↦ []
+      | PressK ↦ []
+      | PressL ↦ []
+      | PressM ↦ []
+      | PressN ↦ []
+      | PressO ↦ []
+      | PressP ↦ []
+      | PressQ ↦ []
+      | PressR ↦ []
+      | PressS ↦ []
+      | PressT ↦ []
+      | PressU ↦ []
+      | PressV ↦ []
+      | PressW ↦ []
+      | PressX ↦ []
+      | PressY ↦ []
+      | PressZ ↦ []
+      | PressDigit0 ↦ []
+      | PressDigit1 ↦ []
+      | PressDigit2 ↦ []
+      | PressDigit3 ↦ []
+      | PressDigit4 ↦ []
+      | PressDigit5 ↦ []
+      | PressDigit6 ↦ []
+      | PressDigit7 ↦ []
+      | PressDigit8 ↦ []
+      | PressDigit9 ↦ []
+      | PressNamed a0 ↦ ⟦<String as Archive>⟧.keys a0 ++ []
+      | PressF1 ↦ []
+      | PressF2 ↦ []
+      | PressF3 ↦ []
+      | PressF4 ↦ []
+      | PressF5 ↦ []
+      | PressF6 ↦ []
+      | PressF7 ↦ []
+      | PressF8 ↦ []
+      | PressF9 ↦ []
+      | PressF10 ↦ []
+      | PressF11 ↦ []
+      | PressF12 ↦ []
+      | PressF13 ↦ []
+      | PressF14 ↦ []
+      | PressF15 ↦ []
+      | PressF16 ↦ []
+      | PressF17 ↦ []
+      | PressF18 ↦ []
+      | PressF19 ↦ []
+      | PressF20 ↦ []
+      | PressF21 ↦ []
+      | PressF22 ↦ []
+      | PressF23 ↦ []
+      | PressF24 ↦ []
+      | PressNumpad0 ↦ []
+      | PressNumpad1 ↦ []
+      | PressNumpad2 ↦ []
+      | PressNumpad3 ↦ []
+      | PressNumpad4 ↦ []
+      | PressNumpad5 ↦ []
+      | PressNumpad6 ↦ []
+      | PressNumpad7 ↦ []
+      | PressNumpad8 ↦ []
+      | PressNumpad9 ↦ []
+      | PressNumpadAdd ↦ []
+      | PressNumpadSubtract ↦ []
+      | PressNumpadEnter ↦ []
+      | PressEscape ↦ []
+      | PressTab ↦ []
+      | PressCapsLock ↦ []
+      | PressSpace ↦ []
+      | PressEnter ↦ []
+      | PressBackspace ↦ []
+      | PressInsert ↦ []
+      | PressDelete ↦ []
+      | PressHome ↦ []
+      | PressEnd ↦ []
+      | PressPageUp ↦ []
+      | PressPageDown ↦ []
+      | PressLeft ↦ []
+      | PressRight ↦ []
+      | PressUp ↦ []
+      | PressDown ↦ []
+      | PressChord a0 a1 ↦ ⟦<u8 as Archive>⟧.keys a0 ++ (⟦<char as Archive>⟧.keys a1 ++ [])
+      | PressMute ↦ []
+      | PressVolumeUp ↦ []
+      | PressVolumeDown ↦ []
+      | PressPlay ↦ []
+      | PressStop ↦ []
+      | PressSleep ↦ []
+      | PressWake ↦ []
+      | PressPower ↦ []
+    ] };
+
+    ghost belongs = { λ v r. elim v [
+      | PressUnknown ↦ Unit {0}
+      | PressScanned a0 ↦ elim r [
+        | PressScannedKept s ↦ ⟦<u32 as Archive>⟧.belongs a0 s.0 × Unit {0}
+        | _ ↦ ⊥
+      ]
+      | PressA ↦ Unit {0}
+      | PressB ↦ Unit {0}
+      | PressC ↦ Unit {0}
+      | PressD ↦ Unit {0}
+      | PressE ↦ Unit {0}
+      | PressF ↦ Unit {0}
+      | PressG ↦ Unit {0}
+      | PressH ↦ Unit {0}
+      | PressI ↦ Unit {0}
+      | PressJ ↦ Unit {0}
+      | PressK ↦ Unit {0}
+      | PressL ↦ Unit {0}
+      | PressM ↦ Unit {0}
+      | PressN ↦ Unit {0}
+      | PressO ↦ Unit {0}
+      | PressP ↦ Unit {0}
+      | PressQ ↦ Unit {0}
+      | PressR ↦ Unit {0}
+      | PressS ↦ Unit {0}
+      | PressT ↦ Unit {0}
+      | PressU ↦ Unit {0}
+      | PressV ↦ Unit {0}
+      | PressW ↦ Unit {0}
+      | PressX ↦ Unit {0}
+      | PressY ↦ Unit {0}
+      | PressZ ↦ Unit {0}
+      | PressDigit0 ↦ Unit {0}
+      | PressDigit1 ↦ Unit {0}
+      | PressDigit2 ↦ Unit {0}
+      | PressDigit3 ↦ Unit {0}
+      | PressDigit4 ↦ Unit {0}
+      | PressDigit5 ↦ Unit {0}
+      | PressDigit6 ↦ Unit {0}
+      | PressDigit7 ↦ Unit {0}
+      | PressDigit8 ↦ Unit {0}
+      | PressDigit9 ↦ Unit {0}
+      | PressNamed a0 ↦ elim r [
+        | PressNamedKept s ↦ ⟦<String as Archive>⟧.belongs a0 s.0 × Unit {0}
+        | _ ↦ ⊥
+      ]
+      | PressF1 ↦ Unit {0}
+      | PressF2 ↦ Unit {0}
+      | PressF3 ↦ Unit {0}
+      | PressF4 ↦ Unit {0}
+      | PressF5 ↦ Unit {0}
+      | PressF6 ↦ Unit {0}
+      | PressF7 ↦ Unit {0}
+      | PressF8 ↦ Unit {0}
+      | PressF9 ↦ Unit {0}
+      | PressF10 ↦ Unit {0}
+      | PressF11 ↦ Unit {0}
+      | PressF12 ↦ Unit {0}
+      | PressF13 ↦ Unit {0}
+      | PressF14 ↦ Unit {0}
+      | PressF15 ↦ Unit {0}
+      | PressF16 ↦ Unit {0}
+      | PressF17 ↦ Unit {0}
+      | PressF18 ↦ Unit {0}
+      | PressF19 ↦ Unit {0}
+      | PressF20 ↦ Unit {0}
+      | PressF21 ↦ Unit {0}
+      | PressF22 ↦ Unit {0}
+      | PressF23 ↦ Unit {0}
+      | PressF24 ↦ Unit {0}
+      | PressNumpad0 ↦ Unit {0}
+      | PressNumpad1 ↦ Unit {0}
+      | PressNumpad2 ↦ Unit {0}
+      | PressNumpad3 ↦ Unit {0}
+      | PressNumpad4 ↦ Unit {0}
+      | PressNumpad5 ↦ Unit {0}
+      | PressNumpad6 ↦ Unit {0}
+      | PressNumpad7 ↦ Unit {0}
+      | PressNumpad8 ↦ Unit {0}
+      | PressNumpad9 ↦ Unit {0}
+      | PressNumpadAdd ↦ Unit {0}
+      | PressNumpadSubtract ↦ Unit {0}
+      | PressNumpadEnter ↦ Unit {0}
+      | PressEscape ↦ Unit {0}
+      | PressTab ↦ Unit {0}
+      | PressCapsLock ↦ Unit {0}
+      | PressSpace ↦ Unit {0}
+      | PressEnter ↦ Unit {0}
+      | PressBackspace ↦ Unit {0}
+      | PressInsert ↦ Unit {0}
+      | PressDelete ↦ Unit {0}
+      | PressHome ↦ Unit {0}
+      | PressEnd ↦ Unit {0}
+      | PressPageUp ↦ Unit {0}
+      | PressPageDown ↦ Unit {0}
+      | PressLeft ↦ Unit {0}
+      | PressRight ↦ Unit {0}
+      | PressUp ↦ Unit {0}
+      | PressDown ↦ Unit {0}
+      | PressChord a0 a1 ↦ elim r [
+        | PressChordKept s ↦ ⟦<u8 as Archive>⟧.belongs a0 s.0
+            × (⟦<char as Archive>⟧.belongs a1 s.1.0 × Unit {0})
+        | _ ↦ ⊥
+      ]
+      | PressMute ↦ Unit {0}
+      | PressVolumeUp ↦ Unit {0}
+      | PressVolumeDown ↦ Unit {0}
+      | PressPlay ↦ Unit {0}
+      | PressStop ↦ Unit {0}
+      | PressSleep ↦ Unit {0}
+      | PressWake ↦ Unit {0}
+      | PressPower ↦ Unit {0}
+    ] };
+
+    ghost in_bulk = { None };
+
+    ghost keyed = { elim [
+      | PressUnknown ↦ case_keyed _ 0 _ nothing_keyed
+      | PressScanned a0 ↦ case_keyed _ 1 _ (part_keyed (number_keyed _) nothing_keyed)
+      | PressA ↦ case_keyed _ 2 _ nothing_keyed
+      | PressB ↦ case_keyed _ 3 _ nothing_keyed
+      | PressC ↦ case_keyed _ 4 _ nothing_keyed
+      | PressD ↦ case_keyed _ 5 _ nothing_keyed
+      | PressE ↦ case_keyed _ 6 _ nothing_keyed
+      | PressF ↦ case_keyed _ 7 _ nothing_keyed
+      | PressG ↦ case_keyed _ 8 _ nothing_keyed
+      | PressH ↦ case_keyed _ 9 _ nothing_keyed
+      | PressI ↦ case_keyed _ 10 _ nothing_keyed
+      | PressJ ↦ case_keyed _ 11 _ nothing_keyed
+      | PressK ↦ case_keyed _ 12 _ nothing_keyed
+      | PressL ↦ case_keyed _ 13 _ nothing_keyed
+      | PressM ↦ case_keyed _ 14 _ nothing_keyed
+      | PressN ↦ case_keyed _ 15 _ nothing_keyed
+      | PressO ↦ case_keyed _ 16 _ nothing_keyed
+      | PressP ↦ case_keyed _ 17 _ nothing_keyed
+      | PressQ ↦ case_keyed _ 18 _ nothing_keyed
+      | PressR ↦ case_keyed _ 19 _ nothing_keyed
+      | PressS ↦ case_keyed _ 20 _ nothing_keyed
+      | PressT ↦ case_keyed _ 21 _ nothing_keyed
+      | PressU ↦ case_keyed _ 22 _ nothing_keyed
+      | PressV ↦ case_keyed _ 23 _ nothing_keyed
+      | PressW ↦ case_keyed _ 24 _ nothing_keyed
+      | PressX ↦ case_keyed _ 25 _ nothing_keyed
+      | PressY ↦ case_keyed _ 26 _ nothing_keyed
+      | PressZ ↦ case_keyed _ 27 _ nothing_keyed
+      | PressDigit0 ↦ case_keyed _ 28 _ nothing_keyed
+      | PressDigit1 ↦ case_keyed _ 29 _ nothing_keyed
+      | PressDigit2 ↦ case_keyed _ 30 _ nothing_keyed
+      | PressDigit3 ↦ case_keyed _ 31 _ nothing_keyed
+      | PressDigit4 ↦ case_keyed _ 32 _ nothing_keyed
+      | PressDigit5 ↦ case_keyed _ 33 _ nothing_keyed
+      | PressDigit6 ↦ case_keyed _ 34 _ nothing_keyed
+      | PressDigit7 ↦ case_keyed _ 35 _ nothing_keyed
+      | PressDigit8 ↦ case_keyed _ 36 _ nothing_keyed
+      | PressDigit9 ↦ case_keyed _ 37 _ nothing_keyed
+      | PressNamed a0 ↦ case_keyed _ 38 _ (part_keyed (text_keyed (string_bytes a0)) nothing_keyed)
+      | PressF1 ↦ case_keyed _ 39 _ nothing_keyed
+      | PressF2 ↦ case_keyed _ 40 _ nothing_keyed
+      | PressF3 ↦ case_keyed _ 41 _ nothing_keyed
+      | PressF4 ↦ case_keyed _ 42 _ nothing_keyed
+      | PressF5 ↦ case_keyed _ 43 _ nothing_keyed
+      | PressF6 ↦ case_keyed _ 44 _ nothing_keyed
+      | PressF7 ↦ case_keyed _ 45 _ nothing_keyed
+      | PressF8 ↦ case_keyed _ 46 _ nothing_keyed
+      | PressF9 ↦ case_keyed _ 47 _ nothing_keyed
+      | PressF10 ↦ case_keyed _ 48 _ nothing_keyed
+      | PressF11 ↦ case_keyed _ 49 _ nothing_keyed
+      | PressF12 ↦ case_keyed _ 50 _ nothing_keyed
+      | PressF13 ↦ case_keyed _ 51 _ nothing_keyed
+      | PressF14 ↦ case_keyed _ 52 _ nothing_keyed
+      | PressF15 ↦ case_keyed _ 53 _ nothing_keyed
+      | PressF16 ↦ case_keyed _ 54 _ nothing_keyed
+      | PressF17 ↦ case_keyed _ 55 _ nothing_keyed
+      | PressF18 ↦ case_keyed _ 56 _ nothing_keyed
+      | PressF19 ↦ case_keyed _ 57 _ nothing_keyed
+      | PressF20 ↦ case_keyed _ 58 _ nothing_keyed
+      | PressF21 ↦ case_keyed _ 59 _ nothing_keyed
+      | PressF22 ↦ case_keyed _ 60 _ nothing_keyed
+      | PressF23 ↦ case_keyed _ 61 _ nothing_keyed
+      | PressF24 ↦ case_keyed _ 62 _ nothing_keyed
+      | PressNumpad0 ↦ case_keyed _ 63 _ nothing_keyed
+      | PressNumpad1 ↦ case_keyed _ 64 _ nothing_keyed
+      | PressNumpad2 ↦ case_keyed _ 65 _ nothing_keyed
+      | PressNumpad3 ↦ case_keyed _ 66 _ nothing_keyed
+      | PressNumpad4 ↦ case_keyed _ 67 _ nothing_keyed
+      | PressNumpad5 ↦ case_keyed _ 68 _ nothing_keyed
+      | PressNumpad6 ↦ case_keyed _ 69 _ nothing_keyed
+      | PressNumpad7 ↦ case_keyed _ 70 _ nothing_keyed
+      | PressNumpad8 ↦ case_keyed _ 71 _ nothing_keyed
+      | PressNumpad9 ↦ case_keyed _ 72 _ nothing_keyed
+      | PressNumpadAdd ↦ case_keyed _ 73 _ nothing_keyed
+      | PressNumpadSubtract ↦ case_keyed _ 74 _ nothing_keyed
+      | PressNumpadEnter ↦ case_keyed _ 75 _ nothing_keyed
+      | PressEscape ↦ case_keyed _ 76 _ nothing_keyed
+      | PressTab ↦ case_keyed _ 77 _ nothing_keyed
+      | PressCapsLock ↦ case_keyed _ 78 _ nothing_keyed
+      | PressSpace ↦ case_keyed _ 79 _ nothing_keyed
+      | PressEnter ↦ case_keyed _ 80 _ nothing_keyed
+      | PressBackspace ↦ case_keyed _ 81 _ nothing_keyed
+      | PressInsert ↦ case_keyed _ 82 _ nothing_keyed
+      | PressDelete ↦ case_keyed _ 83 _ nothing_keyed
+      | PressHome ↦ case_keyed _ 84 _ nothing_keyed
+      | PressEnd ↦ case_keyed _ 85 _ nothing_keyed
+      | PressPageUp ↦ case_keyed _ 86 _ nothing_keyed
+      | PressPageDown ↦ case_keyed _ 87 _ nothing_keyed
+      | PressLeft ↦ case_keyed _ 88 _ nothing_keyed
+      | PressRight ↦ case_keyed _ 89 _ nothing_keyed
+      | PressUp ↦ case_keyed _ 90 _ nothing_keyed
+      | PressDown ↦ case_keyed _ 91 _ nothing_keyed
+      | PressChord a0 a1 ↦ case_keyed _ 92 _ (part_keyed (number_keyed _)
+          (part_keyed (number_keyed _) nothing_keyed))
+      | PressMute ↦ case_keyed _ 93 _ nothing_keyed
+      | PressVolumeUp ↦ case_keyed _ 94 _ nothing_keyed
+      | PressVolumeDown ↦ case_keyed _ 95 _ nothing_keyed
+      | PressPlay ↦ case_keyed _ 96 _ nothing_keyed
+      | PressStop ↦ case_keyed _ 97 _ nothing_keyed
+      | PressSleep ↦ case_keyed _ 98 _ nothing_keyed
+      | PressWake ↦ case_keyed _ 99 _ nothing_keyed
+      | PressPower ↦ case_keyed _ 100 _ nothing_keyed
+    ] };
+
+    ghost planned = { elim [
+      | PressUnknown ↦ plain_variant_planned _ _ 0 no_part refl no_definition _ _ no_part_planned
+          refl
+      | PressScanned a0 ↦ plain_variant_planned _ _ 1 (part ⟦<ArchivedU32 as Portable>⟧.shape
+          no_part) refl (both no_definition no_definition) _ _
+          (part_planned no_definition ⟦<ArchivedU32 as Portable>⟧.shape (⟦<u32 as Archive>⟧.keys a0)
+          (⟦<u32 as Archive>⟧.meaning a0) (leaf_planned no_definition _ _ [] _ refl)
+          no_part_planned) refl
+      | PressA ↦ plain_variant_planned _ _ 2 no_part refl no_definition _ _ no_part_planned refl
+      | PressB ↦ plain_variant_planned _ _ 3 no_part refl no_definition _ _ no_part_planned refl
+      | PressC ↦ plain_variant_planned _ _ 4 no_part refl no_definition _ _ no_part_planned refl
+      | PressD ↦ plain_variant_planned _ _ 5 no_part refl no_definition _ _ no_part_planned refl
+      | PressE ↦ plain_variant_planned _ _ 6 no_part refl no_definition _ _ no_part_planned refl
+      | PressF ↦ plain_variant_planned _ _ 7 no_part refl no_definition _ _ no_part_planned refl
+      | PressG ↦ plain_variant_planned _ _ 8 no_part refl no_definition _ _ no_part_planned refl
+      | PressH ↦ plain_variant_planned _ _ 9 no_part refl no_definition _ _ no_part_planned refl
+      | PressI ↦ plain_variant_planned _ _ 10 no_part refl no_definition _ _ no_part_planned refl
+      | PressJ ↦ plain_variant_planned _ _ 11 no_part refl no_definition _ _ no_part_planned refl
+      | PressK ↦ plain_variant_planned _ _ 12 no_part refl no_definition _ _ no_part_planned refl
+      | PressL ↦ plain_variant_planned _ _ 13 no_part refl no_definition _ _ no_part_planned refl
+      | PressM ↦ plain_variant_planned _ _ 14 no_part refl no_definition _ _ no_part_planned refl
+      | PressN ↦ plain_variant_planned _ _ 15 no_part refl no_definition _ _ no_part_planned refl
+      | PressO ↦ plain_variant_planned _ _ 16 no_part refl no_definition _ _ no_part_planned refl
+      | PressP ↦ plain_variant_planned _ _ 17 no_part refl no_definition _ _ no_part_planned refl
+      | PressQ ↦ plain_variant_planned _ _ 18 no_part refl no_definition _ _ no_part_planned refl
+      | PressR ↦ plain_variant_planned _ _ 19 no_part refl no_definition _ _ no_part_planned refl
+      | PressS ↦ plain_variant_planned _ _ 20 no_part refl no_definition _ _ no_part_planned refl
+      | PressT ↦ plain_variant_planned _ _ 21 no_part refl no_definition _ _ no_part_planned refl
+      | PressU ↦ plain_variant_planned _ _ 22 no_part refl no_definition _ _ no_part_planned refl
+      | PressV ↦ plain_variant_planned _ _ 23 no_part refl no_definition _ _ no_part_planned refl
+      | PressW ↦ plain_variant_planned _ _ 24 no_part refl no_definition _ _ no_part_planned refl
+      | PressX ↦ plain_variant_planned _ _ 25 no_part refl no_definition _ _ no_part_planned refl
+      | PressY ↦ plain_variant_planned _ _ 26 no_part refl no_definition _ _ no_part_planned refl
+      | PressZ ↦ plain_variant_planned _ _ 27 no_part refl no_definition _ _ no_part_planned refl
+      | PressDigit0 ↦ plain_variant_planned _ _ 28 no_part refl no_definition _ _ no_part_planned
+          refl
+      | PressDigit1 ↦ plain_variant_planned _ _ 29 no_part refl no_definition _ _ no_part_planned
+          refl
+      | PressDigit2 ↦ plain_variant_planned _ _ 30 no_part refl no_definition _ _ no_part_planned
+          refl
+      | PressDigit3 ↦ plain_variant_planned _ _ 31 no_part refl no_definition _ _ no_part_planned
+          refl
+      | PressDigit4 ↦ plain_variant_planned _ _ 32 no_part refl no_definition _ _ no_part_planned
+          refl
+      | PressDigit5 ↦ plain_variant_planned _ _ 33 no_part refl no_definition _ _ no_part_planned
+          refl
+      | PressDigit6 ↦ plain_variant_planned _ _ 34 no_part refl no_definition _ _ no_part_planned
+          refl
+      | PressDigit7 ↦ plain_variant_planned _ _ 35 no_part refl no_definition _ _ no_part_planned
+          refl
+      | PressDigit8 ↦ plain_variant_planned _ _ 36 no_part refl no_definition _ _ no_part_planned
+          refl
+      | PressDigit9 ↦ plain_variant_planned _ _ 37 no_part refl no_definition _ _ no_part_planned
+          refl
+      | PressNamed a0 ↦ plain_variant_planned _ _ 38 (part ⟦<ArchivedString as Portable>⟧.shape
+          no_part) refl (both no_definition no_definition) _ _
+          (part_planned no_definition ⟦<ArchivedString as Portable>⟧.shape
+          (⟦<String as Archive>⟧.keys a0) (⟦<String as Archive>⟧.meaning a0)
+          (string_planned no_definition [] (string_bytes a0)) no_part_planned) refl
+      | PressF1 ↦ plain_variant_planned _ _ 39 no_part refl no_definition _ _ no_part_planned refl
+      | PressF2 ↦ plain_variant_planned _ _ 40 no_part refl no_definition _ _ no_part_planned refl
+      | PressF3 ↦ plain_variant_planned _ _ 41 no_part refl no_definition _ _ no_part_planned refl
+      | PressF4 ↦ plain_variant_planned _ _ 42 no_part refl no_definition _ _ no_part_planned refl
+      | PressF5 ↦ plain_variant_planned _ _ 43 no_part refl no_definition _ _ no_part_planned refl
+      | PressF6 ↦ plain_variant_planned _ _ 44 no_part refl no_definition _ _ no_part_planned refl
+      | PressF7 ↦ plain_variant_planned _ _ 45 no_part refl no_definition _ _ no_part_planned refl
+      | PressF8 ↦ plain_variant_planned _ _ 46 no_part refl no_definition _ _ no_part_planned refl
+      | PressF9 ↦ plain_variant_planned _ _ 47 no_part refl no_definition _ _ no_part_planned refl
+      | PressF10 ↦ plain_variant_planned _ _ 48 no_part refl no_definition _ _ no_part_planned refl
+      | PressF11 ↦ plain_variant_planned _ _ 49 no_part refl no_definition _ _ no_part_planned refl
+      | PressF12 ↦ plain_variant_planned _ _ 50 no_part refl no_definition _ _ no_part_planned refl
+      | PressF13 ↦ plain_variant_planned _ _ 51 no_part refl no_definition _ _ no_part_planned refl
+      | PressF14 ↦ plain_variant_planned _ _ 52 no_part refl no_definition _ _ no_part_planned refl
+      | PressF15 ↦ plain_variant_planned _ _ 53 no_part refl no_definition _ _ no_part_planned refl
+      | PressF16 ↦ plain_variant_planned _ _ 54 no_part refl no_definition _ _ no_part_planned refl
+      | PressF17 ↦ plain_variant_planned _ _ 55 no_part refl no_definition _ _ no_part_planned refl
+      | PressF18 ↦ plain_variant_planned _ _ 56 no_part refl no_definition _ _ no_part_planned refl
+      | PressF19 ↦ plain_variant_planned _ _ 57 no_part refl no_definition _ _ no_part_planned refl
+      | PressF20 ↦ plain_variant_planned _ _ 58 no_part refl no_definition _ _ no_part_planned refl
+      | PressF21 ↦ plain_variant_planned _ _ 59 no_part refl no_definition _ _ no_part_planned refl
+      | PressF22 ↦ plain_variant_planned _ _ 60 no_part refl no_definition _ _ no_part_planned refl
+      | PressF23 ↦ plain_variant_planned _ _ 61 no_part refl no_definition _ _ no_part_planned refl
+      | PressF24 ↦ plain_variant_planned _ _ 62 no_part refl no_definition _ _ no_part_planned refl
+      | PressNumpad0 ↦ plain_variant_planned _ _ 63 no_part refl no_definition _ _ no_part_planned
+          refl
+      | PressNumpad1 ↦ plain_variant_planned _ _ 64 no_part refl no_definition _ _ no_part_planned
+          refl
+      | PressNumpad2 ↦ plain_variant_planned _ _ 65 no_part refl no_definition _ _ no_part_planned
+          refl
+      | PressNumpad3 ↦ plain_variant_planned _ _ 66 no_part refl no_definition _ _ no_part_planned
+          refl
+      | PressNumpad4 ↦ plain_variant_planned _ _ 67 no_part refl no_definition _ _ no_part_planned
+          refl
+      | PressNumpad5 ↦ plain_variant_planned _ _ 68 no_part refl no_definition _ _ no_part_planned
+          refl
+      | PressNumpad6 ↦ plain_variant_planned _ _ 69 no_part refl no_definition _ _ no_part_planned
+          refl
+      | PressNumpad7 ↦ plain_variant_planned _ _ 70 no_part refl no_definition _ _ no_part_planned
+          refl
+      | PressNumpad8 ↦ plain_variant_planned _ _ 71 no_part refl no_definition _ _ no_part_planned
+          refl
+      | PressNumpad9 ↦ plain_variant_planned _ _ 72 no_part refl no_definition _ _ no_part_planned
+          refl
+      | PressNumpadAdd ↦ plain_variant_planned _ _ 73 no_part refl no_definition _ _ no_part_planned
+          refl
+      | PressNumpadSubtract ↦ plain_variant_planned _ _ 74 no_part refl no_definition _ _
+          no_part_planned refl
+      | PressNumpadEnter ↦ plain_variant_planned _ _ 75 no_part refl no_definition _ _
+          no_part_planned refl
+      | PressEscape ↦ plain_variant_planned _ _ 76 no_part refl no_definition _ _ no_part_planned
+          refl
+      | PressTab ↦ plain_variant_planned _ _ 77 no_part refl no_definition _ _ no_part_planned refl
+      | PressCapsLock ↦ plain_variant_planned _ _ 78 no_part refl no_definition _ _ no_part_planned
+          refl
+      | PressSpace ↦ plain_variant_planned _ _ 79 no_part refl no_definition _ _ no_part_planned
+          refl
+      | PressEnter ↦ plain_variant_planned _ _ 80 no_part refl no_definition _ _ no_part_planned
+          refl
+      | PressBackspace ↦ plain_variant_planned _ _ 81 no_part refl no_definition _ _ no_part_planned
+          refl
+      | PressInsert ↦ plain_variant_planned _ _ 82 no_part refl no_definition _ _ no_part_planned
+          refl
+      | PressDelete ↦ plain_variant_planned _ _ 83 no_part refl no_definition _ _ no_part_planned
+          refl
+      | PressHome ↦ plain_variant_planned _ _ 84 no_part refl no_definition _ _ no_part_planned refl
+      | PressEnd ↦ plain_variant_planned _ _ 85 no_part refl no_definition _ _ no_part_planned refl
+      | PressPageUp ↦ plain_variant_planned _ _ 86 no_part refl no_definition _ _ no_part_planned
+          refl
+      | PressPageDown ↦ plain_variant_planned _ _ 87 no_part refl no_definition _ _ no_part_planned
+          refl
+      | PressLeft ↦ plain_variant_planned _ _ 88 no_part refl no_definition _ _ no_part_planned refl
+      | PressRight ↦ plain_variant_planned _ _ 89 no_part refl no_definition _ _ no_part_planned
+          refl
+      | PressUp ↦ plain_variant_planned _ _ 90 no_part refl no_definition _ _ no_part_planned refl
+      | PressDown ↦ plain_variant_planned _ _ 91 no_part refl no_definition _ _ no_part_planned refl
+      | PressChord a0 a1 ↦ plain_variant_planned _ _ 92
+          (part ⟦<u8 as Portable>⟧.shape (part ⟦<ArchivedChar as Portable>⟧.shape no_part)) refl
+          (both no_definition (both no_definition no_definition)) _ _
+          (part_planned no_definition ⟦<u8 as Portable>⟧.shape (⟦<u8 as Archive>⟧.keys a0)
+          (⟦<u8 as Archive>⟧.meaning a0) (leaf_planned no_definition _ _ [] _ refl)
+          (part_planned no_definition ⟦<ArchivedChar as Portable>⟧.shape
+          (⟦<char as Archive>⟧.keys a1) (⟦<char as Archive>⟧.meaning a1)
+          (leaf_planned no_definition _ _ [] _ refl) no_part_planned)) refl
+      | PressMute ↦ plain_variant_planned _ _ 93 no_part refl no_definition _ _ no_part_planned refl
+      | PressVolumeUp ↦ plain_variant_planned _ _ 94 no_part refl no_definition _ _ no_part_planned
+          refl
+      | PressVolumeDown ↦ plain_variant_planned _ _ 95 no_part refl no_definition _ _
+          no_part_planned refl
+      | PressPlay ↦ plain_variant_planned _ _ 96 no_part refl no_definition _ _ no_part_planned refl
+      | PressStop ↦ plain_variant_planned _ _ 97 no_part refl no_definition _ _ no_part_planned refl
+      | PressSleep ↦ plain_variant_planned _ _ 98 no_part refl no_definition _ _ no_part_planned
+          refl
+      | PressWake ↦ plain_variant_planned _ _ 99 no_part refl no_definition _ _ no_part_planned refl
+      | PressPower ↦ plain_variant_planned _ _ 100 no_part refl no_definition _ _ no_part_planned
+          refl
+    ] };
+
+    #[inline(always)]
+    fn resolve(
+        &self,
+        resolver: Self::Resolver,
+        place: Place<'_, Self::Archived>,
+    ) -> Result<(), Error>
+        requires zeroed { ZeroedPlace 12 place.pos place.bytes.now }
+        requires same_value { ⟦<Self as Archive>⟧.belongs self.now resolver }
+        ensures {
+            ResolvesAs ⟦<Self::Archived as Portable>⟧ place
+                (⟦<Self as Archive>⟧.flat self.now resolver) result
+        }
+    {
+        let Place { bytes, pos, .. } = place;
+        match self {
+            Press::Scanned(a0) => {
+                let PressResolver::Scanned(kept) = resolver else {
+                    unreachable!();
+                };
+                resolve_case_1::<u32, ArchivedPress>(1, a0, kept, Place::new(pos, bytes))
+            }
+            Press::Named(a0) => {
+                let PressResolver::Named(kept) = resolver else {
+                    unreachable!();
+                };
+                resolve_case_1::<String, ArchivedPress>(38, a0, kept, Place::new(pos, bytes))
+            }
+            Press::Chord { modifiers: a0, key: a1 } => {
+                let PressResolver::Chord(kept) = resolver else {
+                    unreachable!();
+                };
+                resolve_case_2::<u8, char, ArchivedPress>(92, a0, a1, kept, Place::new(pos, bytes))
+            }
+            _ => resolve_case_0::<ArchivedPress>(PressTag::tag(self), (), Place::new(pos, bytes)),
+        }
+    }
+
+    #[inline(always)]
+    fn copy_optimization() -> CopyOptimization<Self> {
+        CopyOptimization::disable()
+    }
+
+    #[inline(always)]
+    fn serialize_copied<S: Writer + Keys>(
+        _values: &[Self],
+        _together: usize,
+        _serializer: &mut S,
+    ) -> Result<Option<usize>, Error> {
+        Ok(None)
+    }
+}
+
+impl<S: Writer + ResolverAlloc> Serialize<S> for Press {
+    #[inline(always)]
+    fn serialize(&self, serializer: &mut S) -> Result<Self::Resolver, Error> {
+        match self {
+            Press::Scanned(a0) => match serialize_case_1::<u32, ArchivedPress, S>(
+                1, a0, serializer,
+            ) {
+                Ok(kept) => Ok(PressResolver::Scanned(kept)),
+                Err(error) => Err(error),
+            },
+            Press::Named(a0) => match serialize_case_1::<String, ArchivedPress, S>(
+                38, a0, serializer,
+            ) {
+                Ok(kept) => Ok(PressResolver::Named(kept)),
+                Err(error) => Err(error),
+            },
+            Press::Chord { modifiers: a0, key: a1 } => match serialize_case_2::<
+                u8,
+                char,
+                ArchivedPress,
+                S,
+            >(92, a0, a1, serializer)
+            {
+                Ok(kept) => Ok(PressResolver::Chord(kept)),
+                Err(error) => Err(error),
+            },
+            _ => match serialize_case_0::<ArchivedPress, S>(PressTag::tag(self), serializer) {
+                Ok(()) => Ok(PressResolver::Unit),
+                Err(error) => Err(error),
+            },
+        }
+    }
+}
+
+/// As a region of its own: the value itself.
+impl ArchiveUnsized for Press {
+    ghost use Rattle.derived_plain.specs.contracts.press.PressArchive.TheImpl.Laws.{keyed-law as keyed_of_press, planned-law as planned_of_press};
+
+    type Archived = ArchivedPress;
+
+    ghost source_length = { λ _. 0 };
+
+    ghost meaning = { ⟦<Press as Archive>⟧.meaning };
+
+    ghost keys = { ⟦<Press as Archive>⟧.keys };
+
+    ghost keyed = { keyed_of_press };
+
+    ghost one_length = { λ _ _. refl };
+
+    ghost planned = { λ v. one_planned no_definition (choice (codes "ArchivedPress")
+        (units 1 (variant (part ⟦<ArchivedU32 as Portable>⟧.shape no_part)
+        (units 36 (variant (part ⟦<ArchivedString as Portable>⟧.shape no_part)
+        (units 53 (variant (part ⟦<u8 as Portable>⟧.shape
+        (part ⟦<ArchivedChar as Portable>⟧.shape no_part)) (units 8 no_variant))))))))
+        (⟦<Press as Archive>⟧.keys v) (⟦<Press as Archive>⟧.meaning v) (planned_of_press v) };
+
+    #[inline(always)]
+    fn archived_metadata(&self) -> Result<(), Error> {
+        Ok(())
+    }
+}
+
+impl<S: Writer + ResolverAlloc> SerializeUnsized<S> for Press {
+    #[inline(always)]
+    fn serialize_unsized(&self, serializer: &mut S) -> Result<usize, Error> {
+        serialize_one(self, serializer)
+    }
+}
+
+// The variant with this tag, which has no fields.
+fn press_without_fields(tag: u8) -> Press
+    requires below { tag < 101 }
+    requires not_1 { tag ≢ 1 }
+    requires not_38 { tag ≢ 38 }
+    requires not_92 { tag ≢ 92 }
+    ensures variant { variant_in ⟦<ArchivedPress as Portable>⟧.shape tag ≡ Some no_part }
+    ensures meaning { ⟦<Press as Archive>⟧.meaning result ≡ case tag no_value }
+    ensures keys { ⟦<Press as Archive>⟧.keys result ≡ [] }
+{
+    match tag {
+        0 => Press::Unknown,
+        2 => Press::A,
+        3 => Press::B,
+        4 => Press::C,
+        5 => Press::D,
+        6 => Press::E,
+        7 => Press::F,
+        8 => Press::G,
+        9 => Press::H,
+        10 => Press::I,
+        11 => Press::J,
+        12 => Press::K,
+        13 => Press::L,
+        14 => Press::M,
+        15 => Press::N,
+        16 => Press::O,
+        17 => Press::P,
+        18 => Press::Q,
+        19 => Press::R,
+        20 => Press::S,
+        21 => Press::T,
+        22 => Press::U,
+        23 => Press::V,
+        24 => Press::W,
+        25 => Press::X,
+        26 => Press::Y,
+        27 => Press::Z,
+        28 => Press::Digit0,
+        29 => Press::Digit1,
+        30 => Press::Digit2,
+        31 => Press::Digit3,
+        32 => Press::Digit4,
+        33 => Press::Digit5,
+        34 => Press::Digit6,
+        35 => Press::Digit7,
+        36 => Press::Digit8,
+        37 => Press::Digit9,
+        39 => Press::F1,
+        40 => Press::F2,
+        41 => Press::F3,
+        42 => Press::F4,
+        43 => Press::F5,
+        44 => Press::F6,
+        45 => Press::F7,
+        46 => Press::F8,
+        47 => Press::F9,
+        48 => Press::F10,
+        49 => Press::F11,
+        50 => Press::F12,
+        51 => Press::F13,
+        52 => Press::F14,
+        53 => Press::F15,
+        54 => Press::F16,
+        55 => Press::F17,
+        56 => Press::F18,
+        57 => Press::F19,
+        58 => Press::F20,
+        59 => Press::F21,
+        60 => Press::F22,
+        61 => Press::F23,
+        62 => Press::F24,
+        63 => Press::Numpad0,
+        64 => Press::Numpad1,
+        65 => Press::Numpad2,
+        66 => Press::Numpad3,
+        67 => Press::Numpad4,
+        68 => Press::Numpad5,
+        69 => Press::Numpad6,
+        70 => Press::Numpad7,
+        71 => Press::Numpad8,
+        72 => Press::Numpad9,
+        73 => Press::NumpadAdd,
+        74 => Press::NumpadSubtract,
+        75 => Press::NumpadEnter,
+        76 => Press::Escape,
+        77 => Press::Tab,
+        78 => Press::CapsLock,
+        79 => Press::Space,
+        80 => Press::Enter,
+        81 => Press::Backspace,
+        82 => Press::Insert,
+        83 => Press::Delete,
+        84 => Press::Home,
+        85 => Press::End,
+        86 => Press::PageUp,
+        87 => Press::PageDown,
+        88 => Press::Left,
+        89 => Press::Right,
+        90 => Press::Up,
+        91 => Press::Down,
+        93 => Press::Mute,
+        94 => Press::VolumeUp,
+        95 => Press::VolumeDown,
+        96 => Press::Play,
+        97 => Press::Stop,
+        98 => Press::Sleep,
+        99 => Press::Wake,
+        _ => Press::Power,
+    }
+}
+
+impl<D: Entries> Deserialize<Press, D> for ArchivedPress {
+    #[inline(always)]
+    fn deserialize_part(
+        alloc: Global,
+        part: RawView<'_>,
+        deserializer: &mut D,
+    ) -> Result<Press, Error>
+        requires { IsPartOf ⟦<Self as ArchivePointee>⟧ part }
+        ensures { ReadsAs ⟦<Self as ArchivePointee>⟧ part D.Entries deserializer
+            ⟦<Press as Archive>⟧ result }
+    {
+        match known_tag::<Self>(part) {
+            1 => match read_case::<Self, PressScannedParts, PressScannedOwned, D>(
+                1,
+                alloc,
+                part,
+                deserializer,
+            ) {
+                Ok((a0, ())) => Ok(Press::Scanned(a0)),
+                Err(error) => Err(error),
+            },
+            38 => match read_case::<Self, PressNamedParts, PressNamedOwned, D>(
+                38,
+                alloc,
+                part,
+                deserializer,
+            ) {
+                Ok((a0, ())) => Ok(Press::Named(a0)),
+                Err(error) => Err(error),
+            },
+            92 => match read_case::<Self, PressChordParts, PressChordOwned, D>(
+                92,
+                alloc,
+                part,
+                deserializer,
+            ) {
+                Ok((a0, (a1, ()))) => Ok(Press::Chord {
+                    modifiers: a0,
+                    key: a1,
+                }),
+                Err(error) => Err(error),
+            },
+            tag => {
+                let value = press_without_fields(tag);
+                match read_case::<Self, (), (), D>(tag, alloc, part, deserializer) {
+                    Ok(()) => Ok(value),
+                    Err(error) => Err(error),
+                }
+            }
+        }
+    }
+}
+
+/// What a view of an archived `Press` shows, by its tag.
+#[derive(Drop)]
+pub enum ViewOfPress<'a> {
+    /// The variant `Unknown`.
+    Unknown,
+    /// A key that has no name here.
+    Scanned(Ref<'a, ArchivedU32>),
+    /// The variant `A`.
+    A,
+    /// The variant `B`.
+    B,
+    /// The variant `C`.
+    C,
+    /// The variant `D`.
+    D,
+    /// The variant `E`.
+    E,
+    /// The variant `F`.
+    F,
+    /// The variant `G`.
+    G,
+    /// The variant `H`.
+    H,
+    /// The variant `I`.
+    I,
+    /// The variant `J`.
+    J,
+    /// The variant `K`.
+    K,
+    /// The variant `L`.
+    L,
+    /// The variant `M`.
+    M,
+    /// The variant `N`.
+    N,
+    /// The variant `O`.
+    O,
+    /// The variant `P`.
+    P,
+    /// The variant `Q`.
+    Q,
+    /// The variant `R`.
+    R,
+    /// The variant `S`.
+    S,
+    /// The variant `T`.
+    T,
+    /// The variant `U`.
+    U,
+    /// The variant `V`.
+    V,
+    /// The variant `W`.
+    W,
+    /// The variant `X`.
+    X,
+    /// The variant `Y`.
+    Y,
+    /// The variant `Z`.
+    Z,
+    /// The variant `Digit0`.
+    Digit0,
+    /// The variant `Digit1`.
+    Digit1,
+    /// The variant `Digit2`.
+    Digit2,
+    /// The variant `Digit3`.
+    Digit3,
+    /// The variant `Digit4`.
+    Digit4,
+    /// The variant `Digit5`.
+    Digit5,
+    /// The variant `Digit6`.
+    Digit6,
+    /// The variant `Digit7`.
+    Digit7,
+    /// The variant `Digit8`.
+    Digit8,
+    /// The variant `Digit9`.
+    Digit9,
+    /// A key of its own name.
+    Named(Ref<'a, ArchivedString>),
+    /// The variant `F1`.
+    F1,
+    /// The variant `F2`.
+    F2,
+    /// The variant `F3`.
+    F3,
+    /// The variant `F4`.
+    F4,
+    /// The variant `F5`.
+    F5,
+    /// The variant `F6`.
+    F6,
+    /// The variant `F7`.
+    F7,
+    /// The variant `F8`.
+    F8,
+    /// The variant `F9`.
+    F9,
+    /// The variant `F10`.
+    F10,
+    /// The variant `F11`.
+    F11,
+    /// The variant `F12`.
+    F12,
+    /// The variant `F13`.
+    F13,
+    /// The variant `F14`.
+    F14,
+    /// The variant `F15`.
+    F15,
+    /// The variant `F16`.
+    F16,
+    /// The variant `F17`.
+    F17,
+    /// The variant `F18`.
+    F18,
+    /// The variant `F19`.
+    F19,
+    /// The variant `F20`.
+    F20,
+    /// The variant `F21`.
+    F21,
+    /// The variant `F22`.
+    F22,
+    /// The variant `F23`.
+    F23,
+    /// The variant `F24`.
+    F24,
+    /// The variant `Numpad0`.
+    Numpad0,
+    /// The variant `Numpad1`.
+    Numpad1,
+    /// The variant `Numpad2`.
+    Numpad2,
+    /// The variant `Numpad3`.
+    Numpad3,
+    /// The variant `Numpad4`.
+    Numpad4,
+    /// The variant `Numpad5`.
+    Numpad5,
+    /// The variant `Numpad6`.
+    Numpad6,
+    /// The variant `Numpad7`.
+    Numpad7,
+    /// The variant `Numpad8`.
+    Numpad8,
+    /// The variant `Numpad9`.
+    Numpad9,
+    /// The variant `NumpadAdd`.
+    NumpadAdd,
+    /// The variant `NumpadSubtract`.
+    NumpadSubtract,
+    /// The variant `NumpadEnter`.
+    NumpadEnter,
+    /// The variant `Escape`.
+    Escape,
+    /// The variant `Tab`.
+    Tab,
+    /// The variant `CapsLock`.
+    CapsLock,
+    /// The variant `Space`.
+    Space,
+    /// The variant `Enter`.
+    Enter,
+    /// The variant `Backspace`.
+    Backspace,
+    /// The variant `Insert`.
+    Insert,
+    /// The variant `Delete`.
+    Delete,
+    /// The variant `Home`.
+    Home,
+    /// The variant `End`.
+    End,
+    /// The variant `PageUp`.
+    PageUp,
+    /// The variant `PageDown`.
+    PageDown,
+    /// The variant `Left`.
+    Left,
+    /// The variant `Right`.
+    Right,
+    /// The variant `Up`.
+    Up,
+    /// The variant `Down`.
+    Down,
+    /// A character with modifiers.
+    Chord {
+        /// The modifiers, a bit each.
+        modifiers: Ref<'a, u8>,
+        /// The character.
+        key: Ref<'a, ArchivedChar>,
+    },
+    /// The variant `Mute`.
+    Mute,
+    /// The variant `VolumeUp`.
+    VolumeUp,
+    /// The variant `VolumeDown`.
+    VolumeDown,
+    /// The variant `Play`.
+    Play,
+    /// The variant `Stop`.
+    Stop,
+    /// The variant `Sleep`.
+    Sleep,
+    /// The variant `Wake`.
+    Wake,
+    /// The variant `Power`.
+    Power,
+}
+
+/// The variant of an archived `Press`, as a view.
+pub trait PressView<'a> {
+    /// The variant that the tag names, with views of its fields.
+    fn variant(self) -> ViewOfPress<'a>;
+}
+
+impl<'a> PressView<'a> for Ref<'a, ArchivedPress> {
+    ghost use Rattle.derived_plain.specs.declared.press.ViewOfPress.TheVariants.{A as PressAShown, B as PressBShown, Backspace as PressBackspaceShown, C as PressCShown, CapsLock as PressCapsLockShown, Chord as PressChordShown, D as PressDShown, Delete as PressDeleteShown, Digit0 as PressDigit0Shown, Digit1 as PressDigit1Shown, Digit2 as PressDigit2Shown, Digit3 as PressDigit3Shown, Digit4 as PressDigit4Shown, Digit5 as PressDigit5Shown, Digit6 as PressDigit6Shown, Digit7 as PressDigit7Shown, Digit8 as PressDigit8Shown, Digit9 as PressDigit9Shown, Down as PressDownShown, E as PressEShown, End as PressEndShown, Enter as PressEnterShown, Escape as PressEscapeShown, F as PressFShown, F1 as PressF1Shown, F10 as PressF10Shown, F11 as PressF11Shown, F12 as PressF12Shown, F13 as PressF13Shown, F14 as PressF14Shown, F15 as PressF15Shown, F16 as PressF16Shown, F17 as PressF17Shown, F18 as PressF18Shown, F19 as PressF19Shown, F2 as PressF2Shown, F20 as PressF20Shown, F21 as PressF21Shown, F22 as PressF22Shown, F23 as PressF23Shown, F24 as PressF24Shown, F3 as PressF3Shown, F4 as PressF4Shown, F5 as PressF5Shown, F6 as PressF6Shown, F7 as PressF7Shown, F8 as PressF8Shown, F9 as PressF9Shown, G as PressGShown, H as PressHShown, Home as PressHomeShown, I as PressIShown, Insert as PressInsertShown, J as PressJShown, K as PressKShown, L as PressLShown, Left as PressLeftShown, M as PressMShown, Mute as PressMuteShown, N as PressNShown, Named as PressNamedShown, Numpad0 as PressNumpad0Shown, Numpad1 as PressNumpad1Shown, Numpad2 as PressNumpad2Shown, Numpad3 as PressNumpad3Shown, Numpad4 as PressNumpad4Shown, Numpad5 as PressNumpad5Shown, Numpad6 as PressNumpad6Shown, Numpad7 as PressNumpad7Shown, Numpad8 as PressNumpad8Shown, Numpad9 as PressNumpad9Shown, NumpadAdd as PressNumpadAddShown, NumpadEnter as PressNumpadEnterShown, NumpadSubtract as PressNumpadSubtractShown, O as PressOShown, P as PressPShown, PageDown as PressPageDownShown, PageUp as PressPageUpShown, Play as PressPlayShown, Power as PressPowerShown, Q as PressQShown, R as PressRShown, Right as PressRightShown, S as PressSShown, Scanned as PressScannedShown, Sleep as PressSleepShown, Space as PressSpaceShown, Stop as PressStopShown, T as PressTShown, Tab as PressTabShown, U as PressUShown, Unknown as PressUnknownShown, Up as PressUpShown, V as PressVShown, VolumeDown as PressVolumeDownShown, VolumeUp as PressVolumeUpShown, W as PressWShown, Wake as PressWakeShown, X as PressXShown, Y as PressYShown, Z as PressZShown};
+
+    fn variant(self) -> ViewOfPress<'a>
+        ensures shows { elim result [
+          | PressUnknownShown ↦ (tag_of self.entry ≡ 0)
+          | PressScannedShown a0 ↦ (tag_of self.entry ≡ 1) × (a0.bytes.now ≡ self.entry.bytes.now)
+              × (a0.pos ≡ self.entry.pos + 4) × (a0.len ≡ 0)
+              × ShowsValueOf a0 self.entry (payload_in 0)
+          | PressAShown ↦ (tag_of self.entry ≡ 2)
+          | PressBShown ↦ (tag_of self.entry ≡ 3)
+          | PressCShown ↦ (tag_of self.entry ≡ 4)
+          | PressDShown ↦ (tag_of self.entry ≡ 5)
+          | PressEShown ↦ (tag_of self.entry ≡ 6)
+          | PressFShown ↦ (tag_of self.entry ≡ 7)
+          | PressGShown ↦ (tag_of self.entry ≡ 8)
+          | PressHShown ↦ (tag_of self.entry ≡ 9)
+          | PressIShown ↦ (tag_of self.entry ≡ 10)
+          | PressJShown ↦ (tag_of self.entry ≡ 11)
+          | PressKShown ↦ (tag_of self.entry ≡ 12)
+          | PressLShown ↦ (tag_of self.entry ≡ 13)
+          | PressMShown ↦ (tag_of self.entry ≡ 14)
+          | PressNShown ↦ (tag_of self.entry ≡ 15)
+          | PressOShown ↦ (tag_of self.entry ≡ 16)
+          | PressPShown ↦ (tag_of self.entry ≡ 17)
+          | PressQShown ↦ (tag_of self.entry ≡ 18)
+          | PressRShown ↦ (tag_of self.entry ≡ 19)
+          | PressSShown ↦ (tag_of self.entry ≡ 20)
+          | PressTShown ↦ (tag_of self.entry ≡ 21)
+          | PressUShown ↦ (tag_of self.entry ≡ 22)
+          | PressVShown ↦ (tag_of self.entry ≡ 23)
+          | PressWShown ↦ (tag_of self.entry ≡ 24)
+          | PressXShown ↦ (tag_of self.entry ≡ 25)
+          | PressYShown ↦ (tag_of self.entry ≡ 26)
+          | PressZShown ↦ (tag_of self.entry ≡ 27)
+          | PressDigit0Shown ↦ (tag_of self.entry ≡ 28)
+          | PressDigit1Shown ↦ (tag_of self.entry ≡ 29)
+          | PressDigit2Shown ↦ (tag_of self.entry ≡ 30)
+          | PressDigit3Shown ↦ (tag_of self.entry ≡ 31)
+          | PressDigit4Shown ↦ (tag_of self.entry ≡ 32)
+          | PressDigit5Shown ↦ (tag_of self.entry ≡ 33)
+          | PressDigit6Shown ↦ (tag_of self.entry ≡ 34)
+          | PressDigit7Shown ↦ (tag_of self.entry ≡ 35)
+          | PressDigit8Shown ↦ (tag_of self.entry ≡ 36)
+          | PressDigit9Shown ↦ (tag_of self.entry ≡ 37)
+          | PressNamedShown a0 ↦ (tag_of self.entry ≡ 38) × (a0.bytes.now ≡ self.entry.bytes.now)
+              × (a0.pos ≡ self.entry.pos + 4) × (a0.len ≡ 0)
+              × ShowsValueOf a0 self.entry (payload_in 0)
+          | PressF1Shown ↦ (tag_of self.entry ≡ 39)
+          | PressF2Shown ↦ (tag_of self.entry ≡ 40)
+          | PressF3Shown ↦ (tag_of self.entry ≡ 41)
+          | PressF4Shown ↦ (tag_of self.entry ≡ 42)
+          | PressF5Shown ↦ (tag_of self.entry ≡ 43)
+          | PressF6Shown ↦ (tag_of self.entry ≡ 44)
+          | PressF7Shown ↦ (tag_of self.entry ≡ 45)
+          | PressF8Shown ↦ (tag_of self.entry ≡ 46)
+          | PressF9Shown ↦ (tag_of self.entry ≡ 47)
+          | PressF10Shown ↦ (tag_of self.entry ≡ 48)
+          | PressF11Shown ↦ (tag_of self.entry ≡ 49)
+          | PressF12Shown ↦ (tag_of self.entry ≡ 50)
+          | PressF13Shown ↦ (tag_of self.entry ≡ 51)
+          | PressF14Shown ↦ (tag_of self.entry ≡ 52)
+          | PressF15Shown ↦ (tag_of self.entry ≡ 53)
+          | PressF16Shown ↦ (tag_of self.entry ≡ 54)
+          | PressF17Shown ↦ (tag_of self.entry ≡ 55)
+          | PressF18Shown ↦ (tag_of self.entry ≡ 56)
+          | PressF19Shown ↦ (tag_of self.entry ≡ 57)
+          | PressF20Shown ↦ (tag_of self.entry ≡ 58)
+          | PressF21Shown ↦ (tag_of self.entry ≡ 59)
+          | PressF22Shown ↦ (tag_of self.entry ≡ 60)
+          | PressF23Shown ↦ (tag_of self.entry ≡ 61)
+          | PressF24Shown ↦ (tag_of self.entry ≡ 62)
+          | PressNumpad0Shown ↦ (tag_of self.entry ≡ 63)
+          | PressNumpad1Shown ↦ (tag_of self.entry ≡ 64)
+          | PressNumpad2Shown ↦ (tag_of self.entry ≡ 65)
+          | PressNumpad3Shown ↦ (tag_of self.entry ≡ 66)
+          | PressNumpad4Shown ↦ (tag_of self.entry ≡ 67)
+          | PressNumpad5Shown ↦ (tag_of self.entry ≡ 68)
+          | PressNumpad6Shown ↦ (tag_of self.entry ≡ 69)
+          | PressNumpad7Shown ↦ (tag_of self.entry ≡ 70)
+          | PressNumpad8Shown ↦ (tag_of self.entry ≡ 71)
+          | PressNumpad9Shown ↦ (tag_of self.entry ≡ 72)
+          | PressNumpadAddShown ↦ (tag_of self.entry ≡ 73)
+          | PressNumpadSubtractShown ↦ (tag_of self.entry ≡ 74)
+          | PressNumpadEnterShown ↦ (tag_of self.entry ≡ 75)
+          | PressEscapeShown ↦ (tag_of self.entry ≡ 76)
+          | PressTabShown ↦ (tag_of self.entry ≡ 77)
+          | PressCapsLockShown ↦ (tag_of self.entry ≡ 78)
+          | PressSpaceShown ↦ (tag_of self.entry ≡ 79)
+          | PressEnterShown ↦ (tag_of self.entry ≡ 80)
+          | PressBackspaceShown ↦ (tag_of self.entry ≡ 81)
+          | PressInsertShown ↦ (tag_of self.entry ≡ 82)
+          | PressDeleteShown ↦ (tag_of self.entry ≡ 83)
+          | PressHomeShown ↦ (tag_of self.entry ≡ 84)
+          | PressEndShown ↦ (tag_of self.entry ≡ 85)
+          | PressPageUpShown ↦ (tag_of self.entry ≡ 86)
+          | PressPageDownShown ↦ (tag_of self.entry ≡ 87)
+          | PressLeftShown ↦ (tag_of self.entry ≡ 88)
+          | PressRightShown ↦ (tag_of self.entry ≡ 89)
+          | PressUpShown ↦ (tag_of self.entry ≡ 90)
+          | PressDownShown ↦ (tag_of self.entry ≡ 91)
+          | PressChordShown a0 a1 ↦ (tag_of self.entry ≡ 92) × (a0.bytes.now ≡ self.entry.bytes.now)
+              × (a0.pos ≡ self.entry.pos + 1) × (a0.len ≡ 0)
+              × ShowsValueOf a0 self.entry (payload_in 0) × (a1.bytes.now ≡ self.entry.bytes.now)
+              × (a1.pos ≡ self.entry.pos + 4) × (a1.len ≡ 0)
+              × ShowsValueOf a1 self.entry (payload_in 1)
+          | PressMuteShown ↦ (tag_of self.entry ≡ 93)
+          | PressVolumeUpShown ↦ (tag_of self.entry ≡ 94)
+          | PressVolumeDownShown ↦ (tag_of self.entry ≡ 95)
+          | PressPlayShown ↦ (tag_of self.entry ≡ 96)
+          | PressStopShown ↦ (tag_of self.entry ≡ 97)
+          | PressSleepShown ↦ (tag_of self.entry ≡ 98)
+          | PressWakeShown ↦ (tag_of self.entry ≡ 99)
+          | PressPowerShown ↦ (tag_of self.entry ≡ 100)
+        ] }
+    {
+        match tag_in(self) {
+            0 => ViewOfPress::Unknown,
+            1 => ViewOfPress::Scanned(part_in_case::<ArchivedPress, ArchivedU32>(self, 1, 0, 4)),
+            2 => ViewOfPress::A,
+            3 => ViewOfPress::B,
+            4 => ViewOfPress::C,
+            5 => ViewOfPress::D,
+            6 => ViewOfPress::E,
+            7 => ViewOfPress::F,
+            8 => ViewOfPress::G,
+            9 => ViewOfPress::H,
+            10 => ViewOfPress::I,
+            11 => ViewOfPress::J,
+            12 => ViewOfPress::K,
+            13 => ViewOfPress::L,
+            14 => ViewOfPress::M,
+            15 => ViewOfPress::N,
+            16 => ViewOfPress::O,
+            17 => ViewOfPress::P,
+            18 => ViewOfPress::Q,
+            19 => ViewOfPress::R,
+            20 => ViewOfPress::S,
+            21 => ViewOfPress::T,
+            22 => ViewOfPress::U,
+            23 => ViewOfPress::V,
+            24 => ViewOfPress::W,
+            25 => ViewOfPress::X,
+            26 => ViewOfPress::Y,
+            27 => ViewOfPress::Z,
+            28 => ViewOfPress::Digit0,
+            29 => ViewOfPress::Digit1,
+            30 => ViewOfPress::Digit2,
+            31 => ViewOfPress::Digit3,
+            32 => ViewOfPress::Digit4,
+            33 => ViewOfPress::Digit5,
+            34 => ViewOfPress::Digit6,
+            35 => ViewOfPress::Digit7,
+            36 => ViewOfPress::Digit8,
+            37 => ViewOfPress::Digit9,
+            38 => {
+                let a0 = part_in_case::<ArchivedPress, ArchivedString>(self, 38, 0, 4);
+                ViewOfPress::Named(a0)
+            }
+            39 => ViewOfPress::F1,
+            40 => ViewOfPress::F2,
+            41 => ViewOfPress::F3,
+            42 => ViewOfPress::F4,
+            43 => ViewOfPress::F5,
+            44 => ViewOfPress::F6,
+            45 => ViewOfPress::F7,
+            46 => ViewOfPress::F8,
+            47 => ViewOfPress::F9,
+            48 => ViewOfPress::F10,
+            49 => ViewOfPress::F11,
+            50 => ViewOfPress::F12,
+            51 => ViewOfPress::F13,
+            52 => ViewOfPress::F14,
+            53 => ViewOfPress::F15,
+            54 => ViewOfPress::F16,
+            55 => ViewOfPress::F17,
+            56 => ViewOfPress::F18,
+            57 => ViewOfPress::F19,
+            58 => ViewOfPress::F20,
+            59 => ViewOfPress::F21,
+            60 => ViewOfPress::F22,
+            61 => ViewOfPress::F23,
+            62 => ViewOfPress::F24,
+            63 => ViewOfPress::Numpad0,
+            64 => ViewOfPress::Numpad1,
+            65 => ViewOfPress::Numpad2,
+            66 => ViewOfPress::Numpad3,
+            67 => ViewOfPress::Numpad4,
+            68 => ViewOfPress::Numpad5,
+            69 => ViewOfPress::Numpad6,
+            70 => ViewOfPress::Numpad7,
+            71 => ViewOfPress::Numpad8,
+            72 => ViewOfPress::Numpad9,
+            73 => ViewOfPress::NumpadAdd,
+            74 => ViewOfPress::NumpadSubtract,
+            75 => ViewOfPress::NumpadEnter,
+            76 => ViewOfPress::Escape,
+            77 => ViewOfPress::Tab,
+            78 => ViewOfPress::CapsLock,
+            79 => ViewOfPress::Space,
+            80 => ViewOfPress::Enter,
+            81 => ViewOfPress::Backspace,
+            82 => ViewOfPress::Insert,
+            83 => ViewOfPress::Delete,
+            84 => ViewOfPress::Home,
+            85 => ViewOfPress::End,
+            86 => ViewOfPress::PageUp,
+            87 => ViewOfPress::PageDown,
+            88 => ViewOfPress::Left,
+            89 => ViewOfPress::Right,
+            90 => ViewOfPress::Up,
+            91 => ViewOfPress::Down,
+            92 => ViewOfPress::Chord {
+                modifiers: part_in_case::<ArchivedPress, u8>(self, 92, 0, 1),
+                key: part_in_case::<ArchivedPress, ArchivedChar>(self, 92, 1, 4),
+            },
+            93 => ViewOfPress::Mute,
+            94 => ViewOfPress::VolumeUp,
+            95 => ViewOfPress::VolumeDown,
+            96 => ViewOfPress::Play,
+            97 => ViewOfPress::Stop,
+            98 => ViewOfPress::Sleep,
+            99 => ViewOfPress::Wake,
+            _ => ViewOfPress::Power,
+        }
+    }
+}
+
+/// The fields of an archived `Press`, as seals. The caller must ensure that the tag is the variant's.
+pub trait PressSeal<'a> {
+    // The seal shows a part of a buffer that was checked.
+    ghost sealed: { Self → Type 0 };
+
+    // The tag that it shows.
+    ghost tag: { Self → ℕ };
+
+    /// The field `0` of `Scanned`.
+    fn scanned_0_mut(self) -> Seal<'a, ArchivedU32>
+        requires come_to { sealed self }
+        requires tag { tag self ≡ 1 };
+
+    /// The field `0` of `Named`.
+    fn named_0_mut(self) -> Seal<'a, ArchivedString>
+        requires come_to { sealed self }
+        requires tag { tag self ≡ 38 };
+
+    /// The modifiers, a bit each.
+    fn chord_modifiers_mut(self) -> Seal<'a, u8>
+        requires come_to { sealed self }
+        requires tag { tag self ≡ 92 };
+
+    /// The character.
+    fn chord_key_mut(self) -> Seal<'a, ArchivedChar>
+        requires come_to { sealed self }
+        requires tag { tag self ≡ 92 };
+}
+
+impl<'a> PressSeal<'a> for Seal<'a, ArchivedPress> {
+    ghost sealed = { λ s. IsSealOf no_definition (one ⟦<ArchivedPress as Portable>⟧.shape) s };
+
+    ghost tag = { λ s. seal_tag s };
+
+    fn scanned_0_mut(self) -> Seal<'a, ArchivedU32>
+        requires come_to { IsSealOf no_definition (one ⟦<ArchivedPress as Portable>⟧.shape) self }
+        requires tag { seal_tag self ≡ 1 }
+        ensures { SealsPart no_definition (one ⟦<ArchivedPress as Portable>⟧.shape) no_definition
+            ⟦<ArchivedU32 as ArchivePointee>⟧.pointee (self.entry.pos + 4) 0 self.entry result }
+    {
+        sealed_part_in_case::<ArchivedPress, ArchivedU32>(self, 1, 0, 4)
+    }
+
+    fn named_0_mut(self) -> Seal<'a, ArchivedString>
+        requires come_to { IsSealOf no_definition (one ⟦<ArchivedPress as Portable>⟧.shape) self }
+        requires tag { seal_tag self ≡ 38 }
+        ensures { SealsPart no_definition (one ⟦<ArchivedPress as Portable>⟧.shape) no_definition
+            ⟦<ArchivedString as ArchivePointee>⟧.pointee (self.entry.pos + 4) 0 self.entry result }
+    {
+        sealed_part_in_case::<ArchivedPress, ArchivedString>(self, 38, 0, 4)
+    }
+
+    fn chord_modifiers_mut(self) -> Seal<'a, u8>
+        requires come_to { IsSealOf no_definition (one ⟦<ArchivedPress as Portable>⟧.shape) self }
+        requires tag { seal_tag self ≡ 92 }
+        ensures { SealsPart no_definition (one ⟦<ArchivedPress as Portable>⟧.shape) no_definition
+            ⟦<u8 as ArchivePointee>⟧.pointee (self.entry.pos + 1) 0 self.entry result }
+    {
+        sealed_part_in_case::<ArchivedPress, u8>(self, 92, 0, 1)
+    }
+
+    fn chord_key_mut(self) -> Seal<'a, ArchivedChar>
+        requires come_to { IsSealOf no_definition (one ⟦<ArchivedPress as Portable>⟧.shape) self }
+        requires tag { seal_tag self ≡ 92 }
+        ensures { SealsPart no_definition (one ⟦<ArchivedPress as Portable>⟧.shape) no_definition
+            ⟦<ArchivedChar as ArchivePointee>⟧.pointee (self.entry.pos + 4) 0 self.entry result }
+    {
+        sealed_part_in_case::<ArchivedPress, ArchivedChar>(self, 92, 1, 4)
+    }
+}
+
+/// Views are compared as the values that they show.
+impl Ordered for ArchivedPress {
+    ghost order = { choice_order ⟦<PressVariants as ComparedCases>⟧.order };
+
+    ghost hash_input = { choice_fed ⟦<PressVariants as ComparedCases>⟧.hash_input };
+
+    ghost settling = { 0 };
+
+    ghost total = { (choice_compared (codes "ArchivedPress")
+        (units_compared 1 (case_compared (field_compared
+        (unsigned_compared w32 4 ⟦<u32 as Hash>⟧.hash_input refl) ⟦<ArchivedU32 as Portable>⟧.layout
+        (record { solved = λ s k. refl }) no_field_compared)
+        (units_compared 36 (case_compared (field_compared string_compared
+        ⟦<ArchivedString as Portable>⟧.layout (record { solved = λ s k. refl }) no_field_compared)
+        (units_compared 53 (case_compared (field_compared
+        (unsigned_compared w8 1 ⟦<u8 as Hash>⟧.hash_input refl) ⟦<u8 as Portable>⟧.layout (record {
+          solved = λ s k. refl;
+        }) (field_compared (char_compared ⟦<char as Hash>⟧.hash_input)
+        ⟦<ArchivedChar as Portable>⟧.layout (record { solved = λ s k. refl }) no_field_compared))
+        (units_compared 8 no_case_compared))))))) refl).total };
+
+    ghost respects = { (choice_compared (codes "ArchivedPress")
+        (units_compared 1 (case_compared (field_compared
+        (unsigned_compared w32 4 ⟦<u32 as Hash>⟧.hash_input refl) ⟦<ArchivedU32 as Portable>⟧.layout
+        (record { solved = λ s k. refl }) no_field_compared)
+        (units_compared 36 (case_compared (field_compared string_compared
+        ⟦<ArchivedString as Portable>⟧.layout (record { solved = λ s k. refl }) no_field_compared)
+        (units_compared 53 (case_compared (field_compared
+        (unsigned_compared w8 1 ⟦<u8 as Hash>⟧.hash_input refl) ⟦<u8 as Portable>⟧.layout (record {
+          solved = λ s k. refl;
+        }) (field_compared (char_compared ⟦<char as Hash>⟧.hash_input)
+        ⟦<ArchivedChar as Portable>⟧.layout (record { solved = λ s k. refl }) no_field_compared))
+        (units_compared 8 no_case_compared))))))) refl).respects };
+
+    ghost level = { tt };
+
+    ghost by_value = { (choice_compared (codes "ArchivedPress")
+        (units_compared 1 (case_compared (field_compared
+        (unsigned_compared w32 4 ⟦<u32 as Hash>⟧.hash_input refl) ⟦<ArchivedU32 as Portable>⟧.layout
+        (record { solved = λ s k. refl }) no_field_compared)
+        (units_compared 36 (case_compared (field_compared string_compared
+        ⟦<ArchivedString as Portable>⟧.layout (record { solved = λ s k. refl }) no_field_compared)
+        (units_compared 53 (case_compared (field_compared
+        (unsigned_compared w8 1 ⟦<u8 as Hash>⟧.hash_input refl) ⟦<u8 as Portable>⟧.layout (record {
+          solved = λ s k. refl;
+        }) (field_compared (char_compared ⟦<char as Hash>⟧.hash_input)
+        ⟦<ArchivedChar as Portable>⟧.layout (record { solved = λ s k. refl }) no_field_compared))
+        (units_compared 8 no_case_compared))))))) refl).by_value };
+
+    fn compare(a: RawView<'_>, b: RawView<'_>) -> Ordering {
+        compare_choice::<Self, PressVariants>(a, b)
+    }
+
+    fn hash_part<H: Hasher>(part: RawView<'_>, state: &mut H) {
+        hash_choice::<Self, PressVariants, H>(part, state);
+    }
+
+    fn settling_bytes() -> usize {
+        0
+    }
+}

@@ -1,5 +1,0 @@
-//! Types of up to sixteen fields, as a user declares them, with what tools/derive writes for them. The tests are in tests_kinds.
-#![tactic(auto)]
-
-pub mod book;
-pub mod weather;

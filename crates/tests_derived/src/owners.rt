@@ -1,0 +1,214 @@
+// A struct without names: boxes of numbers and of a text, an array, a map, a record with parameters that holds records in records, and what has no byte. And a
+// struct of no field.
+
+ghost use Rattle.archive_core.specs.Definitions.{no_definition};
+ghost use Rattle.archive_core.specs.Shape.{text as text_pointee};
+ghost use Rattle.archive_core.specs.SealsWritten.{IsSealOf};
+
+use crate::assertions::{
+    assert_archived, assert_bytes, assert_holds, assert_same, assert_written, sealed, text,
+    value_of, viewed, write_second,
+};
+use crate::drawings::{assert_drawing, blank, drawing};
+use crate::judgements::{assert_faults, assert_refused, outside, unaligned, unknown_tag};
+use crate::spots::assert_spot;
+use archive_core::boxed::{ArchivedBox, BoxSlice, BoxStr};
+use archive_core::core_impls::OwnedArray;
+use archive_core::error::Error;
+use archive_core::primitive::ArchivedU16;
+use archive_core::seal::Seal;
+use archive_core::slice::ArchivedSlice;
+use archive_core::string::ArchivedStr;
+use archive_core::view::Ref;
+use derived_kinds::kinds::{ArchivedEmpty, ArchivedOwners, Empty, Owners, OwnersSeal, OwnersView};
+use derived_kinds::pair::{Pair, PairSeal, PairView};
+use derived_types::spot::{Drawing, DrawingSeal, LineSeal, Spot, SpotSeal};
+use std::alloc::{AllocError, Global};
+use std::collections::BTreeMap;
+use std::marker::PhantomData;
+use std::process::Abort;
+
+// The numbers 1 and 258, the text "hé" and a zero. At 8 the entries of 3 to a Some of 1, -2 and of 258 to a None. At 24 what the drawing owns: two lines and the
+// numbers 1 and 2. At 48 the box that points 48 bytes back at two numbers, the one that points 52 bytes back at three bytes; 1, -1, 258 and 0; the map that points
+// 64 bytes back at the entries; and at 80, a multiple of 8, the number 7 of eight bytes and the drawing, which points 72, 76 and 76 bytes back at what it owns.
+const OWNERS: &[u8; 128] =
+    b"\x01\0\x02\x01h\xc3\xa9\0\x03\0\x01\0\x01\0\xfe\xff\x02\x01\0\0\0\0\0\0\x05\0\x06\0\x07\0\x08\0\x09\0\x0a\0\x0b\0\x0c\0\x01\0\0\0\x02\0\0\0\xd0\xff\xff\xff\x02\0\0\0\xcc\xff\xff\xff\x03\0\0\0\x01\0\xff\xff\x02\x01\0\0\xc0\xff\xff\xff\x02\0\0\0\x07\0\0\0\0\0\0\0\x01\0\xfe\xff\x03\0\x04\0\xb8\xff\xff\xff\x01\0\0\0\x01\0\0\0\xb4\xff\xff\xff\x04\0\0\0\xb4\xff\xff\xff\x02\0\0\0\0\0\0\0";
+
+// Boxes that point 0 and 8 bytes back at nothing, the same four numbers, the map that points 24 bytes back at no entry, the number 7, and a drawing of zeros but
+// for the vector that points 48 bytes back at no line.
+const OTHERS: &[u8; 80] =
+    b"\0\0\0\0\0\0\0\0\xf8\xff\xff\xff\0\0\0\0\x01\0\xff\xff\x02\x01\0\0\xe8\xff\xff\xff\0\0\0\0\x07\0\0\0\0\0\0\0\0\0\0\0\0\0\0\0\xd0\xff\xff\xff\0\0\0\0\0\0\0\0\0\0\0\0\0\0\0\0\0\0\0\0\0\0\0\0\0\0\0\0";
+
+// A map of a place and none.
+fn places(alloc: Global) -> Result<BTreeMap<u16, Option<Spot>>, AllocError> {
+    let mut places = BTreeMap::new(alloc);
+    places.insert(258, None)?;
+    places.insert(3, Some(Spot { right: 1, up: -2 }))?;
+    Ok(places)
+}
+
+// A value with these parts.
+fn owners(
+    rt: &impl Abort,
+    alloc: Global,
+    numbers: &[u16],
+    boxed: &str,
+    places: BTreeMap<u16, Option<Spot>>,
+    drawing: Drawing,
+) -> Owners {
+    let four = [1i16, -1, 258, 0].to_vec(alloc);
+    let four = four.expect(rt, "memory for four numbers");
+    let items = numbers.to_vec(alloc).expect(rt, "memory for numbers");
+    Owners(
+        BoxSlice { items },
+        BoxStr {
+            text: text(rt, alloc, boxed),
+        },
+        OwnedArray::from_vec(four).expect(rt, "four numbers"),
+        places,
+        Pair {
+            left: 7,
+            right: drawing,
+        },
+        PhantomData,
+    )
+}
+
+// What the first bytes are the archive of, and the others.
+fn full(rt: &impl Abort, alloc: Global) -> Owners {
+    let places = places(alloc).expect(rt, "memory for places");
+    owners(rt, alloc, &[1, 258], "hé", places, drawing(rt, alloc))
+}
+
+fn bare(rt: &impl Abort, alloc: Global) -> Owners {
+    owners(rt, alloc, &[], "", BTreeMap::new(alloc), blank(alloc))
+}
+
+#[test]
+fn owners_are_written(rt: HostRuntime) {
+    let alloc = rt.alloc();
+    let rows = [
+        (full(&rt, alloc), OWNERS.as_slice()),
+        (bare(&rt, alloc), OTHERS.as_slice()),
+    ];
+    for (owners, archive) in rows {
+        assert_written(&rt, alloc, &owners, 80, archive);
+    }
+}
+
+// What an archive of owners is read back as has the parts of these.
+fn assert_read(rt: &impl Abort, alloc: Global, archive: &[u8], wanted: &Owners) {
+    let back: Owners = value_of(rt, alloc, archive, &mut ());
+    let Owners(numbers, boxed, four, places, pair, _) = &back;
+    let found = numbers.items.as_slice();
+    assert_same(rt, "the numbers", found, wanted.0.items.as_slice());
+    let found = boxed.text.as_str();
+    assert_same(rt, "the text", found, wanted.1.text.as_str());
+    let found = four.as_slice();
+    assert_same(rt, "the four", found, wanted.2.as_slice());
+    assert_same(rt, "the places", places, &wanted.3);
+    assert_same(rt, "the pair", pair, &wanted.4);
+}
+
+#[test]
+fn owners_are_read_back(rt: HostRuntime) {
+    let alloc = rt.alloc();
+    assert_read(&rt, alloc, OWNERS, &full(&rt, alloc));
+    assert_read(&rt, alloc, OTHERS, &bare(&rt, alloc));
+}
+
+// The box holds these numbers.
+fn assert_numbers(rt: &impl Abort, view: Ref<'_, ArchivedOwners>, numbers: &[u16]) {
+    let boxed: Ref<'_, ArchivedBox<ArchivedSlice<ArchivedU16>>> = view.field_0();
+    assert_holds(rt, "the numbers", boxed.get().eq_slice(numbers));
+}
+
+// The map has a place, none, and not more.
+fn assert_places(rt: &impl Abort, view: Ref<'_, ArchivedOwners>) {
+    let (Some(first), Some(second)) = (view.field_3().get(&3), view.field_3().get(&258)) else {
+        panic!(rt; "no entries")
+    };
+    let (Some(spot), None) = (first.as_ref(), second.as_ref()) else {
+        panic!(rt; "no place, or two")
+    };
+    assert_spot(rt, spot, 1, -2);
+    let third = view.field_3().get(&4).is_none();
+    assert_holds(rt, "no third one", third);
+}
+
+#[test]
+fn owners_are_viewed(rt: HostRuntime) {
+    let view = viewed::<ArchivedOwners>(&rt, rt.alloc(), OWNERS);
+    assert_numbers(&rt, view, &[1, 258]);
+    assert_same(&rt, "the text", view.field_1().get().as_str(), "hé");
+    let third = view.field_2().index(2).get();
+    assert_same(&rt, "one of four", (third, view.field_2().len()), (258, 4));
+    assert_places(&rt, view);
+    assert_same(&rt, "to the left", view.field_4().left().get(), 7);
+    assert_drawing(&rt, view.field_4().right());
+    assert_same(&rt, "the end", view.field_5().pos(), 128);
+}
+
+// Writes over a boxed text with as many bytes.
+fn write_boxed(seal: Seal<'_, ArchivedStr>, text: &str)
+    requires { IsSealOf no_definition text_pointee seal }
+{
+    if seal.as_ref().len() == text.len() {
+        seal.write_str(text);
+    }
+}
+
+// Writes over what the boxes hold.
+fn write_boxes(rt: &impl Abort, alloc: Global, bytes: &mut [u8], number: u16, text: &str) {
+    let numbers = sealed::<ArchivedOwners>(rt, alloc, bytes).field_0_mut();
+    write_second(numbers.get_seal(), number);
+    let boxed = sealed::<ArchivedOwners>(rt, alloc, bytes).field_1_mut();
+    write_boxed(boxed.as_str_seal(), text);
+}
+
+// And over the last of four numbers, and the end of the drawing's line.
+fn write_last(rt: &impl Abort, alloc: Global, bytes: &mut [u8]) {
+    let four = sealed::<ArchivedOwners>(rt, alloc, bytes).field_2_mut();
+    four.index(3).write(5);
+    let pair = sealed::<ArchivedOwners>(rt, alloc, bytes).field_4_mut();
+    pair.right_mut().first_mut().to_mut().up_mut().write(-1);
+}
+
+#[test]
+fn owners_are_edited(rt: HostRuntime) {
+    let mut bytes = *OWNERS;
+    write_boxes(&rt, rt.alloc(), &mut bytes, 7, "abc");
+    write_last(&rt, rt.alloc(), &mut bytes);
+    let wanted =
+        b"\x01\0\x07\0abc\0\x03\0\x01\0\x01\0\xfe\xff\x02\x01\0\0\0\0\0\0\x05\0\x06\0\x07\0\x08\0\x09\0\x0a\0\x0b\0\x0c\0\x01\0\0\0\x02\0\0\0\xd0\xff\xff\xff\x02\0\0\0\xcc\xff\xff\xff\x03\0\0\0\x01\0\xff\xff\x02\x01\x05\0\xc0\xff\xff\xff\x02\0\0\0\x07\0\0\0\0\0\0\0\x01\0\xfe\xff\x03\0\xff\xff\xb8\xff\xff\xff\x01\0\0\0\x01\0\0\0\xb4\xff\xff\xff\x04\0\0\0\xb4\xff\xff\xff\x02\0\0\0\0\0\0\0";
+    assert_bytes(&rt, "the edited owners", &bytes, wanted);
+}
+
+#[test]
+fn faults_of_owners_are_found(rt: HostRuntime) {
+    let rows = [
+        (5, 0x41, Error::InvalidUtf8),
+        (9, 2, Error::UnsortedKeys),
+        (10, 2, unknown_tag("ArchivedOption", 2)),
+        (17, 0, Error::UnsortedKeys),
+        (48, 0xd1, unaligned(1, 2)),
+        (52, 25, outside(0, 50, 0, 48)),
+        (56, 0xc9, outside(1, 3, 4, 48)),
+        (76, 6, outside(8, 48, 7, 48)),
+        (96, 0xb4, outside(20, 8, 24, 48)),
+        (112, 5, unknown_tag("ArchivedEvent", 5)),
+    ];
+    assert_faults::<ArchivedOwners>(&rt, rt.alloc(), OWNERS, &rows);
+    let rows: [(&[u8], Error); 2] = [
+        (&[0; 79], outside(0, 80, 0, 79)),
+        (&[0; 84], unaligned(4, 8)),
+    ];
+    assert_refused::<ArchivedOwners>(&rt, rt.alloc(), &rows);
+}
+
+#[test]
+fn a_value_of_no_field_has_no_byte(rt: HostRuntime) {
+    assert_archived(&rt, rt.alloc(), &Empty, 0, b"");
+    let view = viewed::<ArchivedEmpty>(&rt, rt.alloc(), b"abc");
+    assert_same(&rt, "the position, at the end", view.pos(), 3);
+}
