@@ -16,12 +16,12 @@ pub struct Owners(
     pub BoxStr,
     /// Four numbers.
     pub OwnedArray<i16, 4>,
-    /// Places, perhaps, by their numbers.
-    pub BTreeMap<u16, Option<Spot>>,
+    /// Places by their numbers.
+    pub BTreeMap<u16, Spot>,
     /// A number and a drawing.
     pub Pair<u64, Drawing>,
     /// No value, of a type.
-    pub PhantomData<u64>,
+    pub PhantomData<String>,
 );
 
 /// Nothing at all.
@@ -37,7 +37,6 @@ ghost use Rattle.archive_core.specs.Fields.{field_in};
 ghost use Rattle.archive_core.specs.Keyed.{box_keyed, each_keyed, nothing_keyed, number_keyed, part_keyed, record_keyed, text_keyed};
 ghost use Rattle.archive_core.specs.LeafLayout.{no_definition_reached};
 ghost use Rattle.archive_core.specs.Nothing.{empty_product_keyed, empty_product_planned};
-ghost use Rattle.archive_core.specs.Options.{option_keyed, option_planned};
 ghost use Rattle.archive_core.specs.PartsPlanned.{no_part_planned, part_planned, product_planned};
 ghost use Rattle.archive_core.specs.Plain.{plain_own_check, plain_record, plain_record_planned};
 ghost use Rattle.archive_core.specs.Planned.{leaf_planned, text_planned};
@@ -45,13 +44,13 @@ ghost use Rattle.archive_core.specs.PlannedMaps.{map_of_pairs_planned, pairs_key
 ghost use Rattle.archive_core.specs.PlannedOwners.{box_planned, one_planned, slice_planned};
 ghost use Rattle.archive_core.specs.Runs.{each_keys, each_meaning};
 ghost use Rattle.archive_core.specs.SealsWritten.{IsSealOf, SealsPart};
-ghost use Rattle.archive_core.specs.Seen.{IsPartOf, ReadsPart, RefusesPart, ShowsValueOf};
+ghost use Rattle.archive_core.specs.Seen.{IsPartOf, ShowsValueOf};
 ghost use Rattle.archive_core.specs.Shape.{no_part, one, part, parts, run, text};
 ghost use Rattle.archive_core.specs.Sources.{ReadsAs};
 ghost use Rattle.archive_core.specs.Value.{list, no_value, product, text_value, value};
 ghost use Rattle.archive_core.specs.Writing.{ZeroedPlace};
 ghost use Rattle.std.proofs.Common.{inl, inr, lit≤};
-ghost use Rattle.std.specs.Prelude.{IfErr, IfOk, None, [], length, refl, string_bytes, true, ◌++◌, ◌+◌, ◌≡◌};
+ghost use Rattle.std.specs.Prelude.{None, [], length, refl, string_bytes, true, ◌++◌, ◌+◌, ◌≡◌};
 
 use crate::pair::ArchivedPair;
 use archive_core::boxed::ArchivedBox;
@@ -60,8 +59,6 @@ use archive_core::fields::{
     part_in_record, resolve_record_0, resolve_record_6, serialize_record_0, serialize_record_6,
 };
 use archive_core::map::ArchivedSortedMap;
-use archive_core::option::ArchivedOption;
-use archive_core::parts::DeserializeParts;
 use archive_core::place::Place;
 use archive_core::primitive::{ArchivedI16, ArchivedU16, ArchivedU64};
 use archive_core::record::deserialize_record;
@@ -90,16 +87,29 @@ type OwnersParts = (
         (
             [ArchivedI16; 4],
             (
-                ArchivedSortedMap<ArchivedU16, ArchivedOption<ArchivedSpot>>,
+                ArchivedSortedMap<ArchivedU16, ArchivedSpot>,
                 (
                     ArchivedPair<ArchivedU64, ArchivedDrawing>,
-                    (PhantomData<u64>, ()),
+                    (PhantomData<String>, ()),
                 ),
             ),
         ),
     ),
 );
 
+type OwnersOwned = (
+    BoxSlice<u16>,
+    (
+        BoxStr,
+        (
+            OwnedArray<i16, 4>,
+            (
+                BTreeMap<u16, Spot>,
+                (Pair<u64, Drawing>, (PhantomData<String>, ())),
+            ),
+        ),
+    ),
+);
 
 impl ArchivePointee for ArchivedOwners {
     type ArchivedMetadata = ();
@@ -107,9 +117,9 @@ impl ArchivePointee for ArchivedOwners {
     ghost pointee = { one (parts (part ⟦<ArchivedBox<ArchivedSlice<ArchivedU16>> as Portable>⟧.shape
         (part ⟦<ArchivedBox<ArchivedStr> as Portable>⟧.shape
         (part ⟦<[ArchivedI16; 4] as Portable>⟧.shape (part
-        ⟦<ArchivedSortedMap<ArchivedU16, ArchivedOption<ArchivedSpot>> as Portable>⟧.shape
+        ⟦<ArchivedSortedMap<ArchivedU16, ArchivedSpot> as Portable>⟧.shape
         (part ⟦<ArchivedPair<ArchivedU64, ArchivedDrawing> as Portable>⟧.shape
-        (part ⟦<PhantomData<u64> as Portable>⟧.shape no_part))))))) };
+        (part ⟦<PhantomData<String> as Portable>⟧.shape no_part))))))) };
 
     ghost definitions = { no_definition };
 
@@ -124,9 +134,9 @@ impl Portable for ArchivedOwners {
     ghost shape = { parts (part ⟦<ArchivedBox<ArchivedSlice<ArchivedU16>> as Portable>⟧.shape
         (part ⟦<ArchivedBox<ArchivedStr> as Portable>⟧.shape
         (part ⟦<[ArchivedI16; 4] as Portable>⟧.shape (part
-        ⟦<ArchivedSortedMap<ArchivedU16, ArchivedOption<ArchivedSpot>> as Portable>⟧.shape
+        ⟦<ArchivedSortedMap<ArchivedU16, ArchivedSpot> as Portable>⟧.shape
         (part ⟦<ArchivedPair<ArchivedU64, ArchivedDrawing> as Portable>⟧.shape
-        (part ⟦<PhantomData<u64> as Portable>⟧.shape no_part)))))) };
+        (part ⟦<PhantomData<String> as Portable>⟧.shape no_part)))))) };
 
     ghost layout = { record { size = 80; align = 8 } };
 
@@ -142,9 +152,9 @@ impl Portable for ArchivedOwners {
         ⟦<ArchivedBox<ArchivedSlice<ArchivedU16>> as Portable>⟧.shape
         (part ⟦<ArchivedBox<ArchivedStr> as Portable>⟧.shape
         (part ⟦<[ArchivedI16; 4] as Portable>⟧.shape (part
-        ⟦<ArchivedSortedMap<ArchivedU16, ArchivedOption<ArchivedSpot>> as Portable>⟧.shape
+        ⟦<ArchivedSortedMap<ArchivedU16, ArchivedSpot> as Portable>⟧.shape
         (part ⟦<ArchivedPair<ArchivedU64, ArchivedDrawing> as Portable>⟧.shape
-        (part ⟦<PhantomData<u64> as Portable>⟧.shape no_part))))))) };
+        (part ⟦<PhantomData<String> as Portable>⟧.shape no_part))))))) };
 
     ghost checks = { λ _. plain_own_check _ _ _ _ _ refl refl refl refl };
 
@@ -169,9 +179,9 @@ impl SelfCheck for ArchivedOwners {
     ghost shape = { parts (part ⟦<ArchivedBox<ArchivedSlice<ArchivedU16>> as Portable>⟧.shape
         (part ⟦<ArchivedBox<ArchivedStr> as Portable>⟧.shape
         (part ⟦<[ArchivedI16; 4] as Portable>⟧.shape (part
-        ⟦<ArchivedSortedMap<ArchivedU16, ArchivedOption<ArchivedSpot>> as Portable>⟧.shape
+        ⟦<ArchivedSortedMap<ArchivedU16, ArchivedSpot> as Portable>⟧.shape
         (part ⟦<ArchivedPair<ArchivedU64, ArchivedDrawing> as Portable>⟧.shape
-        (part ⟦<PhantomData<u64> as Portable>⟧.shape no_part)))))) };
+        (part ⟦<PhantomData<String> as Portable>⟧.shape no_part)))))) };
 
     ghost definitions = { (both no_definition (both no_definition
         (both no_definition (both (both no_definition (both no_definition no_definition))
@@ -210,9 +220,9 @@ impl Record for ArchivedOwners {
         (part ⟦<ArchivedBox<ArchivedSlice<ArchivedU16>> as Portable>⟧.shape
         (part ⟦<ArchivedBox<ArchivedStr> as Portable>⟧.shape
         (part ⟦<[ArchivedI16; 4] as Portable>⟧.shape (part
-        ⟦<ArchivedSortedMap<ArchivedU16, ArchivedOption<ArchivedSpot>> as Portable>⟧.shape
+        ⟦<ArchivedSortedMap<ArchivedU16, ArchivedSpot> as Portable>⟧.shape
         (part ⟦<ArchivedPair<ArchivedU64, ArchivedDrawing> as Portable>⟧.shape
-        (part ⟦<PhantomData<u64> as Portable>⟧.shape no_part))))))
+        (part ⟦<PhantomData<String> as Portable>⟧.shape no_part))))))
         (both no_definition (both no_definition (both no_definition
         (both (both no_definition (both no_definition no_definition))
         (both (both no_definition (both no_definition no_definition))
@@ -231,10 +241,10 @@ pub struct OwnersResolver {
             (
                 <OwnedArray<i16, 4> as Archive>::Resolver,
                 (
-                    <BTreeMap<u16, Option<Spot>> as Archive>::Resolver,
+                    <BTreeMap<u16, Spot> as Archive>::Resolver,
                     (
                         <Pair<u64, Drawing> as Archive>::Resolver,
-                        (<PhantomData<u64> as Archive>::Resolver, ()),
+                        (<PhantomData<String> as Archive>::Resolver, ()),
                     ),
                 ),
             ),
@@ -253,29 +263,29 @@ impl Archive for Owners {
     ghost meaning = { λ v. product (value (⟦<BoxSlice<u16> as Archive>⟧.meaning v.0)
         (value (⟦<BoxStr as Archive>⟧.meaning v.1) (value
         (⟦<OwnedArray<i16, 4> as Archive>⟧.meaning v.2)
-        (value (⟦<BTreeMap<u16, Option<Spot>> as Archive>⟧.meaning v.3)
+        (value (⟦<BTreeMap<u16, Spot> as Archive>⟧.meaning v.3)
         (value (⟦<Pair<u64, Drawing> as Archive>⟧.meaning v.4)
-        (value (⟦<PhantomData<u64> as Archive>⟧.meaning v.5) no_value)))))) };
+        (value (⟦<PhantomData<String> as Archive>⟧.meaning v.5) no_value)))))) };
 
     ghost flat = { λ v r. product (value (⟦<BoxSlice<u16> as Archive>⟧.flat v.0 r.kept.0)
         (value (⟦<BoxStr as Archive>⟧.flat v.1 r.kept.1.0)
         (value (⟦<OwnedArray<i16, 4> as Archive>⟧.flat v.2 r.kept.1.1.0)
-        (value (⟦<BTreeMap<u16, Option<Spot>> as Archive>⟧.flat v.3 r.kept.1.1.1.0)
+        (value (⟦<BTreeMap<u16, Spot> as Archive>⟧.flat v.3 r.kept.1.1.1.0)
         (value (⟦<Pair<u64, Drawing> as Archive>⟧.flat v.4 r.kept.1.1.1.1.0)
-        (value (⟦<PhantomData<u64> as Archive>⟧.flat v.5 r.kept.1.1.1.1.1.0) no_value)))))) };
+        (value (⟦<PhantomData<String> as Archive>⟧.flat v.5 r.kept.1.1.1.1.1.0) no_value)))))) };
 
     ghost keys = { λ v. ⟦<BoxSlice<u16> as Archive>⟧.keys v.0
         ++ (⟦<BoxStr as Archive>⟧.keys v.1 ++ (⟦<OwnedArray<i16, 4> as Archive>⟧.keys v.2
-        ++ (⟦<BTreeMap<u16, Option<Spot>> as Archive>⟧.keys v.3
-        ++ (⟦<Pair<u64, Drawing> as Archive>⟧.keys v.4 ++ (⟦<PhantomData<u64> as Archive>⟧.keys v.5
-        ++ []))))) };
+        ++ (⟦<BTreeMap<u16, Spot> as Archive>⟧.keys v.3
+        ++ (⟦<Pair<u64, Drawing> as Archive>⟧.keys v.4 ++ (⟦<PhantomData<String> as Archive>⟧.keys
+        v.5 ++ []))))) };
 
     ghost belongs = { λ v r. ⟦<BoxSlice<u16> as Archive>⟧.belongs v.0 r.kept.0
         × (⟦<BoxStr as Archive>⟧.belongs v.1 r.kept.1.0
         × (⟦<OwnedArray<i16, 4> as Archive>⟧.belongs v.2 r.kept.1.1.0
-        × (⟦<BTreeMap<u16, Option<Spot>> as Archive>⟧.belongs v.3 r.kept.1.1.1.0
+        × (⟦<BTreeMap<u16, Spot> as Archive>⟧.belongs v.3 r.kept.1.1.1.0
         × (⟦<Pair<u64, Drawing> as Archive>⟧.belongs v.4 r.kept.1.1.1.1.0
-        × (⟦<PhantomData<u64> as Archive>⟧.belongs v.5 r.kept.1.1.1.1.1.0 × Unit {0}))))) };
+        × (⟦<PhantomData<String> as Archive>⟧.belongs v.5 r.kept.1.1.1.1.1.0 × Unit {0}))))) };
 
     ghost in_bulk = { None };
 
@@ -286,9 +296,8 @@ impl Archive for Owners {
         v.0.items.items)) (part_keyed (box_keyed [] (text_value (string_bytes v.1.text))
         (text_keyed (string_bytes v.1.text))) (part_keyed
         (array_keyed 4 ⟦<i16 as Archive>⟧.keys ⟦<i16 as Archive>⟧.meaning (λ x. number_keyed _) v.2)
-        (part_keyed (pairs_keyed ⟦<u16 as Archive>⟧.keys ⟦<Option<Spot> as Archive>⟧.keys
-        ⟦<u16 as Archive>⟧.meaning ⟦<Option<Spot> as Archive>⟧.meaning (λ x. number_keyed _)
-        (λ x. option_keyed ⟦<Spot as Archive>⟧.keys ⟦<Spot as Archive>⟧.meaning keyed_of_spot x)
+        (part_keyed (pairs_keyed ⟦<u16 as Archive>⟧.keys ⟦<Spot as Archive>⟧.keys
+        ⟦<u16 as Archive>⟧.meaning ⟦<Spot as Archive>⟧.meaning (λ x. number_keyed _) keyed_of_spot
         v.3.entries) (part_keyed (record_keyed (part_keyed (number_keyed _)
         (part_keyed (keyed_of_drawing v.4.right) nothing_keyed)))
         (part_keyed empty_product_keyed nothing_keyed)))))) };
@@ -300,9 +309,9 @@ impl Archive for Owners {
         (part ⟦<ArchivedBox<ArchivedSlice<ArchivedU16>> as Portable>⟧.shape
         (part ⟦<ArchivedBox<ArchivedStr> as Portable>⟧.shape
         (part ⟦<[ArchivedI16; 4] as Portable>⟧.shape (part
-        ⟦<ArchivedSortedMap<ArchivedU16, ArchivedOption<ArchivedSpot>> as Portable>⟧.shape
+        ⟦<ArchivedSortedMap<ArchivedU16, ArchivedSpot> as Portable>⟧.shape
         (part ⟦<ArchivedPair<ArchivedU64, ArchivedDrawing> as Portable>⟧.shape
-        (part ⟦<PhantomData<u64> as Portable>⟧.shape no_part)))))) _ _
+        (part ⟦<PhantomData<String> as Portable>⟧.shape no_part)))))) _ _
         (part_planned no_definition ⟦<ArchivedBox<ArchivedSlice<ArchivedU16>> as Portable>⟧.shape
         (⟦<BoxSlice<u16> as Archive>⟧.keys v.0) (⟦<BoxSlice<u16> as Archive>⟧.meaning v.0)
         (box_planned no_definition (run ⟦<ArchivedU16 as Portable>⟧.shape) _ _ _
@@ -317,15 +326,12 @@ impl Archive for Owners {
         (array_planned 4 no_definition ⟦<ArchivedI16 as Portable>⟧.shape ⟦<i16 as Archive>⟧.keys
         ⟦<i16 as Archive>⟧.meaning (λ x. leaf_planned no_definition _ _ [] _ refl) v.2)
         (part_planned (both no_definition (both no_definition no_definition))
-        ⟦<ArchivedSortedMap<ArchivedU16, ArchivedOption<ArchivedSpot>> as Portable>⟧.shape
-        (⟦<BTreeMap<u16, Option<Spot>> as Archive>⟧.keys v.3)
-        (⟦<BTreeMap<u16, Option<Spot>> as Archive>⟧.meaning v.3)
-        (map_of_pairs_planned ⟦<u16 as Archive>⟧.keys ⟦<Option<Spot> as Archive>⟧.keys
-        ⟦<u16 as Archive>⟧.meaning ⟦<Option<Spot> as Archive>⟧.meaning no_definition no_definition
-        ⟦<ArchivedU16 as Portable>⟧.shape ⟦<ArchivedOption<ArchivedSpot> as Portable>⟧.shape
-        (λ x. leaf_planned no_definition _ _ [] _ refl)
-        (λ x. option_planned no_definition ⟦<ArchivedSpot as Portable>⟧.shape
-        ⟦<Spot as Archive>⟧.keys ⟦<Spot as Archive>⟧.meaning planned_of_spot x)
+        ⟦<ArchivedSortedMap<ArchivedU16, ArchivedSpot> as Portable>⟧.shape
+        (⟦<BTreeMap<u16, Spot> as Archive>⟧.keys v.3) (⟦<BTreeMap<u16, Spot> as Archive>⟧.meaning
+        v.3) (map_of_pairs_planned ⟦<u16 as Archive>⟧.keys ⟦<Spot as Archive>⟧.keys
+        ⟦<u16 as Archive>⟧.meaning ⟦<Spot as Archive>⟧.meaning no_definition no_definition
+        ⟦<ArchivedU16 as Portable>⟧.shape ⟦<ArchivedSpot as Portable>⟧.shape
+        (λ x. leaf_planned no_definition _ _ [] _ refl) planned_of_spot
         ⟦<ArchivedU16 as MapKey>⟧.key refl v.3.entries)
         (part_planned (both no_definition (both no_definition no_definition))
         ⟦<ArchivedPair<ArchivedU64, ArchivedDrawing> as Portable>⟧.shape
@@ -340,9 +346,9 @@ impl Archive for Owners {
         (leaf_planned no_definition _ _ [] _ refl) (part_planned no_definition
         ⟦<ArchivedDrawing as Portable>⟧.shape (⟦<Drawing as Archive>⟧.keys v.4.right)
         (⟦<Drawing as Archive>⟧.meaning v.4.right) (planned_of_drawing v.4.right) no_part_planned)))
-        (part_planned no_definition ⟦<PhantomData<u64> as Portable>⟧.shape
-        (⟦<PhantomData<u64> as Archive>⟧.keys v.5) (⟦<PhantomData<u64> as Archive>⟧.meaning v.5)
-        empty_product_planned no_part_planned)))))) refl };
+        (part_planned no_definition ⟦<PhantomData<String> as Portable>⟧.shape
+        (⟦<PhantomData<String> as Archive>⟧.keys v.5) (⟦<PhantomData<String> as Archive>⟧.meaning
+        v.5) empty_product_planned no_part_planned)))))) refl };
 
     #[inline(always)]
     fn resolve(
@@ -364,9 +370,9 @@ impl Archive for Owners {
             BoxSlice<u16>,
             BoxStr,
             OwnedArray<i16, 4>,
-            BTreeMap<u16, Option<Spot>>,
+            BTreeMap<u16, Spot>,
             Pair<u64, Drawing>,
-            PhantomData<u64>,
+            PhantomData<String>,
             ArchivedOwners,
         >(
             &self.0,
@@ -402,9 +408,9 @@ impl<S: Writer + ResolverAlloc<Alloc = Global>> Serialize<S> for Owners {
             BoxSlice<u16>,
             BoxStr,
             OwnedArray<i16, 4>,
-            BTreeMap<u16, Option<Spot>>,
+            BTreeMap<u16, Spot>,
             Pair<u64, Drawing>,
-            PhantomData<u64>,
+            PhantomData<String>,
             ArchivedOwners,
             S,
         >(
@@ -436,10 +442,10 @@ impl ArchiveUnsized for Owners {
         (part ⟦<ArchivedBox<ArchivedSlice<ArchivedU16>> as Portable>⟧.shape
         (part ⟦<ArchivedBox<ArchivedStr> as Portable>⟧.shape
         (part ⟦<[ArchivedI16; 4] as Portable>⟧.shape (part
-        ⟦<ArchivedSortedMap<ArchivedU16, ArchivedOption<ArchivedSpot>> as Portable>⟧.shape
+        ⟦<ArchivedSortedMap<ArchivedU16, ArchivedSpot> as Portable>⟧.shape
         (part ⟦<ArchivedPair<ArchivedU64, ArchivedDrawing> as Portable>⟧.shape
-        (part ⟦<PhantomData<u64> as Portable>⟧.shape no_part))))))) (⟦<Owners as Archive>⟧.keys v)
-        (⟦<Owners as Archive>⟧.meaning v) (planned_of_owners v) };
+        (part ⟦<PhantomData<String> as Portable>⟧.shape no_part)))))))
+        (⟦<Owners as Archive>⟧.keys v) (⟦<Owners as Archive>⟧.meaning v) (planned_of_owners v) };
 
     #[inline(always)]
     fn archived_metadata(&self) -> Result<(), Error> {
@@ -454,100 +460,6 @@ impl<S: Writer + ResolverAlloc<Alloc = Global>> SerializeUnsized<S> for Owners {
     }
 }
 
-type OwnersParts0 = (
-    ArchivedBox<ArchivedSlice<ArchivedU16>>,
-    (
-        ArchivedBox<ArchivedStr>,
-        (
-            [ArchivedI16; 4],
-            (
-                ArchivedSortedMap<ArchivedU16, ArchivedOption<ArchivedSpot>>,
-                (ArchivedPair<ArchivedU64, ArchivedDrawing>, ()),
-            ),
-        ),
-    ),
-);
-type OwnersOwned0 = (
-    BoxSlice<u16>,
-    (
-        BoxStr,
-        (
-            OwnedArray<i16, 4>,
-            (BTreeMap<u16, Option<Spot>>, (Pair<u64, Drawing>, ())),
-        ),
-    ),
-);
-type OwnersParts1 = (PhantomData<u64>, ());
-type OwnersOwned1 = (PhantomData<u64>, ());
-type OwnersOwned = (OwnersOwned0, (OwnersOwned1, ()));
-
-// Reads the fields of `Owners` back, piece by piece.
-fn read_owners<D: Entries>(
-    alloc: Global,
-    part: RawView<'_>,
-    deserializer: &mut D,
-) -> Result<OwnersOwned, Error>
-    requires viewed { IsPartOf ⟦<ArchivedOwners as ArchivePointee>⟧ part }
-    ensures read { IfOk result (λ t. ReadsPart ⟦<ArchivedOwners as ArchivePointee>⟧ part D.Entries
-        deserializer (product (value (⟦<BoxSlice<u16> as Archive>⟧.meaning t.0.0)
-        (value (⟦<BoxStr as Archive>⟧.meaning t.0.1.0) (value
-        (⟦<OwnedArray<i16, 4> as Archive>⟧.meaning t.0.1.1.0)
-        (value (⟦<BTreeMap<u16, Option<Spot>> as Archive>⟧.meaning t.0.1.1.1.0)
-        (value (⟦<Pair<u64, Drawing> as Archive>⟧.meaning t.0.1.1.1.1.0)
-        (value (⟦<PhantomData<u64> as Archive>⟧.meaning t.1.0.0) no_value)))))))
-        (⟦<BoxSlice<u16> as Archive>⟧.keys t.0.0 ++ (⟦<BoxStr as Archive>⟧.keys t.0.1.0
-        ++ (⟦<OwnedArray<i16, 4> as Archive>⟧.keys t.0.1.1.0
-        ++ (⟦<BTreeMap<u16, Option<Spot>> as Archive>⟧.keys t.0.1.1.1.0
-        ++ (⟦<Pair<u64, Drawing> as Archive>⟧.keys t.0.1.1.1.1.0
-        ++ (⟦<PhantomData<u64> as Archive>⟧.keys t.1.0.0 ++ []))))))) }
-    ensures refused { IfErr result (RefusesPart ⟦<ArchivedOwners as ArchivePointee>⟧ part D.Entries
-        deserializer) }
-{
-    let RawView { bytes, pos, .. } = part;
-    let v0 = match <OwnersParts0 as DeserializeParts<OwnersOwned0, D>>::deserialize_parts(
-        alloc,
-        bytes,
-        pos,
-        0,
-        deserializer,
-    ) {
-        Ok(v0) => v0,
-        Err(error) => return Err(error),
-    };
-    let v1 = match <OwnersParts1 as DeserializeParts<OwnersOwned1, D>>::deserialize_parts(
-        alloc,
-        bytes,
-        pos,
-        80,
-        deserializer,
-    ) {
-        Ok(v1) => v1,
-        Err(error) => return Err(error),
-    };
-    Ok((v0, (v1, ())))
-}
-
-// The `Owners` of these values, one after another.
-fn owners_of(values: OwnersOwned) -> Owners
-    ensures meaning { ⟦<Owners as Archive>⟧.meaning result
-        ≡ product (value (⟦<BoxSlice<u16> as Archive>⟧.meaning values.0.0)
-        (value (⟦<BoxStr as Archive>⟧.meaning values.0.1.0)
-        (value (⟦<OwnedArray<i16, 4> as Archive>⟧.meaning values.0.1.1.0)
-        (value (⟦<BTreeMap<u16, Option<Spot>> as Archive>⟧.meaning values.0.1.1.1.0)
-        (value (⟦<Pair<u64, Drawing> as Archive>⟧.meaning values.0.1.1.1.1.0)
-        (value (⟦<PhantomData<u64> as Archive>⟧.meaning values.1.0.0) no_value)))))) }
-    ensures keys { ⟦<Owners as Archive>⟧.keys result ≡ ⟦<BoxSlice<u16> as Archive>⟧.keys values.0.0
-        ++ (⟦<BoxStr as Archive>⟧.keys values.0.1.0 ++ (⟦<OwnedArray<i16, 4> as Archive>⟧.keys
-        values.0.1.1.0 ++ (⟦<BTreeMap<u16, Option<Spot>> as Archive>⟧.keys values.0.1.1.1.0
-        ++ (⟦<Pair<u64, Drawing> as Archive>⟧.keys values.0.1.1.1.1.0
-        ++ (⟦<PhantomData<u64> as Archive>⟧.keys values.1.0.0 ++ []))))) }
-{
-    let (v0, (v1, ())) = values;
-    let (a0, (a1, (a2, (a3, (a4, ()))))) = v0;
-    let (a5, ()) = v1;
-    Owners(a0, a1, a2, a3, a4, a5)
-}
-
 impl<D: Entries> Deserialize<Owners, D> for ArchivedOwners {
     #[inline(always)]
     fn deserialize_part(
@@ -559,8 +471,8 @@ impl<D: Entries> Deserialize<Owners, D> for ArchivedOwners {
         ensures { ReadsAs ⟦<Self as ArchivePointee>⟧ part D.Entries deserializer
             ⟦<Owners as Archive>⟧ result }
     {
-        match read_owners(alloc, part, deserializer) {
-            Ok(values) => Ok(owners_of(values)),
+        match deserialize_record::<Self, OwnersOwned, D>(alloc, part, deserializer) {
+            Ok((a0, (a1, (a2, (a3, (a4, (a5, ()))))))) => Ok(Owners(a0, a1, a2, a3, a4, a5)),
             Err(error) => Err(error),
         }
     }
@@ -577,14 +489,14 @@ pub trait OwnersView<'a> {
     /// Four numbers.
     fn field_2(self) -> Ref<'a, [ArchivedI16; 4]>;
 
-    /// Places, perhaps, by their numbers.
-    fn field_3(self) -> Ref<'a, ArchivedSortedMap<ArchivedU16, ArchivedOption<ArchivedSpot>>>;
+    /// Places by their numbers.
+    fn field_3(self) -> Ref<'a, ArchivedSortedMap<ArchivedU16, ArchivedSpot>>;
 
     /// A number and a drawing.
     fn field_4(self) -> Ref<'a, ArchivedPair<ArchivedU64, ArchivedDrawing>>;
 
     /// No value, of a type.
-    fn field_5(self) -> Ref<'a, PhantomData<u64>>;
+    fn field_5(self) -> Ref<'a, PhantomData<String>>;
 }
 
 impl<'a> OwnersView<'a> for Ref<'a, ArchivedOwners> {
@@ -615,16 +527,13 @@ impl<'a> OwnersView<'a> for Ref<'a, ArchivedOwners> {
         part_in_record::<ArchivedOwners, [ArchivedI16; 4]>(self, 2, 16)
     }
 
-    fn field_3(self) -> Ref<'a, ArchivedSortedMap<ArchivedU16, ArchivedOption<ArchivedSpot>>>
+    fn field_3(self) -> Ref<'a, ArchivedSortedMap<ArchivedU16, ArchivedSpot>>
         ensures buffer { result.bytes.now ≡ self.entry.bytes.now }
         ensures position { result.pos ≡ self.entry.pos + 24 }
         ensures length { result.len ≡ 0 }
         ensures shows { ShowsValueOf result self.entry (field_in 3) }
     {
-        part_in_record::<
-            ArchivedOwners,
-            ArchivedSortedMap<ArchivedU16, ArchivedOption<ArchivedSpot>>,
-        >(self, 3, 24)
+        part_in_record::<ArchivedOwners, ArchivedSortedMap<ArchivedU16, ArchivedSpot>>(self, 3, 24)
     }
 
     fn field_4(self) -> Ref<'a, ArchivedPair<ArchivedU64, ArchivedDrawing>>
@@ -636,13 +545,13 @@ impl<'a> OwnersView<'a> for Ref<'a, ArchivedOwners> {
         part_in_record::<ArchivedOwners, ArchivedPair<ArchivedU64, ArchivedDrawing>>(self, 4, 32)
     }
 
-    fn field_5(self) -> Ref<'a, PhantomData<u64>>
+    fn field_5(self) -> Ref<'a, PhantomData<String>>
         ensures buffer { result.bytes.now ≡ self.entry.bytes.now }
         ensures position { result.pos ≡ self.entry.pos + 80 }
         ensures length { result.len ≡ 0 }
         ensures shows { ShowsValueOf result self.entry (field_in 5) }
     {
-        part_in_record::<ArchivedOwners, PhantomData<u64>>(self, 5, 80)
+        part_in_record::<ArchivedOwners, PhantomData<String>>(self, 5, 80)
     }
 }
 
@@ -663,8 +572,8 @@ pub trait OwnersSeal<'a> {
     fn field_2_mut(self) -> Seal<'a, [ArchivedI16; 4]>
         requires { sealed self };
 
-    /// Places, perhaps, by their numbers.
-    fn field_3_mut(self) -> Seal<'a, ArchivedSortedMap<ArchivedU16, ArchivedOption<ArchivedSpot>>>
+    /// Places by their numbers.
+    fn field_3_mut(self) -> Seal<'a, ArchivedSortedMap<ArchivedU16, ArchivedSpot>>
         requires { sealed self };
 
     /// A number and a drawing.
@@ -672,7 +581,7 @@ pub trait OwnersSeal<'a> {
         requires { sealed self };
 
     /// No value, of a type.
-    fn field_5_mut(self) -> Seal<'a, PhantomData<u64>>
+    fn field_5_mut(self) -> Seal<'a, PhantomData<String>>
         requires { sealed self };
 }
 
@@ -706,16 +615,16 @@ impl<'a> OwnersSeal<'a> for Seal<'a, ArchivedOwners> {
         sealed_part_in_record::<ArchivedOwners, [ArchivedI16; 4]>(self, 2, 16)
     }
 
-    fn field_3_mut(self) -> Seal<'a, ArchivedSortedMap<ArchivedU16, ArchivedOption<ArchivedSpot>>>
+    fn field_3_mut(self) -> Seal<'a, ArchivedSortedMap<ArchivedU16, ArchivedSpot>>
         requires come_to { IsSealOf no_definition (one ⟦<ArchivedOwners as Portable>⟧.shape) self }
         ensures { SealsPart no_definition (one ⟦<ArchivedOwners as Portable>⟧.shape)
             (both no_definition (both no_definition no_definition))
-            ⟦<ArchivedSortedMap<ArchivedU16, ArchivedOption<ArchivedSpot>> as ArchivePointee>⟧.pointee (self.entry.pos + 24) 0 self.entry result }
+            ⟦<ArchivedSortedMap<ArchivedU16, ArchivedSpot> as ArchivePointee>⟧.pointee
+            (self.entry.pos + 24) 0 self.entry result }
     {
-        sealed_part_in_record::<
-            ArchivedOwners,
-            ArchivedSortedMap<ArchivedU16, ArchivedOption<ArchivedSpot>>,
-        >(self, 3, 24)
+        sealed_part_in_record::<ArchivedOwners, ArchivedSortedMap<ArchivedU16, ArchivedSpot>>(
+            self, 3, 24,
+        )
     }
 
     fn field_4_mut(self) -> Seal<'a, ArchivedPair<ArchivedU64, ArchivedDrawing>>
@@ -730,13 +639,13 @@ impl<'a> OwnersSeal<'a> for Seal<'a, ArchivedOwners> {
         )
     }
 
-    fn field_5_mut(self) -> Seal<'a, PhantomData<u64>>
+    fn field_5_mut(self) -> Seal<'a, PhantomData<String>>
         requires come_to { IsSealOf no_definition (one ⟦<ArchivedOwners as Portable>⟧.shape) self }
         ensures { SealsPart no_definition (one ⟦<ArchivedOwners as Portable>⟧.shape) no_definition
-            ⟦<PhantomData<u64> as ArchivePointee>⟧.pointee (self.entry.pos + 80) 0 self.entry
+            ⟦<PhantomData<String> as ArchivePointee>⟧.pointee (self.entry.pos + 80) 0 self.entry
             result }
     {
-        sealed_part_in_record::<ArchivedOwners, PhantomData<u64>>(self, 5, 80)
+        sealed_part_in_record::<ArchivedOwners, PhantomData<String>>(self, 5, 80)
     }
 }
 

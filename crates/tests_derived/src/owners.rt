@@ -28,22 +28,22 @@ use std::collections::BTreeMap;
 use std::marker::PhantomData;
 use std::process::Abort;
 
-// The numbers 1 and 258, the text "hé" and a zero. At 8 the entries of 3 to a Some of 1, -2 and of 258 to a None. At 24 what the drawing owns: two lines and the
-// numbers 1 and 2. At 48 the box that points 48 bytes back at two numbers, the one that points 52 bytes back at three bytes; 1, -1, 258 and 0; the map that points
-// 64 bytes back at the entries; and at 80, a multiple of 8, the number 7 of eight bytes and the drawing, which points 72, 76 and 76 bytes back at what it owns.
+// The numbers 1 and 258, the text "hé" and a zero. At 8 the entries of 3 to 1, -2 and of 258 to 3, 4. At 20 what the drawing owns: two lines and the numbers 1
+// and 2. At 48 the box that points 48 bytes back at two numbers, the one that points 52 bytes back at three bytes; 1, -1, 258 and 0; the map that points
+// 64 bytes back at the entries; and at 80, a multiple of 8, the number 7 of eight bytes and the drawing, which points 76, 80 and 80 bytes back at what it owns.
 const OWNERS: &[u8; 128] =
-    b"\x01\0\x02\x01h\xc3\xa9\0\x03\0\x01\0\x01\0\xfe\xff\x02\x01\0\0\0\0\0\0\x05\0\x06\0\x07\0\x08\0\x09\0\x0a\0\x0b\0\x0c\0\x01\0\0\0\x02\0\0\0\xd0\xff\xff\xff\x02\0\0\0\xcc\xff\xff\xff\x03\0\0\0\x01\0\xff\xff\x02\x01\0\0\xc0\xff\xff\xff\x02\0\0\0\x07\0\0\0\0\0\0\0\x01\0\xfe\xff\x03\0\x04\0\xb8\xff\xff\xff\x01\0\0\0\x01\0\0\0\xb4\xff\xff\xff\x04\0\0\0\xb4\xff\xff\xff\x02\0\0\0\0\0\0\0";
+    b"\x01\0\x02\x01h\xc3\xa9\0\x03\0\x01\0\xfe\xff\x02\x01\x03\0\x04\0\x05\0\x06\0\x07\0\x08\0\x09\0\x0a\0\x0b\0\x0c\0\x01\0\0\0\x02\0\0\0\0\0\0\0\xd0\xff\xff\xff\x02\0\0\0\xcc\xff\xff\xff\x03\0\0\0\x01\0\xff\xff\x02\x01\0\0\xc0\xff\xff\xff\x02\0\0\0\x07\0\0\0\0\0\0\0\x01\0\xfe\xff\x03\0\x04\0\xb4\xff\xff\xff\x01\0\0\0\x01\0\0\0\xb0\xff\xff\xff\x04\0\0\0\xb0\xff\xff\xff\x02\0\0\0\0\0\0\0";
 
 // Boxes that point 0 and 8 bytes back at nothing, the same four numbers, the map that points 24 bytes back at no entry, the number 7, and a drawing of zeros but
 // for the vector that points 48 bytes back at no line.
 const OTHERS: &[u8; 80] =
     b"\0\0\0\0\0\0\0\0\xf8\xff\xff\xff\0\0\0\0\x01\0\xff\xff\x02\x01\0\0\xe8\xff\xff\xff\0\0\0\0\x07\0\0\0\0\0\0\0\0\0\0\0\0\0\0\0\xd0\xff\xff\xff\0\0\0\0\0\0\0\0\0\0\0\0\0\0\0\0\0\0\0\0\0\0\0\0\0\0\0\0";
 
-// A map of a place and none.
-fn places(alloc: Global) -> Result<BTreeMap<u16, Option<Spot>>, AllocError> {
+// A map of two places.
+fn places(alloc: Global) -> Result<BTreeMap<u16, Spot>, AllocError> {
     let mut places = BTreeMap::new(alloc);
-    places.insert(258, None)?;
-    places.insert(3, Some(Spot { right: 1, up: -2 }))?;
+    places.insert(258, Spot { right: 3, up: 4 })?;
+    places.insert(3, Spot { right: 1, up: -2 })?;
     Ok(places)
 }
 
@@ -53,7 +53,7 @@ fn owners(
     alloc: Global,
     numbers: &[u16],
     boxed: &str,
-    places: BTreeMap<u16, Option<Spot>>,
+    places: BTreeMap<u16, Spot>,
     drawing: Drawing,
 ) -> Owners {
     let four = [1i16, -1, 258, 0].to_vec(alloc);
@@ -123,17 +123,15 @@ fn assert_numbers(rt: &impl Abort, view: Ref<'_, ArchivedOwners>, numbers: &[u16
     assert_holds(rt, "the numbers", boxed.get().eq_slice(numbers));
 }
 
-// The map has a place, none, and not more.
+// The map has two places.
 fn assert_places(rt: &impl Abort, view: Ref<'_, ArchivedOwners>) {
-    let (Some(first), Some(second)) = (view.field_3().get(&3), view.field_3().get(&258)) else {
+    let places = view.field_3();
+    let (Some(first), Some(second)) = (places.get(&3), places.get(&258)) else {
         panic!(rt; "no entries")
     };
-    let (Some(spot), None) = (first.as_ref(), second.as_ref()) else {
-        panic!(rt; "no place, or two")
-    };
-    assert_spot(rt, spot, 1, -2);
-    let third = view.field_3().get(&4).is_none();
-    assert_holds(rt, "no third one", third);
+    assert_spot(rt, first, 1, -2);
+    assert_spot(rt, second, 3, 4);
+    assert_holds(rt, "no third one", places.get(&4).is_none());
 }
 
 #[test]
@@ -180,7 +178,7 @@ fn owners_are_edited(rt: HostRuntime) {
     write_boxes(&rt, rt.alloc(), &mut bytes, 7, "abc");
     write_last(&rt, rt.alloc(), &mut bytes);
     let wanted =
-        b"\x01\0\x07\0abc\0\x03\0\x01\0\x01\0\xfe\xff\x02\x01\0\0\0\0\0\0\x05\0\x06\0\x07\0\x08\0\x09\0\x0a\0\x0b\0\x0c\0\x01\0\0\0\x02\0\0\0\xd0\xff\xff\xff\x02\0\0\0\xcc\xff\xff\xff\x03\0\0\0\x01\0\xff\xff\x02\x01\x05\0\xc0\xff\xff\xff\x02\0\0\0\x07\0\0\0\0\0\0\0\x01\0\xfe\xff\x03\0\xff\xff\xb8\xff\xff\xff\x01\0\0\0\x01\0\0\0\xb4\xff\xff\xff\x04\0\0\0\xb4\xff\xff\xff\x02\0\0\0\0\0\0\0";
+        b"\x01\0\x07\0abc\0\x03\0\x01\0\xfe\xff\x02\x01\x03\0\x04\0\x05\0\x06\0\x07\0\x08\0\x09\0\x0a\0\x0b\0\x0c\0\x01\0\0\0\x02\0\0\0\0\0\0\0\xd0\xff\xff\xff\x02\0\0\0\xcc\xff\xff\xff\x03\0\0\0\x01\0\xff\xff\x02\x01\x05\0\xc0\xff\xff\xff\x02\0\0\0\x07\0\0\0\0\0\0\0\x01\0\xfe\xff\x03\0\xff\xff\xb4\xff\xff\xff\x01\0\0\0\x01\0\0\0\xb0\xff\xff\xff\x04\0\0\0\xb0\xff\xff\xff\x02\0\0\0\0\0\0\0";
     assert_bytes(&rt, "the edited owners", &bytes, wanted);
 }
 
@@ -189,13 +187,13 @@ fn faults_of_owners_are_found(rt: HostRuntime) {
     let rows = [
         (5, 0x41, Error::InvalidUtf8),
         (9, 2, Error::UnsortedKeys),
-        (10, 2, unknown_tag("ArchivedOption", 2)),
-        (17, 0, Error::UnsortedKeys),
+        (15, 0, Error::UnsortedKeys),
         (48, 0xd1, unaligned(1, 2)),
         (52, 25, outside(0, 50, 0, 48)),
         (56, 0xc9, outside(1, 3, 4, 48)),
-        (76, 6, outside(8, 48, 7, 48)),
-        (96, 0xb4, outside(20, 8, 24, 48)),
+        (76, 7, outside(8, 42, 7, 48)),
+        (96, 0xb0, outside(16, 8, 20, 48)),
+        (104, 3, unknown_tag("ArchivedOption", 3)),
         (112, 5, unknown_tag("ArchivedEvent", 5)),
     ];
     assert_faults::<ArchivedOwners>(&rt, rt.alloc(), OWNERS, &rows);

@@ -126,7 +126,7 @@ struct Spot { right: u16, up: i16 }
 struct Line { from: Spot, to: Spot }
 struct Drawing { first: Line, lines: Vec<Line>, last: Option<Box<Line>>, event: Event }
 struct Pair { left: u64, right: Drawing }
-struct Owners(BoxSlice<u16>, BoxStr, OwnedArray<i16, 4>, BTreeMap<u16, Option<Spot>>, Pair, PhantomData<u64>);";
+struct Owners(BoxSlice<u16>, BoxStr, OwnedArray<i16, 4>, BTreeMap<u16, Spot>, Pair, PhantomData<String>);";
 
 #[test]
 fn fields_of_every_kind(rt: HostRuntime) {
