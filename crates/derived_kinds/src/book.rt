@@ -7,25 +7,25 @@ use derived_types::spot::Spot;
 #[derive(Debug, PartialEq, Drop)]
 pub struct Book {
     /// Its number.
-    pub number: u64,
+    pub number: u8,
     /// What it is called.
     pub title: String,
     /// Who wrote it.
     pub authors: Vec<String>,
-    /// The letter of its shelf.
-    pub shelf: char,
+    /// Its shelf.
+    pub shelf: u8,
     /// Whether it is lent.
     pub is_lent: bool,
     /// How many pages it has.
-    pub pages: u16,
-    /// The year it is from, below 0 before our time.
-    pub year: i16,
+    pub pages: u8,
+    /// The century it is from, below 0 before our time.
+    pub century: i8,
     /// How many of it there are.
     pub copies: u8,
     /// What it earned, below 0 what it cost.
-    pub earned: i32,
+    pub earned: i8,
     /// What it is sold for, if it is.
-    pub price: Option<u32>,
+    pub price: Option<u8>,
     /// Where it lies.
     pub spot: Spot,
     /// When it came, in seconds.
@@ -33,7 +33,7 @@ pub struct Book {
     /// How often it was read.
     pub reads: usize,
     /// The number of the one that it replaced.
-    pub before: Box<u32>,
+    pub before: Box<u8>,
     /// By how much it is too thick for the shelf.
     pub thicker: i8,
     /// What happened to it last.
@@ -67,10 +67,7 @@ use archive_core::fields::part_in_record;
 use archive_core::option::ArchivedOption;
 use archive_core::own::{Field, HasField};
 use archive_core::place::Place;
-use archive_core::primitive::{
-    ArchivedChar, ArchivedI16, ArchivedI32, ArchivedI64, ArchivedU16, ArchivedU32, ArchivedU64,
-    ArchivedUsize,
-};
+use archive_core::primitive::{ArchivedI64, ArchivedUsize};
 use archive_core::record::{deserialize_record, resolve_record, serialize_record};
 use archive_core::seal::{Seal, sealed_part_in_record};
 use archive_core::self_check::{RecordCheck, SelfCheck};
@@ -88,68 +85,68 @@ use derived_types::event::ArchivedEvent;
 use derived_types::spot::ArchivedSpot;
 use std::alloc::Global;
 
-/// An archived `Book`: 88 bytes at a multiple of 8.
+/// An archived `Book`: 64 bytes at a multiple of 8.
 pub struct ArchivedBook;
 
 type BookParts = FourParts<
-    ArchivedU64,
+    u8,
     ArchivedString,
     ArchivedVec<ArchivedString>,
-    ArchivedChar,
+    u8,
     FourParts<
         bool,
-        ArchivedU16,
-        ArchivedI16,
+        u8,
+        i8,
         u8,
         FourParts<
-            ArchivedI32,
-            ArchivedOption<ArchivedU32>,
+            i8,
+            ArchivedOption<u8>,
             ArchivedSpot,
             ArchivedI64,
-            FourParts<ArchivedUsize, ArchivedBox<ArchivedU32>, i8, ArchivedEvent, ()>,
+            FourParts<ArchivedUsize, ArchivedBox<u8>, i8, ArchivedEvent, ()>,
         >,
     >,
 >;
 
 type BookOwned = FourParts<
-    u64,
+    u8,
     String,
     Vec<String>,
-    char,
+    u8,
     FourParts<
         bool,
-        u16,
-        i16,
         u8,
-        FourParts<i32, Option<u32>, Spot, i64, FourParts<usize, Box<u32>, i8, Event, ()>>,
+        i8,
+        u8,
+        FourParts<i8, Option<u8>, Spot, i64, FourParts<usize, Box<u8>, i8, Event, ()>>,
     >,
 >;
 
 // The fields as sources.
 type BookFields = FourParts<
-    Field<0, u64>,
+    Field<0, u8>,
     Field<1, String>,
     Field<2, Vec<String>>,
-    Field<3, char>,
+    Field<3, u8>,
     FourParts<
         Field<4, bool>,
-        Field<5, u16>,
-        Field<6, i16>,
+        Field<5, u8>,
+        Field<6, i8>,
         Field<7, u8>,
         FourParts<
-            Field<8, i32>,
-            Field<9, Option<u32>>,
+            Field<8, i8>,
+            Field<9, Option<u8>>,
             Field<10, Spot>,
             Field<11, i64>,
-            FourParts<Field<12, usize>, Field<13, Box<u32>>, Field<14, i8>, Field<15, Event>, ()>,
+            FourParts<Field<12, usize>, Field<13, Box<u8>>, Field<14, i8>, Field<15, Event>, ()>,
         >,
     >,
 >;
 
-impl HasField<0, u64> for Book {
+impl HasField<0, u8> for Book {
     ghost field = { λ v. v.number };
 
-    fn field(&self) -> &u64 {
+    fn field(&self) -> &u8 {
         &self.number
     }
 }
@@ -170,10 +167,10 @@ impl HasField<2, Vec<String>> for Book {
     }
 }
 
-impl HasField<3, char> for Book {
+impl HasField<3, u8> for Book {
     ghost field = { λ v. v.shelf };
 
-    fn field(&self) -> &char {
+    fn field(&self) -> &u8 {
         &self.shelf
     }
 }
@@ -186,19 +183,19 @@ impl HasField<4, bool> for Book {
     }
 }
 
-impl HasField<5, u16> for Book {
+impl HasField<5, u8> for Book {
     ghost field = { λ v. v.pages };
 
-    fn field(&self) -> &u16 {
+    fn field(&self) -> &u8 {
         &self.pages
     }
 }
 
-impl HasField<6, i16> for Book {
-    ghost field = { λ v. v.year };
+impl HasField<6, i8> for Book {
+    ghost field = { λ v. v.century };
 
-    fn field(&self) -> &i16 {
-        &self.year
+    fn field(&self) -> &i8 {
+        &self.century
     }
 }
 
@@ -210,18 +207,18 @@ impl HasField<7, u8> for Book {
     }
 }
 
-impl HasField<8, i32> for Book {
+impl HasField<8, i8> for Book {
     ghost field = { λ v. v.earned };
 
-    fn field(&self) -> &i32 {
+    fn field(&self) -> &i8 {
         &self.earned
     }
 }
 
-impl HasField<9, Option<u32>> for Book {
+impl HasField<9, Option<u8>> for Book {
     ghost field = { λ v. v.price };
 
-    fn field(&self) -> &Option<u32> {
+    fn field(&self) -> &Option<u8> {
         &self.price
     }
 }
@@ -250,10 +247,10 @@ impl HasField<12, usize> for Book {
     }
 }
 
-impl HasField<13, Box<u32>> for Book {
+impl HasField<13, Box<u8>> for Book {
     ghost field = { λ v. v.before };
 
-    fn field(&self) -> &Box<u32> {
+    fn field(&self) -> &Box<u8> {
         &self.before
     }
 }
@@ -277,16 +274,15 @@ impl HasField<15, Event> for Book {
 impl ArchivePointee for ArchivedBook {
     type ArchivedMetadata = ();
 
-    ghost pointee = { one (parts (part ⟦<ArchivedU64 as Portable>⟧.shape
+    ghost pointee = { one (parts (part ⟦<u8 as Portable>⟧.shape
         (part ⟦<ArchivedString as Portable>⟧.shape (part
         ⟦<ArchivedVec<ArchivedString> as Portable>⟧.shape
-        (part ⟦<ArchivedChar as Portable>⟧.shape (part ⟦<bool as Portable>⟧.shape
-        (part ⟦<ArchivedU16 as Portable>⟧.shape (part ⟦<ArchivedI16 as Portable>⟧.shape
-        (part ⟦<u8 as Portable>⟧.shape (part ⟦<ArchivedI32 as Portable>⟧.shape
-        (part ⟦<ArchivedOption<ArchivedU32> as Portable>⟧.shape
-        (part ⟦<ArchivedSpot as Portable>⟧.shape (part ⟦<ArchivedI64 as Portable>⟧.shape
-        (part ⟦<ArchivedUsize as Portable>⟧.shape (part
-        ⟦<ArchivedBox<ArchivedU32> as Portable>⟧.shape (part ⟦<i8 as Portable>⟧.shape
+        (part ⟦<u8 as Portable>⟧.shape (part ⟦<bool as Portable>⟧.shape
+        (part ⟦<u8 as Portable>⟧.shape (part ⟦<i8 as Portable>⟧.shape
+        (part ⟦<u8 as Portable>⟧.shape (part ⟦<i8 as Portable>⟧.shape
+        (part ⟦<ArchivedOption<u8> as Portable>⟧.shape (part ⟦<ArchivedSpot as Portable>⟧.shape
+        (part ⟦<ArchivedI64 as Portable>⟧.shape (part ⟦<ArchivedUsize as Portable>⟧.shape
+        (part ⟦<ArchivedBox<u8> as Portable>⟧.shape (part ⟦<i8 as Portable>⟧.shape
         (part ⟦<ArchivedEvent as Portable>⟧.shape no_part))))))))))))))))) };
 
     ghost definitions = { no_definition };
@@ -299,19 +295,18 @@ impl ArchivePointee for ArchivedBook {
 }
 
 impl Portable for ArchivedBook {
-    ghost shape = { parts (part ⟦<ArchivedU64 as Portable>⟧.shape
+    ghost shape = { parts (part ⟦<u8 as Portable>⟧.shape
         (part ⟦<ArchivedString as Portable>⟧.shape (part
         ⟦<ArchivedVec<ArchivedString> as Portable>⟧.shape
-        (part ⟦<ArchivedChar as Portable>⟧.shape (part ⟦<bool as Portable>⟧.shape
-        (part ⟦<ArchivedU16 as Portable>⟧.shape (part ⟦<ArchivedI16 as Portable>⟧.shape
-        (part ⟦<u8 as Portable>⟧.shape (part ⟦<ArchivedI32 as Portable>⟧.shape
-        (part ⟦<ArchivedOption<ArchivedU32> as Portable>⟧.shape
-        (part ⟦<ArchivedSpot as Portable>⟧.shape (part ⟦<ArchivedI64 as Portable>⟧.shape
-        (part ⟦<ArchivedUsize as Portable>⟧.shape (part
-        ⟦<ArchivedBox<ArchivedU32> as Portable>⟧.shape (part ⟦<i8 as Portable>⟧.shape
+        (part ⟦<u8 as Portable>⟧.shape (part ⟦<bool as Portable>⟧.shape
+        (part ⟦<u8 as Portable>⟧.shape (part ⟦<i8 as Portable>⟧.shape
+        (part ⟦<u8 as Portable>⟧.shape (part ⟦<i8 as Portable>⟧.shape
+        (part ⟦<ArchivedOption<u8> as Portable>⟧.shape (part ⟦<ArchivedSpot as Portable>⟧.shape
+        (part ⟦<ArchivedI64 as Portable>⟧.shape (part ⟦<ArchivedUsize as Portable>⟧.shape
+        (part ⟦<ArchivedBox<u8> as Portable>⟧.shape (part ⟦<i8 as Portable>⟧.shape
         (part ⟦<ArchivedEvent as Portable>⟧.shape no_part)))))))))))))))) };
 
-    ghost layout = { record { size = 88; align = 8 } };
+    ghost layout = { record { size = 64; align = 8 } };
 
     type Check = ArchivedBook;
 
@@ -321,22 +316,21 @@ impl Portable for ArchivedBook {
 
     ghost has_layout = { record { solved = λ s k. refl } };
 
-    ghost no_others = { no_definition_reached (parts (part ⟦<ArchivedU64 as Portable>⟧.shape
+    ghost no_others = { no_definition_reached (parts (part ⟦<u8 as Portable>⟧.shape
         (part ⟦<ArchivedString as Portable>⟧.shape (part
         ⟦<ArchivedVec<ArchivedString> as Portable>⟧.shape
-        (part ⟦<ArchivedChar as Portable>⟧.shape (part ⟦<bool as Portable>⟧.shape
-        (part ⟦<ArchivedU16 as Portable>⟧.shape (part ⟦<ArchivedI16 as Portable>⟧.shape
-        (part ⟦<u8 as Portable>⟧.shape (part ⟦<ArchivedI32 as Portable>⟧.shape
-        (part ⟦<ArchivedOption<ArchivedU32> as Portable>⟧.shape
-        (part ⟦<ArchivedSpot as Portable>⟧.shape (part ⟦<ArchivedI64 as Portable>⟧.shape
-        (part ⟦<ArchivedUsize as Portable>⟧.shape (part
-        ⟦<ArchivedBox<ArchivedU32> as Portable>⟧.shape (part ⟦<i8 as Portable>⟧.shape
+        (part ⟦<u8 as Portable>⟧.shape (part ⟦<bool as Portable>⟧.shape
+        (part ⟦<u8 as Portable>⟧.shape (part ⟦<i8 as Portable>⟧.shape
+        (part ⟦<u8 as Portable>⟧.shape (part ⟦<i8 as Portable>⟧.shape
+        (part ⟦<ArchivedOption<u8> as Portable>⟧.shape (part ⟦<ArchivedSpot as Portable>⟧.shape
+        (part ⟦<ArchivedI64 as Portable>⟧.shape (part ⟦<ArchivedUsize as Portable>⟧.shape
+        (part ⟦<ArchivedBox<u8> as Portable>⟧.shape (part ⟦<i8 as Portable>⟧.shape
         (part ⟦<ArchivedEvent as Portable>⟧.shape no_part))))))))))))))))) };
 
     ghost checks = { λ _. plain_own_check _ _ _ _ _ refl refl refl refl };
 
     fn size() -> usize {
-        88
+        64
     }
 
     fn align() -> usize {
@@ -353,16 +347,15 @@ impl Portable for ArchivedBook {
 }
 
 impl SelfCheck for ArchivedBook {
-    ghost shape = { parts (part ⟦<ArchivedU64 as Portable>⟧.shape
+    ghost shape = { parts (part ⟦<u8 as Portable>⟧.shape
         (part ⟦<ArchivedString as Portable>⟧.shape (part
         ⟦<ArchivedVec<ArchivedString> as Portable>⟧.shape
-        (part ⟦<ArchivedChar as Portable>⟧.shape (part ⟦<bool as Portable>⟧.shape
-        (part ⟦<ArchivedU16 as Portable>⟧.shape (part ⟦<ArchivedI16 as Portable>⟧.shape
-        (part ⟦<u8 as Portable>⟧.shape (part ⟦<ArchivedI32 as Portable>⟧.shape
-        (part ⟦<ArchivedOption<ArchivedU32> as Portable>⟧.shape
-        (part ⟦<ArchivedSpot as Portable>⟧.shape (part ⟦<ArchivedI64 as Portable>⟧.shape
-        (part ⟦<ArchivedUsize as Portable>⟧.shape (part
-        ⟦<ArchivedBox<ArchivedU32> as Portable>⟧.shape (part ⟦<i8 as Portable>⟧.shape
+        (part ⟦<u8 as Portable>⟧.shape (part ⟦<bool as Portable>⟧.shape
+        (part ⟦<u8 as Portable>⟧.shape (part ⟦<i8 as Portable>⟧.shape
+        (part ⟦<u8 as Portable>⟧.shape (part ⟦<i8 as Portable>⟧.shape
+        (part ⟦<ArchivedOption<u8> as Portable>⟧.shape (part ⟦<ArchivedSpot as Portable>⟧.shape
+        (part ⟦<ArchivedI64 as Portable>⟧.shape (part ⟦<ArchivedUsize as Portable>⟧.shape
+        (part ⟦<ArchivedBox<u8> as Portable>⟧.shape (part ⟦<i8 as Portable>⟧.shape
         (part ⟦<ArchivedEvent as Portable>⟧.shape no_part)))))))))))))))) };
 
     ghost definitions = { (both no_definition (both no_definition
@@ -372,7 +365,7 @@ impl SelfCheck for ArchivedBook {
         (both no_definition (both no_definition (both no_definition
         (both no_definition (both no_definition no_definition)))))))))))))))) };
 
-    ghost span = { 88 };
+    ghost span = { 64 };
 
     ghost direct = { true };
 
@@ -400,16 +393,15 @@ impl SelfCheck for ArchivedBook {
 impl Record for ArchivedBook {
     type Parts = BookParts;
 
-    ghost has_parts = { plain_record (part ⟦<ArchivedU64 as Portable>⟧.shape
+    ghost has_parts = { plain_record (part ⟦<u8 as Portable>⟧.shape
         (part ⟦<ArchivedString as Portable>⟧.shape (part
         ⟦<ArchivedVec<ArchivedString> as Portable>⟧.shape
-        (part ⟦<ArchivedChar as Portable>⟧.shape (part ⟦<bool as Portable>⟧.shape
-        (part ⟦<ArchivedU16 as Portable>⟧.shape (part ⟦<ArchivedI16 as Portable>⟧.shape
-        (part ⟦<u8 as Portable>⟧.shape (part ⟦<ArchivedI32 as Portable>⟧.shape
-        (part ⟦<ArchivedOption<ArchivedU32> as Portable>⟧.shape
-        (part ⟦<ArchivedSpot as Portable>⟧.shape (part ⟦<ArchivedI64 as Portable>⟧.shape
-        (part ⟦<ArchivedUsize as Portable>⟧.shape (part
-        ⟦<ArchivedBox<ArchivedU32> as Portable>⟧.shape (part ⟦<i8 as Portable>⟧.shape
+        (part ⟦<u8 as Portable>⟧.shape (part ⟦<bool as Portable>⟧.shape
+        (part ⟦<u8 as Portable>⟧.shape (part ⟦<i8 as Portable>⟧.shape
+        (part ⟦<u8 as Portable>⟧.shape (part ⟦<i8 as Portable>⟧.shape
+        (part ⟦<ArchivedOption<u8> as Portable>⟧.shape (part ⟦<ArchivedSpot as Portable>⟧.shape
+        (part ⟦<ArchivedI64 as Portable>⟧.shape (part ⟦<ArchivedUsize as Portable>⟧.shape
+        (part ⟦<ArchivedBox<u8> as Portable>⟧.shape (part ⟦<i8 as Portable>⟧.shape
         (part ⟦<ArchivedEvent as Portable>⟧.shape no_part))))))))))))))))
         (both no_definition (both no_definition (both no_definition
         (both no_definition (both no_definition (both no_definition
@@ -425,25 +417,25 @@ impl Record for ArchivedBook {
 #[derive(Drop)]
 pub struct BookResolver {
     kept: (
-        <u64 as Archive>::Resolver,
+        <u8 as Archive>::Resolver,
         (
             <String as Archive>::Resolver,
             (
                 <Vec<String> as Archive>::Resolver,
                 (
-                    <char as Archive>::Resolver,
+                    <u8 as Archive>::Resolver,
                     (
                         <bool as Archive>::Resolver,
                         (
-                            <u16 as Archive>::Resolver,
+                            <u8 as Archive>::Resolver,
                             (
-                                <i16 as Archive>::Resolver,
+                                <i8 as Archive>::Resolver,
                                 (
                                     <u8 as Archive>::Resolver,
                                     (
-                                        <i32 as Archive>::Resolver,
+                                        <i8 as Archive>::Resolver,
                                         (
-                                            <Option<u32> as Archive>::Resolver,
+                                            <Option<u8> as Archive>::Resolver,
                                             (
                                                 <Spot as Archive>::Resolver,
                                                 (
@@ -451,7 +443,7 @@ pub struct BookResolver {
                                                     (
                                                         <usize as Archive>::Resolver,
                                                         (
-                                                            <Box<u32> as Archive>::Resolver,
+                                                            <Box<u8> as Archive>::Resolver,
                                                             (
                                                                 <i8 as Archive>::Resolver,
                                                                 (<Event as Archive>::Resolver, ()),
@@ -480,60 +472,60 @@ impl Archive for Book {
 
     type Resolver = BookResolver;
 
-    ghost meaning = { λ v. product (value (⟦<u64 as Archive>⟧.meaning v.number)
+    ghost meaning = { λ v. product (value (⟦<u8 as Archive>⟧.meaning v.number)
         (value (⟦<String as Archive>⟧.meaning v.title) (value
-        (⟦<Vec<String> as Archive>⟧.meaning v.authors) (value (⟦<char as Archive>⟧.meaning v.shelf)
-        (value (⟦<bool as Archive>⟧.meaning v.is_lent) (value (⟦<u16 as Archive>⟧.meaning v.pages)
-        (value (⟦<i16 as Archive>⟧.meaning v.year) (value (⟦<u8 as Archive>⟧.meaning v.copies)
-        (value (⟦<i32 as Archive>⟧.meaning v.earned) (value
-        (⟦<Option<u32> as Archive>⟧.meaning v.price) (value (⟦<Spot as Archive>⟧.meaning v.spot)
+        (⟦<Vec<String> as Archive>⟧.meaning v.authors) (value (⟦<u8 as Archive>⟧.meaning v.shelf)
+        (value (⟦<bool as Archive>⟧.meaning v.is_lent) (value (⟦<u8 as Archive>⟧.meaning v.pages)
+        (value (⟦<i8 as Archive>⟧.meaning v.century) (value (⟦<u8 as Archive>⟧.meaning v.copies)
+        (value (⟦<i8 as Archive>⟧.meaning v.earned) (value
+        (⟦<Option<u8> as Archive>⟧.meaning v.price) (value (⟦<Spot as Archive>⟧.meaning v.spot)
         (value (⟦<i64 as Archive>⟧.meaning v.came) (value (⟦<usize as Archive>⟧.meaning v.reads)
-        (value (⟦<Box<u32> as Archive>⟧.meaning v.before)
+        (value (⟦<Box<u8> as Archive>⟧.meaning v.before)
         (value (⟦<i8 as Archive>⟧.meaning v.thicker) (value (⟦<Event as Archive>⟧.meaning v.event)
         no_value)))))))))))))))) };
 
-    ghost flat = { λ v r. product (value (⟦<u64 as Archive>⟧.flat v.number r.kept.0)
+    ghost flat = { λ v r. product (value (⟦<u8 as Archive>⟧.flat v.number r.kept.0)
         (value (⟦<String as Archive>⟧.flat v.title r.kept.1.0)
         (value (⟦<Vec<String> as Archive>⟧.flat v.authors r.kept.1.1.0)
-        (value (⟦<char as Archive>⟧.flat v.shelf r.kept.1.1.1.0)
+        (value (⟦<u8 as Archive>⟧.flat v.shelf r.kept.1.1.1.0)
         (value (⟦<bool as Archive>⟧.flat v.is_lent r.kept.1.1.1.1.0)
-        (value (⟦<u16 as Archive>⟧.flat v.pages r.kept.1.1.1.1.1.0)
-        (value (⟦<i16 as Archive>⟧.flat v.year r.kept.1.1.1.1.1.1.0)
+        (value (⟦<u8 as Archive>⟧.flat v.pages r.kept.1.1.1.1.1.0)
+        (value (⟦<i8 as Archive>⟧.flat v.century r.kept.1.1.1.1.1.1.0)
         (value (⟦<u8 as Archive>⟧.flat v.copies r.kept.1.1.1.1.1.1.1.0)
-        (value (⟦<i32 as Archive>⟧.flat v.earned r.kept.1.1.1.1.1.1.1.1.0)
-        (value (⟦<Option<u32> as Archive>⟧.flat v.price r.kept.1.1.1.1.1.1.1.1.1.0)
+        (value (⟦<i8 as Archive>⟧.flat v.earned r.kept.1.1.1.1.1.1.1.1.0)
+        (value (⟦<Option<u8> as Archive>⟧.flat v.price r.kept.1.1.1.1.1.1.1.1.1.0)
         (value (⟦<Spot as Archive>⟧.flat v.spot r.kept.1.1.1.1.1.1.1.1.1.1.0)
         (value (⟦<i64 as Archive>⟧.flat v.came r.kept.1.1.1.1.1.1.1.1.1.1.1.0)
         (value (⟦<usize as Archive>⟧.flat v.reads r.kept.1.1.1.1.1.1.1.1.1.1.1.1.0)
-        (value (⟦<Box<u32> as Archive>⟧.flat v.before r.kept.1.1.1.1.1.1.1.1.1.1.1.1.1.0)
+        (value (⟦<Box<u8> as Archive>⟧.flat v.before r.kept.1.1.1.1.1.1.1.1.1.1.1.1.1.0)
         (value (⟦<i8 as Archive>⟧.flat v.thicker r.kept.1.1.1.1.1.1.1.1.1.1.1.1.1.1.0)
         (value (⟦<Event as Archive>⟧.flat v.event r.kept.1.1.1.1.1.1.1.1.1.1.1.1.1.1.1.0)
         no_value)))))))))))))))) };
 
-    ghost keys = { λ v. ⟦<u64 as Archive>⟧.keys v.number
+    ghost keys = { λ v. ⟦<u8 as Archive>⟧.keys v.number
         ++ (⟦<String as Archive>⟧.keys v.title ++ (⟦<Vec<String> as Archive>⟧.keys v.authors
-        ++ (⟦<char as Archive>⟧.keys v.shelf ++ (⟦<bool as Archive>⟧.keys v.is_lent
-        ++ (⟦<u16 as Archive>⟧.keys v.pages ++ (⟦<i16 as Archive>⟧.keys v.year
-        ++ (⟦<u8 as Archive>⟧.keys v.copies ++ (⟦<i32 as Archive>⟧.keys v.earned
-        ++ (⟦<Option<u32> as Archive>⟧.keys v.price ++ (⟦<Spot as Archive>⟧.keys v.spot
+        ++ (⟦<u8 as Archive>⟧.keys v.shelf ++ (⟦<bool as Archive>⟧.keys v.is_lent
+        ++ (⟦<u8 as Archive>⟧.keys v.pages ++ (⟦<i8 as Archive>⟧.keys v.century
+        ++ (⟦<u8 as Archive>⟧.keys v.copies ++ (⟦<i8 as Archive>⟧.keys v.earned
+        ++ (⟦<Option<u8> as Archive>⟧.keys v.price ++ (⟦<Spot as Archive>⟧.keys v.spot
         ++ (⟦<i64 as Archive>⟧.keys v.came ++ (⟦<usize as Archive>⟧.keys v.reads
-        ++ (⟦<Box<u32> as Archive>⟧.keys v.before ++ (⟦<i8 as Archive>⟧.keys v.thicker
+        ++ (⟦<Box<u8> as Archive>⟧.keys v.before ++ (⟦<i8 as Archive>⟧.keys v.thicker
         ++ (⟦<Event as Archive>⟧.keys v.event ++ []))))))))))))))) };
 
-    ghost belongs = { λ v r. ⟦<u64 as Archive>⟧.belongs v.number r.kept.0
+    ghost belongs = { λ v r. ⟦<u8 as Archive>⟧.belongs v.number r.kept.0
         × (⟦<String as Archive>⟧.belongs v.title r.kept.1.0
         × (⟦<Vec<String> as Archive>⟧.belongs v.authors r.kept.1.1.0
-        × (⟦<char as Archive>⟧.belongs v.shelf r.kept.1.1.1.0
+        × (⟦<u8 as Archive>⟧.belongs v.shelf r.kept.1.1.1.0
         × (⟦<bool as Archive>⟧.belongs v.is_lent r.kept.1.1.1.1.0
-        × (⟦<u16 as Archive>⟧.belongs v.pages r.kept.1.1.1.1.1.0
-        × (⟦<i16 as Archive>⟧.belongs v.year r.kept.1.1.1.1.1.1.0
+        × (⟦<u8 as Archive>⟧.belongs v.pages r.kept.1.1.1.1.1.0
+        × (⟦<i8 as Archive>⟧.belongs v.century r.kept.1.1.1.1.1.1.0
         × (⟦<u8 as Archive>⟧.belongs v.copies r.kept.1.1.1.1.1.1.1.0
-        × (⟦<i32 as Archive>⟧.belongs v.earned r.kept.1.1.1.1.1.1.1.1.0
-        × (⟦<Option<u32> as Archive>⟧.belongs v.price r.kept.1.1.1.1.1.1.1.1.1.0
+        × (⟦<i8 as Archive>⟧.belongs v.earned r.kept.1.1.1.1.1.1.1.1.0
+        × (⟦<Option<u8> as Archive>⟧.belongs v.price r.kept.1.1.1.1.1.1.1.1.1.0
         × (⟦<Spot as Archive>⟧.belongs v.spot r.kept.1.1.1.1.1.1.1.1.1.1.0
         × (⟦<i64 as Archive>⟧.belongs v.came r.kept.1.1.1.1.1.1.1.1.1.1.1.0
         × (⟦<usize as Archive>⟧.belongs v.reads r.kept.1.1.1.1.1.1.1.1.1.1.1.1.0
-        × (⟦<Box<u32> as Archive>⟧.belongs v.before r.kept.1.1.1.1.1.1.1.1.1.1.1.1.1.0
+        × (⟦<Box<u8> as Archive>⟧.belongs v.before r.kept.1.1.1.1.1.1.1.1.1.1.1.1.1.0
         × (⟦<i8 as Archive>⟧.belongs v.thicker r.kept.1.1.1.1.1.1.1.1.1.1.1.1.1.1.0
         × (⟦<Event as Archive>⟧.belongs v.event r.kept.1.1.1.1.1.1.1.1.1.1.1.1.1.1.1.0
         × Unit {0}))))))))))))))) };
@@ -547,11 +539,11 @@ impl Archive for Book {
         (part_keyed (number_keyed _) (part_keyed (number_keyed _)
         (part_keyed (number_keyed _) (part_keyed (number_keyed _)
         (part_keyed (number_keyed _) (part_keyed (number_keyed _)
-        (part_keyed (option_keyed ⟦<u32 as Archive>⟧.keys ⟦<u32 as Archive>⟧.meaning
+        (part_keyed (option_keyed ⟦<u8 as Archive>⟧.keys ⟦<u8 as Archive>⟧.meaning
         (λ x. number_keyed _) v.price) (part_keyed (keyed_of_spot v.spot)
         (part_keyed (number_keyed _) (part_keyed (number_keyed _)
-        (part_keyed (box_keyed (⟦<u32 as Archive>⟧.keys v.before.value)
-        (⟦<u32 as Archive>⟧.meaning v.before.value) (number_keyed _))
+        (part_keyed (box_keyed (⟦<u8 as Archive>⟧.keys v.before.value)
+        (⟦<u8 as Archive>⟧.meaning v.before.value) (number_keyed _))
         (part_keyed (number_keyed _) (part_keyed (keyed_of_event v.event)
         nothing_keyed)))))))))))))))) };
 
@@ -561,46 +553,42 @@ impl Archive for Book {
         (both no_definition (both no_definition (both no_definition
         (both no_definition (both no_definition (both no_definition
         (both no_definition (both no_definition (both no_definition no_definition))))))))))))))))
-        (part ⟦<ArchivedU64 as Portable>⟧.shape (part ⟦<ArchivedString as Portable>⟧.shape
+        (part ⟦<u8 as Portable>⟧.shape (part ⟦<ArchivedString as Portable>⟧.shape
         (part ⟦<ArchivedVec<ArchivedString> as Portable>⟧.shape
-        (part ⟦<ArchivedChar as Portable>⟧.shape (part ⟦<bool as Portable>⟧.shape
-        (part ⟦<ArchivedU16 as Portable>⟧.shape (part ⟦<ArchivedI16 as Portable>⟧.shape
-        (part ⟦<u8 as Portable>⟧.shape (part ⟦<ArchivedI32 as Portable>⟧.shape
-        (part ⟦<ArchivedOption<ArchivedU32> as Portable>⟧.shape
-        (part ⟦<ArchivedSpot as Portable>⟧.shape (part ⟦<ArchivedI64 as Portable>⟧.shape
-        (part ⟦<ArchivedUsize as Portable>⟧.shape (part
-        ⟦<ArchivedBox<ArchivedU32> as Portable>⟧.shape (part ⟦<i8 as Portable>⟧.shape
+        (part ⟦<u8 as Portable>⟧.shape (part ⟦<bool as Portable>⟧.shape
+        (part ⟦<u8 as Portable>⟧.shape (part ⟦<i8 as Portable>⟧.shape
+        (part ⟦<u8 as Portable>⟧.shape (part ⟦<i8 as Portable>⟧.shape
+        (part ⟦<ArchivedOption<u8> as Portable>⟧.shape (part ⟦<ArchivedSpot as Portable>⟧.shape
+        (part ⟦<ArchivedI64 as Portable>⟧.shape (part ⟦<ArchivedUsize as Portable>⟧.shape
+        (part ⟦<ArchivedBox<u8> as Portable>⟧.shape (part ⟦<i8 as Portable>⟧.shape
         (part ⟦<ArchivedEvent as Portable>⟧.shape no_part)))))))))))))))) _ _
-        (part_planned no_definition ⟦<ArchivedU64 as Portable>⟧.shape
-        (⟦<u64 as Archive>⟧.keys v.number) (⟦<u64 as Archive>⟧.meaning v.number)
-        (leaf_planned no_definition _ _ [] _ refl) (part_planned no_definition
-        ⟦<ArchivedString as Portable>⟧.shape (⟦<String as Archive>⟧.keys v.title)
-        (⟦<String as Archive>⟧.meaning v.title) (string_planned no_definition []
-        (string_bytes v.title)) (part_planned no_definition
-        ⟦<ArchivedVec<ArchivedString> as Portable>⟧.shape
+        (part_planned no_definition ⟦<u8 as Portable>⟧.shape (⟦<u8 as Archive>⟧.keys v.number)
+        (⟦<u8 as Archive>⟧.meaning v.number) (leaf_planned no_definition _ _ [] _ refl)
+        (part_planned no_definition ⟦<ArchivedString as Portable>⟧.shape
+        (⟦<String as Archive>⟧.keys v.title) (⟦<String as Archive>⟧.meaning v.title)
+        (string_planned no_definition [] (string_bytes v.title))
+        (part_planned no_definition ⟦<ArchivedVec<ArchivedString> as Portable>⟧.shape
         (⟦<Vec<String> as Archive>⟧.keys v.authors) (⟦<Vec<String> as Archive>⟧.meaning v.authors)
         (vec_planned no_definition ⟦<ArchivedString as Portable>⟧.shape _ _ _
         (slice_planned no_definition ⟦<ArchivedString as Portable>⟧.shape ⟦<String as Archive>⟧.keys
         ⟦<String as Archive>⟧.meaning (λ x. string_planned no_definition [] (string_bytes x))
-        v.authors.items)) (part_planned no_definition ⟦<ArchivedChar as Portable>⟧.shape
-        (⟦<char as Archive>⟧.keys v.shelf) (⟦<char as Archive>⟧.meaning v.shelf)
+        v.authors.items)) (part_planned no_definition ⟦<u8 as Portable>⟧.shape
+        (⟦<u8 as Archive>⟧.keys v.shelf) (⟦<u8 as Archive>⟧.meaning v.shelf)
         (leaf_planned no_definition _ _ [] _ refl) (part_planned no_definition
         ⟦<bool as Portable>⟧.shape (⟦<bool as Archive>⟧.keys v.is_lent)
         (⟦<bool as Archive>⟧.meaning v.is_lent) (leaf_planned no_definition _ _ [] _ refl)
-        (part_planned no_definition ⟦<ArchivedU16 as Portable>⟧.shape
-        (⟦<u16 as Archive>⟧.keys v.pages) (⟦<u16 as Archive>⟧.meaning v.pages)
-        (leaf_planned no_definition _ _ [] _ refl) (part_planned no_definition
-        ⟦<ArchivedI16 as Portable>⟧.shape (⟦<i16 as Archive>⟧.keys v.year)
-        (⟦<i16 as Archive>⟧.meaning v.year) (leaf_planned no_definition _ _ [] _ refl)
+        (part_planned no_definition ⟦<u8 as Portable>⟧.shape (⟦<u8 as Archive>⟧.keys v.pages)
+        (⟦<u8 as Archive>⟧.meaning v.pages) (leaf_planned no_definition _ _ [] _ refl)
+        (part_planned no_definition ⟦<i8 as Portable>⟧.shape (⟦<i8 as Archive>⟧.keys v.century)
+        (⟦<i8 as Archive>⟧.meaning v.century) (leaf_planned no_definition _ _ [] _ refl)
         (part_planned no_definition ⟦<u8 as Portable>⟧.shape (⟦<u8 as Archive>⟧.keys v.copies)
         (⟦<u8 as Archive>⟧.meaning v.copies) (leaf_planned no_definition _ _ [] _ refl)
-        (part_planned no_definition ⟦<ArchivedI32 as Portable>⟧.shape
-        (⟦<i32 as Archive>⟧.keys v.earned) (⟦<i32 as Archive>⟧.meaning v.earned)
-        (leaf_planned no_definition _ _ [] _ refl) (part_planned no_definition
-        ⟦<ArchivedOption<ArchivedU32> as Portable>⟧.shape (⟦<Option<u32> as Archive>⟧.keys v.price)
-        (⟦<Option<u32> as Archive>⟧.meaning v.price) (option_planned no_definition
-        ⟦<ArchivedU32 as Portable>⟧.shape ⟦<u32 as Archive>⟧.keys ⟦<u32 as Archive>⟧.meaning
-        (λ x. leaf_planned no_definition _ _ [] _ refl) v.price)
+        (part_planned no_definition ⟦<i8 as Portable>⟧.shape (⟦<i8 as Archive>⟧.keys v.earned)
+        (⟦<i8 as Archive>⟧.meaning v.earned) (leaf_planned no_definition _ _ [] _ refl)
+        (part_planned no_definition ⟦<ArchivedOption<u8> as Portable>⟧.shape
+        (⟦<Option<u8> as Archive>⟧.keys v.price) (⟦<Option<u8> as Archive>⟧.meaning v.price)
+        (option_planned no_definition ⟦<u8 as Portable>⟧.shape ⟦<u8 as Archive>⟧.keys
+        ⟦<u8 as Archive>⟧.meaning (λ x. leaf_planned no_definition _ _ [] _ refl) v.price)
         (part_planned no_definition ⟦<ArchivedSpot as Portable>⟧.shape
         (⟦<Spot as Archive>⟧.keys v.spot) (⟦<Spot as Archive>⟧.meaning v.spot)
         (planned_of_spot v.spot) (part_planned no_definition ⟦<ArchivedI64 as Portable>⟧.shape
@@ -608,12 +596,12 @@ impl Archive for Book {
         (leaf_planned no_definition _ _ [] _ refl) (part_planned no_definition
         ⟦<ArchivedUsize as Portable>⟧.shape (⟦<usize as Archive>⟧.keys v.reads)
         (⟦<usize as Archive>⟧.meaning v.reads) (leaf_planned no_definition _ _ [] _ refl)
-        (part_planned no_definition ⟦<ArchivedBox<ArchivedU32> as Portable>⟧.shape
-        (⟦<Box<u32> as Archive>⟧.keys v.before) (⟦<Box<u32> as Archive>⟧.meaning v.before)
-        (boxed_one_planned no_definition (one ⟦<ArchivedU32 as Portable>⟧.shape)
-        ⟦<ArchivedU32 as Portable>⟧.shape refl (⟦<u32 as Archive>⟧.keys v.before.value)
-        (⟦<u32 as Archive>⟧.meaning v.before.value) (leaf_planned no_definition _ _ [] _ refl))
-        (part_planned no_definition ⟦<i8 as Portable>⟧.shape (⟦<i8 as Archive>⟧.keys v.thicker)
+        (part_planned no_definition ⟦<ArchivedBox<u8> as Portable>⟧.shape
+        (⟦<Box<u8> as Archive>⟧.keys v.before) (⟦<Box<u8> as Archive>⟧.meaning v.before)
+        (boxed_one_planned no_definition (one ⟦<u8 as Portable>⟧.shape) ⟦<u8 as Portable>⟧.shape
+        refl (⟦<u8 as Archive>⟧.keys v.before.value) (⟦<u8 as Archive>⟧.meaning v.before.value)
+        (leaf_planned no_definition _ _ [] _ refl)) (part_planned no_definition
+        ⟦<i8 as Portable>⟧.shape (⟦<i8 as Archive>⟧.keys v.thicker)
         (⟦<i8 as Archive>⟧.meaning v.thicker) (leaf_planned no_definition _ _ [] _ refl)
         (part_planned no_definition ⟦<ArchivedEvent as Portable>⟧.shape
         (⟦<Event as Archive>⟧.keys v.event) (⟦<Event as Archive>⟧.meaning v.event)
@@ -625,7 +613,7 @@ impl Archive for Book {
         resolver: Self::Resolver,
         place: Place<'_, Self::Archived>,
     ) -> Result<(), Error>
-        requires zeroed { ZeroedPlace 88 place.pos place.bytes.now }
+        requires zeroed { ZeroedPlace 64 place.pos place.bytes.now }
         requires same_value { ⟦<Self as Archive>⟧.belongs self.now resolver }
         ensures {
             ResolvesAs ⟦<Self::Archived as Portable>⟧ place
@@ -679,15 +667,14 @@ impl ArchiveUnsized for Book {
     ghost one_length = { λ _ _. refl };
 
     ghost planned = { λ v. one_planned no_definition (parts
-        (part ⟦<ArchivedU64 as Portable>⟧.shape (part ⟦<ArchivedString as Portable>⟧.shape
+        (part ⟦<u8 as Portable>⟧.shape (part ⟦<ArchivedString as Portable>⟧.shape
         (part ⟦<ArchivedVec<ArchivedString> as Portable>⟧.shape
-        (part ⟦<ArchivedChar as Portable>⟧.shape (part ⟦<bool as Portable>⟧.shape
-        (part ⟦<ArchivedU16 as Portable>⟧.shape (part ⟦<ArchivedI16 as Portable>⟧.shape
-        (part ⟦<u8 as Portable>⟧.shape (part ⟦<ArchivedI32 as Portable>⟧.shape
-        (part ⟦<ArchivedOption<ArchivedU32> as Portable>⟧.shape
-        (part ⟦<ArchivedSpot as Portable>⟧.shape (part ⟦<ArchivedI64 as Portable>⟧.shape
-        (part ⟦<ArchivedUsize as Portable>⟧.shape (part
-        ⟦<ArchivedBox<ArchivedU32> as Portable>⟧.shape (part ⟦<i8 as Portable>⟧.shape
+        (part ⟦<u8 as Portable>⟧.shape (part ⟦<bool as Portable>⟧.shape
+        (part ⟦<u8 as Portable>⟧.shape (part ⟦<i8 as Portable>⟧.shape
+        (part ⟦<u8 as Portable>⟧.shape (part ⟦<i8 as Portable>⟧.shape
+        (part ⟦<ArchivedOption<u8> as Portable>⟧.shape (part ⟦<ArchivedSpot as Portable>⟧.shape
+        (part ⟦<ArchivedI64 as Portable>⟧.shape (part ⟦<ArchivedUsize as Portable>⟧.shape
+        (part ⟦<ArchivedBox<u8> as Portable>⟧.shape (part ⟦<i8 as Portable>⟧.shape
         (part ⟦<ArchivedEvent as Portable>⟧.shape no_part)))))))))))))))))
         (⟦<Book as Archive>⟧.keys v) (⟦<Book as Archive>⟧.meaning v) (planned_of_book v) };
 
@@ -707,34 +694,34 @@ impl<S: Writer + ResolverAlloc> SerializeUnsized<S> for Book {
 // The `Book` of these values, one after another.
 fn book_of(values: BookOwned) -> Book
     ensures meaning { ⟦<Book as Archive>⟧.meaning result
-        ≡ product (value (⟦<u64 as Archive>⟧.meaning values.first)
+        ≡ product (value (⟦<u8 as Archive>⟧.meaning values.first)
         (value (⟦<String as Archive>⟧.meaning values.second)
         (value (⟦<Vec<String> as Archive>⟧.meaning values.third)
-        (value (⟦<char as Archive>⟧.meaning values.fourth)
+        (value (⟦<u8 as Archive>⟧.meaning values.fourth)
         (value (⟦<bool as Archive>⟧.meaning values.rest.first)
-        (value (⟦<u16 as Archive>⟧.meaning values.rest.second)
-        (value (⟦<i16 as Archive>⟧.meaning values.rest.third)
+        (value (⟦<u8 as Archive>⟧.meaning values.rest.second)
+        (value (⟦<i8 as Archive>⟧.meaning values.rest.third)
         (value (⟦<u8 as Archive>⟧.meaning values.rest.fourth)
-        (value (⟦<i32 as Archive>⟧.meaning values.rest.rest.first)
-        (value (⟦<Option<u32> as Archive>⟧.meaning values.rest.rest.second)
+        (value (⟦<i8 as Archive>⟧.meaning values.rest.rest.first)
+        (value (⟦<Option<u8> as Archive>⟧.meaning values.rest.rest.second)
         (value (⟦<Spot as Archive>⟧.meaning values.rest.rest.third)
         (value (⟦<i64 as Archive>⟧.meaning values.rest.rest.fourth)
         (value (⟦<usize as Archive>⟧.meaning values.rest.rest.rest.first)
-        (value (⟦<Box<u32> as Archive>⟧.meaning values.rest.rest.rest.second)
+        (value (⟦<Box<u8> as Archive>⟧.meaning values.rest.rest.rest.second)
         (value (⟦<i8 as Archive>⟧.meaning values.rest.rest.rest.third)
         (value (⟦<Event as Archive>⟧.meaning values.rest.rest.rest.fourth)
         no_value)))))))))))))))) }
-    ensures keys { ⟦<Book as Archive>⟧.keys result ≡ ⟦<u64 as Archive>⟧.keys values.first
+    ensures keys { ⟦<Book as Archive>⟧.keys result ≡ ⟦<u8 as Archive>⟧.keys values.first
         ++ (⟦<String as Archive>⟧.keys values.second ++ (⟦<Vec<String> as Archive>⟧.keys
-        values.third ++ (⟦<char as Archive>⟧.keys values.fourth
-        ++ (⟦<bool as Archive>⟧.keys values.rest.first ++ (⟦<u16 as Archive>⟧.keys
-        values.rest.second ++ (⟦<i16 as Archive>⟧.keys values.rest.third
-        ++ (⟦<u8 as Archive>⟧.keys values.rest.fourth ++ (⟦<i32 as Archive>⟧.keys
-        values.rest.rest.first ++ (⟦<Option<u32> as Archive>⟧.keys values.rest.rest.second
+        values.third ++ (⟦<u8 as Archive>⟧.keys values.fourth
+        ++ (⟦<bool as Archive>⟧.keys values.rest.first ++ (⟦<u8 as Archive>⟧.keys values.rest.second
+        ++ (⟦<i8 as Archive>⟧.keys values.rest.third ++ (⟦<u8 as Archive>⟧.keys values.rest.fourth
+        ++ (⟦<i8 as Archive>⟧.keys values.rest.rest.first
+        ++ (⟦<Option<u8> as Archive>⟧.keys values.rest.rest.second
         ++ (⟦<Spot as Archive>⟧.keys values.rest.rest.third
         ++ (⟦<i64 as Archive>⟧.keys values.rest.rest.fourth
         ++ (⟦<usize as Archive>⟧.keys values.rest.rest.rest.first
-        ++ (⟦<Box<u32> as Archive>⟧.keys values.rest.rest.rest.second
+        ++ (⟦<Box<u8> as Archive>⟧.keys values.rest.rest.rest.second
         ++ (⟦<i8 as Archive>⟧.keys values.rest.rest.rest.third
         ++ (⟦<Event as Archive>⟧.keys values.rest.rest.rest.fourth ++ []))))))))))))))) }
 {
@@ -774,7 +761,7 @@ fn book_of(values: BookOwned) -> Book
         shelf: a3,
         is_lent: a4,
         pages: a5,
-        year: a6,
+        century: a6,
         copies: a7,
         earned: a8,
         price: a9,
@@ -808,7 +795,7 @@ impl<D: Entries> Deserialize<Book, D> for ArchivedBook {
 /// The fields of an archived `Book`, as views.
 pub trait BookView<'a> {
     /// Its number.
-    fn number(self) -> Ref<'a, ArchivedU64>;
+    fn number(self) -> Ref<'a, u8>;
 
     /// What it is called.
     fn title(self) -> Ref<'a, ArchivedString>;
@@ -816,26 +803,26 @@ pub trait BookView<'a> {
     /// Who wrote it.
     fn authors(self) -> Ref<'a, ArchivedVec<ArchivedString>>;
 
-    /// The letter of its shelf.
-    fn shelf(self) -> Ref<'a, ArchivedChar>;
+    /// Its shelf.
+    fn shelf(self) -> Ref<'a, u8>;
 
     /// Whether it is lent.
     fn is_lent(self) -> Ref<'a, bool>;
 
     /// How many pages it has.
-    fn pages(self) -> Ref<'a, ArchivedU16>;
+    fn pages(self) -> Ref<'a, u8>;
 
-    /// The year it is from, below 0 before our time.
-    fn year(self) -> Ref<'a, ArchivedI16>;
+    /// The century it is from, below 0 before our time.
+    fn century(self) -> Ref<'a, i8>;
 
     /// How many of it there are.
     fn copies(self) -> Ref<'a, u8>;
 
     /// What it earned, below 0 what it cost.
-    fn earned(self) -> Ref<'a, ArchivedI32>;
+    fn earned(self) -> Ref<'a, i8>;
 
     /// What it is sold for, if it is.
-    fn price(self) -> Ref<'a, ArchivedOption<ArchivedU32>>;
+    fn price(self) -> Ref<'a, ArchivedOption<u8>>;
 
     /// Where it lies.
     fn spot(self) -> Ref<'a, ArchivedSpot>;
@@ -847,7 +834,7 @@ pub trait BookView<'a> {
     fn reads(self) -> Ref<'a, ArchivedUsize>;
 
     /// The number of the one that it replaced.
-    fn before(self) -> Ref<'a, ArchivedBox<ArchivedU32>>;
+    fn before(self) -> Ref<'a, ArchivedBox<u8>>;
 
     /// By how much it is too thick for the shelf.
     fn thicker(self) -> Ref<'a, i8>;
@@ -857,148 +844,148 @@ pub trait BookView<'a> {
 }
 
 impl<'a> BookView<'a> for Ref<'a, ArchivedBook> {
-    fn number(self) -> Ref<'a, ArchivedU64>
+    fn number(self) -> Ref<'a, u8>
         ensures buffer { result.bytes.now ≡ self.entry.bytes.now }
         ensures position { result.pos ≡ self.entry.pos + 0 }
         ensures length { result.len ≡ 0 }
         ensures shows { ShowsValueOf result self.entry (field_in 0) }
     {
-        part_in_record::<ArchivedBook, ArchivedU64>(self, 0, 0)
+        part_in_record::<ArchivedBook, u8>(self, 0, 0)
     }
 
     fn title(self) -> Ref<'a, ArchivedString>
         ensures buffer { result.bytes.now ≡ self.entry.bytes.now }
-        ensures position { result.pos ≡ self.entry.pos + 8 }
+        ensures position { result.pos ≡ self.entry.pos + 4 }
         ensures length { result.len ≡ 0 }
         ensures shows { ShowsValueOf result self.entry (field_in 1) }
     {
-        part_in_record::<ArchivedBook, ArchivedString>(self, 1, 8)
+        part_in_record::<ArchivedBook, ArchivedString>(self, 1, 4)
     }
 
     fn authors(self) -> Ref<'a, ArchivedVec<ArchivedString>>
         ensures buffer { result.bytes.now ≡ self.entry.bytes.now }
-        ensures position { result.pos ≡ self.entry.pos + 16 }
+        ensures position { result.pos ≡ self.entry.pos + 12 }
         ensures length { result.len ≡ 0 }
         ensures shows { ShowsValueOf result self.entry (field_in 2) }
     {
-        part_in_record::<ArchivedBook, ArchivedVec<ArchivedString>>(self, 2, 16)
+        part_in_record::<ArchivedBook, ArchivedVec<ArchivedString>>(self, 2, 12)
     }
 
-    fn shelf(self) -> Ref<'a, ArchivedChar>
+    fn shelf(self) -> Ref<'a, u8>
         ensures buffer { result.bytes.now ≡ self.entry.bytes.now }
-        ensures position { result.pos ≡ self.entry.pos + 24 }
+        ensures position { result.pos ≡ self.entry.pos + 20 }
         ensures length { result.len ≡ 0 }
         ensures shows { ShowsValueOf result self.entry (field_in 3) }
     {
-        part_in_record::<ArchivedBook, ArchivedChar>(self, 3, 24)
+        part_in_record::<ArchivedBook, u8>(self, 3, 20)
     }
 
     fn is_lent(self) -> Ref<'a, bool>
         ensures buffer { result.bytes.now ≡ self.entry.bytes.now }
-        ensures position { result.pos ≡ self.entry.pos + 28 }
+        ensures position { result.pos ≡ self.entry.pos + 21 }
         ensures length { result.len ≡ 0 }
         ensures shows { ShowsValueOf result self.entry (field_in 4) }
     {
-        part_in_record::<ArchivedBook, bool>(self, 4, 28)
+        part_in_record::<ArchivedBook, bool>(self, 4, 21)
     }
 
-    fn pages(self) -> Ref<'a, ArchivedU16>
+    fn pages(self) -> Ref<'a, u8>
         ensures buffer { result.bytes.now ≡ self.entry.bytes.now }
-        ensures position { result.pos ≡ self.entry.pos + 30 }
+        ensures position { result.pos ≡ self.entry.pos + 22 }
         ensures length { result.len ≡ 0 }
         ensures shows { ShowsValueOf result self.entry (field_in 5) }
     {
-        part_in_record::<ArchivedBook, ArchivedU16>(self, 5, 30)
+        part_in_record::<ArchivedBook, u8>(self, 5, 22)
     }
 
-    fn year(self) -> Ref<'a, ArchivedI16>
+    fn century(self) -> Ref<'a, i8>
         ensures buffer { result.bytes.now ≡ self.entry.bytes.now }
-        ensures position { result.pos ≡ self.entry.pos + 32 }
+        ensures position { result.pos ≡ self.entry.pos + 23 }
         ensures length { result.len ≡ 0 }
         ensures shows { ShowsValueOf result self.entry (field_in 6) }
     {
-        part_in_record::<ArchivedBook, ArchivedI16>(self, 6, 32)
+        part_in_record::<ArchivedBook, i8>(self, 6, 23)
     }
 
     fn copies(self) -> Ref<'a, u8>
         ensures buffer { result.bytes.now ≡ self.entry.bytes.now }
-        ensures position { result.pos ≡ self.entry.pos + 34 }
+        ensures position { result.pos ≡ self.entry.pos + 24 }
         ensures length { result.len ≡ 0 }
         ensures shows { ShowsValueOf result self.entry (field_in 7) }
     {
-        part_in_record::<ArchivedBook, u8>(self, 7, 34)
+        part_in_record::<ArchivedBook, u8>(self, 7, 24)
     }
 
-    fn earned(self) -> Ref<'a, ArchivedI32>
+    fn earned(self) -> Ref<'a, i8>
         ensures buffer { result.bytes.now ≡ self.entry.bytes.now }
-        ensures position { result.pos ≡ self.entry.pos + 36 }
+        ensures position { result.pos ≡ self.entry.pos + 25 }
         ensures length { result.len ≡ 0 }
         ensures shows { ShowsValueOf result self.entry (field_in 8) }
     {
-        part_in_record::<ArchivedBook, ArchivedI32>(self, 8, 36)
+        part_in_record::<ArchivedBook, i8>(self, 8, 25)
     }
 
-    fn price(self) -> Ref<'a, ArchivedOption<ArchivedU32>>
+    fn price(self) -> Ref<'a, ArchivedOption<u8>>
         ensures buffer { result.bytes.now ≡ self.entry.bytes.now }
-        ensures position { result.pos ≡ self.entry.pos + 40 }
+        ensures position { result.pos ≡ self.entry.pos + 26 }
         ensures length { result.len ≡ 0 }
         ensures shows { ShowsValueOf result self.entry (field_in 9) }
     {
-        part_in_record::<ArchivedBook, ArchivedOption<ArchivedU32>>(self, 9, 40)
+        part_in_record::<ArchivedBook, ArchivedOption<u8>>(self, 9, 26)
     }
 
     fn spot(self) -> Ref<'a, ArchivedSpot>
         ensures buffer { result.bytes.now ≡ self.entry.bytes.now }
-        ensures position { result.pos ≡ self.entry.pos + 48 }
+        ensures position { result.pos ≡ self.entry.pos + 28 }
         ensures length { result.len ≡ 0 }
         ensures shows { ShowsValueOf result self.entry (field_in 10) }
     {
-        part_in_record::<ArchivedBook, ArchivedSpot>(self, 10, 48)
+        part_in_record::<ArchivedBook, ArchivedSpot>(self, 10, 28)
     }
 
     fn came(self) -> Ref<'a, ArchivedI64>
         ensures buffer { result.bytes.now ≡ self.entry.bytes.now }
-        ensures position { result.pos ≡ self.entry.pos + 56 }
+        ensures position { result.pos ≡ self.entry.pos + 32 }
         ensures length { result.len ≡ 0 }
         ensures shows { ShowsValueOf result self.entry (field_in 11) }
     {
-        part_in_record::<ArchivedBook, ArchivedI64>(self, 11, 56)
+        part_in_record::<ArchivedBook, ArchivedI64>(self, 11, 32)
     }
 
     fn reads(self) -> Ref<'a, ArchivedUsize>
         ensures buffer { result.bytes.now ≡ self.entry.bytes.now }
-        ensures position { result.pos ≡ self.entry.pos + 64 }
+        ensures position { result.pos ≡ self.entry.pos + 40 }
         ensures length { result.len ≡ 0 }
         ensures shows { ShowsValueOf result self.entry (field_in 12) }
     {
-        part_in_record::<ArchivedBook, ArchivedUsize>(self, 12, 64)
+        part_in_record::<ArchivedBook, ArchivedUsize>(self, 12, 40)
     }
 
-    fn before(self) -> Ref<'a, ArchivedBox<ArchivedU32>>
+    fn before(self) -> Ref<'a, ArchivedBox<u8>>
         ensures buffer { result.bytes.now ≡ self.entry.bytes.now }
-        ensures position { result.pos ≡ self.entry.pos + 68 }
+        ensures position { result.pos ≡ self.entry.pos + 44 }
         ensures length { result.len ≡ 0 }
         ensures shows { ShowsValueOf result self.entry (field_in 13) }
     {
-        part_in_record::<ArchivedBook, ArchivedBox<ArchivedU32>>(self, 13, 68)
+        part_in_record::<ArchivedBook, ArchivedBox<u8>>(self, 13, 44)
     }
 
     fn thicker(self) -> Ref<'a, i8>
         ensures buffer { result.bytes.now ≡ self.entry.bytes.now }
-        ensures position { result.pos ≡ self.entry.pos + 72 }
+        ensures position { result.pos ≡ self.entry.pos + 48 }
         ensures length { result.len ≡ 0 }
         ensures shows { ShowsValueOf result self.entry (field_in 14) }
     {
-        part_in_record::<ArchivedBook, i8>(self, 14, 72)
+        part_in_record::<ArchivedBook, i8>(self, 14, 48)
     }
 
     fn event(self) -> Ref<'a, ArchivedEvent>
         ensures buffer { result.bytes.now ≡ self.entry.bytes.now }
-        ensures position { result.pos ≡ self.entry.pos + 76 }
+        ensures position { result.pos ≡ self.entry.pos + 52 }
         ensures length { result.len ≡ 0 }
         ensures shows { ShowsValueOf result self.entry (field_in 15) }
     {
-        part_in_record::<ArchivedBook, ArchivedEvent>(self, 15, 76)
+        part_in_record::<ArchivedBook, ArchivedEvent>(self, 15, 52)
     }
 }
 
@@ -1008,7 +995,7 @@ pub trait BookSeal<'a> {
     ghost sealed: { Self → Type 0 };
 
     /// Its number.
-    fn number_mut(self) -> Seal<'a, ArchivedU64>
+    fn number_mut(self) -> Seal<'a, u8>
         requires { sealed self };
 
     /// What it is called.
@@ -1019,8 +1006,8 @@ pub trait BookSeal<'a> {
     fn authors_mut(self) -> Seal<'a, ArchivedVec<ArchivedString>>
         requires { sealed self };
 
-    /// The letter of its shelf.
-    fn shelf_mut(self) -> Seal<'a, ArchivedChar>
+    /// Its shelf.
+    fn shelf_mut(self) -> Seal<'a, u8>
         requires { sealed self };
 
     /// Whether it is lent.
@@ -1028,11 +1015,11 @@ pub trait BookSeal<'a> {
         requires { sealed self };
 
     /// How many pages it has.
-    fn pages_mut(self) -> Seal<'a, ArchivedU16>
+    fn pages_mut(self) -> Seal<'a, u8>
         requires { sealed self };
 
-    /// The year it is from, below 0 before our time.
-    fn year_mut(self) -> Seal<'a, ArchivedI16>
+    /// The century it is from, below 0 before our time.
+    fn century_mut(self) -> Seal<'a, i8>
         requires { sealed self };
 
     /// How many of it there are.
@@ -1040,11 +1027,11 @@ pub trait BookSeal<'a> {
         requires { sealed self };
 
     /// What it earned, below 0 what it cost.
-    fn earned_mut(self) -> Seal<'a, ArchivedI32>
+    fn earned_mut(self) -> Seal<'a, i8>
         requires { sealed self };
 
     /// What it is sold for, if it is.
-    fn price_mut(self) -> Seal<'a, ArchivedOption<ArchivedU32>>
+    fn price_mut(self) -> Seal<'a, ArchivedOption<u8>>
         requires { sealed self };
 
     /// Where it lies.
@@ -1060,7 +1047,7 @@ pub trait BookSeal<'a> {
         requires { sealed self };
 
     /// The number of the one that it replaced.
-    fn before_mut(self) -> Seal<'a, ArchivedBox<ArchivedU32>>
+    fn before_mut(self) -> Seal<'a, ArchivedBox<u8>>
         requires { sealed self };
 
     /// By how much it is too thick for the shelf.
@@ -1075,134 +1062,134 @@ pub trait BookSeal<'a> {
 impl<'a> BookSeal<'a> for Seal<'a, ArchivedBook> {
     ghost sealed = { λ s. IsSealOf no_definition (one ⟦<ArchivedBook as Portable>⟧.shape) s };
 
-    fn number_mut(self) -> Seal<'a, ArchivedU64>
+    fn number_mut(self) -> Seal<'a, u8>
         requires come_to { IsSealOf no_definition (one ⟦<ArchivedBook as Portable>⟧.shape) self }
         ensures { SealsPart no_definition (one ⟦<ArchivedBook as Portable>⟧.shape) no_definition
-            ⟦<ArchivedU64 as ArchivePointee>⟧.pointee (self.entry.pos + 0) 0 self.entry result }
+            ⟦<u8 as ArchivePointee>⟧.pointee (self.entry.pos + 0) 0 self.entry result }
     {
-        sealed_part_in_record::<ArchivedBook, ArchivedU64>(self, 0, 0)
+        sealed_part_in_record::<ArchivedBook, u8>(self, 0, 0)
     }
 
     fn title_mut(self) -> Seal<'a, ArchivedString>
         requires come_to { IsSealOf no_definition (one ⟦<ArchivedBook as Portable>⟧.shape) self }
         ensures { SealsPart no_definition (one ⟦<ArchivedBook as Portable>⟧.shape) no_definition
-            ⟦<ArchivedString as ArchivePointee>⟧.pointee (self.entry.pos + 8) 0 self.entry result }
+            ⟦<ArchivedString as ArchivePointee>⟧.pointee (self.entry.pos + 4) 0 self.entry result }
     {
-        sealed_part_in_record::<ArchivedBook, ArchivedString>(self, 1, 8)
+        sealed_part_in_record::<ArchivedBook, ArchivedString>(self, 1, 4)
     }
 
     fn authors_mut(self) -> Seal<'a, ArchivedVec<ArchivedString>>
         requires come_to { IsSealOf no_definition (one ⟦<ArchivedBook as Portable>⟧.shape) self }
         ensures { SealsPart no_definition (one ⟦<ArchivedBook as Portable>⟧.shape) no_definition
-            ⟦<ArchivedVec<ArchivedString> as ArchivePointee>⟧.pointee (self.entry.pos + 16) 0
+            ⟦<ArchivedVec<ArchivedString> as ArchivePointee>⟧.pointee (self.entry.pos + 12) 0
             self.entry result }
     {
-        sealed_part_in_record::<ArchivedBook, ArchivedVec<ArchivedString>>(self, 2, 16)
+        sealed_part_in_record::<ArchivedBook, ArchivedVec<ArchivedString>>(self, 2, 12)
     }
 
-    fn shelf_mut(self) -> Seal<'a, ArchivedChar>
+    fn shelf_mut(self) -> Seal<'a, u8>
         requires come_to { IsSealOf no_definition (one ⟦<ArchivedBook as Portable>⟧.shape) self }
         ensures { SealsPart no_definition (one ⟦<ArchivedBook as Portable>⟧.shape) no_definition
-            ⟦<ArchivedChar as ArchivePointee>⟧.pointee (self.entry.pos + 24) 0 self.entry result }
+            ⟦<u8 as ArchivePointee>⟧.pointee (self.entry.pos + 20) 0 self.entry result }
     {
-        sealed_part_in_record::<ArchivedBook, ArchivedChar>(self, 3, 24)
+        sealed_part_in_record::<ArchivedBook, u8>(self, 3, 20)
     }
 
     fn is_lent_mut(self) -> Seal<'a, bool>
         requires come_to { IsSealOf no_definition (one ⟦<ArchivedBook as Portable>⟧.shape) self }
         ensures { SealsPart no_definition (one ⟦<ArchivedBook as Portable>⟧.shape) no_definition
-            ⟦<bool as ArchivePointee>⟧.pointee (self.entry.pos + 28) 0 self.entry result }
+            ⟦<bool as ArchivePointee>⟧.pointee (self.entry.pos + 21) 0 self.entry result }
     {
-        sealed_part_in_record::<ArchivedBook, bool>(self, 4, 28)
+        sealed_part_in_record::<ArchivedBook, bool>(self, 4, 21)
     }
 
-    fn pages_mut(self) -> Seal<'a, ArchivedU16>
+    fn pages_mut(self) -> Seal<'a, u8>
         requires come_to { IsSealOf no_definition (one ⟦<ArchivedBook as Portable>⟧.shape) self }
         ensures { SealsPart no_definition (one ⟦<ArchivedBook as Portable>⟧.shape) no_definition
-            ⟦<ArchivedU16 as ArchivePointee>⟧.pointee (self.entry.pos + 30) 0 self.entry result }
+            ⟦<u8 as ArchivePointee>⟧.pointee (self.entry.pos + 22) 0 self.entry result }
     {
-        sealed_part_in_record::<ArchivedBook, ArchivedU16>(self, 5, 30)
+        sealed_part_in_record::<ArchivedBook, u8>(self, 5, 22)
     }
 
-    fn year_mut(self) -> Seal<'a, ArchivedI16>
+    fn century_mut(self) -> Seal<'a, i8>
         requires come_to { IsSealOf no_definition (one ⟦<ArchivedBook as Portable>⟧.shape) self }
         ensures { SealsPart no_definition (one ⟦<ArchivedBook as Portable>⟧.shape) no_definition
-            ⟦<ArchivedI16 as ArchivePointee>⟧.pointee (self.entry.pos + 32) 0 self.entry result }
+            ⟦<i8 as ArchivePointee>⟧.pointee (self.entry.pos + 23) 0 self.entry result }
     {
-        sealed_part_in_record::<ArchivedBook, ArchivedI16>(self, 6, 32)
+        sealed_part_in_record::<ArchivedBook, i8>(self, 6, 23)
     }
 
     fn copies_mut(self) -> Seal<'a, u8>
         requires come_to { IsSealOf no_definition (one ⟦<ArchivedBook as Portable>⟧.shape) self }
         ensures { SealsPart no_definition (one ⟦<ArchivedBook as Portable>⟧.shape) no_definition
-            ⟦<u8 as ArchivePointee>⟧.pointee (self.entry.pos + 34) 0 self.entry result }
+            ⟦<u8 as ArchivePointee>⟧.pointee (self.entry.pos + 24) 0 self.entry result }
     {
-        sealed_part_in_record::<ArchivedBook, u8>(self, 7, 34)
+        sealed_part_in_record::<ArchivedBook, u8>(self, 7, 24)
     }
 
-    fn earned_mut(self) -> Seal<'a, ArchivedI32>
+    fn earned_mut(self) -> Seal<'a, i8>
         requires come_to { IsSealOf no_definition (one ⟦<ArchivedBook as Portable>⟧.shape) self }
         ensures { SealsPart no_definition (one ⟦<ArchivedBook as Portable>⟧.shape) no_definition
-            ⟦<ArchivedI32 as ArchivePointee>⟧.pointee (self.entry.pos + 36) 0 self.entry result }
+            ⟦<i8 as ArchivePointee>⟧.pointee (self.entry.pos + 25) 0 self.entry result }
     {
-        sealed_part_in_record::<ArchivedBook, ArchivedI32>(self, 8, 36)
+        sealed_part_in_record::<ArchivedBook, i8>(self, 8, 25)
     }
 
-    fn price_mut(self) -> Seal<'a, ArchivedOption<ArchivedU32>>
+    fn price_mut(self) -> Seal<'a, ArchivedOption<u8>>
         requires come_to { IsSealOf no_definition (one ⟦<ArchivedBook as Portable>⟧.shape) self }
         ensures { SealsPart no_definition (one ⟦<ArchivedBook as Portable>⟧.shape) no_definition
-            ⟦<ArchivedOption<ArchivedU32> as ArchivePointee>⟧.pointee (self.entry.pos + 40) 0
-            self.entry result }
+            ⟦<ArchivedOption<u8> as ArchivePointee>⟧.pointee (self.entry.pos + 26) 0 self.entry
+            result }
     {
-        sealed_part_in_record::<ArchivedBook, ArchivedOption<ArchivedU32>>(self, 9, 40)
+        sealed_part_in_record::<ArchivedBook, ArchivedOption<u8>>(self, 9, 26)
     }
 
     fn spot_mut(self) -> Seal<'a, ArchivedSpot>
         requires come_to { IsSealOf no_definition (one ⟦<ArchivedBook as Portable>⟧.shape) self }
         ensures { SealsPart no_definition (one ⟦<ArchivedBook as Portable>⟧.shape) no_definition
-            ⟦<ArchivedSpot as ArchivePointee>⟧.pointee (self.entry.pos + 48) 0 self.entry result }
+            ⟦<ArchivedSpot as ArchivePointee>⟧.pointee (self.entry.pos + 28) 0 self.entry result }
     {
-        sealed_part_in_record::<ArchivedBook, ArchivedSpot>(self, 10, 48)
+        sealed_part_in_record::<ArchivedBook, ArchivedSpot>(self, 10, 28)
     }
 
     fn came_mut(self) -> Seal<'a, ArchivedI64>
         requires come_to { IsSealOf no_definition (one ⟦<ArchivedBook as Portable>⟧.shape) self }
         ensures { SealsPart no_definition (one ⟦<ArchivedBook as Portable>⟧.shape) no_definition
-            ⟦<ArchivedI64 as ArchivePointee>⟧.pointee (self.entry.pos + 56) 0 self.entry result }
+            ⟦<ArchivedI64 as ArchivePointee>⟧.pointee (self.entry.pos + 32) 0 self.entry result }
     {
-        sealed_part_in_record::<ArchivedBook, ArchivedI64>(self, 11, 56)
+        sealed_part_in_record::<ArchivedBook, ArchivedI64>(self, 11, 32)
     }
 
     fn reads_mut(self) -> Seal<'a, ArchivedUsize>
         requires come_to { IsSealOf no_definition (one ⟦<ArchivedBook as Portable>⟧.shape) self }
         ensures { SealsPart no_definition (one ⟦<ArchivedBook as Portable>⟧.shape) no_definition
-            ⟦<ArchivedUsize as ArchivePointee>⟧.pointee (self.entry.pos + 64) 0 self.entry result }
+            ⟦<ArchivedUsize as ArchivePointee>⟧.pointee (self.entry.pos + 40) 0 self.entry result }
     {
-        sealed_part_in_record::<ArchivedBook, ArchivedUsize>(self, 12, 64)
+        sealed_part_in_record::<ArchivedBook, ArchivedUsize>(self, 12, 40)
     }
 
-    fn before_mut(self) -> Seal<'a, ArchivedBox<ArchivedU32>>
+    fn before_mut(self) -> Seal<'a, ArchivedBox<u8>>
         requires come_to { IsSealOf no_definition (one ⟦<ArchivedBook as Portable>⟧.shape) self }
         ensures { SealsPart no_definition (one ⟦<ArchivedBook as Portable>⟧.shape) no_definition
-            ⟦<ArchivedBox<ArchivedU32> as ArchivePointee>⟧.pointee (self.entry.pos + 68) 0
-            self.entry result }
+            ⟦<ArchivedBox<u8> as ArchivePointee>⟧.pointee (self.entry.pos + 44) 0 self.entry
+            result }
     {
-        sealed_part_in_record::<ArchivedBook, ArchivedBox<ArchivedU32>>(self, 13, 68)
+        sealed_part_in_record::<ArchivedBook, ArchivedBox<u8>>(self, 13, 44)
     }
 
     fn thicker_mut(self) -> Seal<'a, i8>
         requires come_to { IsSealOf no_definition (one ⟦<ArchivedBook as Portable>⟧.shape) self }
         ensures { SealsPart no_definition (one ⟦<ArchivedBook as Portable>⟧.shape) no_definition
-            ⟦<i8 as ArchivePointee>⟧.pointee (self.entry.pos + 72) 0 self.entry result }
+            ⟦<i8 as ArchivePointee>⟧.pointee (self.entry.pos + 48) 0 self.entry result }
     {
-        sealed_part_in_record::<ArchivedBook, i8>(self, 14, 72)
+        sealed_part_in_record::<ArchivedBook, i8>(self, 14, 48)
     }
 
     fn event_mut(self) -> Seal<'a, ArchivedEvent>
         requires come_to { IsSealOf no_definition (one ⟦<ArchivedBook as Portable>⟧.shape) self }
         ensures { SealsPart no_definition (one ⟦<ArchivedBook as Portable>⟧.shape) no_definition
-            ⟦<ArchivedEvent as ArchivePointee>⟧.pointee (self.entry.pos + 76) 0 self.entry result }
+            ⟦<ArchivedEvent as ArchivePointee>⟧.pointee (self.entry.pos + 52) 0 self.entry result }
     {
-        sealed_part_in_record::<ArchivedBook, ArchivedEvent>(self, 15, 76)
+        sealed_part_in_record::<ArchivedBook, ArchivedEvent>(self, 15, 52)
     }
 }

@@ -11,15 +11,15 @@ use std::marker::PhantomData;
 #[derive(Drop)]
 pub struct Owners(
     /// Numbers, boxed.
-    pub BoxSlice<u16>,
+    pub BoxSlice<u8>,
     /// A text, boxed.
     pub BoxStr,
     /// Four numbers.
-    pub OwnedArray<i16, 4>,
+    pub OwnedArray<i8, 4>,
     /// Places by their numbers.
-    pub BTreeMap<u16, Spot>,
+    pub BTreeMap<u8, Spot>,
     /// A number and a drawing.
-    pub Pair<u64, Drawing>,
+    pub Pair<u8, Drawing>,
     /// No value, of a type.
     pub PhantomData<String>,
 );
@@ -60,7 +60,6 @@ use archive_core::fields::{
 };
 use archive_core::map::ArchivedSortedMap;
 use archive_core::place::Place;
-use archive_core::primitive::{ArchivedI16, ArchivedU16, ArchivedU64};
 use archive_core::record::deserialize_record;
 use archive_core::seal::{Seal, sealed_part_in_record};
 use archive_core::self_check::{RecordCheck, SelfCheck};
@@ -77,35 +76,32 @@ use archive_core::view::{RawView, Ref};
 use derived_types::spot::{ArchivedDrawing, ArchivedSpot};
 use std::alloc::Global;
 
-/// An archived `Owners`: 80 bytes at a multiple of 8.
+/// An archived `Owners`: 68 bytes at a multiple of 4.
 pub struct ArchivedOwners;
 
 type OwnersParts = (
-    ArchivedBox<ArchivedSlice<ArchivedU16>>,
+    ArchivedBox<ArchivedSlice<u8>>,
     (
         ArchivedBox<ArchivedStr>,
         (
-            [ArchivedI16; 4],
+            [i8; 4],
             (
-                ArchivedSortedMap<ArchivedU16, ArchivedSpot>,
-                (
-                    ArchivedPair<ArchivedU64, ArchivedDrawing>,
-                    (PhantomData<String>, ()),
-                ),
+                ArchivedSortedMap<u8, ArchivedSpot>,
+                (ArchivedPair<u8, ArchivedDrawing>, (PhantomData<String>, ())),
             ),
         ),
     ),
 );
 
 type OwnersOwned = (
-    BoxSlice<u16>,
+    BoxSlice<u8>,
     (
         BoxStr,
         (
-            OwnedArray<i16, 4>,
+            OwnedArray<i8, 4>,
             (
-                BTreeMap<u16, Spot>,
-                (Pair<u64, Drawing>, (PhantomData<String>, ())),
+                BTreeMap<u8, Spot>,
+                (Pair<u8, Drawing>, (PhantomData<String>, ())),
             ),
         ),
     ),
@@ -114,11 +110,11 @@ type OwnersOwned = (
 impl ArchivePointee for ArchivedOwners {
     type ArchivedMetadata = ();
 
-    ghost pointee = { one (parts (part ⟦<ArchivedBox<ArchivedSlice<ArchivedU16>> as Portable>⟧.shape
+    ghost pointee = { one (parts (part ⟦<ArchivedBox<ArchivedSlice<u8>> as Portable>⟧.shape
         (part ⟦<ArchivedBox<ArchivedStr> as Portable>⟧.shape
-        (part ⟦<[ArchivedI16; 4] as Portable>⟧.shape (part
-        ⟦<ArchivedSortedMap<ArchivedU16, ArchivedSpot> as Portable>⟧.shape
-        (part ⟦<ArchivedPair<ArchivedU64, ArchivedDrawing> as Portable>⟧.shape
+        (part ⟦<[i8; 4] as Portable>⟧.shape
+        (part ⟦<ArchivedSortedMap<u8, ArchivedSpot> as Portable>⟧.shape
+        (part ⟦<ArchivedPair<u8, ArchivedDrawing> as Portable>⟧.shape
         (part ⟦<PhantomData<String> as Portable>⟧.shape no_part))))))) };
 
     ghost definitions = { no_definition };
@@ -131,39 +127,39 @@ impl ArchivePointee for ArchivedOwners {
 }
 
 impl Portable for ArchivedOwners {
-    ghost shape = { parts (part ⟦<ArchivedBox<ArchivedSlice<ArchivedU16>> as Portable>⟧.shape
+    ghost shape = { parts (part ⟦<ArchivedBox<ArchivedSlice<u8>> as Portable>⟧.shape
         (part ⟦<ArchivedBox<ArchivedStr> as Portable>⟧.shape
-        (part ⟦<[ArchivedI16; 4] as Portable>⟧.shape (part
-        ⟦<ArchivedSortedMap<ArchivedU16, ArchivedSpot> as Portable>⟧.shape
-        (part ⟦<ArchivedPair<ArchivedU64, ArchivedDrawing> as Portable>⟧.shape
+        (part ⟦<[i8; 4] as Portable>⟧.shape
+        (part ⟦<ArchivedSortedMap<u8, ArchivedSpot> as Portable>⟧.shape
+        (part ⟦<ArchivedPair<u8, ArchivedDrawing> as Portable>⟧.shape
         (part ⟦<PhantomData<String> as Portable>⟧.shape no_part)))))) };
 
-    ghost layout = { record { size = 80; align = 8 } };
+    ghost layout = { record { size = 68; align = 4 } };
 
     type Check = ArchivedOwners;
 
     ghost is_one = { refl };
 
-    ghost is_align = { inr (inr (inr (inl refl))) };
+    ghost is_align = { inr (inr (inl refl)) };
 
     ghost has_layout = { record { solved = λ s k. refl } };
 
     ghost no_others = { no_definition_reached (parts (part
-        ⟦<ArchivedBox<ArchivedSlice<ArchivedU16>> as Portable>⟧.shape
+        ⟦<ArchivedBox<ArchivedSlice<u8>> as Portable>⟧.shape
         (part ⟦<ArchivedBox<ArchivedStr> as Portable>⟧.shape
-        (part ⟦<[ArchivedI16; 4] as Portable>⟧.shape (part
-        ⟦<ArchivedSortedMap<ArchivedU16, ArchivedSpot> as Portable>⟧.shape
-        (part ⟦<ArchivedPair<ArchivedU64, ArchivedDrawing> as Portable>⟧.shape
+        (part ⟦<[i8; 4] as Portable>⟧.shape
+        (part ⟦<ArchivedSortedMap<u8, ArchivedSpot> as Portable>⟧.shape
+        (part ⟦<ArchivedPair<u8, ArchivedDrawing> as Portable>⟧.shape
         (part ⟦<PhantomData<String> as Portable>⟧.shape no_part))))))) };
 
     ghost checks = { λ _. plain_own_check _ _ _ _ _ refl refl refl refl };
 
     fn size() -> usize {
-        80
+        68
     }
 
     fn align() -> usize {
-        8
+        4
     }
 
     fn expr(alloc: Global) -> Result<archive_core::shape::Expr, Error> {
@@ -176,11 +172,11 @@ impl Portable for ArchivedOwners {
 }
 
 impl SelfCheck for ArchivedOwners {
-    ghost shape = { parts (part ⟦<ArchivedBox<ArchivedSlice<ArchivedU16>> as Portable>⟧.shape
+    ghost shape = { parts (part ⟦<ArchivedBox<ArchivedSlice<u8>> as Portable>⟧.shape
         (part ⟦<ArchivedBox<ArchivedStr> as Portable>⟧.shape
-        (part ⟦<[ArchivedI16; 4] as Portable>⟧.shape (part
-        ⟦<ArchivedSortedMap<ArchivedU16, ArchivedSpot> as Portable>⟧.shape
-        (part ⟦<ArchivedPair<ArchivedU64, ArchivedDrawing> as Portable>⟧.shape
+        (part ⟦<[i8; 4] as Portable>⟧.shape
+        (part ⟦<ArchivedSortedMap<u8, ArchivedSpot> as Portable>⟧.shape
+        (part ⟦<ArchivedPair<u8, ArchivedDrawing> as Portable>⟧.shape
         (part ⟦<PhantomData<String> as Portable>⟧.shape no_part)))))) };
 
     ghost definitions = { (both no_definition (both no_definition
@@ -188,7 +184,7 @@ impl SelfCheck for ArchivedOwners {
         (both (both no_definition (both no_definition no_definition))
         (both no_definition no_definition)))))) };
 
-    ghost span = { 80 };
+    ghost span = { 68 };
 
     ghost direct = { true };
 
@@ -216,12 +212,11 @@ impl SelfCheck for ArchivedOwners {
 impl Record for ArchivedOwners {
     type Parts = OwnersParts;
 
-    ghost has_parts = { plain_record
-        (part ⟦<ArchivedBox<ArchivedSlice<ArchivedU16>> as Portable>⟧.shape
+    ghost has_parts = { plain_record (part ⟦<ArchivedBox<ArchivedSlice<u8>> as Portable>⟧.shape
         (part ⟦<ArchivedBox<ArchivedStr> as Portable>⟧.shape
-        (part ⟦<[ArchivedI16; 4] as Portable>⟧.shape (part
-        ⟦<ArchivedSortedMap<ArchivedU16, ArchivedSpot> as Portable>⟧.shape
-        (part ⟦<ArchivedPair<ArchivedU64, ArchivedDrawing> as Portable>⟧.shape
+        (part ⟦<[i8; 4] as Portable>⟧.shape
+        (part ⟦<ArchivedSortedMap<u8, ArchivedSpot> as Portable>⟧.shape
+        (part ⟦<ArchivedPair<u8, ArchivedDrawing> as Portable>⟧.shape
         (part ⟦<PhantomData<String> as Portable>⟧.shape no_part))))))
         (both no_definition (both no_definition (both no_definition
         (both (both no_definition (both no_definition no_definition))
@@ -235,15 +230,15 @@ impl Record for ArchivedOwners {
 #[derive(Drop)]
 pub struct OwnersResolver {
     kept: (
-        <BoxSlice<u16> as Archive>::Resolver,
+        <BoxSlice<u8> as Archive>::Resolver,
         (
             <BoxStr as Archive>::Resolver,
             (
-                <OwnedArray<i16, 4> as Archive>::Resolver,
+                <OwnedArray<i8, 4> as Archive>::Resolver,
                 (
-                    <BTreeMap<u16, Spot> as Archive>::Resolver,
+                    <BTreeMap<u8, Spot> as Archive>::Resolver,
                     (
-                        <Pair<u64, Drawing> as Archive>::Resolver,
+                        <Pair<u8, Drawing> as Archive>::Resolver,
                         (<PhantomData<String> as Archive>::Resolver, ()),
                     ),
                 ),
@@ -260,44 +255,43 @@ impl Archive for Owners {
 
     type Resolver = OwnersResolver;
 
-    ghost meaning = { λ v. product (value (⟦<BoxSlice<u16> as Archive>⟧.meaning v.0)
+    ghost meaning = { λ v. product (value (⟦<BoxSlice<u8> as Archive>⟧.meaning v.0)
         (value (⟦<BoxStr as Archive>⟧.meaning v.1) (value
-        (⟦<OwnedArray<i16, 4> as Archive>⟧.meaning v.2)
-        (value (⟦<BTreeMap<u16, Spot> as Archive>⟧.meaning v.3)
-        (value (⟦<Pair<u64, Drawing> as Archive>⟧.meaning v.4)
+        (⟦<OwnedArray<i8, 4> as Archive>⟧.meaning v.2) (value
+        (⟦<BTreeMap<u8, Spot> as Archive>⟧.meaning v.3)
+        (value (⟦<Pair<u8, Drawing> as Archive>⟧.meaning v.4)
         (value (⟦<PhantomData<String> as Archive>⟧.meaning v.5) no_value)))))) };
 
-    ghost flat = { λ v r. product (value (⟦<BoxSlice<u16> as Archive>⟧.flat v.0 r.kept.0)
+    ghost flat = { λ v r. product (value (⟦<BoxSlice<u8> as Archive>⟧.flat v.0 r.kept.0)
         (value (⟦<BoxStr as Archive>⟧.flat v.1 r.kept.1.0)
-        (value (⟦<OwnedArray<i16, 4> as Archive>⟧.flat v.2 r.kept.1.1.0)
-        (value (⟦<BTreeMap<u16, Spot> as Archive>⟧.flat v.3 r.kept.1.1.1.0)
-        (value (⟦<Pair<u64, Drawing> as Archive>⟧.flat v.4 r.kept.1.1.1.1.0)
+        (value (⟦<OwnedArray<i8, 4> as Archive>⟧.flat v.2 r.kept.1.1.0)
+        (value (⟦<BTreeMap<u8, Spot> as Archive>⟧.flat v.3 r.kept.1.1.1.0)
+        (value (⟦<Pair<u8, Drawing> as Archive>⟧.flat v.4 r.kept.1.1.1.1.0)
         (value (⟦<PhantomData<String> as Archive>⟧.flat v.5 r.kept.1.1.1.1.1.0) no_value)))))) };
 
-    ghost keys = { λ v. ⟦<BoxSlice<u16> as Archive>⟧.keys v.0
-        ++ (⟦<BoxStr as Archive>⟧.keys v.1 ++ (⟦<OwnedArray<i16, 4> as Archive>⟧.keys v.2
-        ++ (⟦<BTreeMap<u16, Spot> as Archive>⟧.keys v.3
-        ++ (⟦<Pair<u64, Drawing> as Archive>⟧.keys v.4 ++ (⟦<PhantomData<String> as Archive>⟧.keys
-        v.5 ++ []))))) };
+    ghost keys = { λ v. ⟦<BoxSlice<u8> as Archive>⟧.keys v.0
+        ++ (⟦<BoxStr as Archive>⟧.keys v.1 ++ (⟦<OwnedArray<i8, 4> as Archive>⟧.keys v.2
+        ++ (⟦<BTreeMap<u8, Spot> as Archive>⟧.keys v.3 ++ (⟦<Pair<u8, Drawing> as Archive>⟧.keys v.4
+        ++ (⟦<PhantomData<String> as Archive>⟧.keys v.5 ++ []))))) };
 
-    ghost belongs = { λ v r. ⟦<BoxSlice<u16> as Archive>⟧.belongs v.0 r.kept.0
+    ghost belongs = { λ v r. ⟦<BoxSlice<u8> as Archive>⟧.belongs v.0 r.kept.0
         × (⟦<BoxStr as Archive>⟧.belongs v.1 r.kept.1.0
-        × (⟦<OwnedArray<i16, 4> as Archive>⟧.belongs v.2 r.kept.1.1.0
-        × (⟦<BTreeMap<u16, Spot> as Archive>⟧.belongs v.3 r.kept.1.1.1.0
-        × (⟦<Pair<u64, Drawing> as Archive>⟧.belongs v.4 r.kept.1.1.1.1.0
+        × (⟦<OwnedArray<i8, 4> as Archive>⟧.belongs v.2 r.kept.1.1.0
+        × (⟦<BTreeMap<u8, Spot> as Archive>⟧.belongs v.3 r.kept.1.1.1.0
+        × (⟦<Pair<u8, Drawing> as Archive>⟧.belongs v.4 r.kept.1.1.1.1.0
         × (⟦<PhantomData<String> as Archive>⟧.belongs v.5 r.kept.1.1.1.1.1.0 × Unit {0}))))) };
 
     ghost in_bulk = { None };
 
     ghost keyed = { λ v. record_keyed (part_keyed (box_keyed
-        (each_keys ⟦<u16 as Archive>⟧.keys v.0.items.items)
-        (list (each_meaning ⟦<u16 as Archive>⟧.meaning v.0.items.items))
-        (each_keyed ⟦<u16 as Archive>⟧.keys ⟦<u16 as Archive>⟧.meaning (λ x. number_keyed _)
+        (each_keys ⟦<u8 as Archive>⟧.keys v.0.items.items)
+        (list (each_meaning ⟦<u8 as Archive>⟧.meaning v.0.items.items))
+        (each_keyed ⟦<u8 as Archive>⟧.keys ⟦<u8 as Archive>⟧.meaning (λ x. number_keyed _)
         v.0.items.items)) (part_keyed (box_keyed [] (text_value (string_bytes v.1.text))
         (text_keyed (string_bytes v.1.text))) (part_keyed
-        (array_keyed 4 ⟦<i16 as Archive>⟧.keys ⟦<i16 as Archive>⟧.meaning (λ x. number_keyed _) v.2)
-        (part_keyed (pairs_keyed ⟦<u16 as Archive>⟧.keys ⟦<Spot as Archive>⟧.keys
-        ⟦<u16 as Archive>⟧.meaning ⟦<Spot as Archive>⟧.meaning (λ x. number_keyed _) keyed_of_spot
+        (array_keyed 4 ⟦<i8 as Archive>⟧.keys ⟦<i8 as Archive>⟧.meaning (λ x. number_keyed _) v.2)
+        (part_keyed (pairs_keyed ⟦<u8 as Archive>⟧.keys ⟦<Spot as Archive>⟧.keys
+        ⟦<u8 as Archive>⟧.meaning ⟦<Spot as Archive>⟧.meaning (λ x. number_keyed _) keyed_of_spot
         v.3.entries) (part_keyed (record_keyed (part_keyed (number_keyed _)
         (part_keyed (keyed_of_drawing v.4.right) nothing_keyed)))
         (part_keyed empty_product_keyed nothing_keyed)))))) };
@@ -306,46 +300,45 @@ impl Archive for Owners {
         (both no_definition (both no_definition (both (both no_definition
         (both no_definition no_definition)) (both (both no_definition
         (both no_definition no_definition)) (both no_definition no_definition))))))
-        (part ⟦<ArchivedBox<ArchivedSlice<ArchivedU16>> as Portable>⟧.shape
+        (part ⟦<ArchivedBox<ArchivedSlice<u8>> as Portable>⟧.shape
         (part ⟦<ArchivedBox<ArchivedStr> as Portable>⟧.shape
-        (part ⟦<[ArchivedI16; 4] as Portable>⟧.shape (part
-        ⟦<ArchivedSortedMap<ArchivedU16, ArchivedSpot> as Portable>⟧.shape
-        (part ⟦<ArchivedPair<ArchivedU64, ArchivedDrawing> as Portable>⟧.shape
+        (part ⟦<[i8; 4] as Portable>⟧.shape
+        (part ⟦<ArchivedSortedMap<u8, ArchivedSpot> as Portable>⟧.shape
+        (part ⟦<ArchivedPair<u8, ArchivedDrawing> as Portable>⟧.shape
         (part ⟦<PhantomData<String> as Portable>⟧.shape no_part)))))) _ _
-        (part_planned no_definition ⟦<ArchivedBox<ArchivedSlice<ArchivedU16>> as Portable>⟧.shape
-        (⟦<BoxSlice<u16> as Archive>⟧.keys v.0) (⟦<BoxSlice<u16> as Archive>⟧.meaning v.0)
-        (box_planned no_definition (run ⟦<ArchivedU16 as Portable>⟧.shape) _ _ _
-        (slice_planned no_definition ⟦<ArchivedU16 as Portable>⟧.shape ⟦<u16 as Archive>⟧.keys
-        ⟦<u16 as Archive>⟧.meaning (λ x. leaf_planned no_definition _ _ [] _ refl) v.0.items.items))
+        (part_planned no_definition ⟦<ArchivedBox<ArchivedSlice<u8>> as Portable>⟧.shape
+        (⟦<BoxSlice<u8> as Archive>⟧.keys v.0) (⟦<BoxSlice<u8> as Archive>⟧.meaning v.0)
+        (box_planned no_definition (run ⟦<u8 as Portable>⟧.shape) _ _ _
+        (slice_planned no_definition ⟦<u8 as Portable>⟧.shape ⟦<u8 as Archive>⟧.keys
+        ⟦<u8 as Archive>⟧.meaning (λ x. leaf_planned no_definition _ _ [] _ refl) v.0.items.items))
         (part_planned no_definition ⟦<ArchivedBox<ArchivedStr> as Portable>⟧.shape
         (⟦<BoxStr as Archive>⟧.keys v.1) (⟦<BoxStr as Archive>⟧.meaning v.1)
         (box_planned no_definition text (length (string_bytes v.1.text)) []
         (text_value (string_bytes v.1.text)) (text_planned no_definition []
-        (string_bytes v.1.text))) (part_planned no_definition ⟦<[ArchivedI16; 4] as Portable>⟧.shape
-        (⟦<OwnedArray<i16, 4> as Archive>⟧.keys v.2) (⟦<OwnedArray<i16, 4> as Archive>⟧.meaning v.2)
-        (array_planned 4 no_definition ⟦<ArchivedI16 as Portable>⟧.shape ⟦<i16 as Archive>⟧.keys
-        ⟦<i16 as Archive>⟧.meaning (λ x. leaf_planned no_definition _ _ [] _ refl) v.2)
+        (string_bytes v.1.text))) (part_planned no_definition ⟦<[i8; 4] as Portable>⟧.shape
+        (⟦<OwnedArray<i8, 4> as Archive>⟧.keys v.2) (⟦<OwnedArray<i8, 4> as Archive>⟧.meaning v.2)
+        (array_planned 4 no_definition ⟦<i8 as Portable>⟧.shape ⟦<i8 as Archive>⟧.keys
+        ⟦<i8 as Archive>⟧.meaning (λ x. leaf_planned no_definition _ _ [] _ refl) v.2)
         (part_planned (both no_definition (both no_definition no_definition))
-        ⟦<ArchivedSortedMap<ArchivedU16, ArchivedSpot> as Portable>⟧.shape
-        (⟦<BTreeMap<u16, Spot> as Archive>⟧.keys v.3) (⟦<BTreeMap<u16, Spot> as Archive>⟧.meaning
-        v.3) (map_of_pairs_planned ⟦<u16 as Archive>⟧.keys ⟦<Spot as Archive>⟧.keys
-        ⟦<u16 as Archive>⟧.meaning ⟦<Spot as Archive>⟧.meaning no_definition no_definition
-        ⟦<ArchivedU16 as Portable>⟧.shape ⟦<ArchivedSpot as Portable>⟧.shape
-        (λ x. leaf_planned no_definition _ _ [] _ refl) planned_of_spot
-        ⟦<ArchivedU16 as MapKey>⟧.key refl v.3.entries)
-        (part_planned (both no_definition (both no_definition no_definition))
-        ⟦<ArchivedPair<ArchivedU64, ArchivedDrawing> as Portable>⟧.shape
-        (⟦<Pair<u64, Drawing> as Archive>⟧.keys v.4) (⟦<Pair<u64, Drawing> as Archive>⟧.meaning v.4)
+        ⟦<ArchivedSortedMap<u8, ArchivedSpot> as Portable>⟧.shape
+        (⟦<BTreeMap<u8, Spot> as Archive>⟧.keys v.3) (⟦<BTreeMap<u8, Spot> as Archive>⟧.meaning v.3)
+        (map_of_pairs_planned ⟦<u8 as Archive>⟧.keys ⟦<Spot as Archive>⟧.keys
+        ⟦<u8 as Archive>⟧.meaning ⟦<Spot as Archive>⟧.meaning no_definition no_definition
+        ⟦<u8 as Portable>⟧.shape ⟦<ArchivedSpot as Portable>⟧.shape
+        (λ x. leaf_planned no_definition _ _ [] _ refl) planned_of_spot ⟦<u8 as MapKey>⟧.key refl
+        v.3.entries) (part_planned (both no_definition (both no_definition no_definition))
+        ⟦<ArchivedPair<u8, ArchivedDrawing> as Portable>⟧.shape
+        (⟦<Pair<u8, Drawing> as Archive>⟧.keys v.4) (⟦<Pair<u8, Drawing> as Archive>⟧.meaning v.4)
         (product_planned (both no_definition (both no_definition no_definition))
-        (part ⟦<ArchivedU64 as Portable>⟧.shape (part ⟦<ArchivedDrawing as Portable>⟧.shape
-        no_part)) (⟦<u64 as Archive>⟧.keys v.4.left ++ (⟦<Drawing as Archive>⟧.keys v.4.right
-        ++ [])) (value (⟦<u64 as Archive>⟧.meaning v.4.left)
-        (value (⟦<Drawing as Archive>⟧.meaning v.4.right) no_value))
-        (part_planned no_definition ⟦<ArchivedU64 as Portable>⟧.shape
-        (⟦<u64 as Archive>⟧.keys v.4.left) (⟦<u64 as Archive>⟧.meaning v.4.left)
-        (leaf_planned no_definition _ _ [] _ refl) (part_planned no_definition
-        ⟦<ArchivedDrawing as Portable>⟧.shape (⟦<Drawing as Archive>⟧.keys v.4.right)
-        (⟦<Drawing as Archive>⟧.meaning v.4.right) (planned_of_drawing v.4.right) no_part_planned)))
+        (part ⟦<u8 as Portable>⟧.shape (part ⟦<ArchivedDrawing as Portable>⟧.shape no_part))
+        (⟦<u8 as Archive>⟧.keys v.4.left ++ (⟦<Drawing as Archive>⟧.keys v.4.right ++ []))
+        (value (⟦<u8 as Archive>⟧.meaning v.4.left) (value
+        (⟦<Drawing as Archive>⟧.meaning v.4.right) no_value))
+        (part_planned no_definition ⟦<u8 as Portable>⟧.shape (⟦<u8 as Archive>⟧.keys v.4.left)
+        (⟦<u8 as Archive>⟧.meaning v.4.left) (leaf_planned no_definition _ _ [] _ refl)
+        (part_planned no_definition ⟦<ArchivedDrawing as Portable>⟧.shape
+        (⟦<Drawing as Archive>⟧.keys v.4.right) (⟦<Drawing as Archive>⟧.meaning v.4.right)
+        (planned_of_drawing v.4.right) no_part_planned)))
         (part_planned no_definition ⟦<PhantomData<String> as Portable>⟧.shape
         (⟦<PhantomData<String> as Archive>⟧.keys v.5) (⟦<PhantomData<String> as Archive>⟧.meaning
         v.5) empty_product_planned no_part_planned)))))) refl };
@@ -356,7 +349,7 @@ impl Archive for Owners {
         resolver: Self::Resolver,
         place: Place<'_, Self::Archived>,
     ) -> Result<(), Error>
-        requires zeroed { ZeroedPlace 80 place.pos place.bytes.now }
+        requires zeroed { ZeroedPlace 68 place.pos place.bytes.now }
         requires same_value { ⟦<Self as Archive>⟧.belongs self.now resolver }
         ensures {
             ResolvesAs ⟦<Self::Archived as Portable>⟧ place
@@ -367,11 +360,11 @@ impl Archive for Owners {
         let OwnersResolver { kept } = resolver;
         let (r0, (r1, (r2, (r3, (r4, (r5, ())))))) = kept;
         resolve_record_6::<
-            BoxSlice<u16>,
+            BoxSlice<u8>,
             BoxStr,
-            OwnedArray<i16, 4>,
-            BTreeMap<u16, Spot>,
-            Pair<u64, Drawing>,
+            OwnedArray<i8, 4>,
+            BTreeMap<u8, Spot>,
+            Pair<u8, Drawing>,
             PhantomData<String>,
             ArchivedOwners,
         >(
@@ -405,11 +398,11 @@ impl<S: Writer + ResolverAlloc<Alloc = Global>> Serialize<S> for Owners {
     #[inline(always)]
     fn serialize(&self, serializer: &mut S) -> Result<Self::Resolver, Error> {
         match serialize_record_6::<
-            BoxSlice<u16>,
+            BoxSlice<u8>,
             BoxStr,
-            OwnedArray<i16, 4>,
-            BTreeMap<u16, Spot>,
-            Pair<u64, Drawing>,
+            OwnedArray<i8, 4>,
+            BTreeMap<u8, Spot>,
+            Pair<u8, Drawing>,
             PhantomData<String>,
             ArchivedOwners,
             S,
@@ -439,11 +432,11 @@ impl ArchiveUnsized for Owners {
     ghost one_length = { λ _ _. refl };
 
     ghost planned = { λ v. one_planned no_definition (parts
-        (part ⟦<ArchivedBox<ArchivedSlice<ArchivedU16>> as Portable>⟧.shape
+        (part ⟦<ArchivedBox<ArchivedSlice<u8>> as Portable>⟧.shape
         (part ⟦<ArchivedBox<ArchivedStr> as Portable>⟧.shape
-        (part ⟦<[ArchivedI16; 4] as Portable>⟧.shape (part
-        ⟦<ArchivedSortedMap<ArchivedU16, ArchivedSpot> as Portable>⟧.shape
-        (part ⟦<ArchivedPair<ArchivedU64, ArchivedDrawing> as Portable>⟧.shape
+        (part ⟦<[i8; 4] as Portable>⟧.shape
+        (part ⟦<ArchivedSortedMap<u8, ArchivedSpot> as Portable>⟧.shape
+        (part ⟦<ArchivedPair<u8, ArchivedDrawing> as Portable>⟧.shape
         (part ⟦<PhantomData<String> as Portable>⟧.shape no_part)))))))
         (⟦<Owners as Archive>⟧.keys v) (⟦<Owners as Archive>⟧.meaning v) (planned_of_owners v) };
 
@@ -481,32 +474,32 @@ impl<D: Entries> Deserialize<Owners, D> for ArchivedOwners {
 /// The fields of an archived `Owners`, as views.
 pub trait OwnersView<'a> {
     /// Numbers, boxed.
-    fn field_0(self) -> Ref<'a, ArchivedBox<ArchivedSlice<ArchivedU16>>>;
+    fn field_0(self) -> Ref<'a, ArchivedBox<ArchivedSlice<u8>>>;
 
     /// A text, boxed.
     fn field_1(self) -> Ref<'a, ArchivedBox<ArchivedStr>>;
 
     /// Four numbers.
-    fn field_2(self) -> Ref<'a, [ArchivedI16; 4]>;
+    fn field_2(self) -> Ref<'a, [i8; 4]>;
 
     /// Places by their numbers.
-    fn field_3(self) -> Ref<'a, ArchivedSortedMap<ArchivedU16, ArchivedSpot>>;
+    fn field_3(self) -> Ref<'a, ArchivedSortedMap<u8, ArchivedSpot>>;
 
     /// A number and a drawing.
-    fn field_4(self) -> Ref<'a, ArchivedPair<ArchivedU64, ArchivedDrawing>>;
+    fn field_4(self) -> Ref<'a, ArchivedPair<u8, ArchivedDrawing>>;
 
     /// No value, of a type.
     fn field_5(self) -> Ref<'a, PhantomData<String>>;
 }
 
 impl<'a> OwnersView<'a> for Ref<'a, ArchivedOwners> {
-    fn field_0(self) -> Ref<'a, ArchivedBox<ArchivedSlice<ArchivedU16>>>
+    fn field_0(self) -> Ref<'a, ArchivedBox<ArchivedSlice<u8>>>
         ensures buffer { result.bytes.now ≡ self.entry.bytes.now }
         ensures position { result.pos ≡ self.entry.pos + 0 }
         ensures length { result.len ≡ 0 }
         ensures shows { ShowsValueOf result self.entry (field_in 0) }
     {
-        part_in_record::<ArchivedOwners, ArchivedBox<ArchivedSlice<ArchivedU16>>>(self, 0, 0)
+        part_in_record::<ArchivedOwners, ArchivedBox<ArchivedSlice<u8>>>(self, 0, 0)
     }
 
     fn field_1(self) -> Ref<'a, ArchivedBox<ArchivedStr>>
@@ -518,40 +511,40 @@ impl<'a> OwnersView<'a> for Ref<'a, ArchivedOwners> {
         part_in_record::<ArchivedOwners, ArchivedBox<ArchivedStr>>(self, 1, 8)
     }
 
-    fn field_2(self) -> Ref<'a, [ArchivedI16; 4]>
+    fn field_2(self) -> Ref<'a, [i8; 4]>
         ensures buffer { result.bytes.now ≡ self.entry.bytes.now }
         ensures position { result.pos ≡ self.entry.pos + 16 }
         ensures length { result.len ≡ 0 }
         ensures shows { ShowsValueOf result self.entry (field_in 2) }
     {
-        part_in_record::<ArchivedOwners, [ArchivedI16; 4]>(self, 2, 16)
+        part_in_record::<ArchivedOwners, [i8; 4]>(self, 2, 16)
     }
 
-    fn field_3(self) -> Ref<'a, ArchivedSortedMap<ArchivedU16, ArchivedSpot>>
+    fn field_3(self) -> Ref<'a, ArchivedSortedMap<u8, ArchivedSpot>>
         ensures buffer { result.bytes.now ≡ self.entry.bytes.now }
-        ensures position { result.pos ≡ self.entry.pos + 24 }
+        ensures position { result.pos ≡ self.entry.pos + 20 }
         ensures length { result.len ≡ 0 }
         ensures shows { ShowsValueOf result self.entry (field_in 3) }
     {
-        part_in_record::<ArchivedOwners, ArchivedSortedMap<ArchivedU16, ArchivedSpot>>(self, 3, 24)
+        part_in_record::<ArchivedOwners, ArchivedSortedMap<u8, ArchivedSpot>>(self, 3, 20)
     }
 
-    fn field_4(self) -> Ref<'a, ArchivedPair<ArchivedU64, ArchivedDrawing>>
+    fn field_4(self) -> Ref<'a, ArchivedPair<u8, ArchivedDrawing>>
         ensures buffer { result.bytes.now ≡ self.entry.bytes.now }
-        ensures position { result.pos ≡ self.entry.pos + 32 }
+        ensures position { result.pos ≡ self.entry.pos + 28 }
         ensures length { result.len ≡ 0 }
         ensures shows { ShowsValueOf result self.entry (field_in 4) }
     {
-        part_in_record::<ArchivedOwners, ArchivedPair<ArchivedU64, ArchivedDrawing>>(self, 4, 32)
+        part_in_record::<ArchivedOwners, ArchivedPair<u8, ArchivedDrawing>>(self, 4, 28)
     }
 
     fn field_5(self) -> Ref<'a, PhantomData<String>>
         ensures buffer { result.bytes.now ≡ self.entry.bytes.now }
-        ensures position { result.pos ≡ self.entry.pos + 80 }
+        ensures position { result.pos ≡ self.entry.pos + 68 }
         ensures length { result.len ≡ 0 }
         ensures shows { ShowsValueOf result self.entry (field_in 5) }
     {
-        part_in_record::<ArchivedOwners, PhantomData<String>>(self, 5, 80)
+        part_in_record::<ArchivedOwners, PhantomData<String>>(self, 5, 68)
     }
 }
 
@@ -561,7 +554,7 @@ pub trait OwnersSeal<'a> {
     ghost sealed: { Self → Type 0 };
 
     /// Numbers, boxed.
-    fn field_0_mut(self) -> Seal<'a, ArchivedBox<ArchivedSlice<ArchivedU16>>>
+    fn field_0_mut(self) -> Seal<'a, ArchivedBox<ArchivedSlice<u8>>>
         requires { sealed self };
 
     /// A text, boxed.
@@ -569,15 +562,15 @@ pub trait OwnersSeal<'a> {
         requires { sealed self };
 
     /// Four numbers.
-    fn field_2_mut(self) -> Seal<'a, [ArchivedI16; 4]>
+    fn field_2_mut(self) -> Seal<'a, [i8; 4]>
         requires { sealed self };
 
     /// Places by their numbers.
-    fn field_3_mut(self) -> Seal<'a, ArchivedSortedMap<ArchivedU16, ArchivedSpot>>
+    fn field_3_mut(self) -> Seal<'a, ArchivedSortedMap<u8, ArchivedSpot>>
         requires { sealed self };
 
     /// A number and a drawing.
-    fn field_4_mut(self) -> Seal<'a, ArchivedPair<ArchivedU64, ArchivedDrawing>>
+    fn field_4_mut(self) -> Seal<'a, ArchivedPair<u8, ArchivedDrawing>>
         requires { sealed self };
 
     /// No value, of a type.
@@ -588,13 +581,13 @@ pub trait OwnersSeal<'a> {
 impl<'a> OwnersSeal<'a> for Seal<'a, ArchivedOwners> {
     ghost sealed = { λ s. IsSealOf no_definition (one ⟦<ArchivedOwners as Portable>⟧.shape) s };
 
-    fn field_0_mut(self) -> Seal<'a, ArchivedBox<ArchivedSlice<ArchivedU16>>>
+    fn field_0_mut(self) -> Seal<'a, ArchivedBox<ArchivedSlice<u8>>>
         requires come_to { IsSealOf no_definition (one ⟦<ArchivedOwners as Portable>⟧.shape) self }
         ensures { SealsPart no_definition (one ⟦<ArchivedOwners as Portable>⟧.shape) no_definition
-            ⟦<ArchivedBox<ArchivedSlice<ArchivedU16>> as ArchivePointee>⟧.pointee
-            (self.entry.pos + 0) 0 self.entry result }
+            ⟦<ArchivedBox<ArchivedSlice<u8>> as ArchivePointee>⟧.pointee (self.entry.pos + 0) 0
+            self.entry result }
     {
-        sealed_part_in_record::<ArchivedOwners, ArchivedBox<ArchivedSlice<ArchivedU16>>>(self, 0, 0)
+        sealed_part_in_record::<ArchivedOwners, ArchivedBox<ArchivedSlice<u8>>>(self, 0, 0)
     }
 
     fn field_1_mut(self) -> Seal<'a, ArchivedBox<ArchivedStr>>
@@ -606,46 +599,41 @@ impl<'a> OwnersSeal<'a> for Seal<'a, ArchivedOwners> {
         sealed_part_in_record::<ArchivedOwners, ArchivedBox<ArchivedStr>>(self, 1, 8)
     }
 
-    fn field_2_mut(self) -> Seal<'a, [ArchivedI16; 4]>
+    fn field_2_mut(self) -> Seal<'a, [i8; 4]>
         requires come_to { IsSealOf no_definition (one ⟦<ArchivedOwners as Portable>⟧.shape) self }
         ensures { SealsPart no_definition (one ⟦<ArchivedOwners as Portable>⟧.shape) no_definition
-            ⟦<[ArchivedI16; 4] as ArchivePointee>⟧.pointee (self.entry.pos + 16) 0 self.entry
-            result }
+            ⟦<[i8; 4] as ArchivePointee>⟧.pointee (self.entry.pos + 16) 0 self.entry result }
     {
-        sealed_part_in_record::<ArchivedOwners, [ArchivedI16; 4]>(self, 2, 16)
+        sealed_part_in_record::<ArchivedOwners, [i8; 4]>(self, 2, 16)
     }
 
-    fn field_3_mut(self) -> Seal<'a, ArchivedSortedMap<ArchivedU16, ArchivedSpot>>
+    fn field_3_mut(self) -> Seal<'a, ArchivedSortedMap<u8, ArchivedSpot>>
         requires come_to { IsSealOf no_definition (one ⟦<ArchivedOwners as Portable>⟧.shape) self }
         ensures { SealsPart no_definition (one ⟦<ArchivedOwners as Portable>⟧.shape)
             (both no_definition (both no_definition no_definition))
-            ⟦<ArchivedSortedMap<ArchivedU16, ArchivedSpot> as ArchivePointee>⟧.pointee
-            (self.entry.pos + 24) 0 self.entry result }
+            ⟦<ArchivedSortedMap<u8, ArchivedSpot> as ArchivePointee>⟧.pointee (self.entry.pos + 20)
+            0 self.entry result }
     {
-        sealed_part_in_record::<ArchivedOwners, ArchivedSortedMap<ArchivedU16, ArchivedSpot>>(
-            self, 3, 24,
-        )
+        sealed_part_in_record::<ArchivedOwners, ArchivedSortedMap<u8, ArchivedSpot>>(self, 3, 20)
     }
 
-    fn field_4_mut(self) -> Seal<'a, ArchivedPair<ArchivedU64, ArchivedDrawing>>
+    fn field_4_mut(self) -> Seal<'a, ArchivedPair<u8, ArchivedDrawing>>
         requires come_to { IsSealOf no_definition (one ⟦<ArchivedOwners as Portable>⟧.shape) self }
         ensures { SealsPart no_definition (one ⟦<ArchivedOwners as Portable>⟧.shape)
             (both no_definition (both no_definition no_definition))
-            ⟦<ArchivedPair<ArchivedU64, ArchivedDrawing> as ArchivePointee>⟧.pointee
-            (self.entry.pos + 32) 0 self.entry result }
+            ⟦<ArchivedPair<u8, ArchivedDrawing> as ArchivePointee>⟧.pointee (self.entry.pos + 28) 0
+            self.entry result }
     {
-        sealed_part_in_record::<ArchivedOwners, ArchivedPair<ArchivedU64, ArchivedDrawing>>(
-            self, 4, 32,
-        )
+        sealed_part_in_record::<ArchivedOwners, ArchivedPair<u8, ArchivedDrawing>>(self, 4, 28)
     }
 
     fn field_5_mut(self) -> Seal<'a, PhantomData<String>>
         requires come_to { IsSealOf no_definition (one ⟦<ArchivedOwners as Portable>⟧.shape) self }
         ensures { SealsPart no_definition (one ⟦<ArchivedOwners as Portable>⟧.shape) no_definition
-            ⟦<PhantomData<String> as ArchivePointee>⟧.pointee (self.entry.pos + 80) 0 self.entry
+            ⟦<PhantomData<String> as ArchivePointee>⟧.pointee (self.entry.pos + 68) 0 self.entry
             result }
     {
-        sealed_part_in_record::<ArchivedOwners, PhantomData<String>>(self, 5, 80)
+        sealed_part_in_record::<ArchivedOwners, PhantomData<String>>(self, 5, 68)
     }
 }
 

@@ -15,7 +15,6 @@ use crate::spots::assert_spot;
 use archive_core::boxed::{ArchivedBox, BoxSlice, BoxStr};
 use archive_core::core_impls::OwnedArray;
 use archive_core::error::Error;
-use archive_core::primitive::ArchivedU16;
 use archive_core::seal::Seal;
 use archive_core::slice::ArchivedSlice;
 use archive_core::string::ArchivedStr;
@@ -28,21 +27,21 @@ use std::collections::BTreeMap;
 use std::marker::PhantomData;
 use std::process::Abort;
 
-// The numbers 1 and 258, the text "hé" and a zero. At 8 the entries of 3 to 1, -2 and of 258 to 3, 4. At 20 what the drawing owns: two lines and the numbers 1
-// and 2. At 48 the box that points 48 bytes back at two numbers, the one that points 52 bytes back at three bytes; 1, -1, 258 and 0; the map that points
-// 64 bytes back at the entries; and at 80, a multiple of 8, the number 7 of eight bytes and the drawing, which points 76, 80 and 80 bytes back at what it owns.
-const OWNERS: &[u8; 128] =
-    b"\x01\0\x02\x01h\xc3\xa9\0\x03\0\x01\0\xfe\xff\x02\x01\x03\0\x04\0\x05\0\x06\0\x07\0\x08\0\x09\0\x0a\0\x0b\0\x0c\0\x01\0\0\0\x02\0\0\0\0\0\0\0\xd0\xff\xff\xff\x02\0\0\0\xcc\xff\xff\xff\x03\0\0\0\x01\0\xff\xff\x02\x01\0\0\xc0\xff\xff\xff\x02\0\0\0\x07\0\0\0\0\0\0\0\x01\0\xfe\xff\x03\0\x04\0\xb4\xff\xff\xff\x01\0\0\0\x01\0\0\0\xb0\xff\xff\xff\x04\0\0\0\xb0\xff\xff\xff\x02\0\0\0\0\0\0\0";
+// The numbers 1 and 200, the text "hé" and a zero. At 6 the entries of 3 to 1, -2 and of 200 to 3, 4. At 18 what the drawing owns: two lines and, at 36, the
+// numbers 1 and 2. At 44 the box that points 44 bytes back at two numbers, the one that points 50 bytes back at three bytes; 1, -1, 127 and 0; the map that points
+// 58 bytes back at the entries; and at 72 the number 7 and the drawing, which points 66, 70 and 68 bytes back at what it owns.
+const OWNERS: &[u8; 112] =
+    b"\x01\xc8h\xc3\xa9\0\x03\0\x01\0\xfe\xff\xc8\0\x03\0\x04\0\x05\0\x06\0\x07\0\x08\0\x09\0\x0a\0\x0b\0\x0c\0\0\0\x01\0\0\0\x02\0\0\0\xd4\xff\xff\xff\x02\0\0\0\xce\xff\xff\xff\x03\0\0\0\x01\xff\x7f\0\xc6\xff\xff\xff\x02\0\0\0\x07\0\0\0\x01\0\xfe\xff\x03\0\x04\0\xbe\xff\xff\xff\x01\0\0\0\x01\0\0\0\xba\xff\xff\xff\x04\0\0\0\xbc\xff\xff\xff\x02\0\0\0";
 
-// Boxes that point 0 and 8 bytes back at nothing, the same four numbers, the map that points 24 bytes back at no entry, the number 7, and a drawing of zeros but
-// for the vector that points 48 bytes back at no line.
-const OTHERS: &[u8; 80] =
-    b"\0\0\0\0\0\0\0\0\xf8\xff\xff\xff\0\0\0\0\x01\0\xff\xff\x02\x01\0\0\xe8\xff\xff\xff\0\0\0\0\x07\0\0\0\0\0\0\0\0\0\0\0\0\0\0\0\xd0\xff\xff\xff\0\0\0\0\0\0\0\0\0\0\0\0\0\0\0\0\0\0\0\0\0\0\0\0\0\0\0\0";
+// Boxes that point 0 and 8 bytes back at nothing, the same four numbers, the map that points 20 bytes back at no entry, the number 7, and a drawing of zeros but
+// for the vector that points 40 bytes back at no line.
+const OTHERS: &[u8; 68] =
+    b"\0\0\0\0\0\0\0\0\xf8\xff\xff\xff\0\0\0\0\x01\xff\x7f\0\xec\xff\xff\xff\0\0\0\0\x07\0\0\0\0\0\0\0\0\0\0\0\xd8\xff\xff\xff\0\0\0\0\0\0\0\0\0\0\0\0\0\0\0\0\0\0\0\0\0\0\0\0";
 
 // A map of two places.
-fn places(alloc: Global) -> Result<BTreeMap<u16, Spot>, AllocError> {
+fn places(alloc: Global) -> Result<BTreeMap<u8, Spot>, AllocError> {
     let mut places = BTreeMap::new(alloc);
-    places.insert(258, Spot { right: 3, up: 4 })?;
+    places.insert(200, Spot { right: 3, up: 4 })?;
     places.insert(3, Spot { right: 1, up: -2 })?;
     Ok(places)
 }
@@ -51,12 +50,12 @@ fn places(alloc: Global) -> Result<BTreeMap<u16, Spot>, AllocError> {
 fn owners(
     rt: &impl Abort,
     alloc: Global,
-    numbers: &[u16],
+    numbers: &[u8],
     boxed: &str,
-    places: BTreeMap<u16, Spot>,
+    places: BTreeMap<u8, Spot>,
     drawing: Drawing,
 ) -> Owners {
-    let four = [1i16, -1, 258, 0].to_vec(alloc);
+    let four = [1i8, -1, 127, 0].to_vec(alloc);
     let four = four.expect(rt, "memory for four numbers");
     let items = numbers.to_vec(alloc).expect(rt, "memory for numbers");
     Owners(
@@ -77,7 +76,7 @@ fn owners(
 // What the first bytes are the archive of, and the others.
 fn full(rt: &impl Abort, alloc: Global) -> Owners {
     let places = places(alloc).expect(rt, "memory for places");
-    owners(rt, alloc, &[1, 258], "hé", places, drawing(rt, alloc))
+    owners(rt, alloc, &[1, 200], "hé", places, drawing(rt, alloc))
 }
 
 fn bare(rt: &impl Abort, alloc: Global) -> Owners {
@@ -92,7 +91,7 @@ fn owners_are_written(rt: HostRuntime) {
         (bare(&rt, alloc), OTHERS.as_slice()),
     ];
     for (owners, archive) in rows {
-        assert_written(&rt, alloc, &owners, 80, archive);
+        assert_written(&rt, alloc, &owners, 68, archive);
     }
 }
 
@@ -118,15 +117,15 @@ fn owners_are_read_back(rt: HostRuntime) {
 }
 
 // The box holds these numbers.
-fn assert_numbers(rt: &impl Abort, view: Ref<'_, ArchivedOwners>, numbers: &[u16]) {
-    let boxed: Ref<'_, ArchivedBox<ArchivedSlice<ArchivedU16>>> = view.field_0();
+fn assert_numbers(rt: &impl Abort, view: Ref<'_, ArchivedOwners>, numbers: &[u8]) {
+    let boxed: Ref<'_, ArchivedBox<ArchivedSlice<u8>>> = view.field_0();
     assert_holds(rt, "the numbers", boxed.get().eq_slice(numbers));
 }
 
 // The map has two places.
 fn assert_places(rt: &impl Abort, view: Ref<'_, ArchivedOwners>) {
     let places = view.field_3();
-    let (Some(first), Some(second)) = (places.get(&3), places.get(&258)) else {
+    let (Some(first), Some(second)) = (places.get(&3), places.get(&200)) else {
         panic!(rt; "no entries")
     };
     assert_spot(rt, first, 1, -2);
@@ -137,14 +136,14 @@ fn assert_places(rt: &impl Abort, view: Ref<'_, ArchivedOwners>) {
 #[test]
 fn owners_are_viewed(rt: HostRuntime) {
     let view = viewed::<ArchivedOwners>(&rt, rt.alloc(), OWNERS);
-    assert_numbers(&rt, view, &[1, 258]);
+    assert_numbers(&rt, view, &[1, 200]);
     assert_same(&rt, "the text", view.field_1().get().as_str(), "hé");
     let third = view.field_2().index(2).get();
-    assert_same(&rt, "one of four", (third, view.field_2().len()), (258, 4));
+    assert_same(&rt, "one of four", (third, view.field_2().len()), (127, 4));
     assert_places(&rt, view);
     assert_same(&rt, "to the left", view.field_4().left().get(), 7);
     assert_drawing(&rt, view.field_4().right());
-    assert_same(&rt, "the end", view.field_5().pos(), 128);
+    assert_same(&rt, "the end", view.field_5().pos(), 112);
 }
 
 // Writes over a boxed text with as many bytes.
@@ -157,7 +156,7 @@ fn write_boxed(seal: Seal<'_, ArchivedStr>, text: &str)
 }
 
 // Writes over what the boxes hold.
-fn write_boxes(rt: &impl Abort, alloc: Global, bytes: &mut [u8], number: u16, text: &str) {
+fn write_boxes(rt: &impl Abort, alloc: Global, bytes: &mut [u8], number: u8, text: &str) {
     let numbers = sealed::<ArchivedOwners>(rt, alloc, bytes).field_0_mut();
     write_second(numbers.get_seal(), number);
     let boxed = sealed::<ArchivedOwners>(rt, alloc, bytes).field_1_mut();
@@ -178,28 +177,28 @@ fn owners_are_edited(rt: HostRuntime) {
     write_boxes(&rt, rt.alloc(), &mut bytes, 7, "abc");
     write_last(&rt, rt.alloc(), &mut bytes);
     let wanted =
-        b"\x01\0\x07\0abc\0\x03\0\x01\0\xfe\xff\x02\x01\x03\0\x04\0\x05\0\x06\0\x07\0\x08\0\x09\0\x0a\0\x0b\0\x0c\0\x01\0\0\0\x02\0\0\0\0\0\0\0\xd0\xff\xff\xff\x02\0\0\0\xcc\xff\xff\xff\x03\0\0\0\x01\0\xff\xff\x02\x01\x05\0\xc0\xff\xff\xff\x02\0\0\0\x07\0\0\0\0\0\0\0\x01\0\xfe\xff\x03\0\xff\xff\xb4\xff\xff\xff\x01\0\0\0\x01\0\0\0\xb0\xff\xff\xff\x04\0\0\0\xb0\xff\xff\xff\x02\0\0\0\0\0\0\0";
+        b"\x01\x07abc\0\x03\0\x01\0\xfe\xff\xc8\0\x03\0\x04\0\x05\0\x06\0\x07\0\x08\0\x09\0\x0a\0\x0b\0\x0c\0\0\0\x01\0\0\0\x02\0\0\0\xd4\xff\xff\xff\x02\0\0\0\xce\xff\xff\xff\x03\0\0\0\x01\xff\x7f\x05\xc6\xff\xff\xff\x02\0\0\0\x07\0\0\0\x01\0\xfe\xff\x03\0\xff\xff\xbe\xff\xff\xff\x01\0\0\0\x01\0\0\0\xba\xff\xff\xff\x04\0\0\0\xbc\xff\xff\xff\x02\0\0\0";
     assert_bytes(&rt, "the edited owners", &bytes, wanted);
 }
 
 #[test]
 fn faults_of_owners_are_found(rt: HostRuntime) {
     let rows = [
-        (5, 0x41, Error::InvalidUtf8),
-        (9, 2, Error::UnsortedKeys),
-        (15, 0, Error::UnsortedKeys),
-        (48, 0xd1, unaligned(1, 2)),
-        (52, 25, outside(0, 50, 0, 48)),
-        (56, 0xc9, outside(1, 3, 4, 48)),
-        (76, 7, outside(8, 42, 7, 48)),
-        (96, 0xb0, outside(16, 8, 20, 48)),
-        (104, 3, unknown_tag("ArchivedOption", 3)),
-        (112, 5, unknown_tag("ArchivedEvent", 5)),
+        (3, 0x41, Error::InvalidUtf8),
+        (6, 0xc9, Error::UnsortedKeys),
+        (12, 2, Error::UnsortedKeys),
+        (48, 45, outside(0, 45, 0, 44)),
+        (52, 0xcd, outside(1, 3, 2, 44)),
+        (64, 0xc5, unaligned(5, 2)),
+        (68, 7, outside(6, 42, 5, 44)),
+        (84, 0xba, outside(14, 8, 18, 44)),
+        (92, 3, unknown_tag("ArchivedOption", 3)),
+        (100, 5, unknown_tag("ArchivedEvent", 5)),
     ];
     assert_faults::<ArchivedOwners>(&rt, rt.alloc(), OWNERS, &rows);
     let rows: [(&[u8], Error); 2] = [
-        (&[0; 79], outside(0, 80, 0, 79)),
-        (&[0; 84], unaligned(4, 8)),
+        (&[0; 67], outside(0, 68, 0, 67)),
+        (&[0; 70], unaligned(2, 4)),
     ];
     assert_refused::<ArchivedOwners>(&rt, rt.alloc(), &rows);
 }
