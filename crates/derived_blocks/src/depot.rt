@@ -27,7 +27,7 @@ pub enum Depot {
         /// How many parts it has.
         size: usize,
         /// How far it goes.
-        distance: isize,
+        distance: i8,
         /// The shelf.
         shelf: u8,
         /// Whether it was open.
@@ -77,7 +77,7 @@ use archive_core::fields::{
 use archive_core::option::ArchivedOption;
 use archive_core::own::{Field, HasField};
 use archive_core::place::Place;
-use archive_core::primitive::{ArchivedI128, ArchivedIsize, ArchivedUsize};
+use archive_core::primitive::{ArchivedI128, ArchivedUsize};
 use archive_core::seal::{Seal, sealed_part_in_case};
 use archive_core::self_check::{SelfCheck, check_choice};
 use archive_core::ser::{ResolverAlloc, Writer, serialize_one};
@@ -109,7 +109,7 @@ type DepotSentParts = FourParts<
         ArchivedBox<i8>,
         ArchivedSpot,
         ArchivedUsize,
-        ArchivedIsize,
+        i8,
         FourParts<
             u8,
             bool,
@@ -129,7 +129,7 @@ type DepotSentOwned = FourParts<
         Box<i8>,
         Spot,
         usize,
-        isize,
+        i8,
         FourParts<u8, bool, (), i128, FourParts<u8, i8, u8, Vec<String>, ()>>,
     >,
 >;
@@ -241,7 +241,7 @@ struct DepotSentLent<'a> {
     a4: &'a Box<i8>,
     a5: &'a Spot,
     a6: &'a usize,
-    a7: &'a isize,
+    a7: &'a i8,
     a8: &'a u8,
     a9: &'a bool,
     a10: &'a (),
@@ -262,7 +262,7 @@ type DepotSentFields = FourParts<
         Field<4, Box<i8>>,
         Field<5, Spot>,
         Field<6, usize>,
-        Field<7, isize>,
+        Field<7, i8>,
         FourParts<
             Field<8, u8>,
             Field<9, bool>,
@@ -329,10 +329,10 @@ impl HasField<6, usize> for DepotSentLent<'_> {
     }
 }
 
-impl HasField<7, isize> for DepotSentLent<'_> {
+impl HasField<7, i8> for DepotSentLent<'_> {
     ghost field = { λ v. v.a7.now };
 
-    fn field(&self) -> &isize {
+    fn field(&self) -> &i8 {
         self.a7
     }
 }
@@ -414,7 +414,7 @@ impl ArchivePointee for ArchivedDepot {
         (part ⟦<ArchivedString as Portable>⟧.shape (part ⟦<ArchivedVec<u8> as Portable>⟧.shape
         (part ⟦<ArchivedOption<u8> as Portable>⟧.shape (part ⟦<ArchivedBox<i8> as Portable>⟧.shape
         (part ⟦<ArchivedSpot as Portable>⟧.shape (part ⟦<ArchivedUsize as Portable>⟧.shape
-        (part ⟦<ArchivedIsize as Portable>⟧.shape (part ⟦<u8 as Portable>⟧.shape
+        (part ⟦<i8 as Portable>⟧.shape (part ⟦<u8 as Portable>⟧.shape
         (part ⟦<bool as Portable>⟧.shape (part ⟦<() as Portable>⟧.shape
         (part ⟦<ArchivedI128 as Portable>⟧.shape (part ⟦<u8 as Portable>⟧.shape
         (part ⟦<i8 as Portable>⟧.shape (part ⟦<u8 as Portable>⟧.shape
@@ -441,7 +441,7 @@ impl Portable for ArchivedDepot {
         (part ⟦<ArchivedString as Portable>⟧.shape (part ⟦<ArchivedVec<u8> as Portable>⟧.shape
         (part ⟦<ArchivedOption<u8> as Portable>⟧.shape (part ⟦<ArchivedBox<i8> as Portable>⟧.shape
         (part ⟦<ArchivedSpot as Portable>⟧.shape (part ⟦<ArchivedUsize as Portable>⟧.shape
-        (part ⟦<ArchivedIsize as Portable>⟧.shape (part ⟦<u8 as Portable>⟧.shape
+        (part ⟦<i8 as Portable>⟧.shape (part ⟦<u8 as Portable>⟧.shape
         (part ⟦<bool as Portable>⟧.shape (part ⟦<() as Portable>⟧.shape
         (part ⟦<ArchivedI128 as Portable>⟧.shape (part ⟦<u8 as Portable>⟧.shape
         (part ⟦<i8 as Portable>⟧.shape (part ⟦<u8 as Portable>⟧.shape
@@ -468,7 +468,7 @@ impl Portable for ArchivedDepot {
         (part ⟦<ArchivedString as Portable>⟧.shape (part ⟦<ArchivedVec<u8> as Portable>⟧.shape
         (part ⟦<ArchivedOption<u8> as Portable>⟧.shape (part ⟦<ArchivedBox<i8> as Portable>⟧.shape
         (part ⟦<ArchivedSpot as Portable>⟧.shape (part ⟦<ArchivedUsize as Portable>⟧.shape
-        (part ⟦<ArchivedIsize as Portable>⟧.shape (part ⟦<u8 as Portable>⟧.shape
+        (part ⟦<i8 as Portable>⟧.shape (part ⟦<u8 as Portable>⟧.shape
         (part ⟦<bool as Portable>⟧.shape (part ⟦<() as Portable>⟧.shape
         (part ⟦<ArchivedI128 as Portable>⟧.shape (part ⟦<u8 as Portable>⟧.shape
         (part ⟦<i8 as Portable>⟧.shape (part ⟦<u8 as Portable>⟧.shape
@@ -505,7 +505,7 @@ impl SelfCheck for ArchivedDepot {
         (part ⟦<ArchivedString as Portable>⟧.shape (part ⟦<ArchivedVec<u8> as Portable>⟧.shape
         (part ⟦<ArchivedOption<u8> as Portable>⟧.shape (part ⟦<ArchivedBox<i8> as Portable>⟧.shape
         (part ⟦<ArchivedSpot as Portable>⟧.shape (part ⟦<ArchivedUsize as Portable>⟧.shape
-        (part ⟦<ArchivedIsize as Portable>⟧.shape (part ⟦<u8 as Portable>⟧.shape
+        (part ⟦<i8 as Portable>⟧.shape (part ⟦<u8 as Portable>⟧.shape
         (part ⟦<bool as Portable>⟧.shape (part ⟦<() as Portable>⟧.shape
         (part ⟦<ArchivedI128 as Portable>⟧.shape (part ⟦<u8 as Portable>⟧.shape
         (part ⟦<i8 as Portable>⟧.shape (part ⟦<u8 as Portable>⟧.shape
@@ -563,7 +563,7 @@ impl Choice for ArchivedDepot {
         (part ⟦<ArchivedString as Portable>⟧.shape (part ⟦<ArchivedVec<u8> as Portable>⟧.shape
         (part ⟦<ArchivedOption<u8> as Portable>⟧.shape (part ⟦<ArchivedBox<i8> as Portable>⟧.shape
         (part ⟦<ArchivedSpot as Portable>⟧.shape (part ⟦<ArchivedUsize as Portable>⟧.shape
-        (part ⟦<ArchivedIsize as Portable>⟧.shape (part ⟦<u8 as Portable>⟧.shape
+        (part ⟦<i8 as Portable>⟧.shape (part ⟦<u8 as Portable>⟧.shape
         (part ⟦<bool as Portable>⟧.shape (part ⟦<() as Portable>⟧.shape
         (part ⟦<ArchivedI128 as Portable>⟧.shape (part ⟦<u8 as Portable>⟧.shape
         (part ⟦<i8 as Portable>⟧.shape (part ⟦<u8 as Portable>⟧.shape
@@ -629,7 +629,7 @@ pub enum DepotResolver {
                                 (
                                     <usize as Archive>::Resolver,
                                     (
-                                        <isize as Archive>::Resolver,
+                                        <i8 as Archive>::Resolver,
                                         (
                                             <u8 as Archive>::Resolver,
                                             (
@@ -688,7 +688,7 @@ impl Archive for Depot {
           (value (⟦<String as Archive>⟧.meaning a1) (value (⟦<Vec<u8> as Archive>⟧.meaning a2)
           (value (⟦<Option<u8> as Archive>⟧.meaning a3) (value (⟦<Box<i8> as Archive>⟧.meaning a4)
           (value (⟦<Spot as Archive>⟧.meaning a5) (value (⟦<usize as Archive>⟧.meaning a6)
-          (value (⟦<isize as Archive>⟧.meaning a7) (value (⟦<u8 as Archive>⟧.meaning a8)
+          (value (⟦<i8 as Archive>⟧.meaning a7) (value (⟦<u8 as Archive>⟧.meaning a8)
           (value (⟦<bool as Archive>⟧.meaning a9) (value (⟦<() as Archive>⟧.meaning a10)
           (value (⟦<i128 as Archive>⟧.meaning a11) (value (⟦<u8 as Archive>⟧.meaning a12)
           (value (⟦<i8 as Archive>⟧.meaning a13) (value (⟦<u8 as Archive>⟧.meaning a14)
@@ -715,7 +715,7 @@ impl Archive for Depot {
             (value (⟦<Box<i8> as Archive>⟧.flat a4 s.1.1.1.1.0)
             (value (⟦<Spot as Archive>⟧.flat a5 s.1.1.1.1.1.0)
             (value (⟦<usize as Archive>⟧.flat a6 s.1.1.1.1.1.1.0)
-            (value (⟦<isize as Archive>⟧.flat a7 s.1.1.1.1.1.1.1.0)
+            (value (⟦<i8 as Archive>⟧.flat a7 s.1.1.1.1.1.1.1.0)
             (value (⟦<u8 as Archive>⟧.flat a8 s.1.1.1.1.1.1.1.1.0)
             (value (⟦<bool as Archive>⟧.flat a9 s.1.1.1.1.1.1.1.1.1.0)
             (value (⟦<() as Archive>⟧.flat a10 s.1.1.1.1.1.1.1.1.1.1.0)
@@ -740,7 +740,7 @@ impl Archive for Depot {
           ⟦<NonZero<u32> as Archive>⟧.keys a0 ++ (⟦<String as Archive>⟧.keys a1
           ++ (⟦<Vec<u8> as Archive>⟧.keys a2 ++ (⟦<Option<u8> as Archive>⟧.keys a3
           ++ (⟦<Box<i8> as Archive>⟧.keys a4 ++ (⟦<Spot as Archive>⟧.keys a5
-          ++ (⟦<usize as Archive>⟧.keys a6 ++ (⟦<isize as Archive>⟧.keys a7
+          ++ (⟦<usize as Archive>⟧.keys a6 ++ (⟦<i8 as Archive>⟧.keys a7
           ++ (⟦<u8 as Archive>⟧.keys a8 ++ (⟦<bool as Archive>⟧.keys a9
           ++ (⟦<() as Archive>⟧.keys a10 ++ (⟦<i128 as Archive>⟧.keys a11
           ++ (⟦<u8 as Archive>⟧.keys a12 ++ (⟦<i8 as Archive>⟧.keys a13
@@ -767,7 +767,7 @@ impl Archive for Depot {
             × (⟦<Box<i8> as Archive>⟧.belongs a4 s.1.1.1.1.0
             × (⟦<Spot as Archive>⟧.belongs a5 s.1.1.1.1.1.0
             × (⟦<usize as Archive>⟧.belongs a6 s.1.1.1.1.1.1.0
-            × (⟦<isize as Archive>⟧.belongs a7 s.1.1.1.1.1.1.1.0
+            × (⟦<i8 as Archive>⟧.belongs a7 s.1.1.1.1.1.1.1.0
             × (⟦<u8 as Archive>⟧.belongs a8 s.1.1.1.1.1.1.1.1.0
             × (⟦<bool as Archive>⟧.belongs a9 s.1.1.1.1.1.1.1.1.1.0
             × (⟦<() as Archive>⟧.belongs a10 s.1.1.1.1.1.1.1.1.1.1.0
@@ -841,7 +841,7 @@ impl Archive for Depot {
           2 (part ⟦<NonZero<u32> as Portable>⟧.shape (part ⟦<ArchivedString as Portable>⟧.shape
           (part ⟦<ArchivedVec<u8> as Portable>⟧.shape (part ⟦<ArchivedOption<u8> as Portable>⟧.shape
           (part ⟦<ArchivedBox<i8> as Portable>⟧.shape (part ⟦<ArchivedSpot as Portable>⟧.shape
-          (part ⟦<ArchivedUsize as Portable>⟧.shape (part ⟦<ArchivedIsize as Portable>⟧.shape
+          (part ⟦<ArchivedUsize as Portable>⟧.shape (part ⟦<i8 as Portable>⟧.shape
           (part ⟦<u8 as Portable>⟧.shape (part ⟦<bool as Portable>⟧.shape
           (part ⟦<() as Portable>⟧.shape (part ⟦<ArchivedI128 as Portable>⟧.shape
           (part ⟦<u8 as Portable>⟧.shape (part ⟦<i8 as Portable>⟧.shape
@@ -876,29 +876,29 @@ impl Archive for Depot {
           (part_planned no_definition ⟦<ArchivedUsize as Portable>⟧.shape
           (⟦<usize as Archive>⟧.keys a6) (⟦<usize as Archive>⟧.meaning a6)
           (leaf_planned no_definition _ _ [] _ refl) (part_planned no_definition
-          ⟦<ArchivedIsize as Portable>⟧.shape (⟦<isize as Archive>⟧.keys a7)
-          (⟦<isize as Archive>⟧.meaning a7) (leaf_planned no_definition _ _ [] _ refl)
-          (part_planned no_definition ⟦<u8 as Portable>⟧.shape (⟦<u8 as Archive>⟧.keys a8)
-          (⟦<u8 as Archive>⟧.meaning a8) (leaf_planned no_definition _ _ [] _ refl)
-          (part_planned no_definition ⟦<bool as Portable>⟧.shape (⟦<bool as Archive>⟧.keys a9)
-          (⟦<bool as Archive>⟧.meaning a9) (leaf_planned no_definition _ _ [] _ refl)
-          (part_planned no_definition ⟦<() as Portable>⟧.shape (⟦<() as Archive>⟧.keys a10)
-          (⟦<() as Archive>⟧.meaning a10) (leaf_planned no_definition _ _ [] _ refl)
-          (part_planned no_definition ⟦<ArchivedI128 as Portable>⟧.shape
-          (⟦<i128 as Archive>⟧.keys a11) (⟦<i128 as Archive>⟧.meaning a11)
+          ⟦<i8 as Portable>⟧.shape (⟦<i8 as Archive>⟧.keys a7) (⟦<i8 as Archive>⟧.meaning a7)
           (leaf_planned no_definition _ _ [] _ refl) (part_planned no_definition
-          ⟦<u8 as Portable>⟧.shape (⟦<u8 as Archive>⟧.keys a12) (⟦<u8 as Archive>⟧.meaning a12)
+          ⟦<u8 as Portable>⟧.shape (⟦<u8 as Archive>⟧.keys a8) (⟦<u8 as Archive>⟧.meaning a8)
           (leaf_planned no_definition _ _ [] _ refl) (part_planned no_definition
-          ⟦<i8 as Portable>⟧.shape (⟦<i8 as Archive>⟧.keys a13) (⟦<i8 as Archive>⟧.meaning a13)
+          ⟦<bool as Portable>⟧.shape (⟦<bool as Archive>⟧.keys a9) (⟦<bool as Archive>⟧.meaning a9)
           (leaf_planned no_definition _ _ [] _ refl) (part_planned no_definition
-          ⟦<u8 as Portable>⟧.shape (⟦<u8 as Archive>⟧.keys a14) (⟦<u8 as Archive>⟧.meaning a14)
+          ⟦<() as Portable>⟧.shape (⟦<() as Archive>⟧.keys a10) (⟦<() as Archive>⟧.meaning a10)
           (leaf_planned no_definition _ _ [] _ refl) (part_planned no_definition
-          ⟦<ArchivedVec<ArchivedString> as Portable>⟧.shape (⟦<Vec<String> as Archive>⟧.keys a15)
-          (⟦<Vec<String> as Archive>⟧.meaning a15) (vec_planned no_definition
-          ⟦<ArchivedString as Portable>⟧.shape _ _ _ (slice_planned no_definition
-          ⟦<ArchivedString as Portable>⟧.shape ⟦<String as Archive>⟧.keys
-          ⟦<String as Archive>⟧.meaning (λ x. string_planned no_definition [] (string_bytes x))
-          a15.items)) no_part_planned)))))))))))))))) refl
+          ⟦<ArchivedI128 as Portable>⟧.shape (⟦<i128 as Archive>⟧.keys a11)
+          (⟦<i128 as Archive>⟧.meaning a11) (leaf_planned no_definition _ _ [] _ refl)
+          (part_planned no_definition ⟦<u8 as Portable>⟧.shape (⟦<u8 as Archive>⟧.keys a12)
+          (⟦<u8 as Archive>⟧.meaning a12) (leaf_planned no_definition _ _ [] _ refl)
+          (part_planned no_definition ⟦<i8 as Portable>⟧.shape (⟦<i8 as Archive>⟧.keys a13)
+          (⟦<i8 as Archive>⟧.meaning a13) (leaf_planned no_definition _ _ [] _ refl)
+          (part_planned no_definition ⟦<u8 as Portable>⟧.shape (⟦<u8 as Archive>⟧.keys a14)
+          (⟦<u8 as Archive>⟧.meaning a14) (leaf_planned no_definition _ _ [] _ refl)
+          (part_planned no_definition ⟦<ArchivedVec<ArchivedString> as Portable>⟧.shape
+          (⟦<Vec<String> as Archive>⟧.keys a15) (⟦<Vec<String> as Archive>⟧.meaning a15)
+          (vec_planned no_definition ⟦<ArchivedString as Portable>⟧.shape _ _ _
+          (slice_planned no_definition ⟦<ArchivedString as Portable>⟧.shape
+          ⟦<String as Archive>⟧.keys ⟦<String as Archive>⟧.meaning
+          (λ x. string_planned no_definition [] (string_bytes x)) a15.items))
+          no_part_planned)))))))))))))))) refl
     ] };
 
     #[inline(always)]
@@ -1069,7 +1069,7 @@ impl ArchiveUnsized for Depot {
         (part ⟦<ArchivedString as Portable>⟧.shape (part ⟦<ArchivedVec<u8> as Portable>⟧.shape
         (part ⟦<ArchivedOption<u8> as Portable>⟧.shape (part ⟦<ArchivedBox<i8> as Portable>⟧.shape
         (part ⟦<ArchivedSpot as Portable>⟧.shape (part ⟦<ArchivedUsize as Portable>⟧.shape
-        (part ⟦<ArchivedIsize as Portable>⟧.shape (part ⟦<u8 as Portable>⟧.shape
+        (part ⟦<i8 as Portable>⟧.shape (part ⟦<u8 as Portable>⟧.shape
         (part ⟦<bool as Portable>⟧.shape (part ⟦<() as Portable>⟧.shape
         (part ⟦<ArchivedI128 as Portable>⟧.shape (part ⟦<u8 as Portable>⟧.shape
         (part ⟦<i8 as Portable>⟧.shape (part ⟦<u8 as Portable>⟧.shape
@@ -1137,7 +1137,7 @@ fn depot_sent_of(values: DepotSentOwned) -> Depot
         (value (⟦<Box<i8> as Archive>⟧.meaning values.rest.first)
         (value (⟦<Spot as Archive>⟧.meaning values.rest.second)
         (value (⟦<usize as Archive>⟧.meaning values.rest.third)
-        (value (⟦<isize as Archive>⟧.meaning values.rest.fourth)
+        (value (⟦<i8 as Archive>⟧.meaning values.rest.fourth)
         (value (⟦<u8 as Archive>⟧.meaning values.rest.rest.first)
         (value (⟦<bool as Archive>⟧.meaning values.rest.rest.second)
         (value (⟦<() as Archive>⟧.meaning values.rest.rest.third)
@@ -1153,9 +1153,8 @@ fn depot_sent_of(values: DepotSentOwned) -> Depot
         ++ (⟦<Box<i8> as Archive>⟧.keys values.rest.first
         ++ (⟦<Spot as Archive>⟧.keys values.rest.second
         ++ (⟦<usize as Archive>⟧.keys values.rest.third
-        ++ (⟦<isize as Archive>⟧.keys values.rest.fourth
-        ++ (⟦<u8 as Archive>⟧.keys values.rest.rest.first
-        ++ (⟦<bool as Archive>⟧.keys values.rest.rest.second
+        ++ (⟦<i8 as Archive>⟧.keys values.rest.fourth ++ (⟦<u8 as Archive>⟧.keys
+        values.rest.rest.first ++ (⟦<bool as Archive>⟧.keys values.rest.rest.second
         ++ (⟦<() as Archive>⟧.keys values.rest.rest.third
         ++ (⟦<i128 as Archive>⟧.keys values.rest.rest.fourth
         ++ (⟦<u8 as Archive>⟧.keys values.rest.rest.rest.first
@@ -1284,7 +1283,7 @@ pub enum ViewOfDepot<'a> {
         /// How many parts it has.
         size: Ref<'a, ArchivedUsize>,
         /// How far it goes.
-        distance: Ref<'a, ArchivedIsize>,
+        distance: Ref<'a, i8>,
         /// The shelf.
         shelf: Ref<'a, u8>,
         /// Whether it was open.
@@ -1353,11 +1352,11 @@ impl<'a> DepotView<'a> for Ref<'a, ArchivedDepot> {
               × ShowsValueOf a6 self.entry (payload_in 6) × (a7.bytes.now ≡ self.entry.bytes.now)
               × (a7.pos ≡ self.entry.pos + 40) × (a7.len ≡ 0)
               × ShowsValueOf a7 self.entry (payload_in 7) × (a8.bytes.now ≡ self.entry.bytes.now)
-              × (a8.pos ≡ self.entry.pos + 44) × (a8.len ≡ 0)
+              × (a8.pos ≡ self.entry.pos + 41) × (a8.len ≡ 0)
               × ShowsValueOf a8 self.entry (payload_in 8) × (a9.bytes.now ≡ self.entry.bytes.now)
-              × (a9.pos ≡ self.entry.pos + 45) × (a9.len ≡ 0)
+              × (a9.pos ≡ self.entry.pos + 42) × (a9.len ≡ 0)
               × ShowsValueOf a9 self.entry (payload_in 9) × (a10.bytes.now ≡ self.entry.bytes.now)
-              × (a10.pos ≡ self.entry.pos + 46) × (a10.len ≡ 0)
+              × (a10.pos ≡ self.entry.pos + 43) × (a10.len ≡ 0)
               × ShowsValueOf a10 self.entry (payload_in 10) × (a11.bytes.now ≡ self.entry.bytes.now)
               × (a11.pos ≡ self.entry.pos + 48) × (a11.len ≡ 0)
               × ShowsValueOf a11 self.entry (payload_in 11) × (a12.bytes.now ≡ self.entry.bytes.now)
@@ -1393,10 +1392,10 @@ impl<'a> DepotView<'a> for Ref<'a, ArchivedDepot> {
                 other: part_in_case::<ArchivedDepot, ArchivedBox<i8>>(self, 2, 4, 28),
                 spot: part_in_case::<ArchivedDepot, ArchivedSpot>(self, 2, 5, 32),
                 size: part_in_case::<ArchivedDepot, ArchivedUsize>(self, 2, 6, 36),
-                distance: part_in_case::<ArchivedDepot, ArchivedIsize>(self, 2, 7, 40),
-                shelf: part_in_case::<ArchivedDepot, u8>(self, 2, 8, 44),
-                is_open: part_in_case::<ArchivedDepot, bool>(self, 2, 9, 45),
-                nothing: part_in_case::<ArchivedDepot, ()>(self, 2, 10, 46),
+                distance: part_in_case::<ArchivedDepot, i8>(self, 2, 7, 40),
+                shelf: part_in_case::<ArchivedDepot, u8>(self, 2, 8, 41),
+                is_open: part_in_case::<ArchivedDepot, bool>(self, 2, 9, 42),
+                nothing: part_in_case::<ArchivedDepot, ()>(self, 2, 10, 43),
                 wide: part_in_case::<ArchivedDepot, ArchivedI128>(self, 2, 11, 48),
                 hour: part_in_case::<ArchivedDepot, u8>(self, 2, 12, 64),
                 warmth: part_in_case::<ArchivedDepot, i8>(self, 2, 13, 65),
@@ -1496,7 +1495,7 @@ pub trait DepotSeal<'a> {
         requires tag { tag self ≡ 2 };
 
     /// How far it goes.
-    fn sent_distance_mut(self) -> Seal<'a, ArchivedIsize>
+    fn sent_distance_mut(self) -> Seal<'a, i8>
         requires come_to { sealed self }
         requires tag { tag self ≡ 2 };
 
@@ -1693,40 +1692,40 @@ impl<'a> DepotSeal<'a> for Seal<'a, ArchivedDepot> {
         sealed_part_in_case::<ArchivedDepot, ArchivedUsize>(self, 2, 6, 36)
     }
 
-    fn sent_distance_mut(self) -> Seal<'a, ArchivedIsize>
+    fn sent_distance_mut(self) -> Seal<'a, i8>
         requires come_to { IsSealOf no_definition (one ⟦<ArchivedDepot as Portable>⟧.shape) self }
         requires tag { seal_tag self ≡ 2 }
         ensures { SealsPart no_definition (one ⟦<ArchivedDepot as Portable>⟧.shape) no_definition
-            ⟦<ArchivedIsize as ArchivePointee>⟧.pointee (self.entry.pos + 40) 0 self.entry result }
+            ⟦<i8 as ArchivePointee>⟧.pointee (self.entry.pos + 40) 0 self.entry result }
     {
-        sealed_part_in_case::<ArchivedDepot, ArchivedIsize>(self, 2, 7, 40)
+        sealed_part_in_case::<ArchivedDepot, i8>(self, 2, 7, 40)
     }
 
     fn sent_shelf_mut(self) -> Seal<'a, u8>
         requires come_to { IsSealOf no_definition (one ⟦<ArchivedDepot as Portable>⟧.shape) self }
         requires tag { seal_tag self ≡ 2 }
         ensures { SealsPart no_definition (one ⟦<ArchivedDepot as Portable>⟧.shape) no_definition
-            ⟦<u8 as ArchivePointee>⟧.pointee (self.entry.pos + 44) 0 self.entry result }
+            ⟦<u8 as ArchivePointee>⟧.pointee (self.entry.pos + 41) 0 self.entry result }
     {
-        sealed_part_in_case::<ArchivedDepot, u8>(self, 2, 8, 44)
+        sealed_part_in_case::<ArchivedDepot, u8>(self, 2, 8, 41)
     }
 
     fn sent_is_open_mut(self) -> Seal<'a, bool>
         requires come_to { IsSealOf no_definition (one ⟦<ArchivedDepot as Portable>⟧.shape) self }
         requires tag { seal_tag self ≡ 2 }
         ensures { SealsPart no_definition (one ⟦<ArchivedDepot as Portable>⟧.shape) no_definition
-            ⟦<bool as ArchivePointee>⟧.pointee (self.entry.pos + 45) 0 self.entry result }
+            ⟦<bool as ArchivePointee>⟧.pointee (self.entry.pos + 42) 0 self.entry result }
     {
-        sealed_part_in_case::<ArchivedDepot, bool>(self, 2, 9, 45)
+        sealed_part_in_case::<ArchivedDepot, bool>(self, 2, 9, 42)
     }
 
     fn sent_nothing_mut(self) -> Seal<'a, ()>
         requires come_to { IsSealOf no_definition (one ⟦<ArchivedDepot as Portable>⟧.shape) self }
         requires tag { seal_tag self ≡ 2 }
         ensures { SealsPart no_definition (one ⟦<ArchivedDepot as Portable>⟧.shape) no_definition
-            ⟦<() as ArchivePointee>⟧.pointee (self.entry.pos + 46) 0 self.entry result }
+            ⟦<() as ArchivePointee>⟧.pointee (self.entry.pos + 43) 0 self.entry result }
     {
-        sealed_part_in_case::<ArchivedDepot, ()>(self, 2, 10, 46)
+        sealed_part_in_case::<ArchivedDepot, ()>(self, 2, 10, 43)
     }
 
     fn sent_wide_mut(self) -> Seal<'a, ArchivedI128>

@@ -19,7 +19,7 @@ pub struct Owners(
     /// Places by their numbers.
     pub BTreeMap<u8, Spot>,
     /// A number and a drawing.
-    pub Pair<u8, Drawing>,
+    pub Pair<isize, Drawing>,
     /// No value, of a type.
     pub PhantomData<String>,
 );
@@ -60,6 +60,7 @@ use archive_core::fields::{
 };
 use archive_core::map::ArchivedSortedMap;
 use archive_core::place::Place;
+use archive_core::primitive::ArchivedIsize;
 use archive_core::record::deserialize_record;
 use archive_core::seal::{Seal, sealed_part_in_record};
 use archive_core::self_check::{RecordCheck, SelfCheck};
@@ -87,7 +88,10 @@ type OwnersParts = (
             [i8; 4],
             (
                 ArchivedSortedMap<u8, ArchivedSpot>,
-                (ArchivedPair<u8, ArchivedDrawing>, (PhantomData<String>, ())),
+                (
+                    ArchivedPair<ArchivedIsize, ArchivedDrawing>,
+                    (PhantomData<String>, ()),
+                ),
             ),
         ),
     ),
@@ -101,7 +105,7 @@ type OwnersOwned = (
             OwnedArray<i8, 4>,
             (
                 BTreeMap<u8, Spot>,
-                (Pair<u8, Drawing>, (PhantomData<String>, ())),
+                (Pair<isize, Drawing>, (PhantomData<String>, ())),
             ),
         ),
     ),
@@ -114,7 +118,7 @@ impl ArchivePointee for ArchivedOwners {
         (part ⟦<ArchivedBox<ArchivedStr> as Portable>⟧.shape
         (part ⟦<[i8; 4] as Portable>⟧.shape
         (part ⟦<ArchivedSortedMap<u8, ArchivedSpot> as Portable>⟧.shape
-        (part ⟦<ArchivedPair<u8, ArchivedDrawing> as Portable>⟧.shape
+        (part ⟦<ArchivedPair<ArchivedIsize, ArchivedDrawing> as Portable>⟧.shape
         (part ⟦<PhantomData<String> as Portable>⟧.shape no_part))))))) };
 
     ghost definitions = { no_definition };
@@ -131,7 +135,7 @@ impl Portable for ArchivedOwners {
         (part ⟦<ArchivedBox<ArchivedStr> as Portable>⟧.shape
         (part ⟦<[i8; 4] as Portable>⟧.shape
         (part ⟦<ArchivedSortedMap<u8, ArchivedSpot> as Portable>⟧.shape
-        (part ⟦<ArchivedPair<u8, ArchivedDrawing> as Portable>⟧.shape
+        (part ⟦<ArchivedPair<ArchivedIsize, ArchivedDrawing> as Portable>⟧.shape
         (part ⟦<PhantomData<String> as Portable>⟧.shape no_part)))))) };
 
     ghost layout = { record { size = 68; align = 4 } };
@@ -149,7 +153,7 @@ impl Portable for ArchivedOwners {
         (part ⟦<ArchivedBox<ArchivedStr> as Portable>⟧.shape
         (part ⟦<[i8; 4] as Portable>⟧.shape
         (part ⟦<ArchivedSortedMap<u8, ArchivedSpot> as Portable>⟧.shape
-        (part ⟦<ArchivedPair<u8, ArchivedDrawing> as Portable>⟧.shape
+        (part ⟦<ArchivedPair<ArchivedIsize, ArchivedDrawing> as Portable>⟧.shape
         (part ⟦<PhantomData<String> as Portable>⟧.shape no_part))))))) };
 
     ghost checks = { λ _. plain_own_check _ _ _ _ _ refl refl refl refl };
@@ -176,7 +180,7 @@ impl SelfCheck for ArchivedOwners {
         (part ⟦<ArchivedBox<ArchivedStr> as Portable>⟧.shape
         (part ⟦<[i8; 4] as Portable>⟧.shape
         (part ⟦<ArchivedSortedMap<u8, ArchivedSpot> as Portable>⟧.shape
-        (part ⟦<ArchivedPair<u8, ArchivedDrawing> as Portable>⟧.shape
+        (part ⟦<ArchivedPair<ArchivedIsize, ArchivedDrawing> as Portable>⟧.shape
         (part ⟦<PhantomData<String> as Portable>⟧.shape no_part)))))) };
 
     ghost definitions = { (both no_definition (both no_definition
@@ -216,7 +220,7 @@ impl Record for ArchivedOwners {
         (part ⟦<ArchivedBox<ArchivedStr> as Portable>⟧.shape
         (part ⟦<[i8; 4] as Portable>⟧.shape
         (part ⟦<ArchivedSortedMap<u8, ArchivedSpot> as Portable>⟧.shape
-        (part ⟦<ArchivedPair<u8, ArchivedDrawing> as Portable>⟧.shape
+        (part ⟦<ArchivedPair<ArchivedIsize, ArchivedDrawing> as Portable>⟧.shape
         (part ⟦<PhantomData<String> as Portable>⟧.shape no_part))))))
         (both no_definition (both no_definition (both no_definition
         (both (both no_definition (both no_definition no_definition))
@@ -238,7 +242,7 @@ pub struct OwnersResolver {
                 (
                     <BTreeMap<u8, Spot> as Archive>::Resolver,
                     (
-                        <Pair<u8, Drawing> as Archive>::Resolver,
+                        <Pair<isize, Drawing> as Archive>::Resolver,
                         (<PhantomData<String> as Archive>::Resolver, ()),
                     ),
                 ),
@@ -259,26 +263,26 @@ impl Archive for Owners {
         (value (⟦<BoxStr as Archive>⟧.meaning v.1) (value
         (⟦<OwnedArray<i8, 4> as Archive>⟧.meaning v.2) (value
         (⟦<BTreeMap<u8, Spot> as Archive>⟧.meaning v.3)
-        (value (⟦<Pair<u8, Drawing> as Archive>⟧.meaning v.4)
+        (value (⟦<Pair<isize, Drawing> as Archive>⟧.meaning v.4)
         (value (⟦<PhantomData<String> as Archive>⟧.meaning v.5) no_value)))))) };
 
     ghost flat = { λ v r. product (value (⟦<BoxSlice<u8> as Archive>⟧.flat v.0 r.kept.0)
         (value (⟦<BoxStr as Archive>⟧.flat v.1 r.kept.1.0)
         (value (⟦<OwnedArray<i8, 4> as Archive>⟧.flat v.2 r.kept.1.1.0)
         (value (⟦<BTreeMap<u8, Spot> as Archive>⟧.flat v.3 r.kept.1.1.1.0)
-        (value (⟦<Pair<u8, Drawing> as Archive>⟧.flat v.4 r.kept.1.1.1.1.0)
+        (value (⟦<Pair<isize, Drawing> as Archive>⟧.flat v.4 r.kept.1.1.1.1.0)
         (value (⟦<PhantomData<String> as Archive>⟧.flat v.5 r.kept.1.1.1.1.1.0) no_value)))))) };
 
     ghost keys = { λ v. ⟦<BoxSlice<u8> as Archive>⟧.keys v.0
         ++ (⟦<BoxStr as Archive>⟧.keys v.1 ++ (⟦<OwnedArray<i8, 4> as Archive>⟧.keys v.2
-        ++ (⟦<BTreeMap<u8, Spot> as Archive>⟧.keys v.3 ++ (⟦<Pair<u8, Drawing> as Archive>⟧.keys v.4
-        ++ (⟦<PhantomData<String> as Archive>⟧.keys v.5 ++ []))))) };
+        ++ (⟦<BTreeMap<u8, Spot> as Archive>⟧.keys v.3 ++ (⟦<Pair<isize, Drawing> as Archive>⟧.keys
+        v.4 ++ (⟦<PhantomData<String> as Archive>⟧.keys v.5 ++ []))))) };
 
     ghost belongs = { λ v r. ⟦<BoxSlice<u8> as Archive>⟧.belongs v.0 r.kept.0
         × (⟦<BoxStr as Archive>⟧.belongs v.1 r.kept.1.0
         × (⟦<OwnedArray<i8, 4> as Archive>⟧.belongs v.2 r.kept.1.1.0
         × (⟦<BTreeMap<u8, Spot> as Archive>⟧.belongs v.3 r.kept.1.1.1.0
-        × (⟦<Pair<u8, Drawing> as Archive>⟧.belongs v.4 r.kept.1.1.1.1.0
+        × (⟦<Pair<isize, Drawing> as Archive>⟧.belongs v.4 r.kept.1.1.1.1.0
         × (⟦<PhantomData<String> as Archive>⟧.belongs v.5 r.kept.1.1.1.1.1.0 × Unit {0}))))) };
 
     ghost in_bulk = { None };
@@ -304,7 +308,7 @@ impl Archive for Owners {
         (part ⟦<ArchivedBox<ArchivedStr> as Portable>⟧.shape
         (part ⟦<[i8; 4] as Portable>⟧.shape
         (part ⟦<ArchivedSortedMap<u8, ArchivedSpot> as Portable>⟧.shape
-        (part ⟦<ArchivedPair<u8, ArchivedDrawing> as Portable>⟧.shape
+        (part ⟦<ArchivedPair<ArchivedIsize, ArchivedDrawing> as Portable>⟧.shape
         (part ⟦<PhantomData<String> as Portable>⟧.shape no_part)))))) _ _
         (part_planned no_definition ⟦<ArchivedBox<ArchivedSlice<u8>> as Portable>⟧.shape
         (⟦<BoxSlice<u8> as Archive>⟧.keys v.0) (⟦<BoxSlice<u8> as Archive>⟧.meaning v.0)
@@ -327,18 +331,18 @@ impl Archive for Owners {
         ⟦<u8 as Portable>⟧.shape ⟦<ArchivedSpot as Portable>⟧.shape
         (λ x. leaf_planned no_definition _ _ [] _ refl) planned_of_spot ⟦<u8 as MapKey>⟧.key refl
         v.3.entries) (part_planned (both no_definition (both no_definition no_definition))
-        ⟦<ArchivedPair<u8, ArchivedDrawing> as Portable>⟧.shape
-        (⟦<Pair<u8, Drawing> as Archive>⟧.keys v.4) (⟦<Pair<u8, Drawing> as Archive>⟧.meaning v.4)
-        (product_planned (both no_definition (both no_definition no_definition))
-        (part ⟦<u8 as Portable>⟧.shape (part ⟦<ArchivedDrawing as Portable>⟧.shape no_part))
-        (⟦<u8 as Archive>⟧.keys v.4.left ++ (⟦<Drawing as Archive>⟧.keys v.4.right ++ []))
-        (value (⟦<u8 as Archive>⟧.meaning v.4.left) (value
-        (⟦<Drawing as Archive>⟧.meaning v.4.right) no_value))
-        (part_planned no_definition ⟦<u8 as Portable>⟧.shape (⟦<u8 as Archive>⟧.keys v.4.left)
-        (⟦<u8 as Archive>⟧.meaning v.4.left) (leaf_planned no_definition _ _ [] _ refl)
-        (part_planned no_definition ⟦<ArchivedDrawing as Portable>⟧.shape
-        (⟦<Drawing as Archive>⟧.keys v.4.right) (⟦<Drawing as Archive>⟧.meaning v.4.right)
-        (planned_of_drawing v.4.right) no_part_planned)))
+        ⟦<ArchivedPair<ArchivedIsize, ArchivedDrawing> as Portable>⟧.shape
+        (⟦<Pair<isize, Drawing> as Archive>⟧.keys v.4) (⟦<Pair<isize, Drawing> as Archive>⟧.meaning
+        v.4) (product_planned (both no_definition (both no_definition no_definition))
+        (part ⟦<ArchivedIsize as Portable>⟧.shape (part ⟦<ArchivedDrawing as Portable>⟧.shape
+        no_part)) (⟦<isize as Archive>⟧.keys v.4.left ++ (⟦<Drawing as Archive>⟧.keys v.4.right
+        ++ [])) (value (⟦<isize as Archive>⟧.meaning v.4.left)
+        (value (⟦<Drawing as Archive>⟧.meaning v.4.right) no_value))
+        (part_planned no_definition ⟦<ArchivedIsize as Portable>⟧.shape
+        (⟦<isize as Archive>⟧.keys v.4.left) (⟦<isize as Archive>⟧.meaning v.4.left)
+        (leaf_planned no_definition _ _ [] _ refl) (part_planned no_definition
+        ⟦<ArchivedDrawing as Portable>⟧.shape (⟦<Drawing as Archive>⟧.keys v.4.right)
+        (⟦<Drawing as Archive>⟧.meaning v.4.right) (planned_of_drawing v.4.right) no_part_planned)))
         (part_planned no_definition ⟦<PhantomData<String> as Portable>⟧.shape
         (⟦<PhantomData<String> as Archive>⟧.keys v.5) (⟦<PhantomData<String> as Archive>⟧.meaning
         v.5) empty_product_planned no_part_planned)))))) refl };
@@ -364,7 +368,7 @@ impl Archive for Owners {
             BoxStr,
             OwnedArray<i8, 4>,
             BTreeMap<u8, Spot>,
-            Pair<u8, Drawing>,
+            Pair<isize, Drawing>,
             PhantomData<String>,
             ArchivedOwners,
         >(
@@ -402,7 +406,7 @@ impl<S: Writer + ResolverAlloc<Alloc = Global>> Serialize<S> for Owners {
             BoxStr,
             OwnedArray<i8, 4>,
             BTreeMap<u8, Spot>,
-            Pair<u8, Drawing>,
+            Pair<isize, Drawing>,
             PhantomData<String>,
             ArchivedOwners,
             S,
@@ -436,7 +440,7 @@ impl ArchiveUnsized for Owners {
         (part ⟦<ArchivedBox<ArchivedStr> as Portable>⟧.shape
         (part ⟦<[i8; 4] as Portable>⟧.shape
         (part ⟦<ArchivedSortedMap<u8, ArchivedSpot> as Portable>⟧.shape
-        (part ⟦<ArchivedPair<u8, ArchivedDrawing> as Portable>⟧.shape
+        (part ⟦<ArchivedPair<ArchivedIsize, ArchivedDrawing> as Portable>⟧.shape
         (part ⟦<PhantomData<String> as Portable>⟧.shape no_part)))))))
         (⟦<Owners as Archive>⟧.keys v) (⟦<Owners as Archive>⟧.meaning v) (planned_of_owners v) };
 
@@ -486,7 +490,7 @@ pub trait OwnersView<'a> {
     fn field_3(self) -> Ref<'a, ArchivedSortedMap<u8, ArchivedSpot>>;
 
     /// A number and a drawing.
-    fn field_4(self) -> Ref<'a, ArchivedPair<u8, ArchivedDrawing>>;
+    fn field_4(self) -> Ref<'a, ArchivedPair<ArchivedIsize, ArchivedDrawing>>;
 
     /// No value, of a type.
     fn field_5(self) -> Ref<'a, PhantomData<String>>;
@@ -529,13 +533,13 @@ impl<'a> OwnersView<'a> for Ref<'a, ArchivedOwners> {
         part_in_record::<ArchivedOwners, ArchivedSortedMap<u8, ArchivedSpot>>(self, 3, 20)
     }
 
-    fn field_4(self) -> Ref<'a, ArchivedPair<u8, ArchivedDrawing>>
+    fn field_4(self) -> Ref<'a, ArchivedPair<ArchivedIsize, ArchivedDrawing>>
         ensures buffer { result.bytes.now ≡ self.entry.bytes.now }
         ensures position { result.pos ≡ self.entry.pos + 28 }
         ensures length { result.len ≡ 0 }
         ensures shows { ShowsValueOf result self.entry (field_in 4) }
     {
-        part_in_record::<ArchivedOwners, ArchivedPair<u8, ArchivedDrawing>>(self, 4, 28)
+        part_in_record::<ArchivedOwners, ArchivedPair<ArchivedIsize, ArchivedDrawing>>(self, 4, 28)
     }
 
     fn field_5(self) -> Ref<'a, PhantomData<String>>
@@ -570,7 +574,7 @@ pub trait OwnersSeal<'a> {
         requires { sealed self };
 
     /// A number and a drawing.
-    fn field_4_mut(self) -> Seal<'a, ArchivedPair<u8, ArchivedDrawing>>
+    fn field_4_mut(self) -> Seal<'a, ArchivedPair<ArchivedIsize, ArchivedDrawing>>
         requires { sealed self };
 
     /// No value, of a type.
@@ -617,14 +621,16 @@ impl<'a> OwnersSeal<'a> for Seal<'a, ArchivedOwners> {
         sealed_part_in_record::<ArchivedOwners, ArchivedSortedMap<u8, ArchivedSpot>>(self, 3, 20)
     }
 
-    fn field_4_mut(self) -> Seal<'a, ArchivedPair<u8, ArchivedDrawing>>
+    fn field_4_mut(self) -> Seal<'a, ArchivedPair<ArchivedIsize, ArchivedDrawing>>
         requires come_to { IsSealOf no_definition (one ⟦<ArchivedOwners as Portable>⟧.shape) self }
         ensures { SealsPart no_definition (one ⟦<ArchivedOwners as Portable>⟧.shape)
             (both no_definition (both no_definition no_definition))
-            ⟦<ArchivedPair<u8, ArchivedDrawing> as ArchivePointee>⟧.pointee (self.entry.pos + 28) 0
-            self.entry result }
+            ⟦<ArchivedPair<ArchivedIsize, ArchivedDrawing> as ArchivePointee>⟧.pointee
+            (self.entry.pos + 28) 0 self.entry result }
     {
-        sealed_part_in_record::<ArchivedOwners, ArchivedPair<u8, ArchivedDrawing>>(self, 4, 28)
+        sealed_part_in_record::<ArchivedOwners, ArchivedPair<ArchivedIsize, ArchivedDrawing>>(
+            self, 4, 28,
+        )
     }
 
     fn field_5_mut(self) -> Seal<'a, PhantomData<String>>

@@ -28,14 +28,14 @@ const HELD: &[u8; 80] =
 // 37 back, a Some of 5; at 60 the box 47 back, the place 7, -2; 258, -1, a 9, a true; at 80 a -2 of sixteen bytes; 8, -55, 6, and the list of notes 84 back. Zeros
 // end it at a multiple of 16.
 const SENT: &[u8; 112] =
-    b"hello world\x01\x02\xf9\0\0ice\xff\xff\xff\xff\xff\0\0\0\0\0\0\0\0\x02\0\0\0\x05\0\0\0\x8b\0\0\0\xd8\xff\xff\xff\xdb\xff\xff\xff\x02\0\0\0\x01\x05\0\0\xd1\xff\xff\xff\x07\0\xfe\xff\x02\x01\0\0\xff\xff\xff\xff\x09\x01\0\0\xfe\xff\xff\xff\xff\xff\xff\xff\xff\xff\xff\xff\xff\xff\xff\xff\x08\xc9\x06\0\xac\xff\xff\xff\x01\0\0\0\0\0\0\0";
+    b"hello world\x01\x02\xf9\0\0ice\xff\xff\xff\xff\xff\0\0\0\0\0\0\0\0\x02\0\0\0\x05\0\0\0\x8b\0\0\0\xd8\xff\xff\xff\xdb\xff\xff\xff\x02\0\0\0\x01\x05\0\0\xd1\xff\xff\xff\x07\0\xfe\xff\x02\x01\0\0\xff\x09\x01\0\0\0\0\0\xfe\xff\xff\xff\xff\xff\xff\xff\xff\xff\xff\xff\xff\xff\xff\xff\x08\xc9\x06\0\xac\xff\xff\xff\x01\0\0\0\0\0\0\0";
 
 // The same with another number or text for each field.
 const OTHER: &[u8; 112] =
-    b"good-bye...\x01\x09\x06\0\0hot\xff\xff\xff\xff\xff\0\0\0\0\0\0\0\0\x02\0\0\0\x07\0\0\0\x8b\0\0\0\xd8\xff\xff\xff\xdb\xff\xff\xff\x02\0\0\0\x01\x08\0\0\xd1\xff\xff\xff\x0a\0\xfe\xff\x03\0\0\0\xfc\xff\xff\xff\x0a\0\0\0\x05\0\0\0\0\0\0\0\0\0\0\0\0\0\0\0\x07\x01\x04\0\xac\xff\xff\xff\x01\0\0\0\0\0\0\0";
+    b"good-bye...\x01\x09\x06\0\0hot\xff\xff\xff\xff\xff\0\0\0\0\0\0\0\0\x02\0\0\0\x07\0\0\0\x8b\0\0\0\xd8\xff\xff\xff\xdb\xff\xff\xff\x02\0\0\0\x01\x08\0\0\xd1\xff\xff\xff\x0a\0\xfe\xff\x03\0\0\0\xfc\x0a\0\0\0\0\0\0\x05\0\0\0\0\0\0\0\0\0\0\0\0\0\0\0\x07\x01\x04\0\xac\xff\xff\xff\x01\0\0\0\0\0\0\0";
 
-// What the bytes of one sent are the archive of, with a size and a distance.
-fn sent(rt: &impl Abort, alloc: Global, size: usize, distance: isize) -> Depot {
+// What the bytes of one sent are the archive of, with a size.
+fn sent(rt: &impl Abort, alloc: Global, size: usize) -> Depot {
     let weights = vec![in alloc; 1u8, 2].expect(rt, "memory for weights");
     let notes = vec![in alloc; text(rt, alloc, "ice")].expect(rt, "memory for a note");
     Depot::Sent {
@@ -46,7 +46,7 @@ fn sent(rt: &impl Abort, alloc: Global, size: usize, distance: isize) -> Depot {
         other: Box::new(alloc, -7).expect(rt, "memory for a box"),
         spot: Spot { right: 7, up: -2 },
         size,
-        distance,
+        distance: -1,
         shelf: 9,
         is_open: true,
         nothing: (),
@@ -62,7 +62,7 @@ fn sent(rt: &impl Abort, alloc: Global, size: usize, distance: isize) -> Depot {
 fn depots_are_written_and_read_back(rt: HostRuntime) {
     let alloc = rt.alloc();
     let held = Depot::Held(1, 2, 3, 4, 5, 6, 7, 8, -9);
-    let sent = sent(&rt, alloc, 258, -1);
+    let sent = sent(&rt, alloc, 258);
     let rows = [
         (Depot::Free, &[0; 80][..]),
         (held, HELD),
@@ -74,13 +74,9 @@ fn depots_are_written_and_read_back(rt: HostRuntime) {
 }
 
 #[test]
-fn numbers_of_more_than_four_bytes_are_unwritten(rt: HostRuntime) {
-    let alloc = rt.alloc();
-    let rows = [(4_294_967_296, 0), (0, 2_147_483_648), (0, -2_147_483_649)];
-    for (size, distance) in rows {
-        let depot = sent(&rt, alloc, size, distance);
-        assert_unwritten(&rt, "a number", alloc, &depot, Error::NumberTooLarge);
-    }
+fn a_size_of_more_than_four_bytes_is_unwritten(rt: HostRuntime) {
+    let depot = sent(&rt, rt.alloc(), 4_294_967_296);
+    assert_unwritten(&rt, "a size", rt.alloc(), &depot, Error::NumberTooLarge);
 }
 
 // The number of the variant that a view shows, whose fields are those of the archives above.
@@ -115,7 +111,7 @@ fn variant_of(rt: &impl Abort, view: Ref<'_, ArchivedDepot>) -> u8 {
             let next = (is_open.get(), wide.get(), hour.get(), warmth.get());
             assert_same(rt, "the next ones", next, (true, -2, 8, -55));
             let last = (row.get(), other.get().get(), nothing.pos());
-            assert_same(rt, "the last ones", last, (6, -7, 78));
+            assert_same(rt, "the last ones", last, (6, -7, 75));
             let price = price.as_ref().map(|price| price.get());
             assert_same(rt, "the price", price, Some(5));
             assert_same(rt, "to whom", to.as_str(), "hello world");
@@ -214,7 +210,7 @@ fn faults_of_depots_are_found(rt: HostRuntime) {
         (40, 0x88, Error::InvalidStringRepr),
         (56, 2, unknown_tag("ArchivedOption", 2)),
         (60, 0xd0, outside(12, 1, 13, 32)),
-        (77, 2, Error::InvalidBool),
+        (74, 2, Error::InvalidBool),
         (104, 3, outside(16, 24, 14, 32)),
     ];
     assert_faults::<ArchivedDepot>(&rt, rt.alloc(), SENT, &rows);

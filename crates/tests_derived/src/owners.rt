@@ -6,8 +6,8 @@ ghost use Rattle.archive_core.specs.Shape.{text as text_pointee};
 ghost use Rattle.archive_core.specs.SealsWritten.{IsSealOf};
 
 use crate::assertions::{
-    assert_archived, assert_bytes, assert_holds, assert_same, assert_written, sealed, text,
-    value_of, viewed, write_second,
+    assert_archived, assert_bytes, assert_holds, assert_same, assert_unwritten, assert_written,
+    sealed, text, value_of, viewed, write_second,
 };
 use crate::drawings::{assert_drawing, blank, drawing};
 use crate::judgements::{assert_faults, assert_refused, outside, unaligned, unknown_tag};
@@ -92,6 +92,15 @@ fn owners_are_written(rt: HostRuntime) {
     ];
     for (owners, archive) in rows {
         assert_written(&rt, alloc, &owners, 68, archive);
+    }
+}
+
+#[test]
+fn numbers_of_more_than_four_bytes_are_unwritten(rt: HostRuntime) {
+    for left in [2_147_483_648, -2_147_483_649] {
+        let mut owners = bare(&rt, rt.alloc());
+        owners.4.left = left;
+        assert_unwritten(&rt, "a number", rt.alloc(), &owners, Error::NumberTooLarge);
     }
 }
 

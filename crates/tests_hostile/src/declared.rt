@@ -116,7 +116,7 @@ enum Depot {
     Free,
     Held(u8, u8, u8, u8, u8, u8, u8, u8, i8),
     Sent {
-        number: NonZero<u32>, to: String, weights: Vec<u8>, price: Option<u8>, other: Box<i8>, spot: Spot, size: usize, distance: isize,
+        number: NonZero<u32>, to: String, weights: Vec<u8>, price: Option<u8>, other: Box<i8>, spot: Spot, size: usize, distance: i8,
         shelf: u8, is_open: bool, nothing: (), wide: i128, hour: u8, warmth: i8, row: u8, notes: Vec<String>,
     },
 }";
@@ -125,7 +125,7 @@ const OWNERS: &str = "enum Event { Quit, Key(char), Text(String), Move { x: i32,
 struct Spot { right: u16, up: i16 }
 struct Line { from: Spot, to: Spot }
 struct Drawing { first: Line, lines: Vec<Line>, last: Option<Box<Line>>, event: Event }
-struct Pair { left: u8, right: Drawing }
+struct Pair { left: isize, right: Drawing }
 struct Owners(BoxSlice<u8>, BoxStr, OwnedArray<i8, 4>, BTreeMap<u8, Spot>, Pair, PhantomData<String>);";
 
 #[test]
