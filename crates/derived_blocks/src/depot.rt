@@ -9,7 +9,7 @@ pub enum Depot {
     /// That it is free.
     Free,
     /// What each place holds, and what is owed.
-    Held(u8, u8, u8, u8, u8, u8, u8, u8, i16),
+    Held(u8, u8, u8, u8, u8, u8, u8, u8, i8),
     /// What was sent.
     Sent {
         /// Its number, which isn't 0.
@@ -17,29 +17,29 @@ pub enum Depot {
         /// Who took it.
         to: String,
         /// What its parts weigh.
-        weights: Vec<u16>,
+        weights: Vec<u8>,
         /// What it costs, if that is known.
-        price: Option<u32>,
+        price: Option<u8>,
         /// The number of the one that it replaced.
-        other: Box<i16>,
+        other: Box<i8>,
         /// Where it lay.
         spot: Spot,
         /// How many parts it has.
         size: usize,
         /// How far it goes.
-        distance: isize,
-        /// The letter on it.
-        letter: char,
+        distance: i8,
+        /// The shelf.
+        shelf: u8,
         /// Whether it was open.
         is_open: bool,
         /// What was said of it.
         nothing: (),
         /// A number of 128 bits.
         wide: i128,
-        /// When it was sent, in seconds.
-        seconds: u64,
-        /// How warm it was, in tenths of a degree.
-        warmth: i16,
+        /// When it was sent, in hours.
+        hour: u8,
+        /// How warm it was, in degrees.
+        warmth: i8,
         /// The row in which it lay.
         row: u8,
         /// What is noted of it.
@@ -77,10 +77,7 @@ use archive_core::fields::{
 use archive_core::option::ArchivedOption;
 use archive_core::own::{Field, HasField};
 use archive_core::place::Place;
-use archive_core::primitive::{
-    ArchivedChar, ArchivedI16, ArchivedI128, ArchivedIsize, ArchivedU16, ArchivedU32, ArchivedU64,
-    ArchivedUsize,
-};
+use archive_core::primitive::{ArchivedI128, ArchivedUsize};
 use archive_core::seal::{Seal, sealed_part_in_case};
 use archive_core::self_check::{SelfCheck, check_choice};
 use archive_core::ser::{ResolverAlloc, Writer, serialize_one};
@@ -96,29 +93,29 @@ use archive_core::view::{RawView, Ref};
 use derived_types::spot::ArchivedSpot;
 use std::alloc::Global;
 
-/// An archived `Depot`: 112 bytes at a multiple of 16.
+/// An archived `Depot`: 80 bytes at a multiple of 16.
 pub struct ArchivedDepot;
 
-type DepotHeldParts = FourParts<u8, u8, u8, u8, FourParts<u8, u8, u8, u8, (ArchivedI16, ())>>;
+type DepotHeldParts = FourParts<u8, u8, u8, u8, FourParts<u8, u8, u8, u8, (i8, ())>>;
 
-type DepotHeldOwned = FourParts<u8, u8, u8, u8, FourParts<u8, u8, u8, u8, (i16, ())>>;
+type DepotHeldOwned = FourParts<u8, u8, u8, u8, FourParts<u8, u8, u8, u8, (i8, ())>>;
 
 type DepotSentParts = FourParts<
     NonZero<u32>,
     ArchivedString,
-    ArchivedVec<ArchivedU16>,
-    ArchivedOption<ArchivedU32>,
+    ArchivedVec<u8>,
+    ArchivedOption<u8>,
     FourParts<
-        ArchivedBox<ArchivedI16>,
+        ArchivedBox<i8>,
         ArchivedSpot,
         ArchivedUsize,
-        ArchivedIsize,
+        i8,
         FourParts<
-            ArchivedChar,
+            u8,
             bool,
             (),
             ArchivedI128,
-            FourParts<ArchivedU64, ArchivedI16, u8, ArchivedVec<ArchivedString>, ()>,
+            FourParts<u8, i8, u8, ArchivedVec<ArchivedString>, ()>,
         >,
     >,
 >;
@@ -126,14 +123,14 @@ type DepotSentParts = FourParts<
 type DepotSentOwned = FourParts<
     NonZero<u32>,
     String,
-    Vec<u16>,
-    Option<u32>,
+    Vec<u8>,
+    Option<u8>,
     FourParts<
-        Box<i16>,
+        Box<i8>,
         Spot,
         usize,
-        isize,
-        FourParts<char, bool, (), i128, FourParts<u64, i16, u8, Vec<String>, ()>>,
+        i8,
+        FourParts<u8, bool, (), i128, FourParts<u8, i8, u8, Vec<String>, ()>>,
     >,
 >;
 
@@ -150,7 +147,7 @@ struct DepotHeldLent<'a> {
     a5: &'a u8,
     a6: &'a u8,
     a7: &'a u8,
-    a8: &'a i16,
+    a8: &'a i8,
 }
 
 // The fields as sources.
@@ -159,7 +156,7 @@ type DepotHeldFields = FourParts<
     Field<1, u8>,
     Field<2, u8>,
     Field<3, u8>,
-    FourParts<Field<4, u8>, Field<5, u8>, Field<6, u8>, Field<7, u8>, (Field<8, i16>, ())>,
+    FourParts<Field<4, u8>, Field<5, u8>, Field<6, u8>, Field<7, u8>, (Field<8, i8>, ())>,
 >;
 
 impl HasField<0, u8> for DepotHeldLent<'_> {
@@ -226,10 +223,10 @@ impl HasField<7, u8> for DepotHeldLent<'_> {
     }
 }
 
-impl HasField<8, i16> for DepotHeldLent<'_> {
+impl HasField<8, i8> for DepotHeldLent<'_> {
     ghost field = { λ v. v.a8.now };
 
-    fn field(&self) -> &i16 {
+    fn field(&self) -> &i8 {
         self.a8
     }
 }
@@ -239,18 +236,18 @@ impl HasField<8, i16> for DepotHeldLent<'_> {
 struct DepotSentLent<'a> {
     a0: &'a NonZero<u32>,
     a1: &'a String,
-    a2: &'a Vec<u16>,
-    a3: &'a Option<u32>,
-    a4: &'a Box<i16>,
+    a2: &'a Vec<u8>,
+    a3: &'a Option<u8>,
+    a4: &'a Box<i8>,
     a5: &'a Spot,
     a6: &'a usize,
-    a7: &'a isize,
-    a8: &'a char,
+    a7: &'a i8,
+    a8: &'a u8,
     a9: &'a bool,
     a10: &'a (),
     a11: &'a i128,
-    a12: &'a u64,
-    a13: &'a i16,
+    a12: &'a u8,
+    a13: &'a i8,
     a14: &'a u8,
     a15: &'a Vec<String>,
 }
@@ -259,19 +256,19 @@ struct DepotSentLent<'a> {
 type DepotSentFields = FourParts<
     Field<0, NonZero<u32>>,
     Field<1, String>,
-    Field<2, Vec<u16>>,
-    Field<3, Option<u32>>,
+    Field<2, Vec<u8>>,
+    Field<3, Option<u8>>,
     FourParts<
-        Field<4, Box<i16>>,
+        Field<4, Box<i8>>,
         Field<5, Spot>,
         Field<6, usize>,
-        Field<7, isize>,
+        Field<7, i8>,
         FourParts<
-            Field<8, char>,
+            Field<8, u8>,
             Field<9, bool>,
             Field<10, ()>,
             Field<11, i128>,
-            FourParts<Field<12, u64>, Field<13, i16>, Field<14, u8>, Field<15, Vec<String>>, ()>,
+            FourParts<Field<12, u8>, Field<13, i8>, Field<14, u8>, Field<15, Vec<String>>, ()>,
         >,
     >,
 >;
@@ -292,26 +289,26 @@ impl HasField<1, String> for DepotSentLent<'_> {
     }
 }
 
-impl HasField<2, Vec<u16>> for DepotSentLent<'_> {
+impl HasField<2, Vec<u8>> for DepotSentLent<'_> {
     ghost field = { λ v. v.a2.now };
 
-    fn field(&self) -> &Vec<u16> {
+    fn field(&self) -> &Vec<u8> {
         self.a2
     }
 }
 
-impl HasField<3, Option<u32>> for DepotSentLent<'_> {
+impl HasField<3, Option<u8>> for DepotSentLent<'_> {
     ghost field = { λ v. v.a3.now };
 
-    fn field(&self) -> &Option<u32> {
+    fn field(&self) -> &Option<u8> {
         self.a3
     }
 }
 
-impl HasField<4, Box<i16>> for DepotSentLent<'_> {
+impl HasField<4, Box<i8>> for DepotSentLent<'_> {
     ghost field = { λ v. v.a4.now };
 
-    fn field(&self) -> &Box<i16> {
+    fn field(&self) -> &Box<i8> {
         self.a4
     }
 }
@@ -332,18 +329,18 @@ impl HasField<6, usize> for DepotSentLent<'_> {
     }
 }
 
-impl HasField<7, isize> for DepotSentLent<'_> {
+impl HasField<7, i8> for DepotSentLent<'_> {
     ghost field = { λ v. v.a7.now };
 
-    fn field(&self) -> &isize {
+    fn field(&self) -> &i8 {
         self.a7
     }
 }
 
-impl HasField<8, char> for DepotSentLent<'_> {
+impl HasField<8, u8> for DepotSentLent<'_> {
     ghost field = { λ v. v.a8.now };
 
-    fn field(&self) -> &char {
+    fn field(&self) -> &u8 {
         self.a8
     }
 }
@@ -372,18 +369,18 @@ impl HasField<11, i128> for DepotSentLent<'_> {
     }
 }
 
-impl HasField<12, u64> for DepotSentLent<'_> {
+impl HasField<12, u8> for DepotSentLent<'_> {
     ghost field = { λ v. v.a12.now };
 
-    fn field(&self) -> &u64 {
+    fn field(&self) -> &u8 {
         self.a12
     }
 }
 
-impl HasField<13, i16> for DepotSentLent<'_> {
+impl HasField<13, i8> for DepotSentLent<'_> {
     ghost field = { λ v. v.a13.now };
 
-    fn field(&self) -> &i16 {
+    fn field(&self) -> &i8 {
         self.a13
     }
 }
@@ -412,17 +409,15 @@ impl ArchivePointee for ArchivedDepot {
         (part ⟦<u8 as Portable>⟧.shape (part ⟦<u8 as Portable>⟧.shape
         (part ⟦<u8 as Portable>⟧.shape (part ⟦<u8 as Portable>⟧.shape
         (part ⟦<u8 as Portable>⟧.shape (part ⟦<u8 as Portable>⟧.shape
-        (part ⟦<u8 as Portable>⟧.shape (part ⟦<ArchivedI16 as Portable>⟧.shape no_part)))))))))
+        (part ⟦<u8 as Portable>⟧.shape (part ⟦<i8 as Portable>⟧.shape no_part)))))))))
         (variant (part ⟦<NonZero<u32> as Portable>⟧.shape
-        (part ⟦<ArchivedString as Portable>⟧.shape (part
-        ⟦<ArchivedVec<ArchivedU16> as Portable>⟧.shape (part
-        ⟦<ArchivedOption<ArchivedU32> as Portable>⟧.shape
-        (part ⟦<ArchivedBox<ArchivedI16> as Portable>⟧.shape
+        (part ⟦<ArchivedString as Portable>⟧.shape (part ⟦<ArchivedVec<u8> as Portable>⟧.shape
+        (part ⟦<ArchivedOption<u8> as Portable>⟧.shape (part ⟦<ArchivedBox<i8> as Portable>⟧.shape
         (part ⟦<ArchivedSpot as Portable>⟧.shape (part ⟦<ArchivedUsize as Portable>⟧.shape
-        (part ⟦<ArchivedIsize as Portable>⟧.shape (part ⟦<ArchivedChar as Portable>⟧.shape
+        (part ⟦<i8 as Portable>⟧.shape (part ⟦<u8 as Portable>⟧.shape
         (part ⟦<bool as Portable>⟧.shape (part ⟦<() as Portable>⟧.shape
-        (part ⟦<ArchivedI128 as Portable>⟧.shape (part ⟦<ArchivedU64 as Portable>⟧.shape
-        (part ⟦<ArchivedI16 as Portable>⟧.shape (part ⟦<u8 as Portable>⟧.shape
+        (part ⟦<ArchivedI128 as Portable>⟧.shape (part ⟦<u8 as Portable>⟧.shape
+        (part ⟦<i8 as Portable>⟧.shape (part ⟦<u8 as Portable>⟧.shape
         (part ⟦<ArchivedVec<ArchivedString> as Portable>⟧.shape no_part))))))))))))))))
         no_variant)))) };
 
@@ -441,21 +436,19 @@ impl Portable for ArchivedDepot {
         (part ⟦<u8 as Portable>⟧.shape (part ⟦<u8 as Portable>⟧.shape
         (part ⟦<u8 as Portable>⟧.shape (part ⟦<u8 as Portable>⟧.shape
         (part ⟦<u8 as Portable>⟧.shape (part ⟦<u8 as Portable>⟧.shape
-        (part ⟦<ArchivedI16 as Portable>⟧.shape no_part)))))))))
+        (part ⟦<i8 as Portable>⟧.shape no_part)))))))))
         (variant (part ⟦<NonZero<u32> as Portable>⟧.shape
-        (part ⟦<ArchivedString as Portable>⟧.shape (part
-        ⟦<ArchivedVec<ArchivedU16> as Portable>⟧.shape (part
-        ⟦<ArchivedOption<ArchivedU32> as Portable>⟧.shape
-        (part ⟦<ArchivedBox<ArchivedI16> as Portable>⟧.shape
+        (part ⟦<ArchivedString as Portable>⟧.shape (part ⟦<ArchivedVec<u8> as Portable>⟧.shape
+        (part ⟦<ArchivedOption<u8> as Portable>⟧.shape (part ⟦<ArchivedBox<i8> as Portable>⟧.shape
         (part ⟦<ArchivedSpot as Portable>⟧.shape (part ⟦<ArchivedUsize as Portable>⟧.shape
-        (part ⟦<ArchivedIsize as Portable>⟧.shape (part ⟦<ArchivedChar as Portable>⟧.shape
+        (part ⟦<i8 as Portable>⟧.shape (part ⟦<u8 as Portable>⟧.shape
         (part ⟦<bool as Portable>⟧.shape (part ⟦<() as Portable>⟧.shape
-        (part ⟦<ArchivedI128 as Portable>⟧.shape (part ⟦<ArchivedU64 as Portable>⟧.shape
-        (part ⟦<ArchivedI16 as Portable>⟧.shape (part ⟦<u8 as Portable>⟧.shape
+        (part ⟦<ArchivedI128 as Portable>⟧.shape (part ⟦<u8 as Portable>⟧.shape
+        (part ⟦<i8 as Portable>⟧.shape (part ⟦<u8 as Portable>⟧.shape
         (part ⟦<ArchivedVec<ArchivedString> as Portable>⟧.shape no_part))))))))))))))))
         no_variant))) };
 
-    ghost layout = { record { size = 112; align = 16 } };
+    ghost layout = { record { size = 80; align = 16 } };
 
     type Check = ArchivedDepot;
 
@@ -470,24 +463,22 @@ impl Portable for ArchivedDepot {
         (part ⟦<u8 as Portable>⟧.shape (part ⟦<u8 as Portable>⟧.shape
         (part ⟦<u8 as Portable>⟧.shape (part ⟦<u8 as Portable>⟧.shape
         (part ⟦<u8 as Portable>⟧.shape (part ⟦<u8 as Portable>⟧.shape
-        (part ⟦<u8 as Portable>⟧.shape (part ⟦<ArchivedI16 as Portable>⟧.shape no_part)))))))))
+        (part ⟦<u8 as Portable>⟧.shape (part ⟦<i8 as Portable>⟧.shape no_part)))))))))
         (variant (part ⟦<NonZero<u32> as Portable>⟧.shape
-        (part ⟦<ArchivedString as Portable>⟧.shape (part
-        ⟦<ArchivedVec<ArchivedU16> as Portable>⟧.shape (part
-        ⟦<ArchivedOption<ArchivedU32> as Portable>⟧.shape
-        (part ⟦<ArchivedBox<ArchivedI16> as Portable>⟧.shape
+        (part ⟦<ArchivedString as Portable>⟧.shape (part ⟦<ArchivedVec<u8> as Portable>⟧.shape
+        (part ⟦<ArchivedOption<u8> as Portable>⟧.shape (part ⟦<ArchivedBox<i8> as Portable>⟧.shape
         (part ⟦<ArchivedSpot as Portable>⟧.shape (part ⟦<ArchivedUsize as Portable>⟧.shape
-        (part ⟦<ArchivedIsize as Portable>⟧.shape (part ⟦<ArchivedChar as Portable>⟧.shape
+        (part ⟦<i8 as Portable>⟧.shape (part ⟦<u8 as Portable>⟧.shape
         (part ⟦<bool as Portable>⟧.shape (part ⟦<() as Portable>⟧.shape
-        (part ⟦<ArchivedI128 as Portable>⟧.shape (part ⟦<ArchivedU64 as Portable>⟧.shape
-        (part ⟦<ArchivedI16 as Portable>⟧.shape (part ⟦<u8 as Portable>⟧.shape
+        (part ⟦<ArchivedI128 as Portable>⟧.shape (part ⟦<u8 as Portable>⟧.shape
+        (part ⟦<i8 as Portable>⟧.shape (part ⟦<u8 as Portable>⟧.shape
         (part ⟦<ArchivedVec<ArchivedString> as Portable>⟧.shape no_part))))))))))))))))
         no_variant)))) };
 
     ghost checks = { λ _. plain_own_check _ _ _ _ _ refl refl refl refl };
 
     fn size() -> usize {
-        112
+        80
     }
 
     fn align() -> usize {
@@ -509,17 +500,15 @@ impl SelfCheck for ArchivedDepot {
         (part ⟦<u8 as Portable>⟧.shape (part ⟦<u8 as Portable>⟧.shape
         (part ⟦<u8 as Portable>⟧.shape (part ⟦<u8 as Portable>⟧.shape
         (part ⟦<u8 as Portable>⟧.shape (part ⟦<u8 as Portable>⟧.shape
-        (part ⟦<ArchivedI16 as Portable>⟧.shape no_part)))))))))
+        (part ⟦<i8 as Portable>⟧.shape no_part)))))))))
         (variant (part ⟦<NonZero<u32> as Portable>⟧.shape
-        (part ⟦<ArchivedString as Portable>⟧.shape (part
-        ⟦<ArchivedVec<ArchivedU16> as Portable>⟧.shape (part
-        ⟦<ArchivedOption<ArchivedU32> as Portable>⟧.shape
-        (part ⟦<ArchivedBox<ArchivedI16> as Portable>⟧.shape
+        (part ⟦<ArchivedString as Portable>⟧.shape (part ⟦<ArchivedVec<u8> as Portable>⟧.shape
+        (part ⟦<ArchivedOption<u8> as Portable>⟧.shape (part ⟦<ArchivedBox<i8> as Portable>⟧.shape
         (part ⟦<ArchivedSpot as Portable>⟧.shape (part ⟦<ArchivedUsize as Portable>⟧.shape
-        (part ⟦<ArchivedIsize as Portable>⟧.shape (part ⟦<ArchivedChar as Portable>⟧.shape
+        (part ⟦<i8 as Portable>⟧.shape (part ⟦<u8 as Portable>⟧.shape
         (part ⟦<bool as Portable>⟧.shape (part ⟦<() as Portable>⟧.shape
-        (part ⟦<ArchivedI128 as Portable>⟧.shape (part ⟦<ArchivedU64 as Portable>⟧.shape
-        (part ⟦<ArchivedI16 as Portable>⟧.shape (part ⟦<u8 as Portable>⟧.shape
+        (part ⟦<ArchivedI128 as Portable>⟧.shape (part ⟦<u8 as Portable>⟧.shape
+        (part ⟦<i8 as Portable>⟧.shape (part ⟦<u8 as Portable>⟧.shape
         (part ⟦<ArchivedVec<ArchivedString> as Portable>⟧.shape no_part))))))))))))))))
         no_variant))) };
 
@@ -534,7 +523,7 @@ impl SelfCheck for ArchivedDepot {
         (both no_definition (both no_definition (both no_definition
         (both no_definition no_definition)))))))))))))))) no_definition))) };
 
-    ghost span = { 100 };
+    ghost span = { 76 };
 
     ghost direct = { true };
 
@@ -569,17 +558,15 @@ impl Choice for ArchivedDepot {
         (part ⟦<u8 as Portable>⟧.shape (part ⟦<u8 as Portable>⟧.shape
         (part ⟦<u8 as Portable>⟧.shape (part ⟦<u8 as Portable>⟧.shape
         (part ⟦<u8 as Portable>⟧.shape (part ⟦<u8 as Portable>⟧.shape
-        (part ⟦<u8 as Portable>⟧.shape (part ⟦<ArchivedI16 as Portable>⟧.shape no_part)))))))))
+        (part ⟦<u8 as Portable>⟧.shape (part ⟦<i8 as Portable>⟧.shape no_part)))))))))
         (variant (part ⟦<NonZero<u32> as Portable>⟧.shape
-        (part ⟦<ArchivedString as Portable>⟧.shape (part
-        ⟦<ArchivedVec<ArchivedU16> as Portable>⟧.shape (part
-        ⟦<ArchivedOption<ArchivedU32> as Portable>⟧.shape
-        (part ⟦<ArchivedBox<ArchivedI16> as Portable>⟧.shape
+        (part ⟦<ArchivedString as Portable>⟧.shape (part ⟦<ArchivedVec<u8> as Portable>⟧.shape
+        (part ⟦<ArchivedOption<u8> as Portable>⟧.shape (part ⟦<ArchivedBox<i8> as Portable>⟧.shape
         (part ⟦<ArchivedSpot as Portable>⟧.shape (part ⟦<ArchivedUsize as Portable>⟧.shape
-        (part ⟦<ArchivedIsize as Portable>⟧.shape (part ⟦<ArchivedChar as Portable>⟧.shape
+        (part ⟦<i8 as Portable>⟧.shape (part ⟦<u8 as Portable>⟧.shape
         (part ⟦<bool as Portable>⟧.shape (part ⟦<() as Portable>⟧.shape
-        (part ⟦<ArchivedI128 as Portable>⟧.shape (part ⟦<ArchivedU64 as Portable>⟧.shape
-        (part ⟦<ArchivedI16 as Portable>⟧.shape (part ⟦<u8 as Portable>⟧.shape
+        (part ⟦<ArchivedI128 as Portable>⟧.shape (part ⟦<u8 as Portable>⟧.shape
+        (part ⟦<i8 as Portable>⟧.shape (part ⟦<u8 as Portable>⟧.shape
         (part ⟦<ArchivedVec<ArchivedString> as Portable>⟧.shape no_part))))))))))))))))
         no_variant))) (both no_definition (both (both no_definition
         (both no_definition (both no_definition (both no_definition
@@ -616,7 +603,7 @@ pub enum DepotResolver {
                                 <u8 as Archive>::Resolver,
                                 (
                                     <u8 as Archive>::Resolver,
-                                    (<u8 as Archive>::Resolver, (<i16 as Archive>::Resolver, ())),
+                                    (<u8 as Archive>::Resolver, (<i8 as Archive>::Resolver, ())),
                                 ),
                             ),
                         ),
@@ -632,19 +619,19 @@ pub enum DepotResolver {
             (
                 <String as Archive>::Resolver,
                 (
-                    <Vec<u16> as Archive>::Resolver,
+                    <Vec<u8> as Archive>::Resolver,
                     (
-                        <Option<u32> as Archive>::Resolver,
+                        <Option<u8> as Archive>::Resolver,
                         (
-                            <Box<i16> as Archive>::Resolver,
+                            <Box<i8> as Archive>::Resolver,
                             (
                                 <Spot as Archive>::Resolver,
                                 (
                                     <usize as Archive>::Resolver,
                                     (
-                                        <isize as Archive>::Resolver,
+                                        <i8 as Archive>::Resolver,
                                         (
-                                            <char as Archive>::Resolver,
+                                            <u8 as Archive>::Resolver,
                                             (
                                                 <bool as Archive>::Resolver,
                                                 (
@@ -652,9 +639,9 @@ pub enum DepotResolver {
                                                     (
                                                         <i128 as Archive>::Resolver,
                                                         (
-                                                            <u64 as Archive>::Resolver,
+                                                            <u8 as Archive>::Resolver,
                                                             (
-                                                                <i16 as Archive>::Resolver,
+                                                                <i8 as Archive>::Resolver,
                                                                 (
                                                                     <u8 as Archive>::Resolver,
                                                                     (
@@ -694,19 +681,18 @@ impl Archive for Depot {
           (value (⟦<u8 as Archive>⟧.meaning a1) (value (⟦<u8 as Archive>⟧.meaning a2)
           (value (⟦<u8 as Archive>⟧.meaning a3) (value (⟦<u8 as Archive>⟧.meaning a4)
           (value (⟦<u8 as Archive>⟧.meaning a5) (value (⟦<u8 as Archive>⟧.meaning a6)
-          (value (⟦<u8 as Archive>⟧.meaning a7) (value (⟦<i16 as Archive>⟧.meaning a8)
+          (value (⟦<u8 as Archive>⟧.meaning a7) (value (⟦<i8 as Archive>⟧.meaning a8)
           no_value)))))))))
       | DepotSent a0 a1 a2 a3 a4 a5 a6 a7 a8 a9 a10 a11 a12 a13 a14 a15 ↦ case 2
           (value (⟦<NonZero<u32> as Archive>⟧.meaning a0)
-          (value (⟦<String as Archive>⟧.meaning a1) (value (⟦<Vec<u16> as Archive>⟧.meaning a2)
-          (value (⟦<Option<u32> as Archive>⟧.meaning a3)
-          (value (⟦<Box<i16> as Archive>⟧.meaning a4) (value (⟦<Spot as Archive>⟧.meaning a5)
-          (value (⟦<usize as Archive>⟧.meaning a6) (value (⟦<isize as Archive>⟧.meaning a7)
-          (value (⟦<char as Archive>⟧.meaning a8) (value (⟦<bool as Archive>⟧.meaning a9)
-          (value (⟦<() as Archive>⟧.meaning a10) (value (⟦<i128 as Archive>⟧.meaning a11)
-          (value (⟦<u64 as Archive>⟧.meaning a12) (value (⟦<i16 as Archive>⟧.meaning a13)
-          (value (⟦<u8 as Archive>⟧.meaning a14) (value (⟦<Vec<String> as Archive>⟧.meaning a15)
-          no_value))))))))))))))))
+          (value (⟦<String as Archive>⟧.meaning a1) (value (⟦<Vec<u8> as Archive>⟧.meaning a2)
+          (value (⟦<Option<u8> as Archive>⟧.meaning a3) (value (⟦<Box<i8> as Archive>⟧.meaning a4)
+          (value (⟦<Spot as Archive>⟧.meaning a5) (value (⟦<usize as Archive>⟧.meaning a6)
+          (value (⟦<i8 as Archive>⟧.meaning a7) (value (⟦<u8 as Archive>⟧.meaning a8)
+          (value (⟦<bool as Archive>⟧.meaning a9) (value (⟦<() as Archive>⟧.meaning a10)
+          (value (⟦<i128 as Archive>⟧.meaning a11) (value (⟦<u8 as Archive>⟧.meaning a12)
+          (value (⟦<i8 as Archive>⟧.meaning a13) (value (⟦<u8 as Archive>⟧.meaning a14)
+          (value (⟦<Vec<String> as Archive>⟧.meaning a15) no_value))))))))))))))))
     ] };
 
     ghost flat = { λ v r. elim v [
@@ -718,24 +704,24 @@ impl Archive for Depot {
             (⟦<u8 as Archive>⟧.flat a4 s.1.1.1.1.0) (value (⟦<u8 as Archive>⟧.flat a5 s.1.1.1.1.1.0)
             (value (⟦<u8 as Archive>⟧.flat a6 s.1.1.1.1.1.1.0)
             (value (⟦<u8 as Archive>⟧.flat a7 s.1.1.1.1.1.1.1.0)
-            (value (⟦<i16 as Archive>⟧.flat a8 s.1.1.1.1.1.1.1.1.0) no_value)))))))))
+            (value (⟦<i8 as Archive>⟧.flat a8 s.1.1.1.1.1.1.1.1.0) no_value)))))))))
         | _ ↦ case 1 no_value
       ]
       | DepotSent a0 a1 a2 a3 a4 a5 a6 a7 a8 a9 a10 a11 a12 a13 a14 a15 ↦ elim r [
         | DepotSentKept s ↦ case 2 (value (⟦<NonZero<u32> as Archive>⟧.flat a0 s.0)
             (value (⟦<String as Archive>⟧.flat a1 s.1.0) (value
-            (⟦<Vec<u16> as Archive>⟧.flat a2 s.1.1.0) (value
-            (⟦<Option<u32> as Archive>⟧.flat a3 s.1.1.1.0)
-            (value (⟦<Box<i16> as Archive>⟧.flat a4 s.1.1.1.1.0)
+            (⟦<Vec<u8> as Archive>⟧.flat a2 s.1.1.0) (value
+            (⟦<Option<u8> as Archive>⟧.flat a3 s.1.1.1.0)
+            (value (⟦<Box<i8> as Archive>⟧.flat a4 s.1.1.1.1.0)
             (value (⟦<Spot as Archive>⟧.flat a5 s.1.1.1.1.1.0)
             (value (⟦<usize as Archive>⟧.flat a6 s.1.1.1.1.1.1.0)
-            (value (⟦<isize as Archive>⟧.flat a7 s.1.1.1.1.1.1.1.0)
-            (value (⟦<char as Archive>⟧.flat a8 s.1.1.1.1.1.1.1.1.0)
+            (value (⟦<i8 as Archive>⟧.flat a7 s.1.1.1.1.1.1.1.0)
+            (value (⟦<u8 as Archive>⟧.flat a8 s.1.1.1.1.1.1.1.1.0)
             (value (⟦<bool as Archive>⟧.flat a9 s.1.1.1.1.1.1.1.1.1.0)
             (value (⟦<() as Archive>⟧.flat a10 s.1.1.1.1.1.1.1.1.1.1.0)
             (value (⟦<i128 as Archive>⟧.flat a11 s.1.1.1.1.1.1.1.1.1.1.1.0)
-            (value (⟦<u64 as Archive>⟧.flat a12 s.1.1.1.1.1.1.1.1.1.1.1.1.0)
-            (value (⟦<i16 as Archive>⟧.flat a13 s.1.1.1.1.1.1.1.1.1.1.1.1.1.0)
+            (value (⟦<u8 as Archive>⟧.flat a12 s.1.1.1.1.1.1.1.1.1.1.1.1.0)
+            (value (⟦<i8 as Archive>⟧.flat a13 s.1.1.1.1.1.1.1.1.1.1.1.1.1.0)
             (value (⟦<u8 as Archive>⟧.flat a14 s.1.1.1.1.1.1.1.1.1.1.1.1.1.1.0)
             (value (⟦<Vec<String> as Archive>⟧.flat a15 s.1.1.1.1.1.1.1.1.1.1.1.1.1.1.1.0)
             no_value))))))))))))))))
@@ -749,15 +735,15 @@ impl Archive for Depot {
           ++ (⟦<u8 as Archive>⟧.keys a1 ++ (⟦<u8 as Archive>⟧.keys a2
           ++ (⟦<u8 as Archive>⟧.keys a3 ++ (⟦<u8 as Archive>⟧.keys a4
           ++ (⟦<u8 as Archive>⟧.keys a5 ++ (⟦<u8 as Archive>⟧.keys a6
-          ++ (⟦<u8 as Archive>⟧.keys a7 ++ (⟦<i16 as Archive>⟧.keys a8 ++ []))))))))
+          ++ (⟦<u8 as Archive>⟧.keys a7 ++ (⟦<i8 as Archive>⟧.keys a8 ++ []))))))))
       | DepotSent a0 a1 a2 a3 a4 a5 a6 a7 a8 a9 a10 a11 a12 a13 a14 a15 ↦
           ⟦<NonZero<u32> as Archive>⟧.keys a0 ++ (⟦<String as Archive>⟧.keys a1
-          ++ (⟦<Vec<u16> as Archive>⟧.keys a2 ++ (⟦<Option<u32> as Archive>⟧.keys a3
-          ++ (⟦<Box<i16> as Archive>⟧.keys a4 ++ (⟦<Spot as Archive>⟧.keys a5
-          ++ (⟦<usize as Archive>⟧.keys a6 ++ (⟦<isize as Archive>⟧.keys a7
-          ++ (⟦<char as Archive>⟧.keys a8 ++ (⟦<bool as Archive>⟧.keys a9
+          ++ (⟦<Vec<u8> as Archive>⟧.keys a2 ++ (⟦<Option<u8> as Archive>⟧.keys a3
+          ++ (⟦<Box<i8> as Archive>⟧.keys a4 ++ (⟦<Spot as Archive>⟧.keys a5
+          ++ (⟦<usize as Archive>⟧.keys a6 ++ (⟦<i8 as Archive>⟧.keys a7
+          ++ (⟦<u8 as Archive>⟧.keys a8 ++ (⟦<bool as Archive>⟧.keys a9
           ++ (⟦<() as Archive>⟧.keys a10 ++ (⟦<i128 as Archive>⟧.keys a11
-          ++ (⟦<u64 as Archive>⟧.keys a12 ++ (⟦<i16 as Archive>⟧.keys a13
+          ++ (⟦<u8 as Archive>⟧.keys a12 ++ (⟦<i8 as Archive>⟧.keys a13
           ++ (⟦<u8 as Archive>⟧.keys a14 ++ (⟦<Vec<String> as Archive>⟧.keys a15
           ++ [])))))))))))))))
     ] };
@@ -771,23 +757,23 @@ impl Archive for Depot {
             × (⟦<u8 as Archive>⟧.belongs a5 s.1.1.1.1.1.0
             × (⟦<u8 as Archive>⟧.belongs a6 s.1.1.1.1.1.1.0
             × (⟦<u8 as Archive>⟧.belongs a7 s.1.1.1.1.1.1.1.0
-            × (⟦<i16 as Archive>⟧.belongs a8 s.1.1.1.1.1.1.1.1.0 × Unit {0}))))))))
+            × (⟦<i8 as Archive>⟧.belongs a8 s.1.1.1.1.1.1.1.1.0 × Unit {0}))))))))
         | _ ↦ ⊥
       ]
       | DepotSent a0 a1 a2 a3 a4 a5 a6 a7 a8 a9 a10 a11 a12 a13 a14 a15 ↦ elim r [
         | DepotSentKept s ↦ ⟦<NonZero<u32> as Archive>⟧.belongs a0 s.0
-            × (⟦<String as Archive>⟧.belongs a1 s.1.0 × (⟦<Vec<u16> as Archive>⟧.belongs a2 s.1.1.0
-            × (⟦<Option<u32> as Archive>⟧.belongs a3 s.1.1.1.0
-            × (⟦<Box<i16> as Archive>⟧.belongs a4 s.1.1.1.1.0
+            × (⟦<String as Archive>⟧.belongs a1 s.1.0 × (⟦<Vec<u8> as Archive>⟧.belongs a2 s.1.1.0
+            × (⟦<Option<u8> as Archive>⟧.belongs a3 s.1.1.1.0
+            × (⟦<Box<i8> as Archive>⟧.belongs a4 s.1.1.1.1.0
             × (⟦<Spot as Archive>⟧.belongs a5 s.1.1.1.1.1.0
             × (⟦<usize as Archive>⟧.belongs a6 s.1.1.1.1.1.1.0
-            × (⟦<isize as Archive>⟧.belongs a7 s.1.1.1.1.1.1.1.0
-            × (⟦<char as Archive>⟧.belongs a8 s.1.1.1.1.1.1.1.1.0
+            × (⟦<i8 as Archive>⟧.belongs a7 s.1.1.1.1.1.1.1.0
+            × (⟦<u8 as Archive>⟧.belongs a8 s.1.1.1.1.1.1.1.1.0
             × (⟦<bool as Archive>⟧.belongs a9 s.1.1.1.1.1.1.1.1.1.0
             × (⟦<() as Archive>⟧.belongs a10 s.1.1.1.1.1.1.1.1.1.1.0
             × (⟦<i128 as Archive>⟧.belongs a11 s.1.1.1.1.1.1.1.1.1.1.1.0
-            × (⟦<u64 as Archive>⟧.belongs a12 s.1.1.1.1.1.1.1.1.1.1.1.1.0
-            × (⟦<i16 as Archive>⟧.belongs a13 s.1.1.1.1.1.1.1.1.1.1.1.1.1.0
+            × (⟦<u8 as Archive>⟧.belongs a12 s.1.1.1.1.1.1.1.1.1.1.1.1.0
+            × (⟦<i8 as Archive>⟧.belongs a13 s.1.1.1.1.1.1.1.1.1.1.1.1.1.0
             × (⟦<u8 as Archive>⟧.belongs a14 s.1.1.1.1.1.1.1.1.1.1.1.1.1.1.0
             × (⟦<Vec<String> as Archive>⟧.belongs a15 s.1.1.1.1.1.1.1.1.1.1.1.1.1.1.1.0
             × Unit {0})))))))))))))))
@@ -807,11 +793,11 @@ impl Archive for Depot {
           (part_keyed (number_keyed _) nothing_keyed)))))))))
       | DepotSent a0 a1 a2 a3 a4 a5 a6 a7 a8 a9 a10 a11 a12 a13 a14 a15 ↦ case_keyed _ 2 _
           (part_keyed (number_keyed _) (part_keyed (text_keyed (string_bytes a1))
-          (part_keyed (each_keyed ⟦<u16 as Archive>⟧.keys ⟦<u16 as Archive>⟧.meaning
-          (λ x. number_keyed _) a2.items) (part_keyed (option_keyed ⟦<u32 as Archive>⟧.keys
-          ⟦<u32 as Archive>⟧.meaning (λ x. number_keyed _) a3)
-          (part_keyed (box_keyed (⟦<i16 as Archive>⟧.keys a4.value)
-          (⟦<i16 as Archive>⟧.meaning a4.value) (number_keyed _))
+          (part_keyed (each_keyed ⟦<u8 as Archive>⟧.keys ⟦<u8 as Archive>⟧.meaning
+          (λ x. number_keyed _) a2.items) (part_keyed (option_keyed ⟦<u8 as Archive>⟧.keys
+          ⟦<u8 as Archive>⟧.meaning (λ x. number_keyed _) a3)
+          (part_keyed (box_keyed (⟦<i8 as Archive>⟧.keys a4.value)
+          (⟦<i8 as Archive>⟧.meaning a4.value) (number_keyed _))
           (part_keyed (keyed_of_spot a5) (part_keyed (number_keyed _)
           (part_keyed (number_keyed _) (part_keyed (number_keyed _)
           (part_keyed (number_keyed _) (part_keyed (number_keyed _)
@@ -828,7 +814,7 @@ impl Archive for Depot {
           (part ⟦<u8 as Portable>⟧.shape (part ⟦<u8 as Portable>⟧.shape
           (part ⟦<u8 as Portable>⟧.shape (part ⟦<u8 as Portable>⟧.shape
           (part ⟦<u8 as Portable>⟧.shape (part ⟦<u8 as Portable>⟧.shape
-          (part ⟦<ArchivedI16 as Portable>⟧.shape no_part))))))))) refl
+          (part ⟦<i8 as Portable>⟧.shape no_part))))))))) refl
           (both no_definition (both no_definition (both no_definition
           (both no_definition (both no_definition (both no_definition
           (both no_definition (both no_definition (both no_definition no_definition))))))))) _ _
@@ -848,54 +834,51 @@ impl Archive for Depot {
           (⟦<u8 as Archive>⟧.meaning a6) (leaf_planned no_definition _ _ [] _ refl)
           (part_planned no_definition ⟦<u8 as Portable>⟧.shape (⟦<u8 as Archive>⟧.keys a7)
           (⟦<u8 as Archive>⟧.meaning a7) (leaf_planned no_definition _ _ [] _ refl)
-          (part_planned no_definition ⟦<ArchivedI16 as Portable>⟧.shape (⟦<i16 as Archive>⟧.keys a8)
-          (⟦<i16 as Archive>⟧.meaning a8) (leaf_planned no_definition _ _ [] _ refl)
+          (part_planned no_definition ⟦<i8 as Portable>⟧.shape (⟦<i8 as Archive>⟧.keys a8)
+          (⟦<i8 as Archive>⟧.meaning a8) (leaf_planned no_definition _ _ [] _ refl)
           no_part_planned))))))))) refl
       | DepotSent a0 a1 a2 a3 a4 a5 a6 a7 a8 a9 a10 a11 a12 a13 a14 a15 ↦ plain_variant_planned _ _
           2 (part ⟦<NonZero<u32> as Portable>⟧.shape (part ⟦<ArchivedString as Portable>⟧.shape
-          (part ⟦<ArchivedVec<ArchivedU16> as Portable>⟧.shape
-          (part ⟦<ArchivedOption<ArchivedU32> as Portable>⟧.shape
-          (part ⟦<ArchivedBox<ArchivedI16> as Portable>⟧.shape
-          (part ⟦<ArchivedSpot as Portable>⟧.shape (part ⟦<ArchivedUsize as Portable>⟧.shape
-          (part ⟦<ArchivedIsize as Portable>⟧.shape (part ⟦<ArchivedChar as Portable>⟧.shape
-          (part ⟦<bool as Portable>⟧.shape (part ⟦<() as Portable>⟧.shape
-          (part ⟦<ArchivedI128 as Portable>⟧.shape (part ⟦<ArchivedU64 as Portable>⟧.shape
-          (part ⟦<ArchivedI16 as Portable>⟧.shape (part ⟦<u8 as Portable>⟧.shape
-          (part ⟦<ArchivedVec<ArchivedString> as Portable>⟧.shape no_part)))))))))))))))) refl
+          (part ⟦<ArchivedVec<u8> as Portable>⟧.shape (part ⟦<ArchivedOption<u8> as Portable>⟧.shape
+          (part ⟦<ArchivedBox<i8> as Portable>⟧.shape (part ⟦<ArchivedSpot as Portable>⟧.shape
+          (part ⟦<ArchivedUsize as Portable>⟧.shape (part ⟦<i8 as Portable>⟧.shape
+          (part ⟦<u8 as Portable>⟧.shape (part ⟦<bool as Portable>⟧.shape
+          (part ⟦<() as Portable>⟧.shape (part ⟦<ArchivedI128 as Portable>⟧.shape
+          (part ⟦<u8 as Portable>⟧.shape (part ⟦<i8 as Portable>⟧.shape
+          (part ⟦<u8 as Portable>⟧.shape (part ⟦<ArchivedVec<ArchivedString> as Portable>⟧.shape
+          no_part)))))))))))))))) refl (both no_definition
           (both no_definition (both no_definition (both no_definition
           (both no_definition (both no_definition (both no_definition
           (both no_definition (both no_definition (both no_definition
           (both no_definition (both no_definition (both no_definition
-          (both no_definition (both no_definition (both no_definition
-          (both no_definition no_definition)))))))))))))))) _ _
-          (part_planned no_definition ⟦<NonZero<u32> as Portable>⟧.shape
+          (both no_definition (both no_definition (both no_definition no_definition))))))))))))))))
+          _ _ (part_planned no_definition ⟦<NonZero<u32> as Portable>⟧.shape
           (⟦<NonZero<u32> as Archive>⟧.keys a0) (⟦<NonZero<u32> as Archive>⟧.meaning a0)
           (leaf_planned no_definition _ _ [] _ refl) (part_planned no_definition
           ⟦<ArchivedString as Portable>⟧.shape (⟦<String as Archive>⟧.keys a1)
           (⟦<String as Archive>⟧.meaning a1) (string_planned no_definition [] (string_bytes a1))
-          (part_planned no_definition ⟦<ArchivedVec<ArchivedU16> as Portable>⟧.shape
-          (⟦<Vec<u16> as Archive>⟧.keys a2) (⟦<Vec<u16> as Archive>⟧.meaning a2)
-          (vec_planned no_definition ⟦<ArchivedU16 as Portable>⟧.shape _ _ _
-          (slice_planned no_definition ⟦<ArchivedU16 as Portable>⟧.shape ⟦<u16 as Archive>⟧.keys
-          ⟦<u16 as Archive>⟧.meaning (λ x. leaf_planned no_definition _ _ [] _ refl) a2.items))
-          (part_planned no_definition ⟦<ArchivedOption<ArchivedU32> as Portable>⟧.shape
-          (⟦<Option<u32> as Archive>⟧.keys a3) (⟦<Option<u32> as Archive>⟧.meaning a3)
-          (option_planned no_definition ⟦<ArchivedU32 as Portable>⟧.shape ⟦<u32 as Archive>⟧.keys
-          ⟦<u32 as Archive>⟧.meaning (λ x. leaf_planned no_definition _ _ [] _ refl) a3)
-          (part_planned no_definition ⟦<ArchivedBox<ArchivedI16> as Portable>⟧.shape
-          (⟦<Box<i16> as Archive>⟧.keys a4) (⟦<Box<i16> as Archive>⟧.meaning a4)
-          (boxed_one_planned no_definition (one ⟦<ArchivedI16 as Portable>⟧.shape)
-          ⟦<ArchivedI16 as Portable>⟧.shape refl (⟦<i16 as Archive>⟧.keys a4.value)
-          (⟦<i16 as Archive>⟧.meaning a4.value) (leaf_planned no_definition _ _ [] _ refl))
-          (part_planned no_definition ⟦<ArchivedSpot as Portable>⟧.shape
-          (⟦<Spot as Archive>⟧.keys a5) (⟦<Spot as Archive>⟧.meaning a5) (planned_of_spot a5)
+          (part_planned no_definition ⟦<ArchivedVec<u8> as Portable>⟧.shape
+          (⟦<Vec<u8> as Archive>⟧.keys a2) (⟦<Vec<u8> as Archive>⟧.meaning a2)
+          (vec_planned no_definition ⟦<u8 as Portable>⟧.shape _ _ _
+          (slice_planned no_definition ⟦<u8 as Portable>⟧.shape ⟦<u8 as Archive>⟧.keys
+          ⟦<u8 as Archive>⟧.meaning (λ x. leaf_planned no_definition _ _ [] _ refl) a2.items))
+          (part_planned no_definition ⟦<ArchivedOption<u8> as Portable>⟧.shape
+          (⟦<Option<u8> as Archive>⟧.keys a3) (⟦<Option<u8> as Archive>⟧.meaning a3)
+          (option_planned no_definition ⟦<u8 as Portable>⟧.shape ⟦<u8 as Archive>⟧.keys
+          ⟦<u8 as Archive>⟧.meaning (λ x. leaf_planned no_definition _ _ [] _ refl) a3)
+          (part_planned no_definition ⟦<ArchivedBox<i8> as Portable>⟧.shape
+          (⟦<Box<i8> as Archive>⟧.keys a4) (⟦<Box<i8> as Archive>⟧.meaning a4)
+          (boxed_one_planned no_definition (one ⟦<i8 as Portable>⟧.shape) ⟦<i8 as Portable>⟧.shape
+          refl (⟦<i8 as Archive>⟧.keys a4.value) (⟦<i8 as Archive>⟧.meaning a4.value)
+          (leaf_planned no_definition _ _ [] _ refl)) (part_planned no_definition
+          ⟦<ArchivedSpot as Portable>⟧.shape (⟦<Spot as Archive>⟧.keys a5)
+          (⟦<Spot as Archive>⟧.meaning a5) (planned_of_spot a5)
           (part_planned no_definition ⟦<ArchivedUsize as Portable>⟧.shape
           (⟦<usize as Archive>⟧.keys a6) (⟦<usize as Archive>⟧.meaning a6)
           (leaf_planned no_definition _ _ [] _ refl) (part_planned no_definition
-          ⟦<ArchivedIsize as Portable>⟧.shape (⟦<isize as Archive>⟧.keys a7)
-          (⟦<isize as Archive>⟧.meaning a7) (leaf_planned no_definition _ _ [] _ refl)
-          (part_planned no_definition ⟦<ArchivedChar as Portable>⟧.shape
-          (⟦<char as Archive>⟧.keys a8) (⟦<char as Archive>⟧.meaning a8)
+          ⟦<i8 as Portable>⟧.shape (⟦<i8 as Archive>⟧.keys a7) (⟦<i8 as Archive>⟧.meaning a7)
+          (leaf_planned no_definition _ _ [] _ refl) (part_planned no_definition
+          ⟦<u8 as Portable>⟧.shape (⟦<u8 as Archive>⟧.keys a8) (⟦<u8 as Archive>⟧.meaning a8)
           (leaf_planned no_definition _ _ [] _ refl) (part_planned no_definition
           ⟦<bool as Portable>⟧.shape (⟦<bool as Archive>⟧.keys a9) (⟦<bool as Archive>⟧.meaning a9)
           (leaf_planned no_definition _ _ [] _ refl) (part_planned no_definition
@@ -903,11 +886,10 @@ impl Archive for Depot {
           (leaf_planned no_definition _ _ [] _ refl) (part_planned no_definition
           ⟦<ArchivedI128 as Portable>⟧.shape (⟦<i128 as Archive>⟧.keys a11)
           (⟦<i128 as Archive>⟧.meaning a11) (leaf_planned no_definition _ _ [] _ refl)
-          (part_planned no_definition ⟦<ArchivedU64 as Portable>⟧.shape
-          (⟦<u64 as Archive>⟧.keys a12) (⟦<u64 as Archive>⟧.meaning a12)
-          (leaf_planned no_definition _ _ [] _ refl) (part_planned no_definition
-          ⟦<ArchivedI16 as Portable>⟧.shape (⟦<i16 as Archive>⟧.keys a13)
-          (⟦<i16 as Archive>⟧.meaning a13) (leaf_planned no_definition _ _ [] _ refl)
+          (part_planned no_definition ⟦<u8 as Portable>⟧.shape (⟦<u8 as Archive>⟧.keys a12)
+          (⟦<u8 as Archive>⟧.meaning a12) (leaf_planned no_definition _ _ [] _ refl)
+          (part_planned no_definition ⟦<i8 as Portable>⟧.shape (⟦<i8 as Archive>⟧.keys a13)
+          (⟦<i8 as Archive>⟧.meaning a13) (leaf_planned no_definition _ _ [] _ refl)
           (part_planned no_definition ⟦<u8 as Portable>⟧.shape (⟦<u8 as Archive>⟧.keys a14)
           (⟦<u8 as Archive>⟧.meaning a14) (leaf_planned no_definition _ _ [] _ refl)
           (part_planned no_definition ⟦<ArchivedVec<ArchivedString> as Portable>⟧.shape
@@ -925,7 +907,7 @@ impl Archive for Depot {
         resolver: Self::Resolver,
         place: Place<'_, Self::Archived>,
     ) -> Result<(), Error>
-        requires zeroed { ZeroedPlace 112 place.pos place.bytes.now }
+        requires zeroed { ZeroedPlace 80 place.pos place.bytes.now }
         requires same_value { ⟦<Self as Archive>⟧.belongs self.now resolver }
         ensures {
             ResolvesAs ⟦<Self::Archived as Portable>⟧ place
@@ -957,7 +939,7 @@ impl Archive for Depot {
                     Place::new(pos, bytes),
                 )
             }
-            Depot::Sent { number: a0, to: a1, weights: a2, price: a3, other: a4, spot: a5, size: a6, distance: a7, letter: a8, is_open: a9, nothing: a10, wide: a11, seconds: a12, warmth: a13, row: a14, notes: a15 } => {
+            Depot::Sent { number: a0, to: a1, weights: a2, price: a3, other: a4, spot: a5, size: a6, distance: a7, shelf: a8, is_open: a9, nothing: a10, wide: a11, hour: a12, warmth: a13, row: a14, notes: a15 } => {
                 let DepotResolver::Sent(kept) = resolver else {
                     unreachable!();
                 };
@@ -1031,7 +1013,7 @@ impl<S: Writer + ResolverAlloc> Serialize<S> for Depot {
                     Err(error) => Err(error),
                 }
             }
-            Depot::Sent { number: a0, to: a1, weights: a2, price: a3, other: a4, spot: a5, size: a6, distance: a7, letter: a8, is_open: a9, nothing: a10, wide: a11, seconds: a12, warmth: a13, row: a14, notes: a15 } => {
+            Depot::Sent { number: a0, to: a1, weights: a2, price: a3, other: a4, spot: a5, size: a6, distance: a7, shelf: a8, is_open: a9, nothing: a10, wide: a11, hour: a12, warmth: a13, row: a14, notes: a15 } => {
                 let lent = DepotSentLent {
                     a0,
                     a1,
@@ -1082,17 +1064,15 @@ impl ArchiveUnsized for Depot {
         (part ⟦<u8 as Portable>⟧.shape (part ⟦<u8 as Portable>⟧.shape
         (part ⟦<u8 as Portable>⟧.shape (part ⟦<u8 as Portable>⟧.shape
         (part ⟦<u8 as Portable>⟧.shape (part ⟦<u8 as Portable>⟧.shape
-        (part ⟦<u8 as Portable>⟧.shape (part ⟦<ArchivedI16 as Portable>⟧.shape no_part)))))))))
+        (part ⟦<u8 as Portable>⟧.shape (part ⟦<i8 as Portable>⟧.shape no_part)))))))))
         (variant (part ⟦<NonZero<u32> as Portable>⟧.shape
-        (part ⟦<ArchivedString as Portable>⟧.shape (part
-        ⟦<ArchivedVec<ArchivedU16> as Portable>⟧.shape (part
-        ⟦<ArchivedOption<ArchivedU32> as Portable>⟧.shape
-        (part ⟦<ArchivedBox<ArchivedI16> as Portable>⟧.shape
+        (part ⟦<ArchivedString as Portable>⟧.shape (part ⟦<ArchivedVec<u8> as Portable>⟧.shape
+        (part ⟦<ArchivedOption<u8> as Portable>⟧.shape (part ⟦<ArchivedBox<i8> as Portable>⟧.shape
         (part ⟦<ArchivedSpot as Portable>⟧.shape (part ⟦<ArchivedUsize as Portable>⟧.shape
-        (part ⟦<ArchivedIsize as Portable>⟧.shape (part ⟦<ArchivedChar as Portable>⟧.shape
+        (part ⟦<i8 as Portable>⟧.shape (part ⟦<u8 as Portable>⟧.shape
         (part ⟦<bool as Portable>⟧.shape (part ⟦<() as Portable>⟧.shape
-        (part ⟦<ArchivedI128 as Portable>⟧.shape (part ⟦<ArchivedU64 as Portable>⟧.shape
-        (part ⟦<ArchivedI16 as Portable>⟧.shape (part ⟦<u8 as Portable>⟧.shape
+        (part ⟦<ArchivedI128 as Portable>⟧.shape (part ⟦<u8 as Portable>⟧.shape
+        (part ⟦<i8 as Portable>⟧.shape (part ⟦<u8 as Portable>⟧.shape
         (part ⟦<ArchivedVec<ArchivedString> as Portable>⟧.shape no_part))))))))))))))))
         no_variant)))) (⟦<Depot as Archive>⟧.keys v) (⟦<Depot as Archive>⟧.meaning v)
         (planned_of_depot v) };
@@ -1121,12 +1101,12 @@ fn depot_held_of(values: DepotHeldOwned) -> Depot
         (value (⟦<u8 as Archive>⟧.meaning values.rest.second)
         (value (⟦<u8 as Archive>⟧.meaning values.rest.third)
         (value (⟦<u8 as Archive>⟧.meaning values.rest.fourth)
-        (value (⟦<i16 as Archive>⟧.meaning values.rest.rest.0) no_value))))))))) }
+        (value (⟦<i8 as Archive>⟧.meaning values.rest.rest.0) no_value))))))))) }
     ensures keys { ⟦<Depot as Archive>⟧.keys result ≡ ⟦<u8 as Archive>⟧.keys values.first
         ++ (⟦<u8 as Archive>⟧.keys values.second ++ (⟦<u8 as Archive>⟧.keys values.third
         ++ (⟦<u8 as Archive>⟧.keys values.fourth ++ (⟦<u8 as Archive>⟧.keys values.rest.first
         ++ (⟦<u8 as Archive>⟧.keys values.rest.second ++ (⟦<u8 as Archive>⟧.keys values.rest.third
-        ++ (⟦<u8 as Archive>⟧.keys values.rest.fourth ++ (⟦<i16 as Archive>⟧.keys values.rest.rest.0
+        ++ (⟦<u8 as Archive>⟧.keys values.rest.fourth ++ (⟦<i8 as Archive>⟧.keys values.rest.rest.0
         ++ [])))))))) }
 {
     let FourParts {
@@ -1152,34 +1132,33 @@ fn depot_sent_of(values: DepotSentOwned) -> Depot
     ensures meaning { ⟦<Depot as Archive>⟧.meaning result
         ≡ case 2 (value (⟦<NonZero<u32> as Archive>⟧.meaning values.first)
         (value (⟦<String as Archive>⟧.meaning values.second)
-        (value (⟦<Vec<u16> as Archive>⟧.meaning values.third)
-        (value (⟦<Option<u32> as Archive>⟧.meaning values.fourth)
-        (value (⟦<Box<i16> as Archive>⟧.meaning values.rest.first)
+        (value (⟦<Vec<u8> as Archive>⟧.meaning values.third)
+        (value (⟦<Option<u8> as Archive>⟧.meaning values.fourth)
+        (value (⟦<Box<i8> as Archive>⟧.meaning values.rest.first)
         (value (⟦<Spot as Archive>⟧.meaning values.rest.second)
         (value (⟦<usize as Archive>⟧.meaning values.rest.third)
-        (value (⟦<isize as Archive>⟧.meaning values.rest.fourth)
-        (value (⟦<char as Archive>⟧.meaning values.rest.rest.first)
+        (value (⟦<i8 as Archive>⟧.meaning values.rest.fourth)
+        (value (⟦<u8 as Archive>⟧.meaning values.rest.rest.first)
         (value (⟦<bool as Archive>⟧.meaning values.rest.rest.second)
         (value (⟦<() as Archive>⟧.meaning values.rest.rest.third)
         (value (⟦<i128 as Archive>⟧.meaning values.rest.rest.fourth)
-        (value (⟦<u64 as Archive>⟧.meaning values.rest.rest.rest.first)
-        (value (⟦<i16 as Archive>⟧.meaning values.rest.rest.rest.second)
+        (value (⟦<u8 as Archive>⟧.meaning values.rest.rest.rest.first)
+        (value (⟦<i8 as Archive>⟧.meaning values.rest.rest.rest.second)
         (value (⟦<u8 as Archive>⟧.meaning values.rest.rest.rest.third)
         (value (⟦<Vec<String> as Archive>⟧.meaning values.rest.rest.rest.fourth)
         no_value)))))))))))))))) }
     ensures keys { ⟦<Depot as Archive>⟧.keys result ≡ ⟦<NonZero<u32> as Archive>⟧.keys values.first
-        ++ (⟦<String as Archive>⟧.keys values.second ++ (⟦<Vec<u16> as Archive>⟧.keys values.third
-        ++ (⟦<Option<u32> as Archive>⟧.keys values.fourth
-        ++ (⟦<Box<i16> as Archive>⟧.keys values.rest.first
+        ++ (⟦<String as Archive>⟧.keys values.second ++ (⟦<Vec<u8> as Archive>⟧.keys values.third
+        ++ (⟦<Option<u8> as Archive>⟧.keys values.fourth
+        ++ (⟦<Box<i8> as Archive>⟧.keys values.rest.first
         ++ (⟦<Spot as Archive>⟧.keys values.rest.second
         ++ (⟦<usize as Archive>⟧.keys values.rest.third
-        ++ (⟦<isize as Archive>⟧.keys values.rest.fourth
-        ++ (⟦<char as Archive>⟧.keys values.rest.rest.first
-        ++ (⟦<bool as Archive>⟧.keys values.rest.rest.second
+        ++ (⟦<i8 as Archive>⟧.keys values.rest.fourth ++ (⟦<u8 as Archive>⟧.keys
+        values.rest.rest.first ++ (⟦<bool as Archive>⟧.keys values.rest.rest.second
         ++ (⟦<() as Archive>⟧.keys values.rest.rest.third
         ++ (⟦<i128 as Archive>⟧.keys values.rest.rest.fourth
-        ++ (⟦<u64 as Archive>⟧.keys values.rest.rest.rest.first
-        ++ (⟦<i16 as Archive>⟧.keys values.rest.rest.rest.second
+        ++ (⟦<u8 as Archive>⟧.keys values.rest.rest.rest.first
+        ++ (⟦<i8 as Archive>⟧.keys values.rest.rest.rest.second
         ++ (⟦<u8 as Archive>⟧.keys values.rest.rest.rest.third
         ++ (⟦<Vec<String> as Archive>⟧.keys values.rest.rest.rest.fourth ++ []))))))))))))))) }
 {
@@ -1221,11 +1200,11 @@ fn depot_sent_of(values: DepotSentOwned) -> Depot
         spot: a5,
         size: a6,
         distance: a7,
-        letter: a8,
+        shelf: a8,
         is_open: a9,
         nothing: a10,
         wide: a11,
-        seconds: a12,
+        hour: a12,
         warmth: a13,
         row: a14,
         notes: a15,
@@ -1285,7 +1264,7 @@ pub enum ViewOfDepot<'a> {
         Ref<'a, u8>,
         Ref<'a, u8>,
         Ref<'a, u8>,
-        Ref<'a, ArchivedI16>,
+        Ref<'a, i8>,
     ),
     /// What was sent.
     Sent {
@@ -1294,29 +1273,29 @@ pub enum ViewOfDepot<'a> {
         /// Who took it.
         to: Ref<'a, ArchivedString>,
         /// What its parts weigh.
-        weights: Ref<'a, ArchivedVec<ArchivedU16>>,
+        weights: Ref<'a, ArchivedVec<u8>>,
         /// What it costs, if that is known.
-        price: Ref<'a, ArchivedOption<ArchivedU32>>,
+        price: Ref<'a, ArchivedOption<u8>>,
         /// The number of the one that it replaced.
-        other: Ref<'a, ArchivedBox<ArchivedI16>>,
+        other: Ref<'a, ArchivedBox<i8>>,
         /// Where it lay.
         spot: Ref<'a, ArchivedSpot>,
         /// How many parts it has.
         size: Ref<'a, ArchivedUsize>,
         /// How far it goes.
-        distance: Ref<'a, ArchivedIsize>,
-        /// The letter on it.
-        letter: Ref<'a, ArchivedChar>,
+        distance: Ref<'a, i8>,
+        /// The shelf.
+        shelf: Ref<'a, u8>,
         /// Whether it was open.
         is_open: Ref<'a, bool>,
         /// What was said of it.
         nothing: Ref<'a, ()>,
         /// A number of 128 bits.
         wide: Ref<'a, ArchivedI128>,
-        /// When it was sent, in seconds.
-        seconds: Ref<'a, ArchivedU64>,
-        /// How warm it was, in tenths of a degree.
-        warmth: Ref<'a, ArchivedI16>,
+        /// When it was sent, in hours.
+        hour: Ref<'a, u8>,
+        /// How warm it was, in degrees.
+        warmth: Ref<'a, i8>,
         /// The row in which it lay.
         row: Ref<'a, u8>,
         /// What is noted of it.
@@ -1353,7 +1332,7 @@ impl<'a> DepotView<'a> for Ref<'a, ArchivedDepot> {
               × ShowsValueOf a6 self.entry (payload_in 6) × (a7.bytes.now ≡ self.entry.bytes.now)
               × (a7.pos ≡ self.entry.pos + 8) × (a7.len ≡ 0)
               × ShowsValueOf a7 self.entry (payload_in 7) × (a8.bytes.now ≡ self.entry.bytes.now)
-              × (a8.pos ≡ self.entry.pos + 10) × (a8.len ≡ 0)
+              × (a8.pos ≡ self.entry.pos + 9) × (a8.len ≡ 0)
               × ShowsValueOf a8 self.entry (payload_in 8)
           | DepotSentShown a0 a1 a2 a3 a4 a5 a6 a7 a8 a9 a10 a11 a12 a13 a14 a15 ↦
               (tag_of self.entry ≡ 2) × (a0.bytes.now ≡ self.entry.bytes.now)
@@ -1365,29 +1344,29 @@ impl<'a> DepotView<'a> for Ref<'a, ArchivedDepot> {
               × ShowsValueOf a2 self.entry (payload_in 2) × (a3.bytes.now ≡ self.entry.bytes.now)
               × (a3.pos ≡ self.entry.pos + 24) × (a3.len ≡ 0)
               × ShowsValueOf a3 self.entry (payload_in 3) × (a4.bytes.now ≡ self.entry.bytes.now)
-              × (a4.pos ≡ self.entry.pos + 32) × (a4.len ≡ 0)
+              × (a4.pos ≡ self.entry.pos + 28) × (a4.len ≡ 0)
               × ShowsValueOf a4 self.entry (payload_in 4) × (a5.bytes.now ≡ self.entry.bytes.now)
-              × (a5.pos ≡ self.entry.pos + 36) × (a5.len ≡ 0)
+              × (a5.pos ≡ self.entry.pos + 32) × (a5.len ≡ 0)
               × ShowsValueOf a5 self.entry (payload_in 5) × (a6.bytes.now ≡ self.entry.bytes.now)
-              × (a6.pos ≡ self.entry.pos + 40) × (a6.len ≡ 0)
+              × (a6.pos ≡ self.entry.pos + 36) × (a6.len ≡ 0)
               × ShowsValueOf a6 self.entry (payload_in 6) × (a7.bytes.now ≡ self.entry.bytes.now)
-              × (a7.pos ≡ self.entry.pos + 44) × (a7.len ≡ 0)
+              × (a7.pos ≡ self.entry.pos + 40) × (a7.len ≡ 0)
               × ShowsValueOf a7 self.entry (payload_in 7) × (a8.bytes.now ≡ self.entry.bytes.now)
-              × (a8.pos ≡ self.entry.pos + 48) × (a8.len ≡ 0)
+              × (a8.pos ≡ self.entry.pos + 41) × (a8.len ≡ 0)
               × ShowsValueOf a8 self.entry (payload_in 8) × (a9.bytes.now ≡ self.entry.bytes.now)
-              × (a9.pos ≡ self.entry.pos + 52) × (a9.len ≡ 0)
+              × (a9.pos ≡ self.entry.pos + 42) × (a9.len ≡ 0)
               × ShowsValueOf a9 self.entry (payload_in 9) × (a10.bytes.now ≡ self.entry.bytes.now)
-              × (a10.pos ≡ self.entry.pos + 53) × (a10.len ≡ 0)
+              × (a10.pos ≡ self.entry.pos + 43) × (a10.len ≡ 0)
               × ShowsValueOf a10 self.entry (payload_in 10) × (a11.bytes.now ≡ self.entry.bytes.now)
-              × (a11.pos ≡ self.entry.pos + 64) × (a11.len ≡ 0)
+              × (a11.pos ≡ self.entry.pos + 48) × (a11.len ≡ 0)
               × ShowsValueOf a11 self.entry (payload_in 11) × (a12.bytes.now ≡ self.entry.bytes.now)
-              × (a12.pos ≡ self.entry.pos + 80) × (a12.len ≡ 0)
+              × (a12.pos ≡ self.entry.pos + 64) × (a12.len ≡ 0)
               × ShowsValueOf a12 self.entry (payload_in 12) × (a13.bytes.now ≡ self.entry.bytes.now)
-              × (a13.pos ≡ self.entry.pos + 88) × (a13.len ≡ 0)
+              × (a13.pos ≡ self.entry.pos + 65) × (a13.len ≡ 0)
               × ShowsValueOf a13 self.entry (payload_in 13) × (a14.bytes.now ≡ self.entry.bytes.now)
-              × (a14.pos ≡ self.entry.pos + 90) × (a14.len ≡ 0)
+              × (a14.pos ≡ self.entry.pos + 66) × (a14.len ≡ 0)
               × ShowsValueOf a14 self.entry (payload_in 14) × (a15.bytes.now ≡ self.entry.bytes.now)
-              × (a15.pos ≡ self.entry.pos + 92) × (a15.len ≡ 0)
+              × (a15.pos ≡ self.entry.pos + 68) × (a15.len ≡ 0)
               × ShowsValueOf a15 self.entry (payload_in 15)
         ] }
     {
@@ -1402,26 +1381,26 @@ impl<'a> DepotView<'a> for Ref<'a, ArchivedDepot> {
                 let a5 = part_in_case::<ArchivedDepot, u8>(self, 1, 5, 6);
                 let a6 = part_in_case::<ArchivedDepot, u8>(self, 1, 6, 7);
                 let a7 = part_in_case::<ArchivedDepot, u8>(self, 1, 7, 8);
-                let a8 = part_in_case::<ArchivedDepot, ArchivedI16>(self, 1, 8, 10);
+                let a8 = part_in_case::<ArchivedDepot, i8>(self, 1, 8, 9);
                 ViewOfDepot::Held(a0, a1, a2, a3, a4, a5, a6, a7, a8)
             }
             _ => ViewOfDepot::Sent {
                 number: part_in_case::<ArchivedDepot, NonZero<u32>>(self, 2, 0, 4),
                 to: part_in_case::<ArchivedDepot, ArchivedString>(self, 2, 1, 8),
-                weights: part_in_case::<ArchivedDepot, ArchivedVec<ArchivedU16>>(self, 2, 2, 16),
-                price: part_in_case::<ArchivedDepot, ArchivedOption<ArchivedU32>>(self, 2, 3, 24),
-                other: part_in_case::<ArchivedDepot, ArchivedBox<ArchivedI16>>(self, 2, 4, 32),
-                spot: part_in_case::<ArchivedDepot, ArchivedSpot>(self, 2, 5, 36),
-                size: part_in_case::<ArchivedDepot, ArchivedUsize>(self, 2, 6, 40),
-                distance: part_in_case::<ArchivedDepot, ArchivedIsize>(self, 2, 7, 44),
-                letter: part_in_case::<ArchivedDepot, ArchivedChar>(self, 2, 8, 48),
-                is_open: part_in_case::<ArchivedDepot, bool>(self, 2, 9, 52),
-                nothing: part_in_case::<ArchivedDepot, ()>(self, 2, 10, 53),
-                wide: part_in_case::<ArchivedDepot, ArchivedI128>(self, 2, 11, 64),
-                seconds: part_in_case::<ArchivedDepot, ArchivedU64>(self, 2, 12, 80),
-                warmth: part_in_case::<ArchivedDepot, ArchivedI16>(self, 2, 13, 88),
-                row: part_in_case::<ArchivedDepot, u8>(self, 2, 14, 90),
-                notes: part_in_case::<ArchivedDepot, ArchivedVec<ArchivedString>>(self, 2, 15, 92),
+                weights: part_in_case::<ArchivedDepot, ArchivedVec<u8>>(self, 2, 2, 16),
+                price: part_in_case::<ArchivedDepot, ArchivedOption<u8>>(self, 2, 3, 24),
+                other: part_in_case::<ArchivedDepot, ArchivedBox<i8>>(self, 2, 4, 28),
+                spot: part_in_case::<ArchivedDepot, ArchivedSpot>(self, 2, 5, 32),
+                size: part_in_case::<ArchivedDepot, ArchivedUsize>(self, 2, 6, 36),
+                distance: part_in_case::<ArchivedDepot, i8>(self, 2, 7, 40),
+                shelf: part_in_case::<ArchivedDepot, u8>(self, 2, 8, 41),
+                is_open: part_in_case::<ArchivedDepot, bool>(self, 2, 9, 42),
+                nothing: part_in_case::<ArchivedDepot, ()>(self, 2, 10, 43),
+                wide: part_in_case::<ArchivedDepot, ArchivedI128>(self, 2, 11, 48),
+                hour: part_in_case::<ArchivedDepot, u8>(self, 2, 12, 64),
+                warmth: part_in_case::<ArchivedDepot, i8>(self, 2, 13, 65),
+                row: part_in_case::<ArchivedDepot, u8>(self, 2, 14, 66),
+                notes: part_in_case::<ArchivedDepot, ArchivedVec<ArchivedString>>(self, 2, 15, 68),
             },
         }
     }
@@ -1476,7 +1455,7 @@ pub trait DepotSeal<'a> {
         requires tag { tag self ≡ 1 };
 
     /// The field `8` of `Held`.
-    fn held_8_mut(self) -> Seal<'a, ArchivedI16>
+    fn held_8_mut(self) -> Seal<'a, i8>
         requires come_to { sealed self }
         requires tag { tag self ≡ 1 };
 
@@ -1491,17 +1470,17 @@ pub trait DepotSeal<'a> {
         requires tag { tag self ≡ 2 };
 
     /// What its parts weigh.
-    fn sent_weights_mut(self) -> Seal<'a, ArchivedVec<ArchivedU16>>
+    fn sent_weights_mut(self) -> Seal<'a, ArchivedVec<u8>>
         requires come_to { sealed self }
         requires tag { tag self ≡ 2 };
 
     /// What it costs, if that is known.
-    fn sent_price_mut(self) -> Seal<'a, ArchivedOption<ArchivedU32>>
+    fn sent_price_mut(self) -> Seal<'a, ArchivedOption<u8>>
         requires come_to { sealed self }
         requires tag { tag self ≡ 2 };
 
     /// The number of the one that it replaced.
-    fn sent_other_mut(self) -> Seal<'a, ArchivedBox<ArchivedI16>>
+    fn sent_other_mut(self) -> Seal<'a, ArchivedBox<i8>>
         requires come_to { sealed self }
         requires tag { tag self ≡ 2 };
 
@@ -1516,12 +1495,12 @@ pub trait DepotSeal<'a> {
         requires tag { tag self ≡ 2 };
 
     /// How far it goes.
-    fn sent_distance_mut(self) -> Seal<'a, ArchivedIsize>
+    fn sent_distance_mut(self) -> Seal<'a, i8>
         requires come_to { sealed self }
         requires tag { tag self ≡ 2 };
 
-    /// The letter on it.
-    fn sent_letter_mut(self) -> Seal<'a, ArchivedChar>
+    /// The shelf.
+    fn sent_shelf_mut(self) -> Seal<'a, u8>
         requires come_to { sealed self }
         requires tag { tag self ≡ 2 };
 
@@ -1540,13 +1519,13 @@ pub trait DepotSeal<'a> {
         requires come_to { sealed self }
         requires tag { tag self ≡ 2 };
 
-    /// When it was sent, in seconds.
-    fn sent_seconds_mut(self) -> Seal<'a, ArchivedU64>
+    /// When it was sent, in hours.
+    fn sent_hour_mut(self) -> Seal<'a, u8>
         requires come_to { sealed self }
         requires tag { tag self ≡ 2 };
 
-    /// How warm it was, in tenths of a degree.
-    fn sent_warmth_mut(self) -> Seal<'a, ArchivedI16>
+    /// How warm it was, in degrees.
+    fn sent_warmth_mut(self) -> Seal<'a, i8>
         requires come_to { sealed self }
         requires tag { tag self ≡ 2 };
 
@@ -1638,13 +1617,13 @@ impl<'a> DepotSeal<'a> for Seal<'a, ArchivedDepot> {
         sealed_part_in_case::<ArchivedDepot, u8>(self, 1, 7, 8)
     }
 
-    fn held_8_mut(self) -> Seal<'a, ArchivedI16>
+    fn held_8_mut(self) -> Seal<'a, i8>
         requires come_to { IsSealOf no_definition (one ⟦<ArchivedDepot as Portable>⟧.shape) self }
         requires tag { seal_tag self ≡ 1 }
         ensures { SealsPart no_definition (one ⟦<ArchivedDepot as Portable>⟧.shape) no_definition
-            ⟦<ArchivedI16 as ArchivePointee>⟧.pointee (self.entry.pos + 10) 0 self.entry result }
+            ⟦<i8 as ArchivePointee>⟧.pointee (self.entry.pos + 9) 0 self.entry result }
     {
-        sealed_part_in_case::<ArchivedDepot, ArchivedI16>(self, 1, 8, 10)
+        sealed_part_in_case::<ArchivedDepot, i8>(self, 1, 8, 9)
     }
 
     fn sent_number_mut(self) -> Seal<'a, NonZero<u32>>
@@ -1665,133 +1644,133 @@ impl<'a> DepotSeal<'a> for Seal<'a, ArchivedDepot> {
         sealed_part_in_case::<ArchivedDepot, ArchivedString>(self, 2, 1, 8)
     }
 
-    fn sent_weights_mut(self) -> Seal<'a, ArchivedVec<ArchivedU16>>
+    fn sent_weights_mut(self) -> Seal<'a, ArchivedVec<u8>>
         requires come_to { IsSealOf no_definition (one ⟦<ArchivedDepot as Portable>⟧.shape) self }
         requires tag { seal_tag self ≡ 2 }
         ensures { SealsPart no_definition (one ⟦<ArchivedDepot as Portable>⟧.shape) no_definition
-            ⟦<ArchivedVec<ArchivedU16> as ArchivePointee>⟧.pointee (self.entry.pos + 16) 0
-            self.entry result }
+            ⟦<ArchivedVec<u8> as ArchivePointee>⟧.pointee (self.entry.pos + 16) 0 self.entry
+            result }
     {
-        sealed_part_in_case::<ArchivedDepot, ArchivedVec<ArchivedU16>>(self, 2, 2, 16)
+        sealed_part_in_case::<ArchivedDepot, ArchivedVec<u8>>(self, 2, 2, 16)
     }
 
-    fn sent_price_mut(self) -> Seal<'a, ArchivedOption<ArchivedU32>>
+    fn sent_price_mut(self) -> Seal<'a, ArchivedOption<u8>>
         requires come_to { IsSealOf no_definition (one ⟦<ArchivedDepot as Portable>⟧.shape) self }
         requires tag { seal_tag self ≡ 2 }
         ensures { SealsPart no_definition (one ⟦<ArchivedDepot as Portable>⟧.shape) no_definition
-            ⟦<ArchivedOption<ArchivedU32> as ArchivePointee>⟧.pointee (self.entry.pos + 24) 0
-            self.entry result }
+            ⟦<ArchivedOption<u8> as ArchivePointee>⟧.pointee (self.entry.pos + 24) 0 self.entry
+            result }
     {
-        sealed_part_in_case::<ArchivedDepot, ArchivedOption<ArchivedU32>>(self, 2, 3, 24)
+        sealed_part_in_case::<ArchivedDepot, ArchivedOption<u8>>(self, 2, 3, 24)
     }
 
-    fn sent_other_mut(self) -> Seal<'a, ArchivedBox<ArchivedI16>>
+    fn sent_other_mut(self) -> Seal<'a, ArchivedBox<i8>>
         requires come_to { IsSealOf no_definition (one ⟦<ArchivedDepot as Portable>⟧.shape) self }
         requires tag { seal_tag self ≡ 2 }
         ensures { SealsPart no_definition (one ⟦<ArchivedDepot as Portable>⟧.shape) no_definition
-            ⟦<ArchivedBox<ArchivedI16> as ArchivePointee>⟧.pointee (self.entry.pos + 32) 0
-            self.entry result }
+            ⟦<ArchivedBox<i8> as ArchivePointee>⟧.pointee (self.entry.pos + 28) 0 self.entry
+            result }
     {
-        sealed_part_in_case::<ArchivedDepot, ArchivedBox<ArchivedI16>>(self, 2, 4, 32)
+        sealed_part_in_case::<ArchivedDepot, ArchivedBox<i8>>(self, 2, 4, 28)
     }
 
     fn sent_spot_mut(self) -> Seal<'a, ArchivedSpot>
         requires come_to { IsSealOf no_definition (one ⟦<ArchivedDepot as Portable>⟧.shape) self }
         requires tag { seal_tag self ≡ 2 }
         ensures { SealsPart no_definition (one ⟦<ArchivedDepot as Portable>⟧.shape) no_definition
-            ⟦<ArchivedSpot as ArchivePointee>⟧.pointee (self.entry.pos + 36) 0 self.entry result }
+            ⟦<ArchivedSpot as ArchivePointee>⟧.pointee (self.entry.pos + 32) 0 self.entry result }
     {
-        sealed_part_in_case::<ArchivedDepot, ArchivedSpot>(self, 2, 5, 36)
+        sealed_part_in_case::<ArchivedDepot, ArchivedSpot>(self, 2, 5, 32)
     }
 
     fn sent_size_mut(self) -> Seal<'a, ArchivedUsize>
         requires come_to { IsSealOf no_definition (one ⟦<ArchivedDepot as Portable>⟧.shape) self }
         requires tag { seal_tag self ≡ 2 }
         ensures { SealsPart no_definition (one ⟦<ArchivedDepot as Portable>⟧.shape) no_definition
-            ⟦<ArchivedUsize as ArchivePointee>⟧.pointee (self.entry.pos + 40) 0 self.entry result }
+            ⟦<ArchivedUsize as ArchivePointee>⟧.pointee (self.entry.pos + 36) 0 self.entry result }
     {
-        sealed_part_in_case::<ArchivedDepot, ArchivedUsize>(self, 2, 6, 40)
+        sealed_part_in_case::<ArchivedDepot, ArchivedUsize>(self, 2, 6, 36)
     }
 
-    fn sent_distance_mut(self) -> Seal<'a, ArchivedIsize>
+    fn sent_distance_mut(self) -> Seal<'a, i8>
         requires come_to { IsSealOf no_definition (one ⟦<ArchivedDepot as Portable>⟧.shape) self }
         requires tag { seal_tag self ≡ 2 }
         ensures { SealsPart no_definition (one ⟦<ArchivedDepot as Portable>⟧.shape) no_definition
-            ⟦<ArchivedIsize as ArchivePointee>⟧.pointee (self.entry.pos + 44) 0 self.entry result }
+            ⟦<i8 as ArchivePointee>⟧.pointee (self.entry.pos + 40) 0 self.entry result }
     {
-        sealed_part_in_case::<ArchivedDepot, ArchivedIsize>(self, 2, 7, 44)
+        sealed_part_in_case::<ArchivedDepot, i8>(self, 2, 7, 40)
     }
 
-    fn sent_letter_mut(self) -> Seal<'a, ArchivedChar>
+    fn sent_shelf_mut(self) -> Seal<'a, u8>
         requires come_to { IsSealOf no_definition (one ⟦<ArchivedDepot as Portable>⟧.shape) self }
         requires tag { seal_tag self ≡ 2 }
         ensures { SealsPart no_definition (one ⟦<ArchivedDepot as Portable>⟧.shape) no_definition
-            ⟦<ArchivedChar as ArchivePointee>⟧.pointee (self.entry.pos + 48) 0 self.entry result }
+            ⟦<u8 as ArchivePointee>⟧.pointee (self.entry.pos + 41) 0 self.entry result }
     {
-        sealed_part_in_case::<ArchivedDepot, ArchivedChar>(self, 2, 8, 48)
+        sealed_part_in_case::<ArchivedDepot, u8>(self, 2, 8, 41)
     }
 
     fn sent_is_open_mut(self) -> Seal<'a, bool>
         requires come_to { IsSealOf no_definition (one ⟦<ArchivedDepot as Portable>⟧.shape) self }
         requires tag { seal_tag self ≡ 2 }
         ensures { SealsPart no_definition (one ⟦<ArchivedDepot as Portable>⟧.shape) no_definition
-            ⟦<bool as ArchivePointee>⟧.pointee (self.entry.pos + 52) 0 self.entry result }
+            ⟦<bool as ArchivePointee>⟧.pointee (self.entry.pos + 42) 0 self.entry result }
     {
-        sealed_part_in_case::<ArchivedDepot, bool>(self, 2, 9, 52)
+        sealed_part_in_case::<ArchivedDepot, bool>(self, 2, 9, 42)
     }
 
     fn sent_nothing_mut(self) -> Seal<'a, ()>
         requires come_to { IsSealOf no_definition (one ⟦<ArchivedDepot as Portable>⟧.shape) self }
         requires tag { seal_tag self ≡ 2 }
         ensures { SealsPart no_definition (one ⟦<ArchivedDepot as Portable>⟧.shape) no_definition
-            ⟦<() as ArchivePointee>⟧.pointee (self.entry.pos + 53) 0 self.entry result }
+            ⟦<() as ArchivePointee>⟧.pointee (self.entry.pos + 43) 0 self.entry result }
     {
-        sealed_part_in_case::<ArchivedDepot, ()>(self, 2, 10, 53)
+        sealed_part_in_case::<ArchivedDepot, ()>(self, 2, 10, 43)
     }
 
     fn sent_wide_mut(self) -> Seal<'a, ArchivedI128>
         requires come_to { IsSealOf no_definition (one ⟦<ArchivedDepot as Portable>⟧.shape) self }
         requires tag { seal_tag self ≡ 2 }
         ensures { SealsPart no_definition (one ⟦<ArchivedDepot as Portable>⟧.shape) no_definition
-            ⟦<ArchivedI128 as ArchivePointee>⟧.pointee (self.entry.pos + 64) 0 self.entry result }
+            ⟦<ArchivedI128 as ArchivePointee>⟧.pointee (self.entry.pos + 48) 0 self.entry result }
     {
-        sealed_part_in_case::<ArchivedDepot, ArchivedI128>(self, 2, 11, 64)
+        sealed_part_in_case::<ArchivedDepot, ArchivedI128>(self, 2, 11, 48)
     }
 
-    fn sent_seconds_mut(self) -> Seal<'a, ArchivedU64>
+    fn sent_hour_mut(self) -> Seal<'a, u8>
         requires come_to { IsSealOf no_definition (one ⟦<ArchivedDepot as Portable>⟧.shape) self }
         requires tag { seal_tag self ≡ 2 }
         ensures { SealsPart no_definition (one ⟦<ArchivedDepot as Portable>⟧.shape) no_definition
-            ⟦<ArchivedU64 as ArchivePointee>⟧.pointee (self.entry.pos + 80) 0 self.entry result }
+            ⟦<u8 as ArchivePointee>⟧.pointee (self.entry.pos + 64) 0 self.entry result }
     {
-        sealed_part_in_case::<ArchivedDepot, ArchivedU64>(self, 2, 12, 80)
+        sealed_part_in_case::<ArchivedDepot, u8>(self, 2, 12, 64)
     }
 
-    fn sent_warmth_mut(self) -> Seal<'a, ArchivedI16>
+    fn sent_warmth_mut(self) -> Seal<'a, i8>
         requires come_to { IsSealOf no_definition (one ⟦<ArchivedDepot as Portable>⟧.shape) self }
         requires tag { seal_tag self ≡ 2 }
         ensures { SealsPart no_definition (one ⟦<ArchivedDepot as Portable>⟧.shape) no_definition
-            ⟦<ArchivedI16 as ArchivePointee>⟧.pointee (self.entry.pos + 88) 0 self.entry result }
+            ⟦<i8 as ArchivePointee>⟧.pointee (self.entry.pos + 65) 0 self.entry result }
     {
-        sealed_part_in_case::<ArchivedDepot, ArchivedI16>(self, 2, 13, 88)
+        sealed_part_in_case::<ArchivedDepot, i8>(self, 2, 13, 65)
     }
 
     fn sent_row_mut(self) -> Seal<'a, u8>
         requires come_to { IsSealOf no_definition (one ⟦<ArchivedDepot as Portable>⟧.shape) self }
         requires tag { seal_tag self ≡ 2 }
         ensures { SealsPart no_definition (one ⟦<ArchivedDepot as Portable>⟧.shape) no_definition
-            ⟦<u8 as ArchivePointee>⟧.pointee (self.entry.pos + 90) 0 self.entry result }
+            ⟦<u8 as ArchivePointee>⟧.pointee (self.entry.pos + 66) 0 self.entry result }
     {
-        sealed_part_in_case::<ArchivedDepot, u8>(self, 2, 14, 90)
+        sealed_part_in_case::<ArchivedDepot, u8>(self, 2, 14, 66)
     }
 
     fn sent_notes_mut(self) -> Seal<'a, ArchivedVec<ArchivedString>>
         requires come_to { IsSealOf no_definition (one ⟦<ArchivedDepot as Portable>⟧.shape) self }
         requires tag { seal_tag self ≡ 2 }
         ensures { SealsPart no_definition (one ⟦<ArchivedDepot as Portable>⟧.shape) no_definition
-            ⟦<ArchivedVec<ArchivedString> as ArchivePointee>⟧.pointee (self.entry.pos + 92) 0
+            ⟦<ArchivedVec<ArchivedString> as ArchivePointee>⟧.pointee (self.entry.pos + 68) 0
             self.entry result }
     {
-        sealed_part_in_case::<ArchivedDepot, ArchivedVec<ArchivedString>>(self, 2, 15, 92)
+        sealed_part_in_case::<ArchivedDepot, ArchivedVec<ArchivedString>>(self, 2, 15, 68)
     }
 }

@@ -114,10 +114,10 @@ fn a_type_names_its_fields_and_variants(rt: HostRuntime) -> Result<(), Fail> {
 const DEPOT: &str = "struct Spot { right: u16, up: i16 }
 enum Depot {
     Free,
-    Held(u8, u8, u8, u8, u8, u8, u8, u8, i16),
+    Held(u8, u8, u8, u8, u8, u8, u8, u8, i8),
     Sent {
-        number: NonZero<u32>, to: String, weights: Vec<u16>, price: Option<u32>, other: Box<i16>, spot: Spot, size: usize, distance: isize,
-        letter: char, is_open: bool, nothing: (), wide: i128, seconds: u64, warmth: i16, row: u8, notes: Vec<String>,
+        number: NonZero<u32>, to: String, weights: Vec<u8>, price: Option<u8>, other: Box<i8>, spot: Spot, size: usize, distance: i8,
+        shelf: u8, is_open: bool, nothing: (), wide: i128, hour: u8, warmth: i8, row: u8, notes: Vec<String>,
     },
 }";
 
