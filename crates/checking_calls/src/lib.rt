@@ -1,0 +1,4 @@
+//! Calls of a check that wrong bodies are tried on, in a crate of its own, since each crate with wrong bodies is proved once more.
+#![tactic(auto)]
+
+pub mod calls;
