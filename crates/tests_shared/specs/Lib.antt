@@ -1,3 +1,4 @@
-pub mod TwoPools
 pub mod CircleShape
+pub mod EditedParts
 pub mod LoopShape
+pub mod TwoPools

@@ -85,6 +85,20 @@ pub(crate) fn archived<T: Serialize<HighSerializer<Vec<u8>, Global>>>(
     to_bytes(alloc, value).expect(rt, "an archive")
 }
 
+// An archive is read back as this value.
+pub(crate) fn assert_read<T: Archive + PartialEq + Debug + Drop>(
+    rt: &impl Abort,
+    alloc: Global,
+    archive: &[u8],
+    value: &T,
+)
+where
+    T::Archived: Deserialize<T, ()>,
+{
+    let back: T = from_bytes(alloc, archive, &mut ()).expect(rt, "a value is read back");
+    assert_same(rt, "what is read back", &back, value);
+}
+
 // What is read back of an archive, with a deserializer.
 pub(crate) fn read<T: Archive, D: Entries>(
     rt: &impl Abort,

@@ -176,8 +176,10 @@ fn a_weak_pointer_leads_there(rt: HostRuntime) {
     write(&rt, &mut serializer, &pointer);
     let bytes = serializer.into_writer();
     let view = viewed::<WeakText>(&rt, rt.alloc(), bytes.as_slice());
-    let text = view.upgrade().map(|text| text.as_str());
-    assert_same(&rt, "the text", text, Some("hello"));
+    let Some(text) = view.upgrade() else {
+        panic!(&rt; "null")
+    };
+    assert_same(&rt, "the text", text.as_str(), "hello");
 }
 
 #[test]

@@ -1,19 +1,12 @@
 // Maps are compared, with each other and with those of the machine.
 
 use crate::assertions::{assert_same, viewed};
+use crate::comparisons::hash_of;
 use crate::maps::archives::{EMPTY, NUMBERS, Numbers, map_of};
 use archive_core::view::Ref;
 use std::alloc::Global;
 use std::cmp::Ordering;
-use std::hash::{DefaultHasher, Hash, Hasher};
 use std::process::Abort;
-
-// What a value feeds a hasher comes to.
-fn hash_of<T: Hash>(value: &T) -> u64 {
-    let mut state = DefaultHasher::new();
-    value.hash(&mut state);
-    state.finish()
-}
 
 // The order of two maps, whether they are equal, and whether they feed a hasher alike.
 fn compared(one: Ref<'_, Numbers>, other: Ref<'_, Numbers>) -> (Ordering, bool, bool) {

@@ -20,7 +20,7 @@ use std::process::Abort;
 const HELLO_WORLD: &[u8] = b"hello world\0\x8b\0\0\0\xf4\xff\xff\xff";
 
 // What a value feeds a hasher comes to.
-fn hash_of<T: Hash>(value: &T) -> u64 {
+pub(crate) fn hash_of<T: Hash>(value: &T) -> u64 {
     let mut state = DefaultHasher::new();
     value.hash(&mut state);
     state.finish()

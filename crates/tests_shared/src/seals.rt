@@ -5,7 +5,7 @@ ghost use Rattle.archive_core.specs.Archives.{root_in};
 ghost use Rattle.archive_core.specs.Leaves.{edit};
 ghost use Rattle.archive_core.specs.KnownParts.{KnowsAlso};
 ghost use Rattle.archive_core.specs.PartsLayout.{part_at, definitions_at};
-ghost use Rattle.tests_in_place.specs.EditedParts.{PartEdited};
+ghost use Rattle.tests_shared.specs.EditedParts.{PartEdited};
 
 use crate::assertions::{assert_bytes, assert_holds, assert_refusal, assert_same, sealed, viewed};
 use archive_core::api::access;

@@ -13,20 +13,20 @@ use std::process::Abort;
 fn maps_of_numbers_are_written(rt: HostRuntime) {
     let alloc = rt.alloc();
     let map = map_of(&rt, alloc, &[(2u32, 20u32), (1, 10)]);
-    assert_written(&rt, "numbers", alloc, &map, NUMBERS);
+    assert_written(&rt, alloc, &map, NUMBERS);
     let none: BTreeMap<u32, u32> = BTreeMap::new(alloc);
-    assert_written(&rt, "no number", alloc, &none, EMPTY);
+    assert_written(&rt, alloc, &none, EMPTY);
 }
 
 #[test]
 fn maps_of_texts_are_written(rt: HostRuntime) {
     let map = texts_of(&rt, rt.alloc(), &[("hello world", 2), ("a", 1)]);
-    assert_written(&rt, "texts", rt.alloc(), &map, TEXTS);
+    assert_written(&rt, rt.alloc(), &map, TEXTS);
 }
 
 // The archive of these entries.
 fn assert_entries(rt: &impl Abort, alloc: Global, entries: &[(u32, u32)], archive: &[u8]) {
-    assert_written(rt, "entries", alloc, &SortedEntries { entries }, archive);
+    assert_written(rt, alloc, &SortedEntries { entries }, archive);
 }
 
 #[test]
@@ -73,7 +73,7 @@ fn two_maps(alloc: Global, first: Bools) -> Result<BTreeMap<u8, Bools>, AllocErr
 fn maps_of_maps_are_written(rt: HostRuntime) {
     let first = map_of(&rt, rt.alloc(), &[(3, true)]);
     let maps = two_maps(rt.alloc(), first).expect(&rt, "memory for a map");
-    assert_written(&rt, "maps", rt.alloc(), &maps, MAPS);
+    assert_written(&rt, rt.alloc(), &maps, MAPS);
 }
 
 // 1 to true and 2 to false, and at 4 the map of these, and an empty one. At 20 the vector of both.
@@ -86,5 +86,5 @@ fn vectors_of_maps_are_written(rt: HostRuntime) {
     let first = map_of(&rt, alloc, &[(1, true), (2, false)]);
     let second: Bools = BTreeMap::new(alloc);
     let maps = Vec::from_array(alloc, [first, second]).expect(&rt, "memory for a vector");
-    assert_written(&rt, "two maps", alloc, &maps, TWO_MAPS);
+    assert_written(&rt, alloc, &maps, TWO_MAPS);
 }

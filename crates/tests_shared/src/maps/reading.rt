@@ -8,13 +8,13 @@ use std::collections::BTreeMap;
 fn maps_of_numbers_are_read_back(rt: HostRuntime) {
     let alloc = rt.alloc();
     let map = map_of(&rt, alloc, &[(1u32, 10u32), (2, 20)]);
-    assert_read(&rt, "numbers", alloc, NUMBERS, &map);
+    assert_read(&rt, alloc, NUMBERS, &map);
     let none: BTreeMap<u32, u32> = BTreeMap::new(alloc);
-    assert_read(&rt, "no number", alloc, EMPTY, &none);
+    assert_read(&rt, alloc, EMPTY, &none);
 }
 
 #[test]
 fn maps_of_texts_are_read_back(rt: HostRuntime) {
     let map = texts_of(&rt, rt.alloc(), &[("a", 1), ("hello world", 2)]);
-    assert_read(&rt, "texts", rt.alloc(), TEXTS, &map);
+    assert_read(&rt, rt.alloc(), TEXTS, &map);
 }

@@ -2,7 +2,7 @@ use Rattle.std.proofs.Common.{refl}
 use Rattle.archive_core.specs.PartsLayout.{knows_at}
 use Rattle.archive_core.proofs.SealedParts.{root_comes, comes_on, field_comes}
 use Rattle.archive_core.proofs.SealsTogether.{sealed_still}
-use Rattle.tests_in_place.proofs.seals.write_part.Goals as goal
+use Rattle.tests_shared.proofs.seals.write_part.Goals as goal
 
 pub view-requires : goal.view-requires
 view-requires g c = rw c.in-Ok.ensures.buffer at c.spot-root.ensures.viewed

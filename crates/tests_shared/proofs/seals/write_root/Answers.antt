@@ -1,5 +1,5 @@
 use Rattle.archive_core.proofs.SealedParts.{root_comes}
-use Rattle.tests_in_place.proofs.seals.write_root.Goals as goal
+use Rattle.tests_shared.proofs.seals.write_root.Goals as goal
 
 pub seal-requires : goal.seal-requires
 seal-requires g c =
