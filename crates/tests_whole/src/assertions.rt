@@ -4,6 +4,8 @@
 
 use archive_core::api::{HighSerializer, access, access_pos, from_bytes, to_bytes};
 use archive_core::error::Error;
+use archive_core::primitive::{LittleEndian, Native};
+use archive_core::ser::serialize_with;
 use archive_core::traits::{Archive, Deserialize, Portable, Serialize};
 use archive_core::view::Ref;
 use std::alloc::Global;
@@ -132,4 +134,121 @@ pub(crate) fn assert_refused_at<T: Portable>(
 ) {
     let refused = access_pos::<T>(alloc, bytes, pos).err();
     assert_same(rt, what, refused, Some(refusal));
+}
+
+// What `what` names is refused since an offset doesn't fit.
+pub(crate) fn assert_too_far<T: Drop>(rt: &impl Abort, what: &str, found: Result<T, Error>) {
+    assert_refusal(rt, what, found, Error::OffsetOverflow);
+}
+
+// What `what` names is refused since a buffer of `cap` bytes, of which `len` are taken, has no room for a piece of `write_len`.
+pub(crate) fn assert_full<T: Drop>(
+    rt: &impl Abort,
+    what: &str,
+    found: Result<T, Error>,
+    (write_len, cap, len): (usize, usize, usize),
+) {
+    let refusal = Error::BufferOverflow {
+        write_len,
+        cap,
+        len,
+    };
+    assert_refusal(rt, what, found, refusal);
+}
+
+// The archive of a value.
+pub(crate) fn written<T: Serialize<HighSerializer<Vec<u8>, Global>>>(
+    rt: &impl Abort,
+    alloc: Global,
+    value: &T,
+) -> Vec<u8> {
+    to_bytes(alloc, value).expect(rt, "an archive is written")
+}
+
+// What is read back of an archive.
+pub(crate) fn value_of<T: Archive>(rt: &impl Abort, alloc: Global, archive: &[u8]) -> T
+where
+    T::Archived: Deserialize<T, ()>,
+{
+    from_bytes(alloc, archive, &mut ()).expect(rt, "a value is read back")
+}
+
+// The archive of a value that shares nothing, if it has one. The writer is the vector itself: a call at a long tuple is a fifth cheaper than one of `written`.
+pub(crate) fn bytes_of<T: Serialize<Vec<u8>>>(alloc: Global, value: &T) -> Option<Vec<u8>> {
+    let mut bytes = Vec::new(alloc);
+    let root = serialize_with(alloc, value, &mut bytes);
+    if root.is_err() {
+        return None;
+    }
+    Some(bytes)
+}
+
+// What is read back of an archive, if it is one. A function that takes no runtime and hands on what this answers is a third cheaper than one of `value_of`.
+pub(crate) fn found<T: Archive>(alloc: Global, archive: &[u8]) -> Option<T>
+where
+    T::Archived: Deserialize<T, ()>,
+{
+    from_bytes(alloc, archive, &mut ()).ok()
+}
+
+// Whether these bytes are the archive of a value.
+fn is_written<T: Serialize<Vec<u8>>>(alloc: Global, value: &T, archive: &[u8]) -> bool {
+    match bytes_of(alloc, value) {
+        Some(bytes) => bytes.as_slice() == archive,
+        None => false,
+    }
+}
+
+// Whether these bytes are the archive of a value, and of what is read back of them. A test of a long tuple calls this alone, since one call at it is dear.
+pub(crate) fn is_kept<T: Serialize<Vec<u8>> + Drop>(
+    alloc: Global,
+    value: &T,
+    archive: &[u8],
+) -> bool
+where
+    T::Archived: Deserialize<T, ()>,
+{
+    let back: Option<T> = found(alloc, archive);
+    let Some(back) = back else {
+        return false;
+    };
+    is_written(alloc, value, archive) && is_written(alloc, &back, archive)
+}
+
+// A `T` lies at the end of the bytes.
+pub(crate) fn assert_accepted<T: Portable>(rt: &impl Abort, alloc: Global, bytes: &[u8]) {
+    access::<T>(alloc, bytes).expect(rt, "an archive");
+}
+
+// Whether no `T` lies at the end of the bytes.
+pub(crate) fn is_refused<T: Portable>(alloc: Global, bytes: &[u8]) -> bool {
+    access::<T>(alloc, bytes).is_err()
+}
+
+// No `T` lies at the end of the bytes, since its type `name` has no variant with this tag.
+pub(crate) fn assert_no_variant<T: Portable>(
+    rt: &impl Abort,
+    what: &str,
+    alloc: Global,
+    bytes: &[u8],
+    (name, value): (&'static str, u8),
+) {
+    let refusal = Error::InvalidDiscriminant { name, value };
+    assert_refused::<T>(rt, what, alloc, bytes, refusal);
+}
+
+// The number that is viewed, if there is one.
+pub(crate) fn number_of<N: Native>(view: Option<Ref<'_, LittleEndian<N>>>) -> Option<N> {
+    match view {
+        Some(view) => Some(view.get()),
+        None => None,
+    }
+}
+
+// The position of what is viewed, if there is anything.
+pub(crate) fn position_of<T: Portable>(view: Option<Ref<'_, T>>) -> Option<usize> {
+    match view {
+        Some(view) => Some(view.pos()),
+        None => None,
+    }
 }

@@ -1,4 +1,4 @@
-//! Tests of whole archives, through public calls.
+//! Tests of whole archives, of owners, records and choices, through public calls.
 #![tactic(auto)]
 
 #[cfg(test)]

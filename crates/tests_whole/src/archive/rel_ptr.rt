@@ -33,19 +33,26 @@ fn distances_between_positions(rt: HostRuntime) {
     }
 }
 
+// A distance fits an offset, which tells it again.
+fn assert_fits<O: Offset>(rt: &impl Abort, what: &str, distance: isize) {
+    let offset = O::from_isize(distance).expect(rt, what);
+    assert_same(rt, what, offset.to_isize(), distance);
+}
+
+// And one that doesn't.
+fn assert_too_far<O: Offset>(rt: &impl Abort, what: &str, distance: isize) {
+    let refusal = O::from_isize(distance).err();
+    assert_same(rt, what, refusal, Some(Error::OffsetOverflow));
+}
+
 #[test]
 fn offsets_of_distances(rt: HostRuntime) {
-    let overflow = Error::OffsetOverflow;
-    assert_same(&rt, "the least i8", i8::from_isize(-128), Ok(-128));
-    assert_same(&rt, "above i8", i8::from_isize(128), Err(overflow));
-    assert_same(&rt, "the greatest u8", u8::from_isize(255), Ok(255));
-    assert_same(&rt, "below u8", u8::from_isize(-1), Err(overflow));
-    let least = ArchivedI16::from_native(-32768);
-    assert_eq!(rt; ArchivedI16::from_isize(-32768), Ok(least));
-    assert_eq!(rt; ArchivedI16::from_isize(-32769), Err(overflow));
-    let distance = ArchivedI16::from_native(-2).to_isize();
-    assert_same(&rt, "of an i16", distance, -2);
-    assert_same(&rt, "of a u8", 255u8.to_isize(), 255);
+    assert_fits::<i8>(&rt, "the least i8", -128);
+    assert_too_far::<i8>(&rt, "above i8", 128);
+    assert_fits::<u8>(&rt, "the greatest u8", 255);
+    assert_too_far::<u8>(&rt, "below u8", -1);
+    assert_fits::<ArchivedI16>(&rt, "the least i16", -32768);
+    assert_too_far::<ArchivedI16>(&rt, "below i16", -32769);
     let distance = ArchivedU64::from_native(u64::MAX).to_isize();
     assert_same(&rt, "of a u64", distance, -1);
 }

@@ -7,7 +7,6 @@ use crate::assertions::{
 };
 use archive_core::api::access_pos;
 use archive_core::error::Error;
-use archive_core::primitive::ArchivedUsize;
 use archive_core::ser::{Positional, Serializer};
 use archive_core::string::{ArchivedStr, ArchivedString, Text, repr};
 use archive_core::traits::{ArchivePointee, ArchiveUnsized, DeserializeUnsized, SerializeUnsized};
@@ -85,9 +84,10 @@ fn strings_that_are_refused(rt: HostRuntime) {
 fn a_text_is_a_region_of_its_own(rt: HostRuntime) {
     let mut serializer = Serializer::new(Vec::new(rt.alloc()), rt.alloc(), ());
     let text = Text { text: "héllo" };
-    let metadata = ArchivedUsize::from_native(6);
-    assert_eq!(rt; text.archived_metadata(), Ok(metadata));
-    let length = ArchivedStr::pointer_metadata(&metadata);
+    let length = match text.archived_metadata() {
+        Ok(metadata) => ArchivedStr::pointer_metadata(&metadata),
+        Err(_) => 0,
+    };
     assert_same(&rt, "the length", length, 6);
     let pos = text
         .serialize_unsized(&mut serializer)

@@ -112,13 +112,32 @@ fn is_copied<T: Archive>() -> bool {
 }
 
 #[test]
-fn the_switch(rt: HostRuntime) {
-    assert_holds(&rt, "numbers", is_copied::<u32>());
-    assert_holds(&rt, "no texts", !is_copied::<String>());
+fn numbers_and_short_arrays_of_them_are_copied(rt: HostRuntime) {
+    let found = (is_copied::<u32>(), is_copied::<ArchivedNonZeroU16>());
+    assert_same(&rt, "numbers", found, (true, true));
+    let found = (is_copied::<[u16; 3]>(), is_copied::<[u8; 1024]>());
+    assert_same(&rt, "arrays of 1 to 1024 bytes", found, (true, true));
+    let found = (is_copied::<[u8; 1025]>(), is_copied::<[(); 3]>());
+    assert_same(
+        &rt,
+        "a longer one, and one without a byte",
+        found,
+        (false, false),
+    );
+    let found = (is_copied::<PhantomData<u8>>(), is_copied::<String>());
+    assert_same(&rt, "nothing, and texts", found, (true, false));
+}
+
+#[test]
+fn the_switch_is_on_or_off(rt: HostRuntime) {
     let on = CopyOptimization::<u32>::enable_if(true);
-    assert_holds(&rt, "on", on.is_enabled());
     let off = CopyOptimization::<u32>::disable();
-    assert_holds(&rt, "off", !off.is_enabled());
+    assert_same(
+        &rt,
+        "on, and off",
+        (on.is_enabled(), off.is_enabled()),
+        (true, false),
+    );
 }
 
 #[test]
@@ -214,14 +233,6 @@ fn a_full_buffer_takes_no_part_of_an_array(rt: HostRuntime) {
     assert_arrays_refused(&rt, rt.alloc(), &many, &mut buffer, (780, 1100, 1020));
 }
 
-#[test]
-fn arrays_of_1_to_1024_bytes_are_copied(rt: HostRuntime) {
-    assert_holds(&rt, "a small array", is_copied::<[u16; 3]>());
-    assert_holds(&rt, "the largest", is_copied::<[u8; 1024]>());
-    assert_holds(&rt, "no large one", !is_copied::<[u8; 1025]>());
-    assert_holds(&rt, "none without a byte", !is_copied::<[(); 3]>());
-}
-
 // Where values are copied.
 fn copied<T: CopiedSource, S: Writer + Keys>(
     rt: &impl Abort,
@@ -272,12 +283,6 @@ fn numbers_that_are_not_0_and_nothing_are_copied(rt: HostRuntime) {
     let region = copied(&rt, &nothing, &mut buffer);
     assert_same(&rt, "the position of nothing, at the end", region, 6);
     assert_same(&rt, "no further byte", buffer.as_slice().len(), 6);
-}
-
-#[test]
-fn the_switch_is_on_of_numbers_that_are_not_0_and_of_nothing(rt: HostRuntime) {
-    assert_holds(&rt, "not 0", is_copied::<ArchivedNonZeroU16>());
-    assert_holds(&rt, "PhantomData is copied", is_copied::<PhantomData<u8>>());
 }
 
 // Numbers are written to this writer, with no allocator.

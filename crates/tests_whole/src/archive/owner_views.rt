@@ -1,7 +1,7 @@
 // Views of boxes, slices and vectors, and of what strings tell of their texts.
 
 use crate::archive::{BOXED_HELLO_WORLD, HELLO_WORLD};
-use crate::assertions::{assert_holds, assert_same, viewed};
+use crate::assertions::{assert_holds, assert_same, number_of, position_of, viewed};
 use archive_core::boxed::ArchivedBox;
 use archive_core::primitive::{ArchivedU16, ArchivedU32};
 use archive_core::slice::ArchivedSlice;
@@ -52,10 +52,8 @@ fn a_vector_shows_its_elements(rt: HostRuntime) {
     let slice = viewed::<ArchivedVec<ArchivedU32>>(&rt, rt.alloc(), ONE_AND_TWO).as_slice();
     assert_same(&rt, "the slice", slice.pos(), 0);
     assert_holds(&rt, "the slice isn't empty", !slice.is_empty());
-    let first = slice.get(0).map(|v| v.get());
-    assert_same(&rt, "the first", first, Some(1));
-    let second = slice.get(1).map(|v| v.pos());
-    assert_same(&rt, "the second", second, Some(4));
+    assert_same(&rt, "the first", number_of(slice.get(0)), Some(1));
+    assert_same(&rt, "the second", position_of(slice.get(1)), Some(4));
     assert_holds(&rt, "no element at 2", slice.get(2).is_none());
 }
 
@@ -88,12 +86,10 @@ fn elements_come_from_both_ends(rt: HostRuntime) {
     let mut elements = slice.iter();
     assert_same(&rt, "the length", elements.len(), 3);
     assert_same(&rt, "the hint", elements.size_hint(), (3, Some(3)));
-    let first = elements.next().map(|v| v.get());
-    assert_same(&rt, "the first", first, Some(1));
-    let last = elements.next_back().map(|v| v.get());
-    assert_same(&rt, "the last", last, Some(3));
-    let middle = elements.next_back().map(|v| v.pos());
-    assert_same(&rt, "the middle", middle, Some(2));
+    assert_same(&rt, "the first", number_of(elements.next()), Some(1));
+    let (last, middle) = (elements.next_back(), elements.next_back());
+    assert_same(&rt, "the last", number_of(last), Some(3));
+    assert_same(&rt, "the middle", position_of(middle), Some(2));
     assert_holds(&rt, "no next", elements.next().is_none());
     assert_holds(&rt, "none at the back", elements.next_back().is_none());
 }

@@ -2,7 +2,7 @@
 
 use crate::assertions::assert_same;
 use archive_core::error::Error;
-use archive_core::primitive::{ArchivedU16, ArchivedU32};
+use archive_core::primitive::ArchivedU16;
 use archive_core::ser::Serializer;
 use archive_core::string::ArchivedString;
 use archive_core::vec::ArchivedVec;
@@ -19,17 +19,6 @@ fn items_are_written_as_those_of_a_slice(rt: HostRuntime) {
     };
     let bytes = serializer.into_writer();
     let right = b"\xaa\0\x01\0\x02\0\x03\0";
-    assert_same(&rt, "the bytes", bytes.as_slice(), right);
-}
-
-#[test]
-fn two_items_are_written_as_two_elements(rt: HostRuntime) {
-    let mut serializer = Serializer::new(Vec::new(rt.alloc()), rt.alloc(), ());
-    let Ok(_) = ArchivedVec::<ArchivedU32>::serialize_from_iter(1u32..3, &mut serializer) else {
-        panic!(rt; "not written")
-    };
-    let bytes = serializer.into_writer();
-    let right = b"\x01\0\0\0\x02\0\0\0";
     assert_same(&rt, "the bytes", bytes.as_slice(), right);
 }
 

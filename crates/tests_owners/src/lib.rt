@@ -1,7 +1,0 @@
-//! Tests of owners, records and choices, through public calls.
-#![tactic(auto)]
-
-#[cfg(test)]
-mod archive;
-#[cfg(test)]
-mod assertions;
