@@ -1,10 +1,12 @@
-//! Tests of the types of own_types, through public calls.
+//! Tests of the types of own_types, and of what the program `arc` prints.
 #![tactic(auto)]
 
 #[cfg(test)]
 mod ample_memory;
 #[cfg(test)]
 mod assertions;
+#[cfg(test)]
+mod commands;
 #[cfg(test)]
 mod lengths;
 #[cfg(test)]
