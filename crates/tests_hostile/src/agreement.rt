@@ -1,13 +1,13 @@
 // What is done with each archive, of whatever type: all that a stranger makes of it by cutting it short, by writing over one byte, or by both, is judged.
 
-use crate::assertions::{assert_agreement, assert_answer, form_of};
-use crate::oracle::Form;
+use crate::assertions::{BySchema, ByType, Checker, assert_agreement, assert_answer, form_of};
 use archive_core::boxed::ArchivedBox;
 use archive_core::core_impls::ArchivedTuple2;
 use archive_core::option::ArchivedOption;
 use archive_core::rc::{ArchivedRc, ArchivedRcWeak, RcFlavor};
 use archive_core::traits::{Portable, PortablePointee};
 use archive_core::vec::ArchivedVec;
+use archive_inspect::form::Form;
 use std::alloc::{AllocError, Global};
 use std::ops::Range;
 use std::process::Abort;
@@ -26,23 +26,17 @@ fn edited(alloc: Global, archive: &[u8], index: usize, value: u8) -> Result<Vec<
 }
 
 // Some bytes with each of them in turn made another one are judged alike by both checks.
-fn assert_edits<T: Portable>(
-    rt: &impl Abort,
-    what: &str,
-    alloc: Global,
-    form: &Form,
-    bytes: &[u8],
-) {
+fn assert_edits<C: Checker>(rt: &impl Abort, what: &str, alloc: Global, form: &Form, bytes: &[u8]) {
     for index in 0..bytes.len() {
         for value in OTHERS {
             let bytes = edited(alloc, bytes, index, value).expect(rt, "memory for a copy");
-            assert_agreement::<T>(rt, what, alloc, form, &bytes);
+            assert_agreement::<C>(rt, what, alloc, form, &bytes);
         }
     }
 }
 
 // The beginnings of these lengths are judged alike by both checks, and so is each with a byte made another one.
-fn assert_beginnings<T: Portable>(
+fn assert_beginnings<C: Checker>(
     rt: &impl Abort,
     what: &str,
     alloc: Global,
@@ -54,13 +48,13 @@ fn assert_beginnings<T: Portable>(
         let Some(beginning) = archive.get(..length) else {
             break;
         };
-        assert_agreement::<T>(rt, what, alloc, form, beginning);
-        assert_edits::<T>(rt, what, alloc, form, beginning);
+        assert_agreement::<C>(rt, what, alloc, form, beginning);
+        assert_edits::<C>(rt, what, alloc, form, beginning);
     }
 }
 
 // The archive is accepted, and all that is made of it is judged alike by both checks, if so many bytes of it are left at least.
-fn assert_archive<T: Portable>(
+fn assert_archive<C: Checker>(
     rt: &impl Abort,
     what: &str,
     alloc: Global,
@@ -68,17 +62,27 @@ fn assert_archive<T: Portable>(
     archive: &[u8],
     least: usize,
 ) {
-    assert_beginnings::<T>(rt, what, alloc, form, archive, least..archive.len());
-    assert_edits::<T>(rt, what, alloc, form, archive);
-    assert_answer::<T>(rt, what, alloc, form, archive, None);
+    assert_beginnings::<C>(rt, what, alloc, form, archive, least..archive.len());
+    assert_edits::<C>(rt, what, alloc, form, archive);
+    assert_answer::<C>(rt, what, alloc, form, archive, None);
 }
 
 // The same of the archive in each row, which names it.
 pub(crate) fn assert_hostile<T: Portable>(rt: &impl Abort, alloc: Global, rows: &[(&str, &[u8])]) {
     let form = form_of::<T>(rt, alloc);
     for (what, archive) in rows {
-        assert_archive::<T>(rt, what, alloc, &form, archive, 0);
+        assert_archive::<ByType<T>>(rt, what, alloc, &form, archive, 0);
     }
+}
+
+// The same by a schema alone.
+pub(crate) fn assert_hostile_form(
+    rt: &impl Abort,
+    alloc: Global,
+    form: &Form,
+    (what, archive): (&str, &[u8]),
+) {
+    assert_archive::<BySchema>(rt, what, alloc, form, archive, 0);
 }
 
 // A long archive has two tests, since a test has a minute: of its beginnings of less than so many bytes, and of the rest.
@@ -89,7 +93,7 @@ pub(crate) fn assert_hostile_cuts<T: Portable>(
     least: usize,
 ) {
     let form = form_of::<T>(rt, alloc);
-    assert_beginnings::<T>(rt, what, alloc, &form, archive, 0..least);
+    assert_beginnings::<ByType<T>>(rt, what, alloc, &form, archive, 0..least);
 }
 
 pub(crate) fn assert_hostile_rest<T: Portable>(
@@ -99,7 +103,7 @@ pub(crate) fn assert_hostile_rest<T: Portable>(
     least: usize,
 ) {
     let form = form_of::<T>(rt, alloc);
-    assert_archive::<T>(rt, what, alloc, &form, archive, least);
+    assert_archive::<ByType<T>>(rt, what, alloc, &form, archive, least);
 }
 
 // And of archives of a vector.

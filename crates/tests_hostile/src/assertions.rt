@@ -1,16 +1,16 @@
 // What is asserted, proved once: a call of `access` at a type stands in here alone, and `assert_eq!` in one function, since either takes the check seconds.
 
-use crate::oracle::{Form, Judged, Place, Range, Step, judge, refusal_judged, step_of};
+use crate::oracle::{Judged, Place, Range, Step, judge, refusal_judged, step_of};
 use archive_core::api::access;
 use archive_core::error::Error;
-use archive_core::shape::Defs;
 use archive_core::traits::Portable;
 use archive_inspect::describe::{Content, Piece, describe};
 use archive_inspect::explain::{FaultPlace, explain_with};
-use archive_inspect::form::Form as ExplainedForm;
+use archive_inspect::form::Form;
 use archive_inspect::walk::Walker;
 use std::alloc::Global;
 use std::fmt::Debug;
+use std::marker::PhantomData;
 use std::process::Abort;
 
 // Two values are equal; `what` names them where they aren't.
@@ -36,19 +36,33 @@ fn assert_judged(
 
 // What a type tells of itself.
 pub(crate) fn form_of<T: Portable>(rt: &impl Abort, alloc: Global) -> Form {
-    let root = T::expr(alloc).expect(rt, "an expression");
-    let mut definitions = Defs::new(alloc);
-    T::define(alloc, &mut definitions).expect(rt, "definitions");
-    Form {
-        root,
-        definitions: definitions.into_items(),
-        explained: ExplainedForm::of::<T>(alloc).expect(rt, "a form"),
+    Form::of::<T>(alloc).expect(rt, "a form")
+}
+
+// A check whose answers are judged.
+pub(crate) trait Checker {
+    // Why there is no archive of the form at the end of the bytes, if there is none.
+    fn refusal_of(alloc: Global, form: &Form, bytes: &[u8]) -> Option<Error>;
+}
+
+// That of a type.
+pub(crate) struct ByType<T> {
+    of: PhantomData<T>,
+}
+
+impl<T: Portable> Checker for ByType<T> {
+    fn refusal_of(alloc: Global, _form: &Form, bytes: &[u8]) -> Option<Error> {
+        access::<T>(alloc, bytes).err()
     }
 }
 
-// Why there is no `T` at the end of the bytes, if there is none.
-fn refusal_of<T: Portable>(alloc: Global, bytes: &[u8]) -> Option<Error> {
-    access::<T>(alloc, bytes).err()
+// That by the form's schema.
+pub(crate) struct BySchema;
+
+impl Checker for BySchema {
+    fn refusal_of(alloc: Global, form: &Form, bytes: &[u8]) -> Option<Error> {
+        form.schema().check_archive(alloc, bytes).err()
+    }
 }
 
 // The place that is explained, with all of its steps.
@@ -63,7 +77,7 @@ fn place_of(alloc: Global, place: &FaultPlace) -> Option<Place> {
 
 // The fault that is explained, and its place, if there is one.
 fn fault_explained(alloc: Global, form: &Form, bytes: &[u8]) -> (Option<Error>, Option<Place>) {
-    match explain_with(alloc, &form.explained, bytes) {
+    match explain_with(alloc, form, bytes) {
         Ok(Some(explanation)) => match &explanation.place {
             Some(place) => {
                 let refusal = place.fault.reason.refusal();
@@ -103,7 +117,7 @@ fn ranges_among(alloc: Global, pieces: &[Piece<'_>]) -> Option<Vec<Range>> {
 
 // The ranges that a walk in order of position meets: none if it stops.
 fn ranges_met(alloc: Global, form: &Form, bytes: &[u8]) -> Option<Vec<Range>> {
-    let mut walk = Walker::by_position(alloc, &form.explained, bytes);
+    let mut walk = Walker::by_position(alloc, form, bytes);
     let mut ranges = Vec::new(alloc);
     for _ in 0..u64::MAX {
         let Some(found) = walk.next_part().ok()? else {
@@ -142,11 +156,11 @@ fn assert_described(
     leaves: Vec<Range>,
 ) {
     assert!(rt;
-        explain_with(alloc, &form.explained, bytes)
+        explain_with(alloc, form, bytes)
             .expect(rt, "an answer")
             .is_none()
     );
-    let Ok(Some(pieces)) = describe(alloc, &form.explained, bytes) else {
+    let Ok(Some(pieces)) = describe(alloc, form, bytes) else {
         panic!(rt; "{what}: no pieces of {bytes:?}")
     };
     let found = leaves_among(alloc, &pieces);
@@ -156,16 +170,16 @@ fn assert_described(
     assert_same(rt, what, (bytes, met), (bytes, described));
 }
 
-// `access` refuses the bytes with the first fault that the slow check finds, with all its fields, and what is explained of them is the same fault at the same
+// A check refuses the bytes with the first fault that the slow check finds, with all its fields, and what is explained of them is the same fault at the same
 // place; or it accepts them where the slow check does, and what is described of them has the same leaves and texts.
-pub(crate) fn assert_agreement<T: Portable>(
+pub(crate) fn assert_agreement<C: Checker>(
     rt: &impl Abort,
     what: &str,
     alloc: Global,
     form: &Form,
     bytes: &[u8],
 ) {
-    let found = refusal_of::<T>(alloc, bytes);
+    let found = C::refusal_of(alloc, form, bytes);
     match judge(alloc, form, bytes) {
         Judged::Accepted(leaves) => {
             assert_judged(rt, what, bytes, found, None);
@@ -178,8 +192,8 @@ pub(crate) fn assert_agreement<T: Portable>(
     }
 }
 
-// Both answer this.
-pub(crate) fn assert_answer<T: Portable>(
+// Both answer this, and so does a check by the schema.
+pub(crate) fn assert_answer<C: Checker>(
     rt: &impl Abort,
     what: &str,
     alloc: Global,
@@ -188,5 +202,7 @@ pub(crate) fn assert_answer<T: Portable>(
     answer: Option<Error>,
 ) {
     assert_judged(rt, what, bytes, refusal_judged(alloc, form, bytes), answer);
-    assert_agreement::<T>(rt, what, alloc, form, bytes);
+    let by_schema = BySchema::refusal_of(alloc, form, bytes);
+    assert_judged(rt, what, bytes, by_schema, answer);
+    assert_agreement::<C>(rt, what, alloc, form, bytes);
 }

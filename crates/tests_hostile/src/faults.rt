@@ -1,7 +1,7 @@
 // Bytes whose first fault is known: a string cut short, and archives with two faults, of which the one that is met first is told.
 
 use crate::archives::HELLO_WORLD;
-use crate::assertions::{assert_answer, assert_same, form_of};
+use crate::assertions::{ByType, assert_answer, assert_same, form_of};
 use archive_core::api::access;
 use archive_core::boxed::ArchivedBox;
 use archive_core::core_impls::ArchivedTuple2;
@@ -36,7 +36,7 @@ fn assert_beginnings<T: Portable>(rt: &impl Abort, alloc: Global, archive: &[u8]
     let form = form_of::<T>(rt, alloc);
     for len in 0..archive.len() {
         let fault = fault_of_beginning(len);
-        assert_answer::<T>(rt, "a beginning", alloc, &form, &archive[..len], fault);
+        assert_answer::<ByType<T>>(rt, "a beginning", alloc, &form, &archive[..len], fault);
     }
 }
 
@@ -61,7 +61,7 @@ pub(crate) fn assert_first_faults<T: Portable>(
 ) {
     let form = form_of::<T>(rt, alloc);
     for (bytes, fault) in rows {
-        assert_answer::<T>(rt, "a fault", alloc, &form, bytes, Some(*fault));
+        assert_answer::<ByType<T>>(rt, "a fault", alloc, &form, bytes, Some(*fault));
     }
 }
 

@@ -15,11 +15,7 @@ mod derived;
 #[cfg(test)]
 mod faults;
 #[cfg(test)]
-mod inner;
-#[cfg(test)]
 mod maps;
-#[cfg(test)]
-mod marked;
 #[cfg(test)]
 mod oracle;
 #[cfg(test)]

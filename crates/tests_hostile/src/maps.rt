@@ -1,10 +1,10 @@
 // Archives of sorted maps, and maps with a fault: keys of every kind, and maps in and over other formats.
 
 use crate::agreement::{
-    assert_hostile, assert_hostile_cuts, assert_hostile_rest, assert_hostile_shared,
+    assert_hostile, assert_hostile_cuts, assert_hostile_form, assert_hostile_rest,
+    assert_hostile_shared,
 };
-use crate::marked::{ArchivedMarked, BoolKeys, EmptyEntries, OffsetKeys, UnitKeys};
-use crate::rows::assert_rows;
+use crate::rows::{assert_form_rows, assert_rows};
 use archive_core::boxed::ArchivedBox;
 use archive_core::error::Error;
 use archive_core::map::ArchivedSortedMap;
@@ -14,9 +14,11 @@ use archive_core::primitive::{
     ArchivedU64, ArchivedU128,
 };
 use archive_core::rc::{ArchivedRc, RcFlavor};
+use archive_core::shape::{Expr, IntegerKind, Key, Kind};
 use archive_core::string::{ArchivedStr, ArchivedString};
 use archive_core::traits::{MapKey, Portable};
 use archive_core::vec::ArchivedVec;
+use archive_inspect::form::Form;
 use std::alloc::Global;
 use std::process::Abort;
 
@@ -154,13 +156,39 @@ fn hostile_maps_of_texts(rt: HostRuntime) {
     assert_hostile_maps::<ArchivedChar, ArchivedU16>(&rt, alloc, &[("chars", CHARS)]);
 }
 
+// The form of a map whose keys are leaves, of those too that no `MapKey` is.
+fn map_of(rt: &impl Abort, alloc: Global, key: Kind, value: Kind) -> Form {
+    let value = Box::new(alloc, Expr::Leaf(value)).expect(rt, "memory");
+    let map = Expr::Map(Key::Leaf(key), value);
+    Form::new(alloc, map, Vec::new(alloc)).expect(rt, "a form")
+}
+
+// The archive of such a map.
+fn assert_hostile_leaves(
+    rt: &impl Abort,
+    alloc: Global,
+    (key, value): (Kind, Kind),
+    archive: (&str, &[u8]),
+) {
+    let form = map_of(rt, alloc, key, value);
+    assert_hostile_form(rt, alloc, &form, archive);
+}
+
+const BYTE: Kind = Kind::Number(IntegerKind::U8);
+
 #[test]
 fn hostile_maps_of_other_leaves(rt: HostRuntime) {
     let alloc = rt.alloc();
-    assert_hostile::<ArchivedMarked<BoolKeys>>(&rt, alloc, &[("bools", BOOLS)]);
-    assert_hostile::<ArchivedMarked<OffsetKeys>>(&rt, alloc, &[("offsets", OFFSETS)]);
-    assert_hostile::<ArchivedMarked<UnitKeys>>(&rt, alloc, &[("a unit", ONE_UNIT)]);
-    assert_hostile::<ArchivedMarked<EmptyEntries>>(&rt, alloc, &[("no byte", EMPTY_ENTRY)]);
+    assert_hostile_leaves(&rt, alloc, (Kind::Bool, BYTE), ("bools", BOOLS));
+    let offset = Kind::RawRel(IntegerKind::I16);
+    assert_hostile_leaves(&rt, alloc, (offset, BYTE), ("offsets", OFFSETS));
+    assert_hostile_leaves(&rt, alloc, (Kind::Unit, Kind::Bool), ("a unit", ONE_UNIT));
+    assert_hostile_leaves(
+        &rt,
+        alloc,
+        (Kind::Unit, Kind::Unit),
+        ("no byte", EMPTY_ENTRY),
+    );
 }
 
 // The archives of a map of bytes to maps.
@@ -265,9 +293,11 @@ fn entries_without_a_byte_have_an_order(rt: HostRuntime) {
     let one = b"\0\0\0\0\x01\0\0\0";
     let two = b"\0\0\0\0\x02\0\0\0";
     let most = b"\0\0\0\0\xff\xff\xff\xff";
-    assert_rows::<ArchivedMarked<EmptyEntries>>(
+    let empty = map_of(&rt, rt.alloc(), Kind::Unit, Kind::Unit);
+    assert_form_rows(
         &rt,
         rt.alloc(),
+        &empty,
         &[
             (one, None),
             (two, Some(Error::UnsortedKeys)),
@@ -276,7 +306,8 @@ fn entries_without_a_byte_have_an_order(rt: HostRuntime) {
     );
     let units = b"\x01\x02\0\0\xfc\xff\xff\xff\x02\0\0\0";
     let rows: [(&[u8], Option<Error>); 1] = [(units, Some(Error::UnsortedKeys))];
-    assert_rows::<ArchivedMarked<UnitKeys>>(&rt, rt.alloc(), &rows);
+    let bools = map_of(&rt, rt.alloc(), Kind::Unit, Kind::Bool);
+    assert_form_rows(&rt, rt.alloc(), &bools, &rows);
 }
 
 // The entries don't lie before the map at 0.

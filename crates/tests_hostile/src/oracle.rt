@@ -10,20 +10,12 @@ mod tour;
 mod ways;
 
 use archive_core::error::Error;
-use archive_core::shape::{Def, Expr, Kind};
-use archive_inspect::form::Form as ExplainedForm;
+use archive_core::shape::Kind;
+use archive_inspect::form::Form;
 use regions::first_refused;
 use std::alloc::Global;
 use tour::{Fault, Listing, list_regions};
 pub(crate) use ways::{Place, Range, Step, step_of};
-
-// What a type tells of itself: its expression, and the definitions of the names in it; and the form by which its faults are explained.
-#[derive(Drop)]
-pub(crate) struct Form {
-    pub(crate) root: Expr,
-    pub(crate) definitions: Vec<Def>,
-    pub(crate) explained: ExplainedForm,
-}
 
 // The refusal of a fault.
 fn refusal_of(fault: Fault) -> Error {

@@ -1,17 +1,16 @@
 // Bytes made by hand, what `access` and the slow check say of them, with all that a refusal tells.
 
-use crate::assertions::{assert_answer, form_of};
-use crate::inner::ArchivedInner;
+use crate::assertions::{BySchema, ByType, assert_answer, form_of};
 use arc_commands::shared::ArchivedTwoRc;
 use archive_core::boxed::ArchivedBox;
-use archive_core::core_impls::ArchivedTuple1;
 use archive_core::error::Error;
 use archive_core::option::ArchivedOption;
 use archive_core::primitive::{ArchivedU32, ArchivedU64};
-use archive_core::rc::{ArchivedRc, RcFlavor};
 use archive_core::slice::ArchivedSlice;
 use archive_core::traits::{Portable, PortablePointee};
 use archive_core::vec::ArchivedVec;
+use archive_inspect::form::Form;
+use archive_inspect::text::parse;
 use std::alloc::Global;
 use std::process::Abort;
 
@@ -23,7 +22,7 @@ pub(crate) fn assert_rows<T: Portable>(
 ) {
     let form = form_of::<T>(rt, alloc);
     for (bytes, fault) in rows {
-        assert_answer::<T>(rt, "a row", alloc, &form, bytes, *fault);
+        assert_answer::<ByType<T>>(rt, "a row", alloc, &form, bytes, *fault);
     }
 }
 
@@ -136,22 +135,28 @@ fn lengths_aren_t_cut(rt: HostRuntime) {
     );
 }
 
-// In each row the bytes of a record of one shared pointer, and their fault.
-fn assert_shared<T: PortablePointee>(
+// In each row bytes, and their fault by a schema.
+pub(crate) fn assert_form_rows(
     rt: &impl Abort,
     alloc: Global,
+    form: &Form,
     rows: &[(&[u8], Option<Error>)],
 ) {
-    assert_rows::<ArchivedTuple1<ArchivedRc<T, RcFlavor>>>(rt, alloc, rows);
+    for (bytes, fault) in rows {
+        assert_answer::<BySchema>(rt, "a row", alloc, form, bytes, *fault);
+    }
 }
 
 #[test]
 fn a_value_may_not_lead_to_itself(rt: HostRuntime) {
+    let text = "struct Inner { inner: WeakShared<Inner> } (Shared<Inner>,)";
+    let form = parse(rt.alloc(), text).expect(&rt, "a schema");
     let circle = b"\0\0\0\0\xfc\xff\xff\xff";
     let null = b"\x01\0\0\0\xfc\xff\xff\xff";
-    assert_shared::<ArchivedInner>(
+    assert_form_rows(
         &rt,
         rt.alloc(),
+        &form,
         &[(circle, Some(Error::CyclicValidate)), (null, None)],
     );
 }

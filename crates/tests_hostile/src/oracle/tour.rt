@@ -1,7 +1,6 @@
 // The way over the bytes, expression by expression, which lists each region as it is entered. It ends at the first fault of what a region holds, and where
 // a region doesn't lie in the buffer, so that there is nothing to go over.
 
-use crate::oracle::Form;
 use crate::oracle::bytes::{
     byte_at, bytes_at, decoded_length, inline_length, is_legal, is_out_of_line, is_text, number_at,
     target_at,
@@ -14,6 +13,7 @@ use crate::oracle::regions::Region;
 use crate::oracle::shared::{Meeting, Met, look_up};
 use crate::oracle::ways::{Place, Range, Step};
 use archive_core::shape::{Def, Expr, FlavorInfo, Key, Kind, Pointee};
+use archive_inspect::form::Form;
 use std::alloc::Global;
 
 // How deep values and regions may lie in one another. A type that holds itself may lead round and round, but each round enters a region that is refused.
@@ -221,16 +221,17 @@ fn layout_of_contents(definitions: &[Def], contents: Contents<'_>) -> Layout {
 
 // Lists the regions of the archive whose root lies at the end of the bytes; none where the way ended before.
 pub(super) fn list_regions(form: &Form, bytes: &[u8], listing: &mut Listing) -> Option<()> {
+    let schema = form.schema();
     let archive = Archive {
         bytes,
-        definitions: &form.definitions,
+        definitions: schema.definitions(),
     };
-    let size = layout_of(archive.definitions, &form.root).size;
+    let size = layout_of(archive.definitions, schema.root()).size;
     let root = (bytes.len() as i128).saturating_sub(size).max(0);
     go_over_region(
         archive,
         listing,
-        Contents::Root(&form.root),
+        Contents::Root(schema.root()),
         root,
         root,
         LEVELS,

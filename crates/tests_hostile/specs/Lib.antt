@@ -1,2 +1,0 @@
-pub mod InnerShape
-pub mod MarkedMaps
