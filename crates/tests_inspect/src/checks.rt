@@ -580,6 +580,28 @@ fn a_limit_of_depth_counts_the_root(rt: HostRuntime) {
     }
 }
 
+// 514 ones, with a two at a place.
+fn ones(rt: &impl Abort, alloc: Global, place: usize) -> Vec<u8> {
+    let mut bytes = vec![in alloc; 1u8; 514].expect(rt, "memory");
+    if let Some(byte) = bytes.get_mut(place) {
+        *byte = 2;
+    }
+    bytes
+}
+
+#[test]
+fn one_of_many_bools_is_none(rt: HostRuntime) {
+    for place in [0, 255, 256, 511, 512, 513] {
+        let bytes = ones(&rt, rt.alloc(), place);
+        let wanted = if place < 513 {
+            "the byte of a bool is neither 0 nor 1"
+        } else {
+            "1"
+        };
+        assert_row(&rt, rt.alloc(), "[bool; 513]", (&bytes, 0), wanted);
+    }
+}
+
 // A list of 200,000 nodes, the end first.
 fn deep_list(rt: &impl Abort, alloc: Global) -> Vec<u8> {
     let mut bytes = Vec::new(alloc);
