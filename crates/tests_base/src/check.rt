@@ -1,9 +1,18 @@
-// Leaves, regions, and the contexts in which bytes are checked.
+// Archived types, their layouts, and the check of bytes against them.
 
 mod blocks;
+mod buffers;
 mod contexts;
+mod definitions;
+mod expressions;
+mod forms;
+mod layouts;
 mod leaves;
+mod maps;
+mod marks;
 mod memory;
+mod names;
+mod parts;
 mod ranges;
 
 use archive_check::format::expr::FlavorInfo;
