@@ -160,6 +160,8 @@ class Reader:
                 own = self.instance(declared, source, alias)
                 return Type(own.name, [], it.line, it.path, own=own, text=shown(Type(it.name, args, path=it.path)).text)
         text = shown(Type(it.name, args, path=(it.name,))).text
+        if any(map(has_parameter, args)):
+            raise self.no_format(it, scope, f"`{text}` names a parameter, and an enum with type parameters takes types alone; write a type")
         raise self.no_format(it, scope, f"no alias stands for `{text}`; write one into {source.path}, as `pub type {it.name}Of.. = {text};`")
 
     def check_is_written(self, it: Declaration, source: Source):
@@ -311,6 +313,10 @@ class Reader:
 
 def is_generic_enum(it: Declaration) -> bool:
     return it.kind == "enum" and bool(it.parameters)
+
+
+def has_parameter(it: Type) -> bool:
+    return it.parameter or any(map(has_parameter, it.args))
 
 
 def is_same(one: Type, other: Type) -> bool:

@@ -1,5 +1,4 @@
-//! Types that hold no other type of these crates, as a user declares them, with what tools/derive writes for them. The tests are in
-//! tests_derived.
+//! Types that hold none of another crate's, as a user declares them, with what tools/derive writes for them. The tests are in tests_derived.
 #![tactic(auto)]
 
 pub mod outcome;

@@ -38,7 +38,7 @@ class Instances(RepositoryTest):
             (f"{EITHER}type A = Either<u8>;\n", "3: `Either` takes two where 1 arguments are written; write two"),
             (f"{EITHER}type A = Either<u8, f32>;\n", "3: a float has no format"),
             (f"{EITHER}type A = Either<u8, u8>;\nstruct B {{ b: Either<u8, u16> }}\n", "4: no alias stands for `Either<u8, u16>`; write one into"),
-            (f"{EITHER}type A = Either<u8, u8>;\nstruct B<T> {{ b: Either<u8, T> }}\n", "4: no alias stands for `Either<u8, T>`; write one into"),
+            (f"{EITHER}type A = Either<u8, u8>;\nstruct B<T> {{ b: Either<u8, T> }}\n", "4: `Either<u8, T>` names a parameter, and an enum with type parameters takes types alone; write a type"),
             ("enum Tree<T> { Leaf(T), Two(Box<Tree<T>>, Box<Tree<T>>) }\ntype Numbers = Tree<u8>;\n", "1: `Numbers` is recursive (Numbers > Numbers) and of an enum with type parameters; write one without"),
             ("struct Tree { of: Vec<Tree> }\nenum Maybe<T> { No, Yes(T) }\ntype Some = Maybe<Tree>;\n", "3: `Some` holds a recursive type and is of an enum with type parameters; write one without"),
         ]:
