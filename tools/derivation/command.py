@@ -22,9 +22,9 @@ and what is above it stays as it is, byte for byte. docs/OWN_TYPES.md shows what
 
 Fields: whole numbers, `bool`, `char`, `()`, `String`, `Option`, `Result`, `Box`, `Vec`, `PhantomData`, tuples of up to {read.MOST_PARTS}, arrays, `BTreeMap` with
 keys that are whole numbers, `char` or `String`; of the library `BoxSlice`, `BoxStr`, `OwnedArray`, `NonZero` (and `ArchivedNonZeroU8` ..), `Shared`,
-`SharedSlice`, `SharedStr`, `WeakShared`; and other types that this command wrote, of any module or crate of the repository. A struct, and each
-variant of an enum of several, have up to {read.MOST_FIELDS} fields, a struct with type parameters or that holds a recursive type {read.MOST_FEW}. Of deep types there are fewer. An
-enum has up to {read.MOST_VARIANTS} variants, of which up to 59 have fields, or fewer that have many: the command counts what the toolchain takes at once, and tells
+`SharedSlice`, `SharedStr`, `WeakShared`; and other types that this command wrote, of any module or crate of the repository. A struct has
+up to {read.MOST_FIELDS} fields, each variant of an enum of several {read.MOST_OF_VARIANT}, of deep types fewer, a struct with type parameters or that holds a recursive type {read.MOST_FEW}. An
+enum has up to {read.MOST_VARIANTS} variants, a recursive one or one that holds a recursive type up to 59: the command counts what the toolchain takes at once, and tells
 which field or variant is too much.
 
 Views are compared and hashed as the values that they show if the type derives `Eq`, `PartialOrd`, `Ord` or `Hash` and all fields can be.

@@ -30,6 +30,15 @@ def infix(sign, words, end):
     return text[1:-1] if words else text
 
 
+def numbered(words):
+    """Names of calls one after another: the second of one name has `-2` behind it."""
+    seen, out = {}, []
+    for word in words:
+        seen[word] = seen.get(word, 0) + 1
+        out.append(word if seen[word] == 1 else f"{word}-{seen[word]}")
+    return out
+
+
 def doc_lines(docs, otherwise, indent):
     return "".join(f"{' ' * indent}/// {line}".rstrip() + "\n" for line in (docs or [otherwise]))
 

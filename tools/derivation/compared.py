@@ -7,6 +7,8 @@ fields. The laws are terms: with a bound on the nest (`where PointParts: Compare
 from .formats import ALIGNS, INTEGERS, snake
 from .layout import Generic, statement
 from .loads import Loads
+from .units import types_in_turn
+from .variant_blocks import blocks_of
 
 # What a declaration derives whose views are compared.
 ASKING = {"Eq", "PartialOrd", "Ord", "Hash"}
@@ -25,6 +27,8 @@ def is_compared(declaration):
     if declaration.as_tuple or declaration.part_by_part or not ASKING & set(declaration.derives):
         return False
     lists = [declaration.fields] + [variant.fields for variant in declaration.variants]
+    if declaration.variants and len(blocks_of(types_in_turn(declaration))) > 1:
+        return False
     return all(len(fields) <= MOST and all(can_be(field.type) for field in fields) and in_pairs(fields) for fields in lists)
 
 

@@ -52,9 +52,9 @@ def pair(parts, end="()"):
     return Group("(", [parts[0], pair(parts[1:], end)], ")", CALL) if parts else end
 
 
-def fours(parts):
+def fours(parts, end="()"):
     """`FourParts<a, b, c, d, rest>`: four at once, and pairs of those that are left."""
-    return Group("FourParts<", [*parts[:4], fours(parts[4:])], ">") if len(parts) >= 4 else pair(parts)
+    return Group("FourParts<", [*parts[:4], fours(parts[4:], end)], ">") if len(parts) >= 4 else pair(parts, end)
 
 
 def flat(doc):

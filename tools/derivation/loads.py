@@ -17,6 +17,10 @@ from .long import MOST_BY_NUMBER, is_long
 # variant each, are 23,177 and rejected.
 MOST = 26_000
 MOST_OF_VARIANTS = 12_000
+# And over the fields of a block, of structs that have several. A struct of more than so many fields has.
+MOST_OF_BLOCK = 12_000
+MOST_AT_ONCE = 16
+MOST_IN_BLOCK = 12
 # `Native` of a number, with all that this asks: `Copy`, `Ord`, `Hash` and theirs.
 NATIVE = 9
 PLAIN = {"u8", "i8", "bool", "()"}
@@ -227,10 +231,28 @@ class Loads:
         """The most that a call over these fields passes, of a struct or of a variant, where they are read at once."""
         return max(self.written(types, fours), self.of_reading(types, fours))
 
-    def least_of_fields(self, types):
-        """The same where they are read in pieces if that comes to less."""
-        pieces = [types] if self.are_read_at_once(types) else [types[begin:end] for begin, end in self.pieces(types)]
-        return max([self.written(types, self.go_by_fours(types))] + [self.of_reading(those, is_long(those)) for those in pieces])
+    def blocks(self, types):
+        """Where each block begins and ends in which fields of a struct are checked and written that aren't at once: as many each as are not too much."""
+        if len(types) <= MOST_AT_ONCE and self.written(types, self.go_by_fours(types)) <= MOST:
+            return []
+        found, begin = [], 0
+        while begin < len(types):
+            ends = range(begin + 2, min(begin + MOST_IN_BLOCK, len(types)) + 1)
+            end = max((it for it in ends if self.of_block(types[begin:it]) <= MOST_OF_BLOCK), default=begin + 1)
+            found.append((begin, end))
+            begin = end
+        return found
+
+    def of_block(self, types):
+        """What a call passes that checks or writes the fields of a block."""
+        return self.parts(types, True) + self.serialized(types, True)
+
+    def least_of_fields(self, types, in_blocks=False):
+        """The same where they are read in pieces if that comes to less, and where those of a struct are in blocks."""
+        blocks = [types[begin:end] for begin, end in self.blocks(types)] if in_blocks else []
+        pieces = [types[begin:end] for begin, end in self.pieces(types)] if blocks or not self.are_read_at_once(types) else [types]
+        written = [self.of_block(those) for those in blocks] or [self.written(types, self.go_by_fours(types))]
+        return max(written + [self.of_reading(those, is_long(those)) for those in pieces])
 
     def go_by_fours(self, types):
         """Whether the nest by which these fields are checked has four at once: where there are many, or in pairs it came to too much."""

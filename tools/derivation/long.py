@@ -21,9 +21,9 @@ def is_long(parts):
     return len(parts) > MOST_BY_NUMBER
 
 
-def nest(parts, by_fours):
-    """Fields as types or as values."""
-    return fours(parts) if by_fours else pair(parts)
+def nest(parts, by_fours, end="()"):
+    """Fields as types or as values, with what is behind them."""
+    return fours(parts, end) if by_fours else pair(parts, end)
 
 
 def places(count, by_fours):
@@ -47,10 +47,15 @@ def opened(names, indent, by_fours):
     return lines + statement(indent, "let ", pair(left), " = rest;")
 
 
-def fields_of(formats, name, whole, rust, values, lent=False):
+def as_parts(rust):
+    """Fields of these types as parts of their struct."""
+    return [f"Field<{i}, {type}>" for i, type in enumerate(rust)]
+
+
+def fields_of(formats, name, whole, rust, values, those=None, lent=False):
     """Many fields of the struct `whole` as sources, and how each is found: `values` are their names. A struct of lent fields has references."""
     formats.use("archive_core::own", "Field", "HasField")
-    those = statement(0, f"type {name} = ", fours([f"Field<{i}, {type}>" for i, type in enumerate(rust)]), ";")
+    those = statement(0, f"type {name} = ", those or fours(as_parts(rust)), ";")
     now, by = (".now", "") if lent else ("", "&")
     impls = "".join(
         f"""
@@ -64,8 +69,7 @@ def fields_of(formats, name, whole, rust, values, lent=False):
 """
         for i, (type, value) in enumerate(zip(rust, values))
     )
-    return f"""
-// The fields as sources.
+    return f"""// The fields as sources.
 {those}{impls}"""
 
 
@@ -77,6 +81,7 @@ def lent(formats, name, path, rust):
 #[derive(Drop)]
 struct {name}Lent<'a> {{
 {lines}}}
+
 {fields_of(formats, f"{name}Fields", f"{name}Lent<'_>", rust, names, lent=True)}"""
 
 

@@ -1,6 +1,6 @@
 """Values of many fields, which a function of their own makes of those of their fields, with a proof that is written beside the module."""
 
-from .common import chain, infix
+from .common import chain, infix, numbered
 from .layout import pair, statement
 from .long import opened, place, places
 
@@ -47,7 +47,8 @@ fn {self.name}(values: {self.owned}) -> {self.of}
         return lines + "".join(statement(4, "let ", pair(names[begin:end]), f" = {whole};") for whole, (begin, end) in zip(wholes, self.pieces))
 
     def answers(self, dotted):
-        """The proof that it means what the values do, where that needs one: the check doesn't see that a signed number is what its bits are."""
+        """The proof that it means what the values do, where that needs one: the check doesn't see that a signed number is what its bits are. Then it is to be told of
+        arrays, too."""
         signed = [
             (f"w{64 if type.name == 'isize' else 8 * self.formats.layout(type)[0]}", f"c.args.values{place}")
             for place, type in zip(self.places, self.types)
@@ -57,7 +58,8 @@ fn {self.name}(values: {self.owned}) -> {self.of}
             return None
         widths = sorted({width for width, _ in signed})
         lets = "".join(f"    let e{i} : SFits {width} {value} = search rules in\n" for i, (width, value) in enumerate(signed))
-        steps = ", ".join(f"to_z-of_z {width} {value} e{i}" for i, (width, value) in enumerate(signed))
+        arrays = [f"c.{call}.ensures" for call in numbered(["into_array" for type in self.types if self.formats.kind(type) == "array"])]
+        steps = ", ".join(arrays + [f"to_z-of_z {width} {value} e{i}" for i, (width, value) in enumerate(signed)])
         return f"""-- {WRITTEN}
 use Rattle.std.proofs.Common.{{◌≡◌, refl, arith, rules}}
 use Rattle.std.proofs.lemmas.Int.{{to_z-of_z}}

@@ -3,19 +3,10 @@
 What the calls say is put together by a proof that is written beside the module. The command chooses the pieces, so a user sees nothing of them.
 """
 
-from .common import chain, infix
+from .common import chain, infix, numbered
 from .layout import call, flat, pair, signature, statement
 from .long import place
 from .made import WRITTEN
-
-
-def numbered(words):
-    """Names of calls one after another: the second of one name has `-2` behind it."""
-    seen, out = {}, []
-    for word in words:
-        seen[word] = seen.get(word, 0) + 1
-        out.append(word if seen[word] == 1 else f"{word}-{seen[word]}")
-    return out
 
 
 class Pieces:

@@ -15,9 +15,10 @@ from .model import Declaration, Field, Module, Refused, Type
 from .names import ALIASES, FLOATS, LIBRARY, PRIMITIVES, STD, STD_MODULES, Found, Source, World
 from .parse import Alias, Declared
 from .items import number_of
-from .units import go_together
 
-MOST_FIELDS = 16
+# Of a struct, and of a variant. Reading 26 back isn't proved yet: `simp` stops in the proof that is written for it.
+MOST_FIELDS = 17
+MOST_OF_VARIANT = 16
 # Of a type that is archived as a tuple with names.
 MOST_FEW = 8
 MOST_PARTS = 13
@@ -360,8 +361,9 @@ def check_shape(it: Declaration):
         for x in fields:
             if x.name == "now" and it.kind == "struct":
                 raise Refused(it.path, x.line, "`now` has a meaning in contracts; choose another name for the field")
-        if len(fields) > MOST_FIELDS:
-            raise Refused(it.path, fields[MOST_FIELDS].line, f"`{of}` has {len(fields)} fields, and {MOST_FIELDS} are the most; put some into a struct of their own")
+        most = MOST_FIELDS if it.kind == "struct" else MOST_OF_VARIANT
+        if len(fields) > most:
+            raise Refused(it.path, fields[most].line, f"`{of}` has {len(fields)} fields, and {most} are the most; put some into a struct of their own")
     for p in it.parameters:
         if not any(names_parameter(field.type, p.name) for field in it.all_fields()):
             raise Refused(it.path, it.line, f"`{it.name}` has no field of its parameter `{p.name}`; remove it, or add a field, as `of: PhantomData<{p.name}>`")
@@ -454,7 +456,7 @@ def module(reader: Reader, source: Source) -> Module:
     return out
 
 
-# What wasn't tried beside more than eight fields, which are written by their nest.
+# What isn't proved among more than eight fields of a variant.
 NOT_IN_FOURS = {"tuple", "array", "OwnedArray", "SharedSlice", "SharedStr", "WeakShared"}
 # Tuples nest up to 64 deep, as those of variants do.
 DEEPEST = 60
@@ -472,46 +474,44 @@ def check_loads(module: Module):
             check_variants(module, loads, it)
         if it.as_tuple or it.part_by_part:
             continue
-        for fields in [it.fields] + [v.fields for v in it.variants]:
-            check_load(module, loads, fields)
+        check_load(module, loads, it.fields, True)
         for v in it.variants:
-            check_signed(module, v.fields)
+            check_long(module, v.fields)
+            check_load(module, loads, v.fields, False)
         check_variants(module, loads, it)
 
 
-def check_load(module: Module, loads: Loads, fields: List[Field]):
-    """Refuses the first field with which there is too much in a struct or a variant."""
+def check_load(module: Module, loads: Loads, fields: List[Field], in_blocks: bool):
+    """Refuses the first field with which there is too much in a struct, whose fields may be in blocks, or in a variant."""
     types = [field.type for field in fields]
+    if loads.least_of_fields(types, in_blocks) <= MOST_LOAD:
+        return
+    for count, field in enumerate(fields, 1):
+        if loads.least_of_fields(types[:count], in_blocks) > MOST_LOAD:
+            is_alone = count == 1 or loads.least_of_fields([field.type], in_blocks) > MOST_LOAD
+            what = "; put a part of it" if is_alone else " beside the fields before it; put some of them"
+            raise Refused(module.path, field.type.line, f"`{field.type.text}` is too deep for the toolchain{what} into a struct")
+
+
+def check_long(module: Module, fields: List[Field]):
+    """Refuses what isn't proved among many fields of a variant."""
     for field in fields if is_long(fields) else []:
         if found_in(field.type, lambda x: x.name in NOT_IN_FOURS and x.own is None or x.own is not None and x.own.as_tuple):
             said = f"`{field.type.text}` is too much for the toolchain beside so many fields; put it into a struct of its own"
             raise Refused(module.path, field.type.line, said)
-    if loads.least_of_fields(types) <= MOST_LOAD:
-        return
-    for count, field in enumerate(fields, 1):
-        if loads.least_of_fields(types[:count]) > MOST_LOAD:
-            what = "beside the fields before it; put some of them" if count > 1 else "; put a part of it"
-            raise Refused(module.path, field.type.line, f"`{field.type.text}` is too deep for the toolchain{' ' if count > 1 else ''}{what} into a struct")
-
-
-def check_signed(module: Module, fields: List[Field]):
-    """Refuses an `isize` among many fields of a variant, whose `resolve` isn't proved then."""
-    for field in fields if is_long(fields) else []:
         if field.type.own is None and field.type.name == "isize":
             raise Refused(module.path, field.type.line, "an `isize` beside so many fields of a variant isn't proved; write an `i32` or an `i64`")
 
 
 def check_variants(module: Module, loads: Loads, it: Declaration):
-    """Refuses the first variant with which there is too much in an enum."""
-    together = go_together(it)
+    """Refuses the first variant with which there is too much in a recursive enum, or in one that holds a recursive type. Those of others go in blocks."""
     types = []
-    for v in it.variants:
+    for v in it.variants if it.part_by_part else []:
         fields = [field.type for field in v.fields]
-        if fields or not together or not types or types[-1]:
-            types.append(fields)
+        types.append(fields)
         if len(types) + len(fields) > DEEPEST or loads.of_variants(types) > MOST_OF_VARIANTS:
-            recursive, own = ("the recursive " if it.recursive else "", "another file" if it.part_by_part else "their own")
-            raise Refused(module.path, v.line, f"{recursive}`{it.name}` has more variants up to here than the toolchain follows; put some into an enum of {own}")
+            recursive = "the recursive " if it.recursive else ""
+            raise Refused(module.path, v.line, f"{recursive}`{it.name}` has more variants up to here than the toolchain follows; put some into an enum of another file")
 
 
 def found_in(it: Type, is_it) -> Optional[Type]:

@@ -1,6 +1,6 @@
 """The impls of a struct without type parameters."""
 
-from . import bulk, compared
+from . import blocks, bulk, compared
 from .common import (
     Source,
     archive_pointee,
@@ -22,7 +22,7 @@ from .common import (
 from .formats import layout_of, snake
 from .layout import Generic, Group, flat, implementation, literal, pair, signature, statement
 from .loads import Loads
-from .long import fields_of, is_long, nest
+from .long import as_parts, fields_of, is_long, nest
 from .made import WRITTEN, Made
 from .pieces import Pieces
 
@@ -41,9 +41,12 @@ class Record(Source):
         self.count = len(self.types)
         loads = Loads()
         self.by_fours = loads.go_by_fours(self.types)
-        self.pieces = () if loads.are_read_at_once(self.types) else loads.pieces(self.types)
+        self.blocks = loads.blocks(self.types)
+        self.by_nest = is_long(self.types) or bool(self.blocks)
+        self.pieces = loads.pieces(self.types) if self.blocks or not loads.are_read_at_once(self.types) else ()
         self.formats_of = [formats.archived(type) for type in self.types]
         self.rust = [formats.rust(type) for type in self.types]
+        self.parts_of = as_parts(self.rust)
         self.read = [formats.read_as(type) for type in self.types]
         self.size, self.align, self.offsets, self.end = layout_of([formats.layout(type) for type in self.types])
         self.span = self.end
@@ -65,7 +68,7 @@ class Record(Source):
 
 def text(formats, declaration):
     record = Record(formats, declaration)
-    if is_long(record.types):
+    if record.by_nest:
         formats.use("archive_core::record", "resolve_record", "serialize_record")
     else:
         formats.use("archive_core::fields", f"serialize_record_{record.count}", f"resolve_record_{record.count}")
@@ -94,18 +97,18 @@ def pieces_of(record):
 
 def struct(record):
     archived = record.archived
-    parts = statement(0, f"type {record.name}Parts = ", nest(record.formats_of, record.by_fours), ";")
-    if record.by_fours:
+    parts, those, behind = nest(record.formats_of, record.by_fours), None, ""
+    if record.blocks:
+        parts, those, behind = blocks.nested(record, record.formats_of, 0), blocks.nested(record, record.parts_of, 0), blocks.text(record)
+    parts = statement(0, f"type {record.name}Parts = ", parts, ";")
+    if record.by_fours or record.blocks:
         record.formats.use("archive_core::traits", "FourParts")
     owned = "" if record.pieces else statement(0, f"type {record.name}Owned = ", nest(record.read, record.by_fours), ";")
     fields = ""
-    if is_long(record.types):
-        fields = fields_of(record.formats, f"{record.name}Fields", record.name, record.rust, [field.name for field in record.fields])
-    return f"""/// An archived `{record.name}`: {record.size} bytes at a multiple of {record.align}.
-{record.visibility}struct {archived};
-
-{parts}
-{owned}{fields}"""
+    if record.by_nest:
+        fields = fields_of(record.formats, f"{record.name}Fields", record.name, record.rust, [field.name for field in record.fields], those)
+    head = f"/// An archived `{record.name}`: {record.size} bytes at a multiple of {record.align}.\n{record.visibility}struct {archived};\n"
+    return "\n".join(it for it in (head, parts, owned, fields, behind) if it)
 
 
 def check_of(record):
@@ -132,7 +135,7 @@ def is_record(record):
 def resolver(record):
     if not record.count:
         return ""
-    kept = pair([f"<{rust} as Archive>::Resolver" for rust in record.rust])
+    kept = blocks.resolvers(record, 0) if record.blocks else pair([f"<{rust} as Archive>::Resolver" for rust in record.rust])
     return f"""/// What is kept of `{record.name}` between `serialize` and `resolve`.
 #[derive(Drop)]
 {record.declared}struct {record.resolver} {{
@@ -148,18 +151,19 @@ def archive(record):
     f.ghost("Plain", "plain_record_planned")
     sources = [f.source(type) for type in types]
     meanings = chain("value", [f"({q}.meaning {v})" for q, v in zip(sources, values)], "no_value")
-    flats = chain("value", [f"({q}.flat {v} r.kept{'.1' * i}.0)" for i, (q, v) in enumerate(zip(sources, values))], "no_value")
+    resolvers = [f"r.kept{blocks.kept_at(record, i) if record.blocks else '.1' * i + '.0'}" for i in range(record.count)]
+    flats = chain("value", [f"({q}.flat {v} {r})" for q, v, r in zip(sources, values, resolvers)], "no_value")
     keys = infix("++", [f"{q}.keys {v}" for q, v in zip(sources, values)], "[]")
-    belongs = infix("×", [f"{q}.belongs {v} r.kept{'.1' * i}.0" for i, (q, v) in enumerate(zip(sources, values))], "Unit {0}")
+    belongs = infix("×", [f"{q}.belongs {v} {r}" for q, v, r in zip(sources, values, resolvers)], "Unit {0}")
     keyed = chain("part_keyed", [f.keyed(type, v) for type, v in zip(types, values)], "nothing_keyed")
     planned = "no_part_planned"
     for type, q, v in reversed(list(zip(types, sources, values))):
         planned = f"(part_planned {f.definitions(type)} {f.shape(type)} ({q}.keys {v}) ({q}.meaning {v}) {f.planned(type, v)} {planned})"
-    kept = kept_of(f, types) if record.count else "resolver"
-    taken = f"        let {record.resolver} {{ kept }} = resolver;\n{taken_apart(f, types, 8)}" if record.count else ""
+    kept, apart = blocks.handed(record, 0) if record.blocks else (kept_of(f, types) if record.count else "resolver", taken_apart(f, types, 8))
+    taken = f"        let {record.resolver} {{ kept }} = resolver;\n{apart}" if record.count else ""
     arguments = [f"&self.{field.name}" for field in record.fields] + [kept, "Place::new(pos, bytes)"]
     call = Generic(f"resolve_record_{record.count}", record.rust + [record.archived], arguments)
-    if is_long(types):
+    if record.by_nest:
         call = Generic("resolve_record", ["Self", f"{record.name}Fields", record.archived], ["self", kept, "Place::new(pos, bytes)"])
     told, calls = bulk.told(record) if record.in_bulk else in_turn(f)
     return f"""impl Archive for {record.name} {{
@@ -192,7 +196,7 @@ def serialize(record):
     bound = record.formats.writer_bound(record.types)
     arguments = [f"&self.{field.name}" for field in record.fields] + ["serializer"]
     call = Generic(f"serialize_record_{record.count}", record.rust + [record.archived, "S"], arguments)
-    if is_long(record.types):
+    if record.by_nest:
         call = Generic("serialize_record", ["Self", f"{record.name}Fields", record.archived, "S"], ["self", "serializer"])
     if record.count:
         body = f"""{statement(8, "match ", call, " {")}            Ok(kept) => Ok({record.resolver} {{ kept }}),

@@ -2,8 +2,8 @@
 
 from . import recursive_chains, recursive_code, recursive_proofs, recursive_specs
 from .formats import Formats, layout_of, snake
-from .model import Type
-from .recursive_terms import Terms
+from .model import Field, Type
+from .recursive_terms import Terms, is_run
 
 WRITTEN = "Written by tools/derive: change the declaration, and run it again."
 
@@ -23,6 +23,16 @@ class Case:
         sizes = layout_of([formats.layout(type) for type in self.types], 0 if tag is None else 1)
         self.align, self.offsets, self.end = sizes[1:]
         self.leads_back = [whole.terms.leads_back(type) for type in self.types]
+        self.is_record, self.is_row = tag is None, False
+
+
+class Row(Case):
+    """The parts of a tuple that leads back, as of a record that stands for itself."""
+
+    def __init__(self, whole, type):
+        super().__init__(whole, "", whole.word(type), None, "tuple", [Field(str(i), arg, type.line) for i, arg in enumerate(type.args)], [])
+        self.is_row, self.tuple, self.whole = True, type, whole.formats.archived(type)
+        self.first_back = self.leads_back.index(True)
 
 
 class Family:
@@ -40,6 +50,7 @@ class Family:
         self.inner_first = sorted(self.members, key=lambda it: it.nest)
         self.most_nest = self.inner_first[-1].nest
         self.shares = self.first.terms.shares
+        self.rows = [type for it in self.members for type in it.rows]
         self.deepest = max((depth for it in self.members for depth in map(it.depth, it.owners)), default=0)
 
     def member(self, declaration):
@@ -87,6 +98,7 @@ class Recursive:
         self.align = max(case.align for case in self.cases)
         self.size = -(-max(case.end for case in self.cases) // self.align) * self.align
         self.owners = self.owners_of()
+        self.rows = [type for type in self.owners if self.terms.is_row(type)]
         self.nest = nest_of(declaration)
 
     def owners_of(self):
@@ -110,13 +122,25 @@ class Recursive:
         parts = [part for it in self.family.members for case in it.cases for part in case.types if self.terms.leads_back(part)]
         return any(self.word(part) == self.word(type) for part in parts + [part.args[0] for part in parts if part.name == "Box"])
 
+    def row(self, type):
+        return Row(self, type)
+
+    def row_name(self, type):
+        """The type by which functions know an archived tuple: `PairStringJson`."""
+        return "".join(word.capitalize() for word in self.word(type).split("_"))
+
+    def is_first_run(self, type):
+        """Whether a vector, or a boxed slice, is the first one of its elements that a function writes: that of the elements stands with it."""
+        runs = [run for it in self.family.members for run in it.owners if is_run(run) and it.is_written(run)]
+        return type is next(run for run in runs if self.word(run.args[0]) == self.word(type.args[0]))
+
     def word(self, type):
         """What functions of an owner are called by: `box_expr`."""
         return self.terms.word(type)
 
     def depth(self, type):
         """How many owners a type has around one of the family."""
-        return 0 if self.terms.is_member(type) else 1 + self.depth(type.args[0])
+        return 0 if self.terms.is_member(type) else 1 + max(self.depth(arg) for arg in type.args if self.terms.leads_back(arg))
 
     def antt(self, type, held=None):
         """A type as antt has it; `held` has what stands in place of each type of the family, by its name."""
@@ -126,6 +150,8 @@ class Recursive:
             return self.terms.plain.antt(type)
         if self.terms.is_member(type):
             return f"{type.name}-Source"
+        if type.name == "tuple":
+            return f"({' × '.join(self.antt(arg, held) for arg in type.args)})"
         if type.name == "Option":
             return f"(Option {self.antt(type.args[0], held)})"
         return f"(Shared {self.antt(type.args[0], held)})" if type.name == "Shared" else f"({type.name} {self.antt(type.args[0], held)} Global)"
@@ -152,6 +178,7 @@ class Recursive:
     def shape_names(self):
         n = self.n
         names = [f"{n}_name", f"{n}_shape", f"{n}_definitions"]
+        names += [f"{self.word(type)}_{what}" for type in self.rows for what in ("shape", "parts", "definitions", "has_parts")]
         if self.is_record:
             return names + [f"{n}_parts", f"{n}_part_definitions", f"{n}_has_parts"]
         names += [f"{n}_variants", f"{n}_variant_definitions", f"{n}_has_variants"]

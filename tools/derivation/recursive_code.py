@@ -15,7 +15,10 @@ from . import recursive_chains as chains
 from .common import chain, doc_lines, in_turn, infix, taken_apart
 from .common import kept_of as handed_on
 from .formats import snake
+from .recursive_hollow import boxed_slices, shared_at, shared_pointers
+from .recursive_plain import items_of
 from .recursive_reads import by_match, is_made, word_of
+from .recursive_terms import is_run
 from .layout import Generic, Group, call, flat, implementation, literal, pair, signature, statement
 
 SERIALIZED = """    ensures serialized {{ IfOk result (λ r. Serialized {D} {X} (⟦<{T} as Archive>⟧.keys {v}.now)
@@ -32,11 +35,17 @@ READ = """    requires {{ IsPartOf ⟦<{X} as ArchivePointee>⟧ part }}
     ensures read {{ IfOk result (Read ⟦<{X} as ArchivePointee>⟧ part D.Entries deserializer ⟦<{T} as Archive>⟧) }}
     ensures refused {{ IfErr result (RefusesPart ⟦<{X} as ArchivePointee>⟧ part D.Entries deserializer) }}
 """
+READ_ROWS = """    requires {{ IsPartOf ⟦<{X} as ArchivePointee>⟧ part }}
+    ensures read {{ IfOk result (λ t. ReadsPart ⟦<{X} as ArchivePointee>⟧ part D.Entries deserializer {meaning}
+        {keys}) }}
+    ensures refused {{ IfErr result (RefusesPart ⟦<{X} as ArchivePointee>⟧ part D.Entries deserializer) }}
+"""
 
 
 def text(it):
     bring(it)
-    pieces = [types(it), pointee(it), "" if it.is_holder else stands_for(it), portable(it), view_of(it), resolver(it), archive(it)]
+    pieces = [types(it), pointee(it), "\n".join(row_format(it, type) for type in it.rows), "" if it.is_holder else stands_for(it), portable(it), view_of(it), resolver(it)]
+    pieces += [boxed_slices(it), shared_pointers(it), archive(it)]
     if it.is_chain:
         chains.refuse_derived_drop(it.declaration)
         chains.bring(it)
@@ -54,7 +63,8 @@ def bring(it):
     f.use("archive_core::self_check", "BySchema")
     f.use("archive_core::shape", "Defs")
     f.use("archive_core::ser", "ResolverAlloc", "Writer", "serialize_one")
-    f.use("archive_core::boxed", "BoxResolver")
+    f.use("archive_core::boxed", "ArchivedBox", "BoxResolver", "BoxSlice")
+    f.use("archive_core::rc", "ArchivedRc", "RcFlavor", "RcResolver")
     f.use("archive_core::vec", "VecResolver")
     f.use("archive_core::recursive", "BoxAt", "OptionAt", "VecAt", "before_box", "before_vec", "choice_of", "define_name", "option_expression", "part_of_record", "part_of_variant", "read_part", "record_of")
     f.use("archive_core::recursive", "begin_reading", "begin_shared", "finish_reading", "finish_shared", "part_behind", "shared_expression")
@@ -69,7 +79,8 @@ def bring(it):
     f.ghost("Expressions", "shape_of", "shapes_in", "table_of")
     f.ghost("Definitions", "Extended", "ExplainsConflict", "defines")
     f.ghost("Shape", "one", "boxed", "vec", "shared")
-    f.ghost("SharedSources", "rc_flavor")
+    f.ghost("SharedSources", "rc_flavor", "rc_flat")
+    f.ghost("Options", "option_flat")
     f.ghost("Choices", "option_shape")
     f.ghost("Hollow", "option_at")
     f.ghost("Value", "case", "product", "value", "no_value")
@@ -87,6 +98,11 @@ def bring(it):
     names = [f"{n}_{w}" for w in ("name", "shape", "stands_for", "definitions", "layout", "is_align", "has_layout", "no_others")]
     names += [f"{n}_has_parts", f"{n}_parts"] if it.is_record else [f"{n}_has_variants"] + [f"{case.n}_parts" for case in it.cases]
     names += [f"{other.n}_{w}" for other in it.family.members for w in ("shape", "definitions")]
+    for type in it.family.rows:
+        f.ghost("Value", "list")
+        names += [f"{it.word(type)}_{w}" for w in ("shape", "definitions", "layout", "is_align", "has_layout", "no_others", "has_parts")]
+        said = {f"{it.word(type)}_{w}" for w in ("meaning", "keys")}
+        f.ghosts.setdefault(f"{it.declaration.crate}.specs.{it.family.name}Meaning", set()).update(said)
     f.ghosts.setdefault(f"{it.declaration.crate}.specs.{it.family.name}Shape", set()).update(names)
 
 
@@ -97,13 +113,91 @@ def types(it):
     lines = []
     for case in it.cases:
         if case.count:
-            lines.append(statement(0, f"type {word(it, case)}Parts = ", pair(case.archived), ";"))
+            lines.append(statement(0, f"type {word(it, case)}Parts = ", pair([inside(it, type) for type in case.types]), ";"))
     if not it.is_record:
         lines.append(statement(0, f"type {it.name}Variants = ", pair([f"{word(it, case)}Parts" if case.count else "()" for case in it.cases]), ";"))
     return f"""/// An archived `{it.name}`: {it.size} bytes at a multiple of {it.align}. It {'validates itself' if it.is_chain else 'is validated by its schema'}.
 pub struct {it.archived};
 
 {chr(10).join(lines)}"""
+
+
+def row_format(it, type):
+    """A tuple that leads back, as all but its views know it: with the type of the library, each view of it would bring all that is known of its parts."""
+    row, w, R = it.row(type), it.word(type), it.row_name(type)
+    size, align = it.formats.layout(type)
+    its = pair([inside(it, arg) for arg in row.types])
+    return f"""/// `{row.whole}` by a name, for the functions below.
+pub struct {R};
+
+{statement(0, f"type {R}Parts = ", its, ";")}
+impl ArchivePointee for {R} {{
+    type ArchivedMetadata = ();
+
+    ghost pointee = {{ one {w}_shape }};
+
+    ghost definitions = {{ {w}_definitions }};
+
+    ghost metadata_length = {{ λ _. 0 }};
+
+    fn pointer_metadata(_metadata: &()) -> usize {{
+        0
+    }}
+}}
+
+impl Portable for {R} {{
+    ghost shape = {{ {w}_shape }};
+
+    ghost layout = {{ {w}_layout }};
+
+    type Check = BySchema;
+
+    ghost is_one = {{ refl }};
+
+    ghost is_align = {{ {w}_is_align }};
+
+    ghost has_layout = {{ {w}_has_layout }};
+
+    ghost no_others = {{ {w}_no_others }};
+
+    ghost checks = {{ λ direct. by_schema direct }};
+
+    fn size() -> usize {{
+        {size}
+    }}
+
+    fn align() -> usize {{
+        {align}
+    }}
+
+    fn expr(alloc: Global) -> Result<{EXPR}, Error> {{
+        expr_of_record::<{R}Parts>(alloc)
+    }}
+
+    fn define(alloc: Global, defs: &mut Defs) -> Result<(), Error> {{
+        <{R}Parts as PortableParts>::define(alloc, defs)
+    }}
+}}
+
+impl Record for {R} {{
+    type Parts = {R}Parts;
+
+    ghost has_parts = {{ {w}_has_parts }};
+
+    ghost holds = {{ lit≤ tt }};
+}}
+"""
+
+
+def inside(it, type):
+    """The archived type of a part, as all but its views know it."""
+    if it.terms.is_row(type):
+        return it.row_name(type)
+    if type.name == "Vec" and it.terms.is_row(type.args[0]):
+        return f"ArchivedVec<{inside(it, type.args[0])}>"
+    if type.name == "Box" and it.terms.leads_back(type):
+        return f"ArchivedBox<{inside(it, type.args[0])}>"
+    return it.formats.archived(type)
 
 
 def word(it, case):
@@ -133,9 +227,13 @@ def expression(it, type):
         return f'{EXPR}::Named("{type.own.archived}")'
     if not it.terms.leads_back(type):
         return f"<{it.formats.archived(type)} as Portable>::expr(alloc)?"
+    if type.name == "tuple":
+        return f"{it.word(type)}_expression(alloc)?"
     item = expression(it, type.args[0])
     if type.name == "Box":
         return f"{EXPR}::Box(Box::new(alloc, archive_core::shape::Pointee::One({item}))?)"
+    if type.name == "BoxSlice":
+        return f"{EXPR}::Box(Box::new(alloc, archive_core::shape::Pointee::Run({item}))?)"
     if type.name in ("Option", "Shared"):
         return f"{type.name.lower()}_expression(alloc, {item})?"
     return f"{EXPR}::Vec(Box::new(alloc, {item})?)"
@@ -144,7 +242,7 @@ def expression(it, type):
 def stands_for(it):
     """What the name stands for, as an expression: of each variant one after another."""
     n = it.n
-    out = []
+    out = [row_expression(it, type) for type in it.rows]
     for case in it.cases:
         if not case.count:
             continue
@@ -172,6 +270,21 @@ fn {n}_expression(alloc: Global) -> Result<{EXPR}, Error>
     if it.is_alone:
         return "\n".join(out)
     return "\n".join(out + [defining(it)] + ([defining_all(it.family)] if it is it.family.members[-1] else []))
+
+
+def row_expression(it, type):
+    """The expression of a tuple."""
+    row, w = it.row(type), it.word(type)
+    lets = "".join(statement(4, f"let {name} = ", expression(it, arg), ";") for name, arg in zip(row.names, row.types))
+    return f"""// What a tuple looks like.
+fn {w}_expression(alloc: Global) -> Result<{EXPR}, Error>
+    ensures shape {{ IfOk result (λ e. shape_of e ≡ {w}_shape) }}
+    ensures refused {{ IfErr result (λ e. e ≡ OutOfMemory) }}
+{{
+{lets}    let parts = vec![in alloc; {', '.join(row.names)}]?;
+    Ok(record_of(parts))
+}}
+"""
 
 
 DEFINING = """
@@ -284,7 +397,9 @@ def kept(it, type):
         return f"<{it.formats.rust(type)} as Archive>::Resolver"
     if it.terms.is_member(type):
         return f"{type.own.name}Resolver"
-    return {"Box": "BoxResolver", "Option": "Option<BoxResolver>", "Vec": "VecResolver"}[type.name]
+    if type.name == "Option":
+        return f"Option<{kept(it, type.args[0])}>"
+    return {"Box": "BoxResolver", "BoxSlice": "BoxResolver", "Shared": "RcResolver", "Vec": "VecResolver"}[type.name]
 
 
 def kept_of(it, case):
@@ -312,7 +427,9 @@ pub enum {it.resolver} {{
 def hollow(it, type):
     """What stands for a part that was written: its type."""
     item = type.args[0].args[0] if type.name == "Option" else type.args[0]
-    return f"{type.name}At<{it.formats.archived(item)}>"
+    if it.terms.is_pointer(type):
+        return shared_at(type)
+    return f"{type.name}At<{inside(it, item)}>"
 
 
 def hollows(it, case):
@@ -324,10 +441,14 @@ def hollows(it, case):
             rust.append(mine)
             values.append(f"&{at}" if it.is_record else at)
             continue
-        made = f"VecAt::of({at}.len())" if type.name == "Vec" else f"{type.name}At::new()"
-        rust.append(hollow(it, type))
+        its = hollow(it, type)
+        made = f"{type.name}At::of({items_of(type, at)[:-len('.items')]}.len())" if is_run(type) else f"{type.name}At::new()"
+        rust.append(its)
+        if it.terms.is_pointer(type):
+            values.append(f"&{its}")
+            continue
         values.append(f"&h{name[1:]}")
-        lines.append((f"let h{name[1:]}: {hollow(it, type)} = ", made))
+        lines.append((f"let h{name[1:]}: {its} = ", made))
     return rust, values, lines
 
 
@@ -392,7 +513,7 @@ def archive(it):
 def resolve_arm(it, case):
     it.formats.use("archive_core::recursive", f"resolve_named_case_{case.count}")
     rust, values, lines = hollows(it, case)
-    names = [name if not back or type.name == "Vec" or it.terms.is_member(type) else f"_{name}" for name, type, back in zip(case.names, case.types, case.leads_back)]
+    names = [name if not back or is_run(type) or it.terms.is_member(type) else f"_{name}" for name, type, back in zip(case.names, case.types, case.leads_back)]
     call_ = Generic(f"resolve_named_case_{case.count}", rust + [it.archived], [str(case.tag)] + values + [handed_on(it.formats, case.types), "Place::new(pos, bytes)"])
     opened = f"let {it.resolver}::{case.name}(kept) = resolver" if case.count else f"let {it.resolver}::{case.name} = resolver"
     other = " else {\n                    unreachable!();\n                }" if len(it.cases) > 1 else ""
@@ -457,6 +578,25 @@ fn serialize_{name}<{it.writer}>(value: &{T}, serializer: &mut S) -> Result<BoxR
     }}
 }}
 """
+    if type.name == "Shared":
+        return f"""// Writes what a shared pointer leads to, if its key is unknown.
+#[cycle(serialize_{it.family.n})]
+fn serialize_{name}<{it.writer}>(value: &{T}, serializer: &mut S) -> Result<RcResolver, Error>
+{contract(it, type, "value")}{{
+{behind_shared(it, type, "value", 4, "Ok({})")}}}
+"""
+    if type.name == "Option" and it.terms.is_shared(item):
+        return f"""// Writes what an option of a shared pointer leads to, if its key is unknown.
+#[cycle(serialize_{it.family.n})]
+fn serialize_{name}<{it.writer}>(value: &{T}, serializer: &mut S) -> Result<{kept(it, type)}, Error>
+{contract(it, type, "value")}{{
+    match value {{
+        None => Ok(None),
+        Some(whole) => {{
+{behind_shared(it, item, "whole", 12, "Ok(Some({}))")}        }}
+    }}
+}}
+"""
     if type.name == "Option":
         return f"""// Writes what an option owns.
 #[cycle(serialize_{it.family.n})]
@@ -478,6 +618,11 @@ fn serialize_{name}<{it.writer}>(value: &{T}, serializer: &mut S) -> Result<{kep
     }}
 }}
 """
+    return (each_writing(it, item) if it.is_first_run(type) else "") + run_writing(it, type)
+
+
+def each_writing(it, item):
+    """The function that writes what each element of a vector, or of a boxed slice, owns."""
     its, D, X = it.formats.rust(item), it.terms.definitions(item), it.terms.shape(item)
     run = f"{D} {X} (length values.now) (each_keys ⟦<{its} as Archive>⟧.keys values.now)\n        (each_meaning ⟦<{its} as Archive>⟧.meaning values.now)"
     return f"""// Writes what each of the values owns, in order.
@@ -498,19 +643,41 @@ fn serialize_each_{it.word(item)}<{it.writer}>(values: &[{its}], serializer: &mu
     Ok(resolvers)
 }}
 
-// Writes what a vector owns.
+"""
+
+
+def boxed_contract(it, type):
+    """What a function promises that writes what a boxed slice owns. It is passed the elements: of the boxed slice the toolchain doesn't see that they are less."""
+    its, D, X = f"⟦<{it.formats.rust(type.args[0])} as Archive>⟧", it.terms.definitions(type), it.terms.shape(type.args[0])
+    said = f"{D} (boxed (run {X})) (each_keys {its}.keys value.now.items)\n        (box (list (each_meaning {its}.meaning value.now.items)))"
+    return f"""    ensures serialized {{ IfOk result (λ r. Serialized {said}
+        (box (hole (to_pointee r (run {X}) (length value.now.items))))
+        (S.state serializer.old) (S.state serializer.new)) }}
+    ensures same_value {{ IfOk result (λ r. length value.now.items ≤ 4294967295) }}
+    ensures goes_on {{ GoesOn (S.state serializer.old) (S.state serializer.new) }}
+    ensures refused {{ IfErr result (IsRefused {said}
+        (S.state serializer.old) (S.state serializer.new)) }}
+"""
+
+
+def run_writing(it, type):
+    """The function that writes what a vector, or a boxed slice, owns."""
+    of, what, region, says = it.formats.rust(type), "a vector", "serialize_inner_slice", contract(it, type, "value")
+    if type.name == "BoxSlice":
+        of, what, region, says = f"Vec<{it.formats.rust(type.args[0])}>", "a boxed slice of these elements", "serialize_inner_box_slice", boxed_contract(it, type)
+    return f"""// Writes what {what} owns.
 #[cycle(serialize_{it.family.n})]
-fn serialize_{name}<{it.writer}>(value: &{T}, serializer: &mut S) -> Result<VecResolver, Error>
-{contract(it, type, "value")}{{
+fn serialize_{it.word(type)}<{it.writer}>(value: &{of}, serializer: &mut S) -> Result<{kept(it, type)}, Error>
+{says}{{
     if value.len() > u32::MAX as usize {{
         return Err(Error::LengthTooLarge);
     }}
     let items = value.as_slice();
-    let kept = match serialize_each_{it.word(item)}(items, serializer) {{
+    let kept = match serialize_each_{it.word(type.args[0])}(items, serializer) {{
         Ok(kept) => kept,
         Err(error) => return Err(error),
     }};
-    match serialize_inner_slice(items, kept, serializer) {{
+    match {region}(items, kept, serializer) {{
         Ok(at) => Ok(at),
         Err(error) => Err(error),
     }}
@@ -519,9 +686,13 @@ fn serialize_{name}<{it.writer}>(value: &{T}, serializer: &mut S) -> Result<VecR
 
 
 def element_written(it, item):
-    """The lines that write what an element of a vector owns, and keep its resolver. A box's value is written where the vector is gone over: of a function that
-    is passed the box the toolchain doesn't see that it ends."""
+    """The lines that write what an element of a vector owns, and keep its resolver. A box's value is written where the vector is gone over, and a tuple's: of a
+    function that is passed the box or the tuple the toolchain doesn't see that it ends."""
     push = "resolvers.push({}).map_err(AllocError::from)?;"
+    if it.terms.is_row(item):
+        row = it.row(item)
+        written = parts_written(it, row, [f"&value.{i}" for i in range(row.count)], 8, row.first_back)
+        return f"{written}        {push.format(flat(pair(row.names)))}\n"
     if it.terms.is_member(item):
         return f"""        let resolver = match serialize_{it.word(item)}(value, serializer) {{
             Ok(resolver) => resolver,
@@ -546,27 +717,37 @@ def element_written(it, item):
 
 def shared_written(it, item, push):
     """The same of a shared pointer, whose value is written if its key is unknown."""
-    return f"""        let inner = &*value.value;
-        let known = match begin_shared(value.key, serializer) {{
-            Ok(known) => known,
-            Err(error) => return Err(error),
-        }};
-        match known {{
-            Some(resolver) => {{
-                {push.format("resolver")}
-            }}
-            None => {{
-                let kept = match serialize_{it.word(item.args[0])}(inner, serializer) {{
-                    Ok(kept) => kept,
-                    Err(error) => return Err(error),
-                }};
-                let resolver = match finish_shared(value.key, inner, kept, serializer) {{
-                    Ok(resolver) => resolver,
-                    Err(error) => return Err(error),
-                }};
-                {push.format("resolver")}
-            }}
-        }}
+    return behind_shared(it, item, "value", 8, push, True)
+
+
+def behind_shared(it, item, name, indent, made, is_element=False):
+    """The lines that write what is behind a shared pointer if its key is unknown; `made` is what its resolver is taken for."""
+    pad, its = " " * indent, made.format("resolver")
+    known = f"{{\n{pad}        {its}\n{pad}    }}" if is_element else f"{its},"
+    finished = f"finish_shared({name}.key, inner, kept, serializer)"
+    last = f"""let resolver = match {finished} {{
+{pad}            Ok(resolver) => resolver,
+{pad}            Err(error) => return Err(error),
+{pad}        }};
+{pad}        {its}""" if is_element else f"""match {finished} {{
+{pad}            Ok(resolver) => {its},
+{pad}            Err(error) => Err(error),
+{pad}        }}"""
+    return f"""{pad}let inner = &*{name}.value;
+{pad}let known = match begin_shared({name}.key, serializer) {{
+{pad}    Ok(known) => known,
+{pad}    Err(error) => return Err(error),
+{pad}}};
+{pad}match known {{
+{pad}    Some(resolver) => {known}
+{pad}    None => {{
+{pad}        let kept = match serialize_{it.word(item.args[0])}(inner, serializer) {{
+{pad}            Ok(kept) => kept,
+{pad}            Err(error) => return Err(error),
+{pad}        }};
+{pad}        {last}
+{pad}    }}
+{pad}}}
 """
 
 
@@ -585,11 +766,14 @@ def inner_written(it, box, name, indent):
 """
 
 
-def parts_written(it, case, values, indent=4):
+def parts_written(it, case, values, indent=4, by_call=None):
+    """The lines that write parts one after another; `by_call` is the index of one whose error comes by a call."""
     lines, pad = "", " " * indent
-    for name, type, back, value in zip(case.names, case.types, case.leads_back, values):
-        function = f"serialize_{it.word(type)}" if back else "serialize_part"
-        lines += f"{pad}let {name} = match {function}({value}, serializer) {{\n{pad}    Ok({name}) => {name},\n{pad}    Err(error) => return Err(error),\n{pad}}};\n"
+    for i, (name, type, back, value) in enumerate(zip(case.names, case.types, case.leads_back, values)):
+        function, error = f"serialize_{it.word(type)}" if back else "serialize_part", "handed_on(error)" if i == by_call else "error"
+        if back and type.name == "BoxSlice":
+            value = f"&{value.lstrip('&')}.items"
+        lines += f"{pad}let {name} = match {function}({value}, serializer) {{\n{pad}    Ok({name}) => {name},\n{pad}    Err(error) => return Err({error}),\n{pad}}};\n"
     return lines
 
 
@@ -625,8 +809,9 @@ def case_writing(it, case):
 
 
 def is_inline(case):
-    """Whether a variant is written where the value is matched: the toolchain doesn't see that a function ends that is passed several parts which lead back."""
-    return sum(case.leads_back) > 1
+    """Whether a variant is written where the value is matched: the toolchain doesn't see that a function ends that is passed several parts which lead back, or a
+    boxed slice."""
+    return sum(case.leads_back) > 1 or any(back and type.name == "BoxSlice" for type, back in zip(case.types, case.leads_back))
 
 
 def cycle_of(it):
@@ -761,6 +946,25 @@ fn {name}<{it.reader}>(alloc: Global, part: RawView<'_>, deserializer: &mut D) -
     return "\n".join(out)
 
 
+def read_contract(it, type):
+    """What a function that reads a value promises: of one with tuples, by what these mean."""
+    X, said = inside(it, type), rows_said(it, type, "t")
+    return READ_ROWS.format(X=X, meaning=said[0], keys=said[1]) if said else READ.format(T=it.formats.rust(type), X=X)
+
+
+def rows_said(it, type, x):
+    """What a tuple means, or what is made of tuples, and its keys; nothing of another type."""
+    w = it.word(type)
+    if it.terms.is_row(type):
+        return f"({w}_meaning {x})", f"({w}_keys {x})"
+    if type.name == "Box" and (said := rows_said(it, type.args[0], f"{x}.value")):
+        return f"(box {said[0]})", said[1]
+    if type.name == "Vec" and it.terms.is_row(type.args[0]):
+        item = it.word(type.args[0])
+        return f"(list (each_meaning {item}_meaning {x}.items))", f"(each_keys {item}_keys {x}.items)"
+    return None
+
+
 def reader(it, name, T, contract_, body, said, cycle=True):
     mark = f"#[cycle(read_{it.family.n})]\n" if cycle else "#[inline(always)]\n"
     return f"""// {said}
@@ -772,11 +976,13 @@ def reader(it, name, T, contract_, body, said, cycle=True):
 
 def owner_reading(it, type):
     item = type.args[0]
-    f = it.formats
-    T, X = f.rust(type), f.archived(type)
-    inner = f.archived(item)
+    T = it.formats.rust(type)
+    inner = inside(it, item)
     levels = "levels, " if it.family.shares else ""
-    if type.name == "Shared":
+    if type.name == "tuple":
+        row = it.row(type)
+        body = parts_read(it, row) + statement(4, "Ok(", Group("(", row.names, ")"), ")")
+    elif type.name == "Shared":
         of = f"{inner}, RcFlavor, {T}, D"
         body = f"""    match begin_reading::<{of}>(part, deserializer)? {{
         Some(value) => Ok(value),
@@ -804,23 +1010,27 @@ def owner_reading(it, type):
     }}
 """
     else:
-        body = f"""    let view: Ref<'_, ArchivedVec<{inner}>> = Ref::at(part);
-    let list = before_vec(view);
-    let mut items = Vec::with_capacity(alloc, list.len())?;
+        lines = f"    let view: Ref<'_, ArchivedVec<{inner}>> = Ref::at(part);\n    let list = before_vec(view);\n"
+        made = "items"
+        if type.name == "BoxSlice":
+            lines, made = f"    let list = before_box_slice::<{inner}>(part);\n", "BoxSlice { items }"
+        body = f"""{lines}    let mut items = Vec::with_capacity(alloc, list.len())?;
     for index in 0..list.len() {{
         let item = read_{it.word(item)}(alloc, list.index(index).part(), {levels}deserializer)?;
         items.push_reserved(item);
     }}
-    Ok(items)
+    Ok({made})
 """
-    return reader(it, it.word(type), T, READ.format(T=T, X=X), body, {"Box": "Reads a box back.", "Option": "Reads an option back.", "Vec": "Reads a vector back.", "Shared": "Reads a shared value back."}[type.name])
-
+    whats = {"Box": "a box", "BoxSlice": "a boxed slice", "Option": "an option", "Vec": "a vector", "Shared": "a shared value"}
+    told = "Reads a tuple back, part by part." if type.name == "tuple" else f"Reads {whats[type.name]} back."
+    return reader(it, it.word(type), T, read_contract(it, type), body, told)
 
 def parts_read(it, case):
     lines = ""
-    for i, (name, type, back, X, T, offset) in enumerate(zip(case.names, case.types, case.leads_back, case.archived, case.rust, case.offsets)):
-        if it.is_record:
-            where = Generic("part_of_record", [it.archived, X], ["part", str(i), str(offset)])
+    for i, (name, type, back, T, offset) in enumerate(zip(case.names, case.types, case.leads_back, case.rust, case.offsets)):
+        X = inside(it, type)
+        if case.is_record:
+            where = Generic("part_of_record", [it.row_name(case.tuple) if case.is_row else it.archived, X], ["part", str(i), str(offset)])
         else:
             where = Generic("part_of_variant", [it.archived, X], ["part", str(case.tag), str(i), str(offset)])
         lines += statement(4, f"let p{i} = ", where, ";")

@@ -188,6 +188,8 @@ def laid(it, type):
         return f"{it.terms.n_of(type)}_has_layout"
     if is_described(type):
         return it.terms.plain.described("has_layout", type)
+    if it.terms.is_row(type):
+        return f"{it.word(type)}_has_layout"
     if not has_described(type):
         return "(record { solved = λ s k. refl })"
     args = type.args[:1] if type.name == "OwnedArray" else type.args
@@ -202,6 +204,8 @@ def laid(it, type):
 def reached(it, type):
     """That a part brings no definition but those of names which it reaches."""
     t = it.terms
+    if t.is_member(type):
+        return f"{t.n_of(type)}_no_others"
     if is_described(type):
         return t.plain.described("no_others", type)
     X = t.shape(type)

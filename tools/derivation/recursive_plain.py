@@ -43,6 +43,11 @@ def is_shaped(type, path):
     return not type.args and (type.own.path != path or all(is_shaped(field.type, path) for field in type.own.all_fields()))
 
 
+def has_boxed(type):
+    """Whether a boxed text or slice is in a type: a user's crate can't name these, whose types are of a lower library."""
+    return type.own is None and (type.name in ("BoxStr", "BoxSlice") or any(map(has_boxed, type.args)))
+
+
 class Plain:
     """The terms of plain parts. It gathers what a file has to bring in."""
 
@@ -73,11 +78,11 @@ class Plain:
         if type.name == "NonZero":
             return self.antt(type.args[0])
         args = [self.antt(arg) for arg in type.args]
-        if type.name in ("String", "BoxStr"):
-            return {"String": "(String Global)", "BoxStr": "BoxStr"}[type.name]
+        if type.name == "String":
+            return "(String Global)"
         if type.name == "tuple":
             return f"({' × '.join(args)})"
-        if type.name in ("Option", "Result", "BTreeMap", "BoxSlice"):
+        if type.name in ("Option", "Result", "BTreeMap"):
             return f"({type.name} {' '.join(args)})"
         return f"(List {args[0]})" if type.name == "OwnedArray" else f"({type.name} {args[0]} Global)"
 

@@ -3,9 +3,9 @@
 import re
 
 from . import recursive_chain_proofs as chains
-from . import recursive_code
+from . import recursive_code, recursive_hollow
+from .common import numbered
 from .formats import snake
-from .pieces import numbered
 from .recursive_holders import laid
 from .recursive_reads import Reads
 from .recursive_specs import owns
@@ -13,7 +13,7 @@ from .recursive_terms import brought
 
 # Lemmas and definitions that answers cite, by their modules.
 CITED = {
-    "std.proofs.Common": "◌≡◌ ◌<◌ ◌≤◌ ◌+◌ ◌*◌ ◌++◌ ◌∷◌ [] ℕ length drop inl inr refl sym ◌∙◌ arith rules pos string_bytes slice_index",
+    "std.proofs.Common": "◌≡◌ ◌<◌ ◌≤◌ ◌+◌ ◌*◌ ◌++◌ ◌∷◌ [] ℕ List get_or length drop subst inl inr refl sym ◌∙◌ arith rules pos string_bytes slice_index",
     "std.proofs.lemmas.Int": "to_z-of_z",
     "std.proofs.Math.ListN": "drop_of_length-le",
     "std.proofs.lemmas.Grind": "common_steps",
@@ -83,12 +83,13 @@ def head(family, body, brings):
     for it in family.members:
         meaning += [f"{it.n}_{w}" for w in ("meaning", "keys", "flat", "belongs", "keyed", "planned", "means", "means_roll", "has_keys", "has_keys_roll", "kept_is", "front_is")]
         meaning += [f"{case.n}_{w}" for case in it.cases for w in ("means", "has_keys", "opens")]
-        shape += [f"{it.n}_{w}" for w in ("layout", "has_layout")] + it.shape_names()
+        meaning += [f"{it.word(type)}_{w}" for type in it.rows for w in ("meaning", "keys")]
+        shape += [f"{n}_{w}" for n in [it.n, *map(it.word, it.rows)] for w in ("layout", "has_layout")] + it.shape_names()
         more.append((family.declared(it.name), f"out-{it.name}"))
     more.append((f"{crate}.specs.{family.name}Shape", " ".join(shape)))
     more.append((f"{crate}.specs.{family.name}Meaning", " ".join(dict.fromkeys(meaning))))
-    fits = "use mir.Val.{SFits}\n" if "SFits" in body else ""
-    return brought(body, more + brings) + owns(family, body) + fits
+    named = {"SFits": "mir.Val.{SFits}", "at_most": "denote.Param.Weighed.{at_most, most}"}
+    return brought(body, more + brings) + owns(family, body) + "".join(f"use {path}\n" for name, path in named.items() if name in body)
 
 
 # ---- parts ----
@@ -138,6 +139,8 @@ class Parts:
 def whole_of(it, case):
     """The arguments of a lemma on the whole: of a record, or of a variant."""
     n = it.n
+    if case.is_row:
+        return f"{case.n}_definitions {case.n}_shape {case.n}_definitions {case.n}_parts {case.n}_has_parts"
     if it.is_record:
         return f"{n}_definitions {n}_shape {n}_part_definitions {n}_parts {n}_has_parts"
     return f"{n}_definitions {n}_shape {n}_name {n}_variant_definitions {n}_variants {n}_has_variants {case.tag} {case.n}_parts refl {case.n}_definitions refl"
@@ -154,6 +157,11 @@ def in_arms(made):
             number += 1
         out.append(name)
     return out
+
+
+def in_loop(words):
+    """Names of calls in the loop over a vector's elements."""
+    return in_arms([("loop-value", word) for word in words])
 
 
 def residual(names, i):
@@ -192,14 +200,14 @@ def those_written(it, case, answers, function, values, as_, calls, oks, errs, en
     written = [f"c.{ok}.ensures.serialized" for ok in oks]
     goes = [f"c.{call}.ensures.goes_on" for call in calls]
     parts = Parts(it, case, values)
-    lemma = "record_refused" if it.is_record else "variant_refused"
+    lemma = "record_refused" if case.is_record else "variant_refused"
     for i, err in enumerate(errs):
         # both lemmas take the keys, the meaning, the states and the error
         refused = f"({lemma} {whole_of(it, case)} _ _ _ _ _ {parts.refused(i, written, goes, f'c.{err}.ensures.refused')})"
         answers.answer(function, f"returns-{err}-clause-refused", as_("refused_as", refused))
         if i:
             answers.answer(function, f"returns-{err}-clause-goes_on", all_goes(goes[:i + 1]))
-    lemma = "serialized_record" if it.is_record else "serialized_variant"
+    lemma = "serialized_record" if case.is_record else "serialized_variant"
     answers.answer(function, f"{end}-clause-serialized", as_("written_as", f"({lemma} {whole_of(it, case)} _ _ _ _ _ {parts.written(written)})"))
     if case.count > 1:
         answers.answer(function, f"{end}-clause-goes_on", all_goes(goes))
@@ -221,7 +229,7 @@ def writing(family):
     for it in family.members:
         for type in it.owners:
             if it.is_written(type):
-                {"Box": box_written, "Option": option_written, "Vec": vec_written}[type.name](it, type, answers)
+                {"Box": box_written, "BoxSlice": run_written, "Option": option_written, "Shared": pointer_written, "Vec": run_written}[type.name](it, type, answers)
         if it.is_record:
             record_written(it, answers)
             continue
@@ -268,6 +276,9 @@ def box_written(it, type, answers):
 
 def option_written(it, type, answers):
     """An option is written as its box is, in a variant of its own."""
+    if it.terms.is_shared(type.args[0]):
+        pointer_written(it, type, answers)
+        return
     item = type.args[0].args[0]
     function, inner = f"serialize_{it.word(type)}", f"serialize_{it.word(item)}"
     D, X, Y = it.terms.definitions(type), it.terms.shape(item), it.terms.shape(type.args[0])
@@ -284,8 +295,14 @@ def option_written(it, type, answers):
     answers.answer(function, "returns-in-Err-serialize_inner-clause-refused", f"({same} (case_refused {case} _ _ _ (c.in-Err-serialize_inner.{since.format('refused')})))")
 
 
-def vec_written(it, type, answers):
-    item = type.args[0]
+def run_written(it, type, answers):
+    """The answers on a vector or a boxed slice, and on what each of its elements owns where no other before it has these elements."""
+    if it.is_first_run(type):
+        each_written(it, type.args[0], answers)
+    run_owner_written(it, type, answers)
+
+
+def each_written(it, item, answers):
     w = it.word(item)
     each = f"serialize_each_{w}"
     D, X, t = it.terms.definitions(item), it.terms.shape(item), it.terms
@@ -303,7 +320,9 @@ def vec_written(it, type, answers):
         answers.answer(each, f"returns-{err}-clause-goes_on", f"goes_both _ _ _ {kept}.goes {goes}")
         broken = f"continues_broken {at} _ _ _ c.loop-value-test.true c.value-item.is {t.plan(item)} {kept} {goes} {refused}"
         # the errors of the levels below come by a call
-        answers.answer(each, f"returns-{err}-clause-refused", f"rw c.handed_on.ensures ({broken})" if err == "in-Err" and not t.is_shared(item) else broken)
+        answers.answer(each, f"returns-{err}-clause-refused", f"rw c.handed_on.ensures ({broken})" if err == steps.by_call else broken)
+    if t.is_row(item):
+        row_deeper(it, it.row(item), answers, each)
     if t.is_option(item):
         option_kept(it, item, answers, each, steps, kept, at)
     elif t.is_shared(item):
@@ -316,7 +335,22 @@ def vec_written(it, type, answers):
     end = f"_ _ _ _ _ _ _ _ _ _ _ (drop_of_length-le _ c.loop-value-test.false) {kept}"
     answers.answer(each, "returns-clause-serialized", f"continues_end {end}")
     answers.answer(each, "returns-clause-same_values", f"belongs_end {end}")
-    vec_owner_written(it, type, answers)
+
+
+# A tactic of the function can't cite it.
+DEEPER = """no_deeper : {X : Type 0} (depth : X → ℕ) (n k t : ℕ) (xs : List X) (i : ℕ) (x : X) → n * most depth xs + k ≡ t → i < length xs → x ≡ get_or xs i x → depth x ≤ most depth xs
+no_deeper depth n k t xs i x measure below is = subst (λ y. depth y ≤ most depth xs) (sym is) (at_most depth xs i x below)
+"""
+
+
+def row_deeper(it, row, answers, each):
+    """That the recursion ends: what is in a tuple isn't deeper than the deepest of the tuples. The toolchain's own search doesn't finish."""
+    if DEEPER not in answers.items:
+        answers.items.append(DEEPER)
+    answers.answer(each, "returns-in_err-resolvers-clause-goes_on", "goes_nowhere _")
+    known = "no_deeper _ _ _ _ c.args.values.now c.loop-value.value-index c.value-item.result c.decreases c.loop-value-test.true c.value-item.is"
+    for call in in_loop([f"{word}-requires" for word, back in zip(words_of(it, row), row.leads_back) if back]):
+        answers.answer(each, call, f"(omega (arith, c.decreases, {known}), within)", "g t c κs within")
 
 
 def not_pushed(err):
@@ -387,9 +421,14 @@ SIMPLE = {f"{sign}{bits}" for sign in "ui" for bits in (8, 16, 32, 64, 128)} | {
 class Element:
     """What is known of the calls that write an element of a vector: those that fail, and that none does; and the resolver that it leaves."""
 
+    by_call = "in-Err"  # whose error comes by a call
+
     def __init__(self, it, item):
         if it.terms.is_shared(item):
             self.shared(it, item)
+            return
+        if it.terms.is_row(item):
+            self.row(it, it.row(item))
             return
         box = item.args[0] if it.terms.is_option(item) else item
         D, X = it.terms.definitions(item), it.terms.shape(box if it.terms.is_member(box) else box.args[0])
@@ -419,53 +458,96 @@ class Element:
             self.serialized = f"({same} {written})"
 
 
+    def row(self, it, row):
+        """Those of a tuple: its parts are written one after another."""
+        words = words_of(it, row)
+        calls, oks, errs = in_loop(words), matched("in-Ok", words), matched("in-Err", words)
+        written, goes = [f"c.{ok}.ensures.serialized" for ok in oks], [f"c.{call}.ensures.goes_on" for call in calls]
+        parts, whole = Parts(it, row, [f"c.value-item.result.{i}" for i in range(row.count)]), f"{whole_of(it, row)} _ _ _ _ _"
+        self.by_call, self.goes = errs[row.first_back], all_goes(goes)
+        self.serialized = f"(serialized_record {whole} {parts.written(written)})"
+        self.belongs = self.resolver = "tt"
+        for ok, name in reversed(list(zip(oks, row.names))):
+            self.belongs, self.resolver = f"(c.{ok}.ensures.same_value, {self.belongs})", f"(c.{ok}.{name}, {self.resolver})"
+        refused = [parts.refused(i, written, goes, f"c.{err}.ensures.refused") for i, err in enumerate(errs)]
+        self.refusals = [(err, all_goes(goes[:i + 1]), f"(record_refused {whole} {refused[i]})") for i, err in enumerate(errs)]
+
     def shared(self, it, item):
         """Those of a shared pointer: its key is started, and then its value is written, if that wasn't known."""
-        t, value = it.terms, item.args[0]
-        D, X, inner = t.definitions(value), t.shape(value), f"serialize_{it.word(value)}"
-        y = "c.value-item.result.value.value"
+        its = BehindShared(it, item.args[0], "c.value-item.result", "c.in-Some", "c.in-None")
+        self.by_call = ""
+        self.known, self.first, self.goes, self.serialized = its.known, its.first, its.goes, its.serialized
+        self.refusals = [(f"in-Err{behind}", goes, refused) for behind, goes, refused in its.refusals]
+
+
+class BehindShared:
+    """What is known of the calls that write what is behind a shared pointer: those that fail, and that none does. `some` and `none` are the arms of what is known of its key."""
+
+    def __init__(self, it, value, pointer, some, none):
+        t, inner, y = it.terms, f"serialize_{it.word(value)}", f"{pointer}.value.value"
+        D, X = t.definitions(value), t.shape(value)
         keys, meaning = (f"({t.own(which)[value.own.name]} {y})" for which in ("keys", "meaning"))
         said = f"said {D} rc_flavor (one {X}) 0 {keys} {meaning}"
-        begun, first, written = "(rw c.in-None.is at c.in-Ok.ensures.begun)", "c.begin_shared.ensures.goes_on", f"c.{inner}.ensures.goes_on"
+        begun, first, written = f"(rw {none}.is at c.in-Ok.ensures.begun)", "c.begin_shared.ensures.goes_on", f"c.{inner}.ensures.goes_on"
         same = f"let same : c.deref-inner.result.now ≡ {y} = grind (arith, common_steps) in rw (← same)"
         ok = f"c.in-Ok-{inner}.ensures.serialized"
-        owned = f"(region_refused {D} (one {X}) 0 c.value-item.result.key _ _ rc_flavor _ _ _ _ {begun} {written} (one_owned {D} {X} _ _ _ _ _ c.in-Err-{inner}.ensures.refused))"
+        owned = f"(region_refused {D} (one {X}) 0 {pointer}.key _ _ rc_flavor _ _ _ _ {begun} {written} (one_owned {D} {X} _ _ _ _ _ c.in-Err-{inner}.ensures.refused))"
         since = f"since rc_flavor _ _ {begun} {written} {ok}"
-        self.known = f"((rw c.in-Some.is at c.in-Ok.ensures.known).{said})"
-        self.first, self.goes = first, f"(c.finish_shared.ensures.goes_on.since _ _ {begun} {written})"
+        self.first = first
+        self.known = f"((rw {some}.is at c.in-Ok.ensures.known).{said})"
+        self.goes = f"(c.finish_shared.ensures.goes_on.since _ _ {begun} {written})"
         self.serialized = f"({same} (c.in-Ok-finish_shared.ensures.shared.{since}))"
         self.refusals = [
-            ("in-Err", first, f"(c.in-Err.ensures.refused.{said})"),
-            (f"in-Err-{inner}", f"(goes_both _ _ _ {first} {written})", f"({same} {owned})"),
-            ("in-Err-finish_shared", self.goes, f"({same} (c.in-Err-finish_shared.ensures.refused.{since}))"),
+            ("", first, f"(c.in-Err.ensures.refused.{said})"),
+            (f"-{inner}", f"(goes_both _ _ _ {first} {written})", f"({same} {owned})"),
+            ("-finish_shared", self.goes, f"({same} (c.in-Err-finish_shared.ensures.refused.{since}))"),
         ]
 
 
-def vec_owner_written(it, type, answers):
+def pointer_written(it, type, answers):
+    """The answers on a shared pointer, or on an option of one, which is written in a variant of its own."""
+    item, function, D = type.args[0], f"serialize_{it.word(type)}", it.terms.definitions(type)
+    pointer, some, none, as_written, as_refused = "c.args.value.now", "in-Some", "in-None", "{}", "{}"
+    if type.name == "Option":
+        case = f"{D} {D} (λ s k. k) _ _ 1 {it.terms.shape(item)} refl _ _"
+        item, pointer, some, none = item.args[0], "c.in-Some.whole", "in-Some-known", "in-None-known"
+        as_written, as_refused = (f"rw c.in-Some.is ({lemma} {case} _ _ _ {{}})" for lemma in ("serialized_case", "case_refused"))
+        answers.answer(function, "returns-in-None-clause-serialized", f"rw c.in-None.is (serialized_empty_case {D} _ _ 0 refl _)")
+    its = BehindShared(it, item, pointer, f"c.{some}", f"c.{none}")
+    for behind, goes, refused in its.refusals:
+        if behind:
+            answers.answer(function, f"returns-in-Err{behind}-clause-goes_on", goes)
+        answers.answer(function, f"returns-in-Err{behind}-clause-refused", as_refused.format(refused))
+    answers.answer(function, f"returns-{some}-clause-serialized", as_written.format(its.known))
+    answers.answer(function, "returns-in-Ok-finish_shared-clause-serialized", as_written.format(its.serialized))
+    answers.answer(function, "returns-in-Ok-finish_shared-clause-goes_on", its.goes)
+
+
+def run_owner_written(it, type, answers):
     item = type.args[0]
     each, function = f"serialize_each_{it.word(item)}", f"serialize_{it.word(type)}"
     D, X, t = it.terms.definitions(item), it.terms.shape(item), it.terms
     k, m = (t.own(which)[item.own.name] if t.is_member(item) else t.function(which, item, t.own(which)) for which in ("keys", "meaning"))
-    value = "c.args.value.now"
-    plans = f"(each_planned {D} {X} {k} {m} {t.plan(item)} {value}.items)"
-    whole = f"{D} {X} (length {value}.items) (each_keys {k} {value}.items)"
-    meaning = f"(list (each_meaning {m} {value}.items))"
-    goes = f"(goes_both _ _ _ c.{each}.ensures.goes_on c.serialize_inner_slice.ensures.goes_on)"
+    items = "c.args.value.now.items"
+    plans = f"(each_planned {D} {X} {k} {m} {t.plan(item)} {items})"
+    whole = f"{D} {X} (length {items}) (each_keys {k} {items})"
+    meaning = f"(list (each_meaning {m} {items}))"
+    inner, ok, since, owned = "serialize_inner_slice", "listed", ".since", f"vec_refused {whole}"
+    if type.name == "BoxSlice":
+        inner, ok, since, owned = "serialize_inner_box_slice", "boxed", "", f"box_refused {D} (run {X}) (length {items}) (each_keys {k} {items})"
+    goes = f"(goes_both _ _ _ c.{each}.ensures.goes_on c.{inner}.ensures.goes_on)"
     as_items = "rw c.as_slice-items.ensures.value at"
-    long = (
-        f"(let whole : length {value}.items ≡ c.len.result = grind (arith, common_steps, c.len.ensures) in omega (arith, c.if-len.true, whole))"
-    )
+    long = f"(let whole : length {items} ≡ c.len.result = grind (arith, common_steps, c.len.ensures) in omega (arith, c.if-len.true, whole))"
     answers.answer(
         function, "returns-then-len-clause-refused",
-        f"(let long : 4294967295 < length {value}.items = {long} in vec_refused {whole} {meaning} _ _ _ (long_run_refused {whole} (each_meaning {m} {value}.items) _ _ {plans} long))",
+        f"(let long : 4294967295 < length {items} = {long} in {owned} {meaning} _ _ _ (long_run_refused {whole} (each_meaning {m} {items}) _ _ {plans} long))",
     )
-    answers.answer(function, "returns-in-Err-clause-refused", f"vec_refused {whole} {meaning} _ _ _ (run_owned {whole} (each_meaning {m} {value}.items) _ _ _ ({as_items} c.in-Err.ensures.refused))")
-    listed = f"({as_items} c.in-Ok-serialize_inner_slice.ensures.listed).since _ c.{each}.ensures.goes_on ({as_items} c.in-Ok.ensures.serialized)"
-    unlisted = f"({as_items} c.in-Err-serialize_inner_slice.ensures.refused).since _ c.{each}.ensures.goes_on ({as_items} c.in-Ok.ensures.serialized)"
-    answers.answer(function, "returns-in-Ok-serialize_inner_slice-clause-serialized", listed)
-    answers.answer(function, "returns-in-Ok-serialize_inner_slice-clause-goes_on", goes)
-    answers.answer(function, "returns-in-Err-serialize_inner_slice-clause-goes_on", goes)
-    answers.answer(function, "returns-in-Err-serialize_inner_slice-clause-refused", unlisted)
+    answers.answer(function, "returns-in-Err-clause-refused", f"{owned} {meaning} _ _ _ (run_owned {whole} (each_meaning {m} {items}) _ _ _ ({as_items} c.in-Err.ensures.refused))")
+    listed, unlisted = (f"({as_items} c.in-{arm}-{inner}.ensures.{clause}){since} _ c.{each}.ensures.goes_on ({as_items} c.in-Ok.ensures.serialized)" for arm, clause in (("Ok", ok), ("Err", "refused")))
+    answers.answer(function, f"returns-in-Ok-{inner}-clause-serialized", listed)
+    answers.answer(function, f"returns-in-Ok-{inner}-clause-goes_on", goes)
+    answers.answer(function, f"returns-in-Err-{inner}-clause-goes_on", goes)
+    answers.answer(function, f"returns-in-Err-{inner}-clause-refused", unlisted)
 
 
 def choice_written(it, answers):
@@ -522,7 +604,7 @@ def reading(family):
         if not it.is_holder:
             measures(it, answers)
         for type in it.owners:
-            {"Box": box_read, "Option": option_read, "Vec": vec_read, "Shared": shared_read}[type.name](it, type, answers)
+            {"Box": box_read, "BoxSlice": run_read, "Option": option_read, "Vec": run_read, "Shared": shared_read, "tuple": row_read}[type.name](it, type, answers)
         for case in it.cases:
             here = answers if it.is_record or any(case.leads_back) else Answers(family, f"read_{case.n}")
             parts_read(it, case, here, f"read_{case.n}" if here is answers and not it.is_holder else "")
@@ -535,13 +617,17 @@ def reading(family):
 def measures(it, answers):
     """Each function ends before its caller does: by the end of what it reads, and by which of them it is."""
     deepest, above = it.family.deepest, 2 * it.nest
-    ranks = deepest + 3 + 2 * it.family.most_nest
+    ranks = deepest + 3 + 2 * it.family.most_nest + any(other.rows for other in it.family.members)
+
+    def rank(type):
+        # a tuple may end where a value in it does
+        return ranks - 1 if it.terms.is_row(type) and not it.family.shares else it.depth(type)
 
     def measure(size, rank):
         return f"l.levels * {ranks} + {rank}" if it.family.shares else f"(l.part.pos + {size}) * {ranks} + {rank}"
 
     for type in it.owners:
-        answers.invariant("", f"decreases-read_{it.word(type)}", measure(it.formats.layout(type)[0], it.depth(type)))
+        answers.invariant("", f"decreases-read_{it.word(type)}", measure(it.formats.layout(type)[0], rank(type)))
     if not it.is_record:
         for case in it.cases:
             if any(case.leads_back):
@@ -589,6 +675,10 @@ def shared_read(it, type, answers):
     answers.answer(function, "returns-in_ok-value-in-None-clause-refused", f"err_from c.finish_reading.result c.finish_reading.ensures.refused (λ e h. h.{since})")
 
 
+def row_read(it, type, answers):
+    parts_read(it, it.row(type), answers, f"read_{it.word(type)}")
+
+
 def option_read(it, type, answers):
     inner = type.args[0]
     function = f"read_{it.word(type)}"
@@ -607,34 +697,39 @@ def option_read(it, type, answers):
     answers.answer(function, "returns-in_ok-value-in-Some-clause-read", f"case_read_back {case} _ _ _ _ ({told} c.in_ok-value-in-Some.ensures.read)")
 
 
-def vec_read(it, type, answers):
+def run_read(it, type, answers):
     item = type.args[0]
     w, t = it.word(item), it.terms
     function = f"read_{it.word(type)}"
     D, X = t.definitions(item), t.shape(item)
-    if t.is_member(item):
+    if t.is_row(item):
+        w = it.word(item)
+        L, laid, said = f"{w}_layout", f"{w}_has_layout", f"{w}_meaning {w}_keys"
+    elif t.is_member(item):
         n = t.n_of(item)
-        L, laid, its = f"{n}_layout", f"{n}_has_layout", f"{n}_meaning {n}_keys"
+        L, laid, said = f"{n}_layout", f"{n}_has_layout", f"{n}_meaning {n}_keys"
     else:
         size, align = it.formats.layout(item)
         L, laid = f"(record {{ size = {size}; align = {align} }})", "(record { solved = λ s k. refl })"
-        its = " ".join(t.function(which, item, t.own(which)) for which in ("meaning", "keys"))
+        said = " ".join(t.function(which, item, t.own(which)) for which in ("meaning", "keys"))
     answers.invariant(
         "", f"invariant-{function}-loop-index",
         "(length l.items.items ≡ l.index) × (vec_len l.items ≡ l.index) × (l.list.len ≤ vec_capacity l.items)"
-        f" × FirstElements g.D.Entries.keeps {D} {X} {L} l.list.bytes.now l.list.pos (run {X}) l.list.len {its} (g.D.Entries.entry_of l.initial.deserializer) (g.D.Entries.entry_of l.deserializer) l.items.items",
+        f" × FirstElements g.D.Entries.keeps {D} {X} {L} l.list.bytes.now l.list.pos (run {X}) l.list.len {said} (g.D.Entries.entry_of l.initial.deserializer) (g.D.Entries.entry_of l.deserializer) l.items.items",
     )
-    lets = "let kept = c.loop-index.invariant in let b = c.before_vec-list.result.bytes.now in let q = c.before_vec-list.result.pos in let n = c.before_vec-list.result.len in"
+    before = "before_vec-list" if type.name == "Vec" else "before_box_slice-list"
+    lets = f"let kept = c.loop-index.invariant in let b = c.{before}.result.bytes.now in let q = c.{before}.result.pos in let n = c.{before}.result.len in"
     below = "let below : c.loop-index.index < n = omega (arith, c.loop-index-test.true, c.loop-index.auto.index-end, c.len-index-end.ensures) in"
     steps = ", ".join(f"c.{call}.ensures.{clause}" for call in ("part", "index") for clause in ("buffer", "position", "length"))
-    here = f"{D} {X} {L} {laid} b q (run {X}) n n (all_have {D} {X} {L} {laid} b q n (run {X}) n (inl (refl, refl))) {its} {TOLD}"
+    here = f"{D} {X} {L} {laid} b q (run {X}) n n (all_have {D} {X} {L} {laid} b q n (run {X}) n (inl (refl, refl))) {said} {TOLD}"
     now = "(g.D.Entries.entry_of c.loop-index.deserializer)"
-    listed = ", ".join([f"c.before_vec-list.ensures.{clause}" for clause in ("buffer", "position", "length")] + ["c.at-view.ensures.buffer", "c.at-view.ensures.position"])
+    listed = ", ".join([f"c.{before}.ensures.{clause}" for clause in ("buffer", "position", "length")] + ["c.at-view.ensures.buffer", "c.at-view.ensures.position"] * (type.name == "Vec"))
+    owner, its = ("vec", X) if type.name == "Vec" else ("box", f"(run {X})")
     refused = f"element_refused {here} {now} c.loop-index.items.items c.loop-index.index (one {X}) c.in_err-item.field-0.0 refl below (kept.3) h"
     answers.answer(
         function, "returns-in_err-item-clause-refused",
         f"({lets} {below} let h = rw ({steps}) at c.in_err-item.ensures.refused in let r = {refused} in "
-        + error_by(["items", "item"], 1, f"(vec_unread {D} {ARGS} {X} {TOLD} c.in_err-item.field-0.0 c.requires (rw ({listed}) at r))") + ")",
+        + error_by(["items", "item"], 1, f"({owner}_unread {D} {ARGS} {its} {TOLD} c.in_err-item.field-0.0 c.requires (rw ({listed}) at r))") + ")",
     )
     pushed = "let pushed : c.push_reserved.new.self.items ≡ c.loop-index.items.items ++ c.in_ok-item.item ∷ [] = grind (arith, common_steps) in"
     more = "let more : length (c.loop-index.items.items ++ c.in_ok-item.item ∷ []) ≡ c.loop-index.index + 1 = grind (arith, common_steps, kept.0) in"
@@ -647,7 +742,7 @@ def vec_read(it, type, answers):
     whole = "let whole : length c.loop-index.items.items ≡ n = omega (arith, kept.0, c.loop-index-test.false, c.loop-index.auto.index-end, c.len-index-end.ensures) in"
     answers.answer(
         function, "returns-clause-read",
-        f"({lets} {whole} let r = elements_all {here} {now} c.loop-index.items.items whole (kept.3) in vec_read {D} {ARGS} {X} _ _ _ _ c.requires (rw ({listed}) at r))",
+        f"({lets} {whole} let r = elements_all {here} {now} c.loop-index.items.items whole (kept.3) in {owner}_read {D} {ARGS} {its} _ _ _ _ c.requires (rw ({listed}) at r))",
     )
 
 
@@ -664,7 +759,7 @@ def signed_values(values):
 
 def parts_read(it, case, answers, function):
     """The answers on parts that are read one after another."""
-    where = "part_of_record" if it.is_record else "part_of_variant"
+    where = "part_of_record" if case.is_record else "part_of_variant"
     told = ["rw (" + ", ".join(f"c.{where}-p{i}.ensures.{clause}" for clause in ("buffer", "position", "length")) + ") at " for i in range(case.count)]
     reads = Reads(it, case.names, case.types)
     values = reads.values
@@ -672,8 +767,8 @@ def parts_read(it, case, answers, function):
     laws = [laid(it, type) for type in case.types]
     sizes = [it.formats.layout(type) for type in case.types]
     layouts = [f"(record {{ size = {size}; align = {align} }})" for size, align in sizes]
-    first = "" if it.is_record else "c.requires.tag "
-    starts = [0 if it.is_record else 1] + [offset + size for offset, (size, _) in zip(case.offsets, sizes)]
+    first = "" if case.is_record else "c.requires.tag "
+    starts = [0 if case.is_record else 1] + [offset + size for offset, (size, _) in zip(case.offsets, sizes)]
 
     def refused(i, at=0):
         D, X, _, _ = parts.first(at)
@@ -690,10 +785,12 @@ def parts_read(it, case, answers, function):
         _, _, L, _ = parts.rest(at + 1)
         return f"(part_read_back {{L = {layouts[at]}}} {{ks = {K}}} {{ls = {L}}} {laws[at]} ({told[at]}c.{reads.oks[at]}.ensures.read) {read(at + 1)})"
 
-    lemma = "record_refuses" if it.is_record else "variant_refuses"
+    lemma = "record_refuses" if case.is_record else "variant_refuses"
     for i, err in enumerate(reads.errs):
         answers.answer(function, f"returns-{err}-clause-refused", reads.refused(i, f"({lemma} {whole_of(it, case)} _ _ _ {first}_ _ {refused(i)})"))
-    if it.is_record:
+    if case.is_row:
+        body = f"record_read_back {whole_of(it, case)} _ _ _ _ _ _ _ {read()}"
+    elif it.is_record:
         its = f"(record_read_back {whole_of(it, case)} _ _ _ _ _ _ _ {read()})"
         made = "(record { " + "; ".join(f"{field.name} = {value}" for field, value in zip(case.fields, values)) + " })"
         body = its if it.is_holder else f"read_as ({it.n}_has_keys_roll {made}) ({it.n}_means_roll {made}) {its}"
@@ -753,6 +850,7 @@ def files(family):
     for it in family.members:
         if not it.is_holder:
             out.update(defining(it))
+            out.update(recursive_hollow.files(it))
     if family.first.is_chain:
         out.update(chains.files(family.first))
         return out

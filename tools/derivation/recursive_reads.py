@@ -1,6 +1,6 @@
 """The names by which proofs know parts that are read one after another."""
 
-from .pieces import numbered
+from .common import numbered
 
 # Read by a `match`: `?` isn't covered on a `Result` that holds an `Error` and a type with a model.
 MODELS = ("NonZero", "OwnedArray")

@@ -1,11 +1,15 @@
 """What isn't written of recursive types, with what to write instead."""
 
+from typing import List
+
+from .formats import has_shared
 from .model import Declaration, Refused, Type
-from .recursive_plain import LEAVES, is_shaped
+from .recursive_plain import LEAVES, has_boxed, is_shaped
 
 # What plain parts may be made of, which a recursive type has beside those that lead back to it.
 PLAIN = set(LEAVES) | {"String", "BoxStr", "NonZero", "Option", "Result", "Box", "BoxSlice", "Vec", "BTreeMap", "OwnedArray"}
 MOST_FIELDS = 7
+MOST_PLACES = 3
 
 
 def check_recursive(it: Declaration, line: int, names: str):
@@ -19,6 +23,16 @@ def check_recursive(it: Declaration, line: int, names: str):
         check_parts(it, fields)
         for field in fields:
             check_part(it, field.type, field.line)
+    check_rows(it)
+
+
+def check_rows(it: Declaration):
+    """A tuple that leads back is the element of a vector, the only such one of an enum that leads back to no other type. Others aren't proved."""
+    held = [field for field in it.all_fields() if rows_in(it, field.type)]
+    for i, field in enumerate(held):
+        if i > 0 or it.kind == "struct" or len(it.family) > 1 or not is_named(field.type, "Vec"):
+            said = f"a tuple that leads back to `{it.name}` is written in one `Vec` of an enum alone, if no other type is recursive with it"
+            raise Refused(it.path, field.line, f"{said}; write a struct of this file")
 
 
 def check_family(it: Declaration, names: str):
@@ -58,9 +72,6 @@ def check_plain(it: Declaration, type: Type, line: int, behind: bool = False):
         return
     if is_named(type, "tuple") and not behind:
         raise Refused(it.path, line, f"a plain tuple in the recursive `{it.name}` is written in a `Vec` alone; write a struct of another file, or its parts as fields")
-    if type.own is None and type.name in ("BoxStr", "BoxSlice") and it.kind == "enum":
-        instead = "`String`" if type.name == "BoxStr" else "`Vec`"
-        raise Refused(it.path, line, f"a `{type.name}` in the recursive enum `{it.name}` isn't written yet; write a {instead}")
     if type.own is not None or type.name not in PLAIN | {"tuple"}:
         raise Refused(it.path, line, f"this field of the recursive `{it.name}` is of a type that tools/derive doesn't write there; put it into a struct of another file")
     for arg in type.args:
@@ -68,13 +79,39 @@ def check_plain(it: Declaration, type: Type, line: int, behind: bool = False):
 
 
 def check_owner(it: Declaration, type: Type, line: int):
-    """What leads back is a box, an option of one, a vector of these, of the type itself or of shared pointers to it, or a box of such a vector."""
-    if is_pointer(it, type) or is_list(it, type) or is_named(type, "Box") and is_list(it, type.args[0]):
+    """What leads back is a box or a shared pointer, an option of one, a vector or a boxed slice of these or of the type itself, a vector of tuples, or a box of a vector."""
+    for row in rows_in(it, type):
+        check_row(it, row, line)
+    if is_pointer(it, type) or is_shared(it, type) or is_list(it, type) or is_named(type, "Box") and is_named(type.args[0], "Vec") and is_list(it, type.args[0]):
         return
-    written = f"a `Box<{it.name}>`, an `Option<Box<{it.name}>>`, a `Vec` of these, of `{it.name}` or of `Shared<{it.name}>`, or a `Box` of such a `Vec` is"
-    if type.name not in ("Box", "Option", "Vec") or type.own is not None:
+    written = (
+        f"a `Box<{it.name}>`, a `Shared<{it.name}>`, an `Option` of one, a `Vec` or a `BoxSlice` of `{it.name}`, of `Box<{it.name}>`, `Option<Box<{it.name}>>` or `Shared<{it.name}>`,"
+        " a `Vec` of tuples, or a `Box` of such a `Vec` is"
+    )
+    if type.name not in ("Box", "BoxSlice", "Option", "Shared", "Vec") or type.own is not None:
         raise Refused(it.path, line, f"`{type.name}` around `{it.name}` isn't written yet; {written}")
     raise Refused(it.path, line, f"this {'option' if type.name == 'Option' else f'`{type.name}` of pointers'} to `{it.name}` isn't written yet; {written}")
+
+
+def rows_in(it: Declaration, type: Type) -> List[Type]:
+    """The tuples that lead back, in a vector or in a box of one."""
+    vec = type.args[0] if is_named(type, "Box") else type
+    return [item for item in vec.args if is_named(vec, "Vec") and is_named(item, "tuple") and leads_back(it, item)]
+
+
+def check_row(it: Declaration, row: Type, line: int):
+    """A tuple has plain parts, and types of the family themselves."""
+    if len(row.args) > MOST_PLACES:
+        raise Refused(it.path, line, f"a tuple that leads back to `{it.name}` has up to {MOST_PLACES} parts; write a struct of this file")
+    if any(has_shared(field.type, it.family) for other in it.family for field in other.all_fields()):
+        raise Refused(it.path, line, f"`{it.name}` leads to itself behind a shared pointer, and a tuple around it isn't written yet; write a struct of this file")
+    for arg in row.args:
+        if leads_back(it, arg) and not is_member(it, arg):
+            raise Refused(it.path, line, f"`{arg.name}` around `{it.name}` isn't written yet in a tuple; write a struct of this file")
+        if has_boxed(arg):
+            raise Refused(it.path, line, f"a `BoxStr` or `BoxSlice` in a tuple that leads back to `{it.name}` isn't written yet; write a `String` or a `Vec`")
+        if not leads_back(it, arg):
+            check_part(it, arg, line)
 
 
 def is_named(type: Type, name: str) -> bool:
@@ -91,11 +128,17 @@ def is_pointer(it: Declaration, type: Type) -> bool:
     return is_named(box, "Box") and is_member(it, box.args[0])
 
 
+def is_shared(it: Declaration, type: Type) -> bool:
+    """Whether it is a shared pointer to a type of the family, or an option of one."""
+    pointer = type.args[0] if is_named(type, "Option") else type
+    return is_named(pointer, "Shared") and is_member(it, pointer.args[0])
+
+
 def is_list(it: Declaration, type: Type) -> bool:
-    if not is_named(type, "Vec"):
+    if not is_named(type, "Vec") and not is_named(type, "BoxSlice"):
         return False
     item = type.args[0]
-    return is_member(it, item) or is_pointer(it, item) or is_named(item, "Shared") and is_member(it, item.args[0])
+    return is_member(it, item) or is_pointer(it, item) or is_named(item, "tuple") and is_named(type, "Vec") or is_named(item, "Shared") and is_member(it, item.args[0])
 
 
 def leads_back(it: Declaration, type: Type) -> bool:

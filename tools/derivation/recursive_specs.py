@@ -3,7 +3,8 @@
 from . import recursive_chain_specs as chains
 from . import recursive_holders as holders
 from .formats import ALIGNS
-from .recursive_terms import brought, brought_owns, something
+from .recursive_plain import has_boxed, items_of
+from .recursive_terms import around, brought, brought_owns, something
 
 
 def of_each(family, piece):
@@ -15,7 +16,7 @@ def of_each(family, piece):
 # What a proof names that each definition of a family is reached.
 REACHED = [
     ("archive_core.specs.Defined", "Involves involves involves_through mentions_held mentions_first mentions_later mentions_parts mentions_variant mentions_other"),
-    ("archive_core.specs.Defined", "mentions_choice mentions_boxed mentions_one mentions_vec holds_name"),
+    ("archive_core.specs.Defined", "mentions_choice mentions_boxed mentions_one mentions_run mentions_vec mentions_shared holds_name"),
     ("archive_core.specs.Definitions", "listed"),
     ("std.proofs.Common", "zero suc arith"),
 ]
@@ -30,11 +31,11 @@ def shape(family):
     if family.first.is_holder:
         lines = holders.shape(family.first)
     else:
-        lines = of_each(family, named) + of_each(family, stood_for)
+        lines = of_each(family, named) + of_each(family, rows) + of_each(family, stood_for)
         nested = family.most_nest > 0
         lines += of_each(family, brings) if nested else []
         lines += [line for it in family.inner_first for line in defined(it)]
-        lines += of_each(family, stands if nested else lambda it: brings(it) + stands(it))
+        lines += of_each(family, lambda it: ([] if nested else brings(it)) + rows_laid(it) + stands(it))
     if family.first.is_chain:
         lines += chains.shape(family.first, knows_parts)
     body = "\n".join(lines)
@@ -49,6 +50,32 @@ def owns(family, body):
 def named(it):
     n = it.n
     return [f"abbrev pub {n}_name : Name\n{n}_name = codes \"{it.archived}\"\n", f"abbrev pub {n}_shape : Shape\n{n}_shape = named {n}_name\n"]
+
+
+def rows(it):
+    """The tuples in vectors that lead back: what they look like."""
+    lines = []
+    for type in it.rows:
+        w = it.word(type)
+        lines.append(f"abbrev pub {w}_parts : Parts\n{w}_parts = {it.terms.parts(type.args)}\n")
+        lines.append(f"abbrev pub {w}_shape : Shape\n{w}_shape = parts {w}_parts\n")
+    return lines
+
+
+def rows_laid(it):
+    """And where their parts lie."""
+    lines = []
+    for type in it.rows:
+        w = it.word(type)
+        size, align = it.formats.layout(type)
+        lines.append(f"abbrev pub {w}_layout : Layout\n{w}_layout = record {{ size = {size}; align = {align} }}\n")
+        parts = holders.PartsOf(it, type.args)
+        its = f"record_has_layout {w}_definitions {w}_parts _ _ _ {parts.laid()}"
+        lines.append(f"pub {w}_is_align : IsAlign {align}\n{w}_is_align = {ALIGNS[align]}\n")
+        lines.append(f"pub {w}_has_layout : HasLayout {w}_definitions {w}_shape {w}_layout\n{w}_has_layout = {its}\n")
+        lines.append(f"pub {w}_no_others : NoOthers {w}_definitions {w}_shape\n{w}_no_others = {parts.reached()}\n")
+        lines.append(f"pub {w}_has_parts : IsRecord {w}_definitions {w}_shape {w}_definitions {w}_parts\n{w}_has_parts = is_record {w}_definitions {w}_parts\n")
+    return lines
 
 
 def stood_for(it):
@@ -138,9 +165,13 @@ def mention_in(it, type, other):
         return "mentions_held holds_name"
     if not it.terms.leads_back(type) or it.terms.is_member(type):
         return ""
+    if it.terms.is_row(type):
+        its = [(i, inner) for i, arg in enumerate(type.args) if (inner := mention_in(it, arg, other))]
+        return f"mentions_parts ({'mentions_later (' * its[0][0]}mentions_first ({its[0][1]}){')' * its[0][0]})" if its else ""
     inner = mention_in(it, type.args[0], other)
     around = {
         "Box": "mentions_boxed (mentions_one ({}))",
+        "BoxSlice": "mentions_boxed (mentions_run ({}))",
         "Option": "mentions_choice (mentions_other (mentions_variant (mentions_first ({}))))",
         "Vec": "mentions_vec ({})",
         "Shared": "mentions_shared (mentions_one ({}))",
@@ -157,12 +188,15 @@ def knows(it, known):
 
 
 def knows_parts(it, types):
-    return knows(it, ["k" if it.terms.leads_back(type) else it.terms.plain.known(type) for type in types])
+    return knows(it, [it.terms.known(type) for type in types])
 
 
 def brings(it):
     """The definitions that its parts bring."""
     n, t, lines, chain = it.n, it.terms, [definitions_of(it)] if it.family.most_nest else [], "no_definition"
+    for type in it.rows:
+        w = it.word(type)
+        lines.append(f"abbrev pub {w}_definitions : Definitions\n{w}_definitions = {t.parts_definitions(type.args)}\n")
     if it.is_record:
         return lines + [f"abbrev pub {n}_part_definitions : Definitions\n{n}_part_definitions = {t.parts_definitions(it.types)}\n"]
     for case in reversed(it.cases):
@@ -221,6 +255,7 @@ def meaning(family):
             lines.append(rolled(it, which, type, word))
             lines.append(opened(it, which, word))
     lines += [line for it in family.inner_first for line in flats(it)]
+    lines += of_each(family, rows_meaning)
     if family.first.is_chain:
         lines += chains.meaning(family.first)
     lines += laws(family)
@@ -258,6 +293,16 @@ def meaning_of_holder(it):
 # What is said of a value whose keys have what it means, too; the places of both in a pair.
 BOTH = "(Value × (List Naming))"
 PLACES = {"meaning": ".0", "keys": ".1"}
+
+
+def rows_meaning(it):
+    """What the tuples in vectors mean that lead back."""
+    lines = []
+    for type in it.rows:
+        for which, its, _ in SAID:
+            body = getattr(it.terms, which)(type, "t", it.terms.own(which))
+            lines.append(f"abbrev pub {it.word(type)}_{which} : {it.antt(type)} → {its}\n{it.word(type)}_{which} t = {body}\n")
+    return lines
 
 
 def pairs(family):
@@ -336,8 +381,9 @@ def layer_of(it, case, values):
 
 
 def arguments_of(it, case, held=None):
-    """The parts as arguments."""
-    return "".join(f" ({name} : {it.antt(type, held)})" for name, type in zip(case.names, case.types))
+    """The parts as arguments. A type that the crate can't name antt finds by what is made of the parts, as a boxed slice's."""
+    unnamed = lambda type: has_boxed(type) or type.name == "BoxSlice" and it.terms.leads_back(type)
+    return "".join(f" ({name} : {'_' if unnamed(type) else it.antt(type, held)})" for name, type in zip(case.names, case.types))
 
 
 def said_by(family, which):
@@ -350,21 +396,21 @@ def sources(it):
     return each_type(it.family, lambda other: other.source)
 
 
-def still_mapped(it, item, which, x):
+def still_mapped(it, item, which, items):
     """What is said of a vector whose elements were mapped."""
     its = PLACES[which] if it.family.shares else "(λ v. v)"
     if it.terms.is_member(item):
-        return f"(each_{which} {it.terms.function(which, item, its)} (map {it.terms.own('both' if it.family.shares else which)[item.name]} {x}.items))"
-    return f"(each_{which} {it.terms.function(which, item, its)} (map _ {x}.items))"
+        return f"(each_{which} {it.terms.function(which, item, its)} (map {it.terms.own('both' if it.family.shares else which)[item.name]} {items}))"
+    return f"(each_{which} {it.terms.function(which, item, its)} (map _ {items}))"
 
 
-def mapped(it, item, which, x):
+def mapped(it, item, which, items):
     """That it is what is said of the elements. What is said of an element has its type: antt finds no other."""
     keys, own = "" if which == "meaning" else "_keys", it.terms.own(which)
     if it.terms.is_member(item) and it.family.shares:
-        return f"each_alike{keys} _ (λ (y : {BOTH}). y{PLACES[which]}) {own[item.name]} (λ x. refl) {x}.items"
+        return f"each_alike{keys} _ (λ (y : {BOTH}). y{PLACES[which]}) {own[item.name]} (λ x. refl) {items}"
     if it.terms.is_member(item):
-        return f"each_mapped{keys} {own[item.name]} {x}.items"
+        return f"each_mapped{keys} {own[item.name]} {items}"
     lemma, nothing = ("options_alike", "refl ") if it.terms.is_option(item) else ("each_alike", "")
     inner = item.args[0] if nothing else item
     type = BOTH if it.family.shares else {"meaning": "Value", "keys": "(List Naming)"}[which]
@@ -373,7 +419,7 @@ def mapped(it, item, which, x):
     def said(m, held_):
         return f"(λ (y : {it.antt(inner, held_)}). {getattr(it.terms, which)(inner, 'y', m)})".replace("( ", "(")
 
-    return f"{lemma}{keys} _ {said(PLACES[which] if it.family.shares else '', held)} {said(own, None)} {nothing}(λ x. refl) {x}.items"
+    return f"{lemma}{keys} _ {said(PLACES[which] if it.family.shares else '', held)} {said(own, None)} {nothing}(λ x. refl) {items}"
 
 
 def rolled(it, which, type, word):
@@ -385,10 +431,10 @@ def rolled(it, which, type, word):
         out = f"{fold(it, which, type, 'fold-roll')} {pattern}"
         if it.family.shares:
             out = f"ap (λ (p : {BOTH}). p{PLACES[which]}) ({fold(it, 'both', BOTH, 'fold-roll')} {pattern})"
-        for j, (vector, x) in lists.items():
+        for j, (vector, items) in lists.items():
             # those before it are the value's own already, those behind it are still mapped
-            terms = {i: "vs" if i == j else still_mapped(it, other.args[0], which, y) for i, (other, y) in lists.items() if i >= j}
-            out += f" ∙ ap (λ vs. {said_of(it, case, which, own, terms, values)}) ({mapped(it, vector.args[0], which, x)})"
+            terms = {i: "vs" if i == j else still_mapped(it, other.args[0], which, its) for i, (other, its) in lists.items() if i >= j}
+            out += f" ∙ ap (λ vs. {said_of(it, case, which, own, terms, values)}) ({mapped(it, vector.args[0], which, items)})"
         return out
 
     claim = f"{n}_{which} (roll-{N} {{0}}) ≡ {n}_{which}_layer {said_by(it.family, which)} {{0}}"
@@ -528,10 +574,13 @@ def held_keys(it, type, x):
         return held_keys(it, type.args[0], f"{x}.value")
     if t.is_option(type):
         return "[]" if x == "None" else held_keys(it, type.args[0], something(x))
+    if t.is_shared(type):
+        item, y = type.args[0], f"{x}.value.value"
+        return f"(rc_keys {x}.key (one {t.shape(item)}) 0 {held_meaning(it, item, y)} {held_keys(it, item, y)})"
     if t.leads_back(type) and not t.is_member(type.args[0]):
         return "_"
     if t.leads_back(type):
-        return f"(each_keys {t.n_of(type.args[0])}_keys (map (λ e. e.0) {x}.items))"
+        return f"(each_keys {t.n_of(type.args[0])}_keys (map (λ e. e.0) {items_of(type, x)}))"
     return t.keys(type, x, "")
 
 
@@ -543,8 +592,10 @@ def held_meaning(it, type, x):
         return f"(box {held_meaning(it, type.args[0], f'{x}.value')})"
     if t.is_option(type):
         return "(case 0 no_value)" if x == "None" else f"(case_of 1 {held_meaning(it, type.args[0], something(x))})"
+    if t.is_shared(type):
+        return f"(shared_value {x}.key)"
     if t.leads_back(type) and not t.is_member(type.args[0]):
         return "_"
     if t.leads_back(type):
-        return f"(list (each_meaning {t.n_of(type.args[0])}_meaning (map (λ e. e.0) {x}.items)))"
+        return around(type, f"(list (each_meaning {t.n_of(type.args[0])}_meaning (map (λ e. e.0) {items_of(type, x)})))")
     return t.meaning(type, x, "")

@@ -1,11 +1,12 @@
 """Terms of antt on the parts of recursive types: what a part looks like, what it means, and the laws of it.
 
-A part is plain (a number, a text, another type that `tools/derive` wrote), the type itself, or an owner of it: a box, an option of a box, or a vector. A term
-is one at a value, which is a term itself: `meaning(type, "a0", m)`, where `m` is the meaning of the type itself.
+A part is plain (a number, a text, another type that `tools/derive` wrote), the type itself, or an owner of it: a box, an option of a box, a boxed slice, or a
+vector, of which an element may be a tuple of plain parts and of values of the type. A term is one at a value, which is a term itself:
+`meaning(type, "a0", m)`, where `m` is the meaning of the type itself.
 """
 
 from .formats import snake
-from .recursive_plain import Plain
+from .recursive_plain import Plain, items_of, product
 
 
 def stem(name):
@@ -60,17 +61,25 @@ class Terms:
         """Whether it is a shared pointer that leads back."""
         return type.name == "Shared" and self.leads_back(type)
 
+    def is_row(self, type):
+        """Whether it is a tuple that leads back."""
+        return type.name == "tuple" and self.leads_back(type)
+
+    def is_pointer(self, type):
+        """Whether it is a shared pointer that leads back, or an option of one."""
+        return self.is_shared(type) or self.is_option(type) and self.is_shared(type.args[0])
+
     def is_option(self, type):
-        """Whether it is an option of a box that leads back."""
+        """Whether it is an option of a box, or of a shared pointer, that leads back."""
         return type.name == "Option" and self.leads_back(type)
 
     def list_in(self, type, x):
-        """The vector that leads back, of a part that is one or a box of one, with its term; none of other parts."""
+        """The vector that leads back, of a part that is one or a box of one, with the term of its elements; none of other parts."""
         if not self.leads_back(type) or self.is_member(type):
             return None
         if type.name == "Box":
             return self.list_in(type.args[0], f"{x}.value")
-        return (type, x) if type.name == "Vec" else None
+        return (type, items_of(type, x)) if is_run(type) else None
 
     # ---- formats ----
 
@@ -79,11 +88,26 @@ class Terms:
             return f"{self.n_of(type)}_shape"
         if not self.leads_back(type):
             return self.plain.shape(type)
+        if type.name == "tuple":
+            return f"{self.word(type)}_shape"
         item = self.shape(type.args[0])
-        return {"Box": f"(boxed (one {item}))", "Option": f"(option_shape {item})", "Vec": f"(vec {item})", "Shared": f"(shared rc_flavor (one {item}))"}[type.name]
+        shapes = {"Box": f"(boxed (one {item}))", "BoxSlice": f"(boxed (run {item}))", "Option": f"(option_shape {item})", "Vec": f"(vec {item})"}
+        return {**shapes, "Shared": f"(shared rc_flavor (one {item}))"}[type.name]
 
     def definitions(self, type):
-        return f"{self.n}_definitions" if self.leads_back(type) else self.plain.definitions(type)
+        if not self.leads_back(type):
+            return self.plain.definitions(type)
+        if type.name == "tuple":
+            return f"{self.word(type)}_definitions"
+        return f"{self.n}_definitions" if self.is_member(type) else self.definitions(type.args[0])
+
+    def known(self, type):
+        """A proof that its definitions are known where the type's own are."""
+        if not self.leads_back(type):
+            return self.plain.known(type)
+        if type.name == "tuple":
+            return product([self.known(arg) for arg in type.args], "(knows_none s k.laid_out)", "knows_both s _ _")
+        return "k" if self.is_member(type) else self.known(type.args[0])
 
     # ---- values ----
 
@@ -99,6 +123,8 @@ class Terms:
             return applied(m, type, x)
         if not self.leads_back(type):
             return self.plain.meaning(type, x)
+        if type.name == "tuple":
+            return f"(product {self.parts_meaning(type.args, places(type, x), m)})"
         item = type.args[0]
         if type.name == "Shared":
             return f"(shared_value {x}.key)"
@@ -106,13 +132,15 @@ class Terms:
             return f"(box {self.meaning(item, f'{x}.value', m)})"
         if type.name == "Option":
             return f"(option_meaning {self.function('meaning', item, m)} {x})"
-        return f"(list (each_meaning {self.function('meaning', item, m)} {x}.items))"
+        return around(type, f"(list (each_meaning {self.function('meaning', item, m)} {items_of(type, x)}))")
 
     def keys(self, type, x, k):
         if self.is_member(type):
             return applied(k, type, x)
         if not self.leads_back(type):
             return self.plain.keys(type, x)
+        if type.name == "tuple":
+            return self.parts_keys(type.args, places(type, x), k)
         item = type.args[0]
         if type.name == "Shared":
             y = f"{x}.value.value"
@@ -121,30 +149,36 @@ class Terms:
             return self.keys(item, f"{x}.value", k)
         if type.name == "Option":
             return f"(option_keys {self.function('keys', item, k)} {x})"
-        return f"(each_keys {self.function('keys', item, k)} {x}.items)"
+        return f"(each_keys {self.function('keys', item, k)} {items_of(type, x)})"
 
     def flat(self, type, x, r):
         if self.is_member(type):
             return f"({self.n_of(type)}_flat {x} {r})"
         if not self.leads_back(type):
             return self.plain.flat(type, x, r)
+        if type.name == "tuple":
+            return f"(product {self.parts_flat(type.args, places(type, x), r)})"
         item = self.shape(type.args[0])
         if type.name == "Shared":
             return f"(rc_flat {r} (one {item}) 0)"
         if type.name == "Box":
             return f"(box (hole (to_pointee {r} (one {item}) 0)))"
+        if type.name == "Option" and self.is_shared(type.args[0]):
+            return f"(option_flat (λ y s. (rc_flat s (one {self.shape(type.args[0].args[0])}) 0)) {r} {r})"
         if type.name == "Option":
             return f"(option_at (one {self.shape(type.args[0].args[0])}) {r})"
-        return f"(hole (to_pointee {r} (run {item}) (length {x}.items)))"
+        return around(type, f"(hole (to_pointee {r} (run {item}) (length {items_of(type, x)})))")
 
     def belongs(self, type, x, r):
         if self.is_member(type):
             return f"({self.n_of(type)}_belongs {x} {r})"
         if not self.leads_back(type):
             return self.plain.belongs(type, x, r)
+        if type.name == "tuple":
+            return self.parts_belong(type.args, places(type, x), r)
         if type.name in ("Box", "Option", "Shared"):
             return "⊤"
-        return f"(length {x}.items ≤ 4294967295)"
+        return f"(length {items_of(type, x)} ≤ 4294967295)"
 
     # ---- laws ----
 
@@ -154,6 +188,8 @@ class Terms:
             return f"{x}.1"
         if not self.leads_back(type):
             return self.plain.keyed(type, x)
+        if type.name == "tuple":
+            return f"(record_keyed {self.parts_keyed(type.args, places(type, x))})"
         item = type.args[0]
         if type.name == "Shared":
             return f"(rc_keyed {x}.key (one {self.shape(item)}) 0 _ _ {self.keyed(item, f'{x}.value.value')})"
@@ -161,11 +197,14 @@ class Terms:
             return f"(box_keyed _ _ {self.keyed(item, f'{x}.value')})"
         if type.name == "Option":
             return "none_keyed" if x == "None" else f"(some_keyed _ _ {self.keyed(item, something(x))})"
+        items = items_of(type, x)
         if self.is_option(item):
-            return f"(held_options_keyed _ {self.said(item.args[0])} refl (λ e. {self.keyed(item, '(Some e)')}) {x}.items)"
-        if not self.is_member(item):
-            return f"(held_each_keyed _ {self.said(item)} (λ e. {self.keyed(item, 'e')}) {x}.items)"
-        return f"(held_keyed {self.said(item)} {x}.items)"
+            its = f"(held_options_keyed _ {self.said(item.args[0])} refl (λ e. {self.keyed(item, '(Some e)')}) {items})"
+        elif not self.is_member(item):
+            its = f"(held_each_keyed _ {self.said(item)} (λ e. {self.keyed(item, 'e')}) {items})"
+        else:
+            its = f"(held_keyed {self.said(item)} {items})"
+        return its if type.name == "Vec" else f"(box_keyed _ _ {its})"
 
     def planned(self, type, x, held):
         """A proof that there is a plan of a part; `held` where each value of the type itself has the law beside it."""
@@ -173,26 +212,44 @@ class Terms:
             return f"{x}.1" if held else f"({self.n_of(type)}_planned {x})"
         if not self.leads_back(type):
             return self.plain.planned(type, x)
+        if type.name == "tuple":
+            return f"(product_planned _ _ _ _ {self.row_planned(type, x, held)})"
         item = type.args[0]
-        D, X = f"{self.n}_definitions", self.shape(item)
+        D, X = self.definitions(type), self.shape(item)
         if type.name == "Shared":
             return f"(rc_one_planned {D} {x}.key (one {X}) {X} refl _ _ {self.planned(item, f'{x}.value.value', held)})"
         if type.name == "Box":
             return f"(boxed_one_planned {D} (one {X}) {X} refl _ _ {self.planned(item, f'{x}.value', held)})"
         if type.name == "Option" and held:
-            return f"(none_planned {D} {X})" if x == "None" else f"(some_planned {D} {X} _ _ {self.planned(item, something(x), held)})"
+            return f"(none_planned {D} {X})" if x == "None" else f"(some_planned {D} {X} {self.held_pair(item, something(x))} {self.planned(item, something(x), held)})"
         if type.name == "Option":
             k, m = (self.function(which, item, self.own(which)) for which in ("keys", "meaning"))
             return f"(option_planned {D} {X} {k} {m} (λ y. {self.planned(item, 'y', False)}) {x})"
-        its = f"held_planned {self.said(item)} {D} {X} {x}.items"
+        items = items_of(type, x)
+        its = f"held_planned {self.said(item)} {D} {X} {items}"
         if self.is_option(item):
             inner = item.args[0]
-            its = f"held_options_planned _ {self.said(inner)} {D} {self.shape(inner)} refl (λ e. {self.planned(item, '(Some e)', True)}) {x}.items"
+            its = f"held_options_planned _ {self.said(inner)} {D} {self.shape(inner)} refl (λ e. {self.planned(item, '(Some e)', True)}) {items}"
         elif not self.is_member(item):
-            its = f"held_each_planned _ {self.said(item)} {D} {X} (λ e. {self.planned(item, 'e', True)}) {x}.items"
+            its = f"held_each_planned _ {self.said(item)} {D} {X} (λ e. {self.planned(item, 'e', True)}) {items}"
+        owner = f"vec_planned {D} {X}" if type.name == "Vec" else f"box_planned {D} (run {X})"
         if held:
-            return f"(vec_planned {D} {X} _ _ _ (run_region_planned {D} {X} _ _ _ ({its})))"
-        return f"(vec_planned {D} {X} _ _ _ (slice_planned {D} {X} {self.said(item)} {self.plan(item)} {x}.items))"
+            return f"({owner} _ _ _ (run_region_planned {D} {X} _ _ _ ({its})))"
+        return f"({owner} _ _ _ (slice_planned {D} {X} {self.said(item)} {self.plan(item)} {items}))"
+
+    def held_pair(self, type, x):
+        """The keys and the meaning of a shared pointer in a layer of which each value has a law beside it; antt finds those of a box."""
+        if not self.is_shared(type):
+            return "_ _"
+        item, y = type.args[0], f"{x}.value.value.0"
+        keys, meaning = (applied(self.own(which), item, y) for which in ("keys", "meaning"))
+        return f"(rc_keys {x}.key (one {self.shape(item)}) 0 {meaning} {keys}) (shared_value {x}.key)"
+
+    def row_planned(self, type, x, held):
+        """A proof that there are plans of the parts of a tuple."""
+        values = places(type, x)
+        shown = [f"{y}.0" if held and self.is_member(arg) else y for arg, y in zip(type.args, values)]
+        return self.parts_planned(type.args, values, shown, held)
 
     def said(self, item):
         """The keys and the meaning of the elements of a vector, as functions."""
@@ -221,7 +278,7 @@ class Terms:
         for i, (type, x) in reversed(list(enumerate(zip(types, values)))):
             its = self.meaning(type, x, m)
             if terms and i in terms:
-                its = f"(list {terms[i]})" if type.name == "Vec" else f"(box (list {terms[i]}))"
+                its = listed(type, terms[i])
             out = f"(value {its} {out})"
         return out
 
@@ -259,6 +316,26 @@ class Terms:
                 f" {self.planned(type, x, held)} {out})"
             )
         return out
+
+
+def places(type, x):
+    """The parts of a tuple."""
+    return [f"{x}.{i}" for i in range(len(type.args))]
+
+
+def is_run(type):
+    """Whether it is a vector or a boxed slice: elements one after another, behind a pointer."""
+    return type.name in ("Vec", "BoxSlice")
+
+
+def around(type, term):
+    """What a vector means, or what is read in its place, as that of a boxed slice where it is one."""
+    return term if type.name == "Vec" else f"(box {term})"
+
+
+def listed(type, term):
+    """What a vector, a boxed slice, or a box of one means, by what its elements do."""
+    return f"(box {listed(type.args[0], term)})" if type.name == "Box" else around(type, f"(list {term})")
 
 
 def said(m, type):

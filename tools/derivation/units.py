@@ -4,6 +4,7 @@ The evidence of a call over variants has an entry for each pair of a nest, and g
 type with their number, `UnitVariants<250, ()>`. Each arm with a call of the library takes about as long to prove as all arms that return a tag.
 """
 
+from . import variant_blocks
 from .formats import snake
 from .layout import Generic, Group, flat, lay, literal, statement
 
@@ -14,6 +15,15 @@ FROM = 8
 def go_together(declaration):
     """Whether the variants without fields are written together: not of an enum with arguments, whose type a proof by cases would have to name with them."""
     return not declaration.part_by_part and not declaration.instance_of and sum(not v.fields for v in declaration.variants) >= FROM
+
+
+def types_in_turn(declaration):
+    """The types of the fields of each variant, those without fields that are written together as one."""
+    out, together = [], go_together(declaration)
+    for variant in declaration.variants:
+        if variant.fields or not together or not out or out[-1]:
+            out.append([field.type for field in variant.fields])
+    return out
 
 
 class Units:
@@ -30,6 +40,7 @@ class Units:
             choice.formats.ghost("Units", "units", "unit_definitions")
             choice.formats.ghost("Plain", "variant_in")
             choice.formats.ghost("std.specs.Prelude", "Some", "◌<◌", "◌≢◌")
+        self.blocks = variant_blocks.blocks_of(types_in_turn(choice.declaration))
 
     def has(self, case):
         return self.are and not case.count
@@ -64,13 +75,20 @@ class Units:
     def definitions(self):
         return self.folded(lambda n, rest: f"(unit_definitions {n} {rest})", lambda case, rest: f"(both {case.defined} {rest})", "no_definition")
 
-    def nest(self):
-        parts = lambda case: f"{case.word}Parts" if case.count else "()"
-        return self.folded(
-            lambda n, rest: Group("UnitVariants<", [str(n), rest], ">"),
-            lambda case, rest: Group("(", [parts(case), rest], ")", 60),
-            "()",
-        )
+    def nest(self, number=0):
+        """The nest of a block, with the type of what is behind it."""
+        begin, end = self.blocks[number]
+        out = variant_blocks.behind(self.choice, number)
+        for it in reversed(self.runs()[begin:end]):
+            if isinstance(it, int):
+                out = Group("UnitVariants<", [str(it), out], ">")
+            else:
+                out = Group("(", [f"{it.word}Parts" if it.count else "()", out], ")", 60)
+        return out
+
+    def tags_before(self, run):
+        """How many variants are before a run of them."""
+        return sum(it if isinstance(it, int) else 1 for it in self.runs()[:run])
 
     # ---- what is kept ----
 

@@ -1,6 +1,6 @@
 """The impls of an enum without type parameters."""
 
-from . import compared
+from . import compared, variant_blocks
 from .common import (
     Source,
     archive_pointee,
@@ -54,7 +54,8 @@ class Case:
         loads = Loads()
         self.by_fours = loads.go_by_fours(self.types)
         self.pieces = () if loads.are_read_at_once(self.types) else loads.pieces(self.types)
-        self.is_made_apart = is_long(self.types) or bool(self.pieces)
+        has_array = any(type.own is None and type.name == "array" for type in self.types)
+        self.is_made_apart = is_long(self.types) or bool(self.pieces) or has_array and self.count > 2
         self.is_long = is_long(self.types)
 
     def its_pieces(self):
@@ -86,6 +87,7 @@ class Choice(Source):
         self.span = max(case.end for case in self.cases)
         self.size = -(-self.span // self.align) * self.align
         self.units = Units(self)
+        self.is_searched = all(case.is_long or case.count < 3 for case in self.cases)
         self.variants = self.units.shapes()
         self.shape = f'choice (codes "{self.archived}") {self.variants}'
         self.defined = self.units.definitions()
@@ -119,6 +121,7 @@ def text(formats, declaration):
         formats.use("archive_core::fields", f"serialize_case{which}", f"resolve_case{which}")
     pieces = [
         enum(choice),
+        variant_blocks.text(choice),
         *[lent(formats, case.word, f"{choice.name}::{case.name}", case.rust) for case in choice.cases if case.is_long],
         archive_pointee(choice),
         portable(choice, f'expr_of_choice::<{choice.name}Variants>(alloc, "{choice.archived}")'),
@@ -354,15 +357,17 @@ def proofs(formats, declaration):
         answers = made and made.answers(dotted)
         if answers:
             out[f"proofs/{module}/{made.name}/Answers.antt"] = answers
-    if choice.units.are or any(case.is_long for case in choice.cases):
+    in_ways = choice.units.are or any(case.is_long for case in choice.cases)
+    if in_ways:
         out[f"proofs/{module}/{choice.name}Archive/resolve/Answers.antt"] = resolve_answers(choice, dotted)
+    if in_ways or not choice.is_searched:
         out[f"proofs/{module}/{choice.name}Serialize/serialize/Answers.antt"] = serialize_answers(choice, dotted)
     return out
 
 
 def serialize_answers(choice, dotted):
-    """The proof that the variant that is lent is serialized as it means, and that one without fields is among many."""
-    longs = "".join(lent_serialized(case, *names) for case, *names in serialize_calls(choice) if case.is_long)
+    """The proof that a variant is serialized as it means, if it is lent or one of them has several fields, and that one without fields is among many."""
+    longs = "".join(lent_serialized(case, *names) for case, *names in serialize_calls(choice) if case.is_long or case.count and not choice.is_searched)
     brought, of_units = choice.units.serialize_answers(dotted) if choice.units.are else ("", "")
     rules = "use Rattle.std.proofs.Common.{rules}\n" if longs else ""
     return f"""-- {WRITTEN}
@@ -384,10 +389,10 @@ def by_arms(cases, words):
 
 
 def lent_serialized(case, call, arm):
-    goal = f"returns-{arm}"
+    goal, same = f"returns-{arm}", "same_value" if case.is_long else "same_values"
     return f"""
 pub {goal} : goal.{goal}
-{goal} g c = rw (c.in-{case.name}.is) record {{ serialized = c.{arm}.ensures.serialized; same_value = c.{arm}.ensures.same_value; goes_on = c.{call}.ensures.goes_on; refused = search rules }}
+{goal} g c = rw (c.in-{case.name}.is) record {{ serialized = c.{arm}.ensures.serialized; same_value = c.{arm}.ensures.{same}; goes_on = c.{call}.ensures.goes_on; refused = search rules }}
 """
 
 

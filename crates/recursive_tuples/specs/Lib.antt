@@ -1,2 +1,4 @@
-pub mod SettingMeaning
-pub mod SettingShape
+pub mod ConfigMeaning
+pub mod ConfigShape
+pub mod PageMeaning
+pub mod PageShape

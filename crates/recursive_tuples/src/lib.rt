@@ -1,4 +1,5 @@
 //! Recursive types with tuples, as a user declares them, with what tools/derive writes for them. The tests are in tests_recursive.
 #![tactic(auto)]
 
-pub mod setting;
+pub mod config;
+pub mod page;

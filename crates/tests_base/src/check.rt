@@ -1,18 +1,9 @@
-// Archived types, their layouts, and the check of bytes against them.
+// Leaves, regions, and the contexts in which bytes are checked.
 
 mod blocks;
-mod buffers;
 mod contexts;
-mod definitions;
-mod expressions;
-mod forms;
-mod layouts;
 mod leaves;
-mod maps;
-mod marks;
 mod memory;
-mod names;
-mod parts;
 mod ranges;
 
 use archive_check::format::expr::FlavorInfo;

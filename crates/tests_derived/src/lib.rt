@@ -14,8 +14,11 @@ mod entries;
 mod events;
 #[cfg(test)]
 mod judgements;
+mod notices;
 #[cfg(test)]
 mod outcomes;
+#[cfg(test)]
+mod pallets;
 #[cfg(test)]
 mod parcels;
 #[cfg(test)]
@@ -26,6 +29,8 @@ mod points;
 mod presses;
 #[cfg(test)]
 mod ranks;
+#[cfg(test)]
+mod shipments;
 #[cfg(test)]
 mod spots;
 #[cfg(test)]

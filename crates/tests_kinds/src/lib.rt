@@ -1,11 +1,9 @@
-//! Tests of the types of derived_kinds and derived_wide, as a user's own, through public calls. The bytes of each archive were worked out
-//! by hand, from docs/FORMAT.md.
+//! Tests of the types of derived_kinds, as a user's own, through public calls. The bytes of each archive were worked out by hand, from
+//! docs/FORMAT.md.
 #![tactic(auto)]
 
 #[cfg(test)]
 mod assertions;
-#[cfg(test)]
-mod books;
 #[cfg(test)]
 mod judgements;
 #[cfg(test)]

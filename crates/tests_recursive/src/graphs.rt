@@ -1,13 +1,15 @@
 // Graphs, whose knots are behind shared pointers: written once for each key, validated, and read back once for each position; and knots that lead to
 // themselves.
 
-use crate::assertions::{assert_refused, assert_same, assert_written, made};
+use crate::assertions::{assert_holds, assert_refused, assert_same, assert_written, made, viewed};
 use archive_core::api::{from_bytes, to_bytes};
 use archive_core::error::Error;
 use archive_core::pooling::{Pool, Unpool};
 use archive_core::rc::Shared;
+use archive_core::view::Ref;
 use recursive_graphs::graph::{ArchivedGraph, Graph};
 use recursive_graphs::knot::Knot;
+use recursive_pointers::road::{ArchivedRoad, Road, RoadView, ViewOfRoad};
 use std::alloc::{AllocError, Global};
 use std::rc::Rc;
 
@@ -88,4 +90,62 @@ const CYCLE: &[u8] =
 #[test]
 fn archive_of_a_cycle(rt: HostRuntime) {
     assert_refused::<ArchivedGraph>(&rt, "a cycle", rt.alloc(), CYCLE, Error::CyclicValidate);
+}
+
+fn shared(alloc: Global, key: u64, road: Road) -> Result<Shared<Road>, AllocError> {
+    let value = Rc::new(alloc, road)?;
+    Ok(Shared { key, value })
+}
+
+// Road 1 leads into a detour, which is road 9.
+fn road(alloc: Global) -> Result<Road, AllocError> {
+    let last = shared(alloc, 7, Road::Way(9, None))?;
+    let detour = shared(alloc, 5, Road::Detour(last))?;
+    Ok(Road::Way(1, Some(detour)))
+}
+
+// Road 9 at 0, the detour at 16, and road 1 at 32: a tag, four bytes behind it a length or an offset, and behind the length an option: a tag, and an offset
+// four bytes behind it.
+const ROAD: &[u8] =
+    b"\0\0\0\0\x09\0\0\0\0\0\0\0\0\0\0\0\x01\0\0\0\xec\xff\xff\xff\0\0\0\0\0\0\0\0\0\0\0\0\x01\0\0\0\x01\0\0\0\xe4\xff\xff\xff";
+
+#[test]
+fn roads(rt: HostRuntime) {
+    let road = road(rt.alloc()).expect(&rt, "a road");
+    assert_written(&rt, rt.alloc(), &road, ROAD);
+    let mut pool: Pool<Shared<Road>> = Pool::new(rt.alloc());
+    let back: Result<Road, Error> = from_bytes(rt.alloc(), ROAD, &mut pool);
+    let back = made(&rt, "a road", back);
+    assert_written(&rt, rt.alloc(), &back, ROAD);
+    assert_same(&rt, "what is known", pool.is_known(0), true);
+    assert_same(&rt, "what is known", pool.is_known(16), true);
+}
+
+// The road that a road leads into, if it does.
+fn next_of<'a>(road: Ref<'a, ArchivedRoad>) -> Option<Ref<'a, ArchivedRoad>> {
+    match road.variant() {
+        ViewOfRoad::Way(_, next) => match next.as_ref() {
+            Some(next) => Some(next.get()),
+            None => None,
+        },
+        ViewOfRoad::Detour(next) => Some(next.get()),
+    }
+}
+
+#[test]
+fn roads_as_they_lie(rt: HostRuntime) {
+    let road = viewed::<ArchivedRoad>(&rt, rt.alloc(), ROAD);
+    let detour = next_of(road).expect(&rt, "a detour");
+    let last = next_of(detour).expect(&rt, "the last road");
+    assert_same(&rt, "where the last one lies", last.pos(), 0);
+    assert_holds(&rt, "no more", next_of(last).is_none());
+}
+
+// The detour's pointer at 20 leads to the detour itself.
+const ROUND: &[u8] =
+    b"\0\0\0\0\x09\0\0\0\0\0\0\0\0\0\0\0\x01\0\0\0\xfc\xff\xff\xff\0\0\0\0\0\0\0\0\0\0\0\0\x01\0\0\0\x01\0\0\0\xe4\xff\xff\xff";
+
+#[test]
+fn road_into_itself(rt: HostRuntime) {
+    assert_refused::<ArchivedRoad>(&rt, "a cycle", rt.alloc(), ROUND, Error::CyclicValidate);
 }

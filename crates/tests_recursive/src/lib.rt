@@ -10,6 +10,8 @@ mod damaged;
 #[cfg(test)]
 mod graphs;
 #[cfg(test)]
+mod groves;
+#[cfg(test)]
 mod holders;
 #[cfg(test)]
 mod kinds;

@@ -70,6 +70,19 @@ class Writing(RepositoryTest):
         self.assertNotIn("serialize_record_10", self.text(path))
         self.assertEqual(self.run_command("--check", path), (0, ""))
 
+    def test_more_fields_than_at_once_go_in_blocks(self):
+        fields = ", ".join(f"f{i}: u8" for i in range(17))
+        path = self.put(f"#[derive(Drop)]\npub struct Big {{ {fields} }}\n")
+        self.assertEqual(self.run_command(path), (0, ""))
+        written = self.text(path)
+        self.assertIn("    FourParts<u8, u8, u8, u8, FourParts<u8, u8, u8, u8, BigRest1>>,\n", written)
+        self.assertIn("type BigBlock1 = FourParts<u8, u8, u8, u8, (u8, ())>;", written)
+        self.assertIn("pub struct BigKept1 {", written)
+        self.assertIn("r.kept" + ".1" * 12 + ".kept.1.1.1.1.0)", written)
+        self.assertIn("impl PortableParts for BigRest1 {", written)
+        self.assertIn("match read_big(alloc, part, deserializer) {", written)
+        self.assertEqual(self.run_command("--check", path), (0, ""))
+
     def test_many_fields_of_a_variant_are_lent(self):
         path = self.put(f"#[derive(Drop)]\npub enum Big {{ None, Some({', '.join(['i16'] * 16)}) }}\n")
         self.assertEqual(self.run_command(path), (0, ""))

@@ -78,6 +78,21 @@ class LoadsTest(RepositoryTest):
             self.assertEqual(self.run_command(path), (0, ""))
             self.assertIn("(alloc, part, deserializer) {", self.text(path))
 
+    def test_deep_fields_of_long_structs(self):
+        deep = ["[u8; 16]", "Option<(u32, String)>", "BTreeMap<String, u32>", "Vec<(String, u32)>"]
+        for count, blocks in ((9, False), (16, True)):
+            types = (deep * 4)[: count // 2] + ["u64"] * (count - count // 2)
+            fields = ", ".join(f"f{i}: {type}" for i, type in enumerate(types))
+            path = self.put(f"use std::collections::BTreeMap;\npub struct A {{ {fields} }}")
+            self.assertEqual(self.run_command(path), (0, ""))
+            self.assertEqual("struct ARest1;" in self.text(path), blocks)
+
+    def test_a_block_has_as_many_fields_as_are_not_too_much(self):
+        fields = ["u8", "Option<(u32, String)>"] + ["u8"] * 15
+        path = self.put("pub struct A { " + ", ".join(f"f{i}: {type}" for i, type in enumerate(fields)) + " }")
+        self.assertEqual(self.run_command(path), (0, ""))
+        self.assertIn("/// The fields of `A` from `f12` on, as one type: it has no values.\npub struct ARest1;", self.text(path))
+
     def test_read_in_pieces_where_at_once_is_too_much(self):
         path = self.put("pub struct A { " + ", ".join(f"f{i}: Vec<u32>" for i in range(8)) + " }")
         self.assertEqual(self.run_command(path), (0, ""))

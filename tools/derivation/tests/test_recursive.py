@@ -89,6 +89,40 @@ class Recursive(RepositoryTest):
         self.assertEqual(text.count("fn read_option_vec_pair_u8_string_of_setting<"), 1)
         self.assertIn("(vec (parts (part (leaf (number_kind signed w32)) (part (leaf (number_kind unsigned w8)) no_part))))", self.beside("specs", "SettingShape.antt"))
 
+    def test_a_tuple_that_leads_back_is_read_by_a_name(self):
+        path = self.put("#[derive(Drop)]\npub enum Json { Null, Number(i64), Object(Vec<(String, Json)>) }\n")
+        self.assertEqual(self.run_command(path), (0, ""))
+        text, shape, meaning = self.text(path), self.beside("specs", "JsonShape.antt"), self.beside("specs", "JsonMeaning.antt")
+        for word in ("Object(Ref<'a, ArchivedVec<ArchivedTuple2<ArchivedString, ArchivedJson>>>)", "type PairStringJsonParts = (ArchivedString, (ArchivedJson, ()));"):
+            self.assertIn(word, text)
+        for word in ("let a1 = match serialize_json(&value.1, serializer) {", "let p1 = part_of_record::<PairStringJson, ArchivedJson>(part, 1, 8);"):
+            self.assertIn(word, text)
+        self.assertIn("pair_string_json_parts = (part str (part json_shape no_part))", shape)
+        self.assertIn("pair_string_json_definitions = (both no_definition (both json_definitions no_definition))", shape)
+        self.assertIn("(each_meaning (λ y. (product (value (text_value (string_bytes y.0)) (value (m y.1) no_value)))) a0.items)", meaning)
+        self.assertIn("(part_planned json_definitions json_shape (json_keys e.1.0) (json_meaning e.1.0) e.1.1 no_part_planned)", meaning)
+        invariants = self.beside("proofs", "types", "+read_json", "Invariants.antt")
+        self.assertIn("decreases-read_json g l = (l.part.pos + 16) * 6 + 4", invariants)
+        self.assertIn("decreases-read_pair_string_json g l = (l.part.pos + 24) * 6 + 5", invariants)
+        answers = self.beside("proofs", "types", "+serialize_json", "Answers.antt")
+        self.assertIn("-serialize_json-requires g t c κs within = (omega (arith, c.decreases, no_deeper _ _ _ _ c.args.values.now ", answers)
+        self.assertEqual(self.run_command("--check", path), (0, ""))
+
+    def test_calls_of_one_name_in_a_loop_are_named_after_it(self):
+        path = self.put("#[derive(Drop)]\npub enum Page { None, Some(Vec<(Page, u8, Page)>) }\n")
+        self.assertEqual(self.run_command(path), (0, ""))
+        answers = self.beside("proofs", "types", "+serialize_page", "Answers.antt")
+        self.assertIn("-serialize_page-requires-in-loop-value g t c κs within = ", answers)
+        self.assertIn("c.serialize_page-in-loop-value.ensures.goes_on", answers)
+
+    def test_types_of_boxed_texts_and_slices_are_left_to_the_check(self):
+        path = self.put("use archive_core::boxed::{BoxSlice, BoxStr};\n#[derive(Drop)]\npub enum Sheet { Text(BoxStr), Bytes(Option<BoxSlice<u8>>, u8), Group(Vec<Sheet>) }\n")
+        self.assertEqual(self.run_command(path), (0, ""))
+        meaning = self.beside("specs", "SheetMeaning.antt")
+        self.assertIn("sheet_text_means : (a0 : _) → ", meaning)
+        self.assertIn("sheet_bytes_means : (a0 : _) (a1 : ℕ) → ", meaning)
+        self.assertNotIn("Box", meaning)
+
     def test_a_graph_is_keyed_by_what_its_values_mean(self):
         path = self.put("use archive_core::rc::Shared;\n#[derive(Drop)]\npub struct Place { id: u32, next: Vec<Shared<Place>> }\n#[derive(Drop)]\npub struct Way { places: Vec<Shared<Place>> }\n")
         self.assertEqual(self.run_command(path), (0, ""))
@@ -98,6 +132,27 @@ class Recursive(RepositoryTest):
         self.assertIn("fn serialize_place<S: Sharing + Writer + ResolverAlloc>", text)
         self.assertIn("fn read_place<D: Pooling<Shared<Place>>>", text)
         self.assertIn("impl FromParts for Way", text)
+
+    def test_a_boxed_slice_is_written_as_a_vector_with_calls_of_the_module(self):
+        path = self.put("use archive_core::boxed::BoxSlice;\n#[derive(Drop)]\npub enum Grove { Seed(u8), Side(Vec<Grove>), Below(u8, BoxSlice<Grove>) }\n")
+        self.assertEqual(self.run_command(path), (0, ""))
+        text, meaning = self.text(path), self.beside("specs", "GroveMeaning.antt")
+        for word in ("struct BoxSliceAt<X> {", "fn serialize_inner_box_slice<", "fn before_box_slice<", "BoxSliceAt::of(a1.items.len())", "Ok(BoxSlice { items })"):
+            self.assertEqual(text.count(word), 1)
+        self.assertEqual(text.count("fn serialize_each_grove<"), 1)
+        self.assertIn("(box (list (each_meaning m a1.items.items)))", meaning)
+        self.assertIn("grove_below_means : (a0 : ℕ) (a1 : _) → ", meaning)
+        self.assertIn("unique_before.ensures", self.beside("proofs", "types", "before_box_slice", "Answers.antt"))
+        self.assertEqual(self.run_command("--check", path), (0, ""))
+
+    def test_a_shared_pointer_may_be_a_field_or_in_an_option(self):
+        path = self.put("use archive_core::rc::Shared;\n#[derive(Drop)]\npub enum Road { Way(u32, Option<Shared<Road>>), Detour(Shared<Road>) }\n")
+        self.assertEqual(self.run_command(path), (0, ""))
+        text = self.text(path)
+        for word in ("struct SharedRoadAt;", "struct OptionSharedRoadAt;", "fn serialize_shared_road<", "fn serialize_option_shared_road<", "Detour((RcResolver, ())),"):
+            self.assertEqual(text.count(word), 1)
+        self.assertIn("(option_flat (λ y s. (rc_flat s (one road_shape) 0)) s.1.0 s.1.0)", self.beside("specs", "RoadMeaning.antt"))
+        self.assertEqual(self.run_command("--check", path), (0, ""))
 
     def test_two_files_of_one_run_are_both_named(self):
         paths = [self.put(LIST, "list"), self.put(TREE, "tree")]

@@ -3,6 +3,7 @@
 from derivation.model import MARK
 from derivation.read import MOST_FIELDS as MOST
 from derivation.read import MOST_FEW as FEW
+from derivation.read import MOST_OF_VARIANT
 
 from .repository import RepositoryTest
 
@@ -64,14 +65,16 @@ DECLARATIONS = [
     ("struct W<T>(T);\nstruct A { x: Vec<W<Option<W<u8>>>> }", "2: `W<u8>` in a tuple or a struct with type parameters is too deep for the toolchain; write a struct without"),
     (f"struct A<T> {{ t: T, {LIST.join(f'f{i}: u8' for i in range(FEW))} }}", f"{FEW}: `A` has {FEW + 1} fields, and {FEW} are the most of a struct with type parameters; put some into a struct of their own"),
     (f"enum A {{ X({LIST.join('u8' for _ in range(FEW + 1))}) }}", f"1: `A` has one variant, of more than {FEW} fields; write a struct"),
-    (f"enum A {{ X, Y({LIST.join('u8' for _ in range(MOST + 1))}) }}", f"{MOST + 1}: `A::Y` has {MOST + 1} fields, and {MOST} are the most; put some into a struct of their own"),
+    (
+        f"enum A {{ X, Y({LIST.join('u8' for _ in range(MOST_OF_VARIANT + 1))}) }}",
+        f"{MOST_OF_VARIANT + 1}: `A::Y` has {MOST_OF_VARIANT + 1} fields, and {MOST_OF_VARIANT} are the most; put some into a struct of their own",
+    ),
     (f"enum A {{ X, Y({LIST.join('u8' for _ in range(FEW))},\nisize) }}", f"{FEW + 1}: an `isize` beside so many fields of a variant isn't proved; write an `i32` or an `i64`"),
-    (f"struct A {{ {LIST.join(f'f{i}: u8' for i in range(FEW))},\nx: (u8, u8) }}", f"{FEW + 1}: `(u8, u8)` is too much for the toolchain beside so many fields; put it into a struct of its own"),
-    (f"struct A {{ {LIST.join(f'f{i}: Vec<u32>' for i in range(16))} }}", "11: `Vec<u32>` is too deep for the toolchain beside the fields before it; put some of them into a struct"),
+    (f"enum A {{ X, Y {{ {LIST.join(f'f{i}: u8' for i in range(FEW))},\nx: (u8, u8) }} }}", f"{FEW + 1}: `(u8, u8)` is too much for the toolchain beside so many fields; put it into a struct of its own"),
+    (f"enum A {{ X, Y {{ {LIST.join(f'f{i}: Vec<u32>' for i in range(16))} }} }}", "11: `Vec<u32>` is too deep for the toolchain beside the fields before it; put some of them into a struct"),
     ("struct A { x: Vec<Option<Vec<Option<Vec<Option<u8>>>>>> }", "1: `Vec<Option<Vec<Option<Vec<Option<u8>>>>>>` is too deep for the toolchain; put a part of it into a struct"),
-    (f"struct A {{ {LIST.join(f'f{i}: Vec<Option<Vec<u32>>>' for i in range(9))} }}", "9: `Vec<Option<Vec<u32>>>` is too deep for the toolchain beside the fields before it; put some of them into a struct"),
-    (f"enum A {{\n{LIST.join(f'V{i}(u8)' for i in range(61))} }}", "61: `A` has more variants up to here than the toolchain follows; put some into an enum of their own"),
-    (f"enum A {{\n{LIST.join(f'V{i}(Vec<u32>, Vec<u32>)' for i in range(29))} }}", "10: `A` has more variants up to here than the toolchain follows; put some into an enum of their own"),
+    (f"struct A {{ {LIST.join(f'f{i}: Vec<Option<Vec<u32>>>' for i in range(16))},\nx: Vec<Option<Vec<Option<Vec<Option<u8>>>>>> }}", "17: `Vec<Option<Vec<Option<Vec<Option<u8>>>>>>` is too deep for the toolchain; put a part of it into a struct"),
+    (f"enum A {{ X, Y {{ {LIST.join(f'f{i}: Vec<Option<Vec<u32>>>' for i in range(9))} }} }}", "9: `Vec<Option<Vec<u32>>>` is too deep for the toolchain beside the fields before it; put some of them into a struct"),
     ("struct A<T, U> { x: Vec<T> }", "1: `A` has no field of its parameter `U`; remove it, or add a field, as `of: PhantomData<U>`"),
     ("struct A<T = u8>(T);", "1: `T` has a default; write the type at each use instead"),
     (f"struct A {{\n{LIST.join(f'f{i}: u8' for i in range(MOST + 1))} }}", f"{MOST + 2}: `A` has {MOST + 1} fields, and {MOST} are the most; put some into a struct of their own"),
@@ -172,21 +175,28 @@ class Circles(RepositoryTest):
 
     def test_behind_a_pointer(self):
         for text, said in [
-            ("struct A { b: Option<B> }\nstruct B { a: Vec<A> }", "1: this option to `A` isn't written yet; a `Box<A>`, an `Option<Box<A>>`, a `Vec` of these, of `A` or of `Shared<A>`, or a `Box` of such a `Vec` is"),
-            ("struct W<T>(Box<T>);\nstruct A { x: W<A> }", "2: `W` around `A` isn't written yet; a `Box<A>`, an `Option<Box<A>>`, a `Vec` of these, of `A` or of `Shared<A>`, or a `Box` of such a `Vec` is"),
+            ("struct A { b: Option<B> }\nstruct B { a: Vec<A> }", "1: this option to `A` isn't written yet; a `Box<A>`, a `Shared<A>`, an `Option` of one, a `Vec` or a `BoxSlice` of `A`, of `Box<A>`, `Option<Box<A>>` or `Shared<A>`, a `Vec` of tuples, or a `Box` of such a `Vec` is"),
+            ("struct W<T>(Box<T>);\nstruct A { x: W<A> }", "2: `W` around `A` isn't written yet; a `Box<A>`, a `Shared<A>`, an `Option` of one, a `Vec` or a `BoxSlice` of `A`, of `Box<A>`, `Option<Box<A>>` or `Shared<A>`, a `Vec` of tuples, or a `Box` of such a `Vec` is"),
             ("struct A<T> { x: T, a: Vec<A<T>> }", "1: `A` is recursive (A > A) and has type parameters; name its arguments, one type for each"),
-            ("struct A { a: Option<Vec<A>> }", "1: this option to `A` isn't written yet; a `Box<A>`, an `Option<Box<A>>`, a `Vec` of these, of `A` or of `Shared<A>`, or a `Box` of such a `Vec` is"),
-            ("struct A { a: Vec<Vec<A>> }", "1: this `Vec` of pointers to `A` isn't written yet; a `Box<A>`, an `Option<Box<A>>`, a `Vec` of these, of `A` or of `Shared<A>`, or a `Box` of such a `Vec` is"),
-            ("use archive_core::rc::Shared;\nstruct A { a: Option<Shared<A>> }", "2: this option to `A` isn't written yet; a `Box<A>`, an `Option<Box<A>>`, a `Vec` of these, of `A` or of `Shared<A>`, or a `Box` of such a `Vec` is"),
-            ("use archive_core::rc::SharedSlice;\nstruct A { a: Vec<SharedSlice<A>> }", "2: this `Vec` of pointers to `A` isn't written yet; a `Box<A>`, an `Option<Box<A>>`, a `Vec` of these, of `A` or of `Shared<A>`, or a `Box` of such a `Vec` is"),
-            ("struct A { a: Result<Box<A>, u8> }", "1: `Result` around `A` isn't written yet; a `Box<A>`, an `Option<Box<A>>`, a `Vec` of these, of `A` or of `Shared<A>`, or a `Box` of such a `Vec` is"),
+            ("struct A { a: Option<Vec<A>> }", "1: this option to `A` isn't written yet; a `Box<A>`, a `Shared<A>`, an `Option` of one, a `Vec` or a `BoxSlice` of `A`, of `Box<A>`, `Option<Box<A>>` or `Shared<A>`, a `Vec` of tuples, or a `Box` of such a `Vec` is"),
+            ("struct A { a: Vec<Vec<A>> }", "1: this `Vec` of pointers to `A` isn't written yet; a `Box<A>`, a `Shared<A>`, an `Option` of one, a `Vec` or a `BoxSlice` of `A`, of `Box<A>`, `Option<Box<A>>` or `Shared<A>`, a `Vec` of tuples, or a `Box` of such a `Vec` is"),
+            ("use archive_core::rc::WeakShared;\nstruct A { a: Option<WeakShared<A>> }", "2: this option to `A` isn't written yet; a `Box<A>`, a `Shared<A>`, an `Option` of one, a `Vec` or a `BoxSlice` of `A`, of `Box<A>`, `Option<Box<A>>` or `Shared<A>`, a `Vec` of tuples, or a `Box` of such a `Vec` is"),
+            ("use archive_core::rc::SharedSlice;\nstruct A { a: Vec<SharedSlice<A>> }", "2: this `Vec` of pointers to `A` isn't written yet; a `Box<A>`, a `Shared<A>`, an `Option` of one, a `Vec` or a `BoxSlice` of `A`, of `Box<A>`, `Option<Box<A>>` or `Shared<A>`, a `Vec` of tuples, or a `Box` of such a `Vec` is"),
+            ("struct A { a: Result<Box<A>, u8> }", "1: `Result` around `A` isn't written yet; a `Box<A>`, a `Shared<A>`, an `Option` of one, a `Vec` or a `BoxSlice` of `A`, of `Box<A>`, `Option<Box<A>>` or `Shared<A>`, a `Vec` of tuples, or a `Box` of such a `Vec` is"),
             (f"enum A {{ X(Vec<A>),\n{LIST.join(f'V{i}' for i in range(70))} }}", "61: the recursive `A` has more variants up to here than the toolchain follows; put some into an enum of another file"),
             ("struct A { a: Vec<A>,\n b: [u8; 2] }", "2: this field of the recursive `A` is of a type that tools/derive doesn't write there; put it into a struct of another file"),
             ("struct A { a: Vec<A>,\n b: Option<(u8, u8)> }", "2: a plain tuple in the recursive `A` is written in a `Vec` alone; write a struct of another file, or its parts as fields"),
             ("struct A { a: Vec<A>,\n b: Vec<([u8; 2], u8)> }", "2: this field of the recursive `A` is of a type that tools/derive doesn't write there; put it into a struct of another file"),
             ("struct A { a: Vec<A>,\n b: Box<(u8, u8)> }", "2: a plain tuple in the recursive `A` is written in a `Vec` alone; write a struct of another file, or its parts as fields"),
-            ("use archive_core::boxed::BoxStr;\nenum A { X(Vec<A>),\n Y(Option<BoxStr>) }", "3: a `BoxStr` in the recursive enum `A` isn't written yet; write a `String`"),
-            ("struct A { a: Vec<(u8, A)> }", "1: this `Vec` of pointers to `A` isn't written yet; a `Box<A>`"),
+            ("struct A { a: Vec<(u8, A)> }", "1: a tuple that leads back to `A` is written in one `Vec` of an enum alone, if no other type is recursive with it; write a struct of this file"),
+            ("enum A { X,\n Y(Vec<(u8, A)>),\n Z(Vec<(u16, A)>) }", "3: a tuple that leads back to `A` is written in one `Vec` of an enum alone, if no other type is recursive with it; write a struct of this file"),
+            ("enum A { X, Y(Box<Vec<(u8, A)>>) }", "1: a tuple that leads back to `A` is written in one `Vec` of an enum alone, if no other type is recursive with it; write a struct of this file"),
+            ("enum A { X, Y(Vec<(u8, A)>), B(Box<B>) }\nstruct B { a: Vec<A> }", "1: a tuple that leads back to `A` is written in one `Vec` of an enum alone, if no other type is recursive with it; write a struct of this file"),
+            ("struct A { a: Vec<(u8, Box<A>)> }", "1: `Box` around `A` isn't written yet in a tuple; write a struct of this file"),
+            ("struct A { a: Vec<(u8, A, u8, u8)> }", "1: a tuple that leads back to `A` has up to 3 parts; write a struct of this file"),
+            ("use archive_core::boxed::BoxStr;\nstruct A { a: Vec<(Option<BoxStr>, A)> }", "2: a `BoxStr` or `BoxSlice` in a tuple that leads back to `A` isn't written yet; write a `String` or a `Vec`"),
+            ("struct A { a: Box<(u8, A)> }", "1: this `Box` of pointers to `A` isn't written yet; a `Box<A>`"),
+            ("use archive_core::rc::Shared;\nstruct A { a: Vec<(u8, A)>, b: Vec<Shared<A>> }", "2: `A` leads to itself behind a shared pointer, and a tuple around it isn't written yet; write a struct of this file"),
             ("use archive_core::rc::SharedStr;\nstruct B { x: SharedStr }\nstruct A { a: Vec<A>,\n b: B }", "4: `B` has fields that tools/derive doesn't write beside the recursive `A`; move it to another file"),
             ("enum A { X,\n Y(Box<B>) }\nenum B { X, Z(Box<A>) }", "1: `X` is a variant of `A` and of `B`, which hold each other; give one of them another name"),
             ("struct A { a: Vec<A> }\nenum B { C(A,\n (u8, u8)) }", "3: this field of `B` isn't written yet in an enum that holds a recursive type; put it into a struct of another file"),

@@ -9,8 +9,9 @@ use archive_check::format::bytes::{inline_length, is_inline_text, is_text};
 use archive_check::format::error::Error;
 use archive_check::format::expr::{IntegerKind, Kind};
 use archive_check::format::leaf::count_legal;
+use archive_check::format::traits::Portable;
 use archive_check::self_check::check_root;
-use archive_schema::shape::Schema;
+use std::alloc::Global;
 use std::process::Abort;
 
 // Where a text or a run begins.
@@ -89,30 +90,44 @@ fn run_with(size: usize, place: usize, fault: (usize, u8)) -> [u8; 8300]
     bytes
 }
 
-// How many are known to be legal, for each number of leaves and each place of the fault: whole blocks before it.
-fn assert_counts(rt: &impl Abort, kind: Kind, fault: (usize, u8)) {
+// How many of so many leaves are known to be legal: whole blocks before the place of the fault.
+fn assert_count(rt: &impl Abort, kind: Kind, count: usize, place: usize, fault: (usize, u8)) {
     let size = kind.size();
-    for count in [0, 1, 255, 256, 257, 511, 512, 513] {
-        for place in [0, 1, 255, 256, 257, 510, 511, 512, 513] {
-            if size <= 16 && fault.0 <= 16 {
-                let bytes = run_with(size, place, fault);
-                let found = count_legal(kind, &bytes, AT, size, count);
-                let wanted = place.min(count) / 256 * 256;
-                assert_same(rt, "a count", (place, count, found), (place, count, wanted));
-            }
+    if size <= 16 && count <= 513 && place <= 513 && fault.0 <= 16 {
+        let bytes = run_with(size, place, fault);
+        let found = count_legal(kind, &bytes, AT, size, count);
+        let wanted = place.min(count) / 256 * 256;
+        assert_same(rt, "a count", (place, count, found), (place, count, wanted));
+    }
+}
+
+// Both are around whole blocks.
+const COUNTS: [usize; 8] = [0, 1, 255, 256, 257, 511, 512, 513];
+
+const PLACES: [usize; 9] = [0, 1, 255, 256, 257, 510, 511, 512, 513];
+
+fn assert_counts(rt: &impl Abort, kind: Kind, fault: (usize, u8)) {
+    for count in COUNTS {
+        for place in PLACES {
+            assert_count(rt, kind, count, place, fault);
         }
     }
 }
 
 #[test]
 fn runs_are_told_in_blocks(rt: HostRuntime) {
-    assert_counts(&rt, Kind::Bool, (0, 2));
-    assert_counts(&rt, Kind::Char, (2, 0x11));
-    assert_counts(&rt, Kind::NonZero(IntegerKind::U8), (0, 0));
-    assert_counts(&rt, Kind::NonZero(IntegerKind::I16), (0, 0));
-    assert_counts(&rt, Kind::NonZero(IntegerKind::U32), (0, 0));
-    assert_counts(&rt, Kind::NonZero(IntegerKind::I64), (0, 0));
-    assert_counts(&rt, Kind::NonZero(IntegerKind::U128), (0, 0));
+    let rows = [
+        (Kind::Bool, 0, 2),
+        (Kind::Char, 2, 0x11),
+        (Kind::NonZero(IntegerKind::U8), 0, 0),
+        (Kind::NonZero(IntegerKind::I16), 0, 0),
+        (Kind::NonZero(IntegerKind::U32), 0, 0),
+        (Kind::NonZero(IntegerKind::I64), 0, 0),
+        (Kind::NonZero(IntegerKind::U128), 0, 0),
+    ];
+    for (kind, at, byte) in rows {
+        assert_counts(&rt, kind, (at, byte));
+    }
 }
 
 #[test]
@@ -124,24 +139,36 @@ fn runs_of_any_bytes_and_with_gaps(rt: HostRuntime) {
     assert_same(&rt, "bools two bytes apart", apart, 0);
 }
 
-// The refusal of 513 bools of which one is no bool, by their type and by a schema.
+// Why there is no `T` at the start of the bytes, if there is none, by its type.
+fn refusal_of<T: Portable>(alloc: Global, bytes: &[u8]) -> Option<Error> {
+    let mut context = HighValidator::new(alloc, bytes);
+    check_root::<T, HighValidator<'_>>(bytes, 0, &mut context).err()
+}
+
+// 514 ones, with a two at a place.
+fn ones(rt: &impl Abort, alloc: Global, place: usize) -> Vec<u8> {
+    let mut bytes = vec![in alloc; 1u8; 514].expect(rt, "memory");
+    if let Some(byte) = bytes.get_mut(place) {
+        *byte = 2;
+    }
+    bytes
+}
+
+// The refusal of so many bools of which the one at a place is no bool.
+fn assert_bools(rt: &impl Abort, alloc: Global, place: usize) {
+    let bytes = ones(rt, alloc, place);
+    let refusal = if place < 513 {
+        Some(Error::InvalidBool)
+    } else {
+        None
+    };
+    let found = refusal_of::<[bool; 513]>(alloc, &bytes);
+    assert_same(rt, "many bools", found, refusal);
+}
+
 #[test]
 fn one_of_many_bools_is_none(rt: HostRuntime) {
-    let alloc = rt.alloc();
-    let schema = Schema::of::<[bool; 513]>(alloc).expect(&rt, "a schema");
     for place in [0, 255, 256, 511, 512, 513] {
-        let mut bytes = [1; 514];
-        bytes[place] = 2;
-        let wanted = if place < 513 {
-            Err(Error::InvalidBool)
-        } else {
-            Ok(())
-        };
-        let mut context = HighValidator::new(alloc, &bytes);
-        let by_type = check_root::<[bool; 513], HighValidator<'_>>(&bytes, 0, &mut context);
-        let mut context = HighValidator::new(alloc, &bytes);
-        let by_schema = schema.check(&bytes, 0, &mut context);
-        assert_same(&rt, "by type", by_type, wanted);
-        assert_same(&rt, "by schema", by_schema, wanted);
+        assert_bools(&rt, rt.alloc(), place);
     }
 }

@@ -1,10 +1,13 @@
-// What bytes are read as, and which are leaves.
+// What bytes are read as, which are leaves, and what regions of leaves take.
 
 use crate::assertions::{assert_holds, assert_leaf, assert_same};
 use archive_check::format::bytes;
 use archive_check::format::error::Error;
 use archive_check::format::expr::{IntegerKind, Kind};
+use archive_check::format::layout::Layout;
 use archive_check::format::leaf::{illegal, is_legal};
+use archive_check::format::traits::{LayoutRaw, Portable, layout_of_run};
+use archive_num::ArchivedU64;
 use std::process::Abort;
 
 // A text of eleven bytes elsewhere, and one of two in place.
@@ -118,4 +121,41 @@ fn types_of_the_machine_are_leaves(rt: HostRuntime) {
     assert_leaf::<bool>(&rt, alloc, Kind::Bool, 1, 1);
     assert_leaf::<u8>(&rt, alloc, Kind::Number(IntegerKind::U8), 1, 1);
     assert_leaf::<i8>(&rt, alloc, Kind::Number(IntegerKind::I8), 1, 1);
+}
+
+// 2 to the power of 61: so many numbers of eight bytes are more than a size can be.
+const MANY: usize = 2_305_843_009_213_693_952;
+
+fn assert_layout(
+    rt: &impl Abort,
+    found: Result<Layout, Error>,
+    wanted: Result<(usize, usize), Error>,
+) {
+    let found = match found {
+        Ok(layout) => Ok((layout.size, layout.align)),
+        Err(error) => Err(error),
+    };
+    assert_same(rt, "size and alignment", found, wanted);
+}
+
+// The layout of a region of so many elements; none where it is too large.
+fn assert_run<T: Portable>(rt: &impl Abort, count: usize, layout: Option<(usize, usize)>) {
+    let wanted = layout.ok_or(Error::LayoutTooLarge);
+    assert_layout(rt, layout_of_run::<T>(count), wanted);
+}
+
+// The layout of a region of one value.
+fn assert_one<T: LayoutRaw>(rt: &impl Abort, size: usize, align: usize) {
+    assert_layout(rt, T::layout_raw(0), Ok((size, align)));
+}
+
+#[test]
+fn regions_have_layouts(rt: HostRuntime) {
+    assert_one::<ArchivedU64>(&rt, 8, 8);
+    assert_one::<()>(&rt, 0, 1);
+    assert_run::<ArchivedU64>(&rt, 0, Some((0, 8)));
+    assert_run::<ArchivedU64>(&rt, 3, Some((24, 8)));
+    assert_run::<ArchivedU64>(&rt, MANY, None);
+    assert_run::<u8>(&rt, usize::MAX, Some((usize::MAX, 1)));
+    assert_run::<()>(&rt, usize::MAX, Some((0, 1)));
 }

@@ -1,0 +1,4 @@
+pub mod GroveMeaning
+pub mod GroveShape
+pub mod RoadMeaning
+pub mod RoadShape
