@@ -49,6 +49,8 @@ class Family:
         # those first that others hold behind no pointer
         self.inner_first = sorted(self.members, key=lambda it: it.nest)
         self.most_nest = self.inner_first[-1].nest
+        # whether the layout of one rests on that of another, or of one of another family
+        self.is_nested = self.most_nest > 0 or bool(self.first.inner)
         self.shares = self.first.terms.shares
         self.rows = [type for it in self.members for type in it.rows]
         self.deepest = max((depth for it in self.members for depth in map(it.depth, it.owners)), default=0)
@@ -80,7 +82,10 @@ class Recursive:
         self.is_record = declaration.kind == "struct"
         self.is_alone = len(declaration.family) == 1
         self.is_holder = declaration.holder  # nothing in it leads back to it
-        self.is_chain = not self.is_holder and recursive_chains.is_chain(declaration, self.terms.leads_back)
+        # types of other families in it: what they define is defined with it
+        self.inner = self.terms.inner
+        self.is_simple = self.is_alone and not self.inner
+        self.is_chain = not self.is_holder and not self.inner and recursive_chains.is_chain(declaration, self.terms.leads_back)
         # under which names the variants of layers, of a value and of its resolver are brought in
         several = sum(its.kind == "enum" for its in declaration.family) > 1
         self.layer, self.its, self.kept = "Layer", *(f"{word}{declaration.name}" if several else word for word in ("Its", "Kept"))

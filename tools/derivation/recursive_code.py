@@ -15,10 +15,11 @@ from . import recursive_chains as chains
 from .common import chain, doc_lines, in_turn, infix, taken_apart
 from .common import kept_of as handed_on
 from .formats import snake
+from .model import Type
 from .recursive_hollow import boxed_slices, shared_at, shared_pointers
 from .recursive_plain import items_of
 from .recursive_reads import by_match, is_made, word_of
-from .recursive_terms import is_run
+from .recursive_terms import is_run, stem
 from .layout import Generic, Group, call, flat, implementation, literal, pair, signature, statement
 
 SERIALIZED = """    ensures serialized {{ IfOk result (λ r. Serialized {D} {X} (⟦<{T} as Archive>⟧.keys {v}.now)
@@ -267,8 +268,9 @@ fn {n}_expression(alloc: Global) -> Result<{EXPR}, Error>
 {{
 {body}}}
 """)
-    if it.is_alone:
+    if it.is_simple:
         return "\n".join(out)
+    out += [defining_inner(it, own) for own in it.inner if it is it.family.members[-1]]
     return "\n".join(out + [defining(it)] + ([defining_all(it.family)] if it is it.family.members[-1] else []))
 
 
@@ -305,10 +307,20 @@ def defining(it):
 
 
 def defining_all(family):
-    calls = [f"    define_{it.n}(alloc, defs)" for it in family.members]
+    calls = [f"    define_{it.n}(alloc, defs)" for it in family.members] + [f"    define_{stem(own.name)}_within_{family.n}(alloc, defs)" for own in family.first.inner]
     return f"""// Adds what the names stand for.
 {added(f"define_{family.n}_family", f"{family.n}_definitions")}{{
 {"?;".join(f"{call_}{chr(10)}" if i == len(calls) - 1 else call_ for i, call_ in enumerate(calls)).replace("?;    ", f"?;{chr(10)}    ")}}}
+"""
+
+
+def defining_inner(it, own):
+    """What adds what a type of another family defines."""
+    n, archived = stem(own.name), it.formats.archived(Type(own.name, own=own))
+    return f"""// Adds what `{own.archived}` brings.
+{added(f"define_{n}_within_{it.family.n}", f"⟦<{archived} as ArchivePointee>⟧.definitions")}{{
+    <{archived} as Portable>::define(alloc, defs)
+}}
 """
 
 
@@ -325,7 +337,7 @@ def portable(it):
         allocs, parts = "alloc", f"{it.name}{'Parts' if it.is_record else 'Variants'}"
         named = f"expr_of_record::<{parts}>(alloc)" if it.is_record else f'expr_of_choice::<{parts}>(alloc, "{it.archived}")'
         define = f"\n        <{parts} as Portable{'Parts' if it.is_record else 'Variants'}>::define(alloc, defs)\n"
-    elif it.is_alone:
+    elif it.is_simple:
         define = DEFINING.format(n=n, archived=it.archived).replace("\n    ", "\n        ")
     else:
         define = f"\n        define_{it.family.n}_family(alloc, defs)\n"

@@ -48,6 +48,13 @@ def has_boxed(type):
     return type.own is None and (type.name in ("BoxStr", "BoxSlice") or any(map(has_boxed, type.args)))
 
 
+def inner_in(type):
+    """The type written part by part that is in a plain part, alone or in these; none in others."""
+    if type.own is None:
+        return inner_in(type.args[0]) if type.name in ("Box", "BoxSlice", "Option", "OwnedArray", "Vec") else None
+    return type.own if not type.args and (type.own.recursive or type.own.holds_recursive) else None
+
+
 class Plain:
     """The terms of plain parts. It gathers what a file has to bring in."""
 

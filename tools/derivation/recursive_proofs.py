@@ -9,7 +9,7 @@ from .formats import snake
 from .recursive_holders import laid
 from .recursive_reads import Reads
 from .recursive_specs import owns
-from .recursive_terms import brought
+from .recursive_terms import brought, stem
 
 # Lemmas and definitions that answers cite, by their modules.
 CITED = {
@@ -804,7 +804,7 @@ def parts_read(it, case, answers, function):
 
 def defining(it):
     """The answers on the definition of the name."""
-    answers = Answers(it.family, f"{it.archived}Portable/define" if it.is_alone else f"define_{it.n}")
+    answers = Answers(it.family, f"{it.archived}Portable/define" if it.is_simple else f"define_{it.n}")
     answers.answer("", "returns-clause-added", "rw c.in-Ok.ensures.shape at c.define_name.ensures.added", "c")
     answers.answer("", "returns-clause-refused", "rw c.in-Ok.ensures.shape at c.define_name.ensures.refused", "c")
     return answers.files()
@@ -820,7 +820,7 @@ def defining_all(family):
     """The answers on the definitions of a family, added one after another. A tactic of the function can't cite these lemmas."""
     answers = Answers(family, f"define_{family.n}_family")
     answers.items.append(ON_OK)
-    calls = [f"define_{it.n}" for it in family.members]
+    calls = [f"define_{it.n}" for it in family.members] + [f"define_{stem(own.name)}_within_{family.n}" for own in family.first.inner]
     *before, last = calls
     added = [f"c.in_ok-{call}.ensures.added" for call in before]
 
@@ -846,7 +846,7 @@ def defining_all(family):
 
 
 def files(family):
-    out = {} if family.first.is_alone else defining_all(family)
+    out = {} if family.first.is_simple else defining_all(family)
     for it in family.members:
         if not it.is_holder:
             out.update(defining(it))

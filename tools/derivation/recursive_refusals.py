@@ -4,7 +4,7 @@ from typing import List
 
 from .formats import has_shared
 from .model import Declaration, Refused, Type
-from .recursive_plain import LEAVES, has_boxed, is_shaped
+from .recursive_plain import LEAVES, has_boxed, inner_in, is_shaped
 
 # What plain parts may be made of, which a recursive type has beside those that lead back to it.
 PLAIN = set(LEAVES) | {"String", "BoxStr", "NonZero", "Option", "Result", "Box", "BoxSlice", "Vec", "BTreeMap", "OwnedArray"}
@@ -59,6 +59,8 @@ def check_part(it: Declaration, type: Type, line: int):
         check_owner(it, type, line)
         return
     held = recursive_in(type)
+    if held and is_inner(it, type):
+        return
     if held:
         raise Refused(it.path, line, f"`{held}` is recursive or holds a type that is, and isn't written yet in the recursive `{it.name}`; archive the two beside each other")
     check_plain(it, type, line)
@@ -110,6 +112,8 @@ def check_row(it: Declaration, row: Type, line: int):
             raise Refused(it.path, line, f"`{arg.name}` around `{it.name}` isn't written yet in a tuple; write a struct of this file")
         if has_boxed(arg):
             raise Refused(it.path, line, f"a `BoxStr` or `BoxSlice` in a tuple that leads back to `{it.name}` isn't written yet; write a `String` or a `Vec`")
+        if recursive_in(arg) and not leads_back(it, arg):
+            raise Refused(it.path, line, f"`{recursive_in(arg)}` isn't written yet in a tuple that leads back to `{it.name}`; write a struct of this file")
         if not leads_back(it, arg):
             check_part(it, arg, line)
 
@@ -143,6 +147,14 @@ def is_list(it: Declaration, type: Type) -> bool:
 
 def leads_back(it: Declaration, type: Type) -> bool:
     return any(type.own is other for other in it.family) or any(leads_back(it, x) for x in type.args)
+
+
+def is_inner(it: Declaration, type: Type) -> bool:
+    """Whether it is a type of another file or family that is written part by part, or a list, a box, an option or an array of it."""
+    from .recursive_holders import is_part, shares
+
+    inner = inner_in(type)
+    return inner is not None and not shares(it) and is_part(it, Type(inner.name, own=inner))
 
 
 def recursive_in(type: Type) -> str:

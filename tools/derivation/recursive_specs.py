@@ -3,8 +3,8 @@
 from . import recursive_chain_specs as chains
 from . import recursive_holders as holders
 from .formats import ALIGNS
-from .recursive_plain import has_boxed, items_of
-from .recursive_terms import around, brought, brought_owns, something
+from .recursive_plain import has_boxed, inner_in, items_of, product
+from .recursive_terms import around, brought, brought_owns, something, stem
 
 
 def of_each(family, piece):
@@ -22,6 +22,15 @@ REACHED = [
 ]
 
 
+# What a proof names that those of types of other families are.
+INNER = [
+    ("archive_core.specs.PartsLayout", "knows_left knows_right"),
+    ("archive_core.specs.Shape", "Table"),
+    ("std.proofs.Common", "⊎_elim Contains"),
+    ("std.proofs.lemmas.List.Elements", "Contains-append_left Contains-append_right Contains-append_cases"),
+]
+
+
 # What plain parts and lists speak of beside the rest.
 SPOKEN = [("std.specs.Prelude", "false ◌∷◌ ◌<◌ ◌^◌ Bool Result")]
 
@@ -32,14 +41,15 @@ def shape(family):
         lines = holders.shape(family.first)
     else:
         lines = of_each(family, named) + of_each(family, rows) + of_each(family, stood_for)
-        nested = family.most_nest > 0
+        nested = family.is_nested
         lines += of_each(family, brings) if nested else []
+        lines += of_each(family, inner_laws) if family.first.inner else []
         lines += [line for it in family.inner_first for line in defined(it)]
         lines += of_each(family, lambda it: ([] if nested else brings(it)) + rows_laid(it) + stands(it))
     if family.first.is_chain:
         lines += chains.shape(family.first, knows_parts)
     body = "\n".join(lines)
-    more = SPOKEN + ([] if family.first.is_alone else REACHED)
+    more = SPOKEN + ([] if family.first.is_simple else REACHED) + (INNER if family.first.inner else [])
     return f"-- What an archived {' and an archived '.join(it.name for it in family.members)} looks like. {family.first.written}\n{brought(body, more)}{owns(family, body)}\n{body}"
 
 
@@ -93,22 +103,25 @@ def stood_for(it):
 
 
 def definitions_of(it):
-    definitions = ""
-    for other in reversed(it.family.members):
-        one = f"defines {other.n}_name {other.n}_stands_for"
-        definitions = f"both ({one}) ({definitions})" if definitions else one
-    return f"abbrev pub {it.n}_definitions : Definitions\n{it.n}_definitions = {definitions}\n"
+    ones = [f"(defines {other.n}_name {other.n}_stands_for)" for other in it.family.members]
+    ones += [it.terms.inner_definitions()] if it.inner else []
+    return f"abbrev pub {it.n}_definitions : Definitions\n{it.n}_definitions = {unwrapped(product(ones[:-1], ones[-1], 'both'))}\n"
+
+
+def unwrapped(term):
+    """A term in parentheses, without them."""
+    return term[1:-1]
 
 
 def defined(it):
     """Its definitions, which are those of its family, with its layout."""
     n = it.n
-    lines = [] if it.family.most_nest else [definitions_of(it)]
+    lines = [] if it.family.is_nested else [definitions_of(it)]
     lines.append(f"abbrev pub {n}_layout : Layout\n{n}_layout = record {{ size = {it.size}; align = {it.align} }}\n")
     lines.append(f"pub {n}_is_align : IsAlign {it.align}\n{n}_is_align = {ALIGNS[it.align]}\n")
     said = f"pub {n}_has_layout : HasLayout {n}_definitions {n}_shape {n}_layout\n{n}_has_layout ="
     reached = f"pub {n}_no_others : NoOthers {n}_definitions {n}_shape\n"
-    if it.is_alone:
+    if it.is_simple:
         lines.append(f"{said} name_has_layout {n}_name {n}_stands_for {n}_layout (λ s k. refl)\n")
         return lines + [f"{reached}{n}_no_others = name_reached {n}_name {n}_stands_for\n"]
     lines.append(f"{said} member_has_layout {n}_definitions {n}_name {n}_stands_for {n}_layout (λ s k. {has(it)}) (λ s k. {laid_out(it)})\n")
@@ -118,22 +131,100 @@ def defined(it):
             f"{n}_no_others m Y ({index}, l, e) = subst (λ q. Involves (listed {n}_definitions) q {n}_shape) (ap (λ (p : Name × Shape). p.0) e) {way(it, other, it, 'mentions_held holds_name')}\n"
         )
         index = f"suc {index}" if index == "zero" else f"suc ({index})"
-    return lines + [f"{reached}{cases}{n}_no_others m Y ({index.replace('zero', 'i')}, l, e) = absurd (omega (arith, l))\n"]
+    rest = inner_reached(it, "(i, omega (arith, l), e)") if it.inner else "absurd (omega (arith, l))"
+    return lines + [f"{reached}{cases}{n}_no_others m Y ({index.replace('zero', 'i')}, l, e) = {rest}\n"]
+
+
+MORE = """{n}_more : {{old new : Table}} {{m : Name}} {{X : Shape}} → ((o : Name) (Y : Shape) → Contains old (o, Y) → Contains new (o, Y)) → Involves old m X → Involves new m X
+{n}_more more (involves m) = involves m
+{n}_more more (involves_through m c i) = involves_through m (more _ _ c) ({n}_more more i)
+"""
+
+
+def inner_laws(it):
+    """That a type reaches what the types of other families in its own parts define."""
+    n, t = it.n, it.terms
+    lines = [MORE.format(n=n)] if it is it.family.first else []
+    for own in it.inner:
+        found = inner_part(it, own)
+        if found and it is inner_member(it, own):
+            type, mentions = found
+            D, law = t.definitions(type), holders.reached(it, type)
+            lines.append(f"{n}_reaches_{stem(own.name)} : NoOthers {D} {n}_stands_for\n{n}_reaches_{stem(own.name)} = around_reached {D} {t.shape(type)} {n}_stands_for (λ _ m. {mentions}) {law}\n")
+    return lines
+
+
+def inner_member(it, own):
+    """The first type of the family that holds this one of another."""
+    return next(other for other in it.family.members if inner_part(other, own))
+
+
+def inner_part(it, own):
+    """The first part that holds this type of another family, and that what is mentioned in it is mentioned in the whole; nothing if none does."""
+    for i, case in enumerate(it.cases):
+        for j, type in enumerate(case.types):
+            if not it.terms.leads_back(type) and inner_in(type) is own:
+                return type, within(it, i, j, "m")
+    return None
+
+
+def within(it, i, j, inner):
+    """That what a part mentions is mentioned in the whole."""
+    inner = f"mentions_first ({inner})" if inner != "m" else "mentions_first m"
+    for _ in range(j):
+        inner = f"mentions_later ({inner})"
+    if it.is_record:
+        return f"mentions_parts ({inner})"
+    inner = f"mentions_variant ({inner})"
+    for _ in range(i):
+        inner = f"mentions_other ({inner})"
+    return f"mentions_choice ({inner})"
+
+
+def inner_reached(it, found, at=0):
+    """That a name among the definitions of the types of other families is reached: by the way to a type of its own that holds one."""
+    own, n = it.inner[at], it.n
+    if at < len(it.inner) - 1:
+        one, rest = (it.terms.inner_definitions(x) for x in (it.inner[at : at + 1], it.inner[at + 1 :]))
+        cases = f"(λ c{at}. {inner_way(it, own, f'c{at}')}) (λ d{at}. {inner_reached(it, f'd{at}', at + 1)})"
+        return f"⊎_elim {cases} (Contains-append_cases (listed {one}) (listed {rest}) (m, Y) {found})"
+    return inner_way(it, own, found)
+
+
+def inner_way(it, own, found):
+    """The way to a name that a type of another family defines."""
+    holder = inner_member(it, own)
+    more, rest = "i", it.terms.inner_definitions()
+    lists = []
+    for other in reversed(it.family.members):
+        lists.append(("right", f"(defines {other.n}_name {other.n}_stands_for)", rest))
+        rest = f"(both (defines {other.n}_name {other.n}_stands_for) {rest})"
+    inside, at = [], it.inner.index(own)
+    for k in range(at + 1):
+        if k < len(it.inner) - 1:
+            side = "left" if k == at else "right"
+            inside.append((side, it.terms.inner_definitions(it.inner[k : k + 1]), it.terms.inner_definitions(it.inner[k + 1 :])))
+    for side, one, others in list(reversed(inside)) + lists:
+        more = f"(Contains-append_{side} (listed {one}) (listed {others}) (o, Z) {more})"
+    number = it.family.members.index(holder)
+    index = "zero" if not number else "suc (" * (number - 1) + "suc zero" + ")" * (number - 1)
+    last = f"({it.family.n}_more (λ o Z i. {more}) ({holder.n}_reaches_{stem(own.name)} m Y {found}))"
+    return way(it, holder, it, "mentions_held holds_name", end=f"({index}, omega arith, refl) {last}")
 
 
 def has(it):
     """That a schema which knows the family knows the definition of this name."""
     members = it.family.members
     at = members.index(it)
-    return "k.has" + ".1" * at + (".0" if at < len(members) - 1 else "")
+    return "k.has" + ".1" * at + (".0" if at < len(members) - 1 or it.inner else "")
 
 
-def way(it, to, at, mentions, seen=()):
+def way(it, to, at, mentions, seen=(), end=""):
     """That the name of a type is involved where that of another of its family is mentioned: through the definitions on the way."""
     if at is to:
-        return f"(involves ({mentions}))"
+        return f"(involves_through ({mentions}) {end})" if end else f"(involves ({mentions}))"
     nexts = [other for other in it.family.members if other not in seen + (at,) and mention(at, other)]
-    ways = [(other, way(it, to, other, mention(at, other), seen + (at,))) for other in nexts]
+    ways = [(other, way(it, to, other, mention(at, other), seen + (at,), end)) for other in nexts]
     rest = min((text for _, text in ways if text), key=len, default="")
     if not rest:
         return ""
@@ -148,15 +239,7 @@ def mention(it, other):
         for j, type in enumerate(case.types):
             inner = mention_in(it, type, other)
             if inner:
-                inner = f"mentions_first ({inner})"
-                for _ in range(j):
-                    inner = f"mentions_later ({inner})"
-                if it.is_record:
-                    return f"mentions_parts ({inner})"
-                inner = f"mentions_variant ({inner})"
-                for _ in range(i):
-                    inner = f"mentions_other ({inner})"
-                return f"mentions_choice ({inner})"
+                return within(it, i, j, inner)
     return ""
 
 
@@ -193,7 +276,7 @@ def knows_parts(it, types):
 
 def brings(it):
     """The definitions that its parts bring."""
-    n, t, lines, chain = it.n, it.terms, [definitions_of(it)] if it.family.most_nest else [], "no_definition"
+    n, t, lines, chain = it.n, it.terms, [definitions_of(it)] if it.family.is_nested else [], "no_definition"
     for type in it.rows:
         w = it.word(type)
         lines.append(f"abbrev pub {w}_definitions : Definitions\n{w}_definitions = {t.parts_definitions(type.args)}\n")
@@ -212,7 +295,7 @@ def known_parts(it):
 
 def laid_out(it):
     """That what it stands for has its layout: by those of its parts, where a type of its family is one."""
-    if not it.nest:
+    if not it.nest and not any(holders.has_described(type) for case in it.cases for type in case.types):
         return "refl"
     if it.is_record:
         return f"(record_has_layout {it.n}_part_definitions {it.n}_parts _ _ _ {holders.PartsOf(it, it.types).laid()}).solved s {known_parts(it)}"
@@ -229,7 +312,7 @@ def stands(it):
         ]
     known = known_parts(it)
     said = f"pub {n}_has_variants : IsChoice {n}_definitions {n}_shape {n}_name {n}_variant_definitions {n}_variants\n{n}_has_variants ="
-    if it.is_alone:
+    if it.is_simple:
         return [f"{said} is_recursive_choice {n}_name {n}_variant_definitions {n}_variants (λ s k. {known})\n"]
     return [f"{said} record {{ stands = λ s k. by_name {has(it)}; known = λ s k. {known} }}\n"]
 

@@ -6,7 +6,8 @@ vector, of which an element may be a tuple of plain parts and of values of the t
 """
 
 from .formats import snake
-from .recursive_plain import Plain, items_of, product
+from .model import Type
+from .recursive_plain import Plain, inner_in, items_of, product
 
 
 def stem(name):
@@ -44,6 +45,26 @@ class Terms:
 
     def leads_back(self, type):
         return self.is_member(type) or any(self.leads_back(arg) for arg in type.args)
+
+    @property
+    def inner(self):
+        """The types of other families that it holds, each once. What holds a recursive type and isn't one has no definition of its own, so it has none here."""
+        if self.declaration.holder:
+            return []
+        found = [inner_in(field.type) for it in self.declaration.family for field in it.all_fields() if not self.leads_back(field.type)]
+        return list({it.name: it for it in found if it is not None}.values())
+
+    def inner_definitions(self, some=None):
+        """What these define, or some of them."""
+        out = [self.plain.described("definitions", Type(it.name, own=it)) for it in some or self.inner]
+        return product(out[:-1], out[-1], "both")
+
+    def inner_known(self, own):
+        """A proof that what such a type defines is known where the type's own definitions are."""
+        at, out = self.inner.index(own), "knows_right s _ _ k"
+        for _ in range(len(self.declaration.family) - 1 + at):
+            out = f"knows_right s _ _ ({out})"
+        return f"(knows_left s _ _ ({out}))" if at < len(self.inner) - 1 else f"({out})"
 
     def own(self, which):
         """What is said of values of each type of the family, by its name."""
@@ -104,7 +125,8 @@ class Terms:
     def known(self, type):
         """A proof that its definitions are known where the type's own are."""
         if not self.leads_back(type):
-            return self.plain.known(type)
+            inner = inner_in(type)
+            return self.plain.known(type) if inner is None else self.inner_known(inner)
         if type.name == "tuple":
             return product([self.known(arg) for arg in type.args], "(knows_none s k.laid_out)", "knows_both s _ _")
         return "k" if self.is_member(type) else self.known(type.args[0])

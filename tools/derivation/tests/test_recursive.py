@@ -184,6 +184,19 @@ class Recursive(RepositoryTest):
         self.assertIn("decreases-read_member_type g l = (l.part.pos + 20) * 6 + 5", invariants)
         self.assertEqual(self.run_command("--check", path), (0, ""))
 
+    def test_a_recursive_type_of_another_family_is_defined_with_what_holds_it(self):
+        exprs = "#[derive(Drop)]\npub enum Expr { Num(i64), Add(Box<Expr>, Box<Expr>) }\n"
+        path = self.put(f"{exprs}#[derive(Drop)]\npub enum Stmt {{ Let(String, Expr), All(Vec<Stmt>), Try(Option<Expr>) }}\n")
+        self.assertEqual(self.run_command(path), (0, ""))
+        self.assertIn("<ArchivedExpr as Portable>::define(alloc, defs)", self.text(path))
+        shape = self.beside("specs", "StmtShape.antt")
+        for word in ("both (defines stmt_name stmt_stands_for) definitions_of_expr", "stmt_reaches_expr : NoOthers", "knows_right s _ _ k"):
+            self.assertIn(word, shape)
+        block, stmt = "pub struct Block { pub last: Option<Expr>, pub all: Vec<Stmt> }", "pub enum Stmt { Do(Block), Say(Expr) }"
+        path = self.put(f"{exprs}#[derive(Drop)]\n{block}\n#[derive(Drop)]\n{stmt}\n")
+        self.assertEqual(self.run_command(path), (0, ""))
+        self.assertIn("both (defines block_name block_stands_for) (both (defines stmt_name stmt_stands_for) definitions_of_expr)", self.beside("specs", "BlockShape.antt"))
+
     def test_names_of_the_library_stay_its_own(self):
         path = self.put("#[derive(Drop)]\npub struct Part { value: u8, parts: Vec<Part> }\n")
         self.assertEqual(self.run_command(path), (0, ""))

@@ -1,0 +1,4 @@
+pub mod ExprMeaning
+pub mod ExprShape
+pub mod StmtMeaning
+pub mod StmtShape
