@@ -49,10 +49,10 @@ def has_boxed(type):
 
 
 def inner_in(type):
-    """The type written part by part that is in a plain part, alone or in these; none in others."""
+    """The types written part by part that are in a plain part."""
     if type.own is None:
-        return inner_in(type.args[0]) if type.name in ("Box", "BoxSlice", "Option", "OwnedArray", "Vec") else None
-    return type.own if not type.args and (type.own.recursive or type.own.holds_recursive) else None
+        return [own for arg in type.args for own in inner_in(arg)]
+    return [type.own] if not type.args and (type.own.recursive or type.own.holds_recursive) else []
 
 
 class Plain:
@@ -61,6 +61,7 @@ class Plain:
     def __init__(self, path):
         self.path = path  # the file that the type stands in
         self.owns = {}  # a plain part's declaration, by its name
+        self.inner_known = None  # a proof that what one of another family defines is known, by its declaration
 
     def format_of(self, type):
         self.owns[type.name] = type.own
@@ -141,6 +142,8 @@ class Plain:
     def known(self, type):
         """A proof that its definitions, which are none, are known."""
         nothing = "(knows_none s k.laid_out)"
+        if self.inner_known is not None and type.own is not None and type.own.part_by_part:
+            return self.inner_known(type.own)
         if type.own is None and type.name == "Result":
             return f"(knows_both s _ _ {self.known(type.args[0])} {self.known(type.args[1])})"
         if type.own is None and type.name in ("tuple", "BTreeMap"):

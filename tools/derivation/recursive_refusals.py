@@ -4,7 +4,7 @@ from typing import List
 
 from .formats import has_shared
 from .model import Declaration, Refused, Type
-from .recursive_plain import LEAVES, has_boxed, inner_in, is_shaped
+from .recursive_plain import LEAVES, has_boxed, is_shaped
 
 # What plain parts may be made of, which a recursive type has beside those that lead back to it.
 PLAIN = set(LEAVES) | {"String", "BoxStr", "NonZero", "Option", "Result", "Box", "BoxSlice", "Vec", "BTreeMap", "OwnedArray"}
@@ -150,11 +150,10 @@ def leads_back(it: Declaration, type: Type) -> bool:
 
 
 def is_inner(it: Declaration, type: Type) -> bool:
-    """Whether it is a type of another file or family that is written part by part, or a list, a box, an option or an array of it."""
+    """Whether what is recursive in a plain part is of other families, and written with what holds it."""
     from .recursive_holders import is_part, shares
 
-    inner = inner_in(type)
-    return inner is not None and not shares(it) and is_part(it, Type(inner.name, own=inner))
+    return not shares(it) and is_part(it, type)
 
 
 def recursive_in(type: Type) -> str:

@@ -3,7 +3,8 @@
 from . import recursive_chain_specs as chains
 from . import recursive_holders as holders
 from .formats import ALIGNS
-from .recursive_plain import has_boxed, inner_in, items_of, product
+from .model import Type
+from .recursive_plain import has_boxed, items_of, product
 from .recursive_terms import around, brought, brought_owns, something, stem
 
 
@@ -16,7 +17,7 @@ def of_each(family, piece):
 # What a proof names that each definition of a family is reached.
 REACHED = [
     ("archive_core.specs.Defined", "Involves involves involves_through mentions_held mentions_first mentions_later mentions_parts mentions_variant mentions_other"),
-    ("archive_core.specs.Defined", "mentions_choice mentions_boxed mentions_one mentions_run mentions_vec mentions_shared holds_name"),
+    ("archive_core.specs.Defined", "mentions_choice mentions_boxed mentions_one mentions_run mentions_vec mentions_shared mentions_array holds_name"),
     ("archive_core.specs.Definitions", "listed"),
     ("std.proofs.Common", "zero suc arith"),
 ]
@@ -146,26 +147,51 @@ def inner_laws(it):
     n, t = it.n, it.terms
     lines = [MORE.format(n=n)] if it is it.family.first else []
     for own in it.inner:
-        found = inner_part(it, own)
-        if found and it is inner_member(it, own):
-            type, mentions = found
-            D, law = t.definitions(type), holders.reached(it, type)
-            lines.append(f"{n}_reaches_{stem(own.name)} : NoOthers {D} {n}_stands_for\n{n}_reaches_{stem(own.name)} = around_reached {D} {t.shape(type)} {n}_stands_for (λ _ m. {mentions}) {law}\n")
+        if it is inner_member(it, own):
+            D, X, law = (t.plain.described(which, Type(own.name, own=own)) for which in ("definitions", "shape", "no_others"))
+            name, way_ = f"{n}_reaches_{stem(own.name)}", inner_mention(it, own)
+            lines.append(f"{name} : NoOthers {D} {n}_stands_for\n{name} = around_reached {D} {X} {n}_stands_for (λ _ m. {way_}) {law}\n")
     return lines
 
 
 def inner_member(it, own):
     """The first type of the family that holds this one of another."""
-    return next(other for other in it.family.members if inner_part(other, own))
+    return next(other for other in it.family.members if inner_mention(other, own))
 
 
-def inner_part(it, own):
-    """The first part that holds this type of another family, and that what is mentioned in it is mentioned in the whole; nothing if none does."""
+def inner_mention(it, own):
+    """That what this type of another family mentions is mentioned in what holds it: in the first part that does; nothing if none does."""
     for i, case in enumerate(it.cases):
         for j, type in enumerate(case.types):
-            if not it.terms.leads_back(type) and inner_in(type) is own:
-                return type, within(it, i, j, "m")
-    return None
+            inner = "" if it.terms.leads_back(type) else mention_of(type, own)
+            if inner:
+                return within(it, i, j, inner)
+    return ""
+
+
+def mention_of(type, own):
+    """The same of a part."""
+    if type.own is not None:
+        return "m" if type.own is own else ""
+    for at, arg in enumerate(type.args):
+        inner = mention_of(arg, own)
+        if inner:
+            return AROUND[type.name, at if type.name in ("BTreeMap", "Result") else 0].format(inner).replace("(m)", "m")
+    return ""
+
+
+# That what the argument of a type mentions is mentioned in the type.
+AROUND = {
+    ("BTreeMap", 1): "mentions_map ({})",
+    ("Box", 0): "mentions_boxed (mentions_one ({}))",
+    ("BoxSlice", 0): "mentions_boxed (mentions_run ({}))",
+    ("Option", 0): "mentions_choice (mentions_other (mentions_variant (mentions_first ({}))))",
+    ("OwnedArray", 0): "mentions_array ({})",
+    ("Result", 0): "mentions_choice (mentions_variant (mentions_first ({})))",
+    ("Result", 1): "mentions_choice (mentions_other (mentions_variant (mentions_first ({}))))",
+    ("Shared", 0): "mentions_shared (mentions_one ({}))",
+    ("Vec", 0): "mentions_vec ({})",
+}
 
 
 def within(it, i, j, inner):
@@ -252,14 +278,7 @@ def mention_in(it, type, other):
         its = [(i, inner) for i, arg in enumerate(type.args) if (inner := mention_in(it, arg, other))]
         return f"mentions_parts ({'mentions_later (' * its[0][0]}mentions_first ({its[0][1]}){')' * its[0][0]})" if its else ""
     inner = mention_in(it, type.args[0], other)
-    around = {
-        "Box": "mentions_boxed (mentions_one ({}))",
-        "BoxSlice": "mentions_boxed (mentions_run ({}))",
-        "Option": "mentions_choice (mentions_other (mentions_variant (mentions_first ({}))))",
-        "Vec": "mentions_vec ({})",
-        "Shared": "mentions_shared (mentions_one ({}))",
-    }
-    return around[type.name].format(inner) if inner else ""
+    return AROUND[type.name, 0].format(inner) if inner else ""
 
 
 def knows(it, known):

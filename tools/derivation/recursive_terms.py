@@ -26,6 +26,7 @@ class Terms:
         self.declaration = declaration
         self.n = stem(declaration.name)
         self.plain = Plain(declaration.path)
+        self.plain.inner_known = None if declaration.holder else self.inner_known
         self.owns = self.plain.owns  # plain parts that `tools/derive` wrote
 
     def is_member(self, type):
@@ -51,8 +52,8 @@ class Terms:
         """The types of other families that it holds, each once. What holds a recursive type and isn't one has no definition of its own, so it has none here."""
         if self.declaration.holder:
             return []
-        found = [inner_in(field.type) for it in self.declaration.family for field in it.all_fields() if not self.leads_back(field.type)]
-        return list({it.name: it for it in found if it is not None}.values())
+        plain = [field.type for it in self.declaration.family for field in it.all_fields() if not self.leads_back(field.type)]
+        return list({own.name: own for type in plain for own in inner_in(type)}.values())
 
     def inner_definitions(self, some=None):
         """What these define, or some of them."""
@@ -125,8 +126,7 @@ class Terms:
     def known(self, type):
         """A proof that its definitions are known where the type's own are."""
         if not self.leads_back(type):
-            inner = inner_in(type)
-            return self.plain.known(type) if inner is None else self.inner_known(inner)
+            return self.plain.known(type)
         if type.name == "tuple":
             return product([self.known(arg) for arg in type.args], "(knows_none s k.laid_out)", "knows_both s _ _")
         return "k" if self.is_member(type) else self.known(type.args[0])

@@ -2,3 +2,9 @@ pub mod ExprMeaning
 pub mod ExprShape
 pub mod StmtMeaning
 pub mod StmtShape
+pub mod BlockMeaning
+pub mod BlockShape
+pub mod KindMeaning
+pub mod KindShape
+pub mod TermMeaning
+pub mod TermShape

@@ -2,6 +2,7 @@
 #![tactic(auto)]
 
 pub mod code;
+pub mod more;
 
 #[cfg(test)]
 mod there {

@@ -1,0 +1,24 @@
+-- Written by tools/derive: change the declaration, and run it again.
+use Rattle.archive_core.proofs.AddedDefinitions.{extended_both, first_conflicts, later_conflicts}
+use Rattle.archive_core.proofs.Causes.{err_by, err_from}
+use Rattle.std.specs.Prelude.{Result, Ok, Err, OnOk}
+use Rattle.trial_family.proofs.more.define_block_family.Goals as goal
+
+on_ok : {A B P Q : Type 0} (r : Result A B) → (P → Q) → OnOk r P → OnOk r Q
+on_ok (Ok x) f h = f h
+on_ok (Err e) f h = tt
+
+pub returns-clause-added : goal.returns-clause-added
+returns-clause-added c = on_ok c.define_term_within_block.result (λ k. (extended_both _ _ _ _ _ c.in_ok-define_block.ensures.added (extended_both _ _ _ _ _ c.in_ok-define_order.ensures.added (extended_both _ _ _ _ _ c.in_ok-define_kind_within_block.ensures.added k)))) c.define_term_within_block.ensures.added
+
+pub returns-clause-refused : goal.returns-clause-refused
+returns-clause-refused c = err_from c.define_term_within_block.result c.define_term_within_block.ensures.refused (λ e h. (later_conflicts _ _ _ _ c.in_ok-define_block.ensures.added e (later_conflicts _ _ _ _ c.in_ok-define_order.ensures.added e (later_conflicts _ _ _ _ c.in_ok-define_kind_within_block.ensures.added e h))))
+
+pub returns-in_err-define_block-clause-refused : goal.returns-in_err-define_block-clause-refused
+returns-in_err-define_block-clause-refused c = err_by c.from_residual.result c.in_err-define_block.field-0.0 _ c.from_residual.ensures.1 (first_conflicts _ _ _ _ c.in_err-define_block.ensures.refused)
+
+pub returns-in_err-define_order-clause-refused : goal.returns-in_err-define_order-clause-refused
+returns-in_err-define_order-clause-refused c = err_by c.from_residual-in_err-define_order.result c.in_err-define_order.field-0.0 _ c.from_residual-in_err-define_order.ensures.1 (later_conflicts _ _ _ _ c.in_ok-define_block.ensures.added c.in_err-define_order.field-0.0 (first_conflicts _ _ _ _ c.in_err-define_order.ensures.refused))
+
+pub returns-in_err-define_kind_within_block-clause-refused : goal.returns-in_err-define_kind_within_block-clause-refused
+returns-in_err-define_kind_within_block-clause-refused c = err_by c.from_residual-in_err-define_kind_within_block.result c.in_err-define_kind_within_block.field-0.0 _ c.from_residual-in_err-define_kind_within_block.ensures.1 (later_conflicts _ _ _ _ c.in_ok-define_block.ensures.added c.in_err-define_kind_within_block.field-0.0 (later_conflicts _ _ _ _ c.in_ok-define_order.ensures.added c.in_err-define_kind_within_block.field-0.0 (first_conflicts _ _ _ _ c.in_err-define_kind_within_block.ensures.refused)))
