@@ -8,3 +8,5 @@ pub mod SearchMeaning
 pub mod SearchShape
 pub mod DirMeaning
 pub mod DirShape
+pub mod StmtMeaning
+pub mod StmtShape

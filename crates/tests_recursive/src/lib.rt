@@ -18,4 +18,6 @@ mod kinds;
 #[cfg(test)]
 mod long;
 #[cfg(test)]
+mod statements;
+#[cfg(test)]
 mod tuples;

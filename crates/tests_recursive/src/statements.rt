@@ -1,0 +1,83 @@
+// A recursive type that holds one of another family.
+
+use crate::assertions::{
+    assert_holds, assert_read, assert_refused, assert_same, assert_written, viewed,
+};
+use archive_core::error::Error;
+use archive_core::view::Ref;
+use recursive_types::expr::Expr;
+use recursive_types::stmt::{ArchivedStmt, Stmt, StmtView, ViewOfStmt};
+use std::alloc::{AllocError, Global};
+use std::process::Abort;
+
+fn block(alloc: Global) -> Result<Stmt, AllocError> {
+    let mut statements = Vec::new(alloc);
+    statements.push(Stmt::Let(String::from_str(alloc, "x")?, Expr::Num(5)))?;
+    statements.push(Stmt::Return(None))?;
+    Ok(Stmt::Block(statements))
+}
+
+// The text "x" and at 16 the expression: the tag 0, and 5 at 24. At 40 the tag 2, with the tag 0 of an option at 48. At 80 the tag 1, and two elements 84 bytes
+// back.
+const BLOCK: &[u8] =
+    b"\0\0\0\0x\xff\xff\xff\xff\xff\xff\xff\0\0\0\0\0\0\0\0\0\0\0\0\x05\0\0\0\0\0\0\0\0\0\0\0\0\0\0\0\
+    \x02\0\0\0\0\0\0\0\0\0\0\0\0\0\0\0\0\0\0\0\0\0\0\0\0\0\0\0\0\0\0\0\0\0\0\0\0\0\0\0\
+    \x01\0\0\0\xac\xff\xff\xff\x02\0\0\0\0\0\0\0\0\0\0\0\0\0\0\0\0\0\0\0\0\0\0\0\0\0\0\0\0\0\0\0";
+
+#[test]
+fn block_of_two(rt: HostRuntime) {
+    let block = block(rt.alloc()).expect(&rt, "a block");
+    assert_written(&rt, rt.alloc(), &block, BLOCK);
+    assert_read(&rt, rt.alloc(), BLOCK, &block);
+}
+
+// The name that a statement gives a value; nothing of others.
+fn named(statement: Ref<'_, ArchivedStmt>) -> &str {
+    match statement.variant() {
+        ViewOfStmt::Let(name, _) => name.as_str(),
+        ViewOfStmt::Block(_) => "",
+        ViewOfStmt::Return(_) => "",
+    }
+}
+
+#[test]
+fn block_as_it_lies(rt: HostRuntime) {
+    match viewed::<ArchivedStmt>(&rt, rt.alloc(), BLOCK).variant() {
+        ViewOfStmt::Block(statements) => match statements.as_slice().get(0) {
+            Some(first) => assert_same(&rt, "the name", named(first), "x"),
+            None => assert_holds(&rt, "there is a statement", false),
+        },
+        ViewOfStmt::Let(_, _) => assert_holds(&rt, "a block", false),
+        ViewOfStmt::Return(_) => assert_holds(&rt, "a block", false),
+    }
+}
+
+fn damaged(alloc: Global, at: usize, byte: u8) -> Result<Vec<u8>, AllocError> {
+    let mut bytes = Vec::with_capacity(alloc, BLOCK.len())?;
+    bytes.extend_from_slice(BLOCK)?;
+    if let Some(old) = bytes.get_mut(at) {
+        *old = byte;
+    }
+    Ok(bytes)
+}
+
+// Tags of the first statement, of the expression in it, and of the option in the second.
+#[test]
+fn tags_of_no_variant(rt: HostRuntime) {
+    let rows = [
+        (0, "ArchivedStmt"),
+        (16, "ArchivedExpr"),
+        (48, "ArchivedOption"),
+    ];
+    for (at, name) in rows {
+        let bytes = damaged(rt.alloc(), at, 9).expect(&rt, "bytes");
+        let refusal = Error::InvalidDiscriminant { name, value: 9 };
+        assert_refused::<ArchivedStmt>(
+            &rt,
+            "a damaged block",
+            rt.alloc(),
+            bytes.as_slice(),
+            refusal,
+        );
+    }
+}
