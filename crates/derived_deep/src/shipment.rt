@@ -435,14 +435,17 @@ impl CheckedParts for ShipmentRest1 {
 
     ghost ordered = { λ _. record {
       plain = λ _. record { has = tt; only = tt; once = tt; root = refl; closed = tt; placed = tt };
-      ordered = λ _. ([], record {
-        has = tt;
-        only = tt;
-        once = tt;
-        root = refl;
-        closed = tt;
-        placed = tt;
-      });
+      ordered = λ _. (
+        [],
+        record {
+          has = tt;
+          only = tt;
+          once = tt;
+          root = refl;
+          closed = tt;
+          placed = tt;
+        },
+      );
     } };
 
     fn are_direct() -> bool {
@@ -712,10 +715,7 @@ impl PortableParts for ShipmentRest1 {
         <ShipmentBlock1 as PortableParts>::offset_from(start, i)
     }
 
-    fn push_exprs(
-        alloc: Global,
-        list: &mut Vec<archive_core::shape::Expr>,
-    ) -> Result<(), Error> {
+    fn push_exprs(alloc: Global, list: &mut Vec<archive_core::shape::Expr>) -> Result<(), Error> {
         <ShipmentBlock1 as PortableParts>::push_exprs(alloc, list)
     }
 
@@ -888,14 +888,17 @@ impl CheckedParts for ShipmentRest2 {
 
     ghost ordered = { λ _. record {
       plain = λ _. record { has = tt; only = tt; once = tt; root = refl; closed = tt; placed = tt };
-      ordered = λ _. ([], record {
-        has = tt;
-        only = tt;
-        once = tt;
-        root = refl;
-        closed = tt;
-        placed = tt;
-      });
+      ordered = λ _. (
+        [],
+        record {
+          has = tt;
+          only = tt;
+          once = tt;
+          root = refl;
+          closed = tt;
+          placed = tt;
+        },
+      );
     } };
 
     fn are_direct() -> bool {
@@ -971,10 +974,7 @@ impl PortableParts for ShipmentRest2 {
         <ShipmentBlock2 as PortableParts>::offset_from(start, i)
     }
 
-    fn push_exprs(
-        alloc: Global,
-        list: &mut Vec<archive_core::shape::Expr>,
-    ) -> Result<(), Error> {
+    fn push_exprs(alloc: Global, list: &mut Vec<archive_core::shape::Expr>) -> Result<(), Error> {
         <ShipmentBlock2 as PortableParts>::push_exprs(alloc, list)
     }
 
@@ -1523,23 +1523,12 @@ impl Archive for Shipment {
     ) -> Result<(), Error>
         requires zeroed { ZeroedPlace 64 place.pos place.bytes.now }
         requires same_value { ⟦<Self as Archive>⟧.belongs self.now resolver }
-        ensures {
-            ResolvesAs ⟦<Self::Archived as Portable>⟧ place
-                (⟦<Self as Archive>⟧.flat self.now resolver) result
-        }
+        ensures { ResolvesAs ⟦<Self::Archived as Portable>⟧ place
+            (⟦<Self as Archive>⟧.flat self.now resolver) result }
     {
         let Place { bytes, pos, .. } = place;
         let ShipmentResolver { kept } = resolver;
-        let (
-            r0,
-            (
-                r1,
-                (
-                    r2,
-                    (r3, (r4, (r5, (r6, (r7, (r8, (r9, (r10, (r11, behind))))))))),
-                ),
-            ),
-        ) = kept;
+        let (r0, (r1, (r2, (r3, (r4, (r5, (r6, (r7, (r8, (r9, (r10, (r11, behind)))))))))))) = kept;
         resolve_record::<Self, ShipmentFields, ArchivedShipment>(
             self,
             (
