@@ -1,8 +1,8 @@
 """Structs of more fields, or of deeper ones, than the toolchain takes at once: their fields go in blocks.
 
 Behind the fields of a block there is a type without values. It stands for the next block with all that is behind it, so a call passes the impls of one block
-and one more. Its members are those of the nest that it stands for: offsets, meanings and contracts are those of the fields one after another. Reading goes in
-pieces (pieces.py) and needs none of this.
+and one more. Its members are those of the nest that it stands for: offsets, meanings and contracts are those of the fields one after another. What is read
+back of the fields of a block has a type of its own, too, with the values behind them in it.
 
 What is kept of the fields of a block is a type of its own, too: of a struct that holds a nest of seventeen pairs, `the_within` "stopped at the step limit
 (50000000 steps a task, the default)".
@@ -12,7 +12,8 @@ from . import part_laws
 from .common import MADE_OF, chain
 from .formats import ALIGNS
 from .layout import call, implementation, pair, statement
-from .long import nest
+from .loads import LEAST_IN_FOURS
+from .long import inside, names_of, nest, places
 from .part_laws import bare
 
 
@@ -24,6 +25,46 @@ def rest_of(record, number):
 def kept_from(record, number):
     """What is kept of the fields from this block on."""
     return f"{record.name}Kept{number}"
+
+
+def owned_from(record, number):
+    """The values of the fields from this block on."""
+    return f"{record.name}Owned{number}"
+
+
+def owned(record, number):
+    """The values of the fields of a block, with the type of those behind it."""
+    begin, end = record.blocks[number]
+    behind = owned_from(record, number + 1) if number + 1 < len(record.blocks) else "()"
+    return nest(record.read[begin:end], go_by_fours(record, number), behind)
+
+
+def go_by_fours(record, number):
+    """Whether the nest of a block has four fields at once."""
+    begin, end = record.blocks[number]
+    return end - begin >= LEAST_IN_FOURS
+
+
+def owned_places(record):
+    """Where the value of each field is in those that were read."""
+    found, behind = [], ""
+    for number, (begin, end) in enumerate(record.blocks):
+        by_fours = go_by_fours(record, number)
+        found += [f"{behind}{place}" for place in places(end - begin, by_fours)]
+        behind += f"{inside(end - begin, by_fours)}.values"
+    return found
+
+
+def opened(record, names):
+    """The lines that name each of `values`."""
+    lines = ""
+    for number, (begin, end) in enumerate(record.blocks):
+        by_fours = go_by_fours(record, number)
+        if number + 1 == len(record.blocks):
+            return lines + names_of(names[begin:end], 4, by_fours)
+        behind = "rest" if by_fours and (end - begin) % 4 == 0 else "behind"
+        lines += names_of(names[begin:end], 4, by_fours, behind)
+        lines += f"    let {owned_from(record, number + 1)} {{ values }} = {behind};\n"
 
 
 def resolvers(record, number):
@@ -54,7 +95,7 @@ def nested(record, words, number):
     """These words for the fields of a block, with the type of what is behind it."""
     begin, end = record.blocks[number]
     behind = rest_of(record, number + 1) if number + 1 < len(record.blocks) else "()"
-    return nest(words[begin:end], end - begin >= 4, behind)
+    return nest(words[begin:end], go_by_fours(record, number), behind)
 
 
 def text(record):
@@ -81,7 +122,7 @@ class Rest:
 
     def text(self):
         f = self.formats
-        f.use("archive_core::parts", "SerializeParts", "SourceParts")
+        f.use("archive_core::parts", "DeserializeParts", "OwnedParts", "SerializeParts", "SourceParts")
         f.use("archive_core::self_check", "CheckedParts")
         f.use("archive_core::traits", "PortableParts")
         f.use("archive_core::validation", "ArchiveContext")
@@ -99,7 +140,8 @@ class Rest:
 {self.checked()}
 {self.portable()}
 {self.source()}
-{self.serialize()}"""
+{self.serialize()}
+{self.deserialize()}"""
 
     # ---- what the laws are made of ----
 
@@ -269,6 +311,43 @@ class Rest:
     #[inline(always)]
     fn serialize_parts(whole: &{record.name}, serializer: &mut S) -> Result<{self.kept}, Error> {{
 {statement(8, "match ", serialize, " {")}            Ok(kept) => Ok({self.kept} {{ kept }}),
+            Err(error) => Err(error),
+        }}
+    }}
+}}
+"""
+
+    # ---- the values that are read back ----
+
+    def deserialize(self):
+        """As fields that are read back."""
+        record = self.record
+        name, values = owned_from(record, self.number), f"{record.name}Values{self.number}"
+        its = f"⟦<{values} as OwnedParts>⟧"
+        bound = self.formats.reader_bound(record.types)
+        read = call(f"<{self.archived} as DeserializeParts<{values}, D>>::deserialize_parts", ["alloc", "bytes", "pos", "start", "deserializer"])
+        return f"""{statement(0, f"type {values} = ", owned(record, self.number), ";")}
+/// Their values, as they are read back.
+{record.visibility}struct {name} {{
+    values: {values},
+}}
+
+impl OwnedParts for {name} {{
+    ghost meanings = {{ λ v. {its}.meanings v.values }};
+
+    ghost keys = {{ λ v. {its}.keys v.values }};
+}}
+
+{implementation([f"D: {bound}"], "DeserializeParts", [name, "D"], self.name)}
+    #[inline(always)]
+    fn deserialize_parts(
+        alloc: Global,
+        bytes: &[u8],
+        pos: usize,
+        start: usize,
+        deserializer: &mut D,
+    ) -> Result<{name}, Error> {{
+{statement(8, "match ", read, " {")}            Ok(values) => Ok({name} {{ values }}),
             Err(error) => Err(error),
         }}
     }}

@@ -7,7 +7,8 @@ of the library's impls. Of some 80 lists of fields that were tried, all below 28
     25,588   six fields `Option<Box<Vec<String>>>`   taken         28,989   sixteen `(String, String)`     rejected
     32,804   two fields `Vec<Option<Vec<u32>>>`      taken         30,672   eleven `Vec<u32>`              rejected
 
-Up to eight fields are a nest of pairs, as long as that comes to less. What reading them at once comes to grows fastest, so deep ones are read in pieces.
+Up to eight fields are a nest of pairs, as long as that comes to less. What reading them at once comes to grows fastest, so deep ones are read in pieces,
+or in the blocks in which they are checked and written.
 """
 
 from .formats import substituted
@@ -21,6 +22,7 @@ MOST_OF_VARIANTS = 12_000
 MOST_OF_BLOCK = 12_000
 MOST_AT_ONCE = 16
 MOST_IN_BLOCK = 12
+LEAST_IN_FOURS = 4
 # `Native` of a number, with all that this asks: `Copy`, `Ord`, `Hash` and theirs.
 NATIVE = 9
 PLAIN = {"u8", "i8", "bool", "()"}
@@ -232,31 +234,40 @@ class Loads:
         return max(self.written(types, fours), self.of_reading(types, fours))
 
     def blocks(self, types):
-        """Where each block begins and ends in which fields of a struct are checked and written that aren't at once: as many each as are not too much."""
+        """Where each block begins and ends in which fields of a struct go that don't at once: as many each as are not too much."""
         if len(types) <= MOST_AT_ONCE and self.written(types, self.go_by_fours(types)) <= MOST:
             return []
         found, begin = [], 0
         while begin < len(types):
             ends = range(begin + 2, min(begin + MOST_IN_BLOCK, len(types)) + 1)
-            end = max((it for it in ends if self.of_block(types[begin:it]) <= MOST_OF_BLOCK), default=begin + 1)
+            end = max((it for it in ends if self.is_block(types[begin:it])), default=begin + 1)
             found.append((begin, end))
             begin = end
         return found
+
+    def is_block(self, types):
+        """Whether these fields are not too much for a block."""
+        return self.of_block(types) <= MOST_OF_BLOCK and self.of_block_read(types) <= MOST
 
     def of_block(self, types):
         """What a call passes that checks or writes the fields of a block."""
         return self.parts(types, True) + self.serialized(types, True)
 
+    def of_block_read(self, types):
+        """What a call passes that reads them."""
+        return self.of_reading(types, len(types) >= LEAST_IN_FOURS)
+
     def least_of_fields(self, types, in_blocks=False):
-        """The same where they are read in pieces if that comes to less, and where those of a struct are in blocks."""
+        """The same where those of a struct are in blocks, and where others are read in pieces if that comes to less."""
         blocks = [types[begin:end] for begin, end in self.blocks(types)] if in_blocks else []
-        pieces = [types[begin:end] for begin, end in self.pieces(types)] if blocks or not self.are_read_at_once(types) else [types]
-        written = [self.of_block(those) for those in blocks] or [self.written(types, self.go_by_fours(types))]
-        return max(written + [self.of_reading(those, is_long(those)) for those in pieces])
+        if blocks:
+            return max(max(self.of_block(those), self.of_block_read(those)) for those in blocks)
+        pieces = [types] if self.are_read_at_once(types) else [types[begin:end] for begin, end in self.pieces(types)]
+        return max([self.written(types, self.go_by_fours(types))] + [self.of_reading(those, is_long(those)) for those in pieces])
 
     def go_by_fours(self, types):
         """Whether the nest by which these fields are checked has four at once: where there are many, or in pairs it came to too much."""
-        return is_long(types) or len(types) >= 4 and not self.are_read_at_once(types) and self.parts(types) > MOST_OF_VARIANTS
+        return is_long(types) or len(types) >= LEAST_IN_FOURS and not self.are_read_at_once(types) and self.parts(types) > MOST_OF_VARIANTS
 
     def of_variants(self, variants):
         """`PortableVariants`, of an enum with these fields in its variants: those without fields that are written together count as one."""
@@ -268,7 +279,7 @@ def levels(types, fours):
     """Of each level of the nest the fields in it, and those from it on."""
     out, left = [], list(types)
     while left:
-        width = 4 if fours and len(left) >= 4 else 1
+        width = 4 if fours and len(left) >= LEAST_IN_FOURS else 1
         out.append((left[:width], left))
         left = left[width:]
     return out

@@ -35,16 +35,21 @@ def places(count, by_fours):
     return quads + [f"{'.rest' * (last // 4)}{'.1' * i}.0" for i in range(count - last)]
 
 
-def opened(names, indent, by_fours):
-    """The lines that name each of `values`."""
+def inside(count, by_fours):
+    """Where what is behind so many fields is in the nest of their values."""
+    return f"{'.rest' * (count // 4)}{'.1' * (count % 4)}" if by_fours else ".1" * count
+
+
+def names_of(names, indent, by_fours, end="()"):
+    """The lines that name each of `values`, and what is behind them."""
     if not by_fours:
-        return statement(indent, "let ", pair(names), " = values;")
+        return statement(indent, "let ", pair(names, end), " = values;")
     lines, left, whole = "", list(names), "values"
     while len(left) >= 4:
         pattern = literal("FourParts", [f"{at}: {name}" for at, name in zip(ORDINALS, left)] + ["rest"])
         lines += statement(indent, "let ", pattern, f" = {whole};")
         left, whole = left[4:], "rest"
-    return lines + statement(indent, "let ", pair(left), " = rest;")
+    return lines + (statement(indent, "let ", pair(left, end), " = rest;") if left or end != "rest" else "")
 
 
 def as_parts(rust):

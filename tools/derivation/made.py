@@ -1,8 +1,9 @@
 """Values of many fields, which a function of their own makes of those of their fields, with a proof that is written beside the module."""
 
+from . import blocks
 from .common import chain, infix, numbered
 from .layout import pair, statement
-from .long import opened, place, places
+from .long import names_of, place, places
 
 SIGNED = ("i8", "i16", "i32", "i64", "i128", "isize")
 WRITTEN = "Written by tools/derive: change the declaration, and run it again."
@@ -11,18 +12,27 @@ WRITTEN = "Written by tools/derive: change the declaration, and run it again."
 class Made:
     """What is made, a struct or a variant."""
 
-    def __init__(self, formats, types, by_fours, name, of, owned, meaning, path, pieces=()):
+    def __init__(self, formats, types, by_fours, name, of, owned, meaning, path, pieces=(), in_blocks=None):
         self.formats = formats
         self.types = types
         self.read = [formats.read_as(type) for type in types]
         self.by_fours = by_fours
         self.pieces = pieces  # in which the fields were read, if they weren't at once
-        self.places = [place(pieces, i) for i in range(len(types))] if pieces else places(len(types), by_fours)
+        self.in_blocks = in_blocks  # the struct, if its fields were read in blocks
+        self.places = self.found_at()
         self.name = name  # the function's
         self.of = of  # the type
         self.owned = owned  # the type of the values
         self.meaning = meaning  # what the meanings of the fields are the meaning of
         self.path = path  # as it is written in code
+
+    def found_at(self):
+        """Where each field's value is in `values`."""
+        if self.in_blocks:
+            return blocks.owned_places(self.in_blocks)
+        if self.pieces:
+            return [place(self.pieces, i) for i in range(len(self.types))]
+        return places(len(self.types), self.by_fours)
 
     def text(self, names, built):
         """The function."""
@@ -40,8 +50,10 @@ fn {self.name}(values: {self.owned}) -> {self.of}
 
     def opened(self, names):
         """The lines that name each of `values`."""
+        if self.in_blocks:
+            return blocks.opened(self.in_blocks, names)
         if not self.pieces:
-            return opened(names, 4, self.by_fours)
+            return names_of(names, 4, self.by_fours)
         wholes = [f"v{number}" for number in range(len(self.pieces))]
         lines = statement(4, "let ", pair(wholes), " = values;")
         return lines + "".join(statement(4, "let ", pair(names[begin:end]), f" = {whole};") for whole, (begin, end) in zip(wholes, self.pieces))

@@ -16,8 +16,8 @@ from .names import ALIASES, FLOATS, LIBRARY, PRIMITIVES, STD, STD_MODULES, Found
 from .parse import Alias, Declared
 from .items import number_of
 
-# Of a struct, and of a variant. Reading 26 back isn't proved yet: `simp` stops in the proof that is written for it.
-MOST_FIELDS = 17
+# Of a struct, and of a variant.
+MOST_FIELDS = 32
 MOST_OF_VARIANT = 16
 # Of a type that is archived as a tuple with names.
 MOST_FEW = 8

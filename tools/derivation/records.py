@@ -43,7 +43,7 @@ class Record(Source):
         self.by_fours = loads.go_by_fours(self.types)
         self.blocks = loads.blocks(self.types)
         self.by_nest = is_long(self.types) or bool(self.blocks)
-        self.pieces = loads.pieces(self.types) if self.blocks or not loads.are_read_at_once(self.types) else ()
+        self.pieces = () if self.blocks or loads.are_read_at_once(self.types) else loads.pieces(self.types)
         self.formats_of = [formats.archived(type) for type in self.types]
         self.rust = [formats.rust(type) for type in self.types]
         self.parts_of = as_parts(self.rust)
@@ -103,7 +103,7 @@ def struct(record):
     parts = statement(0, f"type {record.name}Parts = ", parts, ";")
     if record.by_fours or record.blocks:
         record.formats.use("archive_core::traits", "FourParts")
-    owned = "" if record.pieces else statement(0, f"type {record.name}Owned = ", nest(record.read, record.by_fours), ";")
+    owned = "" if record.pieces else statement(0, f"type {record.name}Owned = ", blocks.owned(record, 0) if record.blocks else nest(record.read, record.by_fours), ";")
     fields = ""
     if record.by_nest:
         fields = fields_of(record.formats, f"{record.name}Fields", record.name, record.rust, [field.name for field in record.fields], those)
@@ -237,7 +237,7 @@ def read(record):
 def made_of(record):
     """The function that makes the record of the values of its fields."""
     name = f"{snake(record.name)}_of"
-    return Made(record.formats, record.types, record.by_fours, name, record.name, f"{record.name}Owned", "product", record.name, record.pieces)
+    return Made(record.formats, record.types, record.by_fours, name, record.name, f"{record.name}Owned", "product", record.name, record.pieces, record if record.blocks else None)
 
 
 def proofs(formats, declaration):

@@ -27,11 +27,11 @@ def check_recursive(it: Declaration, line: int, names: str):
 
 
 def check_rows(it: Declaration):
-    """A tuple that leads back is the element of a vector, the only such one of an enum that leads back to no other type. Others aren't proved."""
+    """A tuple that leads back is the element of a vector of a struct, or of the only such one of an enum, that leads back to no other type. Others aren't proved."""
     held = [field for field in it.all_fields() if rows_in(it, field.type)]
     for i, field in enumerate(held):
-        if i > 0 or it.kind == "struct" or len(it.family) > 1 or not is_named(field.type, "Vec"):
-            said = f"a tuple that leads back to `{it.name}` is written in one `Vec` of an enum alone, if no other type is recursive with it"
+        if len(it.family) > 1 or not is_named(field.type, "Vec") or it.kind == "enum" and i > 0:
+            said = f"a tuple that leads back to `{it.name}` is written in a `Vec` of a struct, or in one of an enum, if no other type is recursive with it"
             raise Refused(it.path, field.line, f"{said}; write a struct of this file")
 
 

@@ -499,7 +499,11 @@ def sources(it):
 
 
 def still_mapped(it, item, which, items):
-    """What is said of a vector whose elements were mapped."""
+    """What is said of a vector whose elements were mapped. How a tuple was mapped antt doesn't find where some of it has no keys."""
+    if it.terms.is_row(item):
+        own = it.terms.own(which)
+        places = ", ".join(f"{own[arg.own.name]} y.{i}" if it.terms.is_member(arg) else f"y.{i}" for i, arg in enumerate(item.args))
+        return f"(each_{which} {said_of_mapped(it, item, which)} (map (λ (y : {it.antt(item)}). ({places})) {items}))"
     its = PLACES[which] if it.family.shares else "(λ v. v)"
     if it.terms.is_member(item):
         return f"(each_{which} {it.terms.function(which, item, its)} (map {it.terms.own('both' if it.family.shares else which)[item.name]} {items}))"
@@ -515,13 +519,17 @@ def mapped(it, item, which, items):
         return f"each_mapped{keys} {own[item.name]} {items}"
     lemma, nothing = ("options_alike", "refl ") if it.terms.is_option(item) else ("each_alike", "")
     inner = item.args[0] if nothing else item
+    return f"{lemma}{keys} _ {said_of_mapped(it, inner, which)} {said_with_type(it, inner, which, own, None)} {nothing}(λ x. refl) {items}"
+
+
+def said_of_mapped(it, item, which):
+    """What is said of a mapped element, as a function of it with its type."""
     type = BOTH if it.family.shares else {"meaning": "Value", "keys": "(List Naming)"}[which]
-    held = {other.name: type for other in it.family.ordered}
+    return said_with_type(it, item, which, PLACES[which] if it.family.shares else "", {other.name: type for other in it.family.ordered})
 
-    def said(m, held_):
-        return f"(λ (y : {it.antt(inner, held_)}). {getattr(it.terms, which)(inner, 'y', m)})".replace("( ", "(")
 
-    return f"{lemma}{keys} _ {said(PLACES[which] if it.family.shares else '', held)} {said(own, None)} {nothing}(λ x. refl) {items}"
+def said_with_type(it, item, which, m, held):
+    return f"(λ (y : {it.antt(item, held)}). {getattr(it.terms, which)(item, 'y', m)})".replace("( ", "(")
 
 
 def rolled(it, which, type, word):

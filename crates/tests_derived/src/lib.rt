@@ -14,6 +14,7 @@ mod entries;
 mod events;
 #[cfg(test)]
 mod judgements;
+#[cfg(test)]
 mod notices;
 #[cfg(test)]
 mod outcomes;

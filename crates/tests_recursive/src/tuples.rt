@@ -5,9 +5,10 @@ use crate::assertions::{
 };
 use archive_core::boxed::{BoxSlice, BoxStr};
 use archive_core::error::Error;
-use archive_core::primitive::ArchivedU16;
+use archive_core::primitive::{ArchivedI32, ArchivedU16};
 use archive_core::string::ArchivedString;
 use recursive_tuples::config::{ArchivedConfig, Config, ConfigView, ViewOfConfig};
+use recursive_tuples::folder::{ArchivedFolder, Folder, FolderView};
 use recursive_tuples::page::{ArchivedPage, Page, PageView, ViewOfPage};
 use std::alloc::{AllocError, Global};
 use std::process::Abort;
@@ -159,4 +160,84 @@ fn damaged_boxes(rt: HostRuntime) {
         end: 12,
     };
     assert_page_changed(&rt, alloc, 36, 9, outside);
+}
+
+fn empty_folder(alloc: Global, id: u32) -> Folder {
+    Folder {
+        id,
+        entries: Vec::new(alloc),
+        attached: Vec::new(alloc),
+    }
+}
+
+// Folder 1 has folder 2 under a long name, and folder 3 attached with a note.
+fn folder(alloc: Global) -> Result<Folder, AllocError> {
+    let name = String::from_str(alloc, "environment")?;
+    let note = String::from_str(alloc, "text")?;
+    let entry = (name, empty_folder(alloc, 2));
+    let attached = (-1, empty_folder(alloc, 3), Some(note));
+    Ok(Folder {
+        id: 1,
+        entries: vec![in alloc; entry]?,
+        attached: vec![in alloc; attached]?,
+    })
+}
+
+// The long name at 0, the tuple of the entry at 12, the tuple of what is attached at 40, and the folder with both at 76. A folder is its number, at 4 and at 12
+// an offset and a length; an entry a name, and at 8 a folder; what is attached a number, at 4 a folder, and at 24 a tag and at 28 a text.
+const FOLDER: &[u8] =
+    b"environment\0\x8b\0\0\0\xf4\xff\xff\xff\x02\0\0\0\xf4\xff\xff\xff\0\0\0\0\xec\xff\xff\xff\0\0\0\0\xff\xff\xff\xff\x03\0\0\0\xf8\xff\xff\xff\0\0\0\0\xf0\xff\xff\xff\0\0\0\0\x01\0\0\0text\xff\xff\xff\xff\x01\0\0\0\xbc\xff\xff\xff\x01\0\0\0\xd0\xff\xff\xff\x01\0\0\0";
+
+#[test]
+fn tuples_of_a_struct(rt: HostRuntime) {
+    let folder = folder(rt.alloc()).expect(&rt, "a folder");
+    assert_written(&rt, rt.alloc(), &folder, FOLDER);
+    assert_read(&rt, rt.alloc(), FOLDER, &folder);
+}
+
+fn assert_attached(rt: &impl Abort, alloc: Global) {
+    let folder = viewed::<ArchivedFolder>(rt, alloc, FOLDER);
+    let Some(entry) = folder.entries().as_slice().get(0) else {
+        assert_holds(rt, "there is an entry", false);
+        return;
+    };
+    let name = entry.field::<ArchivedString>(0);
+    assert_same(rt, "name", name.as_str(), "environment");
+    let Some(attached) = folder.attached().as_slice().get(0) else {
+        assert_holds(rt, "something is attached", false);
+        return;
+    };
+    let place = attached.field::<ArchivedI32>(0);
+    assert_same(rt, "place", place.get(), -1);
+    let inner = attached.field::<ArchivedFolder>(1);
+    assert_same(rt, "number", inner.id().get(), 3);
+}
+
+#[test]
+fn views_of_tuples_of_a_struct(rt: HostRuntime) {
+    assert_attached(&rt, rt.alloc());
+}
+
+fn assert_folder_changed(rt: &impl Abort, alloc: Global, at: usize, byte: u8, refusal: Error) {
+    let bytes = changed(alloc, FOLDER, at, byte).expect(rt, "bytes");
+    assert_refused::<ArchivedFolder>(rt, "a damaged folder", alloc, bytes.as_slice(), refusal);
+}
+
+// The tag of the note, a byte of the long name, and more that is attached than there is.
+#[test]
+fn damaged_tuples_of_a_struct(rt: HostRuntime) {
+    let alloc = rt.alloc();
+    let tag = Error::InvalidDiscriminant {
+        name: "ArchivedOption",
+        value: 2,
+    };
+    assert_folder_changed(&rt, alloc, 64, 2, tag);
+    assert_folder_changed(&rt, alloc, 3, 0xc0, Error::InvalidUtf8);
+    let outside = Error::InvalidSubtreePointer {
+        position: 40,
+        size: 72,
+        start: 40,
+        end: 76,
+    };
+    assert_folder_changed(&rt, alloc, 92, 2, outside);
 }

@@ -5,6 +5,7 @@ from unittest import mock
 
 from derivation.files import PROOF_BEGINS, told
 from derivation.model import MARK
+from derivation.read import MOST_FIELDS
 from derivation.units import FROM
 
 from .repository import RepositoryTest
@@ -80,8 +81,19 @@ class Writing(RepositoryTest):
         self.assertIn("pub struct BigKept1 {", written)
         self.assertIn("r.kept" + ".1" * 12 + ".kept.1.1.1.1.0)", written)
         self.assertIn("impl PortableParts for BigRest1 {", written)
-        self.assertIn("match read_big(alloc, part, deserializer) {", written)
+        self.assertIn("match deserialize_record::<Self, BigOwned, D>(alloc, part, deserializer) {", written)
+        self.assertIn("impl<D: Entries> DeserializeParts<BigOwned1, D> for BigRest1 {", written)
+        self.assertIn("⟦<u8 as Archive>⟧.meaning values.rest.rest.rest.values.rest.0)", written)
+        self.assertIn("    let BigOwned1 { values } = rest;\n", written)
         self.assertEqual(self.run_command("--check", path), (0, ""))
+
+    def test_the_most_fields_of_a_struct(self):
+        fields = [f"f{i}: {'i8' if i % 2 else 'String'}" for i in range(MOST_FIELDS)]
+        path = self.put(f"#[derive(Drop)]\npub struct Big {{ {', '.join(fields)} }}\n")
+        self.assertEqual(self.run_command(path), (0, ""))
+        written = self.text(path)
+        self.assertIn("impl<D: Entries> DeserializeParts<BigOwned2, D> for BigRest2 {", written)
+        self.assertNotIn("BigRest3", written)
 
     def test_many_fields_of_a_variant_are_lent(self):
         path = self.put(f"#[derive(Drop)]\npub enum Big {{ None, Some({', '.join(['i16'] * 16)}) }}\n")

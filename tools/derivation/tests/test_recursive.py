@@ -108,6 +108,21 @@ class Recursive(RepositoryTest):
         self.assertIn("-serialize_json-requires g t c κs within = (omega (arith, c.decreases, no_deeper _ _ _ _ c.args.values.now ", answers)
         self.assertEqual(self.run_command("--check", path), (0, ""))
 
+    def test_a_struct_has_several_vectors_of_tuples_that_lead_back(self):
+        path = self.put("#[derive(Drop)]\npub struct Dir { id: u32, entries: Vec<(String, Dir)>, marks: Vec<(i32, Dir, Option<String>)> }\n")
+        self.assertEqual(self.run_command(path), (0, ""))
+        text, meaning = self.text(path), self.beside("specs", "DirMeaning.antt")
+        for word in ("pub struct PairStringDir;", "pub struct Tuple3I32DirOptionString;", "fn serialize_each_tuple3_i32_dir_option_string<"):
+            self.assertIn(word, text)
+        # what the second one means while the first is opened
+        mapped = "(λ (y : (ℤ × Value × (Option (String Global)))). (product (value (number y.0) (value (y.1) (value (option_meaning (λ y. (text_value (string_bytes y))) y.2) no_value)))))"
+        elements = "(map (λ (y : (ℤ × Dir-Source × (Option (String Global)))). (y.0, dir_meaning y.1, y.2)) t.marks.items)"
+        self.assertIn(f"(list (each_meaning {mapped} {elements}))", meaning)
+        invariants = self.beside("proofs", "types", "+read_dir", "Invariants.antt")
+        self.assertIn("decreases-read_dir g l = (l.part.pos + 20) * 6 + 4", invariants)
+        self.assertIn("decreases-read_tuple3_i32_dir_option_string g l = (l.part.pos + 36) * 6 + 5", invariants)
+        self.assertEqual(self.run_command("--check", path), (0, ""))
+
     def test_calls_of_one_name_in_a_loop_are_named_after_it(self):
         path = self.put("#[derive(Drop)]\npub enum Page { None, Some(Vec<(Page, u8, Page)>) }\n")
         self.assertEqual(self.run_command(path), (0, ""))

@@ -7,5 +7,5 @@ use Rattle.derived_deep.proofs.shipment.shipment_of.Goals as goal
 
 pub returns-clause-meaning : goal.returns-clause-meaning
 returns-clause-meaning c =
-    let e0 : SFits w8 c.args.values.1.0.1.1.1.1.1.0 = search rules in
-    rw (c.into_array.ensures, to_z-of_z w8 c.args.values.1.0.1.1.1.1.1.0 e0) refl
+    let e0 : SFits w8 c.args.values.rest.rest.first = search rules in
+    rw (c.into_array.ensures, to_z-of_z w8 c.args.values.rest.rest.first e0) refl
