@@ -1,9 +1,0 @@
--- Written by tools/derive: change the declaration, and run it again.
-use Rattle.archive_core.proofs.Runs.{Continues}
-use Rattle.std.proofs.Common.{drop}
-use Rattle.trial_family.specs.StmtMeaning.{stmt_meaning, stmt_keys, stmt_flat, stmt_belongs}
-use Rattle.trial_family.specs.StmtShape.{stmt_shape, stmt_definitions}
-use Rattle.trial_family.proofs.code.+serialize_stmt.Given as goal
-
-abbrev pub invariant-serialize_each_stmt-loop-value : goal.invariant-serialize_each_stmt-loop-value
-invariant-serialize_each_stmt-loop-value g l = record { continues : Continues stmt_definitions stmt_shape stmt_keys stmt_meaning stmt_flat stmt_belongs (g.S.Keys.state l.initial.serializer) (g.S.Keys.state l.serializer) l.values (drop l.value-index l.values) l.resolvers.items }

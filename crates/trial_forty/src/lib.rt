@@ -1,4 +1,0 @@
-//! Types of many fields, as tools/derive writes them.
-#![tactic(auto)]
-
-pub mod order;
