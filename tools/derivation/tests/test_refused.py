@@ -206,7 +206,7 @@ class Circles(RepositoryTest):
             ("use archive_core::rc::SharedStr;\nstruct A { a: Vec<A> }\nstruct B { a: A, b: SharedStr }\nenum C { D(B) }", "4: `B` isn't written yet in an enum that holds a recursive type; put it into a struct of another file"),
             ("use archive_core::rc::SharedStr;\nstruct A { a: Vec<A> }\nstruct B { a: A, b: SharedStr }\nstruct C { b: Vec<B> }", "4: `B` in a struct that holds a recursive type is too deep for the toolchain; write a struct without parameters in place"),
             ("struct A { a: Vec<A> }\nstruct B { a: A, b: [u8; 2] }", "2: an array in a struct that holds a recursive type isn't proved; write a `Vec` in place of `[u8; 2]`"),
-            ("struct A { a: Vec<A> }\nstruct B { b: Vec<B>, a: Result<A, u8> }", "2: `A` is recursive or holds a type that is, and isn't written yet in the recursive `B`; archive the two beside each other"),
+            ("struct A { a: Vec<A> }\nstruct B { b: Vec<B>, a: Vec<(u8, A)> }", "2: `A` is recursive or holds a type that is, and isn't written yet in the recursive `B`; archive the two beside each other"),
         ]:
             with self.subTest(text):
                 self.assertIn(said, self.refusal(text))
