@@ -49,10 +49,8 @@ fn a_large_region_is_resolved_on_the_heap(rt: HostRuntime) {
     let writer = serializer.into_writer();
     let view = viewed::<[ArchivedU32; 25]>(&rt, writer.as_slice());
     assert_same(&rt, "the view", (view.pos(), writer.len()), (4, 104));
-    for index in 0..25 {
-        let found = view.index(index).get();
-        assert_same(&rt, "a seven", found, 0x0707_0707);
-    }
+    let ends = (view.index(0).get(), view.index(24).get());
+    assert_same(&rt, "sevens", ends, (0x0707_0707, 0x0707_0707));
 }
 
 // Writes a byte and a wide number.

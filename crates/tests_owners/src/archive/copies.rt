@@ -64,12 +64,12 @@ fn behind_one_byte_by_iter(rt: &impl Abort, alloc: Global, numbers: &[u32]) -> V
     serializer.into_writer()
 }
 
-// The archive of these numbers: their bytes, and behind them the vector.
-fn archive_of(rt: &impl Abort, alloc: Global, numbers: &[u32]) -> Vec<u8> {
+// The archive of so many numbers: their bytes, and behind them the vector.
+fn archive_of(rt: &impl Abort, alloc: Global, numbers: &[u32], count: u32) -> Vec<u8> {
     let mut bytes = Vec::new(alloc);
     append_numbers(&mut bytes, numbers).expect(rt, "memory");
-    let (offset, count) = (bytes.len() as u32, numbers.len() as u32);
-    append_numbers(&mut bytes, &[offset.wrapping_neg(), count]).expect(rt, "memory");
+    let vector = [count.wrapping_mul(4).wrapping_neg(), count];
+    append_numbers(&mut bytes, &vector).expect(rt, "memory");
     bytes
 }
 
@@ -81,7 +81,7 @@ fn assert_copied(rt: &impl Abort, alloc: Global, count: u32) {
     assert_bytes(rt, "a slice", bytes.as_slice(), right.as_slice());
     let bytes = behind_one_byte_by_iter(rt, alloc, &numbers);
     assert_bytes(rt, "an iterator", bytes.as_slice(), right.as_slice());
-    let archive = archive_of(rt, alloc, &numbers);
+    let archive = archive_of(rt, alloc, &numbers, count);
     assert_numbers(rt, alloc, &numbers, archive.as_slice());
 }
 

@@ -66,7 +66,7 @@ type Pointer = ArchivedRc<ArchivedU32, RcFlavor>;
 
 // What is read back of the first pointer alone.
 fn read_first(rt: &impl Abort, alloc: Global, pool: &mut Pool<Shared<u32>>) -> Shared<u32> {
-    let (first, _) = parts_of_pair::<Pointer, Pointer>(rt, alloc, ONE_NUMBER);
+    let (first, _second) = parts_of_pair::<Pointer, Pointer>(rt, alloc, ONE_NUMBER);
     deserialize_using(alloc, first, pool).expect(rt, "a value")
 }
 
