@@ -16,43 +16,55 @@ use archive_core::view::Ref;
 use std::alloc::Global;
 use std::process::Abort;
 
-// A check of the string is refused, with a limit of depth.
-fn assert_too_deep(rt: &impl Abort, alloc: Global, depth: usize)
-    requires { 0 < depth }
+// Why the string isn't accepted with so many levels, if it isn't.
+fn refusal_within(alloc: Global, levels: usize) -> Option<Error>
+    requires { 0 < levels }
 {
-    let mut context = HighValidator::with_max_depth(alloc, HELLO_WORLD, Some(depth));
-    let checked = check_pos_with_context::<ArchivedString, HighValidator<'_>>(
+    let mut context = HighValidator::with_max_depth(alloc, HELLO_WORLD, Some(levels));
+    check_pos_with_context::<ArchivedString, HighValidator<'_>>(
+        alloc,
+        HELLO_WORLD,
+        12,
+        &mut context,
+    ).err()
+}
+
+// Where the string at the end is, with three levels.
+fn root_within_three(alloc: Global) -> Option<usize> {
+    let mut context = HighValidator::with_max_depth(alloc, HELLO_WORLD, Some(3));
+    let view = access_with_context::<ArchivedString, HighValidator<'_>>(
+        alloc,
+        HELLO_WORLD,
+        &mut context,
+    );
+    match view {
+        Ok(view) => Some(view.pos()),
+        Err(_) => None,
+    }
+}
+
+// Where that at 12 is, with no limit.
+fn root_within_any(alloc: Global) -> Option<usize> {
+    let mut context = HighValidator::with_max_depth(alloc, HELLO_WORLD, None);
+    let view = access_pos_with_context::<ArchivedString, HighValidator<'_>>(
         alloc,
         HELLO_WORLD,
         12,
         &mut context,
     );
-    assert_refusal(rt, "too deep", checked, Error::ExceededMaximumSubtreeDepth);
+    match view {
+        Ok(view) => Some(view.pos()),
+        Err(_) => None,
+    }
 }
 
 #[test]
 fn a_context_limits_the_depth(rt: HostRuntime) {
-    assert_too_deep(&rt, rt.alloc(), 1);
-    assert_too_deep(&rt, rt.alloc(), 2);
-    let mut context = HighValidator::with_max_depth(rt.alloc(), HELLO_WORLD, Some(3));
-    let view = access_with_context::<ArchivedString, HighValidator<'_>>(
-        rt.alloc(),
-        HELLO_WORLD,
-        &mut context,
-    ).expect(&rt, "three levels");
-    assert_same(&rt, "three", view.as_str(), "hello world");
-}
-
-#[test]
-fn a_context_may_have_no_limit(rt: HostRuntime) {
-    let mut context = HighValidator::with_max_depth(rt.alloc(), HELLO_WORLD, None);
-    let view = access_pos_with_context::<ArchivedString, HighValidator<'_>>(
-        rt.alloc(),
-        HELLO_WORLD,
-        12,
-        &mut context,
-    ).expect(&rt, "any levels");
-    assert_same(&rt, "the root's position", view.pos(), 12);
+    let too_deep = Some(Error::ExceededMaximumSubtreeDepth);
+    assert_same(&rt, "one level", refusal_within(rt.alloc(), 1), too_deep);
+    assert_same(&rt, "two levels", refusal_within(rt.alloc(), 2), too_deep);
+    let roots = (root_within_three(rt.alloc()), root_within_any(rt.alloc()));
+    assert_same(&rt, "three and any", roots, (Some(12), Some(12)));
 }
 
 #[test]
