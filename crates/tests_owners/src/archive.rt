@@ -1,16 +1,18 @@
-// Boxes, vectors, arrays, tuples, options and results.
+// Boxes, vectors, arrays, tuples, options and results, and pointers that share.
 
 mod all_tuples;
 mod arrays;
 mod boxed_slices;
+mod colliding;
 mod copies;
 mod iterators;
 mod options;
-mod owner_reading;
 mod owner_views;
 mod owners;
 mod places;
+mod rc;
 mod results;
+mod shared;
 mod tuples;
 
 // The archive of the text "hello world": the text, a zero, and at 12 the string that points back at it.

@@ -1,13 +1,14 @@
 // Assertions that are proved once. A call of one takes the check a fifth of a second, and `assert_eq!` written out in a test's body seconds. What is written
-// and read back is compared in here, too: a call of `to_bytes` or `from_bytes` at a type is as dear. A test answers nothing, and no `Error` stands in its
-// body where that can be had: the check writes an `Error` out in full for each local variable that may hold one, at each step.
+// and read back is compared in here, too: a call that writes or reads a type is as dear. A test answers nothing, and no `Error` stands in its body where that
+// can be had: the check writes an `Error` out in full for each local variable that may hold one, at each step.
 
-use archive_core::api::{HighSerializer, HighValidator, access, from_bytes, to_bytes};
-use archive_core::error::Error;
-use archive_core::ser::serialize_with;
-use archive_core::shape::Schema;
-use archive_core::traits::{Archive, Deserialize, Portable, Serialize};
-use archive_core::view::Ref;
+use archive_check::context::ArchiveValidator;
+use archive_check::format::error::Error;
+use archive_check::self_check::check_root;
+use archive_types::primitive::{LittleEndian, Native};
+use archive_types::ser::{Serializer, serialize_one, serialize_with};
+use archive_types::traits::{Archive, Deserialize, Portable, Serialize};
+use archive_types::view::{RawView, Ref};
 use std::alloc::Global;
 use std::fmt::Debug;
 use std::process::Abort;
@@ -22,9 +23,14 @@ pub(crate) fn assert_same<T: PartialEq + Debug + Drop>(
     assert_eq!(rt; found, wanted, "{what}");
 }
 
+// These bytes are the same.
+pub(crate) fn assert_bytes(rt: &impl Abort, what: &str, found: &[u8], wanted: &[u8]) {
+    assert_same(rt, what, found, wanted);
+}
+
 // What `what` names holds.
 pub(crate) fn assert_holds(rt: &impl Abort, what: &str, holds: bool) {
-    assert!(rt; holds, "{what}");
+    assert_same(rt, what, holds, true);
 }
 
 // What `what` names is refused, and for this reason.
@@ -35,11 +41,6 @@ pub(crate) fn assert_refusal<T: Drop>(
     refusal: Error,
 ) {
     assert_same(rt, what, found.err(), Some(refusal));
-}
-
-// What `what` names is refused since an offset doesn't fit.
-pub(crate) fn assert_too_far<T: Drop>(rt: &impl Abort, what: &str, found: Result<T, Error>) {
-    assert_refusal(rt, what, found, Error::OffsetOverflow);
 }
 
 // What `what` names is refused since a buffer of `cap` bytes, of which `len` are taken, has no room for a piece of `write_len`.
@@ -57,15 +58,60 @@ pub(crate) fn assert_full<T: Drop>(
     assert_refusal(rt, what, found, refusal);
 }
 
+// What writes an archive of a value that shares nothing.
+pub(crate) type ByParts = Serializer<Vec<u8>, Global, ()>;
+
+// The archive of a value.
+pub(crate) fn written<T: Serialize<ByParts>>(rt: &impl Abort, alloc: Global, value: &T) -> Vec<u8> {
+    let mut serializer = Serializer::new(Vec::new(alloc), alloc, ());
+    serialize_one(value, &mut serializer).expect(rt, "an archive is written");
+    serializer.into_writer()
+}
+
 // These bytes are the archive of a value.
-pub(crate) fn assert_written<T: Serialize<HighSerializer<Vec<u8>, Global>>>(
+pub(crate) fn assert_written<T: Serialize<ByParts>>(
     rt: &impl Abort,
     alloc: Global,
     value: &T,
     archive: &[u8],
 ) {
     let bytes = written(rt, alloc, value);
-    assert_eq!(rt; bytes.as_slice(), archive);
+    assert_bytes(rt, "the archive", bytes.as_slice(), archive);
+}
+
+// The view of the `T` that lies at the end of the bytes, where that validates itself, or why there is none.
+fn root_of<'a, T: Portable>(bytes: &'a [u8]) -> Result<Ref<'a, T>, Error> {
+    let pos = bytes.len().saturating_sub(T::size());
+    let mut context = ArchiveValidator::new(bytes);
+    if let Err(error) = check_root::<T, ArchiveValidator<'_>>(bytes, pos, &mut context) {
+        return Err(error);
+    }
+    Ok(Ref::at(RawView { bytes, pos, len: 0 }))
+}
+
+// The view of the `T` that lies at the end of the bytes.
+pub(crate) fn viewed<'a, T: Portable>(rt: &impl Abort, bytes: &'a [u8]) -> Ref<'a, T> {
+    root_of::<T>(bytes).expect(rt, "an archive")
+}
+
+// No `T` lies at the end of the bytes, for this reason.
+pub(crate) fn assert_refused<T: Portable>(
+    rt: &impl Abort,
+    what: &str,
+    bytes: &[u8],
+    refusal: Error,
+) {
+    let refused = root_of::<T>(bytes).err();
+    assert_same(rt, what, (bytes, refused), (bytes, Some(refusal)));
+}
+
+// What is read back of an archive.
+pub(crate) fn value_of<T: Archive>(rt: &impl Abort, alloc: Global, archive: &[u8]) -> T
+where
+    T::Archived: Deserialize<T, ()>,
+{
+    let root = viewed::<T::Archived>(rt, archive);
+    <T::Archived as Deserialize<T, ()>>::deserialize(alloc, root, &mut ()).expect(rt, "a value")
 }
 
 // An archive is read back as this value.
@@ -79,28 +125,25 @@ where
     T::Archived: Deserialize<T, ()>,
 {
     let back: T = value_of(rt, alloc, archive);
-    assert_eq!(rt; &back, value, "of {archive:?}");
+    assert_same(rt, "what is read back", &back, value);
 }
 
-// The archive of a value.
-pub(crate) fn written<T: Serialize<HighSerializer<Vec<u8>, Global>>>(
+// An archive is that of a value, and is read back as this value.
+pub(crate) fn assert_archived<T: Serialize<ByParts> + PartialEq + Debug + Drop>(
     rt: &impl Abort,
     alloc: Global,
     value: &T,
-) -> Vec<u8> {
-    to_bytes(alloc, value).expect(rt, "an archive is written")
-}
-
-// What is read back of an archive.
-pub(crate) fn value_of<T: Archive>(rt: &impl Abort, alloc: Global, archive: &[u8]) -> T
+    archive: &[u8],
+)
 where
     T::Archived: Deserialize<T, ()>,
 {
-    from_bytes(alloc, archive, &mut ()).expect(rt, "a value is read back")
+    assert_written(rt, alloc, value, archive);
+    assert_read(rt, alloc, archive, value);
 }
 
-// The archive of a value that shares nothing, if it has one. The writer is the vector itself: a call at a long tuple is a fifth cheaper than one of `written`.
-pub(crate) fn bytes_of<T: Serialize<Vec<u8>>>(alloc: Global, value: &T) -> Option<Vec<u8>> {
+// The archive of a value, if it has one. The writer is the vector itself: a call at a long tuple is a fifth cheaper than one of `written`.
+fn bytes_of<T: Serialize<Vec<u8>>>(alloc: Global, value: &T) -> Option<Vec<u8>> {
     let mut bytes = Vec::new(alloc);
     let root = serialize_with(alloc, value, &mut bytes);
     if root.is_err() {
@@ -109,12 +152,13 @@ pub(crate) fn bytes_of<T: Serialize<Vec<u8>>>(alloc: Global, value: &T) -> Optio
     Some(bytes)
 }
 
-// What is read back of an archive, if it is one. A function that takes no runtime and hands on what this answers is a third cheaper than one of `value_of`.
-pub(crate) fn found<T: Archive>(alloc: Global, archive: &[u8]) -> Option<T>
+// What is read back of an archive, if it is one.
+fn found<T: Archive>(alloc: Global, archive: &[u8]) -> Option<T>
 where
     T::Archived: Deserialize<T, ()>,
 {
-    from_bytes(alloc, archive, &mut ()).ok()
+    let root = root_of::<T::Archived>(archive).ok()?;
+    <T::Archived as Deserialize<T, ()>>::deserialize(alloc, root, &mut ()).ok()
 }
 
 // Whether these bytes are the archive of a value.
@@ -141,85 +185,10 @@ where
     is_written(alloc, value, archive) && is_written(alloc, &back, archive)
 }
 
-// The view of the `T` that lies at the end of the bytes.
-pub(crate) fn viewed<'a, T: Portable>(
-    rt: &impl Abort,
-    alloc: Global,
-    bytes: &'a [u8],
-) -> Ref<'a, T> {
-    access::<T>(alloc, bytes).expect(rt, "an archive")
-}
-
-// A `T` lies at the end of the bytes.
-pub(crate) fn assert_accepted<T: Portable>(rt: &impl Abort, alloc: Global, bytes: &[u8]) {
-    access::<T>(alloc, bytes).expect(rt, "an archive");
-}
-
-// Whether no `T` lies at the end of the bytes.
-pub(crate) fn is_refused<T: Portable>(alloc: Global, bytes: &[u8]) -> bool {
-    access::<T>(alloc, bytes).is_err()
-}
-
-// Whether a `T` lies at the end of the bytes, and why not.
-fn checked<T: Portable>(alloc: Global, bytes: &[u8]) -> Result<(), Error> {
-    access::<T>(alloc, bytes)?;
-    Ok(())
-}
-
-// No `T` lies at the end of the bytes, for this reason.
-pub(crate) fn assert_refused<T: Portable>(
-    rt: &impl Abort,
-    what: &str,
-    alloc: Global,
-    bytes: &[u8],
-    refusal: Error,
-) {
-    assert_refusal(rt, what, checked::<T>(alloc, bytes), refusal);
-}
-
-// No `T` lies at the end of the bytes, since its type `name` has no variant with this tag.
-pub(crate) fn assert_no_variant<T: Portable>(
-    rt: &impl Abort,
-    what: &str,
-    alloc: Global,
-    bytes: &[u8],
-    (name, value): (&'static str, u8),
-) {
-    let refusal = Error::InvalidDiscriminant { name, value };
-    assert_refused::<T>(rt, what, alloc, bytes, refusal);
-}
-
-// What a check by its schema says of a `T` at the position 0.
-fn checked_by_schema<T: Portable>(alloc: Global, bytes: &[u8]) -> Result<(), Error> {
-    let schema = Schema::of::<T>(alloc)?;
-    let mut context = HighValidator::new(alloc, bytes);
-    schema.check(bytes, 0, &mut context)
-}
-
-// A check by its schema accepts a `T` at the position 0.
-pub(crate) fn assert_accepted_by_schema<T: Portable>(rt: &impl Abort, alloc: Global, bytes: &[u8]) {
-    checked_by_schema::<T>(alloc, bytes).expect(rt, "an archive by its schema");
-}
-
-// And such a check refuses a `T`, for this reason.
-pub(crate) fn assert_refused_by_schema<T: Portable>(
-    rt: &impl Abort,
-    what: &str,
-    alloc: Global,
-    bytes: &[u8],
-    refusal: Error,
-) {
-    assert_refusal(rt, what, checked_by_schema::<T>(alloc, bytes), refusal);
-}
-
-// And it refuses a `T` since its type `name` has no variant with this tag.
-pub(crate) fn assert_no_variant_by_schema<T: Portable>(
-    rt: &impl Abort,
-    what: &str,
-    alloc: Global,
-    bytes: &[u8],
-    (name, value): (&'static str, u8),
-) {
-    let refusal = Error::InvalidDiscriminant { name, value };
-    assert_refused_by_schema::<T>(rt, what, alloc, bytes, refusal);
+// The number that is viewed, if there is one.
+pub(crate) fn number_of<N: Native>(view: Option<Ref<'_, LittleEndian<N>>>) -> Option<N> {
+    match view {
+        Some(view) => Some(view.get()),
+        None => None,
+    }
 }

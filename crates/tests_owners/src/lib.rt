@@ -1,4 +1,4 @@
-//! Tests of owners, records and choices, through public calls.
+//! Tests of owners, arrays, tuples and choices, through public calls of the crates below archive_core.
 #![tactic(auto)]
 
 #[cfg(test)]

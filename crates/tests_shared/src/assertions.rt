@@ -5,7 +5,7 @@
 ghost use Rattle.std.specs.Prelude.{◌≡◌};
 ghost use Rattle.archive_core.specs.SealsWritten.{IsSealOf};
 
-use archive_core::api::{HighSerializer, access, access_mut, access_pos_mut, from_bytes, to_bytes};
+use archive_core::api::{HighSerializer, access, access_mut, from_bytes, to_bytes};
 use archive_core::error::Error;
 use archive_core::seal::Seal;
 use archive_core::traits::{Archive, Deserialize, Entries, Portable, Serialize};
@@ -31,28 +31,7 @@ pub(crate) fn assert_bytes(rt: &impl Abort, what: &str, found: &[u8], wanted: &[
 
 // What `what` names holds.
 pub(crate) fn assert_holds(rt: &impl Abort, what: &str, holds: bool) {
-    assert!(rt; holds, "{what}");
-}
-
-// What `what` names is served, with this answer.
-pub(crate) fn assert_served<T: PartialEq + Debug + Drop>(
-    rt: &impl Abort,
-    what: &str,
-    found: Result<T, Error>,
-    wanted: T,
-) {
-    let value = found.expect(rt, what);
-    assert_same(rt, what, value, wanted);
-}
-
-// What `what` names is refused, with this error.
-pub(crate) fn assert_refusal<T: Drop>(
-    rt: &impl Abort,
-    what: &str,
-    found: Result<T, Error>,
-    refusal: Error,
-) {
-    assert_same(rt, what, found.err(), Some(refusal));
+    assert_same(rt, what, holds, true);
 }
 
 // These bytes are the archive of a value.
@@ -62,7 +41,7 @@ pub(crate) fn assert_written<T: Serialize<HighSerializer<Vec<u8>, Global>>>(
     value: &T,
     archive: &[u8],
 ) {
-    let bytes = archived(rt, alloc, value);
+    let bytes = to_bytes(alloc, value).expect(rt, "an archive");
     assert_bytes(rt, "the archive", bytes.as_slice(), archive);
 }
 
@@ -73,16 +52,8 @@ pub(crate) fn assert_unwritten<T: Serialize<HighSerializer<Vec<u8>, Global>>>(
     value: &T,
     refusal: Error,
 ) {
-    assert_refusal(rt, "an archive", to_bytes(alloc, value), refusal);
-}
-
-// The archive of a value.
-pub(crate) fn archived<T: Serialize<HighSerializer<Vec<u8>, Global>>>(
-    rt: &impl Abort,
-    alloc: Global,
-    value: &T,
-) -> Vec<u8> {
-    to_bytes(alloc, value).expect(rt, "an archive")
+    let found = to_bytes(alloc, value).err();
+    assert_same(rt, "no archive", found, Some(refusal));
 }
 
 // What is read back of an archive, with a deserializer.
@@ -118,23 +89,6 @@ where
     }
 }
 
-// A `T` lies at the end of the bytes.
-pub(crate) fn assert_accepted<T: Portable>(rt: &impl Abort, alloc: Global, bytes: &[u8]) {
-    let _ = viewed::<T>(rt, alloc, bytes);
-}
-
-// No `T` lies there.
-pub(crate) fn assert_refused<T: Portable>(
-    rt: &impl Abort,
-    what: &str,
-    alloc: Global,
-    bytes: &[u8],
-    refusal: Error,
-) {
-    let error = access::<T>(alloc, bytes).err();
-    assert_same(rt, what, error, Some(refusal));
-}
-
 // The view of a `T` at the end of the bytes.
 pub(crate) fn viewed<'a, T: Portable>(
     rt: &impl Abort,
@@ -155,18 +109,4 @@ pub(crate) fn sealed<'a, T: Portable>(
     ensures come_to { IsSealOf T.definitions T.pointee result }
 {
     access_mut::<T>(alloc, bytes).expect(rt, "an archive")
-}
-
-// And of one at a position.
-pub(crate) fn sealed_at<'a, T: Portable>(
-    rt: &impl Abort,
-    alloc: Global,
-    bytes: &'a mut [u8],
-    pos: usize,
-) -> Seal<'a, T>
-    ensures same_reference { result.bytes.ghost_name ≡ bytes.entry.ghost_name }
-    ensures buffer { result.bytes.now ≡ bytes.old }
-    ensures come_to { IsSealOf T.definitions T.pointee result }
-{
-    access_pos_mut::<T>(alloc, bytes, pos).expect(rt, "an archive")
 }

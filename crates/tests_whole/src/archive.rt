@@ -1,14 +1,10 @@
-// Whole archives, and the parts that they are written and read by.
+// Whole archives.
 
-mod device;
 mod edits;
-mod numbers;
+mod kept;
 mod positions;
 mod reading;
 mod rel_ptr;
-mod self_checks;
-mod strings;
-mod without_meaning;
 mod writing;
 
 // The archive of the text "hello world": the text, a zero, and at 12 the string that points back at it.

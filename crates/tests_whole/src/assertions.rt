@@ -1,10 +1,13 @@
-// Assertions that are proved once. A call of one takes the check a fifth of a second, and `assert_eq!` written out in a test's body seconds. What is written
-// and read back is compared in here, too: a call of `to_bytes` or `from_bytes` at a type is as dear. A call that isn't refused is made in here as well: the
-// check writes out all locals of a body at each of its steps, and an `Error` among them in a hundred lines.
+// Assertions that are proved once. A call of one takes the check a fifth of a second, and `assert_eq!` written out in a test's body seconds. A call that isn't
+// refused is made in here as well: the check writes out all locals of a body at each of its steps, and an `Error` among them in a hundred lines.
 
-use archive_core::api::{HighSerializer, access, access_pos, from_bytes, to_bytes};
+ghost use Rattle.std.specs.Prelude.{◌≡◌};
+ghost use Rattle.archive_core.specs.SealsWritten.{IsSealOf};
+
+use archive_core::api::{access, access_mut};
 use archive_core::error::Error;
-use archive_core::traits::{Archive, Deserialize, Portable, Serialize};
+use archive_core::seal::Seal;
+use archive_core::traits::Portable;
 use archive_core::view::Ref;
 use std::alloc::Global;
 use std::fmt::Debug;
@@ -18,6 +21,11 @@ pub(crate) fn assert_same<T: PartialEq + Debug + Drop>(
     wanted: T,
 ) {
     assert_eq!(rt; found, wanted, "{what}");
+}
+
+// These bytes are the same.
+pub(crate) fn assert_bytes(rt: &impl Abort, what: &str, found: &[u8], wanted: &[u8]) {
+    assert_same(rt, what, found, wanted);
 }
 
 // What `what` names holds.
@@ -40,56 +48,6 @@ pub(crate) fn text(rt: &impl Abort, alloc: Global, text: &str) -> String {
     String::from_str(alloc, text).expect(rt, "memory for a text")
 }
 
-// These bytes are the archive of a value.
-pub(crate) fn assert_written<T: Serialize<HighSerializer<Vec<u8>, Global>>>(
-    rt: &impl Abort,
-    alloc: Global,
-    value: &T,
-    archive: &[u8],
-) {
-    let bytes = to_bytes(alloc, value).expect(rt, "an archive");
-    assert_same(rt, "the archive", bytes.as_slice(), archive);
-}
-
-// A value has no archive, for this reason.
-pub(crate) fn assert_unwritten<T: Serialize<HighSerializer<Vec<u8>, Global>>>(
-    rt: &impl Abort,
-    what: &str,
-    alloc: Global,
-    value: &T,
-    refusal: Error,
-) {
-    assert_refusal(rt, what, to_bytes(alloc, value), refusal);
-}
-
-// An archive is read back as this value.
-pub(crate) fn assert_read<T: Archive + PartialEq + Debug + Drop>(
-    rt: &impl Abort,
-    alloc: Global,
-    archive: &[u8],
-    value: &T,
-)
-where
-    T::Archived: Deserialize<T, ()>,
-{
-    let back: T = from_bytes(alloc, archive, &mut ()).expect(rt, "a value");
-    assert_same(rt, "what is read back", &back, value);
-}
-
-// No `T` is read back of the bytes, for this reason.
-pub(crate) fn assert_unread<T: Archive + Drop>(
-    rt: &impl Abort,
-    alloc: Global,
-    bytes: &[u8],
-    refusal: Error,
-)
-where
-    T::Archived: Deserialize<T, ()>,
-{
-    let back: Result<T, Error> = from_bytes(alloc, bytes, &mut ());
-    assert_refusal(rt, "what is read back", back, refusal);
-}
-
 // The view of the `T` at the end of the bytes.
 pub(crate) fn viewed<'a, T: Portable>(
     rt: &impl Abort,
@@ -99,37 +57,15 @@ pub(crate) fn viewed<'a, T: Portable>(
     access::<T>(alloc, bytes).expect(rt, "an archive")
 }
 
-// The view of the `T` at a position.
-pub(crate) fn viewed_at<'a, T: Portable>(
+// The seal of a `T` at the end of the bytes.
+pub(crate) fn sealed<'a, T: Portable>(
     rt: &impl Abort,
     alloc: Global,
-    bytes: &'a [u8],
-    pos: usize,
-) -> Ref<'a, T> {
-    access_pos::<T>(alloc, bytes, pos).expect(rt, "an archive with its root at a position")
-}
-
-// No `T` lies at the end of the bytes, for this reason.
-pub(crate) fn assert_refused<T: Portable>(
-    rt: &impl Abort,
-    what: &str,
-    alloc: Global,
-    bytes: &[u8],
-    refusal: Error,
-) {
-    let refused = access::<T>(alloc, bytes).err();
-    assert_same(rt, what, (bytes, refused), (bytes, Some(refusal)));
-}
-
-// No `T` lies at a position, for this reason.
-pub(crate) fn assert_refused_at<T: Portable>(
-    rt: &impl Abort,
-    what: &str,
-    alloc: Global,
-    bytes: &[u8],
-    pos: usize,
-    refusal: Error,
-) {
-    let refused = access_pos::<T>(alloc, bytes, pos).err();
-    assert_same(rt, what, refused, Some(refusal));
+    bytes: &'a mut [u8],
+) -> Seal<'a, T>
+    ensures same_reference { result.bytes.ghost_name ≡ bytes.entry.ghost_name }
+    ensures buffer { result.bytes.now ≡ bytes.old }
+    ensures come_to { IsSealOf T.definitions T.pointee result }
+{
+    access_mut::<T>(alloc, bytes).expect(rt, "an archive")
 }

@@ -1,16 +1,15 @@
 // Slices of numbers are written in bulk.
 
-use super::owner_reading::assert_numbers_read;
-use super::owners::written_numbers;
-use crate::assertions::{assert_full, assert_holds, assert_same};
-use archive_core::error::Error;
-use archive_core::primitive::{ArchivedNonZeroU16, ArchivedU32};
-use archive_core::ser::{Buffer, ResolverAlloc, Serializer, Writer};
-use archive_core::slice::{Slice, copy_arrays, copy_slice};
-use archive_core::traits::{
+use super::owners::assert_numbers;
+use crate::assertions::{assert_bytes, assert_full, assert_same};
+use archive_check::format::error::Error;
+use archive_types::primitive::{ArchivedNonZeroU16, ArchivedU32};
+use archive_types::ser::{Buffer, ResolverAlloc, Serializer, Writer};
+use archive_types::slice::{Slice, copy_arrays, copy_slice};
+use archive_types::traits::{
     Archive, Copied, CopiedSource, CopyOptimization, Keys, Serialize, SerializeUnsized,
 };
-use archive_core::vec::ArchivedVec;
+use archive_types::vec::ArchivedVec;
 use std::alloc::{AllocError, Global};
 use std::marker::PhantomData;
 use std::process::Abort;
@@ -24,26 +23,31 @@ fn numbers(alloc: Global, count: u32) -> Result<Vec<u32>, AllocError> {
     Ok(list)
 }
 
-// Zeros up to a multiple of four behind one byte, and then the numbers' bytes.
-fn expected(alloc: Global, numbers: &[u32]) -> Result<Vec<u8>, AllocError> {
-    let mut bytes = vec![in alloc; 0xaa, 0, 0, 0]?;
+// Appends the numbers' bytes.
+fn append_numbers(bytes: &mut Vec<u8>, numbers: &[u32]) -> Result<(), AllocError> {
     for number in numbers {
         bytes.extend_from_slice(&number.to_le_bytes())?;
     }
-    Ok(bytes)
+    Ok(())
 }
 
-// A vector that has room for what is tried here, and holds one byte.
-fn one_byte(alloc: Global) -> Result<Vec<u8>, AllocError> {
-    let mut bytes = Vec::with_capacity(alloc, 32_768)?;
-    bytes.push(0xaa)?;
-    Ok(bytes)
+// Zeros up to a multiple of four behind one byte, and then the numbers' bytes.
+fn expected(rt: &impl Abort, alloc: Global, numbers: &[u32]) -> Vec<u8> {
+    let mut bytes = vec![in alloc; 0xaa, 0, 0, 0].expect(rt, "memory");
+    append_numbers(&mut bytes, numbers).expect(rt, "memory");
+    bytes
+}
+
+// A serializer over a vector that has room for what is tried here, and holds one byte.
+fn one_byte(rt: &impl Abort, alloc: Global) -> Serializer<Vec<u8>, Global, ()> {
+    let mut bytes = Vec::with_capacity(alloc, 32_768).expect(rt, "memory");
+    bytes.push(0xaa).expect(rt, "memory");
+    Serializer::new(bytes, alloc, ())
 }
 
 // What is behind one byte, of numbers that are written as a slice.
 fn behind_one_byte(rt: &impl Abort, alloc: Global, numbers: &[u32]) -> Vec<u8> {
-    let bytes = one_byte(alloc).expect(rt, "memory");
-    let mut serializer = Serializer::new(bytes, alloc, ());
+    let mut serializer = one_byte(rt, alloc);
     let Ok(_) = ArchivedVec::<ArchivedU32>::serialize_from_slice(numbers, &mut serializer) else {
         panic!(rt; "not written")
     };
@@ -52,8 +56,7 @@ fn behind_one_byte(rt: &impl Abort, alloc: Global, numbers: &[u32]) -> Vec<u8> {
 
 // And of numbers that are written by an iterator.
 fn behind_one_byte_by_iter(rt: &impl Abort, alloc: Global, numbers: &[u32]) -> Vec<u8> {
-    let bytes = one_byte(alloc).expect(rt, "memory");
-    let mut serializer = Serializer::new(bytes, alloc, ());
+    let mut serializer = one_byte(rt, alloc);
     let items = numbers.iter().copied();
     let Ok(_) = ArchivedVec::<ArchivedU32>::serialize_from_iter(items, &mut serializer) else {
         panic!(rt; "not written")
@@ -61,21 +64,25 @@ fn behind_one_byte_by_iter(rt: &impl Abort, alloc: Global, numbers: &[u32]) -> V
     serializer.into_writer()
 }
 
+// The archive of so many numbers: their bytes, and behind them the vector.
+fn archive_of(rt: &impl Abort, alloc: Global, numbers: &[u32], count: u32) -> Vec<u8> {
+    let mut bytes = Vec::new(alloc);
+    append_numbers(&mut bytes, numbers).expect(rt, "memory");
+    let vector = [count.wrapping_mul(4).wrapping_neg(), count];
+    append_numbers(&mut bytes, &vector).expect(rt, "memory");
+    bytes
+}
+
 // So many numbers have their bytes, as a slice, by an iterator, and in an archive, which is read back.
 fn assert_copied(rt: &impl Abort, alloc: Global, count: u32) {
     let numbers = numbers(alloc, count).expect(rt, "memory");
-    let right = expected(alloc, &numbers).expect(rt, "memory");
+    let right = expected(rt, alloc, &numbers);
     let bytes = behind_one_byte(rt, alloc, &numbers);
-    assert_same(
-        rt,
-        "the bytes of the copied slice",
-        bytes.as_slice(),
-        right.as_slice(),
-    );
+    assert_bytes(rt, "a slice", bytes.as_slice(), right.as_slice());
     let bytes = behind_one_byte_by_iter(rt, alloc, &numbers);
-    assert_same(rt, "an iterator", bytes.as_slice(), right.as_slice());
-    let archive = written_numbers(rt, alloc, &numbers);
-    assert_numbers_read(rt, alloc, &archive, &numbers);
+    assert_bytes(rt, "an iterator", bytes.as_slice(), right.as_slice());
+    let archive = archive_of(rt, alloc, &numbers, count);
+    assert_numbers(rt, alloc, &numbers, archive.as_slice());
 }
 
 #[test]
@@ -98,12 +105,11 @@ fn region_of<T: Serialize<S>, S: Writer + ResolverAlloc>(
 #[test]
 fn what_has_no_byte_is_copied_too(rt: HostRuntime) {
     let mut serializer = Serializer::new(Vec::new(rt.alloc()), rt.alloc(), ());
-    let region = region_of(&rt, &[(), ()], &mut serializer);
-    assert_same(&rt, "the position of a region of units", region, 0);
-    let region = region_of(&rt, &[true, false], &mut serializer);
-    assert_same(&rt, "bools", region, 0);
+    let units = region_of(&rt, &[(), ()], &mut serializer);
+    let bools = region_of(&rt, &[true, false], &mut serializer);
+    assert_same(&rt, "units and bools", (units, bools), (0, 0));
     let bytes = serializer.into_writer();
-    assert_same(&rt, "the bytes", bytes.as_slice(), &[1, 0]);
+    assert_bytes(&rt, "the bytes", bytes.as_slice(), &[1, 0]);
 }
 
 // Whether a type is copied in bulk.
@@ -112,13 +118,23 @@ fn is_copied<T: Archive>() -> bool {
 }
 
 #[test]
-fn the_switch(rt: HostRuntime) {
-    assert_holds(&rt, "numbers", is_copied::<u32>());
-    assert_holds(&rt, "no texts", !is_copied::<String>());
+fn numbers_are_copied_and_texts_not(rt: HostRuntime) {
+    let found = (is_copied::<u32>(), is_copied::<ArchivedNonZeroU16>());
+    assert_same(&rt, "numbers", found, (true, true));
+    let found = (is_copied::<PhantomData<u8>>(), is_copied::<String>());
+    assert_same(&rt, "nothing, and texts", found, (true, false));
     let on = CopyOptimization::<u32>::enable_if(true);
-    assert_holds(&rt, "on", on.is_enabled());
     let off = CopyOptimization::<u32>::disable();
-    assert_holds(&rt, "off", !off.is_enabled());
+    let found = (on.is_enabled(), off.is_enabled());
+    assert_same(&rt, "on, and off", found, (true, false));
+}
+
+#[test]
+fn arrays_of_1_to_1024_bytes_are_copied(rt: HostRuntime) {
+    let found = (is_copied::<[u16; 3]>(), is_copied::<[u8; 1024]>());
+    assert_same(&rt, "a small one, and the largest", found, (true, true));
+    let found = (is_copied::<[u8; 1025]>(), is_copied::<[(); 3]>());
+    assert_same(&rt, "a larger one, and none", found, (false, false));
 }
 
 #[test]
@@ -137,32 +153,25 @@ fn written_to<W: Writer>(alloc: Global, numbers: &[u32], writer: &mut W) -> Resu
     }
 }
 
-// Numbers aren't written as one region to this writer; `full` tells its room.
-fn assert_numbers_refused<W: Writer>(
+// A buffer of so many bytes takes a beginning of the numbers, so many bytes long, and no part of the piece behind it.
+fn assert_too_many<const N: usize>(
     rt: &impl Abort,
     alloc: Global,
     numbers: &[u32],
-    writer: &mut W,
-    full: (usize, usize, usize),
+    (piece, kept): (usize, usize),
 ) {
-    assert_full(rt, "no room", written_to(alloc, numbers, writer), full);
+    let mut bytes = [0xcc; N];
+    let mut buffer = Buffer::from(&mut bytes);
+    let written = written_to(alloc, numbers, &mut buffer);
+    assert_full(rt, "no room", written, (piece, N, kept));
+    assert_same(rt, "what is kept", buffer.as_slice().len(), kept);
 }
 
 #[test]
 fn a_piece_is_written_whole_or_not_at_all(rt: HostRuntime) {
-    let mut bytes = [0xcc; 6];
-    let mut buffer = Buffer::from(&mut bytes);
-    assert_numbers_refused(&rt, rt.alloc(), &[1, 2], &mut buffer, (8, 6, 0));
-    assert_holds(&rt, "no bytes", buffer.as_slice().is_empty());
-}
-
-#[test]
-fn the_pieces_before_are_kept(rt: HostRuntime) {
-    let mut bytes = [0xcc; 1100];
-    let mut buffer = Buffer::from(&mut bytes);
+    assert_too_many::<6>(&rt, rt.alloc(), &[1, 2], (8, 0));
     let numbers = numbers(rt.alloc(), 300).expect(&rt, "memory");
-    assert_numbers_refused(&rt, rt.alloc(), &numbers, &mut buffer, (176, 1100, 1024));
-    assert_same(&rt, "the first", buffer.as_slice().len(), 1024);
+    assert_too_many::<1100>(&rt, rt.alloc(), &numbers, (176, 1024));
 }
 
 // Where arrays are written to this writer as one region, and why they aren't.
@@ -175,51 +184,17 @@ fn arrays_written<W: Writer>(
     elements.serialize_unsized(&mut Serializer::new(writer, alloc, ()))
 }
 
-// Arrays are written as one region to this writer.
-fn assert_arrays_copied<W: Writer>(
-    rt: &impl Abort,
-    alloc: Global,
-    arrays: &[[u16; 3]],
-    writer: &mut W,
-) {
-    arrays_written(alloc, arrays, writer).expect(rt, "written");
-}
-
-// And they aren't; `full` tells the writer's room.
-fn assert_arrays_refused<W: Writer>(
-    rt: &impl Abort,
-    alloc: Global,
-    arrays: &[[u16; 3]],
-    writer: &mut W,
-    full: (usize, usize, usize),
-) {
-    assert_full(rt, "too many", arrays_written(alloc, arrays, writer), full);
-}
-
 #[test]
-fn an_array_is_copied_whole(rt: HostRuntime) {
-    let mut bytes = [0xcc; 12];
-    let mut buffer = Buffer::from(&mut bytes);
-    let two = [[1, 2, 3], [4, 5, 6]];
-    assert_arrays_copied(&rt, rt.alloc(), &two, &mut buffer);
-    let right = b"\x01\0\x02\0\x03\0\x04\0\x05\0\x06\0";
-    assert_same(&rt, "their bytes", buffer.as_slice(), right);
-}
-
-#[test]
-fn a_full_buffer_takes_no_part_of_an_array(rt: HostRuntime) {
+fn an_array_is_copied_whole_or_not_at_all(rt: HostRuntime) {
     let mut bytes = [0xcc; 1100];
     let mut buffer = Buffer::from(&mut bytes);
-    let many = [[7; 3]; 300];
-    assert_arrays_refused(&rt, rt.alloc(), &many, &mut buffer, (780, 1100, 1020));
-}
-
-#[test]
-fn arrays_of_1_to_1024_bytes_are_copied(rt: HostRuntime) {
-    assert_holds(&rt, "a small array", is_copied::<[u16; 3]>());
-    assert_holds(&rt, "the largest", is_copied::<[u8; 1024]>());
-    assert_holds(&rt, "no large one", !is_copied::<[u8; 1025]>());
-    assert_holds(&rt, "none without a byte", !is_copied::<[(); 3]>());
+    let two = [[1, 2, 3], [4, 5, 6]];
+    let region = arrays_written(rt.alloc(), &two, &mut buffer);
+    assert_same(&rt, "the region", region.expect(&rt, "written"), 0);
+    let right = b"\x01\0\x02\0\x03\0\x04\0\x05\0\x06\0";
+    assert_bytes(&rt, "their bytes", buffer.as_slice(), right);
+    let written = arrays_written(rt.alloc(), &[[7; 3]; 300], &mut buffer);
+    assert_full(&rt, "too many", written, (780, 1100, 1032));
 }
 
 // Where values are copied.
@@ -241,47 +216,27 @@ fn arrays_copied<T: CopiedSource, S: Writer + Keys>(
 }
 
 #[test]
-fn arrays_are_copied_element_by_element(rt: HostRuntime) {
-    let mut bytes = [0xcc; 10];
+fn values_are_copied_one_behind_the_other(rt: HostRuntime) {
+    let mut bytes = [0xcc; 14];
     let mut buffer = Buffer::from(&mut bytes);
-    copied(&rt, &[9u8], &mut buffer);
-    let region = arrays_copied(&rt, &[[1u16, 2], [3, 4]], &mut buffer);
-    assert_same(&rt, "the position of the arrays", region, 2);
-    assert_same(
-        &rt,
-        "the bytes",
-        buffer.as_slice(),
-        b"\x09\0\x01\0\x02\0\x03\0\x04\0",
-    );
-}
-
-#[test]
-fn numbers_that_are_not_0_and_nothing_are_copied(rt: HostRuntime) {
+    let byte = copied(&rt, &[9u8], &mut buffer);
+    let arrays = arrays_copied(&rt, &[[1u16, 2], [3, 4]], &mut buffer);
     let numbers = [
         ArchivedNonZeroU16::from_native(1),
         ArchivedNonZeroU16::from_native(513),
     ];
-    let mut bytes = [0xcc; 6];
-    let mut buffer = Buffer::from(&mut bytes);
-    let region = copied(&rt, &[9u8], &mut buffer);
-    assert_same(&rt, "the position of the copied byte", region, 0);
-    let region = copied(&rt, &numbers, &mut buffer);
-    assert_same(&rt, "the position of two copied numbers", region, 2);
-    assert_same(&rt, "the bytes", buffer.as_slice(), &[9, 0, 1, 0, 1, 2]);
+    let numbers = copied(&rt, &numbers, &mut buffer);
     let nothing: [PhantomData<u8>; 2] = [PhantomData, PhantomData];
-    let region = copied(&rt, &nothing, &mut buffer);
-    assert_same(&rt, "the position of nothing, at the end", region, 6);
-    assert_same(&rt, "no further byte", buffer.as_slice().len(), 6);
+    let nothing = copied(&rt, &nothing, &mut buffer);
+    let found = (byte, arrays, numbers, nothing);
+    assert_same(&rt, "the positions", found, (0, 2, 10, 14));
+    let right = b"\x09\0\x01\0\x02\0\x03\0\x04\0\x01\0\x01\x02";
+    assert_bytes(&rt, "the bytes", buffer.as_slice(), right);
 }
 
-#[test]
-fn the_switch_is_on_of_numbers_that_are_not_0_and_of_nothing(rt: HostRuntime) {
-    assert_holds(&rt, "not 0", is_copied::<ArchivedNonZeroU16>());
-    assert_holds(&rt, "PhantomData is copied", is_copied::<PhantomData<u8>>());
-}
-
-// Numbers are written to this writer, with no allocator.
-fn assert_needs_no_allocator<W: Writer + Keys>(rt: &impl Abort, numbers: &[u32], writer: &mut W) {
+// Numbers are written to this writer behind a byte, with no allocator.
+fn copy_behind_one_byte<W: Writer + Keys>(rt: &impl Abort, numbers: &[u32], writer: &mut W) {
+    copied(rt, &[0xaau8], writer);
     let Ok(_) = ArchivedVec::<ArchivedU32>::serialize_from_copied(numbers, writer) else {
         panic!(rt; "not written")
     };
@@ -292,14 +247,7 @@ fn copies_need_no_allocator(rt: HostRuntime) {
     let numbers = numbers(rt.alloc(), 257).expect(&rt, "memory");
     let mut bytes = [0xcc; 1032];
     let mut buffer = Buffer::from(&mut bytes);
-    let region = copied(&rt, &[0xaau8], &mut buffer);
-    assert_same(&rt, "the position of the copied byte", region, 0);
-    assert_needs_no_allocator(&rt, &numbers, &mut buffer);
-    let right = expected(rt.alloc(), &numbers).expect(&rt, "memory");
-    assert_same(
-        &rt,
-        "the buffer's bytes",
-        buffer.as_slice(),
-        right.as_slice(),
-    );
+    copy_behind_one_byte(&rt, &numbers, &mut buffer);
+    let right = expected(&rt, rt.alloc(), &numbers);
+    assert_bytes(&rt, "the bytes", buffer.as_slice(), right.as_slice());
 }

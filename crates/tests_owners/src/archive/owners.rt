@@ -1,39 +1,31 @@
-// Boxes, slices and vectors: what is written of them.
+// Boxes, slices and vectors: what is written and read back of them.
 
-use crate::assertions::{
-    assert_accepted, assert_full, assert_same, assert_too_far, assert_written, written,
-};
-use archive_core::api::to_bytes_in;
-use archive_core::boxed::{ArchivedBox, BoxResolver};
-use archive_core::place::Place;
-use archive_core::primitive::{ArchivedU16, ArchivedU32};
-use archive_core::ser::{Buffer, Positional, Serializer, Writer};
-use archive_core::slice::Slice;
-use archive_core::string::ArchivedString;
-use archive_core::traits::{ArchiveUnsized, SerializeUnsized};
-use archive_core::vec::{ArchivedVec, VecResolver};
+use crate::assertions::{assert_archived, assert_bytes, assert_same, assert_written, viewed};
+use archive_check::format::error::Error;
+use archive_types::boxed::{ArchivedBox, BoxResolver};
+use archive_types::place::Place;
+use archive_types::primitive::{ArchivedU16, ArchivedU32};
+use archive_types::ser::{Positional, Serializer};
+use archive_types::slice::{ArchivedSlice, Slice};
+use archive_types::traits::{ArchiveUnsized, DeserializeUnsized, SerializeUnsized};
+use archive_types::vec::{ArchivedVec, VecResolver};
 use std::alloc::Global;
 use std::process::Abort;
 
-// The archive of these numbers.
-pub(super) fn written_numbers(rt: &impl Abort, alloc: Global, numbers: &Vec<u32>) -> Vec<u8> {
-    written(rt, alloc, numbers)
-}
+// The numbers 1 and 2, and at 8 the vector that points back at them.
+pub(super) const ONE_AND_TWO: &[u8] = b"\x01\0\0\0\x02\0\0\0\xf8\xff\xff\xff\x02\0\0\0";
 
-// These bytes are the archive of the numbers, and are accepted.
-fn assert_numbers_archived(rt: &impl Abort, alloc: Global, numbers: &Vec<u32>, archive: &[u8]) {
-    let bytes = written_numbers(rt, alloc, numbers);
-    assert_same(rt, "the bytes", bytes.as_slice(), archive);
-    assert_accepted::<ArchivedVec<ArchivedU32>>(rt, alloc, archive);
+// These bytes are the archive of the numbers.
+pub(super) fn assert_numbers(rt: &impl Abort, alloc: Global, numbers: &Vec<u32>, archive: &[u8]) {
+    assert_archived(rt, alloc, numbers, archive);
 }
 
 #[test]
 fn vectors_and_their_archives(rt: HostRuntime) {
-    let two = b"\x01\0\0\0\x02\0\0\0\xf8\xff\xff\xff\x02\0\0\0";
     let numbers = vec![in rt.alloc(); 1u32, 2].expect(&rt, "memory");
-    assert_numbers_archived(&rt, rt.alloc(), &numbers, two);
+    assert_numbers(&rt, rt.alloc(), &numbers, ONE_AND_TWO);
     let empty = Vec::new(rt.alloc());
-    assert_numbers_archived(&rt, rt.alloc(), &empty, b"\0\0\0\0\0\0\0\0");
+    assert_numbers(&rt, rt.alloc(), &empty, b"\0\0\0\0\0\0\0\0");
 }
 
 #[test]
@@ -44,7 +36,6 @@ fn what_elements_own_comes_first(rt: HostRuntime) {
     let archive =
         b"hello world\0\x8b\0\0\0\xf4\xff\xff\xffhi\xff\xff\xff\xff\xff\xff\xf0\xff\xff\xff\x02\0\0\0";
     assert_written(&rt, rt.alloc(), &texts, archive);
-    assert_accepted::<ArchivedVec<ArchivedString>>(&rt, rt.alloc(), archive);
 }
 
 #[test]
@@ -53,18 +44,29 @@ fn boxes_in_a_vector_come_first(rt: HostRuntime) {
     let two = Box::new(rt.alloc(), 2u32).expect(&rt, "memory");
     let boxes = vec![in rt.alloc(); one, two].expect(&rt, "memory");
     let archive = b"\x01\0\0\0\x02\0\0\0\xf8\xff\xff\xff\xf8\xff\xff\xff\xf8\xff\xff\xff\x02\0\0\0";
-    assert_written(&rt, rt.alloc(), &boxes, archive);
-    assert_accepted::<ArchivedVec<ArchivedBox<ArchivedU32>>>(&rt, rt.alloc(), archive);
+    assert_archived(&rt, rt.alloc(), &boxes, archive);
+}
+
+// A vector of one bool, which is true, and at 12 a vector of that one.
+#[test]
+fn vectors_of_vectors_and_their_archives(rt: HostRuntime) {
+    let archive = b"\x01\0\0\0\xfc\xff\xff\xff\x01\0\0\0\xf8\xff\xff\xff\x01\0\0\0";
+    let list = vec![in rt.alloc(); true].expect(&rt, "memory");
+    let lists = vec![in rt.alloc(); list].expect(&rt, "memory");
+    assert_archived(&rt, rt.alloc(), &lists, archive);
 }
 
 #[test]
-fn a_slice_tells_its_length(rt: HostRuntime) {
-    let numbers = Slice { slice: &[7u16, 9] };
-    let count = match numbers.archived_metadata() {
-        Ok(metadata) => metadata.to_native(),
-        Err(_) => 0,
-    };
-    assert_same(&rt, "the length", count, 2);
+fn slices_and_single_values_come_back(rt: HostRuntime) {
+    let view = viewed::<ArchivedVec<ArchivedU32>>(&rt, ONE_AND_TWO);
+    let slice = view.as_slice();
+    let back = ArchivedSlice::<ArchivedU32>::deserialize_unsized(rt.alloc(), slice, &mut ());
+    let numbers: Vec<u32> = back.expect(&rt, "numbers");
+    assert_same(&rt, "the numbers", numbers.as_slice(), &[1, 2]);
+    let number = viewed::<ArchivedU32>(&rt, b"\x07\0\0\0");
+    let back = ArchivedU32::deserialize_unsized(rt.alloc(), number, &mut ());
+    let back: u32 = back.expect(&rt, "a number");
+    assert_same(&rt, "the number", back, 7);
 }
 
 #[test]
@@ -72,84 +74,55 @@ fn a_slice_is_a_region_behind_what_is_there(rt: HostRuntime) {
     let before = vec![in rt.alloc(); 0xaa].expect(&rt, "memory");
     let mut serializer = Serializer::new(before, rt.alloc(), ());
     let numbers = Slice { slice: &[7u16, 9] };
-    let region = numbers
-        .serialize_unsized(&mut serializer)
-        .expect(&rt, "written");
-    assert_same(&rt, "the position of the vector's region", region, 2);
+    let Ok(count) = numbers.archived_metadata() else {
+        panic!(rt; "no length")
+    };
+    assert_same(&rt, "the length", count.to_native(), 2);
+    let region = numbers.serialize_unsized(&mut serializer);
+    let region = region.expect(&rt, "written");
+    assert_same(
+        &rt,
+        "the region and the end",
+        (region, serializer.pos()),
+        (2, 6),
+    );
+    let bytes = serializer.into_writer();
+    let right = b"\xaa\0\x07\0\x09\0";
+    assert_bytes(&rt, "the bytes", bytes.as_slice(), right);
+}
+
+#[test]
+fn a_vector_is_written_and_resolved_by_parts(rt: HostRuntime) {
+    let mut serializer = Serializer::new(Vec::new(rt.alloc()), rt.alloc(), ());
     let resolver = ArchivedVec::<ArchivedU16>::serialize_from_slice(&[1u16], &mut serializer);
     let Ok(resolver) = resolver else {
         panic!(rt; "not written")
     };
-    assert_same(&rt, "the end", serializer.pos(), 8);
-    let bytes = serializer.into_writer();
-    let right = b"\xaa\0\x07\0\x09\0\x01\0";
-    assert_same(&rt, "the bytes", bytes.as_slice(), right);
     let mut place = [0; 8];
-    let near = Place::new(8, &mut place);
+    let near = Place::new(2, &mut place);
     ArchivedVec::<ArchivedU16>::resolve_from_slice(&[1u16], resolver, near).expect(&rt, "resolved");
     assert_same(&rt, "the vector", place, *b"\xfe\xff\xff\xff\x01\0\0\0");
+}
+
+// Why a vector of three numbers that lie at 4 isn't resolved at a position, if it isn't.
+fn refusal_at(pos: usize, place: &mut [u8; 8]) -> Option<Error> {
+    let resolver = VecResolver::from_pos(4);
+    let place = Place::new(pos, place);
+    ArchivedVec::<ArchivedU32>::resolve_from_len(3, resolver, place).err()
 }
 
 #[test]
 fn owners_are_resolved_by_position(rt: HostRuntime) {
     let mut place = [0; 8];
-    let resolver = VecResolver::from_pos(4);
-    let near = Place::new(16, &mut place);
-    ArchivedVec::<ArchivedU32>::resolve_from_len(3, resolver, near).expect(
-        &rt,
-        "to write a vector",
-    );
-    assert_same(&rt, "the vector", place, *b"\xf4\xff\xff\xff\x03\0\0\0");
-    let resolver = VecResolver::from_pos(0);
-    let far = Place::new(4_294_967_295, &mut place);
-    let resolved = ArchivedVec::<ArchivedU32>::resolve_from_len(3, resolver, far);
-    assert_too_far(&rt, "too far", resolved);
-    assert_same(
-        &rt,
-        "the place after a refused resolve",
-        place,
-        *b"\xf4\xff\xff\xff\x03\0\0\0",
-    );
-}
-
-#[test]
-fn a_box_is_resolved_by_position(rt: HostRuntime) {
+    let near = (refusal_at(16, &mut place), place);
+    assert_same(&rt, "near", near, (None, *b"\xf4\xff\xff\xff\x03\0\0\0"));
+    let far = (refusal_at(4_294_967_295, &mut place), place);
+    let wanted = (Some(Error::OffsetOverflow), *b"\xf4\xff\xff\xff\x03\0\0\0");
+    assert_same(&rt, "too far", far, wanted);
     let mut place = [0; 4];
-    let resolver = BoxResolver::from_pos(8);
     let near = Place::new(4, &mut place);
-    ArchivedBox::<ArchivedU32>::resolve_from_raw_parts(resolver, 0, near).expect(
-        &rt,
-        "to write a box",
-    );
+    let resolver = BoxResolver::from_pos(8);
+    let resolved = ArchivedBox::<ArchivedU32>::resolve_from_raw_parts(resolver, 0, near);
+    resolved.expect(&rt, "a box");
     assert_same(&rt, "the box", place, [4, 0, 0, 0]);
-}
-
-// A vector isn't written to this writer, which is lent; `full` tells its room.
-fn assert_vector_refused<W: Writer>(
-    rt: &impl Abort,
-    alloc: Global,
-    value: &Vec<u32>,
-    writer: &mut W,
-    full: (usize, usize, usize),
-) {
-    let written = to_bytes_in(alloc, value, writer);
-    assert_full(rt, "no room", written, full);
-}
-
-#[test]
-fn a_full_buffer_takes_no_byte(rt: HostRuntime) {
-    let value = vec![in rt.alloc(); 1u32, 2].expect(&rt, "memory");
-    let mut bytes = [0xcc; 6];
-    let mut buffer = Buffer::from(&mut bytes);
-    assert_vector_refused(&rt, rt.alloc(), &value, &mut buffer, (8, 6, 0));
-    assert_same(&rt, "no bytes", buffer.as_slice().len(), 0);
-}
-
-#[test]
-fn a_full_buffer_keeps_the_pieces_before(rt: HostRuntime) {
-    let value = vec![in rt.alloc(); 0u32; 300].expect(&rt, "memory");
-    let mut bytes = [0xcc; 1100];
-    let mut buffer = Buffer::from(&mut bytes);
-    assert_vector_refused(&rt, rt.alloc(), &value, &mut buffer, (176, 1100, 1024));
-    assert_same(&rt, "the first", buffer.as_slice().len(), 1024);
 }

@@ -1,15 +1,15 @@
 // Places of parts: each stands where its type says, and what is written there leaves the other bytes as they are.
 
 ghost use Rattle.std.specs.Prelude.{◌≡◌, ◌+◌, ◌<◌, ◌^◌, Some, length};
-ghost use Rattle.archive_core.specs.PartsLayout.{part_at};
-ghost use Rattle.archive_core.specs.PlacedParts.{ChangesOnly, ZeroedPart};
+ghost use Rattle.archive_check.specs.Members.PartsLayout.{part_at};
+ghost use Rattle.archive_types.specs.Words.PlacedParts.{ChangesOnly, ZeroedPart};
 
 use crate::assertions::assert_same;
-use archive_core::core_impls::ArchivedTuple2;
-use archive_core::error::Error;
-use archive_core::place::Place;
-use archive_core::primitive::{ArchivedU16, ArchivedU32};
-use archive_core::traits::{Archive, Record};
+use archive_check::format::error::Error;
+use archive_tuple::ArchivedTuple2;
+use archive_types::place::Place;
+use archive_types::primitive::{ArchivedU16, ArchivedU32};
+use archive_types::traits::{Archive, Record};
 
 // A byte at 0, and a number at 4.
 type Pair = ArchivedTuple2<u8, ArchivedU32>;

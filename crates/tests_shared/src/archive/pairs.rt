@@ -1,7 +1,7 @@
 // Pairs of any two types, and shared values of any type. What a call at a pair takes is written out here once, and who calls with certain types hands over
 // what these do alone.
 
-use crate::assertions::{assert_accepted, assert_refused, assert_written, read_unless, viewed};
+use crate::assertions::{assert_written, read_unless, viewed};
 use archive_core::api::HighSerializer;
 use archive_core::core_impls::ArchivedTuple2;
 use archive_core::error::Error;
@@ -14,6 +14,9 @@ use std::rc::{Rc, RcSlice};
 
 // Two pointers to one 10; the second may be weak.
 pub(super) const ONE_NUMBER: &[u8; 12] = b"\x0a\0\0\0\xfc\xff\xff\xff\xf8\xff\xff\xff";
+
+// A pointer to a 10, and a null.
+pub(super) const NUMBER_AND_NULL: &[u8; 12] = b"\x0a\0\0\0\xfc\xff\xff\xff\x01\0\0\0";
 
 // A value that is shared under a key.
 pub(super) fn shared<T: Drop>(rt: &impl Abort, alloc: Global, key: u64, value: T) -> Shared<T> {
@@ -34,13 +37,6 @@ pub(super) fn twice<T: Drop>(rt: &impl Abort, alloc: Global, value: T) -> (Share
     (first, second)
 }
 
-// The texts "hello" and "world".
-pub(super) fn hello_and_world(rt: &impl Abort, alloc: Global) -> Vec<String> {
-    let hello = String::from_str(alloc, "hello").expect(rt, "memory");
-    let world = String::from_str(alloc, "world").expect(rt, "memory");
-    vec![in alloc; hello, world].expect(rt, "memory")
-}
-
 // These bytes are the archive of a pair.
 pub(super) fn assert_pair_written<
     A: Serialize<HighSerializer<Vec<u8>, Global>>,
@@ -49,18 +45,19 @@ pub(super) fn assert_pair_written<
     assert_written(rt, alloc, pair, archive);
 }
 
-// What is read back of a pair, or nothing where that is refused for want of memory.
+// What is read back of a pair, or nothing where that is refused so.
 pub(super) fn read_pair<A: Archive + Drop, B: Archive + Drop, D: Entries>(
     rt: &impl Abort,
     alloc: Global,
     archive: &[u8],
     deserializer: &mut D,
+    refusal: Error,
 ) -> Option<(A, B)>
 where
     A::Archived: Deserialize<A, D>,
     B::Archived: Deserialize<B, D>,
 {
-    read_unless(rt, alloc, archive, deserializer, Error::OutOfMemory)
+    read_unless(rt, alloc, archive, deserializer, refusal)
 }
 
 // The views of the parts of a pair of these at the end of the bytes.
@@ -71,20 +68,4 @@ pub(super) fn parts_of_pair<'a, A: Portable, B: Portable>(
 ) -> (Ref<'a, A>, Ref<'a, B>) {
     let pair = viewed::<ArchivedTuple2<A, B>>(rt, alloc, bytes);
     (pair.field::<A>(0), pair.field::<B>(1))
-}
-
-// A pair of these is accepted.
-pub(super) fn assert_pair<A: Portable, B: Portable>(rt: &impl Abort, alloc: Global, bytes: &[u8]) {
-    assert_accepted::<ArchivedTuple2<A, B>>(rt, alloc, bytes);
-}
-
-// A pair of these is refused.
-pub(super) fn assert_pair_refused<A: Portable, B: Portable>(
-    rt: &impl Abort,
-    what: &str,
-    alloc: Global,
-    bytes: &[u8],
-    refusal: Error,
-) {
-    assert_refused::<ArchivedTuple2<A, B>>(rt, what, alloc, bytes, refusal);
 }

@@ -1,8 +1,7 @@
-// Values that are edited in place through shared and weak pointers.
+// Shared and weak pointers in a record: their values are viewed, compared and written over.
 
-use crate::archive::pairs::{ONE_NUMBER, assert_pair, parts_of_pair};
-use crate::assertions::{assert_bytes, assert_holds, assert_same, sealed, sealed_at, viewed};
-use archive_core::api::access_pos;
+use crate::archive::pairs::{NUMBER_AND_NULL, ONE_NUMBER, parts_of_pair};
+use crate::assertions::{assert_bytes, assert_same, sealed, viewed};
 use archive_core::core_impls::ArchivedTuple2;
 use archive_core::primitive::ArchivedU32;
 use archive_core::rc::{ArchivedRc, ArchivedRcWeak, RcFlavor};
@@ -10,99 +9,22 @@ use archive_core::seal::SealedLeaf;
 use archive_core::traits::Portable;
 use archive_core::view::Ref;
 use std::alloc::Global;
+use std::cmp::Ordering;
+use std::hash::{DefaultHasher, Hash, Hasher};
 use std::process::Abort;
 
 type SharedNumber = ArchivedRc<ArchivedU32, RcFlavor>;
 
 type WeakNumber = ArchivedRcWeak<ArchivedU32, RcFlavor>;
 
-// The number that a shared pointer leads to.
-fn number_of(pointer: Ref<'_, SharedNumber>) -> u32 {
-    pointer.get().get()
-}
-
-// And that of a shared pointer at a position.
-fn shared_at(rt: &impl Abort, alloc: Global, bytes: &[u8], pos: usize) -> u32 {
-    number_of(access_pos::<SharedNumber>(alloc, bytes, pos).expect(rt, "a pointer"))
-}
-
-// And that of a weak one; none where it is null.
-fn weak_number_of(pointer: Ref<'_, WeakNumber>) -> Option<u32> {
-    let Some(number) = pointer.upgrade() else {
-        return None;
-    };
-    Some(number.get())
-}
-
-// Writes over the value of a shared pointer at a position.
-fn write_shared<T: Portable + SealedLeaf>(
-    rt: &impl Abort,
-    alloc: Global,
-    bytes: &mut [u8],
-    pos: usize,
-    value: T::Written,
-)
-    requires { T.can_hold value }
-{
-    sealed_at::<ArchivedRc<T, RcFlavor>>(rt, alloc, bytes, pos)
-        .get_seal()
-        .write(value);
-}
-
-// And over that of a weak one at the end. Whether there is one.
-fn write_weak<T: Portable + SealedLeaf>(
-    rt: &impl Abort,
-    alloc: Global,
-    bytes: &mut [u8],
-    value: T::Written,
-) -> bool
-    requires { T.can_hold value }
-{
-    let Some(seal) = sealed::<ArchivedRcWeak<T, RcFlavor>>(rt, alloc, bytes).upgrade_seal() else {
-        return false;
-    };
-    seal.write(value);
-    true
-}
-
-// Two pointers to one number: written through the first, and read through both.
-#[test]
-fn a_shared_value_written_over(rt: HostRuntime) {
-    let alloc = rt.alloc();
-    let mut bytes = *ONE_NUMBER;
-    write_shared::<ArchivedU32>(&rt, alloc, &mut bytes, 4, 42);
-    let right = b"\x2a\0\0\0\xfc\xff\xff\xff\xf8\xff\xff\xff";
-    assert_bytes(&rt, "the bytes", &bytes, right);
-    assert_pair::<SharedNumber, SharedNumber>(&rt, alloc, &bytes);
-    let found = (
-        shared_at(&rt, alloc, &bytes, 4),
-        shared_at(&rt, alloc, &bytes, 8),
-    );
-    assert_same(&rt, "both", found, (42, 42));
-}
-
-#[test]
-fn a_weak_pointers_value_written_over(rt: HostRuntime) {
-    let alloc = rt.alloc();
-    let mut bytes = *ONE_NUMBER;
-    let written = write_weak::<ArchivedU32>(&rt, alloc, &mut bytes, 17);
-    assert_holds(&rt, "written", written);
-    let right = b"\x11\0\0\0\xfc\xff\xff\xff\xf8\xff\xff\xff";
-    assert_bytes(&rt, "the bytes", &bytes, right);
-    assert_pair::<SharedNumber, WeakNumber>(&rt, alloc, &bytes);
-    let found = (
-        shared_at(&rt, alloc, &bytes, 4),
-        weak_number_of(viewed::<WeakNumber>(&rt, alloc, &bytes)),
-    );
-    assert_same(&rt, "both", found, (17, Some(17)));
-}
-
-#[test]
-fn a_null_has_nothing_to_write_over(rt: HostRuntime) {
-    let mut null = [1, 0, 0, 0];
-    let written = write_weak::<ArchivedU32>(&rt, rt.alloc(), &mut null, 17);
-    assert_holds(&rt, "nothing is written through a null", !written);
-    assert_bytes(&rt, "the bytes of the null", &null, &[1, 0, 0, 0]);
+// The numbers that a shared pointer and a weak one lead to; none where the weak one is null.
+fn numbers_of(rt: &impl Abort, alloc: Global, bytes: &[u8]) -> (u32, Option<u32>) {
+    let (first, second) = parts_of_pair::<SharedNumber, WeakNumber>(rt, alloc, bytes);
+    let number = first.get().get();
+    match second.upgrade() {
+        Some(same) => (number, Some(same.get())),
+        None => (number, None),
+    }
 }
 
 // Writes over the value of the shared pointer that is the first part of a pair.
@@ -146,10 +68,38 @@ fn a_records_shared_value_written_over(rt: HostRuntime) {
     let right = b"\x2a\0\0\0\xfc\xff\xff\xff\xf8\xff\xff\xff";
     assert_bytes(&rt, "through the shared one", &bytes, right);
     let written = write_second::<ArchivedU32, SharedNumber>(&rt, alloc, &mut bytes, 17);
-    assert_holds(&rt, "written", written);
-    let right = b"\x11\0\0\0\xfc\xff\xff\xff\xf8\xff\xff\xff";
-    assert_bytes(&rt, "through the weak one", &bytes, right);
-    let (first, second) = parts_of_pair::<SharedNumber, WeakNumber>(&rt, alloc, &bytes);
-    let found = (number_of(first), weak_number_of(second));
+    let right = *b"\x11\0\0\0\xfc\xff\xff\xff\xf8\xff\xff\xff";
+    assert_same(&rt, "through the weak one", (written, bytes), (true, right));
+    let found = numbers_of(&rt, alloc, &bytes);
     assert_same(&rt, "both", found, (17, Some(17)));
+}
+
+#[test]
+fn a_null_has_nothing_to_write_over(rt: HostRuntime) {
+    let mut bytes = *NUMBER_AND_NULL;
+    let written = write_second::<ArchivedU32, SharedNumber>(&rt, rt.alloc(), &mut bytes, 17);
+    assert_same(
+        &rt,
+        "the bytes",
+        (written, bytes),
+        (false, *NUMBER_AND_NULL),
+    );
+    let found = numbers_of(&rt, rt.alloc(), &bytes);
+    assert_same(&rt, "a number and a null", found, (10, None));
+}
+
+// What a view feeds a hasher comes to.
+fn hash_of(view: Ref<'_, SharedNumber>) -> u64 {
+    let mut state = DefaultHasher::new();
+    view.hash(&mut state);
+    state.finish()
+}
+
+#[test]
+fn shared_pointers_are_compared_by_what_they_hold(rt: HostRuntime) {
+    let seven = viewed::<SharedNumber>(&rt, rt.alloc(), b"\x07\0\0\0\xfc\xff\xff\xff");
+    let nine = viewed::<SharedNumber>(&rt, rt.alloc(), b"\x09\0\0\0\xfc\xff\xff\xff");
+    assert_same(&rt, "the order", seven.cmp(&nine), Ordering::Less);
+    let same_hash = hash_of(seven) == hash_of(nine);
+    assert_same(&rt, "the hashes", same_hash, false);
 }

@@ -90,7 +90,8 @@ fn read_both<P: Telling<Shared<u32>>, Q: Telling<SharedStr>>(
     alloc: Global,
     pools: &mut TwoPools<P, Q>,
 ) -> (Shared<u32>, SharedStr) {
-    read_pair(rt, alloc, NUMBER_AND_TEXT, pools).expect(rt, "a pair")
+    let pair = read_pair(rt, alloc, NUMBER_AND_TEXT, pools, Error::OutOfMemory);
+    pair.expect(rt, "a pair")
 }
 
 #[test]

@@ -4,105 +4,88 @@ ghost use Rattle.std.specs.Prelude.{◌<◌, IfOk};
 ghost use Rattle.tests_whole.specs.Wholes.{DenotesNumber};
 
 use crate::archive::HELLO_WORLD;
-use crate::assertions::{assert_refusal, assert_same, viewed};
+use crate::assertions::{assert_refusal, assert_same, text, viewed};
 use archive_core::api::{
     HighValidator, access, access_pos_with_context, access_with_context, check_pos_with_context,
-    deserialize, deserialize_using,
+    deserialize, deserialize_using, from_bytes,
 };
 use archive_core::error::Error;
 use archive_core::primitive::ArchivedU32;
-use archive_core::shape::Schema;
 use archive_core::string::ArchivedString;
-use archive_core::traits::Deserialize;
 use archive_core::view::Ref;
 use std::alloc::Global;
 use std::process::Abort;
 
-#[test]
-fn a_view_gives_its_part_and_is_copied(rt: HostRuntime) {
-    let view = viewed::<ArchivedString>(&rt, rt.alloc(), b"12345678");
-    let copied = view.clone().expect(&rt, "a copy");
-    let again: Ref<'_, ArchivedString> = Ref::at(copied.part());
-    assert_same(&rt, "the position", again.pos(), 0);
-    assert_deserialized(&rt, rt.alloc(), again, "12345678");
-}
-
-// A string is read back by its own call.
-fn assert_deserialized(
-    rt: &impl Abort,
-    alloc: Global,
-    view: Ref<'_, ArchivedString>,
-    wanted: &str,
-) {
-    let value = <ArchivedString as Deserialize<String, ()>>::deserialize(
-        alloc,
-        view,
-        &mut (),
-    ).expect(rt, "a text");
-    assert_same(rt, "the text", value.as_str(), wanted);
-}
-
-#[test]
-fn a_schema_is_kept_and_checks(rt: HostRuntime) {
-    let schema = Schema::of::<ArchivedString>(rt.alloc()).expect(&rt, "a schema");
-    let mut context = HighValidator::new(rt.alloc(), HELLO_WORLD);
-    schema
-        .check(HELLO_WORLD, 12, &mut context)
-        .expect(&rt, "an archive");
-    assert_same(&rt, "regions", context.subtrees(), 2);
-}
-
-// A check of the string says this, with a limit of depth.
-fn assert_too_deep(rt: &impl Abort, alloc: Global, what: &str, depth: usize)
-    requires { 0 < depth }
+// Why the string isn't accepted with so many levels, if it isn't.
+fn refusal_within(alloc: Global, levels: usize) -> Option<Error>
+    requires { 0 < levels }
 {
-    let mut context = HighValidator::with_max_depth(alloc, HELLO_WORLD, Some(depth));
-    let checked = check_pos_with_context::<ArchivedString, HighValidator<'_>>(
+    let mut context = HighValidator::with_max_depth(alloc, HELLO_WORLD, Some(levels));
+    check_pos_with_context::<ArchivedString, HighValidator<'_>>(
+        alloc,
+        HELLO_WORLD,
+        12,
+        &mut context,
+    ).err()
+}
+
+// Where the string at the end is, with three levels.
+fn root_within_three(alloc: Global) -> Option<usize> {
+    let mut context = HighValidator::with_max_depth(alloc, HELLO_WORLD, Some(3));
+    let view = access_with_context::<ArchivedString, HighValidator<'_>>(
+        alloc,
+        HELLO_WORLD,
+        &mut context,
+    );
+    match view {
+        Ok(view) => Some(view.pos()),
+        Err(_) => None,
+    }
+}
+
+// Where that at 12 is, with no limit.
+fn root_within_any(alloc: Global) -> Option<usize> {
+    let mut context = HighValidator::with_max_depth(alloc, HELLO_WORLD, None);
+    let view = access_pos_with_context::<ArchivedString, HighValidator<'_>>(
         alloc,
         HELLO_WORLD,
         12,
         &mut context,
     );
-    assert_refusal(rt, what, checked, Error::ExceededMaximumSubtreeDepth);
+    match view {
+        Ok(view) => Some(view.pos()),
+        Err(_) => None,
+    }
 }
 
 #[test]
 fn a_context_limits_the_depth(rt: HostRuntime) {
-    assert_too_deep(&rt, rt.alloc(), "one", 1);
-    assert_too_deep(&rt, rt.alloc(), "two", 2);
-    let mut context = HighValidator::with_max_depth(rt.alloc(), HELLO_WORLD, Some(3));
-    let view = access_with_context::<ArchivedString, HighValidator<'_>>(
-        rt.alloc(),
-        HELLO_WORLD,
-        &mut context,
-    ).expect(&rt, "three levels");
-    assert_same(&rt, "three", view.as_str(), "hello world");
-}
-
-#[test]
-fn a_context_may_have_no_limit(rt: HostRuntime) {
-    let mut context = HighValidator::with_max_depth(rt.alloc(), HELLO_WORLD, None);
-    let view = access_pos_with_context::<ArchivedString, HighValidator<'_>>(
-        rt.alloc(),
-        HELLO_WORLD,
-        12,
-        &mut context,
-    ).expect(&rt, "any levels");
-    assert_same(
-        &rt,
-        "the root's position, with no limit of depth",
-        view.pos(),
-        12,
-    );
+    let too_deep = Some(Error::ExceededMaximumSubtreeDepth);
+    assert_same(&rt, "one level", refusal_within(rt.alloc(), 1), too_deep);
+    assert_same(&rt, "two levels", refusal_within(rt.alloc(), 2), too_deep);
+    let roots = (root_within_three(rt.alloc()), root_within_any(rt.alloc()));
+    assert_same(&rt, "three and any", roots, (Some(12), Some(12)));
 }
 
 #[test]
 fn a_view_is_read_back(rt: HostRuntime) {
     let view = viewed::<ArchivedString>(&rt, rt.alloc(), b"12345678");
-    let text: String = deserialize(rt.alloc(), view, &mut ()).expect(&rt, "a text");
-    assert_same(&rt, "at first", text.as_str(), "12345678");
-    let again: String = deserialize_using(rt.alloc(), view, &mut ()).expect(&rt, "a text");
-    assert_same(&rt, "again", again.as_str(), "12345678");
+    let copied = view.clone().expect(&rt, "a copy");
+    let again: Ref<'_, ArchivedString> = Ref::at(copied.part());
+    let value: String = deserialize(rt.alloc(), again, &mut ()).expect(&rt, "a text");
+    assert_same(&rt, "at first", value.as_str(), "12345678");
+    let value: String = deserialize_using(rt.alloc(), view, &mut ()).expect(&rt, "a text");
+    assert_same(&rt, "again", value.as_str(), "12345678");
+}
+
+#[test]
+fn a_text_is_read_back_or_refused(rt: HostRuntime) {
+    let value: String = from_bytes(rt.alloc(), HELLO_WORLD, &mut ()).expect(&rt, "a text");
+    let hello = text(&rt, rt.alloc(), "hello world");
+    assert_same(&rt, "the text", &value, &hello);
+    let wrong = b"\xc0\x80\xff\xff\xff\xff\xff\xff";
+    let refused: Result<String, Error> = from_bytes(rt.alloc(), wrong, &mut ());
+    assert_refusal(&rt, "no text", refused, Error::InvalidUtf8);
 }
 
 // The number that an archive denotes, by the contracts of `access` and `get` alone.
