@@ -40,10 +40,10 @@ fn a_pointer_is_written_by_itself(rt: HostRuntime) {
     let pointer = serializer.resolve_unsized_aligned(&text, region);
     let pointer = pointer.expect(&rt, "a pointer");
     assert_same(&rt, "the text", (region, end, pointer), (0, 12, 12));
-    let far = serializer.resolve_unsized_aligned(&7u8, 4_294_967_296);
-    assert_refusal(&rt, "too far", far, Error::OffsetOverflow);
     let pointer = serializer.resolve_unsized_aligned(&7u8, 24);
     let pointer = pointer.expect(&rt, "a pointer");
+    let far = serializer.resolve_unsized_aligned(&7u8, 4_294_967_296);
+    assert_refusal(&rt, "too far", far, Error::OffsetOverflow);
     assert_same(&rt, "a byte", (pointer, serializer.pos()), (20, 24));
     let bytes = serializer.into_writer();
     let right = b"hello world\0\xf4\xff\xff\xff\x0b\0\0\0\x04\0\0\0";

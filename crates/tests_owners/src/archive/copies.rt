@@ -153,25 +153,32 @@ fn written_to<W: Writer>(alloc: Global, numbers: &[u32], writer: &mut W) -> Resu
     }
 }
 
-// A buffer of so many bytes takes a beginning of the numbers, so many bytes long, and no part of the piece behind it.
-fn assert_too_many<const N: usize>(
+// Numbers aren't written as one region to this writer; `full` tells its room.
+fn assert_numbers_refused<W: Writer>(
     rt: &impl Abort,
     alloc: Global,
     numbers: &[u32],
-    (piece, kept): (usize, usize),
+    writer: &mut W,
+    full: (usize, usize, usize),
 ) {
-    let mut bytes = [0xcc; N];
-    let mut buffer = Buffer::from(&mut bytes);
-    let written = written_to(alloc, numbers, &mut buffer);
-    assert_full(rt, "no room", written, (piece, N, kept));
-    assert_same(rt, "what is kept", buffer.as_slice().len(), kept);
+    assert_full(rt, "no room", written_to(alloc, numbers, writer), full);
 }
 
 #[test]
 fn a_piece_is_written_whole_or_not_at_all(rt: HostRuntime) {
-    assert_too_many::<6>(&rt, rt.alloc(), &[1, 2], (8, 0));
+    let mut bytes = [0xcc; 6];
+    let mut buffer = Buffer::from(&mut bytes);
+    assert_numbers_refused(&rt, rt.alloc(), &[1, 2], &mut buffer, (8, 6, 0));
+    assert_same(&rt, "what is kept", buffer.as_slice().len(), 0);
+}
+
+#[test]
+fn the_pieces_before_are_kept(rt: HostRuntime) {
+    let mut bytes = [0xcc; 1100];
+    let mut buffer = Buffer::from(&mut bytes);
     let numbers = numbers(rt.alloc(), 300).expect(&rt, "memory");
-    assert_too_many::<1100>(&rt, rt.alloc(), &numbers, (176, 1024));
+    assert_numbers_refused(&rt, rt.alloc(), &numbers, &mut buffer, (176, 1100, 1024));
+    assert_same(&rt, "what is kept", buffer.as_slice().len(), 1024);
 }
 
 // Where arrays are written to this writer as one region, and why they aren't.
