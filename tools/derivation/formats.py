@@ -101,6 +101,11 @@ def without(type, family):
     return [type]
 
 
+def pooled_of(type):
+    """What a pool keeps of a shared value: a weak pointer is read back as the shared one that it holds."""
+    return replace(type, name="Shared", text="") if type.name == "WeakShared" else type
+
+
 def has_shared(type, family):
     """Whether the type leads to one of these behind a shared pointer."""
     leads = any(arg is not part for arg in type.args for part in without(arg, family) or [None])
@@ -331,7 +336,7 @@ class Formats:
         elif type.own is not None:
             out = [inner for field in self.fields(type) for inner in self.pooled(field)]
         elif type.name in SHARING:
-            out = [replace(type, name="Shared", text="") if type.name == "WeakShared" else type]
+            out = [pooled_of(type)]
         return out + [inner for arg in type.args for inner in self.pooled(arg)]
 
     def pooled_in(self, type, family):
@@ -340,7 +345,7 @@ class Formats:
             return []
         if not any(arg is not part for arg in type.args for part in without(arg, family) or [None]):
             return self.pooled(type)
-        return ([type] if type.own is None and type.name in SHARING else []) + [inner for arg in type.args for inner in self.pooled_in(arg, family)]
+        return ([pooled_of(type)] if type.own is None and type.name in SHARING else []) + [inner for arg in type.args for inner in self.pooled_in(arg, family)]
 
     def writer_bound(self, types, whole=False):
         """What the serializer has to be."""

@@ -159,7 +159,7 @@ class Recursive:
             return f"({' × '.join(self.antt(arg, held) for arg in type.args)})"
         if type.name == "Option":
             return f"(Option {self.antt(type.args[0], held)})"
-        return f"(Shared {self.antt(type.args[0], held)})" if type.name == "Shared" else f"({type.name} {self.antt(type.args[0], held)} Global)"
+        return f"({type.name} {self.antt(type.args[0], held)})" if type.name in ("Shared", "WeakShared") else f"({type.name} {self.antt(type.args[0], held)} Global)"
 
     def plain_types(self, body):
         """The lines that bring in the types of plain parts that `tools/derive` wrote."""

@@ -10,7 +10,7 @@ other have one, in which the toolchain puts enums before structs and each in the
 
 import re
 
-from . import records, variants
+from . import records, recursive_weak, variants
 from . import recursive_chains as chains
 from .common import chain, doc_lines, in_turn, infix, taken_apart
 from .common import kept_of as handed_on
@@ -46,7 +46,7 @@ READ_ROWS = """    requires {{ IsPartOf ⟦<{X} as ArchivePointee>⟧ part }}
 def text(it):
     bring(it)
     pieces = [types(it), pointee(it), "\n".join(row_format(it, type) for type in it.rows), "" if it.is_holder else stands_for(it), portable(it), view_of(it), resolver(it)]
-    pieces += [boxed_slices(it), shared_pointers(it), archive(it)]
+    pieces += [boxed_slices(it), recursive_weak.calls(it), shared_pointers(it), archive(it)]
     if it.is_chain:
         chains.refuse_derived_drop(it.declaration)
         chains.bring(it)
@@ -235,8 +235,8 @@ def expression(it, type):
         return f"{EXPR}::Box(Box::new(alloc, archive_core::shape::Pointee::One({item}))?)"
     if type.name == "BoxSlice":
         return f"{EXPR}::Box(Box::new(alloc, archive_core::shape::Pointee::Run({item}))?)"
-    if type.name in ("Option", "Shared"):
-        return f"{type.name.lower()}_expression(alloc, {item})?"
+    if type.name in ("Option", "Shared", "WeakShared"):
+        return f"{'weak' if type.name == 'WeakShared' else type.name.lower()}_expression(alloc, {item})?"
     return f"{EXPR}::Vec(Box::new(alloc, {item})?)"
 
 
@@ -411,7 +411,7 @@ def kept(it, type):
         return f"{type.own.name}Resolver"
     if type.name == "Option":
         return f"Option<{kept(it, type.args[0])}>"
-    return {"Box": "BoxResolver", "BoxSlice": "BoxResolver", "Shared": "RcResolver", "Vec": "VecResolver"}[type.name]
+    return {"Box": "BoxResolver", "BoxSlice": "BoxResolver", "Shared": "RcResolver", "Vec": "VecResolver", "WeakShared": "RcWeakResolver"}[type.name]
 
 
 def kept_of(it, case):
@@ -596,6 +596,18 @@ fn serialize_{name}<{it.writer}>(value: &{T}, serializer: &mut S) -> Result<BoxR
 fn serialize_{name}<{it.writer}>(value: &{T}, serializer: &mut S) -> Result<RcResolver, Error>
 {contract(it, type, "value")}{{
 {behind_shared(it, type, "value", 4, "Ok({})")}}}
+"""
+    if type.name == "WeakShared":
+        return f"""// Writes what a weak pointer leads to, if its key is unknown.
+#[cycle(serialize_{it.family.n})]
+fn serialize_{name}<{it.writer}>(value: &{T}, serializer: &mut S) -> Result<RcWeakResolver, Error>
+{contract(it, type, "value")}{{
+    match &value.value {{
+        None => Ok(None),
+        Some(whole) => {{
+{behind_shared(it, type, "whole", 12, "Ok(Some({}))")}        }}
+    }}
+}}
 """
     if type.name == "Option" and it.terms.is_shared(item):
         return f"""// Writes what an option of a shared pointer leads to, if its key is unknown.
@@ -1005,6 +1017,8 @@ def owner_reading(it, type):
         }}
     }}
 """
+    elif type.name == "WeakShared":
+        body = recursive_weak.reading(it, type)
     elif type.name == "Box":
         body = f"""    let view: Ref<'_, ArchivedBox<{inner}>> = Ref::at(part);
     let value = read_{it.word(item)}(alloc, before_box(view).part(), {levels}deserializer)?;
@@ -1033,7 +1047,7 @@ def owner_reading(it, type):
     }}
     Ok({made})
 """
-    whats = {"Box": "a box", "BoxSlice": "a boxed slice", "Option": "an option", "Vec": "a vector", "Shared": "a shared value"}
+    whats = {"Box": "a box", "BoxSlice": "a boxed slice", "Option": "an option", "Vec": "a vector", "Shared": "a shared value", "WeakShared": "a weak pointer"}
     told = "Reads a tuple back, part by part." if type.name == "tuple" else f"Reads {whats[type.name]} back."
     return reader(it, it.word(type), T, read_contract(it, type), body, told)
 

@@ -5,7 +5,9 @@ takes memory of the machine's stack for a block of bytes. They end before the bo
 of one type, since what it leads to has no length that any could be asked for.
 """
 
+from . import recursive_weak
 from .recursive_refusals import leads_back
+from .recursive_weak import weak_at
 
 
 def has_boxed_slice(declaration, type):
@@ -170,7 +172,7 @@ def shared_at(type):
     """The hollow part of a shared pointer, or of an option of one."""
     if type.name == "Option":
         return f"Option{shared_at(type.args[0])}"
-    return f"Shared{type.args[0].own.name}At"
+    return weak_at(type) if type.name == "WeakShared" else f"Shared{type.args[0].own.name}At"
 
 
 def shared_pointers(it):
@@ -179,7 +181,7 @@ def shared_pointers(it):
     for other in it.family.members:
         for type in (type for case in other.cases for type in case.types if it.terms.is_pointer(type)):
             inner = type.args[0] if type.name == "Option" else type
-            for part, text in ((inner, shared_pointer), (type, option_pointer)):
+            for part, text in ((inner, weak_pointer if inner.name == "WeakShared" else shared_pointer), (type, option_pointer)):
                 if shared_at(part) not in done:
                     done.append(shared_at(part))
                     out += [text(it, part)] if other is it else []
@@ -188,17 +190,23 @@ def shared_pointers(it):
 
 def shared_pointer(it, type):
     f, name, X = it.formats, shared_at(type), it.formats.archived(type.args[0])
-    f.ghost("Arrays", "named_twice", "twice_keyed", "no_two")
-    f.ghost("Value", "shared_value")
-    source = "".join(f"    ghost {member} = {{ {its} }};\n\n" for member, its in HOLLOW)
     flat = f"λ _ r. rc_flat r (one {it.terms.shape(type.args[0])}) 0"
     body = f"        ArchivedRc::<{X}, RcFlavor>::resolve_from_ref(self, resolver, Place::new(pos, bytes))\n"
     return f"""// A shared pointer to a value that was written before. It can be resolved, and nothing else: it means nothing.
 #[derive(Drop)]
 struct {name};
 
-impl ArchiveUnsized for {name} {{
-    type Archived = {X};
+{hollow_region(f, name, X)}
+{hollow_source(name, f.archived(type), "RcResolver", flat, 4, body)}"""
+
+
+def hollow_region(f, name, archived):
+    """The impl by which a hollow part is a source that a pointer leads to."""
+    f.ghost("Arrays", "named_twice", "twice_keyed", "no_two")
+    f.ghost("Value", "shared_value")
+    source = "".join(f"    ghost {member} = {{ {its} }};\n\n" for member, its in HOLLOW)
+    return f"""impl ArchiveUnsized for {name} {{
+    type Archived = {archived};
 
     ghost source_length = {{ λ _. 0 }};
 
@@ -209,8 +217,11 @@ impl ArchiveUnsized for {name} {{
         Ok(())
     }}
 }}
+"""
 
-{hollow_source(name, f.archived(type), "RcResolver", flat, 4, body)}"""
+
+def weak_pointer(it, type):
+    return recursive_weak.hollow(it, type, hollow_region, hollow_source)
 
 
 def option_pointer(it, type):

@@ -3,7 +3,7 @@
 import re
 
 from . import recursive_chain_proofs as chains
-from . import recursive_code, recursive_hollow
+from . import recursive_code, recursive_hollow, recursive_weak
 from .common import numbered
 from .formats import snake
 from .recursive_holders import laid
@@ -229,7 +229,7 @@ def writing(family):
     for it in family.members:
         for type in it.owners:
             if it.is_written(type):
-                {"Box": box_written, "BoxSlice": run_written, "Option": option_written, "Shared": pointer_written, "Vec": run_written}[type.name](it, type, answers)
+                {"Box": box_written, "BoxSlice": run_written, "Option": option_written, "Shared": pointer_written, "Vec": run_written, "WeakShared": weak_written}[type.name](it, type, answers)
         if it.is_record:
             record_written(it, answers)
             continue
@@ -523,6 +523,10 @@ def pointer_written(it, type, answers):
     answers.answer(function, "returns-in-Ok-finish_shared-clause-goes_on", its.goes)
 
 
+def weak_written(it, type, answers):
+    recursive_weak.written(it, type, answers, BehindShared)
+
+
 def run_owner_written(it, type, answers):
     item = type.args[0]
     each, function = f"serialize_each_{it.word(item)}", f"serialize_{it.word(type)}"
@@ -604,7 +608,7 @@ def reading(family):
         if not it.is_holder:
             measures(it, answers)
         for type in it.owners:
-            {"Box": box_read, "BoxSlice": run_read, "Option": option_read, "Vec": run_read, "Shared": shared_read, "tuple": row_read}[type.name](it, type, answers)
+            {"Box": box_read, "BoxSlice": run_read, "Option": option_read, "Vec": run_read, "Shared": shared_read, "WeakShared": recursive_weak.read, "tuple": row_read}[type.name](it, type, answers)
         for case in it.cases:
             here = answers if it.is_record or any(case.leads_back) else Answers(family, f"read_{case.n}")
             parts_read(it, case, here, f"read_{case.n}" if here is answers and not it.is_holder else "")
@@ -851,6 +855,7 @@ def files(family):
         if not it.is_holder:
             out.update(defining(it))
             out.update(recursive_hollow.files(it))
+            out.update(recursive_weak.files(it))
     if family.first.is_chain:
         out.update(chains.files(family.first))
         return out

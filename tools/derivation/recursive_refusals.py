@@ -84,8 +84,11 @@ def check_owner(it: Declaration, type: Type, line: int):
     """What leads back is a box or a shared pointer, an option of one, a vector or a boxed slice of these or of the type itself, a vector of tuples, or a box of a vector."""
     for row in rows_in(it, type):
         check_row(it, row, line)
-    if is_pointer(it, type) or is_shared(it, type) or is_list(it, type) or is_named(type, "Box") and is_named(type.args[0], "Vec") and is_list(it, type.args[0]):
+    if is_pointer(it, type) or is_shared(it, type) or is_weak(it, type) or is_list(it, type) or is_named(type, "Box") and is_named(type.args[0], "Vec") and is_list(it, type.args[0]):
         return
+    if is_named(type, "WeakShared") and is_member(it, type.args[0]):
+        said = f"`WeakShared` around `{it.name}` is written in a struct alone, if no other type is recursive with it"
+        raise Refused(it.path, line, f"{said}; write an `Option` of a `Shared`")
     written = (
         f"a `Box<{it.name}>`, a `Shared<{it.name}>`, an `Option` of one, a `Vec` or a `BoxSlice` of `{it.name}`, of `Box<{it.name}>`, `Option<Box<{it.name}>>` or `Shared<{it.name}>`,"
         " a `Vec` of tuples, or a `Box` of such a `Vec` is"
@@ -136,6 +139,11 @@ def is_shared(it: Declaration, type: Type) -> bool:
     """Whether it is a shared pointer to a type of the family, or an option of one."""
     pointer = type.args[0] if is_named(type, "Option") else type
     return is_named(pointer, "Shared") and is_member(it, pointer.args[0])
+
+
+def is_weak(it: Declaration, type: Type) -> bool:
+    """Whether it is a weak pointer to a struct that leads back to no other type."""
+    return it.kind == "struct" and len(it.family) == 1 and is_named(type, "WeakShared") and is_member(it, type.args[0])
 
 
 def is_list(it: Declaration, type: Type) -> bool:

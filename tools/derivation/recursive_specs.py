@@ -6,6 +6,7 @@ from .formats import ALIGNS
 from .model import Type
 from .recursive_plain import has_boxed, items_of, product
 from .recursive_terms import around, brought, brought_owns, something, stem
+from .recursive_weak import held_in, option_of, written_out
 
 
 def of_each(family, piece):
@@ -17,7 +18,7 @@ def of_each(family, piece):
 # What a proof names that each definition of a family is reached.
 REACHED = [
     ("archive_core.specs.Defined", "Involves involves involves_through mentions_held mentions_first mentions_later mentions_parts mentions_variant mentions_other"),
-    ("archive_core.specs.Defined", "mentions_choice mentions_boxed mentions_one mentions_run mentions_vec mentions_shared mentions_array holds_name"),
+    ("archive_core.specs.Defined", "mentions_choice mentions_boxed mentions_one mentions_run mentions_vec mentions_shared mentions_weak mentions_array holds_name"),
     ("archive_core.specs.Definitions", "listed"),
     ("std.proofs.Common", "zero suc arith"),
 ]
@@ -191,6 +192,7 @@ AROUND = {
     ("Result", 1): "mentions_choice (mentions_other (mentions_variant (mentions_first ({}))))",
     ("Shared", 0): "mentions_shared (mentions_one ({}))",
     ("Vec", 0): "mentions_vec ({})",
+    ("WeakShared", 0): "mentions_weak (mentions_one ({}))",
 }
 
 
@@ -470,9 +472,25 @@ def splits(it, case):
     """The values of the parts, each option as nothing and as something: a layer that is mapped computes at these alone."""
     out = [[]]
     for type, name in zip(case.types, case.names):
-        each = ["None", f"(Some {name})"] if it.terms.is_option(type) else [name]
+        each = ["None", f"(Some {name})"] if is_split(it, type) else [name]
+        each = list(map(written_out, each)) if it.terms.is_weak(type) else each
         out = [values + [one] for values in out for one in each]
     return out
+
+
+def is_split(it, type):
+    """Whether it computes at nothing and at something alone: an option, or a weak pointer, which holds one."""
+    return it.terms.is_option(type) or it.terms.is_weak(type)
+
+
+def wholes(it):
+    """The parts of a record by their names: of a weak pointer the name is that of its option."""
+    return [written_out(name) if it.terms.is_weak(type) else name for type, name in zip(it.types, it.names)]
+
+
+def arguments_at(it, place):
+    """The same parts of a record in a place."""
+    return " ".join(f"{place}.{field.name}{'.value' if it.terms.is_weak(field.type) else ''}" for field in it.fields)
 
 
 def layer_of(it, case, values):
@@ -485,7 +503,8 @@ def layer_of(it, case, values):
 def arguments_of(it, case, held=None):
     """The parts as arguments. A type that the crate can't name antt finds by what is made of the parts, as a boxed slice's."""
     unnamed = lambda type: has_boxed(type) or type.name == "BoxSlice" and it.terms.leads_back(type)
-    return "".join(f" ({name} : {'_' if unnamed(type) else it.antt(type, held)})" for name, type in zip(case.names, case.types))
+    option = lambda type: Type("Option", [Type("Shared", type.args)]) if it.terms.is_weak(type) else type
+    return "".join(f" ({name} : {'_' if unnamed(type) else it.antt(option(type), held)})" for name, type in zip(case.names, case.types))
 
 
 def said_by(family, which):
@@ -554,12 +573,12 @@ def rolled(it, which, type, word):
     if not it.is_record:
         lines = "".join(f"{n}_{word}_roll {layer_of(it, case, values)} = {step(case, layer_of(it, case, values), values)}\n" for case in it.cases for values in splits(it, case))
         return said + opened_ + lines
-    if not any(map(it.terms.is_option, it.types)):
+    if not any(is_split(it, type_) for type_ in it.types):
         return f"{said}{opened_}{n}_{word}_roll t = {step(it, 't', it.binders)}\n"
-    whole = layer_of(it, it, it.names)
-    lines = "".join(f"{n}_{word}_at {' '.join(values)} = {step(it, layer_of(it, it, values), values)}\n" for values in splits(it, it))
+    whole = layer_of(it, it, wholes(it))
+    lines = "".join(f"{n}_{word}_at {' '.join(map(option_of, values))} = {step(it, layer_of(it, it, values), values)}\n" for values in splits(it, it))
     at = f"{n}_{word}_at :{arguments_of(it, it)} → {claim.format(whole)}\n{opened_}{lines}\n"
-    return f"{at}{said}{n}_{word}_roll x = {n}_{word}_at {' '.join(f'x.{field.name}' for field in it.fields)}\n"
+    return f"{at}{said}{n}_{word}_roll x = {n}_{word}_at {arguments_at(it, 'x')}\n"
 
 
 def opened(it, which, word):
@@ -641,12 +660,12 @@ def law_of_layer(it, law, text):
     proof = keyed if law == "keyed" else planned
     if not it.is_record:
         return [said + "".join(f"{n}_{law}_layer {layer_of(it, case, values)} = {proof(it, case, values)}\n" for case in it.cases for values in splits(it, case))]
-    if not any(map(it.terms.is_option, it.types)):
+    if not any(is_split(it, type) for type in it.types):
         return [f"{said}{n}_{law}_layer y = {proof(it, it, [f'y.{field.name}' for field in it.fields])}\n"]
-    lines = "".join(f"{n}_{law}_at {' '.join(values)} = {proof(it, it, values)}\n" for values in splits(it, it))
+    lines = "".join(f"{n}_{law}_at {' '.join(map(option_of, values))} = {proof(it, it, values)}\n" for values in splits(it, it))
     return [
-        f"{n}_{law}_at :{arguments_of(it, it, held)} → {claim.format(layer_of(it, it, it.names))}\n{lines}",
-        f"{said}{n}_{law}_layer y = {n}_{law}_at {' '.join(f'y.{field.name}' for field in it.fields)}\n",
+        f"{n}_{law}_at :{arguments_of(it, it, held)} → {claim.format(layer_of(it, it, wholes(it)))}\n{lines}",
+        f"{said}{n}_{law}_layer y = {n}_{law}_at {arguments_at(it, 'y')}\n",
     ]
 
 
@@ -684,6 +703,8 @@ def held_keys(it, type, x):
         return held_keys(it, type.args[0], f"{x}.value")
     if t.is_option(type):
         return "[]" if x == "None" else held_keys(it, type.args[0], something(x))
+    if t.is_weak(type):
+        return held_keys(it, Type("Shared", type.args), held_in(x)) if held_in(x) else "[]"
     if t.is_shared(type):
         item, y = type.args[0], f"{x}.value.value"
         return f"(rc_keys {x}.key (one {t.shape(item)}) 0 {held_meaning(it, item, y)} {held_keys(it, item, y)})"
@@ -702,6 +723,8 @@ def held_meaning(it, type, x):
         return f"(box {held_meaning(it, type.args[0], f'{x}.value')})"
     if t.is_option(type):
         return "(case 0 no_value)" if x == "None" else f"(case_of 1 {held_meaning(it, type.args[0], something(x))})"
+    if t.is_weak(type):
+        return held_meaning(it, Type("Shared", type.args), held_in(x)) if held_in(x) else "null"
     if t.is_shared(type):
         return f"(shared_value {x}.key)"
     if t.leads_back(type) and not t.is_member(type.args[0]):

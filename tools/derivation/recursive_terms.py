@@ -5,6 +5,7 @@ vector, of which an element may be a tuple of plain parts and of values of the t
 `meaning(type, "a0", m)`, where `m` is the meaning of the type itself.
 """
 
+from . import recursive_weak
 from .formats import snake
 from .model import Type
 from .recursive_plain import Plain, inner_in, items_of, product
@@ -77,19 +78,23 @@ class Terms:
         return any(self.has_shared(field.type) for it in self.declaration.family for field in it.all_fields())
 
     def has_shared(self, type):
-        return self.leads_back(type) and (self.is_shared(type) or any(map(self.has_shared, type.args)))
+        return self.leads_back(type) and (self.is_shared(type) or self.is_weak(type) or any(map(self.has_shared, type.args)))
 
     def is_shared(self, type):
         """Whether it is a shared pointer that leads back."""
         return type.name == "Shared" and self.leads_back(type)
+
+    def is_weak(self, type):
+        """Whether it is a weak pointer that leads back."""
+        return type.name == "WeakShared" and self.leads_back(type)
 
     def is_row(self, type):
         """Whether it is a tuple that leads back."""
         return type.name == "tuple" and self.leads_back(type)
 
     def is_pointer(self, type):
-        """Whether it is a shared pointer that leads back, or an option of one."""
-        return self.is_shared(type) or self.is_option(type) and self.is_shared(type.args[0])
+        """Whether it is a shared pointer that leads back, an option of one, or a weak one."""
+        return self.is_shared(type) or self.is_weak(type) or self.is_option(type) and self.is_shared(type.args[0])
 
     def is_option(self, type):
         """Whether it is an option of a box, or of a shared pointer, that leads back."""
@@ -114,7 +119,7 @@ class Terms:
             return f"{self.word(type)}_shape"
         item = self.shape(type.args[0])
         shapes = {"Box": f"(boxed (one {item}))", "BoxSlice": f"(boxed (run {item}))", "Option": f"(option_shape {item})", "Vec": f"(vec {item})"}
-        return {**shapes, "Shared": f"(shared rc_flavor (one {item}))"}[type.name]
+        return {**shapes, "Shared": f"(shared rc_flavor (one {item}))", "WeakShared": f"(weak rc_flavor (one {item}))"}[type.name]
 
     def definitions(self, type):
         if not self.leads_back(type):
@@ -150,6 +155,8 @@ class Terms:
         item = type.args[0]
         if type.name == "Shared":
             return f"(shared_value {x}.key)"
+        if type.name == "WeakShared":
+            return self.of_weak("meaning", type, x, m)
         if type.name == "Box":
             return f"(box {self.meaning(item, f'{x}.value', m)})"
         if type.name == "Option":
@@ -167,11 +174,23 @@ class Terms:
         if type.name == "Shared":
             y = f"{x}.value.value"
             return f"(rc_keys {x}.key (one {self.shape(item)}) 0 {self.meaning(item, y, meant(k))} {self.keys(item, y, k)})"
+        if type.name == "WeakShared":
+            return self.of_weak("keys", type, x, k)
         if type.name == "Box":
             return self.keys(item, f"{x}.value", k)
         if type.name == "Option":
             return f"(option_keys {self.function('keys', item, k)} {x})"
         return f"(each_keys {self.function('keys', item, k)} {items_of(type, x)})"
+
+    def of_weak(self, which, type, x, m):
+        """What is said of a weak pointer: as of the shared one in it, or of nothing."""
+        said = getattr(self, which)
+        shared = Type("Shared", type.args)
+        if not recursive_weak.is_written_out(x):
+            lemma = {"meaning": "weak_value", "keys": "option_keys"}[which]
+            return f"({lemma} (λ s. {said(shared, 's', m)}) {x}.value)"
+        held = recursive_weak.held_in(x)
+        return said(shared, held, m) if held else {"meaning": "null", "keys": "[]"}[which]
 
     def flat(self, type, x, r):
         if self.is_member(type):
@@ -183,6 +202,8 @@ class Terms:
         item = self.shape(type.args[0])
         if type.name == "Shared":
             return f"(rc_flat {r} (one {item}) 0)"
+        if type.name == "WeakShared":
+            return f"(weak_flat rc_flavor (one {item}) 0 {r})"
         if type.name == "Box":
             return f"(box (hole (to_pointee {r} (one {item}) 0)))"
         if type.name == "Option" and self.is_shared(type.args[0]):
@@ -198,7 +219,7 @@ class Terms:
             return self.plain.belongs(type, x, r)
         if type.name == "tuple":
             return self.parts_belong(type.args, places(type, x), r)
-        if type.name in ("Box", "Option", "Shared"):
+        if type.name in ("Box", "Option", "Shared", "WeakShared"):
             return "⊤"
         return f"(length {items_of(type, x)} ≤ 4294967295)"
 
@@ -215,6 +236,9 @@ class Terms:
         item = type.args[0]
         if type.name == "Shared":
             return f"(rc_keyed {x}.key (one {self.shape(item)}) 0 _ _ {self.keyed(item, f'{x}.value.value')})"
+        if type.name == "WeakShared":
+            held = recursive_weak.held_in(x)
+            return self.keyed(Type("Shared", type.args), held) if held else "(weak_keyed {A = ⊥} (λ u. []) (λ u. null) (λ u. absurd u) None)"
         if type.name == "Box":
             return f"(box_keyed _ _ {self.keyed(item, f'{x}.value')})"
         if type.name == "Option":
@@ -240,6 +264,8 @@ class Terms:
         D, X = self.definitions(type), self.shape(item)
         if type.name == "Shared":
             return f"(rc_one_planned {D} {x}.key (one {X}) {X} refl _ _ {self.planned(item, f'{x}.value.value', held)})"
+        if type.name == "WeakShared":
+            return self.weak_planned(type, x, held)
         if type.name == "Box":
             return f"(boxed_one_planned {D} (one {X}) {X} refl _ _ {self.planned(item, f'{x}.value', held)})"
         if type.name == "Option" and held:
@@ -259,13 +285,27 @@ class Terms:
             return f"({owner} _ _ _ (run_region_planned {D} {X} _ _ _ ({its})))"
         return f"({owner} _ _ _ (slice_planned {D} {X} {self.said(item)} {self.plan(item)} {items}))"
 
+    def weak_planned(self, type, x, held):
+        """A proof that there is a plan of a weak pointer; of one in a layer, by whether it is null."""
+        D, X, shared = self.definitions(type), self.shape(type.args[0]), Type("Shared", type.args)
+        head = f"{D} rc_flavor (one {X})"
+        if not held:
+            k, m = (f"(λ s. {getattr(self, which)(shared, 's', self.own(which))})" for which in ("keys", "meaning"))
+            return f"(weak_planned {head} {k} {m} (λ s. {self.planned(shared, 's', False)}) {x}.value)"
+        y = recursive_weak.held_in(x)
+        if not y:
+            return f"(weak_planned {{A = ⊥}} {head} (λ u. []) (λ u. null) (λ u. absurd u) None)"
+        keys, meaning = self.held_two(shared, y)
+        return f"(weak_planned {{A = Unit {{0}}}} {head} (λ u. {keys}) (λ u. {meaning}) (λ u. {self.planned(shared, y, True)}) (Some tt))"
+
     def held_pair(self, type, x):
         """The keys and the meaning of a shared pointer in a layer of which each value has a law beside it; antt finds those of a box."""
-        if not self.is_shared(type):
-            return "_ _"
+        return " ".join(self.held_two(type, x)) if self.is_shared(type) else "_ _"
+
+    def held_two(self, type, x):
         item, y = type.args[0], f"{x}.value.value.0"
         keys, meaning = (applied(self.own(which), item, y) for which in ("keys", "meaning"))
-        return f"(rc_keys {x}.key (one {self.shape(item)}) 0 {meaning} {keys}) (shared_value {x}.key)"
+        return f"(rc_keys {x}.key (one {self.shape(item)}) 0 {meaning} {keys})", f"(shared_value {x}.key)"
 
     def row_planned(self, type, x, held):
         """A proof that there are plans of the parts of a tuple."""
@@ -401,10 +441,12 @@ PRELUDE = {
     "archive_core.specs.SelfCheck.Owners": "one_reaches run_reaches vec_reaches",
     "archive_core.specs.Variants": "case_of",
     "archive_core.specs.VariantsLayout": "IsChoice is_recursive_choice no_variant_laid_out no_variants_reached variant_laid_out variant_reached",
-    "archive_core.specs.Shape": "Name Shape Parts Variants named choice parts boxed shared array vec sorted_map str one run text leaf unit bool char non_zero unsigned signed leaf_key str_key part no_part variant no_variant",
+    "archive_core.specs.Shape": "Name Shape Parts Variants named choice parts boxed shared array weak vec sorted_map str one run text leaf unit bool char non_zero unsigned signed leaf_key str_key part no_part variant no_variant",
     "archive_core.specs.SharedSources": "rc_flavor rc_flat rc_keys rc_keyed rc_one_planned",
     "archive_core.specs.declared.rc.sources.Shared": "Shared",
-    "archive_core.specs.Value": "Value Values case product list box hole number value no_value text_value shared_value",
+    "archive_core.specs.declared.rc.sources.weak.WeakShared": "WeakShared",
+    "archive_core.specs.SharedLaws": "weak_value weak_flat weak_keyed weak_planned",
+    "archive_core.specs.Value": "Value Values case product list box hole number value no_value text_value null shared_value",
     "archive_core.specs.Keyed": "each_keyed case_keyed record_keyed nothing_keyed part_keyed number_keyed text_keyed box_keyed",
     "archive_core.specs.Choices": "option_has_layout option_reached option_shape",
     "archive_core.specs.Options": "option_keys option_meaning option_flat OptionBelongs option_keyed option_planned",

@@ -1,48 +1,57 @@
 //! The knots of a graph.
 
-use archive_core::rc::Shared;
+use archive_core::rc::{Shared, WeakShared};
 
 /// A number, and the knots that it leads to; several may lead to one.
 #[derive(Debug, PartialEq, Drop)]
 pub struct Knot {
     /// Its number.
     pub id: u32,
+    /// Where it was first found, if anywhere.
+    pub from: WeakShared<Knot>,
     /// What it leads to.
     pub next: Vec<Shared<Knot>>,
 }
 
 // Below this line all is written by tools/derive: change what is above it, and run it again.
 
+ghost use Rattle.archive_core.specs.Arrays.{named_twice, no_two, twice_keyed};
 ghost use Rattle.archive_core.specs.CallOutcomes.{ResolvesAs};
 ghost use Rattle.archive_core.specs.Causes.{IsRefused};
 ghost use Rattle.archive_core.specs.Definitions.{no_definition};
+ghost use Rattle.archive_core.specs.Entries.{ReadsBack};
 ghost use Rattle.archive_core.specs.Error.TheVariants.{OutOfMemory};
 ghost use Rattle.archive_core.specs.Expressions.{shape_of, shapes_in};
 ghost use Rattle.archive_core.specs.Fields.{field_in};
 ghost use Rattle.archive_core.specs.PlannedOwners.{one_planned};
 ghost use Rattle.archive_core.specs.Plans.{Serialized};
+ghost use Rattle.archive_core.specs.Pooled.{Entries as Known};
+ghost use Rattle.archive_core.specs.PooledParts.{Awaits};
+ghost use Rattle.archive_core.specs.Pooling.{ReadsShared, RefusesShared};
 ghost use Rattle.archive_core.specs.Runs.{EachBelongs, IsRunRefused, SerializedRun, each_flat, each_keys, each_meaning};
 ghost use Rattle.archive_core.specs.SealsWritten.{IsSealOf, SealsPart};
 ghost use Rattle.archive_core.specs.Seen.{IsPartOf, RefusesPart, ShowsValueOf};
 ghost use Rattle.archive_core.specs.SelfCheck.Laws.{by_schema};
-ghost use Rattle.archive_core.specs.Shape.{one, part, parts, shared, vec};
+ghost use Rattle.archive_core.specs.Shape.{one, part, parts, shared, vec, weak};
+ghost use Rattle.archive_core.specs.SharedLaws.{weak_flat};
 ghost use Rattle.archive_core.specs.SharedSources.{rc_flavor};
 ghost use Rattle.archive_core.specs.Sources.{Read, ReadsAs};
-ghost use Rattle.archive_core.specs.Value.{value};
+ghost use Rattle.archive_core.specs.Value.{shared_value, value};
+ghost use Rattle.archive_core.specs.Viewed.{Viewed};
 ghost use Rattle.archive_core.specs.Writing.{ZeroedPlace};
 ghost use Rattle.archive_core.specs.Written.{GoesOn};
 ghost use Rattle.recursive_graphs.specs.KnotShape.{knot_definitions, knot_has_layout, knot_has_parts, knot_is_align, knot_layout, knot_no_others, knot_parts, knot_shape, knot_stands_for};
 ghost use Rattle.std.proofs.Common.{lit≤};
-ghost use Rattle.std.specs.Prelude.{IfErr, IfOk, None, Some, length, refl, ◌+◌, ◌≡◌, ◌≤◌};
+ghost use Rattle.std.specs.Prelude.{IfErr, IfNone, IfOk, IfSome, List, None, Some, length, refl, ℕ, ⊤, ◌+◌, ◌≡◌, ◌≤◌};
 
 use archive_core::error::Error;
 use archive_core::place::Place;
-use archive_core::pooling::Pooling;
+use archive_core::pooling::{Pooled, Pooling, PoolingState};
 use archive_core::primitive::ArchivedU32;
-use archive_core::rc::{ArchivedRc, RcFlavor};
+use archive_core::rc::{ArchivedRc, ArchivedRcWeak, RcFlavor, RcWeakResolver};
 use archive_core::recursive::{
     VecAt, before_vec, begin_reading, begin_shared, define_name, finish_reading, finish_shared,
-    part_behind, part_of_record, read_part, record_of, resolve_named_record_2, seal_of_field,
+    part_behind, part_of_record, read_part, record_of, resolve_named_record_3, seal_of_field,
     serialize_inner_slice, serialize_part, shared_expression, view_of_field,
 };
 use archive_core::seal::Seal;
@@ -58,12 +67,15 @@ use archive_core::vec::{ArchivedVec, VecResolver};
 use archive_core::view::{RawView, Ref};
 use std::alloc::{AllocError, Global};
 
-/// An archived `Knot`: 12 bytes at a multiple of 4. It is validated by its schema.
+/// An archived `Knot`: 16 bytes at a multiple of 4. It is validated by its schema.
 pub struct ArchivedKnot;
 
 type KnotParts = (
     ArchivedU32,
-    (ArchivedVec<ArchivedRc<ArchivedKnot, RcFlavor>>, ()),
+    (
+        ArchivedRcWeak<ArchivedKnot, RcFlavor>,
+        (ArchivedVec<ArchivedRc<ArchivedKnot, RcFlavor>>, ()),
+    ),
 );
 
 impl ArchivePointee for ArchivedKnot {
@@ -86,11 +98,12 @@ fn knot_expressions(alloc: Global) -> Result<Vec<archive_core::shape::Expr>, Err
     ensures refused { IfErr result (λ e. e ≡ OutOfMemory) }
 {
     let a0 = <ArchivedU32 as Portable>::expr(alloc)?;
-    let a1 = archive_core::shape::Expr::Vec(Box::new(
+    let a1 = weak_expression(alloc, archive_core::shape::Expr::Named("ArchivedKnot"))?;
+    let a2 = archive_core::shape::Expr::Vec(Box::new(
         alloc,
         shared_expression(alloc, archive_core::shape::Expr::Named("ArchivedKnot"))?,
     )?);
-    Ok(vec![in alloc; a0, a1]?)
+    Ok(vec![in alloc; a0, a1, a2]?)
 }
 
 // What the name stands for.
@@ -120,7 +133,7 @@ impl Portable for ArchivedKnot {
     ghost checks = { λ direct. by_schema direct };
 
     fn size() -> usize {
-        12
+        16
     }
 
     fn align() -> usize {
@@ -151,7 +164,152 @@ impl Record for ArchivedKnot {
 /// What is kept of `Knot` between `serialize` and `resolve`.
 #[derive(Drop)]
 pub struct KnotResolver {
-    kept: (<u32 as Archive>::Resolver, (VecResolver, ())),
+    kept: (
+        <u32 as Archive>::Resolver,
+        (RcWeakResolver, (VecResolver, ())),
+    ),
+}
+
+// The expression of a weak pointer to values with this one.
+fn weak_expression(
+    alloc: Global,
+    item: archive_core::shape::Expr,
+) -> Result<archive_core::shape::Expr, Error>
+    ensures shape { IfOk result (λ e. shape_of e ≡ weak rc_flavor (one (shape_of item))) }
+    ensures refused { IfErr result (λ e. e ≡ OutOfMemory) }
+{
+    let pointee = Box::new(alloc, archive_core::shape::Pointee::One(item))?;
+    let flavor = archive_core::shape::FlavorInfo {
+        name: "RcFlavor",
+        cycles: false,
+    };
+    Ok(archive_core::shape::Expr::Weak(flavor, pointee))
+}
+
+// The shared value at a position, if the pool has it; none if the position was unknown: then the caller reads it back, and calls `finish_target`.
+fn begin_target<T: Pooled, D: Pooling<T>>(
+    pos: usize,
+    deserializer: &mut D,
+) -> Result<Option<T>, Error>
+    ensures known { IfOk result (λ r. IfSome r (λ s. (bytes : List ℕ) (n : ℕ)
+        → ReadsShared D.keeps T.Archived.definitions bytes pos T.Archived.pointee n
+        (D.entry_of deserializer.old) (D.entry_of deserializer.new) (T.kept s))) }
+    ensures begun { IfOk result (λ r. IfNone r (Awaits D.keeps pos (D.entry_of deserializer.old)
+        (D.entry_of deserializer.new))) }
+    ensures refused { IfErr result (λ e. (bytes : List ℕ) (n : ℕ)
+        → RefusesShared T.Archived.definitions bytes pos T.Archived.pointee n
+        (D.entry_of deserializer.old) e) }
+{
+    match deserializer.start_pooling(pos)? {
+        PoolingState::Pending => Err(Error::CyclicDeserialize),
+        PoolingState::Finished(value) => Ok(Some(value)),
+        PoolingState::Started => Ok(None),
+    }
+}
+
+// The shared value of what was read back at a position since it was started: the pool has it from now on.
+fn finish_target<T: Pooled, D: Pooling<T>>(
+    alloc: Global,
+    pos: usize,
+    value: T::Value,
+    deserializer: &mut D,
+) -> Result<T, Error>
+    ensures read { IfOk result (λ s. (old started : Known) (bytes : List ℕ) (n : ℕ)
+        → Awaits D.keeps pos old started
+        → Viewed T.Archived.definitions bytes pos T.Archived.pointee n
+        → ReadsBack D.keeps T.Archived.definitions bytes pos T.Archived.pointee n started
+        (D.entry_of deserializer.old) (T.Value.meaning value) (T.Value.keys value)
+        → ReadsShared D.keeps T.Archived.definitions bytes pos T.Archived.pointee n old
+        (D.entry_of deserializer.new) (T.kept s)) }
+    ensures refused { IfErr result (λ e. (old started : Known) (bytes : List ℕ) (n : ℕ)
+        → Awaits D.keeps pos old started
+        → ReadsBack D.keeps T.Archived.definitions bytes pos T.Archived.pointee n started
+        (D.entry_of deserializer.old) (T.Value.meaning value) (T.Value.keys value)
+        → e ≡ OutOfMemory) }
+{
+    let shared = T::from_value(alloc, pos, value)?;
+    let kept = shared.clone()?;
+    deserializer.finish_pooling(pos, kept)?;
+    Ok(shared)
+}
+
+// A weak pointer to a value that was written before, if there is one: what is kept of it says so. It means nothing.
+#[derive(Drop)]
+struct WeakKnotAt;
+
+impl ArchiveUnsized for WeakKnotAt {
+    type Archived = ArchivedKnot;
+
+    ghost source_length = { λ _. 0 };
+
+    ghost meaning = { λ _. shared_value 0 };
+
+    ghost keys = { λ _. named_twice };
+
+    ghost keyed = { λ _. twice_keyed };
+
+    ghost planned = { λ _ a s names known named. absurd (no_two names named) };
+
+    ghost one_length = { λ _ _. refl };
+
+    #[inline(always)]
+    fn archived_metadata(&self) -> Result<(), Error> {
+        Ok(())
+    }
+}
+
+impl Archive for WeakKnotAt {
+    type Archived = ArchivedRcWeak<ArchivedKnot, RcFlavor>;
+
+    type Resolver = RcWeakResolver;
+
+    ghost meaning = { λ _. shared_value 0 };
+
+    ghost flat = { λ _ r. weak_flat rc_flavor (one knot_shape) 0 r };
+
+    ghost keys = { λ _. named_twice };
+
+    ghost belongs = { λ _ _. ⊤ };
+
+    ghost in_bulk = { None };
+
+    ghost keyed = { λ _. twice_keyed };
+
+    ghost planned = { λ _ a s names known named. absurd (no_two names named) };
+
+    #[inline(always)]
+    fn resolve(
+        &self,
+        resolver: RcWeakResolver,
+        place: Place<'_, ArchivedRcWeak<ArchivedKnot, RcFlavor>>,
+    ) -> Result<(), Error>
+        requires zeroed { ZeroedPlace 4 place.pos place.bytes.now }
+        requires same_value { ⊤ }
+        ensures { ResolvesAs ⟦<Self::Archived as Portable>⟧ place
+            (⟦<Self as Archive>⟧.flat self.now resolver) result }
+    {
+        let Place { bytes, pos, .. } = place;
+        let none: Option<&WeakKnotAt> = None;
+        ArchivedRcWeak::<ArchivedKnot, RcFlavor>::resolve_from_ref(
+            none,
+            resolver,
+            Place::new(pos, bytes),
+        )
+    }
+
+    #[inline(always)]
+    fn copy_optimization() -> CopyOptimization<Self> {
+        CopyOptimization::disable()
+    }
+
+    #[inline(always)]
+    fn serialize_copied<S: Writer + Keys>(
+        _values: &[Self],
+        _together: usize,
+        _serializer: &mut S,
+    ) -> Result<Option<usize>, Error> {
+        Ok(None)
+    }
 }
 
 impl Archive for Knot {
@@ -181,20 +339,20 @@ impl Archive for Knot {
         resolver: Self::Resolver,
         place: Place<'_, Self::Archived>,
     ) -> Result<(), Error>
-        requires zeroed { ZeroedPlace 12 place.pos place.bytes.now }
+        requires zeroed { ZeroedPlace 16 place.pos place.bytes.now }
         requires same_value { ⟦<Self as Archive>⟧.belongs self.now resolver }
         ensures { ResolvesAs ⟦<Self::Archived as Portable>⟧ place
             (⟦<Self as Archive>⟧.flat self.now resolver) result }
     {
         let Place { bytes, pos, .. } = place;
         let KnotResolver { kept } = resolver;
-        let h1: VecAt<ArchivedRc<ArchivedKnot, RcFlavor>> = VecAt::of(self.next.len());
-        resolve_named_record_2::<u32, VecAt<ArchivedRc<ArchivedKnot, RcFlavor>>, ArchivedKnot>(
-            &self.id,
-            &h1,
-            kept,
-            Place::new(pos, bytes),
-        )
+        let h2: VecAt<ArchivedRc<ArchivedKnot, RcFlavor>> = VecAt::of(self.next.len());
+        resolve_named_record_3::<
+            u32,
+            WeakKnotAt,
+            VecAt<ArchivedRc<ArchivedKnot, RcFlavor>>,
+            ArchivedKnot,
+        >(&self.id, &WeakKnotAt, &h2, kept, Place::new(pos, bytes))
     }
 
     #[inline(always)]
@@ -209,6 +367,49 @@ impl Archive for Knot {
         _serializer: &mut S,
     ) -> Result<Option<usize>, Error> {
         Ok(None)
+    }
+}
+
+// Writes what a weak pointer leads to, if its key is unknown.
+#[cycle(serialize_knot)]
+fn serialize_weak_shared_knot<S: Sharing + Writer + ResolverAlloc>(
+    value: &WeakShared<Knot>,
+    serializer: &mut S,
+) -> Result<RcWeakResolver, Error>
+    ensures serialized { IfOk result (λ r. Serialized knot_definitions
+        (weak rc_flavor (one knot_shape)) (⟦<WeakShared<Knot> as Archive>⟧.keys value.now)
+        (⟦<WeakShared<Knot> as Archive>⟧.meaning value.now)
+        (⟦<WeakShared<Knot> as Archive>⟧.flat value.now r) (S.state serializer.old)
+        (S.state serializer.new)) }
+    ensures same_value { IfOk result (λ r. ⟦<WeakShared<Knot> as Archive>⟧.belongs value.now r) }
+    ensures goes_on { GoesOn (S.state serializer.old) (S.state serializer.new) }
+    ensures refused { IfErr result (IsRefused knot_definitions (weak rc_flavor (one knot_shape))
+        (⟦<WeakShared<Knot> as Archive>⟧.keys value.now)
+        (⟦<WeakShared<Knot> as Archive>⟧.meaning value.now) (S.state serializer.old)
+        (S.state serializer.new)) }
+{
+    match &value.value {
+        None => Ok(None),
+        Some(whole) => {
+            let inner = &*whole.value;
+            let known = match begin_shared(whole.key, serializer) {
+                Ok(known) => known,
+                Err(error) => return Err(error),
+            };
+            match known {
+                Some(resolver) => Ok(Some(resolver)),
+                None => {
+                    let kept = match serialize_knot(inner, serializer) {
+                        Ok(kept) => kept,
+                        Err(error) => return Err(error),
+                    };
+                    match finish_shared(whole.key, inner, kept, serializer) {
+                        Ok(resolver) => Ok(Some(resolver)),
+                        Err(error) => Err(error),
+                    }
+                }
+            }
+        }
     }
 }
 
@@ -312,12 +513,16 @@ fn serialize_knot<S: Sharing + Writer + ResolverAlloc>(
         Ok(a0) => a0,
         Err(error) => return Err(error),
     };
-    let a1 = match serialize_vec_shared_knot(&value.next, serializer) {
+    let a1 = match serialize_weak_shared_knot(&value.from, serializer) {
         Ok(a1) => a1,
         Err(error) => return Err(error),
     };
+    let a2 = match serialize_vec_shared_knot(&value.next, serializer) {
+        Ok(a2) => a2,
+        Err(error) => return Err(error),
+    };
     Ok(KnotResolver {
-        kept: (a0, (a1, ())),
+        kept: (a0, (a1, (a2, ()))),
     })
 }
 
@@ -357,6 +562,39 @@ impl<S: Sharing + Writer + ResolverAlloc> SerializeUnsized<S> for Knot {
     #[inline(always)]
     fn serialize_unsized(&self, serializer: &mut S) -> Result<usize, Error> {
         serialize_one(self, serializer)
+    }
+}
+
+// Reads a weak pointer back.
+#[cycle(read_knot)]
+fn read_weak_shared_knot<D: Pooling<Shared<Knot>>>(
+    alloc: Global,
+    part: RawView<'_>,
+    levels: usize,
+    deserializer: &mut D,
+) -> Result<WeakShared<Knot>, Error>
+    requires { IsPartOf ⟦<ArchivedRcWeak<ArchivedKnot, RcFlavor> as ArchivePointee>⟧ part }
+    ensures read { IfOk result (Read ⟦<ArchivedRcWeak<ArchivedKnot, RcFlavor> as ArchivePointee>⟧
+        part D.Entries deserializer ⟦<WeakShared<Knot> as Archive>⟧) }
+    ensures refused { IfErr result
+        (RefusesPart ⟦<ArchivedRcWeak<ArchivedKnot, RcFlavor> as ArchivePointee>⟧ part D.Entries
+        deserializer) }
+{
+    let view: Ref<'_, ArchivedRcWeak<ArchivedKnot, RcFlavor>> = Ref::at(part);
+    let Some(target) = view.upgrade() else {
+        return Ok(WeakShared { value: None });
+    };
+    let behind = target.part();
+    let pos = behind.pos;
+    match begin_target::<Shared<Knot>, D>(pos, deserializer)? {
+        Some(value) => Ok(WeakShared { value: Some(value) }),
+        None => {
+            let value = read_knot(alloc, behind, levels, deserializer)?;
+            let shared = finish_target::<Shared<Knot>, D>(alloc, pos, value, deserializer)?;
+            Ok(WeakShared {
+                value: Some(shared),
+            })
+        }
     }
 }
 
@@ -435,11 +673,17 @@ fn read_knot<D: Pooling<Shared<Knot>>>(
     let levels = levels - 1;
     let p0 = part_of_record::<ArchivedKnot, ArchivedU32>(part, 0, 0);
     let a0 = read_part::<ArchivedU32, u32, D>(alloc, p0, deserializer)?;
-    let p1 = part_of_record::<ArchivedKnot, ArchivedVec<ArchivedRc<ArchivedKnot, RcFlavor>>>(
-        part, 1, 4,
+    let p1 = part_of_record::<ArchivedKnot, ArchivedRcWeak<ArchivedKnot, RcFlavor>>(part, 1, 4);
+    let a1 = read_weak_shared_knot(alloc, p1, levels, deserializer)?;
+    let p2 = part_of_record::<ArchivedKnot, ArchivedVec<ArchivedRc<ArchivedKnot, RcFlavor>>>(
+        part, 2, 8,
     );
-    let a1 = read_vec_shared_knot(alloc, p1, levels, deserializer)?;
-    Ok(Knot { id: a0, next: a1 })
+    let a2 = read_vec_shared_knot(alloc, p2, levels, deserializer)?;
+    Ok(Knot {
+        id: a0,
+        from: a1,
+        next: a2,
+    })
 }
 
 impl<D: Pooling<Shared<Knot>>> Deserialize<Knot, D> for ArchivedKnot {
@@ -463,6 +707,9 @@ pub trait KnotView<'a> {
     /// Its number.
     fn id(self) -> Ref<'a, ArchivedU32>;
 
+    /// Where it was first found, if anywhere.
+    fn from(self) -> Ref<'a, ArchivedRcWeak<ArchivedKnot, RcFlavor>>;
+
     /// What it leads to.
     fn next(self) -> Ref<'a, ArchivedVec<ArchivedRc<ArchivedKnot, RcFlavor>>>;
 }
@@ -477,13 +724,22 @@ impl<'a> KnotView<'a> for Ref<'a, ArchivedKnot> {
         view_of_field::<ArchivedKnot, ArchivedU32>(self, 0, 0)
     }
 
-    fn next(self) -> Ref<'a, ArchivedVec<ArchivedRc<ArchivedKnot, RcFlavor>>>
+    fn from(self) -> Ref<'a, ArchivedRcWeak<ArchivedKnot, RcFlavor>>
         ensures buffer { result.bytes.now ≡ self.entry.bytes.now }
         ensures position { result.pos ≡ self.entry.pos + 4 }
         ensures length { result.len ≡ 0 }
         ensures shows { ShowsValueOf result self.entry (field_in 1) }
     {
-        view_of_field::<ArchivedKnot, ArchivedVec<ArchivedRc<ArchivedKnot, RcFlavor>>>(self, 1, 4)
+        view_of_field::<ArchivedKnot, ArchivedRcWeak<ArchivedKnot, RcFlavor>>(self, 1, 4)
+    }
+
+    fn next(self) -> Ref<'a, ArchivedVec<ArchivedRc<ArchivedKnot, RcFlavor>>>
+        ensures buffer { result.bytes.now ≡ self.entry.bytes.now }
+        ensures position { result.pos ≡ self.entry.pos + 8 }
+        ensures length { result.len ≡ 0 }
+        ensures shows { ShowsValueOf result self.entry (field_in 2) }
+    {
+        view_of_field::<ArchivedKnot, ArchivedVec<ArchivedRc<ArchivedKnot, RcFlavor>>>(self, 2, 8)
     }
 }
 
@@ -494,6 +750,10 @@ pub trait KnotSeal<'a> {
 
     /// Its number.
     fn id_mut(self) -> Seal<'a, ArchivedU32>
+        requires { sealed self };
+
+    /// Where it was first found, if anywhere.
+    fn from_mut(self) -> Seal<'a, ArchivedRcWeak<ArchivedKnot, RcFlavor>>
         requires { sealed self };
 
     /// What it leads to.
@@ -512,13 +772,23 @@ impl<'a> KnotSeal<'a> for Seal<'a, ArchivedKnot> {
         seal_of_field::<ArchivedKnot, ArchivedU32>(self, 0, 0)
     }
 
+    fn from_mut(self) -> Seal<'a, ArchivedRcWeak<ArchivedKnot, RcFlavor>>
+        requires come_to { IsSealOf knot_definitions (one ⟦<ArchivedKnot as Portable>⟧.shape) self }
+        ensures { SealsPart knot_definitions (one ⟦<ArchivedKnot as Portable>⟧.shape)
+            ⟦<ArchivedKnot as ArchivePointee>⟧.definitions
+            ⟦<ArchivedRcWeak<ArchivedKnot, RcFlavor> as ArchivePointee>⟧.pointee
+            (self.entry.pos + 4) 0 self.entry result }
+    {
+        seal_of_field::<ArchivedKnot, ArchivedRcWeak<ArchivedKnot, RcFlavor>>(self, 1, 4)
+    }
+
     fn next_mut(self) -> Seal<'a, ArchivedVec<ArchivedRc<ArchivedKnot, RcFlavor>>>
         requires come_to { IsSealOf knot_definitions (one ⟦<ArchivedKnot as Portable>⟧.shape) self }
         ensures { SealsPart knot_definitions (one ⟦<ArchivedKnot as Portable>⟧.shape)
             ⟦<ArchivedKnot as ArchivePointee>⟧.definitions
             ⟦<ArchivedVec<ArchivedRc<ArchivedKnot, RcFlavor>> as ArchivePointee>⟧.pointee
-            (self.entry.pos + 4) 0 self.entry result }
+            (self.entry.pos + 8) 0 self.entry result }
     {
-        seal_of_field::<ArchivedKnot, ArchivedVec<ArchivedRc<ArchivedKnot, RcFlavor>>>(self, 1, 4)
+        seal_of_field::<ArchivedKnot, ArchivedVec<ArchivedRc<ArchivedKnot, RcFlavor>>>(self, 2, 8)
     }
 }

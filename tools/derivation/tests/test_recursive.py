@@ -123,6 +123,18 @@ class Recursive(RepositoryTest):
         self.assertIn("decreases-read_tuple3_i32_dir_option_string g l = (l.part.pos + 36) * 6 + 5", invariants)
         self.assertEqual(self.run_command("--check", path), (0, ""))
 
+    def test_a_weak_pointer_is_read_by_calls_of_the_module(self):
+        path = self.put("use archive_core::rc::WeakShared;\n#[derive(Drop)]\npub struct Node { name: String, up: WeakShared<Node>, by: WeakShared<Node> }\n")
+        self.assertEqual(self.run_command(path), (0, ""))
+        text, meaning = self.text(path), self.beside("specs", "NodeMeaning.antt")
+        for word in ("fn begin_target<T: Pooled, D: Pooling<T>>(", "struct WeakNodeAt;", "fn read_weak_shared_node<D: Pooling<Shared<Node>>>("):
+            self.assertEqual(text.count(word), 1, word)
+        self.assertIn("(weak_value (λ s. (shared_value s.key)) t.up.value)", meaning)
+        # a layer that is mapped computes at nothing and at something alone
+        for word in ("node_means_at a0 None (Some a2) = ", "node_planned_at a0 (Some a1) None = ", "node_means_roll x = node_means_at x.name x.up.value x.by.value"):
+            self.assertIn(word, meaning)
+        self.assertEqual(self.run_command("--check", path), (0, ""))
+
     def test_calls_of_one_name_in_a_loop_are_named_after_it(self):
         path = self.put("#[derive(Drop)]\npub enum Page { None, Some(Vec<(Page, u8, Page)>) }\n")
         self.assertEqual(self.run_command(path), (0, ""))
