@@ -1,4 +1,2 @@
-pub mod FactMeaning
-pub mod FactShape
 pub mod NoteMeaning
 pub mod NoteShape

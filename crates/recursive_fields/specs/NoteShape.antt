@@ -5,10 +5,11 @@ use Rattle.archive_core.specs.Held.{knows_both}
 use Rattle.archive_core.specs.Layout.{Layout}
 use Rattle.archive_core.specs.NamedLayout.{name_has_layout, name_reached}
 use Rattle.archive_core.specs.PartsLayout.{knows_none}
-use Rattle.archive_core.specs.Shape.{Name, Shape, Parts, Variants, named, choice, boxed, vec, sorted_map, str, one, leaf, non_zero, unsigned, signed, leaf_key, part, no_part, variant, no_variant, number as number_kind}
+use Rattle.archive_core.specs.ResultShapes.{result_shape}
+use Rattle.archive_core.specs.Shape.{Name, Shape, Parts, Variants, named, choice, boxed, vec, sorted_map, str, one, leaf, unit, bool, non_zero, unsigned, signed, leaf_key, part, no_part, variant, no_variant, number as number_kind}
 use Rattle.archive_core.specs.VariantsLayout.{IsChoice, is_recursive_choice}
 use Rattle.std.proofs.Common.{inl, inr}
-use Rattle.std.specs.Int.{w16, w32, w64}
+use Rattle.std.specs.Int.{w8, w16, w32, w64}
 use Rattle.std.specs.Prelude.{refl, codes}
 
 abbrev pub note_name : Name
@@ -20,17 +21,17 @@ note_shape = named note_name
 abbrev pub note_texts_parts : Parts
 note_texts_parts = (part (vec str) (part (option_shape str) no_part))
 
-abbrev pub note_hours_parts : Parts
-note_hours_parts = (part (sorted_map (leaf_key (number_kind unsigned w16)) (leaf (number_kind signed w64))) no_part)
+abbrev pub note_work_parts : Parts
+note_work_parts = (part (sorted_map (leaf_key (number_kind unsigned w16)) (leaf (number_kind signed w64))) (part (leaf (non_zero unsigned w32)) (part (boxed (one (leaf (number_kind unsigned w32)))) no_part)))
 
-abbrev pub note_rank_parts : Parts
-note_rank_parts = (part (leaf (non_zero unsigned w32)) (part (boxed (one (leaf (number_kind unsigned w32)))) no_part))
+abbrev pub note_outcome_parts : Parts
+note_outcome_parts = (part (leaf bool) (part (leaf unit) (part (result_shape (leaf (number_kind unsigned w8)) str) no_part)))
 
 abbrev pub note_notes_parts : Parts
 note_notes_parts = (part (vec note_shape) no_part)
 
 abbrev pub note_variants : Variants
-note_variants = (variant note_texts_parts (variant note_hours_parts (variant note_rank_parts (variant note_notes_parts no_variant))))
+note_variants = (variant note_texts_parts (variant note_work_parts (variant note_outcome_parts (variant note_notes_parts no_variant))))
 
 abbrev pub note_stands_for : Shape
 note_stands_for = choice note_name note_variants
@@ -53,17 +54,17 @@ note_no_others = name_reached note_name note_stands_for
 abbrev pub note_texts_definitions : Definitions
 note_texts_definitions = (both no_definition (both no_definition no_definition))
 
-abbrev pub note_hours_definitions : Definitions
-note_hours_definitions = (both (both no_definition (both no_definition no_definition)) no_definition)
+abbrev pub note_work_definitions : Definitions
+note_work_definitions = (both (both no_definition (both no_definition no_definition)) (both no_definition (both no_definition no_definition)))
 
-abbrev pub note_rank_definitions : Definitions
-note_rank_definitions = (both no_definition (both no_definition no_definition))
+abbrev pub note_outcome_definitions : Definitions
+note_outcome_definitions = (both no_definition (both no_definition (both (both no_definition no_definition) no_definition)))
 
 abbrev pub note_notes_definitions : Definitions
 note_notes_definitions = (both note_definitions no_definition)
 
 abbrev pub note_variant_definitions : Definitions
-note_variant_definitions = (both note_texts_definitions (both note_hours_definitions (both note_rank_definitions (both note_notes_definitions no_definition))))
+note_variant_definitions = (both note_texts_definitions (both note_work_definitions (both note_outcome_definitions (both note_notes_definitions no_definition))))
 
 pub note_has_variants : IsChoice note_definitions note_shape note_name note_variant_definitions note_variants
-note_has_variants = is_recursive_choice note_name note_variant_definitions note_variants (λ s k. (knows_both s _ _ (knows_both s _ _ (knows_none s k.laid_out) (knows_both s _ _ (knows_none s k.laid_out) (knows_none s k.laid_out))) (knows_both s _ _ (knows_both s _ _ (knows_both s _ _ (knows_none s k.laid_out) (knows_both s _ _ (knows_none s k.laid_out) (knows_none s k.laid_out))) (knows_none s k.laid_out)) (knows_both s _ _ (knows_both s _ _ (knows_none s k.laid_out) (knows_both s _ _ (knows_none s k.laid_out) (knows_none s k.laid_out))) (knows_both s _ _ (knows_both s _ _ k (knows_none s k.laid_out)) (knows_none s k.laid_out))))))
+note_has_variants = is_recursive_choice note_name note_variant_definitions note_variants (λ s k. (knows_both s _ _ (knows_both s _ _ (knows_none s k.laid_out) (knows_both s _ _ (knows_none s k.laid_out) (knows_none s k.laid_out))) (knows_both s _ _ (knows_both s _ _ (knows_both s _ _ (knows_none s k.laid_out) (knows_both s _ _ (knows_none s k.laid_out) (knows_none s k.laid_out))) (knows_both s _ _ (knows_none s k.laid_out) (knows_both s _ _ (knows_none s k.laid_out) (knows_none s k.laid_out)))) (knows_both s _ _ (knows_both s _ _ (knows_none s k.laid_out) (knows_both s _ _ (knows_none s k.laid_out) (knows_both s _ _ (knows_both s _ _ (knows_none s k.laid_out) (knows_none s k.laid_out)) (knows_none s k.laid_out)))) (knows_both s _ _ (knows_both s _ _ k (knows_none s k.laid_out)) (knows_none s k.laid_out))))))

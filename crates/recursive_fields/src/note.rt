@@ -1,4 +1,4 @@
-//! Notes.
+//! Notes: a recursive enum with fields of many kinds.
 
 use archive_core::primitive::ArchivedNonZeroU32;
 use std::collections::BTreeMap;
@@ -8,10 +8,10 @@ use std::collections::BTreeMap;
 pub enum Note {
     /// Texts, and who wrote them.
     Texts(Vec<String>, Option<String>),
-    /// Hours of work, by the day.
-    Hours(BTreeMap<u16, i64>),
-    /// How soon something is to be done, and by how many.
-    Rank(ArchivedNonZeroU32, Box<u32>),
+    /// Hours of work, by the day; how soon it is to be done, and by how many.
+    Work(BTreeMap<u16, i64>, ArchivedNonZeroU32, Box<u32>),
+    /// Whether it is done, and nothing of when; what came of it, or why nothing did.
+    Outcome(bool, (), Result<u8, String>),
     /// All of these.
     Notes(Vec<Note>),
 }
@@ -35,7 +35,7 @@ ghost use Rattle.archive_core.specs.Sources.{Read, ReadsAs};
 ghost use Rattle.archive_core.specs.Value.{case, no_value, value};
 ghost use Rattle.archive_core.specs.Writing.{ZeroedPlace};
 ghost use Rattle.archive_core.specs.Written.{GoesOn};
-ghost use Rattle.recursive_fields.specs.NoteShape.{note_definitions, note_has_layout, note_has_variants, note_hours_parts, note_is_align, note_layout, note_name, note_no_others, note_notes_parts, note_rank_parts, note_shape, note_stands_for, note_texts_parts};
+ghost use Rattle.recursive_fields.specs.NoteShape.{note_definitions, note_has_layout, note_has_variants, note_is_align, note_layout, note_name, note_no_others, note_notes_parts, note_outcome_parts, note_shape, note_stands_for, note_texts_parts, note_work_parts};
 ghost use Rattle.std.proofs.Common.{lit≤};
 ghost use Rattle.std.specs.Prelude.{IfErr, IfOk, None, [], length, refl, ℕ, ◌++◌, ◌+◌, ◌≡◌, ◌≤◌};
 
@@ -47,9 +47,10 @@ use archive_core::place::Place;
 use archive_core::primitive::{ArchivedI64, ArchivedU16, ArchivedU32, NonZero};
 use archive_core::recursive::{
     VecAt, before_vec, choice_of, define_name, handed_on, part_of_variant, read_part,
-    resolve_named_case_1, resolve_named_case_2, seal_of_payload, serialize_inner_slice,
-    serialize_part, tag_of_choice, tag_of_view, view_of_payload,
+    resolve_named_case_1, resolve_named_case_2, resolve_named_case_3, seal_of_payload,
+    serialize_inner_slice, serialize_part, tag_of_choice, tag_of_view, view_of_payload,
 };
+use archive_core::result::ArchivedResult;
 use archive_core::seal::Seal;
 use archive_core::self_check::BySchema;
 use archive_core::ser::{ResolverAlloc, Writer, serialize_one};
@@ -71,15 +72,18 @@ type NoteTextsParts = (
     (ArchivedOption<ArchivedString>, ()),
 );
 
-type NoteHoursParts = (ArchivedSortedMap<ArchivedU16, ArchivedI64>, ());
+type NoteWorkParts = (
+    ArchivedSortedMap<ArchivedU16, ArchivedI64>,
+    (NonZero<u32>, (ArchivedBox<ArchivedU32>, ())),
+);
 
-type NoteRankParts = (NonZero<u32>, (ArchivedBox<ArchivedU32>, ()));
+type NoteOutcomeParts = (bool, ((), (ArchivedResult<u8, ArchivedString>, ())));
 
 type NoteNotesParts = (ArchivedVec<ArchivedNote>, ());
 
 type NoteVariants = (
     NoteTextsParts,
-    (NoteHoursParts, (NoteRankParts, (NoteNotesParts, ()))),
+    (NoteWorkParts, (NoteOutcomeParts, (NoteNotesParts, ()))),
 );
 
 impl ArchivePointee for ArchivedNote {
@@ -106,23 +110,26 @@ fn note_texts_expressions(alloc: Global) -> Result<Vec<archive_core::shape::Expr
     Ok(vec![in alloc; a0, a1]?)
 }
 
-// The parts of `Hours`.
-fn note_hours_expressions(alloc: Global) -> Result<Vec<archive_core::shape::Expr>, Error>
-    ensures shapes { IfOk result (λ list. shapes_in list.items ≡ note_hours_parts) }
+// The parts of `Work`.
+fn note_work_expressions(alloc: Global) -> Result<Vec<archive_core::shape::Expr>, Error>
+    ensures shapes { IfOk result (λ list. shapes_in list.items ≡ note_work_parts) }
     ensures refused { IfErr result (λ e. e ≡ OutOfMemory) }
 {
     let a0 = <ArchivedSortedMap<ArchivedU16, ArchivedI64> as Portable>::expr(alloc)?;
-    Ok(vec![in alloc; a0]?)
+    let a1 = <NonZero<u32> as Portable>::expr(alloc)?;
+    let a2 = <ArchivedBox<ArchivedU32> as Portable>::expr(alloc)?;
+    Ok(vec![in alloc; a0, a1, a2]?)
 }
 
-// The parts of `Rank`.
-fn note_rank_expressions(alloc: Global) -> Result<Vec<archive_core::shape::Expr>, Error>
-    ensures shapes { IfOk result (λ list. shapes_in list.items ≡ note_rank_parts) }
+// The parts of `Outcome`.
+fn note_outcome_expressions(alloc: Global) -> Result<Vec<archive_core::shape::Expr>, Error>
+    ensures shapes { IfOk result (λ list. shapes_in list.items ≡ note_outcome_parts) }
     ensures refused { IfErr result (λ e. e ≡ OutOfMemory) }
 {
-    let a0 = <NonZero<u32> as Portable>::expr(alloc)?;
-    let a1 = <ArchivedBox<ArchivedU32> as Portable>::expr(alloc)?;
-    Ok(vec![in alloc; a0, a1]?)
+    let a0 = <bool as Portable>::expr(alloc)?;
+    let a1 = <() as Portable>::expr(alloc)?;
+    let a2 = <ArchivedResult<u8, ArchivedString> as Portable>::expr(alloc)?;
+    Ok(vec![in alloc; a0, a1, a2]?)
 }
 
 // The parts of `Notes`.
@@ -143,8 +150,8 @@ fn note_expression(alloc: Global) -> Result<archive_core::shape::Expr, Error>
     ensures refused { IfErr result (λ e. e ≡ OutOfMemory) }
 {
     let v0 = note_texts_expressions(alloc)?;
-    let v1 = note_hours_expressions(alloc)?;
-    let v2 = note_rank_expressions(alloc)?;
+    let v1 = note_work_expressions(alloc)?;
+    let v2 = note_outcome_expressions(alloc)?;
     let v3 = note_notes_expressions(alloc)?;
     let variants = vec![in alloc; v0, v1, v2, v3]?;
     Ok(choice_of("ArchivedNote", variants))
@@ -208,13 +215,24 @@ pub enum NoteResolver {
             (<Option<String> as Archive>::Resolver, ()),
         ),
     ),
-    /// Of `Hours`.
-    Hours((<BTreeMap<u16, i64> as Archive>::Resolver, ())),
-    /// Of `Rank`.
-    Rank(
+    /// Of `Work`.
+    Work(
         (
-            <ArchivedNonZeroU32 as Archive>::Resolver,
-            (<Box<u32> as Archive>::Resolver, ()),
+            <BTreeMap<u16, i64> as Archive>::Resolver,
+            (
+                <ArchivedNonZeroU32 as Archive>::Resolver,
+                (<Box<u32> as Archive>::Resolver, ()),
+            ),
+        ),
+    ),
+    /// Of `Outcome`.
+    Outcome(
+        (
+            <bool as Archive>::Resolver,
+            (
+                <() as Archive>::Resolver,
+                (<Result<u8, String> as Archive>::Resolver, ()),
+            ),
         ),
     ),
     /// Of `Notes`.
@@ -267,25 +285,26 @@ impl Archive for Note {
                     Place::new(pos, bytes),
                 )
             }
-            Note::Hours(a0) => {
-                let NoteResolver::Hours(kept) = resolver else {
+            Note::Work(a0, a1, a2) => {
+                let NoteResolver::Work(kept) = resolver else {
                     unreachable!();
                 };
-                resolve_named_case_1::<BTreeMap<u16, i64>, ArchivedNote>(
-                    1,
-                    a0,
-                    kept,
-                    Place::new(pos, bytes),
-                )
+                resolve_named_case_3::<
+                    BTreeMap<u16, i64>,
+                    ArchivedNonZeroU32,
+                    Box<u32>,
+                    ArchivedNote,
+                >(1, a0, a1, a2, kept, Place::new(pos, bytes))
             }
-            Note::Rank(a0, a1) => {
-                let NoteResolver::Rank(kept) = resolver else {
+            Note::Outcome(a0, a1, a2) => {
+                let NoteResolver::Outcome(kept) = resolver else {
                     unreachable!();
                 };
-                resolve_named_case_2::<ArchivedNonZeroU32, Box<u32>, ArchivedNote>(
+                resolve_named_case_3::<bool, (), Result<u8, String>, ArchivedNote>(
                     2,
                     a0,
                     a1,
+                    a2,
                     kept,
                     Place::new(pos, bytes),
                 )
@@ -420,57 +439,42 @@ fn serialize_note_texts<S: Writer + Keys + ResolverAlloc>(
     Ok((a0, (a1, ())))
 }
 
-// Writes what the parts of `Hours` own, in order.
-fn serialize_note_hours<S: Writer + Keys + ResolverAlloc>(
+// Writes what the parts of `Work` own, in order.
+fn serialize_note_work<S: Writer + Keys + ResolverAlloc>(
     a0: &BTreeMap<u16, i64>,
-    serializer: &mut S,
-) -> Result<(<BTreeMap<u16, i64> as Archive>::Resolver, ()), Error>
-    ensures serialized { IfOk result (λ r. Serialized note_definitions note_shape
-        (⟦<BTreeMap<u16, i64> as Archive>⟧.keys a0.now ++ [])
-        (case 1 (value (⟦<BTreeMap<u16, i64> as Archive>⟧.meaning a0.now) no_value))
-        (case 1 (value (⟦<BTreeMap<u16, i64> as Archive>⟧.flat a0.now r.0) no_value))
-        (S.state serializer.old) (S.state serializer.new)) }
-    ensures same_values { IfOk result (λ r. ⟦<BTreeMap<u16, i64> as Archive>⟧.belongs a0.now r.0
-        × Unit {0}) }
-    ensures goes_on { GoesOn (S.state serializer.old) (S.state serializer.new) }
-    ensures refused { IfErr result (IsRefused note_definitions note_shape
-        (⟦<BTreeMap<u16, i64> as Archive>⟧.keys a0.now ++ [])
-        (case 1 (value (⟦<BTreeMap<u16, i64> as Archive>⟧.meaning a0.now) no_value))
-        (S.state serializer.old) (S.state serializer.new)) }
-{
-    let a0 = match serialize_part(a0, serializer) {
-        Ok(a0) => a0,
-        Err(error) => return Err(error),
-    };
-    Ok((a0, ()))
-}
-
-// Writes what the parts of `Rank` own, in order.
-fn serialize_note_rank<S: Writer + Keys + ResolverAlloc>(
-    a0: &ArchivedNonZeroU32,
-    a1: &Box<u32>,
+    a1: &ArchivedNonZeroU32,
+    a2: &Box<u32>,
     serializer: &mut S,
 ) -> Result<
     (
-        <ArchivedNonZeroU32 as Archive>::Resolver,
-        (<Box<u32> as Archive>::Resolver, ()),
+        <BTreeMap<u16, i64> as Archive>::Resolver,
+        (
+            <ArchivedNonZeroU32 as Archive>::Resolver,
+            (<Box<u32> as Archive>::Resolver, ()),
+        ),
     ),
     Error,
 >
     ensures serialized { IfOk result (λ r. Serialized note_definitions note_shape
-        (⟦<ArchivedNonZeroU32 as Archive>⟧.keys a0.now ++ (⟦<Box<u32> as Archive>⟧.keys a1.now
-        ++ [])) (case 2 (value (⟦<ArchivedNonZeroU32 as Archive>⟧.meaning a0.now)
-        (value (⟦<Box<u32> as Archive>⟧.meaning a1.now) no_value)))
-        (case 2 (value (⟦<ArchivedNonZeroU32 as Archive>⟧.flat a0.now r.0)
-        (value (⟦<Box<u32> as Archive>⟧.flat a1.now r.1.0) no_value))) (S.state serializer.old)
+        (⟦<BTreeMap<u16, i64> as Archive>⟧.keys a0.now ++ (⟦<ArchivedNonZeroU32 as Archive>⟧.keys
+        a1.now ++ (⟦<Box<u32> as Archive>⟧.keys a2.now ++ [])))
+        (case 1 (value (⟦<BTreeMap<u16, i64> as Archive>⟧.meaning a0.now)
+        (value (⟦<ArchivedNonZeroU32 as Archive>⟧.meaning a1.now)
+        (value (⟦<Box<u32> as Archive>⟧.meaning a2.now) no_value))))
+        (case 1 (value (⟦<BTreeMap<u16, i64> as Archive>⟧.flat a0.now r.0)
+        (value (⟦<ArchivedNonZeroU32 as Archive>⟧.flat a1.now r.1.0)
+        (value (⟦<Box<u32> as Archive>⟧.flat a2.now r.1.1.0) no_value)))) (S.state serializer.old)
         (S.state serializer.new)) }
-    ensures same_values { IfOk result (λ r. ⟦<ArchivedNonZeroU32 as Archive>⟧.belongs a0.now r.0
-        × (⟦<Box<u32> as Archive>⟧.belongs a1.now r.1.0 × Unit {0})) }
+    ensures same_values { IfOk result (λ r. ⟦<BTreeMap<u16, i64> as Archive>⟧.belongs a0.now r.0
+        × (⟦<ArchivedNonZeroU32 as Archive>⟧.belongs a1.now r.1.0
+        × (⟦<Box<u32> as Archive>⟧.belongs a2.now r.1.1.0 × Unit {0}))) }
     ensures goes_on { GoesOn (S.state serializer.old) (S.state serializer.new) }
     ensures refused { IfErr result (IsRefused note_definitions note_shape
-        (⟦<ArchivedNonZeroU32 as Archive>⟧.keys a0.now ++ (⟦<Box<u32> as Archive>⟧.keys a1.now
-        ++ [])) (case 2 (value (⟦<ArchivedNonZeroU32 as Archive>⟧.meaning a0.now)
-        (value (⟦<Box<u32> as Archive>⟧.meaning a1.now) no_value))) (S.state serializer.old)
+        (⟦<BTreeMap<u16, i64> as Archive>⟧.keys a0.now ++ (⟦<ArchivedNonZeroU32 as Archive>⟧.keys
+        a1.now ++ (⟦<Box<u32> as Archive>⟧.keys a2.now ++ [])))
+        (case 1 (value (⟦<BTreeMap<u16, i64> as Archive>⟧.meaning a0.now)
+        (value (⟦<ArchivedNonZeroU32 as Archive>⟧.meaning a1.now)
+        (value (⟦<Box<u32> as Archive>⟧.meaning a2.now) no_value)))) (S.state serializer.old)
         (S.state serializer.new)) }
 {
     let a0 = match serialize_part(a0, serializer) {
@@ -481,7 +485,64 @@ fn serialize_note_rank<S: Writer + Keys + ResolverAlloc>(
         Ok(a1) => a1,
         Err(error) => return Err(error),
     };
-    Ok((a0, (a1, ())))
+    let a2 = match serialize_part(a2, serializer) {
+        Ok(a2) => a2,
+        Err(error) => return Err(error),
+    };
+    Ok((a0, (a1, (a2, ()))))
+}
+
+// Writes what the parts of `Outcome` own, in order.
+fn serialize_note_outcome<S: Writer + Keys + ResolverAlloc>(
+    a0: &bool,
+    a1: &(),
+    a2: &Result<u8, String>,
+    serializer: &mut S,
+) -> Result<
+    (
+        <bool as Archive>::Resolver,
+        (
+            <() as Archive>::Resolver,
+            (<Result<u8, String> as Archive>::Resolver, ()),
+        ),
+    ),
+    Error,
+>
+    ensures serialized { IfOk result (λ r. Serialized note_definitions note_shape
+        (⟦<bool as Archive>⟧.keys a0.now ++ (⟦<() as Archive>⟧.keys a1.now
+        ++ (⟦<Result<u8, String> as Archive>⟧.keys a2.now ++ [])))
+        (case 2 (value (⟦<bool as Archive>⟧.meaning a0.now)
+        (value (⟦<() as Archive>⟧.meaning a1.now) (value
+        (⟦<Result<u8, String> as Archive>⟧.meaning a2.now) no_value))))
+        (case 2 (value (⟦<bool as Archive>⟧.flat a0.now r.0)
+        (value (⟦<() as Archive>⟧.flat a1.now r.1.0) (value
+        (⟦<Result<u8, String> as Archive>⟧.flat a2.now r.1.1.0) no_value))))
+        (S.state serializer.old) (S.state serializer.new)) }
+    ensures same_values { IfOk result (λ r. ⟦<bool as Archive>⟧.belongs a0.now r.0
+        × (⟦<() as Archive>⟧.belongs a1.now r.1.0 × (⟦<Result<u8, String> as Archive>⟧.belongs
+        a2.now r.1.1.0 × Unit {0}))) }
+    ensures goes_on { GoesOn (S.state serializer.old) (S.state serializer.new) }
+    ensures refused { IfErr result (IsRefused note_definitions note_shape
+        (⟦<bool as Archive>⟧.keys a0.now ++ (⟦<() as Archive>⟧.keys a1.now
+        ++ (⟦<Result<u8, String> as Archive>⟧.keys a2.now ++ [])))
+        (case 2 (value (⟦<bool as Archive>⟧.meaning a0.now)
+        (value (⟦<() as Archive>⟧.meaning a1.now) (value
+        (⟦<Result<u8, String> as Archive>⟧.meaning a2.now) no_value)))) (S.state serializer.old)
+        (S.state serializer.new)) }
+{
+    let a0 = match serialize_part(a0, serializer) {
+        Ok(a0) => a0,
+        Err(error) => return Err(error),
+    };
+    let a1 = match serialize_part(a1, serializer) {
+        Ok(a1) => a1,
+        Err(error) => return Err(error),
+    };
+    let a2 = match serialize_part(a2, serializer) {
+        Ok(a2) => a2,
+        Err(error) => return Err(error),
+    };
+    Ok((a0, (a1, (a2, ()))))
 }
 
 // Writes what the parts of `Notes` own, in order.
@@ -530,12 +591,12 @@ fn serialize_note<S: Writer + Keys + ResolverAlloc>(
             Ok(kept) => Ok(NoteResolver::Texts(kept)),
             Err(error) => Err(error),
         },
-        Note::Hours(a0) => match serialize_note_hours(a0, serializer) {
-            Ok(kept) => Ok(NoteResolver::Hours(kept)),
+        Note::Work(a0, a1, a2) => match serialize_note_work(a0, a1, a2, serializer) {
+            Ok(kept) => Ok(NoteResolver::Work(kept)),
             Err(error) => Err(error),
         },
-        Note::Rank(a0, a1) => match serialize_note_rank(a0, a1, serializer) {
-            Ok(kept) => Ok(NoteResolver::Rank(kept)),
+        Note::Outcome(a0, a1, a2) => match serialize_note_outcome(a0, a1, a2, serializer) {
+            Ok(kept) => Ok(NoteResolver::Outcome(kept)),
             Err(error) => Err(error),
         },
         Note::Notes(a0) => match serialize_note_notes(a0, serializer) {
@@ -632,9 +693,9 @@ fn read_note_texts<D: Entries>(
     Ok(Note::Texts(a0, a1))
 }
 
-// Reads `Hours` back.
+// Reads `Work` back.
 #[inline(always)]
-fn read_note_hours<D: Entries>(
+fn read_note_work<D: Entries>(
     alloc: Global,
     part: RawView<'_>,
     deserializer: &mut D,
@@ -654,12 +715,19 @@ fn read_note_hours<D: Entries>(
         p0,
         deserializer,
     )?;
-    Ok(Note::Hours(a0))
+    let p1 = part_of_variant::<ArchivedNote, NonZero<u32>>(part, 1, 1, 12);
+    let a1 = match read_part::<NonZero<u32>, ArchivedNonZeroU32, D>(alloc, p1, deserializer) {
+        Ok(a1) => a1,
+        Err(error) => return Err(error),
+    };
+    let p2 = part_of_variant::<ArchivedNote, ArchivedBox<ArchivedU32>>(part, 1, 2, 16);
+    let a2 = read_part::<ArchivedBox<ArchivedU32>, Box<u32>, D>(alloc, p2, deserializer)?;
+    Ok(Note::Work(a0, a1, a2))
 }
 
-// Reads `Rank` back.
+// Reads `Outcome` back.
 #[inline(always)]
-fn read_note_rank<D: Entries>(
+fn read_note_outcome<D: Entries>(
     alloc: Global,
     part: RawView<'_>,
     deserializer: &mut D,
@@ -671,14 +739,17 @@ fn read_note_rank<D: Entries>(
     ensures refused { IfErr result (RefusesPart ⟦<ArchivedNote as ArchivePointee>⟧ part D.Entries
         deserializer) }
 {
-    let p0 = part_of_variant::<ArchivedNote, NonZero<u32>>(part, 2, 0, 4);
-    let a0 = match read_part::<NonZero<u32>, ArchivedNonZeroU32, D>(alloc, p0, deserializer) {
-        Ok(a0) => a0,
-        Err(error) => return Err(error),
-    };
-    let p1 = part_of_variant::<ArchivedNote, ArchivedBox<ArchivedU32>>(part, 2, 1, 8);
-    let a1 = read_part::<ArchivedBox<ArchivedU32>, Box<u32>, D>(alloc, p1, deserializer)?;
-    Ok(Note::Rank(a0, a1))
+    let p0 = part_of_variant::<ArchivedNote, bool>(part, 2, 0, 1);
+    let a0 = read_part::<bool, bool, D>(alloc, p0, deserializer)?;
+    let p1 = part_of_variant::<ArchivedNote, ()>(part, 2, 1, 2);
+    let a1 = read_part::<(), (), D>(alloc, p1, deserializer)?;
+    let p2 = part_of_variant::<ArchivedNote, ArchivedResult<u8, ArchivedString>>(part, 2, 2, 4);
+    let a2 = read_part::<ArchivedResult<u8, ArchivedString>, Result<u8, String>, D>(
+        alloc,
+        p2,
+        deserializer,
+    )?;
+    Ok(Note::Outcome(a0, a1, a2))
 }
 
 // Reads `Notes` back.
@@ -715,8 +786,8 @@ fn read_note<D: Entries>(
 {
     match tag_of_choice::<ArchivedNote>(part) {
         0 => read_note_texts(alloc, part, deserializer),
-        1 => read_note_hours(alloc, part, deserializer),
-        2 => read_note_rank(alloc, part, deserializer),
+        1 => read_note_work(alloc, part, deserializer),
+        2 => read_note_outcome(alloc, part, deserializer),
         _ => read_note_notes(alloc, part, deserializer),
     }
 }
@@ -741,10 +812,14 @@ impl<D: Entries> Deserialize<Note, D> for ArchivedNote {
 pub enum ViewOfNote<'a> {
     /// Texts, and who wrote them.
     Texts(Ref<'a, ArchivedVec<ArchivedString>>, Ref<'a, ArchivedOption<ArchivedString>>),
-    /// Hours of work, by the day.
-    Hours(Ref<'a, ArchivedSortedMap<ArchivedU16, ArchivedI64>>),
-    /// How soon something is to be done, and by how many.
-    Rank(Ref<'a, NonZero<u32>>, Ref<'a, ArchivedBox<ArchivedU32>>),
+    /// Hours of work, by the day; how soon it is to be done, and by how many.
+    Work(
+        Ref<'a, ArchivedSortedMap<ArchivedU16, ArchivedI64>>,
+        Ref<'a, NonZero<u32>>,
+        Ref<'a, ArchivedBox<ArchivedU32>>,
+    ),
+    /// Whether it is done, and nothing of when; what came of it, or why nothing did.
+    Outcome(Ref<'a, bool>, Ref<'a, ()>, Ref<'a, ArchivedResult<u8, ArchivedString>>),
     /// All of these.
     Notes(Ref<'a, ArchivedVec<ArchivedNote>>),
 }
@@ -756,7 +831,7 @@ pub trait NoteView<'a> {
 }
 
 impl<'a> NoteView<'a> for Ref<'a, ArchivedNote> {
-    ghost use Rattle.recursive_fields.specs.declared.note.ViewOfNote.TheVariants.{Hours as NoteHoursShown, Notes as NoteNotesShown, Rank as NoteRankShown, Texts as NoteTextsShown};
+    ghost use Rattle.recursive_fields.specs.declared.note.ViewOfNote.TheVariants.{Notes as NoteNotesShown, Outcome as NoteOutcomeShown, Texts as NoteTextsShown, Work as NoteWorkShown};
 
     fn variant(self) -> ViewOfNote<'a>
         ensures shows { elim result [
@@ -765,14 +840,20 @@ impl<'a> NoteView<'a> for Ref<'a, ArchivedNote> {
               × ShowsValueOf a0 self.entry (payload_in 0) × (a1.bytes.now ≡ self.entry.bytes.now)
               × (a1.pos ≡ self.entry.pos + 12) × (a1.len ≡ 0)
               × ShowsValueOf a1 self.entry (payload_in 1)
-          | NoteHoursShown a0 ↦ (tag_of self.entry ≡ 1) × (a0.bytes.now ≡ self.entry.bytes.now)
-              × (a0.pos ≡ self.entry.pos + 4) × (a0.len ≡ 0)
-              × ShowsValueOf a0 self.entry (payload_in 0)
-          | NoteRankShown a0 a1 ↦ (tag_of self.entry ≡ 2) × (a0.bytes.now ≡ self.entry.bytes.now)
+          | NoteWorkShown a0 a1 a2 ↦ (tag_of self.entry ≡ 1) × (a0.bytes.now ≡ self.entry.bytes.now)
               × (a0.pos ≡ self.entry.pos + 4) × (a0.len ≡ 0)
               × ShowsValueOf a0 self.entry (payload_in 0) × (a1.bytes.now ≡ self.entry.bytes.now)
-              × (a1.pos ≡ self.entry.pos + 8) × (a1.len ≡ 0)
-              × ShowsValueOf a1 self.entry (payload_in 1)
+              × (a1.pos ≡ self.entry.pos + 12) × (a1.len ≡ 0)
+              × ShowsValueOf a1 self.entry (payload_in 1) × (a2.bytes.now ≡ self.entry.bytes.now)
+              × (a2.pos ≡ self.entry.pos + 16) × (a2.len ≡ 0)
+              × ShowsValueOf a2 self.entry (payload_in 2)
+          | NoteOutcomeShown a0 a1 a2 ↦ (tag_of self.entry ≡ 2)
+              × (a0.bytes.now ≡ self.entry.bytes.now) × (a0.pos ≡ self.entry.pos + 1) × (a0.len ≡ 0)
+              × ShowsValueOf a0 self.entry (payload_in 0) × (a1.bytes.now ≡ self.entry.bytes.now)
+              × (a1.pos ≡ self.entry.pos + 2) × (a1.len ≡ 0)
+              × ShowsValueOf a1 self.entry (payload_in 1) × (a2.bytes.now ≡ self.entry.bytes.now)
+              × (a2.pos ≡ self.entry.pos + 4) × (a2.len ≡ 0)
+              × ShowsValueOf a2 self.entry (payload_in 2)
           | NoteNotesShown a0 ↦ (tag_of self.entry ≡ 3) × (a0.bytes.now ≡ self.entry.bytes.now)
               × (a0.pos ≡ self.entry.pos + 4) × (a0.len ≡ 0)
               × ShowsValueOf a0 self.entry (payload_in 0)
@@ -793,12 +874,17 @@ impl<'a> NoteView<'a> for Ref<'a, ArchivedNote> {
                     ArchivedNote,
                     ArchivedSortedMap<ArchivedU16, ArchivedI64>,
                 >(self, 1, 0, 4);
-                ViewOfNote::Hours(a0)
+                let a1 = view_of_payload::<ArchivedNote, NonZero<u32>>(self, 1, 1, 12);
+                let a2 = view_of_payload::<ArchivedNote, ArchivedBox<ArchivedU32>>(self, 1, 2, 16);
+                ViewOfNote::Work(a0, a1, a2)
             }
             2 => {
-                let a0 = view_of_payload::<ArchivedNote, NonZero<u32>>(self, 2, 0, 4);
-                let a1 = view_of_payload::<ArchivedNote, ArchivedBox<ArchivedU32>>(self, 2, 1, 8);
-                ViewOfNote::Rank(a0, a1)
+                let a0 = view_of_payload::<ArchivedNote, bool>(self, 2, 0, 1);
+                let a1 = view_of_payload::<ArchivedNote, ()>(self, 2, 1, 2);
+                let a2 = view_of_payload::<ArchivedNote, ArchivedResult<u8, ArchivedString>>(
+                    self, 2, 2, 4,
+                );
+                ViewOfNote::Outcome(a0, a1, a2)
             }
             _ => {
                 let a0 = view_of_payload::<ArchivedNote, ArchivedVec<ArchivedNote>>(self, 3, 0, 4);
@@ -826,18 +912,33 @@ pub trait NoteSeal<'a> {
         requires come_to { sealed self }
         requires tag { tag self ≡ 0 };
 
-    /// The field `0` of `Hours`.
-    fn hours_0_mut(self) -> Seal<'a, ArchivedSortedMap<ArchivedU16, ArchivedI64>>
+    /// The field `0` of `Work`.
+    fn work_0_mut(self) -> Seal<'a, ArchivedSortedMap<ArchivedU16, ArchivedI64>>
         requires come_to { sealed self }
         requires tag { tag self ≡ 1 };
 
-    /// The field `0` of `Rank`.
-    fn rank_0_mut(self) -> Seal<'a, NonZero<u32>>
+    /// The field `1` of `Work`.
+    fn work_1_mut(self) -> Seal<'a, NonZero<u32>>
+        requires come_to { sealed self }
+        requires tag { tag self ≡ 1 };
+
+    /// The field `2` of `Work`.
+    fn work_2_mut(self) -> Seal<'a, ArchivedBox<ArchivedU32>>
+        requires come_to { sealed self }
+        requires tag { tag self ≡ 1 };
+
+    /// The field `0` of `Outcome`.
+    fn outcome_0_mut(self) -> Seal<'a, bool>
         requires come_to { sealed self }
         requires tag { tag self ≡ 2 };
 
-    /// The field `1` of `Rank`.
-    fn rank_1_mut(self) -> Seal<'a, ArchivedBox<ArchivedU32>>
+    /// The field `1` of `Outcome`.
+    fn outcome_1_mut(self) -> Seal<'a, ()>
+        requires come_to { sealed self }
+        requires tag { tag self ≡ 2 };
+
+    /// The field `2` of `Outcome`.
+    fn outcome_2_mut(self) -> Seal<'a, ArchivedResult<u8, ArchivedString>>
         requires come_to { sealed self }
         requires tag { tag self ≡ 2 };
 
@@ -872,7 +973,7 @@ impl<'a> NoteSeal<'a> for Seal<'a, ArchivedNote> {
         seal_of_payload::<ArchivedNote, ArchivedOption<ArchivedString>>(self, 0, 1, 12)
     }
 
-    fn hours_0_mut(self) -> Seal<'a, ArchivedSortedMap<ArchivedU16, ArchivedI64>>
+    fn work_0_mut(self) -> Seal<'a, ArchivedSortedMap<ArchivedU16, ArchivedI64>>
         requires come_to { IsSealOf note_definitions (one ⟦<ArchivedNote as Portable>⟧.shape) self }
         requires tag { seal_tag self ≡ 1 }
         ensures { SealsPart note_definitions (one ⟦<ArchivedNote as Portable>⟧.shape)
@@ -883,23 +984,52 @@ impl<'a> NoteSeal<'a> for Seal<'a, ArchivedNote> {
         seal_of_payload::<ArchivedNote, ArchivedSortedMap<ArchivedU16, ArchivedI64>>(self, 1, 0, 4)
     }
 
-    fn rank_0_mut(self) -> Seal<'a, NonZero<u32>>
+    fn work_1_mut(self) -> Seal<'a, NonZero<u32>>
         requires come_to { IsSealOf note_definitions (one ⟦<ArchivedNote as Portable>⟧.shape) self }
-        requires tag { seal_tag self ≡ 2 }
+        requires tag { seal_tag self ≡ 1 }
         ensures { SealsPart note_definitions (one ⟦<ArchivedNote as Portable>⟧.shape) no_definition
-            ⟦<NonZero<u32> as ArchivePointee>⟧.pointee (self.entry.pos + 4) 0 self.entry result }
+            ⟦<NonZero<u32> as ArchivePointee>⟧.pointee (self.entry.pos + 12) 0 self.entry result }
     {
-        seal_of_payload::<ArchivedNote, NonZero<u32>>(self, 2, 0, 4)
+        seal_of_payload::<ArchivedNote, NonZero<u32>>(self, 1, 1, 12)
     }
 
-    fn rank_1_mut(self) -> Seal<'a, ArchivedBox<ArchivedU32>>
+    fn work_2_mut(self) -> Seal<'a, ArchivedBox<ArchivedU32>>
+        requires come_to { IsSealOf note_definitions (one ⟦<ArchivedNote as Portable>⟧.shape) self }
+        requires tag { seal_tag self ≡ 1 }
+        ensures { SealsPart note_definitions (one ⟦<ArchivedNote as Portable>⟧.shape) no_definition
+            ⟦<ArchivedBox<ArchivedU32> as ArchivePointee>⟧.pointee (self.entry.pos + 16) 0
+            self.entry result }
+    {
+        seal_of_payload::<ArchivedNote, ArchivedBox<ArchivedU32>>(self, 1, 2, 16)
+    }
+
+    fn outcome_0_mut(self) -> Seal<'a, bool>
         requires come_to { IsSealOf note_definitions (one ⟦<ArchivedNote as Portable>⟧.shape) self }
         requires tag { seal_tag self ≡ 2 }
         ensures { SealsPart note_definitions (one ⟦<ArchivedNote as Portable>⟧.shape) no_definition
-            ⟦<ArchivedBox<ArchivedU32> as ArchivePointee>⟧.pointee (self.entry.pos + 8) 0 self.entry
-            result }
+            ⟦<bool as ArchivePointee>⟧.pointee (self.entry.pos + 1) 0 self.entry result }
     {
-        seal_of_payload::<ArchivedNote, ArchivedBox<ArchivedU32>>(self, 2, 1, 8)
+        seal_of_payload::<ArchivedNote, bool>(self, 2, 0, 1)
+    }
+
+    fn outcome_1_mut(self) -> Seal<'a, ()>
+        requires come_to { IsSealOf note_definitions (one ⟦<ArchivedNote as Portable>⟧.shape) self }
+        requires tag { seal_tag self ≡ 2 }
+        ensures { SealsPart note_definitions (one ⟦<ArchivedNote as Portable>⟧.shape) no_definition
+            ⟦<() as ArchivePointee>⟧.pointee (self.entry.pos + 2) 0 self.entry result }
+    {
+        seal_of_payload::<ArchivedNote, ()>(self, 2, 1, 2)
+    }
+
+    fn outcome_2_mut(self) -> Seal<'a, ArchivedResult<u8, ArchivedString>>
+        requires come_to { IsSealOf note_definitions (one ⟦<ArchivedNote as Portable>⟧.shape) self }
+        requires tag { seal_tag self ≡ 2 }
+        ensures { SealsPart note_definitions (one ⟦<ArchivedNote as Portable>⟧.shape)
+            (both no_definition no_definition)
+            ⟦<ArchivedResult<u8, ArchivedString> as ArchivePointee>⟧.pointee (self.entry.pos + 4) 0
+            self.entry result }
+    {
+        seal_of_payload::<ArchivedNote, ArchivedResult<u8, ArchivedString>>(self, 2, 2, 4)
     }
 
     fn notes_0_mut(self) -> Seal<'a, ArchivedVec<ArchivedNote>>

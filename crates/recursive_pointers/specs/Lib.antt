@@ -1,4 +1,2 @@
-pub mod GroveMeaning
-pub mod GroveShape
 pub mod RoadMeaning
 pub mod RoadShape

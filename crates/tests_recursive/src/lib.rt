@@ -10,12 +10,12 @@ mod damaged;
 #[cfg(test)]
 mod graphs;
 #[cfg(test)]
-mod groves;
-#[cfg(test)]
 mod holders;
 #[cfg(test)]
 mod kinds;
 #[cfg(test)]
 mod long;
+#[cfg(test)]
+mod notes;
 #[cfg(test)]
 mod tuples;

@@ -14,7 +14,7 @@ use Rattle.archive_core.specs.PlannedOwners.{each_planned}
 use Rattle.archive_core.specs.Runs.{each_keys, each_meaning}
 use Rattle.archive_core.specs.Shape.{vec, no_part}
 use Rattle.archive_core.specs.Value.{list, value, no_value}
-use Rattle.recursive_fields.specs.NoteMeaning.{note_meaning, note_keys, note_planned, note_texts_means, note_texts_has_keys, note_texts_opens, note_hours_means, note_hours_has_keys, note_hours_opens, note_rank_means, note_rank_has_keys, note_rank_opens, note_notes_means, note_notes_has_keys, note_notes_opens}
+use Rattle.recursive_fields.specs.NoteMeaning.{note_meaning, note_keys, note_planned, note_texts_means, note_texts_has_keys, note_texts_opens, note_work_means, note_work_has_keys, note_work_opens, note_outcome_means, note_outcome_has_keys, note_outcome_opens, note_notes_means, note_notes_has_keys, note_notes_opens}
 use Rattle.recursive_fields.specs.NoteShape.{note_name, note_shape, note_definitions, note_variants, note_variant_definitions, note_has_variants, note_notes_parts, note_notes_definitions}
 use Rattle.std.proofs.Common.{◌≡◌, ◌<◌, [], length, refl, arith}
 use Rattle.std.proofs.Math.ListN.{drop_of_length-le}
@@ -79,23 +79,23 @@ serialize_note-returns-in-Ok-clause-same_value g t c = rw (c.in-Texts.is, note_t
 pub serialize_note-returns-in-Err-clause-refused : goal.serialize_note-returns-in-Err-clause-refused
 serialize_note-returns-in-Err-clause-refused g t c = rw c.in-Texts.is (refused_as (note_texts_has_keys c.in-Texts.a0 c.in-Texts.a1) (note_texts_means c.in-Texts.a0 c.in-Texts.a1) c.in-Err.ensures.refused)
 
-pub serialize_note-returns-in-Ok-serialize_note_hours-clause-serialized : goal.serialize_note-returns-in-Ok-serialize_note_hours-clause-serialized
-serialize_note-returns-in-Ok-serialize_note_hours-clause-serialized g t c = rw c.in-Hours.is (written_as (note_hours_has_keys c.in-Hours.a0) (note_hours_means c.in-Hours.a0) (rw (note_hours_opens c.in-Hours.a0) refl) c.in-Ok-serialize_note_hours.ensures.serialized)
+pub serialize_note-returns-in-Ok-serialize_note_work-clause-serialized : goal.serialize_note-returns-in-Ok-serialize_note_work-clause-serialized
+serialize_note-returns-in-Ok-serialize_note_work-clause-serialized g t c = rw c.in-Work.is (written_as (note_work_has_keys c.in-Work.a0 c.in-Work.a1 c.in-Work.a2) (note_work_means c.in-Work.a0 c.in-Work.a1 c.in-Work.a2) (rw (note_work_opens c.in-Work.a0 c.in-Work.a1 c.in-Work.a2) refl) c.in-Ok-serialize_note_work.ensures.serialized)
 
-pub serialize_note-returns-in-Ok-serialize_note_hours-clause-same_value : goal.serialize_note-returns-in-Ok-serialize_note_hours-clause-same_value
-serialize_note-returns-in-Ok-serialize_note_hours-clause-same_value g t c = rw (c.in-Hours.is, note_hours_opens c.in-Hours.a0) c.in-Ok-serialize_note_hours.ensures.same_values
+pub serialize_note-returns-in-Ok-serialize_note_work-clause-same_value : goal.serialize_note-returns-in-Ok-serialize_note_work-clause-same_value
+serialize_note-returns-in-Ok-serialize_note_work-clause-same_value g t c = rw (c.in-Work.is, note_work_opens c.in-Work.a0 c.in-Work.a1 c.in-Work.a2) c.in-Ok-serialize_note_work.ensures.same_values
 
-pub serialize_note-returns-in-Err-serialize_note_hours-clause-refused : goal.serialize_note-returns-in-Err-serialize_note_hours-clause-refused
-serialize_note-returns-in-Err-serialize_note_hours-clause-refused g t c = rw c.in-Hours.is (refused_as (note_hours_has_keys c.in-Hours.a0) (note_hours_means c.in-Hours.a0) c.in-Err-serialize_note_hours.ensures.refused)
+pub serialize_note-returns-in-Err-serialize_note_work-clause-refused : goal.serialize_note-returns-in-Err-serialize_note_work-clause-refused
+serialize_note-returns-in-Err-serialize_note_work-clause-refused g t c = rw c.in-Work.is (refused_as (note_work_has_keys c.in-Work.a0 c.in-Work.a1 c.in-Work.a2) (note_work_means c.in-Work.a0 c.in-Work.a1 c.in-Work.a2) c.in-Err-serialize_note_work.ensures.refused)
 
-pub serialize_note-returns-in-Ok-serialize_note_rank-clause-serialized : goal.serialize_note-returns-in-Ok-serialize_note_rank-clause-serialized
-serialize_note-returns-in-Ok-serialize_note_rank-clause-serialized g t c = rw c.in-Rank.is (written_as (note_rank_has_keys c.in-Rank.a0 c.in-Rank.a1) (note_rank_means c.in-Rank.a0 c.in-Rank.a1) (rw (note_rank_opens c.in-Rank.a0 c.in-Rank.a1) refl) c.in-Ok-serialize_note_rank.ensures.serialized)
+pub serialize_note-returns-in-Ok-serialize_note_outcome-clause-serialized : goal.serialize_note-returns-in-Ok-serialize_note_outcome-clause-serialized
+serialize_note-returns-in-Ok-serialize_note_outcome-clause-serialized g t c = rw c.in-Outcome.is (written_as (note_outcome_has_keys c.in-Outcome.a0 c.in-Outcome.a1 c.in-Outcome.a2) (note_outcome_means c.in-Outcome.a0 c.in-Outcome.a1 c.in-Outcome.a2) (rw (note_outcome_opens c.in-Outcome.a0 c.in-Outcome.a1 c.in-Outcome.a2) refl) c.in-Ok-serialize_note_outcome.ensures.serialized)
 
-pub serialize_note-returns-in-Ok-serialize_note_rank-clause-same_value : goal.serialize_note-returns-in-Ok-serialize_note_rank-clause-same_value
-serialize_note-returns-in-Ok-serialize_note_rank-clause-same_value g t c = rw (c.in-Rank.is, note_rank_opens c.in-Rank.a0 c.in-Rank.a1) c.in-Ok-serialize_note_rank.ensures.same_values
+pub serialize_note-returns-in-Ok-serialize_note_outcome-clause-same_value : goal.serialize_note-returns-in-Ok-serialize_note_outcome-clause-same_value
+serialize_note-returns-in-Ok-serialize_note_outcome-clause-same_value g t c = rw (c.in-Outcome.is, note_outcome_opens c.in-Outcome.a0 c.in-Outcome.a1 c.in-Outcome.a2) c.in-Ok-serialize_note_outcome.ensures.same_values
 
-pub serialize_note-returns-in-Err-serialize_note_rank-clause-refused : goal.serialize_note-returns-in-Err-serialize_note_rank-clause-refused
-serialize_note-returns-in-Err-serialize_note_rank-clause-refused g t c = rw c.in-Rank.is (refused_as (note_rank_has_keys c.in-Rank.a0 c.in-Rank.a1) (note_rank_means c.in-Rank.a0 c.in-Rank.a1) c.in-Err-serialize_note_rank.ensures.refused)
+pub serialize_note-returns-in-Err-serialize_note_outcome-clause-refused : goal.serialize_note-returns-in-Err-serialize_note_outcome-clause-refused
+serialize_note-returns-in-Err-serialize_note_outcome-clause-refused g t c = rw c.in-Outcome.is (refused_as (note_outcome_has_keys c.in-Outcome.a0 c.in-Outcome.a1 c.in-Outcome.a2) (note_outcome_means c.in-Outcome.a0 c.in-Outcome.a1 c.in-Outcome.a2) c.in-Err-serialize_note_outcome.ensures.refused)
 
 pub serialize_note-returns-in-Ok-serialize_note_notes-clause-serialized : goal.serialize_note-returns-in-Ok-serialize_note_notes-clause-serialized
 serialize_note-returns-in-Ok-serialize_note_notes-clause-serialized g t c = rw c.in-Notes.is (written_as (note_notes_has_keys c.in-Notes.a0) (note_notes_means c.in-Notes.a0) (rw (note_notes_opens c.in-Notes.a0) refl) c.in-Ok-serialize_note_notes.ensures.serialized)
