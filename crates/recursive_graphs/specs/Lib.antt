@@ -1,2 +1,4 @@
 pub mod KnotMeaning
 pub mod KnotShape
+pub mod RoadMeaning
+pub mod RoadShape

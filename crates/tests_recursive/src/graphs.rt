@@ -9,7 +9,7 @@ use archive_core::rc::Shared;
 use archive_core::view::Ref;
 use recursive_graphs::graph::{ArchivedGraph, Graph};
 use recursive_graphs::knot::Knot;
-use recursive_pointers::road::{ArchivedRoad, Road, RoadView, ViewOfRoad};
+use recursive_graphs::road::{ArchivedRoad, Road, RoadView, ViewOfRoad};
 use std::alloc::{AllocError, Global};
 use std::rc::Rc;
 

@@ -33,7 +33,7 @@ ghost use Rattle.archive_core.specs.Sources.{Read, ReadsAs};
 ghost use Rattle.archive_core.specs.Value.{case, no_value, shared_value, value};
 ghost use Rattle.archive_core.specs.Writing.{ZeroedPlace};
 ghost use Rattle.archive_core.specs.Written.{GoesOn};
-ghost use Rattle.recursive_pointers.specs.RoadShape.{road_definitions, road_detour_parts, road_has_layout, road_has_variants, road_is_align, road_layout, road_name, road_no_others, road_shape, road_stands_for, road_way_parts};
+ghost use Rattle.recursive_graphs.specs.RoadShape.{road_definitions, road_detour_parts, road_has_layout, road_has_variants, road_is_align, road_layout, road_name, road_no_others, road_shape, road_stands_for, road_way_parts};
 ghost use Rattle.std.proofs.Common.{lit≤};
 ghost use Rattle.std.specs.Prelude.{IfErr, IfOk, None, Some, [], length, refl, ℕ, ⊤, ◌++◌, ◌+◌, ◌≡◌, ◌≤◌};
 
@@ -318,7 +318,7 @@ impl Archive for OptionSharedRoadAt {
 }
 
 impl Archive for Road {
-    ghost use Rattle.recursive_pointers.specs.RoadMeaning.{road_meaning, road_flat, road_keys, road_belongs, road_keyed, road_planned};
+    ghost use Rattle.recursive_graphs.specs.RoadMeaning.{road_meaning, road_flat, road_keys, road_belongs, road_keyed, road_planned};
 
     type Archived = ArchivedRoad;
 
@@ -570,7 +570,7 @@ impl<S: Sharing + Writer + ResolverAlloc> Serialize<S> for Road {
 
 /// As a region of its own: the value itself.
 impl ArchiveUnsized for Road {
-    ghost use Rattle.recursive_pointers.specs.contracts.road.RoadArchive.TheImpl.Laws.{keyed-law as keyed_of_road, planned-law as planned_of_road};
+    ghost use Rattle.recursive_graphs.specs.contracts.road.RoadArchive.TheImpl.Laws.{keyed-law as keyed_of_road, planned-law as planned_of_road};
 
     type Archived = ArchivedRoad;
 
@@ -756,7 +756,7 @@ pub trait RoadView<'a> {
 }
 
 impl<'a> RoadView<'a> for Ref<'a, ArchivedRoad> {
-    ghost use Rattle.recursive_pointers.specs.declared.road.ViewOfRoad.TheVariants.{Detour as RoadDetourShown, Way as RoadWayShown};
+    ghost use Rattle.recursive_graphs.specs.declared.road.ViewOfRoad.TheVariants.{Detour as RoadDetourShown, Way as RoadWayShown};
 
     fn variant(self) -> ViewOfRoad<'a>
         ensures shows { elim result [

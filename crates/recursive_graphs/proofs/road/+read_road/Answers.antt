@@ -13,12 +13,12 @@ use Rattle.archive_core.specs.PartsReading.{part_read_back, no_part_read_back}
 use Rattle.archive_core.specs.Shape.{shared, one, leaf, unsigned, part, no_part, number as number_kind}
 use Rattle.archive_core.specs.SharedSources.{rc_flavor, rc_keys}
 use Rattle.archive_core.specs.Value.{value}
-use Rattle.recursive_pointers.specs.RoadMeaning.{road_meaning, road_keys, road_way_means, road_way_has_keys, road_detour_means, road_detour_has_keys}
-use Rattle.recursive_pointers.specs.RoadShape.{road_name, road_shape, road_definitions, road_variants, road_variant_definitions, road_has_variants, road_way_parts, road_way_definitions, road_detour_parts, road_detour_definitions}
+use Rattle.recursive_graphs.specs.RoadMeaning.{road_meaning, road_keys, road_way_means, road_way_has_keys, road_detour_means, road_detour_has_keys}
+use Rattle.recursive_graphs.specs.RoadShape.{road_name, road_shape, road_definitions, road_variants, road_variant_definitions, road_has_variants, road_way_parts, road_way_definitions, road_detour_parts, road_detour_definitions}
 use Rattle.std.proofs.Common.{◌++◌, [], length, refl, pos}
 use Rattle.std.specs.Int.{w32}
 use Rattle.std.specs.Prelude.{[], ◌++◌, refl, pos, length}
-use Rattle.recursive_pointers.proofs.road.+read_road.Goals as goal
+use Rattle.recursive_graphs.proofs.road.+read_road.Goals as goal
 
 pub read_shared_road-returns-in_err-value-in-None-clause-refused : goal.read_shared_road-returns-in_err-value-in-None-clause-refused
 read_shared_road-returns-in_err-value-in-None-clause-refused g t c = err_by c.from_residual-in_err-value-in-None.result c.in_err-value-in-None.field-0.0 _ c.from_residual-in_err-value-in-None.ensures.1 (unread_since road_definitions c.args.part.bytes.now c.args.part.pos c.args.part.len rc_flavor (one road_shape) g.D.Entries.keeps _ _ _ c.requires (rw c.in-None.is at c.in_ok-value.ensures.begun) (rw (c.part_behind-behind.ensures.buffer, c.part_behind-behind.ensures.position, c.part_behind-behind.ensures.length) at c.in_err-value-in-None.ensures.refused))

@@ -13,13 +13,13 @@ use Rattle.archive_core.specs.PartsPlanned.{part_planned, no_part_planned}
 use Rattle.archive_core.specs.Shape.{shared, one, leaf, unsigned, part, no_part, number as number_kind}
 use Rattle.archive_core.specs.SharedSources.{rc_flavor, rc_keys, rc_one_planned}
 use Rattle.archive_core.specs.Value.{number, value, no_value, shared_value}
-use Rattle.recursive_pointers.specs.RoadMeaning.{road_meaning, road_keys, road_planned, road_way_means, road_way_has_keys, road_way_opens, road_detour_means, road_detour_has_keys, road_detour_opens}
-use Rattle.recursive_pointers.specs.RoadShape.{road_name, road_shape, road_definitions, road_variants, road_variant_definitions, road_has_variants, road_way_parts, road_way_definitions, road_detour_parts, road_detour_definitions}
+use Rattle.recursive_graphs.specs.RoadMeaning.{road_meaning, road_keys, road_planned, road_way_means, road_way_has_keys, road_way_opens, road_detour_means, road_detour_has_keys, road_detour_opens}
+use Rattle.recursive_graphs.specs.RoadShape.{road_name, road_shape, road_definitions, road_variants, road_variant_definitions, road_has_variants, road_way_parts, road_way_definitions, road_detour_parts, road_detour_definitions}
 use Rattle.std.proofs.Common.{◌≡◌, ◌++◌, [], refl, arith, pos}
 use Rattle.std.proofs.lemmas.Grind.{common_steps}
 use Rattle.std.specs.Int.{w32}
 use Rattle.std.specs.Prelude.{[], ◌++◌, ◌≡◌, refl, pos}
-use Rattle.recursive_pointers.proofs.road.+serialize_road.Goals as goal
+use Rattle.recursive_graphs.proofs.road.+serialize_road.Goals as goal
 
 pub serialize_shared_road-returns-in-Err-clause-refused : goal.serialize_shared_road-returns-in-Err-clause-refused
 serialize_shared_road-returns-in-Err-clause-refused g t c = (c.in-Err.ensures.refused.said road_definitions rc_flavor (one road_shape) 0 (road_keys c.args.value.now.value.value) (road_meaning c.args.value.now.value.value))

@@ -15,17 +15,17 @@ use Rattle.archive_core.specs.Value.{Value, case, number, value, no_value, share
 use Rattle.archive_core.specs.Variants.{case_of}
 use Rattle.archive_core.specs.Writing.{IsKeyed}
 use Rattle.archive_core.specs.declared.rc.sources.Shared.{Shared}
-use Rattle.recursive_pointers.specs.declared.road.Road.{Road-F, out-Road, roll-Road, fold-Road, fold-roll-Road, ind-Road, out-roll-Road}
-use Rattle.recursive_pointers.specs.declared.road.Road.TheFolds.{map-Road}
-use Rattle.recursive_pointers.specs.declared.road.RoadResolver.{RoadResolver}
+use Rattle.recursive_graphs.specs.declared.road.Road.{Road-F, out-Road, roll-Road, fold-Road, fold-roll-Road, ind-Road, out-roll-Road}
+use Rattle.recursive_graphs.specs.declared.road.Road.TheFolds.{map-Road}
+use Rattle.recursive_graphs.specs.declared.road.RoadResolver.{RoadResolver}
 use Rattle.std.proofs.Common.{ap, subst, sym, ◌∙◌}
 use Rattle.std.specs.Int.{w32}
 use Rattle.std.specs.Prelude.{ℕ, List, [], ◌++◌, ◌≡◌, refl, pos, ⊤, Option, None, Some}
-use Rattle.recursive_pointers.specs.RoadShape.{road_name, road_shape, road_definitions, road_variants, road_variant_definitions, road_has_variants, road_way_parts, road_way_definitions, road_detour_parts, road_detour_definitions}
-use Rattle.recursive_pointers.specs.declared.road.Road.{Road as Road-Source}
-use Rattle.recursive_pointers.specs.declared.road.Road.TheOpen as Layer
-use Rattle.recursive_pointers.specs.declared.road.Road.TheVariants as Its
-use Rattle.recursive_pointers.specs.declared.road.RoadResolver.TheVariants as Kept
+use Rattle.recursive_graphs.specs.RoadShape.{road_name, road_shape, road_definitions, road_variants, road_variant_definitions, road_has_variants, road_way_parts, road_way_definitions, road_detour_parts, road_detour_definitions}
+use Rattle.recursive_graphs.specs.declared.road.Road.{Road as Road-Source}
+use Rattle.recursive_graphs.specs.declared.road.Road.TheOpen as Layer
+use Rattle.recursive_graphs.specs.declared.road.Road.TheVariants as Its
+use Rattle.recursive_graphs.specs.declared.road.RoadResolver.TheVariants as Kept
 
 abbrev pub road_meaning_layer : {A : Type 0} → (A → Value) → Road-F A → Value
 road_meaning_layer m (Layer.Way a0 a1) = case 0 (value (number (pos a0)) (value (option_meaning (λ y. (shared_value y.key)) a1) no_value))

@@ -1,2 +1,0 @@
-pub mod RoadMeaning
-pub mod RoadShape
