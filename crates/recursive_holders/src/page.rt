@@ -1,6 +1,6 @@
-//! Structs that hold what holds a recursive type.
+//! A struct that holds a recursive type, and an enum that does.
 
-use crate::message::{Message, Topic};
+use crate::json::{Json, Message};
 
 /// A page of messages.
 #[derive(Debug, PartialEq, Drop)]
@@ -8,18 +8,11 @@ pub struct Page {
     /// Its title.
     pub title: String,
     /// What it is on.
-    pub topic: Topic,
-    /// What is posted on it.
+    pub subject: Json,
+    /// What is posted on it first.
     pub message: Message,
-}
-
-/// Pages one after another.
-#[derive(Debug, PartialEq, Drop)]
-pub struct Book {
-    /// The first page.
-    pub first: Page,
-    /// The others.
-    pub pages: Vec<Page>,
+    /// What is posted then.
+    pub others: Vec<Message>,
 }
 
 // Below this line all is written by tools/derive: change what is above it, and run it again.
@@ -38,17 +31,15 @@ ghost use Rattle.archive_core.specs.Sources.{Read, ReadsAs};
 ghost use Rattle.archive_core.specs.Value.{value};
 ghost use Rattle.archive_core.specs.Writing.{ZeroedPlace};
 ghost use Rattle.archive_core.specs.Written.{GoesOn};
-ghost use Rattle.recursive_holders.specs.BookShape.{book_definitions, book_has_layout, book_has_parts, book_is_align, book_layout, book_no_others, book_shape};
 ghost use Rattle.recursive_holders.specs.PageShape.{page_definitions, page_has_layout, page_has_parts, page_is_align, page_layout, page_no_others, page_shape};
 ghost use Rattle.std.proofs.Common.{lit≤};
 ghost use Rattle.std.specs.Prelude.{IfErr, IfOk, None, length, refl, ◌+◌, ◌≡◌, ◌≤◌};
 
-use crate::message::{ArchivedMessage, ArchivedTopic};
+use crate::json::{ArchivedJson, ArchivedMessage};
 use archive_core::error::Error;
 use archive_core::place::Place;
 use archive_core::recursive::{
-    part_of_record, read_part, resolve_named_record_2, resolve_named_record_3, seal_of_field,
-    serialize_part, view_of_field,
+    part_of_record, read_part, resolve_named_record_4, seal_of_field, serialize_part, view_of_field,
 };
 use archive_core::seal::Seal;
 use archive_core::self_check::BySchema;
@@ -63,10 +54,16 @@ use archive_core::vec::ArchivedVec;
 use archive_core::view::{RawView, Ref};
 use std::alloc::Global;
 
-/// An archived `Page`: 64 bytes at a multiple of 4. It is validated by its schema.
+/// An archived `Page`: 104 bytes at a multiple of 8. It is validated by its schema.
 pub struct ArchivedPage;
 
-type PageParts = (ArchivedString, (ArchivedTopic, (ArchivedMessage, ())));
+type PageParts = (
+    ArchivedString,
+    (
+        ArchivedJson,
+        (ArchivedMessage, (ArchivedVec<ArchivedMessage>, ())),
+    ),
+);
 
 impl ArchivePointee for ArchivedPage {
     type ArchivedMetadata = ();
@@ -100,11 +97,11 @@ impl Portable for ArchivedPage {
     ghost checks = { λ direct. by_schema direct };
 
     fn size() -> usize {
-        64
+        104
     }
 
     fn align() -> usize {
-        4
+        8
     }
 
     fn expr(alloc: Global) -> Result<archive_core::shape::Expr, Error> {
@@ -130,8 +127,11 @@ pub struct PageResolver {
     kept: (
         <String as Archive>::Resolver,
         (
-            <Topic as Archive>::Resolver,
-            (<Message as Archive>::Resolver, ()),
+            <Json as Archive>::Resolver,
+            (
+                <Message as Archive>::Resolver,
+                (<Vec<Message> as Archive>::Resolver, ()),
+            ),
         ),
     ),
 }
@@ -163,19 +163,20 @@ impl Archive for Page {
         resolver: Self::Resolver,
         place: Place<'_, Self::Archived>,
     ) -> Result<(), Error>
-        requires zeroed { ZeroedPlace 64 place.pos place.bytes.now }
+        requires zeroed { ZeroedPlace 104 place.pos place.bytes.now }
         requires same_value { ⟦<Self as Archive>⟧.belongs self.now resolver }
         ensures { ResolvesAs ⟦<Self::Archived as Portable>⟧ place
             (⟦<Self as Archive>⟧.flat self.now resolver) result }
     {
         let Place { bytes, pos, .. } = place;
         let PageResolver { kept } = resolver;
-        let (r0, (r1, (r2, ()))) = kept;
-        resolve_named_record_3::<String, Topic, Message, ArchivedPage>(
+        let (r0, (r1, (r2, (r3, ())))) = kept;
+        resolve_named_record_4::<String, Json, Message, Vec<Message>, ArchivedPage>(
             &self.title,
-            &self.topic,
+            &self.subject,
             &self.message,
-            (r0, (r1, (r2, ()))),
+            &self.others,
+            (r0, (r1, (r2, (r3, ())))),
             Place::new(pos, bytes),
         )
     }
@@ -213,7 +214,7 @@ fn serialize_page<S: Writer + Keys + ResolverAlloc>(
         Ok(a0) => a0,
         Err(error) => return Err(error),
     };
-    let a1 = match serialize_part(&value.topic, serializer) {
+    let a1 = match serialize_part(&value.subject, serializer) {
         Ok(a1) => a1,
         Err(error) => return Err(error),
     };
@@ -221,8 +222,12 @@ fn serialize_page<S: Writer + Keys + ResolverAlloc>(
         Ok(a2) => a2,
         Err(error) => return Err(error),
     };
+    let a3 = match serialize_part(&value.others, serializer) {
+        Ok(a3) => a3,
+        Err(error) => return Err(error),
+    };
     Ok(PageResolver {
-        kept: (a0, (a1, (a2, ()))),
+        kept: (a0, (a1, (a2, (a3, ())))),
     })
 }
 
@@ -280,14 +285,17 @@ fn read_page<D: Entries>(
 {
     let p0 = part_of_record::<ArchivedPage, ArchivedString>(part, 0, 0);
     let a0 = read_part::<ArchivedString, String, D>(alloc, p0, deserializer)?;
-    let p1 = part_of_record::<ArchivedPage, ArchivedTopic>(part, 1, 8);
-    let a1 = read_part::<ArchivedTopic, Topic, D>(alloc, p1, deserializer)?;
-    let p2 = part_of_record::<ArchivedPage, ArchivedMessage>(part, 2, 24);
+    let p1 = part_of_record::<ArchivedPage, ArchivedJson>(part, 1, 8);
+    let a1 = read_part::<ArchivedJson, Json, D>(alloc, p1, deserializer)?;
+    let p2 = part_of_record::<ArchivedPage, ArchivedMessage>(part, 2, 32);
     let a2 = read_part::<ArchivedMessage, Message, D>(alloc, p2, deserializer)?;
+    let p3 = part_of_record::<ArchivedPage, ArchivedVec<ArchivedMessage>>(part, 3, 96);
+    let a3 = read_part::<ArchivedVec<ArchivedMessage>, Vec<Message>, D>(alloc, p3, deserializer)?;
     Ok(Page {
         title: a0,
-        topic: a1,
+        subject: a1,
         message: a2,
+        others: a3,
     })
 }
 
@@ -312,10 +320,13 @@ pub trait PageView<'a> {
     fn title(self) -> Ref<'a, ArchivedString>;
 
     /// What it is on.
-    fn topic(self) -> Ref<'a, ArchivedTopic>;
+    fn subject(self) -> Ref<'a, ArchivedJson>;
 
-    /// What is posted on it.
+    /// What is posted on it first.
     fn message(self) -> Ref<'a, ArchivedMessage>;
+
+    /// What is posted then.
+    fn others(self) -> Ref<'a, ArchivedVec<ArchivedMessage>>;
 }
 
 impl<'a> PageView<'a> for Ref<'a, ArchivedPage> {
@@ -328,22 +339,31 @@ impl<'a> PageView<'a> for Ref<'a, ArchivedPage> {
         view_of_field::<ArchivedPage, ArchivedString>(self, 0, 0)
     }
 
-    fn topic(self) -> Ref<'a, ArchivedTopic>
+    fn subject(self) -> Ref<'a, ArchivedJson>
         ensures buffer { result.bytes.now ≡ self.entry.bytes.now }
         ensures position { result.pos ≡ self.entry.pos + 8 }
         ensures length { result.len ≡ 0 }
         ensures shows { ShowsValueOf result self.entry (field_in 1) }
     {
-        view_of_field::<ArchivedPage, ArchivedTopic>(self, 1, 8)
+        view_of_field::<ArchivedPage, ArchivedJson>(self, 1, 8)
     }
 
     fn message(self) -> Ref<'a, ArchivedMessage>
         ensures buffer { result.bytes.now ≡ self.entry.bytes.now }
-        ensures position { result.pos ≡ self.entry.pos + 24 }
+        ensures position { result.pos ≡ self.entry.pos + 32 }
         ensures length { result.len ≡ 0 }
         ensures shows { ShowsValueOf result self.entry (field_in 2) }
     {
-        view_of_field::<ArchivedPage, ArchivedMessage>(self, 2, 24)
+        view_of_field::<ArchivedPage, ArchivedMessage>(self, 2, 32)
+    }
+
+    fn others(self) -> Ref<'a, ArchivedVec<ArchivedMessage>>
+        ensures buffer { result.bytes.now ≡ self.entry.bytes.now }
+        ensures position { result.pos ≡ self.entry.pos + 96 }
+        ensures length { result.len ≡ 0 }
+        ensures shows { ShowsValueOf result self.entry (field_in 3) }
+    {
+        view_of_field::<ArchivedPage, ArchivedVec<ArchivedMessage>>(self, 3, 96)
     }
 }
 
@@ -357,11 +377,15 @@ pub trait PageSeal<'a> {
         requires { sealed self };
 
     /// What it is on.
-    fn topic_mut(self) -> Seal<'a, ArchivedTopic>
+    fn subject_mut(self) -> Seal<'a, ArchivedJson>
         requires { sealed self };
 
-    /// What is posted on it.
+    /// What is posted on it first.
     fn message_mut(self) -> Seal<'a, ArchivedMessage>
+        requires { sealed self };
+
+    /// What is posted then.
+    fn others_mut(self) -> Seal<'a, ArchivedVec<ArchivedMessage>>
         requires { sealed self };
 }
 
@@ -376,320 +400,32 @@ impl<'a> PageSeal<'a> for Seal<'a, ArchivedPage> {
         seal_of_field::<ArchivedPage, ArchivedString>(self, 0, 0)
     }
 
-    fn topic_mut(self) -> Seal<'a, ArchivedTopic>
+    fn subject_mut(self) -> Seal<'a, ArchivedJson>
         requires come_to { IsSealOf page_definitions (one ⟦<ArchivedPage as Portable>⟧.shape) self }
         ensures { SealsPart page_definitions (one ⟦<ArchivedPage as Portable>⟧.shape)
-            ⟦<ArchivedTopic as ArchivePointee>⟧.definitions
-            ⟦<ArchivedTopic as ArchivePointee>⟧.pointee (self.entry.pos + 8) 0 self.entry result }
+            ⟦<ArchivedJson as ArchivePointee>⟧.definitions
+            ⟦<ArchivedJson as ArchivePointee>⟧.pointee (self.entry.pos + 8) 0 self.entry result }
     {
-        seal_of_field::<ArchivedPage, ArchivedTopic>(self, 1, 8)
+        seal_of_field::<ArchivedPage, ArchivedJson>(self, 1, 8)
     }
 
     fn message_mut(self) -> Seal<'a, ArchivedMessage>
         requires come_to { IsSealOf page_definitions (one ⟦<ArchivedPage as Portable>⟧.shape) self }
         ensures { SealsPart page_definitions (one ⟦<ArchivedPage as Portable>⟧.shape)
             ⟦<ArchivedMessage as ArchivePointee>⟧.definitions
-            ⟦<ArchivedMessage as ArchivePointee>⟧.pointee (self.entry.pos + 24) 0 self.entry
+            ⟦<ArchivedMessage as ArchivePointee>⟧.pointee (self.entry.pos + 32) 0 self.entry
             result }
     {
-        seal_of_field::<ArchivedPage, ArchivedMessage>(self, 2, 24)
-    }
-}
-
-/// An archived `Book`: 72 bytes at a multiple of 4. It is validated by its schema.
-pub struct ArchivedBook;
-
-type BookParts = (ArchivedPage, (ArchivedVec<ArchivedPage>, ()));
-
-impl ArchivePointee for ArchivedBook {
-    type ArchivedMetadata = ();
-
-    ghost pointee = { one book_shape };
-
-    ghost definitions = { book_definitions };
-
-    ghost metadata_length = { λ _. 0 };
-
-    fn pointer_metadata(_metadata: &()) -> usize {
-        0
-    }
-}
-
-impl Portable for ArchivedBook {
-    ghost shape = { book_shape };
-
-    ghost layout = { book_layout };
-
-    type Check = BySchema;
-
-    ghost is_one = { refl };
-
-    ghost is_align = { book_is_align };
-
-    ghost has_layout = { book_has_layout };
-
-    ghost no_others = { book_no_others };
-
-    ghost checks = { λ direct. by_schema direct };
-
-    fn size() -> usize {
-        72
+        seal_of_field::<ArchivedPage, ArchivedMessage>(self, 2, 32)
     }
 
-    fn align() -> usize {
-        4
-    }
-
-    fn expr(alloc: Global) -> Result<archive_core::shape::Expr, Error> {
-        expr_of_record::<BookParts>(alloc)
-    }
-
-    fn define(alloc: Global, defs: &mut Defs) -> Result<(), Error> {
-        <BookParts as PortableParts>::define(alloc, defs)
-    }
-}
-
-impl Record for ArchivedBook {
-    type Parts = BookParts;
-
-    ghost has_parts = { book_has_parts };
-
-    ghost holds = { lit≤ tt };
-}
-
-/// What is kept of `Book` between `serialize` and `resolve`.
-#[derive(Drop)]
-pub struct BookResolver {
-    kept: (
-        <Page as Archive>::Resolver,
-        (<Vec<Page> as Archive>::Resolver, ()),
-    ),
-}
-
-impl Archive for Book {
-    ghost use Rattle.recursive_holders.specs.BookMeaning.{book_meaning, book_flat, book_keys, book_belongs, book_keyed, book_planned};
-
-    type Archived = ArchivedBook;
-
-    type Resolver = BookResolver;
-
-    ghost meaning = { book_meaning };
-
-    ghost flat = { book_flat };
-
-    ghost keys = { book_keys };
-
-    ghost belongs = { book_belongs };
-
-    ghost in_bulk = { None };
-
-    ghost keyed = { book_keyed };
-
-    ghost planned = { book_planned };
-
-    #[inline(always)]
-    fn resolve(
-        &self,
-        resolver: Self::Resolver,
-        place: Place<'_, Self::Archived>,
-    ) -> Result<(), Error>
-        requires zeroed { ZeroedPlace 72 place.pos place.bytes.now }
-        requires same_value { ⟦<Self as Archive>⟧.belongs self.now resolver }
-        ensures { ResolvesAs ⟦<Self::Archived as Portable>⟧ place
-            (⟦<Self as Archive>⟧.flat self.now resolver) result }
-    {
-        let Place { bytes, pos, .. } = place;
-        let BookResolver { kept } = resolver;
-        let (r0, (r1, ())) = kept;
-        resolve_named_record_2::<Page, Vec<Page>, ArchivedBook>(
-            &self.first,
-            &self.pages,
-            (r0, (r1, ())),
-            Place::new(pos, bytes),
-        )
-    }
-
-    #[inline(always)]
-    fn copy_optimization() -> CopyOptimization<Self> {
-        CopyOptimization::disable()
-    }
-
-    #[inline(always)]
-    fn serialize_copied<S: Writer + Keys>(
-        _values: &[Self],
-        _together: usize,
-        _serializer: &mut S,
-    ) -> Result<Option<usize>, Error> {
-        Ok(None)
-    }
-}
-
-// Writes what a value owns, part by part.
-fn serialize_book<S: Writer + Keys + ResolverAlloc>(
-    value: &Book,
-    serializer: &mut S,
-) -> Result<BookResolver, Error>
-    ensures serialized { IfOk result (λ r. Serialized book_definitions book_shape
-        (⟦<Book as Archive>⟧.keys value.now) (⟦<Book as Archive>⟧.meaning value.now)
-        (⟦<Book as Archive>⟧.flat value.now r) (S.state serializer.old) (S.state serializer.new)) }
-    ensures same_value { IfOk result (λ r. ⟦<Book as Archive>⟧.belongs value.now r) }
-    ensures goes_on { GoesOn (S.state serializer.old) (S.state serializer.new) }
-    ensures refused { IfErr result (IsRefused book_definitions book_shape
-        (⟦<Book as Archive>⟧.keys value.now) (⟦<Book as Archive>⟧.meaning value.now)
-        (S.state serializer.old) (S.state serializer.new)) }
-{
-    let a0 = match serialize_part(&value.first, serializer) {
-        Ok(a0) => a0,
-        Err(error) => return Err(error),
-    };
-    let a1 = match serialize_part(&value.pages, serializer) {
-        Ok(a1) => a1,
-        Err(error) => return Err(error),
-    };
-    Ok(BookResolver {
-        kept: (a0, (a1, ())),
-    })
-}
-
-impl<S: Writer + Keys + ResolverAlloc> Serialize<S> for Book {
-    #[inline(always)]
-    fn serialize(&self, serializer: &mut S) -> Result<Self::Resolver, Error> {
-        serialize_book(self, serializer)
-    }
-}
-
-/// As a region of its own: the value itself.
-impl ArchiveUnsized for Book {
-    ghost use Rattle.recursive_holders.specs.contracts.page.BookArchive.TheImpl.Laws.{keyed-law as keyed_of_book, planned-law as planned_of_book};
-
-    type Archived = ArchivedBook;
-
-    ghost source_length = { λ _. 0 };
-
-    ghost meaning = { ⟦<Book as Archive>⟧.meaning };
-
-    ghost keys = { ⟦<Book as Archive>⟧.keys };
-
-    ghost keyed = { keyed_of_book };
-
-    ghost one_length = { λ _ _. refl };
-
-    ghost planned = { λ v. one_planned book_definitions book_shape (⟦<Book as Archive>⟧.keys v)
-        (⟦<Book as Archive>⟧.meaning v) (planned_of_book v) };
-
-    #[inline(always)]
-    fn archived_metadata(&self) -> Result<(), Error> {
-        Ok(())
-    }
-}
-
-impl<S: Writer + Keys + ResolverAlloc> SerializeUnsized<S> for Book {
-    #[inline(always)]
-    fn serialize_unsized(&self, serializer: &mut S) -> Result<usize, Error> {
-        serialize_one(self, serializer)
-    }
-}
-
-// Reads a value back, part by part.
-#[inline(always)]
-fn read_book<D: Entries>(
-    alloc: Global,
-    part: RawView<'_>,
-    deserializer: &mut D,
-) -> Result<Book, Error>
-    requires { IsPartOf ⟦<ArchivedBook as ArchivePointee>⟧ part }
-    ensures read { IfOk result (Read ⟦<ArchivedBook as ArchivePointee>⟧ part D.Entries deserializer
-        ⟦<Book as Archive>⟧) }
-    ensures refused { IfErr result (RefusesPart ⟦<ArchivedBook as ArchivePointee>⟧ part D.Entries
-        deserializer) }
-{
-    let p0 = part_of_record::<ArchivedBook, ArchivedPage>(part, 0, 0);
-    let a0 = read_part::<ArchivedPage, Page, D>(alloc, p0, deserializer)?;
-    let p1 = part_of_record::<ArchivedBook, ArchivedVec<ArchivedPage>>(part, 1, 64);
-    let a1 = read_part::<ArchivedVec<ArchivedPage>, Vec<Page>, D>(alloc, p1, deserializer)?;
-    Ok(Book {
-        first: a0,
-        pages: a1,
-    })
-}
-
-impl<D: Entries> Deserialize<Book, D> for ArchivedBook {
-    #[inline(always)]
-    fn deserialize_part(
-        alloc: Global,
-        part: RawView<'_>,
-        deserializer: &mut D,
-    ) -> Result<Book, Error>
-        requires { IsPartOf ⟦<Self as ArchivePointee>⟧ part }
-        ensures { ReadsAs ⟦<Self as ArchivePointee>⟧ part D.Entries deserializer ⟦<Book as Archive>⟧
-            result }
-    {
-        read_book(alloc, part, deserializer)
-    }
-}
-
-/// The fields of an archived `Book`, as views.
-pub trait BookView<'a> {
-    /// The first page.
-    fn first(self) -> Ref<'a, ArchivedPage>;
-
-    /// The others.
-    fn pages(self) -> Ref<'a, ArchivedVec<ArchivedPage>>;
-}
-
-impl<'a> BookView<'a> for Ref<'a, ArchivedBook> {
-    fn first(self) -> Ref<'a, ArchivedPage>
-        ensures buffer { result.bytes.now ≡ self.entry.bytes.now }
-        ensures position { result.pos ≡ self.entry.pos + 0 }
-        ensures length { result.len ≡ 0 }
-        ensures shows { ShowsValueOf result self.entry (field_in 0) }
-    {
-        view_of_field::<ArchivedBook, ArchivedPage>(self, 0, 0)
-    }
-
-    fn pages(self) -> Ref<'a, ArchivedVec<ArchivedPage>>
-        ensures buffer { result.bytes.now ≡ self.entry.bytes.now }
-        ensures position { result.pos ≡ self.entry.pos + 64 }
-        ensures length { result.len ≡ 0 }
-        ensures shows { ShowsValueOf result self.entry (field_in 1) }
-    {
-        view_of_field::<ArchivedBook, ArchivedVec<ArchivedPage>>(self, 1, 64)
-    }
-}
-
-/// The fields of an archived `Book`, as seals.
-pub trait BookSeal<'a> {
-    // The seal shows a part of a buffer that was checked.
-    ghost sealed: { Self → Type 0 };
-
-    /// The first page.
-    fn first_mut(self) -> Seal<'a, ArchivedPage>
-        requires { sealed self };
-
-    /// The others.
-    fn pages_mut(self) -> Seal<'a, ArchivedVec<ArchivedPage>>
-        requires { sealed self };
-}
-
-impl<'a> BookSeal<'a> for Seal<'a, ArchivedBook> {
-    ghost sealed = { λ s. IsSealOf book_definitions (one ⟦<ArchivedBook as Portable>⟧.shape) s };
-
-    fn first_mut(self) -> Seal<'a, ArchivedPage>
-        requires come_to { IsSealOf book_definitions (one ⟦<ArchivedBook as Portable>⟧.shape) self }
-        ensures { SealsPart book_definitions (one ⟦<ArchivedBook as Portable>⟧.shape)
-            ⟦<ArchivedPage as ArchivePointee>⟧.definitions
-            ⟦<ArchivedPage as ArchivePointee>⟧.pointee (self.entry.pos + 0) 0 self.entry result }
-    {
-        seal_of_field::<ArchivedBook, ArchivedPage>(self, 0, 0)
-    }
-
-    fn pages_mut(self) -> Seal<'a, ArchivedVec<ArchivedPage>>
-        requires come_to { IsSealOf book_definitions (one ⟦<ArchivedBook as Portable>⟧.shape) self }
-        ensures { SealsPart book_definitions (one ⟦<ArchivedBook as Portable>⟧.shape)
-            ⟦<ArchivedPage as ArchivePointee>⟧.definitions
-            ⟦<ArchivedVec<ArchivedPage> as ArchivePointee>⟧.pointee (self.entry.pos + 64) 0
+    fn others_mut(self) -> Seal<'a, ArchivedVec<ArchivedMessage>>
+        requires come_to { IsSealOf page_definitions (one ⟦<ArchivedPage as Portable>⟧.shape) self }
+        ensures { SealsPart page_definitions (one ⟦<ArchivedPage as Portable>⟧.shape)
+            ⟦<ArchivedMessage as ArchivePointee>⟧.definitions
+            ⟦<ArchivedVec<ArchivedMessage> as ArchivePointee>⟧.pointee (self.entry.pos + 96) 0
             self.entry result }
     {
-        seal_of_field::<ArchivedBook, ArchivedVec<ArchivedPage>>(self, 1, 64)
+        seal_of_field::<ArchivedPage, ArchivedVec<ArchivedMessage>>(self, 3, 96)
     }
 }
