@@ -24,11 +24,11 @@ pub enum Label {
 #[derive(Debug, PartialEq, Eq, Drop)]
 pub struct Scores {
     /// A letter, or whether there is one. A word of contracts.
-    pub data: Result<char, bool>,
+    pub data: Result<u8, bool>,
     /// Not 0, and the other one maybe below it. What contracts call an answer.
-    pub result: (NonZero<u16>, NonZero<i8>),
+    pub result: (NonZero<u8>, NonZero<i8>),
     /// Numbers by names, boxed. A call of views: the accessor is `pos_field`.
-    pub pos: BTreeMap<String, Box<i64>>,
+    pub pos: BTreeMap<String, Box<i8>>,
     /// Labels, perhaps. A call of vectors alone.
     pub len: Option<Vec<Label>>,
 }
@@ -37,7 +37,7 @@ pub struct Scores {
 
 ghost use Rattle.archive_core.specs.CallOutcomes.{ResolvesAs};
 ghost use Rattle.archive_core.specs.ComparedCases.{choice_fed, choice_order};
-ghost use Rattle.archive_core.specs.ComparedLeaves.{bool_compared, char_compared, signed_compared, signed_non_zero_compared, unsigned_compared, unsigned_non_zero_compared};
+ghost use Rattle.archive_core.specs.ComparedLeaves.{bool_compared, signed_compared, signed_non_zero_compared, unsigned_compared, unsigned_non_zero_compared};
 ghost use Rattle.archive_core.specs.ComparedTypes.{as_known, box_compared, case_compared, choice_compared, field_compared, map_compared, no_case_compared, no_field_compared, option_compared, pair_compared, record_compared, result_compared, string_compared, vec_compared};
 ghost use Rattle.archive_core.specs.Definitions.{both, no_definition};
 ghost use Rattle.archive_core.specs.Fields.{field_in};
@@ -58,7 +58,7 @@ ghost use Rattle.archive_core.specs.Sources.{ReadsAs};
 ghost use Rattle.archive_core.specs.Value.{case, no_value, product, value};
 ghost use Rattle.archive_core.specs.Writing.{ZeroedPlace};
 ghost use Rattle.std.proofs.Common.{inl, inr, lit≤};
-ghost use Rattle.std.specs.Int.{w16, w32, w64, w8};
+ghost use Rattle.std.specs.Int.{w16, w32, w8};
 ghost use Rattle.std.specs.Prelude.{None, [], codes, length, refl, string_bytes, true, ℕ, ◌++◌, ◌+◌, ◌≡◌};
 
 use archive_core::boxed::ArchivedBox;
@@ -76,7 +76,7 @@ use archive_core::fields::{
 use archive_core::map::ArchivedSortedMap;
 use archive_core::option::ArchivedOption;
 use archive_core::place::Place;
-use archive_core::primitive::{ArchivedChar, ArchivedI32, ArchivedI64, ArchivedU16};
+use archive_core::primitive::{ArchivedI32, ArchivedU16};
 use archive_core::record::deserialize_record;
 use archive_core::result::ArchivedResult;
 use archive_core::seal::{Seal, sealed_part_in_case, sealed_part_in_record};
@@ -612,34 +612,34 @@ impl Ordered for ArchivedLabel {
     }
 }
 
-/// An archived `Scores`: 32 bytes at a multiple of 4.
+/// An archived `Scores`: 24 bytes at a multiple of 4.
 pub struct ArchivedScores;
 
 type ScoresParts = (
-    ArchivedResult<ArchivedChar, bool>,
+    ArchivedResult<u8, bool>,
     (
-        ArchivedTuple2<NonZero<u16>, NonZero<i8>>,
+        ArchivedTuple2<NonZero<u8>, NonZero<i8>>,
         (
-            ArchivedSortedMap<ArchivedString, ArchivedBox<ArchivedI64>>,
+            ArchivedSortedMap<ArchivedString, ArchivedBox<i8>>,
             (ArchivedOption<ArchivedVec<ArchivedLabel>>, ()),
         ),
     ),
 );
 
 type ScoresOwned = (
-    Result<char, bool>,
+    Result<u8, bool>,
     (
-        (NonZero<u16>, NonZero<i8>),
-        (BTreeMap<String, Box<i64>>, (Option<Vec<Label>>, ())),
+        (NonZero<u8>, NonZero<i8>),
+        (BTreeMap<String, Box<i8>>, (Option<Vec<Label>>, ())),
     ),
 );
 
 impl ArchivePointee for ArchivedScores {
     type ArchivedMetadata = ();
 
-    ghost pointee = { one (parts (part ⟦<ArchivedResult<ArchivedChar, bool> as Portable>⟧.shape
-        (part ⟦<ArchivedTuple2<NonZero<u16>, NonZero<i8>> as Portable>⟧.shape
-        (part ⟦<ArchivedSortedMap<ArchivedString, ArchivedBox<ArchivedI64>> as Portable>⟧.shape
+    ghost pointee = { one (parts (part ⟦<ArchivedResult<u8, bool> as Portable>⟧.shape
+        (part ⟦<ArchivedTuple2<NonZero<u8>, NonZero<i8>> as Portable>⟧.shape
+        (part ⟦<ArchivedSortedMap<ArchivedString, ArchivedBox<i8>> as Portable>⟧.shape
         (part ⟦<ArchivedOption<ArchivedVec<ArchivedLabel>> as Portable>⟧.shape no_part))))) };
 
     ghost definitions = { no_definition };
@@ -652,12 +652,12 @@ impl ArchivePointee for ArchivedScores {
 }
 
 impl Portable for ArchivedScores {
-    ghost shape = { parts (part ⟦<ArchivedResult<ArchivedChar, bool> as Portable>⟧.shape
-        (part ⟦<ArchivedTuple2<NonZero<u16>, NonZero<i8>> as Portable>⟧.shape
-        (part ⟦<ArchivedSortedMap<ArchivedString, ArchivedBox<ArchivedI64>> as Portable>⟧.shape
+    ghost shape = { parts (part ⟦<ArchivedResult<u8, bool> as Portable>⟧.shape
+        (part ⟦<ArchivedTuple2<NonZero<u8>, NonZero<i8>> as Portable>⟧.shape
+        (part ⟦<ArchivedSortedMap<ArchivedString, ArchivedBox<i8>> as Portable>⟧.shape
         (part ⟦<ArchivedOption<ArchivedVec<ArchivedLabel>> as Portable>⟧.shape no_part)))) };
 
-    ghost layout = { record { size = 32; align = 4 } };
+    ghost layout = { record { size = 24; align = 4 } };
 
     type Check = ArchivedScores;
 
@@ -668,15 +668,15 @@ impl Portable for ArchivedScores {
     ghost has_layout = { record { solved = λ s k. refl } };
 
     ghost no_others = { no_definition_reached (parts (part
-        ⟦<ArchivedResult<ArchivedChar, bool> as Portable>⟧.shape
-        (part ⟦<ArchivedTuple2<NonZero<u16>, NonZero<i8>> as Portable>⟧.shape
-        (part ⟦<ArchivedSortedMap<ArchivedString, ArchivedBox<ArchivedI64>> as Portable>⟧.shape
+        ⟦<ArchivedResult<u8, bool> as Portable>⟧.shape (part
+        ⟦<ArchivedTuple2<NonZero<u8>, NonZero<i8>> as Portable>⟧.shape
+        (part ⟦<ArchivedSortedMap<ArchivedString, ArchivedBox<i8>> as Portable>⟧.shape
         (part ⟦<ArchivedOption<ArchivedVec<ArchivedLabel>> as Portable>⟧.shape no_part))))) };
 
     ghost checks = { λ _. plain_own_check _ _ _ _ _ refl refl refl refl };
 
     fn size() -> usize {
-        32
+        24
     }
 
     fn align() -> usize {
@@ -693,9 +693,9 @@ impl Portable for ArchivedScores {
 }
 
 impl SelfCheck for ArchivedScores {
-    ghost shape = { parts (part ⟦<ArchivedResult<ArchivedChar, bool> as Portable>⟧.shape
-        (part ⟦<ArchivedTuple2<NonZero<u16>, NonZero<i8>> as Portable>⟧.shape
-        (part ⟦<ArchivedSortedMap<ArchivedString, ArchivedBox<ArchivedI64>> as Portable>⟧.shape
+    ghost shape = { parts (part ⟦<ArchivedResult<u8, bool> as Portable>⟧.shape
+        (part ⟦<ArchivedTuple2<NonZero<u8>, NonZero<i8>> as Portable>⟧.shape
+        (part ⟦<ArchivedSortedMap<ArchivedString, ArchivedBox<i8>> as Portable>⟧.shape
         (part ⟦<ArchivedOption<ArchivedVec<ArchivedLabel>> as Portable>⟧.shape no_part)))) };
 
     ghost definitions = { (both (both no_definition no_definition)
@@ -703,7 +703,7 @@ impl SelfCheck for ArchivedScores {
         (both (both no_definition (both no_definition no_definition))
         (both no_definition no_definition)))) };
 
-    ghost span = { 32 };
+    ghost span = { 24 };
 
     ghost direct = { true };
 
@@ -731,9 +731,9 @@ impl SelfCheck for ArchivedScores {
 impl Record for ArchivedScores {
     type Parts = ScoresParts;
 
-    ghost has_parts = { plain_record (part ⟦<ArchivedResult<ArchivedChar, bool> as Portable>⟧.shape
-        (part ⟦<ArchivedTuple2<NonZero<u16>, NonZero<i8>> as Portable>⟧.shape
-        (part ⟦<ArchivedSortedMap<ArchivedString, ArchivedBox<ArchivedI64>> as Portable>⟧.shape
+    ghost has_parts = { plain_record (part ⟦<ArchivedResult<u8, bool> as Portable>⟧.shape
+        (part ⟦<ArchivedTuple2<NonZero<u8>, NonZero<i8>> as Portable>⟧.shape
+        (part ⟦<ArchivedSortedMap<ArchivedString, ArchivedBox<i8>> as Portable>⟧.shape
         (part ⟦<ArchivedOption<ArchivedVec<ArchivedLabel>> as Portable>⟧.shape no_part))))
         (both (both no_definition no_definition) (both (both no_definition
         (both no_definition no_definition)) (both (both no_definition
@@ -746,11 +746,11 @@ impl Record for ArchivedScores {
 #[derive(Drop)]
 pub struct ScoresResolver {
     kept: (
-        <Result<char, bool> as Archive>::Resolver,
+        <Result<u8, bool> as Archive>::Resolver,
         (
-            <(NonZero<u16>, NonZero<i8>) as Archive>::Resolver,
+            <(NonZero<u8>, NonZero<i8>) as Archive>::Resolver,
             (
-                <BTreeMap<String, Box<i64>> as Archive>::Resolver,
+                <BTreeMap<String, Box<i8>> as Archive>::Resolver,
                 (<Option<Vec<Label>> as Archive>::Resolver, ()),
             ),
         ),
@@ -764,37 +764,37 @@ impl Archive for Scores {
 
     type Resolver = ScoresResolver;
 
-    ghost meaning = { λ v. product (value (⟦<Result<char, bool> as Archive>⟧.meaning v.data)
-        (value (⟦<(NonZero<u16>, NonZero<i8>) as Archive>⟧.meaning v.result)
-        (value (⟦<BTreeMap<String, Box<i64>> as Archive>⟧.meaning v.pos)
+    ghost meaning = { λ v. product (value (⟦<Result<u8, bool> as Archive>⟧.meaning v.data)
+        (value (⟦<(NonZero<u8>, NonZero<i8>) as Archive>⟧.meaning v.result)
+        (value (⟦<BTreeMap<String, Box<i8>> as Archive>⟧.meaning v.pos)
         (value (⟦<Option<Vec<Label>> as Archive>⟧.meaning v.len) no_value)))) };
 
-    ghost flat = { λ v r. product (value (⟦<Result<char, bool> as Archive>⟧.flat v.data r.kept.0)
-        (value (⟦<(NonZero<u16>, NonZero<i8>) as Archive>⟧.flat v.result r.kept.1.0)
-        (value (⟦<BTreeMap<String, Box<i64>> as Archive>⟧.flat v.pos r.kept.1.1.0)
+    ghost flat = { λ v r. product (value (⟦<Result<u8, bool> as Archive>⟧.flat v.data r.kept.0)
+        (value (⟦<(NonZero<u8>, NonZero<i8>) as Archive>⟧.flat v.result r.kept.1.0)
+        (value (⟦<BTreeMap<String, Box<i8>> as Archive>⟧.flat v.pos r.kept.1.1.0)
         (value (⟦<Option<Vec<Label>> as Archive>⟧.flat v.len r.kept.1.1.1.0) no_value)))) };
 
-    ghost keys = { λ v. ⟦<Result<char, bool> as Archive>⟧.keys v.data
-        ++ (⟦<(NonZero<u16>, NonZero<i8>) as Archive>⟧.keys v.result
-        ++ (⟦<BTreeMap<String, Box<i64>> as Archive>⟧.keys v.pos
+    ghost keys = { λ v. ⟦<Result<u8, bool> as Archive>⟧.keys v.data
+        ++ (⟦<(NonZero<u8>, NonZero<i8>) as Archive>⟧.keys v.result
+        ++ (⟦<BTreeMap<String, Box<i8>> as Archive>⟧.keys v.pos
         ++ (⟦<Option<Vec<Label>> as Archive>⟧.keys v.len ++ []))) };
 
-    ghost belongs = { λ v r. ⟦<Result<char, bool> as Archive>⟧.belongs v.data r.kept.0
-        × (⟦<(NonZero<u16>, NonZero<i8>) as Archive>⟧.belongs v.result r.kept.1.0
-        × (⟦<BTreeMap<String, Box<i64>> as Archive>⟧.belongs v.pos r.kept.1.1.0
+    ghost belongs = { λ v r. ⟦<Result<u8, bool> as Archive>⟧.belongs v.data r.kept.0
+        × (⟦<(NonZero<u8>, NonZero<i8>) as Archive>⟧.belongs v.result r.kept.1.0
+        × (⟦<BTreeMap<String, Box<i8>> as Archive>⟧.belongs v.pos r.kept.1.1.0
         × (⟦<Option<Vec<Label>> as Archive>⟧.belongs v.len r.kept.1.1.1.0 × Unit {0}))) };
 
     ghost in_bulk = { None };
 
-    ghost keyed = { λ v. record_keyed (part_keyed (result_keyed ⟦<char as Archive>⟧.keys
-        ⟦<bool as Archive>⟧.keys ⟦<char as Archive>⟧.meaning ⟦<bool as Archive>⟧.meaning
+    ghost keyed = { λ v. record_keyed (part_keyed (result_keyed ⟦<u8 as Archive>⟧.keys
+        ⟦<bool as Archive>⟧.keys ⟦<u8 as Archive>⟧.meaning ⟦<bool as Archive>⟧.meaning
         (λ x. number_keyed _) (λ x. number_keyed _) v.data)
         (part_keyed (record_keyed (part_keyed (number_keyed _)
         (part_keyed (number_keyed _) nothing_keyed))) (part_keyed
-        (pairs_keyed ⟦<String as Archive>⟧.keys ⟦<Box<i64> as Archive>⟧.keys
-        ⟦<String as Archive>⟧.meaning ⟦<Box<i64> as Archive>⟧.meaning
-        (λ x. text_keyed (string_bytes x)) (λ x. box_keyed (⟦<i64 as Archive>⟧.keys x.value)
-        (⟦<i64 as Archive>⟧.meaning x.value) (number_keyed _)) v.pos.entries)
+        (pairs_keyed ⟦<String as Archive>⟧.keys ⟦<Box<i8> as Archive>⟧.keys
+        ⟦<String as Archive>⟧.meaning ⟦<Box<i8> as Archive>⟧.meaning
+        (λ x. text_keyed (string_bytes x)) (λ x. box_keyed (⟦<i8 as Archive>⟧.keys x.value)
+        (⟦<i8 as Archive>⟧.meaning x.value) (number_keyed _)) v.pos.entries)
         (part_keyed (option_keyed ⟦<Vec<Label> as Archive>⟧.keys ⟦<Vec<Label> as Archive>⟧.meaning
         (λ x. each_keyed ⟦<Label as Archive>⟧.keys ⟦<Label as Archive>⟧.meaning keyed_of_label
         x.items) v.len) nothing_keyed)))) };
@@ -802,46 +802,42 @@ impl Archive for Scores {
     ghost planned = { λ v. plain_record_planned (both (both no_definition no_definition)
         (both (both no_definition (both no_definition no_definition))
         (both (both no_definition (both no_definition no_definition))
-        (both no_definition no_definition))))
-        (part ⟦<ArchivedResult<ArchivedChar, bool> as Portable>⟧.shape
-        (part ⟦<ArchivedTuple2<NonZero<u16>, NonZero<i8>> as Portable>⟧.shape
-        (part ⟦<ArchivedSortedMap<ArchivedString, ArchivedBox<ArchivedI64>> as Portable>⟧.shape
+        (both no_definition no_definition)))) (part ⟦<ArchivedResult<u8, bool> as Portable>⟧.shape
+        (part ⟦<ArchivedTuple2<NonZero<u8>, NonZero<i8>> as Portable>⟧.shape
+        (part ⟦<ArchivedSortedMap<ArchivedString, ArchivedBox<i8>> as Portable>⟧.shape
         (part ⟦<ArchivedOption<ArchivedVec<ArchivedLabel>> as Portable>⟧.shape no_part)))) _ _
         (part_planned (both no_definition no_definition)
-        ⟦<ArchivedResult<ArchivedChar, bool> as Portable>⟧.shape
-        (⟦<Result<char, bool> as Archive>⟧.keys v.data)
-        (⟦<Result<char, bool> as Archive>⟧.meaning v.data)
-        (result_planned ⟦<char as Archive>⟧.keys ⟦<bool as Archive>⟧.keys
-        ⟦<char as Archive>⟧.meaning ⟦<bool as Archive>⟧.meaning no_definition no_definition
-        ⟦<ArchivedChar as Portable>⟧.shape ⟦<bool as Portable>⟧.shape
-        (λ x. leaf_planned no_definition _ _ [] _ refl)
+        ⟦<ArchivedResult<u8, bool> as Portable>⟧.shape (⟦<Result<u8, bool> as Archive>⟧.keys v.data)
+        (⟦<Result<u8, bool> as Archive>⟧.meaning v.data)
+        (result_planned ⟦<u8 as Archive>⟧.keys ⟦<bool as Archive>⟧.keys ⟦<u8 as Archive>⟧.meaning
+        ⟦<bool as Archive>⟧.meaning no_definition no_definition ⟦<u8 as Portable>⟧.shape
+        ⟦<bool as Portable>⟧.shape (λ x. leaf_planned no_definition _ _ [] _ refl)
         (λ x. leaf_planned no_definition _ _ [] _ refl) v.data)
         (part_planned (both no_definition (both no_definition no_definition))
-        ⟦<ArchivedTuple2<NonZero<u16>, NonZero<i8>> as Portable>⟧.shape
-        (⟦<(NonZero<u16>, NonZero<i8>) as Archive>⟧.keys v.result)
-        (⟦<(NonZero<u16>, NonZero<i8>) as Archive>⟧.meaning v.result)
+        ⟦<ArchivedTuple2<NonZero<u8>, NonZero<i8>> as Portable>⟧.shape
+        (⟦<(NonZero<u8>, NonZero<i8>) as Archive>⟧.keys v.result)
+        (⟦<(NonZero<u8>, NonZero<i8>) as Archive>⟧.meaning v.result)
         (product_planned (both no_definition (both no_definition no_definition))
-        (part ⟦<NonZero<u16> as Portable>⟧.shape (part ⟦<NonZero<i8> as Portable>⟧.shape no_part))
-        (⟦<NonZero<u16> as Archive>⟧.keys v.result.0 ++ (⟦<NonZero<i8> as Archive>⟧.keys v.result.1
-        ++ [])) (value (⟦<NonZero<u16> as Archive>⟧.meaning v.result.0)
+        (part ⟦<NonZero<u8> as Portable>⟧.shape (part ⟦<NonZero<i8> as Portable>⟧.shape no_part))
+        (⟦<NonZero<u8> as Archive>⟧.keys v.result.0 ++ (⟦<NonZero<i8> as Archive>⟧.keys v.result.1
+        ++ [])) (value (⟦<NonZero<u8> as Archive>⟧.meaning v.result.0)
         (value (⟦<NonZero<i8> as Archive>⟧.meaning v.result.1) no_value))
-        (part_planned no_definition ⟦<NonZero<u16> as Portable>⟧.shape
-        (⟦<NonZero<u16> as Archive>⟧.keys v.result.0) (⟦<NonZero<u16> as Archive>⟧.meaning
-        v.result.0) (leaf_planned no_definition _ _ [] _ refl)
-        (part_planned no_definition ⟦<NonZero<i8> as Portable>⟧.shape
-        (⟦<NonZero<i8> as Archive>⟧.keys v.result.1) (⟦<NonZero<i8> as Archive>⟧.meaning v.result.1)
-        (leaf_planned no_definition _ _ [] _ refl) no_part_planned)))
-        (part_planned (both no_definition (both no_definition no_definition))
-        ⟦<ArchivedSortedMap<ArchivedString, ArchivedBox<ArchivedI64>> as Portable>⟧.shape
-        (⟦<BTreeMap<String, Box<i64>> as Archive>⟧.keys v.pos)
-        (⟦<BTreeMap<String, Box<i64>> as Archive>⟧.meaning v.pos)
-        (map_of_pairs_planned ⟦<String as Archive>⟧.keys ⟦<Box<i64> as Archive>⟧.keys
-        ⟦<String as Archive>⟧.meaning ⟦<Box<i64> as Archive>⟧.meaning no_definition no_definition
-        ⟦<ArchivedString as Portable>⟧.shape ⟦<ArchivedBox<ArchivedI64> as Portable>⟧.shape
+        (part_planned no_definition ⟦<NonZero<u8> as Portable>⟧.shape
+        (⟦<NonZero<u8> as Archive>⟧.keys v.result.0) (⟦<NonZero<u8> as Archive>⟧.meaning v.result.0)
+        (leaf_planned no_definition _ _ [] _ refl) (part_planned no_definition
+        ⟦<NonZero<i8> as Portable>⟧.shape (⟦<NonZero<i8> as Archive>⟧.keys v.result.1)
+        (⟦<NonZero<i8> as Archive>⟧.meaning v.result.1) (leaf_planned no_definition _ _ [] _ refl)
+        no_part_planned))) (part_planned (both no_definition (both no_definition no_definition))
+        ⟦<ArchivedSortedMap<ArchivedString, ArchivedBox<i8>> as Portable>⟧.shape
+        (⟦<BTreeMap<String, Box<i8>> as Archive>⟧.keys v.pos)
+        (⟦<BTreeMap<String, Box<i8>> as Archive>⟧.meaning v.pos)
+        (map_of_pairs_planned ⟦<String as Archive>⟧.keys ⟦<Box<i8> as Archive>⟧.keys
+        ⟦<String as Archive>⟧.meaning ⟦<Box<i8> as Archive>⟧.meaning no_definition no_definition
+        ⟦<ArchivedString as Portable>⟧.shape ⟦<ArchivedBox<i8> as Portable>⟧.shape
         (λ x. string_planned no_definition [] (string_bytes x))
-        (λ x. boxed_one_planned no_definition (one ⟦<ArchivedI64 as Portable>⟧.shape)
-        ⟦<ArchivedI64 as Portable>⟧.shape refl (⟦<i64 as Archive>⟧.keys x.value)
-        (⟦<i64 as Archive>⟧.meaning x.value) (leaf_planned no_definition _ _ [] _ refl))
+        (λ x. boxed_one_planned no_definition (one ⟦<i8 as Portable>⟧.shape)
+        ⟦<i8 as Portable>⟧.shape refl (⟦<i8 as Archive>⟧.keys x.value)
+        (⟦<i8 as Archive>⟧.meaning x.value) (leaf_planned no_definition _ _ [] _ refl))
         ⟦<ArchivedString as MapKey>⟧.key refl v.pos.entries)
         (part_planned no_definition ⟦<ArchivedOption<ArchivedVec<ArchivedLabel>> as Portable>⟧.shape
         (⟦<Option<Vec<Label>> as Archive>⟧.keys v.len) (⟦<Option<Vec<Label>> as Archive>⟧.meaning
@@ -857,7 +853,7 @@ impl Archive for Scores {
         resolver: Self::Resolver,
         place: Place<'_, Self::Archived>,
     ) -> Result<(), Error>
-        requires zeroed { ZeroedPlace 32 place.pos place.bytes.now }
+        requires zeroed { ZeroedPlace 24 place.pos place.bytes.now }
         requires same_value { ⟦<Self as Archive>⟧.belongs self.now resolver }
         ensures { ResolvesAs ⟦<Self::Archived as Portable>⟧ place
             (⟦<Self as Archive>⟧.flat self.now resolver) result }
@@ -865,9 +861,9 @@ impl Archive for Scores {
         let Place { bytes, pos, .. } = place;
         let ScoresResolver { kept } = resolver;
         resolve_record_4::<
-            Result<char, bool>,
-            (NonZero<u16>, NonZero<i8>),
-            BTreeMap<String, Box<i64>>,
+            Result<u8, bool>,
+            (NonZero<u8>, NonZero<i8>),
+            BTreeMap<String, Box<i8>>,
             Option<Vec<Label>>,
             ArchivedScores,
         >(
@@ -899,9 +895,9 @@ impl<S: Writer + ResolverAlloc> Serialize<S> for Scores {
     #[inline(always)]
     fn serialize(&self, serializer: &mut S) -> Result<Self::Resolver, Error> {
         match serialize_record_4::<
-            Result<char, bool>,
-            (NonZero<u16>, NonZero<i8>),
-            BTreeMap<String, Box<i64>>,
+            Result<u8, bool>,
+            (NonZero<u8>, NonZero<i8>),
+            BTreeMap<String, Box<i8>>,
             Option<Vec<Label>>,
             ArchivedScores,
             S,
@@ -930,9 +926,9 @@ impl ArchiveUnsized for Scores {
     ghost one_length = { λ _ _. refl };
 
     ghost planned = { λ v. one_planned no_definition (parts
-        (part ⟦<ArchivedResult<ArchivedChar, bool> as Portable>⟧.shape
-        (part ⟦<ArchivedTuple2<NonZero<u16>, NonZero<i8>> as Portable>⟧.shape
-        (part ⟦<ArchivedSortedMap<ArchivedString, ArchivedBox<ArchivedI64>> as Portable>⟧.shape
+        (part ⟦<ArchivedResult<u8, bool> as Portable>⟧.shape
+        (part ⟦<ArchivedTuple2<NonZero<u8>, NonZero<i8>> as Portable>⟧.shape
+        (part ⟦<ArchivedSortedMap<ArchivedString, ArchivedBox<i8>> as Portable>⟧.shape
         (part ⟦<ArchivedOption<ArchivedVec<ArchivedLabel>> as Portable>⟧.shape no_part)))))
         (⟦<Scores as Archive>⟧.keys v) (⟦<Scores as Archive>⟧.meaning v) (planned_of_scores v) };
 
@@ -975,56 +971,55 @@ impl<D: Entries> Deserialize<Scores, D> for ArchivedScores {
 /// The fields of an archived `Scores`, as views.
 pub trait ScoresView<'a> {
     /// A letter, or whether there is one. A word of contracts.
-    fn data(self) -> Ref<'a, ArchivedResult<ArchivedChar, bool>>;
+    fn data(self) -> Ref<'a, ArchivedResult<u8, bool>>;
 
     /// Not 0, and the other one maybe below it. What contracts call an answer.
-    fn result(self) -> Ref<'a, ArchivedTuple2<NonZero<u16>, NonZero<i8>>>;
+    fn result(self) -> Ref<'a, ArchivedTuple2<NonZero<u8>, NonZero<i8>>>;
 
     /// Numbers by names, boxed. A call of views: the accessor is `pos_field`.
-    fn pos_field(self) -> Ref<'a, ArchivedSortedMap<ArchivedString, ArchivedBox<ArchivedI64>>>;
+    fn pos_field(self) -> Ref<'a, ArchivedSortedMap<ArchivedString, ArchivedBox<i8>>>;
 
     /// Labels, perhaps. A call of vectors alone.
     fn len(self) -> Ref<'a, ArchivedOption<ArchivedVec<ArchivedLabel>>>;
 }
 
 impl<'a> ScoresView<'a> for Ref<'a, ArchivedScores> {
-    fn data(self) -> Ref<'a, ArchivedResult<ArchivedChar, bool>>
+    fn data(self) -> Ref<'a, ArchivedResult<u8, bool>>
         ensures buffer { result.bytes.now ≡ self.entry.bytes.now }
         ensures position { result.pos ≡ self.entry.pos + 0 }
         ensures length { result.len ≡ 0 }
         ensures shows { ShowsValueOf result self.entry (field_in 0) }
     {
-        part_in_record::<ArchivedScores, ArchivedResult<ArchivedChar, bool>>(self, 0, 0)
+        part_in_record::<ArchivedScores, ArchivedResult<u8, bool>>(self, 0, 0)
     }
 
-    fn result(self) -> Ref<'a, ArchivedTuple2<NonZero<u16>, NonZero<i8>>>
+    fn result(self) -> Ref<'a, ArchivedTuple2<NonZero<u8>, NonZero<i8>>>
         ensures buffer { result.bytes.now ≡ self.entry.bytes.now }
-        ensures position { result.pos ≡ self.entry.pos + 8 }
+        ensures position { result.pos ≡ self.entry.pos + 2 }
         ensures length { result.len ≡ 0 }
         ensures shows { ShowsValueOf result self.entry (field_in 1) }
     {
-        part_in_record::<ArchivedScores, ArchivedTuple2<NonZero<u16>, NonZero<i8>>>(self, 1, 8)
+        part_in_record::<ArchivedScores, ArchivedTuple2<NonZero<u8>, NonZero<i8>>>(self, 1, 2)
     }
 
-    fn pos_field(self) -> Ref<'a, ArchivedSortedMap<ArchivedString, ArchivedBox<ArchivedI64>>>
+    fn pos_field(self) -> Ref<'a, ArchivedSortedMap<ArchivedString, ArchivedBox<i8>>>
         ensures buffer { result.bytes.now ≡ self.entry.bytes.now }
-        ensures position { result.pos ≡ self.entry.pos + 12 }
+        ensures position { result.pos ≡ self.entry.pos + 4 }
         ensures length { result.len ≡ 0 }
         ensures shows { ShowsValueOf result self.entry (field_in 2) }
     {
-        part_in_record::<
-            ArchivedScores,
-            ArchivedSortedMap<ArchivedString, ArchivedBox<ArchivedI64>>,
-        >(self, 2, 12)
+        part_in_record::<ArchivedScores, ArchivedSortedMap<ArchivedString, ArchivedBox<i8>>>(
+            self, 2, 4,
+        )
     }
 
     fn len(self) -> Ref<'a, ArchivedOption<ArchivedVec<ArchivedLabel>>>
         ensures buffer { result.bytes.now ≡ self.entry.bytes.now }
-        ensures position { result.pos ≡ self.entry.pos + 20 }
+        ensures position { result.pos ≡ self.entry.pos + 12 }
         ensures length { result.len ≡ 0 }
         ensures shows { ShowsValueOf result self.entry (field_in 3) }
     {
-        part_in_record::<ArchivedScores, ArchivedOption<ArchivedVec<ArchivedLabel>>>(self, 3, 20)
+        part_in_record::<ArchivedScores, ArchivedOption<ArchivedVec<ArchivedLabel>>>(self, 3, 12)
     }
 }
 
@@ -1034,15 +1029,15 @@ pub trait ScoresSeal<'a> {
     ghost sealed: { Self → Type 0 };
 
     /// A letter, or whether there is one. A word of contracts.
-    fn data_mut(self) -> Seal<'a, ArchivedResult<ArchivedChar, bool>>
+    fn data_mut(self) -> Seal<'a, ArchivedResult<u8, bool>>
         requires { sealed self };
 
     /// Not 0, and the other one maybe below it. What contracts call an answer.
-    fn result_mut(self) -> Seal<'a, ArchivedTuple2<NonZero<u16>, NonZero<i8>>>
+    fn result_mut(self) -> Seal<'a, ArchivedTuple2<NonZero<u8>, NonZero<i8>>>
         requires { sealed self };
 
     /// Numbers by names, boxed. A call of views: the accessor is `pos_field`.
-    fn pos_field_mut(self) -> Seal<'a, ArchivedSortedMap<ArchivedString, ArchivedBox<ArchivedI64>>>
+    fn pos_field_mut(self) -> Seal<'a, ArchivedSortedMap<ArchivedString, ArchivedBox<i8>>>
         requires { sealed self };
 
     /// Labels, perhaps. A call of vectors alone.
@@ -1053,48 +1048,48 @@ pub trait ScoresSeal<'a> {
 impl<'a> ScoresSeal<'a> for Seal<'a, ArchivedScores> {
     ghost sealed = { λ s. IsSealOf no_definition (one ⟦<ArchivedScores as Portable>⟧.shape) s };
 
-    fn data_mut(self) -> Seal<'a, ArchivedResult<ArchivedChar, bool>>
+    fn data_mut(self) -> Seal<'a, ArchivedResult<u8, bool>>
         requires come_to { IsSealOf no_definition (one ⟦<ArchivedScores as Portable>⟧.shape) self }
         ensures { SealsPart no_definition (one ⟦<ArchivedScores as Portable>⟧.shape)
             (both no_definition no_definition)
-            ⟦<ArchivedResult<ArchivedChar, bool> as ArchivePointee>⟧.pointee (self.entry.pos + 0) 0
-            self.entry result }
+            ⟦<ArchivedResult<u8, bool> as ArchivePointee>⟧.pointee (self.entry.pos + 0) 0 self.entry
+            result }
     {
-        sealed_part_in_record::<ArchivedScores, ArchivedResult<ArchivedChar, bool>>(self, 0, 0)
+        sealed_part_in_record::<ArchivedScores, ArchivedResult<u8, bool>>(self, 0, 0)
     }
 
-    fn result_mut(self) -> Seal<'a, ArchivedTuple2<NonZero<u16>, NonZero<i8>>>
+    fn result_mut(self) -> Seal<'a, ArchivedTuple2<NonZero<u8>, NonZero<i8>>>
         requires come_to { IsSealOf no_definition (one ⟦<ArchivedScores as Portable>⟧.shape) self }
         ensures { SealsPart no_definition (one ⟦<ArchivedScores as Portable>⟧.shape)
             (both no_definition (both no_definition no_definition))
-            ⟦<ArchivedTuple2<NonZero<u16>, NonZero<i8>> as ArchivePointee>⟧.pointee
-            (self.entry.pos + 8) 0 self.entry result }
+            ⟦<ArchivedTuple2<NonZero<u8>, NonZero<i8>> as ArchivePointee>⟧.pointee
+            (self.entry.pos + 2) 0 self.entry result }
     {
-        sealed_part_in_record::<ArchivedScores, ArchivedTuple2<NonZero<u16>, NonZero<i8>>>(
-            self, 1, 8,
+        sealed_part_in_record::<ArchivedScores, ArchivedTuple2<NonZero<u8>, NonZero<i8>>>(
+            self, 1, 2,
         )
     }
 
-    fn pos_field_mut(self) -> Seal<'a, ArchivedSortedMap<ArchivedString, ArchivedBox<ArchivedI64>>>
+    fn pos_field_mut(self) -> Seal<'a, ArchivedSortedMap<ArchivedString, ArchivedBox<i8>>>
         requires come_to { IsSealOf no_definition (one ⟦<ArchivedScores as Portable>⟧.shape) self }
         ensures { SealsPart no_definition (one ⟦<ArchivedScores as Portable>⟧.shape)
             (both no_definition (both no_definition no_definition))
-            ⟦<ArchivedSortedMap<ArchivedString, ArchivedBox<ArchivedI64>> as ArchivePointee>⟧.pointee (self.entry.pos + 12) 0 self.entry result }
+            ⟦<ArchivedSortedMap<ArchivedString, ArchivedBox<i8>> as ArchivePointee>⟧.pointee
+            (self.entry.pos + 4) 0 self.entry result }
     {
-        sealed_part_in_record::<
-            ArchivedScores,
-            ArchivedSortedMap<ArchivedString, ArchivedBox<ArchivedI64>>,
-        >(self, 2, 12)
+        sealed_part_in_record::<ArchivedScores, ArchivedSortedMap<ArchivedString, ArchivedBox<i8>>>(
+            self, 2, 4,
+        )
     }
 
     fn len_mut(self) -> Seal<'a, ArchivedOption<ArchivedVec<ArchivedLabel>>>
         requires come_to { IsSealOf no_definition (one ⟦<ArchivedScores as Portable>⟧.shape) self }
         ensures { SealsPart no_definition (one ⟦<ArchivedScores as Portable>⟧.shape) no_definition
             ⟦<ArchivedOption<ArchivedVec<ArchivedLabel>> as ArchivePointee>⟧.pointee
-            (self.entry.pos + 20) 0 self.entry result }
+            (self.entry.pos + 12) 0 self.entry result }
     {
         sealed_part_in_record::<ArchivedScores, ArchivedOption<ArchivedVec<ArchivedLabel>>>(
-            self, 3, 20,
+            self, 3, 12,
         )
     }
 }
@@ -1110,91 +1105,91 @@ impl Ordered for ArchivedScores {
     ghost settling = { 0 };
 
     ghost total = { (record_compared (field_compared (result_compared
-        (char_compared ⟦<char as Hash>⟧.hash_input) ⟦<ArchivedChar as Portable>⟧.layout (record {
+        (unsigned_compared w8 1 ⟦<u8 as Hash>⟧.hash_input refl) ⟦<u8 as Portable>⟧.layout (record {
           solved = λ s k. refl;
         }) (bool_compared ⟦<bool as Hash>⟧.hash_input) ⟦<bool as Portable>⟧.layout (record {
           solved = λ s k. refl;
-        }) (inr (inr (inl refl))) (inl refl))
-        ⟦<ArchivedResult<ArchivedChar, bool> as Portable>⟧.layout (record { solved = λ s k. refl })
-        (field_compared (pair_compared (unsigned_non_zero_compared w16 2 ⟦<u16 as Hash>⟧.hash_input
-        refl) ⟦<NonZero<u16> as Portable>⟧.layout (record { solved = λ s k. refl })
+        }) (inl refl) (inl refl)) ⟦<ArchivedResult<u8, bool> as Portable>⟧.layout (record {
+          solved = λ s k. refl;
+        }) (field_compared (pair_compared (unsigned_non_zero_compared w8 1 ⟦<u8 as Hash>⟧.hash_input
+        refl) ⟦<NonZero<u8> as Portable>⟧.layout (record { solved = λ s k. refl })
         (signed_non_zero_compared w8 1 ⟦<i8 as Hash>⟧.hash_input refl)
         ⟦<NonZero<i8> as Portable>⟧.layout (record { solved = λ s k. refl }))
-        ⟦<ArchivedTuple2<NonZero<u16>, NonZero<i8>> as Portable>⟧.layout (record {
+        ⟦<ArchivedTuple2<NonZero<u8>, NonZero<i8>> as Portable>⟧.layout (record {
           solved = λ s k. refl;
         }) (field_compared (map_compared string_compared ⟦<ArchivedString as Portable>⟧.layout
         (record { solved = λ s k. refl }) (box_compared
-        (signed_compared w64 8 ⟦<i64 as Hash>⟧.hash_input refl))
-        ⟦<ArchivedBox<ArchivedI64> as Portable>⟧.layout (record { solved = λ s k. refl })
+        (signed_compared w8 1 ⟦<i8 as Hash>⟧.hash_input refl))
+        ⟦<ArchivedBox<i8> as Portable>⟧.layout (record { solved = λ s k. refl })
         ⟦<ArchivedString as MapKey>⟧.key refl)
-        ⟦<ArchivedSortedMap<ArchivedString, ArchivedBox<ArchivedI64>> as Portable>⟧.layout
-        (record { solved = λ s k. refl }) (field_compared
-        (option_compared (vec_compared (as_known no_definition
-        (one ⟦<ArchivedLabel as Portable>⟧.shape) ⟦<ArchivedLabel as Ordered>⟧.order
-        ⟦<ArchivedLabel as Ordered>⟧.hash_input total_of_archived_label respects_of_archived_label
-        by_value_of_archived_label) ⟦<ArchivedLabel as Portable>⟧.layout (record {
+        ⟦<ArchivedSortedMap<ArchivedString, ArchivedBox<i8>> as Portable>⟧.layout (record {
           solved = λ s k. refl;
-        })) ⟦<ArchivedVec<ArchivedLabel> as Portable>⟧.layout (record { solved = λ s k. refl })
+        }) (field_compared (option_compared (vec_compared
+        (as_known no_definition (one ⟦<ArchivedLabel as Portable>⟧.shape)
+        ⟦<ArchivedLabel as Ordered>⟧.order ⟦<ArchivedLabel as Ordered>⟧.hash_input
+        total_of_archived_label respects_of_archived_label by_value_of_archived_label)
+        ⟦<ArchivedLabel as Portable>⟧.layout (record { solved = λ s k. refl }))
+        ⟦<ArchivedVec<ArchivedLabel> as Portable>⟧.layout (record { solved = λ s k. refl })
         (inr (inr (inl refl)))) ⟦<ArchivedOption<ArchivedVec<ArchivedLabel>> as Portable>⟧.layout
         (record { solved = λ s k. refl }) no_field_compared)))) refl).total };
 
     ghost respects = { (record_compared (field_compared
-        (result_compared (char_compared ⟦<char as Hash>⟧.hash_input)
-        ⟦<ArchivedChar as Portable>⟧.layout (record { solved = λ s k. refl })
+        (result_compared (unsigned_compared w8 1 ⟦<u8 as Hash>⟧.hash_input refl)
+        ⟦<u8 as Portable>⟧.layout (record { solved = λ s k. refl })
         (bool_compared ⟦<bool as Hash>⟧.hash_input) ⟦<bool as Portable>⟧.layout (record {
           solved = λ s k. refl;
-        }) (inr (inr (inl refl))) (inl refl))
-        ⟦<ArchivedResult<ArchivedChar, bool> as Portable>⟧.layout (record { solved = λ s k. refl })
-        (field_compared (pair_compared (unsigned_non_zero_compared w16 2 ⟦<u16 as Hash>⟧.hash_input
-        refl) ⟦<NonZero<u16> as Portable>⟧.layout (record { solved = λ s k. refl })
+        }) (inl refl) (inl refl)) ⟦<ArchivedResult<u8, bool> as Portable>⟧.layout (record {
+          solved = λ s k. refl;
+        }) (field_compared (pair_compared (unsigned_non_zero_compared w8 1 ⟦<u8 as Hash>⟧.hash_input
+        refl) ⟦<NonZero<u8> as Portable>⟧.layout (record { solved = λ s k. refl })
         (signed_non_zero_compared w8 1 ⟦<i8 as Hash>⟧.hash_input refl)
         ⟦<NonZero<i8> as Portable>⟧.layout (record { solved = λ s k. refl }))
-        ⟦<ArchivedTuple2<NonZero<u16>, NonZero<i8>> as Portable>⟧.layout (record {
+        ⟦<ArchivedTuple2<NonZero<u8>, NonZero<i8>> as Portable>⟧.layout (record {
           solved = λ s k. refl;
         }) (field_compared (map_compared string_compared ⟦<ArchivedString as Portable>⟧.layout
         (record { solved = λ s k. refl }) (box_compared
-        (signed_compared w64 8 ⟦<i64 as Hash>⟧.hash_input refl))
-        ⟦<ArchivedBox<ArchivedI64> as Portable>⟧.layout (record { solved = λ s k. refl })
+        (signed_compared w8 1 ⟦<i8 as Hash>⟧.hash_input refl))
+        ⟦<ArchivedBox<i8> as Portable>⟧.layout (record { solved = λ s k. refl })
         ⟦<ArchivedString as MapKey>⟧.key refl)
-        ⟦<ArchivedSortedMap<ArchivedString, ArchivedBox<ArchivedI64>> as Portable>⟧.layout
-        (record { solved = λ s k. refl }) (field_compared
-        (option_compared (vec_compared (as_known no_definition
-        (one ⟦<ArchivedLabel as Portable>⟧.shape) ⟦<ArchivedLabel as Ordered>⟧.order
-        ⟦<ArchivedLabel as Ordered>⟧.hash_input total_of_archived_label respects_of_archived_label
-        by_value_of_archived_label) ⟦<ArchivedLabel as Portable>⟧.layout (record {
+        ⟦<ArchivedSortedMap<ArchivedString, ArchivedBox<i8>> as Portable>⟧.layout (record {
           solved = λ s k. refl;
-        })) ⟦<ArchivedVec<ArchivedLabel> as Portable>⟧.layout (record { solved = λ s k. refl })
+        }) (field_compared (option_compared (vec_compared
+        (as_known no_definition (one ⟦<ArchivedLabel as Portable>⟧.shape)
+        ⟦<ArchivedLabel as Ordered>⟧.order ⟦<ArchivedLabel as Ordered>⟧.hash_input
+        total_of_archived_label respects_of_archived_label by_value_of_archived_label)
+        ⟦<ArchivedLabel as Portable>⟧.layout (record { solved = λ s k. refl }))
+        ⟦<ArchivedVec<ArchivedLabel> as Portable>⟧.layout (record { solved = λ s k. refl })
         (inr (inr (inl refl)))) ⟦<ArchivedOption<ArchivedVec<ArchivedLabel>> as Portable>⟧.layout
         (record { solved = λ s k. refl }) no_field_compared)))) refl).respects };
 
     ghost level = { tt };
 
     ghost by_value = { (record_compared (field_compared
-        (result_compared (char_compared ⟦<char as Hash>⟧.hash_input)
-        ⟦<ArchivedChar as Portable>⟧.layout (record { solved = λ s k. refl })
+        (result_compared (unsigned_compared w8 1 ⟦<u8 as Hash>⟧.hash_input refl)
+        ⟦<u8 as Portable>⟧.layout (record { solved = λ s k. refl })
         (bool_compared ⟦<bool as Hash>⟧.hash_input) ⟦<bool as Portable>⟧.layout (record {
           solved = λ s k. refl;
-        }) (inr (inr (inl refl))) (inl refl))
-        ⟦<ArchivedResult<ArchivedChar, bool> as Portable>⟧.layout (record { solved = λ s k. refl })
-        (field_compared (pair_compared (unsigned_non_zero_compared w16 2 ⟦<u16 as Hash>⟧.hash_input
-        refl) ⟦<NonZero<u16> as Portable>⟧.layout (record { solved = λ s k. refl })
+        }) (inl refl) (inl refl)) ⟦<ArchivedResult<u8, bool> as Portable>⟧.layout (record {
+          solved = λ s k. refl;
+        }) (field_compared (pair_compared (unsigned_non_zero_compared w8 1 ⟦<u8 as Hash>⟧.hash_input
+        refl) ⟦<NonZero<u8> as Portable>⟧.layout (record { solved = λ s k. refl })
         (signed_non_zero_compared w8 1 ⟦<i8 as Hash>⟧.hash_input refl)
         ⟦<NonZero<i8> as Portable>⟧.layout (record { solved = λ s k. refl }))
-        ⟦<ArchivedTuple2<NonZero<u16>, NonZero<i8>> as Portable>⟧.layout (record {
+        ⟦<ArchivedTuple2<NonZero<u8>, NonZero<i8>> as Portable>⟧.layout (record {
           solved = λ s k. refl;
         }) (field_compared (map_compared string_compared ⟦<ArchivedString as Portable>⟧.layout
         (record { solved = λ s k. refl }) (box_compared
-        (signed_compared w64 8 ⟦<i64 as Hash>⟧.hash_input refl))
-        ⟦<ArchivedBox<ArchivedI64> as Portable>⟧.layout (record { solved = λ s k. refl })
+        (signed_compared w8 1 ⟦<i8 as Hash>⟧.hash_input refl))
+        ⟦<ArchivedBox<i8> as Portable>⟧.layout (record { solved = λ s k. refl })
         ⟦<ArchivedString as MapKey>⟧.key refl)
-        ⟦<ArchivedSortedMap<ArchivedString, ArchivedBox<ArchivedI64>> as Portable>⟧.layout
-        (record { solved = λ s k. refl }) (field_compared
-        (option_compared (vec_compared (as_known no_definition
-        (one ⟦<ArchivedLabel as Portable>⟧.shape) ⟦<ArchivedLabel as Ordered>⟧.order
-        ⟦<ArchivedLabel as Ordered>⟧.hash_input total_of_archived_label respects_of_archived_label
-        by_value_of_archived_label) ⟦<ArchivedLabel as Portable>⟧.layout (record {
+        ⟦<ArchivedSortedMap<ArchivedString, ArchivedBox<i8>> as Portable>⟧.layout (record {
           solved = λ s k. refl;
-        })) ⟦<ArchivedVec<ArchivedLabel> as Portable>⟧.layout (record { solved = λ s k. refl })
+        }) (field_compared (option_compared (vec_compared
+        (as_known no_definition (one ⟦<ArchivedLabel as Portable>⟧.shape)
+        ⟦<ArchivedLabel as Ordered>⟧.order ⟦<ArchivedLabel as Ordered>⟧.hash_input
+        total_of_archived_label respects_of_archived_label by_value_of_archived_label)
+        ⟦<ArchivedLabel as Portable>⟧.layout (record { solved = λ s k. refl }))
+        ⟦<ArchivedVec<ArchivedLabel> as Portable>⟧.layout (record { solved = λ s k. refl })
         (inr (inr (inl refl)))) ⟦<ArchivedOption<ArchivedVec<ArchivedLabel>> as Portable>⟧.layout
         (record { solved = λ s k. refl }) no_field_compared)))) refl).by_value };
 
