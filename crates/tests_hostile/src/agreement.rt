@@ -1,13 +1,12 @@
 // What is done with each archive, of whatever type: all that a stranger makes of it by cutting it short, by writing over one byte, or by both, is judged.
 
 use crate::assertions::{BySchema, ByType, Checker, assert_agreement, assert_answer, form_of};
-use archive_core::boxed::ArchivedBox;
-use archive_core::core_impls::ArchivedTuple2;
-use archive_core::option::ArchivedOption;
-use archive_core::rc::{ArchivedRc, ArchivedRcWeak, RcFlavor};
-use archive_core::traits::{Portable, PortablePointee};
-use archive_core::vec::ArchivedVec;
 use archive_inspect::form::Form;
+use archive_tuple::ArchivedTuple2;
+use archive_types::boxed::ArchivedBox;
+use archive_types::option::ArchivedOption;
+use archive_types::rc::{ArchivedRc, ArchivedRcWeak, RcFlavor};
+use archive_types::traits::{Portable, PortablePointee};
 use std::alloc::{AllocError, Global};
 use std::ops::Range;
 use std::process::Abort;
@@ -86,33 +85,24 @@ pub(crate) fn assert_hostile_form(
 }
 
 // A long archive has two tests, since a test has a minute: of its beginnings of less than so many bytes, and of the rest.
-pub(crate) fn assert_hostile_cuts<T: Portable>(
+pub(crate) fn assert_hostile_cuts<C: Checker>(
     rt: &impl Abort,
     alloc: Global,
+    form: &Form,
     (what, archive): (&str, &[u8]),
     least: usize,
 ) {
-    let form = form_of::<T>(rt, alloc);
-    assert_beginnings::<ByType<T>>(rt, what, alloc, &form, archive, 0..least);
+    assert_beginnings::<C>(rt, what, alloc, form, archive, 0..least);
 }
 
-pub(crate) fn assert_hostile_rest<T: Portable>(
+pub(crate) fn assert_hostile_rest<C: Checker>(
     rt: &impl Abort,
     alloc: Global,
+    form: &Form,
     (what, archive): (&str, &[u8]),
     least: usize,
 ) {
-    let form = form_of::<T>(rt, alloc);
-    assert_archive::<ByType<T>>(rt, what, alloc, &form, archive, least);
-}
-
-// And of archives of a vector.
-pub(crate) fn assert_hostile_vectors<T: Portable>(
-    rt: &impl Abort,
-    alloc: Global,
-    rows: &[(&str, &[u8])],
-) {
-    assert_hostile::<ArchivedVec<T>>(rt, alloc, rows);
+    assert_archive::<C>(rt, what, alloc, form, archive, least);
 }
 
 // And of archives of an option of a box.

@@ -1,16 +1,17 @@
 // The archives that are cut short and written over.
 
 use crate::agreement::{
-    assert_hostile, assert_hostile_option, assert_hostile_pair, assert_hostile_shared,
-    assert_hostile_weak,
+    assert_hostile, assert_hostile_form, assert_hostile_option, assert_hostile_pair,
+    assert_hostile_shared, assert_hostile_weak,
 };
-use archive_core::boxed::ArchivedBox;
-use archive_core::primitive::{ArchivedChar, ArchivedNonZeroU16, ArchivedU32};
-use archive_core::slice::ArchivedSlice;
-use archive_core::string::{ArchivedStr, ArchivedString};
-use archive_core::vec::ArchivedVec;
-use own_types::node::ArchivedNode;
-use own_types::test_record::ArchivedTest;
+use archive_inspect::text::parse;
+use archive_types::boxed::ArchivedBox;
+use archive_types::primitive::{ArchivedChar, ArchivedNonZeroU16, ArchivedU32};
+use archive_types::slice::ArchivedSlice;
+use archive_types::string::{ArchivedStr, ArchivedString};
+use archive_types::vec::ArchivedVec;
+use std::alloc::Global;
+use std::process::Abort;
 
 // The text "hello world", a zero, and at 12 the string that points back at it.
 pub(crate) const HELLO_WORLD: &[u8] = b"hello world\0\x8b\0\0\0\xf4\xff\xff\xff";
@@ -69,13 +70,24 @@ fn hostile_strings_and_vectors(rt: HostRuntime) {
     assert_hostile::<ArchivedVec<ArchivedBox<ArchivedStr>>>(&rt, alloc, &nested);
 }
 
+// The archive of a type that a text declares, by its schema.
+fn assert_hostile_text(rt: &impl Abort, alloc: Global, text: &str, archive: &[u8]) {
+    let form = parse(alloc, text).expect(rt, "a schema");
+    assert_hostile_form(rt, alloc, &form, (text, archive));
+}
+
 #[test]
-fn hostile_records_and_choices(rt: HostRuntime) {
+fn hostile_records(rt: HostRuntime) {
+    let record = "struct Test { number: u8, text: String, list: Option<Vec<i32>> }";
+    assert_hostile_text(&rt, rt.alloc(), record, RECORD);
+}
+
+#[test]
+fn hostile_choices(rt: HostRuntime) {
     let alloc = rt.alloc();
-    assert_hostile::<ArchivedTest>(&rt, alloc, &[("a record of three fields", RECORD)]);
+    assert_hostile_text(&rt, alloc, "enum Node { End, More(Box<Node>) }", ONE_BOX);
     let options = [("an option of boxed bytes", SOME_BYTES)];
     assert_hostile_option::<ArchivedSlice<u8>>(&rt, alloc, &options);
-    assert_hostile::<ArchivedNode>(&rt, alloc, &[("a box of its own type", ONE_BOX)]);
 }
 
 #[test]

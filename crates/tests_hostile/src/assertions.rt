@@ -1,13 +1,14 @@
-// What is asserted, proved once: a call of `access` at a type stands in here alone, and `assert_eq!` in one function, since either takes the check seconds.
+// What is asserted, proved once: a type's check is called in here alone, and `assert_eq!` in one function, since either takes the check seconds.
 
 use crate::oracle::{Judged, Place, Range, Step, judge, refusal_judged, step_of};
-use archive_core::api::access;
-use archive_core::error::Error;
-use archive_core::traits::Portable;
+use archive_check::context::ArchiveValidator;
+use archive_check::format::error::Error;
+use archive_check::self_check::{SelfCheck, check_root};
 use archive_inspect::describe::{Content, Piece, describe};
 use archive_inspect::explain::{FaultPlace, explain_with};
 use archive_inspect::form::Form;
 use archive_inspect::walk::Walker;
+use archive_types::traits::Portable;
 use std::alloc::Global;
 use std::fmt::Debug;
 use std::marker::PhantomData;
@@ -45,14 +46,19 @@ pub(crate) trait Checker {
     fn refusal_of(alloc: Global, form: &Form, bytes: &[u8]) -> Option<Error>;
 }
 
-// That of a type.
+// That of a type, where it validates itself; of another that by its schema.
 pub(crate) struct ByType<T> {
     of: PhantomData<T>,
 }
 
 impl<T: Portable> Checker for ByType<T> {
-    fn refusal_of(alloc: Global, _form: &Form, bytes: &[u8]) -> Option<Error> {
-        access::<T>(alloc, bytes).err()
+    fn refusal_of(alloc: Global, form: &Form, bytes: &[u8]) -> Option<Error> {
+        if !T::Check::is_direct() {
+            return BySchema::refusal_of(alloc, form, bytes);
+        }
+        let root = bytes.len().saturating_sub(T::size());
+        let mut context = ArchiveValidator::new(bytes);
+        check_root::<T, ArchiveValidator<'_>>(bytes, root, &mut context).err()
     }
 }
 

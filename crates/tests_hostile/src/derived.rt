@@ -1,14 +1,40 @@
-// Archives of types that tools/derive wrote: a struct of structs, enums in a vector, and structs that share.
+// Archives of types that texts declare, and tools/derive writes: a struct of structs, enums in a vector, and structs that share.
 
-use crate::agreement::{
-    assert_hostile, assert_hostile_cuts, assert_hostile_rest, assert_hostile_vectors,
-};
-use crate::faults::assert_first_faults;
-use archive_core::error::Error;
-use archive_core::vec::ArchivedVec;
-use derived_types::event::ArchivedEvent;
-use derived_types::spot::ArchivedDrawing;
-use derived_types::track::{ArchivedEither, ArchivedTrack};
+use crate::agreement::{assert_hostile_cuts, assert_hostile_form, assert_hostile_rest};
+use crate::assertions::BySchema;
+use crate::rows::assert_form_rows;
+use archive_check::format::error::Error;
+use archive_inspect::form::Form;
+use archive_inspect::text::parse;
+use std::alloc::Global;
+use std::process::Abort;
+
+// A schema, as a text declares it.
+fn form_of(rt: &impl Abort, alloc: Global, text: &str) -> Form {
+    parse(alloc, text).expect(rt, "a schema")
+}
+
+// A drawing, with the types that it holds.
+const A_DRAWING: &str = "struct Spot { right: u16, up: i16 }
+struct Line { from: Spot, to: Spot }
+enum Event { Quit, Key(char), Text(String), Move { x: i32, y: i32 }, Batch(Vec<u32>) }
+struct Drawing { first: Line, lines: Vec<Line>, last: Option<Box<Line>>, event: Event }";
+
+// A vector of events.
+const SOME_EVENTS: &str =
+    "enum Event { Quit, Key(char), Text(String), Move { x: i32, y: i32 }, Batch(Vec<u32>) }
+Vec<Event>";
+
+// A vector of tracks.
+const SOME_TRACKS: &str = "struct Spot { right: u16, up: i16 }
+struct Line { from: Spot, to: Spot }
+struct Track { line: Shared<Line>, other: Option<Box<Line>> }
+Vec<Track>";
+
+// An enum that shares.
+const EITHER: &str = "struct Spot { right: u16, up: i16 }
+struct Line { from: Spot, to: Spot }
+enum Either { Alone(u8), Together { lines: SharedSlice<Line>, text: SharedStr, weak: WeakShared<Line> } }";
 
 // Two lines and two numbers, and at 24 the drawing: a line, the vector that points back at the first of those, the box that points back at the second one, and
 // the event whose vector points back at the numbers.
@@ -29,34 +55,34 @@ const TOGETHER: &[u8] =
 
 #[test]
 fn hostile_structs_of_structs(rt: HostRuntime) {
-    assert_hostile_rest::<ArchivedDrawing>(&rt, rt.alloc(), ("a drawing", DRAWING), 48);
+    let form = form_of(&rt, rt.alloc(), A_DRAWING);
+    assert_hostile_rest::<BySchema>(&rt, rt.alloc(), &form, ("a drawing", DRAWING), 48);
 }
 
 #[test]
 fn hostile_cuts_of_structs_of_structs(rt: HostRuntime) {
-    assert_hostile_cuts::<ArchivedDrawing>(&rt, rt.alloc(), ("a drawing", DRAWING), 48);
+    let form = form_of(&rt, rt.alloc(), A_DRAWING);
+    assert_hostile_cuts::<BySchema>(&rt, rt.alloc(), &form, ("a drawing", DRAWING), 48);
 }
 
 #[test]
 fn hostile_enums_in_a_vector(rt: HostRuntime) {
-    let alloc = rt.alloc();
-    assert_hostile_rest::<ArchivedVec<ArchivedEvent>>(&rt, alloc, ("three events", EVENTS), 48);
+    let form = form_of(&rt, rt.alloc(), SOME_EVENTS);
+    assert_hostile_rest::<BySchema>(&rt, rt.alloc(), &form, ("three events", EVENTS), 48);
 }
 
 #[test]
 fn hostile_cuts_of_enums_in_a_vector(rt: HostRuntime) {
-    let alloc = rt.alloc();
-    assert_hostile_cuts::<ArchivedVec<ArchivedEvent>>(&rt, alloc, ("three events", EVENTS), 48);
+    let form = form_of(&rt, rt.alloc(), SOME_EVENTS);
+    assert_hostile_cuts::<BySchema>(&rt, rt.alloc(), &form, ("three events", EVENTS), 48);
 }
 
 #[test]
-fn hostile_structs_that_share(rt: HostRuntime) {
-    assert_hostile_vectors::<ArchivedTrack>(&rt, rt.alloc(), &[("two tracks", TRACKS)]);
-}
-
-#[test]
-fn a_hostile_enum_that_shares(rt: HostRuntime) {
-    assert_hostile::<ArchivedEither>(&rt, rt.alloc(), &[("together", TOGETHER)]);
+fn hostile_structs_and_enums_that_share(rt: HostRuntime) {
+    let form = form_of(&rt, rt.alloc(), SOME_TRACKS);
+    assert_hostile_form(&rt, rt.alloc(), &form, ("two tracks", TRACKS));
+    let form = form_of(&rt, rt.alloc(), EITHER);
+    assert_hostile_form(&rt, rt.alloc(), &form, ("together", TOGETHER));
 }
 
 // A drawing with three faults: four lines in place of one, an option and an event with unknown tags.
@@ -79,9 +105,7 @@ fn of_three_faults_of_a_drawing_the_first_is_told(rt: HostRuntime) {
         name: "ArchivedOption",
         value: 2,
     };
-    assert_first_faults::<ArchivedDrawing>(
-        &rt,
-        rt.alloc(),
-        &[(THREE_FAULTS, outside), (TWO_FAULTS, unknown)],
-    );
+    let form = form_of(&rt, rt.alloc(), A_DRAWING);
+    let rows = [(THREE_FAULTS, Some(outside)), (TWO_FAULTS, Some(unknown))];
+    assert_form_rows(&rt, rt.alloc(), &form, &rows);
 }

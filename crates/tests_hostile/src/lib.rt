@@ -1,5 +1,5 @@
-//! Tests of hostile bytes: archives cut short and with bytes made others, judged by `access` and by a slow check of its own, made from docs/FORMAT.md. And of what
-//! explains a refusal, by types and by their declarations as texts.
+//! Tests of hostile bytes: archives cut short and with bytes made others, judged by the checks of types and of schemas, and by a slow check of its own, made from
+//! docs/FORMAT.md. And of what explains a refusal.
 #![tactic(auto)]
 
 #[cfg(test)]
@@ -8,8 +8,6 @@ mod agreement;
 mod archives;
 #[cfg(test)]
 mod assertions;
-#[cfg(test)]
-mod declared;
 #[cfg(test)]
 mod derived;
 #[cfg(test)]

@@ -4,21 +4,22 @@ use crate::agreement::{
     assert_hostile, assert_hostile_cuts, assert_hostile_form, assert_hostile_rest,
     assert_hostile_shared,
 };
+use crate::assertions::{ByType, form_of};
 use crate::rows::{assert_form_rows, assert_rows};
-use archive_core::boxed::ArchivedBox;
-use archive_core::error::Error;
-use archive_core::map::ArchivedSortedMap;
-use archive_core::option::ArchivedOption;
-use archive_core::primitive::{
+use archive_check::format::error::Error;
+use archive_check::format::expr::{Expr, IntegerKind, Key, Kind};
+use archive_inspect::form::Form;
+use archive_types::boxed::ArchivedBox;
+use archive_types::map::ArchivedSortedMap;
+use archive_types::option::ArchivedOption;
+use archive_types::primitive::{
     ArchivedChar, ArchivedI32, ArchivedI128, ArchivedNonZeroU16, ArchivedU16, ArchivedU32,
     ArchivedU64, ArchivedU128,
 };
-use archive_core::rc::{ArchivedRc, RcFlavor};
-use archive_core::shape::{Expr, IntegerKind, Key, Kind};
-use archive_core::string::{ArchivedStr, ArchivedString};
-use archive_core::traits::{MapKey, Portable};
-use archive_core::vec::ArchivedVec;
-use archive_inspect::form::Form;
+use archive_types::rc::{ArchivedRc, RcFlavor};
+use archive_types::string::{ArchivedStr, ArchivedString};
+use archive_types::traits::{MapKey, Portable};
+use archive_types::vec::ArchivedVec;
 use std::alloc::Global;
 use std::process::Abort;
 
@@ -134,12 +135,16 @@ type LongestNumbers = ArchivedSortedMap<ArchivedU128, u8>;
 
 #[test]
 fn hostile_maps_of_the_longest_numbers(rt: HostRuntime) {
-    assert_hostile_rest::<LongestNumbers>(&rt, rt.alloc(), ("sixteen", LONGEST_NUMBERS), 54);
+    let form = form_of::<LongestNumbers>(&rt, rt.alloc());
+    let archive = ("sixteen", LONGEST_NUMBERS);
+    assert_hostile_rest::<ByType<LongestNumbers>>(&rt, rt.alloc(), &form, archive, 54);
 }
 
 #[test]
 fn hostile_cuts_of_the_longest_numbers(rt: HostRuntime) {
-    assert_hostile_cuts::<LongestNumbers>(&rt, rt.alloc(), ("sixteen", LONGEST_NUMBERS), 54);
+    let form = form_of::<LongestNumbers>(&rt, rt.alloc());
+    let archive = ("sixteen", LONGEST_NUMBERS);
+    assert_hostile_cuts::<ByType<LongestNumbers>>(&rt, rt.alloc(), &form, archive, 54);
 }
 
 #[test]

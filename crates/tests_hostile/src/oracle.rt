@@ -9,8 +9,8 @@ mod shared;
 mod tour;
 mod ways;
 
-use archive_core::error::Error;
-use archive_core::shape::Kind;
+use archive_check::format::error::Error;
+use archive_check::format::expr::Kind;
 use archive_inspect::form::Form;
 use regions::first_refused;
 use std::alloc::Global;

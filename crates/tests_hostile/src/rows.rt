@@ -1,16 +1,17 @@
 // Bytes made by hand, what `access` and the slow check say of them, with all that a refusal tells.
 
 use crate::assertions::{BySchema, ByType, assert_answer, form_of};
-use arc_commands::shared::ArchivedTwoRc;
-use archive_core::boxed::ArchivedBox;
-use archive_core::error::Error;
-use archive_core::option::ArchivedOption;
-use archive_core::primitive::{ArchivedU32, ArchivedU64};
-use archive_core::slice::ArchivedSlice;
-use archive_core::traits::{Portable, PortablePointee};
-use archive_core::vec::ArchivedVec;
+use archive_check::format::error::Error;
 use archive_inspect::form::Form;
 use archive_inspect::text::parse;
+use archive_tuple::ArchivedTuple2;
+use archive_types::boxed::ArchivedBox;
+use archive_types::option::ArchivedOption;
+use archive_types::primitive::{ArchivedU32, ArchivedU64};
+use archive_types::rc::{ArchivedRc, RcFlavor};
+use archive_types::slice::ArchivedSlice;
+use archive_types::traits::{Portable, PortablePointee};
+use archive_types::vec::ArchivedVec;
 use std::alloc::Global;
 use std::process::Abort;
 
@@ -100,7 +101,8 @@ fn the_regions_of_two_boxes_rise(rt: HostRuntime) {
 fn the_regions_of_two_shared_numbers_rise(rt: HostRuntime) {
     let rising = b"\x0a\0\0\0\x0b\0\0\0\xf8\xff\xff\xff\xf8\xff\xff\xff";
     let falling = b"\x0a\0\0\0\x0b\0\0\0\xfc\xff\xff\xff\xf4\xff\xff\xff";
-    assert_rows::<ArchivedTwoRc>(
+    type Number = ArchivedRc<ArchivedU32, RcFlavor>;
+    assert_rows::<ArchivedTuple2<Number, Number>>(
         &rt,
         rt.alloc(),
         &[(rising, None), (falling, outside(0, 4, 8, 8))],

@@ -1,4 +1,4 @@
-//! Tests of the types of own_types, and of what the program `arc` prints.
+//! Tests of the types of own_types, of declarations as texts, and of what the program `arc` prints.
 #![tactic(auto)]
 
 #[cfg(test)]
@@ -7,6 +7,8 @@ mod ample_memory;
 mod assertions;
 #[cfg(test)]
 mod commands;
+#[cfg(test)]
+mod declared;
 #[cfg(test)]
 mod lengths;
 #[cfg(test)]

@@ -1,6 +1,6 @@
 // Leaves, numbers and texts in bytes. Positions are whole numbers, and may lie outside: then there is nothing.
 
-use archive_core::shape::Kind;
+use archive_check::format::expr::Kind;
 
 // So many bytes at a position.
 pub(super) fn bytes_at(bytes: &[u8], at: i128, size: i128) -> Option<&[u8]> {

@@ -4,7 +4,7 @@ use crate::oracle::bytes::{
     byte_at, bytes_at, decoded_length, inline_length, is_out_of_line, number_at, target_at,
 };
 use crate::oracle::layout::size_of_leaf;
-use archive_core::shape::{IntegerKind, Key, Kind};
+use archive_check::format::expr::{IntegerKind, Key, Kind};
 
 // Whether numbers may be negative.
 fn is_signed(integer: IntegerKind) -> bool {

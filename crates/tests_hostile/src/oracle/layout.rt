@@ -1,6 +1,6 @@
 // What values take, as docs/FORMAT.md says it of expressions. Sizes are whole numbers: one that is past the greatest here is that greatest, which no buffer has.
 
-use archive_core::shape::{Def, Expr, IntegerKind, Key, Kind, Pointee};
+use archive_check::format::expr::{Def, Expr, IntegerKind, Key, Kind, Pointee};
 
 // How deep expressions may lie in one another. A name that held itself behind no pointer would have no end.
 const LEVELS: usize = 100;

@@ -1,6 +1,6 @@
 // The list of regions, and where each of them may lie.
 
-use archive_core::error::Error;
+use archive_check::format::error::Error;
 
 // A region, with the numbers in the list of those that it lies between.
 #[derive(Clone, Copy)]

@@ -1,7 +1,7 @@
 // The shared positions that were met.
 
 use crate::oracle::tour::Fault;
-use archive_core::shape::{FlavorInfo, Pointee};
+use archive_check::format::expr::{FlavorInfo, Pointee};
 
 // A shared position, its type and its length.
 #[derive(Drop)]

@@ -12,7 +12,7 @@ use crate::oracle::layout::{
 use crate::oracle::regions::Region;
 use crate::oracle::shared::{Meeting, Met, look_up};
 use crate::oracle::ways::{Place, Range, Step};
-use archive_core::shape::{Def, Expr, FlavorInfo, Key, Kind, Pointee};
+use archive_check::format::expr::{Def, Expr, FlavorInfo, Key, Kind, Pointee};
 use archive_inspect::form::Form;
 use std::alloc::Global;
 
