@@ -20,7 +20,7 @@ from .items import number_of
 MOST_FIELDS = 32
 MOST_OF_VARIANT = 16
 # Of a type that is archived as a tuple with names.
-MOST_FEW = 8
+MOST_FEW = 16
 MOST_PARTS = 13
 MOST_VARIANTS = 256
 MOST_ITEMS = 2**32 - 1
