@@ -1,6 +1,7 @@
 """Enums of many variants: their nests are cut, and each variant is in one of them, in the order of the tags."""
 
 import re
+from unittest import mock
 
 from derivation import variant_blocks
 from derivation.loads import MOST_OF_VARIANTS, Loads
@@ -11,8 +12,16 @@ from .repository import RepositoryTest
 class VariantBlocks(RepositoryTest):
     def written(self, declared):
         path = self.put(declared)
-        self.assertEqual(self.run_command(path), (0, ""))
+        with mock.patch("derivation.read.MOST_WITH_FIELDS", 256):
+            self.assertEqual(self.run_command(path), (0, ""))
         return self.text(path)
+
+    def test_as_many_variants_have_fields_as_are_proved(self):
+        for count, status in ((20, 0), (21, 2)):
+            path = self.put(f"pub enum A {{ X, {', '.join(f'V{i}(u8)' for i in range(count))} }}")
+            self.assertEqual(self.run_command(path)[0], status)
+        said = "types.rt:1: `A` has more than 20 variants with fields, whose `resolve` isn't proved; put some into an enum of another file"
+        self.assertIn(said, self.run_command(path)[1])
 
     def test_each_variant_is_in_one_block(self):
         for count, type in ((40, "[u8; 4]"), (30, "Vec<u32>"), (70, "u32"), (6, "Vec<(String, u32)>, Option<u64>")):
