@@ -23,7 +23,8 @@ use std::marker::PhantomData;
 /// next multiple of its alignment.
 #[derive(Debug)]
 pub struct ArchivedTuple<P> {
-    of: PhantomData<P>,
+    // (the check is named for who matches on views of it: docs/DECISIONS.md)
+    of: PhantomData<TupleCheck<P>>,
 }
 
 impl<P: PortableParts> ArchivePointee for ArchivedTuple<P> {

@@ -20,6 +20,7 @@ use crate::view::{RawView, Ref};
 use archive_check::format::bytes::read_target;
 use archive_check::format::error::Error;
 use archive_check::format::expr::{Defs, Expr};
+use archive_check::self_check::BoxCheck;
 pub use inner::serialize_inner;
 pub use slices::{BoxSlice, BoxStr};
 pub use sources::BoxResolver;
@@ -30,7 +31,8 @@ use std::marker::PhantomData;
 /// 0.8.18.
 #[derive(Debug)]
 pub struct ArchivedBox<T> {
-    of: PhantomData<T>,
+    // (the check is named for who matches on views of it: docs/DECISIONS.md)
+    of: PhantomData<BoxCheck<T>>,
 }
 
 impl<T: ArchivePointee> ArchivePointee for ArchivedBox<T> {

@@ -37,7 +37,8 @@ use std::marker::PhantomData;
 /// rkyv 0.8.18's maps have other formats.
 #[derive(Debug)]
 pub struct ArchivedSortedMap<K, V> {
-    of: PhantomData<(K, V)>,
+    // (the check is named for who matches on views of it: docs/DECISIONS.md)
+    of: PhantomData<MapCheck<K, V>>,
 }
 
 impl<K: MapKey, V: Portable> ArchivePointee for ArchivedSortedMap<K, V> {

@@ -32,7 +32,8 @@ use std::marker::PhantomData;
 /// has a slice of archived values instead.
 #[derive(Debug)]
 pub struct ArchivedSlice<T> {
-    of: PhantomData<T>,
+    // (the check is named for who matches on views of it: docs/DECISIONS.md)
+    of: PhantomData<VecCheck<T>>,
 }
 
 impl<T: Portable> ArchivePointee for ArchivedSlice<T> {

@@ -28,7 +28,8 @@ use std::marker::PhantomData;
 /// An archived vector: eight bytes at a multiple of four, an offset to the elements and their number. As in rkyv 0.8.18.
 #[derive(Debug)]
 pub struct ArchivedVec<T> {
-    of: PhantomData<T>,
+    // (the check is named for who matches on views of it: docs/DECISIONS.md)
+    of: PhantomData<VecCheck<T>>,
 }
 
 impl<T: Portable> ArchivePointee for ArchivedVec<T> {
