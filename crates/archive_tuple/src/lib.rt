@@ -23,8 +23,7 @@ use std::marker::PhantomData;
 /// next multiple of its alignment.
 #[derive(Debug)]
 pub struct ArchivedTuple<P> {
-    // (the check is named for who matches on views of it: docs/DECISIONS.md)
-    of: PhantomData<TupleCheck<P>>,
+    of: PhantomData<P>,
 }
 
 impl<P: PortableParts> ArchivePointee for ArchivedTuple<P> {

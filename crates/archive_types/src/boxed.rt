@@ -20,7 +20,6 @@ use crate::view::{RawView, Ref};
 use archive_check::format::bytes::read_target;
 use archive_check::format::error::Error;
 use archive_check::format::expr::{Defs, Expr};
-use archive_check::self_check::BoxCheck;
 pub use inner::serialize_inner;
 pub use slices::{BoxSlice, BoxStr};
 pub use sources::BoxResolver;
@@ -31,8 +30,7 @@ use std::marker::PhantomData;
 /// 0.8.18.
 #[derive(Debug)]
 pub struct ArchivedBox<T> {
-    // (the check is named for who matches on views of it: docs/DECISIONS.md)
-    of: PhantomData<BoxCheck<T>>,
+    of: PhantomData<T>,
 }
 
 impl<T: ArchivePointee> ArchivePointee for ArchivedBox<T> {

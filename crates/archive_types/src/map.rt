@@ -37,8 +37,7 @@ use std::marker::PhantomData;
 /// rkyv 0.8.18's maps have other formats.
 #[derive(Debug)]
 pub struct ArchivedSortedMap<K, V> {
-    // (the check is named for who matches on views of it: docs/DECISIONS.md)
-    of: PhantomData<MapCheck<K, V>>,
+    of: PhantomData<(K, V)>,
 }
 
 impl<K: MapKey, V: Portable> ArchivePointee for ArchivedSortedMap<K, V> {

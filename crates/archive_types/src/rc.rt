@@ -79,8 +79,6 @@ fn flavor_info<F: Flavor>() -> FlavorInfo
 pub struct ArchivedRc<T, F> {
     to: PhantomData<T>,
     of: PhantomData<F>,
-    // (the check is named for who matches on views of it: docs/DECISIONS.md)
-    by: PhantomData<BySchema>,
 }
 
 /// An archived weak pointer of the flavor `F`: a shared pointer, or a null, whose offset is 1 and whose length, where it has one, is 0. As in rkyv
@@ -89,8 +87,6 @@ pub struct ArchivedRc<T, F> {
 pub struct ArchivedRcWeak<T, F> {
     to: PhantomData<T>,
     of: PhantomData<F>,
-    // (the check is named for who matches on views of it: docs/DECISIONS.md)
-    by: PhantomData<BySchema>,
 }
 
 impl<T: ArchivePointee, F: Flavor> ArchivePointee for ArchivedRc<T, F> {

@@ -32,8 +32,7 @@ use std::marker::PhantomData;
 /// has a slice of archived values instead.
 #[derive(Debug)]
 pub struct ArchivedSlice<T> {
-    // (the check is named for who matches on views of it: docs/DECISIONS.md)
-    of: PhantomData<VecCheck<T>>,
+    of: PhantomData<T>,
 }
 
 impl<T: Portable> ArchivePointee for ArchivedSlice<T> {

@@ -49,21 +49,19 @@ use archive_check::self_check::{BoxStrCheck, StringCheck};
 pub use archive_num::repr;
 use archive_write::ser::{ResolverAlloc, Writer, WriterExt};
 use std::alloc::Global;
-use std::marker::{Model, PhantomData};
+use std::marker::Model;
 
 /// An archived string: eight bytes at a multiple of four, which hold a text of at most eight bytes
 /// or lead to a longer one. As in rkyv 0.8.18.
 #[derive(Clone, Copy, Debug)]
 pub struct ArchivedString {
-    // (the check is named for who matches on views of it: docs/DECISIONS.md)
-    by: PhantomData<StringCheck>,
+    _private: (),
 }
 
 /// An archived text in a region of its own. In its place rkyv 0.8.18 has an archived `str`.
 #[derive(Clone, Copy, Debug)]
 pub struct ArchivedStr {
-    // (the check is named for who matches on views of it: docs/DECISIONS.md)
-    by: PhantomData<BoxStrCheck>,
+    _private: (),
 }
 
 /// A borrowed text, as a source. In its place rkyv 0.8.18 has `str`.

@@ -28,8 +28,7 @@ use std::marker::PhantomData;
 /// An archived vector: eight bytes at a multiple of four, an offset to the elements and their number. As in rkyv 0.8.18.
 #[derive(Debug)]
 pub struct ArchivedVec<T> {
-    // (the check is named for who matches on views of it: docs/DECISIONS.md)
-    of: PhantomData<VecCheck<T>>,
+    of: PhantomData<T>,
 }
 
 impl<T: Portable> ArchivePointee for ArchivedVec<T> {

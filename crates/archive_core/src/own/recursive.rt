@@ -56,8 +56,6 @@ pub trait NamedRecursive {
 /// takes no machine stack.
 pub struct ArchivedRecursive<N> {
     of: PhantomData<N>,
-    // (the check is named for who matches on views of it: docs/DECISIONS.md)
-    by: PhantomData<BySchema>,
 }
 
 impl<N: NamedRecursive> ArchivePointee for ArchivedRecursive<N> {

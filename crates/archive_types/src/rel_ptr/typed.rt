@@ -36,8 +36,6 @@ use std::marker::PhantomData;
 pub struct RelPtr<T, O> {
     to: PhantomData<T>,
     by: PhantomData<O>,
-    // (the check is named for who matches on views of it: docs/DECISIONS.md)
-    check: PhantomData<BySchema>,
 }
 
 // Where the length stands behind an offset of such a number.
