@@ -35,6 +35,7 @@ def bring(it):
     f = it.formats
     f.use("archive_core::boxed", "ArchivedBox", "BoxResolver")
     f.use("archive_core::recursive", "Chain", "ChainBack", "ChainCheck", "ChainSource", "ReadHead", "Rest", "WrittenHead", "read_chain", "serialize_chain")
+    f.use("std::marker", "PhantomData")
     f.ghost("Chains", "HeadIsRead", "IsWrittenUpTo")
     meaning = f"{it.declaration.crate}.specs.{it.family.name}Meaning"
     f.ghosts.setdefault(meaning, set()).update([f"{it.n}_around", f"{it.n}_keys_around"])

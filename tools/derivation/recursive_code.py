@@ -117,8 +117,10 @@ def types(it):
             lines.append(statement(0, f"type {word(it, case)}Parts = ", pair([inside(it, type) for type in case.types]), ";"))
     if not it.is_record:
         lines.append(statement(0, f"type {it.name}Variants = ", pair([f"{word(it, case)}Parts" if case.count else "()" for case in it.cases]), ";"))
+    # The check of a list is named for who matches on views of it, as the library's are by all views.
+    body = f" {{\n    by: PhantomData<ChainCheck<{it.name}Chain>>,\n}}" if it.is_chain else ";"
     return f"""/// An archived `{it.name}`: {it.size} bytes at a multiple of {it.align}. It {'validates itself' if it.is_chain else 'is validated by its schema'}.
-pub struct {it.archived};
+pub struct {it.archived}{body}
 
 {chr(10).join(lines)}"""
 

@@ -66,9 +66,12 @@ use archive_core::traits::{
     Portable, Serialize, SerializeUnsized,
 };
 use archive_core::view::{RawView, Ref};
+use std::marker::PhantomData;
 
 /// An archived `Node`: 8 bytes at a multiple of 4. It validates itself.
-pub struct ArchivedNode;
+pub struct ArchivedNode {
+    by: PhantomData<ChainCheck<NodeChain>>,
+}
 
 type NodeConsParts = (ArchivedBox<ArchivedNode>, ());
 

@@ -50,9 +50,12 @@ use archive_core::traits::{
 };
 use archive_core::view::{RawView, Ref};
 use std::alloc::Global;
+use std::marker::PhantomData;
 
 /// An archived `List`: 12 bytes at a multiple of 4. It validates itself.
-pub struct ArchivedList;
+pub struct ArchivedList {
+    by: PhantomData<ChainCheck<ListChain>>,
+}
 
 type ListConsParts = (ArchivedU32, (ArchivedBox<ArchivedList>, ()));
 
