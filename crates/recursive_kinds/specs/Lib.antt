@@ -1,6 +1,6 @@
-pub mod KnotMeaning
-pub mod KnotShape
 pub mod BushMeaning
 pub mod BushShape
+pub mod RoadMeaning
+pub mod RoadShape
 pub mod RuleMeaning
 pub mod RuleShape

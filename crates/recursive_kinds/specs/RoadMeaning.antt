@@ -15,17 +15,17 @@ use Rattle.archive_core.specs.Value.{Value, case, number, value, no_value, share
 use Rattle.archive_core.specs.Variants.{case_of}
 use Rattle.archive_core.specs.Writing.{IsKeyed}
 use Rattle.archive_core.specs.declared.rc.sources.Shared.{Shared}
-use Rattle.recursive_pointers.specs.declared.road.Road.{Road-F, out-Road, roll-Road, fold-Road, fold-roll-Road, ind-Road, out-roll-Road}
-use Rattle.recursive_pointers.specs.declared.road.Road.TheFolds.{map-Road}
-use Rattle.recursive_pointers.specs.declared.road.RoadResolver.{RoadResolver}
+use Rattle.recursive_kinds.specs.declared.road.Road.{Road-F, out-Road, roll-Road, fold-Road, fold-roll-Road, ind-Road, out-roll-Road}
+use Rattle.recursive_kinds.specs.declared.road.Road.TheFolds.{map-Road}
+use Rattle.recursive_kinds.specs.declared.road.RoadResolver.{RoadResolver}
 use Rattle.std.proofs.Common.{ap, subst, sym, ◌∙◌}
-use Rattle.std.specs.Int.{w32}
+use Rattle.std.specs.Int.{w8}
 use Rattle.std.specs.Prelude.{ℕ, List, [], ◌++◌, ◌≡◌, refl, pos, ⊤, Option, None, Some}
-use Rattle.recursive_pointers.specs.RoadShape.{road_name, road_shape, road_definitions, road_variants, road_variant_definitions, road_has_variants, road_way_parts, road_way_definitions, road_detour_parts, road_detour_definitions}
-use Rattle.recursive_pointers.specs.declared.road.Road.{Road as Road-Source}
-use Rattle.recursive_pointers.specs.declared.road.Road.TheOpen as Layer
-use Rattle.recursive_pointers.specs.declared.road.Road.TheVariants as Its
-use Rattle.recursive_pointers.specs.declared.road.RoadResolver.TheVariants as Kept
+use Rattle.recursive_kinds.specs.RoadShape.{road_name, road_shape, road_definitions, road_variants, road_variant_definitions, road_has_variants, road_way_parts, road_way_definitions, road_detour_parts, road_detour_definitions}
+use Rattle.recursive_kinds.specs.declared.road.Road.{Road as Road-Source}
+use Rattle.recursive_kinds.specs.declared.road.Road.TheOpen as Layer
+use Rattle.recursive_kinds.specs.declared.road.Road.TheVariants as Its
+use Rattle.recursive_kinds.specs.declared.road.RoadResolver.TheVariants as Kept
 
 abbrev pub road_meaning_layer : {A : Type 0} → (A → Value) → Road-F A → Value
 road_meaning_layer m (Layer.Way a0 a1) = case 0 (value (number (pos a0)) (value (option_meaning (λ y. (shared_value y.key)) a1) no_value))
@@ -101,8 +101,8 @@ pub road_keyed : (t : Road-Source) → IsKeyed (road_keys t) (road_meaning t)
 road_keyed = ind-Road (λ t. IsKeyed (road_keys t) (road_meaning t)) (λ x y is. subst (λ z. IsKeyed (road_keys (roll-Road z)) (road_meaning (roll-Road z))) is (road_keyed_layer y))
 
 road_planned_layer : (y : Road-F ((t : Road-Source) × HasPlan road_definitions road_shape (road_keys t) (road_meaning t))) → HasPlan road_definitions road_shape (road_keys (roll-Road (map-Road ((t : Road-Source) × HasPlan road_definitions road_shape (road_keys t) (road_meaning t)) Road-Source (λ e. e.0) y))) (road_meaning (roll-Road (map-Road ((t : Road-Source) × HasPlan road_definitions road_shape (road_keys t) (road_meaning t)) Road-Source (λ e. e.0) y)))
-road_planned_layer (Layer.Way a0 None) = planned_as (road_has_keys_roll _) (road_means_roll _) (variant_planned road_definitions road_shape road_name road_variant_definitions road_variants road_has_variants 0 road_way_parts refl road_way_definitions refl _ _ (part_planned no_definition (leaf (number_kind unsigned w32)) [] (number (pos a0)) (leaf_planned no_definition _ _ [] _ refl) (part_planned road_definitions (option_shape (shared rc_flavor (one road_shape))) [] (case 0 no_value) (none_planned road_definitions (shared rc_flavor (one road_shape))) no_part_planned)))
-road_planned_layer (Layer.Way a0 (Some a1)) = planned_as (road_has_keys_roll _) (road_means_roll _) (variant_planned road_definitions road_shape road_name road_variant_definitions road_variants road_has_variants 0 road_way_parts refl road_way_definitions refl _ _ (part_planned no_definition (leaf (number_kind unsigned w32)) [] (number (pos a0)) (leaf_planned no_definition _ _ [] _ refl) (part_planned road_definitions (option_shape (shared rc_flavor (one road_shape))) (rc_keys a1.key (one road_shape) 0 (road_meaning a1.value.value.0) (road_keys a1.value.value.0)) (case_of 1 (shared_value a1.key)) (some_planned road_definitions (shared rc_flavor (one road_shape)) (rc_keys a1.key (one road_shape) 0 (road_meaning a1.value.value.0) (road_keys a1.value.value.0)) (shared_value a1.key) (rc_one_planned road_definitions a1.key (one road_shape) road_shape refl _ _ a1.value.value.1)) no_part_planned)))
+road_planned_layer (Layer.Way a0 None) = planned_as (road_has_keys_roll _) (road_means_roll _) (variant_planned road_definitions road_shape road_name road_variant_definitions road_variants road_has_variants 0 road_way_parts refl road_way_definitions refl _ _ (part_planned no_definition (leaf (number_kind unsigned w8)) [] (number (pos a0)) (leaf_planned no_definition _ _ [] _ refl) (part_planned road_definitions (option_shape (shared rc_flavor (one road_shape))) [] (case 0 no_value) (none_planned road_definitions (shared rc_flavor (one road_shape))) no_part_planned)))
+road_planned_layer (Layer.Way a0 (Some a1)) = planned_as (road_has_keys_roll _) (road_means_roll _) (variant_planned road_definitions road_shape road_name road_variant_definitions road_variants road_has_variants 0 road_way_parts refl road_way_definitions refl _ _ (part_planned no_definition (leaf (number_kind unsigned w8)) [] (number (pos a0)) (leaf_planned no_definition _ _ [] _ refl) (part_planned road_definitions (option_shape (shared rc_flavor (one road_shape))) (rc_keys a1.key (one road_shape) 0 (road_meaning a1.value.value.0) (road_keys a1.value.value.0)) (case_of 1 (shared_value a1.key)) (some_planned road_definitions (shared rc_flavor (one road_shape)) (rc_keys a1.key (one road_shape) 0 (road_meaning a1.value.value.0) (road_keys a1.value.value.0)) (shared_value a1.key) (rc_one_planned road_definitions a1.key (one road_shape) road_shape refl _ _ a1.value.value.1)) no_part_planned)))
 road_planned_layer (Layer.Detour a0) = planned_as (road_has_keys_roll _) (road_means_roll _) (variant_planned road_definitions road_shape road_name road_variant_definitions road_variants road_has_variants 1 road_detour_parts refl road_detour_definitions refl _ _ (part_planned road_definitions (shared rc_flavor (one road_shape)) (rc_keys a0.key (one road_shape) 0 (road_meaning a0.value.value.0) (road_keys a0.value.value.0)) (shared_value a0.key) (rc_one_planned road_definitions a0.key (one road_shape) road_shape refl _ _ a0.value.value.1) no_part_planned))
 
 pub road_planned : (t : Road-Source) → HasPlan road_definitions road_shape (road_keys t) (road_meaning t)

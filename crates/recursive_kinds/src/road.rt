@@ -6,7 +6,7 @@ use archive_core::rc::Shared;
 #[derive(Debug, PartialEq, Drop)]
 pub enum Road {
     /// A length, and the road that it leads into, if it does.
-    Way(u32, Option<Shared<Road>>),
+    Way(u8, Option<Shared<Road>>),
     /// Another road in place of this one.
     Detour(Shared<Road>),
 }
@@ -33,7 +33,7 @@ ghost use Rattle.archive_core.specs.Sources.{Read, ReadsAs};
 ghost use Rattle.archive_core.specs.Value.{case, no_value, shared_value, value};
 ghost use Rattle.archive_core.specs.Writing.{ZeroedPlace};
 ghost use Rattle.archive_core.specs.Written.{GoesOn};
-ghost use Rattle.recursive_pointers.specs.RoadShape.{road_definitions, road_detour_parts, road_has_layout, road_has_variants, road_is_align, road_layout, road_name, road_no_others, road_shape, road_stands_for, road_way_parts};
+ghost use Rattle.recursive_kinds.specs.RoadShape.{road_definitions, road_detour_parts, road_has_layout, road_has_variants, road_is_align, road_layout, road_name, road_no_others, road_shape, road_stands_for, road_way_parts};
 ghost use Rattle.std.proofs.Common.{lit≤};
 ghost use Rattle.std.specs.Prelude.{IfErr, IfOk, None, Some, [], length, refl, ℕ, ⊤, ◌++◌, ◌+◌, ◌≡◌, ◌≤◌};
 
@@ -41,7 +41,6 @@ use archive_core::error::Error;
 use archive_core::option::ArchivedOption;
 use archive_core::place::Place;
 use archive_core::pooling::Pooling;
-use archive_core::primitive::ArchivedU32;
 use archive_core::rc::{ArchivedRc, RcFlavor, RcResolver};
 use archive_core::recursive::{
     begin_reading, begin_shared, choice_of, define_name, finish_reading, finish_shared,
@@ -61,13 +60,10 @@ use archive_core::traits::{
 use archive_core::view::{RawView, Ref};
 use std::alloc::Global;
 
-/// An archived `Road`: 16 bytes at a multiple of 4. It is validated by its schema.
+/// An archived `Road`: 12 bytes at a multiple of 4. It is validated by its schema.
 pub struct ArchivedRoad;
 
-type RoadWayParts = (
-    ArchivedU32,
-    (ArchivedOption<ArchivedRc<ArchivedRoad, RcFlavor>>, ()),
-);
+type RoadWayParts = (u8, (ArchivedOption<ArchivedRc<ArchivedRoad, RcFlavor>>, ()));
 
 type RoadDetourParts = (ArchivedRc<ArchivedRoad, RcFlavor>, ());
 
@@ -92,11 +88,8 @@ fn road_way_expressions(alloc: Global) -> Result<Vec<archive_core::shape::Expr>,
     ensures shapes { IfOk result (λ list. shapes_in list.items ≡ road_way_parts) }
     ensures refused { IfErr result (λ e. e ≡ OutOfMemory) }
 {
-    let a0 = <ArchivedU32 as Portable>::expr(alloc)?;
-    let a1 = option_expression(
-        alloc,
-        shared_expression(alloc, archive_core::shape::Expr::Named("ArchivedRoad"))?,
-    )?;
+    let a0 = <u8 as Portable>::expr(alloc)?;
+    let a1 = option_expression(alloc, shared_expression(alloc, archive_core::shape::Expr::Named("ArchivedRoad"))?)?;
     Ok(vec![in alloc; a0, a1]?)
 }
 
@@ -138,7 +131,7 @@ impl Portable for ArchivedRoad {
     ghost checks = { λ direct. by_schema direct };
 
     fn size() -> usize {
-        16
+        12
     }
 
     fn align() -> usize {
@@ -172,7 +165,7 @@ impl Choice for ArchivedRoad {
 #[derive(Drop)]
 pub enum RoadResolver {
     /// Of `Way`.
-    Way((<u32 as Archive>::Resolver, (Option<RcResolver>, ()))),
+    Way((<u8 as Archive>::Resolver, (Option<RcResolver>, ()))),
     /// Of `Detour`.
     Detour((RcResolver, ())),
 }
@@ -233,11 +226,7 @@ impl Archive for SharedRoadAt {
             (⟦<Self as Archive>⟧.flat self.now resolver) result }
     {
         let Place { bytes, pos, .. } = place;
-        ArchivedRc::<ArchivedRoad, RcFlavor>::resolve_from_ref(
-            self,
-            resolver,
-            Place::new(pos, bytes),
-        )
+        ArchivedRc::<ArchivedRoad, RcFlavor>::resolve_from_ref(self, resolver, Place::new(pos, bytes))
     }
 
     #[inline(always)]
@@ -318,7 +307,7 @@ impl Archive for OptionSharedRoadAt {
 }
 
 impl Archive for Road {
-    ghost use Rattle.recursive_pointers.specs.RoadMeaning.{road_meaning, road_flat, road_keys, road_belongs, road_keyed, road_planned};
+    ghost use Rattle.recursive_kinds.specs.RoadMeaning.{road_meaning, road_flat, road_keys, road_belongs, road_keyed, road_planned};
 
     type Archived = ArchivedRoad;
 
@@ -344,7 +333,7 @@ impl Archive for Road {
         resolver: Self::Resolver,
         place: Place<'_, Self::Archived>,
     ) -> Result<(), Error>
-        requires zeroed { ZeroedPlace 16 place.pos place.bytes.now }
+        requires zeroed { ZeroedPlace 12 place.pos place.bytes.now }
         requires same_value { ⟦<Self as Archive>⟧.belongs self.now resolver }
         ensures { ResolvesAs ⟦<Self::Archived as Portable>⟧ place
             (⟦<Self as Archive>⟧.flat self.now resolver) result }
@@ -355,7 +344,7 @@ impl Archive for Road {
                 let RoadResolver::Way(kept) = resolver else {
                     unreachable!();
                 };
-                resolve_named_case_2::<u32, OptionSharedRoadAt, ArchivedRoad>(
+                resolve_named_case_2::<u8, OptionSharedRoadAt, ArchivedRoad>(
                     0,
                     a0,
                     &OptionSharedRoadAt,
@@ -394,10 +383,7 @@ impl Archive for Road {
 
 // Writes what a shared pointer leads to, if its key is unknown.
 #[cycle(serialize_road)]
-fn serialize_shared_road<S: Sharing + Writer + ResolverAlloc>(
-    value: &Shared<Road>,
-    serializer: &mut S,
-) -> Result<RcResolver, Error>
+fn serialize_shared_road<S: Sharing + Writer + ResolverAlloc>(value: &Shared<Road>, serializer: &mut S) -> Result<RcResolver, Error>
     ensures serialized { IfOk result (λ r. Serialized road_definitions
         (shared rc_flavor (one road_shape)) (⟦<Shared<Road> as Archive>⟧.keys value.now)
         (⟦<Shared<Road> as Archive>⟧.meaning value.now)
@@ -431,10 +417,7 @@ fn serialize_shared_road<S: Sharing + Writer + ResolverAlloc>(
 
 // Writes what an option of a shared pointer leads to, if its key is unknown.
 #[cycle(serialize_road)]
-fn serialize_option_shared_road<S: Sharing + Writer + ResolverAlloc>(
-    value: &Option<Shared<Road>>,
-    serializer: &mut S,
-) -> Result<Option<RcResolver>, Error>
+fn serialize_option_shared_road<S: Sharing + Writer + ResolverAlloc>(value: &Option<Shared<Road>>, serializer: &mut S) -> Result<Option<RcResolver>, Error>
     ensures serialized { IfOk result (λ r. Serialized road_definitions
         (option_shape (shared rc_flavor (one road_shape)))
         (⟦<Option<Shared<Road>> as Archive>⟧.keys value.now)
@@ -477,23 +460,22 @@ fn serialize_option_shared_road<S: Sharing + Writer + ResolverAlloc>(
 // Writes what the parts of `Way` own, in order.
 #[cycle(serialize_road)]
 fn serialize_road_way<S: Sharing + Writer + ResolverAlloc>(
-    a0: &u32,
+    a0: &u8,
     a1: &Option<Shared<Road>>,
     serializer: &mut S,
-) -> Result<(<u32 as Archive>::Resolver, (Option<RcResolver>, ())), Error>
+) -> Result<(<u8 as Archive>::Resolver, (Option<RcResolver>, ())), Error>
     ensures serialized { IfOk result (λ r. Serialized road_definitions road_shape
-        (⟦<u32 as Archive>⟧.keys a0.now ++ (⟦<Option<Shared<Road>> as Archive>⟧.keys a1.now ++ []))
-        (case 0 (value (⟦<u32 as Archive>⟧.meaning a0.now)
+        (⟦<u8 as Archive>⟧.keys a0.now ++ (⟦<Option<Shared<Road>> as Archive>⟧.keys a1.now ++ []))
+        (case 0 (value (⟦<u8 as Archive>⟧.meaning a0.now)
         (value (⟦<Option<Shared<Road>> as Archive>⟧.meaning a1.now) no_value)))
-        (case 0 (value (⟦<u32 as Archive>⟧.flat a0.now r.0)
+        (case 0 (value (⟦<u8 as Archive>⟧.flat a0.now r.0)
         (value (option_flat (λ y s. (rc_flat s (one road_shape) 0)) r.1.0 r.1.0) no_value)))
         (S.state serializer.old) (S.state serializer.new)) }
-    ensures same_values { IfOk result (λ r. ⟦<u32 as Archive>⟧.belongs a0.now r.0
-        × (⊤ × Unit {0})) }
+    ensures same_values { IfOk result (λ r. ⟦<u8 as Archive>⟧.belongs a0.now r.0 × (⊤ × Unit {0})) }
     ensures goes_on { GoesOn (S.state serializer.old) (S.state serializer.new) }
     ensures refused { IfErr result (IsRefused road_definitions road_shape
-        (⟦<u32 as Archive>⟧.keys a0.now ++ (⟦<Option<Shared<Road>> as Archive>⟧.keys a1.now ++ []))
-        (case 0 (value (⟦<u32 as Archive>⟧.meaning a0.now)
+        (⟦<u8 as Archive>⟧.keys a0.now ++ (⟦<Option<Shared<Road>> as Archive>⟧.keys a1.now ++ []))
+        (case 0 (value (⟦<u8 as Archive>⟧.meaning a0.now)
         (value (⟦<Option<Shared<Road>> as Archive>⟧.meaning a1.now) no_value)))
         (S.state serializer.old) (S.state serializer.new)) }
 {
@@ -536,10 +518,7 @@ fn serialize_road_detour<S: Sharing + Writer + ResolverAlloc>(
 
 // Writes what a value owns.
 #[cycle(serialize_road)]
-fn serialize_road<S: Sharing + Writer + ResolverAlloc>(
-    value: &Road,
-    serializer: &mut S,
-) -> Result<RoadResolver, Error>
+fn serialize_road<S: Sharing + Writer + ResolverAlloc>(value: &Road, serializer: &mut S) -> Result<RoadResolver, Error>
     ensures serialized { IfOk result (λ r. Serialized road_definitions road_shape
         (⟦<Road as Archive>⟧.keys value.now) (⟦<Road as Archive>⟧.meaning value.now)
         (⟦<Road as Archive>⟧.flat value.now r) (S.state serializer.old) (S.state serializer.new)) }
@@ -570,7 +549,7 @@ impl<S: Sharing + Writer + ResolverAlloc> Serialize<S> for Road {
 
 /// As a region of its own: the value itself.
 impl ArchiveUnsized for Road {
-    ghost use Rattle.recursive_pointers.specs.contracts.road.RoadArchive.TheImpl.Laws.{keyed-law as keyed_of_road, planned-law as planned_of_road};
+    ghost use Rattle.recursive_kinds.specs.contracts.road.RoadArchive.TheImpl.Laws.{keyed-law as keyed_of_road, planned-law as planned_of_road};
 
     type Archived = ArchivedRoad;
 
@@ -602,16 +581,12 @@ impl<S: Sharing + Writer + ResolverAlloc> SerializeUnsized<S> for Road {
 
 // Reads a shared value back.
 #[cycle(read_road)]
-fn read_shared_road<D: Pooling<Shared<Road>>>(
-    alloc: Global,
-    part: RawView<'_>,
-    levels: usize,
-    deserializer: &mut D,
-) -> Result<Shared<Road>, Error>
+fn read_shared_road<D: Pooling<Shared<Road>>>(alloc: Global, part: RawView<'_>, levels: usize, deserializer: &mut D) -> Result<Shared<Road>, Error>
     requires { IsPartOf ⟦<ArchivedRc<ArchivedRoad, RcFlavor> as ArchivePointee>⟧ part }
     ensures read { IfOk result (Read ⟦<ArchivedRc<ArchivedRoad, RcFlavor> as ArchivePointee>⟧ part
         D.Entries deserializer ⟦<Shared<Road> as Archive>⟧) }
-    ensures refused { IfErr result (RefusesPart ⟦<ArchivedRc<ArchivedRoad, RcFlavor> as ArchivePointee>⟧
+    ensures
+        refused { IfErr result (RefusesPart ⟦<ArchivedRc<ArchivedRoad, RcFlavor> as ArchivePointee>⟧
         part D.Entries deserializer) }
 {
     match begin_reading::<ArchivedRoad, RcFlavor, Shared<Road>, D>(part, deserializer)? {
@@ -619,30 +594,22 @@ fn read_shared_road<D: Pooling<Shared<Road>>>(
         None => {
             let behind = part_behind::<ArchivedRoad, RcFlavor>(part);
             let value = read_road(alloc, behind, levels, deserializer)?;
-            finish_reading::<ArchivedRoad, RcFlavor, Shared<Road>, D>(
-                alloc,
-                part,
-                value,
-                deserializer,
-            )
+            finish_reading::<ArchivedRoad, RcFlavor, Shared<Road>, D>(alloc, part, value, deserializer)
         }
     }
 }
 
 // Reads an option back.
 #[cycle(read_road)]
-fn read_option_shared_road<D: Pooling<Shared<Road>>>(
-    alloc: Global,
-    part: RawView<'_>,
-    levels: usize,
-    deserializer: &mut D,
-) -> Result<Option<Shared<Road>>, Error>
+fn read_option_shared_road<D: Pooling<Shared<Road>>>(alloc: Global, part: RawView<'_>, levels: usize, deserializer: &mut D) -> Result<Option<Shared<Road>>, Error>
     requires { IsPartOf ⟦<ArchivedOption<ArchivedRc<ArchivedRoad, RcFlavor>> as ArchivePointee>⟧
         part }
-    ensures read { IfOk result
+    ensures
+        read { IfOk result
         (Read ⟦<ArchivedOption<ArchivedRc<ArchivedRoad, RcFlavor>> as ArchivePointee>⟧ part
         D.Entries deserializer ⟦<Option<Shared<Road>> as Archive>⟧) }
-    ensures refused { IfErr result
+    ensures
+        refused { IfErr result
         (RefusesPart ⟦<ArchivedOption<ArchivedRc<ArchivedRoad, RcFlavor>> as ArchivePointee>⟧ part
         D.Entries deserializer) }
 {
@@ -658,12 +625,7 @@ fn read_option_shared_road<D: Pooling<Shared<Road>>>(
 
 // Reads `Way` back.
 #[cycle(read_road)]
-fn read_road_way<D: Pooling<Shared<Road>>>(
-    alloc: Global,
-    part: RawView<'_>,
-    levels: usize,
-    deserializer: &mut D,
-) -> Result<Road, Error>
+fn read_road_way<D: Pooling<Shared<Road>>>(alloc: Global, part: RawView<'_>, levels: usize, deserializer: &mut D) -> Result<Road, Error>
     requires viewed { IsPartOf ⟦<ArchivedRoad as ArchivePointee>⟧ part }
     requires tag { part_tag part ≡ 0 }
     ensures read { IfOk result (Read ⟦<ArchivedRoad as ArchivePointee>⟧ part D.Entries deserializer
@@ -671,10 +633,10 @@ fn read_road_way<D: Pooling<Shared<Road>>>(
     ensures refused { IfErr result (RefusesPart ⟦<ArchivedRoad as ArchivePointee>⟧ part D.Entries
         deserializer) }
 {
-    let p0 = part_of_variant::<ArchivedRoad, ArchivedU32>(part, 0, 0, 4);
-    let a0 = read_part::<ArchivedU32, u32, D>(alloc, p0, deserializer)?;
+    let p0 = part_of_variant::<ArchivedRoad, u8>(part, 0, 0, 1);
+    let a0 = read_part::<u8, u8, D>(alloc, p0, deserializer)?;
     let p1 = part_of_variant::<ArchivedRoad, ArchivedOption<ArchivedRc<ArchivedRoad, RcFlavor>>>(
-        part, 0, 1, 8,
+        part, 0, 1, 4,
     );
     let a1 = read_option_shared_road(alloc, p1, levels, deserializer)?;
     Ok(Road::Way(a0, a1))
@@ -682,12 +644,7 @@ fn read_road_way<D: Pooling<Shared<Road>>>(
 
 // Reads `Detour` back.
 #[cycle(read_road)]
-fn read_road_detour<D: Pooling<Shared<Road>>>(
-    alloc: Global,
-    part: RawView<'_>,
-    levels: usize,
-    deserializer: &mut D,
-) -> Result<Road, Error>
+fn read_road_detour<D: Pooling<Shared<Road>>>(alloc: Global, part: RawView<'_>, levels: usize, deserializer: &mut D) -> Result<Road, Error>
     requires viewed { IsPartOf ⟦<ArchivedRoad as ArchivePointee>⟧ part }
     requires tag { part_tag part ≡ 1 }
     ensures read { IfOk result (Read ⟦<ArchivedRoad as ArchivePointee>⟧ part D.Entries deserializer
@@ -702,12 +659,7 @@ fn read_road_detour<D: Pooling<Shared<Road>>>(
 
 // Reads a value back.
 #[cycle(read_road)]
-fn read_road<D: Pooling<Shared<Road>>>(
-    alloc: Global,
-    part: RawView<'_>,
-    levels: usize,
-    deserializer: &mut D,
-) -> Result<Road, Error>
+fn read_road<D: Pooling<Shared<Road>>>(alloc: Global, part: RawView<'_>, levels: usize, deserializer: &mut D) -> Result<Road, Error>
     requires { IsPartOf ⟦<ArchivedRoad as ArchivePointee>⟧ part }
     ensures read { IfOk result (Read ⟦<ArchivedRoad as ArchivePointee>⟧ part D.Entries deserializer
         ⟦<Road as Archive>⟧) }
@@ -744,7 +696,7 @@ impl<D: Pooling<Shared<Road>>> Deserialize<Road, D> for ArchivedRoad {
 #[derive(Drop)]
 pub enum ViewOfRoad<'a> {
     /// A length, and the road that it leads into, if it does.
-    Way(Ref<'a, ArchivedU32>, Ref<'a, ArchivedOption<ArchivedRc<ArchivedRoad, RcFlavor>>>),
+    Way(Ref<'a, u8>, Ref<'a, ArchivedOption<ArchivedRc<ArchivedRoad, RcFlavor>>>),
     /// Another road in place of this one.
     Detour(Ref<'a, ArchivedRc<ArchivedRoad, RcFlavor>>),
 }
@@ -756,14 +708,14 @@ pub trait RoadView<'a> {
 }
 
 impl<'a> RoadView<'a> for Ref<'a, ArchivedRoad> {
-    ghost use Rattle.recursive_pointers.specs.declared.road.ViewOfRoad.TheVariants.{Detour as RoadDetourShown, Way as RoadWayShown};
+    ghost use Rattle.recursive_kinds.specs.declared.road.ViewOfRoad.TheVariants.{Detour as RoadDetourShown, Way as RoadWayShown};
 
     fn variant(self) -> ViewOfRoad<'a>
         ensures shows { elim result [
           | RoadWayShown a0 a1 ↦ (tag_of self.entry ≡ 0) × (a0.bytes.now ≡ self.entry.bytes.now)
-              × (a0.pos ≡ self.entry.pos + 4) × (a0.len ≡ 0)
+              × (a0.pos ≡ self.entry.pos + 1) × (a0.len ≡ 0)
               × ShowsValueOf a0 self.entry (payload_in 0) × (a1.bytes.now ≡ self.entry.bytes.now)
-              × (a1.pos ≡ self.entry.pos + 8) × (a1.len ≡ 0)
+              × (a1.pos ≡ self.entry.pos + 4) × (a1.len ≡ 0)
               × ShowsValueOf a1 self.entry (payload_in 1)
           | RoadDetourShown a0 ↦ (tag_of self.entry ≡ 1) × (a0.bytes.now ≡ self.entry.bytes.now)
               × (a0.pos ≡ self.entry.pos + 4) × (a0.len ≡ 0)
@@ -772,11 +724,11 @@ impl<'a> RoadView<'a> for Ref<'a, ArchivedRoad> {
     {
         match tag_of_view(self) {
             0 => {
-                let a0 = view_of_payload::<ArchivedRoad, ArchivedU32>(self, 0, 0, 4);
+                let a0 = view_of_payload::<ArchivedRoad, u8>(self, 0, 0, 1);
                 let a1 = view_of_payload::<
                     ArchivedRoad,
                     ArchivedOption<ArchivedRc<ArchivedRoad, RcFlavor>>,
-                >(self, 0, 1, 8);
+                >(self, 0, 1, 4);
                 ViewOfRoad::Way(a0, a1)
             }
             _ => {
@@ -798,7 +750,7 @@ pub trait RoadSeal<'a> {
     ghost tag: { Self → ℕ };
 
     /// The field `0` of `Way`.
-    fn way_0_mut(self) -> Seal<'a, ArchivedU32>
+    fn way_0_mut(self) -> Seal<'a, u8>
         requires come_to { sealed self }
         requires tag { tag self ≡ 0 };
 
@@ -818,13 +770,13 @@ impl<'a> RoadSeal<'a> for Seal<'a, ArchivedRoad> {
 
     ghost tag = { λ s. seal_tag s };
 
-    fn way_0_mut(self) -> Seal<'a, ArchivedU32>
+    fn way_0_mut(self) -> Seal<'a, u8>
         requires come_to { IsSealOf road_definitions (one ⟦<ArchivedRoad as Portable>⟧.shape) self }
         requires tag { seal_tag self ≡ 0 }
         ensures { SealsPart road_definitions (one ⟦<ArchivedRoad as Portable>⟧.shape) no_definition
-            ⟦<ArchivedU32 as ArchivePointee>⟧.pointee (self.entry.pos + 4) 0 self.entry result }
+            ⟦<u8 as ArchivePointee>⟧.pointee (self.entry.pos + 1) 0 self.entry result }
     {
-        seal_of_payload::<ArchivedRoad, ArchivedU32>(self, 0, 0, 4)
+        seal_of_payload::<ArchivedRoad, u8>(self, 0, 0, 1)
     }
 
     fn way_1_mut(self) -> Seal<'a, ArchivedOption<ArchivedRc<ArchivedRoad, RcFlavor>>>
@@ -833,10 +785,10 @@ impl<'a> RoadSeal<'a> for Seal<'a, ArchivedRoad> {
         ensures { SealsPart road_definitions (one ⟦<ArchivedRoad as Portable>⟧.shape)
             ⟦<ArchivedRoad as ArchivePointee>⟧.definitions
             ⟦<ArchivedOption<ArchivedRc<ArchivedRoad, RcFlavor>> as ArchivePointee>⟧.pointee
-            (self.entry.pos + 8) 0 self.entry result }
+            (self.entry.pos + 4) 0 self.entry result }
     {
         seal_of_payload::<ArchivedRoad, ArchivedOption<ArchivedRc<ArchivedRoad, RcFlavor>>>(
-            self, 0, 1, 8,
+            self, 0, 1, 4,
         )
     }
 

@@ -3,7 +3,7 @@ use Rattle.std.proofs.Common.{◌≡◌, ◌<◌, ◌∙◌, arith}
 use Rattle.archive_core.proofs.Causes.{err_by, goes_both, goes_written, goes_refused}
 use Rattle.archive_core.proofs.Owners.{serialized_box, box_refused, far_box_refused}
 use Rattle.archive_core.proofs.RunRegions.{serialized_elements, run_padded, run_hindered}
-use Rattle.recursive_pointers.proofs.grove.serialize_inner_box_slice.Goals as goal
+use Rattle.recursive_kinds.proofs.rule.serialize_inner_box_slice.Goals as goal
 
 pub returns-in_err-align_for-clause-refused : goal.returns-in_err-align_for-clause-refused
 returns-in_err-align_for-clause-refused g c = err_by c.from_residual.result c.in_err-align_for.field-0.0 _ c.from_residual.ensures.1

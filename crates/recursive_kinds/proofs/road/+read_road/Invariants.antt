@@ -1,6 +1,6 @@
 -- Written by tools/derive: change the declaration, and run it again.
 use Rattle.std.proofs.Common.{◌+◌, ◌*◌}
-use Rattle.recursive_pointers.proofs.road.+read_road.Given as goal
+use Rattle.recursive_kinds.proofs.road.+read_road.Given as goal
 
 abbrev pub decreases-read_shared_road : goal.decreases-read_shared_road
 decreases-read_shared_road g l = l.levels * 5 + 1

@@ -1,5 +1,5 @@
 -- Written by tools/derive: change the declaration, and run it again.
-use Rattle.recursive_pointers.proofs.road.ArchivedRoadPortable.define.Goals as goal
+use Rattle.recursive_kinds.proofs.road.ArchivedRoadPortable.define.Goals as goal
 
 pub returns-clause-added : goal.returns-clause-added
 returns-clause-added c = rw c.in-Ok.ensures.shape at c.define_name.ensures.added

@@ -9,7 +9,7 @@ use Rattle.archive_core.specs.Shape.{Name, Shape, Parts, Variants, named, choice
 use Rattle.archive_core.specs.SharedSources.{rc_flavor}
 use Rattle.archive_core.specs.VariantsLayout.{IsChoice, is_recursive_choice}
 use Rattle.std.proofs.Common.{inl, inr}
-use Rattle.std.specs.Int.{w32}
+use Rattle.std.specs.Int.{w8}
 use Rattle.std.specs.Prelude.{refl, codes}
 
 abbrev pub road_name : Name
@@ -19,7 +19,7 @@ abbrev pub road_shape : Shape
 road_shape = named road_name
 
 abbrev pub road_way_parts : Parts
-road_way_parts = (part (leaf (number_kind unsigned w32)) (part (option_shape (shared rc_flavor (one road_shape))) no_part))
+road_way_parts = (part (leaf (number_kind unsigned w8)) (part (option_shape (shared rc_flavor (one road_shape))) no_part))
 
 abbrev pub road_detour_parts : Parts
 road_detour_parts = (part (shared rc_flavor (one road_shape)) no_part)
@@ -34,7 +34,7 @@ abbrev pub road_definitions : Definitions
 road_definitions = defines road_name road_stands_for
 
 abbrev pub road_layout : Layout
-road_layout = record { size = 16; align = 4 }
+road_layout = record { size = 12; align = 4 }
 
 pub road_is_align : IsAlign 4
 road_is_align = inr (inr (inl refl))

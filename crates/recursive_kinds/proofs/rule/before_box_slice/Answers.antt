@@ -9,7 +9,7 @@ use Rattle.archive_core.specs.Reads.{SchemaTable, pointer_at, reads_boxed}
 use Rattle.archive_core.specs.Shape.{Shape, boxed, one, run}
 use Rattle.archive_core.specs.Tour.{Contents, contents_one}
 use Rattle.archive_core.specs.Value.{Value, pointers}
-use Rattle.recursive_pointers.proofs.grove.before_box_slice.Goals as goal
+use Rattle.recursive_kinds.proofs.rule.before_box_slice.Goals as goal
 
 has_pointer : (bytes : List ℕ) (q n : ℕ) (X : Shape) (s : SchemaTable) (v : Value) → Contents s bytes q (one (boxed (run X))) n v → Contains (pointers v) (pointer_at bytes q None (run X))
 has_pointer bytes q n X s v (contents_one reads_boxed) = Contains-push [] (pointer_at bytes q None (run X))

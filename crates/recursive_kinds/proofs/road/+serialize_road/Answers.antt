@@ -13,13 +13,13 @@ use Rattle.archive_core.specs.PartsPlanned.{part_planned, no_part_planned}
 use Rattle.archive_core.specs.Shape.{shared, one, leaf, unsigned, part, no_part, number as number_kind}
 use Rattle.archive_core.specs.SharedSources.{rc_flavor, rc_keys, rc_one_planned}
 use Rattle.archive_core.specs.Value.{number, value, no_value, shared_value}
-use Rattle.recursive_pointers.specs.RoadMeaning.{road_meaning, road_keys, road_planned, road_way_means, road_way_has_keys, road_way_opens, road_detour_means, road_detour_has_keys, road_detour_opens}
-use Rattle.recursive_pointers.specs.RoadShape.{road_name, road_shape, road_definitions, road_variants, road_variant_definitions, road_has_variants, road_way_parts, road_way_definitions, road_detour_parts, road_detour_definitions}
+use Rattle.recursive_kinds.specs.RoadMeaning.{road_meaning, road_keys, road_planned, road_way_means, road_way_has_keys, road_way_opens, road_detour_means, road_detour_has_keys, road_detour_opens}
+use Rattle.recursive_kinds.specs.RoadShape.{road_name, road_shape, road_definitions, road_variants, road_variant_definitions, road_has_variants, road_way_parts, road_way_definitions, road_detour_parts, road_detour_definitions}
 use Rattle.std.proofs.Common.{◌≡◌, ◌++◌, [], refl, arith, pos}
 use Rattle.std.proofs.lemmas.Grind.{common_steps}
-use Rattle.std.specs.Int.{w32}
+use Rattle.std.specs.Int.{w8}
 use Rattle.std.specs.Prelude.{[], ◌++◌, ◌≡◌, refl, pos}
-use Rattle.recursive_pointers.proofs.road.+serialize_road.Goals as goal
+use Rattle.recursive_kinds.proofs.road.+serialize_road.Goals as goal
 
 pub serialize_shared_road-returns-in-Err-clause-refused : goal.serialize_shared_road-returns-in-Err-clause-refused
 serialize_shared_road-returns-in-Err-clause-refused g t c = (c.in-Err.ensures.refused.said road_definitions rc_flavor (one road_shape) 0 (road_keys c.args.value.now.value.value) (road_meaning c.args.value.now.value.value))
@@ -73,16 +73,16 @@ pub serialize_option_shared_road-returns-in-Ok-finish_shared-clause-goes_on : go
 serialize_option_shared_road-returns-in-Ok-finish_shared-clause-goes_on g t c = (c.finish_shared.ensures.goes_on.since _ _ (rw c.in-None-known.is at c.in-Ok.ensures.begun) c.serialize_road.ensures.goes_on)
 
 pub serialize_road_way-returns-in-Err-clause-refused : goal.serialize_road_way-returns-in-Err-clause-refused
-serialize_road_way-returns-in-Err-clause-refused g t c = (variant_refused road_definitions road_shape road_name road_variant_definitions road_variants road_has_variants 0 road_way_parts refl road_way_definitions refl _ _ _ _ _ (first_refused no_definition (both road_definitions no_definition) (leaf (number_kind unsigned w32)) (part (option_shape (shared rc_flavor (one road_shape))) no_part) [] ((option_keys (λ y. (rc_keys y.key (one road_shape) 0 (road_meaning y.value.value) (road_keys y.value.value))) c.args.a1.now) ++ []) (number (pos c.args.a0.now)) (value (option_meaning (λ y. (shared_value y.key)) c.args.a1.now) no_value) _ _ _ (part_planned road_definitions (option_shape (shared rc_flavor (one road_shape))) (option_keys (λ y. (rc_keys y.key (one road_shape) 0 (road_meaning y.value.value) (road_keys y.value.value))) c.args.a1.now) (option_meaning (λ y. (shared_value y.key)) c.args.a1.now) (option_planned road_definitions (shared rc_flavor (one road_shape)) (λ y. (rc_keys y.key (one road_shape) 0 (road_meaning y.value.value) (road_keys y.value.value))) (λ y. (shared_value y.key)) (λ y. (rc_one_planned road_definitions y.key (one road_shape) road_shape refl _ _ (road_planned y.value.value))) c.args.a1.now) no_part_planned) c.in-Err.ensures.refused))
+serialize_road_way-returns-in-Err-clause-refused g t c = (variant_refused road_definitions road_shape road_name road_variant_definitions road_variants road_has_variants 0 road_way_parts refl road_way_definitions refl _ _ _ _ _ (first_refused no_definition (both road_definitions no_definition) (leaf (number_kind unsigned w8)) (part (option_shape (shared rc_flavor (one road_shape))) no_part) [] ((option_keys (λ y. (rc_keys y.key (one road_shape) 0 (road_meaning y.value.value) (road_keys y.value.value))) c.args.a1.now) ++ []) (number (pos c.args.a0.now)) (value (option_meaning (λ y. (shared_value y.key)) c.args.a1.now) no_value) _ _ _ (part_planned road_definitions (option_shape (shared rc_flavor (one road_shape))) (option_keys (λ y. (rc_keys y.key (one road_shape) 0 (road_meaning y.value.value) (road_keys y.value.value))) c.args.a1.now) (option_meaning (λ y. (shared_value y.key)) c.args.a1.now) (option_planned road_definitions (shared rc_flavor (one road_shape)) (λ y. (rc_keys y.key (one road_shape) 0 (road_meaning y.value.value) (road_keys y.value.value))) (λ y. (shared_value y.key)) (λ y. (rc_one_planned road_definitions y.key (one road_shape) road_shape refl _ _ (road_planned y.value.value))) c.args.a1.now) no_part_planned) c.in-Err.ensures.refused))
 
 pub serialize_road_way-returns-in-Err-serialize_option_shared_road-clause-refused : goal.serialize_road_way-returns-in-Err-serialize_option_shared_road-clause-refused
-serialize_road_way-returns-in-Err-serialize_option_shared_road-clause-refused g t c = (variant_refused road_definitions road_shape road_name road_variant_definitions road_variants road_has_variants 0 road_way_parts refl road_way_definitions refl _ _ _ _ _ (later_refused no_definition (both road_definitions no_definition) (leaf (number_kind unsigned w32)) (part (option_shape (shared rc_flavor (one road_shape))) no_part) [] ((option_keys (λ y. (rc_keys y.key (one road_shape) 0 (road_meaning y.value.value) (road_keys y.value.value))) c.args.a1.now) ++ []) (number (pos c.args.a0.now)) (value (option_meaning (λ y. (shared_value y.key)) c.args.a1.now) no_value) _ _ _ _ _ c.in-Ok.ensures.serialized c.serialize_part.ensures.goes_on c.serialize_option_shared_road.ensures.goes_on (first_refused road_definitions no_definition (option_shape (shared rc_flavor (one road_shape))) no_part (option_keys (λ y. (rc_keys y.key (one road_shape) 0 (road_meaning y.value.value) (road_keys y.value.value))) c.args.a1.now) [] (option_meaning (λ y. (shared_value y.key)) c.args.a1.now) no_value _ _ _ no_part_planned c.in-Err-serialize_option_shared_road.ensures.refused)))
+serialize_road_way-returns-in-Err-serialize_option_shared_road-clause-refused g t c = (variant_refused road_definitions road_shape road_name road_variant_definitions road_variants road_has_variants 0 road_way_parts refl road_way_definitions refl _ _ _ _ _ (later_refused no_definition (both road_definitions no_definition) (leaf (number_kind unsigned w8)) (part (option_shape (shared rc_flavor (one road_shape))) no_part) [] ((option_keys (λ y. (rc_keys y.key (one road_shape) 0 (road_meaning y.value.value) (road_keys y.value.value))) c.args.a1.now) ++ []) (number (pos c.args.a0.now)) (value (option_meaning (λ y. (shared_value y.key)) c.args.a1.now) no_value) _ _ _ _ _ c.in-Ok.ensures.serialized c.serialize_part.ensures.goes_on c.serialize_option_shared_road.ensures.goes_on (first_refused road_definitions no_definition (option_shape (shared rc_flavor (one road_shape))) no_part (option_keys (λ y. (rc_keys y.key (one road_shape) 0 (road_meaning y.value.value) (road_keys y.value.value))) c.args.a1.now) [] (option_meaning (λ y. (shared_value y.key)) c.args.a1.now) no_value _ _ _ no_part_planned c.in-Err-serialize_option_shared_road.ensures.refused)))
 
 pub serialize_road_way-returns-in-Err-serialize_option_shared_road-clause-goes_on : goal.serialize_road_way-returns-in-Err-serialize_option_shared_road-clause-goes_on
 serialize_road_way-returns-in-Err-serialize_option_shared_road-clause-goes_on g t c = (goes_both _ _ _ c.serialize_part.ensures.goes_on c.serialize_option_shared_road.ensures.goes_on)
 
 pub serialize_road_way-returns-clause-serialized : goal.serialize_road_way-returns-clause-serialized
-serialize_road_way-returns-clause-serialized g t c = (serialized_variant road_definitions road_shape road_name road_variant_definitions road_variants road_has_variants 0 road_way_parts refl road_way_definitions refl _ _ _ _ _ (serialized_part no_definition (both road_definitions no_definition) (leaf (number_kind unsigned w32)) (part (option_shape (shared rc_flavor (one road_shape))) no_part) [] ((option_keys (λ y. (rc_keys y.key (one road_shape) 0 (road_meaning y.value.value) (road_keys y.value.value))) c.args.a1.now) ++ []) (number (pos c.args.a0.now)) (value (option_meaning (λ y. (shared_value y.key)) c.args.a1.now) no_value) _ _ _ _ _ c.in-Ok.ensures.serialized (serialized_part road_definitions no_definition (option_shape (shared rc_flavor (one road_shape))) no_part (option_keys (λ y. (rc_keys y.key (one road_shape) 0 (road_meaning y.value.value) (road_keys y.value.value))) c.args.a1.now) [] (option_meaning (λ y. (shared_value y.key)) c.args.a1.now) no_value _ _ _ _ _ c.in-Ok-serialize_option_shared_road.ensures.serialized (serialized_no_part no_definition _))))
+serialize_road_way-returns-clause-serialized g t c = (serialized_variant road_definitions road_shape road_name road_variant_definitions road_variants road_has_variants 0 road_way_parts refl road_way_definitions refl _ _ _ _ _ (serialized_part no_definition (both road_definitions no_definition) (leaf (number_kind unsigned w8)) (part (option_shape (shared rc_flavor (one road_shape))) no_part) [] ((option_keys (λ y. (rc_keys y.key (one road_shape) 0 (road_meaning y.value.value) (road_keys y.value.value))) c.args.a1.now) ++ []) (number (pos c.args.a0.now)) (value (option_meaning (λ y. (shared_value y.key)) c.args.a1.now) no_value) _ _ _ _ _ c.in-Ok.ensures.serialized (serialized_part road_definitions no_definition (option_shape (shared rc_flavor (one road_shape))) no_part (option_keys (λ y. (rc_keys y.key (one road_shape) 0 (road_meaning y.value.value) (road_keys y.value.value))) c.args.a1.now) [] (option_meaning (λ y. (shared_value y.key)) c.args.a1.now) no_value _ _ _ _ _ c.in-Ok-serialize_option_shared_road.ensures.serialized (serialized_no_part no_definition _))))
 
 pub serialize_road_way-returns-clause-goes_on : goal.serialize_road_way-returns-clause-goes_on
 serialize_road_way-returns-clause-goes_on g t c = (goes_both _ _ _ c.serialize_part.ensures.goes_on c.serialize_option_shared_road.ensures.goes_on)
