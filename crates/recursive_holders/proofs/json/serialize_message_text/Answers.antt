@@ -8,7 +8,7 @@ use Rattle.archive_core.specs.Value.{no_value, text_value}
 use Rattle.recursive_holders.specs.MessageShape.{message_name, message_shape, message_definitions, message_variants, message_variant_definitions, message_has_variants, message_text_parts, message_text_definitions}
 use Rattle.std.proofs.Common.{[], refl, string_bytes}
 use Rattle.std.specs.Prelude.{[], refl, string_bytes}
-use Rattle.recursive_holders.proofs.message.serialize_message_text.Goals as goal
+use Rattle.recursive_holders.proofs.json.serialize_message_text.Goals as goal
 
 pub returns-in-Err-clause-refused : goal.returns-in-Err-clause-refused
 returns-in-Err-clause-refused g c = (variant_refused message_definitions message_shape message_name message_variant_definitions message_variants message_has_variants 1 message_text_parts refl message_text_definitions refl _ _ _ _ _ (first_refused no_definition no_definition str no_part [] [] (text_value (string_bytes c.args.a0.now)) no_value _ _ _ no_part_planned c.in-Err.ensures.refused))
