@@ -4,8 +4,6 @@ pub mod TreeMeaning
 pub mod TreeShape
 pub mod ExprMeaning
 pub mod ExprShape
-pub mod SearchMeaning
-pub mod SearchShape
 pub mod DirMeaning
 pub mod DirShape
 pub mod StmtMeaning
