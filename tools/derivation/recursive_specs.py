@@ -541,15 +541,6 @@ def mapped(it, item, which, items):
     return f"{lemma}{keys} _ {said_of_mapped(it, inner, which)} {said_with_type(it, inner, which, own, None)} {nothing}(λ x. refl) {items}"
 
 
-def nothing_typed(it, case, which, values, said):
-    """The same with a type at each option that is nothing, of which antt finds none."""
-    for type, value in zip(case.types, values):
-        if it.terms.is_option(type) and value == "None":
-            its = getattr(it.terms, which)(type, value, it.terms.own(which))
-            said = said.replace(its, its.replace("λ y.", f"λ (y : {it.antt(type.args[0])}).", 1))
-    return said
-
-
 def said_of_mapped(it, item, which):
     """What is said of a mapped element, as a function of it with its type."""
     type = BOTH if it.family.shares else {"meaning": "Value", "keys": "(List Naming)"}[which]
@@ -572,7 +563,7 @@ def rolled(it, which, type, word):
         for j, (vector, items) in lists.items():
             # those before it are the value's own already, those behind it are still mapped
             terms = {i: "vs" if i == j else still_mapped(it, other.args[0], which, its) for i, (other, its) in lists.items() if i >= j}
-            out += f" ∙ ap (λ vs. {nothing_typed(it, case, which, values, said_of(it, case, which, own, terms, values))}) ({mapped(it, vector.args[0], which, items)})"
+            out += f" ∙ ap (λ vs. {said_of(it, case, which, own, terms, values)}) ({mapped(it, vector.args[0], which, items)})"
         return out
 
     claim = f"{n}_{which} (roll-{N} {{0}}) ≡ {n}_{which}_layer {said_by(it.family, which)} {{0}}"

@@ -34,7 +34,7 @@ bush_meaning = fold-Bush Value (bush_meaning_layer (λ v. v))
 
 bush_means_at : (a0 : ℕ) (a1 : (Option (Box Bush-Source Global))) (a2 : (Vec (Box Bush-Source Global) Global)) (a3 : (Vec (Option (Box Bush-Source Global)) Global)) (a4 : (Box (Vec Bush-Source Global) Global)) → bush_meaning (roll-Bush (record { id = a0; over = a1; next = a2; sides = a3; others = a4 })) ≡ bush_meaning_layer bush_meaning (record { id = a0; over = a1; next = a2; sides = a3; others = a4 })
 unfolding bush_meaning
-bush_means_at a0 None a2 a3 a4 = fold-roll-Bush Value (bush_meaning_layer (λ v. v)) (record { id = a0; over = None; next = a2; sides = a3; others = a4 }) ∙ ap (λ vs. product (value (number (pos a0)) (value (option_meaning (λ (y : (Box Bush-Source Global)). (box (bush_meaning y.value))) None) (value (list vs) (value (list (each_meaning (λ (y : (Option (Box Value Global))). (option_meaning (λ y. (box (y.value))) y)) (map _ a3.items))) (value (box (list (each_meaning (λ v. v) (map bush_meaning a4.value.items)))) no_value)))))) (each_alike _ (λ (y : (Box Value Global)). (box (y.value))) (λ (y : (Box Bush-Source Global)). (box (bush_meaning y.value))) (λ x. refl) a2.items) ∙ ap (λ vs. product (value (number (pos a0)) (value (option_meaning (λ (y : (Box Bush-Source Global)). (box (bush_meaning y.value))) None) (value (list (each_meaning (λ y. (box (bush_meaning y.value))) a2.items)) (value (list vs) (value (box (list (each_meaning (λ v. v) (map bush_meaning a4.value.items)))) no_value)))))) (options_alike _ (λ (y : (Box Value Global)). (box (y.value))) (λ (y : (Box Bush-Source Global)). (box (bush_meaning y.value))) refl (λ x. refl) a3.items) ∙ ap (λ vs. product (value (number (pos a0)) (value (option_meaning (λ (y : (Box Bush-Source Global)). (box (bush_meaning y.value))) None) (value (list (each_meaning (λ y. (box (bush_meaning y.value))) a2.items)) (value (list (each_meaning (λ y. (option_meaning (λ y. (box (bush_meaning y.value))) y)) a3.items)) (value (box (list vs)) no_value)))))) (each_mapped bush_meaning a4.value.items)
+bush_means_at a0 None a2 a3 a4 = fold-roll-Bush Value (bush_meaning_layer (λ v. v)) (record { id = a0; over = None; next = a2; sides = a3; others = a4 }) ∙ ap (λ vs. product (value (number (pos a0)) (value (option_meaning (λ y. (box (bush_meaning y.value))) None) (value (list vs) (value (list (each_meaning (λ (y : (Option (Box Value Global))). (option_meaning (λ y. (box (y.value))) y)) (map _ a3.items))) (value (box (list (each_meaning (λ v. v) (map bush_meaning a4.value.items)))) no_value)))))) (each_alike _ (λ (y : (Box Value Global)). (box (y.value))) (λ (y : (Box Bush-Source Global)). (box (bush_meaning y.value))) (λ x. refl) a2.items) ∙ ap (λ vs. product (value (number (pos a0)) (value (option_meaning (λ y. (box (bush_meaning y.value))) None) (value (list (each_meaning (λ y. (box (bush_meaning y.value))) a2.items)) (value (list vs) (value (box (list (each_meaning (λ v. v) (map bush_meaning a4.value.items)))) no_value)))))) (options_alike _ (λ (y : (Box Value Global)). (box (y.value))) (λ (y : (Box Bush-Source Global)). (box (bush_meaning y.value))) refl (λ x. refl) a3.items) ∙ ap (λ vs. product (value (number (pos a0)) (value (option_meaning (λ y. (box (bush_meaning y.value))) None) (value (list (each_meaning (λ y. (box (bush_meaning y.value))) a2.items)) (value (list (each_meaning (λ y. (option_meaning (λ y. (box (bush_meaning y.value))) y)) a3.items)) (value (box (list vs)) no_value)))))) (each_mapped bush_meaning a4.value.items)
 bush_means_at a0 (Some a1) a2 a3 a4 = fold-roll-Bush Value (bush_meaning_layer (λ v. v)) (record { id = a0; over = (Some a1); next = a2; sides = a3; others = a4 }) ∙ ap (λ vs. product (value (number (pos a0)) (value (option_meaning (λ y. (box (bush_meaning y.value))) (Some a1)) (value (list vs) (value (list (each_meaning (λ (y : (Option (Box Value Global))). (option_meaning (λ y. (box (y.value))) y)) (map _ a3.items))) (value (box (list (each_meaning (λ v. v) (map bush_meaning a4.value.items)))) no_value)))))) (each_alike _ (λ (y : (Box Value Global)). (box (y.value))) (λ (y : (Box Bush-Source Global)). (box (bush_meaning y.value))) (λ x. refl) a2.items) ∙ ap (λ vs. product (value (number (pos a0)) (value (option_meaning (λ y. (box (bush_meaning y.value))) (Some a1)) (value (list (each_meaning (λ y. (box (bush_meaning y.value))) a2.items)) (value (list vs) (value (box (list (each_meaning (λ v. v) (map bush_meaning a4.value.items)))) no_value)))))) (options_alike _ (λ (y : (Box Value Global)). (box (y.value))) (λ (y : (Box Bush-Source Global)). (box (bush_meaning y.value))) refl (λ x. refl) a3.items) ∙ ap (λ vs. product (value (number (pos a0)) (value (option_meaning (λ y. (box (bush_meaning y.value))) (Some a1)) (value (list (each_meaning (λ y. (box (bush_meaning y.value))) a2.items)) (value (list (each_meaning (λ y. (option_meaning (λ y. (box (bush_meaning y.value))) y)) a3.items)) (value (box (list vs)) no_value)))))) (each_mapped bush_meaning a4.value.items)
 
 pub bush_means_roll : (x : Bush-F Bush-Source) → bush_meaning (roll-Bush x) ≡ bush_meaning_layer bush_meaning x
@@ -51,7 +51,7 @@ bush_keys = fold-Bush (List Naming) (bush_keys_layer (λ v. v))
 
 bush_has_keys_at : (a0 : ℕ) (a1 : (Option (Box Bush-Source Global))) (a2 : (Vec (Box Bush-Source Global) Global)) (a3 : (Vec (Option (Box Bush-Source Global)) Global)) (a4 : (Box (Vec Bush-Source Global) Global)) → bush_keys (roll-Bush (record { id = a0; over = a1; next = a2; sides = a3; others = a4 })) ≡ bush_keys_layer bush_keys (record { id = a0; over = a1; next = a2; sides = a3; others = a4 })
 unfolding bush_keys
-bush_has_keys_at a0 None a2 a3 a4 = fold-roll-Bush (List Naming) (bush_keys_layer (λ v. v)) (record { id = a0; over = None; next = a2; sides = a3; others = a4 }) ∙ ap (λ vs. ([] ++ ((option_keys (λ (y : (Box Bush-Source Global)). (bush_keys y.value)) None) ++ (vs ++ ((each_keys (λ (y : (Option (Box (List Naming) Global))). (option_keys (λ y. (y.value)) y)) (map _ a3.items)) ++ ((each_keys (λ v. v) (map bush_keys a4.value.items)) ++ [])))))) (each_alike_keys _ (λ (y : (Box (List Naming) Global)). (y.value)) (λ (y : (Box Bush-Source Global)). (bush_keys y.value)) (λ x. refl) a2.items) ∙ ap (λ vs. ([] ++ ((option_keys (λ (y : (Box Bush-Source Global)). (bush_keys y.value)) None) ++ ((each_keys (λ y. (bush_keys y.value)) a2.items) ++ (vs ++ ((each_keys (λ v. v) (map bush_keys a4.value.items)) ++ [])))))) (options_alike_keys _ (λ (y : (Box (List Naming) Global)). (y.value)) (λ (y : (Box Bush-Source Global)). (bush_keys y.value)) refl (λ x. refl) a3.items) ∙ ap (λ vs. ([] ++ ((option_keys (λ (y : (Box Bush-Source Global)). (bush_keys y.value)) None) ++ ((each_keys (λ y. (bush_keys y.value)) a2.items) ++ ((each_keys (λ y. (option_keys (λ y. (bush_keys y.value)) y)) a3.items) ++ (vs ++ [])))))) (each_mapped_keys bush_keys a4.value.items)
+bush_has_keys_at a0 None a2 a3 a4 = fold-roll-Bush (List Naming) (bush_keys_layer (λ v. v)) (record { id = a0; over = None; next = a2; sides = a3; others = a4 }) ∙ ap (λ vs. ([] ++ ((option_keys (λ y. (bush_keys y.value)) None) ++ (vs ++ ((each_keys (λ (y : (Option (Box (List Naming) Global))). (option_keys (λ y. (y.value)) y)) (map _ a3.items)) ++ ((each_keys (λ v. v) (map bush_keys a4.value.items)) ++ [])))))) (each_alike_keys _ (λ (y : (Box (List Naming) Global)). (y.value)) (λ (y : (Box Bush-Source Global)). (bush_keys y.value)) (λ x. refl) a2.items) ∙ ap (λ vs. ([] ++ ((option_keys (λ y. (bush_keys y.value)) None) ++ ((each_keys (λ y. (bush_keys y.value)) a2.items) ++ (vs ++ ((each_keys (λ v. v) (map bush_keys a4.value.items)) ++ [])))))) (options_alike_keys _ (λ (y : (Box (List Naming) Global)). (y.value)) (λ (y : (Box Bush-Source Global)). (bush_keys y.value)) refl (λ x. refl) a3.items) ∙ ap (λ vs. ([] ++ ((option_keys (λ y. (bush_keys y.value)) None) ++ ((each_keys (λ y. (bush_keys y.value)) a2.items) ++ ((each_keys (λ y. (option_keys (λ y. (bush_keys y.value)) y)) a3.items) ++ (vs ++ [])))))) (each_mapped_keys bush_keys a4.value.items)
 bush_has_keys_at a0 (Some a1) a2 a3 a4 = fold-roll-Bush (List Naming) (bush_keys_layer (λ v. v)) (record { id = a0; over = (Some a1); next = a2; sides = a3; others = a4 }) ∙ ap (λ vs. ([] ++ ((option_keys (λ y. (bush_keys y.value)) (Some a1)) ++ (vs ++ ((each_keys (λ (y : (Option (Box (List Naming) Global))). (option_keys (λ y. (y.value)) y)) (map _ a3.items)) ++ ((each_keys (λ v. v) (map bush_keys a4.value.items)) ++ [])))))) (each_alike_keys _ (λ (y : (Box (List Naming) Global)). (y.value)) (λ (y : (Box Bush-Source Global)). (bush_keys y.value)) (λ x. refl) a2.items) ∙ ap (λ vs. ([] ++ ((option_keys (λ y. (bush_keys y.value)) (Some a1)) ++ ((each_keys (λ y. (bush_keys y.value)) a2.items) ++ (vs ++ ((each_keys (λ v. v) (map bush_keys a4.value.items)) ++ [])))))) (options_alike_keys _ (λ (y : (Box (List Naming) Global)). (y.value)) (λ (y : (Box Bush-Source Global)). (bush_keys y.value)) refl (λ x. refl) a3.items) ∙ ap (λ vs. ([] ++ ((option_keys (λ y. (bush_keys y.value)) (Some a1)) ++ ((each_keys (λ y. (bush_keys y.value)) a2.items) ++ ((each_keys (λ y. (option_keys (λ y. (bush_keys y.value)) y)) a3.items) ++ (vs ++ [])))))) (each_mapped_keys bush_keys a4.value.items)
 
 pub bush_has_keys_roll : (x : Bush-F Bush-Source) → bush_keys (roll-Bush x) ≡ bush_keys_layer bush_keys x
