@@ -667,10 +667,8 @@ impl Archive for Depot {
     ) -> Result<(), Error>
         requires zeroed { ZeroedPlace 24 place.pos place.bytes.now }
         requires same_value { ⟦<Self as Archive>⟧.belongs self.now resolver }
-        ensures {
-            ResolvesAs ⟦<Self::Archived as Portable>⟧ place
-                (⟦<Self as Archive>⟧.flat self.now resolver) result
-        }
+        ensures { ResolvesAs ⟦<Self::Archived as Portable>⟧ place
+            (⟦<Self as Archive>⟧.flat self.now resolver) result }
     {
         let Place { bytes, pos, .. } = place;
         match self {
@@ -697,7 +695,17 @@ impl Archive for Depot {
                     Place::new(pos, bytes),
                 )
             }
-            Depot::Sent { number: a0, row: a1, shelf: a2, place: a3, letter: a4, height: a5, width: a6, is_open: a7, to: a8 } => {
+            Depot::Sent {
+                number: a0,
+                row: a1,
+                shelf: a2,
+                place: a3,
+                letter: a4,
+                height: a5,
+                width: a6,
+                is_open: a7,
+                to: a8,
+            } => {
                 let DepotResolver::Sent(kept) = resolver else {
                     unreachable!();
                 };
@@ -764,7 +772,17 @@ impl<S: Writer + ResolverAlloc> Serialize<S> for Depot {
                     Err(error) => Err(error),
                 }
             }
-            Depot::Sent { number: a0, row: a1, shelf: a2, place: a3, letter: a4, height: a5, width: a6, is_open: a7, to: a8 } => {
+            Depot::Sent {
+                number: a0,
+                row: a1,
+                shelf: a2,
+                place: a3,
+                letter: a4,
+                height: a5,
+                width: a6,
+                is_open: a7,
+                to: a8,
+            } => {
                 let lent = DepotSentLent {
                     a0,
                     a1,

@@ -692,15 +692,17 @@ impl Archive for Notice {
     ) -> Result<(), Error>
         requires zeroed { ZeroedPlace 24 place.pos place.bytes.now }
         requires same_value { ⟦<Self as Archive>⟧.belongs self.now resolver }
-        ensures {
-            ResolvesAs ⟦<Self::Archived as Portable>⟧ place
-                (⟦<Self as Archive>⟧.flat self.now resolver) result
-        }
+        ensures { ResolvesAs ⟦<Self::Archived as Portable>⟧ place
+            (⟦<Self as Archive>⟧.flat self.now resolver) result }
     {
         let Place { bytes, pos, .. } = place;
         match self {
             Notice::Closed => resolve_case_0::<ArchivedNotice>(0, (), Place::new(pos, bytes)),
-            Notice::File { member: a0, name: a1, digest: a2 } => {
+            Notice::File {
+                member: a0,
+                name: a1,
+                digest: a2,
+            } => {
                 let NoticeResolver::File(kept) = resolver else {
                     unreachable!();
                 };
@@ -724,7 +726,11 @@ impl Archive for Notice {
                     Place::new(pos, bytes),
                 )
             }
-            Notice::Poll { question: a0, options: a1, closes: a2 } => {
+            Notice::Poll {
+                question: a0,
+                options: a1,
+                closes: a2,
+            } => {
                 let NoticeResolver::Poll(kept) = resolver else {
                     unreachable!();
                 };
@@ -774,14 +780,13 @@ impl<S: Writer + ResolverAlloc<Alloc = Global>> Serialize<S> for Notice {
                 Ok(()) => Ok(NoticeResolver::Closed),
                 Err(error) => Err(error),
             },
-            Notice::File { member: a0, name: a1, digest: a2 } => match serialize_case_3::<
-                u8,
-                String,
-                [u8; 4],
-                ArchivedNotice,
-                S,
-            >(1, a0, a1, a2, serializer)
-            {
+            Notice::File {
+                member: a0,
+                name: a1,
+                digest: a2,
+            } => match serialize_case_3::<u8, String, [u8; 4], ArchivedNotice, S>(
+                1, a0, a1, a2, serializer,
+            ) {
                 Ok(kept) => Ok(NoticeResolver::File(kept)),
                 Err(error) => Err(error),
             },
@@ -794,7 +799,11 @@ impl<S: Writer + ResolverAlloc<Alloc = Global>> Serialize<S> for Notice {
                 Ok(kept) => Ok(NoticeResolver::Settings(kept)),
                 Err(error) => Err(error),
             },
-            Notice::Poll { question: a0, options: a1, closes: a2 } => match serialize_case_3::<
+            Notice::Poll {
+                question: a0,
+                options: a1,
+                closes: a2,
+            } => match serialize_case_3::<
                 String,
                 Vec<(String, u32)>,
                 Option<u8>,

@@ -239,10 +239,8 @@ impl Archive for Sum {
     ) -> Result<(), Error>
         requires zeroed { ZeroedPlace 12 place.pos place.bytes.now }
         requires same_value { ⟦<Self as Archive>⟧.belongs self.now resolver }
-        ensures {
-            ResolvesAs ⟦<Self::Archived as Portable>⟧ place
-                (⟦<Self as Archive>⟧.flat self.now resolver) result
-        }
+        ensures { ResolvesAs ⟦<Self::Archived as Portable>⟧ place
+            (⟦<Self as Archive>⟧.flat self.now resolver) result }
     {
         let Place { bytes, pos, .. } = place;
         match self {
@@ -634,10 +632,8 @@ impl Archive for Numbers {
     ) -> Result<(), Error>
         requires zeroed { ZeroedPlace 16 place.pos place.bytes.now }
         requires same_value { ⟦<Self as Archive>⟧.belongs self.now resolver }
-        ensures {
-            ResolvesAs ⟦<Self::Archived as Portable>⟧ place
-                (⟦<Self as Archive>⟧.flat self.now resolver) result
-        }
+        ensures { ResolvesAs ⟦<Self::Archived as Portable>⟧ place
+            (⟦<Self as Archive>⟧.flat self.now resolver) result }
     {
         let Place { bytes, pos, .. } = place;
         match self {

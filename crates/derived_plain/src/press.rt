@@ -942,10 +942,8 @@ impl Archive for Press {
     ) -> Result<(), Error>
         requires zeroed { ZeroedPlace 12 place.pos place.bytes.now }
         requires same_value { ⟦<Self as Archive>⟧.belongs self.now resolver }
-        ensures {
-            ResolvesAs ⟦<Self::Archived as Portable>⟧ place
-                (⟦<Self as Archive>⟧.flat self.now resolver) result
-        }
+        ensures { ResolvesAs ⟦<Self::Archived as Portable>⟧ place
+            (⟦<Self as Archive>⟧.flat self.now resolver) result }
     {
         let Place { bytes, pos, .. } = place;
         match self {
@@ -961,7 +959,10 @@ impl Archive for Press {
                 };
                 resolve_case_1::<String, ArchivedPress>(38, a0, kept, Place::new(pos, bytes))
             }
-            Press::Chord { modifiers: a0, key: a1 } => {
+            Press::Chord {
+                modifiers: a0,
+                key: a1,
+            } => {
                 let PressResolver::Chord(kept) = resolver else {
                     unreachable!();
                 };
@@ -1002,13 +1003,10 @@ impl<S: Writer + ResolverAlloc> Serialize<S> for Press {
                 Ok(kept) => Ok(PressResolver::Named(kept)),
                 Err(error) => Err(error),
             },
-            Press::Chord { modifiers: a0, key: a1 } => match serialize_case_2::<
-                u8,
-                char,
-                ArchivedPress,
-                S,
-            >(65, a0, a1, serializer)
-            {
+            Press::Chord {
+                modifiers: a0,
+                key: a1,
+            } => match serialize_case_2::<u8, char, ArchivedPress, S>(65, a0, a1, serializer) {
                 Ok(kept) => Ok(PressResolver::Chord(kept)),
                 Err(error) => Err(error),
             },

@@ -310,10 +310,8 @@ impl Archive for Label {
     ) -> Result<(), Error>
         requires zeroed { ZeroedPlace 16 place.pos place.bytes.now }
         requires same_value { ⟦<Self as Archive>⟧.belongs self.now resolver }
-        ensures {
-            ResolvesAs ⟦<Self::Archived as Portable>⟧ place
-                (⟦<Self as Archive>⟧.flat self.now resolver) result
-        }
+        ensures { ResolvesAs ⟦<Self::Archived as Portable>⟧ place
+            (⟦<Self as Archive>⟧.flat self.now resolver) result }
     {
         let Place { bytes, pos, .. } = place;
         match self {
@@ -324,7 +322,10 @@ impl Archive for Label {
                 };
                 resolve_case_1::<u16, ArchivedLabel>(1, a0, kept, Place::new(pos, bytes))
             }
-            Label::Ok { name: a0, which: a1 } => {
+            Label::Ok {
+                name: a0,
+                which: a1,
+            } => {
                 let LabelResolver::Ok(kept) = resolver else {
                     unreachable!();
                 };
@@ -360,13 +361,10 @@ impl<S: Writer + ResolverAlloc> Serialize<S> for Label {
                 Ok(kept) => Ok(LabelResolver::Some(kept)),
                 Err(error) => Err(error),
             },
-            Label::Ok { name: a0, which: a1 } => match serialize_case_2::<
-                String,
-                i8,
-                ArchivedLabel,
-                S,
-            >(2, a0, a1, serializer)
-            {
+            Label::Ok {
+                name: a0,
+                which: a1,
+            } => match serialize_case_2::<String, i8, ArchivedLabel, S>(2, a0, a1, serializer) {
                 Ok(kept) => Ok(LabelResolver::Ok(kept)),
                 Err(error) => Err(error),
             },
@@ -852,10 +850,8 @@ impl Archive for Scores {
     ) -> Result<(), Error>
         requires zeroed { ZeroedPlace 24 place.pos place.bytes.now }
         requires same_value { ⟦<Self as Archive>⟧.belongs self.now resolver }
-        ensures {
-            ResolvesAs ⟦<Self::Archived as Portable>⟧ place
-                (⟦<Self as Archive>⟧.flat self.now resolver) result
-        }
+        ensures { ResolvesAs ⟦<Self::Archived as Portable>⟧ place
+            (⟦<Self as Archive>⟧.flat self.now resolver) result }
     {
         let Place { bytes, pos, .. } = place;
         let ScoresResolver { kept } = resolver;

@@ -49,8 +49,8 @@ use archive_core::ser::{ResolverAlloc, Writer, serialize_one};
 use archive_core::shape::Defs;
 use archive_core::string::ArchivedString;
 use archive_core::traits::{
-    Archive, ArchivePointee, ArchiveUnsized, CopyOptimization, Deserialize, Entries, Keys, Portable,
-    PortableParts, Record, Serialize, SerializeUnsized, expr_of_record,
+    Archive, ArchivePointee, ArchiveUnsized, CopyOptimization, Deserialize, Entries, Keys,
+    Portable, PortableParts, Record, Serialize, SerializeUnsized, expr_of_record,
 };
 use archive_core::vec::{ArchivedVec, VecResolver};
 use archive_core::view::{RawView, Ref};
@@ -207,7 +207,9 @@ impl Record for Tuple3I8FolderFolder {
 }
 
 // What a tuple looks like.
-fn tuple3_string_folder_option_string_expression(alloc: Global) -> Result<archive_core::shape::Expr, Error>
+fn tuple3_string_folder_option_string_expression(
+    alloc: Global,
+) -> Result<archive_core::shape::Expr, Error>
     ensures shape { IfOk result (λ e. shape_of e ≡ tuple3_string_folder_option_string_shape) }
     ensures refused { IfErr result (λ e. e ≡ OutOfMemory) }
 {
@@ -236,8 +238,14 @@ fn folder_expressions(alloc: Global) -> Result<Vec<archive_core::shape::Expr>, E
     ensures refused { IfErr result (λ e. e ≡ OutOfMemory) }
 {
     let a0 = <u8 as Portable>::expr(alloc)?;
-    let a1 = archive_core::shape::Expr::Vec(Box::new(alloc, tuple3_string_folder_option_string_expression(alloc)?)?);
-    let a2 = archive_core::shape::Expr::Vec(Box::new(alloc, tuple3_i8_folder_folder_expression(alloc)?)?);
+    let a1 = archive_core::shape::Expr::Vec(Box::new(
+        alloc,
+        tuple3_string_folder_option_string_expression(alloc)?,
+    )?);
+    let a2 = archive_core::shape::Expr::Vec(Box::new(
+        alloc,
+        tuple3_i8_folder_folder_expression(alloc)?,
+    )?);
     Ok(vec![in alloc; a0, a1, a2]?)
 }
 
@@ -363,7 +371,10 @@ impl Archive for Folder {
 
 // Writes what each of the values owns, in order.
 #[cycle(serialize_folder)]
-fn serialize_each_tuple3_string_folder_option_string<S: Writer + Keys + ResolverAlloc>(values: &[(String, Folder, Option<String>)], serializer: &mut S) -> Result<Vec<<(String, Folder, Option<String>) as Archive>::Resolver, S::Alloc>, Error>
+fn serialize_each_tuple3_string_folder_option_string<S: Writer + Keys + ResolverAlloc>(
+    values: &[(String, Folder, Option<String>)],
+    serializer: &mut S,
+) -> Result<Vec<<(String, Folder, Option<String>) as Archive>::Resolver, S::Alloc>, Error>
     ensures serialized { IfOk result (λ rs. SerializedRun
         tuple3_string_folder_option_string_definitions tuple3_string_folder_option_string_shape
         (length values.now) (each_keys ⟦<(String, Folder, Option<String>) as Archive>⟧.keys
@@ -394,22 +405,26 @@ fn serialize_each_tuple3_string_folder_option_string<S: Writer + Keys + Resolver
             Ok(a2) => a2,
             Err(error) => return Err(error),
         };
-        resolvers.push((a0, (a1, (a2, ())))).map_err(AllocError::from)?;
+        resolvers
+            .push((a0, (a1, (a2, ()))))
+            .map_err(AllocError::from)?;
     }
     Ok(resolvers)
 }
 
 // Writes what a vector owns.
 #[cycle(serialize_folder)]
-fn serialize_vec_tuple3_string_folder_option_string<S: Writer + Keys + ResolverAlloc>(value: &Vec<(String, Folder, Option<String>)>, serializer: &mut S) -> Result<VecResolver, Error>
+fn serialize_vec_tuple3_string_folder_option_string<S: Writer + Keys + ResolverAlloc>(
+    value: &Vec<(String, Folder, Option<String>)>,
+    serializer: &mut S,
+) -> Result<VecResolver, Error>
     ensures serialized { IfOk result (λ r. Serialized tuple3_string_folder_option_string_definitions
         (vec tuple3_string_folder_option_string_shape)
         (⟦<Vec<(String, Folder, Option<String>)> as Archive>⟧.keys value.now)
         (⟦<Vec<(String, Folder, Option<String>)> as Archive>⟧.meaning value.now)
         (⟦<Vec<(String, Folder, Option<String>)> as Archive>⟧.flat value.now r)
         (S.state serializer.old) (S.state serializer.new)) }
-    ensures
-        same_value { IfOk result (λ r. ⟦<Vec<(String, Folder, Option<String>)> as Archive>⟧.belongs
+    ensures same_value { IfOk result (λ r. ⟦<Vec<(String, Folder, Option<String>)> as Archive>⟧.belongs
         value.now r) }
     ensures goes_on { GoesOn (S.state serializer.old) (S.state serializer.new) }
     ensures refused { IfErr result (IsRefused tuple3_string_folder_option_string_definitions
@@ -434,7 +449,10 @@ fn serialize_vec_tuple3_string_folder_option_string<S: Writer + Keys + ResolverA
 
 // Writes what each of the values owns, in order.
 #[cycle(serialize_folder)]
-fn serialize_each_tuple3_i8_folder_folder<S: Writer + Keys + ResolverAlloc>(values: &[(i8, Folder, Folder)], serializer: &mut S) -> Result<Vec<<(i8, Folder, Folder) as Archive>::Resolver, S::Alloc>, Error>
+fn serialize_each_tuple3_i8_folder_folder<S: Writer + Keys + ResolverAlloc>(
+    values: &[(i8, Folder, Folder)],
+    serializer: &mut S,
+) -> Result<Vec<<(i8, Folder, Folder) as Archive>::Resolver, S::Alloc>, Error>
     ensures serialized { IfOk result (λ rs. SerializedRun tuple3_i8_folder_folder_definitions
         tuple3_i8_folder_folder_shape (length values.now)
         (each_keys ⟦<(i8, Folder, Folder) as Archive>⟧.keys values.now)
@@ -465,14 +483,19 @@ fn serialize_each_tuple3_i8_folder_folder<S: Writer + Keys + ResolverAlloc>(valu
             Ok(a2) => a2,
             Err(error) => return Err(error),
         };
-        resolvers.push((a0, (a1, (a2, ())))).map_err(AllocError::from)?;
+        resolvers
+            .push((a0, (a1, (a2, ()))))
+            .map_err(AllocError::from)?;
     }
     Ok(resolvers)
 }
 
 // Writes what a vector owns.
 #[cycle(serialize_folder)]
-fn serialize_vec_tuple3_i8_folder_folder<S: Writer + Keys + ResolverAlloc>(value: &Vec<(i8, Folder, Folder)>, serializer: &mut S) -> Result<VecResolver, Error>
+fn serialize_vec_tuple3_i8_folder_folder<S: Writer + Keys + ResolverAlloc>(
+    value: &Vec<(i8, Folder, Folder)>,
+    serializer: &mut S,
+) -> Result<VecResolver, Error>
     ensures serialized { IfOk result (λ r. Serialized tuple3_i8_folder_folder_definitions
         (vec tuple3_i8_folder_folder_shape) (⟦<Vec<(i8, Folder, Folder)> as Archive>⟧.keys
         value.now) (⟦<Vec<(i8, Folder, Folder)> as Archive>⟧.meaning value.now)
@@ -502,7 +525,10 @@ fn serialize_vec_tuple3_i8_folder_folder<S: Writer + Keys + ResolverAlloc>(value
 
 // Writes what a value owns, part by part.
 #[cycle(serialize_folder)]
-fn serialize_folder<S: Writer + Keys + ResolverAlloc>(value: &Folder, serializer: &mut S) -> Result<FolderResolver, Error>
+fn serialize_folder<S: Writer + Keys + ResolverAlloc>(
+    value: &Folder,
+    serializer: &mut S,
+) -> Result<FolderResolver, Error>
     ensures serialized { IfOk result (λ r. Serialized folder_definitions folder_shape
         (⟦<Folder as Archive>⟧.keys value.now) (⟦<Folder as Archive>⟧.meaning value.now)
         (⟦<Folder as Archive>⟧.flat value.now r) (S.state serializer.old)
@@ -525,7 +551,9 @@ fn serialize_folder<S: Writer + Keys + ResolverAlloc>(value: &Folder, serializer
         Ok(a2) => a2,
         Err(error) => return Err(error),
     };
-    Ok(FolderResolver { kept: (a0, (a1, (a2, ()))) })
+    Ok(FolderResolver {
+        kept: (a0, (a1, (a2, ()))),
+    })
 }
 
 impl<S: Writer + Keys + ResolverAlloc> Serialize<S> for Folder {
@@ -569,7 +597,11 @@ impl<S: Writer + Keys + ResolverAlloc> SerializeUnsized<S> for Folder {
 
 // Reads a tuple back, part by part.
 #[cycle(read_folder)]
-fn read_tuple3_string_folder_option_string<D: Entries>(alloc: Global, part: RawView<'_>, deserializer: &mut D) -> Result<(String, Folder, Option<String>), Error>
+fn read_tuple3_string_folder_option_string<D: Entries>(
+    alloc: Global,
+    part: RawView<'_>,
+    deserializer: &mut D,
+) -> Result<(String, Folder, Option<String>), Error>
     requires { IsPartOf ⟦<Tuple3StringFolderOptionString as ArchivePointee>⟧ part }
     ensures read { IfOk result (λ t. ReadsPart ⟦<Tuple3StringFolderOptionString as ArchivePointee>⟧
         part D.Entries deserializer (tuple3_string_folder_option_string_meaning t)
@@ -594,15 +626,17 @@ fn read_tuple3_string_folder_option_string<D: Entries>(alloc: Global, part: RawV
 
 // Reads a vector back.
 #[cycle(read_folder)]
-fn read_vec_tuple3_string_folder_option_string<D: Entries>(alloc: Global, part: RawView<'_>, deserializer: &mut D) -> Result<Vec<(String, Folder, Option<String>)>, Error>
+fn read_vec_tuple3_string_folder_option_string<D: Entries>(
+    alloc: Global,
+    part: RawView<'_>,
+    deserializer: &mut D,
+) -> Result<Vec<(String, Folder, Option<String>)>, Error>
     requires { IsPartOf ⟦<ArchivedVec<Tuple3StringFolderOptionString> as ArchivePointee>⟧ part }
-    ensures
-        read { IfOk result
+    ensures read { IfOk result
         (λ t. ReadsPart ⟦<ArchivedVec<Tuple3StringFolderOptionString> as ArchivePointee>⟧ part
         D.Entries deserializer (list (each_meaning tuple3_string_folder_option_string_meaning
         t.items)) (each_keys tuple3_string_folder_option_string_keys t.items)) }
-    ensures
-        refused { IfErr result
+    ensures refused { IfErr result
         (RefusesPart ⟦<ArchivedVec<Tuple3StringFolderOptionString> as ArchivePointee>⟧ part
         D.Entries deserializer) }
 {
@@ -610,7 +644,11 @@ fn read_vec_tuple3_string_folder_option_string<D: Entries>(alloc: Global, part: 
     let list = before_vec(view);
     let mut items = Vec::with_capacity(alloc, list.len())?;
     for index in 0..list.len() {
-        let item = read_tuple3_string_folder_option_string(alloc, list.index(index).part(), deserializer)?;
+        let item = read_tuple3_string_folder_option_string(
+            alloc,
+            list.index(index).part(),
+            deserializer,
+        )?;
         items.push_reserved(item);
     }
     Ok(items)
@@ -618,7 +656,11 @@ fn read_vec_tuple3_string_folder_option_string<D: Entries>(alloc: Global, part: 
 
 // Reads a tuple back, part by part.
 #[cycle(read_folder)]
-fn read_tuple3_i8_folder_folder<D: Entries>(alloc: Global, part: RawView<'_>, deserializer: &mut D) -> Result<(i8, Folder, Folder), Error>
+fn read_tuple3_i8_folder_folder<D: Entries>(
+    alloc: Global,
+    part: RawView<'_>,
+    deserializer: &mut D,
+) -> Result<(i8, Folder, Folder), Error>
     requires { IsPartOf ⟦<Tuple3I8FolderFolder as ArchivePointee>⟧ part }
     ensures read { IfOk result (λ t. ReadsPart ⟦<Tuple3I8FolderFolder as ArchivePointee>⟧ part
         D.Entries deserializer (tuple3_i8_folder_folder_meaning t)
@@ -637,14 +679,16 @@ fn read_tuple3_i8_folder_folder<D: Entries>(alloc: Global, part: RawView<'_>, de
 
 // Reads a vector back.
 #[cycle(read_folder)]
-fn read_vec_tuple3_i8_folder_folder<D: Entries>(alloc: Global, part: RawView<'_>, deserializer: &mut D) -> Result<Vec<(i8, Folder, Folder)>, Error>
+fn read_vec_tuple3_i8_folder_folder<D: Entries>(
+    alloc: Global,
+    part: RawView<'_>,
+    deserializer: &mut D,
+) -> Result<Vec<(i8, Folder, Folder)>, Error>
     requires { IsPartOf ⟦<ArchivedVec<Tuple3I8FolderFolder> as ArchivePointee>⟧ part }
-    ensures
-        read { IfOk result (λ t. ReadsPart ⟦<ArchivedVec<Tuple3I8FolderFolder> as ArchivePointee>⟧
+    ensures read { IfOk result (λ t. ReadsPart ⟦<ArchivedVec<Tuple3I8FolderFolder> as ArchivePointee>⟧
         part D.Entries deserializer (list (each_meaning tuple3_i8_folder_folder_meaning t.items))
         (each_keys tuple3_i8_folder_folder_keys t.items)) }
-    ensures
-        refused { IfErr result (RefusesPart ⟦<ArchivedVec<Tuple3I8FolderFolder> as ArchivePointee>⟧
+    ensures refused { IfErr result (RefusesPart ⟦<ArchivedVec<Tuple3I8FolderFolder> as ArchivePointee>⟧
         part D.Entries deserializer) }
 {
     let view: Ref<'_, ArchivedVec<Tuple3I8FolderFolder>> = Ref::at(part);
@@ -659,7 +703,11 @@ fn read_vec_tuple3_i8_folder_folder<D: Entries>(alloc: Global, part: RawView<'_>
 
 // Reads a value back, part by part.
 #[cycle(read_folder)]
-fn read_folder<D: Entries>(alloc: Global, part: RawView<'_>, deserializer: &mut D) -> Result<Folder, Error>
+fn read_folder<D: Entries>(
+    alloc: Global,
+    part: RawView<'_>,
+    deserializer: &mut D,
+) -> Result<Folder, Error>
     requires { IsPartOf ⟦<ArchivedFolder as ArchivePointee>⟧ part }
     ensures read { IfOk result (Read ⟦<ArchivedFolder as ArchivePointee>⟧ part D.Entries
         deserializer ⟦<Folder as Archive>⟧) }
@@ -704,7 +752,10 @@ pub trait FolderView<'a> {
     /// What is in it, with names, and perhaps with notes.
     fn entries(
         self,
-    ) -> Ref<'a, ArchivedVec<ArchivedTuple3<ArchivedString, ArchivedFolder, ArchivedOption<ArchivedString>>>>;
+    ) -> Ref<
+        'a,
+        ArchivedVec<ArchivedTuple3<ArchivedString, ArchivedFolder, ArchivedOption<ArchivedString>>>,
+    >;
 
     /// What is attached to it in twos, with places.
     fn attached(self) -> Ref<'a, ArchivedVec<ArchivedTuple3<i8, ArchivedFolder, ArchivedFolder>>>;
@@ -722,7 +773,10 @@ impl<'a> FolderView<'a> for Ref<'a, ArchivedFolder> {
 
     fn entries(
         self,
-    ) -> Ref<'a, ArchivedVec<ArchivedTuple3<ArchivedString, ArchivedFolder, ArchivedOption<ArchivedString>>>>
+    ) -> Ref<
+        'a,
+        ArchivedVec<ArchivedTuple3<ArchivedString, ArchivedFolder, ArchivedOption<ArchivedString>>>,
+    >
         ensures buffer { result.bytes.now ≡ self.entry.bytes.now }
         ensures position { result.pos ≡ self.entry.pos + 4 }
         ensures length { result.len ≡ 0 }
@@ -730,7 +784,9 @@ impl<'a> FolderView<'a> for Ref<'a, ArchivedFolder> {
     {
         view_of_field::<
             ArchivedFolder,
-            ArchivedVec<ArchivedTuple3<ArchivedString, ArchivedFolder, ArchivedOption<ArchivedString>>>,
+            ArchivedVec<
+                ArchivedTuple3<ArchivedString, ArchivedFolder, ArchivedOption<ArchivedString>>,
+            >,
         >(self, 1, 4)
     }
 
@@ -759,7 +815,10 @@ pub trait FolderSeal<'a> {
     /// What is in it, with names, and perhaps with notes.
     fn entries_mut(
         self,
-    ) -> Seal<'a, ArchivedVec<ArchivedTuple3<ArchivedString, ArchivedFolder, ArchivedOption<ArchivedString>>>>
+    ) -> Seal<
+        'a,
+        ArchivedVec<ArchivedTuple3<ArchivedString, ArchivedFolder, ArchivedOption<ArchivedString>>>,
+    >
         requires { sealed self };
 
     /// What is attached to it in twos, with places.
@@ -785,7 +844,10 @@ impl<'a> FolderSeal<'a> for Seal<'a, ArchivedFolder> {
 
     fn entries_mut(
         self,
-    ) -> Seal<'a, ArchivedVec<ArchivedTuple3<ArchivedString, ArchivedFolder, ArchivedOption<ArchivedString>>>>
+    ) -> Seal<
+        'a,
+        ArchivedVec<ArchivedTuple3<ArchivedString, ArchivedFolder, ArchivedOption<ArchivedString>>>,
+    >
         requires come_to { IsSealOf folder_definitions (one ⟦<ArchivedFolder as Portable>⟧.shape)
             self }
         ensures { SealsPart folder_definitions (one ⟦<ArchivedFolder as Portable>⟧.shape)
@@ -795,7 +857,9 @@ impl<'a> FolderSeal<'a> for Seal<'a, ArchivedFolder> {
     {
         seal_of_field::<
             ArchivedFolder,
-            ArchivedVec<ArchivedTuple3<ArchivedString, ArchivedFolder, ArchivedOption<ArchivedString>>>,
+            ArchivedVec<
+                ArchivedTuple3<ArchivedString, ArchivedFolder, ArchivedOption<ArchivedString>>,
+            >,
         >(self, 1, 4)
     }
 

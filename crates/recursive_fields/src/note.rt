@@ -457,7 +457,10 @@ impl Archive for Note {
 
 // Writes what each of the values owns, in order.
 #[cycle(serialize_note)]
-fn serialize_each_pair_string_note<S: Writer + Keys + ResolverAlloc>(values: &[(String, Note)], serializer: &mut S) -> Result<Vec<<(String, Note) as Archive>::Resolver, S::Alloc>, Error>
+fn serialize_each_pair_string_note<S: Writer + Keys + ResolverAlloc>(
+    values: &[(String, Note)],
+    serializer: &mut S,
+) -> Result<Vec<<(String, Note) as Archive>::Resolver, S::Alloc>, Error>
     ensures serialized { IfOk result (λ rs. SerializedRun pair_string_note_definitions
         pair_string_note_shape (length values.now) (each_keys ⟦<(String, Note) as Archive>⟧.keys
         values.now) (each_meaning ⟦<(String, Note) as Archive>⟧.meaning values.now)
@@ -489,7 +492,10 @@ fn serialize_each_pair_string_note<S: Writer + Keys + ResolverAlloc>(values: &[(
 
 // Writes what a vector owns.
 #[cycle(serialize_note)]
-fn serialize_vec_pair_string_note<S: Writer + Keys + ResolverAlloc>(value: &Vec<(String, Note)>, serializer: &mut S) -> Result<VecResolver, Error>
+fn serialize_vec_pair_string_note<S: Writer + Keys + ResolverAlloc>(
+    value: &Vec<(String, Note)>,
+    serializer: &mut S,
+) -> Result<VecResolver, Error>
     ensures serialized { IfOk result (λ r. Serialized pair_string_note_definitions
         (vec pair_string_note_shape) (⟦<Vec<(String, Note)> as Archive>⟧.keys value.now)
         (⟦<Vec<(String, Note)> as Archive>⟧.meaning value.now)
@@ -728,7 +734,10 @@ fn serialize_note_table<S: Writer + Keys + ResolverAlloc>(
 
 // Writes what a value owns.
 #[cycle(serialize_note)]
-fn serialize_note<S: Writer + Keys + ResolverAlloc>(value: &Note, serializer: &mut S) -> Result<NoteResolver, Error>
+fn serialize_note<S: Writer + Keys + ResolverAlloc>(
+    value: &Note,
+    serializer: &mut S,
+) -> Result<NoteResolver, Error>
     ensures serialized { IfOk result (λ r. Serialized note_definitions note_shape
         (⟦<Note as Archive>⟧.keys value.now) (⟦<Note as Archive>⟧.meaning value.now)
         (⟦<Note as Archive>⟧.flat value.now r) (S.state serializer.old) (S.state serializer.new)) }
@@ -803,7 +812,11 @@ impl<S: Writer + Keys + ResolverAlloc> SerializeUnsized<S> for Note {
 
 // Reads a tuple back, part by part.
 #[cycle(read_note)]
-fn read_pair_string_note<D: Entries>(alloc: Global, part: RawView<'_>, deserializer: &mut D) -> Result<(String, Note), Error>
+fn read_pair_string_note<D: Entries>(
+    alloc: Global,
+    part: RawView<'_>,
+    deserializer: &mut D,
+) -> Result<(String, Note), Error>
     requires { IsPartOf ⟦<PairStringNote as ArchivePointee>⟧ part }
     ensures read { IfOk result (λ t. ReadsPart ⟦<PairStringNote as ArchivePointee>⟧ part D.Entries
         deserializer (pair_string_note_meaning t) (pair_string_note_keys t)) }
@@ -819,7 +832,11 @@ fn read_pair_string_note<D: Entries>(alloc: Global, part: RawView<'_>, deseriali
 
 // Reads a vector back.
 #[cycle(read_note)]
-fn read_vec_pair_string_note<D: Entries>(alloc: Global, part: RawView<'_>, deserializer: &mut D) -> Result<Vec<(String, Note)>, Error>
+fn read_vec_pair_string_note<D: Entries>(
+    alloc: Global,
+    part: RawView<'_>,
+    deserializer: &mut D,
+) -> Result<Vec<(String, Note)>, Error>
     requires { IsPartOf ⟦<ArchivedVec<PairStringNote> as ArchivePointee>⟧ part }
     ensures read { IfOk result (λ t. ReadsPart ⟦<ArchivedVec<PairStringNote> as ArchivePointee>⟧
         part D.Entries deserializer (list (each_meaning pair_string_note_meaning t.items))
@@ -839,7 +856,11 @@ fn read_vec_pair_string_note<D: Entries>(alloc: Global, part: RawView<'_>, deser
 
 // Reads `Texts` back.
 #[inline(always)]
-fn read_note_texts<D: Entries>(alloc: Global, part: RawView<'_>, deserializer: &mut D) -> Result<Note, Error>
+fn read_note_texts<D: Entries>(
+    alloc: Global,
+    part: RawView<'_>,
+    deserializer: &mut D,
+) -> Result<Note, Error>
     requires viewed { IsPartOf ⟦<ArchivedNote as ArchivePointee>⟧ part }
     requires tag { part_tag part ≡ 0 }
     ensures read { IfOk result (Read ⟦<ArchivedNote as ArchivePointee>⟧ part D.Entries deserializer
@@ -860,7 +881,11 @@ fn read_note_texts<D: Entries>(alloc: Global, part: RawView<'_>, deserializer: &
 
 // Reads `Work` back.
 #[inline(always)]
-fn read_note_work<D: Entries>(alloc: Global, part: RawView<'_>, deserializer: &mut D) -> Result<Note, Error>
+fn read_note_work<D: Entries>(
+    alloc: Global,
+    part: RawView<'_>,
+    deserializer: &mut D,
+) -> Result<Note, Error>
     requires viewed { IsPartOf ⟦<ArchivedNote as ArchivePointee>⟧ part }
     requires tag { part_tag part ≡ 1 }
     ensures read { IfOk result (Read ⟦<ArchivedNote as ArchivePointee>⟧ part D.Entries deserializer
@@ -886,7 +911,11 @@ fn read_note_work<D: Entries>(alloc: Global, part: RawView<'_>, deserializer: &m
 
 // Reads `Outcome` back.
 #[inline(always)]
-fn read_note_outcome<D: Entries>(alloc: Global, part: RawView<'_>, deserializer: &mut D) -> Result<Note, Error>
+fn read_note_outcome<D: Entries>(
+    alloc: Global,
+    part: RawView<'_>,
+    deserializer: &mut D,
+) -> Result<Note, Error>
     requires viewed { IsPartOf ⟦<ArchivedNote as ArchivePointee>⟧ part }
     requires tag { part_tag part ≡ 2 }
     ensures read { IfOk result (Read ⟦<ArchivedNote as ArchivePointee>⟧ part D.Entries deserializer
@@ -909,7 +938,11 @@ fn read_note_outcome<D: Entries>(alloc: Global, part: RawView<'_>, deserializer:
 
 // Reads `Picture` back.
 #[inline(always)]
-fn read_note_picture<D: Entries>(alloc: Global, part: RawView<'_>, deserializer: &mut D) -> Result<Note, Error>
+fn read_note_picture<D: Entries>(
+    alloc: Global,
+    part: RawView<'_>,
+    deserializer: &mut D,
+) -> Result<Note, Error>
     requires viewed { IsPartOf ⟦<ArchivedNote as ArchivePointee>⟧ part }
     requires tag { part_tag part ≡ 3 }
     ensures read { IfOk result (Read ⟦<ArchivedNote as ArchivePointee>⟧ part D.Entries deserializer
@@ -926,7 +959,11 @@ fn read_note_picture<D: Entries>(alloc: Global, part: RawView<'_>, deserializer:
 
 // Reads `Table` back.
 #[cycle(read_note)]
-fn read_note_table<D: Entries>(alloc: Global, part: RawView<'_>, deserializer: &mut D) -> Result<Note, Error>
+fn read_note_table<D: Entries>(
+    alloc: Global,
+    part: RawView<'_>,
+    deserializer: &mut D,
+) -> Result<Note, Error>
     requires viewed { IsPartOf ⟦<ArchivedNote as ArchivePointee>⟧ part }
     requires tag { part_tag part ≡ 4 }
     ensures read { IfOk result (Read ⟦<ArchivedNote as ArchivePointee>⟧ part D.Entries deserializer
@@ -941,7 +978,11 @@ fn read_note_table<D: Entries>(alloc: Global, part: RawView<'_>, deserializer: &
 
 // Reads a value back.
 #[cycle(read_note)]
-fn read_note<D: Entries>(alloc: Global, part: RawView<'_>, deserializer: &mut D) -> Result<Note, Error>
+fn read_note<D: Entries>(
+    alloc: Global,
+    part: RawView<'_>,
+    deserializer: &mut D,
+) -> Result<Note, Error>
     requires { IsPartOf ⟦<ArchivedNote as ArchivePointee>⟧ part }
     ensures read { IfOk result (Read ⟦<ArchivedNote as ArchivePointee>⟧ part D.Entries deserializer
         ⟦<Note as Archive>⟧) }
@@ -1033,7 +1074,9 @@ impl<'a> NoteView<'a> for Ref<'a, ArchivedNote> {
     {
         match tag_of_view(self) {
             0 => {
-                let a0 = view_of_payload::<ArchivedNote, ArchivedVec<ArchivedString>>(self, 0, 0, 4);
+                let a0 = view_of_payload::<ArchivedNote, ArchivedVec<ArchivedString>>(
+                    self, 0, 0, 4,
+                );
                 let a1 = view_of_payload::<ArchivedNote, ArchivedOption<ArchivedString>>(
                     self, 0, 1, 12,
                 );
@@ -1249,9 +1292,8 @@ impl<'a> NoteSeal<'a> for Seal<'a, ArchivedNote> {
             ⟦<ArchivedVec<ArchivedTuple2<ArchivedString, ArchivedNote>> as ArchivePointee>⟧.pointee
             (self.entry.pos + 4) 0 self.entry result }
     {
-        seal_of_payload::<
-            ArchivedNote,
-            ArchivedVec<ArchivedTuple2<ArchivedString, ArchivedNote>>,
-        >(self, 4, 0, 4)
+        seal_of_payload::<ArchivedNote, ArchivedVec<ArchivedTuple2<ArchivedString, ArchivedNote>>>(
+            self, 4, 0, 4,
+        )
     }
 }

@@ -167,7 +167,10 @@ fn json_list_expressions(alloc: Global) -> Result<Vec<archive_core::shape::Expr>
     ensures shapes { IfOk result (λ list. shapes_in list.items ≡ json_list_parts) }
     ensures refused { IfErr result (λ e. e ≡ OutOfMemory) }
 {
-    let a0 = archive_core::shape::Expr::Vec(Box::new(alloc, archive_core::shape::Expr::Named("ArchivedJson"))?);
+    let a0 = archive_core::shape::Expr::Vec(Box::new(
+        alloc,
+        archive_core::shape::Expr::Named("ArchivedJson"),
+    )?);
     Ok(vec![in alloc; a0]?)
 }
 
@@ -176,7 +179,10 @@ fn json_object_expressions(alloc: Global) -> Result<Vec<archive_core::shape::Exp
     ensures shapes { IfOk result (λ list. shapes_in list.items ≡ json_object_parts) }
     ensures refused { IfErr result (λ e. e ≡ OutOfMemory) }
 {
-    let a0 = archive_core::shape::Expr::Vec(Box::new(alloc, archive_core::shape::Expr::Named("ArchivedMember"))?);
+    let a0 = archive_core::shape::Expr::Vec(Box::new(
+        alloc,
+        archive_core::shape::Expr::Named("ArchivedMember"),
+    )?);
     Ok(vec![in alloc; a0]?)
 }
 
@@ -301,9 +307,7 @@ impl Archive for Json {
     {
         let Place { bytes, pos, .. } = place;
         match self {
-            Json::Null => {
-                resolve_named_case_0::<ArchivedJson>(0, (), Place::new(pos, bytes))
-            }
+            Json::Null => { resolve_named_case_0::<ArchivedJson>(0, (), Place::new(pos, bytes)) }
             Json::Number(a0) => {
                 let JsonResolver::Number(kept) = resolver else {
                     unreachable!();
@@ -360,7 +364,10 @@ impl Archive for Json {
 
 // Writes what each of the values owns, in order.
 #[cycle(serialize_json)]
-fn serialize_each_json<S: Writer + Keys + ResolverAlloc>(values: &[Json], serializer: &mut S) -> Result<Vec<<Json as Archive>::Resolver, S::Alloc>, Error>
+fn serialize_each_json<S: Writer + Keys + ResolverAlloc>(
+    values: &[Json],
+    serializer: &mut S,
+) -> Result<Vec<<Json as Archive>::Resolver, S::Alloc>, Error>
     ensures serialized { IfOk result (λ rs. SerializedRun json_definitions json_shape
         (length values.now) (each_keys ⟦<Json as Archive>⟧.keys values.now)
         (each_meaning ⟦<Json as Archive>⟧.meaning values.now)
@@ -388,7 +395,10 @@ fn serialize_each_json<S: Writer + Keys + ResolverAlloc>(values: &[Json], serial
 
 // Writes what a vector owns.
 #[cycle(serialize_json)]
-fn serialize_vec_json<S: Writer + Keys + ResolverAlloc>(value: &Vec<Json>, serializer: &mut S) -> Result<VecResolver, Error>
+fn serialize_vec_json<S: Writer + Keys + ResolverAlloc>(
+    value: &Vec<Json>,
+    serializer: &mut S,
+) -> Result<VecResolver, Error>
     ensures serialized { IfOk result (λ r. Serialized json_definitions (vec json_shape)
         (⟦<Vec<Json> as Archive>⟧.keys value.now) (⟦<Vec<Json> as Archive>⟧.meaning value.now)
         (⟦<Vec<Json> as Archive>⟧.flat value.now r) (S.state serializer.old)
@@ -415,7 +425,10 @@ fn serialize_vec_json<S: Writer + Keys + ResolverAlloc>(value: &Vec<Json>, seria
 
 // Writes what each of the values owns, in order.
 #[cycle(serialize_json)]
-fn serialize_each_member_type<S: Writer + Keys + ResolverAlloc>(values: &[Member], serializer: &mut S) -> Result<Vec<<Member as Archive>::Resolver, S::Alloc>, Error>
+fn serialize_each_member_type<S: Writer + Keys + ResolverAlloc>(
+    values: &[Member],
+    serializer: &mut S,
+) -> Result<Vec<<Member as Archive>::Resolver, S::Alloc>, Error>
     ensures serialized { IfOk result (λ rs. SerializedRun json_definitions member_type_shape
         (length values.now) (each_keys ⟦<Member as Archive>⟧.keys values.now)
         (each_meaning ⟦<Member as Archive>⟧.meaning values.now)
@@ -443,7 +456,10 @@ fn serialize_each_member_type<S: Writer + Keys + ResolverAlloc>(values: &[Member
 
 // Writes what a vector owns.
 #[cycle(serialize_json)]
-fn serialize_vec_member_type<S: Writer + Keys + ResolverAlloc>(value: &Vec<Member>, serializer: &mut S) -> Result<VecResolver, Error>
+fn serialize_vec_member_type<S: Writer + Keys + ResolverAlloc>(
+    value: &Vec<Member>,
+    serializer: &mut S,
+) -> Result<VecResolver, Error>
     ensures serialized { IfOk result (λ r. Serialized json_definitions (vec member_type_shape)
         (⟦<Vec<Member> as Archive>⟧.keys value.now) (⟦<Vec<Member> as Archive>⟧.meaning value.now)
         (⟦<Vec<Member> as Archive>⟧.flat value.now r) (S.state serializer.old)
@@ -570,7 +586,10 @@ fn serialize_json_object<S: Writer + Keys + ResolverAlloc>(
 
 // Writes what a value owns.
 #[cycle(serialize_json)]
-fn serialize_json<S: Writer + Keys + ResolverAlloc>(value: &Json, serializer: &mut S) -> Result<JsonResolver, Error>
+fn serialize_json<S: Writer + Keys + ResolverAlloc>(
+    value: &Json,
+    serializer: &mut S,
+) -> Result<JsonResolver, Error>
     ensures serialized { IfOk result (λ r. Serialized json_definitions json_shape
         (⟦<Json as Archive>⟧.keys value.now) (⟦<Json as Archive>⟧.meaning value.now)
         (⟦<Json as Archive>⟧.flat value.now r) (S.state serializer.old) (S.state serializer.new)) }
@@ -642,7 +661,11 @@ impl<S: Writer + Keys + ResolverAlloc> SerializeUnsized<S> for Json {
 
 // Reads a vector back.
 #[cycle(read_json)]
-fn read_vec_json<D: Entries>(alloc: Global, part: RawView<'_>, deserializer: &mut D) -> Result<Vec<Json>, Error>
+fn read_vec_json<D: Entries>(
+    alloc: Global,
+    part: RawView<'_>,
+    deserializer: &mut D,
+) -> Result<Vec<Json>, Error>
     requires { IsPartOf ⟦<ArchivedVec<ArchivedJson> as ArchivePointee>⟧ part }
     ensures read { IfOk result (Read ⟦<ArchivedVec<ArchivedJson> as ArchivePointee>⟧ part D.Entries
         deserializer ⟦<Vec<Json> as Archive>⟧) }
@@ -661,7 +684,11 @@ fn read_vec_json<D: Entries>(alloc: Global, part: RawView<'_>, deserializer: &mu
 
 // Reads a vector back.
 #[cycle(read_json)]
-fn read_vec_member_type<D: Entries>(alloc: Global, part: RawView<'_>, deserializer: &mut D) -> Result<Vec<Member>, Error>
+fn read_vec_member_type<D: Entries>(
+    alloc: Global,
+    part: RawView<'_>,
+    deserializer: &mut D,
+) -> Result<Vec<Member>, Error>
     requires { IsPartOf ⟦<ArchivedVec<ArchivedMember> as ArchivePointee>⟧ part }
     ensures read { IfOk result (Read ⟦<ArchivedVec<ArchivedMember> as ArchivePointee>⟧ part
         D.Entries deserializer ⟦<Vec<Member> as Archive>⟧) }
@@ -680,7 +707,11 @@ fn read_vec_member_type<D: Entries>(alloc: Global, part: RawView<'_>, deserializ
 
 // Reads `Null` back.
 #[inline(always)]
-fn read_json_null<D: Entries>(_alloc: Global, part: RawView<'_>, _deserializer: &mut D) -> Result<Json, Error>
+fn read_json_null<D: Entries>(
+    _alloc: Global,
+    part: RawView<'_>,
+    _deserializer: &mut D,
+) -> Result<Json, Error>
     requires viewed { IsPartOf ⟦<ArchivedJson as ArchivePointee>⟧ part }
     requires tag { part_tag part ≡ 0 }
     ensures read { IfOk result (Read ⟦<ArchivedJson as ArchivePointee>⟧ part D.Entries _deserializer
@@ -693,7 +724,11 @@ fn read_json_null<D: Entries>(_alloc: Global, part: RawView<'_>, _deserializer: 
 
 // Reads `Number` back.
 #[inline(always)]
-fn read_json_number<D: Entries>(alloc: Global, part: RawView<'_>, deserializer: &mut D) -> Result<Json, Error>
+fn read_json_number<D: Entries>(
+    alloc: Global,
+    part: RawView<'_>,
+    deserializer: &mut D,
+) -> Result<Json, Error>
     requires viewed { IsPartOf ⟦<ArchivedJson as ArchivePointee>⟧ part }
     requires tag { part_tag part ≡ 1 }
     ensures read { IfOk result (Read ⟦<ArchivedJson as ArchivePointee>⟧ part D.Entries deserializer
@@ -708,7 +743,11 @@ fn read_json_number<D: Entries>(alloc: Global, part: RawView<'_>, deserializer: 
 
 // Reads `Text` back.
 #[inline(always)]
-fn read_json_text<D: Entries>(alloc: Global, part: RawView<'_>, deserializer: &mut D) -> Result<Json, Error>
+fn read_json_text<D: Entries>(
+    alloc: Global,
+    part: RawView<'_>,
+    deserializer: &mut D,
+) -> Result<Json, Error>
     requires viewed { IsPartOf ⟦<ArchivedJson as ArchivePointee>⟧ part }
     requires tag { part_tag part ≡ 2 }
     ensures read { IfOk result (Read ⟦<ArchivedJson as ArchivePointee>⟧ part D.Entries deserializer
@@ -723,7 +762,11 @@ fn read_json_text<D: Entries>(alloc: Global, part: RawView<'_>, deserializer: &m
 
 // Reads `List` back.
 #[cycle(read_json)]
-fn read_json_list<D: Entries>(alloc: Global, part: RawView<'_>, deserializer: &mut D) -> Result<Json, Error>
+fn read_json_list<D: Entries>(
+    alloc: Global,
+    part: RawView<'_>,
+    deserializer: &mut D,
+) -> Result<Json, Error>
     requires viewed { IsPartOf ⟦<ArchivedJson as ArchivePointee>⟧ part }
     requires tag { part_tag part ≡ 3 }
     ensures read { IfOk result (Read ⟦<ArchivedJson as ArchivePointee>⟧ part D.Entries deserializer
@@ -738,7 +781,11 @@ fn read_json_list<D: Entries>(alloc: Global, part: RawView<'_>, deserializer: &m
 
 // Reads `Object` back.
 #[cycle(read_json)]
-fn read_json_object<D: Entries>(alloc: Global, part: RawView<'_>, deserializer: &mut D) -> Result<Json, Error>
+fn read_json_object<D: Entries>(
+    alloc: Global,
+    part: RawView<'_>,
+    deserializer: &mut D,
+) -> Result<Json, Error>
     requires viewed { IsPartOf ⟦<ArchivedJson as ArchivePointee>⟧ part }
     requires tag { part_tag part ≡ 4 }
     ensures read { IfOk result (Read ⟦<ArchivedJson as ArchivePointee>⟧ part D.Entries deserializer
@@ -753,7 +800,11 @@ fn read_json_object<D: Entries>(alloc: Global, part: RawView<'_>, deserializer: 
 
 // Reads a value back.
 #[cycle(read_json)]
-fn read_json<D: Entries>(alloc: Global, part: RawView<'_>, deserializer: &mut D) -> Result<Json, Error>
+fn read_json<D: Entries>(
+    alloc: Global,
+    part: RawView<'_>,
+    deserializer: &mut D,
+) -> Result<Json, Error>
     requires { IsPartOf ⟦<ArchivedJson as ArchivePointee>⟧ part }
     ensures read { IfOk result (Read ⟦<ArchivedJson as ArchivePointee>⟧ part D.Entries deserializer
         ⟦<Json as Archive>⟧) }
@@ -834,7 +885,9 @@ impl<'a> JsonView<'a> for Ref<'a, ArchivedJson> {
                 ViewOfJson::List(a0)
             }
             _ => {
-                let a0 = view_of_payload::<ArchivedJson, ArchivedVec<ArchivedMember>>(self, 4, 0, 4);
+                let a0 = view_of_payload::<ArchivedJson, ArchivedVec<ArchivedMember>>(
+                    self, 4, 0, 4,
+                );
                 ViewOfJson::Object(a0)
             }
         }
@@ -1085,7 +1138,10 @@ impl Archive for Member {
 
 // Writes what a value owns, part by part.
 #[cycle(serialize_json)]
-fn serialize_member_type<S: Writer + Keys + ResolverAlloc>(value: &Member, serializer: &mut S) -> Result<MemberResolver, Error>
+fn serialize_member_type<S: Writer + Keys + ResolverAlloc>(
+    value: &Member,
+    serializer: &mut S,
+) -> Result<MemberResolver, Error>
     ensures serialized { IfOk result (λ r. Serialized member_type_definitions member_type_shape
         (⟦<Member as Archive>⟧.keys value.now) (⟦<Member as Archive>⟧.meaning value.now)
         (⟦<Member as Archive>⟧.flat value.now r) (S.state serializer.old)
@@ -1104,7 +1160,9 @@ fn serialize_member_type<S: Writer + Keys + ResolverAlloc>(value: &Member, seria
         Ok(a1) => a1,
         Err(error) => return Err(error),
     };
-    Ok(MemberResolver { kept: (a0, (a1, ())) })
+    Ok(MemberResolver {
+        kept: (a0, (a1, ())),
+    })
 }
 
 impl<S: Writer + Keys + ResolverAlloc> Serialize<S> for Member {
@@ -1148,7 +1206,11 @@ impl<S: Writer + Keys + ResolverAlloc> SerializeUnsized<S> for Member {
 
 // Reads a value back, part by part.
 #[cycle(read_json)]
-fn read_member_type<D: Entries>(alloc: Global, part: RawView<'_>, deserializer: &mut D) -> Result<Member, Error>
+fn read_member_type<D: Entries>(
+    alloc: Global,
+    part: RawView<'_>,
+    deserializer: &mut D,
+) -> Result<Member, Error>
     requires { IsPartOf ⟦<ArchivedMember as ArchivePointee>⟧ part }
     ensures read { IfOk result (Read ⟦<ArchivedMember as ArchivePointee>⟧ part D.Entries
         deserializer ⟦<Member as Archive>⟧) }
@@ -1417,10 +1479,8 @@ impl Archive for Number {
     ) -> Result<(), Error>
         requires zeroed { ZeroedPlace 16 place.pos place.bytes.now }
         requires same_value { ⟦<Self as Archive>⟧.belongs self.now resolver }
-        ensures {
-            ResolvesAs ⟦<Self::Archived as Portable>⟧ place
-                (⟦<Self as Archive>⟧.flat self.now resolver) result
-        }
+        ensures { ResolvesAs ⟦<Self::Archived as Portable>⟧ place
+            (⟦<Self as Archive>⟧.flat self.now resolver) result }
     {
         let Place { bytes, pos, .. } = place;
         match self {
@@ -1744,7 +1804,10 @@ impl Archive for Message {
                     Place::new(pos, bytes),
                 )
             }
-            Message::Listed { others: a0, documents: a1 } => {
+            Message::Listed {
+                others: a0,
+                documents: a1,
+            } => {
                 let MessageResolver::Listed(kept) = resolver else {
                     unreachable!();
                 };
@@ -1877,7 +1940,10 @@ fn serialize_message_listed<S: Writer + Keys + ResolverAlloc>(
 }
 
 // Writes what a value owns.
-fn serialize_message<S: Writer + Keys + ResolverAlloc>(value: &Message, serializer: &mut S) -> Result<MessageResolver, Error>
+fn serialize_message<S: Writer + Keys + ResolverAlloc>(
+    value: &Message,
+    serializer: &mut S,
+) -> Result<MessageResolver, Error>
     ensures serialized { IfOk result (λ r. Serialized message_definitions message_shape
         (⟦<Message as Archive>⟧.keys value.now) (⟦<Message as Archive>⟧.meaning value.now)
         (⟦<Message as Archive>⟧.flat value.now r) (S.state serializer.old)
@@ -1898,7 +1964,10 @@ fn serialize_message<S: Writer + Keys + ResolverAlloc>(value: &Message, serializ
             Ok(kept) => Ok(MessageResolver::Sent(kept)),
             Err(error) => Err(error),
         },
-        Message::Listed { others: a0, documents: a1 } => match serialize_message_listed(a0, a1, serializer) {
+        Message::Listed {
+            others: a0,
+            documents: a1,
+        } => match serialize_message_listed(a0, a1, serializer) {
             Ok(kept) => Ok(MessageResolver::Listed(kept)),
             Err(error) => Err(error),
         },
@@ -1946,7 +2015,11 @@ impl<S: Writer + Keys + ResolverAlloc> SerializeUnsized<S> for Message {
 
 // Reads `Nothing` back.
 #[inline(always)]
-fn read_message_nothing<D: Entries>(_alloc: Global, part: RawView<'_>, _deserializer: &mut D) -> Result<Message, Error>
+fn read_message_nothing<D: Entries>(
+    _alloc: Global,
+    part: RawView<'_>,
+    _deserializer: &mut D,
+) -> Result<Message, Error>
     requires viewed { IsPartOf ⟦<ArchivedMessage as ArchivePointee>⟧ part }
     requires tag { part_tag part ≡ 0 }
     ensures read { IfOk result (Read ⟦<ArchivedMessage as ArchivePointee>⟧ part D.Entries
@@ -1959,7 +2032,11 @@ fn read_message_nothing<D: Entries>(_alloc: Global, part: RawView<'_>, _deserial
 
 // Reads `Text` back.
 #[inline(always)]
-fn read_message_text<D: Entries>(alloc: Global, part: RawView<'_>, deserializer: &mut D) -> Result<Message, Error>
+fn read_message_text<D: Entries>(
+    alloc: Global,
+    part: RawView<'_>,
+    deserializer: &mut D,
+) -> Result<Message, Error>
     requires viewed { IsPartOf ⟦<ArchivedMessage as ArchivePointee>⟧ part }
     requires tag { part_tag part ≡ 1 }
     ensures read { IfOk result (Read ⟦<ArchivedMessage as ArchivePointee>⟧ part D.Entries
@@ -1974,7 +2051,11 @@ fn read_message_text<D: Entries>(alloc: Global, part: RawView<'_>, deserializer:
 
 // Reads `Sent` back.
 #[inline(always)]
-fn read_message_sent<D: Entries>(alloc: Global, part: RawView<'_>, deserializer: &mut D) -> Result<Message, Error>
+fn read_message_sent<D: Entries>(
+    alloc: Global,
+    part: RawView<'_>,
+    deserializer: &mut D,
+) -> Result<Message, Error>
     requires viewed { IsPartOf ⟦<ArchivedMessage as ArchivePointee>⟧ part }
     requires tag { part_tag part ≡ 2 }
     ensures read { IfOk result (Read ⟦<ArchivedMessage as ArchivePointee>⟧ part D.Entries
@@ -1991,7 +2072,11 @@ fn read_message_sent<D: Entries>(alloc: Global, part: RawView<'_>, deserializer:
 
 // Reads `Listed` back.
 #[inline(always)]
-fn read_message_listed<D: Entries>(alloc: Global, part: RawView<'_>, deserializer: &mut D) -> Result<Message, Error>
+fn read_message_listed<D: Entries>(
+    alloc: Global,
+    part: RawView<'_>,
+    deserializer: &mut D,
+) -> Result<Message, Error>
     requires viewed { IsPartOf ⟦<ArchivedMessage as ArchivePointee>⟧ part }
     requires tag { part_tag part ≡ 3 }
     ensures read { IfOk result (Read ⟦<ArchivedMessage as ArchivePointee>⟧ part D.Entries
@@ -2011,7 +2096,11 @@ fn read_message_listed<D: Entries>(alloc: Global, part: RawView<'_>, deserialize
 
 // Reads a value back.
 #[inline(always)]
-fn read_message<D: Entries>(alloc: Global, part: RawView<'_>, deserializer: &mut D) -> Result<Message, Error>
+fn read_message<D: Entries>(
+    alloc: Global,
+    part: RawView<'_>,
+    deserializer: &mut D,
+) -> Result<Message, Error>
     requires { IsPartOf ⟦<ArchivedMessage as ArchivePointee>⟧ part }
     ensures read { IfOk result (Read ⟦<ArchivedMessage as ArchivePointee>⟧ part D.Entries
         deserializer ⟦<Message as Archive>⟧) }

@@ -54,8 +54,8 @@ use archive_core::ser::{ResolverAlloc, Writer, serialize_one};
 use archive_core::shape::Defs;
 use archive_core::string::ArchivedString;
 use archive_core::traits::{
-    Archive, ArchivePointee, ArchiveUnsized, CopyOptimization, Deserialize, Entries, Keys, Portable,
-    PortableParts, Record, Serialize, SerializeUnsized, expr_of_record,
+    Archive, ArchivePointee, ArchiveUnsized, CopyOptimization, Deserialize, Entries, Keys,
+    Portable, PortableParts, Record, Serialize, SerializeUnsized, expr_of_record,
 };
 use archive_core::vec::ArchivedVec;
 use archive_core::view::{RawView, Ref};
@@ -194,7 +194,10 @@ impl Archive for Page {
 }
 
 // Writes what a value owns, part by part.
-fn serialize_page<S: Writer + Keys + ResolverAlloc>(value: &Page, serializer: &mut S) -> Result<PageResolver, Error>
+fn serialize_page<S: Writer + Keys + ResolverAlloc>(
+    value: &Page,
+    serializer: &mut S,
+) -> Result<PageResolver, Error>
     ensures serialized { IfOk result (λ r. Serialized page_definitions page_shape
         (⟦<Page as Archive>⟧.keys value.now) (⟦<Page as Archive>⟧.meaning value.now)
         (⟦<Page as Archive>⟧.flat value.now r) (S.state serializer.old) (S.state serializer.new)) }
@@ -216,7 +219,9 @@ fn serialize_page<S: Writer + Keys + ResolverAlloc>(value: &Page, serializer: &m
         Ok(a2) => a2,
         Err(error) => return Err(error),
     };
-    Ok(PageResolver { kept: (a0, (a1, (a2, ()))) })
+    Ok(PageResolver {
+        kept: (a0, (a1, (a2, ()))),
+    })
 }
 
 impl<S: Writer + Keys + ResolverAlloc> Serialize<S> for Page {
@@ -260,7 +265,11 @@ impl<S: Writer + Keys + ResolverAlloc> SerializeUnsized<S> for Page {
 
 // Reads a value back, part by part.
 #[inline(always)]
-fn read_page<D: Entries>(alloc: Global, part: RawView<'_>, deserializer: &mut D) -> Result<Page, Error>
+fn read_page<D: Entries>(
+    alloc: Global,
+    part: RawView<'_>,
+    deserializer: &mut D,
+) -> Result<Page, Error>
     requires { IsPartOf ⟦<ArchivedPage as ArchivePointee>⟧ part }
     ensures read { IfOk result (Read ⟦<ArchivedPage as ArchivePointee>⟧ part D.Entries deserializer
         ⟦<Page as Archive>⟧) }
@@ -505,7 +514,10 @@ impl Archive for Book {
 }
 
 // Writes what a value owns, part by part.
-fn serialize_book<S: Writer + Keys + ResolverAlloc>(value: &Book, serializer: &mut S) -> Result<BookResolver, Error>
+fn serialize_book<S: Writer + Keys + ResolverAlloc>(
+    value: &Book,
+    serializer: &mut S,
+) -> Result<BookResolver, Error>
     ensures serialized { IfOk result (λ r. Serialized book_definitions book_shape
         (⟦<Book as Archive>⟧.keys value.now) (⟦<Book as Archive>⟧.meaning value.now)
         (⟦<Book as Archive>⟧.flat value.now r) (S.state serializer.old) (S.state serializer.new)) }
@@ -563,7 +575,11 @@ impl<S: Writer + Keys + ResolverAlloc> SerializeUnsized<S> for Book {
 
 // Reads a value back, part by part.
 #[inline(always)]
-fn read_book<D: Entries>(alloc: Global, part: RawView<'_>, deserializer: &mut D) -> Result<Book, Error>
+fn read_book<D: Entries>(
+    alloc: Global,
+    part: RawView<'_>,
+    deserializer: &mut D,
+) -> Result<Book, Error>
     requires { IsPartOf ⟦<ArchivedBook as ArchivePointee>⟧ part }
     ensures read { IfOk result (Read ⟦<ArchivedBook as ArchivePointee>⟧ part D.Entries deserializer
         ⟦<Book as Archive>⟧) }

@@ -1,15 +1,11 @@
-//! A tree of boxes, of which some may be missing.
+//! A tree of boxes that may be missing.
 
 /// A number, and what it leads to.
 #[derive(Debug, PartialEq, Drop)]
 pub struct Bush {
     /// Its number.
-    pub id: u8,
-    /// The one above, if there is one.
-    pub over: Option<Box<Bush>>,
-    /// Those beside it, each in a box of its own.
-    pub next: Vec<Box<Bush>>,
-    /// Those on each side, each in a box of its own, or nothing.
+    pub id: u32,
+    /// Each in a box of its own, or nothing.
     pub sides: Vec<Option<Box<Bush>>>,
     /// Others, in one box.
     pub others: Box<Vec<Bush>>,
@@ -24,7 +20,6 @@ ghost use Rattle.archive_core.specs.Definitions.{no_definition};
 ghost use Rattle.archive_core.specs.Error.TheVariants.{OutOfMemory};
 ghost use Rattle.archive_core.specs.Expressions.{shape_of, shapes_in};
 ghost use Rattle.archive_core.specs.Fields.{field_in};
-ghost use Rattle.archive_core.specs.Hollow.{option_at};
 ghost use Rattle.archive_core.specs.PlannedOwners.{one_planned};
 ghost use Rattle.archive_core.specs.Plans.{Serialized};
 ghost use Rattle.archive_core.specs.Runs.{EachBelongs, IsRunRefused, SerializedRun, each_flat, each_keys, each_meaning};
@@ -38,15 +33,16 @@ ghost use Rattle.archive_core.specs.Writing.{ZeroedPlace};
 ghost use Rattle.archive_core.specs.Written.{GoesOn};
 ghost use Rattle.recursive_kinds.specs.BushShape.{bush_definitions, bush_has_layout, bush_has_parts, bush_is_align, bush_layout, bush_no_others, bush_parts, bush_shape, bush_stands_for};
 ghost use Rattle.std.proofs.Common.{lit≤};
-ghost use Rattle.std.specs.Prelude.{IfErr, IfOk, None, Some, length, refl, ⊤, ◌+◌, ◌≡◌, ◌≤◌};
+ghost use Rattle.std.specs.Prelude.{IfErr, IfOk, None, Some, length, refl, ◌+◌, ◌≡◌, ◌≤◌};
 
 use archive_core::boxed::{ArchivedBox, BoxResolver};
 use archive_core::error::Error;
 use archive_core::option::ArchivedOption;
 use archive_core::place::Place;
+use archive_core::primitive::ArchivedU32;
 use archive_core::recursive::{
-    BoxAt, OptionAt, VecAt, before_box, before_vec, define_name, handed_on, option_expression,
-    part_of_record, read_part, record_of, resolve_named_record_5, seal_of_field, serialize_inner,
+    BoxAt, VecAt, before_box, before_vec, define_name, handed_on, option_expression,
+    part_of_record, read_part, record_of, resolve_named_record_3, seal_of_field, serialize_inner,
     serialize_inner_slice, serialize_part, view_of_field,
 };
 use archive_core::seal::Seal;
@@ -54,27 +50,21 @@ use archive_core::self_check::BySchema;
 use archive_core::ser::{ResolverAlloc, Writer, serialize_one};
 use archive_core::shape::Defs;
 use archive_core::traits::{
-    Archive, ArchivePointee, ArchiveUnsized, CopyOptimization, Deserialize, Entries, Keys, Portable,
-    Record, Serialize, SerializeUnsized,
+    Archive, ArchivePointee, ArchiveUnsized, CopyOptimization, Deserialize, Entries, Keys,
+    Portable, Record, Serialize, SerializeUnsized,
 };
 use archive_core::vec::{ArchivedVec, VecResolver};
 use archive_core::view::{RawView, Ref};
 use std::alloc::{AllocError, Global};
 
-/// An archived `Bush`: 32 bytes at a multiple of 4. It is validated by its schema.
+/// An archived `Bush`: 16 bytes at a multiple of 4. It is validated by its schema.
 pub struct ArchivedBush;
 
 type BushParts = (
-    u8,
+    ArchivedU32,
     (
-        ArchivedOption<ArchivedBox<ArchivedBush>>,
-        (
-            ArchivedVec<ArchivedBox<ArchivedBush>>,
-            (
-                ArchivedVec<ArchivedOption<ArchivedBox<ArchivedBush>>>,
-                (ArchivedBox<ArchivedVec<ArchivedBush>>, ()),
-            ),
-        ),
+        ArchivedVec<ArchivedOption<ArchivedBox<ArchivedBush>>>,
+        (ArchivedBox<ArchivedVec<ArchivedBush>>, ()),
     ),
 );
 
@@ -97,12 +87,25 @@ fn bush_expressions(alloc: Global) -> Result<Vec<archive_core::shape::Expr>, Err
     ensures shapes { IfOk result (λ list. shapes_in list.items ≡ bush_parts) }
     ensures refused { IfErr result (λ e. e ≡ OutOfMemory) }
 {
-    let a0 = <u8 as Portable>::expr(alloc)?;
-    let a1 = option_expression(alloc, archive_core::shape::Expr::Box(Box::new(alloc, archive_core::shape::Pointee::One(archive_core::shape::Expr::Named("ArchivedBush")))?))?;
-    let a2 = archive_core::shape::Expr::Vec(Box::new(alloc, archive_core::shape::Expr::Box(Box::new(alloc, archive_core::shape::Pointee::One(archive_core::shape::Expr::Named("ArchivedBush")))?))?);
-    let a3 = archive_core::shape::Expr::Vec(Box::new(alloc, option_expression(alloc, archive_core::shape::Expr::Box(Box::new(alloc, archive_core::shape::Pointee::One(archive_core::shape::Expr::Named("ArchivedBush")))?))?)?);
-    let a4 = archive_core::shape::Expr::Box(Box::new(alloc, archive_core::shape::Pointee::One(archive_core::shape::Expr::Vec(Box::new(alloc, archive_core::shape::Expr::Named("ArchivedBush"))?)))?);
-    Ok(vec![in alloc; a0, a1, a2, a3, a4]?)
+    let a0 = <ArchivedU32 as Portable>::expr(alloc)?;
+    let a1 = archive_core::shape::Expr::Vec(Box::new(
+        alloc,
+        option_expression(
+            alloc,
+            archive_core::shape::Expr::Box(Box::new(
+                alloc,
+                archive_core::shape::Pointee::One(archive_core::shape::Expr::Named("ArchivedBush")),
+            )?),
+        )?,
+    )?);
+    let a2 = archive_core::shape::Expr::Box(Box::new(
+        alloc,
+        archive_core::shape::Pointee::One(archive_core::shape::Expr::Vec(Box::new(
+            alloc,
+            archive_core::shape::Expr::Named("ArchivedBush"),
+        )?)),
+    )?);
+    Ok(vec![in alloc; a0, a1, a2]?)
 }
 
 // What the name stands for.
@@ -132,7 +135,7 @@ impl Portable for ArchivedBush {
     ghost checks = { λ direct. by_schema direct };
 
     fn size() -> usize {
-        32
+        16
     }
 
     fn align() -> usize {
@@ -163,13 +166,7 @@ impl Record for ArchivedBush {
 /// What is kept of `Bush` between `serialize` and `resolve`.
 #[derive(Drop)]
 pub struct BushResolver {
-    kept: (
-        <u8 as Archive>::Resolver,
-        (
-            Option<BoxResolver>,
-            (VecResolver, (VecResolver, (BoxResolver, ()))),
-        ),
-    ),
+    kept: (<u32 as Archive>::Resolver, (VecResolver, (BoxResolver, ()))),
 }
 
 impl Archive for Bush {
@@ -199,25 +196,21 @@ impl Archive for Bush {
         resolver: Self::Resolver,
         place: Place<'_, Self::Archived>,
     ) -> Result<(), Error>
-        requires zeroed { ZeroedPlace 32 place.pos place.bytes.now }
+        requires zeroed { ZeroedPlace 16 place.pos place.bytes.now }
         requires same_value { ⟦<Self as Archive>⟧.belongs self.now resolver }
         ensures { ResolvesAs ⟦<Self::Archived as Portable>⟧ place
             (⟦<Self as Archive>⟧.flat self.now resolver) result }
     {
         let Place { bytes, pos, .. } = place;
         let BushResolver { kept } = resolver;
-        let h1: OptionAt<ArchivedBush> = OptionAt::new();
-        let h2: VecAt<ArchivedBox<ArchivedBush>> = VecAt::of(self.next.len());
-        let h3: VecAt<ArchivedOption<ArchivedBox<ArchivedBush>>> = VecAt::of(self.sides.len());
-        let h4: BoxAt<ArchivedVec<ArchivedBush>> = BoxAt::new();
-        resolve_named_record_5::<
-            u8,
-            OptionAt<ArchivedBush>,
-            VecAt<ArchivedBox<ArchivedBush>>,
+        let h1: VecAt<ArchivedOption<ArchivedBox<ArchivedBush>>> = VecAt::of(self.sides.len());
+        let h2: BoxAt<ArchivedVec<ArchivedBush>> = BoxAt::new();
+        resolve_named_record_3::<
+            u32,
             VecAt<ArchivedOption<ArchivedBox<ArchivedBush>>>,
             BoxAt<ArchivedVec<ArchivedBush>>,
             ArchivedBush,
-        >(&self.id, &h1, &h2, &h3, &h4, kept, Place::new(pos, bytes))
+        >(&self.id, &h1, &h2, kept, Place::new(pos, bytes))
     }
 
     #[inline(always)]
@@ -235,100 +228,12 @@ impl Archive for Bush {
     }
 }
 
-// Writes what an option owns.
-#[cycle(serialize_bush)]
-fn serialize_option_box_bush<S: Writer + Keys + ResolverAlloc>(value: &Option<Box<Bush>>, serializer: &mut S) -> Result<Option<BoxResolver>, Error>
-    ensures serialized { IfOk result (λ r. Serialized bush_definitions
-        (option_shape (boxed (one bush_shape))) (⟦<Option<Box<Bush>> as Archive>⟧.keys value.now)
-        (⟦<Option<Box<Bush>> as Archive>⟧.meaning value.now) (option_at (one bush_shape) r)
-        (S.state serializer.old) (S.state serializer.new)) }
-    ensures same_value { IfOk result (λ r. ⊤) }
-    ensures goes_on { GoesOn (S.state serializer.old) (S.state serializer.new) }
-    ensures refused { IfErr result (IsRefused bush_definitions
-        (option_shape (boxed (one bush_shape))) (⟦<Option<Box<Bush>> as Archive>⟧.keys value.now)
-        (⟦<Option<Box<Bush>> as Archive>⟧.meaning value.now) (S.state serializer.old)
-        (S.state serializer.new)) }
-{
-    match value {
-        None => Ok(None),
-        Some(whole) => {
-            let inner = &**whole;
-            let kept = match serialize_bush(inner, serializer) {
-                Ok(kept) => kept,
-                Err(error) => return Err(handed_on(error)),
-            };
-            match serialize_inner(inner, kept, serializer) {
-                Ok(at) => Ok(Some(at)),
-                Err(error) => Err(error),
-            }
-        }
-    }
-}
-
 // Writes what each of the values owns, in order.
 #[cycle(serialize_bush)]
-fn serialize_each_box_bush<S: Writer + Keys + ResolverAlloc>(values: &[Box<Bush>], serializer: &mut S) -> Result<Vec<<Box<Bush> as Archive>::Resolver, S::Alloc>, Error>
-    ensures serialized { IfOk result (λ rs. SerializedRun bush_definitions (boxed (one bush_shape))
-        (length values.now) (each_keys ⟦<Box<Bush> as Archive>⟧.keys values.now)
-        (each_meaning ⟦<Box<Bush> as Archive>⟧.meaning values.now)
-        (each_flat ⟦<Box<Bush> as Archive>⟧.flat values.now rs.items) (S.state serializer.old)
-        (S.state serializer.new)) }
-    ensures same_values { IfOk result (λ rs. EachBelongs ⟦<Box<Bush> as Archive>⟧.belongs values.now
-        rs.items) }
-    ensures goes_on { GoesOn (S.state serializer.old) (S.state serializer.new) }
-    ensures refused { IfErr result (IsRunRefused bush_definitions (boxed (one bush_shape))
-        (length values.now) (each_keys ⟦<Box<Bush> as Archive>⟧.keys values.now)
-        (each_meaning ⟦<Box<Bush> as Archive>⟧.meaning values.now) (S.state serializer.old)
-        (S.state serializer.new)) }
-{
-    let alloc = serializer.resolver_alloc();
-    let mut resolvers = Vec::with_capacity(alloc, values.len())?;
-    for value in values {
-        let inner = &**value;
-        let kept = match serialize_bush(inner, serializer) {
-            Ok(kept) => kept,
-            Err(error) => return Err(handed_on(error)),
-        };
-        let resolver = match serialize_inner(inner, kept, serializer) {
-            Ok(resolver) => resolver,
-            Err(error) => return Err(error),
-        };
-        resolvers.push(resolver).map_err(AllocError::from)?;
-    }
-    Ok(resolvers)
-}
-
-// Writes what a vector owns.
-#[cycle(serialize_bush)]
-fn serialize_vec_box_bush<S: Writer + Keys + ResolverAlloc>(value: &Vec<Box<Bush>>, serializer: &mut S) -> Result<VecResolver, Error>
-    ensures serialized { IfOk result (λ r. Serialized bush_definitions
-        (vec (boxed (one bush_shape))) (⟦<Vec<Box<Bush>> as Archive>⟧.keys value.now)
-        (⟦<Vec<Box<Bush>> as Archive>⟧.meaning value.now)
-        (⟦<Vec<Box<Bush>> as Archive>⟧.flat value.now r) (S.state serializer.old)
-        (S.state serializer.new)) }
-    ensures same_value { IfOk result (λ r. ⟦<Vec<Box<Bush>> as Archive>⟧.belongs value.now r) }
-    ensures goes_on { GoesOn (S.state serializer.old) (S.state serializer.new) }
-    ensures refused { IfErr result (IsRefused bush_definitions (vec (boxed (one bush_shape)))
-        (⟦<Vec<Box<Bush>> as Archive>⟧.keys value.now) (⟦<Vec<Box<Bush>> as Archive>⟧.meaning
-        value.now) (S.state serializer.old) (S.state serializer.new)) }
-{
-    if value.len() > u32::MAX as usize {
-        return Err(Error::LengthTooLarge);
-    }
-    let items = value.as_slice();
-    let kept = match serialize_each_box_bush(items, serializer) {
-        Ok(kept) => kept,
-        Err(error) => return Err(error),
-    };
-    match serialize_inner_slice(items, kept, serializer) {
-        Ok(at) => Ok(at),
-        Err(error) => Err(error),
-    }
-}
-
-// Writes what each of the values owns, in order.
-#[cycle(serialize_bush)]
-fn serialize_each_option_box_bush<S: Writer + Keys + ResolverAlloc>(values: &[Option<Box<Bush>>], serializer: &mut S) -> Result<Vec<<Option<Box<Bush>> as Archive>::Resolver, S::Alloc>, Error>
+fn serialize_each_option_box_bush<S: Writer + Keys + ResolverAlloc>(
+    values: &[Option<Box<Bush>>],
+    serializer: &mut S,
+) -> Result<Vec<<Option<Box<Bush>> as Archive>::Resolver, S::Alloc>, Error>
     ensures serialized { IfOk result (λ rs. SerializedRun bush_definitions
         (option_shape (boxed (one bush_shape))) (length values.now)
         (each_keys ⟦<Option<Box<Bush>> as Archive>⟧.keys values.now)
@@ -370,7 +275,10 @@ fn serialize_each_option_box_bush<S: Writer + Keys + ResolverAlloc>(values: &[Op
 
 // Writes what a vector owns.
 #[cycle(serialize_bush)]
-fn serialize_vec_option_box_bush<S: Writer + Keys + ResolverAlloc>(value: &Vec<Option<Box<Bush>>>, serializer: &mut S) -> Result<VecResolver, Error>
+fn serialize_vec_option_box_bush<S: Writer + Keys + ResolverAlloc>(
+    value: &Vec<Option<Box<Bush>>>,
+    serializer: &mut S,
+) -> Result<VecResolver, Error>
     ensures serialized { IfOk result (λ r. Serialized bush_definitions
         (vec (option_shape (boxed (one bush_shape)))) (⟦<Vec<Option<Box<Bush>>> as Archive>⟧.keys
         value.now) (⟦<Vec<Option<Box<Bush>>> as Archive>⟧.meaning value.now)
@@ -400,7 +308,10 @@ fn serialize_vec_option_box_bush<S: Writer + Keys + ResolverAlloc>(value: &Vec<O
 
 // Writes what each of the values owns, in order.
 #[cycle(serialize_bush)]
-fn serialize_each_bush<S: Writer + Keys + ResolverAlloc>(values: &[Bush], serializer: &mut S) -> Result<Vec<<Bush as Archive>::Resolver, S::Alloc>, Error>
+fn serialize_each_bush<S: Writer + Keys + ResolverAlloc>(
+    values: &[Bush],
+    serializer: &mut S,
+) -> Result<Vec<<Bush as Archive>::Resolver, S::Alloc>, Error>
     ensures serialized { IfOk result (λ rs. SerializedRun bush_definitions bush_shape
         (length values.now) (each_keys ⟦<Bush as Archive>⟧.keys values.now)
         (each_meaning ⟦<Bush as Archive>⟧.meaning values.now)
@@ -428,7 +339,10 @@ fn serialize_each_bush<S: Writer + Keys + ResolverAlloc>(values: &[Bush], serial
 
 // Writes what a vector owns.
 #[cycle(serialize_bush)]
-fn serialize_vec_bush<S: Writer + Keys + ResolverAlloc>(value: &Vec<Bush>, serializer: &mut S) -> Result<VecResolver, Error>
+fn serialize_vec_bush<S: Writer + Keys + ResolverAlloc>(
+    value: &Vec<Bush>,
+    serializer: &mut S,
+) -> Result<VecResolver, Error>
     ensures serialized { IfOk result (λ r. Serialized bush_definitions (vec bush_shape)
         (⟦<Vec<Bush> as Archive>⟧.keys value.now) (⟦<Vec<Bush> as Archive>⟧.meaning value.now)
         (⟦<Vec<Bush> as Archive>⟧.flat value.now r) (S.state serializer.old)
@@ -455,7 +369,10 @@ fn serialize_vec_bush<S: Writer + Keys + ResolverAlloc>(value: &Vec<Bush>, seria
 
 // Writes what a box owns.
 #[cycle(serialize_bush)]
-fn serialize_box_vec_bush<S: Writer + Keys + ResolverAlloc>(value: &Box<Vec<Bush>>, serializer: &mut S) -> Result<BoxResolver, Error>
+fn serialize_box_vec_bush<S: Writer + Keys + ResolverAlloc>(
+    value: &Box<Vec<Bush>>,
+    serializer: &mut S,
+) -> Result<BoxResolver, Error>
     ensures serialized { IfOk result (λ r. Serialized bush_definitions
         (boxed (one (vec bush_shape))) (⟦<Box<Vec<Bush>> as Archive>⟧.keys value.now)
         (⟦<Box<Vec<Bush>> as Archive>⟧.meaning value.now)
@@ -480,7 +397,10 @@ fn serialize_box_vec_bush<S: Writer + Keys + ResolverAlloc>(value: &Box<Vec<Bush
 
 // Writes what a value owns, part by part.
 #[cycle(serialize_bush)]
-fn serialize_bush<S: Writer + Keys + ResolverAlloc>(value: &Bush, serializer: &mut S) -> Result<BushResolver, Error>
+fn serialize_bush<S: Writer + Keys + ResolverAlloc>(
+    value: &Bush,
+    serializer: &mut S,
+) -> Result<BushResolver, Error>
     ensures serialized { IfOk result (λ r. Serialized bush_definitions bush_shape
         (⟦<Bush as Archive>⟧.keys value.now) (⟦<Bush as Archive>⟧.meaning value.now)
         (⟦<Bush as Archive>⟧.flat value.now r) (S.state serializer.old) (S.state serializer.new)) }
@@ -494,23 +414,17 @@ fn serialize_bush<S: Writer + Keys + ResolverAlloc>(value: &Bush, serializer: &m
         Ok(a0) => a0,
         Err(error) => return Err(error),
     };
-    let a1 = match serialize_option_box_bush(&value.over, serializer) {
+    let a1 = match serialize_vec_option_box_bush(&value.sides, serializer) {
         Ok(a1) => a1,
         Err(error) => return Err(error),
     };
-    let a2 = match serialize_vec_box_bush(&value.next, serializer) {
+    let a2 = match serialize_box_vec_bush(&value.others, serializer) {
         Ok(a2) => a2,
         Err(error) => return Err(error),
     };
-    let a3 = match serialize_vec_option_box_bush(&value.sides, serializer) {
-        Ok(a3) => a3,
-        Err(error) => return Err(error),
-    };
-    let a4 = match serialize_box_vec_bush(&value.others, serializer) {
-        Ok(a4) => a4,
-        Err(error) => return Err(error),
-    };
-    Ok(BushResolver { kept: (a0, (a1, (a2, (a3, (a4, ()))))) })
+    Ok(BushResolver {
+        kept: (a0, (a1, (a2, ()))),
+    })
 }
 
 impl<S: Writer + Keys + ResolverAlloc> Serialize<S> for Bush {
@@ -554,7 +468,11 @@ impl<S: Writer + Keys + ResolverAlloc> SerializeUnsized<S> for Bush {
 
 // Reads a box back.
 #[cycle(read_bush)]
-fn read_box_bush<D: Entries>(alloc: Global, part: RawView<'_>, deserializer: &mut D) -> Result<Box<Bush>, Error>
+fn read_box_bush<D: Entries>(
+    alloc: Global,
+    part: RawView<'_>,
+    deserializer: &mut D,
+) -> Result<Box<Bush>, Error>
     requires { IsPartOf ⟦<ArchivedBox<ArchivedBush> as ArchivePointee>⟧ part }
     ensures read { IfOk result (Read ⟦<ArchivedBox<ArchivedBush> as ArchivePointee>⟧ part D.Entries
         deserializer ⟦<Box<Bush> as Archive>⟧) }
@@ -569,12 +487,15 @@ fn read_box_bush<D: Entries>(alloc: Global, part: RawView<'_>, deserializer: &mu
 
 // Reads an option back.
 #[cycle(read_bush)]
-fn read_option_box_bush<D: Entries>(alloc: Global, part: RawView<'_>, deserializer: &mut D) -> Result<Option<Box<Bush>>, Error>
+fn read_option_box_bush<D: Entries>(
+    alloc: Global,
+    part: RawView<'_>,
+    deserializer: &mut D,
+) -> Result<Option<Box<Bush>>, Error>
     requires { IsPartOf ⟦<ArchivedOption<ArchivedBox<ArchivedBush>> as ArchivePointee>⟧ part }
     ensures read { IfOk result (Read ⟦<ArchivedOption<ArchivedBox<ArchivedBush>> as ArchivePointee>⟧
         part D.Entries deserializer ⟦<Option<Box<Bush>> as Archive>⟧) }
-    ensures
-        refused { IfErr result
+    ensures refused { IfErr result
         (RefusesPart ⟦<ArchivedOption<ArchivedBox<ArchivedBush>> as ArchivePointee>⟧ part D.Entries
         deserializer) }
 {
@@ -590,36 +511,17 @@ fn read_option_box_bush<D: Entries>(alloc: Global, part: RawView<'_>, deserializ
 
 // Reads a vector back.
 #[cycle(read_bush)]
-fn read_vec_box_bush<D: Entries>(alloc: Global, part: RawView<'_>, deserializer: &mut D) -> Result<Vec<Box<Bush>>, Error>
-    requires { IsPartOf ⟦<ArchivedVec<ArchivedBox<ArchivedBush>> as ArchivePointee>⟧ part }
-    ensures read { IfOk result (Read ⟦<ArchivedVec<ArchivedBox<ArchivedBush>> as ArchivePointee>⟧
-        part D.Entries deserializer ⟦<Vec<Box<Bush>> as Archive>⟧) }
-    ensures
-        refused { IfErr result
-        (RefusesPart ⟦<ArchivedVec<ArchivedBox<ArchivedBush>> as ArchivePointee>⟧ part D.Entries
-        deserializer) }
-{
-    let view: Ref<'_, ArchivedVec<ArchivedBox<ArchivedBush>>> = Ref::at(part);
-    let list = before_vec(view);
-    let mut items = Vec::with_capacity(alloc, list.len())?;
-    for index in 0..list.len() {
-        let item = read_box_bush(alloc, list.index(index).part(), deserializer)?;
-        items.push_reserved(item);
-    }
-    Ok(items)
-}
-
-// Reads a vector back.
-#[cycle(read_bush)]
-fn read_vec_option_box_bush<D: Entries>(alloc: Global, part: RawView<'_>, deserializer: &mut D) -> Result<Vec<Option<Box<Bush>>>, Error>
+fn read_vec_option_box_bush<D: Entries>(
+    alloc: Global,
+    part: RawView<'_>,
+    deserializer: &mut D,
+) -> Result<Vec<Option<Box<Bush>>>, Error>
     requires { IsPartOf ⟦<ArchivedVec<ArchivedOption<ArchivedBox<ArchivedBush>>> as ArchivePointee>⟧
         part }
-    ensures
-        read { IfOk result
+    ensures read { IfOk result
         (Read ⟦<ArchivedVec<ArchivedOption<ArchivedBox<ArchivedBush>>> as ArchivePointee>⟧ part
         D.Entries deserializer ⟦<Vec<Option<Box<Bush>>> as Archive>⟧) }
-    ensures
-        refused { IfErr result
+    ensures refused { IfErr result
         (RefusesPart ⟦<ArchivedVec<ArchivedOption<ArchivedBox<ArchivedBush>>> as ArchivePointee>⟧
         part D.Entries deserializer) }
 {
@@ -635,7 +537,11 @@ fn read_vec_option_box_bush<D: Entries>(alloc: Global, part: RawView<'_>, deseri
 
 // Reads a vector back.
 #[cycle(read_bush)]
-fn read_vec_bush<D: Entries>(alloc: Global, part: RawView<'_>, deserializer: &mut D) -> Result<Vec<Bush>, Error>
+fn read_vec_bush<D: Entries>(
+    alloc: Global,
+    part: RawView<'_>,
+    deserializer: &mut D,
+) -> Result<Vec<Bush>, Error>
     requires { IsPartOf ⟦<ArchivedVec<ArchivedBush> as ArchivePointee>⟧ part }
     ensures read { IfOk result (Read ⟦<ArchivedVec<ArchivedBush> as ArchivePointee>⟧ part D.Entries
         deserializer ⟦<Vec<Bush> as Archive>⟧) }
@@ -654,12 +560,15 @@ fn read_vec_bush<D: Entries>(alloc: Global, part: RawView<'_>, deserializer: &mu
 
 // Reads a box back.
 #[cycle(read_bush)]
-fn read_box_vec_bush<D: Entries>(alloc: Global, part: RawView<'_>, deserializer: &mut D) -> Result<Box<Vec<Bush>>, Error>
+fn read_box_vec_bush<D: Entries>(
+    alloc: Global,
+    part: RawView<'_>,
+    deserializer: &mut D,
+) -> Result<Box<Vec<Bush>>, Error>
     requires { IsPartOf ⟦<ArchivedBox<ArchivedVec<ArchivedBush>> as ArchivePointee>⟧ part }
     ensures read { IfOk result (Read ⟦<ArchivedBox<ArchivedVec<ArchivedBush>> as ArchivePointee>⟧
         part D.Entries deserializer ⟦<Box<Vec<Bush>> as Archive>⟧) }
-    ensures
-        refused { IfErr result
+    ensures refused { IfErr result
         (RefusesPart ⟦<ArchivedBox<ArchivedVec<ArchivedBush>> as ArchivePointee>⟧ part D.Entries
         deserializer) }
 {
@@ -671,31 +580,29 @@ fn read_box_vec_bush<D: Entries>(alloc: Global, part: RawView<'_>, deserializer:
 
 // Reads a value back, part by part.
 #[cycle(read_bush)]
-fn read_bush<D: Entries>(alloc: Global, part: RawView<'_>, deserializer: &mut D) -> Result<Bush, Error>
+fn read_bush<D: Entries>(
+    alloc: Global,
+    part: RawView<'_>,
+    deserializer: &mut D,
+) -> Result<Bush, Error>
     requires { IsPartOf ⟦<ArchivedBush as ArchivePointee>⟧ part }
     ensures read { IfOk result (Read ⟦<ArchivedBush as ArchivePointee>⟧ part D.Entries deserializer
         ⟦<Bush as Archive>⟧) }
     ensures refused { IfErr result (RefusesPart ⟦<ArchivedBush as ArchivePointee>⟧ part D.Entries
         deserializer) }
 {
-    let p0 = part_of_record::<ArchivedBush, u8>(part, 0, 0);
-    let a0 = read_part::<u8, u8, D>(alloc, p0, deserializer)?;
-    let p1 = part_of_record::<ArchivedBush, ArchivedOption<ArchivedBox<ArchivedBush>>>(part, 1, 4);
-    let a1 = read_option_box_bush(alloc, p1, deserializer)?;
-    let p2 = part_of_record::<ArchivedBush, ArchivedVec<ArchivedBox<ArchivedBush>>>(part, 2, 12);
-    let a2 = read_vec_box_bush(alloc, p2, deserializer)?;
-    let p3 = part_of_record::<ArchivedBush, ArchivedVec<ArchivedOption<ArchivedBox<ArchivedBush>>>>(
-        part, 3, 20,
+    let p0 = part_of_record::<ArchivedBush, ArchivedU32>(part, 0, 0);
+    let a0 = read_part::<ArchivedU32, u32, D>(alloc, p0, deserializer)?;
+    let p1 = part_of_record::<ArchivedBush, ArchivedVec<ArchivedOption<ArchivedBox<ArchivedBush>>>>(
+        part, 1, 4,
     );
-    let a3 = read_vec_option_box_bush(alloc, p3, deserializer)?;
-    let p4 = part_of_record::<ArchivedBush, ArchivedBox<ArchivedVec<ArchivedBush>>>(part, 4, 28);
-    let a4 = read_box_vec_bush(alloc, p4, deserializer)?;
+    let a1 = read_vec_option_box_bush(alloc, p1, deserializer)?;
+    let p2 = part_of_record::<ArchivedBush, ArchivedBox<ArchivedVec<ArchivedBush>>>(part, 2, 12);
+    let a2 = read_box_vec_bush(alloc, p2, deserializer)?;
     Ok(Bush {
         id: a0,
-        over: a1,
-        next: a2,
-        sides: a3,
-        others: a4,
+        sides: a1,
+        others: a2,
     })
 }
 
@@ -717,15 +624,9 @@ impl<D: Entries> Deserialize<Bush, D> for ArchivedBush {
 /// The fields of an archived `Bush`, as views.
 pub trait BushView<'a> {
     /// Its number.
-    fn id(self) -> Ref<'a, u8>;
+    fn id(self) -> Ref<'a, ArchivedU32>;
 
-    /// The one above, if there is one.
-    fn over(self) -> Ref<'a, ArchivedOption<ArchivedBox<ArchivedBush>>>;
-
-    /// Those beside it, each in a box of its own.
-    fn next(self) -> Ref<'a, ArchivedVec<ArchivedBox<ArchivedBush>>>;
-
-    /// Those on each side, each in a box of its own, or nothing.
+    /// Each in a box of its own, or nothing.
     fn sides(self) -> Ref<'a, ArchivedVec<ArchivedOption<ArchivedBox<ArchivedBush>>>>;
 
     /// Others, in one box.
@@ -733,51 +634,33 @@ pub trait BushView<'a> {
 }
 
 impl<'a> BushView<'a> for Ref<'a, ArchivedBush> {
-    fn id(self) -> Ref<'a, u8>
+    fn id(self) -> Ref<'a, ArchivedU32>
         ensures buffer { result.bytes.now ≡ self.entry.bytes.now }
         ensures position { result.pos ≡ self.entry.pos + 0 }
         ensures length { result.len ≡ 0 }
         ensures shows { ShowsValueOf result self.entry (field_in 0) }
     {
-        view_of_field::<ArchivedBush, u8>(self, 0, 0)
+        view_of_field::<ArchivedBush, ArchivedU32>(self, 0, 0)
     }
 
-    fn over(self) -> Ref<'a, ArchivedOption<ArchivedBox<ArchivedBush>>>
+    fn sides(self) -> Ref<'a, ArchivedVec<ArchivedOption<ArchivedBox<ArchivedBush>>>>
         ensures buffer { result.bytes.now ≡ self.entry.bytes.now }
         ensures position { result.pos ≡ self.entry.pos + 4 }
         ensures length { result.len ≡ 0 }
         ensures shows { ShowsValueOf result self.entry (field_in 1) }
     {
-        view_of_field::<ArchivedBush, ArchivedOption<ArchivedBox<ArchivedBush>>>(self, 1, 4)
-    }
-
-    fn next(self) -> Ref<'a, ArchivedVec<ArchivedBox<ArchivedBush>>>
-        ensures buffer { result.bytes.now ≡ self.entry.bytes.now }
-        ensures position { result.pos ≡ self.entry.pos + 12 }
-        ensures length { result.len ≡ 0 }
-        ensures shows { ShowsValueOf result self.entry (field_in 2) }
-    {
-        view_of_field::<ArchivedBush, ArchivedVec<ArchivedBox<ArchivedBush>>>(self, 2, 12)
-    }
-
-    fn sides(self) -> Ref<'a, ArchivedVec<ArchivedOption<ArchivedBox<ArchivedBush>>>>
-        ensures buffer { result.bytes.now ≡ self.entry.bytes.now }
-        ensures position { result.pos ≡ self.entry.pos + 20 }
-        ensures length { result.len ≡ 0 }
-        ensures shows { ShowsValueOf result self.entry (field_in 3) }
-    {
         view_of_field::<ArchivedBush, ArchivedVec<ArchivedOption<ArchivedBox<ArchivedBush>>>>(
-            self, 3, 20,
+            self, 1, 4,
         )
     }
 
     fn others(self) -> Ref<'a, ArchivedBox<ArchivedVec<ArchivedBush>>>
         ensures buffer { result.bytes.now ≡ self.entry.bytes.now }
-        ensures position { result.pos ≡ self.entry.pos + 28 }
+        ensures position { result.pos ≡ self.entry.pos + 12 }
         ensures length { result.len ≡ 0 }
-        ensures shows { ShowsValueOf result self.entry (field_in 4) }
+        ensures shows { ShowsValueOf result self.entry (field_in 2) }
     {
-        view_of_field::<ArchivedBush, ArchivedBox<ArchivedVec<ArchivedBush>>>(self, 4, 28)
+        view_of_field::<ArchivedBush, ArchivedBox<ArchivedVec<ArchivedBush>>>(self, 2, 12)
     }
 }
 
@@ -787,18 +670,10 @@ pub trait BushSeal<'a> {
     ghost sealed: { Self → Type 0 };
 
     /// Its number.
-    fn id_mut(self) -> Seal<'a, u8>
+    fn id_mut(self) -> Seal<'a, ArchivedU32>
         requires { sealed self };
 
-    /// The one above, if there is one.
-    fn over_mut(self) -> Seal<'a, ArchivedOption<ArchivedBox<ArchivedBush>>>
-        requires { sealed self };
-
-    /// Those beside it, each in a box of its own.
-    fn next_mut(self) -> Seal<'a, ArchivedVec<ArchivedBox<ArchivedBush>>>
-        requires { sealed self };
-
-    /// Those on each side, each in a box of its own, or nothing.
+    /// Each in a box of its own, or nothing.
     fn sides_mut(self) -> Seal<'a, ArchivedVec<ArchivedOption<ArchivedBox<ArchivedBush>>>>
         requires { sealed self };
 
@@ -810,32 +685,12 @@ pub trait BushSeal<'a> {
 impl<'a> BushSeal<'a> for Seal<'a, ArchivedBush> {
     ghost sealed = { λ s. IsSealOf bush_definitions (one ⟦<ArchivedBush as Portable>⟧.shape) s };
 
-    fn id_mut(self) -> Seal<'a, u8>
+    fn id_mut(self) -> Seal<'a, ArchivedU32>
         requires come_to { IsSealOf bush_definitions (one ⟦<ArchivedBush as Portable>⟧.shape) self }
         ensures { SealsPart bush_definitions (one ⟦<ArchivedBush as Portable>⟧.shape) no_definition
-            ⟦<u8 as ArchivePointee>⟧.pointee (self.entry.pos + 0) 0 self.entry result }
+            ⟦<ArchivedU32 as ArchivePointee>⟧.pointee (self.entry.pos + 0) 0 self.entry result }
     {
-        seal_of_field::<ArchivedBush, u8>(self, 0, 0)
-    }
-
-    fn over_mut(self) -> Seal<'a, ArchivedOption<ArchivedBox<ArchivedBush>>>
-        requires come_to { IsSealOf bush_definitions (one ⟦<ArchivedBush as Portable>⟧.shape) self }
-        ensures { SealsPart bush_definitions (one ⟦<ArchivedBush as Portable>⟧.shape)
-            ⟦<ArchivedBush as ArchivePointee>⟧.definitions
-            ⟦<ArchivedOption<ArchivedBox<ArchivedBush>> as ArchivePointee>⟧.pointee
-            (self.entry.pos + 4) 0 self.entry result }
-    {
-        seal_of_field::<ArchivedBush, ArchivedOption<ArchivedBox<ArchivedBush>>>(self, 1, 4)
-    }
-
-    fn next_mut(self) -> Seal<'a, ArchivedVec<ArchivedBox<ArchivedBush>>>
-        requires come_to { IsSealOf bush_definitions (one ⟦<ArchivedBush as Portable>⟧.shape) self }
-        ensures { SealsPart bush_definitions (one ⟦<ArchivedBush as Portable>⟧.shape)
-            ⟦<ArchivedBush as ArchivePointee>⟧.definitions
-            ⟦<ArchivedVec<ArchivedBox<ArchivedBush>> as ArchivePointee>⟧.pointee
-            (self.entry.pos + 12) 0 self.entry result }
-    {
-        seal_of_field::<ArchivedBush, ArchivedVec<ArchivedBox<ArchivedBush>>>(self, 2, 12)
+        seal_of_field::<ArchivedBush, ArchivedU32>(self, 0, 0)
     }
 
     fn sides_mut(self) -> Seal<'a, ArchivedVec<ArchivedOption<ArchivedBox<ArchivedBush>>>>
@@ -843,12 +698,11 @@ impl<'a> BushSeal<'a> for Seal<'a, ArchivedBush> {
         ensures { SealsPart bush_definitions (one ⟦<ArchivedBush as Portable>⟧.shape)
             ⟦<ArchivedBush as ArchivePointee>⟧.definitions
             ⟦<ArchivedVec<ArchivedOption<ArchivedBox<ArchivedBush>>> as ArchivePointee>⟧.pointee
-            (self.entry.pos + 20) 0 self.entry result }
+            (self.entry.pos + 4) 0 self.entry result }
     {
-        seal_of_field::<
-            ArchivedBush,
-            ArchivedVec<ArchivedOption<ArchivedBox<ArchivedBush>>>,
-        >(self, 3, 20)
+        seal_of_field::<ArchivedBush, ArchivedVec<ArchivedOption<ArchivedBox<ArchivedBush>>>>(
+            self, 1, 4,
+        )
     }
 
     fn others_mut(self) -> Seal<'a, ArchivedBox<ArchivedVec<ArchivedBush>>>
@@ -856,8 +710,8 @@ impl<'a> BushSeal<'a> for Seal<'a, ArchivedBush> {
         ensures { SealsPart bush_definitions (one ⟦<ArchivedBush as Portable>⟧.shape)
             ⟦<ArchivedBush as ArchivePointee>⟧.definitions
             ⟦<ArchivedBox<ArchivedVec<ArchivedBush>> as ArchivePointee>⟧.pointee
-            (self.entry.pos + 28) 0 self.entry result }
+            (self.entry.pos + 12) 0 self.entry result }
     {
-        seal_of_field::<ArchivedBush, ArchivedBox<ArchivedVec<ArchivedBush>>>(self, 4, 28)
+        seal_of_field::<ArchivedBush, ArchivedBox<ArchivedVec<ArchivedBush>>>(self, 2, 12)
     }
 }

@@ -3,5 +3,6 @@
 #![tactic(auto)]
 
 pub mod bush;
+pub mod knot;
 pub mod road;
 pub mod rule;

@@ -89,7 +89,10 @@ fn road_way_expressions(alloc: Global) -> Result<Vec<archive_core::shape::Expr>,
     ensures refused { IfErr result (λ e. e ≡ OutOfMemory) }
 {
     let a0 = <u8 as Portable>::expr(alloc)?;
-    let a1 = option_expression(alloc, shared_expression(alloc, archive_core::shape::Expr::Named("ArchivedRoad"))?)?;
+    let a1 = option_expression(
+        alloc,
+        shared_expression(alloc, archive_core::shape::Expr::Named("ArchivedRoad"))?,
+    )?;
     Ok(vec![in alloc; a0, a1]?)
 }
 
@@ -226,7 +229,11 @@ impl Archive for SharedRoadAt {
             (⟦<Self as Archive>⟧.flat self.now resolver) result }
     {
         let Place { bytes, pos, .. } = place;
-        ArchivedRc::<ArchivedRoad, RcFlavor>::resolve_from_ref(self, resolver, Place::new(pos, bytes))
+        ArchivedRc::<ArchivedRoad, RcFlavor>::resolve_from_ref(
+            self,
+            resolver,
+            Place::new(pos, bytes),
+        )
     }
 
     #[inline(always)]
@@ -383,7 +390,10 @@ impl Archive for Road {
 
 // Writes what a shared pointer leads to, if its key is unknown.
 #[cycle(serialize_road)]
-fn serialize_shared_road<S: Sharing + Writer + ResolverAlloc>(value: &Shared<Road>, serializer: &mut S) -> Result<RcResolver, Error>
+fn serialize_shared_road<S: Sharing + Writer + ResolverAlloc>(
+    value: &Shared<Road>,
+    serializer: &mut S,
+) -> Result<RcResolver, Error>
     ensures serialized { IfOk result (λ r. Serialized road_definitions
         (shared rc_flavor (one road_shape)) (⟦<Shared<Road> as Archive>⟧.keys value.now)
         (⟦<Shared<Road> as Archive>⟧.meaning value.now)
@@ -417,7 +427,10 @@ fn serialize_shared_road<S: Sharing + Writer + ResolverAlloc>(value: &Shared<Roa
 
 // Writes what an option of a shared pointer leads to, if its key is unknown.
 #[cycle(serialize_road)]
-fn serialize_option_shared_road<S: Sharing + Writer + ResolverAlloc>(value: &Option<Shared<Road>>, serializer: &mut S) -> Result<Option<RcResolver>, Error>
+fn serialize_option_shared_road<S: Sharing + Writer + ResolverAlloc>(
+    value: &Option<Shared<Road>>,
+    serializer: &mut S,
+) -> Result<Option<RcResolver>, Error>
     ensures serialized { IfOk result (λ r. Serialized road_definitions
         (option_shape (shared rc_flavor (one road_shape)))
         (⟦<Option<Shared<Road>> as Archive>⟧.keys value.now)
@@ -518,7 +531,10 @@ fn serialize_road_detour<S: Sharing + Writer + ResolverAlloc>(
 
 // Writes what a value owns.
 #[cycle(serialize_road)]
-fn serialize_road<S: Sharing + Writer + ResolverAlloc>(value: &Road, serializer: &mut S) -> Result<RoadResolver, Error>
+fn serialize_road<S: Sharing + Writer + ResolverAlloc>(
+    value: &Road,
+    serializer: &mut S,
+) -> Result<RoadResolver, Error>
     ensures serialized { IfOk result (λ r. Serialized road_definitions road_shape
         (⟦<Road as Archive>⟧.keys value.now) (⟦<Road as Archive>⟧.meaning value.now)
         (⟦<Road as Archive>⟧.flat value.now r) (S.state serializer.old) (S.state serializer.new)) }
@@ -581,12 +597,16 @@ impl<S: Sharing + Writer + ResolverAlloc> SerializeUnsized<S> for Road {
 
 // Reads a shared value back.
 #[cycle(read_road)]
-fn read_shared_road<D: Pooling<Shared<Road>>>(alloc: Global, part: RawView<'_>, levels: usize, deserializer: &mut D) -> Result<Shared<Road>, Error>
+fn read_shared_road<D: Pooling<Shared<Road>>>(
+    alloc: Global,
+    part: RawView<'_>,
+    levels: usize,
+    deserializer: &mut D,
+) -> Result<Shared<Road>, Error>
     requires { IsPartOf ⟦<ArchivedRc<ArchivedRoad, RcFlavor> as ArchivePointee>⟧ part }
     ensures read { IfOk result (Read ⟦<ArchivedRc<ArchivedRoad, RcFlavor> as ArchivePointee>⟧ part
         D.Entries deserializer ⟦<Shared<Road> as Archive>⟧) }
-    ensures
-        refused { IfErr result (RefusesPart ⟦<ArchivedRc<ArchivedRoad, RcFlavor> as ArchivePointee>⟧
+    ensures refused { IfErr result (RefusesPart ⟦<ArchivedRc<ArchivedRoad, RcFlavor> as ArchivePointee>⟧
         part D.Entries deserializer) }
 {
     match begin_reading::<ArchivedRoad, RcFlavor, Shared<Road>, D>(part, deserializer)? {
@@ -594,22 +614,30 @@ fn read_shared_road<D: Pooling<Shared<Road>>>(alloc: Global, part: RawView<'_>, 
         None => {
             let behind = part_behind::<ArchivedRoad, RcFlavor>(part);
             let value = read_road(alloc, behind, levels, deserializer)?;
-            finish_reading::<ArchivedRoad, RcFlavor, Shared<Road>, D>(alloc, part, value, deserializer)
+            finish_reading::<ArchivedRoad, RcFlavor, Shared<Road>, D>(
+                alloc,
+                part,
+                value,
+                deserializer,
+            )
         }
     }
 }
 
 // Reads an option back.
 #[cycle(read_road)]
-fn read_option_shared_road<D: Pooling<Shared<Road>>>(alloc: Global, part: RawView<'_>, levels: usize, deserializer: &mut D) -> Result<Option<Shared<Road>>, Error>
+fn read_option_shared_road<D: Pooling<Shared<Road>>>(
+    alloc: Global,
+    part: RawView<'_>,
+    levels: usize,
+    deserializer: &mut D,
+) -> Result<Option<Shared<Road>>, Error>
     requires { IsPartOf ⟦<ArchivedOption<ArchivedRc<ArchivedRoad, RcFlavor>> as ArchivePointee>⟧
         part }
-    ensures
-        read { IfOk result
+    ensures read { IfOk result
         (Read ⟦<ArchivedOption<ArchivedRc<ArchivedRoad, RcFlavor>> as ArchivePointee>⟧ part
         D.Entries deserializer ⟦<Option<Shared<Road>> as Archive>⟧) }
-    ensures
-        refused { IfErr result
+    ensures refused { IfErr result
         (RefusesPart ⟦<ArchivedOption<ArchivedRc<ArchivedRoad, RcFlavor>> as ArchivePointee>⟧ part
         D.Entries deserializer) }
 {
@@ -625,7 +653,12 @@ fn read_option_shared_road<D: Pooling<Shared<Road>>>(alloc: Global, part: RawVie
 
 // Reads `Way` back.
 #[cycle(read_road)]
-fn read_road_way<D: Pooling<Shared<Road>>>(alloc: Global, part: RawView<'_>, levels: usize, deserializer: &mut D) -> Result<Road, Error>
+fn read_road_way<D: Pooling<Shared<Road>>>(
+    alloc: Global,
+    part: RawView<'_>,
+    levels: usize,
+    deserializer: &mut D,
+) -> Result<Road, Error>
     requires viewed { IsPartOf ⟦<ArchivedRoad as ArchivePointee>⟧ part }
     requires tag { part_tag part ≡ 0 }
     ensures read { IfOk result (Read ⟦<ArchivedRoad as ArchivePointee>⟧ part D.Entries deserializer
@@ -644,7 +677,12 @@ fn read_road_way<D: Pooling<Shared<Road>>>(alloc: Global, part: RawView<'_>, lev
 
 // Reads `Detour` back.
 #[cycle(read_road)]
-fn read_road_detour<D: Pooling<Shared<Road>>>(alloc: Global, part: RawView<'_>, levels: usize, deserializer: &mut D) -> Result<Road, Error>
+fn read_road_detour<D: Pooling<Shared<Road>>>(
+    alloc: Global,
+    part: RawView<'_>,
+    levels: usize,
+    deserializer: &mut D,
+) -> Result<Road, Error>
     requires viewed { IsPartOf ⟦<ArchivedRoad as ArchivePointee>⟧ part }
     requires tag { part_tag part ≡ 1 }
     ensures read { IfOk result (Read ⟦<ArchivedRoad as ArchivePointee>⟧ part D.Entries deserializer
@@ -659,7 +697,12 @@ fn read_road_detour<D: Pooling<Shared<Road>>>(alloc: Global, part: RawView<'_>, 
 
 // Reads a value back.
 #[cycle(read_road)]
-fn read_road<D: Pooling<Shared<Road>>>(alloc: Global, part: RawView<'_>, levels: usize, deserializer: &mut D) -> Result<Road, Error>
+fn read_road<D: Pooling<Shared<Road>>>(
+    alloc: Global,
+    part: RawView<'_>,
+    levels: usize,
+    deserializer: &mut D,
+) -> Result<Road, Error>
     requires { IsPartOf ⟦<ArchivedRoad as ArchivePointee>⟧ part }
     ensures read { IfOk result (Read ⟦<ArchivedRoad as ArchivePointee>⟧ part D.Entries deserializer
         ⟦<Road as Archive>⟧) }

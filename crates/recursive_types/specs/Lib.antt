@@ -4,6 +4,8 @@ pub mod TreeMeaning
 pub mod TreeShape
 pub mod ExprMeaning
 pub mod ExprShape
+pub mod SearchMeaning
+pub mod SearchShape
 pub mod DirMeaning
 pub mod DirShape
 pub mod StmtMeaning

@@ -4,5 +4,6 @@
 pub mod dir;
 pub mod expr;
 pub mod list;
+pub mod search;
 pub mod stmt;
 pub mod tree;

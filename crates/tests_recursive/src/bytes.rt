@@ -4,6 +4,7 @@ use crate::assertions::{assert_read, assert_written};
 use recursive_types::dir::{Dir, Entry};
 use recursive_types::expr::Expr;
 use recursive_types::list::List;
+use recursive_types::search::Search;
 use recursive_types::tree::Tree;
 use std::alloc::{AllocError, Global};
 use std::process::Abort;
@@ -80,6 +81,34 @@ fn expression(rt: HostRuntime) {
     let sum = sum(rt.alloc()).expect(&rt, "an expression");
     assert_written(&rt, rt.alloc(), &sum, SUM);
     assert_read(&rt, rt.alloc(), SUM, &sum);
+}
+
+// A binary tree of one number.
+fn only(value: u32) -> Search {
+    Search {
+        left: None,
+        value,
+        right: None,
+    }
+}
+
+fn two_below(alloc: Global) -> Result<Search, AllocError> {
+    Ok(Search {
+        left: Some(Box::new(alloc, only(1))?),
+        value: 2,
+        right: Some(Box::new(alloc, only(3))?),
+    })
+}
+
+// The number 1 at 0 with nothing below, 3 at 20, and 2 at 40. An option of a box is a tag, and four bytes behind it the offset of the box, or zeros.
+const SEARCH: &[u8] =
+    b"\0\0\0\0\0\0\0\0\x01\0\0\0\0\0\0\0\0\0\0\0\0\0\0\0\0\0\0\0\x03\0\0\0\0\0\0\0\0\0\0\0\x01\0\0\0\xd4\xff\xff\xff\x02\0\0\0\x01\0\0\0\xdc\xff\xff\xff";
+
+#[test]
+fn binary_tree(rt: HostRuntime) {
+    let search = two_below(rt.alloc()).expect(&rt, "a tree");
+    assert_written(&rt, rt.alloc(), &search, SEARCH);
+    assert_read(&rt, rt.alloc(), SEARCH, &search);
 }
 
 fn folder(alloc: Global) -> Result<Dir, AllocError> {

@@ -1,0 +1,88 @@
+-- Written by tools/derive: change the declaration, and run it again.
+use Rattle.archive_core.proofs.Causes.{err_by, goes_both}
+use Rattle.archive_core.proofs.Owners.{box_refused, vec_refused}
+use Rattle.archive_core.proofs.Planned.{one_owned}
+use Rattle.archive_core.proofs.PlannedParts.{serialized_no_part, serialized_part, serialized_record, record_refused, first_refused, later_refused}
+use Rattle.archive_core.proofs.RunRegions.{run_owned, long_run_refused}
+use Rattle.archive_core.proofs.Runs.{continues_step, continues_broken, continues_end, belongs_end}
+use Rattle.archive_core.specs.Causes.{no_memory}
+use Rattle.archive_core.specs.Definitions.{both, no_definition}
+use Rattle.archive_core.specs.Error.TheVariants.{OutOfMemory}
+use Rattle.archive_core.specs.Held.{written_as, refused_as}
+use Rattle.archive_core.specs.PartsPlanned.{part_planned, no_part_planned}
+use Rattle.archive_core.specs.PlannedOwners.{boxed_one_planned, vec_planned, slice_planned, each_planned}
+use Rattle.archive_core.specs.Runs.{each_keys, each_meaning}
+use Rattle.archive_core.specs.Shape.{boxed, vec, one, leaf, unsigned, part, no_part, number as number_kind}
+use Rattle.archive_core.specs.Value.{list, box, number, value, no_value}
+use Rattle.recursive_kinds.specs.KnotMeaning.{knot_meaning, knot_keys, knot_planned, knot_means, knot_has_keys}
+use Rattle.recursive_kinds.specs.KnotShape.{knot_shape, knot_definitions, knot_parts, knot_part_definitions, knot_has_parts}
+use Rattle.recursive_kinds.specs.declared.knot.Knot.{out-Knot}
+use Rattle.std.proofs.Common.{◌≡◌, ◌<◌, ◌++◌, [], length, refl, arith, pos}
+use Rattle.std.proofs.Math.ListN.{drop_of_length-le}
+use Rattle.std.proofs.lemmas.Grind.{common_steps}
+use Rattle.std.specs.Int.{w32}
+use Rattle.std.specs.Prelude.{[], ◌++◌, ◌≡◌, refl, pos, length}
+use Rattle.recursive_kinds.proofs.knot.+serialize_knot.Goals as goal
+
+pub serialize_each_box_knot-returns-in_err-resolvers-clause-refused : goal.serialize_each_box_knot-returns-in_err-resolvers-clause-refused
+serialize_each_box_knot-returns-in_err-resolvers-clause-refused g t c = err_by c.from_residual.result OutOfMemory _ c.from_residual.ensures.1 no_memory
+
+pub serialize_each_box_knot-returns-in-Err-clause-goes_on : goal.serialize_each_box_knot-returns-in-Err-clause-goes_on
+serialize_each_box_knot-returns-in-Err-clause-goes_on g t c = goes_both _ _ _ c.loop-value.invariant.continues.goes c.serialize_knot.ensures.goes_on
+
+pub serialize_each_box_knot-returns-in-Err-clause-refused : goal.serialize_each_box_knot-returns-in-Err-clause-refused
+serialize_each_box_knot-returns-in-Err-clause-refused g t c = rw c.handed_on.ensures (continues_broken _ _ _ _ _ _ _ _ _ _ c.loop-value.value-index _ _ _ c.loop-value-test.true c.value-item.is (λ y. (boxed_one_planned knot_definitions (one knot_shape) knot_shape refl _ _ (knot_planned y.value))) c.loop-value.invariant.continues c.serialize_knot.ensures.goes_on (let same : c.deref-inner.result.now ≡ c.value-item.result.value = grind (arith, common_steps) in rw (← same) (box_refused knot_definitions (one knot_shape) 0 _ _ _ _ _ (one_owned knot_definitions knot_shape _ _ _ _ _ c.in-Err.ensures.refused))))
+
+pub serialize_each_box_knot-returns-in-Err-serialize_inner-clause-goes_on : goal.serialize_each_box_knot-returns-in-Err-serialize_inner-clause-goes_on
+serialize_each_box_knot-returns-in-Err-serialize_inner-clause-goes_on g t c = goes_both _ _ _ c.loop-value.invariant.continues.goes (goes_both _ _ _ c.serialize_knot.ensures.goes_on c.serialize_inner.ensures.goes_on)
+
+pub serialize_each_box_knot-returns-in-Err-serialize_inner-clause-refused : goal.serialize_each_box_knot-returns-in-Err-serialize_inner-clause-refused
+serialize_each_box_knot-returns-in-Err-serialize_inner-clause-refused g t c = continues_broken _ _ _ _ _ _ _ _ _ _ c.loop-value.value-index _ _ _ c.loop-value-test.true c.value-item.is (λ y. (boxed_one_planned knot_definitions (one knot_shape) knot_shape refl _ _ (knot_planned y.value))) c.loop-value.invariant.continues (goes_both _ _ _ c.serialize_knot.ensures.goes_on c.serialize_inner.ensures.goes_on) (let same : c.deref-inner.result.now ≡ c.value-item.result.value = grind (arith, common_steps) in rw (← same) (c.in-Err-serialize_inner.ensures.refused.since _ c.serialize_knot.ensures.goes_on c.in-Ok.ensures.serialized))
+
+pub serialize_each_box_knot-returns-in_err-map_err-clause-goes_on : goal.serialize_each_box_knot-returns-in_err-map_err-clause-goes_on
+serialize_each_box_knot-returns-in_err-map_err-clause-goes_on g t c = goes_both _ _ _ c.loop-value.invariant.continues.goes (goes_both _ _ _ c.serialize_knot.ensures.goes_on c.serialize_inner.ensures.goes_on)
+
+pub serialize_each_box_knot-returns-in_err-map_err-clause-refused : goal.serialize_each_box_knot-returns-in_err-map_err-clause-refused
+serialize_each_box_knot-returns-in_err-map_err-clause-refused g t c = err_by c.from_residual-in_err-map_err.result OutOfMemory _ c.from_residual-in_err-map_err.ensures.1 no_memory
+
+pub serialize_each_box_knot-loop-value-preserved : goal.serialize_each_box_knot-loop-value-preserved
+serialize_each_box_knot-loop-value-preserved g t c = record { continues = continues_step _ _ _ _ _ _ _ _ _ _ c.loop-value.value-index _ _ _ c.in-Ok-serialize_inner.resolver c.loop-value-test.true c.value-item.is (grind (arith, common_steps)) c.loop-value.invariant.continues (let same : c.deref-inner.result.now ≡ c.value-item.result.value = grind (arith, common_steps) in rw (← same) (c.in-Ok-serialize_inner.ensures.boxed.since _ c.serialize_knot.ensures.goes_on c.in-Ok.ensures.serialized)) tt (goes_both _ _ _ c.serialize_knot.ensures.goes_on c.serialize_inner.ensures.goes_on) }
+
+pub serialize_each_box_knot-returns-clause-serialized : goal.serialize_each_box_knot-returns-clause-serialized
+serialize_each_box_knot-returns-clause-serialized g t c = continues_end _ _ _ _ _ _ _ _ _ _ _ (drop_of_length-le _ c.loop-value-test.false) c.loop-value.invariant.continues
+
+pub serialize_each_box_knot-returns-clause-same_values : goal.serialize_each_box_knot-returns-clause-same_values
+serialize_each_box_knot-returns-clause-same_values g t c = belongs_end _ _ _ _ _ _ _ _ _ _ _ (drop_of_length-le _ c.loop-value-test.false) c.loop-value.invariant.continues
+
+pub serialize_vec_box_knot-returns-then-len-clause-refused : goal.serialize_vec_box_knot-returns-then-len-clause-refused
+serialize_vec_box_knot-returns-then-len-clause-refused g t c = (let long : 4294967295 < length c.args.value.now.items = (let whole : length c.args.value.now.items ≡ c.len.result = grind (arith, common_steps, c.len.ensures) in omega (arith, c.if-len.true, whole)) in vec_refused knot_definitions (boxed (one knot_shape)) (length c.args.value.now.items) (each_keys (λ y. (knot_keys y.value)) c.args.value.now.items) (list (each_meaning (λ y. (box (knot_meaning y.value))) c.args.value.now.items)) _ _ _ (long_run_refused knot_definitions (boxed (one knot_shape)) (length c.args.value.now.items) (each_keys (λ y. (knot_keys y.value)) c.args.value.now.items) (each_meaning (λ y. (box (knot_meaning y.value))) c.args.value.now.items) _ _ (each_planned knot_definitions (boxed (one knot_shape)) (λ y. (knot_keys y.value)) (λ y. (box (knot_meaning y.value))) (λ y. (boxed_one_planned knot_definitions (one knot_shape) knot_shape refl _ _ (knot_planned y.value))) c.args.value.now.items) long))
+
+pub serialize_vec_box_knot-returns-in-Err-clause-refused : goal.serialize_vec_box_knot-returns-in-Err-clause-refused
+serialize_vec_box_knot-returns-in-Err-clause-refused g t c = vec_refused knot_definitions (boxed (one knot_shape)) (length c.args.value.now.items) (each_keys (λ y. (knot_keys y.value)) c.args.value.now.items) (list (each_meaning (λ y. (box (knot_meaning y.value))) c.args.value.now.items)) _ _ _ (run_owned knot_definitions (boxed (one knot_shape)) (length c.args.value.now.items) (each_keys (λ y. (knot_keys y.value)) c.args.value.now.items) (each_meaning (λ y. (box (knot_meaning y.value))) c.args.value.now.items) _ _ _ (rw c.as_slice-items.ensures.value at c.in-Err.ensures.refused))
+
+pub serialize_vec_box_knot-returns-in-Ok-serialize_inner_slice-clause-serialized : goal.serialize_vec_box_knot-returns-in-Ok-serialize_inner_slice-clause-serialized
+serialize_vec_box_knot-returns-in-Ok-serialize_inner_slice-clause-serialized g t c = (rw c.as_slice-items.ensures.value at c.in-Ok-serialize_inner_slice.ensures.listed).since _ c.serialize_each_box_knot.ensures.goes_on (rw c.as_slice-items.ensures.value at c.in-Ok.ensures.serialized)
+
+pub serialize_vec_box_knot-returns-in-Ok-serialize_inner_slice-clause-goes_on : goal.serialize_vec_box_knot-returns-in-Ok-serialize_inner_slice-clause-goes_on
+serialize_vec_box_knot-returns-in-Ok-serialize_inner_slice-clause-goes_on g t c = (goes_both _ _ _ c.serialize_each_box_knot.ensures.goes_on c.serialize_inner_slice.ensures.goes_on)
+
+pub serialize_vec_box_knot-returns-in-Err-serialize_inner_slice-clause-goes_on : goal.serialize_vec_box_knot-returns-in-Err-serialize_inner_slice-clause-goes_on
+serialize_vec_box_knot-returns-in-Err-serialize_inner_slice-clause-goes_on g t c = (goes_both _ _ _ c.serialize_each_box_knot.ensures.goes_on c.serialize_inner_slice.ensures.goes_on)
+
+pub serialize_vec_box_knot-returns-in-Err-serialize_inner_slice-clause-refused : goal.serialize_vec_box_knot-returns-in-Err-serialize_inner_slice-clause-refused
+serialize_vec_box_knot-returns-in-Err-serialize_inner_slice-clause-refused g t c = (rw c.as_slice-items.ensures.value at c.in-Err-serialize_inner_slice.ensures.refused).since _ c.serialize_each_box_knot.ensures.goes_on (rw c.as_slice-items.ensures.value at c.in-Ok.ensures.serialized)
+
+pub serialize_knot-returns-in-Err-clause-refused : goal.serialize_knot-returns-in-Err-clause-refused
+serialize_knot-returns-in-Err-clause-refused g t c = (refused_as (knot_has_keys c.args.value.now) (knot_means c.args.value.now) (record_refused knot_definitions knot_shape knot_part_definitions knot_parts knot_has_parts _ _ _ _ _ (first_refused no_definition (both knot_definitions no_definition) (leaf (number_kind unsigned w32)) (part (vec (boxed (one knot_shape))) no_part) [] ((each_keys (λ y. (knot_keys y.value)) (out-Knot c.args.value.now).next.items) ++ []) (number (pos (out-Knot c.args.value.now).id)) (value (list (each_meaning (λ y. (box (knot_meaning y.value))) (out-Knot c.args.value.now).next.items)) no_value) _ _ _ (part_planned knot_definitions (vec (boxed (one knot_shape))) (each_keys (λ y. (knot_keys y.value)) (out-Knot c.args.value.now).next.items) (list (each_meaning (λ y. (box (knot_meaning y.value))) (out-Knot c.args.value.now).next.items)) (vec_planned knot_definitions (boxed (one knot_shape)) _ _ _ (slice_planned knot_definitions (boxed (one knot_shape)) (λ y. (knot_keys y.value)) (λ y. (box (knot_meaning y.value))) (λ y. (boxed_one_planned knot_definitions (one knot_shape) knot_shape refl _ _ (knot_planned y.value))) (out-Knot c.args.value.now).next.items)) no_part_planned) c.in-Err.ensures.refused)))
+
+pub serialize_knot-returns-in-Err-serialize_vec_box_knot-clause-refused : goal.serialize_knot-returns-in-Err-serialize_vec_box_knot-clause-refused
+serialize_knot-returns-in-Err-serialize_vec_box_knot-clause-refused g t c = (refused_as (knot_has_keys c.args.value.now) (knot_means c.args.value.now) (record_refused knot_definitions knot_shape knot_part_definitions knot_parts knot_has_parts _ _ _ _ _ (later_refused no_definition (both knot_definitions no_definition) (leaf (number_kind unsigned w32)) (part (vec (boxed (one knot_shape))) no_part) [] ((each_keys (λ y. (knot_keys y.value)) (out-Knot c.args.value.now).next.items) ++ []) (number (pos (out-Knot c.args.value.now).id)) (value (list (each_meaning (λ y. (box (knot_meaning y.value))) (out-Knot c.args.value.now).next.items)) no_value) _ _ _ _ _ c.in-Ok.ensures.serialized c.serialize_part.ensures.goes_on c.serialize_vec_box_knot.ensures.goes_on (first_refused knot_definitions no_definition (vec (boxed (one knot_shape))) no_part (each_keys (λ y. (knot_keys y.value)) (out-Knot c.args.value.now).next.items) [] (list (each_meaning (λ y. (box (knot_meaning y.value))) (out-Knot c.args.value.now).next.items)) no_value _ _ _ no_part_planned c.in-Err-serialize_vec_box_knot.ensures.refused))))
+
+pub serialize_knot-returns-in-Err-serialize_vec_box_knot-clause-goes_on : goal.serialize_knot-returns-in-Err-serialize_vec_box_knot-clause-goes_on
+serialize_knot-returns-in-Err-serialize_vec_box_knot-clause-goes_on g t c = (goes_both _ _ _ c.serialize_part.ensures.goes_on c.serialize_vec_box_knot.ensures.goes_on)
+
+pub serialize_knot-returns-clause-serialized : goal.serialize_knot-returns-clause-serialized
+serialize_knot-returns-clause-serialized g t c = (written_as (knot_has_keys c.args.value.now) (knot_means c.args.value.now) refl (serialized_record knot_definitions knot_shape knot_part_definitions knot_parts knot_has_parts _ _ _ _ _ (serialized_part no_definition (both knot_definitions no_definition) (leaf (number_kind unsigned w32)) (part (vec (boxed (one knot_shape))) no_part) [] ((each_keys (λ y. (knot_keys y.value)) (out-Knot c.args.value.now).next.items) ++ []) (number (pos (out-Knot c.args.value.now).id)) (value (list (each_meaning (λ y. (box (knot_meaning y.value))) (out-Knot c.args.value.now).next.items)) no_value) _ _ _ _ _ c.in-Ok.ensures.serialized (serialized_part knot_definitions no_definition (vec (boxed (one knot_shape))) no_part (each_keys (λ y. (knot_keys y.value)) (out-Knot c.args.value.now).next.items) [] (list (each_meaning (λ y. (box (knot_meaning y.value))) (out-Knot c.args.value.now).next.items)) no_value _ _ _ _ _ c.in-Ok-serialize_vec_box_knot.ensures.serialized (serialized_no_part no_definition _)))))
+
+pub serialize_knot-returns-clause-goes_on : goal.serialize_knot-returns-clause-goes_on
+serialize_knot-returns-clause-goes_on g t c = (goes_both _ _ _ c.serialize_part.ensures.goes_on c.serialize_vec_box_knot.ensures.goes_on)
