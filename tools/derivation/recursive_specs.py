@@ -526,7 +526,7 @@ def still_mapped(it, item, which, items):
     its = PLACES[which] if it.family.shares else "(λ v. v)"
     if it.terms.is_member(item):
         return f"(each_{which} {it.terms.function(which, item, its)} (map {it.terms.own('both' if it.family.shares else which)[item.name]} {items}))"
-    return f"(each_{which} {it.terms.function(which, item, its)} (map _ {items}))"
+    return f"(each_{which} {said_of_mapped(it, item, which)} (map _ {items}))"
 
 
 def mapped(it, item, which, items):

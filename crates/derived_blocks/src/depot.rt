@@ -6,7 +6,7 @@ pub enum Depot {
     /// That it is free.
     Free,
     /// What each place holds, and what is owed.
-    Held(u8, u8, u8, u8, u8, u8, u8, u8, i16),
+    Held(u8, u8, u8, u8, u8, u8, u8, u8, i8),
     /// What was sent.
     Sent {
         /// Its number.
@@ -57,7 +57,7 @@ use archive_core::fields::{
 };
 use archive_core::own::{Field, HasField};
 use archive_core::place::Place;
-use archive_core::primitive::{ArchivedChar, ArchivedI16};
+use archive_core::primitive::ArchivedChar;
 use archive_core::seal::{Seal, sealed_part_in_case};
 use archive_core::self_check::{SelfCheck, check_choice};
 use archive_core::ser::{ResolverAlloc, Writer, serialize_one};
@@ -74,9 +74,9 @@ use std::alloc::Global;
 /// An archived `Depot`: 24 bytes at a multiple of 4.
 pub struct ArchivedDepot;
 
-type DepotHeldParts = FourParts<u8, u8, u8, u8, FourParts<u8, u8, u8, u8, (ArchivedI16, ())>>;
+type DepotHeldParts = FourParts<u8, u8, u8, u8, FourParts<u8, u8, u8, u8, (i8, ())>>;
 
-type DepotHeldOwned = FourParts<u8, u8, u8, u8, FourParts<u8, u8, u8, u8, (i16, ())>>;
+type DepotHeldOwned = FourParts<u8, u8, u8, u8, FourParts<u8, u8, u8, u8, (i8, ())>>;
 
 type DepotSentParts = FourParts<
     u8,
@@ -101,7 +101,7 @@ struct DepotHeldLent<'a> {
     a5: &'a u8,
     a6: &'a u8,
     a7: &'a u8,
-    a8: &'a i16,
+    a8: &'a i8,
 }
 
 // The fields as sources.
@@ -110,7 +110,7 @@ type DepotHeldFields = FourParts<
     Field<1, u8>,
     Field<2, u8>,
     Field<3, u8>,
-    FourParts<Field<4, u8>, Field<5, u8>, Field<6, u8>, Field<7, u8>, (Field<8, i16>, ())>,
+    FourParts<Field<4, u8>, Field<5, u8>, Field<6, u8>, Field<7, u8>, (Field<8, i8>, ())>,
 >;
 
 impl HasField<0, u8> for DepotHeldLent<'_> {
@@ -177,10 +177,10 @@ impl HasField<7, u8> for DepotHeldLent<'_> {
     }
 }
 
-impl HasField<8, i16> for DepotHeldLent<'_> {
+impl HasField<8, i8> for DepotHeldLent<'_> {
     ghost field = { λ v. v.a8.now };
 
-    fn field(&self) -> &i16 {
+    fn field(&self) -> &i8 {
         self.a8
     }
 }
@@ -288,7 +288,7 @@ impl ArchivePointee for ArchivedDepot {
         (part ⟦<u8 as Portable>⟧.shape (part ⟦<u8 as Portable>⟧.shape
         (part ⟦<u8 as Portable>⟧.shape (part ⟦<u8 as Portable>⟧.shape
         (part ⟦<u8 as Portable>⟧.shape (part ⟦<u8 as Portable>⟧.shape
-        (part ⟦<u8 as Portable>⟧.shape (part ⟦<ArchivedI16 as Portable>⟧.shape no_part)))))))))
+        (part ⟦<u8 as Portable>⟧.shape (part ⟦<i8 as Portable>⟧.shape no_part)))))))))
         (variant (part ⟦<u8 as Portable>⟧.shape (part ⟦<u8 as Portable>⟧.shape
         (part ⟦<u8 as Portable>⟧.shape (part ⟦<u8 as Portable>⟧.shape
         (part ⟦<ArchivedChar as Portable>⟧.shape (part ⟦<u8 as Portable>⟧.shape
@@ -310,7 +310,7 @@ impl Portable for ArchivedDepot {
         (part ⟦<u8 as Portable>⟧.shape (part ⟦<u8 as Portable>⟧.shape
         (part ⟦<u8 as Portable>⟧.shape (part ⟦<u8 as Portable>⟧.shape
         (part ⟦<u8 as Portable>⟧.shape (part ⟦<u8 as Portable>⟧.shape
-        (part ⟦<ArchivedI16 as Portable>⟧.shape no_part)))))))))
+        (part ⟦<i8 as Portable>⟧.shape no_part)))))))))
         (variant (part ⟦<u8 as Portable>⟧.shape (part ⟦<u8 as Portable>⟧.shape
         (part ⟦<u8 as Portable>⟧.shape (part ⟦<u8 as Portable>⟧.shape
         (part ⟦<ArchivedChar as Portable>⟧.shape (part ⟦<u8 as Portable>⟧.shape
@@ -332,7 +332,7 @@ impl Portable for ArchivedDepot {
         (part ⟦<u8 as Portable>⟧.shape (part ⟦<u8 as Portable>⟧.shape
         (part ⟦<u8 as Portable>⟧.shape (part ⟦<u8 as Portable>⟧.shape
         (part ⟦<u8 as Portable>⟧.shape (part ⟦<u8 as Portable>⟧.shape
-        (part ⟦<u8 as Portable>⟧.shape (part ⟦<ArchivedI16 as Portable>⟧.shape no_part)))))))))
+        (part ⟦<u8 as Portable>⟧.shape (part ⟦<i8 as Portable>⟧.shape no_part)))))))))
         (variant (part ⟦<u8 as Portable>⟧.shape (part ⟦<u8 as Portable>⟧.shape
         (part ⟦<u8 as Portable>⟧.shape (part ⟦<u8 as Portable>⟧.shape
         (part ⟦<ArchivedChar as Portable>⟧.shape (part ⟦<u8 as Portable>⟧.shape
@@ -364,7 +364,7 @@ impl SelfCheck for ArchivedDepot {
         (part ⟦<u8 as Portable>⟧.shape (part ⟦<u8 as Portable>⟧.shape
         (part ⟦<u8 as Portable>⟧.shape (part ⟦<u8 as Portable>⟧.shape
         (part ⟦<u8 as Portable>⟧.shape (part ⟦<u8 as Portable>⟧.shape
-        (part ⟦<ArchivedI16 as Portable>⟧.shape no_part)))))))))
+        (part ⟦<i8 as Portable>⟧.shape no_part)))))))))
         (variant (part ⟦<u8 as Portable>⟧.shape (part ⟦<u8 as Portable>⟧.shape
         (part ⟦<u8 as Portable>⟧.shape (part ⟦<u8 as Portable>⟧.shape
         (part ⟦<ArchivedChar as Portable>⟧.shape (part ⟦<u8 as Portable>⟧.shape
@@ -415,7 +415,7 @@ impl Choice for ArchivedDepot {
         (part ⟦<u8 as Portable>⟧.shape (part ⟦<u8 as Portable>⟧.shape
         (part ⟦<u8 as Portable>⟧.shape (part ⟦<u8 as Portable>⟧.shape
         (part ⟦<u8 as Portable>⟧.shape (part ⟦<u8 as Portable>⟧.shape
-        (part ⟦<u8 as Portable>⟧.shape (part ⟦<ArchivedI16 as Portable>⟧.shape no_part)))))))))
+        (part ⟦<u8 as Portable>⟧.shape (part ⟦<i8 as Portable>⟧.shape no_part)))))))))
         (variant (part ⟦<u8 as Portable>⟧.shape (part ⟦<u8 as Portable>⟧.shape
         (part ⟦<u8 as Portable>⟧.shape (part ⟦<u8 as Portable>⟧.shape
         (part ⟦<ArchivedChar as Portable>⟧.shape (part ⟦<u8 as Portable>⟧.shape
@@ -454,7 +454,7 @@ pub enum DepotResolver {
                                 <u8 as Archive>::Resolver,
                                 (
                                     <u8 as Archive>::Resolver,
-                                    (<u8 as Archive>::Resolver, (<i16 as Archive>::Resolver, ())),
+                                    (<u8 as Archive>::Resolver, (<i8 as Archive>::Resolver, ())),
                                 ),
                             ),
                         ),
@@ -507,7 +507,7 @@ impl Archive for Depot {
           (value (⟦<u8 as Archive>⟧.meaning a1) (value (⟦<u8 as Archive>⟧.meaning a2)
           (value (⟦<u8 as Archive>⟧.meaning a3) (value (⟦<u8 as Archive>⟧.meaning a4)
           (value (⟦<u8 as Archive>⟧.meaning a5) (value (⟦<u8 as Archive>⟧.meaning a6)
-          (value (⟦<u8 as Archive>⟧.meaning a7) (value (⟦<i16 as Archive>⟧.meaning a8)
+          (value (⟦<u8 as Archive>⟧.meaning a7) (value (⟦<i8 as Archive>⟧.meaning a8)
           no_value)))))))))
       | DepotSent a0 a1 a2 a3 a4 a5 a6 a7 a8 ↦ case 2 (value (⟦<u8 as Archive>⟧.meaning a0)
           (value (⟦<u8 as Archive>⟧.meaning a1) (value (⟦<u8 as Archive>⟧.meaning a2)
@@ -526,7 +526,7 @@ impl Archive for Depot {
             (⟦<u8 as Archive>⟧.flat a4 s.1.1.1.1.0) (value (⟦<u8 as Archive>⟧.flat a5 s.1.1.1.1.1.0)
             (value (⟦<u8 as Archive>⟧.flat a6 s.1.1.1.1.1.1.0)
             (value (⟦<u8 as Archive>⟧.flat a7 s.1.1.1.1.1.1.1.0)
-            (value (⟦<i16 as Archive>⟧.flat a8 s.1.1.1.1.1.1.1.1.0) no_value)))))))))
+            (value (⟦<i8 as Archive>⟧.flat a8 s.1.1.1.1.1.1.1.1.0) no_value)))))))))
         | _ ↦ case 1 no_value
       ]
       | DepotSent a0 a1 a2 a3 a4 a5 a6 a7 a8 ↦ elim r [
@@ -548,7 +548,7 @@ impl Archive for Depot {
           ++ (⟦<u8 as Archive>⟧.keys a1 ++ (⟦<u8 as Archive>⟧.keys a2
           ++ (⟦<u8 as Archive>⟧.keys a3 ++ (⟦<u8 as Archive>⟧.keys a4
           ++ (⟦<u8 as Archive>⟧.keys a5 ++ (⟦<u8 as Archive>⟧.keys a6
-          ++ (⟦<u8 as Archive>⟧.keys a7 ++ (⟦<i16 as Archive>⟧.keys a8 ++ []))))))))
+          ++ (⟦<u8 as Archive>⟧.keys a7 ++ (⟦<i8 as Archive>⟧.keys a8 ++ []))))))))
       | DepotSent a0 a1 a2 a3 a4 a5 a6 a7 a8 ↦ ⟦<u8 as Archive>⟧.keys a0
           ++ (⟦<u8 as Archive>⟧.keys a1 ++ (⟦<u8 as Archive>⟧.keys a2
           ++ (⟦<u8 as Archive>⟧.keys a3 ++ (⟦<char as Archive>⟧.keys a4
@@ -565,7 +565,7 @@ impl Archive for Depot {
             × (⟦<u8 as Archive>⟧.belongs a5 s.1.1.1.1.1.0
             × (⟦<u8 as Archive>⟧.belongs a6 s.1.1.1.1.1.1.0
             × (⟦<u8 as Archive>⟧.belongs a7 s.1.1.1.1.1.1.1.0
-            × (⟦<i16 as Archive>⟧.belongs a8 s.1.1.1.1.1.1.1.1.0 × Unit {0}))))))))
+            × (⟦<i8 as Archive>⟧.belongs a8 s.1.1.1.1.1.1.1.1.0 × Unit {0}))))))))
         | _ ↦ ⊥
       ]
       | DepotSent a0 a1 a2 a3 a4 a5 a6 a7 a8 ↦ elim r [
@@ -605,7 +605,7 @@ impl Archive for Depot {
           (part ⟦<u8 as Portable>⟧.shape (part ⟦<u8 as Portable>⟧.shape
           (part ⟦<u8 as Portable>⟧.shape (part ⟦<u8 as Portable>⟧.shape
           (part ⟦<u8 as Portable>⟧.shape (part ⟦<u8 as Portable>⟧.shape
-          (part ⟦<ArchivedI16 as Portable>⟧.shape no_part))))))))) refl
+          (part ⟦<i8 as Portable>⟧.shape no_part))))))))) refl
           (both no_definition (both no_definition (both no_definition
           (both no_definition (both no_definition (both no_definition
           (both no_definition (both no_definition (both no_definition no_definition))))))))) _ _
@@ -625,8 +625,8 @@ impl Archive for Depot {
           (⟦<u8 as Archive>⟧.meaning a6) (leaf_planned no_definition _ _ [] _ refl)
           (part_planned no_definition ⟦<u8 as Portable>⟧.shape (⟦<u8 as Archive>⟧.keys a7)
           (⟦<u8 as Archive>⟧.meaning a7) (leaf_planned no_definition _ _ [] _ refl)
-          (part_planned no_definition ⟦<ArchivedI16 as Portable>⟧.shape (⟦<i16 as Archive>⟧.keys a8)
-          (⟦<i16 as Archive>⟧.meaning a8) (leaf_planned no_definition _ _ [] _ refl)
+          (part_planned no_definition ⟦<i8 as Portable>⟧.shape (⟦<i8 as Archive>⟧.keys a8)
+          (⟦<i8 as Archive>⟧.meaning a8) (leaf_planned no_definition _ _ [] _ refl)
           no_part_planned))))))))) refl
       | DepotSent a0 a1 a2 a3 a4 a5 a6 a7 a8 ↦ plain_variant_planned _ _ 2
           (part ⟦<u8 as Portable>⟧.shape (part ⟦<u8 as Portable>⟧.shape
@@ -826,7 +826,7 @@ impl ArchiveUnsized for Depot {
         (part ⟦<u8 as Portable>⟧.shape (part ⟦<u8 as Portable>⟧.shape
         (part ⟦<u8 as Portable>⟧.shape (part ⟦<u8 as Portable>⟧.shape
         (part ⟦<u8 as Portable>⟧.shape (part ⟦<u8 as Portable>⟧.shape
-        (part ⟦<u8 as Portable>⟧.shape (part ⟦<ArchivedI16 as Portable>⟧.shape no_part)))))))))
+        (part ⟦<u8 as Portable>⟧.shape (part ⟦<i8 as Portable>⟧.shape no_part)))))))))
         (variant (part ⟦<u8 as Portable>⟧.shape (part ⟦<u8 as Portable>⟧.shape
         (part ⟦<u8 as Portable>⟧.shape (part ⟦<u8 as Portable>⟧.shape
         (part ⟦<ArchivedChar as Portable>⟧.shape (part ⟦<u8 as Portable>⟧.shape
@@ -858,12 +858,12 @@ fn depot_held_of(values: DepotHeldOwned) -> Depot
         (value (⟦<u8 as Archive>⟧.meaning values.rest.second)
         (value (⟦<u8 as Archive>⟧.meaning values.rest.third)
         (value (⟦<u8 as Archive>⟧.meaning values.rest.fourth)
-        (value (⟦<i16 as Archive>⟧.meaning values.rest.rest.0) no_value))))))))) }
+        (value (⟦<i8 as Archive>⟧.meaning values.rest.rest.0) no_value))))))))) }
     ensures keys { ⟦<Depot as Archive>⟧.keys result ≡ ⟦<u8 as Archive>⟧.keys values.first
         ++ (⟦<u8 as Archive>⟧.keys values.second ++ (⟦<u8 as Archive>⟧.keys values.third
         ++ (⟦<u8 as Archive>⟧.keys values.fourth ++ (⟦<u8 as Archive>⟧.keys values.rest.first
         ++ (⟦<u8 as Archive>⟧.keys values.rest.second ++ (⟦<u8 as Archive>⟧.keys values.rest.third
-        ++ (⟦<u8 as Archive>⟧.keys values.rest.fourth ++ (⟦<i16 as Archive>⟧.keys values.rest.rest.0
+        ++ (⟦<u8 as Archive>⟧.keys values.rest.fourth ++ (⟦<i8 as Archive>⟧.keys values.rest.rest.0
         ++ [])))))))) }
 {
     let FourParts {
@@ -984,7 +984,7 @@ pub enum ViewOfDepot<'a> {
         Ref<'a, u8>,
         Ref<'a, u8>,
         Ref<'a, u8>,
-        Ref<'a, ArchivedI16>,
+        Ref<'a, i8>,
     ),
     /// What was sent.
     Sent {
@@ -1038,7 +1038,7 @@ impl<'a> DepotView<'a> for Ref<'a, ArchivedDepot> {
               × ShowsValueOf a6 self.entry (payload_in 6) × (a7.bytes.now ≡ self.entry.bytes.now)
               × (a7.pos ≡ self.entry.pos + 8) × (a7.len ≡ 0)
               × ShowsValueOf a7 self.entry (payload_in 7) × (a8.bytes.now ≡ self.entry.bytes.now)
-              × (a8.pos ≡ self.entry.pos + 10) × (a8.len ≡ 0)
+              × (a8.pos ≡ self.entry.pos + 9) × (a8.len ≡ 0)
               × ShowsValueOf a8 self.entry (payload_in 8)
           | DepotSentShown a0 a1 a2 a3 a4 a5 a6 a7 a8 ↦ (tag_of self.entry ≡ 2)
               × (a0.bytes.now ≡ self.entry.bytes.now) × (a0.pos ≡ self.entry.pos + 1) × (a0.len ≡ 0)
@@ -1072,7 +1072,7 @@ impl<'a> DepotView<'a> for Ref<'a, ArchivedDepot> {
                 let a5 = part_in_case::<ArchivedDepot, u8>(self, 1, 5, 6);
                 let a6 = part_in_case::<ArchivedDepot, u8>(self, 1, 6, 7);
                 let a7 = part_in_case::<ArchivedDepot, u8>(self, 1, 7, 8);
-                let a8 = part_in_case::<ArchivedDepot, ArchivedI16>(self, 1, 8, 10);
+                let a8 = part_in_case::<ArchivedDepot, i8>(self, 1, 8, 9);
                 ViewOfDepot::Held(a0, a1, a2, a3, a4, a5, a6, a7, a8)
             }
             _ => ViewOfDepot::Sent {
@@ -1139,7 +1139,7 @@ pub trait DepotSeal<'a> {
         requires tag { tag self ≡ 1 };
 
     /// The field `8` of `Held`.
-    fn held_8_mut(self) -> Seal<'a, ArchivedI16>
+    fn held_8_mut(self) -> Seal<'a, i8>
         requires come_to { sealed self }
         requires tag { tag self ≡ 1 };
 
@@ -1266,13 +1266,13 @@ impl<'a> DepotSeal<'a> for Seal<'a, ArchivedDepot> {
         sealed_part_in_case::<ArchivedDepot, u8>(self, 1, 7, 8)
     }
 
-    fn held_8_mut(self) -> Seal<'a, ArchivedI16>
+    fn held_8_mut(self) -> Seal<'a, i8>
         requires come_to { IsSealOf no_definition (one ⟦<ArchivedDepot as Portable>⟧.shape) self }
         requires tag { seal_tag self ≡ 1 }
         ensures { SealsPart no_definition (one ⟦<ArchivedDepot as Portable>⟧.shape) no_definition
-            ⟦<ArchivedI16 as ArchivePointee>⟧.pointee (self.entry.pos + 10) 0 self.entry result }
+            ⟦<i8 as ArchivePointee>⟧.pointee (self.entry.pos + 9) 0 self.entry result }
     {
-        sealed_part_in_case::<ArchivedDepot, ArchivedI16>(self, 1, 8, 10)
+        sealed_part_in_case::<ArchivedDepot, i8>(self, 1, 8, 9)
     }
 
     fn sent_number_mut(self) -> Seal<'a, u8>

@@ -7,13 +7,6 @@ use std::collections::BTreeMap;
 pub enum Notice {
     /// The room is closed.
     Closed,
-    /// Somebody came.
-    Joined(u8),
-    /// Somebody went.
-    Left {
-        member: u8,
-        reason: Option<String>,
-    },
     /// A file, and its digest.
     File {
         member: u8,
@@ -63,8 +56,8 @@ ghost use Rattle.std.specs.Prelude.{None, [], codes, refl, string_bytes, true, �
 use archive_core::core_impls::{ArchivedTuple2, OwnedArray};
 use archive_core::error::Error;
 use archive_core::fields::{
-    known_tag, part_in_case, read_case, resolve_case_0, resolve_case_1, resolve_case_2,
-    resolve_case_3, serialize_case_0, serialize_case_1, serialize_case_2, serialize_case_3, tag_in,
+    known_tag, part_in_case, read_case, resolve_case_0, resolve_case_1, resolve_case_3,
+    serialize_case_0, serialize_case_1, serialize_case_3, tag_in,
 };
 use archive_core::map::ArchivedSortedMap;
 use archive_core::option::ArchivedOption;
@@ -86,14 +79,6 @@ use std::alloc::Global;
 
 /// An archived `Notice`: 24 bytes at a multiple of 4.
 pub struct ArchivedNotice;
-
-type NoticeJoinedParts = (u8, ());
-
-type NoticeJoinedOwned = (u8, ());
-
-type NoticeLeftParts = (u8, (ArchivedOption<ArchivedString>, ()));
-
-type NoticeLeftOwned = (u8, (Option<String>, ()));
 
 type NoticeFileParts = (u8, (ArchivedString, ([u8; 4], ())));
 
@@ -117,16 +102,7 @@ type NoticeResultParts = (ArchivedVec<ArchivedTuple2<ArchivedString, ArchivedU32
 
 type NoticeResultOwned = (Vec<(String, u32)>, ());
 
-type NoticeVariants = (
-    (),
-    (
-        NoticeJoinedParts,
-        (
-            NoticeLeftParts,
-            (NoticeFileParts, (NoticeSettingsParts, NoticeRest1)),
-        ),
-    ),
-);
+type NoticeVariants = ((), (NoticeFileParts, (NoticeSettingsParts, NoticeRest1)));
 
 /// The variants of `Notice` from `Poll` on, as one type: it has no values.
 pub struct NoticeRest1;
@@ -346,10 +322,7 @@ impl ArchivePointee for ArchivedNotice {
     type ArchivedMetadata = ();
 
     ghost pointee = { one (choice (codes "ArchivedNotice")
-        (variant no_part (variant (part ⟦<u8 as Portable>⟧.shape no_part)
-        (variant
-        (part ⟦<u8 as Portable>⟧.shape (part ⟦<ArchivedOption<ArchivedString> as Portable>⟧.shape
-        no_part)) (variant (part ⟦<u8 as Portable>⟧.shape
+        (variant no_part (variant (part ⟦<u8 as Portable>⟧.shape
         (part ⟦<ArchivedString as Portable>⟧.shape (part ⟦<[u8; 4] as Portable>⟧.shape no_part)))
         (variant (part ⟦<ArchivedSortedMap<ArchivedString, ArchivedString> as Portable>⟧.shape
         no_part) (variant (part ⟦<ArchivedString as Portable>⟧.shape
@@ -357,7 +330,7 @@ impl ArchivePointee for ArchivedNotice {
         (part ⟦<ArchivedOption<u8> as Portable>⟧.shape no_part)))
         (variant
         (part ⟦<ArchivedVec<ArchivedTuple2<ArchivedString, ArchivedU32>> as Portable>⟧.shape
-        no_part) no_variant)))))))) };
+        no_part) no_variant)))))) };
 
     ghost definitions = { no_definition };
 
@@ -370,18 +343,15 @@ impl ArchivePointee for ArchivedNotice {
 
 impl Portable for ArchivedNotice {
     ghost shape = { choice (codes "ArchivedNotice") (variant no_part
-        (variant (part ⟦<u8 as Portable>⟧.shape no_part)
-        (variant
-        (part ⟦<u8 as Portable>⟧.shape (part ⟦<ArchivedOption<ArchivedString> as Portable>⟧.shape
-        no_part)) (variant (part ⟦<u8 as Portable>⟧.shape
-        (part ⟦<ArchivedString as Portable>⟧.shape (part ⟦<[u8; 4] as Portable>⟧.shape no_part)))
-        (variant (part ⟦<ArchivedSortedMap<ArchivedString, ArchivedString> as Portable>⟧.shape
-        no_part) (variant (part ⟦<ArchivedString as Portable>⟧.shape
+        (variant (part ⟦<u8 as Portable>⟧.shape (part ⟦<ArchivedString as Portable>⟧.shape
+        (part ⟦<[u8; 4] as Portable>⟧.shape no_part))) (variant
+        (part ⟦<ArchivedSortedMap<ArchivedString, ArchivedString> as Portable>⟧.shape no_part)
+        (variant (part ⟦<ArchivedString as Portable>⟧.shape
         (part ⟦<ArchivedVec<ArchivedTuple2<ArchivedString, ArchivedU32>> as Portable>⟧.shape
         (part ⟦<ArchivedOption<u8> as Portable>⟧.shape no_part)))
         (variant
         (part ⟦<ArchivedVec<ArchivedTuple2<ArchivedString, ArchivedU32>> as Portable>⟧.shape
-        no_part) no_variant))))))) };
+        no_part) no_variant))))) };
 
     ghost layout = { record { size = 24; align = 4 } };
 
@@ -394,10 +364,7 @@ impl Portable for ArchivedNotice {
     ghost has_layout = { record { solved = λ s k. refl } };
 
     ghost no_others = { no_definition_reached (choice (codes "ArchivedNotice")
-        (variant no_part (variant (part ⟦<u8 as Portable>⟧.shape no_part)
-        (variant
-        (part ⟦<u8 as Portable>⟧.shape (part ⟦<ArchivedOption<ArchivedString> as Portable>⟧.shape
-        no_part)) (variant (part ⟦<u8 as Portable>⟧.shape
+        (variant no_part (variant (part ⟦<u8 as Portable>⟧.shape
         (part ⟦<ArchivedString as Portable>⟧.shape (part ⟦<[u8; 4] as Portable>⟧.shape no_part)))
         (variant (part ⟦<ArchivedSortedMap<ArchivedString, ArchivedString> as Portable>⟧.shape
         no_part) (variant (part ⟦<ArchivedString as Portable>⟧.shape
@@ -405,7 +372,7 @@ impl Portable for ArchivedNotice {
         (part ⟦<ArchivedOption<u8> as Portable>⟧.shape no_part)))
         (variant
         (part ⟦<ArchivedVec<ArchivedTuple2<ArchivedString, ArchivedU32>> as Portable>⟧.shape
-        no_part) no_variant)))))))) };
+        no_part) no_variant)))))) };
 
     ghost checks = { λ _. plain_own_check _ _ _ _ _ refl refl refl refl };
 
@@ -428,27 +395,22 @@ impl Portable for ArchivedNotice {
 
 impl SelfCheck for ArchivedNotice {
     ghost shape = { choice (codes "ArchivedNotice") (variant no_part
-        (variant (part ⟦<u8 as Portable>⟧.shape no_part)
-        (variant
-        (part ⟦<u8 as Portable>⟧.shape (part ⟦<ArchivedOption<ArchivedString> as Portable>⟧.shape
-        no_part)) (variant (part ⟦<u8 as Portable>⟧.shape
-        (part ⟦<ArchivedString as Portable>⟧.shape (part ⟦<[u8; 4] as Portable>⟧.shape no_part)))
-        (variant (part ⟦<ArchivedSortedMap<ArchivedString, ArchivedString> as Portable>⟧.shape
-        no_part) (variant (part ⟦<ArchivedString as Portable>⟧.shape
+        (variant (part ⟦<u8 as Portable>⟧.shape (part ⟦<ArchivedString as Portable>⟧.shape
+        (part ⟦<[u8; 4] as Portable>⟧.shape no_part))) (variant
+        (part ⟦<ArchivedSortedMap<ArchivedString, ArchivedString> as Portable>⟧.shape no_part)
+        (variant (part ⟦<ArchivedString as Portable>⟧.shape
         (part ⟦<ArchivedVec<ArchivedTuple2<ArchivedString, ArchivedU32>> as Portable>⟧.shape
         (part ⟦<ArchivedOption<u8> as Portable>⟧.shape no_part)))
         (variant
         (part ⟦<ArchivedVec<ArchivedTuple2<ArchivedString, ArchivedU32>> as Portable>⟧.shape
-        no_part) no_variant))))))) };
+        no_part) no_variant))))) };
 
-    ghost definitions = { (both no_definition (both (both no_definition no_definition)
-        (both (both no_definition (both no_definition no_definition))
-        (both (both no_definition (both no_definition (both no_definition no_definition)))
+    ghost definitions = { (both no_definition (both (both no_definition
+        (both no_definition (both no_definition no_definition)))
         (both (both (both no_definition (both no_definition no_definition)) no_definition)
         (both (both no_definition (both (both no_definition (both no_definition no_definition))
         (both no_definition no_definition))) (both (both
-        (both no_definition (both no_definition no_definition)) no_definition)
-        no_definition))))))) };
+        (both no_definition (both no_definition no_definition)) no_definition) no_definition))))) };
 
     ghost span = { 22 };
 
@@ -481,10 +443,7 @@ impl Choice for ArchivedNotice {
     ghost name = { codes "ArchivedNotice" };
 
     ghost has_variants = { plain_choice (codes "ArchivedNotice")
-        (variant no_part (variant (part ⟦<u8 as Portable>⟧.shape no_part)
-        (variant
-        (part ⟦<u8 as Portable>⟧.shape (part ⟦<ArchivedOption<ArchivedString> as Portable>⟧.shape
-        no_part)) (variant (part ⟦<u8 as Portable>⟧.shape
+        (variant no_part (variant (part ⟦<u8 as Portable>⟧.shape
         (part ⟦<ArchivedString as Portable>⟧.shape (part ⟦<[u8; 4] as Portable>⟧.shape no_part)))
         (variant (part ⟦<ArchivedSortedMap<ArchivedString, ArchivedString> as Portable>⟧.shape
         no_part) (variant (part ⟦<ArchivedString as Portable>⟧.shape
@@ -492,13 +451,12 @@ impl Choice for ArchivedNotice {
         (part ⟦<ArchivedOption<u8> as Portable>⟧.shape no_part)))
         (variant
         (part ⟦<ArchivedVec<ArchivedTuple2<ArchivedString, ArchivedU32>> as Portable>⟧.shape
-        no_part) no_variant))))))) (both no_definition (both (both no_definition no_definition)
-        (both (both no_definition (both no_definition no_definition))
-        (both (both no_definition (both no_definition (both no_definition no_definition)))
+        no_part) no_variant))))) (both no_definition (both
+        (both no_definition (both no_definition (both no_definition no_definition)))
         (both (both (both no_definition (both no_definition no_definition)) no_definition)
         (both (both no_definition (both (both no_definition (both no_definition no_definition))
         (both no_definition no_definition))) (both (both
-        (both no_definition (both no_definition no_definition)) no_definition) no_definition)))))))
+        (both no_definition (both no_definition no_definition)) no_definition) no_definition)))))
         refl };
 
     ghost holds = { lit≤ tt };
@@ -509,15 +467,6 @@ impl Choice for ArchivedNotice {
 pub enum NoticeResolver {
     /// Of `Closed`.
     Closed,
-    /// Of `Joined`.
-    Joined((<u8 as Archive>::Resolver, ())),
-    /// Of `Left`.
-    Left(
-        (
-            <u8 as Archive>::Resolver,
-            (<Option<String> as Archive>::Resolver, ()),
-        ),
-    ),
     /// Of `File`.
     File(
         (
@@ -545,8 +494,8 @@ pub enum NoticeResolver {
 }
 
 impl Archive for Notice {
-    ghost use Rattle.derived_blocks.specs.declared.notice.Notice.TheVariants.{Closed as NoticeClosed, File as NoticeFile, Joined as NoticeJoined, Left as NoticeLeft, Poll as NoticePoll, Result as NoticeResult, Settings as NoticeSettings};
-    ghost use Rattle.derived_blocks.specs.declared.notice.NoticeResolver.TheVariants.{Closed as NoticeClosedKept, File as NoticeFileKept, Joined as NoticeJoinedKept, Left as NoticeLeftKept, Poll as NoticePollKept, Result as NoticeResultKept, Settings as NoticeSettingsKept};
+    ghost use Rattle.derived_blocks.specs.declared.notice.Notice.TheVariants.{Closed as NoticeClosed, File as NoticeFile, Poll as NoticePoll, Result as NoticeResult, Settings as NoticeSettings};
+    ghost use Rattle.derived_blocks.specs.declared.notice.NoticeResolver.TheVariants.{Closed as NoticeClosedKept, File as NoticeFileKept, Poll as NoticePollKept, Result as NoticeResultKept, Settings as NoticeSettingsKept};
 
     type Archived = ArchivedNotice;
 
@@ -554,60 +503,45 @@ impl Archive for Notice {
 
     ghost meaning = { elim [
       | NoticeClosed ↦ case 0 no_value
-      | NoticeJoined a0 ↦ case 1 (value (⟦<u8 as Archive>⟧.meaning a0) no_value)
-      | NoticeLeft a0 a1 ↦ case 2 (value (⟦<u8 as Archive>⟧.meaning a0)
-          (value (⟦<Option<String> as Archive>⟧.meaning a1) no_value))
-      | NoticeFile a0 a1 a2 ↦ case 3 (value (⟦<u8 as Archive>⟧.meaning a0)
+      | NoticeFile a0 a1 a2 ↦ case 1 (value (⟦<u8 as Archive>⟧.meaning a0)
           (value (⟦<String as Archive>⟧.meaning a1) (value (⟦<[u8; 4] as Archive>⟧.meaning a2)
           no_value)))
-      | NoticeSettings a0 ↦ case 4 (value (⟦<BTreeMap<String, String> as Archive>⟧.meaning a0)
+      | NoticeSettings a0 ↦ case 2 (value (⟦<BTreeMap<String, String> as Archive>⟧.meaning a0)
           no_value)
-      | NoticePoll a0 a1 a2 ↦ case 5 (value (⟦<String as Archive>⟧.meaning a0)
+      | NoticePoll a0 a1 a2 ↦ case 3 (value (⟦<String as Archive>⟧.meaning a0)
           (value (⟦<Vec<(String, u32)> as Archive>⟧.meaning a1)
           (value (⟦<Option<u8> as Archive>⟧.meaning a2) no_value)))
-      | NoticeResult a0 ↦ case 6 (value (⟦<Vec<(String, u32)> as Archive>⟧.meaning a0) no_value)
+      | NoticeResult a0 ↦ case 4 (value (⟦<Vec<(String, u32)> as Archive>⟧.meaning a0) no_value)
     ] };
 
     ghost flat = { λ v r. elim v [
       | NoticeClosed ↦ case 0 no_value
-      | NoticeJoined a0 ↦ elim r [
-        | NoticeJoinedKept s ↦ case 1 (value (⟦<u8 as Archive>⟧.flat a0 s.0) no_value)
-        | _ ↦ case 1 no_value
-      ]
-      | NoticeLeft a0 a1 ↦ elim r [
-        | NoticeLeftKept s ↦ case 2 (value (⟦<u8 as Archive>⟧.flat a0 s.0)
-            (value (⟦<Option<String> as Archive>⟧.flat a1 s.1.0) no_value))
-        | _ ↦ case 2 no_value
-      ]
       | NoticeFile a0 a1 a2 ↦ elim r [
-        | NoticeFileKept s ↦ case 3 (value (⟦<u8 as Archive>⟧.flat a0 s.0)
+        | NoticeFileKept s ↦ case 1 (value (⟦<u8 as Archive>⟧.flat a0 s.0)
             (value (⟦<String as Archive>⟧.flat a1 s.1.0) (value
             (⟦<[u8; 4] as Archive>⟧.flat a2 s.1.1.0) no_value)))
-        | _ ↦ case 3 no_value
+        | _ ↦ case 1 no_value
       ]
       | NoticeSettings a0 ↦ elim r [
-        | NoticeSettingsKept s ↦ case 4 (value (⟦<BTreeMap<String, String> as Archive>⟧.flat a0 s.0)
+        | NoticeSettingsKept s ↦ case 2 (value (⟦<BTreeMap<String, String> as Archive>⟧.flat a0 s.0)
             no_value)
-        | _ ↦ case 4 no_value
+        | _ ↦ case 2 no_value
       ]
       | NoticePoll a0 a1 a2 ↦ elim r [
-        | NoticePollKept s ↦ case 5 (value (⟦<String as Archive>⟧.flat a0 s.0)
+        | NoticePollKept s ↦ case 3 (value (⟦<String as Archive>⟧.flat a0 s.0)
             (value (⟦<Vec<(String, u32)> as Archive>⟧.flat a1 s.1.0)
             (value (⟦<Option<u8> as Archive>⟧.flat a2 s.1.1.0) no_value)))
-        | _ ↦ case 5 no_value
+        | _ ↦ case 3 no_value
       ]
       | NoticeResult a0 ↦ elim r [
-        | NoticeResultKept s ↦ case 6 (value (⟦<Vec<(String, u32)> as Archive>⟧.flat a0 s.0)
+        | NoticeResultKept s ↦ case 4 (value (⟦<Vec<(String, u32)> as Archive>⟧.flat a0 s.0)
             no_value)
-        | _ ↦ case 6 no_value
+        | _ ↦ case 4 no_value
       ]
     ] };
 
     ghost keys = { elim [
       | NoticeClosed ↦ []
-      | NoticeJoined a0 ↦ ⟦<u8 as Archive>⟧.keys a0 ++ []
-      | NoticeLeft a0 a1 ↦ ⟦<u8 as Archive>⟧.keys a0 ++ (⟦<Option<String> as Archive>⟧.keys a1
-          ++ [])
       | NoticeFile a0 a1 a2 ↦ ⟦<u8 as Archive>⟧.keys a0
           ++ (⟦<String as Archive>⟧.keys a1 ++ (⟦<[u8; 4] as Archive>⟧.keys a2 ++ []))
       | NoticeSettings a0 ↦ ⟦<BTreeMap<String, String> as Archive>⟧.keys a0 ++ []
@@ -619,15 +553,6 @@ impl Archive for Notice {
 
     ghost belongs = { λ v r. elim v [
       | NoticeClosed ↦ elim r [ NoticeClosedKept ↦ Unit {0} | _ ↦ ⊥ ]
-      | NoticeJoined a0 ↦ elim r [
-        | NoticeJoinedKept s ↦ ⟦<u8 as Archive>⟧.belongs a0 s.0 × Unit {0}
-        | _ ↦ ⊥
-      ]
-      | NoticeLeft a0 a1 ↦ elim r [
-        | NoticeLeftKept s ↦ ⟦<u8 as Archive>⟧.belongs a0 s.0
-            × (⟦<Option<String> as Archive>⟧.belongs a1 s.1.0 × Unit {0})
-        | _ ↦ ⊥
-      ]
       | NoticeFile a0 a1 a2 ↦ elim r [
         | NoticeFileKept s ↦ ⟦<u8 as Archive>⟧.belongs a0 s.0
             × (⟦<String as Archive>⟧.belongs a1 s.1.0 × (⟦<[u8; 4] as Archive>⟧.belongs a2 s.1.1.0
@@ -654,26 +579,22 @@ impl Archive for Notice {
 
     ghost keyed = { elim [
       | NoticeClosed ↦ case_keyed _ 0 _ nothing_keyed
-      | NoticeJoined a0 ↦ case_keyed _ 1 _ (part_keyed (number_keyed _) nothing_keyed)
-      | NoticeLeft a0 a1 ↦ case_keyed _ 2 _ (part_keyed (number_keyed _)
-          (part_keyed (option_keyed ⟦<String as Archive>⟧.keys ⟦<String as Archive>⟧.meaning
-          (λ x. text_keyed (string_bytes x)) a1) nothing_keyed))
-      | NoticeFile a0 a1 a2 ↦ case_keyed _ 3 _ (part_keyed (number_keyed _)
+      | NoticeFile a0 a1 a2 ↦ case_keyed _ 1 _ (part_keyed (number_keyed _)
           (part_keyed (text_keyed (string_bytes a1)) (part_keyed
           (array_keyed 4 ⟦<u8 as Archive>⟧.keys ⟦<u8 as Archive>⟧.meaning (λ x. number_keyed _) a2)
           nothing_keyed)))
-      | NoticeSettings a0 ↦ case_keyed _ 4 _ (part_keyed
+      | NoticeSettings a0 ↦ case_keyed _ 2 _ (part_keyed
           (pairs_keyed ⟦<String as Archive>⟧.keys ⟦<String as Archive>⟧.keys
           ⟦<String as Archive>⟧.meaning ⟦<String as Archive>⟧.meaning
           (λ x. text_keyed (string_bytes x)) (λ x. text_keyed (string_bytes x)) a0.entries)
           nothing_keyed)
-      | NoticePoll a0 a1 a2 ↦ case_keyed _ 5 _ (part_keyed (text_keyed (string_bytes a0))
+      | NoticePoll a0 a1 a2 ↦ case_keyed _ 3 _ (part_keyed (text_keyed (string_bytes a0))
           (part_keyed (each_keyed ⟦<(String, u32) as Archive>⟧.keys
           ⟦<(String, u32) as Archive>⟧.meaning (λ x. record_keyed
           (part_keyed (text_keyed (string_bytes x.0)) (part_keyed (number_keyed _) nothing_keyed)))
           a1.items) (part_keyed (option_keyed ⟦<u8 as Archive>⟧.keys ⟦<u8 as Archive>⟧.meaning
           (λ x. number_keyed _) a2) nothing_keyed)))
-      | NoticeResult a0 ↦ case_keyed _ 6 _ (part_keyed
+      | NoticeResult a0 ↦ case_keyed _ 4 _ (part_keyed
           (each_keyed ⟦<(String, u32) as Archive>⟧.keys ⟦<(String, u32) as Archive>⟧.meaning
           (λ x. record_keyed (part_keyed (text_keyed (string_bytes x.0))
           (part_keyed (number_keyed _) nothing_keyed))) a0.items) nothing_keyed)
@@ -682,21 +603,7 @@ impl Archive for Notice {
     ghost planned = { elim [
       | NoticeClosed ↦ plain_variant_planned _ _ 0 no_part refl no_definition _ _ no_part_planned
           refl
-      | NoticeJoined a0 ↦ plain_variant_planned _ _ 1 (part ⟦<u8 as Portable>⟧.shape no_part) refl
-          (both no_definition no_definition) _ _ (part_planned no_definition
-          ⟦<u8 as Portable>⟧.shape (⟦<u8 as Archive>⟧.keys a0) (⟦<u8 as Archive>⟧.meaning a0)
-          (leaf_planned no_definition _ _ [] _ refl) no_part_planned) refl
-      | NoticeLeft a0 a1 ↦ plain_variant_planned _ _ 2
-          (part ⟦<u8 as Portable>⟧.shape (part ⟦<ArchivedOption<ArchivedString> as Portable>⟧.shape
-          no_part)) refl (both no_definition (both no_definition no_definition)) _ _
-          (part_planned no_definition ⟦<u8 as Portable>⟧.shape (⟦<u8 as Archive>⟧.keys a0)
-          (⟦<u8 as Archive>⟧.meaning a0) (leaf_planned no_definition _ _ [] _ refl)
-          (part_planned no_definition ⟦<ArchivedOption<ArchivedString> as Portable>⟧.shape
-          (⟦<Option<String> as Archive>⟧.keys a1) (⟦<Option<String> as Archive>⟧.meaning a1)
-          (option_planned no_definition ⟦<ArchivedString as Portable>⟧.shape
-          ⟦<String as Archive>⟧.keys ⟦<String as Archive>⟧.meaning
-          (λ x. string_planned no_definition [] (string_bytes x)) a1) no_part_planned)) refl
-      | NoticeFile a0 a1 a2 ↦ plain_variant_planned _ _ 3
+      | NoticeFile a0 a1 a2 ↦ plain_variant_planned _ _ 1
           (part ⟦<u8 as Portable>⟧.shape (part ⟦<ArchivedString as Portable>⟧.shape
           (part ⟦<[u8; 4] as Portable>⟧.shape no_part))) refl
           (both no_definition (both no_definition (both no_definition no_definition))) _ _
@@ -709,7 +616,7 @@ impl Archive for Notice {
           (⟦<[u8; 4] as Archive>⟧.meaning a2) (array_planned 4 no_definition
           ⟦<u8 as Portable>⟧.shape ⟦<u8 as Archive>⟧.keys ⟦<u8 as Archive>⟧.meaning
           (λ x. leaf_planned no_definition _ _ [] _ refl) a2) no_part_planned))) refl
-      | NoticeSettings a0 ↦ plain_variant_planned _ _ 4
+      | NoticeSettings a0 ↦ plain_variant_planned _ _ 2
           (part ⟦<ArchivedSortedMap<ArchivedString, ArchivedString> as Portable>⟧.shape no_part)
           refl (both (both no_definition (both no_definition no_definition)) no_definition) _ _
           (part_planned (both no_definition (both no_definition no_definition))
@@ -722,7 +629,7 @@ impl Archive for Notice {
           (λ x. string_planned no_definition [] (string_bytes x))
           (λ x. string_planned no_definition [] (string_bytes x)) ⟦<ArchivedString as MapKey>⟧.key
           refl a0.entries) no_part_planned) refl
-      | NoticePoll a0 a1 a2 ↦ plain_variant_planned _ _ 5
+      | NoticePoll a0 a1 a2 ↦ plain_variant_planned _ _ 3
           (part ⟦<ArchivedString as Portable>⟧.shape (part
           ⟦<ArchivedVec<ArchivedTuple2<ArchivedString, ArchivedU32>> as Portable>⟧.shape
           (part ⟦<ArchivedOption<u8> as Portable>⟧.shape no_part))) refl
@@ -753,7 +660,7 @@ impl Archive for Notice {
           (option_planned no_definition ⟦<u8 as Portable>⟧.shape ⟦<u8 as Archive>⟧.keys
           ⟦<u8 as Archive>⟧.meaning (λ x. leaf_planned no_definition _ _ [] _ refl) a2)
           no_part_planned))) refl
-      | NoticeResult a0 ↦ plain_variant_planned _ _ 6 (part
+      | NoticeResult a0 ↦ plain_variant_planned _ _ 4 (part
           ⟦<ArchivedVec<ArchivedTuple2<ArchivedString, ArchivedU32>> as Portable>⟧.shape no_part)
           refl (both (both no_definition (both no_definition no_definition)) no_definition) _ _
           (part_planned (both no_definition (both no_definition no_definition))
@@ -791,27 +698,6 @@ impl Archive for Notice {
         let Place { bytes, pos, .. } = place;
         match self {
             Notice::Closed => resolve_case_0::<ArchivedNotice>(0, (), Place::new(pos, bytes)),
-            Notice::Joined(a0) => {
-                let NoticeResolver::Joined(kept) = resolver else {
-                    unreachable!();
-                };
-                resolve_case_1::<u8, ArchivedNotice>(1, a0, kept, Place::new(pos, bytes))
-            }
-            Notice::Left {
-                member: a0,
-                reason: a1,
-            } => {
-                let NoticeResolver::Left(kept) = resolver else {
-                    unreachable!();
-                };
-                resolve_case_2::<u8, Option<String>, ArchivedNotice>(
-                    2,
-                    a0,
-                    a1,
-                    kept,
-                    Place::new(pos, bytes),
-                )
-            }
             Notice::File {
                 member: a0,
                 name: a1,
@@ -821,7 +707,7 @@ impl Archive for Notice {
                     unreachable!();
                 };
                 resolve_case_3::<u8, String, [u8; 4], ArchivedNotice>(
-                    3,
+                    1,
                     a0,
                     a1,
                     a2,
@@ -834,7 +720,7 @@ impl Archive for Notice {
                     unreachable!();
                 };
                 resolve_case_1::<BTreeMap<String, String>, ArchivedNotice>(
-                    4,
+                    2,
                     a0,
                     kept,
                     Place::new(pos, bytes),
@@ -849,7 +735,7 @@ impl Archive for Notice {
                     unreachable!();
                 };
                 resolve_case_3::<String, Vec<(String, u32)>, Option<u8>, ArchivedNotice>(
-                    5,
+                    3,
                     a0,
                     a1,
                     a2,
@@ -862,7 +748,7 @@ impl Archive for Notice {
                     unreachable!();
                 };
                 resolve_case_1::<Vec<(String, u32)>, ArchivedNotice>(
-                    6,
+                    4,
                     a0,
                     kept,
                     Place::new(pos, bytes),
@@ -894,27 +780,12 @@ impl<S: Writer + ResolverAlloc<Alloc = Global>> Serialize<S> for Notice {
                 Ok(()) => Ok(NoticeResolver::Closed),
                 Err(error) => Err(error),
             },
-            Notice::Joined(a0) => match serialize_case_1::<u8, ArchivedNotice, S>(
-                1, a0, serializer,
-            ) {
-                Ok(kept) => Ok(NoticeResolver::Joined(kept)),
-                Err(error) => Err(error),
-            },
-            Notice::Left {
-                member: a0,
-                reason: a1,
-            } => match serialize_case_2::<u8, Option<String>, ArchivedNotice, S>(
-                2, a0, a1, serializer,
-            ) {
-                Ok(kept) => Ok(NoticeResolver::Left(kept)),
-                Err(error) => Err(error),
-            },
             Notice::File {
                 member: a0,
                 name: a1,
                 digest: a2,
             } => match serialize_case_3::<u8, String, [u8; 4], ArchivedNotice, S>(
-                3, a0, a1, a2, serializer,
+                1, a0, a1, a2, serializer,
             ) {
                 Ok(kept) => Ok(NoticeResolver::File(kept)),
                 Err(error) => Err(error),
@@ -923,7 +794,7 @@ impl<S: Writer + ResolverAlloc<Alloc = Global>> Serialize<S> for Notice {
                 BTreeMap<String, String>,
                 ArchivedNotice,
                 S,
-            >(4, a0, serializer)
+            >(2, a0, serializer)
             {
                 Ok(kept) => Ok(NoticeResolver::Settings(kept)),
                 Err(error) => Err(error),
@@ -938,13 +809,13 @@ impl<S: Writer + ResolverAlloc<Alloc = Global>> Serialize<S> for Notice {
                 Option<u8>,
                 ArchivedNotice,
                 S,
-            >(5, a0, a1, a2, serializer)
+            >(3, a0, a1, a2, serializer)
             {
                 Ok(kept) => Ok(NoticeResolver::Poll(kept)),
                 Err(error) => Err(error),
             },
             Notice::Result(a0) => match serialize_case_1::<Vec<(String, u32)>, ArchivedNotice, S>(
-                6, a0, serializer,
+                4, a0, serializer,
             ) {
                 Ok(kept) => Ok(NoticeResolver::Result(kept)),
                 Err(error) => Err(error),
@@ -970,10 +841,7 @@ impl ArchiveUnsized for Notice {
     ghost one_length = { λ _ _. refl };
 
     ghost planned = { λ v. one_planned no_definition (choice (codes "ArchivedNotice")
-        (variant no_part (variant (part ⟦<u8 as Portable>⟧.shape no_part)
-        (variant
-        (part ⟦<u8 as Portable>⟧.shape (part ⟦<ArchivedOption<ArchivedString> as Portable>⟧.shape
-        no_part)) (variant (part ⟦<u8 as Portable>⟧.shape
+        (variant no_part (variant (part ⟦<u8 as Portable>⟧.shape
         (part ⟦<ArchivedString as Portable>⟧.shape (part ⟦<[u8; 4] as Portable>⟧.shape no_part)))
         (variant (part ⟦<ArchivedSortedMap<ArchivedString, ArchivedString> as Portable>⟧.shape
         no_part) (variant (part ⟦<ArchivedString as Portable>⟧.shape
@@ -981,7 +849,7 @@ impl ArchiveUnsized for Notice {
         (part ⟦<ArchivedOption<u8> as Portable>⟧.shape no_part)))
         (variant
         (part ⟦<ArchivedVec<ArchivedTuple2<ArchivedString, ArchivedU32>> as Portable>⟧.shape
-        no_part) no_variant)))))))) (⟦<Notice as Archive>⟧.keys v) (⟦<Notice as Archive>⟧.meaning v)
+        no_part) no_variant)))))) (⟦<Notice as Archive>⟧.keys v) (⟦<Notice as Archive>⟧.meaning v)
         (planned_of_notice v) };
 
     #[inline(always)]
@@ -1000,7 +868,7 @@ impl<S: Writer + ResolverAlloc<Alloc = Global>> SerializeUnsized<S> for Notice {
 // The `Notice::File` of these values, one after another.
 fn notice_file_of(values: NoticeFileOwned) -> Notice
     ensures meaning { ⟦<Notice as Archive>⟧.meaning result
-        ≡ case 3 (value (⟦<u8 as Archive>⟧.meaning values.0)
+        ≡ case 1 (value (⟦<u8 as Archive>⟧.meaning values.0)
         (value (⟦<String as Archive>⟧.meaning values.1.0)
         (value (⟦<OwnedArray<u8, 4> as Archive>⟧.meaning values.1.1.0) no_value))) }
     ensures keys { ⟦<Notice as Archive>⟧.keys result ≡ ⟦<u8 as Archive>⟧.keys values.0
@@ -1031,29 +899,8 @@ impl<D: Entries> Deserialize<Notice, D> for ArchivedNotice {
                 Ok(()) => Ok(Notice::Closed),
                 Err(error) => Err(error),
             },
-            1 => match read_case::<Self, NoticeJoinedParts, NoticeJoinedOwned, D>(
+            1 => match read_case::<Self, NoticeFileParts, NoticeFileOwned, D>(
                 1,
-                alloc,
-                part,
-                deserializer,
-            ) {
-                Ok((a0, ())) => Ok(Notice::Joined(a0)),
-                Err(error) => Err(error),
-            },
-            2 => match read_case::<Self, NoticeLeftParts, NoticeLeftOwned, D>(
-                2,
-                alloc,
-                part,
-                deserializer,
-            ) {
-                Ok((a0, (a1, ()))) => Ok(Notice::Left {
-                    member: a0,
-                    reason: a1,
-                }),
-                Err(error) => Err(error),
-            },
-            3 => match read_case::<Self, NoticeFileParts, NoticeFileOwned, D>(
-                3,
                 alloc,
                 part,
                 deserializer,
@@ -1061,8 +908,8 @@ impl<D: Entries> Deserialize<Notice, D> for ArchivedNotice {
                 Ok(values) => Ok(notice_file_of(values)),
                 Err(error) => Err(error),
             },
-            4 => match read_case::<Self, NoticeSettingsParts, NoticeSettingsOwned, D>(
-                4,
+            2 => match read_case::<Self, NoticeSettingsParts, NoticeSettingsOwned, D>(
+                2,
                 alloc,
                 part,
                 deserializer,
@@ -1070,8 +917,8 @@ impl<D: Entries> Deserialize<Notice, D> for ArchivedNotice {
                 Ok((a0, ())) => Ok(Notice::Settings(a0)),
                 Err(error) => Err(error),
             },
-            5 => match read_case::<Self, NoticePollParts, NoticePollOwned, D>(
-                5,
+            3 => match read_case::<Self, NoticePollParts, NoticePollOwned, D>(
+                3,
                 alloc,
                 part,
                 deserializer,
@@ -1084,7 +931,7 @@ impl<D: Entries> Deserialize<Notice, D> for ArchivedNotice {
                 Err(error) => Err(error),
             },
             _ => match read_case::<Self, NoticeResultParts, NoticeResultOwned, D>(
-                6,
+                4,
                 alloc,
                 part,
                 deserializer,
@@ -1101,15 +948,6 @@ impl<D: Entries> Deserialize<Notice, D> for ArchivedNotice {
 pub enum ViewOfNotice<'a> {
     /// The room is closed.
     Closed,
-    /// Somebody came.
-    Joined(Ref<'a, u8>),
-    /// Somebody went.
-    Left {
-        /// The field `member`.
-        member: Ref<'a, u8>,
-        /// The field `reason`.
-        reason: Ref<'a, ArchivedOption<ArchivedString>>,
-    },
     /// A file, and its digest.
     File {
         /// The field `member`.
@@ -1141,75 +979,60 @@ pub trait NoticeView<'a> {
 }
 
 impl<'a> NoticeView<'a> for Ref<'a, ArchivedNotice> {
-    ghost use Rattle.derived_blocks.specs.declared.notice.ViewOfNotice.TheVariants.{Closed as NoticeClosedShown, File as NoticeFileShown, Joined as NoticeJoinedShown, Left as NoticeLeftShown, Poll as NoticePollShown, Result as NoticeResultShown, Settings as NoticeSettingsShown};
+    ghost use Rattle.derived_blocks.specs.declared.notice.ViewOfNotice.TheVariants.{Closed as NoticeClosedShown, File as NoticeFileShown, Poll as NoticePollShown, Result as NoticeResultShown, Settings as NoticeSettingsShown};
 
     fn variant(self) -> ViewOfNotice<'a>
         ensures shows { elim result [
           | NoticeClosedShown ↦ (tag_of self.entry ≡ 0)
-          | NoticeJoinedShown a0 ↦ (tag_of self.entry ≡ 1) × (a0.bytes.now ≡ self.entry.bytes.now)
-              × (a0.pos ≡ self.entry.pos + 1) × (a0.len ≡ 0)
-              × ShowsValueOf a0 self.entry (payload_in 0)
-          | NoticeLeftShown a0 a1 ↦ (tag_of self.entry ≡ 2) × (a0.bytes.now ≡ self.entry.bytes.now)
-              × (a0.pos ≡ self.entry.pos + 1) × (a0.len ≡ 0)
-              × ShowsValueOf a0 self.entry (payload_in 0) × (a1.bytes.now ≡ self.entry.bytes.now)
-              × (a1.pos ≡ self.entry.pos + 4) × (a1.len ≡ 0)
-              × ShowsValueOf a1 self.entry (payload_in 1)
-          | NoticeFileShown a0 a1 a2 ↦ (tag_of self.entry ≡ 3)
+          | NoticeFileShown a0 a1 a2 ↦ (tag_of self.entry ≡ 1)
               × (a0.bytes.now ≡ self.entry.bytes.now) × (a0.pos ≡ self.entry.pos + 1) × (a0.len ≡ 0)
               × ShowsValueOf a0 self.entry (payload_in 0) × (a1.bytes.now ≡ self.entry.bytes.now)
               × (a1.pos ≡ self.entry.pos + 4) × (a1.len ≡ 0)
               × ShowsValueOf a1 self.entry (payload_in 1) × (a2.bytes.now ≡ self.entry.bytes.now)
               × (a2.pos ≡ self.entry.pos + 12) × (a2.len ≡ 0)
               × ShowsValueOf a2 self.entry (payload_in 2)
-          | NoticeSettingsShown a0 ↦ (tag_of self.entry ≡ 4) × (a0.bytes.now ≡ self.entry.bytes.now)
+          | NoticeSettingsShown a0 ↦ (tag_of self.entry ≡ 2) × (a0.bytes.now ≡ self.entry.bytes.now)
               × (a0.pos ≡ self.entry.pos + 4) × (a0.len ≡ 0)
               × ShowsValueOf a0 self.entry (payload_in 0)
-          | NoticePollShown a0 a1 a2 ↦ (tag_of self.entry ≡ 5)
+          | NoticePollShown a0 a1 a2 ↦ (tag_of self.entry ≡ 3)
               × (a0.bytes.now ≡ self.entry.bytes.now) × (a0.pos ≡ self.entry.pos + 4) × (a0.len ≡ 0)
               × ShowsValueOf a0 self.entry (payload_in 0) × (a1.bytes.now ≡ self.entry.bytes.now)
               × (a1.pos ≡ self.entry.pos + 12) × (a1.len ≡ 0)
               × ShowsValueOf a1 self.entry (payload_in 1) × (a2.bytes.now ≡ self.entry.bytes.now)
               × (a2.pos ≡ self.entry.pos + 20) × (a2.len ≡ 0)
               × ShowsValueOf a2 self.entry (payload_in 2)
-          | NoticeResultShown a0 ↦ (tag_of self.entry ≡ 6) × (a0.bytes.now ≡ self.entry.bytes.now)
+          | NoticeResultShown a0 ↦ (tag_of self.entry ≡ 4) × (a0.bytes.now ≡ self.entry.bytes.now)
               × (a0.pos ≡ self.entry.pos + 4) × (a0.len ≡ 0)
               × ShowsValueOf a0 self.entry (payload_in 0)
         ] }
     {
         match tag_in(self) {
             0 => ViewOfNotice::Closed,
-            1 => ViewOfNotice::Joined(part_in_case::<ArchivedNotice, u8>(self, 1, 0, 1)),
-            2 => ViewOfNotice::Left {
-                member: part_in_case::<ArchivedNotice, u8>(self, 2, 0, 1),
-                reason: part_in_case::<ArchivedNotice, ArchivedOption<ArchivedString>>(
-                    self, 2, 1, 4,
-                ),
+            1 => ViewOfNotice::File {
+                member: part_in_case::<ArchivedNotice, u8>(self, 1, 0, 1),
+                name: part_in_case::<ArchivedNotice, ArchivedString>(self, 1, 1, 4),
+                digest: part_in_case::<ArchivedNotice, [u8; 4]>(self, 1, 2, 12),
             },
-            3 => ViewOfNotice::File {
-                member: part_in_case::<ArchivedNotice, u8>(self, 3, 0, 1),
-                name: part_in_case::<ArchivedNotice, ArchivedString>(self, 3, 1, 4),
-                digest: part_in_case::<ArchivedNotice, [u8; 4]>(self, 3, 2, 12),
-            },
-            4 => {
+            2 => {
                 let a0 = part_in_case::<
                     ArchivedNotice,
                     ArchivedSortedMap<ArchivedString, ArchivedString>,
-                >(self, 4, 0, 4);
+                >(self, 2, 0, 4);
                 ViewOfNotice::Settings(a0)
             }
-            5 => ViewOfNotice::Poll {
-                question: part_in_case::<ArchivedNotice, ArchivedString>(self, 5, 0, 4),
+            3 => ViewOfNotice::Poll {
+                question: part_in_case::<ArchivedNotice, ArchivedString>(self, 3, 0, 4),
                 options: part_in_case::<
                     ArchivedNotice,
                     ArchivedVec<ArchivedTuple2<ArchivedString, ArchivedU32>>,
-                >(self, 5, 1, 12),
-                closes: part_in_case::<ArchivedNotice, ArchivedOption<u8>>(self, 5, 2, 20),
+                >(self, 3, 1, 12),
+                closes: part_in_case::<ArchivedNotice, ArchivedOption<u8>>(self, 3, 2, 20),
             },
             _ => {
                 let a0 = part_in_case::<
                     ArchivedNotice,
                     ArchivedVec<ArchivedTuple2<ArchivedString, ArchivedU32>>,
-                >(self, 6, 0, 4);
+                >(self, 4, 0, 4);
                 ViewOfNotice::Result(a0)
             }
         }
@@ -1224,60 +1047,45 @@ pub trait NoticeSeal<'a> {
     // The tag that it shows.
     ghost tag: { Self → ℕ };
 
-    /// The field `0` of `Joined`.
-    fn joined_0_mut(self) -> Seal<'a, u8>
-        requires come_to { sealed self }
-        requires tag { tag self ≡ 1 };
-
-    /// The field `member` of `Left`.
-    fn left_member_mut(self) -> Seal<'a, u8>
-        requires come_to { sealed self }
-        requires tag { tag self ≡ 2 };
-
-    /// The field `reason` of `Left`.
-    fn left_reason_mut(self) -> Seal<'a, ArchivedOption<ArchivedString>>
-        requires come_to { sealed self }
-        requires tag { tag self ≡ 2 };
-
     /// The field `member` of `File`.
     fn file_member_mut(self) -> Seal<'a, u8>
         requires come_to { sealed self }
-        requires tag { tag self ≡ 3 };
+        requires tag { tag self ≡ 1 };
 
     /// The field `name` of `File`.
     fn file_name_mut(self) -> Seal<'a, ArchivedString>
         requires come_to { sealed self }
-        requires tag { tag self ≡ 3 };
+        requires tag { tag self ≡ 1 };
 
     /// The field `digest` of `File`.
     fn file_digest_mut(self) -> Seal<'a, [u8; 4]>
         requires come_to { sealed self }
-        requires tag { tag self ≡ 3 };
+        requires tag { tag self ≡ 1 };
 
     /// The field `0` of `Settings`.
     fn settings_0_mut(self) -> Seal<'a, ArchivedSortedMap<ArchivedString, ArchivedString>>
         requires come_to { sealed self }
-        requires tag { tag self ≡ 4 };
+        requires tag { tag self ≡ 2 };
 
     /// The field `question` of `Poll`.
     fn poll_question_mut(self) -> Seal<'a, ArchivedString>
         requires come_to { sealed self }
-        requires tag { tag self ≡ 5 };
+        requires tag { tag self ≡ 3 };
 
     /// The field `options` of `Poll`.
     fn poll_options_mut(self) -> Seal<'a, ArchivedVec<ArchivedTuple2<ArchivedString, ArchivedU32>>>
         requires come_to { sealed self }
-        requires tag { tag self ≡ 5 };
+        requires tag { tag self ≡ 3 };
 
     /// The field `closes` of `Poll`.
     fn poll_closes_mut(self) -> Seal<'a, ArchivedOption<u8>>
         requires come_to { sealed self }
-        requires tag { tag self ≡ 5 };
+        requires tag { tag self ≡ 3 };
 
     /// The field `0` of `Result`.
     fn result_0_mut(self) -> Seal<'a, ArchivedVec<ArchivedTuple2<ArchivedString, ArchivedU32>>>
         requires come_to { sealed self }
-        requires tag { tag self ≡ 6 };
+        requires tag { tag self ≡ 4 };
 }
 
 impl<'a> NoticeSeal<'a> for Seal<'a, ArchivedNotice> {
@@ -1285,7 +1093,7 @@ impl<'a> NoticeSeal<'a> for Seal<'a, ArchivedNotice> {
 
     ghost tag = { λ s. seal_tag s };
 
-    fn joined_0_mut(self) -> Seal<'a, u8>
+    fn file_member_mut(self) -> Seal<'a, u8>
         requires come_to { IsSealOf no_definition (one ⟦<ArchivedNotice as Portable>⟧.shape) self }
         requires tag { seal_tag self ≡ 1 }
         ensures { SealsPart no_definition (one ⟦<ArchivedNotice as Portable>⟧.shape) no_definition
@@ -1294,77 +1102,49 @@ impl<'a> NoticeSeal<'a> for Seal<'a, ArchivedNotice> {
         sealed_part_in_case::<ArchivedNotice, u8>(self, 1, 0, 1)
     }
 
-    fn left_member_mut(self) -> Seal<'a, u8>
-        requires come_to { IsSealOf no_definition (one ⟦<ArchivedNotice as Portable>⟧.shape) self }
-        requires tag { seal_tag self ≡ 2 }
-        ensures { SealsPart no_definition (one ⟦<ArchivedNotice as Portable>⟧.shape) no_definition
-            ⟦<u8 as ArchivePointee>⟧.pointee (self.entry.pos + 1) 0 self.entry result }
-    {
-        sealed_part_in_case::<ArchivedNotice, u8>(self, 2, 0, 1)
-    }
-
-    fn left_reason_mut(self) -> Seal<'a, ArchivedOption<ArchivedString>>
-        requires come_to { IsSealOf no_definition (one ⟦<ArchivedNotice as Portable>⟧.shape) self }
-        requires tag { seal_tag self ≡ 2 }
-        ensures { SealsPart no_definition (one ⟦<ArchivedNotice as Portable>⟧.shape) no_definition
-            ⟦<ArchivedOption<ArchivedString> as ArchivePointee>⟧.pointee (self.entry.pos + 4) 0
-            self.entry result }
-    {
-        sealed_part_in_case::<ArchivedNotice, ArchivedOption<ArchivedString>>(self, 2, 1, 4)
-    }
-
-    fn file_member_mut(self) -> Seal<'a, u8>
-        requires come_to { IsSealOf no_definition (one ⟦<ArchivedNotice as Portable>⟧.shape) self }
-        requires tag { seal_tag self ≡ 3 }
-        ensures { SealsPart no_definition (one ⟦<ArchivedNotice as Portable>⟧.shape) no_definition
-            ⟦<u8 as ArchivePointee>⟧.pointee (self.entry.pos + 1) 0 self.entry result }
-    {
-        sealed_part_in_case::<ArchivedNotice, u8>(self, 3, 0, 1)
-    }
-
     fn file_name_mut(self) -> Seal<'a, ArchivedString>
         requires come_to { IsSealOf no_definition (one ⟦<ArchivedNotice as Portable>⟧.shape) self }
-        requires tag { seal_tag self ≡ 3 }
+        requires tag { seal_tag self ≡ 1 }
         ensures { SealsPart no_definition (one ⟦<ArchivedNotice as Portable>⟧.shape) no_definition
             ⟦<ArchivedString as ArchivePointee>⟧.pointee (self.entry.pos + 4) 0 self.entry result }
     {
-        sealed_part_in_case::<ArchivedNotice, ArchivedString>(self, 3, 1, 4)
+        sealed_part_in_case::<ArchivedNotice, ArchivedString>(self, 1, 1, 4)
     }
 
     fn file_digest_mut(self) -> Seal<'a, [u8; 4]>
         requires come_to { IsSealOf no_definition (one ⟦<ArchivedNotice as Portable>⟧.shape) self }
-        requires tag { seal_tag self ≡ 3 }
+        requires tag { seal_tag self ≡ 1 }
         ensures { SealsPart no_definition (one ⟦<ArchivedNotice as Portable>⟧.shape) no_definition
             ⟦<[u8; 4] as ArchivePointee>⟧.pointee (self.entry.pos + 12) 0 self.entry result }
     {
-        sealed_part_in_case::<ArchivedNotice, [u8; 4]>(self, 3, 2, 12)
+        sealed_part_in_case::<ArchivedNotice, [u8; 4]>(self, 1, 2, 12)
     }
 
     fn settings_0_mut(self) -> Seal<'a, ArchivedSortedMap<ArchivedString, ArchivedString>>
         requires come_to { IsSealOf no_definition (one ⟦<ArchivedNotice as Portable>⟧.shape) self }
-        requires tag { seal_tag self ≡ 4 }
+        requires tag { seal_tag self ≡ 2 }
         ensures { SealsPart no_definition (one ⟦<ArchivedNotice as Portable>⟧.shape)
             (both no_definition (both no_definition no_definition))
             ⟦<ArchivedSortedMap<ArchivedString, ArchivedString> as ArchivePointee>⟧.pointee
             (self.entry.pos + 4) 0 self.entry result }
     {
         sealed_part_in_case::<ArchivedNotice, ArchivedSortedMap<ArchivedString, ArchivedString>>(
-            self, 4, 0, 4,
+            self, 2, 0, 4,
         )
     }
 
     fn poll_question_mut(self) -> Seal<'a, ArchivedString>
         requires come_to { IsSealOf no_definition (one ⟦<ArchivedNotice as Portable>⟧.shape) self }
-        requires tag { seal_tag self ≡ 5 }
+        requires tag { seal_tag self ≡ 3 }
         ensures { SealsPart no_definition (one ⟦<ArchivedNotice as Portable>⟧.shape) no_definition
             ⟦<ArchivedString as ArchivePointee>⟧.pointee (self.entry.pos + 4) 0 self.entry result }
     {
-        sealed_part_in_case::<ArchivedNotice, ArchivedString>(self, 5, 0, 4)
+        sealed_part_in_case::<ArchivedNotice, ArchivedString>(self, 3, 0, 4)
     }
 
     fn poll_options_mut(self) -> Seal<'a, ArchivedVec<ArchivedTuple2<ArchivedString, ArchivedU32>>>
         requires come_to { IsSealOf no_definition (one ⟦<ArchivedNotice as Portable>⟧.shape) self }
-        requires tag { seal_tag self ≡ 5 }
+        requires tag { seal_tag self ≡ 3 }
         ensures { SealsPart no_definition (one ⟦<ArchivedNotice as Portable>⟧.shape)
             (both no_definition (both no_definition no_definition))
             ⟦<ArchivedVec<ArchivedTuple2<ArchivedString, ArchivedU32>> as ArchivePointee>⟧.pointee
@@ -1373,22 +1153,22 @@ impl<'a> NoticeSeal<'a> for Seal<'a, ArchivedNotice> {
         sealed_part_in_case::<
             ArchivedNotice,
             ArchivedVec<ArchivedTuple2<ArchivedString, ArchivedU32>>,
-        >(self, 5, 1, 12)
+        >(self, 3, 1, 12)
     }
 
     fn poll_closes_mut(self) -> Seal<'a, ArchivedOption<u8>>
         requires come_to { IsSealOf no_definition (one ⟦<ArchivedNotice as Portable>⟧.shape) self }
-        requires tag { seal_tag self ≡ 5 }
+        requires tag { seal_tag self ≡ 3 }
         ensures { SealsPart no_definition (one ⟦<ArchivedNotice as Portable>⟧.shape) no_definition
             ⟦<ArchivedOption<u8> as ArchivePointee>⟧.pointee (self.entry.pos + 20) 0 self.entry
             result }
     {
-        sealed_part_in_case::<ArchivedNotice, ArchivedOption<u8>>(self, 5, 2, 20)
+        sealed_part_in_case::<ArchivedNotice, ArchivedOption<u8>>(self, 3, 2, 20)
     }
 
     fn result_0_mut(self) -> Seal<'a, ArchivedVec<ArchivedTuple2<ArchivedString, ArchivedU32>>>
         requires come_to { IsSealOf no_definition (one ⟦<ArchivedNotice as Portable>⟧.shape) self }
-        requires tag { seal_tag self ≡ 6 }
+        requires tag { seal_tag self ≡ 4 }
         ensures { SealsPart no_definition (one ⟦<ArchivedNotice as Portable>⟧.shape)
             (both no_definition (both no_definition no_definition))
             ⟦<ArchivedVec<ArchivedTuple2<ArchivedString, ArchivedU32>> as ArchivePointee>⟧.pointee
@@ -1397,6 +1177,6 @@ impl<'a> NoticeSeal<'a> for Seal<'a, ArchivedNotice> {
         sealed_part_in_case::<
             ArchivedNotice,
             ArchivedVec<ArchivedTuple2<ArchivedString, ArchivedU32>>,
-        >(self, 6, 0, 4)
+        >(self, 4, 0, 4)
     }
 }

@@ -10,10 +10,10 @@ pub enum Outcome<T, E> {
 }
 
 /// A sum, or why there is none.
-pub type Sum = Outcome<u32, String>;
+pub type Sum = Outcome<u8, String>;
 
 /// Some numbers, or what came of their sum.
-pub type Numbers = Outcome<Vec<u32>, Sum>;
+pub type Numbers = Outcome<Vec<u8>, Sum>;
 
 // Below this line all is written by tools/derive: change what is above it, and run it again.
 
@@ -40,7 +40,6 @@ use archive_core::fields::{
     known_tag, part_in_case, read_case, resolve_case_1, serialize_case_1, tag_in,
 };
 use archive_core::place::Place;
-use archive_core::primitive::ArchivedU32;
 use archive_core::seal::{Seal, sealed_part_in_case};
 use archive_core::self_check::{SelfCheck, check_choice};
 use archive_core::ser::{ResolverAlloc, Writer, serialize_one};
@@ -58,9 +57,9 @@ use std::alloc::Global;
 /// An archived `Sum`: 12 bytes at a multiple of 4.
 pub struct ArchivedSum;
 
-type SumDoneParts = (ArchivedU32, ());
+type SumDoneParts = (u8, ());
 
-type SumDoneOwned = (u32, ());
+type SumDoneOwned = (u8, ());
 
 type SumFailedParts = (ArchivedString, ());
 
@@ -72,7 +71,7 @@ impl ArchivePointee for ArchivedSum {
     type ArchivedMetadata = ();
 
     ghost pointee = { one (choice (codes "ArchivedSum")
-        (variant (part ⟦<ArchivedU32 as Portable>⟧.shape no_part)
+        (variant (part ⟦<u8 as Portable>⟧.shape no_part)
         (variant (part ⟦<ArchivedString as Portable>⟧.shape no_part) no_variant))) };
 
     ghost definitions = { no_definition };
@@ -85,8 +84,7 @@ impl ArchivePointee for ArchivedSum {
 }
 
 impl Portable for ArchivedSum {
-    ghost shape = { choice (codes "ArchivedSum") (variant
-        (part ⟦<ArchivedU32 as Portable>⟧.shape no_part)
+    ghost shape = { choice (codes "ArchivedSum") (variant (part ⟦<u8 as Portable>⟧.shape no_part)
         (variant (part ⟦<ArchivedString as Portable>⟧.shape no_part) no_variant)) };
 
     ghost layout = { record { size = 12; align = 4 } };
@@ -100,7 +98,7 @@ impl Portable for ArchivedSum {
     ghost has_layout = { record { solved = λ s k. refl } };
 
     ghost no_others = { no_definition_reached (choice (codes "ArchivedSum")
-        (variant (part ⟦<ArchivedU32 as Portable>⟧.shape no_part)
+        (variant (part ⟦<u8 as Portable>⟧.shape no_part)
         (variant (part ⟦<ArchivedString as Portable>⟧.shape no_part) no_variant))) };
 
     ghost checks = { λ _. plain_own_check _ _ _ _ _ refl refl refl refl };
@@ -123,8 +121,7 @@ impl Portable for ArchivedSum {
 }
 
 impl SelfCheck for ArchivedSum {
-    ghost shape = { choice (codes "ArchivedSum") (variant
-        (part ⟦<ArchivedU32 as Portable>⟧.shape no_part)
+    ghost shape = { choice (codes "ArchivedSum") (variant (part ⟦<u8 as Portable>⟧.shape no_part)
         (variant (part ⟦<ArchivedString as Portable>⟧.shape no_part) no_variant)) };
 
     ghost definitions = { (both (both no_definition no_definition)
@@ -161,7 +158,7 @@ impl Choice for ArchivedSum {
     ghost name = { codes "ArchivedSum" };
 
     ghost has_variants = { plain_choice (codes "ArchivedSum")
-        (variant (part ⟦<ArchivedU32 as Portable>⟧.shape no_part)
+        (variant (part ⟦<u8 as Portable>⟧.shape no_part)
         (variant (part ⟦<ArchivedString as Portable>⟧.shape no_part) no_variant))
         (both (both no_definition no_definition) (both (both no_definition no_definition)
         no_definition)) refl };
@@ -173,7 +170,7 @@ impl Choice for ArchivedSum {
 #[derive(Drop)]
 pub enum SumResolver {
     /// Of `Done`.
-    Done((<u32 as Archive>::Resolver, ())),
+    Done((<u8 as Archive>::Resolver, ())),
     /// Of `Failed`.
     Failed((<String as Archive>::Resolver, ())),
 }
@@ -187,13 +184,13 @@ impl Archive for Sum {
     type Resolver = SumResolver;
 
     ghost meaning = { elim [
-      | SumDone a0 ↦ case 0 (value (⟦<u32 as Archive>⟧.meaning a0) no_value)
+      | SumDone a0 ↦ case 0 (value (⟦<u8 as Archive>⟧.meaning a0) no_value)
       | SumFailed a0 ↦ case 1 (value (⟦<String as Archive>⟧.meaning a0) no_value)
     ] };
 
     ghost flat = { λ v r. elim v [
       | SumDone a0 ↦ elim r [
-        | SumDoneKept s ↦ case 0 (value (⟦<u32 as Archive>⟧.flat a0 s.0) no_value)
+        | SumDoneKept s ↦ case 0 (value (⟦<u8 as Archive>⟧.flat a0 s.0) no_value)
         | _ ↦ case 0 no_value
       ]
       | SumFailed a0 ↦ elim r [
@@ -203,12 +200,12 @@ impl Archive for Sum {
     ] };
 
     ghost keys = { elim [
-      | SumDone a0 ↦ ⟦<u32 as Archive>⟧.keys a0 ++ []
+      | SumDone a0 ↦ ⟦<u8 as Archive>⟧.keys a0 ++ []
       | SumFailed a0 ↦ ⟦<String as Archive>⟧.keys a0 ++ []
     ] };
 
     ghost belongs = { λ v r. elim v [
-      | SumDone a0 ↦ elim r [ SumDoneKept s ↦ ⟦<u32 as Archive>⟧.belongs a0 s.0 × Unit {0} | _ ↦ ⊥ ]
+      | SumDone a0 ↦ elim r [ SumDoneKept s ↦ ⟦<u8 as Archive>⟧.belongs a0 s.0 × Unit {0} | _ ↦ ⊥ ]
       | SumFailed a0 ↦ elim r [
         | SumFailedKept s ↦ ⟦<String as Archive>⟧.belongs a0 s.0 × Unit {0}
         | _ ↦ ⊥
@@ -223,11 +220,10 @@ impl Archive for Sum {
     ] };
 
     ghost planned = { elim [
-      | SumDone a0 ↦ plain_variant_planned _ _ 0 (part ⟦<ArchivedU32 as Portable>⟧.shape no_part)
-          refl (both no_definition no_definition) _ _ (part_planned no_definition
-          ⟦<ArchivedU32 as Portable>⟧.shape (⟦<u32 as Archive>⟧.keys a0)
-          (⟦<u32 as Archive>⟧.meaning a0) (leaf_planned no_definition _ _ [] _ refl)
-          no_part_planned) refl
+      | SumDone a0 ↦ plain_variant_planned _ _ 0 (part ⟦<u8 as Portable>⟧.shape no_part) refl
+          (both no_definition no_definition) _ _ (part_planned no_definition
+          ⟦<u8 as Portable>⟧.shape (⟦<u8 as Archive>⟧.keys a0) (⟦<u8 as Archive>⟧.meaning a0)
+          (leaf_planned no_definition _ _ [] _ refl) no_part_planned) refl
       | SumFailed a0 ↦ plain_variant_planned _ _ 1 (part ⟦<ArchivedString as Portable>⟧.shape
           no_part) refl (both no_definition no_definition) _ _
           (part_planned no_definition ⟦<ArchivedString as Portable>⟧.shape
@@ -252,7 +248,7 @@ impl Archive for Sum {
                 let SumResolver::Done(kept) = resolver else {
                     unreachable!();
                 };
-                resolve_case_1::<u32, ArchivedSum>(0, a0, kept, Place::new(pos, bytes))
+                resolve_case_1::<u8, ArchivedSum>(0, a0, kept, Place::new(pos, bytes))
             }
             Sum::Failed(a0) => {
                 let SumResolver::Failed(kept) = resolver else {
@@ -282,7 +278,7 @@ impl<S: Writer + ResolverAlloc> Serialize<S> for Sum {
     #[inline(always)]
     fn serialize(&self, serializer: &mut S) -> Result<Self::Resolver, Error> {
         match self {
-            Sum::Done(a0) => match serialize_case_1::<u32, ArchivedSum, S>(0, a0, serializer) {
+            Sum::Done(a0) => match serialize_case_1::<u8, ArchivedSum, S>(0, a0, serializer) {
                 Ok(kept) => Ok(SumResolver::Done(kept)),
                 Err(error) => Err(error),
             },
@@ -311,7 +307,7 @@ impl ArchiveUnsized for Sum {
     ghost one_length = { λ _ _. refl };
 
     ghost planned = { λ v. one_planned no_definition (choice (codes "ArchivedSum")
-        (variant (part ⟦<ArchivedU32 as Portable>⟧.shape no_part)
+        (variant (part ⟦<u8 as Portable>⟧.shape no_part)
         (variant (part ⟦<ArchivedString as Portable>⟧.shape no_part) no_variant)))
         (⟦<Sum as Archive>⟧.keys v) (⟦<Sum as Archive>⟧.meaning v) (planned_of_sum v) };
 
@@ -366,7 +362,7 @@ impl<D: Entries> Deserialize<Sum, D> for ArchivedSum {
 #[derive(Drop)]
 pub enum ViewOfSum<'a> {
     /// It was done, with this.
-    Done(Ref<'a, ArchivedU32>),
+    Done(Ref<'a, u8>),
     /// It failed, for this.
     Failed(Ref<'a, ArchivedString>),
 }
@@ -383,7 +379,7 @@ impl<'a> SumView<'a> for Ref<'a, ArchivedSum> {
     fn variant(self) -> ViewOfSum<'a>
         ensures shows { elim result [
           | SumDoneShown a0 ↦ (tag_of self.entry ≡ 0) × (a0.bytes.now ≡ self.entry.bytes.now)
-              × (a0.pos ≡ self.entry.pos + 4) × (a0.len ≡ 0)
+              × (a0.pos ≡ self.entry.pos + 1) × (a0.len ≡ 0)
               × ShowsValueOf a0 self.entry (payload_in 0)
           | SumFailedShown a0 ↦ (tag_of self.entry ≡ 1) × (a0.bytes.now ≡ self.entry.bytes.now)
               × (a0.pos ≡ self.entry.pos + 4) × (a0.len ≡ 0)
@@ -391,7 +387,7 @@ impl<'a> SumView<'a> for Ref<'a, ArchivedSum> {
         ] }
     {
         match tag_in(self) {
-            0 => ViewOfSum::Done(part_in_case::<ArchivedSum, ArchivedU32>(self, 0, 0, 4)),
+            0 => ViewOfSum::Done(part_in_case::<ArchivedSum, u8>(self, 0, 0, 1)),
             _ => ViewOfSum::Failed(part_in_case::<ArchivedSum, ArchivedString>(self, 1, 0, 4)),
         }
     }
@@ -406,7 +402,7 @@ pub trait SumSeal<'a> {
     ghost tag: { Self → ℕ };
 
     /// The field `0` of `Done`.
-    fn done_0_mut(self) -> Seal<'a, ArchivedU32>
+    fn done_0_mut(self) -> Seal<'a, u8>
         requires come_to { sealed self }
         requires tag { tag self ≡ 0 };
 
@@ -421,13 +417,13 @@ impl<'a> SumSeal<'a> for Seal<'a, ArchivedSum> {
 
     ghost tag = { λ s. seal_tag s };
 
-    fn done_0_mut(self) -> Seal<'a, ArchivedU32>
+    fn done_0_mut(self) -> Seal<'a, u8>
         requires come_to { IsSealOf no_definition (one ⟦<ArchivedSum as Portable>⟧.shape) self }
         requires tag { seal_tag self ≡ 0 }
         ensures { SealsPart no_definition (one ⟦<ArchivedSum as Portable>⟧.shape) no_definition
-            ⟦<ArchivedU32 as ArchivePointee>⟧.pointee (self.entry.pos + 4) 0 self.entry result }
+            ⟦<u8 as ArchivePointee>⟧.pointee (self.entry.pos + 1) 0 self.entry result }
     {
-        sealed_part_in_case::<ArchivedSum, ArchivedU32>(self, 0, 0, 4)
+        sealed_part_in_case::<ArchivedSum, u8>(self, 0, 0, 1)
     }
 
     fn failed_0_mut(self) -> Seal<'a, ArchivedString>
@@ -443,9 +439,9 @@ impl<'a> SumSeal<'a> for Seal<'a, ArchivedSum> {
 /// An archived `Numbers`: 16 bytes at a multiple of 4.
 pub struct ArchivedNumbers;
 
-type NumbersDoneParts = (ArchivedVec<ArchivedU32>, ());
+type NumbersDoneParts = (ArchivedVec<u8>, ());
 
-type NumbersDoneOwned = (Vec<u32>, ());
+type NumbersDoneOwned = (Vec<u8>, ());
 
 type NumbersFailedParts = (ArchivedSum, ());
 
@@ -457,7 +453,7 @@ impl ArchivePointee for ArchivedNumbers {
     type ArchivedMetadata = ();
 
     ghost pointee = { one (choice (codes "ArchivedNumbers")
-        (variant (part ⟦<ArchivedVec<ArchivedU32> as Portable>⟧.shape no_part)
+        (variant (part ⟦<ArchivedVec<u8> as Portable>⟧.shape no_part)
         (variant (part ⟦<ArchivedSum as Portable>⟧.shape no_part) no_variant))) };
 
     ghost definitions = { no_definition };
@@ -471,7 +467,7 @@ impl ArchivePointee for ArchivedNumbers {
 
 impl Portable for ArchivedNumbers {
     ghost shape = { choice (codes "ArchivedNumbers") (variant
-        (part ⟦<ArchivedVec<ArchivedU32> as Portable>⟧.shape no_part)
+        (part ⟦<ArchivedVec<u8> as Portable>⟧.shape no_part)
         (variant (part ⟦<ArchivedSum as Portable>⟧.shape no_part) no_variant)) };
 
     ghost layout = { record { size = 16; align = 4 } };
@@ -485,7 +481,7 @@ impl Portable for ArchivedNumbers {
     ghost has_layout = { record { solved = λ s k. refl } };
 
     ghost no_others = { no_definition_reached (choice (codes "ArchivedNumbers")
-        (variant (part ⟦<ArchivedVec<ArchivedU32> as Portable>⟧.shape no_part)
+        (variant (part ⟦<ArchivedVec<u8> as Portable>⟧.shape no_part)
         (variant (part ⟦<ArchivedSum as Portable>⟧.shape no_part) no_variant))) };
 
     ghost checks = { λ _. plain_own_check _ _ _ _ _ refl refl refl refl };
@@ -509,7 +505,7 @@ impl Portable for ArchivedNumbers {
 
 impl SelfCheck for ArchivedNumbers {
     ghost shape = { choice (codes "ArchivedNumbers") (variant
-        (part ⟦<ArchivedVec<ArchivedU32> as Portable>⟧.shape no_part)
+        (part ⟦<ArchivedVec<u8> as Portable>⟧.shape no_part)
         (variant (part ⟦<ArchivedSum as Portable>⟧.shape no_part) no_variant)) };
 
     ghost definitions = { (both (both no_definition no_definition)
@@ -546,7 +542,7 @@ impl Choice for ArchivedNumbers {
     ghost name = { codes "ArchivedNumbers" };
 
     ghost has_variants = { plain_choice (codes "ArchivedNumbers")
-        (variant (part ⟦<ArchivedVec<ArchivedU32> as Portable>⟧.shape no_part)
+        (variant (part ⟦<ArchivedVec<u8> as Portable>⟧.shape no_part)
         (variant (part ⟦<ArchivedSum as Portable>⟧.shape no_part) no_variant))
         (both (both no_definition no_definition) (both (both no_definition no_definition)
         no_definition)) refl };
@@ -558,7 +554,7 @@ impl Choice for ArchivedNumbers {
 #[derive(Drop)]
 pub enum NumbersResolver {
     /// Of `Done`.
-    Done((<Vec<u32> as Archive>::Resolver, ())),
+    Done((<Vec<u8> as Archive>::Resolver, ())),
     /// Of `Failed`.
     Failed((<Sum as Archive>::Resolver, ())),
 }
@@ -573,13 +569,13 @@ impl Archive for Numbers {
     type Resolver = NumbersResolver;
 
     ghost meaning = { elim [
-      | NumbersDone a0 ↦ case 0 (value (⟦<Vec<u32> as Archive>⟧.meaning a0) no_value)
+      | NumbersDone a0 ↦ case 0 (value (⟦<Vec<u8> as Archive>⟧.meaning a0) no_value)
       | NumbersFailed a0 ↦ case 1 (value (⟦<Sum as Archive>⟧.meaning a0) no_value)
     ] };
 
     ghost flat = { λ v r. elim v [
       | NumbersDone a0 ↦ elim r [
-        | NumbersDoneKept s ↦ case 0 (value (⟦<Vec<u32> as Archive>⟧.flat a0 s.0) no_value)
+        | NumbersDoneKept s ↦ case 0 (value (⟦<Vec<u8> as Archive>⟧.flat a0 s.0) no_value)
         | _ ↦ case 0 no_value
       ]
       | NumbersFailed a0 ↦ elim r [
@@ -589,13 +585,13 @@ impl Archive for Numbers {
     ] };
 
     ghost keys = { elim [
-      | NumbersDone a0 ↦ ⟦<Vec<u32> as Archive>⟧.keys a0 ++ []
+      | NumbersDone a0 ↦ ⟦<Vec<u8> as Archive>⟧.keys a0 ++ []
       | NumbersFailed a0 ↦ ⟦<Sum as Archive>⟧.keys a0 ++ []
     ] };
 
     ghost belongs = { λ v r. elim v [
       | NumbersDone a0 ↦ elim r [
-        | NumbersDoneKept s ↦ ⟦<Vec<u32> as Archive>⟧.belongs a0 s.0 × Unit {0}
+        | NumbersDoneKept s ↦ ⟦<Vec<u8> as Archive>⟧.belongs a0 s.0 × Unit {0}
         | _ ↦ ⊥
       ]
       | NumbersFailed a0 ↦ elim r [
@@ -607,20 +603,20 @@ impl Archive for Numbers {
     ghost in_bulk = { None };
 
     ghost keyed = { elim [
-      | NumbersDone a0 ↦ case_keyed _ 0 _ (part_keyed (each_keyed ⟦<u32 as Archive>⟧.keys
-          ⟦<u32 as Archive>⟧.meaning (λ x. number_keyed _) a0.items) nothing_keyed)
+      | NumbersDone a0 ↦ case_keyed _ 0 _ (part_keyed (each_keyed ⟦<u8 as Archive>⟧.keys
+          ⟦<u8 as Archive>⟧.meaning (λ x. number_keyed _) a0.items) nothing_keyed)
       | NumbersFailed a0 ↦ case_keyed _ 1 _ (part_keyed (keyed_of_sum a0) nothing_keyed)
     ] };
 
     ghost planned = { elim [
-      | NumbersDone a0 ↦ plain_variant_planned _ _ 0 (part
-          ⟦<ArchivedVec<ArchivedU32> as Portable>⟧.shape no_part) refl
-          (both no_definition no_definition) _ _ (part_planned no_definition
-          ⟦<ArchivedVec<ArchivedU32> as Portable>⟧.shape (⟦<Vec<u32> as Archive>⟧.keys a0)
-          (⟦<Vec<u32> as Archive>⟧.meaning a0) (vec_planned no_definition
-          ⟦<ArchivedU32 as Portable>⟧.shape _ _ _ (slice_planned no_definition
-          ⟦<ArchivedU32 as Portable>⟧.shape ⟦<u32 as Archive>⟧.keys ⟦<u32 as Archive>⟧.meaning
-          (λ x. leaf_planned no_definition _ _ [] _ refl) a0.items)) no_part_planned) refl
+      | NumbersDone a0 ↦ plain_variant_planned _ _ 0 (part ⟦<ArchivedVec<u8> as Portable>⟧.shape
+          no_part) refl (both no_definition no_definition) _ _
+          (part_planned no_definition ⟦<ArchivedVec<u8> as Portable>⟧.shape
+          (⟦<Vec<u8> as Archive>⟧.keys a0) (⟦<Vec<u8> as Archive>⟧.meaning a0)
+          (vec_planned no_definition ⟦<u8 as Portable>⟧.shape _ _ _
+          (slice_planned no_definition ⟦<u8 as Portable>⟧.shape ⟦<u8 as Archive>⟧.keys
+          ⟦<u8 as Archive>⟧.meaning (λ x. leaf_planned no_definition _ _ [] _ refl) a0.items))
+          no_part_planned) refl
       | NumbersFailed a0 ↦ plain_variant_planned _ _ 1
           (part ⟦<ArchivedSum as Portable>⟧.shape no_part) refl (both no_definition no_definition) _
           _ (part_planned no_definition ⟦<ArchivedSum as Portable>⟧.shape
@@ -645,7 +641,7 @@ impl Archive for Numbers {
                 let NumbersResolver::Done(kept) = resolver else {
                     unreachable!();
                 };
-                resolve_case_1::<Vec<u32>, ArchivedNumbers>(0, a0, kept, Place::new(pos, bytes))
+                resolve_case_1::<Vec<u8>, ArchivedNumbers>(0, a0, kept, Place::new(pos, bytes))
             }
             Numbers::Failed(a0) => {
                 let NumbersResolver::Failed(kept) = resolver else {
@@ -675,7 +671,7 @@ impl<S: Writer + ResolverAlloc> Serialize<S> for Numbers {
     #[inline(always)]
     fn serialize(&self, serializer: &mut S) -> Result<Self::Resolver, Error> {
         match self {
-            Numbers::Done(a0) => match serialize_case_1::<Vec<u32>, ArchivedNumbers, S>(
+            Numbers::Done(a0) => match serialize_case_1::<Vec<u8>, ArchivedNumbers, S>(
                 0, a0, serializer,
             ) {
                 Ok(kept) => Ok(NumbersResolver::Done(kept)),
@@ -708,7 +704,7 @@ impl ArchiveUnsized for Numbers {
     ghost one_length = { λ _ _. refl };
 
     ghost planned = { λ v. one_planned no_definition (choice (codes "ArchivedNumbers")
-        (variant (part ⟦<ArchivedVec<ArchivedU32> as Portable>⟧.shape no_part)
+        (variant (part ⟦<ArchivedVec<u8> as Portable>⟧.shape no_part)
         (variant (part ⟦<ArchivedSum as Portable>⟧.shape no_part) no_variant)))
         (⟦<Numbers as Archive>⟧.keys v) (⟦<Numbers as Archive>⟧.meaning v) (planned_of_numbers v) };
 
@@ -763,7 +759,7 @@ impl<D: Entries> Deserialize<Numbers, D> for ArchivedNumbers {
 #[derive(Drop)]
 pub enum ViewOfNumbers<'a> {
     /// It was done, with this.
-    Done(Ref<'a, ArchivedVec<ArchivedU32>>),
+    Done(Ref<'a, ArchivedVec<u8>>),
     /// It failed, for this.
     Failed(Ref<'a, ArchivedSum>),
 }
@@ -789,7 +785,7 @@ impl<'a> NumbersView<'a> for Ref<'a, ArchivedNumbers> {
     {
         match tag_in(self) {
             0 => {
-                let a0 = part_in_case::<ArchivedNumbers, ArchivedVec<ArchivedU32>>(self, 0, 0, 4);
+                let a0 = part_in_case::<ArchivedNumbers, ArchivedVec<u8>>(self, 0, 0, 4);
                 ViewOfNumbers::Done(a0)
             }
             _ => ViewOfNumbers::Failed(part_in_case::<ArchivedNumbers, ArchivedSum>(self, 1, 0, 4)),
@@ -806,7 +802,7 @@ pub trait NumbersSeal<'a> {
     ghost tag: { Self → ℕ };
 
     /// The field `0` of `Done`.
-    fn done_0_mut(self) -> Seal<'a, ArchivedVec<ArchivedU32>>
+    fn done_0_mut(self) -> Seal<'a, ArchivedVec<u8>>
         requires come_to { sealed self }
         requires tag { tag self ≡ 0 };
 
@@ -821,14 +817,13 @@ impl<'a> NumbersSeal<'a> for Seal<'a, ArchivedNumbers> {
 
     ghost tag = { λ s. seal_tag s };
 
-    fn done_0_mut(self) -> Seal<'a, ArchivedVec<ArchivedU32>>
+    fn done_0_mut(self) -> Seal<'a, ArchivedVec<u8>>
         requires come_to { IsSealOf no_definition (one ⟦<ArchivedNumbers as Portable>⟧.shape) self }
         requires tag { seal_tag self ≡ 0 }
         ensures { SealsPart no_definition (one ⟦<ArchivedNumbers as Portable>⟧.shape) no_definition
-            ⟦<ArchivedVec<ArchivedU32> as ArchivePointee>⟧.pointee (self.entry.pos + 4) 0 self.entry
-            result }
+            ⟦<ArchivedVec<u8> as ArchivePointee>⟧.pointee (self.entry.pos + 4) 0 self.entry result }
     {
-        sealed_part_in_case::<ArchivedNumbers, ArchivedVec<ArchivedU32>>(self, 0, 0, 4)
+        sealed_part_in_case::<ArchivedNumbers, ArchivedVec<u8>>(self, 0, 0, 4)
     }
 
     fn failed_0_mut(self) -> Seal<'a, ArchivedSum>

@@ -56,38 +56,11 @@ pub enum Press {
     F10,
     F11,
     F12,
-    F13,
-    F14,
-    F15,
-    F16,
-    F17,
-    F18,
-    F19,
-    F20,
-    F21,
-    F22,
-    F23,
-    F24,
-    Numpad0,
-    Numpad1,
-    Numpad2,
-    Numpad3,
-    Numpad4,
-    Numpad5,
-    Numpad6,
-    Numpad7,
-    Numpad8,
-    Numpad9,
-    NumpadAdd,
-    NumpadSubtract,
-    NumpadEnter,
     Escape,
     Tab,
-    CapsLock,
     Space,
     Enter,
     Backspace,
-    Insert,
     Delete,
     Home,
     End,
@@ -105,12 +78,6 @@ pub enum Press {
         key: char,
     },
     Mute,
-    VolumeUp,
-    VolumeDown,
-    Play,
-    Stop,
-    Sleep,
-    Wake,
     Power,
 }
 
@@ -187,7 +154,7 @@ type PressVariants = UnitVariants<
             36,
             (
                 PressNamedParts,
-                UnitVariants<53, (PressChordParts, UnitVariants<8, ()>)>,
+                UnitVariants<26, (PressChordParts, UnitVariants<2, ()>)>,
             ),
         >,
     ),
@@ -199,8 +166,8 @@ impl ArchivePointee for ArchivedPress {
     ghost pointee = { one (choice (codes "ArchivedPress")
         (units 1 (variant (part ⟦<ArchivedU32 as Portable>⟧.shape no_part)
         (units 36 (variant (part ⟦<ArchivedString as Portable>⟧.shape no_part)
-        (units 53 (variant (part ⟦<u8 as Portable>⟧.shape
-        (part ⟦<ArchivedChar as Portable>⟧.shape no_part)) (units 8 no_variant)))))))) };
+        (units 26 (variant (part ⟦<u8 as Portable>⟧.shape
+        (part ⟦<ArchivedChar as Portable>⟧.shape no_part)) (units 2 no_variant)))))))) };
 
     ghost definitions = { no_definition };
 
@@ -215,8 +182,8 @@ impl Portable for ArchivedPress {
     ghost shape = { choice (codes "ArchivedPress") (units 1
         (variant (part ⟦<ArchivedU32 as Portable>⟧.shape no_part)
         (units 36 (variant (part ⟦<ArchivedString as Portable>⟧.shape no_part)
-        (units 53 (variant (part ⟦<u8 as Portable>⟧.shape
-        (part ⟦<ArchivedChar as Portable>⟧.shape no_part)) (units 8 no_variant))))))) };
+        (units 26 (variant (part ⟦<u8 as Portable>⟧.shape
+        (part ⟦<ArchivedChar as Portable>⟧.shape no_part)) (units 2 no_variant))))))) };
 
     ghost layout = { record { size = 12; align = 4 } };
 
@@ -231,8 +198,8 @@ impl Portable for ArchivedPress {
     ghost no_others = { no_definition_reached (choice (codes "ArchivedPress")
         (units 1 (variant (part ⟦<ArchivedU32 as Portable>⟧.shape no_part)
         (units 36 (variant (part ⟦<ArchivedString as Portable>⟧.shape no_part)
-        (units 53 (variant (part ⟦<u8 as Portable>⟧.shape
-        (part ⟦<ArchivedChar as Portable>⟧.shape no_part)) (units 8 no_variant)))))))) };
+        (units 26 (variant (part ⟦<u8 as Portable>⟧.shape
+        (part ⟦<ArchivedChar as Portable>⟧.shape no_part)) (units 2 no_variant)))))))) };
 
     ghost checks = { λ _. plain_own_check _ _ _ _ _ refl refl refl refl };
 
@@ -257,13 +224,13 @@ impl SelfCheck for ArchivedPress {
     ghost shape = { choice (codes "ArchivedPress") (units 1
         (variant (part ⟦<ArchivedU32 as Portable>⟧.shape no_part)
         (units 36 (variant (part ⟦<ArchivedString as Portable>⟧.shape no_part)
-        (units 53 (variant (part ⟦<u8 as Portable>⟧.shape
-        (part ⟦<ArchivedChar as Portable>⟧.shape no_part)) (units 8 no_variant))))))) };
+        (units 26 (variant (part ⟦<u8 as Portable>⟧.shape
+        (part ⟦<ArchivedChar as Portable>⟧.shape no_part)) (units 2 no_variant))))))) };
 
     ghost definitions = { (unit_definitions 1 (both (both no_definition no_definition)
         (unit_definitions 36 (both (both no_definition no_definition)
-        (unit_definitions 53 (both (both no_definition (both no_definition no_definition))
-        (unit_definitions 8 no_definition))))))) };
+        (unit_definitions 26 (both (both no_definition (both no_definition no_definition))
+        (unit_definitions 2 no_definition))))))) };
 
     ghost span = { 12 };
 
@@ -298,12 +265,12 @@ impl Choice for ArchivedPress {
     ghost has_variants = { plain_choice (codes "ArchivedPress")
         (units 1 (variant (part ⟦<ArchivedU32 as Portable>⟧.shape no_part)
         (units 36 (variant (part ⟦<ArchivedString as Portable>⟧.shape no_part)
-        (units 53 (variant (part ⟦<u8 as Portable>⟧.shape
-        (part ⟦<ArchivedChar as Portable>⟧.shape no_part)) (units 8 no_variant)))))))
+        (units 26 (variant (part ⟦<u8 as Portable>⟧.shape
+        (part ⟦<ArchivedChar as Portable>⟧.shape no_part)) (units 2 no_variant)))))))
         (unit_definitions 1 (both (both no_definition no_definition)
         (unit_definitions 36 (both (both no_definition no_definition)
-        (unit_definitions 53 (both (both no_definition (both no_definition no_definition))
-        (unit_definitions 8 no_definition))))))) refl };
+        (unit_definitions 26 (both (both no_definition (both no_definition no_definition))
+        (unit_definitions 2 no_definition))))))) refl };
 
     ghost holds = { lit≤ tt };
 }
@@ -327,7 +294,7 @@ trait PressTag {
 }
 
 impl PressTag for Press {
-    ghost use Rattle.derived_plain.specs.declared.press.Press.TheVariants.{A as PressA, B as PressB, Backspace as PressBackspace, C as PressC, CapsLock as PressCapsLock, Chord as PressChord, D as PressD, Delete as PressDelete, Digit0 as PressDigit0, Digit1 as PressDigit1, Digit2 as PressDigit2, Digit3 as PressDigit3, Digit4 as PressDigit4, Digit5 as PressDigit5, Digit6 as PressDigit6, Digit7 as PressDigit7, Digit8 as PressDigit8, Digit9 as PressDigit9, Down as PressDown, E as PressE, End as PressEnd, Enter as PressEnter, Escape as PressEscape, F as PressF, F1 as PressF1, F10 as PressF10, F11 as PressF11, F12 as PressF12, F13 as PressF13, F14 as PressF14, F15 as PressF15, F16 as PressF16, F17 as PressF17, F18 as PressF18, F19 as PressF19, F2 as PressF2, F20 as PressF20, F21 as PressF21, F22 as PressF22, F23 as PressF23, F24 as PressF24, F3 as PressF3, F4 as PressF4, F5 as PressF5, F6 as PressF6, F7 as PressF7, F8 as PressF8, F9 as PressF9, G as PressG, H as PressH, Home as PressHome, I as PressI, Insert as PressInsert, J as PressJ, K as PressK, L as PressL, Left as PressLeft, M as PressM, Mute as PressMute, N as PressN, Named as PressNamed, Numpad0 as PressNumpad0, Numpad1 as PressNumpad1, Numpad2 as PressNumpad2, Numpad3 as PressNumpad3, Numpad4 as PressNumpad4, Numpad5 as PressNumpad5, Numpad6 as PressNumpad6, Numpad7 as PressNumpad7, Numpad8 as PressNumpad8, Numpad9 as PressNumpad9, NumpadAdd as PressNumpadAdd, NumpadEnter as PressNumpadEnter, NumpadSubtract as PressNumpadSubtract, O as PressO, P as PressP, PageDown as PressPageDown, PageUp as PressPageUp, Play as PressPlay, Power as PressPower, Q as PressQ, R as PressR, Right as PressRight, S as PressS, Scanned as PressScanned, Sleep as PressSleep, Space as PressSpace, Stop as PressStop, T as PressT, Tab as PressTab, U as PressU, Unknown as PressUnknown, Up as PressUp, V as PressV, VolumeDown as PressVolumeDown, VolumeUp as PressVolumeUp, W as PressW, Wake as PressWake, X as PressX, Y as PressY, Z as PressZ};
+    ghost use Rattle.derived_plain.specs.declared.press.Press.TheVariants.{A as PressA, B as PressB, Backspace as PressBackspace, C as PressC, Chord as PressChord, D as PressD, Delete as PressDelete, Digit0 as PressDigit0, Digit1 as PressDigit1, Digit2 as PressDigit2, Digit3 as PressDigit3, Digit4 as PressDigit4, Digit5 as PressDigit5, Digit6 as PressDigit6, Digit7 as PressDigit7, Digit8 as PressDigit8, Digit9 as PressDigit9, Down as PressDown, E as PressE, End as PressEnd, Enter as PressEnter, Escape as PressEscape, F as PressF, F1 as PressF1, F10 as PressF10, F11 as PressF11, F12 as PressF12, F2 as PressF2, F3 as PressF3, F4 as PressF4, F5 as PressF5, F6 as PressF6, F7 as PressF7, F8 as PressF8, F9 as PressF9, G as PressG, H as PressH, Home as PressHome, I as PressI, J as PressJ, K as PressK, L as PressL, Left as PressLeft, M as PressM, Mute as PressMute, N as PressN, Named as PressNamed, O as PressO, P as PressP, PageDown as PressPageDown, PageUp as PressPageUp, Power as PressPower, Q as PressQ, R as PressR, Right as PressRight, S as PressS, Scanned as PressScanned, Space as PressSpace, T as PressT, Tab as PressTab, U as PressU, Unknown as PressUnknown, Up as PressUp, V as PressV, W as PressW, X as PressX, Y as PressY, Z as PressZ};
 
     fn tag(&self) -> u8
         ensures { elim self.now [
@@ -382,56 +349,23 @@ impl PressTag for Press {
           | PressF10 ↦ result ≡ 48
           | PressF11 ↦ result ≡ 49
           | PressF12 ↦ result ≡ 50
-          | PressF13 ↦ result ≡ 51
-          | PressF14 ↦ result ≡ 52
-          | PressF15 ↦ result ≡ 53
-          | PressF16 ↦ result ≡ 54
-          | PressF17 ↦ result ≡ 55
-          | PressF18 ↦ result ≡ 56
-          | PressF19 ↦ result ≡ 57
-          | PressF20 ↦ result ≡ 58
-          | PressF21 ↦ result ≡ 59
-          | PressF22 ↦ result ≡ 60
-          | PressF23 ↦ result ≡ 61
-          | PressF24 ↦ result ≡ 62
-          | PressNumpad0 ↦ result ≡ 63
-          | PressNumpad1 ↦ result ≡ 64
-          | PressNumpad2 ↦ result ≡ 65
-          | PressNumpad3 ↦ result ≡ 66
-          | PressNumpad4 ↦ result ≡ 67
-          | PressNumpad5 ↦ result ≡ 68
-          | PressNumpad6 ↦ result ≡ 69
-          | PressNumpad7 ↦ result ≡ 70
-          | PressNumpad8 ↦ result ≡ 71
-          | PressNumpad9 ↦ result ≡ 72
-          | PressNumpadAdd ↦ result ≡ 73
-          | PressNumpadSubtract ↦ result ≡ 74
-          | PressNumpadEnter ↦ result ≡ 75
-          | PressEscape ↦ result ≡ 76
-          | PressTab ↦ result ≡ 77
-          | PressCapsLock ↦ result ≡ 78
-          | PressSpace ↦ result ≡ 79
-          | PressEnter ↦ result ≡ 80
-          | PressBackspace ↦ result ≡ 81
-          | PressInsert ↦ result ≡ 82
-          | PressDelete ↦ result ≡ 83
-          | PressHome ↦ result ≡ 84
-          | PressEnd ↦ result ≡ 85
-          | PressPageUp ↦ result ≡ 86
-          | PressPageDown ↦ result ≡ 87
-          | PressLeft ↦ result ≡ 88
-          | PressRight ↦ result ≡ 89
-          | PressUp ↦ result ≡ 90
-          | PressDown ↦ result ≡ 91
-          | PressChord a0 a1 ↦ result ≡ 92
-          | PressMute ↦ result ≡ 93
-          | PressVolumeUp ↦ result ≡ 94
-          | PressVolumeDown ↦ result ≡ 95
-          | PressPlay ↦ result ≡ 96
-          | PressStop ↦ result ≡ 97
-          | PressSleep ↦ result ≡ 98
-          | PressWake ↦ result ≡ 99
-          | PressPower ↦ result ≡ 100
+          | PressEscape ↦ result ≡ 51
+          | PressTab ↦ result ≡ 52
+          | PressSpace ↦ result ≡ 53
+          | PressEnter ↦ result ≡ 54
+          | PressBackspace ↦ result ≡ 55
+          | PressDelete ↦ result ≡ 56
+          | PressHome ↦ result ≡ 57
+          | PressEnd ↦ result ≡ 58
+          | PressPageUp ↦ result ≡ 59
+          | PressPageDown ↦ result ≡ 60
+          | PressLeft ↦ result ≡ 61
+          | PressRight ↦ result ≡ 62
+          | PressUp ↦ result ≡ 63
+          | PressDown ↦ result ≡ 64
+          | PressChord a0 a1 ↦ result ≡ 65
+          | PressMute ↦ result ≡ 66
+          | PressPower ↦ result ≡ 67
         ] }
     {
         match self {
@@ -486,62 +420,29 @@ impl PressTag for Press {
             Press::F10 => 48,
             Press::F11 => 49,
             Press::F12 => 50,
-            Press::F13 => 51,
-            Press::F14 => 52,
-            Press::F15 => 53,
-            Press::F16 => 54,
-            Press::F17 => 55,
-            Press::F18 => 56,
-            Press::F19 => 57,
-            Press::F20 => 58,
-            Press::F21 => 59,
-            Press::F22 => 60,
-            Press::F23 => 61,
-            Press::F24 => 62,
-            Press::Numpad0 => 63,
-            Press::Numpad1 => 64,
-            Press::Numpad2 => 65,
-            Press::Numpad3 => 66,
-            Press::Numpad4 => 67,
-            Press::Numpad5 => 68,
-            Press::Numpad6 => 69,
-            Press::Numpad7 => 70,
-            Press::Numpad8 => 71,
-            Press::Numpad9 => 72,
-            Press::NumpadAdd => 73,
-            Press::NumpadSubtract => 74,
-            Press::NumpadEnter => 75,
-            Press::Escape => 76,
-            Press::Tab => 77,
-            Press::CapsLock => 78,
-            Press::Space => 79,
-            Press::Enter => 80,
-            Press::Backspace => 81,
-            Press::Insert => 82,
-            Press::Delete => 83,
-            Press::Home => 84,
-            Press::End => 85,
-            Press::PageUp => 86,
-            Press::PageDown => 87,
-            Press::Left => 88,
-            Press::Right => 89,
-            Press::Up => 90,
-            Press::Down => 91,
-            Press::Chord { .. } => 92,
-            Press::Mute => 93,
-            Press::VolumeUp => 94,
-            Press::VolumeDown => 95,
-            Press::Play => 96,
-            Press::Stop => 97,
-            Press::Sleep => 98,
-            Press::Wake => 99,
-            Press::Power => 100,
+            Press::Escape => 51,
+            Press::Tab => 52,
+            Press::Space => 53,
+            Press::Enter => 54,
+            Press::Backspace => 55,
+            Press::Delete => 56,
+            Press::Home => 57,
+            Press::End => 58,
+            Press::PageUp => 59,
+            Press::PageDown => 60,
+            Press::Left => 61,
+            Press::Right => 62,
+            Press::Up => 63,
+            Press::Down => 64,
+            Press::Chord { .. } => 65,
+            Press::Mute => 66,
+            Press::Power => 67,
         }
     }
 }
 
 impl Archive for Press {
-    ghost use Rattle.derived_plain.specs.declared.press.Press.TheVariants.{A as PressA, B as PressB, Backspace as PressBackspace, C as PressC, CapsLock as PressCapsLock, Chord as PressChord, D as PressD, Delete as PressDelete, Digit0 as PressDigit0, Digit1 as PressDigit1, Digit2 as PressDigit2, Digit3 as PressDigit3, Digit4 as PressDigit4, Digit5 as PressDigit5, Digit6 as PressDigit6, Digit7 as PressDigit7, Digit8 as PressDigit8, Digit9 as PressDigit9, Down as PressDown, E as PressE, End as PressEnd, Enter as PressEnter, Escape as PressEscape, F as PressF, F1 as PressF1, F10 as PressF10, F11 as PressF11, F12 as PressF12, F13 as PressF13, F14 as PressF14, F15 as PressF15, F16 as PressF16, F17 as PressF17, F18 as PressF18, F19 as PressF19, F2 as PressF2, F20 as PressF20, F21 as PressF21, F22 as PressF22, F23 as PressF23, F24 as PressF24, F3 as PressF3, F4 as PressF4, F5 as PressF5, F6 as PressF6, F7 as PressF7, F8 as PressF8, F9 as PressF9, G as PressG, H as PressH, Home as PressHome, I as PressI, Insert as PressInsert, J as PressJ, K as PressK, L as PressL, Left as PressLeft, M as PressM, Mute as PressMute, N as PressN, Named as PressNamed, Numpad0 as PressNumpad0, Numpad1 as PressNumpad1, Numpad2 as PressNumpad2, Numpad3 as PressNumpad3, Numpad4 as PressNumpad4, Numpad5 as PressNumpad5, Numpad6 as PressNumpad6, Numpad7 as PressNumpad7, Numpad8 as PressNumpad8, Numpad9 as PressNumpad9, NumpadAdd as PressNumpadAdd, NumpadEnter as PressNumpadEnter, NumpadSubtract as PressNumpadSubtract, O as PressO, P as PressP, PageDown as PressPageDown, PageUp as PressPageUp, Play as PressPlay, Power as PressPower, Q as PressQ, R as PressR, Right as PressRight, S as PressS, Scanned as PressScanned, Sleep as PressSleep, Space as PressSpace, Stop as PressStop, T as PressT, Tab as PressTab, U as PressU, Unknown as PressUnknown, Up as PressUp, V as PressV, VolumeDown as PressVolumeDown, VolumeUp as PressVolumeUp, W as PressW, Wake as PressWake, X as PressX, Y as PressY, Z as PressZ};
+    ghost use Rattle.derived_plain.specs.declared.press.Press.TheVariants.{A as PressA, B as PressB, Backspace as PressBackspace, C as PressC, Chord as PressChord, D as PressD, Delete as PressDelete, Digit0 as PressDigit0, Digit1 as PressDigit1, Digit2 as PressDigit2, Digit3 as PressDigit3, Digit4 as PressDigit4, Digit5 as PressDigit5, Digit6 as PressDigit6, Digit7 as PressDigit7, Digit8 as PressDigit8, Digit9 as PressDigit9, Down as PressDown, E as PressE, End as PressEnd, Enter as PressEnter, Escape as PressEscape, F as PressF, F1 as PressF1, F10 as PressF10, F11 as PressF11, F12 as PressF12, F2 as PressF2, F3 as PressF3, F4 as PressF4, F5 as PressF5, F6 as PressF6, F7 as PressF7, F8 as PressF8, F9 as PressF9, G as PressG, H as PressH, Home as PressHome, I as PressI, J as PressJ, K as PressK, L as PressL, Left as PressLeft, M as PressM, Mute as PressMute, N as PressN, Named as PressNamed, O as PressO, P as PressP, PageDown as PressPageDown, PageUp as PressPageUp, Power as PressPower, Q as PressQ, R as PressR, Right as PressRight, S as PressS, Scanned as PressScanned, Space as PressSpace, T as PressT, Tab as PressTab, U as PressU, Unknown as PressUnknown, Up as PressUp, V as PressV, W as PressW, X as PressX, Y as PressY, Z as PressZ};
     ghost use Rattle.derived_plain.specs.declared.press.PressResolver.TheVariants.{Chord as PressChordKept, Named as PressNamedKept, Scanned as PressScannedKept, Unit as PressUnitKept};
 
     type Archived = ArchivedPress;
@@ -600,57 +501,24 @@ impl Archive for Press {
       | PressF10 ↦ case 48 no_value
       | PressF11 ↦ case 49 no_value
       | PressF12 ↦ case 50 no_value
-      | PressF13 ↦ case 51 no_value
-      | PressF14 ↦ case 52 no_value
-      | PressF15 ↦ case 53 no_value
-      | PressF16 ↦ case 54 no_value
-      | PressF17 ↦ case 55 no_value
-      | PressF18 ↦ case 56 no_value
-      | PressF19 ↦ case 57 no_value
-      | PressF20 ↦ case 58 no_value
-      | PressF21 ↦ case 59 no_value
-      | PressF22 ↦ case 60 no_value
-      | PressF23 ↦ case 61 no_value
-      | PressF24 ↦ case 62 no_value
-      | PressNumpad0 ↦ case 63 no_value
-      | PressNumpad1 ↦ case 64 no_value
-      | PressNumpad2 ↦ case 65 no_value
-      | PressNumpad3 ↦ case 66 no_value
-      | PressNumpad4 ↦ case 67 no_value
-      | PressNumpad5 ↦ case 68 no_value
-      | PressNumpad6 ↦ case 69 no_value
-      | PressNumpad7 ↦ case 70 no_value
-      | PressNumpad8 ↦ case 71 no_value
-      | PressNumpad9 ↦ case 72 no_value
-      | PressNumpadAdd ↦ case 73 no_value
-      | PressNumpadSubtract ↦ case 74 no_value
-      | PressNumpadEnter ↦ case 75 no_value
-      | PressEscape ↦ case 76 no_value
-      | PressTab ↦ case 77 no_value
-      | PressCapsLock ↦ case 78 no_value
-      | PressSpace ↦ case 79 no_value
-      | PressEnter ↦ case 80 no_value
-      | PressBackspace ↦ case 81 no_value
-      | PressInsert ↦ case 82 no_value
-      | PressDelete ↦ case 83 no_value
-      | PressHome ↦ case 84 no_value
-      | PressEnd ↦ case 85 no_value
-      | PressPageUp ↦ case 86 no_value
-      | PressPageDown ↦ case 87 no_value
-      | PressLeft ↦ case 88 no_value
-      | PressRight ↦ case 89 no_value
-      | PressUp ↦ case 90 no_value
-      | PressDown ↦ case 91 no_value
-      | PressChord a0 a1 ↦ case 92 (value (⟦<u8 as Archive>⟧.meaning a0)
+      | PressEscape ↦ case 51 no_value
+      | PressTab ↦ case 52 no_value
+      | PressSpace ↦ case 53 no_value
+      | PressEnter ↦ case 54 no_value
+      | PressBackspace ↦ case 55 no_value
+      | PressDelete ↦ case 56 no_value
+      | PressHome ↦ case 57 no_value
+      | PressEnd ↦ case 58 no_value
+      | PressPageUp ↦ case 59 no_value
+      | PressPageDown ↦ case 60 no_value
+      | PressLeft ↦ case 61 no_value
+      | PressRight ↦ case 62 no_value
+      | PressUp ↦ case 63 no_value
+      | PressDown ↦ case 64 no_value
+      | PressChord a0 a1 ↦ case 65 (value (⟦<u8 as Archive>⟧.meaning a0)
           (value (⟦<char as Archive>⟧.meaning a1) no_value))
-      | PressMute ↦ case 93 no_value
-      | PressVolumeUp ↦ case 94 no_value
-      | PressVolumeDown ↦ case 95 no_value
-      | PressPlay ↦ case 96 no_value
-      | PressStop ↦ case 97 no_value
-      | PressSleep ↦ case 98 no_value
-      | PressWake ↦ case 99 no_value
-      | PressPower ↦ case 100 no_value
+      | PressMute ↦ case 66 no_value
+      | PressPower ↦ case 67 no_value
     ] };
 
     ghost flat = { λ v r. elim v [
@@ -711,60 +579,27 @@ impl Archive for Press {
       | PressF10 ↦ case 48 no_value
       | PressF11 ↦ case 49 no_value
       | PressF12 ↦ case 50 no_value
-      | PressF13 ↦ case 51 no_value
-      | PressF14 ↦ case 52 no_value
-      | PressF15 ↦ case 53 no_value
-      | PressF16 ↦ case 54 no_value
-      | PressF17 ↦ case 55 no_value
-      | PressF18 ↦ case 56 no_value
-      | PressF19 ↦ case 57 no_value
-      | PressF20 ↦ case 58 no_value
-      | PressF21 ↦ case 59 no_value
-      | PressF22 ↦ case 60 no_value
-      | PressF23 ↦ case 61 no_value
-      | PressF24 ↦ case 62 no_value
-      | PressNumpad0 ↦ case 63 no_value
-      | PressNumpad1 ↦ case 64 no_value
-      | PressNumpad2 ↦ case 65 no_value
-      | PressNumpad3 ↦ case 66 no_value
-      | PressNumpad4 ↦ case 67 no_value
-      | PressNumpad5 ↦ case 68 no_value
-      | PressNumpad6 ↦ case 69 no_value
-      | PressNumpad7 ↦ case 70 no_value
-      | PressNumpad8 ↦ case 71 no_value
-      | PressNumpad9 ↦ case 72 no_value
-      | PressNumpadAdd ↦ case 73 no_value
-      | PressNumpadSubtract ↦ case 74 no_value
-      | PressNumpadEnter ↦ case 75 no_value
-      | PressEscape ↦ case 76 no_value
-      | PressTab ↦ case 77 no_value
-      | PressCapsLock ↦ case 78 no_value
-      | PressSpace ↦ case 79 no_value
-      | PressEnter ↦ case 80 no_value
-      | PressBackspace ↦ case 81 no_value
-      | PressInsert ↦ case 82 no_value
-      | PressDelete ↦ case 83 no_value
-      | PressHome ↦ case 84 no_value
-      | PressEnd ↦ case 85 no_value
-      | PressPageUp ↦ case 86 no_value
-      | PressPageDown ↦ case 87 no_value
-      | PressLeft ↦ case 88 no_value
-      | PressRight ↦ case 89 no_value
-      | PressUp ↦ case 90 no_value
-      | PressDown ↦ case 91 no_value
+      | PressEscape ↦ case 51 no_value
+      | PressTab ↦ case 52 no_value
+      | PressSpace ↦ case 53 no_value
+      | PressEnter ↦ case 54 no_value
+      | PressBackspace ↦ case 55 no_value
+      | PressDelete ↦ case 56 no_value
+      | PressHome ↦ case 57 no_value
+      | PressEnd ↦ case 58 no_value
+      | PressPageUp ↦ case 59 no_value
+      | PressPageDown ↦ case 60 no_value
+      | PressLeft ↦ case 61 no_value
+      | PressRight ↦ case 62 no_value
+      | PressUp ↦ case 63 no_value
+      | PressDown ↦ case 64 no_value
       | PressChord a0 a1 ↦ elim r [
-        | PressChordKept s ↦ case 92 (value (⟦<u8 as Archive>⟧.flat a0 s.0)
+        | PressChordKept s ↦ case 65 (value (⟦<u8 as Archive>⟧.flat a0 s.0)
             (value (⟦<char as Archive>⟧.flat a1 s.1.0) no_value))
-        | _ ↦ case 92 no_value
+        | _ ↦ case 65 no_value
       ]
-      | PressMute ↦ case 93 no_value
-      | PressVolumeUp ↦ case 94 no_value
-      | PressVolumeDown ↦ case 95 no_value
-      | PressPlay ↦ case 96 no_value
-      | PressStop ↦ case 97 no_value
-      | PressSleep ↦ case 98 no_value
-      | PressWake ↦ case 99 no_value
-      | PressPower ↦ case 100 no_value
+      | PressMute ↦ case 66 no_value
+      | PressPower ↦ case 67 no_value
     ] };
 
     ghost keys = { elim [
@@ -819,38 +654,11 @@ impl Archive for Press {
       | PressF10 ↦ []
       | PressF11 ↦ []
       | PressF12 ↦ []
-      | PressF13 ↦ []
-      | PressF14 ↦ []
-      | PressF15 ↦ []
-      | PressF16 ↦ []
-      | PressF17 ↦ []
-      | PressF18 ↦ []
-      | PressF19 ↦ []
-      | PressF20 ↦ []
-      | PressF21 ↦ []
-      | PressF22 ↦ []
-      | PressF23 ↦ []
-      | PressF24 ↦ []
-      | PressNumpad0 ↦ []
-      | PressNumpad1 ↦ []
-      | PressNumpad2 ↦ []
-      | PressNumpad3 ↦ []
-      | PressNumpad4 ↦ []
-      | PressNumpad5 ↦ []
-      | PressNumpad6 ↦ []
-      | PressNumpad7 ↦ []
-      | PressNumpad8 ↦ []
-      | PressNumpad9 ↦ []
-      | PressNumpadAdd ↦ []
-      | PressNumpadSubtract ↦ []
-      | PressNumpadEnter ↦ []
       | PressEscape ↦ []
       | PressTab ↦ []
-      | PressCapsLock ↦ []
       | PressSpace ↦ []
       | PressEnter ↦ []
       | PressBackspace ↦ []
-      | PressInsert ↦ []
       | PressDelete ↦ []
       | PressHome ↦ []
       | PressEnd ↦ []
@@ -862,12 +670,6 @@ impl Archive for Press {
       | PressDown ↦ []
       | PressChord a0 a1 ↦ ⟦<u8 as Archive>⟧.keys a0 ++ (⟦<char as Archive>⟧.keys a1 ++ [])
       | PressMute ↦ []
-      | PressVolumeUp ↦ []
-      | PressVolumeDown ↦ []
-      | PressPlay ↦ []
-      | PressStop ↦ []
-      | PressSleep ↦ []
-      | PressWake ↦ []
       | PressPower ↦ []
     ] };
 
@@ -929,38 +731,11 @@ impl Archive for Press {
       | PressF10 ↦ Unit {0}
       | PressF11 ↦ Unit {0}
       | PressF12 ↦ Unit {0}
-      | PressF13 ↦ Unit {0}
-      | PressF14 ↦ Unit {0}
-      | PressF15 ↦ Unit {0}
-      | PressF16 ↦ Unit {0}
-      | PressF17 ↦ Unit {0}
-      | PressF18 ↦ Unit {0}
-      | PressF19 ↦ Unit {0}
-      | PressF20 ↦ Unit {0}
-      | PressF21 ↦ Unit {0}
-      | PressF22 ↦ Unit {0}
-      | PressF23 ↦ Unit {0}
-      | PressF24 ↦ Unit {0}
-      | PressNumpad0 ↦ Unit {0}
-      | PressNumpad1 ↦ Unit {0}
-      | PressNumpad2 ↦ Unit {0}
-      | PressNumpad3 ↦ Unit {0}
-      | PressNumpad4 ↦ Unit {0}
-      | PressNumpad5 ↦ Unit {0}
-      | PressNumpad6 ↦ Unit {0}
-      | PressNumpad7 ↦ Unit {0}
-      | PressNumpad8 ↦ Unit {0}
-      | PressNumpad9 ↦ Unit {0}
-      | PressNumpadAdd ↦ Unit {0}
-      | PressNumpadSubtract ↦ Unit {0}
-      | PressNumpadEnter ↦ Unit {0}
       | PressEscape ↦ Unit {0}
       | PressTab ↦ Unit {0}
-      | PressCapsLock ↦ Unit {0}
       | PressSpace ↦ Unit {0}
       | PressEnter ↦ Unit {0}
       | PressBackspace ↦ Unit {0}
-      | PressInsert ↦ Unit {0}
       | PressDelete ↦ Unit {0}
       | PressHome ↦ Unit {0}
       | PressEnd ↦ Unit {0}
@@ -976,12 +751,6 @@ impl Archive for Press {
         | _ ↦ ⊥
       ]
       | PressMute ↦ Unit {0}
-      | PressVolumeUp ↦ Unit {0}
-      | PressVolumeDown ↦ Unit {0}
-      | PressPlay ↦ Unit {0}
-      | PressStop ↦ Unit {0}
-      | PressSleep ↦ Unit {0}
-      | PressWake ↦ Unit {0}
       | PressPower ↦ Unit {0}
     ] };
 
@@ -1039,57 +808,24 @@ impl Archive for Press {
       | PressF10 ↦ case_keyed _ 48 _ nothing_keyed
       | PressF11 ↦ case_keyed _ 49 _ nothing_keyed
       | PressF12 ↦ case_keyed _ 50 _ nothing_keyed
-      | PressF13 ↦ case_keyed _ 51 _ nothing_keyed
-      | PressF14 ↦ case_keyed _ 52 _ nothing_keyed
-      | PressF15 ↦ case_keyed _ 53 _ nothing_keyed
-      | PressF16 ↦ case_keyed _ 54 _ nothing_keyed
-      | PressF17 ↦ case_keyed _ 55 _ nothing_keyed
-      | PressF18 ↦ case_keyed _ 56 _ nothing_keyed
-      | PressF19 ↦ case_keyed _ 57 _ nothing_keyed
-      | PressF20 ↦ case_keyed _ 58 _ nothing_keyed
-      | PressF21 ↦ case_keyed _ 59 _ nothing_keyed
-      | PressF22 ↦ case_keyed _ 60 _ nothing_keyed
-      | PressF23 ↦ case_keyed _ 61 _ nothing_keyed
-      | PressF24 ↦ case_keyed _ 62 _ nothing_keyed
-      | PressNumpad0 ↦ case_keyed _ 63 _ nothing_keyed
-      | PressNumpad1 ↦ case_keyed _ 64 _ nothing_keyed
-      | PressNumpad2 ↦ case_keyed _ 65 _ nothing_keyed
-      | PressNumpad3 ↦ case_keyed _ 66 _ nothing_keyed
-      | PressNumpad4 ↦ case_keyed _ 67 _ nothing_keyed
-      | PressNumpad5 ↦ case_keyed _ 68 _ nothing_keyed
-      | PressNumpad6 ↦ case_keyed _ 69 _ nothing_keyed
-      | PressNumpad7 ↦ case_keyed _ 70 _ nothing_keyed
-      | PressNumpad8 ↦ case_keyed _ 71 _ nothing_keyed
-      | PressNumpad9 ↦ case_keyed _ 72 _ nothing_keyed
-      | PressNumpadAdd ↦ case_keyed _ 73 _ nothing_keyed
-      | PressNumpadSubtract ↦ case_keyed _ 74 _ nothing_keyed
-      | PressNumpadEnter ↦ case_keyed _ 75 _ nothing_keyed
-      | PressEscape ↦ case_keyed _ 76 _ nothing_keyed
-      | PressTab ↦ case_keyed _ 77 _ nothing_keyed
-      | PressCapsLock ↦ case_keyed _ 78 _ nothing_keyed
-      | PressSpace ↦ case_keyed _ 79 _ nothing_keyed
-      | PressEnter ↦ case_keyed _ 80 _ nothing_keyed
-      | PressBackspace ↦ case_keyed _ 81 _ nothing_keyed
-      | PressInsert ↦ case_keyed _ 82 _ nothing_keyed
-      | PressDelete ↦ case_keyed _ 83 _ nothing_keyed
-      | PressHome ↦ case_keyed _ 84 _ nothing_keyed
-      | PressEnd ↦ case_keyed _ 85 _ nothing_keyed
-      | PressPageUp ↦ case_keyed _ 86 _ nothing_keyed
-      | PressPageDown ↦ case_keyed _ 87 _ nothing_keyed
-      | PressLeft ↦ case_keyed _ 88 _ nothing_keyed
-      | PressRight ↦ case_keyed _ 89 _ nothing_keyed
-      | PressUp ↦ case_keyed _ 90 _ nothing_keyed
-      | PressDown ↦ case_keyed _ 91 _ nothing_keyed
-      | PressChord a0 a1 ↦ case_keyed _ 92 _ (part_keyed (number_keyed _)
+      | PressEscape ↦ case_keyed _ 51 _ nothing_keyed
+      | PressTab ↦ case_keyed _ 52 _ nothing_keyed
+      | PressSpace ↦ case_keyed _ 53 _ nothing_keyed
+      | PressEnter ↦ case_keyed _ 54 _ nothing_keyed
+      | PressBackspace ↦ case_keyed _ 55 _ nothing_keyed
+      | PressDelete ↦ case_keyed _ 56 _ nothing_keyed
+      | PressHome ↦ case_keyed _ 57 _ nothing_keyed
+      | PressEnd ↦ case_keyed _ 58 _ nothing_keyed
+      | PressPageUp ↦ case_keyed _ 59 _ nothing_keyed
+      | PressPageDown ↦ case_keyed _ 60 _ nothing_keyed
+      | PressLeft ↦ case_keyed _ 61 _ nothing_keyed
+      | PressRight ↦ case_keyed _ 62 _ nothing_keyed
+      | PressUp ↦ case_keyed _ 63 _ nothing_keyed
+      | PressDown ↦ case_keyed _ 64 _ nothing_keyed
+      | PressChord a0 a1 ↦ case_keyed _ 65 _ (part_keyed (number_keyed _)
           (part_keyed (number_keyed _) nothing_keyed))
-      | PressMute ↦ case_keyed _ 93 _ nothing_keyed
-      | PressVolumeUp ↦ case_keyed _ 94 _ nothing_keyed
-      | PressVolumeDown ↦ case_keyed _ 95 _ nothing_keyed
-      | PressPlay ↦ case_keyed _ 96 _ nothing_keyed
-      | PressStop ↦ case_keyed _ 97 _ nothing_keyed
-      | PressSleep ↦ case_keyed _ 98 _ nothing_keyed
-      | PressWake ↦ case_keyed _ 99 _ nothing_keyed
-      | PressPower ↦ case_keyed _ 100 _ nothing_keyed
+      | PressMute ↦ case_keyed _ 66 _ nothing_keyed
+      | PressPower ↦ case_keyed _ 67 _ nothing_keyed
     ] };
 
     ghost planned = { elim [
@@ -1163,71 +899,29 @@ impl Archive for Press {
       | PressF10 ↦ plain_variant_planned _ _ 48 no_part refl no_definition _ _ no_part_planned refl
       | PressF11 ↦ plain_variant_planned _ _ 49 no_part refl no_definition _ _ no_part_planned refl
       | PressF12 ↦ plain_variant_planned _ _ 50 no_part refl no_definition _ _ no_part_planned refl
-      | PressF13 ↦ plain_variant_planned _ _ 51 no_part refl no_definition _ _ no_part_planned refl
-      | PressF14 ↦ plain_variant_planned _ _ 52 no_part refl no_definition _ _ no_part_planned refl
-      | PressF15 ↦ plain_variant_planned _ _ 53 no_part refl no_definition _ _ no_part_planned refl
-      | PressF16 ↦ plain_variant_planned _ _ 54 no_part refl no_definition _ _ no_part_planned refl
-      | PressF17 ↦ plain_variant_planned _ _ 55 no_part refl no_definition _ _ no_part_planned refl
-      | PressF18 ↦ plain_variant_planned _ _ 56 no_part refl no_definition _ _ no_part_planned refl
-      | PressF19 ↦ plain_variant_planned _ _ 57 no_part refl no_definition _ _ no_part_planned refl
-      | PressF20 ↦ plain_variant_planned _ _ 58 no_part refl no_definition _ _ no_part_planned refl
-      | PressF21 ↦ plain_variant_planned _ _ 59 no_part refl no_definition _ _ no_part_planned refl
-      | PressF22 ↦ plain_variant_planned _ _ 60 no_part refl no_definition _ _ no_part_planned refl
-      | PressF23 ↦ plain_variant_planned _ _ 61 no_part refl no_definition _ _ no_part_planned refl
-      | PressF24 ↦ plain_variant_planned _ _ 62 no_part refl no_definition _ _ no_part_planned refl
-      | PressNumpad0 ↦ plain_variant_planned _ _ 63 no_part refl no_definition _ _ no_part_planned
+      | PressEscape ↦ plain_variant_planned _ _ 51 no_part refl no_definition _ _ no_part_planned
           refl
-      | PressNumpad1 ↦ plain_variant_planned _ _ 64 no_part refl no_definition _ _ no_part_planned
+      | PressTab ↦ plain_variant_planned _ _ 52 no_part refl no_definition _ _ no_part_planned refl
+      | PressSpace ↦ plain_variant_planned _ _ 53 no_part refl no_definition _ _ no_part_planned
           refl
-      | PressNumpad2 ↦ plain_variant_planned _ _ 65 no_part refl no_definition _ _ no_part_planned
+      | PressEnter ↦ plain_variant_planned _ _ 54 no_part refl no_definition _ _ no_part_planned
           refl
-      | PressNumpad3 ↦ plain_variant_planned _ _ 66 no_part refl no_definition _ _ no_part_planned
+      | PressBackspace ↦ plain_variant_planned _ _ 55 no_part refl no_definition _ _ no_part_planned
           refl
-      | PressNumpad4 ↦ plain_variant_planned _ _ 67 no_part refl no_definition _ _ no_part_planned
+      | PressDelete ↦ plain_variant_planned _ _ 56 no_part refl no_definition _ _ no_part_planned
           refl
-      | PressNumpad5 ↦ plain_variant_planned _ _ 68 no_part refl no_definition _ _ no_part_planned
+      | PressHome ↦ plain_variant_planned _ _ 57 no_part refl no_definition _ _ no_part_planned refl
+      | PressEnd ↦ plain_variant_planned _ _ 58 no_part refl no_definition _ _ no_part_planned refl
+      | PressPageUp ↦ plain_variant_planned _ _ 59 no_part refl no_definition _ _ no_part_planned
           refl
-      | PressNumpad6 ↦ plain_variant_planned _ _ 69 no_part refl no_definition _ _ no_part_planned
+      | PressPageDown ↦ plain_variant_planned _ _ 60 no_part refl no_definition _ _ no_part_planned
           refl
-      | PressNumpad7 ↦ plain_variant_planned _ _ 70 no_part refl no_definition _ _ no_part_planned
+      | PressLeft ↦ plain_variant_planned _ _ 61 no_part refl no_definition _ _ no_part_planned refl
+      | PressRight ↦ plain_variant_planned _ _ 62 no_part refl no_definition _ _ no_part_planned
           refl
-      | PressNumpad8 ↦ plain_variant_planned _ _ 71 no_part refl no_definition _ _ no_part_planned
-          refl
-      | PressNumpad9 ↦ plain_variant_planned _ _ 72 no_part refl no_definition _ _ no_part_planned
-          refl
-      | PressNumpadAdd ↦ plain_variant_planned _ _ 73 no_part refl no_definition _ _ no_part_planned
-          refl
-      | PressNumpadSubtract ↦ plain_variant_planned _ _ 74 no_part refl no_definition _ _
-          no_part_planned refl
-      | PressNumpadEnter ↦ plain_variant_planned _ _ 75 no_part refl no_definition _ _
-          no_part_planned refl
-      | PressEscape ↦ plain_variant_planned _ _ 76 no_part refl no_definition _ _ no_part_planned
-          refl
-      | PressTab ↦ plain_variant_planned _ _ 77 no_part refl no_definition _ _ no_part_planned refl
-      | PressCapsLock ↦ plain_variant_planned _ _ 78 no_part refl no_definition _ _ no_part_planned
-          refl
-      | PressSpace ↦ plain_variant_planned _ _ 79 no_part refl no_definition _ _ no_part_planned
-          refl
-      | PressEnter ↦ plain_variant_planned _ _ 80 no_part refl no_definition _ _ no_part_planned
-          refl
-      | PressBackspace ↦ plain_variant_planned _ _ 81 no_part refl no_definition _ _ no_part_planned
-          refl
-      | PressInsert ↦ plain_variant_planned _ _ 82 no_part refl no_definition _ _ no_part_planned
-          refl
-      | PressDelete ↦ plain_variant_planned _ _ 83 no_part refl no_definition _ _ no_part_planned
-          refl
-      | PressHome ↦ plain_variant_planned _ _ 84 no_part refl no_definition _ _ no_part_planned refl
-      | PressEnd ↦ plain_variant_planned _ _ 85 no_part refl no_definition _ _ no_part_planned refl
-      | PressPageUp ↦ plain_variant_planned _ _ 86 no_part refl no_definition _ _ no_part_planned
-          refl
-      | PressPageDown ↦ plain_variant_planned _ _ 87 no_part refl no_definition _ _ no_part_planned
-          refl
-      | PressLeft ↦ plain_variant_planned _ _ 88 no_part refl no_definition _ _ no_part_planned refl
-      | PressRight ↦ plain_variant_planned _ _ 89 no_part refl no_definition _ _ no_part_planned
-          refl
-      | PressUp ↦ plain_variant_planned _ _ 90 no_part refl no_definition _ _ no_part_planned refl
-      | PressDown ↦ plain_variant_planned _ _ 91 no_part refl no_definition _ _ no_part_planned refl
-      | PressChord a0 a1 ↦ plain_variant_planned _ _ 92
+      | PressUp ↦ plain_variant_planned _ _ 63 no_part refl no_definition _ _ no_part_planned refl
+      | PressDown ↦ plain_variant_planned _ _ 64 no_part refl no_definition _ _ no_part_planned refl
+      | PressChord a0 a1 ↦ plain_variant_planned _ _ 65
           (part ⟦<u8 as Portable>⟧.shape (part ⟦<ArchivedChar as Portable>⟧.shape no_part)) refl
           (both no_definition (both no_definition no_definition)) _ _
           (part_planned no_definition ⟦<u8 as Portable>⟧.shape (⟦<u8 as Archive>⟧.keys a0)
@@ -1235,17 +929,8 @@ impl Archive for Press {
           (part_planned no_definition ⟦<ArchivedChar as Portable>⟧.shape
           (⟦<char as Archive>⟧.keys a1) (⟦<char as Archive>⟧.meaning a1)
           (leaf_planned no_definition _ _ [] _ refl) no_part_planned)) refl
-      | PressMute ↦ plain_variant_planned _ _ 93 no_part refl no_definition _ _ no_part_planned refl
-      | PressVolumeUp ↦ plain_variant_planned _ _ 94 no_part refl no_definition _ _ no_part_planned
-          refl
-      | PressVolumeDown ↦ plain_variant_planned _ _ 95 no_part refl no_definition _ _
-          no_part_planned refl
-      | PressPlay ↦ plain_variant_planned _ _ 96 no_part refl no_definition _ _ no_part_planned refl
-      | PressStop ↦ plain_variant_planned _ _ 97 no_part refl no_definition _ _ no_part_planned refl
-      | PressSleep ↦ plain_variant_planned _ _ 98 no_part refl no_definition _ _ no_part_planned
-          refl
-      | PressWake ↦ plain_variant_planned _ _ 99 no_part refl no_definition _ _ no_part_planned refl
-      | PressPower ↦ plain_variant_planned _ _ 100 no_part refl no_definition _ _ no_part_planned
+      | PressMute ↦ plain_variant_planned _ _ 66 no_part refl no_definition _ _ no_part_planned refl
+      | PressPower ↦ plain_variant_planned _ _ 67 no_part refl no_definition _ _ no_part_planned
           refl
     ] };
 
@@ -1281,7 +966,7 @@ impl Archive for Press {
                 let PressResolver::Chord(kept) = resolver else {
                     unreachable!();
                 };
-                resolve_case_2::<u8, char, ArchivedPress>(92, a0, a1, kept, Place::new(pos, bytes))
+                resolve_case_2::<u8, char, ArchivedPress>(65, a0, a1, kept, Place::new(pos, bytes))
             }
             _ => resolve_case_0::<ArchivedPress>(PressTag::tag(self), (), Place::new(pos, bytes)),
         }
@@ -1321,7 +1006,7 @@ impl<S: Writer + ResolverAlloc> Serialize<S> for Press {
             Press::Chord {
                 modifiers: a0,
                 key: a1,
-            } => match serialize_case_2::<u8, char, ArchivedPress, S>(92, a0, a1, serializer) {
+            } => match serialize_case_2::<u8, char, ArchivedPress, S>(65, a0, a1, serializer) {
                 Ok(kept) => Ok(PressResolver::Chord(kept)),
                 Err(error) => Err(error),
             },
@@ -1352,8 +1037,8 @@ impl ArchiveUnsized for Press {
     ghost planned = { λ v. one_planned no_definition (choice (codes "ArchivedPress")
         (units 1 (variant (part ⟦<ArchivedU32 as Portable>⟧.shape no_part)
         (units 36 (variant (part ⟦<ArchivedString as Portable>⟧.shape no_part)
-        (units 53 (variant (part ⟦<u8 as Portable>⟧.shape
-        (part ⟦<ArchivedChar as Portable>⟧.shape no_part)) (units 8 no_variant))))))))
+        (units 26 (variant (part ⟦<u8 as Portable>⟧.shape
+        (part ⟦<ArchivedChar as Portable>⟧.shape no_part)) (units 2 no_variant))))))))
         (⟦<Press as Archive>⟧.keys v) (⟦<Press as Archive>⟧.meaning v) (planned_of_press v) };
 
     #[inline(always)]
@@ -1371,10 +1056,10 @@ impl<S: Writer + ResolverAlloc> SerializeUnsized<S> for Press {
 
 // The variant with this tag, which has no fields.
 fn press_without_fields(tag: u8) -> Press
-    requires below { tag < 101 }
+    requires below { tag < 68 }
     requires not_1 { tag ≢ 1 }
     requires not_38 { tag ≢ 38 }
-    requires not_92 { tag ≢ 92 }
+    requires not_65 { tag ≢ 65 }
     ensures variant { variant_in ⟦<ArchivedPress as Portable>⟧.shape tag ≡ Some no_part }
     ensures meaning { ⟦<Press as Archive>⟧.meaning result ≡ case tag no_value }
     ensures keys { ⟦<Press as Archive>⟧.keys result ≡ [] }
@@ -1429,54 +1114,21 @@ fn press_without_fields(tag: u8) -> Press
         48 => Press::F10,
         49 => Press::F11,
         50 => Press::F12,
-        51 => Press::F13,
-        52 => Press::F14,
-        53 => Press::F15,
-        54 => Press::F16,
-        55 => Press::F17,
-        56 => Press::F18,
-        57 => Press::F19,
-        58 => Press::F20,
-        59 => Press::F21,
-        60 => Press::F22,
-        61 => Press::F23,
-        62 => Press::F24,
-        63 => Press::Numpad0,
-        64 => Press::Numpad1,
-        65 => Press::Numpad2,
-        66 => Press::Numpad3,
-        67 => Press::Numpad4,
-        68 => Press::Numpad5,
-        69 => Press::Numpad6,
-        70 => Press::Numpad7,
-        71 => Press::Numpad8,
-        72 => Press::Numpad9,
-        73 => Press::NumpadAdd,
-        74 => Press::NumpadSubtract,
-        75 => Press::NumpadEnter,
-        76 => Press::Escape,
-        77 => Press::Tab,
-        78 => Press::CapsLock,
-        79 => Press::Space,
-        80 => Press::Enter,
-        81 => Press::Backspace,
-        82 => Press::Insert,
-        83 => Press::Delete,
-        84 => Press::Home,
-        85 => Press::End,
-        86 => Press::PageUp,
-        87 => Press::PageDown,
-        88 => Press::Left,
-        89 => Press::Right,
-        90 => Press::Up,
-        91 => Press::Down,
-        93 => Press::Mute,
-        94 => Press::VolumeUp,
-        95 => Press::VolumeDown,
-        96 => Press::Play,
-        97 => Press::Stop,
-        98 => Press::Sleep,
-        99 => Press::Wake,
+        51 => Press::Escape,
+        52 => Press::Tab,
+        53 => Press::Space,
+        54 => Press::Enter,
+        55 => Press::Backspace,
+        56 => Press::Delete,
+        57 => Press::Home,
+        58 => Press::End,
+        59 => Press::PageUp,
+        60 => Press::PageDown,
+        61 => Press::Left,
+        62 => Press::Right,
+        63 => Press::Up,
+        64 => Press::Down,
+        66 => Press::Mute,
         _ => Press::Power,
     }
 }
@@ -1511,8 +1163,8 @@ impl<D: Entries> Deserialize<Press, D> for ArchivedPress {
                 Ok((a0, ())) => Ok(Press::Named(a0)),
                 Err(error) => Err(error),
             },
-            92 => match read_case::<Self, PressChordParts, PressChordOwned, D>(
-                92,
+            65 => match read_case::<Self, PressChordParts, PressChordOwned, D>(
+                65,
                 alloc,
                 part,
                 deserializer,
@@ -1639,70 +1291,16 @@ pub enum ViewOfPress<'a> {
     F11,
     /// The variant `F12`.
     F12,
-    /// The variant `F13`.
-    F13,
-    /// The variant `F14`.
-    F14,
-    /// The variant `F15`.
-    F15,
-    /// The variant `F16`.
-    F16,
-    /// The variant `F17`.
-    F17,
-    /// The variant `F18`.
-    F18,
-    /// The variant `F19`.
-    F19,
-    /// The variant `F20`.
-    F20,
-    /// The variant `F21`.
-    F21,
-    /// The variant `F22`.
-    F22,
-    /// The variant `F23`.
-    F23,
-    /// The variant `F24`.
-    F24,
-    /// The variant `Numpad0`.
-    Numpad0,
-    /// The variant `Numpad1`.
-    Numpad1,
-    /// The variant `Numpad2`.
-    Numpad2,
-    /// The variant `Numpad3`.
-    Numpad3,
-    /// The variant `Numpad4`.
-    Numpad4,
-    /// The variant `Numpad5`.
-    Numpad5,
-    /// The variant `Numpad6`.
-    Numpad6,
-    /// The variant `Numpad7`.
-    Numpad7,
-    /// The variant `Numpad8`.
-    Numpad8,
-    /// The variant `Numpad9`.
-    Numpad9,
-    /// The variant `NumpadAdd`.
-    NumpadAdd,
-    /// The variant `NumpadSubtract`.
-    NumpadSubtract,
-    /// The variant `NumpadEnter`.
-    NumpadEnter,
     /// The variant `Escape`.
     Escape,
     /// The variant `Tab`.
     Tab,
-    /// The variant `CapsLock`.
-    CapsLock,
     /// The variant `Space`.
     Space,
     /// The variant `Enter`.
     Enter,
     /// The variant `Backspace`.
     Backspace,
-    /// The variant `Insert`.
-    Insert,
     /// The variant `Delete`.
     Delete,
     /// The variant `Home`.
@@ -1730,18 +1328,6 @@ pub enum ViewOfPress<'a> {
     },
     /// The variant `Mute`.
     Mute,
-    /// The variant `VolumeUp`.
-    VolumeUp,
-    /// The variant `VolumeDown`.
-    VolumeDown,
-    /// The variant `Play`.
-    Play,
-    /// The variant `Stop`.
-    Stop,
-    /// The variant `Sleep`.
-    Sleep,
-    /// The variant `Wake`.
-    Wake,
     /// The variant `Power`.
     Power,
 }
@@ -1753,7 +1339,7 @@ pub trait PressView<'a> {
 }
 
 impl<'a> PressView<'a> for Ref<'a, ArchivedPress> {
-    ghost use Rattle.derived_plain.specs.declared.press.ViewOfPress.TheVariants.{A as PressAShown, B as PressBShown, Backspace as PressBackspaceShown, C as PressCShown, CapsLock as PressCapsLockShown, Chord as PressChordShown, D as PressDShown, Delete as PressDeleteShown, Digit0 as PressDigit0Shown, Digit1 as PressDigit1Shown, Digit2 as PressDigit2Shown, Digit3 as PressDigit3Shown, Digit4 as PressDigit4Shown, Digit5 as PressDigit5Shown, Digit6 as PressDigit6Shown, Digit7 as PressDigit7Shown, Digit8 as PressDigit8Shown, Digit9 as PressDigit9Shown, Down as PressDownShown, E as PressEShown, End as PressEndShown, Enter as PressEnterShown, Escape as PressEscapeShown, F as PressFShown, F1 as PressF1Shown, F10 as PressF10Shown, F11 as PressF11Shown, F12 as PressF12Shown, F13 as PressF13Shown, F14 as PressF14Shown, F15 as PressF15Shown, F16 as PressF16Shown, F17 as PressF17Shown, F18 as PressF18Shown, F19 as PressF19Shown, F2 as PressF2Shown, F20 as PressF20Shown, F21 as PressF21Shown, F22 as PressF22Shown, F23 as PressF23Shown, F24 as PressF24Shown, F3 as PressF3Shown, F4 as PressF4Shown, F5 as PressF5Shown, F6 as PressF6Shown, F7 as PressF7Shown, F8 as PressF8Shown, F9 as PressF9Shown, G as PressGShown, H as PressHShown, Home as PressHomeShown, I as PressIShown, Insert as PressInsertShown, J as PressJShown, K as PressKShown, L as PressLShown, Left as PressLeftShown, M as PressMShown, Mute as PressMuteShown, N as PressNShown, Named as PressNamedShown, Numpad0 as PressNumpad0Shown, Numpad1 as PressNumpad1Shown, Numpad2 as PressNumpad2Shown, Numpad3 as PressNumpad3Shown, Numpad4 as PressNumpad4Shown, Numpad5 as PressNumpad5Shown, Numpad6 as PressNumpad6Shown, Numpad7 as PressNumpad7Shown, Numpad8 as PressNumpad8Shown, Numpad9 as PressNumpad9Shown, NumpadAdd as PressNumpadAddShown, NumpadEnter as PressNumpadEnterShown, NumpadSubtract as PressNumpadSubtractShown, O as PressOShown, P as PressPShown, PageDown as PressPageDownShown, PageUp as PressPageUpShown, Play as PressPlayShown, Power as PressPowerShown, Q as PressQShown, R as PressRShown, Right as PressRightShown, S as PressSShown, Scanned as PressScannedShown, Sleep as PressSleepShown, Space as PressSpaceShown, Stop as PressStopShown, T as PressTShown, Tab as PressTabShown, U as PressUShown, Unknown as PressUnknownShown, Up as PressUpShown, V as PressVShown, VolumeDown as PressVolumeDownShown, VolumeUp as PressVolumeUpShown, W as PressWShown, Wake as PressWakeShown, X as PressXShown, Y as PressYShown, Z as PressZShown};
+    ghost use Rattle.derived_plain.specs.declared.press.ViewOfPress.TheVariants.{A as PressAShown, B as PressBShown, Backspace as PressBackspaceShown, C as PressCShown, Chord as PressChordShown, D as PressDShown, Delete as PressDeleteShown, Digit0 as PressDigit0Shown, Digit1 as PressDigit1Shown, Digit2 as PressDigit2Shown, Digit3 as PressDigit3Shown, Digit4 as PressDigit4Shown, Digit5 as PressDigit5Shown, Digit6 as PressDigit6Shown, Digit7 as PressDigit7Shown, Digit8 as PressDigit8Shown, Digit9 as PressDigit9Shown, Down as PressDownShown, E as PressEShown, End as PressEndShown, Enter as PressEnterShown, Escape as PressEscapeShown, F as PressFShown, F1 as PressF1Shown, F10 as PressF10Shown, F11 as PressF11Shown, F12 as PressF12Shown, F2 as PressF2Shown, F3 as PressF3Shown, F4 as PressF4Shown, F5 as PressF5Shown, F6 as PressF6Shown, F7 as PressF7Shown, F8 as PressF8Shown, F9 as PressF9Shown, G as PressGShown, H as PressHShown, Home as PressHomeShown, I as PressIShown, J as PressJShown, K as PressKShown, L as PressLShown, Left as PressLeftShown, M as PressMShown, Mute as PressMuteShown, N as PressNShown, Named as PressNamedShown, O as PressOShown, P as PressPShown, PageDown as PressPageDownShown, PageUp as PressPageUpShown, Power as PressPowerShown, Q as PressQShown, R as PressRShown, Right as PressRightShown, S as PressSShown, Scanned as PressScannedShown, Space as PressSpaceShown, T as PressTShown, Tab as PressTabShown, U as PressUShown, Unknown as PressUnknownShown, Up as PressUpShown, V as PressVShown, W as PressWShown, X as PressXShown, Y as PressYShown, Z as PressZShown};
 
     fn variant(self) -> ViewOfPress<'a>
         ensures shows { elim result [
@@ -1812,60 +1398,27 @@ impl<'a> PressView<'a> for Ref<'a, ArchivedPress> {
           | PressF10Shown ↦ (tag_of self.entry ≡ 48)
           | PressF11Shown ↦ (tag_of self.entry ≡ 49)
           | PressF12Shown ↦ (tag_of self.entry ≡ 50)
-          | PressF13Shown ↦ (tag_of self.entry ≡ 51)
-          | PressF14Shown ↦ (tag_of self.entry ≡ 52)
-          | PressF15Shown ↦ (tag_of self.entry ≡ 53)
-          | PressF16Shown ↦ (tag_of self.entry ≡ 54)
-          | PressF17Shown ↦ (tag_of self.entry ≡ 55)
-          | PressF18Shown ↦ (tag_of self.entry ≡ 56)
-          | PressF19Shown ↦ (tag_of self.entry ≡ 57)
-          | PressF20Shown ↦ (tag_of self.entry ≡ 58)
-          | PressF21Shown ↦ (tag_of self.entry ≡ 59)
-          | PressF22Shown ↦ (tag_of self.entry ≡ 60)
-          | PressF23Shown ↦ (tag_of self.entry ≡ 61)
-          | PressF24Shown ↦ (tag_of self.entry ≡ 62)
-          | PressNumpad0Shown ↦ (tag_of self.entry ≡ 63)
-          | PressNumpad1Shown ↦ (tag_of self.entry ≡ 64)
-          | PressNumpad2Shown ↦ (tag_of self.entry ≡ 65)
-          | PressNumpad3Shown ↦ (tag_of self.entry ≡ 66)
-          | PressNumpad4Shown ↦ (tag_of self.entry ≡ 67)
-          | PressNumpad5Shown ↦ (tag_of self.entry ≡ 68)
-          | PressNumpad6Shown ↦ (tag_of self.entry ≡ 69)
-          | PressNumpad7Shown ↦ (tag_of self.entry ≡ 70)
-          | PressNumpad8Shown ↦ (tag_of self.entry ≡ 71)
-          | PressNumpad9Shown ↦ (tag_of self.entry ≡ 72)
-          | PressNumpadAddShown ↦ (tag_of self.entry ≡ 73)
-          | PressNumpadSubtractShown ↦ (tag_of self.entry ≡ 74)
-          | PressNumpadEnterShown ↦ (tag_of self.entry ≡ 75)
-          | PressEscapeShown ↦ (tag_of self.entry ≡ 76)
-          | PressTabShown ↦ (tag_of self.entry ≡ 77)
-          | PressCapsLockShown ↦ (tag_of self.entry ≡ 78)
-          | PressSpaceShown ↦ (tag_of self.entry ≡ 79)
-          | PressEnterShown ↦ (tag_of self.entry ≡ 80)
-          | PressBackspaceShown ↦ (tag_of self.entry ≡ 81)
-          | PressInsertShown ↦ (tag_of self.entry ≡ 82)
-          | PressDeleteShown ↦ (tag_of self.entry ≡ 83)
-          | PressHomeShown ↦ (tag_of self.entry ≡ 84)
-          | PressEndShown ↦ (tag_of self.entry ≡ 85)
-          | PressPageUpShown ↦ (tag_of self.entry ≡ 86)
-          | PressPageDownShown ↦ (tag_of self.entry ≡ 87)
-          | PressLeftShown ↦ (tag_of self.entry ≡ 88)
-          | PressRightShown ↦ (tag_of self.entry ≡ 89)
-          | PressUpShown ↦ (tag_of self.entry ≡ 90)
-          | PressDownShown ↦ (tag_of self.entry ≡ 91)
-          | PressChordShown a0 a1 ↦ (tag_of self.entry ≡ 92) × (a0.bytes.now ≡ self.entry.bytes.now)
+          | PressEscapeShown ↦ (tag_of self.entry ≡ 51)
+          | PressTabShown ↦ (tag_of self.entry ≡ 52)
+          | PressSpaceShown ↦ (tag_of self.entry ≡ 53)
+          | PressEnterShown ↦ (tag_of self.entry ≡ 54)
+          | PressBackspaceShown ↦ (tag_of self.entry ≡ 55)
+          | PressDeleteShown ↦ (tag_of self.entry ≡ 56)
+          | PressHomeShown ↦ (tag_of self.entry ≡ 57)
+          | PressEndShown ↦ (tag_of self.entry ≡ 58)
+          | PressPageUpShown ↦ (tag_of self.entry ≡ 59)
+          | PressPageDownShown ↦ (tag_of self.entry ≡ 60)
+          | PressLeftShown ↦ (tag_of self.entry ≡ 61)
+          | PressRightShown ↦ (tag_of self.entry ≡ 62)
+          | PressUpShown ↦ (tag_of self.entry ≡ 63)
+          | PressDownShown ↦ (tag_of self.entry ≡ 64)
+          | PressChordShown a0 a1 ↦ (tag_of self.entry ≡ 65) × (a0.bytes.now ≡ self.entry.bytes.now)
               × (a0.pos ≡ self.entry.pos + 1) × (a0.len ≡ 0)
               × ShowsValueOf a0 self.entry (payload_in 0) × (a1.bytes.now ≡ self.entry.bytes.now)
               × (a1.pos ≡ self.entry.pos + 4) × (a1.len ≡ 0)
               × ShowsValueOf a1 self.entry (payload_in 1)
-          | PressMuteShown ↦ (tag_of self.entry ≡ 93)
-          | PressVolumeUpShown ↦ (tag_of self.entry ≡ 94)
-          | PressVolumeDownShown ↦ (tag_of self.entry ≡ 95)
-          | PressPlayShown ↦ (tag_of self.entry ≡ 96)
-          | PressStopShown ↦ (tag_of self.entry ≡ 97)
-          | PressSleepShown ↦ (tag_of self.entry ≡ 98)
-          | PressWakeShown ↦ (tag_of self.entry ≡ 99)
-          | PressPowerShown ↦ (tag_of self.entry ≡ 100)
+          | PressMuteShown ↦ (tag_of self.entry ≡ 66)
+          | PressPowerShown ↦ (tag_of self.entry ≡ 67)
         ] }
     {
         match tag_in(self) {
@@ -1923,58 +1476,25 @@ impl<'a> PressView<'a> for Ref<'a, ArchivedPress> {
             48 => ViewOfPress::F10,
             49 => ViewOfPress::F11,
             50 => ViewOfPress::F12,
-            51 => ViewOfPress::F13,
-            52 => ViewOfPress::F14,
-            53 => ViewOfPress::F15,
-            54 => ViewOfPress::F16,
-            55 => ViewOfPress::F17,
-            56 => ViewOfPress::F18,
-            57 => ViewOfPress::F19,
-            58 => ViewOfPress::F20,
-            59 => ViewOfPress::F21,
-            60 => ViewOfPress::F22,
-            61 => ViewOfPress::F23,
-            62 => ViewOfPress::F24,
-            63 => ViewOfPress::Numpad0,
-            64 => ViewOfPress::Numpad1,
-            65 => ViewOfPress::Numpad2,
-            66 => ViewOfPress::Numpad3,
-            67 => ViewOfPress::Numpad4,
-            68 => ViewOfPress::Numpad5,
-            69 => ViewOfPress::Numpad6,
-            70 => ViewOfPress::Numpad7,
-            71 => ViewOfPress::Numpad8,
-            72 => ViewOfPress::Numpad9,
-            73 => ViewOfPress::NumpadAdd,
-            74 => ViewOfPress::NumpadSubtract,
-            75 => ViewOfPress::NumpadEnter,
-            76 => ViewOfPress::Escape,
-            77 => ViewOfPress::Tab,
-            78 => ViewOfPress::CapsLock,
-            79 => ViewOfPress::Space,
-            80 => ViewOfPress::Enter,
-            81 => ViewOfPress::Backspace,
-            82 => ViewOfPress::Insert,
-            83 => ViewOfPress::Delete,
-            84 => ViewOfPress::Home,
-            85 => ViewOfPress::End,
-            86 => ViewOfPress::PageUp,
-            87 => ViewOfPress::PageDown,
-            88 => ViewOfPress::Left,
-            89 => ViewOfPress::Right,
-            90 => ViewOfPress::Up,
-            91 => ViewOfPress::Down,
-            92 => ViewOfPress::Chord {
-                modifiers: part_in_case::<ArchivedPress, u8>(self, 92, 0, 1),
-                key: part_in_case::<ArchivedPress, ArchivedChar>(self, 92, 1, 4),
+            51 => ViewOfPress::Escape,
+            52 => ViewOfPress::Tab,
+            53 => ViewOfPress::Space,
+            54 => ViewOfPress::Enter,
+            55 => ViewOfPress::Backspace,
+            56 => ViewOfPress::Delete,
+            57 => ViewOfPress::Home,
+            58 => ViewOfPress::End,
+            59 => ViewOfPress::PageUp,
+            60 => ViewOfPress::PageDown,
+            61 => ViewOfPress::Left,
+            62 => ViewOfPress::Right,
+            63 => ViewOfPress::Up,
+            64 => ViewOfPress::Down,
+            65 => ViewOfPress::Chord {
+                modifiers: part_in_case::<ArchivedPress, u8>(self, 65, 0, 1),
+                key: part_in_case::<ArchivedPress, ArchivedChar>(self, 65, 1, 4),
             },
-            93 => ViewOfPress::Mute,
-            94 => ViewOfPress::VolumeUp,
-            95 => ViewOfPress::VolumeDown,
-            96 => ViewOfPress::Play,
-            97 => ViewOfPress::Stop,
-            98 => ViewOfPress::Sleep,
-            99 => ViewOfPress::Wake,
+            66 => ViewOfPress::Mute,
             _ => ViewOfPress::Power,
         }
     }
@@ -2001,12 +1521,12 @@ pub trait PressSeal<'a> {
     /// The modifiers, a bit each.
     fn chord_modifiers_mut(self) -> Seal<'a, u8>
         requires come_to { sealed self }
-        requires tag { tag self ≡ 92 };
+        requires tag { tag self ≡ 65 };
 
     /// The character.
     fn chord_key_mut(self) -> Seal<'a, ArchivedChar>
         requires come_to { sealed self }
-        requires tag { tag self ≡ 92 };
+        requires tag { tag self ≡ 65 };
 }
 
 impl<'a> PressSeal<'a> for Seal<'a, ArchivedPress> {
@@ -2034,20 +1554,20 @@ impl<'a> PressSeal<'a> for Seal<'a, ArchivedPress> {
 
     fn chord_modifiers_mut(self) -> Seal<'a, u8>
         requires come_to { IsSealOf no_definition (one ⟦<ArchivedPress as Portable>⟧.shape) self }
-        requires tag { seal_tag self ≡ 92 }
+        requires tag { seal_tag self ≡ 65 }
         ensures { SealsPart no_definition (one ⟦<ArchivedPress as Portable>⟧.shape) no_definition
             ⟦<u8 as ArchivePointee>⟧.pointee (self.entry.pos + 1) 0 self.entry result }
     {
-        sealed_part_in_case::<ArchivedPress, u8>(self, 92, 0, 1)
+        sealed_part_in_case::<ArchivedPress, u8>(self, 65, 0, 1)
     }
 
     fn chord_key_mut(self) -> Seal<'a, ArchivedChar>
         requires come_to { IsSealOf no_definition (one ⟦<ArchivedPress as Portable>⟧.shape) self }
-        requires tag { seal_tag self ≡ 92 }
+        requires tag { seal_tag self ≡ 65 }
         ensures { SealsPart no_definition (one ⟦<ArchivedPress as Portable>⟧.shape) no_definition
             ⟦<ArchivedChar as ArchivePointee>⟧.pointee (self.entry.pos + 4) 0 self.entry result }
     {
-        sealed_part_in_case::<ArchivedPress, ArchivedChar>(self, 92, 1, 4)
+        sealed_part_in_case::<ArchivedPress, ArchivedChar>(self, 65, 1, 4)
     }
 }
 
@@ -2065,12 +1585,12 @@ impl Ordered for ArchivedPress {
         (record { solved = λ s k. refl }) no_field_compared)
         (units_compared 36 (case_compared (field_compared string_compared
         ⟦<ArchivedString as Portable>⟧.layout (record { solved = λ s k. refl }) no_field_compared)
-        (units_compared 53 (case_compared (field_compared
+        (units_compared 26 (case_compared (field_compared
         (unsigned_compared w8 1 ⟦<u8 as Hash>⟧.hash_input refl) ⟦<u8 as Portable>⟧.layout (record {
           solved = λ s k. refl;
         }) (field_compared (char_compared ⟦<char as Hash>⟧.hash_input)
         ⟦<ArchivedChar as Portable>⟧.layout (record { solved = λ s k. refl }) no_field_compared))
-        (units_compared 8 no_case_compared))))))) refl).total };
+        (units_compared 2 no_case_compared))))))) refl).total };
 
     ghost respects = { (choice_compared (codes "ArchivedPress")
         (units_compared 1 (case_compared (field_compared
@@ -2078,12 +1598,12 @@ impl Ordered for ArchivedPress {
         (record { solved = λ s k. refl }) no_field_compared)
         (units_compared 36 (case_compared (field_compared string_compared
         ⟦<ArchivedString as Portable>⟧.layout (record { solved = λ s k. refl }) no_field_compared)
-        (units_compared 53 (case_compared (field_compared
+        (units_compared 26 (case_compared (field_compared
         (unsigned_compared w8 1 ⟦<u8 as Hash>⟧.hash_input refl) ⟦<u8 as Portable>⟧.layout (record {
           solved = λ s k. refl;
         }) (field_compared (char_compared ⟦<char as Hash>⟧.hash_input)
         ⟦<ArchivedChar as Portable>⟧.layout (record { solved = λ s k. refl }) no_field_compared))
-        (units_compared 8 no_case_compared))))))) refl).respects };
+        (units_compared 2 no_case_compared))))))) refl).respects };
 
     ghost level = { tt };
 
@@ -2093,12 +1613,12 @@ impl Ordered for ArchivedPress {
         (record { solved = λ s k. refl }) no_field_compared)
         (units_compared 36 (case_compared (field_compared string_compared
         ⟦<ArchivedString as Portable>⟧.layout (record { solved = λ s k. refl }) no_field_compared)
-        (units_compared 53 (case_compared (field_compared
+        (units_compared 26 (case_compared (field_compared
         (unsigned_compared w8 1 ⟦<u8 as Hash>⟧.hash_input refl) ⟦<u8 as Portable>⟧.layout (record {
           solved = λ s k. refl;
         }) (field_compared (char_compared ⟦<char as Hash>⟧.hash_input)
         ⟦<ArchivedChar as Portable>⟧.layout (record { solved = λ s k. refl }) no_field_compared))
-        (units_compared 8 no_case_compared))))))) refl).by_value };
+        (units_compared 2 no_case_compared))))))) refl).by_value };
 
     fn compare(a: RawView<'_>, b: RawView<'_>) -> Ordering {
         compare_choice::<Self, PressVariants>(a, b)

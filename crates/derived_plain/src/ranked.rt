@@ -16,19 +16,19 @@ pub enum Label {
         /// The name.
         name: String,
         /// Which of them, from below 0 on.
-        which: i32,
+        which: i8,
     },
 }
 
 /// What is compared of each kind: the first field that differs decides.
 #[derive(Debug, PartialEq, Eq, Drop)]
 pub struct Scores {
-    /// A letter, or whether there is one. A word of contracts.
-    pub data: Result<char, bool>,
+    /// A letter's byte, or whether there is one. A word of contracts.
+    pub data: Result<u8, bool>,
     /// Not 0, and the other one maybe below it. What contracts call an answer.
-    pub result: (NonZero<u16>, NonZero<i8>),
+    pub result: (NonZero<u8>, NonZero<i8>),
     /// Numbers by names, boxed. A call of views: the accessor is `pos_field`.
-    pub pos: BTreeMap<String, Box<i64>>,
+    pub pos: BTreeMap<String, Box<i8>>,
     /// Labels, perhaps. A call of vectors alone.
     pub len: Option<Vec<Label>>,
 }
@@ -37,7 +37,7 @@ pub struct Scores {
 
 ghost use Rattle.archive_core.specs.CallOutcomes.{ResolvesAs};
 ghost use Rattle.archive_core.specs.ComparedCases.{choice_fed, choice_order};
-ghost use Rattle.archive_core.specs.ComparedLeaves.{bool_compared, char_compared, signed_compared, signed_non_zero_compared, unsigned_compared, unsigned_non_zero_compared};
+ghost use Rattle.archive_core.specs.ComparedLeaves.{bool_compared, signed_compared, signed_non_zero_compared, unsigned_compared, unsigned_non_zero_compared};
 ghost use Rattle.archive_core.specs.ComparedTypes.{as_known, box_compared, case_compared, choice_compared, field_compared, map_compared, no_case_compared, no_field_compared, option_compared, pair_compared, record_compared, result_compared, string_compared, vec_compared};
 ghost use Rattle.archive_core.specs.Definitions.{both, no_definition};
 ghost use Rattle.archive_core.specs.Fields.{field_in};
@@ -58,7 +58,7 @@ ghost use Rattle.archive_core.specs.Sources.{ReadsAs};
 ghost use Rattle.archive_core.specs.Value.{case, no_value, product, value};
 ghost use Rattle.archive_core.specs.Writing.{ZeroedPlace};
 ghost use Rattle.std.proofs.Common.{inl, inr, lit≤};
-ghost use Rattle.std.specs.Int.{w16, w32, w64, w8};
+ghost use Rattle.std.specs.Int.{w16, w8};
 ghost use Rattle.std.specs.Prelude.{None, [], codes, length, refl, string_bytes, true, ℕ, ◌++◌, ◌+◌, ◌≡◌};
 
 use archive_core::boxed::ArchivedBox;
@@ -76,7 +76,7 @@ use archive_core::fields::{
 use archive_core::map::ArchivedSortedMap;
 use archive_core::option::ArchivedOption;
 use archive_core::place::Place;
-use archive_core::primitive::{ArchivedChar, ArchivedI32, ArchivedI64, ArchivedU16};
+use archive_core::primitive::ArchivedU16;
 use archive_core::record::deserialize_record;
 use archive_core::result::ArchivedResult;
 use archive_core::seal::{Seal, sealed_part_in_case, sealed_part_in_record};
@@ -102,9 +102,9 @@ type LabelSomeParts = (ArchivedU16, ());
 
 type LabelSomeOwned = (u16, ());
 
-type LabelOkParts = (ArchivedString, (ArchivedI32, ()));
+type LabelOkParts = (ArchivedString, (i8, ()));
 
-type LabelOkOwned = (String, (i32, ()));
+type LabelOkOwned = (String, (i8, ()));
 
 type LabelVariants = ((), (LabelSomeParts, (LabelOkParts, ())));
 
@@ -113,8 +113,8 @@ impl ArchivePointee for ArchivedLabel {
 
     ghost pointee = { one (choice (codes "ArchivedLabel")
         (variant no_part (variant (part ⟦<ArchivedU16 as Portable>⟧.shape no_part)
-        (variant (part ⟦<ArchivedString as Portable>⟧.shape
-        (part ⟦<ArchivedI32 as Portable>⟧.shape no_part)) no_variant)))) };
+        (variant (part ⟦<ArchivedString as Portable>⟧.shape (part ⟦<i8 as Portable>⟧.shape no_part))
+        no_variant)))) };
 
     ghost definitions = { no_definition };
 
@@ -128,8 +128,8 @@ impl ArchivePointee for ArchivedLabel {
 impl Portable for ArchivedLabel {
     ghost shape = { choice (codes "ArchivedLabel") (variant no_part
         (variant (part ⟦<ArchivedU16 as Portable>⟧.shape no_part)
-        (variant (part ⟦<ArchivedString as Portable>⟧.shape
-        (part ⟦<ArchivedI32 as Portable>⟧.shape no_part)) no_variant))) };
+        (variant (part ⟦<ArchivedString as Portable>⟧.shape (part ⟦<i8 as Portable>⟧.shape no_part))
+        no_variant))) };
 
     ghost layout = { record { size = 16; align = 4 } };
 
@@ -143,8 +143,8 @@ impl Portable for ArchivedLabel {
 
     ghost no_others = { no_definition_reached (choice (codes "ArchivedLabel")
         (variant no_part (variant (part ⟦<ArchivedU16 as Portable>⟧.shape no_part)
-        (variant (part ⟦<ArchivedString as Portable>⟧.shape
-        (part ⟦<ArchivedI32 as Portable>⟧.shape no_part)) no_variant)))) };
+        (variant (part ⟦<ArchivedString as Portable>⟧.shape (part ⟦<i8 as Portable>⟧.shape no_part))
+        no_variant)))) };
 
     ghost checks = { λ _. plain_own_check _ _ _ _ _ refl refl refl refl };
 
@@ -168,13 +168,13 @@ impl Portable for ArchivedLabel {
 impl SelfCheck for ArchivedLabel {
     ghost shape = { choice (codes "ArchivedLabel") (variant no_part
         (variant (part ⟦<ArchivedU16 as Portable>⟧.shape no_part)
-        (variant (part ⟦<ArchivedString as Portable>⟧.shape
-        (part ⟦<ArchivedI32 as Portable>⟧.shape no_part)) no_variant))) };
+        (variant (part ⟦<ArchivedString as Portable>⟧.shape (part ⟦<i8 as Portable>⟧.shape no_part))
+        no_variant))) };
 
     ghost definitions = { (both no_definition (both (both no_definition no_definition)
         (both (both no_definition (both no_definition no_definition)) no_definition))) };
 
-    ghost span = { 16 };
+    ghost span = { 13 };
 
     ghost direct = { true };
 
@@ -206,9 +206,8 @@ impl Choice for ArchivedLabel {
 
     ghost has_variants = { plain_choice (codes "ArchivedLabel")
         (variant no_part (variant (part ⟦<ArchivedU16 as Portable>⟧.shape no_part)
-        (variant (part ⟦<ArchivedString as Portable>⟧.shape
-        (part ⟦<ArchivedI32 as Portable>⟧.shape no_part)) no_variant)))
-        (both no_definition (both (both no_definition no_definition)
+        (variant (part ⟦<ArchivedString as Portable>⟧.shape (part ⟦<i8 as Portable>⟧.shape no_part))
+        no_variant))) (both no_definition (both (both no_definition no_definition)
         (both (both no_definition (both no_definition no_definition)) no_definition))) refl };
 
     ghost holds = { lit≤ tt };
@@ -225,7 +224,7 @@ pub enum LabelResolver {
     Ok(
         (
             <String as Archive>::Resolver,
-            (<i32 as Archive>::Resolver, ()),
+            (<i8 as Archive>::Resolver, ()),
         ),
     ),
 }
@@ -242,7 +241,7 @@ impl Archive for Label {
       | LabelNone ↦ case 0 no_value
       | LabelSome a0 ↦ case 1 (value (⟦<u16 as Archive>⟧.meaning a0) no_value)
       | LabelOk a0 a1 ↦ case 2 (value (⟦<String as Archive>⟧.meaning a0)
-          (value (⟦<i32 as Archive>⟧.meaning a1) no_value))
+          (value (⟦<i8 as Archive>⟧.meaning a1) no_value))
     ] };
 
     ghost flat = { λ v r. elim v [
@@ -253,7 +252,7 @@ impl Archive for Label {
       ]
       | LabelOk a0 a1 ↦ elim r [
         | LabelOkKept s ↦ case 2 (value (⟦<String as Archive>⟧.flat a0 s.0)
-            (value (⟦<i32 as Archive>⟧.flat a1 s.1.0) no_value))
+            (value (⟦<i8 as Archive>⟧.flat a1 s.1.0) no_value))
         | _ ↦ case 2 no_value
       ]
     ] };
@@ -261,7 +260,7 @@ impl Archive for Label {
     ghost keys = { elim [
       | LabelNone ↦ []
       | LabelSome a0 ↦ ⟦<u16 as Archive>⟧.keys a0 ++ []
-      | LabelOk a0 a1 ↦ ⟦<String as Archive>⟧.keys a0 ++ (⟦<i32 as Archive>⟧.keys a1 ++ [])
+      | LabelOk a0 a1 ↦ ⟦<String as Archive>⟧.keys a0 ++ (⟦<i8 as Archive>⟧.keys a1 ++ [])
     ] };
 
     ghost belongs = { λ v r. elim v [
@@ -272,7 +271,7 @@ impl Archive for Label {
       ]
       | LabelOk a0 a1 ↦ elim r [
         | LabelOkKept s ↦ ⟦<String as Archive>⟧.belongs a0 s.0
-            × (⟦<i32 as Archive>⟧.belongs a1 s.1.0 × Unit {0})
+            × (⟦<i8 as Archive>⟧.belongs a1 s.1.0 × Unit {0})
         | _ ↦ ⊥
       ]
     ] };
@@ -294,13 +293,12 @@ impl Archive for Label {
           (⟦<u16 as Archive>⟧.meaning a0) (leaf_planned no_definition _ _ [] _ refl)
           no_part_planned) refl
       | LabelOk a0 a1 ↦ plain_variant_planned _ _ 2 (part ⟦<ArchivedString as Portable>⟧.shape
-          (part ⟦<ArchivedI32 as Portable>⟧.shape no_part)) refl
-          (both no_definition (both no_definition no_definition)) _ _
-          (part_planned no_definition ⟦<ArchivedString as Portable>⟧.shape
-          (⟦<String as Archive>⟧.keys a0) (⟦<String as Archive>⟧.meaning a0)
-          (string_planned no_definition [] (string_bytes a0))
-          (part_planned no_definition ⟦<ArchivedI32 as Portable>⟧.shape (⟦<i32 as Archive>⟧.keys a1)
-          (⟦<i32 as Archive>⟧.meaning a1) (leaf_planned no_definition _ _ [] _ refl)
+          (part ⟦<i8 as Portable>⟧.shape no_part)) refl (both no_definition
+          (both no_definition no_definition)) _ _ (part_planned no_definition
+          ⟦<ArchivedString as Portable>⟧.shape (⟦<String as Archive>⟧.keys a0)
+          (⟦<String as Archive>⟧.meaning a0) (string_planned no_definition [] (string_bytes a0))
+          (part_planned no_definition ⟦<i8 as Portable>⟧.shape (⟦<i8 as Archive>⟧.keys a1)
+          (⟦<i8 as Archive>⟧.meaning a1) (leaf_planned no_definition _ _ [] _ refl)
           no_part_planned)) refl
     ] };
 
@@ -331,13 +329,7 @@ impl Archive for Label {
                 let LabelResolver::Ok(kept) = resolver else {
                     unreachable!();
                 };
-                resolve_case_2::<String, i32, ArchivedLabel>(
-                    2,
-                    a0,
-                    a1,
-                    kept,
-                    Place::new(pos, bytes),
-                )
+                resolve_case_2::<String, i8, ArchivedLabel>(2, a0, a1, kept, Place::new(pos, bytes))
             }
         }
     }
@@ -372,7 +364,7 @@ impl<S: Writer + ResolverAlloc> Serialize<S> for Label {
             Label::Ok {
                 name: a0,
                 which: a1,
-            } => match serialize_case_2::<String, i32, ArchivedLabel, S>(2, a0, a1, serializer) {
+            } => match serialize_case_2::<String, i8, ArchivedLabel, S>(2, a0, a1, serializer) {
                 Ok(kept) => Ok(LabelResolver::Ok(kept)),
                 Err(error) => Err(error),
             },
@@ -398,9 +390,9 @@ impl ArchiveUnsized for Label {
 
     ghost planned = { λ v. one_planned no_definition (choice (codes "ArchivedLabel")
         (variant no_part (variant (part ⟦<ArchivedU16 as Portable>⟧.shape no_part)
-        (variant (part ⟦<ArchivedString as Portable>⟧.shape
-        (part ⟦<ArchivedI32 as Portable>⟧.shape no_part)) no_variant))))
-        (⟦<Label as Archive>⟧.keys v) (⟦<Label as Archive>⟧.meaning v) (planned_of_label v) };
+        (variant (part ⟦<ArchivedString as Portable>⟧.shape (part ⟦<i8 as Portable>⟧.shape no_part))
+        no_variant)))) (⟦<Label as Archive>⟧.keys v) (⟦<Label as Archive>⟧.meaning v)
+        (planned_of_label v) };
 
     #[inline(always)]
     fn archived_metadata(&self) -> Result<(), Error> {
@@ -468,7 +460,7 @@ pub enum ViewOfLabel<'a> {
         /// The name.
         name: Ref<'a, ArchivedString>,
         /// Which of them, from below 0 on.
-        which: Ref<'a, ArchivedI32>,
+        which: Ref<'a, i8>,
     },
 }
 
@@ -499,7 +491,7 @@ impl<'a> LabelView<'a> for Ref<'a, ArchivedLabel> {
             1 => ViewOfLabel::Some(part_in_case::<ArchivedLabel, ArchivedU16>(self, 1, 0, 2)),
             _ => ViewOfLabel::Ok {
                 name: part_in_case::<ArchivedLabel, ArchivedString>(self, 2, 0, 4),
-                which: part_in_case::<ArchivedLabel, ArchivedI32>(self, 2, 1, 12),
+                which: part_in_case::<ArchivedLabel, i8>(self, 2, 1, 12),
             },
         }
     }
@@ -524,7 +516,7 @@ pub trait LabelSeal<'a> {
         requires tag { tag self ≡ 2 };
 
     /// Which of them, from below 0 on.
-    fn ok_which_mut(self) -> Seal<'a, ArchivedI32>
+    fn ok_which_mut(self) -> Seal<'a, i8>
         requires come_to { sealed self }
         requires tag { tag self ≡ 2 };
 }
@@ -552,13 +544,13 @@ impl<'a> LabelSeal<'a> for Seal<'a, ArchivedLabel> {
         sealed_part_in_case::<ArchivedLabel, ArchivedString>(self, 2, 0, 4)
     }
 
-    fn ok_which_mut(self) -> Seal<'a, ArchivedI32>
+    fn ok_which_mut(self) -> Seal<'a, i8>
         requires come_to { IsSealOf no_definition (one ⟦<ArchivedLabel as Portable>⟧.shape) self }
         requires tag { seal_tag self ≡ 2 }
         ensures { SealsPart no_definition (one ⟦<ArchivedLabel as Portable>⟧.shape) no_definition
-            ⟦<ArchivedI32 as ArchivePointee>⟧.pointee (self.entry.pos + 12) 0 self.entry result }
+            ⟦<i8 as ArchivePointee>⟧.pointee (self.entry.pos + 12) 0 self.entry result }
     {
-        sealed_part_in_case::<ArchivedLabel, ArchivedI32>(self, 2, 1, 12)
+        sealed_part_in_case::<ArchivedLabel, i8>(self, 2, 1, 12)
     }
 }
 
@@ -576,8 +568,9 @@ impl Ordered for ArchivedLabel {
         ⟦<ArchivedU16 as Portable>⟧.layout (record { solved = λ s k. refl }) no_field_compared)
         (case_compared (field_compared string_compared ⟦<ArchivedString as Portable>⟧.layout
         (record { solved = λ s k. refl }) (field_compared
-        (signed_compared w32 4 ⟦<i32 as Hash>⟧.hash_input refl) ⟦<ArchivedI32 as Portable>⟧.layout
-        (record { solved = λ s k. refl }) no_field_compared)) no_case_compared))) refl).total };
+        (signed_compared w8 1 ⟦<i8 as Hash>⟧.hash_input refl) ⟦<i8 as Portable>⟧.layout (record {
+          solved = λ s k. refl;
+        }) no_field_compared)) no_case_compared))) refl).total };
 
     ghost respects = { (choice_compared (codes "ArchivedLabel")
         (case_compared no_field_compared (case_compared
@@ -585,8 +578,9 @@ impl Ordered for ArchivedLabel {
         ⟦<ArchivedU16 as Portable>⟧.layout (record { solved = λ s k. refl }) no_field_compared)
         (case_compared (field_compared string_compared ⟦<ArchivedString as Portable>⟧.layout
         (record { solved = λ s k. refl }) (field_compared
-        (signed_compared w32 4 ⟦<i32 as Hash>⟧.hash_input refl) ⟦<ArchivedI32 as Portable>⟧.layout
-        (record { solved = λ s k. refl }) no_field_compared)) no_case_compared))) refl).respects };
+        (signed_compared w8 1 ⟦<i8 as Hash>⟧.hash_input refl) ⟦<i8 as Portable>⟧.layout (record {
+          solved = λ s k. refl;
+        }) no_field_compared)) no_case_compared))) refl).respects };
 
     ghost level = { tt };
 
@@ -596,8 +590,9 @@ impl Ordered for ArchivedLabel {
         ⟦<ArchivedU16 as Portable>⟧.layout (record { solved = λ s k. refl }) no_field_compared)
         (case_compared (field_compared string_compared ⟦<ArchivedString as Portable>⟧.layout
         (record { solved = λ s k. refl }) (field_compared
-        (signed_compared w32 4 ⟦<i32 as Hash>⟧.hash_input refl) ⟦<ArchivedI32 as Portable>⟧.layout
-        (record { solved = λ s k. refl }) no_field_compared)) no_case_compared))) refl).by_value };
+        (signed_compared w8 1 ⟦<i8 as Hash>⟧.hash_input refl) ⟦<i8 as Portable>⟧.layout (record {
+          solved = λ s k. refl;
+        }) no_field_compared)) no_case_compared))) refl).by_value };
 
     fn compare(a: RawView<'_>, b: RawView<'_>) -> Ordering {
         compare_choice::<Self, LabelVariants>(a, b)
@@ -612,34 +607,34 @@ impl Ordered for ArchivedLabel {
     }
 }
 
-/// An archived `Scores`: 32 bytes at a multiple of 4.
+/// An archived `Scores`: 24 bytes at a multiple of 4.
 pub struct ArchivedScores;
 
 type ScoresParts = (
-    ArchivedResult<ArchivedChar, bool>,
+    ArchivedResult<u8, bool>,
     (
-        ArchivedTuple2<NonZero<u16>, NonZero<i8>>,
+        ArchivedTuple2<NonZero<u8>, NonZero<i8>>,
         (
-            ArchivedSortedMap<ArchivedString, ArchivedBox<ArchivedI64>>,
+            ArchivedSortedMap<ArchivedString, ArchivedBox<i8>>,
             (ArchivedOption<ArchivedVec<ArchivedLabel>>, ()),
         ),
     ),
 );
 
 type ScoresOwned = (
-    Result<char, bool>,
+    Result<u8, bool>,
     (
-        (NonZero<u16>, NonZero<i8>),
-        (BTreeMap<String, Box<i64>>, (Option<Vec<Label>>, ())),
+        (NonZero<u8>, NonZero<i8>),
+        (BTreeMap<String, Box<i8>>, (Option<Vec<Label>>, ())),
     ),
 );
 
 impl ArchivePointee for ArchivedScores {
     type ArchivedMetadata = ();
 
-    ghost pointee = { one (parts (part ⟦<ArchivedResult<ArchivedChar, bool> as Portable>⟧.shape
-        (part ⟦<ArchivedTuple2<NonZero<u16>, NonZero<i8>> as Portable>⟧.shape
-        (part ⟦<ArchivedSortedMap<ArchivedString, ArchivedBox<ArchivedI64>> as Portable>⟧.shape
+    ghost pointee = { one (parts (part ⟦<ArchivedResult<u8, bool> as Portable>⟧.shape
+        (part ⟦<ArchivedTuple2<NonZero<u8>, NonZero<i8>> as Portable>⟧.shape
+        (part ⟦<ArchivedSortedMap<ArchivedString, ArchivedBox<i8>> as Portable>⟧.shape
         (part ⟦<ArchivedOption<ArchivedVec<ArchivedLabel>> as Portable>⟧.shape no_part))))) };
 
     ghost definitions = { no_definition };
@@ -652,12 +647,12 @@ impl ArchivePointee for ArchivedScores {
 }
 
 impl Portable for ArchivedScores {
-    ghost shape = { parts (part ⟦<ArchivedResult<ArchivedChar, bool> as Portable>⟧.shape
-        (part ⟦<ArchivedTuple2<NonZero<u16>, NonZero<i8>> as Portable>⟧.shape
-        (part ⟦<ArchivedSortedMap<ArchivedString, ArchivedBox<ArchivedI64>> as Portable>⟧.shape
+    ghost shape = { parts (part ⟦<ArchivedResult<u8, bool> as Portable>⟧.shape
+        (part ⟦<ArchivedTuple2<NonZero<u8>, NonZero<i8>> as Portable>⟧.shape
+        (part ⟦<ArchivedSortedMap<ArchivedString, ArchivedBox<i8>> as Portable>⟧.shape
         (part ⟦<ArchivedOption<ArchivedVec<ArchivedLabel>> as Portable>⟧.shape no_part)))) };
 
-    ghost layout = { record { size = 32; align = 4 } };
+    ghost layout = { record { size = 24; align = 4 } };
 
     type Check = ArchivedScores;
 
@@ -668,15 +663,15 @@ impl Portable for ArchivedScores {
     ghost has_layout = { record { solved = λ s k. refl } };
 
     ghost no_others = { no_definition_reached (parts (part
-        ⟦<ArchivedResult<ArchivedChar, bool> as Portable>⟧.shape
-        (part ⟦<ArchivedTuple2<NonZero<u16>, NonZero<i8>> as Portable>⟧.shape
-        (part ⟦<ArchivedSortedMap<ArchivedString, ArchivedBox<ArchivedI64>> as Portable>⟧.shape
+        ⟦<ArchivedResult<u8, bool> as Portable>⟧.shape (part
+        ⟦<ArchivedTuple2<NonZero<u8>, NonZero<i8>> as Portable>⟧.shape
+        (part ⟦<ArchivedSortedMap<ArchivedString, ArchivedBox<i8>> as Portable>⟧.shape
         (part ⟦<ArchivedOption<ArchivedVec<ArchivedLabel>> as Portable>⟧.shape no_part))))) };
 
     ghost checks = { λ _. plain_own_check _ _ _ _ _ refl refl refl refl };
 
     fn size() -> usize {
-        32
+        24
     }
 
     fn align() -> usize {
@@ -693,9 +688,9 @@ impl Portable for ArchivedScores {
 }
 
 impl SelfCheck for ArchivedScores {
-    ghost shape = { parts (part ⟦<ArchivedResult<ArchivedChar, bool> as Portable>⟧.shape
-        (part ⟦<ArchivedTuple2<NonZero<u16>, NonZero<i8>> as Portable>⟧.shape
-        (part ⟦<ArchivedSortedMap<ArchivedString, ArchivedBox<ArchivedI64>> as Portable>⟧.shape
+    ghost shape = { parts (part ⟦<ArchivedResult<u8, bool> as Portable>⟧.shape
+        (part ⟦<ArchivedTuple2<NonZero<u8>, NonZero<i8>> as Portable>⟧.shape
+        (part ⟦<ArchivedSortedMap<ArchivedString, ArchivedBox<i8>> as Portable>⟧.shape
         (part ⟦<ArchivedOption<ArchivedVec<ArchivedLabel>> as Portable>⟧.shape no_part)))) };
 
     ghost definitions = { (both (both no_definition no_definition)
@@ -703,7 +698,7 @@ impl SelfCheck for ArchivedScores {
         (both (both no_definition (both no_definition no_definition))
         (both no_definition no_definition)))) };
 
-    ghost span = { 32 };
+    ghost span = { 24 };
 
     ghost direct = { true };
 
@@ -731,9 +726,9 @@ impl SelfCheck for ArchivedScores {
 impl Record for ArchivedScores {
     type Parts = ScoresParts;
 
-    ghost has_parts = { plain_record (part ⟦<ArchivedResult<ArchivedChar, bool> as Portable>⟧.shape
-        (part ⟦<ArchivedTuple2<NonZero<u16>, NonZero<i8>> as Portable>⟧.shape
-        (part ⟦<ArchivedSortedMap<ArchivedString, ArchivedBox<ArchivedI64>> as Portable>⟧.shape
+    ghost has_parts = { plain_record (part ⟦<ArchivedResult<u8, bool> as Portable>⟧.shape
+        (part ⟦<ArchivedTuple2<NonZero<u8>, NonZero<i8>> as Portable>⟧.shape
+        (part ⟦<ArchivedSortedMap<ArchivedString, ArchivedBox<i8>> as Portable>⟧.shape
         (part ⟦<ArchivedOption<ArchivedVec<ArchivedLabel>> as Portable>⟧.shape no_part))))
         (both (both no_definition no_definition) (both (both no_definition
         (both no_definition no_definition)) (both (both no_definition
@@ -746,11 +741,11 @@ impl Record for ArchivedScores {
 #[derive(Drop)]
 pub struct ScoresResolver {
     kept: (
-        <Result<char, bool> as Archive>::Resolver,
+        <Result<u8, bool> as Archive>::Resolver,
         (
-            <(NonZero<u16>, NonZero<i8>) as Archive>::Resolver,
+            <(NonZero<u8>, NonZero<i8>) as Archive>::Resolver,
             (
-                <BTreeMap<String, Box<i64>> as Archive>::Resolver,
+                <BTreeMap<String, Box<i8>> as Archive>::Resolver,
                 (<Option<Vec<Label>> as Archive>::Resolver, ()),
             ),
         ),
@@ -764,37 +759,37 @@ impl Archive for Scores {
 
     type Resolver = ScoresResolver;
 
-    ghost meaning = { λ v. product (value (⟦<Result<char, bool> as Archive>⟧.meaning v.data)
-        (value (⟦<(NonZero<u16>, NonZero<i8>) as Archive>⟧.meaning v.result)
-        (value (⟦<BTreeMap<String, Box<i64>> as Archive>⟧.meaning v.pos)
+    ghost meaning = { λ v. product (value (⟦<Result<u8, bool> as Archive>⟧.meaning v.data)
+        (value (⟦<(NonZero<u8>, NonZero<i8>) as Archive>⟧.meaning v.result)
+        (value (⟦<BTreeMap<String, Box<i8>> as Archive>⟧.meaning v.pos)
         (value (⟦<Option<Vec<Label>> as Archive>⟧.meaning v.len) no_value)))) };
 
-    ghost flat = { λ v r. product (value (⟦<Result<char, bool> as Archive>⟧.flat v.data r.kept.0)
-        (value (⟦<(NonZero<u16>, NonZero<i8>) as Archive>⟧.flat v.result r.kept.1.0)
-        (value (⟦<BTreeMap<String, Box<i64>> as Archive>⟧.flat v.pos r.kept.1.1.0)
+    ghost flat = { λ v r. product (value (⟦<Result<u8, bool> as Archive>⟧.flat v.data r.kept.0)
+        (value (⟦<(NonZero<u8>, NonZero<i8>) as Archive>⟧.flat v.result r.kept.1.0)
+        (value (⟦<BTreeMap<String, Box<i8>> as Archive>⟧.flat v.pos r.kept.1.1.0)
         (value (⟦<Option<Vec<Label>> as Archive>⟧.flat v.len r.kept.1.1.1.0) no_value)))) };
 
-    ghost keys = { λ v. ⟦<Result<char, bool> as Archive>⟧.keys v.data
-        ++ (⟦<(NonZero<u16>, NonZero<i8>) as Archive>⟧.keys v.result
-        ++ (⟦<BTreeMap<String, Box<i64>> as Archive>⟧.keys v.pos
+    ghost keys = { λ v. ⟦<Result<u8, bool> as Archive>⟧.keys v.data
+        ++ (⟦<(NonZero<u8>, NonZero<i8>) as Archive>⟧.keys v.result
+        ++ (⟦<BTreeMap<String, Box<i8>> as Archive>⟧.keys v.pos
         ++ (⟦<Option<Vec<Label>> as Archive>⟧.keys v.len ++ []))) };
 
-    ghost belongs = { λ v r. ⟦<Result<char, bool> as Archive>⟧.belongs v.data r.kept.0
-        × (⟦<(NonZero<u16>, NonZero<i8>) as Archive>⟧.belongs v.result r.kept.1.0
-        × (⟦<BTreeMap<String, Box<i64>> as Archive>⟧.belongs v.pos r.kept.1.1.0
+    ghost belongs = { λ v r. ⟦<Result<u8, bool> as Archive>⟧.belongs v.data r.kept.0
+        × (⟦<(NonZero<u8>, NonZero<i8>) as Archive>⟧.belongs v.result r.kept.1.0
+        × (⟦<BTreeMap<String, Box<i8>> as Archive>⟧.belongs v.pos r.kept.1.1.0
         × (⟦<Option<Vec<Label>> as Archive>⟧.belongs v.len r.kept.1.1.1.0 × Unit {0}))) };
 
     ghost in_bulk = { None };
 
-    ghost keyed = { λ v. record_keyed (part_keyed (result_keyed ⟦<char as Archive>⟧.keys
-        ⟦<bool as Archive>⟧.keys ⟦<char as Archive>⟧.meaning ⟦<bool as Archive>⟧.meaning
+    ghost keyed = { λ v. record_keyed (part_keyed (result_keyed ⟦<u8 as Archive>⟧.keys
+        ⟦<bool as Archive>⟧.keys ⟦<u8 as Archive>⟧.meaning ⟦<bool as Archive>⟧.meaning
         (λ x. number_keyed _) (λ x. number_keyed _) v.data)
         (part_keyed (record_keyed (part_keyed (number_keyed _)
         (part_keyed (number_keyed _) nothing_keyed))) (part_keyed
-        (pairs_keyed ⟦<String as Archive>⟧.keys ⟦<Box<i64> as Archive>⟧.keys
-        ⟦<String as Archive>⟧.meaning ⟦<Box<i64> as Archive>⟧.meaning
-        (λ x. text_keyed (string_bytes x)) (λ x. box_keyed (⟦<i64 as Archive>⟧.keys x.value)
-        (⟦<i64 as Archive>⟧.meaning x.value) (number_keyed _)) v.pos.entries)
+        (pairs_keyed ⟦<String as Archive>⟧.keys ⟦<Box<i8> as Archive>⟧.keys
+        ⟦<String as Archive>⟧.meaning ⟦<Box<i8> as Archive>⟧.meaning
+        (λ x. text_keyed (string_bytes x)) (λ x. box_keyed (⟦<i8 as Archive>⟧.keys x.value)
+        (⟦<i8 as Archive>⟧.meaning x.value) (number_keyed _)) v.pos.entries)
         (part_keyed (option_keyed ⟦<Vec<Label> as Archive>⟧.keys ⟦<Vec<Label> as Archive>⟧.meaning
         (λ x. each_keyed ⟦<Label as Archive>⟧.keys ⟦<Label as Archive>⟧.meaning keyed_of_label
         x.items) v.len) nothing_keyed)))) };
@@ -802,46 +797,42 @@ impl Archive for Scores {
     ghost planned = { λ v. plain_record_planned (both (both no_definition no_definition)
         (both (both no_definition (both no_definition no_definition))
         (both (both no_definition (both no_definition no_definition))
-        (both no_definition no_definition))))
-        (part ⟦<ArchivedResult<ArchivedChar, bool> as Portable>⟧.shape
-        (part ⟦<ArchivedTuple2<NonZero<u16>, NonZero<i8>> as Portable>⟧.shape
-        (part ⟦<ArchivedSortedMap<ArchivedString, ArchivedBox<ArchivedI64>> as Portable>⟧.shape
+        (both no_definition no_definition)))) (part ⟦<ArchivedResult<u8, bool> as Portable>⟧.shape
+        (part ⟦<ArchivedTuple2<NonZero<u8>, NonZero<i8>> as Portable>⟧.shape
+        (part ⟦<ArchivedSortedMap<ArchivedString, ArchivedBox<i8>> as Portable>⟧.shape
         (part ⟦<ArchivedOption<ArchivedVec<ArchivedLabel>> as Portable>⟧.shape no_part)))) _ _
         (part_planned (both no_definition no_definition)
-        ⟦<ArchivedResult<ArchivedChar, bool> as Portable>⟧.shape
-        (⟦<Result<char, bool> as Archive>⟧.keys v.data)
-        (⟦<Result<char, bool> as Archive>⟧.meaning v.data)
-        (result_planned ⟦<char as Archive>⟧.keys ⟦<bool as Archive>⟧.keys
-        ⟦<char as Archive>⟧.meaning ⟦<bool as Archive>⟧.meaning no_definition no_definition
-        ⟦<ArchivedChar as Portable>⟧.shape ⟦<bool as Portable>⟧.shape
-        (λ x. leaf_planned no_definition _ _ [] _ refl)
+        ⟦<ArchivedResult<u8, bool> as Portable>⟧.shape (⟦<Result<u8, bool> as Archive>⟧.keys v.data)
+        (⟦<Result<u8, bool> as Archive>⟧.meaning v.data)
+        (result_planned ⟦<u8 as Archive>⟧.keys ⟦<bool as Archive>⟧.keys ⟦<u8 as Archive>⟧.meaning
+        ⟦<bool as Archive>⟧.meaning no_definition no_definition ⟦<u8 as Portable>⟧.shape
+        ⟦<bool as Portable>⟧.shape (λ x. leaf_planned no_definition _ _ [] _ refl)
         (λ x. leaf_planned no_definition _ _ [] _ refl) v.data)
         (part_planned (both no_definition (both no_definition no_definition))
-        ⟦<ArchivedTuple2<NonZero<u16>, NonZero<i8>> as Portable>⟧.shape
-        (⟦<(NonZero<u16>, NonZero<i8>) as Archive>⟧.keys v.result)
-        (⟦<(NonZero<u16>, NonZero<i8>) as Archive>⟧.meaning v.result)
+        ⟦<ArchivedTuple2<NonZero<u8>, NonZero<i8>> as Portable>⟧.shape
+        (⟦<(NonZero<u8>, NonZero<i8>) as Archive>⟧.keys v.result)
+        (⟦<(NonZero<u8>, NonZero<i8>) as Archive>⟧.meaning v.result)
         (product_planned (both no_definition (both no_definition no_definition))
-        (part ⟦<NonZero<u16> as Portable>⟧.shape (part ⟦<NonZero<i8> as Portable>⟧.shape no_part))
-        (⟦<NonZero<u16> as Archive>⟧.keys v.result.0 ++ (⟦<NonZero<i8> as Archive>⟧.keys v.result.1
-        ++ [])) (value (⟦<NonZero<u16> as Archive>⟧.meaning v.result.0)
+        (part ⟦<NonZero<u8> as Portable>⟧.shape (part ⟦<NonZero<i8> as Portable>⟧.shape no_part))
+        (⟦<NonZero<u8> as Archive>⟧.keys v.result.0 ++ (⟦<NonZero<i8> as Archive>⟧.keys v.result.1
+        ++ [])) (value (⟦<NonZero<u8> as Archive>⟧.meaning v.result.0)
         (value (⟦<NonZero<i8> as Archive>⟧.meaning v.result.1) no_value))
-        (part_planned no_definition ⟦<NonZero<u16> as Portable>⟧.shape
-        (⟦<NonZero<u16> as Archive>⟧.keys v.result.0) (⟦<NonZero<u16> as Archive>⟧.meaning
-        v.result.0) (leaf_planned no_definition _ _ [] _ refl)
-        (part_planned no_definition ⟦<NonZero<i8> as Portable>⟧.shape
-        (⟦<NonZero<i8> as Archive>⟧.keys v.result.1) (⟦<NonZero<i8> as Archive>⟧.meaning v.result.1)
-        (leaf_planned no_definition _ _ [] _ refl) no_part_planned)))
-        (part_planned (both no_definition (both no_definition no_definition))
-        ⟦<ArchivedSortedMap<ArchivedString, ArchivedBox<ArchivedI64>> as Portable>⟧.shape
-        (⟦<BTreeMap<String, Box<i64>> as Archive>⟧.keys v.pos)
-        (⟦<BTreeMap<String, Box<i64>> as Archive>⟧.meaning v.pos)
-        (map_of_pairs_planned ⟦<String as Archive>⟧.keys ⟦<Box<i64> as Archive>⟧.keys
-        ⟦<String as Archive>⟧.meaning ⟦<Box<i64> as Archive>⟧.meaning no_definition no_definition
-        ⟦<ArchivedString as Portable>⟧.shape ⟦<ArchivedBox<ArchivedI64> as Portable>⟧.shape
+        (part_planned no_definition ⟦<NonZero<u8> as Portable>⟧.shape
+        (⟦<NonZero<u8> as Archive>⟧.keys v.result.0) (⟦<NonZero<u8> as Archive>⟧.meaning v.result.0)
+        (leaf_planned no_definition _ _ [] _ refl) (part_planned no_definition
+        ⟦<NonZero<i8> as Portable>⟧.shape (⟦<NonZero<i8> as Archive>⟧.keys v.result.1)
+        (⟦<NonZero<i8> as Archive>⟧.meaning v.result.1) (leaf_planned no_definition _ _ [] _ refl)
+        no_part_planned))) (part_planned (both no_definition (both no_definition no_definition))
+        ⟦<ArchivedSortedMap<ArchivedString, ArchivedBox<i8>> as Portable>⟧.shape
+        (⟦<BTreeMap<String, Box<i8>> as Archive>⟧.keys v.pos)
+        (⟦<BTreeMap<String, Box<i8>> as Archive>⟧.meaning v.pos)
+        (map_of_pairs_planned ⟦<String as Archive>⟧.keys ⟦<Box<i8> as Archive>⟧.keys
+        ⟦<String as Archive>⟧.meaning ⟦<Box<i8> as Archive>⟧.meaning no_definition no_definition
+        ⟦<ArchivedString as Portable>⟧.shape ⟦<ArchivedBox<i8> as Portable>⟧.shape
         (λ x. string_planned no_definition [] (string_bytes x))
-        (λ x. boxed_one_planned no_definition (one ⟦<ArchivedI64 as Portable>⟧.shape)
-        ⟦<ArchivedI64 as Portable>⟧.shape refl (⟦<i64 as Archive>⟧.keys x.value)
-        (⟦<i64 as Archive>⟧.meaning x.value) (leaf_planned no_definition _ _ [] _ refl))
+        (λ x. boxed_one_planned no_definition (one ⟦<i8 as Portable>⟧.shape)
+        ⟦<i8 as Portable>⟧.shape refl (⟦<i8 as Archive>⟧.keys x.value)
+        (⟦<i8 as Archive>⟧.meaning x.value) (leaf_planned no_definition _ _ [] _ refl))
         ⟦<ArchivedString as MapKey>⟧.key refl v.pos.entries)
         (part_planned no_definition ⟦<ArchivedOption<ArchivedVec<ArchivedLabel>> as Portable>⟧.shape
         (⟦<Option<Vec<Label>> as Archive>⟧.keys v.len) (⟦<Option<Vec<Label>> as Archive>⟧.meaning
@@ -857,7 +848,7 @@ impl Archive for Scores {
         resolver: Self::Resolver,
         place: Place<'_, Self::Archived>,
     ) -> Result<(), Error>
-        requires zeroed { ZeroedPlace 32 place.pos place.bytes.now }
+        requires zeroed { ZeroedPlace 24 place.pos place.bytes.now }
         requires same_value { ⟦<Self as Archive>⟧.belongs self.now resolver }
         ensures { ResolvesAs ⟦<Self::Archived as Portable>⟧ place
             (⟦<Self as Archive>⟧.flat self.now resolver) result }
@@ -865,9 +856,9 @@ impl Archive for Scores {
         let Place { bytes, pos, .. } = place;
         let ScoresResolver { kept } = resolver;
         resolve_record_4::<
-            Result<char, bool>,
-            (NonZero<u16>, NonZero<i8>),
-            BTreeMap<String, Box<i64>>,
+            Result<u8, bool>,
+            (NonZero<u8>, NonZero<i8>),
+            BTreeMap<String, Box<i8>>,
             Option<Vec<Label>>,
             ArchivedScores,
         >(
@@ -899,9 +890,9 @@ impl<S: Writer + ResolverAlloc> Serialize<S> for Scores {
     #[inline(always)]
     fn serialize(&self, serializer: &mut S) -> Result<Self::Resolver, Error> {
         match serialize_record_4::<
-            Result<char, bool>,
-            (NonZero<u16>, NonZero<i8>),
-            BTreeMap<String, Box<i64>>,
+            Result<u8, bool>,
+            (NonZero<u8>, NonZero<i8>),
+            BTreeMap<String, Box<i8>>,
             Option<Vec<Label>>,
             ArchivedScores,
             S,
@@ -930,9 +921,9 @@ impl ArchiveUnsized for Scores {
     ghost one_length = { λ _ _. refl };
 
     ghost planned = { λ v. one_planned no_definition (parts
-        (part ⟦<ArchivedResult<ArchivedChar, bool> as Portable>⟧.shape
-        (part ⟦<ArchivedTuple2<NonZero<u16>, NonZero<i8>> as Portable>⟧.shape
-        (part ⟦<ArchivedSortedMap<ArchivedString, ArchivedBox<ArchivedI64>> as Portable>⟧.shape
+        (part ⟦<ArchivedResult<u8, bool> as Portable>⟧.shape
+        (part ⟦<ArchivedTuple2<NonZero<u8>, NonZero<i8>> as Portable>⟧.shape
+        (part ⟦<ArchivedSortedMap<ArchivedString, ArchivedBox<i8>> as Portable>⟧.shape
         (part ⟦<ArchivedOption<ArchivedVec<ArchivedLabel>> as Portable>⟧.shape no_part)))))
         (⟦<Scores as Archive>⟧.keys v) (⟦<Scores as Archive>⟧.meaning v) (planned_of_scores v) };
 
@@ -974,57 +965,56 @@ impl<D: Entries> Deserialize<Scores, D> for ArchivedScores {
 
 /// The fields of an archived `Scores`, as views.
 pub trait ScoresView<'a> {
-    /// A letter, or whether there is one. A word of contracts.
-    fn data(self) -> Ref<'a, ArchivedResult<ArchivedChar, bool>>;
+    /// A letter's byte, or whether there is one. A word of contracts.
+    fn data(self) -> Ref<'a, ArchivedResult<u8, bool>>;
 
     /// Not 0, and the other one maybe below it. What contracts call an answer.
-    fn result(self) -> Ref<'a, ArchivedTuple2<NonZero<u16>, NonZero<i8>>>;
+    fn result(self) -> Ref<'a, ArchivedTuple2<NonZero<u8>, NonZero<i8>>>;
 
     /// Numbers by names, boxed. A call of views: the accessor is `pos_field`.
-    fn pos_field(self) -> Ref<'a, ArchivedSortedMap<ArchivedString, ArchivedBox<ArchivedI64>>>;
+    fn pos_field(self) -> Ref<'a, ArchivedSortedMap<ArchivedString, ArchivedBox<i8>>>;
 
     /// Labels, perhaps. A call of vectors alone.
     fn len(self) -> Ref<'a, ArchivedOption<ArchivedVec<ArchivedLabel>>>;
 }
 
 impl<'a> ScoresView<'a> for Ref<'a, ArchivedScores> {
-    fn data(self) -> Ref<'a, ArchivedResult<ArchivedChar, bool>>
+    fn data(self) -> Ref<'a, ArchivedResult<u8, bool>>
         ensures buffer { result.bytes.now ≡ self.entry.bytes.now }
         ensures position { result.pos ≡ self.entry.pos + 0 }
         ensures length { result.len ≡ 0 }
         ensures shows { ShowsValueOf result self.entry (field_in 0) }
     {
-        part_in_record::<ArchivedScores, ArchivedResult<ArchivedChar, bool>>(self, 0, 0)
+        part_in_record::<ArchivedScores, ArchivedResult<u8, bool>>(self, 0, 0)
     }
 
-    fn result(self) -> Ref<'a, ArchivedTuple2<NonZero<u16>, NonZero<i8>>>
+    fn result(self) -> Ref<'a, ArchivedTuple2<NonZero<u8>, NonZero<i8>>>
         ensures buffer { result.bytes.now ≡ self.entry.bytes.now }
-        ensures position { result.pos ≡ self.entry.pos + 8 }
+        ensures position { result.pos ≡ self.entry.pos + 2 }
         ensures length { result.len ≡ 0 }
         ensures shows { ShowsValueOf result self.entry (field_in 1) }
     {
-        part_in_record::<ArchivedScores, ArchivedTuple2<NonZero<u16>, NonZero<i8>>>(self, 1, 8)
+        part_in_record::<ArchivedScores, ArchivedTuple2<NonZero<u8>, NonZero<i8>>>(self, 1, 2)
     }
 
-    fn pos_field(self) -> Ref<'a, ArchivedSortedMap<ArchivedString, ArchivedBox<ArchivedI64>>>
+    fn pos_field(self) -> Ref<'a, ArchivedSortedMap<ArchivedString, ArchivedBox<i8>>>
         ensures buffer { result.bytes.now ≡ self.entry.bytes.now }
-        ensures position { result.pos ≡ self.entry.pos + 12 }
+        ensures position { result.pos ≡ self.entry.pos + 4 }
         ensures length { result.len ≡ 0 }
         ensures shows { ShowsValueOf result self.entry (field_in 2) }
     {
-        part_in_record::<
-            ArchivedScores,
-            ArchivedSortedMap<ArchivedString, ArchivedBox<ArchivedI64>>,
-        >(self, 2, 12)
+        part_in_record::<ArchivedScores, ArchivedSortedMap<ArchivedString, ArchivedBox<i8>>>(
+            self, 2, 4,
+        )
     }
 
     fn len(self) -> Ref<'a, ArchivedOption<ArchivedVec<ArchivedLabel>>>
         ensures buffer { result.bytes.now ≡ self.entry.bytes.now }
-        ensures position { result.pos ≡ self.entry.pos + 20 }
+        ensures position { result.pos ≡ self.entry.pos + 12 }
         ensures length { result.len ≡ 0 }
         ensures shows { ShowsValueOf result self.entry (field_in 3) }
     {
-        part_in_record::<ArchivedScores, ArchivedOption<ArchivedVec<ArchivedLabel>>>(self, 3, 20)
+        part_in_record::<ArchivedScores, ArchivedOption<ArchivedVec<ArchivedLabel>>>(self, 3, 12)
     }
 }
 
@@ -1033,16 +1023,16 @@ pub trait ScoresSeal<'a> {
     // The seal shows a part of a buffer that was checked.
     ghost sealed: { Self → Type 0 };
 
-    /// A letter, or whether there is one. A word of contracts.
-    fn data_mut(self) -> Seal<'a, ArchivedResult<ArchivedChar, bool>>
+    /// A letter's byte, or whether there is one. A word of contracts.
+    fn data_mut(self) -> Seal<'a, ArchivedResult<u8, bool>>
         requires { sealed self };
 
     /// Not 0, and the other one maybe below it. What contracts call an answer.
-    fn result_mut(self) -> Seal<'a, ArchivedTuple2<NonZero<u16>, NonZero<i8>>>
+    fn result_mut(self) -> Seal<'a, ArchivedTuple2<NonZero<u8>, NonZero<i8>>>
         requires { sealed self };
 
     /// Numbers by names, boxed. A call of views: the accessor is `pos_field`.
-    fn pos_field_mut(self) -> Seal<'a, ArchivedSortedMap<ArchivedString, ArchivedBox<ArchivedI64>>>
+    fn pos_field_mut(self) -> Seal<'a, ArchivedSortedMap<ArchivedString, ArchivedBox<i8>>>
         requires { sealed self };
 
     /// Labels, perhaps. A call of vectors alone.
@@ -1053,48 +1043,48 @@ pub trait ScoresSeal<'a> {
 impl<'a> ScoresSeal<'a> for Seal<'a, ArchivedScores> {
     ghost sealed = { λ s. IsSealOf no_definition (one ⟦<ArchivedScores as Portable>⟧.shape) s };
 
-    fn data_mut(self) -> Seal<'a, ArchivedResult<ArchivedChar, bool>>
+    fn data_mut(self) -> Seal<'a, ArchivedResult<u8, bool>>
         requires come_to { IsSealOf no_definition (one ⟦<ArchivedScores as Portable>⟧.shape) self }
         ensures { SealsPart no_definition (one ⟦<ArchivedScores as Portable>⟧.shape)
             (both no_definition no_definition)
-            ⟦<ArchivedResult<ArchivedChar, bool> as ArchivePointee>⟧.pointee (self.entry.pos + 0) 0
-            self.entry result }
+            ⟦<ArchivedResult<u8, bool> as ArchivePointee>⟧.pointee (self.entry.pos + 0) 0 self.entry
+            result }
     {
-        sealed_part_in_record::<ArchivedScores, ArchivedResult<ArchivedChar, bool>>(self, 0, 0)
+        sealed_part_in_record::<ArchivedScores, ArchivedResult<u8, bool>>(self, 0, 0)
     }
 
-    fn result_mut(self) -> Seal<'a, ArchivedTuple2<NonZero<u16>, NonZero<i8>>>
+    fn result_mut(self) -> Seal<'a, ArchivedTuple2<NonZero<u8>, NonZero<i8>>>
         requires come_to { IsSealOf no_definition (one ⟦<ArchivedScores as Portable>⟧.shape) self }
         ensures { SealsPart no_definition (one ⟦<ArchivedScores as Portable>⟧.shape)
             (both no_definition (both no_definition no_definition))
-            ⟦<ArchivedTuple2<NonZero<u16>, NonZero<i8>> as ArchivePointee>⟧.pointee
-            (self.entry.pos + 8) 0 self.entry result }
+            ⟦<ArchivedTuple2<NonZero<u8>, NonZero<i8>> as ArchivePointee>⟧.pointee
+            (self.entry.pos + 2) 0 self.entry result }
     {
-        sealed_part_in_record::<ArchivedScores, ArchivedTuple2<NonZero<u16>, NonZero<i8>>>(
-            self, 1, 8,
+        sealed_part_in_record::<ArchivedScores, ArchivedTuple2<NonZero<u8>, NonZero<i8>>>(
+            self, 1, 2,
         )
     }
 
-    fn pos_field_mut(self) -> Seal<'a, ArchivedSortedMap<ArchivedString, ArchivedBox<ArchivedI64>>>
+    fn pos_field_mut(self) -> Seal<'a, ArchivedSortedMap<ArchivedString, ArchivedBox<i8>>>
         requires come_to { IsSealOf no_definition (one ⟦<ArchivedScores as Portable>⟧.shape) self }
         ensures { SealsPart no_definition (one ⟦<ArchivedScores as Portable>⟧.shape)
             (both no_definition (both no_definition no_definition))
-            ⟦<ArchivedSortedMap<ArchivedString, ArchivedBox<ArchivedI64>> as ArchivePointee>⟧.pointee (self.entry.pos + 12) 0 self.entry result }
+            ⟦<ArchivedSortedMap<ArchivedString, ArchivedBox<i8>> as ArchivePointee>⟧.pointee
+            (self.entry.pos + 4) 0 self.entry result }
     {
-        sealed_part_in_record::<
-            ArchivedScores,
-            ArchivedSortedMap<ArchivedString, ArchivedBox<ArchivedI64>>,
-        >(self, 2, 12)
+        sealed_part_in_record::<ArchivedScores, ArchivedSortedMap<ArchivedString, ArchivedBox<i8>>>(
+            self, 2, 4,
+        )
     }
 
     fn len_mut(self) -> Seal<'a, ArchivedOption<ArchivedVec<ArchivedLabel>>>
         requires come_to { IsSealOf no_definition (one ⟦<ArchivedScores as Portable>⟧.shape) self }
         ensures { SealsPart no_definition (one ⟦<ArchivedScores as Portable>⟧.shape) no_definition
             ⟦<ArchivedOption<ArchivedVec<ArchivedLabel>> as ArchivePointee>⟧.pointee
-            (self.entry.pos + 20) 0 self.entry result }
+            (self.entry.pos + 12) 0 self.entry result }
     {
         sealed_part_in_record::<ArchivedScores, ArchivedOption<ArchivedVec<ArchivedLabel>>>(
-            self, 3, 20,
+            self, 3, 12,
         )
     }
 }
@@ -1110,91 +1100,91 @@ impl Ordered for ArchivedScores {
     ghost settling = { 0 };
 
     ghost total = { (record_compared (field_compared (result_compared
-        (char_compared ⟦<char as Hash>⟧.hash_input) ⟦<ArchivedChar as Portable>⟧.layout (record {
+        (unsigned_compared w8 1 ⟦<u8 as Hash>⟧.hash_input refl) ⟦<u8 as Portable>⟧.layout (record {
           solved = λ s k. refl;
         }) (bool_compared ⟦<bool as Hash>⟧.hash_input) ⟦<bool as Portable>⟧.layout (record {
           solved = λ s k. refl;
-        }) (inr (inr (inl refl))) (inl refl))
-        ⟦<ArchivedResult<ArchivedChar, bool> as Portable>⟧.layout (record { solved = λ s k. refl })
-        (field_compared (pair_compared (unsigned_non_zero_compared w16 2 ⟦<u16 as Hash>⟧.hash_input
-        refl) ⟦<NonZero<u16> as Portable>⟧.layout (record { solved = λ s k. refl })
+        }) (inl refl) (inl refl)) ⟦<ArchivedResult<u8, bool> as Portable>⟧.layout (record {
+          solved = λ s k. refl;
+        }) (field_compared (pair_compared (unsigned_non_zero_compared w8 1 ⟦<u8 as Hash>⟧.hash_input
+        refl) ⟦<NonZero<u8> as Portable>⟧.layout (record { solved = λ s k. refl })
         (signed_non_zero_compared w8 1 ⟦<i8 as Hash>⟧.hash_input refl)
         ⟦<NonZero<i8> as Portable>⟧.layout (record { solved = λ s k. refl }))
-        ⟦<ArchivedTuple2<NonZero<u16>, NonZero<i8>> as Portable>⟧.layout (record {
+        ⟦<ArchivedTuple2<NonZero<u8>, NonZero<i8>> as Portable>⟧.layout (record {
           solved = λ s k. refl;
         }) (field_compared (map_compared string_compared ⟦<ArchivedString as Portable>⟧.layout
         (record { solved = λ s k. refl }) (box_compared
-        (signed_compared w64 8 ⟦<i64 as Hash>⟧.hash_input refl))
-        ⟦<ArchivedBox<ArchivedI64> as Portable>⟧.layout (record { solved = λ s k. refl })
+        (signed_compared w8 1 ⟦<i8 as Hash>⟧.hash_input refl))
+        ⟦<ArchivedBox<i8> as Portable>⟧.layout (record { solved = λ s k. refl })
         ⟦<ArchivedString as MapKey>⟧.key refl)
-        ⟦<ArchivedSortedMap<ArchivedString, ArchivedBox<ArchivedI64>> as Portable>⟧.layout
-        (record { solved = λ s k. refl }) (field_compared
-        (option_compared (vec_compared (as_known no_definition
-        (one ⟦<ArchivedLabel as Portable>⟧.shape) ⟦<ArchivedLabel as Ordered>⟧.order
-        ⟦<ArchivedLabel as Ordered>⟧.hash_input total_of_archived_label respects_of_archived_label
-        by_value_of_archived_label) ⟦<ArchivedLabel as Portable>⟧.layout (record {
+        ⟦<ArchivedSortedMap<ArchivedString, ArchivedBox<i8>> as Portable>⟧.layout (record {
           solved = λ s k. refl;
-        })) ⟦<ArchivedVec<ArchivedLabel> as Portable>⟧.layout (record { solved = λ s k. refl })
+        }) (field_compared (option_compared (vec_compared
+        (as_known no_definition (one ⟦<ArchivedLabel as Portable>⟧.shape)
+        ⟦<ArchivedLabel as Ordered>⟧.order ⟦<ArchivedLabel as Ordered>⟧.hash_input
+        total_of_archived_label respects_of_archived_label by_value_of_archived_label)
+        ⟦<ArchivedLabel as Portable>⟧.layout (record { solved = λ s k. refl }))
+        ⟦<ArchivedVec<ArchivedLabel> as Portable>⟧.layout (record { solved = λ s k. refl })
         (inr (inr (inl refl)))) ⟦<ArchivedOption<ArchivedVec<ArchivedLabel>> as Portable>⟧.layout
         (record { solved = λ s k. refl }) no_field_compared)))) refl).total };
 
     ghost respects = { (record_compared (field_compared
-        (result_compared (char_compared ⟦<char as Hash>⟧.hash_input)
-        ⟦<ArchivedChar as Portable>⟧.layout (record { solved = λ s k. refl })
+        (result_compared (unsigned_compared w8 1 ⟦<u8 as Hash>⟧.hash_input refl)
+        ⟦<u8 as Portable>⟧.layout (record { solved = λ s k. refl })
         (bool_compared ⟦<bool as Hash>⟧.hash_input) ⟦<bool as Portable>⟧.layout (record {
           solved = λ s k. refl;
-        }) (inr (inr (inl refl))) (inl refl))
-        ⟦<ArchivedResult<ArchivedChar, bool> as Portable>⟧.layout (record { solved = λ s k. refl })
-        (field_compared (pair_compared (unsigned_non_zero_compared w16 2 ⟦<u16 as Hash>⟧.hash_input
-        refl) ⟦<NonZero<u16> as Portable>⟧.layout (record { solved = λ s k. refl })
+        }) (inl refl) (inl refl)) ⟦<ArchivedResult<u8, bool> as Portable>⟧.layout (record {
+          solved = λ s k. refl;
+        }) (field_compared (pair_compared (unsigned_non_zero_compared w8 1 ⟦<u8 as Hash>⟧.hash_input
+        refl) ⟦<NonZero<u8> as Portable>⟧.layout (record { solved = λ s k. refl })
         (signed_non_zero_compared w8 1 ⟦<i8 as Hash>⟧.hash_input refl)
         ⟦<NonZero<i8> as Portable>⟧.layout (record { solved = λ s k. refl }))
-        ⟦<ArchivedTuple2<NonZero<u16>, NonZero<i8>> as Portable>⟧.layout (record {
+        ⟦<ArchivedTuple2<NonZero<u8>, NonZero<i8>> as Portable>⟧.layout (record {
           solved = λ s k. refl;
         }) (field_compared (map_compared string_compared ⟦<ArchivedString as Portable>⟧.layout
         (record { solved = λ s k. refl }) (box_compared
-        (signed_compared w64 8 ⟦<i64 as Hash>⟧.hash_input refl))
-        ⟦<ArchivedBox<ArchivedI64> as Portable>⟧.layout (record { solved = λ s k. refl })
+        (signed_compared w8 1 ⟦<i8 as Hash>⟧.hash_input refl))
+        ⟦<ArchivedBox<i8> as Portable>⟧.layout (record { solved = λ s k. refl })
         ⟦<ArchivedString as MapKey>⟧.key refl)
-        ⟦<ArchivedSortedMap<ArchivedString, ArchivedBox<ArchivedI64>> as Portable>⟧.layout
-        (record { solved = λ s k. refl }) (field_compared
-        (option_compared (vec_compared (as_known no_definition
-        (one ⟦<ArchivedLabel as Portable>⟧.shape) ⟦<ArchivedLabel as Ordered>⟧.order
-        ⟦<ArchivedLabel as Ordered>⟧.hash_input total_of_archived_label respects_of_archived_label
-        by_value_of_archived_label) ⟦<ArchivedLabel as Portable>⟧.layout (record {
+        ⟦<ArchivedSortedMap<ArchivedString, ArchivedBox<i8>> as Portable>⟧.layout (record {
           solved = λ s k. refl;
-        })) ⟦<ArchivedVec<ArchivedLabel> as Portable>⟧.layout (record { solved = λ s k. refl })
+        }) (field_compared (option_compared (vec_compared
+        (as_known no_definition (one ⟦<ArchivedLabel as Portable>⟧.shape)
+        ⟦<ArchivedLabel as Ordered>⟧.order ⟦<ArchivedLabel as Ordered>⟧.hash_input
+        total_of_archived_label respects_of_archived_label by_value_of_archived_label)
+        ⟦<ArchivedLabel as Portable>⟧.layout (record { solved = λ s k. refl }))
+        ⟦<ArchivedVec<ArchivedLabel> as Portable>⟧.layout (record { solved = λ s k. refl })
         (inr (inr (inl refl)))) ⟦<ArchivedOption<ArchivedVec<ArchivedLabel>> as Portable>⟧.layout
         (record { solved = λ s k. refl }) no_field_compared)))) refl).respects };
 
     ghost level = { tt };
 
     ghost by_value = { (record_compared (field_compared
-        (result_compared (char_compared ⟦<char as Hash>⟧.hash_input)
-        ⟦<ArchivedChar as Portable>⟧.layout (record { solved = λ s k. refl })
+        (result_compared (unsigned_compared w8 1 ⟦<u8 as Hash>⟧.hash_input refl)
+        ⟦<u8 as Portable>⟧.layout (record { solved = λ s k. refl })
         (bool_compared ⟦<bool as Hash>⟧.hash_input) ⟦<bool as Portable>⟧.layout (record {
           solved = λ s k. refl;
-        }) (inr (inr (inl refl))) (inl refl))
-        ⟦<ArchivedResult<ArchivedChar, bool> as Portable>⟧.layout (record { solved = λ s k. refl })
-        (field_compared (pair_compared (unsigned_non_zero_compared w16 2 ⟦<u16 as Hash>⟧.hash_input
-        refl) ⟦<NonZero<u16> as Portable>⟧.layout (record { solved = λ s k. refl })
+        }) (inl refl) (inl refl)) ⟦<ArchivedResult<u8, bool> as Portable>⟧.layout (record {
+          solved = λ s k. refl;
+        }) (field_compared (pair_compared (unsigned_non_zero_compared w8 1 ⟦<u8 as Hash>⟧.hash_input
+        refl) ⟦<NonZero<u8> as Portable>⟧.layout (record { solved = λ s k. refl })
         (signed_non_zero_compared w8 1 ⟦<i8 as Hash>⟧.hash_input refl)
         ⟦<NonZero<i8> as Portable>⟧.layout (record { solved = λ s k. refl }))
-        ⟦<ArchivedTuple2<NonZero<u16>, NonZero<i8>> as Portable>⟧.layout (record {
+        ⟦<ArchivedTuple2<NonZero<u8>, NonZero<i8>> as Portable>⟧.layout (record {
           solved = λ s k. refl;
         }) (field_compared (map_compared string_compared ⟦<ArchivedString as Portable>⟧.layout
         (record { solved = λ s k. refl }) (box_compared
-        (signed_compared w64 8 ⟦<i64 as Hash>⟧.hash_input refl))
-        ⟦<ArchivedBox<ArchivedI64> as Portable>⟧.layout (record { solved = λ s k. refl })
+        (signed_compared w8 1 ⟦<i8 as Hash>⟧.hash_input refl))
+        ⟦<ArchivedBox<i8> as Portable>⟧.layout (record { solved = λ s k. refl })
         ⟦<ArchivedString as MapKey>⟧.key refl)
-        ⟦<ArchivedSortedMap<ArchivedString, ArchivedBox<ArchivedI64>> as Portable>⟧.layout
-        (record { solved = λ s k. refl }) (field_compared
-        (option_compared (vec_compared (as_known no_definition
-        (one ⟦<ArchivedLabel as Portable>⟧.shape) ⟦<ArchivedLabel as Ordered>⟧.order
-        ⟦<ArchivedLabel as Ordered>⟧.hash_input total_of_archived_label respects_of_archived_label
-        by_value_of_archived_label) ⟦<ArchivedLabel as Portable>⟧.layout (record {
+        ⟦<ArchivedSortedMap<ArchivedString, ArchivedBox<i8>> as Portable>⟧.layout (record {
           solved = λ s k. refl;
-        })) ⟦<ArchivedVec<ArchivedLabel> as Portable>⟧.layout (record { solved = λ s k. refl })
+        }) (field_compared (option_compared (vec_compared
+        (as_known no_definition (one ⟦<ArchivedLabel as Portable>⟧.shape)
+        ⟦<ArchivedLabel as Ordered>⟧.order ⟦<ArchivedLabel as Ordered>⟧.hash_input
+        total_of_archived_label respects_of_archived_label by_value_of_archived_label)
+        ⟦<ArchivedLabel as Portable>⟧.layout (record { solved = λ s k. refl }))
+        ⟦<ArchivedVec<ArchivedLabel> as Portable>⟧.layout (record { solved = λ s k. refl })
         (inr (inr (inl refl)))) ⟦<ArchivedOption<ArchivedVec<ArchivedLabel>> as Portable>⟧.layout
         (record { solved = λ s k. refl }) no_field_compared)))) refl).by_value };
 

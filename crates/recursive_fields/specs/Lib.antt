@@ -1,4 +1,4 @@
-pub mod FactMeaning
-pub mod FactShape
+pub mod FolderMeaning
+pub mod FolderShape
 pub mod NoteMeaning
 pub mod NoteShape

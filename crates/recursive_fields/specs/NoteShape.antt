@@ -3,12 +3,15 @@ use Rattle.archive_core.specs.Choices.{option_shape}
 use Rattle.archive_core.specs.Definitions.{Definitions, defines, both, no_definition, HasLayout, IsAlign, NoOthers}
 use Rattle.archive_core.specs.Held.{knows_both}
 use Rattle.archive_core.specs.Layout.{Layout}
+use Rattle.archive_core.specs.LeafLayout.{no_definition_reached}
 use Rattle.archive_core.specs.NamedLayout.{name_has_layout, name_reached}
-use Rattle.archive_core.specs.PartsLayout.{knows_none}
-use Rattle.archive_core.specs.Shape.{Name, Shape, Parts, Variants, named, choice, boxed, vec, sorted_map, str, one, leaf, non_zero, unsigned, signed, leaf_key, part, no_part, variant, no_variant, number as number_kind}
+use Rattle.archive_core.specs.NoOthers.{no_parts_reached, part_reached}
+use Rattle.archive_core.specs.PartsLayout.{IsRecord, knows_none, is_record, no_part_laid_out, part_laid_out, record_has_layout}
+use Rattle.archive_core.specs.ResultShapes.{result_shape}
+use Rattle.archive_core.specs.Shape.{Name, Shape, Parts, Variants, named, choice, parts, boxed, vec, sorted_map, str, one, run, text, leaf, unit, bool, non_zero, unsigned, signed, leaf_key, part, no_part, variant, no_variant, number as number_kind}
 use Rattle.archive_core.specs.VariantsLayout.{IsChoice, is_recursive_choice}
 use Rattle.std.proofs.Common.{inl, inr}
-use Rattle.std.specs.Int.{w16, w32, w64}
+use Rattle.std.specs.Int.{w8, w16}
 use Rattle.std.specs.Prelude.{refl, codes}
 
 abbrev pub note_name : Name
@@ -17,20 +20,29 @@ note_name = codes "ArchivedNote"
 abbrev pub note_shape : Shape
 note_shape = named note_name
 
+abbrev pub pair_string_note_parts : Parts
+pair_string_note_parts = (part str (part note_shape no_part))
+
+abbrev pub pair_string_note_shape : Shape
+pair_string_note_shape = parts pair_string_note_parts
+
 abbrev pub note_texts_parts : Parts
 note_texts_parts = (part (vec str) (part (option_shape str) no_part))
 
-abbrev pub note_hours_parts : Parts
-note_hours_parts = (part (sorted_map (leaf_key (number_kind unsigned w16)) (leaf (number_kind signed w64))) no_part)
+abbrev pub note_work_parts : Parts
+note_work_parts = (part (sorted_map (leaf_key (number_kind unsigned w16)) (leaf (number_kind signed w8))) (part (leaf (non_zero unsigned w8)) (part (boxed (one (leaf (number_kind unsigned w8)))) no_part)))
 
-abbrev pub note_rank_parts : Parts
-note_rank_parts = (part (leaf (non_zero unsigned w32)) (part (boxed (one (leaf (number_kind unsigned w32)))) no_part))
+abbrev pub note_outcome_parts : Parts
+note_outcome_parts = (part (leaf bool) (part (leaf unit) (part (result_shape (leaf (number_kind unsigned w8)) str) no_part)))
 
-abbrev pub note_notes_parts : Parts
-note_notes_parts = (part (vec note_shape) no_part)
+abbrev pub note_picture_parts : Parts
+note_picture_parts = (part (boxed text) (part (boxed (run (leaf (number_kind unsigned w8)))) no_part))
+
+abbrev pub note_table_parts : Parts
+note_table_parts = (part (vec pair_string_note_shape) no_part)
 
 abbrev pub note_variants : Variants
-note_variants = (variant note_texts_parts (variant note_hours_parts (variant note_rank_parts (variant note_notes_parts no_variant))))
+note_variants = (variant note_texts_parts (variant note_work_parts (variant note_outcome_parts (variant note_picture_parts (variant note_table_parts no_variant)))))
 
 abbrev pub note_stands_for : Shape
 note_stands_for = choice note_name note_variants
@@ -50,20 +62,41 @@ note_has_layout = name_has_layout note_name note_stands_for note_layout (λ s k.
 pub note_no_others : NoOthers note_definitions note_shape
 note_no_others = name_reached note_name note_stands_for
 
+abbrev pub pair_string_note_definitions : Definitions
+pair_string_note_definitions = (both no_definition (both note_definitions no_definition))
+
 abbrev pub note_texts_definitions : Definitions
 note_texts_definitions = (both no_definition (both no_definition no_definition))
 
-abbrev pub note_hours_definitions : Definitions
-note_hours_definitions = (both (both no_definition (both no_definition no_definition)) no_definition)
+abbrev pub note_work_definitions : Definitions
+note_work_definitions = (both (both no_definition (both no_definition no_definition)) (both no_definition (both no_definition no_definition)))
 
-abbrev pub note_rank_definitions : Definitions
-note_rank_definitions = (both no_definition (both no_definition no_definition))
+abbrev pub note_outcome_definitions : Definitions
+note_outcome_definitions = (both no_definition (both no_definition (both (both no_definition no_definition) no_definition)))
 
-abbrev pub note_notes_definitions : Definitions
-note_notes_definitions = (both note_definitions no_definition)
+abbrev pub note_picture_definitions : Definitions
+note_picture_definitions = (both no_definition (both no_definition no_definition))
+
+abbrev pub note_table_definitions : Definitions
+note_table_definitions = (both pair_string_note_definitions no_definition)
 
 abbrev pub note_variant_definitions : Definitions
-note_variant_definitions = (both note_texts_definitions (both note_hours_definitions (both note_rank_definitions (both note_notes_definitions no_definition))))
+note_variant_definitions = (both note_texts_definitions (both note_work_definitions (both note_outcome_definitions (both note_picture_definitions (both note_table_definitions no_definition)))))
+
+abbrev pub pair_string_note_layout : Layout
+pair_string_note_layout = record { size = 32; align = 4 }
+
+pub pair_string_note_is_align : IsAlign 4
+pair_string_note_is_align = inr (inr (inl refl))
+
+pub pair_string_note_has_layout : HasLayout pair_string_note_definitions pair_string_note_shape pair_string_note_layout
+pair_string_note_has_layout = record_has_layout pair_string_note_definitions pair_string_note_parts _ _ _ (part_laid_out no_definition (both note_definitions no_definition) str (record { size = 8; align = 4 }) (record { solved = λ s k. refl }) (part note_shape no_part) _ _ _ (part_laid_out note_definitions no_definition note_shape (record { size = 24; align = 4 }) note_has_layout no_part _ _ _ no_part_laid_out))
+
+pub pair_string_note_no_others : NoOthers pair_string_note_definitions pair_string_note_shape
+pair_string_note_no_others = (part_reached no_definition (both note_definitions no_definition) str (part note_shape no_part) (no_definition_reached str) (part_reached note_definitions no_definition note_shape no_part note_no_others no_parts_reached))
+
+pub pair_string_note_has_parts : IsRecord pair_string_note_definitions pair_string_note_shape pair_string_note_definitions pair_string_note_parts
+pair_string_note_has_parts = is_record pair_string_note_definitions pair_string_note_parts
 
 pub note_has_variants : IsChoice note_definitions note_shape note_name note_variant_definitions note_variants
-note_has_variants = is_recursive_choice note_name note_variant_definitions note_variants (λ s k. (knows_both s _ _ (knows_both s _ _ (knows_none s k.laid_out) (knows_both s _ _ (knows_none s k.laid_out) (knows_none s k.laid_out))) (knows_both s _ _ (knows_both s _ _ (knows_both s _ _ (knows_none s k.laid_out) (knows_both s _ _ (knows_none s k.laid_out) (knows_none s k.laid_out))) (knows_none s k.laid_out)) (knows_both s _ _ (knows_both s _ _ (knows_none s k.laid_out) (knows_both s _ _ (knows_none s k.laid_out) (knows_none s k.laid_out))) (knows_both s _ _ (knows_both s _ _ k (knows_none s k.laid_out)) (knows_none s k.laid_out))))))
+note_has_variants = is_recursive_choice note_name note_variant_definitions note_variants (λ s k. (knows_both s _ _ (knows_both s _ _ (knows_none s k.laid_out) (knows_both s _ _ (knows_none s k.laid_out) (knows_none s k.laid_out))) (knows_both s _ _ (knows_both s _ _ (knows_both s _ _ (knows_none s k.laid_out) (knows_both s _ _ (knows_none s k.laid_out) (knows_none s k.laid_out))) (knows_both s _ _ (knows_none s k.laid_out) (knows_both s _ _ (knows_none s k.laid_out) (knows_none s k.laid_out)))) (knows_both s _ _ (knows_both s _ _ (knows_none s k.laid_out) (knows_both s _ _ (knows_none s k.laid_out) (knows_both s _ _ (knows_both s _ _ (knows_none s k.laid_out) (knows_none s k.laid_out)) (knows_none s k.laid_out)))) (knows_both s _ _ (knows_both s _ _ (knows_none s k.laid_out) (knows_both s _ _ (knows_none s k.laid_out) (knows_none s k.laid_out))) (knows_both s _ _ (knows_both s _ _ (knows_both s _ _ (knows_none s k.laid_out) (knows_both s _ _ k (knows_none s k.laid_out))) (knows_none s k.laid_out)) (knows_none s k.laid_out)))))))

@@ -7,13 +7,13 @@ use Rattle.archive_core.specs.SelfCheck.Owners.{vec_reaches}
 use Rattle.archive_core.specs.Shape.{Shape, Parts, parts, vec, part, no_part}
 use Rattle.std.proofs.Common.{inl, inr}
 use Rattle.std.specs.Prelude.{refl}
-use Rattle.recursive_holders.specs.PageShape.{page_shape as shape_of_page, page_definitions as definitions_of_page, page_has_layout as has_layout_of_page, page_no_others as no_others_of_page}
+use Rattle.recursive_holders.specs.PageShape.{page_shape as shape_of_page, page_definitions as definitions_of_page, page_no_others as no_others_of_page}
 
 abbrev pub book_parts : Parts
-book_parts = (part shape_of_page (part (vec shape_of_page) no_part))
+book_parts = (part (vec shape_of_page) no_part)
 
 abbrev pub book_definitions : Definitions
-book_definitions = (both definitions_of_page (both definitions_of_page no_definition))
+book_definitions = (both definitions_of_page no_definition)
 
 abbrev pub book_part_definitions : Definitions
 book_part_definitions = book_definitions
@@ -22,16 +22,16 @@ abbrev pub book_shape : Shape
 book_shape = parts book_parts
 
 abbrev pub book_layout : Layout
-book_layout = record { size = 72; align = 4 }
+book_layout = record { size = 8; align = 4 }
 
 pub book_is_align : IsAlign 4
 book_is_align = inr (inr (inl refl))
 
 pub book_has_layout : HasLayout book_definitions book_shape book_layout
-book_has_layout = record_has_layout book_definitions book_parts _ _ _ (part_laid_out definitions_of_page (both definitions_of_page no_definition) shape_of_page (record { size = 64; align = 4 }) has_layout_of_page (part (vec shape_of_page) no_part) _ _ _ (part_laid_out definitions_of_page no_definition (vec shape_of_page) (record { size = 8; align = 4 }) (record { solved = λ s k. refl }) no_part _ _ _ no_part_laid_out))
+book_has_layout = record_has_layout book_definitions book_parts _ _ _ (part_laid_out definitions_of_page no_definition (vec shape_of_page) (record { size = 8; align = 4 }) (record { solved = λ s k. refl }) no_part _ _ _ no_part_laid_out)
 
 pub book_no_others : NoOthers book_definitions book_shape
-book_no_others = (part_reached definitions_of_page (both definitions_of_page no_definition) shape_of_page (part (vec shape_of_page) no_part) no_others_of_page (part_reached definitions_of_page no_definition (vec shape_of_page) no_part (vec_reaches definitions_of_page shape_of_page no_others_of_page) no_parts_reached))
+book_no_others = (part_reached definitions_of_page no_definition (vec shape_of_page) no_part (vec_reaches definitions_of_page shape_of_page no_others_of_page) no_parts_reached)
 
 pub book_has_parts : IsRecord book_definitions book_shape book_part_definitions book_parts
 book_has_parts = is_record book_definitions book_parts

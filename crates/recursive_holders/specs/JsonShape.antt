@@ -26,7 +26,7 @@ abbrev pub json_null_parts : Parts
 json_null_parts = no_part
 
 abbrev pub json_number_parts : Parts
-json_number_parts = (part (leaf (number_kind signed w64)) no_part)
+json_number_parts = (part (choice (codes "ArchivedNumber") (variant no_part (variant (part (leaf (number_kind signed w64)) no_part) no_variant))) no_part)
 
 abbrev pub json_text_parts : Parts
 json_text_parts = (part str no_part)
@@ -77,7 +77,7 @@ abbrev pub member_type_part_definitions : Definitions
 member_type_part_definitions = (both no_definition (both member_type_definitions no_definition))
 
 abbrev pub json_layout : Layout
-json_layout = record { size = 16; align = 8 }
+json_layout = record { size = 24; align = 8 }
 
 pub json_is_align : IsAlign 8
 json_is_align = inr (inr (inr (inl refl)))
@@ -91,13 +91,13 @@ json_no_others m Y (suc zero, l, e) = subst (λ q. Involves (listed json_definit
 json_no_others m Y (suc (suc i), l, e) = absurd (omega (arith, l))
 
 abbrev pub member_type_layout : Layout
-member_type_layout = record { size = 24; align = 8 }
+member_type_layout = record { size = 32; align = 8 }
 
 pub member_type_is_align : IsAlign 8
 member_type_is_align = inr (inr (inr (inl refl)))
 
 pub member_type_has_layout : HasLayout member_type_definitions member_type_shape member_type_layout
-member_type_has_layout = member_has_layout member_type_definitions member_type_name member_type_stands_for member_type_layout (λ s k. k.has.1) (λ s k. (record_has_layout member_type_part_definitions member_type_parts _ _ _ (part_laid_out no_definition (both member_type_definitions no_definition) str (record { size = 8; align = 4 }) (record { solved = λ s k. refl }) (part json_shape no_part) _ _ _ (part_laid_out member_type_definitions no_definition json_shape (record { size = 16; align = 8 }) json_has_layout no_part _ _ _ no_part_laid_out))).solved s (knows_both s _ _ (knows_none s k.laid_out) (knows_both s _ _ k (knows_none s k.laid_out))))
+member_type_has_layout = member_has_layout member_type_definitions member_type_name member_type_stands_for member_type_layout (λ s k. k.has.1) (λ s k. (record_has_layout member_type_part_definitions member_type_parts _ _ _ (part_laid_out no_definition (both member_type_definitions no_definition) str (record { size = 8; align = 4 }) (record { solved = λ s k. refl }) (part json_shape no_part) _ _ _ (part_laid_out member_type_definitions no_definition json_shape (record { size = 24; align = 8 }) json_has_layout no_part _ _ _ no_part_laid_out))).solved s (knows_both s _ _ (knows_none s k.laid_out) (knows_both s _ _ k (knows_none s k.laid_out))))
 
 pub member_type_no_others : NoOthers member_type_definitions member_type_shape
 member_type_no_others m Y (zero, l, e) = subst (λ q. Involves (listed member_type_definitions) q member_type_shape) (ap (λ (p : Name × Shape). p.0) e) (involves_through (mentions_held holds_name) (suc zero, omega arith, refl) (involves (mentions_parts (mentions_later (mentions_first (mentions_held holds_name))))))

@@ -1,10 +1,8 @@
-pub mod MessageMeaning
-pub mod MessageShape
-pub mod TopicMeaning
-pub mod TopicShape
 pub mod BookMeaning
 pub mod BookShape
-pub mod PageMeaning
-pub mod PageShape
 pub mod JsonMeaning
 pub mod JsonShape
+pub mod MessageMeaning
+pub mod MessageShape
+pub mod PageMeaning
+pub mod PageShape

@@ -9,9 +9,9 @@ use Rattle.archive_core.specs.SelfCheck.Owners.{vec_reaches}
 use Rattle.archive_core.specs.Shape.{Name, Shape, Parts, Variants, choice, vec, str, leaf, unsigned, part, no_part, variant, no_variant, number as number_kind}
 use Rattle.archive_core.specs.VariantsLayout.{IsChoice, no_variant_laid_out, no_variants_reached, variant_laid_out, variant_reached}
 use Rattle.std.proofs.Common.{inl, inr}
-use Rattle.std.specs.Int.{w16}
+use Rattle.std.specs.Int.{w8}
 use Rattle.std.specs.Prelude.{refl, codes}
-use Rattle.recursive_holders.specs.TopicShape.{topic_shape as shape_of_topic, topic_definitions as definitions_of_topic, topic_has_layout as has_layout_of_topic, topic_no_others as no_others_of_topic}
+use Rattle.recursive_holders.specs.JsonShape.{json_shape as shape_of_json, json_definitions as definitions_of_json, json_has_layout as has_layout_of_json, json_no_others as no_others_of_json}
 
 abbrev pub message_name : Name
 message_name = codes "ArchivedMessage"
@@ -28,23 +28,23 @@ message_text_parts = (part str no_part)
 abbrev pub message_text_definitions : Definitions
 message_text_definitions = (both no_definition no_definition)
 
-abbrev pub message_opened_parts : Parts
-message_opened_parts = (part shape_of_topic (part (option_shape shape_of_topic) no_part))
+abbrev pub message_sent_parts : Parts
+message_sent_parts = (part shape_of_json (part (option_shape shape_of_json) no_part))
 
-abbrev pub message_opened_definitions : Definitions
-message_opened_definitions = (both definitions_of_topic (both definitions_of_topic no_definition))
+abbrev pub message_sent_definitions : Definitions
+message_sent_definitions = (both definitions_of_json (both definitions_of_json no_definition))
 
 abbrev pub message_listed_parts : Parts
-message_listed_parts = (part (leaf (number_kind unsigned w16)) (part (vec shape_of_topic) no_part))
+message_listed_parts = (part (leaf (number_kind unsigned w8)) (part (vec shape_of_json) no_part))
 
 abbrev pub message_listed_definitions : Definitions
-message_listed_definitions = (both no_definition (both definitions_of_topic no_definition))
+message_listed_definitions = (both no_definition (both definitions_of_json no_definition))
 
 abbrev pub message_variants : Variants
-message_variants = (variant message_nothing_parts (variant message_text_parts (variant message_opened_parts (variant message_listed_parts no_variant))))
+message_variants = (variant message_nothing_parts (variant message_text_parts (variant message_sent_parts (variant message_listed_parts no_variant))))
 
 abbrev pub message_definitions : Definitions
-message_definitions = (both message_nothing_definitions (both message_text_definitions (both message_opened_definitions (both message_listed_definitions no_definition))))
+message_definitions = (both message_nothing_definitions (both message_text_definitions (both message_sent_definitions (both message_listed_definitions no_definition))))
 
 abbrev pub message_variant_definitions : Definitions
 message_variant_definitions = message_definitions
@@ -53,16 +53,16 @@ abbrev pub message_shape : Shape
 message_shape = choice message_name message_variants
 
 abbrev pub message_layout : Layout
-message_layout = record { size = 40; align = 4 }
+message_layout = record { size = 64; align = 8 }
 
-pub message_is_align : IsAlign 4
-message_is_align = inr (inr (inl refl))
+pub message_is_align : IsAlign 8
+message_is_align = inr (inr (inr (inl refl)))
 
 pub message_has_layout : HasLayout message_definitions message_shape message_layout
-message_has_layout = (let its = (variant_laid_out message_nothing_definitions (both message_text_definitions (both message_opened_definitions (both message_listed_definitions no_definition))) message_nothing_parts _ _ _ no_part_laid_out (variant message_text_parts (variant message_opened_parts (variant message_listed_parts no_variant))) _ _ _ (variant_laid_out message_text_definitions (both message_opened_definitions (both message_listed_definitions no_definition)) message_text_parts _ _ _ (part_laid_out no_definition no_definition str (record { size = 8; align = 4 }) (record { solved = λ s k. refl }) no_part _ _ _ no_part_laid_out) (variant message_opened_parts (variant message_listed_parts no_variant)) _ _ _ (variant_laid_out message_opened_definitions (both message_listed_definitions no_definition) message_opened_parts _ _ _ (part_laid_out definitions_of_topic (both definitions_of_topic no_definition) shape_of_topic (record { size = 16; align = 4 }) has_layout_of_topic (part (option_shape shape_of_topic) no_part) _ _ _ (part_laid_out definitions_of_topic no_definition (option_shape shape_of_topic) (record { size = 20; align = 4 }) (option_has_layout definitions_of_topic shape_of_topic (record { size = 16; align = 4 }) (inr (inr (inl refl))) has_layout_of_topic) no_part _ _ _ no_part_laid_out)) (variant message_listed_parts no_variant) _ _ _ (variant_laid_out message_listed_definitions no_definition message_listed_parts _ _ _ (part_laid_out no_definition (both definitions_of_topic no_definition) (leaf (number_kind unsigned w16)) (record { size = 2; align = 2 }) (record { solved = λ s k. refl }) (part (vec shape_of_topic) no_part) _ _ _ (part_laid_out definitions_of_topic no_definition (vec shape_of_topic) (record { size = 8; align = 4 }) (record { solved = λ s k. refl }) no_part _ _ _ no_part_laid_out)) no_variant _ _ _ no_variant_laid_out)))) in record { solved = λ s k. rw (its.aligned s k, its.ends s k) refl })
+message_has_layout = (let its = (variant_laid_out message_nothing_definitions (both message_text_definitions (both message_sent_definitions (both message_listed_definitions no_definition))) message_nothing_parts _ _ _ no_part_laid_out (variant message_text_parts (variant message_sent_parts (variant message_listed_parts no_variant))) _ _ _ (variant_laid_out message_text_definitions (both message_sent_definitions (both message_listed_definitions no_definition)) message_text_parts _ _ _ (part_laid_out no_definition no_definition str (record { size = 8; align = 4 }) (record { solved = λ s k. refl }) no_part _ _ _ no_part_laid_out) (variant message_sent_parts (variant message_listed_parts no_variant)) _ _ _ (variant_laid_out message_sent_definitions (both message_listed_definitions no_definition) message_sent_parts _ _ _ (part_laid_out definitions_of_json (both definitions_of_json no_definition) shape_of_json (record { size = 24; align = 8 }) has_layout_of_json (part (option_shape shape_of_json) no_part) _ _ _ (part_laid_out definitions_of_json no_definition (option_shape shape_of_json) (record { size = 32; align = 8 }) (option_has_layout definitions_of_json shape_of_json (record { size = 24; align = 8 }) (inr (inr (inr (inl refl)))) has_layout_of_json) no_part _ _ _ no_part_laid_out)) (variant message_listed_parts no_variant) _ _ _ (variant_laid_out message_listed_definitions no_definition message_listed_parts _ _ _ (part_laid_out no_definition (both definitions_of_json no_definition) (leaf (number_kind unsigned w8)) (record { size = 1; align = 1 }) (record { solved = λ s k. refl }) (part (vec shape_of_json) no_part) _ _ _ (part_laid_out definitions_of_json no_definition (vec shape_of_json) (record { size = 8; align = 4 }) (record { solved = λ s k. refl }) no_part _ _ _ no_part_laid_out)) no_variant _ _ _ no_variant_laid_out)))) in record { solved = λ s k. rw (its.aligned s k, its.ends s k) refl })
 
 pub message_no_others : NoOthers message_definitions message_shape
-message_no_others = (variant_reached message_nothing_definitions (both message_text_definitions (both message_opened_definitions (both message_listed_definitions no_definition))) message_nothing_parts (variant message_text_parts (variant message_opened_parts (variant message_listed_parts no_variant))) no_parts_reached (variant_reached message_text_definitions (both message_opened_definitions (both message_listed_definitions no_definition)) message_text_parts (variant message_opened_parts (variant message_listed_parts no_variant)) (part_reached no_definition no_definition str no_part (no_definition_reached str) no_parts_reached) (variant_reached message_opened_definitions (both message_listed_definitions no_definition) message_opened_parts (variant message_listed_parts no_variant) (part_reached definitions_of_topic (both definitions_of_topic no_definition) shape_of_topic (part (option_shape shape_of_topic) no_part) no_others_of_topic (part_reached definitions_of_topic no_definition (option_shape shape_of_topic) no_part (option_reached definitions_of_topic shape_of_topic no_others_of_topic) no_parts_reached)) (variant_reached message_listed_definitions no_definition message_listed_parts no_variant (part_reached no_definition (both definitions_of_topic no_definition) (leaf (number_kind unsigned w16)) (part (vec shape_of_topic) no_part) (no_definition_reached (leaf (number_kind unsigned w16))) (part_reached definitions_of_topic no_definition (vec shape_of_topic) no_part (vec_reaches definitions_of_topic shape_of_topic no_others_of_topic) no_parts_reached)) no_variants_reached)))) message_name
+message_no_others = (variant_reached message_nothing_definitions (both message_text_definitions (both message_sent_definitions (both message_listed_definitions no_definition))) message_nothing_parts (variant message_text_parts (variant message_sent_parts (variant message_listed_parts no_variant))) no_parts_reached (variant_reached message_text_definitions (both message_sent_definitions (both message_listed_definitions no_definition)) message_text_parts (variant message_sent_parts (variant message_listed_parts no_variant)) (part_reached no_definition no_definition str no_part (no_definition_reached str) no_parts_reached) (variant_reached message_sent_definitions (both message_listed_definitions no_definition) message_sent_parts (variant message_listed_parts no_variant) (part_reached definitions_of_json (both definitions_of_json no_definition) shape_of_json (part (option_shape shape_of_json) no_part) no_others_of_json (part_reached definitions_of_json no_definition (option_shape shape_of_json) no_part (option_reached definitions_of_json shape_of_json no_others_of_json) no_parts_reached)) (variant_reached message_listed_definitions no_definition message_listed_parts no_variant (part_reached no_definition (both definitions_of_json no_definition) (leaf (number_kind unsigned w8)) (part (vec shape_of_json) no_part) (no_definition_reached (leaf (number_kind unsigned w8))) (part_reached definitions_of_json no_definition (vec shape_of_json) no_part (vec_reaches definitions_of_json shape_of_json no_others_of_json) no_parts_reached)) no_variants_reached)))) message_name
 
 pub message_has_variants : IsChoice message_definitions message_shape message_name message_variant_definitions message_variants
 message_has_variants = record { stands = λ s k. for_itself; known = λ s k. k }

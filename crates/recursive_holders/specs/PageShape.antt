@@ -7,14 +7,14 @@ use Rattle.archive_core.specs.PartsLayout.{IsRecord, is_record, no_part_laid_out
 use Rattle.archive_core.specs.Shape.{Shape, Parts, parts, str, part, no_part}
 use Rattle.std.proofs.Common.{inl, inr}
 use Rattle.std.specs.Prelude.{refl}
+use Rattle.recursive_holders.specs.JsonShape.{json_shape as shape_of_json, json_definitions as definitions_of_json, json_has_layout as has_layout_of_json, json_no_others as no_others_of_json}
 use Rattle.recursive_holders.specs.MessageShape.{message_shape as shape_of_message, message_definitions as definitions_of_message, message_has_layout as has_layout_of_message, message_no_others as no_others_of_message}
-use Rattle.recursive_holders.specs.TopicShape.{topic_shape as shape_of_topic, topic_definitions as definitions_of_topic, topic_has_layout as has_layout_of_topic, topic_no_others as no_others_of_topic}
 
 abbrev pub page_parts : Parts
-page_parts = (part str (part shape_of_topic (part shape_of_message no_part)))
+page_parts = (part str (part shape_of_json (part shape_of_message no_part)))
 
 abbrev pub page_definitions : Definitions
-page_definitions = (both no_definition (both definitions_of_topic (both definitions_of_message no_definition)))
+page_definitions = (both no_definition (both definitions_of_json (both definitions_of_message no_definition)))
 
 abbrev pub page_part_definitions : Definitions
 page_part_definitions = page_definitions
@@ -23,16 +23,16 @@ abbrev pub page_shape : Shape
 page_shape = parts page_parts
 
 abbrev pub page_layout : Layout
-page_layout = record { size = 64; align = 4 }
+page_layout = record { size = 96; align = 8 }
 
-pub page_is_align : IsAlign 4
-page_is_align = inr (inr (inl refl))
+pub page_is_align : IsAlign 8
+page_is_align = inr (inr (inr (inl refl)))
 
 pub page_has_layout : HasLayout page_definitions page_shape page_layout
-page_has_layout = record_has_layout page_definitions page_parts _ _ _ (part_laid_out no_definition (both definitions_of_topic (both definitions_of_message no_definition)) str (record { size = 8; align = 4 }) (record { solved = λ s k. refl }) (part shape_of_topic (part shape_of_message no_part)) _ _ _ (part_laid_out definitions_of_topic (both definitions_of_message no_definition) shape_of_topic (record { size = 16; align = 4 }) has_layout_of_topic (part shape_of_message no_part) _ _ _ (part_laid_out definitions_of_message no_definition shape_of_message (record { size = 40; align = 4 }) has_layout_of_message no_part _ _ _ no_part_laid_out)))
+page_has_layout = record_has_layout page_definitions page_parts _ _ _ (part_laid_out no_definition (both definitions_of_json (both definitions_of_message no_definition)) str (record { size = 8; align = 4 }) (record { solved = λ s k. refl }) (part shape_of_json (part shape_of_message no_part)) _ _ _ (part_laid_out definitions_of_json (both definitions_of_message no_definition) shape_of_json (record { size = 24; align = 8 }) has_layout_of_json (part shape_of_message no_part) _ _ _ (part_laid_out definitions_of_message no_definition shape_of_message (record { size = 64; align = 8 }) has_layout_of_message no_part _ _ _ no_part_laid_out)))
 
 pub page_no_others : NoOthers page_definitions page_shape
-page_no_others = (part_reached no_definition (both definitions_of_topic (both definitions_of_message no_definition)) str (part shape_of_topic (part shape_of_message no_part)) (no_definition_reached str) (part_reached definitions_of_topic (both definitions_of_message no_definition) shape_of_topic (part shape_of_message no_part) no_others_of_topic (part_reached definitions_of_message no_definition shape_of_message no_part no_others_of_message no_parts_reached)))
+page_no_others = (part_reached no_definition (both definitions_of_json (both definitions_of_message no_definition)) str (part shape_of_json (part shape_of_message no_part)) (no_definition_reached str) (part_reached definitions_of_json (both definitions_of_message no_definition) shape_of_json (part shape_of_message no_part) no_others_of_json (part_reached definitions_of_message no_definition shape_of_message no_part no_others_of_message no_parts_reached)))
 
 pub page_has_parts : IsRecord page_definitions page_shape page_part_definitions page_parts
 page_has_parts = is_record page_definitions page_parts

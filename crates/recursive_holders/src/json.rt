@@ -1,4 +1,4 @@
-//! A document in the manner of JSON: a family of which one type is in the other behind no pointer.
+//! A document in the manner of JSON: a family of which one type is in the other behind no pointer, what it holds, and an enum that holds it.
 
 /// A value of a document.
 #[derive(Debug, PartialEq, Drop)]
@@ -6,8 +6,8 @@
 pub enum Json {
     /// Nothing.
     Null,
-    /// A whole number.
-    Number(i64),
+    /// A number.
+    Number(Number),
     /// A text.
     Text(String),
     /// Values one after another.
@@ -26,56 +26,95 @@ pub struct Member {
     pub value: Json,
 }
 
+/// A number.
+#[derive(Debug, PartialEq, Drop)]
+pub enum Number {
+    /// One that is too large.
+    TooLarge,
+    /// A whole one.
+    Whole(i64),
+}
+
+/// What is posted.
+#[derive(Debug, PartialEq, Drop)]
+pub enum Message {
+    /// Nothing.
+    Nothing,
+    /// A text.
+    Text(String),
+    /// A document, and one that it replaces.
+    Sent(Json, Option<Json>),
+    /// Several documents, and how many were left out.
+    Listed {
+        /// How many.
+        others: u8,
+        /// The documents.
+        documents: Vec<Json>,
+    },
+}
+
 // Below this line all is written by tools/derive: change what is above it, and run it again.
 
 ghost use Rattle.archive_core.specs.CallOutcomes.{ResolvesAs};
 ghost use Rattle.archive_core.specs.Causes.{IsRefused};
-ghost use Rattle.archive_core.specs.Definitions.{ExplainsConflict, Extended, defines, no_definition};
+ghost use Rattle.archive_core.specs.Definitions.{ExplainsConflict, Extended, both, defines, no_definition};
 ghost use Rattle.archive_core.specs.Error.TheVariants.{OutOfMemory};
 ghost use Rattle.archive_core.specs.Expressions.{shape_of, shapes_in, table_of};
 ghost use Rattle.archive_core.specs.Fields.{field_in};
+ghost use Rattle.archive_core.specs.Keyed.{case_keyed, nothing_keyed, number_keyed, part_keyed};
+ghost use Rattle.archive_core.specs.LeafLayout.{no_definition_reached};
+ghost use Rattle.archive_core.specs.PartsPlanned.{no_part_planned, part_planned};
 ghost use Rattle.archive_core.specs.Payloads.{payload_in};
+ghost use Rattle.archive_core.specs.Plain.{plain_choice, plain_own_check, plain_variant_planned};
+ghost use Rattle.archive_core.specs.Planned.{leaf_planned};
 ghost use Rattle.archive_core.specs.PlannedOwners.{one_planned};
 ghost use Rattle.archive_core.specs.Plans.{Serialized};
 ghost use Rattle.archive_core.specs.Runs.{EachBelongs, IsRunRefused, SerializedRun, each_flat, each_keys, each_meaning};
 ghost use Rattle.archive_core.specs.SealsWritten.{IsSealOf, SealsPart, seal_tag};
 ghost use Rattle.archive_core.specs.Seen.{IsPartOf, RefusesPart, ShowsValueOf, part_tag, tag_of};
 ghost use Rattle.archive_core.specs.SelfCheck.Laws.{by_schema};
-ghost use Rattle.archive_core.specs.Shape.{one, part, parts, variant, vec};
+ghost use Rattle.archive_core.specs.Shape.{choice, no_part, no_variant, one, part, parts, variant, vec};
 ghost use Rattle.archive_core.specs.Sources.{Read, ReadsAs};
 ghost use Rattle.archive_core.specs.Value.{case, no_value, value};
 ghost use Rattle.archive_core.specs.Writing.{ZeroedPlace};
 ghost use Rattle.archive_core.specs.Written.{GoesOn};
 ghost use Rattle.recursive_holders.specs.JsonShape.{json_definitions, json_has_layout, json_has_variants, json_is_align, json_layout, json_list_parts, json_name, json_no_others, json_number_parts, json_object_parts, json_shape, json_stands_for, json_text_parts, member_type_definitions, member_type_has_layout, member_type_has_parts, member_type_is_align, member_type_layout, member_type_name, member_type_no_others, member_type_parts, member_type_shape, member_type_stands_for};
-ghost use Rattle.std.proofs.Common.{lit≤};
-ghost use Rattle.std.specs.Prelude.{IfErr, IfOk, None, OnOk, [], length, refl, ℕ, ◌++◌, ◌+◌, ◌≡◌, ◌≤◌};
+ghost use Rattle.recursive_holders.specs.MessageShape.{message_definitions, message_has_layout, message_has_variants, message_is_align, message_layout, message_name, message_no_others, message_shape};
+ghost use Rattle.std.proofs.Common.{inl, inr, lit≤};
+ghost use Rattle.std.specs.Prelude.{IfErr, IfOk, None, OnOk, [], codes, length, refl, true, ℕ, ◌++◌, ◌+◌, ◌≡◌, ◌≤◌};
 
 use archive_core::error::Error;
+use archive_core::fields::{
+    known_tag, part_in_case, read_case, resolve_case_0, resolve_case_1, serialize_case_0,
+    serialize_case_1, tag_in,
+};
+use archive_core::option::ArchivedOption;
 use archive_core::place::Place;
 use archive_core::primitive::ArchivedI64;
 use archive_core::recursive::{
     VecAt, before_vec, choice_of, define_name, handed_on, part_of_record, part_of_variant,
-    read_part, record_of, resolve_named_case_0, resolve_named_case_1, resolve_named_record_2,
-    seal_of_field, seal_of_payload, serialize_inner_slice, serialize_part, tag_of_choice,
-    tag_of_view, view_of_field, view_of_payload,
+    read_part, record_of, resolve_named_case_0, resolve_named_case_1, resolve_named_case_2,
+    resolve_named_record_2, seal_of_field, seal_of_payload, serialize_inner_slice, serialize_part,
+    tag_of_choice, tag_of_view, view_of_field, view_of_payload,
 };
-use archive_core::seal::Seal;
-use archive_core::self_check::BySchema;
+use archive_core::seal::{Seal, sealed_part_in_case};
+use archive_core::self_check::{BySchema, SelfCheck, check_choice};
 use archive_core::ser::{ResolverAlloc, Writer, serialize_one};
 use archive_core::shape::Defs;
 use archive_core::string::ArchivedString;
 use archive_core::traits::{
     Archive, ArchivePointee, ArchiveUnsized, Choice, CopyOptimization, Deserialize, Entries, Keys,
-    Portable, Record, Serialize, SerializeUnsized,
+    Portable, PortableVariants, Record, Serialize, SerializeUnsized, expr_of_choice,
 };
+use archive_core::validation::ArchiveContext;
 use archive_core::vec::{ArchivedVec, VecResolver};
 use archive_core::view::{RawView, Ref};
 use std::alloc::{AllocError, Global};
 
-/// An archived `Json`: 16 bytes at a multiple of 8. It is validated by its schema.
+/// An archived `Json`: 24 bytes at a multiple of 8. It is validated by its schema.
 pub struct ArchivedJson;
 
-type JsonNumberParts = (ArchivedI64, ());
+type JsonNumberParts = (ArchivedNumber, ());
 
 type JsonTextParts = (ArchivedString, ());
 
@@ -110,7 +149,7 @@ fn json_number_expressions(alloc: Global) -> Result<Vec<archive_core::shape::Exp
     ensures shapes { IfOk result (λ list. shapes_in list.items ≡ json_number_parts) }
     ensures refused { IfErr result (λ e. e ≡ OutOfMemory) }
 {
-    let a0 = <ArchivedI64 as Portable>::expr(alloc)?;
+    let a0 = <ArchivedNumber as Portable>::expr(alloc)?;
     Ok(vec![in alloc; a0]?)
 }
 
@@ -193,7 +232,7 @@ impl Portable for ArchivedJson {
     ghost checks = { λ direct. by_schema direct };
 
     fn size() -> usize {
-        16
+        24
     }
 
     fn align() -> usize {
@@ -225,7 +264,7 @@ pub enum JsonResolver {
     /// Of `Null`.
     Null,
     /// Of `Number`.
-    Number((<i64 as Archive>::Resolver, ())),
+    Number((<Number as Archive>::Resolver, ())),
     /// Of `Text`.
     Text((<String as Archive>::Resolver, ())),
     /// Of `List`.
@@ -261,7 +300,7 @@ impl Archive for Json {
         resolver: Self::Resolver,
         place: Place<'_, Self::Archived>,
     ) -> Result<(), Error>
-        requires zeroed { ZeroedPlace 16 place.pos place.bytes.now }
+        requires zeroed { ZeroedPlace 24 place.pos place.bytes.now }
         requires same_value { ⟦<Self as Archive>⟧.belongs self.now resolver }
         ensures { ResolvesAs ⟦<Self::Archived as Portable>⟧ place
             (⟦<Self as Archive>⟧.flat self.now resolver) result }
@@ -273,7 +312,7 @@ impl Archive for Json {
                 let JsonResolver::Number(kept) = resolver else {
                     unreachable!();
                 };
-                resolve_named_case_1::<i64, ArchivedJson>(1, a0, kept, Place::new(pos, bytes))
+                resolve_named_case_1::<Number, ArchivedJson>(1, a0, kept, Place::new(pos, bytes))
             }
             Json::Text(a0) => {
                 let JsonResolver::Text(kept) = resolver else {
@@ -447,18 +486,20 @@ fn serialize_vec_member_type<S: Writer + Keys + ResolverAlloc>(
 
 // Writes what the parts of `Number` own, in order.
 fn serialize_json_number<S: Writer + Keys + ResolverAlloc>(
-    a0: &i64,
+    a0: &Number,
     serializer: &mut S,
-) -> Result<(<i64 as Archive>::Resolver, ()), Error>
+) -> Result<(<Number as Archive>::Resolver, ()), Error>
     ensures serialized { IfOk result (λ r. Serialized json_definitions json_shape
-        (⟦<i64 as Archive>⟧.keys a0.now ++ []) (case 1 (value (⟦<i64 as Archive>⟧.meaning a0.now)
-        no_value)) (case 1 (value (⟦<i64 as Archive>⟧.flat a0.now r.0) no_value))
-        (S.state serializer.old) (S.state serializer.new)) }
-    ensures same_values { IfOk result (λ r. ⟦<i64 as Archive>⟧.belongs a0.now r.0 × Unit {0}) }
+        (⟦<Number as Archive>⟧.keys a0.now ++ []) (case 1
+        (value (⟦<Number as Archive>⟧.meaning a0.now) no_value))
+        (case 1 (value (⟦<Number as Archive>⟧.flat a0.now r.0) no_value)) (S.state serializer.old)
+        (S.state serializer.new)) }
+    ensures same_values { IfOk result (λ r. ⟦<Number as Archive>⟧.belongs a0.now r.0 × Unit {0}) }
     ensures goes_on { GoesOn (S.state serializer.old) (S.state serializer.new) }
     ensures refused { IfErr result (IsRefused json_definitions json_shape
-        (⟦<i64 as Archive>⟧.keys a0.now ++ []) (case 1 (value (⟦<i64 as Archive>⟧.meaning a0.now)
-        no_value)) (S.state serializer.old) (S.state serializer.new)) }
+        (⟦<Number as Archive>⟧.keys a0.now ++ []) (case 1
+        (value (⟦<Number as Archive>⟧.meaning a0.now) no_value)) (S.state serializer.old)
+        (S.state serializer.new)) }
 {
     let a0 = match serialize_part(a0, serializer) {
         Ok(a0) => a0,
@@ -695,8 +736,8 @@ fn read_json_number<D: Entries>(
     ensures refused { IfErr result (RefusesPart ⟦<ArchivedJson as ArchivePointee>⟧ part D.Entries
         deserializer) }
 {
-    let p0 = part_of_variant::<ArchivedJson, ArchivedI64>(part, 1, 0, 8);
-    let a0 = read_part::<ArchivedI64, i64, D>(alloc, p0, deserializer)?;
+    let p0 = part_of_variant::<ArchivedJson, ArchivedNumber>(part, 1, 0, 8);
+    let a0 = read_part::<ArchivedNumber, Number, D>(alloc, p0, deserializer)?;
     Ok(Json::Number(a0))
 }
 
@@ -799,8 +840,8 @@ impl<D: Entries> Deserialize<Json, D> for ArchivedJson {
 pub enum ViewOfJson<'a> {
     /// Nothing.
     Null,
-    /// A whole number.
-    Number(Ref<'a, ArchivedI64>),
+    /// A number.
+    Number(Ref<'a, ArchivedNumber>),
     /// A text.
     Text(Ref<'a, ArchivedString>),
     /// Values one after another.
@@ -837,7 +878,7 @@ impl<'a> JsonView<'a> for Ref<'a, ArchivedJson> {
     {
         match tag_of_view(self) {
             0 => ViewOfJson::Null,
-            1 => ViewOfJson::Number(view_of_payload::<ArchivedJson, ArchivedI64>(self, 1, 0, 8)),
+            1 => ViewOfJson::Number(view_of_payload::<ArchivedJson, ArchivedNumber>(self, 1, 0, 8)),
             2 => ViewOfJson::Text(view_of_payload::<ArchivedJson, ArchivedString>(self, 2, 0, 4)),
             3 => {
                 let a0 = view_of_payload::<ArchivedJson, ArchivedVec<ArchivedJson>>(self, 3, 0, 4);
@@ -862,7 +903,7 @@ pub trait JsonSeal<'a> {
     ghost tag: { Self → ℕ };
 
     /// The field `0` of `Number`.
-    fn number_0_mut(self) -> Seal<'a, ArchivedI64>
+    fn number_0_mut(self) -> Seal<'a, ArchivedNumber>
         requires come_to { sealed self }
         requires tag { tag self ≡ 1 };
 
@@ -887,13 +928,13 @@ impl<'a> JsonSeal<'a> for Seal<'a, ArchivedJson> {
 
     ghost tag = { λ s. seal_tag s };
 
-    fn number_0_mut(self) -> Seal<'a, ArchivedI64>
+    fn number_0_mut(self) -> Seal<'a, ArchivedNumber>
         requires come_to { IsSealOf json_definitions (one ⟦<ArchivedJson as Portable>⟧.shape) self }
         requires tag { seal_tag self ≡ 1 }
         ensures { SealsPart json_definitions (one ⟦<ArchivedJson as Portable>⟧.shape) no_definition
-            ⟦<ArchivedI64 as ArchivePointee>⟧.pointee (self.entry.pos + 8) 0 self.entry result }
+            ⟦<ArchivedNumber as ArchivePointee>⟧.pointee (self.entry.pos + 8) 0 self.entry result }
     {
-        seal_of_payload::<ArchivedJson, ArchivedI64>(self, 1, 0, 8)
+        seal_of_payload::<ArchivedJson, ArchivedNumber>(self, 1, 0, 8)
     }
 
     fn text_0_mut(self) -> Seal<'a, ArchivedString>
@@ -928,7 +969,7 @@ impl<'a> JsonSeal<'a> for Seal<'a, ArchivedJson> {
     }
 }
 
-/// An archived `Member`: 24 bytes at a multiple of 8. It is validated by its schema.
+/// An archived `Member`: 32 bytes at a multiple of 8. It is validated by its schema.
 pub struct ArchivedMember;
 
 type MemberParts = (ArchivedString, (ArchivedJson, ()));
@@ -1008,7 +1049,7 @@ impl Portable for ArchivedMember {
     ghost checks = { λ direct. by_schema direct };
 
     fn size() -> usize {
-        24
+        32
     }
 
     fn align() -> usize {
@@ -1065,7 +1106,7 @@ impl Archive for Member {
         resolver: Self::Resolver,
         place: Place<'_, Self::Archived>,
     ) -> Result<(), Error>
-        requires zeroed { ZeroedPlace 24 place.pos place.bytes.now }
+        requires zeroed { ZeroedPlace 32 place.pos place.bytes.now }
         requires same_value { ⟦<Self as Archive>⟧.belongs self.now resolver }
         ensures { ResolvesAs ⟦<Self::Archived as Portable>⟧ place
             (⟦<Self as Archive>⟧.flat self.now resolver) result }
@@ -1266,5 +1307,991 @@ impl<'a> MemberSeal<'a> for Seal<'a, ArchivedMember> {
             ⟦<ArchivedJson as ArchivePointee>⟧.pointee (self.entry.pos + 8) 0 self.entry result }
     {
         seal_of_field::<ArchivedMember, ArchivedJson>(self, 1, 8)
+    }
+}
+
+/// An archived `Number`: 16 bytes at a multiple of 8.
+pub struct ArchivedNumber;
+
+type NumberWholeParts = (ArchivedI64, ());
+
+type NumberWholeOwned = (i64, ());
+
+type NumberVariants = ((), (NumberWholeParts, ()));
+
+impl ArchivePointee for ArchivedNumber {
+    type ArchivedMetadata = ();
+
+    ghost pointee = { one (choice (codes "ArchivedNumber")
+        (variant no_part (variant (part ⟦<ArchivedI64 as Portable>⟧.shape no_part) no_variant))) };
+
+    ghost definitions = { no_definition };
+
+    ghost metadata_length = { λ _. 0 };
+
+    fn pointer_metadata(_metadata: &()) -> usize {
+        0
+    }
+}
+
+impl Portable for ArchivedNumber {
+    ghost shape = { choice (codes "ArchivedNumber") (variant no_part
+        (variant (part ⟦<ArchivedI64 as Portable>⟧.shape no_part) no_variant)) };
+
+    ghost layout = { record { size = 16; align = 8 } };
+
+    type Check = ArchivedNumber;
+
+    ghost is_one = { refl };
+
+    ghost is_align = { inr (inr (inr (inl refl))) };
+
+    ghost has_layout = { record { solved = λ s k. refl } };
+
+    ghost no_others = { no_definition_reached (choice (codes "ArchivedNumber")
+        (variant no_part (variant (part ⟦<ArchivedI64 as Portable>⟧.shape no_part) no_variant))) };
+
+    ghost checks = { λ _. plain_own_check _ _ _ _ _ refl refl refl refl };
+
+    fn size() -> usize {
+        16
+    }
+
+    fn align() -> usize {
+        8
+    }
+
+    fn expr(alloc: Global) -> Result<archive_core::shape::Expr, Error> {
+        expr_of_choice::<NumberVariants>(alloc, "ArchivedNumber")
+    }
+
+    fn define(_alloc: Global, _defs: &mut Defs) -> Result<(), Error> {
+        Ok(())
+    }
+}
+
+impl SelfCheck for ArchivedNumber {
+    ghost shape = { choice (codes "ArchivedNumber") (variant no_part
+        (variant (part ⟦<ArchivedI64 as Portable>⟧.shape no_part) no_variant)) };
+
+    ghost definitions = { (both no_definition (both (both no_definition no_definition)
+        no_definition)) };
+
+    ghost span = { 16 };
+
+    ghost direct = { true };
+
+    ghost nameless = { true };
+
+    fn is_direct() -> bool {
+        true
+    }
+
+    fn is_nameless() -> bool {
+        true
+    }
+
+    #[inline(always)]
+    fn check_at<C: ArchiveContext>(
+        bytes: &[u8],
+        at: usize,
+        refusal: &mut Error,
+        context: &mut C,
+    ) -> Option<()> {
+        check_choice::<NumberVariants, C>("ArchivedNumber", bytes, at, refusal, context)
+    }
+}
+
+impl Choice for ArchivedNumber {
+    type Variants = NumberVariants;
+
+    ghost name = { codes "ArchivedNumber" };
+
+    ghost has_variants = { plain_choice (codes "ArchivedNumber")
+        (variant no_part (variant (part ⟦<ArchivedI64 as Portable>⟧.shape no_part) no_variant))
+        (both no_definition (both (both no_definition no_definition) no_definition)) refl };
+
+    ghost holds = { lit≤ tt };
+}
+
+/// What is kept of `Number` between `serialize` and `resolve`.
+#[derive(Drop)]
+pub enum NumberResolver {
+    /// Of `TooLarge`.
+    TooLarge,
+    /// Of `Whole`.
+    Whole((<i64 as Archive>::Resolver, ())),
+}
+
+impl Archive for Number {
+    ghost use Rattle.recursive_holders.specs.declared.json.Number.TheVariants.{TooLarge as NumberTooLarge, Whole as NumberWhole};
+    ghost use Rattle.recursive_holders.specs.declared.json.NumberResolver.TheVariants.{TooLarge as NumberTooLargeKept, Whole as NumberWholeKept};
+
+    type Archived = ArchivedNumber;
+
+    type Resolver = NumberResolver;
+
+    ghost meaning = { elim [
+      | NumberTooLarge ↦ case 0 no_value
+      | NumberWhole a0 ↦ case 1 (value (⟦<i64 as Archive>⟧.meaning a0) no_value)
+    ] };
+
+    ghost flat = { λ v r. elim v [
+      | NumberTooLarge ↦ case 0 no_value
+      | NumberWhole a0 ↦ elim r [
+        | NumberWholeKept s ↦ case 1 (value (⟦<i64 as Archive>⟧.flat a0 s.0) no_value)
+        | _ ↦ case 1 no_value
+      ]
+    ] };
+
+    ghost keys = { elim [ NumberTooLarge ↦ [] | NumberWhole a0 ↦ ⟦<i64 as Archive>⟧.keys a0 ++ [] ] };
+
+    ghost belongs = { λ v r. elim v [
+      | NumberTooLarge ↦ elim r [ NumberTooLargeKept ↦ Unit {0} | _ ↦ ⊥ ]
+      | NumberWhole a0 ↦ elim r [
+        | NumberWholeKept s ↦ ⟦<i64 as Archive>⟧.belongs a0 s.0 × Unit {0}
+        | _ ↦ ⊥
+      ]
+    ] };
+
+    ghost in_bulk = { None };
+
+    ghost keyed = { elim [
+      | NumberTooLarge ↦ case_keyed _ 0 _ nothing_keyed
+      | NumberWhole a0 ↦ case_keyed _ 1 _ (part_keyed (number_keyed _) nothing_keyed)
+    ] };
+
+    ghost planned = { elim [
+      | NumberTooLarge ↦ plain_variant_planned _ _ 0 no_part refl no_definition _ _ no_part_planned
+          refl
+      | NumberWhole a0 ↦ plain_variant_planned _ _ 1 (part ⟦<ArchivedI64 as Portable>⟧.shape
+          no_part) refl (both no_definition no_definition) _ _
+          (part_planned no_definition ⟦<ArchivedI64 as Portable>⟧.shape (⟦<i64 as Archive>⟧.keys a0)
+          (⟦<i64 as Archive>⟧.meaning a0) (leaf_planned no_definition _ _ [] _ refl)
+          no_part_planned) refl
+    ] };
+
+    #[inline(always)]
+    fn resolve(
+        &self,
+        resolver: Self::Resolver,
+        place: Place<'_, Self::Archived>,
+    ) -> Result<(), Error>
+        requires zeroed { ZeroedPlace 16 place.pos place.bytes.now }
+        requires same_value { ⟦<Self as Archive>⟧.belongs self.now resolver }
+        ensures { ResolvesAs ⟦<Self::Archived as Portable>⟧ place
+            (⟦<Self as Archive>⟧.flat self.now resolver) result }
+    {
+        let Place { bytes, pos, .. } = place;
+        match self {
+            Number::TooLarge => resolve_case_0::<ArchivedNumber>(0, (), Place::new(pos, bytes)),
+            Number::Whole(a0) => {
+                let NumberResolver::Whole(kept) = resolver else {
+                    unreachable!();
+                };
+                resolve_case_1::<i64, ArchivedNumber>(1, a0, kept, Place::new(pos, bytes))
+            }
+        }
+    }
+
+    #[inline(always)]
+    fn copy_optimization() -> CopyOptimization<Self> {
+        CopyOptimization::disable()
+    }
+
+    #[inline(always)]
+    fn serialize_copied<S: Writer + Keys>(
+        _values: &[Self],
+        _together: usize,
+        _serializer: &mut S,
+    ) -> Result<Option<usize>, Error> {
+        Ok(None)
+    }
+}
+
+impl<S: Writer + ResolverAlloc> Serialize<S> for Number {
+    #[inline(always)]
+    fn serialize(&self, serializer: &mut S) -> Result<Self::Resolver, Error> {
+        match self {
+            Number::TooLarge => match serialize_case_0::<ArchivedNumber, S>(0, serializer) {
+                Ok(()) => Ok(NumberResolver::TooLarge),
+                Err(error) => Err(error),
+            },
+            Number::Whole(a0) => match serialize_case_1::<i64, ArchivedNumber, S>(
+                1, a0, serializer,
+            ) {
+                Ok(kept) => Ok(NumberResolver::Whole(kept)),
+                Err(error) => Err(error),
+            },
+        }
+    }
+}
+
+/// As a region of its own: the value itself.
+impl ArchiveUnsized for Number {
+    ghost use Rattle.recursive_holders.specs.contracts.json.NumberArchive.TheImpl.Laws.{keyed-law as keyed_of_number, planned-law as planned_of_number};
+
+    type Archived = ArchivedNumber;
+
+    ghost source_length = { λ _. 0 };
+
+    ghost meaning = { ⟦<Number as Archive>⟧.meaning };
+
+    ghost keys = { ⟦<Number as Archive>⟧.keys };
+
+    ghost keyed = { keyed_of_number };
+
+    ghost one_length = { λ _ _. refl };
+
+    ghost planned = { λ v. one_planned no_definition (choice (codes "ArchivedNumber")
+        (variant no_part (variant (part ⟦<ArchivedI64 as Portable>⟧.shape no_part) no_variant)))
+        (⟦<Number as Archive>⟧.keys v) (⟦<Number as Archive>⟧.meaning v) (planned_of_number v) };
+
+    #[inline(always)]
+    fn archived_metadata(&self) -> Result<(), Error> {
+        Ok(())
+    }
+}
+
+impl<S: Writer + ResolverAlloc> SerializeUnsized<S> for Number {
+    #[inline(always)]
+    fn serialize_unsized(&self, serializer: &mut S) -> Result<usize, Error> {
+        serialize_one(self, serializer)
+    }
+}
+
+impl<D: Entries> Deserialize<Number, D> for ArchivedNumber {
+    #[inline(always)]
+    fn deserialize_part(
+        alloc: Global,
+        part: RawView<'_>,
+        deserializer: &mut D,
+    ) -> Result<Number, Error>
+        requires { IsPartOf ⟦<Self as ArchivePointee>⟧ part }
+        ensures { ReadsAs ⟦<Self as ArchivePointee>⟧ part D.Entries deserializer
+            ⟦<Number as Archive>⟧ result }
+    {
+        match known_tag::<Self>(part) {
+            0 => match read_case::<Self, (), (), D>(0, alloc, part, deserializer) {
+                Ok(()) => Ok(Number::TooLarge),
+                Err(error) => Err(error),
+            },
+            _ => match read_case::<Self, NumberWholeParts, NumberWholeOwned, D>(
+                1,
+                alloc,
+                part,
+                deserializer,
+            ) {
+                Ok((a0, ())) => Ok(Number::Whole(a0)),
+                Err(error) => Err(error),
+            },
+        }
+    }
+}
+
+/// What a view of an archived `Number` shows, by its tag.
+#[derive(Drop)]
+pub enum ViewOfNumber<'a> {
+    /// One that is too large.
+    TooLarge,
+    /// A whole one.
+    Whole(Ref<'a, ArchivedI64>),
+}
+
+/// The variant of an archived `Number`, as a view.
+pub trait NumberView<'a> {
+    /// The variant that the tag names, with views of its fields.
+    fn variant(self) -> ViewOfNumber<'a>;
+}
+
+impl<'a> NumberView<'a> for Ref<'a, ArchivedNumber> {
+    ghost use Rattle.recursive_holders.specs.declared.json.ViewOfNumber.TheVariants.{TooLarge as NumberTooLargeShown, Whole as NumberWholeShown};
+
+    fn variant(self) -> ViewOfNumber<'a>
+        ensures shows { elim result [
+          | NumberTooLargeShown ↦ (tag_of self.entry ≡ 0)
+          | NumberWholeShown a0 ↦ (tag_of self.entry ≡ 1) × (a0.bytes.now ≡ self.entry.bytes.now)
+              × (a0.pos ≡ self.entry.pos + 8) × (a0.len ≡ 0)
+              × ShowsValueOf a0 self.entry (payload_in 0)
+        ] }
+    {
+        match tag_in(self) {
+            0 => ViewOfNumber::TooLarge,
+            _ => ViewOfNumber::Whole(part_in_case::<ArchivedNumber, ArchivedI64>(self, 1, 0, 8)),
+        }
+    }
+}
+
+/// The fields of an archived `Number`, as seals. The caller must ensure that the tag is the variant's.
+pub trait NumberSeal<'a> {
+    // The seal shows a part of a buffer that was checked.
+    ghost sealed: { Self → Type 0 };
+
+    // The tag that it shows.
+    ghost tag: { Self → ℕ };
+
+    /// The field `0` of `Whole`.
+    fn whole_0_mut(self) -> Seal<'a, ArchivedI64>
+        requires come_to { sealed self }
+        requires tag { tag self ≡ 1 };
+}
+
+impl<'a> NumberSeal<'a> for Seal<'a, ArchivedNumber> {
+    ghost sealed = { λ s. IsSealOf no_definition (one ⟦<ArchivedNumber as Portable>⟧.shape) s };
+
+    ghost tag = { λ s. seal_tag s };
+
+    fn whole_0_mut(self) -> Seal<'a, ArchivedI64>
+        requires come_to { IsSealOf no_definition (one ⟦<ArchivedNumber as Portable>⟧.shape) self }
+        requires tag { seal_tag self ≡ 1 }
+        ensures { SealsPart no_definition (one ⟦<ArchivedNumber as Portable>⟧.shape) no_definition
+            ⟦<ArchivedI64 as ArchivePointee>⟧.pointee (self.entry.pos + 8) 0 self.entry result }
+    {
+        sealed_part_in_case::<ArchivedNumber, ArchivedI64>(self, 1, 0, 8)
+    }
+}
+
+/// An archived `Message`: 64 bytes at a multiple of 8. It is validated by its schema.
+pub struct ArchivedMessage;
+
+type MessageTextParts = (ArchivedString, ());
+
+type MessageSentParts = (ArchivedJson, (ArchivedOption<ArchivedJson>, ()));
+
+type MessageListedParts = (u8, (ArchivedVec<ArchivedJson>, ()));
+
+type MessageVariants = (
+    (),
+    (
+        MessageTextParts,
+        (MessageSentParts, (MessageListedParts, ())),
+    ),
+);
+
+impl ArchivePointee for ArchivedMessage {
+    type ArchivedMetadata = ();
+
+    ghost pointee = { one message_shape };
+
+    ghost definitions = { message_definitions };
+
+    ghost metadata_length = { λ _. 0 };
+
+    fn pointer_metadata(_metadata: &()) -> usize {
+        0
+    }
+}
+
+impl Portable for ArchivedMessage {
+    ghost shape = { message_shape };
+
+    ghost layout = { message_layout };
+
+    type Check = BySchema;
+
+    ghost is_one = { refl };
+
+    ghost is_align = { message_is_align };
+
+    ghost has_layout = { message_has_layout };
+
+    ghost no_others = { message_no_others };
+
+    ghost checks = { λ direct. by_schema direct };
+
+    fn size() -> usize {
+        64
+    }
+
+    fn align() -> usize {
+        8
+    }
+
+    fn expr(alloc: Global) -> Result<archive_core::shape::Expr, Error> {
+        expr_of_choice::<MessageVariants>(alloc, "ArchivedMessage")
+    }
+
+    fn define(alloc: Global, defs: &mut Defs) -> Result<(), Error> {
+        <MessageVariants as PortableVariants>::define(alloc, defs)
+    }
+}
+
+impl Choice for ArchivedMessage {
+    type Variants = MessageVariants;
+
+    ghost name = { message_name };
+
+    ghost has_variants = { message_has_variants };
+
+    ghost holds = { lit≤ tt };
+}
+
+/// What is kept of `Message` between `serialize` and `resolve`.
+#[derive(Drop)]
+pub enum MessageResolver {
+    /// Of `Nothing`.
+    Nothing,
+    /// Of `Text`.
+    Text((<String as Archive>::Resolver, ())),
+    /// Of `Sent`.
+    Sent(
+        (
+            <Json as Archive>::Resolver,
+            (<Option<Json> as Archive>::Resolver, ()),
+        ),
+    ),
+    /// Of `Listed`.
+    Listed(
+        (
+            <u8 as Archive>::Resolver,
+            (<Vec<Json> as Archive>::Resolver, ()),
+        ),
+    ),
+}
+
+impl Archive for Message {
+    ghost use Rattle.recursive_holders.specs.MessageMeaning.{message_meaning, message_flat, message_keys, message_belongs, message_keyed, message_planned};
+
+    type Archived = ArchivedMessage;
+
+    type Resolver = MessageResolver;
+
+    ghost meaning = { message_meaning };
+
+    ghost flat = { message_flat };
+
+    ghost keys = { message_keys };
+
+    ghost belongs = { message_belongs };
+
+    ghost in_bulk = { None };
+
+    ghost keyed = { message_keyed };
+
+    ghost planned = { message_planned };
+
+    #[inline(always)]
+    fn resolve(
+        &self,
+        resolver: Self::Resolver,
+        place: Place<'_, Self::Archived>,
+    ) -> Result<(), Error>
+        requires zeroed { ZeroedPlace 64 place.pos place.bytes.now }
+        requires same_value { ⟦<Self as Archive>⟧.belongs self.now resolver }
+        ensures { ResolvesAs ⟦<Self::Archived as Portable>⟧ place
+            (⟦<Self as Archive>⟧.flat self.now resolver) result }
+    {
+        let Place { bytes, pos, .. } = place;
+        match self {
+            Message::Nothing => {
+                resolve_named_case_0::<ArchivedMessage>(0, (), Place::new(pos, bytes))
+            }
+            Message::Text(a0) => {
+                let MessageResolver::Text(kept) = resolver else {
+                    unreachable!();
+                };
+                resolve_named_case_1::<String, ArchivedMessage>(1, a0, kept, Place::new(pos, bytes))
+            }
+            Message::Sent(a0, a1) => {
+                let MessageResolver::Sent(kept) = resolver else {
+                    unreachable!();
+                };
+                resolve_named_case_2::<Json, Option<Json>, ArchivedMessage>(
+                    2,
+                    a0,
+                    a1,
+                    kept,
+                    Place::new(pos, bytes),
+                )
+            }
+            Message::Listed {
+                others: a0,
+                documents: a1,
+            } => {
+                let MessageResolver::Listed(kept) = resolver else {
+                    unreachable!();
+                };
+                resolve_named_case_2::<u8, Vec<Json>, ArchivedMessage>(
+                    3,
+                    a0,
+                    a1,
+                    kept,
+                    Place::new(pos, bytes),
+                )
+            }
+        }
+    }
+
+    #[inline(always)]
+    fn copy_optimization() -> CopyOptimization<Self> {
+        CopyOptimization::disable()
+    }
+
+    #[inline(always)]
+    fn serialize_copied<S: Writer + Keys>(
+        _values: &[Self],
+        _together: usize,
+        _serializer: &mut S,
+    ) -> Result<Option<usize>, Error> {
+        Ok(None)
+    }
+}
+
+// Writes what the parts of `Text` own, in order.
+fn serialize_message_text<S: Writer + Keys + ResolverAlloc>(
+    a0: &String,
+    serializer: &mut S,
+) -> Result<(<String as Archive>::Resolver, ()), Error>
+    ensures serialized { IfOk result (λ r. Serialized message_definitions message_shape
+        (⟦<String as Archive>⟧.keys a0.now ++ []) (case 1
+        (value (⟦<String as Archive>⟧.meaning a0.now) no_value))
+        (case 1 (value (⟦<String as Archive>⟧.flat a0.now r.0) no_value)) (S.state serializer.old)
+        (S.state serializer.new)) }
+    ensures same_values { IfOk result (λ r. ⟦<String as Archive>⟧.belongs a0.now r.0 × Unit {0}) }
+    ensures goes_on { GoesOn (S.state serializer.old) (S.state serializer.new) }
+    ensures refused { IfErr result (IsRefused message_definitions message_shape
+        (⟦<String as Archive>⟧.keys a0.now ++ []) (case 1
+        (value (⟦<String as Archive>⟧.meaning a0.now) no_value)) (S.state serializer.old)
+        (S.state serializer.new)) }
+{
+    let a0 = match serialize_part(a0, serializer) {
+        Ok(a0) => a0,
+        Err(error) => return Err(error),
+    };
+    Ok((a0, ()))
+}
+
+// Writes what the parts of `Sent` own, in order.
+fn serialize_message_sent<S: Writer + Keys + ResolverAlloc>(
+    a0: &Json,
+    a1: &Option<Json>,
+    serializer: &mut S,
+) -> Result<
+    (
+        <Json as Archive>::Resolver,
+        (<Option<Json> as Archive>::Resolver, ()),
+    ),
+    Error,
+>
+    ensures serialized { IfOk result (λ r. Serialized message_definitions message_shape
+        (⟦<Json as Archive>⟧.keys a0.now ++ (⟦<Option<Json> as Archive>⟧.keys a1.now ++ []))
+        (case 2 (value (⟦<Json as Archive>⟧.meaning a0.now)
+        (value (⟦<Option<Json> as Archive>⟧.meaning a1.now) no_value)))
+        (case 2 (value (⟦<Json as Archive>⟧.flat a0.now r.0)
+        (value (⟦<Option<Json> as Archive>⟧.flat a1.now r.1.0) no_value))) (S.state serializer.old)
+        (S.state serializer.new)) }
+    ensures same_values { IfOk result (λ r. ⟦<Json as Archive>⟧.belongs a0.now r.0
+        × (⟦<Option<Json> as Archive>⟧.belongs a1.now r.1.0 × Unit {0})) }
+    ensures goes_on { GoesOn (S.state serializer.old) (S.state serializer.new) }
+    ensures refused { IfErr result (IsRefused message_definitions message_shape
+        (⟦<Json as Archive>⟧.keys a0.now ++ (⟦<Option<Json> as Archive>⟧.keys a1.now ++ []))
+        (case 2 (value (⟦<Json as Archive>⟧.meaning a0.now)
+        (value (⟦<Option<Json> as Archive>⟧.meaning a1.now) no_value))) (S.state serializer.old)
+        (S.state serializer.new)) }
+{
+    let a0 = match serialize_part(a0, serializer) {
+        Ok(a0) => a0,
+        Err(error) => return Err(error),
+    };
+    let a1 = match serialize_part(a1, serializer) {
+        Ok(a1) => a1,
+        Err(error) => return Err(error),
+    };
+    Ok((a0, (a1, ())))
+}
+
+// Writes what the parts of `Listed` own, in order.
+fn serialize_message_listed<S: Writer + Keys + ResolverAlloc>(
+    a0: &u8,
+    a1: &Vec<Json>,
+    serializer: &mut S,
+) -> Result<
+    (
+        <u8 as Archive>::Resolver,
+        (<Vec<Json> as Archive>::Resolver, ()),
+    ),
+    Error,
+>
+    ensures serialized { IfOk result (λ r. Serialized message_definitions message_shape
+        (⟦<u8 as Archive>⟧.keys a0.now ++ (⟦<Vec<Json> as Archive>⟧.keys a1.now ++ []))
+        (case 3 (value (⟦<u8 as Archive>⟧.meaning a0.now)
+        (value (⟦<Vec<Json> as Archive>⟧.meaning a1.now) no_value)))
+        (case 3 (value (⟦<u8 as Archive>⟧.flat a0.now r.0)
+        (value (⟦<Vec<Json> as Archive>⟧.flat a1.now r.1.0) no_value))) (S.state serializer.old)
+        (S.state serializer.new)) }
+    ensures same_values { IfOk result (λ r. ⟦<u8 as Archive>⟧.belongs a0.now r.0
+        × (⟦<Vec<Json> as Archive>⟧.belongs a1.now r.1.0 × Unit {0})) }
+    ensures goes_on { GoesOn (S.state serializer.old) (S.state serializer.new) }
+    ensures refused { IfErr result (IsRefused message_definitions message_shape
+        (⟦<u8 as Archive>⟧.keys a0.now ++ (⟦<Vec<Json> as Archive>⟧.keys a1.now ++ []))
+        (case 3 (value (⟦<u8 as Archive>⟧.meaning a0.now)
+        (value (⟦<Vec<Json> as Archive>⟧.meaning a1.now) no_value))) (S.state serializer.old)
+        (S.state serializer.new)) }
+{
+    let a0 = match serialize_part(a0, serializer) {
+        Ok(a0) => a0,
+        Err(error) => return Err(error),
+    };
+    let a1 = match serialize_part(a1, serializer) {
+        Ok(a1) => a1,
+        Err(error) => return Err(error),
+    };
+    Ok((a0, (a1, ())))
+}
+
+// Writes what a value owns.
+fn serialize_message<S: Writer + Keys + ResolverAlloc>(
+    value: &Message,
+    serializer: &mut S,
+) -> Result<MessageResolver, Error>
+    ensures serialized { IfOk result (λ r. Serialized message_definitions message_shape
+        (⟦<Message as Archive>⟧.keys value.now) (⟦<Message as Archive>⟧.meaning value.now)
+        (⟦<Message as Archive>⟧.flat value.now r) (S.state serializer.old)
+        (S.state serializer.new)) }
+    ensures same_value { IfOk result (λ r. ⟦<Message as Archive>⟧.belongs value.now r) }
+    ensures goes_on { GoesOn (S.state serializer.old) (S.state serializer.new) }
+    ensures refused { IfErr result (IsRefused message_definitions message_shape
+        (⟦<Message as Archive>⟧.keys value.now) (⟦<Message as Archive>⟧.meaning value.now)
+        (S.state serializer.old) (S.state serializer.new)) }
+{
+    match value {
+        Message::Nothing => Ok(MessageResolver::Nothing),
+        Message::Text(a0) => match serialize_message_text(a0, serializer) {
+            Ok(kept) => Ok(MessageResolver::Text(kept)),
+            Err(error) => Err(error),
+        },
+        Message::Sent(a0, a1) => match serialize_message_sent(a0, a1, serializer) {
+            Ok(kept) => Ok(MessageResolver::Sent(kept)),
+            Err(error) => Err(error),
+        },
+        Message::Listed {
+            others: a0,
+            documents: a1,
+        } => match serialize_message_listed(a0, a1, serializer) {
+            Ok(kept) => Ok(MessageResolver::Listed(kept)),
+            Err(error) => Err(error),
+        },
+    }
+}
+
+impl<S: Writer + Keys + ResolverAlloc> Serialize<S> for Message {
+    #[inline(always)]
+    fn serialize(&self, serializer: &mut S) -> Result<Self::Resolver, Error> {
+        serialize_message(self, serializer)
+    }
+}
+
+/// As a region of its own: the value itself.
+impl ArchiveUnsized for Message {
+    ghost use Rattle.recursive_holders.specs.contracts.json.MessageArchive.TheImpl.Laws.{keyed-law as keyed_of_message, planned-law as planned_of_message};
+
+    type Archived = ArchivedMessage;
+
+    ghost source_length = { λ _. 0 };
+
+    ghost meaning = { ⟦<Message as Archive>⟧.meaning };
+
+    ghost keys = { ⟦<Message as Archive>⟧.keys };
+
+    ghost keyed = { keyed_of_message };
+
+    ghost one_length = { λ _ _. refl };
+
+    ghost planned = { λ v. one_planned message_definitions message_shape
+        (⟦<Message as Archive>⟧.keys v) (⟦<Message as Archive>⟧.meaning v) (planned_of_message v) };
+
+    #[inline(always)]
+    fn archived_metadata(&self) -> Result<(), Error> {
+        Ok(())
+    }
+}
+
+impl<S: Writer + Keys + ResolverAlloc> SerializeUnsized<S> for Message {
+    #[inline(always)]
+    fn serialize_unsized(&self, serializer: &mut S) -> Result<usize, Error> {
+        serialize_one(self, serializer)
+    }
+}
+
+// Reads `Nothing` back.
+#[inline(always)]
+fn read_message_nothing<D: Entries>(
+    _alloc: Global,
+    part: RawView<'_>,
+    _deserializer: &mut D,
+) -> Result<Message, Error>
+    requires viewed { IsPartOf ⟦<ArchivedMessage as ArchivePointee>⟧ part }
+    requires tag { part_tag part ≡ 0 }
+    ensures read { IfOk result (Read ⟦<ArchivedMessage as ArchivePointee>⟧ part D.Entries
+        _deserializer ⟦<Message as Archive>⟧) }
+    ensures refused { IfErr result (RefusesPart ⟦<ArchivedMessage as ArchivePointee>⟧ part D.Entries
+        _deserializer) }
+{
+    Ok(Message::Nothing)
+}
+
+// Reads `Text` back.
+#[inline(always)]
+fn read_message_text<D: Entries>(
+    alloc: Global,
+    part: RawView<'_>,
+    deserializer: &mut D,
+) -> Result<Message, Error>
+    requires viewed { IsPartOf ⟦<ArchivedMessage as ArchivePointee>⟧ part }
+    requires tag { part_tag part ≡ 1 }
+    ensures read { IfOk result (Read ⟦<ArchivedMessage as ArchivePointee>⟧ part D.Entries
+        deserializer ⟦<Message as Archive>⟧) }
+    ensures refused { IfErr result (RefusesPart ⟦<ArchivedMessage as ArchivePointee>⟧ part D.Entries
+        deserializer) }
+{
+    let p0 = part_of_variant::<ArchivedMessage, ArchivedString>(part, 1, 0, 4);
+    let a0 = read_part::<ArchivedString, String, D>(alloc, p0, deserializer)?;
+    Ok(Message::Text(a0))
+}
+
+// Reads `Sent` back.
+#[inline(always)]
+fn read_message_sent<D: Entries>(
+    alloc: Global,
+    part: RawView<'_>,
+    deserializer: &mut D,
+) -> Result<Message, Error>
+    requires viewed { IsPartOf ⟦<ArchivedMessage as ArchivePointee>⟧ part }
+    requires tag { part_tag part ≡ 2 }
+    ensures read { IfOk result (Read ⟦<ArchivedMessage as ArchivePointee>⟧ part D.Entries
+        deserializer ⟦<Message as Archive>⟧) }
+    ensures refused { IfErr result (RefusesPart ⟦<ArchivedMessage as ArchivePointee>⟧ part D.Entries
+        deserializer) }
+{
+    let p0 = part_of_variant::<ArchivedMessage, ArchivedJson>(part, 2, 0, 8);
+    let a0 = read_part::<ArchivedJson, Json, D>(alloc, p0, deserializer)?;
+    let p1 = part_of_variant::<ArchivedMessage, ArchivedOption<ArchivedJson>>(part, 2, 1, 32);
+    let a1 = read_part::<ArchivedOption<ArchivedJson>, Option<Json>, D>(alloc, p1, deserializer)?;
+    Ok(Message::Sent(a0, a1))
+}
+
+// Reads `Listed` back.
+#[inline(always)]
+fn read_message_listed<D: Entries>(
+    alloc: Global,
+    part: RawView<'_>,
+    deserializer: &mut D,
+) -> Result<Message, Error>
+    requires viewed { IsPartOf ⟦<ArchivedMessage as ArchivePointee>⟧ part }
+    requires tag { part_tag part ≡ 3 }
+    ensures read { IfOk result (Read ⟦<ArchivedMessage as ArchivePointee>⟧ part D.Entries
+        deserializer ⟦<Message as Archive>⟧) }
+    ensures refused { IfErr result (RefusesPart ⟦<ArchivedMessage as ArchivePointee>⟧ part D.Entries
+        deserializer) }
+{
+    let p0 = part_of_variant::<ArchivedMessage, u8>(part, 3, 0, 1);
+    let a0 = read_part::<u8, u8, D>(alloc, p0, deserializer)?;
+    let p1 = part_of_variant::<ArchivedMessage, ArchivedVec<ArchivedJson>>(part, 3, 1, 4);
+    let a1 = read_part::<ArchivedVec<ArchivedJson>, Vec<Json>, D>(alloc, p1, deserializer)?;
+    Ok(Message::Listed {
+        others: a0,
+        documents: a1,
+    })
+}
+
+// Reads a value back.
+#[inline(always)]
+fn read_message<D: Entries>(
+    alloc: Global,
+    part: RawView<'_>,
+    deserializer: &mut D,
+) -> Result<Message, Error>
+    requires { IsPartOf ⟦<ArchivedMessage as ArchivePointee>⟧ part }
+    ensures read { IfOk result (Read ⟦<ArchivedMessage as ArchivePointee>⟧ part D.Entries
+        deserializer ⟦<Message as Archive>⟧) }
+    ensures refused { IfErr result (RefusesPart ⟦<ArchivedMessage as ArchivePointee>⟧ part D.Entries
+        deserializer) }
+{
+    match tag_of_choice::<ArchivedMessage>(part) {
+        0 => read_message_nothing(alloc, part, deserializer),
+        1 => read_message_text(alloc, part, deserializer),
+        2 => read_message_sent(alloc, part, deserializer),
+        _ => read_message_listed(alloc, part, deserializer),
+    }
+}
+
+impl<D: Entries> Deserialize<Message, D> for ArchivedMessage {
+    #[inline(always)]
+    fn deserialize_part(
+        alloc: Global,
+        part: RawView<'_>,
+        deserializer: &mut D,
+    ) -> Result<Message, Error>
+        requires { IsPartOf ⟦<Self as ArchivePointee>⟧ part }
+        ensures { ReadsAs ⟦<Self as ArchivePointee>⟧ part D.Entries deserializer
+            ⟦<Message as Archive>⟧ result }
+    {
+        read_message(alloc, part, deserializer)
+    }
+}
+
+/// What a view of an archived `Message` shows, by its tag.
+#[derive(Drop)]
+pub enum ViewOfMessage<'a> {
+    /// Nothing.
+    Nothing,
+    /// A text.
+    Text(Ref<'a, ArchivedString>),
+    /// A document, and one that it replaces.
+    Sent(Ref<'a, ArchivedJson>, Ref<'a, ArchivedOption<ArchivedJson>>),
+    /// Several documents, and how many were left out.
+    Listed {
+        /// How many.
+        others: Ref<'a, u8>,
+        /// The documents.
+        documents: Ref<'a, ArchivedVec<ArchivedJson>>,
+    },
+}
+
+/// The variant of an archived `Message`, as a view.
+pub trait MessageView<'a> {
+    /// The variant that the tag names, with views of its fields.
+    fn variant(self) -> ViewOfMessage<'a>;
+}
+
+impl<'a> MessageView<'a> for Ref<'a, ArchivedMessage> {
+    ghost use Rattle.recursive_holders.specs.declared.json.ViewOfMessage.TheVariants.{Listed as MessageListedShown, Nothing as MessageNothingShown, Sent as MessageSentShown, Text as MessageTextShown};
+
+    fn variant(self) -> ViewOfMessage<'a>
+        ensures shows { elim result [
+          | MessageNothingShown ↦ (tag_of self.entry ≡ 0)
+          | MessageTextShown a0 ↦ (tag_of self.entry ≡ 1) × (a0.bytes.now ≡ self.entry.bytes.now)
+              × (a0.pos ≡ self.entry.pos + 4) × (a0.len ≡ 0)
+              × ShowsValueOf a0 self.entry (payload_in 0)
+          | MessageSentShown a0 a1 ↦ (tag_of self.entry ≡ 2) × (a0.bytes.now ≡ self.entry.bytes.now)
+              × (a0.pos ≡ self.entry.pos + 8) × (a0.len ≡ 0)
+              × ShowsValueOf a0 self.entry (payload_in 0) × (a1.bytes.now ≡ self.entry.bytes.now)
+              × (a1.pos ≡ self.entry.pos + 32) × (a1.len ≡ 0)
+              × ShowsValueOf a1 self.entry (payload_in 1)
+          | MessageListedShown a0 a1 ↦ (tag_of self.entry ≡ 3)
+              × (a0.bytes.now ≡ self.entry.bytes.now) × (a0.pos ≡ self.entry.pos + 1) × (a0.len ≡ 0)
+              × ShowsValueOf a0 self.entry (payload_in 0) × (a1.bytes.now ≡ self.entry.bytes.now)
+              × (a1.pos ≡ self.entry.pos + 4) × (a1.len ≡ 0)
+              × ShowsValueOf a1 self.entry (payload_in 1)
+        ] }
+    {
+        match tag_of_view(self) {
+            0 => ViewOfMessage::Nothing,
+            1 => {
+                let a0 = view_of_payload::<ArchivedMessage, ArchivedString>(self, 1, 0, 4);
+                ViewOfMessage::Text(a0)
+            }
+            2 => {
+                let a0 = view_of_payload::<ArchivedMessage, ArchivedJson>(self, 2, 0, 8);
+                let a1 = view_of_payload::<ArchivedMessage, ArchivedOption<ArchivedJson>>(
+                    self, 2, 1, 32,
+                );
+                ViewOfMessage::Sent(a0, a1)
+            }
+            _ => ViewOfMessage::Listed {
+                others: view_of_payload::<ArchivedMessage, u8>(self, 3, 0, 1),
+                documents: view_of_payload::<ArchivedMessage, ArchivedVec<ArchivedJson>>(
+                    self, 3, 1, 4,
+                ),
+            },
+        }
+    }
+}
+
+/// The fields of an archived `Message`, as seals. The caller must ensure that the tag is the variant's.
+pub trait MessageSeal<'a> {
+    // The seal shows a part of a buffer that was checked.
+    ghost sealed: { Self → Type 0 };
+
+    // The tag that it shows.
+    ghost tag: { Self → ℕ };
+
+    /// The field `0` of `Text`.
+    fn text_0_mut(self) -> Seal<'a, ArchivedString>
+        requires come_to { sealed self }
+        requires tag { tag self ≡ 1 };
+
+    /// The field `0` of `Sent`.
+    fn sent_0_mut(self) -> Seal<'a, ArchivedJson>
+        requires come_to { sealed self }
+        requires tag { tag self ≡ 2 };
+
+    /// The field `1` of `Sent`.
+    fn sent_1_mut(self) -> Seal<'a, ArchivedOption<ArchivedJson>>
+        requires come_to { sealed self }
+        requires tag { tag self ≡ 2 };
+
+    /// How many.
+    fn listed_others_mut(self) -> Seal<'a, u8>
+        requires come_to { sealed self }
+        requires tag { tag self ≡ 3 };
+
+    /// The documents.
+    fn listed_documents_mut(self) -> Seal<'a, ArchivedVec<ArchivedJson>>
+        requires come_to { sealed self }
+        requires tag { tag self ≡ 3 };
+}
+
+impl<'a> MessageSeal<'a> for Seal<'a, ArchivedMessage> {
+    ghost sealed = { λ s. IsSealOf message_definitions (one ⟦<ArchivedMessage as Portable>⟧.shape)
+        s };
+
+    ghost tag = { λ s. seal_tag s };
+
+    fn text_0_mut(self) -> Seal<'a, ArchivedString>
+        requires come_to { IsSealOf message_definitions (one ⟦<ArchivedMessage as Portable>⟧.shape)
+            self }
+        requires tag { seal_tag self ≡ 1 }
+        ensures { SealsPart message_definitions (one ⟦<ArchivedMessage as Portable>⟧.shape)
+            no_definition ⟦<ArchivedString as ArchivePointee>⟧.pointee (self.entry.pos + 4) 0
+            self.entry result }
+    {
+        seal_of_payload::<ArchivedMessage, ArchivedString>(self, 1, 0, 4)
+    }
+
+    fn sent_0_mut(self) -> Seal<'a, ArchivedJson>
+        requires come_to { IsSealOf message_definitions (one ⟦<ArchivedMessage as Portable>⟧.shape)
+            self }
+        requires tag { seal_tag self ≡ 2 }
+        ensures { SealsPart message_definitions (one ⟦<ArchivedMessage as Portable>⟧.shape)
+            ⟦<ArchivedJson as ArchivePointee>⟧.definitions
+            ⟦<ArchivedJson as ArchivePointee>⟧.pointee (self.entry.pos + 8) 0 self.entry result }
+    {
+        seal_of_payload::<ArchivedMessage, ArchivedJson>(self, 2, 0, 8)
+    }
+
+    fn sent_1_mut(self) -> Seal<'a, ArchivedOption<ArchivedJson>>
+        requires come_to { IsSealOf message_definitions (one ⟦<ArchivedMessage as Portable>⟧.shape)
+            self }
+        requires tag { seal_tag self ≡ 2 }
+        ensures { SealsPart message_definitions (one ⟦<ArchivedMessage as Portable>⟧.shape)
+            ⟦<ArchivedJson as ArchivePointee>⟧.definitions
+            ⟦<ArchivedOption<ArchivedJson> as ArchivePointee>⟧.pointee (self.entry.pos + 32) 0
+            self.entry result }
+    {
+        seal_of_payload::<ArchivedMessage, ArchivedOption<ArchivedJson>>(self, 2, 1, 32)
+    }
+
+    fn listed_others_mut(self) -> Seal<'a, u8>
+        requires come_to { IsSealOf message_definitions (one ⟦<ArchivedMessage as Portable>⟧.shape)
+            self }
+        requires tag { seal_tag self ≡ 3 }
+        ensures { SealsPart message_definitions (one ⟦<ArchivedMessage as Portable>⟧.shape)
+            no_definition ⟦<u8 as ArchivePointee>⟧.pointee (self.entry.pos + 1) 0 self.entry
+            result }
+    {
+        seal_of_payload::<ArchivedMessage, u8>(self, 3, 0, 1)
+    }
+
+    fn listed_documents_mut(self) -> Seal<'a, ArchivedVec<ArchivedJson>>
+        requires come_to { IsSealOf message_definitions (one ⟦<ArchivedMessage as Portable>⟧.shape)
+            self }
+        requires tag { seal_tag self ≡ 3 }
+        ensures { SealsPart message_definitions (one ⟦<ArchivedMessage as Portable>⟧.shape)
+            ⟦<ArchivedJson as ArchivePointee>⟧.definitions
+            ⟦<ArchivedVec<ArchivedJson> as ArchivePointee>⟧.pointee (self.entry.pos + 4) 0
+            self.entry result }
+    {
+        seal_of_payload::<ArchivedMessage, ArchivedVec<ArchivedJson>>(self, 3, 1, 4)
     }
 }

@@ -2,5 +2,4 @@
 #![tactic(auto)]
 
 pub mod json;
-pub mod message;
 pub mod page;

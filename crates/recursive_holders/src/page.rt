@@ -1,6 +1,6 @@
-//! Structs that hold what holds a recursive type.
+//! Structs that hold a recursive type, an enum that does, and one another.
 
-use crate::message::{Message, Topic};
+use crate::json::{Json, Message};
 
 /// A page of messages.
 #[derive(Debug, PartialEq, Drop)]
@@ -8,7 +8,7 @@ pub struct Page {
     /// Its title.
     pub title: String,
     /// What it is on.
-    pub topic: Topic,
+    pub subject: Json,
     /// What is posted on it.
     pub message: Message,
 }
@@ -16,9 +16,7 @@ pub struct Page {
 /// Pages one after another.
 #[derive(Debug, PartialEq, Drop)]
 pub struct Book {
-    /// The first page.
-    pub first: Page,
-    /// The others.
+    /// The pages.
     pub pages: Vec<Page>,
 }
 
@@ -43,11 +41,11 @@ ghost use Rattle.recursive_holders.specs.PageShape.{page_definitions, page_has_l
 ghost use Rattle.std.proofs.Common.{lit≤};
 ghost use Rattle.std.specs.Prelude.{IfErr, IfOk, None, length, refl, ◌+◌, ◌≡◌, ◌≤◌};
 
-use crate::message::{ArchivedMessage, ArchivedTopic};
+use crate::json::{ArchivedJson, ArchivedMessage};
 use archive_core::error::Error;
 use archive_core::place::Place;
 use archive_core::recursive::{
-    part_of_record, read_part, resolve_named_record_2, resolve_named_record_3, seal_of_field,
+    part_of_record, read_part, resolve_named_record_1, resolve_named_record_3, seal_of_field,
     serialize_part, view_of_field,
 };
 use archive_core::seal::Seal;
@@ -63,10 +61,10 @@ use archive_core::vec::ArchivedVec;
 use archive_core::view::{RawView, Ref};
 use std::alloc::Global;
 
-/// An archived `Page`: 64 bytes at a multiple of 4. It is validated by its schema.
+/// An archived `Page`: 96 bytes at a multiple of 8. It is validated by its schema.
 pub struct ArchivedPage;
 
-type PageParts = (ArchivedString, (ArchivedTopic, (ArchivedMessage, ())));
+type PageParts = (ArchivedString, (ArchivedJson, (ArchivedMessage, ())));
 
 impl ArchivePointee for ArchivedPage {
     type ArchivedMetadata = ();
@@ -100,11 +98,11 @@ impl Portable for ArchivedPage {
     ghost checks = { λ direct. by_schema direct };
 
     fn size() -> usize {
-        64
+        96
     }
 
     fn align() -> usize {
-        4
+        8
     }
 
     fn expr(alloc: Global) -> Result<archive_core::shape::Expr, Error> {
@@ -130,7 +128,7 @@ pub struct PageResolver {
     kept: (
         <String as Archive>::Resolver,
         (
-            <Topic as Archive>::Resolver,
+            <Json as Archive>::Resolver,
             (<Message as Archive>::Resolver, ()),
         ),
     ),
@@ -163,7 +161,7 @@ impl Archive for Page {
         resolver: Self::Resolver,
         place: Place<'_, Self::Archived>,
     ) -> Result<(), Error>
-        requires zeroed { ZeroedPlace 64 place.pos place.bytes.now }
+        requires zeroed { ZeroedPlace 96 place.pos place.bytes.now }
         requires same_value { ⟦<Self as Archive>⟧.belongs self.now resolver }
         ensures { ResolvesAs ⟦<Self::Archived as Portable>⟧ place
             (⟦<Self as Archive>⟧.flat self.now resolver) result }
@@ -171,9 +169,9 @@ impl Archive for Page {
         let Place { bytes, pos, .. } = place;
         let PageResolver { kept } = resolver;
         let (r0, (r1, (r2, ()))) = kept;
-        resolve_named_record_3::<String, Topic, Message, ArchivedPage>(
+        resolve_named_record_3::<String, Json, Message, ArchivedPage>(
             &self.title,
-            &self.topic,
+            &self.subject,
             &self.message,
             (r0, (r1, (r2, ()))),
             Place::new(pos, bytes),
@@ -213,7 +211,7 @@ fn serialize_page<S: Writer + Keys + ResolverAlloc>(
         Ok(a0) => a0,
         Err(error) => return Err(error),
     };
-    let a1 = match serialize_part(&value.topic, serializer) {
+    let a1 = match serialize_part(&value.subject, serializer) {
         Ok(a1) => a1,
         Err(error) => return Err(error),
     };
@@ -280,13 +278,13 @@ fn read_page<D: Entries>(
 {
     let p0 = part_of_record::<ArchivedPage, ArchivedString>(part, 0, 0);
     let a0 = read_part::<ArchivedString, String, D>(alloc, p0, deserializer)?;
-    let p1 = part_of_record::<ArchivedPage, ArchivedTopic>(part, 1, 8);
-    let a1 = read_part::<ArchivedTopic, Topic, D>(alloc, p1, deserializer)?;
-    let p2 = part_of_record::<ArchivedPage, ArchivedMessage>(part, 2, 24);
+    let p1 = part_of_record::<ArchivedPage, ArchivedJson>(part, 1, 8);
+    let a1 = read_part::<ArchivedJson, Json, D>(alloc, p1, deserializer)?;
+    let p2 = part_of_record::<ArchivedPage, ArchivedMessage>(part, 2, 32);
     let a2 = read_part::<ArchivedMessage, Message, D>(alloc, p2, deserializer)?;
     Ok(Page {
         title: a0,
-        topic: a1,
+        subject: a1,
         message: a2,
     })
 }
@@ -312,7 +310,7 @@ pub trait PageView<'a> {
     fn title(self) -> Ref<'a, ArchivedString>;
 
     /// What it is on.
-    fn topic(self) -> Ref<'a, ArchivedTopic>;
+    fn subject(self) -> Ref<'a, ArchivedJson>;
 
     /// What is posted on it.
     fn message(self) -> Ref<'a, ArchivedMessage>;
@@ -328,22 +326,22 @@ impl<'a> PageView<'a> for Ref<'a, ArchivedPage> {
         view_of_field::<ArchivedPage, ArchivedString>(self, 0, 0)
     }
 
-    fn topic(self) -> Ref<'a, ArchivedTopic>
+    fn subject(self) -> Ref<'a, ArchivedJson>
         ensures buffer { result.bytes.now ≡ self.entry.bytes.now }
         ensures position { result.pos ≡ self.entry.pos + 8 }
         ensures length { result.len ≡ 0 }
         ensures shows { ShowsValueOf result self.entry (field_in 1) }
     {
-        view_of_field::<ArchivedPage, ArchivedTopic>(self, 1, 8)
+        view_of_field::<ArchivedPage, ArchivedJson>(self, 1, 8)
     }
 
     fn message(self) -> Ref<'a, ArchivedMessage>
         ensures buffer { result.bytes.now ≡ self.entry.bytes.now }
-        ensures position { result.pos ≡ self.entry.pos + 24 }
+        ensures position { result.pos ≡ self.entry.pos + 32 }
         ensures length { result.len ≡ 0 }
         ensures shows { ShowsValueOf result self.entry (field_in 2) }
     {
-        view_of_field::<ArchivedPage, ArchivedMessage>(self, 2, 24)
+        view_of_field::<ArchivedPage, ArchivedMessage>(self, 2, 32)
     }
 }
 
@@ -357,7 +355,7 @@ pub trait PageSeal<'a> {
         requires { sealed self };
 
     /// What it is on.
-    fn topic_mut(self) -> Seal<'a, ArchivedTopic>
+    fn subject_mut(self) -> Seal<'a, ArchivedJson>
         requires { sealed self };
 
     /// What is posted on it.
@@ -376,30 +374,30 @@ impl<'a> PageSeal<'a> for Seal<'a, ArchivedPage> {
         seal_of_field::<ArchivedPage, ArchivedString>(self, 0, 0)
     }
 
-    fn topic_mut(self) -> Seal<'a, ArchivedTopic>
+    fn subject_mut(self) -> Seal<'a, ArchivedJson>
         requires come_to { IsSealOf page_definitions (one ⟦<ArchivedPage as Portable>⟧.shape) self }
         ensures { SealsPart page_definitions (one ⟦<ArchivedPage as Portable>⟧.shape)
-            ⟦<ArchivedTopic as ArchivePointee>⟧.definitions
-            ⟦<ArchivedTopic as ArchivePointee>⟧.pointee (self.entry.pos + 8) 0 self.entry result }
+            ⟦<ArchivedJson as ArchivePointee>⟧.definitions
+            ⟦<ArchivedJson as ArchivePointee>⟧.pointee (self.entry.pos + 8) 0 self.entry result }
     {
-        seal_of_field::<ArchivedPage, ArchivedTopic>(self, 1, 8)
+        seal_of_field::<ArchivedPage, ArchivedJson>(self, 1, 8)
     }
 
     fn message_mut(self) -> Seal<'a, ArchivedMessage>
         requires come_to { IsSealOf page_definitions (one ⟦<ArchivedPage as Portable>⟧.shape) self }
         ensures { SealsPart page_definitions (one ⟦<ArchivedPage as Portable>⟧.shape)
             ⟦<ArchivedMessage as ArchivePointee>⟧.definitions
-            ⟦<ArchivedMessage as ArchivePointee>⟧.pointee (self.entry.pos + 24) 0 self.entry
+            ⟦<ArchivedMessage as ArchivePointee>⟧.pointee (self.entry.pos + 32) 0 self.entry
             result }
     {
-        seal_of_field::<ArchivedPage, ArchivedMessage>(self, 2, 24)
+        seal_of_field::<ArchivedPage, ArchivedMessage>(self, 2, 32)
     }
 }
 
-/// An archived `Book`: 72 bytes at a multiple of 4. It is validated by its schema.
+/// An archived `Book`: 8 bytes at a multiple of 4. It is validated by its schema.
 pub struct ArchivedBook;
 
-type BookParts = (ArchivedPage, (ArchivedVec<ArchivedPage>, ()));
+type BookParts = (ArchivedVec<ArchivedPage>, ());
 
 impl ArchivePointee for ArchivedBook {
     type ArchivedMetadata = ();
@@ -433,7 +431,7 @@ impl Portable for ArchivedBook {
     ghost checks = { λ direct. by_schema direct };
 
     fn size() -> usize {
-        72
+        8
     }
 
     fn align() -> usize {
@@ -460,10 +458,7 @@ impl Record for ArchivedBook {
 /// What is kept of `Book` between `serialize` and `resolve`.
 #[derive(Drop)]
 pub struct BookResolver {
-    kept: (
-        <Page as Archive>::Resolver,
-        (<Vec<Page> as Archive>::Resolver, ()),
-    ),
+    kept: (<Vec<Page> as Archive>::Resolver, ()),
 }
 
 impl Archive for Book {
@@ -493,20 +488,14 @@ impl Archive for Book {
         resolver: Self::Resolver,
         place: Place<'_, Self::Archived>,
     ) -> Result<(), Error>
-        requires zeroed { ZeroedPlace 72 place.pos place.bytes.now }
+        requires zeroed { ZeroedPlace 8 place.pos place.bytes.now }
         requires same_value { ⟦<Self as Archive>⟧.belongs self.now resolver }
         ensures { ResolvesAs ⟦<Self::Archived as Portable>⟧ place
             (⟦<Self as Archive>⟧.flat self.now resolver) result }
     {
         let Place { bytes, pos, .. } = place;
         let BookResolver { kept } = resolver;
-        let (r0, (r1, ())) = kept;
-        resolve_named_record_2::<Page, Vec<Page>, ArchivedBook>(
-            &self.first,
-            &self.pages,
-            (r0, (r1, ())),
-            Place::new(pos, bytes),
-        )
+        resolve_named_record_1::<Vec<Page>, ArchivedBook>(&self.pages, kept, Place::new(pos, bytes))
     }
 
     #[inline(always)]
@@ -538,17 +527,11 @@ fn serialize_book<S: Writer + Keys + ResolverAlloc>(
         (⟦<Book as Archive>⟧.keys value.now) (⟦<Book as Archive>⟧.meaning value.now)
         (S.state serializer.old) (S.state serializer.new)) }
 {
-    let a0 = match serialize_part(&value.first, serializer) {
+    let a0 = match serialize_part(&value.pages, serializer) {
         Ok(a0) => a0,
         Err(error) => return Err(error),
     };
-    let a1 = match serialize_part(&value.pages, serializer) {
-        Ok(a1) => a1,
-        Err(error) => return Err(error),
-    };
-    Ok(BookResolver {
-        kept: (a0, (a1, ())),
-    })
+    Ok(BookResolver { kept: (a0, ()) })
 }
 
 impl<S: Writer + Keys + ResolverAlloc> Serialize<S> for Book {
@@ -603,14 +586,9 @@ fn read_book<D: Entries>(
     ensures refused { IfErr result (RefusesPart ⟦<ArchivedBook as ArchivePointee>⟧ part D.Entries
         deserializer) }
 {
-    let p0 = part_of_record::<ArchivedBook, ArchivedPage>(part, 0, 0);
-    let a0 = read_part::<ArchivedPage, Page, D>(alloc, p0, deserializer)?;
-    let p1 = part_of_record::<ArchivedBook, ArchivedVec<ArchivedPage>>(part, 1, 64);
-    let a1 = read_part::<ArchivedVec<ArchivedPage>, Vec<Page>, D>(alloc, p1, deserializer)?;
-    Ok(Book {
-        first: a0,
-        pages: a1,
-    })
+    let p0 = part_of_record::<ArchivedBook, ArchivedVec<ArchivedPage>>(part, 0, 0);
+    let a0 = read_part::<ArchivedVec<ArchivedPage>, Vec<Page>, D>(alloc, p0, deserializer)?;
+    Ok(Book { pages: a0 })
 }
 
 impl<D: Entries> Deserialize<Book, D> for ArchivedBook {
@@ -630,30 +608,18 @@ impl<D: Entries> Deserialize<Book, D> for ArchivedBook {
 
 /// The fields of an archived `Book`, as views.
 pub trait BookView<'a> {
-    /// The first page.
-    fn first(self) -> Ref<'a, ArchivedPage>;
-
-    /// The others.
+    /// The pages.
     fn pages(self) -> Ref<'a, ArchivedVec<ArchivedPage>>;
 }
 
 impl<'a> BookView<'a> for Ref<'a, ArchivedBook> {
-    fn first(self) -> Ref<'a, ArchivedPage>
+    fn pages(self) -> Ref<'a, ArchivedVec<ArchivedPage>>
         ensures buffer { result.bytes.now ≡ self.entry.bytes.now }
         ensures position { result.pos ≡ self.entry.pos + 0 }
         ensures length { result.len ≡ 0 }
         ensures shows { ShowsValueOf result self.entry (field_in 0) }
     {
-        view_of_field::<ArchivedBook, ArchivedPage>(self, 0, 0)
-    }
-
-    fn pages(self) -> Ref<'a, ArchivedVec<ArchivedPage>>
-        ensures buffer { result.bytes.now ≡ self.entry.bytes.now }
-        ensures position { result.pos ≡ self.entry.pos + 64 }
-        ensures length { result.len ≡ 0 }
-        ensures shows { ShowsValueOf result self.entry (field_in 1) }
-    {
-        view_of_field::<ArchivedBook, ArchivedVec<ArchivedPage>>(self, 1, 64)
+        view_of_field::<ArchivedBook, ArchivedVec<ArchivedPage>>(self, 0, 0)
     }
 }
 
@@ -662,11 +628,7 @@ pub trait BookSeal<'a> {
     // The seal shows a part of a buffer that was checked.
     ghost sealed: { Self → Type 0 };
 
-    /// The first page.
-    fn first_mut(self) -> Seal<'a, ArchivedPage>
-        requires { sealed self };
-
-    /// The others.
+    /// The pages.
     fn pages_mut(self) -> Seal<'a, ArchivedVec<ArchivedPage>>
         requires { sealed self };
 }
@@ -674,22 +636,13 @@ pub trait BookSeal<'a> {
 impl<'a> BookSeal<'a> for Seal<'a, ArchivedBook> {
     ghost sealed = { λ s. IsSealOf book_definitions (one ⟦<ArchivedBook as Portable>⟧.shape) s };
 
-    fn first_mut(self) -> Seal<'a, ArchivedPage>
-        requires come_to { IsSealOf book_definitions (one ⟦<ArchivedBook as Portable>⟧.shape) self }
-        ensures { SealsPart book_definitions (one ⟦<ArchivedBook as Portable>⟧.shape)
-            ⟦<ArchivedPage as ArchivePointee>⟧.definitions
-            ⟦<ArchivedPage as ArchivePointee>⟧.pointee (self.entry.pos + 0) 0 self.entry result }
-    {
-        seal_of_field::<ArchivedBook, ArchivedPage>(self, 0, 0)
-    }
-
     fn pages_mut(self) -> Seal<'a, ArchivedVec<ArchivedPage>>
         requires come_to { IsSealOf book_definitions (one ⟦<ArchivedBook as Portable>⟧.shape) self }
         ensures { SealsPart book_definitions (one ⟦<ArchivedBook as Portable>⟧.shape)
             ⟦<ArchivedPage as ArchivePointee>⟧.definitions
-            ⟦<ArchivedVec<ArchivedPage> as ArchivePointee>⟧.pointee (self.entry.pos + 64) 0
+            ⟦<ArchivedVec<ArchivedPage> as ArchivePointee>⟧.pointee (self.entry.pos + 0) 0
             self.entry result }
     {
-        seal_of_field::<ArchivedBook, ArchivedVec<ArchivedPage>>(self, 1, 64)
+        seal_of_field::<ArchivedBook, ArchivedVec<ArchivedPage>>(self, 0, 0)
     }
 }

@@ -4,7 +4,7 @@ use Rattle.archive_core.specs.Held.{knows_both}
 use Rattle.archive_core.specs.Layout.{Layout}
 use Rattle.archive_core.specs.NamedLayout.{name_has_layout, name_reached}
 use Rattle.archive_core.specs.PartsLayout.{IsRecord, by_name, knows_none}
-use Rattle.archive_core.specs.Shape.{Name, Shape, Parts, named, parts, boxed, array, vec, run, text, leaf, unsigned, part, no_part, number as number_kind}
+use Rattle.archive_core.specs.Shape.{Name, Shape, Parts, named, parts, boxed, array, run, text, leaf, unsigned, part, no_part, number as number_kind}
 use Rattle.std.proofs.Common.{inl, inr}
 use Rattle.std.specs.Int.{w8, w16, w32}
 use Rattle.std.specs.Prelude.{refl, codes}
@@ -16,7 +16,7 @@ abbrev pub rule_shape : Shape
 rule_shape = named rule_name
 
 abbrev pub rule_parts : Parts
-rule_parts = (part (boxed text) (part (array 4 (leaf (number_kind unsigned w8))) (part (boxed (run (leaf (number_kind unsigned w16)))) (part (leaf (number_kind unsigned w32)) (part (vec rule_shape) no_part)))))
+rule_parts = (part (boxed text) (part (array 4 (leaf (number_kind unsigned w8))) (part (boxed (run (leaf (number_kind unsigned w16)))) (part (leaf (number_kind unsigned w32)) (part (boxed (run rule_shape)) no_part)))))
 
 abbrev pub rule_stands_for : Shape
 rule_stands_for = parts rule_parts

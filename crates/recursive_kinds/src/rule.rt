@@ -1,4 +1,4 @@
-//! Rules with parts of their own.
+//! Rules with parts of their own, which lie in a boxed slice.
 
 use archive_core::boxed::{BoxSlice, BoxStr};
 use archive_core::core_impls::OwnedArray;
@@ -15,11 +15,12 @@ pub struct Rule {
     /// How many lines it has.
     pub lines: usize,
     /// Its parts, each a rule.
-    pub parts: Vec<Rule>,
+    pub parts: BoxSlice<Rule>,
 }
 
 // Below this line all is written by tools/derive: change what is above it, and run it again.
 
+ghost use Rattle.archive_core.specs.Arrays.{named_twice, no_two, twice_keyed};
 ghost use Rattle.archive_core.specs.CallOutcomes.{ResolvesAs};
 ghost use Rattle.archive_core.specs.Causes.{IsRefused};
 ghost use Rattle.archive_core.specs.Definitions.{no_definition};
@@ -28,30 +29,34 @@ ghost use Rattle.archive_core.specs.Expressions.{shape_of, shapes_in};
 ghost use Rattle.archive_core.specs.Fields.{field_in};
 ghost use Rattle.archive_core.specs.PlannedOwners.{one_planned};
 ghost use Rattle.archive_core.specs.Plans.{Serialized};
+ghost use Rattle.archive_core.specs.Readable.{target_from};
+ghost use Rattle.archive_core.specs.Reads.{u32_at};
 ghost use Rattle.archive_core.specs.Runs.{EachBelongs, IsRunRefused, SerializedRun, each_flat, each_keys, each_meaning};
 ghost use Rattle.archive_core.specs.SealsWritten.{IsSealOf, SealsPart};
 ghost use Rattle.archive_core.specs.Seen.{IsPartOf, RefusesPart, ShowsValueOf};
 ghost use Rattle.archive_core.specs.SelfCheck.Laws.{by_schema};
-ghost use Rattle.archive_core.specs.Shape.{one, part, parts, vec};
+ghost use Rattle.archive_core.specs.Shape.{boxed, one, part, parts, run, vec};
 ghost use Rattle.archive_core.specs.Sources.{Read, ReadsAs};
-ghost use Rattle.archive_core.specs.Value.{value};
-ghost use Rattle.archive_core.specs.Writing.{ZeroedPlace};
+ghost use Rattle.archive_core.specs.Value.{box, hole, list, shared_value, value};
+ghost use Rattle.archive_core.specs.WriterState.{WriterState};
+ghost use Rattle.archive_core.specs.Writing.{ZeroedPlace, to_pointee};
 ghost use Rattle.archive_core.specs.Written.{GoesOn};
 ghost use Rattle.recursive_kinds.specs.RuleShape.{rule_definitions, rule_has_layout, rule_has_parts, rule_is_align, rule_layout, rule_no_others, rule_parts, rule_shape, rule_stands_for};
 ghost use Rattle.std.proofs.Common.{lit≤};
-ghost use Rattle.std.specs.Prelude.{IfErr, IfOk, None, length, refl, ◌+◌, ◌≡◌, ◌≤◌};
+ghost use Rattle.std.specs.Prelude.{IfErr, IfOk, None, length, refl, ◌*◌, ◌+◌, ◌≡◌, ◌≤◌};
 
-use archive_core::boxed::ArchivedBox;
+use archive_core::boxed::{ArchivedBox, BoxResolver};
 use archive_core::error::Error;
+use archive_core::laws::{parts_reached, pointers_reached, unique_before};
 use archive_core::place::Place;
 use archive_core::primitive::{ArchivedU16, ArchivedUsize};
 use archive_core::recursive::{
-    VecAt, before_vec, define_name, handed_on, part_of_record, read_part, record_of,
-    resolve_named_record_5, seal_of_field, serialize_inner_slice, serialize_part, view_of_field,
+    define_name, handed_on, part_of_record, read_part, record_of, resolve_named_record_5,
+    seal_of_field, serialize_part, view_of_field,
 };
 use archive_core::seal::Seal;
 use archive_core::self_check::BySchema;
-use archive_core::ser::{ResolverAlloc, Writer, serialize_one};
+use archive_core::ser::{ResolveExt, ResolverAlloc, Writer, WriterExt, serialize_one};
 use archive_core::shape::Defs;
 use archive_core::slice::ArchivedSlice;
 use archive_core::string::ArchivedStr;
@@ -59,9 +64,9 @@ use archive_core::traits::{
     Archive, ArchivePointee, ArchiveUnsized, CopyOptimization, Deserialize, Entries, Keys,
     Portable, Record, Serialize, SerializeUnsized,
 };
-use archive_core::vec::{ArchivedVec, VecResolver};
 use archive_core::view::{RawView, Ref};
-use std::alloc::{AllocError, Global};
+use std::alloc::{AllocError, Allocator, Global};
+use std::marker::PhantomData;
 
 /// An archived `Rule`: 32 bytes at a multiple of 4. It is validated by its schema.
 pub struct ArchivedRule;
@@ -72,7 +77,10 @@ type RuleParts = (
         [u8; 4],
         (
             ArchivedBox<ArchivedSlice<ArchivedU16>>,
-            (ArchivedUsize, (ArchivedVec<ArchivedRule>, ())),
+            (
+                ArchivedUsize,
+                (ArchivedBox<ArchivedSlice<ArchivedRule>>, ()),
+            ),
         ),
     ),
 );
@@ -100,9 +108,9 @@ fn rule_expressions(alloc: Global) -> Result<Vec<archive_core::shape::Expr>, Err
     let a1 = <[u8; 4] as Portable>::expr(alloc)?;
     let a2 = <ArchivedBox<ArchivedSlice<ArchivedU16>> as Portable>::expr(alloc)?;
     let a3 = <ArchivedUsize as Portable>::expr(alloc)?;
-    let a4 = archive_core::shape::Expr::Vec(Box::new(
+    let a4 = archive_core::shape::Expr::Box(Box::new(
         alloc,
-        archive_core::shape::Expr::Named("ArchivedRule"),
+        archive_core::shape::Pointee::Run(archive_core::shape::Expr::Named("ArchivedRule")),
     )?);
     Ok(vec![in alloc; a0, a1, a2, a3, a4]?)
 }
@@ -171,10 +179,134 @@ pub struct RuleResolver {
             <OwnedArray<u8, 4> as Archive>::Resolver,
             (
                 <BoxSlice<u16> as Archive>::Resolver,
-                (<usize as Archive>::Resolver, (VecResolver, ())),
+                (<usize as Archive>::Resolver, (BoxResolver, ())),
             ),
         ),
     ),
+}
+
+// A boxed slice whose elements, of the format `X`, were written before. It can be resolved, and nothing else: it means nothing.
+#[derive(Drop)]
+struct BoxSliceAt<X> {
+    // The number of elements.
+    len: usize,
+    of: PhantomData<X>,
+}
+
+impl<X> BoxSliceAt<X> {
+    // A boxed slice of `len` elements that were written.
+    #[inline(always)]
+    fn of(len: usize) -> BoxSliceAt<X>
+        ensures { result.len ≡ len }
+    {
+        BoxSliceAt {
+            len,
+            of: PhantomData,
+        }
+    }
+}
+
+impl<X: Portable> Archive for BoxSliceAt<X> {
+    type Archived = ArchivedBox<ArchivedSlice<X>>;
+
+    type Resolver = BoxResolver;
+
+    ghost meaning = { λ _. shared_value 0 };
+
+    ghost flat = { λ b r. box (hole (to_pointee r (run X.shape) b.len)) };
+
+    ghost keys = { λ _. named_twice };
+
+    ghost belongs = { λ b _. b.len ≤ 4294967295 };
+
+    ghost in_bulk = { None };
+
+    ghost keyed = { λ _. twice_keyed };
+
+    ghost planned = { λ _ a s names known named. absurd (no_two names named) };
+
+    #[inline(always)]
+    fn resolve(
+        &self,
+        resolver: BoxResolver,
+        place: Place<'_, ArchivedBox<ArchivedSlice<X>>>,
+    ) -> Result<(), Error>
+        requires zeroed { ZeroedPlace 8 place.pos place.bytes.now }
+        requires same_value { self.now.len ≤ 4294967295 }
+        ensures { ResolvesAs ⟦<Self::Archived as Portable>⟧ place
+            (⟦<Self as Archive>⟧.flat self.now resolver) result }
+    {
+        let Place { bytes, pos, .. } = place;
+        ArchivedBox::<ArchivedSlice<X>>::resolve_from_raw_parts(
+            resolver,
+            self.len as u32,
+            Place::new(pos, bytes),
+        )
+    }
+
+    #[inline(always)]
+    fn copy_optimization() -> CopyOptimization<Self> {
+        CopyOptimization::disable()
+    }
+
+    #[inline(always)]
+    fn serialize_copied<S: Writer + Keys>(
+        _values: &[Self],
+        _together: usize,
+        _serializer: &mut S,
+    ) -> Result<Option<usize>, Error> {
+        Ok(None)
+    }
+}
+
+// Writes the region of values that were serialized, and returns the resolver of a boxed slice of them: from wherever they were, that is serialized now.
+#[inline(never)]
+fn serialize_inner_box_slice<S: Writer + ResolverAlloc, T: Archive, B: Allocator + Drop>(
+    values: &[T],
+    resolvers: Vec<T::Resolver, B>,
+    serializer: &mut S,
+) -> Result<BoxResolver, Error>
+    requires same_values { EachBelongs T.belongs values.now resolvers.items }
+    ensures boxed { IfOk result (λ t. (old : WriterState) → GoesOn old (S.state serializer.old)
+        → SerializedRun T.Archived.definitions T.Archived.shape (length values.now)
+        (each_keys T.keys values.now) (each_meaning T.meaning values.now)
+        (each_flat T.flat values.now resolvers.items) old (S.state serializer.old)
+        → Serialized T.Archived.definitions (boxed (run T.Archived.shape))
+        (each_keys T.keys values.now) (box (list (each_meaning T.meaning values.now)))
+        (box (hole (to_pointee t (run T.Archived.shape) (length values.now)))) old
+        (S.state serializer.new)) }
+    ensures goes_on { GoesOn (S.state serializer.old) (S.state serializer.new) }
+    ensures refused { IfErr result (λ e. (old : WriterState) → GoesOn old (S.state serializer.old)
+        → SerializedRun T.Archived.definitions T.Archived.shape (length values.now)
+        (each_keys T.keys values.now) (each_meaning T.meaning values.now)
+        (each_flat T.flat values.now resolvers.items) old (S.state serializer.old)
+        → IsRefused T.Archived.definitions (boxed (run T.Archived.shape))
+        (each_keys T.keys values.now) (box (list (each_meaning T.meaning values.now))) old
+        (S.state serializer.new) e) }
+{
+    let alloc = serializer.resolver_alloc();
+    WriterExt::align_for::<T::Archived>(serializer)?;
+    let pos = ResolveExt::resolve_slice_aligned(serializer, alloc, values, resolvers)?;
+    if pos > 4294967295 {
+        return Err(Error::PositionTooLarge);
+    }
+    Ok(BoxResolver::from_pos(pos))
+}
+
+// The view of a boxed slice's elements, which end before it.
+#[inline(always)]
+fn before_box_slice<X: Portable>(part: RawView<'_>) -> Ref<'_, ArchivedSlice<X>>
+    requires { IsPartOf ⟦<ArchivedBox<ArchivedSlice<X>> as ArchivePointee>⟧ part }
+    ensures buffer { result.bytes.now ≡ part.entry.bytes.now }
+    ensures position { result.pos ≡ target_from part.entry.bytes.now part.entry.pos part.entry.pos }
+    ensures length { result.len ≡ u32_at part.entry.bytes.now (part.entry.pos + 4) }
+    ensures ends { result.pos + result.len * X.layout.size ≤ part.entry.pos }
+{
+    parts_reached();
+    pointers_reached();
+    unique_before();
+    let view: Ref<'_, ArchivedBox<ArchivedSlice<X>>> = Ref::at(part);
+    view.get()
 }
 
 impl Archive for Rule {
@@ -211,13 +343,13 @@ impl Archive for Rule {
     {
         let Place { bytes, pos, .. } = place;
         let RuleResolver { kept } = resolver;
-        let h4: VecAt<ArchivedRule> = VecAt::of(self.parts.len());
+        let h4: BoxSliceAt<ArchivedRule> = BoxSliceAt::of(self.parts.items.len());
         resolve_named_record_5::<
             BoxStr,
             OwnedArray<u8, 4>,
             BoxSlice<u16>,
             usize,
-            VecAt<ArchivedRule>,
+            BoxSliceAt<ArchivedRule>,
             ArchivedRule,
         >(
             &self.words,
@@ -276,20 +408,22 @@ fn serialize_each_rule<S: Writer + Keys + ResolverAlloc<Alloc = Global>>(
     Ok(resolvers)
 }
 
-// Writes what a vector owns.
+// Writes what a boxed slice of these elements owns.
 #[cycle(serialize_rule)]
-fn serialize_vec_rule<S: Writer + Keys + ResolverAlloc<Alloc = Global>>(
+fn serialize_box_slice_rule<S: Writer + Keys + ResolverAlloc<Alloc = Global>>(
     value: &Vec<Rule>,
     serializer: &mut S,
-) -> Result<VecResolver, Error>
-    ensures serialized { IfOk result (λ r. Serialized rule_definitions (vec rule_shape)
-        (⟦<Vec<Rule> as Archive>⟧.keys value.now) (⟦<Vec<Rule> as Archive>⟧.meaning value.now)
-        (⟦<Vec<Rule> as Archive>⟧.flat value.now r) (S.state serializer.old)
-        (S.state serializer.new)) }
-    ensures same_value { IfOk result (λ r. ⟦<Vec<Rule> as Archive>⟧.belongs value.now r) }
+) -> Result<BoxResolver, Error>
+    ensures serialized { IfOk result (λ r. Serialized rule_definitions (boxed (run rule_shape))
+        (each_keys ⟦<Rule as Archive>⟧.keys value.now.items)
+        (box (list (each_meaning ⟦<Rule as Archive>⟧.meaning value.now.items)))
+        (box (hole (to_pointee r (run rule_shape) (length value.now.items))))
+        (S.state serializer.old) (S.state serializer.new)) }
+    ensures same_value { IfOk result (λ r. length value.now.items ≤ 4294967295) }
     ensures goes_on { GoesOn (S.state serializer.old) (S.state serializer.new) }
-    ensures refused { IfErr result (IsRefused rule_definitions (vec rule_shape)
-        (⟦<Vec<Rule> as Archive>⟧.keys value.now) (⟦<Vec<Rule> as Archive>⟧.meaning value.now)
+    ensures refused { IfErr result (IsRefused rule_definitions (boxed (run rule_shape))
+        (each_keys ⟦<Rule as Archive>⟧.keys value.now.items)
+        (box (list (each_meaning ⟦<Rule as Archive>⟧.meaning value.now.items)))
         (S.state serializer.old) (S.state serializer.new)) }
 {
     if value.len() > u32::MAX as usize {
@@ -300,7 +434,7 @@ fn serialize_vec_rule<S: Writer + Keys + ResolverAlloc<Alloc = Global>>(
         Ok(kept) => kept,
         Err(error) => return Err(error),
     };
-    match serialize_inner_slice(items, kept, serializer) {
+    match serialize_inner_box_slice(items, kept, serializer) {
         Ok(at) => Ok(at),
         Err(error) => Err(error),
     }
@@ -337,7 +471,7 @@ fn serialize_rule<S: Writer + Keys + ResolverAlloc<Alloc = Global>>(
         Ok(a3) => a3,
         Err(error) => return Err(error),
     };
-    let a4 = match serialize_vec_rule(&value.parts, serializer) {
+    let a4 = match serialize_box_slice_rule(&value.parts.items, serializer) {
         Ok(a4) => a4,
         Err(error) => return Err(error),
     };
@@ -385,27 +519,27 @@ impl<S: Writer + Keys + ResolverAlloc<Alloc = Global>> SerializeUnsized<S> for R
     }
 }
 
-// Reads a vector back.
+// Reads a boxed slice back.
 #[cycle(read_rule)]
-fn read_vec_rule<D: Entries>(
+fn read_box_slice_rule<D: Entries>(
     alloc: Global,
     part: RawView<'_>,
     deserializer: &mut D,
-) -> Result<Vec<Rule>, Error>
-    requires { IsPartOf ⟦<ArchivedVec<ArchivedRule> as ArchivePointee>⟧ part }
-    ensures read { IfOk result (Read ⟦<ArchivedVec<ArchivedRule> as ArchivePointee>⟧ part D.Entries
-        deserializer ⟦<Vec<Rule> as Archive>⟧) }
-    ensures refused { IfErr result (RefusesPart ⟦<ArchivedVec<ArchivedRule> as ArchivePointee>⟧ part
-        D.Entries deserializer) }
+) -> Result<BoxSlice<Rule>, Error>
+    requires { IsPartOf ⟦<ArchivedBox<ArchivedSlice<ArchivedRule>> as ArchivePointee>⟧ part }
+    ensures read { IfOk result (Read ⟦<ArchivedBox<ArchivedSlice<ArchivedRule>> as ArchivePointee>⟧
+        part D.Entries deserializer ⟦<BoxSlice<Rule> as Archive>⟧) }
+    ensures refused { IfErr result
+        (RefusesPart ⟦<ArchivedBox<ArchivedSlice<ArchivedRule>> as ArchivePointee>⟧ part D.Entries
+        deserializer) }
 {
-    let view: Ref<'_, ArchivedVec<ArchivedRule>> = Ref::at(part);
-    let list = before_vec(view);
+    let list = before_box_slice::<ArchivedRule>(part);
     let mut items = Vec::with_capacity(alloc, list.len())?;
     for index in 0..list.len() {
         let item = read_rule(alloc, list.index(index).part(), deserializer)?;
         items.push_reserved(item);
     }
-    Ok(items)
+    Ok(BoxSlice { items })
 }
 
 // Reads a value back, part by part.
@@ -436,8 +570,8 @@ fn read_rule<D: Entries>(
     )?;
     let p3 = part_of_record::<ArchivedRule, ArchivedUsize>(part, 3, 20);
     let a3 = read_part::<ArchivedUsize, usize, D>(alloc, p3, deserializer)?;
-    let p4 = part_of_record::<ArchivedRule, ArchivedVec<ArchivedRule>>(part, 4, 24);
-    let a4 = read_vec_rule(alloc, p4, deserializer)?;
+    let p4 = part_of_record::<ArchivedRule, ArchivedBox<ArchivedSlice<ArchivedRule>>>(part, 4, 24);
+    let a4 = read_box_slice_rule(alloc, p4, deserializer)?;
     Ok(Rule {
         words: a0,
         version: a1,
@@ -477,7 +611,7 @@ pub trait RuleView<'a> {
     fn lines(self) -> Ref<'a, ArchivedUsize>;
 
     /// Its parts, each a rule.
-    fn parts(self) -> Ref<'a, ArchivedVec<ArchivedRule>>;
+    fn parts(self) -> Ref<'a, ArchivedBox<ArchivedSlice<ArchivedRule>>>;
 }
 
 impl<'a> RuleView<'a> for Ref<'a, ArchivedRule> {
@@ -517,13 +651,13 @@ impl<'a> RuleView<'a> for Ref<'a, ArchivedRule> {
         view_of_field::<ArchivedRule, ArchivedUsize>(self, 3, 20)
     }
 
-    fn parts(self) -> Ref<'a, ArchivedVec<ArchivedRule>>
+    fn parts(self) -> Ref<'a, ArchivedBox<ArchivedSlice<ArchivedRule>>>
         ensures buffer { result.bytes.now ≡ self.entry.bytes.now }
         ensures position { result.pos ≡ self.entry.pos + 24 }
         ensures length { result.len ≡ 0 }
         ensures shows { ShowsValueOf result self.entry (field_in 4) }
     {
-        view_of_field::<ArchivedRule, ArchivedVec<ArchivedRule>>(self, 4, 24)
+        view_of_field::<ArchivedRule, ArchivedBox<ArchivedSlice<ArchivedRule>>>(self, 4, 24)
     }
 }
 
@@ -549,7 +683,7 @@ pub trait RuleSeal<'a> {
         requires { sealed self };
 
     /// Its parts, each a rule.
-    fn parts_mut(self) -> Seal<'a, ArchivedVec<ArchivedRule>>
+    fn parts_mut(self) -> Seal<'a, ArchivedBox<ArchivedSlice<ArchivedRule>>>
         requires { sealed self };
 }
 
@@ -590,13 +724,13 @@ impl<'a> RuleSeal<'a> for Seal<'a, ArchivedRule> {
         seal_of_field::<ArchivedRule, ArchivedUsize>(self, 3, 20)
     }
 
-    fn parts_mut(self) -> Seal<'a, ArchivedVec<ArchivedRule>>
+    fn parts_mut(self) -> Seal<'a, ArchivedBox<ArchivedSlice<ArchivedRule>>>
         requires come_to { IsSealOf rule_definitions (one ⟦<ArchivedRule as Portable>⟧.shape) self }
         ensures { SealsPart rule_definitions (one ⟦<ArchivedRule as Portable>⟧.shape)
             ⟦<ArchivedRule as ArchivePointee>⟧.definitions
-            ⟦<ArchivedVec<ArchivedRule> as ArchivePointee>⟧.pointee (self.entry.pos + 24) 0
-            self.entry result }
+            ⟦<ArchivedBox<ArchivedSlice<ArchivedRule>> as ArchivePointee>⟧.pointee
+            (self.entry.pos + 24) 0 self.entry result }
     {
-        seal_of_field::<ArchivedRule, ArchivedVec<ArchivedRule>>(self, 4, 24)
+        seal_of_field::<ArchivedRule, ArchivedBox<ArchivedSlice<ArchivedRule>>>(self, 4, 24)
     }
 }

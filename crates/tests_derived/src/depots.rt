@@ -8,8 +8,8 @@ use derived_blocks::depot::{ArchivedDepot, Depot, DepotView, ViewOfDepot};
 use std::alloc::Global;
 use std::process::Abort;
 
-// The tag 1, eight numbers, at 10 a -9, and bytes of no field.
-const HELD: &[u8; 24] = b"\x01\x01\x02\x03\x04\x05\x06\x07\x08\0\xf7\xff\0\0\0\0\0\0\0\0\0\0\0\0";
+// The tag 1, eight numbers, a -9, and bytes of no field.
+const HELD: &[u8; 24] = b"\x01\x01\x02\x03\x04\x05\x06\x07\x08\xf7\0\0\0\0\0\0\0\0\0\0\0\0\0\0";
 
 // A text. At 12 the tag 2, a 6, 9, 8, 7, at 20 a W, 1, 2, a true, and the text 28 bytes back.
 const SENT: &[u8; 36] =

@@ -8,20 +8,17 @@ use derived_blocks::notice::{ArchivedNotice, Notice, NoticeView, ViewOfNotice};
 use std::alloc::Global;
 use std::process::Abort;
 
-// The tag 2, a 7, at 4 an option with the text "ill".
-const LEFT: &[u8; 24] = b"\x02\x07\0\0\x01\0\0\0ill\xff\xff\xff\xff\xff\0\0\0\0\0\0\0\0";
+// The tag 1, a 9, at 4 the text "a.txt", at 12 four numbers.
+const FILE: &[u8; 24] = b"\x01\x09\0\0a.txt\xff\xff\xff\x01\x02\x03\x04\0\0\0\0\0\0\0\0";
 
-// The tag 3, a 9, at 4 the text "a.txt", at 12 four numbers.
-const FILE: &[u8; 24] = b"\x03\x09\0\0a.txt\xff\xff\xff\x01\x02\x03\x04\0\0\0\0\0\0\0\0";
-
-// Two pairs of a text and a number. At 24 the tag 5, at 28 the text "tea?", at 36 two elements 36
+// Two pairs of a text and a number. At 24 the tag 3, at 28 the text "tea?", at 36 two elements 36
 // bytes back, at 44 an option with a 5.
 const POLL: &[u8; 48] = b"yes\xff\xff\xff\xff\xff\x03\0\0\0no\xff\xff\xff\xff\xff\xff\x01\0\0\0\
-    \x05\0\0\0tea?\xff\xff\xff\xff\xdc\xff\xff\xff\x02\0\0\0\x01\x05\0\0";
+    \x03\0\0\0tea?\xff\xff\xff\xff\xdc\xff\xff\xff\x02\0\0\0\x01\x05\0\0";
 
-// A pair. At 12 the tag 6, at 16 one element 16 bytes back.
+// A pair. At 12 the tag 4, at 16 one element 16 bytes back.
 const RESULT: &[u8; 36] = b"no\xff\xff\xff\xff\xff\xff\x06\0\0\0\
-    \x06\0\0\0\xf0\xff\xff\xff\x01\0\0\0\0\0\0\0\0\0\0\0\0\0\0\0";
+    \x04\0\0\0\xf0\xff\xff\xff\x01\0\0\0\0\0\0\0\0\0\0\0\0\0\0\0";
 
 // What the third archive is of.
 fn poll(rt: &impl Abort, alloc: Global) -> Notice {
@@ -52,11 +49,6 @@ fn result(rt: &impl Abort, alloc: Global) -> Notice {
 fn notices_are_written_and_read_back(rt: HostRuntime) {
     let alloc = rt.alloc();
     assert_archived(&rt, alloc, &Notice::Closed, 24, &[0; 24]);
-    let left = Notice::Left {
-        member: 7,
-        reason: Some(text(&rt, alloc, "ill")),
-    };
-    assert_archived(&rt, alloc, &left, 24, LEFT);
     let file = Notice::File {
         member: 9,
         name: text(&rt, alloc, "a.txt"),
@@ -71,20 +63,15 @@ fn notices_are_written_and_read_back(rt: HostRuntime) {
 fn variant_of(rt: &impl Abort, view: Ref<'_, ArchivedNotice>) -> u8 {
     match view.variant() {
         ViewOfNotice::Closed => 0,
-        ViewOfNotice::Joined(_) => 1,
-        ViewOfNotice::Left { member, reason: _ } => {
-            assert_same(rt, "who left", member.get(), 7);
-            2
-        }
         ViewOfNotice::File {
             member: _,
             name,
             digest: _,
         } => {
             assert_same(rt, "the file's name", name.as_str(), "a.txt");
-            3
+            1
         }
-        ViewOfNotice::Settings(_) => 4,
+        ViewOfNotice::Settings(_) => 2,
         ViewOfNotice::Poll {
             question,
             options,
@@ -92,24 +79,18 @@ fn variant_of(rt: &impl Abort, view: Ref<'_, ArchivedNotice>) -> u8 {
         } => {
             assert_same(rt, "the question", question.as_str(), "tea?");
             assert_same(rt, "how many options", options.len(), 2);
-            5
+            3
         }
         ViewOfNotice::Result(options) => {
             assert_same(rt, "how many options", options.len(), 1);
-            6
+            4
         }
     }
 }
 
 #[test]
 fn notices_are_viewed(rt: HostRuntime) {
-    for (number, archive) in [
-        (0, &[0; 24][..]),
-        (2, LEFT),
-        (3, FILE),
-        (5, POLL),
-        (6, RESULT),
-    ] {
+    for (number, archive) in [(0, &[0; 24][..]), (1, FILE), (3, POLL), (4, RESULT)] {
         let view = viewed::<ArchivedNotice>(&rt, rt.alloc(), archive);
         assert_same(&rt, "the variant", variant_of(&rt, view), number);
     }
@@ -119,7 +100,7 @@ fn notices_are_viewed(rt: HostRuntime) {
 fn faults_of_notices_are_found(rt: HostRuntime) {
     let rows = [
         (0, 0xc0, Error::InvalidUtf8),
-        (24, 7, unknown_tag("ArchivedNotice", 7)),
+        (24, 5, unknown_tag("ArchivedNotice", 5)),
         (28, 0xc0, Error::InvalidUtf8),
     ];
     assert_faults::<ArchivedNotice>(&rt, rt.alloc(), POLL, &rows);

@@ -19,12 +19,12 @@ use derived_plain::outcome::{
 use std::alloc::Global;
 use std::process::Abort;
 
-// The tag 0, and at 4 the number, where the text of the other variant would end at 12.
-const SUM: &[u8; 12] = b"\0\0\0\0\x02\x01\0\0\0\0\0\0";
+// The tag 0, and behind it the number, where the text of the other variant would end at 12.
+const SUM: &[u8; 12] = b"\0\x02\0\0\0\0\0\0\0\0\0\0";
 // The tag 1, and at 4 a text within its string.
 const NO_SUM: &[u8; 12] = b"\x01\0\0\0late\xff\xff\xff\xff";
-// Two numbers; the tag 0 at 8, and at 12 a vector of the two at 0.
-const NUMBERS: &[u8; 24] = b"\x07\0\0\0\x09\0\0\0\0\0\0\0\xf4\xff\xff\xff\x02\0\0\0\0\0\0\0";
+// Two numbers; the tag 0 at 4, and at 8 a vector of the two at 0.
+const NUMBERS: &[u8; 20] = b"\x07\x09\0\0\0\0\0\0\xf8\xff\xff\xff\x02\0\0\0\0\0\0\0";
 // The tag 1, and at 4 the text above.
 const NO_NUMBERS: &[u8; 16] = b"\x01\0\0\0\x01\0\0\0late\xff\xff\xff\xff";
 
@@ -38,7 +38,7 @@ fn assert_sum(rt: &impl Abort, alloc: Global, sum: &Sum, archive: &[u8]) {
 
 #[test]
 fn sums_are_written_and_read_back(rt: HostRuntime) {
-    assert_sum(&rt, rt.alloc(), &Outcome::Done(258), SUM);
+    assert_sum(&rt, rt.alloc(), &Outcome::Done(2), SUM);
     let failed = no_sum(&rt, rt.alloc());
     assert_sum(&rt, rt.alloc(), &failed, NO_SUM);
 }
@@ -59,7 +59,7 @@ fn numbers_are_written_and_read_back(rt: HostRuntime) {
 fn variant_of(rt: &impl Abort, sum: Ref<'_, ArchivedSum>) -> u8 {
     match sum.variant() {
         ViewOfSum::Done(number) => {
-            assert_same(rt, "the number", number.get(), 258);
+            assert_same(rt, "the number", number.get(), 2);
             0
         }
         ViewOfSum::Failed(why) => {
@@ -106,7 +106,7 @@ fn write_field(sum: Seal<'_, ArchivedSum>)
 #[test]
 fn sums_are_edited(rt: HostRuntime) {
     let rows = [
-        (SUM, b"\0\0\0\0\x07\0\0\0\0\0\0\0"),
+        (SUM, b"\0\x07\0\0\0\0\0\0\0\0\0\0"),
         (NO_SUM, b"\x01\0\0\0soon\xff\xff\xff\xff"),
     ];
     for (archive, edited) in rows {

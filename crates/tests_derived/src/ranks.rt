@@ -25,9 +25,9 @@ const LABELS: [&[u8]; 6] = [
     b"\0\0\0\0\0\0\0\0\0\0\0\0\0\0\0\0",
     b"\x01\0\x01\0\0\0\0\0\0\0\0\0\0\0\0\0",
     b"\x01\0\0\x01\0\0\0\0\0\0\0\0\0\0\0\0",
-    b"\x02\0\0\0a\xff\xff\xff\xff\xff\xff\xff\xff\xff\xff\xff",
+    b"\x02\0\0\0a\xff\xff\xff\xff\xff\xff\xff\xff\0\0\0",
     b"\x02\0\0\0a\xff\xff\xff\xff\xff\xff\xff\0\0\0\0",
-    b"\x02\0\0\0b\xff\xff\xff\xff\xff\xff\xff\xfe\xff\xff\xff",
+    b"\x02\0\0\0b\xff\xff\xff\xff\xff\xff\xff\xfe\0\0\0",
 ];
 
 // What a value feeds a hasher comes to.
@@ -65,7 +65,7 @@ pub(crate) fn assert_ascending<T: Portable + Ordered>(
 }
 
 // A name.
-fn name(rt: &impl Abort, alloc: Global, name: &str, which: i32) -> Label {
+fn name(rt: &impl Abort, alloc: Global, name: &str, which: i8) -> Label {
     Label::Ok {
         name: text(rt, alloc, name),
         which,
@@ -93,7 +93,7 @@ fn number_of(rt: &impl Abort, view: Ref<'_, ArchivedLabel>) -> i32 {
         ViewOfLabel::Some(number) => number.get() as i32,
         ViewOfLabel::Ok { name, which } => {
             assert_same(rt, "the name", name.as_str(), "b");
-            which.get()
+            which.get() as i32
         }
     }
 }
@@ -111,28 +111,28 @@ fn views_of_labels_are_ordered(rt: HostRuntime) {
     assert_ascending::<ArchivedLabel>(&rt, rt.alloc(), &LABELS);
 }
 
-// The number that the box at 16 points at, the entry that it is in, a label of 16 bytes, and at 36 the scores: the letter, or whether there is one, at 44 the
-// pair, and at 48 and 60 what points at the entry and at the label. They differ in the letter, in the label, in the boxed number and in the pair.
-const SCORES: [&[u8; 68]; 5] = [
-    b"\xfe\xff\xff\xff\xff\xff\xff\xffa\xff\xff\xff\xff\xff\xff\xff\xf0\xff\xff\xff\x01\0\x07\0\0\0\0\0\0\0\0\0\0\0\0\0\0\0\0\0b\0\0\0\x02\x01\xfd\0\xd8\xff\xff\xff\x01\0\0\0\x01\0\0\0\xd8\xff\xff\xff\x01\0\0\0",
-    b"\xfe\xff\xff\xff\xff\xff\xff\xffa\xff\xff\xff\xff\xff\xff\xff\xf0\xff\xff\xff\x01\0\x07\0\0\0\0\0\0\0\0\0\0\0\0\0\x01\x01\0\0\0\0\0\0\x02\x01\xfd\0\xd8\xff\xff\xff\x01\0\0\0\x01\0\0\0\xd8\xff\xff\xff\x01\0\0\0",
-    b"\xfe\xff\xff\xff\xff\xff\xff\xffa\xff\xff\xff\xff\xff\xff\xff\xf0\xff\xff\xff\x01\0\x08\0\0\0\0\0\0\0\0\0\0\0\0\0\x01\x01\0\0\0\0\0\0\x02\x01\xfd\0\xd8\xff\xff\xff\x01\0\0\0\x01\0\0\0\xd8\xff\xff\xff\x01\0\0\0",
-    b"\xff\xff\xff\xff\xff\xff\xff\xffa\xff\xff\xff\xff\xff\xff\xff\xf0\xff\xff\xff\x01\0\x07\0\0\0\0\0\0\0\0\0\0\0\0\0\x01\x01\0\0\0\0\0\0\x02\x01\xfd\0\xd8\xff\xff\xff\x01\0\0\0\x01\0\0\0\xd8\xff\xff\xff\x01\0\0\0",
-    b"\xfe\xff\xff\xff\xff\xff\xff\xffa\xff\xff\xff\xff\xff\xff\xff\xf0\xff\xff\xff\x01\0\x07\0\0\0\0\0\0\0\0\0\0\0\0\0\x01\x01\0\0\0\0\0\0\x02\x01\xfe\0\xd8\xff\xff\xff\x01\0\0\0\x01\0\0\0\xd8\xff\xff\xff\x01\0\0\0",
+// The number that the box at 12 points at, the entry at 4 that it is in, at 16 a label of 16 bytes, and at 32 the scores: the letter, or whether there is one, at
+// 34 the pair, and at 36 and 44 what points at the entry and at the label. They differ in the letter, in the label, in the boxed number and in the pair.
+const SCORES: [&[u8; 56]; 5] = [
+    b"\xfe\0\0\0a\xff\xff\xff\xff\xff\xff\xff\xf4\xff\xff\xff\x01\0\x07\0\0\0\0\0\0\0\0\0\0\0\0\0\0b\x02\xfd\xe0\xff\xff\xff\x01\0\0\0\x01\0\0\0\xe0\xff\xff\xff\x01\0\0\0",
+    b"\xfe\0\0\0a\xff\xff\xff\xff\xff\xff\xff\xf4\xff\xff\xff\x01\0\x07\0\0\0\0\0\0\0\0\0\0\0\0\0\x01\x01\x02\xfd\xe0\xff\xff\xff\x01\0\0\0\x01\0\0\0\xe0\xff\xff\xff\x01\0\0\0",
+    b"\xfe\0\0\0a\xff\xff\xff\xff\xff\xff\xff\xf4\xff\xff\xff\x01\0\x08\0\0\0\0\0\0\0\0\0\0\0\0\0\x01\x01\x02\xfd\xe0\xff\xff\xff\x01\0\0\0\x01\0\0\0\xe0\xff\xff\xff\x01\0\0\0",
+    b"\xff\0\0\0a\xff\xff\xff\xff\xff\xff\xff\xf4\xff\xff\xff\x01\0\x07\0\0\0\0\0\0\0\0\0\0\0\0\0\x01\x01\x02\xfd\xe0\xff\xff\xff\x01\0\0\0\x01\0\0\0\xe0\xff\xff\xff\x01\0\0\0",
+    b"\xfe\0\0\0a\xff\xff\xff\xff\xff\xff\xff\xf4\xff\xff\xff\x01\0\x07\0\0\0\0\0\0\0\0\0\0\0\0\0\x01\x01\x02\xfe\xe0\xff\xff\xff\x01\0\0\0\x01\0\0\0\xe0\xff\xff\xff\x01\0\0\0",
 ];
 
 // The scores that the second one is the archive of, of these entries and labels.
-fn scores(by_name: BTreeMap<String, Box<i64>>, labels: Vec<Label>) -> Scores {
+fn scores(by_name: BTreeMap<String, Box<i8>>, labels: Vec<Label>) -> Scores {
     Scores {
         data: Err(true),
-        result: (NonZero::from_native(258), NonZero::from_native(-3)),
+        result: (NonZero::from_native(2), NonZero::from_native(-3)),
         pos: by_name,
         len: Some(labels),
     }
 }
 
 // One entry: a name, and -2.
-fn entry(alloc: Global, name: String) -> Result<BTreeMap<String, Box<i64>>, AllocError> {
+fn entry(alloc: Global, name: String) -> Result<BTreeMap<String, Box<i8>>, AllocError> {
     let mut by_name = BTreeMap::new(alloc);
     by_name.insert(name, Box::new(alloc, -2)?)?;
     Ok(by_name)
@@ -143,7 +143,7 @@ fn scores_are_written_and_read_back(rt: HostRuntime) {
     let alloc = rt.alloc();
     let by_name = entry(alloc, text(&rt, alloc, "a")).expect(&rt, "memory for an entry");
     let labels = vec![in alloc; Label::Some(7)].expect(&rt, "memory for a label");
-    assert_archived(&rt, alloc, &scores(by_name, labels), 32, SCORES[1]);
+    assert_archived(&rt, alloc, &scores(by_name, labels), 24, SCORES[1]);
 }
 
 #[test]
@@ -163,7 +163,7 @@ fn views_of_scores_are_ordered(rt: HostRuntime) {
 fn scores_are_viewed(rt: HostRuntime) {
     let view = viewed::<ArchivedScores>(&rt, rt.alloc(), SCORES[1]);
     assert_same(&rt, "no letter", view.data().as_ref().is_err(), true);
-    assert_same(&rt, "the pair's place", view.result().pos(), 44);
+    assert_same(&rt, "the pair's place", view.result().pos(), 34);
     assert_same(&rt, "entries", view.pos_field().len(), 1);
     let labels = view.len().as_ref().map(|labels| labels.len());
     assert_same(&rt, "labels", labels, Some(1));
@@ -183,9 +183,9 @@ fn write_label(label: Seal<'_, ArchivedLabel>)
 // Writes over the first label of scores, and over nothing else.
 fn write_scores(rt: &impl Abort, alloc: Global, bytes: &mut [u8]) {
     let pair = sealed::<ArchivedScores>(rt, alloc, bytes).result_mut();
-    assert_same(rt, "the pair's place", pair.pos(), 44);
+    assert_same(rt, "the pair's place", pair.pos(), 34);
     let entries = sealed::<ArchivedScores>(rt, alloc, bytes).pos_field_mut();
-    assert_same(rt, "the place of the entries", entries.pos(), 48);
+    assert_same(rt, "the place of the entries", entries.pos(), 36);
     let labels = sealed::<ArchivedScores>(rt, alloc, bytes).len_mut();
     if let Some(labels) = labels.as_seal() {
         let labels = labels.as_slice_seal();
@@ -205,12 +205,12 @@ fn write_data(rt: &impl Abort, alloc: Global, bytes: &mut [u8]) {
 
 #[test]
 fn labels_and_scores_are_edited(rt: HostRuntime) {
-    let mut bytes = *b"\x02\0\0\0a\xff\xff\xff\xff\xff\xff\xff\xff\xff\xff\xff";
+    let mut bytes = *b"\x02\0\0\0a\xff\xff\xff\xff\xff\xff\xff\xff\0\0\0";
     write_label(sealed(&rt, rt.alloc(), &mut bytes));
     assert_bytes(&rt, "the edited label", &bytes, LABELS[4]);
     let mut bytes = *SCORES[1];
     write_scores(&rt, rt.alloc(), &mut bytes);
     assert_bytes(&rt, "another label", &bytes, SCORES[2]);
     write_data(&rt, rt.alloc(), &mut bytes);
-    assert_same(&rt, "whether there is a letter", bytes[37], 0);
+    assert_same(&rt, "whether there is a letter", bytes[33], 0);
 }

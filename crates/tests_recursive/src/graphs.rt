@@ -9,7 +9,7 @@ use archive_core::rc::{Shared, WeakShared};
 use archive_core::view::Ref;
 use recursive_graphs::graph::{ArchivedGraph, Graph, GraphView};
 use recursive_graphs::knot::{ArchivedKnot, Knot, KnotView};
-use recursive_pointers::road::{ArchivedRoad, Road, RoadView, ViewOfRoad};
+use recursive_kinds::road::{ArchivedRoad, Road, RoadView, ViewOfRoad};
 use std::alloc::{AllocError, Global};
 use std::process::Abort;
 use std::rc::Rc;
@@ -168,10 +168,10 @@ fn road(alloc: Global) -> Result<Road, AllocError> {
     Ok(Road::Way(1, Some(detour)))
 }
 
-// Road 9 at 0, the detour at 16, and road 1 at 32: a tag, four bytes behind it a length or an offset, and behind the length an option: a tag, and an offset
-// four bytes behind it.
+// Road 9 at 0, the detour at 12, and road 1 at 24: a tag, behind it a length, and at 4 an option, which is a tag, and an offset four bytes behind it; of the
+// detour an offset at 4.
 const ROAD: &[u8] =
-    b"\0\0\0\0\x09\0\0\0\0\0\0\0\0\0\0\0\x01\0\0\0\xec\xff\xff\xff\0\0\0\0\0\0\0\0\0\0\0\0\x01\0\0\0\x01\0\0\0\xe4\xff\xff\xff";
+    b"\0\x09\0\0\0\0\0\0\0\0\0\0\x01\0\0\0\xf0\xff\xff\xff\0\0\0\0\0\x01\0\0\x01\0\0\0\xec\xff\xff\xff";
 
 #[test]
 fn roads(rt: HostRuntime) {
@@ -182,7 +182,7 @@ fn roads(rt: HostRuntime) {
     let back = made(&rt, "a road", back);
     assert_written(&rt, rt.alloc(), &back, ROAD);
     assert_same(&rt, "what is known", pool.is_known(0), true);
-    assert_same(&rt, "what is known", pool.is_known(16), true);
+    assert_same(&rt, "what is known", pool.is_known(12), true);
 }
 
 // The road that a road leads into, if it does.
@@ -205,9 +205,9 @@ fn roads_as_they_lie(rt: HostRuntime) {
     assert_holds(&rt, "no more", next_of(last).is_none());
 }
 
-// The detour's pointer at 20 leads to the detour itself.
+// The detour's pointer at 16 leads to the detour itself.
 const ROUND: &[u8] =
-    b"\0\0\0\0\x09\0\0\0\0\0\0\0\0\0\0\0\x01\0\0\0\xfc\xff\xff\xff\0\0\0\0\0\0\0\0\0\0\0\0\x01\0\0\0\x01\0\0\0\xe4\xff\xff\xff";
+    b"\0\x09\0\0\0\0\0\0\0\0\0\0\x01\0\0\0\xfc\xff\xff\xff\0\0\0\0\0\x01\0\0\x01\0\0\0\xec\xff\xff\xff";
 
 #[test]
 fn road_into_itself(rt: HostRuntime) {

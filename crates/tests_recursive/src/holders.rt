@@ -1,67 +1,78 @@
-// Types that hold recursive types behind no pointer, byte for byte: written, validated, viewed and read back; and damaged ones.
+// A family of which one type is in the other behind no pointer, and types that hold it behind none, byte for byte: written, validated, viewed and read back; and
+// damaged ones.
 
 use crate::assertions::{
     assert_holds, assert_read, assert_refused, assert_same, assert_written, viewed,
 };
 use archive_core::error::Error;
 use archive_core::option::ArchivedOption;
+use archive_core::traits::Portable;
 use archive_core::view::Ref;
-use recursive_holders::json::{ArchivedJson, Json, JsonView, Member, MemberView, ViewOfJson};
-use recursive_holders::message::{
-    ArchivedTopic, Author, AuthorView, Message, MessageView, Topic, TopicView, ViewOfAuthor,
-    ViewOfMessage,
+use recursive_holders::json::{
+    ArchivedJson, Json, JsonView, Member, MemberView, Message, MessageView, Number, NumberView,
+    ViewOfJson, ViewOfMessage, ViewOfNumber,
 };
-use recursive_holders::page::{ArchivedBook, Book, BookView, Page, PageView};
+use recursive_holders::page::{ArchivedBook, ArchivedPage, Book, BookView, Page, PageView};
 use std::alloc::{AllocError, Global};
 use std::process::Abort;
 
-fn topic(alloc: Global, author: Author) -> Topic {
-    Topic {
-        author,
-        below: Vec::new(alloc),
+fn changed(alloc: Global, bytes: &[u8], at: usize, byte: u8) -> Result<Vec<u8>, AllocError> {
+    let mut out = Vec::with_capacity(alloc, bytes.len())?;
+    for (index, one) in bytes.iter().enumerate() {
+        out.push(if index == at { byte } else { *one })?;
     }
+    Ok(out)
+}
+
+fn assert_changed<T: Portable>(
+    rt: &impl Abort,
+    alloc: Global,
+    archive: &[u8],
+    at: usize,
+    byte: u8,
+    refusal: Error,
+) {
+    let bytes = changed(alloc, archive, at, byte).expect(rt, "bytes");
+    assert_refused::<T>(rt, "a damaged archive", alloc, bytes.as_slice(), refusal);
+}
+
+fn tag_of_none(name: &'static str, value: u8) -> Error {
+    Error::InvalidDiscriminant { name, value }
 }
 
 fn first_page(alloc: Global) -> Result<Page, AllocError> {
-    let below = topic(alloc, Author::Unnamed);
+    let replaced = Json::Text(String::from_str(alloc, "xy")?);
     Ok(Page {
         title: String::from_str(alloc, "abc")?,
-        topic: Topic {
-            author: Author::Member(7),
-            below: vec![in alloc; below]?,
-        },
-        message: Message::Opened(
-            topic(alloc, Author::Unnamed),
-            Some(topic(alloc, Author::Member(2))),
-        ),
+        subject: Json::List(vec![in alloc; Json::Null]?),
+        message: Message::Sent(Json::Number(Number::Whole(7)), Some(replaced)),
     })
 }
 
 fn second_page(alloc: Global) -> Result<Page, AllocError> {
-    let listed = topic(alloc, Author::Member(5));
     Ok(Page {
         title: String::from_str(alloc, "a page that is long")?,
-        topic: topic(alloc, Author::Unnamed),
+        subject: Json::Null,
         message: Message::Listed {
-            others: 300,
-            topics: vec![in alloc; listed]?,
+            others: 30,
+            documents: vec![in alloc; Json::Number(Number::TooLarge)]?,
         },
     })
 }
 
 fn book(alloc: Global) -> Result<Book, AllocError> {
+    let first = first_page(alloc)?;
     let second = second_page(alloc)?;
     Ok(Book {
-        first: first_page(alloc)?,
-        pages: vec![in alloc; second]?,
+        pages: vec![in alloc; first, second]?,
     })
 }
 
-// The topic below the first page's at 0; the second page's title at 16, the topic that it lists at 36, and itself at 52; and the book at 116, which is the
-// first page and where the others are. A page is its title, at 8 its topic, and at 24 its message; a topic is its author, a tag and a number, and at 8 an
-// offset and a length; a message is a tag, with what it holds from 4 on, but a number at 2.
+// The value of the subject's list at 0, the long title at 24, the document that is listed at 48, the two pages at 72, and the book at 264. A page is its title,
+// at 8 its subject, and at 32 its message. A value is its tag, at 8 a number, or at 4 a text or an offset and a length; a number is a tag, and at 8 what it is.
+// A message is a tag, with a number at 1 and where its documents are at 4, or with a document at 8 and an option of one at 32.
 const BOOK: &[u8] =
-    b"\0\0\0\0\0\0\0\0\xf8\xff\xff\xff\0\0\0\0a page that is long\0\x01\0\0\0\x05\0\0\0\xf8\xff\xff\xff\0\0\0\0\x93\0\0\0\xdc\xff\xff\xff\0\0\0\0\0\0\0\0\xe0\xff\xff\xff\0\0\0\0\x03\0,\x01\xd4\xff\xff\xff\x01\0\0\0\0\0\0\0\0\0\0\0\0\0\0\0\0\0\0\0\0\0\0\0\0\0\0\0\0\0\0\0abc\xff\xff\xff\xff\xff\x01\0\0\0\x07\0\0\0|\xff\xff\xff\x01\0\0\0\x02\0\0\0\0\0\0\0\0\0\0\0x\xff\xff\xff\0\0\0\0\x01\0\0\0\x01\0\0\0\x02\0\0\0d\xff\xff\xff\0\0\0\0\x80\xff\xff\xff\x01\0\0\0";
+    b"\0\0\0\0\0\0\0\0\0\0\0\0\0\0\0\0\0\0\0\0\0\0\0\0a page that is long\0\0\0\0\0\x01\0\0\0\0\0\0\0\0\0\0\0\0\0\0\0\0\0\0\0\0\0\0\0abc\xff\xff\xff\xff\xff\x03\0\0\0\xac\xff\xff\xff\x01\0\0\0\0\0\0\0\0\0\0\0\0\0\0\0\x02\0\0\0\0\0\0\0\x01\0\0\0\0\0\0\0\x01\0\0\0\0\0\0\0\x07\0\0\0\0\0\0\0\x01\0\0\0\0\0\0\0\x02\0\0\0xy\xff\xff\xff\xff\xff\xff\0\0\0\0\0\0\0\0\0\0\0\0\x93\0\0\0p\xff\xff\xff\0\0\0\0\0\0\0\0\0\0\0\0\0\0\0\0\0\0\0\0\0\0\0\0\x03\x1e\0\0d\xff\xff\xff\x01\0\0\0\0\0\0\0\0\0\0\0\0\0\0\0\0\0\0\0\0\0\0\0\0\0\0\0\0\0\0\0\0\0\0\0\0\0\0\0\0\0\0\0\0\0\0\0\0\0\0\0\0\0\0\0@\xff\xff\xff\x02\0\0\0";
 
 #[test]
 fn what_holds_a_recursive_type_is_held(rt: HostRuntime) {
@@ -70,79 +81,81 @@ fn what_holds_a_recursive_type_is_held(rt: HostRuntime) {
     assert_read(&rt, rt.alloc(), BOOK, &book);
 }
 
-// The number of a topic's author; 0 of one that isn't named.
-fn author_of(topic: Ref<'_, ArchivedTopic>) -> u32 {
-    match topic.author().variant() {
-        ViewOfAuthor::Member(number) => number.get(),
-        ViewOfAuthor::Unnamed => 0,
+// The number that a value is; 0 of another.
+fn number_of(value: Ref<'_, ArchivedJson>) -> i64 {
+    match value.variant() {
+        ViewOfJson::Number(number) => match number.variant() {
+            ViewOfNumber::Whole(number) => number.get(),
+            ViewOfNumber::TooLarge => 0,
+        },
+        _ => 0,
     }
 }
 
-// The number of the author of the topic that was replaced.
-fn replaced(topic: Ref<'_, ArchivedOption<ArchivedTopic>>) -> u32 {
-    match topic.as_ref() {
-        Some(topic) => author_of(topic),
+// The length of the text that a document was, if one was replaced.
+fn replaced(document: Ref<'_, ArchivedOption<ArchivedJson>>) -> usize {
+    match document.as_ref() {
+        Some(document) => match document.variant() {
+            ViewOfJson::Text(text) => text.as_str().len(),
+            _ => 0,
+        },
         None => 0,
     }
 }
 
-fn assert_viewed(rt: &impl Abort, alloc: Global) {
-    let first = viewed::<ArchivedBook>(rt, alloc, BOOK).first();
-    assert_same(rt, "title", first.title().as_str(), "abc");
-    assert_same(rt, "author", author_of(first.topic()), 7);
-    match first.message().variant() {
-        ViewOfMessage::Opened(_, other) => assert_same(rt, "replaced", replaced(other), 2),
-        _ => assert_holds(rt, "a topic is opened", false),
+// The page of this number.
+fn page_of<'a>(
+    rt: &impl Abort,
+    alloc: Global,
+    bytes: &'a [u8],
+    number: usize,
+) -> Ref<'a, ArchivedPage> {
+    let pages = viewed::<ArchivedBook>(rt, alloc, bytes).pages();
+    pages.as_slice().get(number).expect(rt, "a page")
+}
+
+fn assert_sent(rt: &impl Abort, alloc: Global) {
+    let page = page_of(rt, alloc, BOOK, 0);
+    assert_same(rt, "title", page.title().as_str(), "abc");
+    assert_same(rt, "the tag of the subject", page.subject().tag(), 3);
+    match page.message().variant() {
+        ViewOfMessage::Sent(document, other) => {
+            assert_same(rt, "document", number_of(document), 7);
+            assert_same(rt, "replaced", replaced(other), 2);
+        }
+        _ => assert_holds(rt, "a document is sent", false),
     }
 }
 
 fn assert_listed(rt: &impl Abort, alloc: Global) {
-    let pages = viewed::<ArchivedBook>(rt, alloc, BOOK).pages();
-    let Some(second) = pages.as_slice().get(0) else {
-        assert_holds(rt, "there is a second page", false);
-        return;
-    };
-    match second.message().variant() {
-        ViewOfMessage::Listed { others, topics } => {
-            assert_same(rt, "others", others.get(), 300);
-            assert_same(rt, "topics", topics.len(), 1);
+    match page_of(rt, alloc, BOOK, 1).message().variant() {
+        ViewOfMessage::Listed { others, documents } => {
+            assert_same(rt, "others", others.get(), 30);
+            assert_same(rt, "documents", documents.len(), 1);
         }
-        _ => assert_holds(rt, "topics are listed", false),
+        _ => assert_holds(rt, "documents are listed", false),
     }
 }
 
 #[test]
 fn views_of_what_holds_a_recursive_type(rt: HostRuntime) {
-    assert_viewed(&rt, rt.alloc());
+    assert_sent(&rt, rt.alloc());
     assert_listed(&rt, rt.alloc());
 }
 
-fn damaged(alloc: Global, at: usize, byte: u8) -> Result<Vec<u8>, AllocError> {
-    let mut out = Vec::with_capacity(alloc, BOOK.len())?;
-    for (index, one) in BOOK.iter().enumerate() {
-        out.push(if index == at { byte } else { *one })?;
-    }
-    Ok(out)
-}
-
 fn assert_damaged(rt: &impl Abort, alloc: Global, at: usize, byte: u8, refusal: Error) {
-    let bytes = damaged(alloc, at, byte).expect(rt, "bytes");
-    assert_refused::<ArchivedBook>(rt, "a damaged book", alloc, bytes.as_slice(), refusal);
+    assert_changed::<ArchivedBook>(rt, alloc, BOOK, at, byte, refusal);
 }
 
-fn tag_of_none(name: &'static str, value: u8) -> Error {
-    Error::InvalidDiscriminant { name, value }
-}
-
-// Tags of the first page's message, of the option in it, of the second page's message and of the topic that it lists, and a text.
+// Tags of the first page's message, of the option in it, of the second page's message and of the document that it lists, and a title.
 #[test]
 fn damaged_books(rt: HostRuntime) {
     let alloc = rt.alloc();
-    assert_damaged(&rt, alloc, 140, 4, tag_of_none("ArchivedMessage", 4));
-    assert_damaged(&rt, alloc, 160, 2, tag_of_none("ArchivedOption", 2));
-    assert_damaged(&rt, alloc, 76, 9, tag_of_none("ArchivedMessage", 9));
-    assert_damaged(&rt, alloc, 36, 2, tag_of_none("ArchivedAuthor", 2));
-    assert_damaged(&rt, alloc, 18, 0xc0, Error::InvalidUtf8);
+    assert_damaged(&rt, alloc, 104, 4, tag_of_none("ArchivedMessage", 4));
+    assert_damaged(&rt, alloc, 136, 2, tag_of_none("ArchivedOption", 2));
+    assert_damaged(&rt, alloc, 200, 9, tag_of_none("ArchivedMessage", 9));
+    assert_damaged(&rt, alloc, 48, 5, tag_of_none("ArchivedJson", 5));
+    assert_damaged(&rt, alloc, 26, 0xc0, Error::InvalidUtf8);
 }
 
 fn named(alloc: Global, name: &str, value: Json) -> Result<Member, AllocError> {
@@ -155,15 +168,14 @@ fn named(alloc: Global, name: &str, value: Json) -> Result<Member, AllocError> {
 fn document(alloc: Global) -> Result<Json, AllocError> {
     let text = Json::Text(String::from_str(alloc, "x")?);
     let list = vec![in alloc; Json::Null, text]?;
-    let number = named(alloc, "a", Json::Number(-1))?;
+    let number = named(alloc, "a", Json::Number(Number::Whole(-1)))?;
     let values = named(alloc, "list", Json::List(list))?;
     Ok(Json::Object(vec![in alloc; number, values]?))
 }
 
-// The two values of the list at 0, the two members at 32, and the object at 80. A value is its tag, at 8 a number, or at 4 a text or an offset and a length; a
-// member is its name, and at 8 its value.
+// The two values of the list at 0, the two members at 48, and the object at 112. A member is its name, and at 8 its value.
 const DOCUMENT: &[u8] =
-    b"\0\0\0\0\0\0\0\0\0\0\0\0\0\0\0\0\x02\0\0\0x\xff\xff\xff\xff\xff\xff\xff\0\0\0\0a\xff\xff\xff\xff\xff\xff\xff\x01\0\0\0\0\0\0\0\xff\xff\xff\xff\xff\xff\xff\xfflist\xff\xff\xff\xff\x03\0\0\0\xbc\xff\xff\xff\x02\0\0\0\0\0\0\0\x04\0\0\0\xcc\xff\xff\xff\x02\0\0\0\0\0\0\0";
+    b"\0\0\0\0\0\0\0\0\0\0\0\0\0\0\0\0\0\0\0\0\0\0\0\0\x02\0\0\0x\xff\xff\xff\xff\xff\xff\xff\0\0\0\0\0\0\0\0\0\0\0\0a\xff\xff\xff\xff\xff\xff\xff\x01\0\0\0\0\0\0\0\x01\0\0\0\0\0\0\0\xff\xff\xff\xff\xff\xff\xff\xfflist\xff\xff\xff\xff\x03\0\0\0\xa4\xff\xff\xff\x02\0\0\0\0\0\0\0\0\0\0\0\0\0\0\0\x04\0\0\0\xbc\xff\xff\xff\x02\0\0\0\0\0\0\0\0\0\0\0\0\0\0\0";
 
 #[test]
 fn a_type_of_its_family_behind_no_pointer(rt: HostRuntime) {
@@ -180,6 +192,7 @@ fn assert_members(rt: &impl Abort, alloc: Global) {
                 return;
             };
             assert_same(rt, "name", first.name().as_str(), "a");
+            assert_same(rt, "value", number_of(first.value()), -1);
         }
         _ => assert_holds(rt, "an object", false),
     }
@@ -190,31 +203,23 @@ fn views_of_a_family(rt: HostRuntime) {
     assert_members(&rt, rt.alloc());
 }
 
-fn changed(alloc: Global, at: usize, byte: u8) -> Result<Vec<u8>, AllocError> {
-    let mut out = Vec::with_capacity(alloc, DOCUMENT.len())?;
-    for (index, one) in DOCUMENT.iter().enumerate() {
-        out.push(if index == at { byte } else { *one })?;
-    }
-    Ok(out)
+fn assert_document(rt: &impl Abort, alloc: Global, at: usize, byte: u8, refusal: Error) {
+    assert_changed::<ArchivedJson>(rt, alloc, DOCUMENT, at, byte, refusal);
 }
 
-fn assert_changed(rt: &impl Abort, alloc: Global, at: usize, byte: u8, refusal: Error) {
-    let bytes = changed(alloc, at, byte).expect(rt, "bytes");
-    assert_refused::<ArchivedJson>(rt, "a damaged document", alloc, bytes.as_slice(), refusal);
-}
-
-// Tags of the second member's value, of the first one and of a value of the list; and the list where its own members lie.
+// Tags of the second member's value, of the first one, of the number in it and of a value of the list; and the list where its own members lie.
 #[test]
 fn damaged_documents(rt: HostRuntime) {
     let alloc = rt.alloc();
-    assert_changed(&rt, alloc, 64, 5, tag_of_none("ArchivedJson", 5));
-    assert_changed(&rt, alloc, 40, 9, tag_of_none("ArchivedJson", 9));
-    assert_changed(&rt, alloc, 16, 7, tag_of_none("ArchivedJson", 7));
+    assert_document(&rt, alloc, 88, 5, tag_of_none("ArchivedJson", 5));
+    assert_document(&rt, alloc, 56, 9, tag_of_none("ArchivedJson", 9));
+    assert_document(&rt, alloc, 64, 2, tag_of_none("ArchivedNumber", 2));
+    assert_document(&rt, alloc, 24, 7, tag_of_none("ArchivedJson", 7));
     let outside = Error::InvalidSubtreePointer {
-        position: 16,
-        size: 32,
+        position: 24,
+        size: 48,
         start: 0,
-        end: 32,
+        end: 48,
     };
-    assert_changed(&rt, alloc, 68, 0xcc, outside);
+    assert_document(&rt, alloc, 92, 0xbc, outside);
 }

@@ -1,22 +1,17 @@
-// Recursive values behind vectors of boxes and of options, and beside fields of many kinds, byte for byte: written, validated and read back; and damaged
-// ones.
+// Recursive values behind vectors of boxes and of options and in boxed slices, byte for byte, as docs/FORMAT.md has them: written, validated, viewed and read
+// back; and damaged ones.
 
-ghost use Rattle.std.specs.Prelude.{◌<◌};
-
-use crate::assertions::{assert_read, assert_refused, assert_same, assert_written, value_of};
-use archive_core::api::{HighValidator, access_with_context};
+use crate::assertions::{
+    assert_holds, assert_read, assert_refused, assert_same, assert_written, value_of, viewed,
+};
 use archive_core::boxed::{BoxSlice, BoxStr};
 use archive_core::core_impls::OwnedArray;
 use archive_core::error::Error;
-use archive_core::primitive::ArchivedNonZeroU32;
 use archive_core::traits::Portable;
-use recursive_fields::fact::{ArchivedFact, Fact};
-use recursive_fields::note::{ArchivedNote, Note};
 use recursive_kinds::bush::Bush;
 use recursive_kinds::knot::{ArchivedKnot, Knot};
-use recursive_kinds::rule::Rule;
+use recursive_kinds::rule::{ArchivedRule, Rule, RuleView};
 use std::alloc::{AllocError, Global};
-use std::collections::BTreeMap;
 use std::process::Abort;
 
 fn knot(alloc: Global, id: u32, next: Vec<Box<Knot>>) -> Result<Box<Knot>, AllocError> {
@@ -108,121 +103,6 @@ fn options_in_a_vector(rt: HostRuntime) {
     assert_read(&rt, rt.alloc(), BUSHES, &bushes);
 }
 
-fn facts(alloc: Global) -> Result<Fact, AllocError> {
-    let reason = String::from_str(alloc, "no")?;
-    let mut facts = Vec::new(alloc);
-    facts.push(Fact::Holds(true, ()))?;
-    facts.push(Fact::Outcome(Err(reason)))?;
-    Ok(Fact::Facts(facts))
-}
-
-// The two facts at 0, and both of them at 32. Of the 16 bytes of a fact the first is its tag; what it holds lies at 4, except that it holds, at 1.
-const FACTS: &[u8] =
-    b"\0\x01\0\0\0\0\0\0\0\0\0\0\0\0\0\0\x01\0\0\0\x01\0\0\0no\xff\xff\xff\xff\xff\xff\x02\0\0\0\xdc\xff\xff\xff\x02\0\0\0\0\0\0\0";
-
-#[test]
-fn facts_of_many_kinds(rt: HostRuntime) {
-    let facts = facts(rt.alloc()).expect(&rt, "facts");
-    assert_written(&rt, rt.alloc(), &facts, FACTS);
-    assert_read(&rt, rt.alloc(), FACTS, &facts);
-}
-
-fn tag_of_none(name: &'static str, value: u8) -> Error {
-    Error::InvalidDiscriminant { name, value }
-}
-
-fn assert_damaged_facts(rt: &impl Abort, alloc: Global, at: usize, byte: u8, refusal: Error) {
-    assert_damaged::<ArchivedFact>(rt, alloc, FACTS, at, byte, refusal);
-}
-
-// Each variant, by a byte that it may not have.
-#[test]
-fn damaged_facts(rt: HostRuntime) {
-    let alloc = rt.alloc();
-    assert_damaged_facts(&rt, alloc, 1, 2, Error::InvalidBool);
-    assert_damaged_facts(&rt, alloc, 20, 2, tag_of_none("ArchivedResult", 2));
-    assert_damaged_facts(&rt, alloc, 32, 3, tag_of_none("ArchivedFact", 3));
-}
-
-fn texts(alloc: Global) -> Result<Note, AllocError> {
-    let text = String::from_str(alloc, "abc")?;
-    let by = String::from_str(alloc, "nobody knows")?;
-    Ok(Note::Texts(vec![in alloc; text]?, Some(by)))
-}
-
-fn hours(alloc: Global) -> Result<Note, AllocError> {
-    let mut hours = BTreeMap::new(alloc);
-    hours.insert(3, -1)?;
-    Ok(Note::Hours(hours))
-}
-
-fn notes(alloc: Global) -> Result<Note, AllocError> {
-    let texts = texts(alloc)?;
-    let hours = hours(alloc)?;
-    let rank = Note::Rank(ArchivedNonZeroU32::from_native(2), Box::new(alloc, 5)?);
-    Ok(Note::Notes(vec![in alloc; texts, hours, rank]?))
-}
-
-// The text at 0, who wrote it at 8, the hours at 24, the number of the rank at 40, the three notes at 44, and all of them at 116. Of the 24 bytes of a note
-// the first is its tag; what it holds lies at 4.
-const NOTES: &[u8] =
-    b"abc\xff\xff\xff\xff\xffnobody knows\0\0\0\0\x03\0\0\0\0\0\0\0\xff\xff\xff\xff\xff\xff\xff\xff\x05\0\0\0\0\0\0\0\xd0\xff\xff\xff\x01\0\0\0\x01\0\0\0\x8c\0\0\0\xcc\xff\xff\xff\x01\0\0\0\xd0\xff\xff\xff\x01\0\0\0\0\0\0\0\0\0\0\0\0\0\0\0\x02\0\0\0\x02\0\0\0\xc4\xff\xff\xff\0\0\0\0\0\0\0\0\0\0\0\0\x03\0\0\0\xb4\xff\xff\xff\x03\0\0\0\0\0\0\0\0\0\0\0\0\0\0\0";
-
-#[test]
-fn notes_of_many_kinds(rt: HostRuntime) {
-    let notes = notes(rt.alloc()).expect(&rt, "notes");
-    assert_written(&rt, rt.alloc(), &notes, NOTES);
-    assert_read(&rt, rt.alloc(), NOTES, &notes);
-}
-
-fn assert_damaged_notes(rt: &impl Abort, alloc: Global, at: usize, byte: u8, refusal: Error) {
-    assert_damaged::<ArchivedNote>(rt, alloc, NOTES, at, byte, refusal);
-}
-
-// A number where the hours end and the notes begin, at 40.
-fn number_elsewhere(position: i128) -> Error {
-    Error::InvalidSubtreePointer {
-        position,
-        size: 4,
-        start: 40,
-        end: 44,
-    }
-}
-
-#[test]
-fn damaged_notes(rt: HostRuntime) {
-    let alloc = rt.alloc();
-    assert_damaged_notes(&rt, alloc, 1, 0x80, Error::InvalidUtf8);
-    assert_damaged_notes(&rt, alloc, 96, 0, Error::ZeroNumber);
-    assert_damaged_notes(&rt, alloc, 100, 4, number_elsewhere(-152));
-    assert_damaged_notes(&rt, alloc, 100, 0xbc, number_elsewhere(32));
-    assert_damaged_notes(&rt, alloc, 116, 4, tag_of_none("ArchivedNote", 4));
-}
-
-// How many regions a check of the notes enters, with a limit of depth.
-fn regions(alloc: Global, levels: usize) -> Result<usize, Error>
-    requires { 0 < levels }
-{
-    let mut context = HighValidator::with_max_depth(alloc, NOTES, Some(levels));
-    let _ = access_with_context::<ArchivedNote, HighValidator<'_>>(alloc, NOTES, &mut context)?;
-    Ok(context.subtrees())
-}
-
-fn assert_regions(rt: &impl Abort, alloc: Global, levels: usize, wanted: Result<usize, Error>)
-    requires { 0 < levels }
-{
-    let found = regions(alloc, levels);
-    assert_same(rt, "regions", found, wanted);
-}
-
-// The root, the notes, and in them the text, who wrote it, the hours and the number.
-#[test]
-fn limits_of_depth(rt: HostRuntime) {
-    let too_deep = Err(Error::ExceededMaximumSubtreeDepth);
-    assert_regions(&rt, rt.alloc(), 3, too_deep);
-    assert_regions(&rt, rt.alloc(), 4, Ok(6));
-}
-
 // An array of these bytes; they are four.
 fn version(alloc: Global, bytes: [u8; 4]) -> Result<OwnedArray<u8, 4>, AllocError> {
     let bytes = Vec::from_array(alloc, bytes)?;
@@ -246,22 +126,25 @@ fn rule(
         version,
         pages: BoxSlice { items: pages },
         lines,
-        parts,
+        parts: BoxSlice { items: parts },
     })
 }
 
 fn rules(alloc: Global) -> Result<Rule, AllocError> {
     let one = version(alloc, [1, 0, 0, 2])?;
-    let part = rule(alloc, "be", one, Vec::new(alloc), 3, Vec::new(alloc))?;
-    let two = version(alloc, [2, 0, 0, 1])?;
-    let parts = vec![in alloc; part]?;
-    rule(alloc, "all", two, vec![in alloc; 7, 300]?, 9, parts)
+    let first = rule(alloc, "be", one, Vec::new(alloc), 3, Vec::new(alloc))?;
+    let two = version(alloc, [1, 0, 0, 3])?;
+    let second = rule(alloc, "or", two, Vec::new(alloc), 4, Vec::new(alloc))?;
+    let all = version(alloc, [2, 0, 0, 1])?;
+    let parts = vec![in alloc; first, second]?;
+    rule(alloc, "all", all, vec![in alloc; 7, 300]?, 9, parts)
 }
 
-// The words of the rule at 0, its pages at 4, the words of its part at 8 and its pages, which are none, at 10; its part at 12 and itself at 44. Of the 32
-// bytes of a rule its words are the first, its version lies at 8, its pages at 12, its lines at 20, and its parts at 24.
+// The words of the rule at 0, its pages at 4; the words of its first part at 8 and its pages, which are none, at 10, those of its second part at 12 and at 14;
+// its parts at 16 and 48, and itself at 80. Of the 32 bytes of a rule its words are the first, its version lies at 8, its pages at 12, its lines at 20, and its
+// parts at 24.
 const RULES: &[u8] =
-    b"all\0\x07\0,\x01be\0\0\xfc\xff\xff\xff\x02\0\0\0\x01\0\0\x02\xf2\xff\xff\xff\0\0\0\0\x03\0\0\0\xe8\xff\xff\xff\0\0\0\0\xd4\xff\xff\xff\x03\0\0\0\x02\0\0\x01\xcc\xff\xff\xff\x02\0\0\0\x09\0\0\0\xc8\xff\xff\xff\x01\0\0\0";
+    b"all\0\x07\0,\x01be\0\0or\0\0\xf8\xff\xff\xff\x02\0\0\0\x01\0\0\x02\xee\xff\xff\xff\0\0\0\0\x03\0\0\0\xe4\xff\xff\xff\0\0\0\0\xdc\xff\xff\xff\x02\0\0\0\x01\0\0\x03\xd2\xff\xff\xff\0\0\0\0\x04\0\0\0\xc8\xff\xff\xff\0\0\0\0\xb0\xff\xff\xff\x03\0\0\0\x02\0\0\x01\xa8\xff\xff\xff\x02\0\0\0\x09\0\0\0\xa8\xff\xff\xff\x02\0\0\0";
 
 #[test]
 fn fields_of_many_kinds(rt: HostRuntime) {
@@ -269,4 +152,28 @@ fn fields_of_many_kinds(rt: HostRuntime) {
     assert_written(&rt, rt.alloc(), &rules, RULES);
     let back: Rule = value_of(&rt, rt.alloc(), RULES);
     assert_written(&rt, rt.alloc(), &back, RULES);
+}
+
+#[test]
+fn boxed_slices_as_they_lie(rt: HostRuntime) {
+    let parts = viewed::<ArchivedRule>(&rt, rt.alloc(), RULES).parts().get();
+    assert_same(&rt, "how many parts", parts.len(), 2);
+    let Some(last) = parts.get(1) else {
+        assert_holds(&rt, "a last one", false);
+        return;
+    };
+    assert_same(&rt, "the lines of the last", last.lines().get(), 4);
+    assert_same(&rt, "its parts", last.parts().get().len(), 0);
+}
+
+// The boxed slice of a rule leads to the rule itself.
+#[test]
+fn a_boxed_slice_within_itself(rt: HostRuntime) {
+    let outside = Error::InvalidSubtreePointer {
+        position: 80,
+        size: 64,
+        start: 8,
+        end: 80,
+    };
+    assert_damaged::<ArchivedRule>(&rt, rt.alloc(), RULES, 104, 0xe8, outside);
 }

@@ -10,13 +10,13 @@ mod damaged;
 #[cfg(test)]
 mod graphs;
 #[cfg(test)]
-mod groves;
-#[cfg(test)]
 mod holders;
 #[cfg(test)]
 mod kinds;
 #[cfg(test)]
 mod long;
+#[cfg(test)]
+mod notes;
 #[cfg(test)]
 mod statements;
 #[cfg(test)]

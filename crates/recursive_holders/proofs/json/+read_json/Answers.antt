@@ -51,7 +51,7 @@ pub read_member_type-returns-in_err-a0-clause-refused : goal.read_member_type-re
 read_member_type-returns-in_err-a0-clause-refused g t c = err_by c.from_residual.result c.in_err-a0.field-0.0 _ c.from_residual.ensures.1 (record_refuses member_type_definitions member_type_shape member_type_part_definitions member_type_parts member_type_has_parts _ _ _ _ _ (first_refuses no_definition (both member_type_definitions no_definition) str (record { size = 8; align = 4 }) (record { solved = λ s k. refl }) (part json_shape no_part) _ _ 0 _ _ (rw (c.part_of_record-p0.ensures.buffer, c.part_of_record-p0.ensures.position, c.part_of_record-p0.ensures.length) at c.in_err-a0.ensures.refused)))
 
 pub read_member_type-returns-in_err-a1-clause-refused : goal.read_member_type-returns-in_err-a1-clause-refused
-read_member_type-returns-in_err-a1-clause-refused g t c = err_by c.from_residual-in_err-a1.result c.in_err-a1.field-0.0 _ c.from_residual-in_err-a1.ensures.1 (record_refuses member_type_definitions member_type_shape member_type_part_definitions member_type_parts member_type_has_parts _ _ _ _ _ (later_refuses no_definition (both member_type_definitions no_definition) str (record { size = 8; align = 4 }) (record { solved = λ s k. refl }) (part json_shape no_part) _ _ 0 _ _ _ c.in_ok-a0.ensures.read.kept (first_refuses member_type_definitions no_definition json_shape (record { size = 16; align = 8 }) json_has_layout no_part _ _ 8 _ _ (rw (c.part_of_record-p1.ensures.buffer, c.part_of_record-p1.ensures.position, c.part_of_record-p1.ensures.length) at c.in_err-a1.ensures.refused))))
+read_member_type-returns-in_err-a1-clause-refused g t c = err_by c.from_residual-in_err-a1.result c.in_err-a1.field-0.0 _ c.from_residual-in_err-a1.ensures.1 (record_refuses member_type_definitions member_type_shape member_type_part_definitions member_type_parts member_type_has_parts _ _ _ _ _ (later_refuses no_definition (both member_type_definitions no_definition) str (record { size = 8; align = 4 }) (record { solved = λ s k. refl }) (part json_shape no_part) _ _ 0 _ _ _ c.in_ok-a0.ensures.read.kept (first_refuses member_type_definitions no_definition json_shape (record { size = 24; align = 8 }) json_has_layout no_part _ _ 8 _ _ (rw (c.part_of_record-p1.ensures.buffer, c.part_of_record-p1.ensures.position, c.part_of_record-p1.ensures.length) at c.in_err-a1.ensures.refused))))
 
 pub read_member_type-returns-clause-read : goal.read_member_type-returns-clause-read
-read_member_type-returns-clause-read g t c = read_as (member_type_has_keys_roll (record { name = c.in_ok-a0.a0; value = c.in_ok-a1.a1 })) (member_type_means_roll (record { name = c.in_ok-a0.a0; value = c.in_ok-a1.a1 })) (record_read_back member_type_definitions member_type_shape member_type_part_definitions member_type_parts member_type_has_parts _ _ _ _ _ _ _ (part_read_back {L = (record { size = 8; align = 4 })} {ks = []} {ls = ((json_keys c.in_ok-a1.a1) ++ [])} (record { solved = λ s k. refl }) (rw (c.part_of_record-p0.ensures.buffer, c.part_of_record-p0.ensures.position, c.part_of_record-p0.ensures.length) at c.in_ok-a0.ensures.read) (part_read_back {L = (record { size = 16; align = 8 })} {ks = (json_keys c.in_ok-a1.a1)} {ls = []} json_has_layout (rw (c.part_of_record-p1.ensures.buffer, c.part_of_record-p1.ensures.position, c.part_of_record-p1.ensures.length) at c.in_ok-a1.ensures.read) no_part_read_back)))
+read_member_type-returns-clause-read g t c = read_as (member_type_has_keys_roll (record { name = c.in_ok-a0.a0; value = c.in_ok-a1.a1 })) (member_type_means_roll (record { name = c.in_ok-a0.a0; value = c.in_ok-a1.a1 })) (record_read_back member_type_definitions member_type_shape member_type_part_definitions member_type_parts member_type_has_parts _ _ _ _ _ _ _ (part_read_back {L = (record { size = 8; align = 4 })} {ks = []} {ls = ((json_keys c.in_ok-a1.a1) ++ [])} (record { solved = λ s k. refl }) (rw (c.part_of_record-p0.ensures.buffer, c.part_of_record-p0.ensures.position, c.part_of_record-p0.ensures.length) at c.in_ok-a0.ensures.read) (part_read_back {L = (record { size = 24; align = 8 })} {ks = (json_keys c.in_ok-a1.a1)} {ls = []} json_has_layout (rw (c.part_of_record-p1.ensures.buffer, c.part_of_record-p1.ensures.position, c.part_of_record-p1.ensures.length) at c.in_ok-a1.ensures.read) no_part_read_back)))

@@ -5,18 +5,17 @@ use Rattle.archive_core.proofs.ReadRecords.{first_refuses}
 use Rattle.archive_core.specs.Definitions.{no_definition}
 use Rattle.archive_core.specs.Held.{read_as}
 use Rattle.archive_core.specs.PartsReading.{part_read_back, no_part_read_back}
-use Rattle.archive_core.specs.Shape.{leaf, signed, no_part, number as number_kind}
+use Rattle.archive_core.specs.Shape.{choice, leaf, signed, part, no_part, variant, no_variant, number as number_kind}
 use Rattle.recursive_holders.specs.JsonMeaning.{json_number_means, json_number_has_keys}
 use Rattle.recursive_holders.specs.JsonShape.{json_name, json_shape, json_definitions, json_variants, json_variant_definitions, json_has_variants, json_number_parts, json_number_definitions}
-use Rattle.std.proofs.Common.{[], length, refl, rules}
-use Rattle.std.proofs.lemmas.Int.{to_z-of_z}
+use Rattle.std.proofs.Common.{[], length, refl}
 use Rattle.std.specs.Int.{w64}
-use Rattle.std.specs.Prelude.{[], refl, length}
-use mir.Val.{SFits}
+use Rattle.std.specs.Prelude.{[], refl, length, codes}
+use Rattle.recursive_holders.specs.contracts.json.NumberArchive.TheImpl as source_of_number
 use Rattle.recursive_holders.proofs.json.read_json_number.Goals as goal
 
 pub returns-in_err-a0-clause-refused : goal.returns-in_err-a0-clause-refused
-returns-in_err-a0-clause-refused g c = err_by c.from_residual.result c.in_err-a0.field-0.0 _ c.from_residual.ensures.1 (variant_refuses json_definitions json_shape json_name json_variant_definitions json_variants json_has_variants 1 json_number_parts refl json_number_definitions refl _ _ _ c.requires.tag _ _ (first_refuses no_definition no_definition (leaf (number_kind signed w64)) (record { size = 8; align = 8 }) (record { solved = λ s k. refl }) no_part _ _ 1 _ _ (rw (c.part_of_variant-p0.ensures.buffer, c.part_of_variant-p0.ensures.position, c.part_of_variant-p0.ensures.length) at c.in_err-a0.ensures.refused)))
+returns-in_err-a0-clause-refused g c = err_by c.from_residual.result c.in_err-a0.field-0.0 _ c.from_residual.ensures.1 (variant_refuses json_definitions json_shape json_name json_variant_definitions json_variants json_has_variants 1 json_number_parts refl json_number_definitions refl _ _ _ c.requires.tag _ _ (first_refuses no_definition no_definition (choice (codes "ArchivedNumber") (variant no_part (variant (part (leaf (number_kind signed w64)) no_part) no_variant))) (record { size = 16; align = 8 }) (record { solved = λ s k. refl }) no_part _ _ 1 _ _ (rw (c.part_of_variant-p0.ensures.buffer, c.part_of_variant-p0.ensures.position, c.part_of_variant-p0.ensures.length) at c.in_err-a0.ensures.refused)))
 
 pub returns-clause-read : goal.returns-clause-read
-returns-clause-read g c = (let fits_a0 : SFits w64 c.in_ok-a0.a0 = search rules in rw (to_z-of_z w64 c.in_ok-a0.a0 fits_a0) (read_as (json_number_has_keys c.in_ok-a0.a0) (json_number_means c.in_ok-a0.a0) (variant_read_back json_definitions json_shape json_name json_variant_definitions json_variants json_has_variants 1 json_number_parts refl json_number_definitions refl _ _ _ c.requires.tag _ _ _ _ (part_read_back {L = (record { size = 8; align = 8 })} {ks = []} {ls = []} (record { solved = λ s k. refl }) (rw (c.part_of_variant-p0.ensures.buffer, c.part_of_variant-p0.ensures.position, c.part_of_variant-p0.ensures.length) at c.in_ok-a0.ensures.read) no_part_read_back))))
+returns-clause-read g c = read_as (json_number_has_keys c.in_ok-a0.a0) (json_number_means c.in_ok-a0.a0) (variant_read_back json_definitions json_shape json_name json_variant_definitions json_variants json_has_variants 1 json_number_parts refl json_number_definitions refl _ _ _ c.requires.tag _ _ _ _ (part_read_back {L = (record { size = 16; align = 8 })} {ks = ((source_of_number.ghosts).keys c.in_ok-a0.a0)} {ls = []} (record { solved = λ s k. refl }) (rw (c.part_of_variant-p0.ensures.buffer, c.part_of_variant-p0.ensures.position, c.part_of_variant-p0.ensures.length) at c.in_ok-a0.ensures.read) no_part_read_back))

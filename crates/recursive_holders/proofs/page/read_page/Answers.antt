@@ -7,20 +7,20 @@ use Rattle.archive_core.specs.Shape.{str, part, no_part}
 use Rattle.recursive_holders.specs.PageShape.{page_shape, page_definitions, page_parts, page_part_definitions, page_has_parts}
 use Rattle.std.proofs.Common.{◌++◌, [], length, refl}
 use Rattle.std.specs.Prelude.{[], ◌++◌, refl, length}
+use Rattle.recursive_holders.specs.JsonShape.{json_shape as shape_of_json, json_definitions as definitions_of_json, json_has_layout as has_layout_of_json}
 use Rattle.recursive_holders.specs.MessageShape.{message_shape as shape_of_message, message_definitions as definitions_of_message, message_has_layout as has_layout_of_message}
-use Rattle.recursive_holders.specs.TopicShape.{topic_shape as shape_of_topic, topic_definitions as definitions_of_topic, topic_has_layout as has_layout_of_topic}
-use Rattle.recursive_holders.specs.contracts.message.MessageArchive.TheImpl as source_of_message
-use Rattle.recursive_holders.specs.contracts.message.TopicArchive.TheImpl as source_of_topic
+use Rattle.recursive_holders.specs.contracts.json.JsonArchive.TheImpl as source_of_json
+use Rattle.recursive_holders.specs.contracts.json.MessageArchive.TheImpl as source_of_message
 use Rattle.recursive_holders.proofs.page.read_page.Goals as goal
 
 pub returns-in_err-a0-clause-refused : goal.returns-in_err-a0-clause-refused
-returns-in_err-a0-clause-refused g c = err_by c.from_residual.result c.in_err-a0.field-0.0 _ c.from_residual.ensures.1 (record_refuses page_definitions page_shape page_part_definitions page_parts page_has_parts _ _ _ _ _ (first_refuses no_definition (both definitions_of_topic (both definitions_of_message no_definition)) str (record { size = 8; align = 4 }) (record { solved = λ s k. refl }) (part shape_of_topic (part shape_of_message no_part)) _ _ 0 _ _ (rw (c.part_of_record-p0.ensures.buffer, c.part_of_record-p0.ensures.position, c.part_of_record-p0.ensures.length) at c.in_err-a0.ensures.refused)))
+returns-in_err-a0-clause-refused g c = err_by c.from_residual.result c.in_err-a0.field-0.0 _ c.from_residual.ensures.1 (record_refuses page_definitions page_shape page_part_definitions page_parts page_has_parts _ _ _ _ _ (first_refuses no_definition (both definitions_of_json (both definitions_of_message no_definition)) str (record { size = 8; align = 4 }) (record { solved = λ s k. refl }) (part shape_of_json (part shape_of_message no_part)) _ _ 0 _ _ (rw (c.part_of_record-p0.ensures.buffer, c.part_of_record-p0.ensures.position, c.part_of_record-p0.ensures.length) at c.in_err-a0.ensures.refused)))
 
 pub returns-in_err-a1-clause-refused : goal.returns-in_err-a1-clause-refused
-returns-in_err-a1-clause-refused g c = err_by c.from_residual-in_err-a1.result c.in_err-a1.field-0.0 _ c.from_residual-in_err-a1.ensures.1 (record_refuses page_definitions page_shape page_part_definitions page_parts page_has_parts _ _ _ _ _ (later_refuses no_definition (both definitions_of_topic (both definitions_of_message no_definition)) str (record { size = 8; align = 4 }) (record { solved = λ s k. refl }) (part shape_of_topic (part shape_of_message no_part)) _ _ 0 _ _ _ c.in_ok-a0.ensures.read.kept (first_refuses definitions_of_topic (both definitions_of_message no_definition) shape_of_topic (record { size = 16; align = 4 }) has_layout_of_topic (part shape_of_message no_part) _ _ 8 _ _ (rw (c.part_of_record-p1.ensures.buffer, c.part_of_record-p1.ensures.position, c.part_of_record-p1.ensures.length) at c.in_err-a1.ensures.refused))))
+returns-in_err-a1-clause-refused g c = err_by c.from_residual-in_err-a1.result c.in_err-a1.field-0.0 _ c.from_residual-in_err-a1.ensures.1 (record_refuses page_definitions page_shape page_part_definitions page_parts page_has_parts _ _ _ _ _ (later_refuses no_definition (both definitions_of_json (both definitions_of_message no_definition)) str (record { size = 8; align = 4 }) (record { solved = λ s k. refl }) (part shape_of_json (part shape_of_message no_part)) _ _ 0 _ _ _ c.in_ok-a0.ensures.read.kept (first_refuses definitions_of_json (both definitions_of_message no_definition) shape_of_json (record { size = 24; align = 8 }) has_layout_of_json (part shape_of_message no_part) _ _ 8 _ _ (rw (c.part_of_record-p1.ensures.buffer, c.part_of_record-p1.ensures.position, c.part_of_record-p1.ensures.length) at c.in_err-a1.ensures.refused))))
 
 pub returns-in_err-a2-clause-refused : goal.returns-in_err-a2-clause-refused
-returns-in_err-a2-clause-refused g c = err_by c.from_residual-in_err-a2.result c.in_err-a2.field-0.0 _ c.from_residual-in_err-a2.ensures.1 (record_refuses page_definitions page_shape page_part_definitions page_parts page_has_parts _ _ _ _ _ (later_refuses no_definition (both definitions_of_topic (both definitions_of_message no_definition)) str (record { size = 8; align = 4 }) (record { solved = λ s k. refl }) (part shape_of_topic (part shape_of_message no_part)) _ _ 0 _ _ _ c.in_ok-a0.ensures.read.kept (later_refuses definitions_of_topic (both definitions_of_message no_definition) shape_of_topic (record { size = 16; align = 4 }) has_layout_of_topic (part shape_of_message no_part) _ _ 8 _ _ _ c.in_ok-a1.ensures.read.kept (first_refuses definitions_of_message no_definition shape_of_message (record { size = 40; align = 4 }) has_layout_of_message no_part _ _ 24 _ _ (rw (c.part_of_record-p2.ensures.buffer, c.part_of_record-p2.ensures.position, c.part_of_record-p2.ensures.length) at c.in_err-a2.ensures.refused)))))
+returns-in_err-a2-clause-refused g c = err_by c.from_residual-in_err-a2.result c.in_err-a2.field-0.0 _ c.from_residual-in_err-a2.ensures.1 (record_refuses page_definitions page_shape page_part_definitions page_parts page_has_parts _ _ _ _ _ (later_refuses no_definition (both definitions_of_json (both definitions_of_message no_definition)) str (record { size = 8; align = 4 }) (record { solved = λ s k. refl }) (part shape_of_json (part shape_of_message no_part)) _ _ 0 _ _ _ c.in_ok-a0.ensures.read.kept (later_refuses definitions_of_json (both definitions_of_message no_definition) shape_of_json (record { size = 24; align = 8 }) has_layout_of_json (part shape_of_message no_part) _ _ 8 _ _ _ c.in_ok-a1.ensures.read.kept (first_refuses definitions_of_message no_definition shape_of_message (record { size = 64; align = 8 }) has_layout_of_message no_part _ _ 32 _ _ (rw (c.part_of_record-p2.ensures.buffer, c.part_of_record-p2.ensures.position, c.part_of_record-p2.ensures.length) at c.in_err-a2.ensures.refused)))))
 
 pub returns-clause-read : goal.returns-clause-read
-returns-clause-read g c = (record_read_back page_definitions page_shape page_part_definitions page_parts page_has_parts _ _ _ _ _ _ _ (part_read_back {L = (record { size = 8; align = 4 })} {ks = []} {ls = (((source_of_topic.ghosts).keys c.in_ok-a1.a1) ++ (((source_of_message.ghosts).keys c.in_ok-a2.a2) ++ []))} (record { solved = λ s k. refl }) (rw (c.part_of_record-p0.ensures.buffer, c.part_of_record-p0.ensures.position, c.part_of_record-p0.ensures.length) at c.in_ok-a0.ensures.read) (part_read_back {L = (record { size = 16; align = 4 })} {ks = ((source_of_topic.ghosts).keys c.in_ok-a1.a1)} {ls = (((source_of_message.ghosts).keys c.in_ok-a2.a2) ++ [])} has_layout_of_topic (rw (c.part_of_record-p1.ensures.buffer, c.part_of_record-p1.ensures.position, c.part_of_record-p1.ensures.length) at c.in_ok-a1.ensures.read) (part_read_back {L = (record { size = 40; align = 4 })} {ks = ((source_of_message.ghosts).keys c.in_ok-a2.a2)} {ls = []} has_layout_of_message (rw (c.part_of_record-p2.ensures.buffer, c.part_of_record-p2.ensures.position, c.part_of_record-p2.ensures.length) at c.in_ok-a2.ensures.read) no_part_read_back))))
+returns-clause-read g c = (record_read_back page_definitions page_shape page_part_definitions page_parts page_has_parts _ _ _ _ _ _ _ (part_read_back {L = (record { size = 8; align = 4 })} {ks = []} {ls = (((source_of_json.ghosts).keys c.in_ok-a1.a1) ++ (((source_of_message.ghosts).keys c.in_ok-a2.a2) ++ []))} (record { solved = λ s k. refl }) (rw (c.part_of_record-p0.ensures.buffer, c.part_of_record-p0.ensures.position, c.part_of_record-p0.ensures.length) at c.in_ok-a0.ensures.read) (part_read_back {L = (record { size = 24; align = 8 })} {ks = ((source_of_json.ghosts).keys c.in_ok-a1.a1)} {ls = (((source_of_message.ghosts).keys c.in_ok-a2.a2) ++ [])} has_layout_of_json (rw (c.part_of_record-p1.ensures.buffer, c.part_of_record-p1.ensures.position, c.part_of_record-p1.ensures.length) at c.in_ok-a1.ensures.read) (part_read_back {L = (record { size = 64; align = 8 })} {ks = ((source_of_message.ghosts).keys c.in_ok-a2.a2)} {ls = []} has_layout_of_message (rw (c.part_of_record-p2.ensures.buffer, c.part_of_record-p2.ensures.position, c.part_of_record-p2.ensures.length) at c.in_ok-a2.ensures.read) no_part_read_back))))

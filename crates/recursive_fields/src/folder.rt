@@ -1,0 +1,881 @@
+//! Folders: a recursive struct with tuples that lead back to it.
+
+/// A folder.
+#[derive(Debug, PartialEq, Drop)]
+pub struct Folder {
+    /// Its number.
+    pub id: u8,
+    /// What is in it, with names, and perhaps with notes.
+    pub entries: Vec<(String, Folder, Option<String>)>,
+    /// What is attached to it in twos, with places.
+    pub attached: Vec<(i8, Folder, Folder)>,
+}
+
+// Below this line all is written by tools/derive: change what is above it, and run it again.
+
+ghost use Rattle.archive_core.specs.CallOutcomes.{ResolvesAs};
+ghost use Rattle.archive_core.specs.Causes.{IsRefused};
+ghost use Rattle.archive_core.specs.Definitions.{both, no_definition};
+ghost use Rattle.archive_core.specs.Error.TheVariants.{OutOfMemory};
+ghost use Rattle.archive_core.specs.Expressions.{shape_of, shapes_in};
+ghost use Rattle.archive_core.specs.Fields.{field_in};
+ghost use Rattle.archive_core.specs.PlannedOwners.{one_planned};
+ghost use Rattle.archive_core.specs.Plans.{Serialized};
+ghost use Rattle.archive_core.specs.Runs.{EachBelongs, IsRunRefused, SerializedRun, each_flat, each_keys, each_meaning};
+ghost use Rattle.archive_core.specs.SealsWritten.{IsSealOf, SealsPart};
+ghost use Rattle.archive_core.specs.Seen.{IsPartOf, ReadsPart, RefusesPart, ShowsValueOf};
+ghost use Rattle.archive_core.specs.SelfCheck.Laws.{by_schema};
+ghost use Rattle.archive_core.specs.Shape.{one, part, parts, vec};
+ghost use Rattle.archive_core.specs.Sources.{Read, ReadsAs};
+ghost use Rattle.archive_core.specs.Value.{list, value};
+ghost use Rattle.archive_core.specs.Writing.{ZeroedPlace};
+ghost use Rattle.archive_core.specs.Written.{GoesOn};
+ghost use Rattle.recursive_fields.specs.FolderMeaning.{tuple3_i8_folder_folder_keys, tuple3_i8_folder_folder_meaning, tuple3_string_folder_option_string_keys, tuple3_string_folder_option_string_meaning};
+ghost use Rattle.recursive_fields.specs.FolderShape.{folder_definitions, folder_has_layout, folder_has_parts, folder_is_align, folder_layout, folder_no_others, folder_parts, folder_shape, folder_stands_for, tuple3_i8_folder_folder_definitions, tuple3_i8_folder_folder_has_layout, tuple3_i8_folder_folder_has_parts, tuple3_i8_folder_folder_is_align, tuple3_i8_folder_folder_layout, tuple3_i8_folder_folder_no_others, tuple3_i8_folder_folder_shape, tuple3_string_folder_option_string_definitions, tuple3_string_folder_option_string_has_layout, tuple3_string_folder_option_string_has_parts, tuple3_string_folder_option_string_is_align, tuple3_string_folder_option_string_layout, tuple3_string_folder_option_string_no_others, tuple3_string_folder_option_string_shape};
+ghost use Rattle.std.proofs.Common.{lit≤};
+ghost use Rattle.std.specs.Prelude.{IfErr, IfOk, None, length, refl, ◌+◌, ◌≡◌, ◌≤◌};
+
+use archive_core::core_impls::ArchivedTuple3;
+use archive_core::error::Error;
+use archive_core::option::ArchivedOption;
+use archive_core::place::Place;
+use archive_core::recursive::{
+    VecAt, before_vec, define_name, handed_on, part_of_record, read_part, record_of,
+    resolve_named_record_3, seal_of_field, serialize_inner_slice, serialize_part, view_of_field,
+};
+use archive_core::seal::Seal;
+use archive_core::self_check::BySchema;
+use archive_core::ser::{ResolverAlloc, Writer, serialize_one};
+use archive_core::shape::Defs;
+use archive_core::string::ArchivedString;
+use archive_core::traits::{
+    Archive, ArchivePointee, ArchiveUnsized, CopyOptimization, Deserialize, Entries, Keys,
+    Portable, PortableParts, Record, Serialize, SerializeUnsized, expr_of_record,
+};
+use archive_core::vec::{ArchivedVec, VecResolver};
+use archive_core::view::{RawView, Ref};
+use std::alloc::{AllocError, Global};
+
+/// An archived `Folder`: 20 bytes at a multiple of 4. It is validated by its schema.
+pub struct ArchivedFolder;
+
+type FolderParts = (
+    u8,
+    (
+        ArchivedVec<Tuple3StringFolderOptionString>,
+        (ArchivedVec<Tuple3I8FolderFolder>, ()),
+    ),
+);
+
+impl ArchivePointee for ArchivedFolder {
+    type ArchivedMetadata = ();
+
+    ghost pointee = { one folder_shape };
+
+    ghost definitions = { folder_definitions };
+
+    ghost metadata_length = { λ _. 0 };
+
+    fn pointer_metadata(_metadata: &()) -> usize {
+        0
+    }
+}
+
+/// `ArchivedTuple3<ArchivedString, ArchivedFolder, ArchivedOption<ArchivedString>>` by a name, for the functions below.
+pub struct Tuple3StringFolderOptionString;
+
+type Tuple3StringFolderOptionStringParts = (
+    ArchivedString,
+    (ArchivedFolder, (ArchivedOption<ArchivedString>, ())),
+);
+
+impl ArchivePointee for Tuple3StringFolderOptionString {
+    type ArchivedMetadata = ();
+
+    ghost pointee = { one tuple3_string_folder_option_string_shape };
+
+    ghost definitions = { tuple3_string_folder_option_string_definitions };
+
+    ghost metadata_length = { λ _. 0 };
+
+    fn pointer_metadata(_metadata: &()) -> usize {
+        0
+    }
+}
+
+impl Portable for Tuple3StringFolderOptionString {
+    ghost shape = { tuple3_string_folder_option_string_shape };
+
+    ghost layout = { tuple3_string_folder_option_string_layout };
+
+    type Check = BySchema;
+
+    ghost is_one = { refl };
+
+    ghost is_align = { tuple3_string_folder_option_string_is_align };
+
+    ghost has_layout = { tuple3_string_folder_option_string_has_layout };
+
+    ghost no_others = { tuple3_string_folder_option_string_no_others };
+
+    ghost checks = { λ direct. by_schema direct };
+
+    fn size() -> usize {
+        40
+    }
+
+    fn align() -> usize {
+        4
+    }
+
+    fn expr(alloc: Global) -> Result<archive_core::shape::Expr, Error> {
+        expr_of_record::<Tuple3StringFolderOptionStringParts>(alloc)
+    }
+
+    fn define(alloc: Global, defs: &mut Defs) -> Result<(), Error> {
+        <Tuple3StringFolderOptionStringParts as PortableParts>::define(alloc, defs)
+    }
+}
+
+impl Record for Tuple3StringFolderOptionString {
+    type Parts = Tuple3StringFolderOptionStringParts;
+
+    ghost has_parts = { tuple3_string_folder_option_string_has_parts };
+
+    ghost holds = { lit≤ tt };
+}
+
+/// `ArchivedTuple3<i8, ArchivedFolder, ArchivedFolder>` by a name, for the functions below.
+pub struct Tuple3I8FolderFolder;
+
+type Tuple3I8FolderFolderParts = (i8, (ArchivedFolder, (ArchivedFolder, ())));
+
+impl ArchivePointee for Tuple3I8FolderFolder {
+    type ArchivedMetadata = ();
+
+    ghost pointee = { one tuple3_i8_folder_folder_shape };
+
+    ghost definitions = { tuple3_i8_folder_folder_definitions };
+
+    ghost metadata_length = { λ _. 0 };
+
+    fn pointer_metadata(_metadata: &()) -> usize {
+        0
+    }
+}
+
+impl Portable for Tuple3I8FolderFolder {
+    ghost shape = { tuple3_i8_folder_folder_shape };
+
+    ghost layout = { tuple3_i8_folder_folder_layout };
+
+    type Check = BySchema;
+
+    ghost is_one = { refl };
+
+    ghost is_align = { tuple3_i8_folder_folder_is_align };
+
+    ghost has_layout = { tuple3_i8_folder_folder_has_layout };
+
+    ghost no_others = { tuple3_i8_folder_folder_no_others };
+
+    ghost checks = { λ direct. by_schema direct };
+
+    fn size() -> usize {
+        44
+    }
+
+    fn align() -> usize {
+        4
+    }
+
+    fn expr(alloc: Global) -> Result<archive_core::shape::Expr, Error> {
+        expr_of_record::<Tuple3I8FolderFolderParts>(alloc)
+    }
+
+    fn define(alloc: Global, defs: &mut Defs) -> Result<(), Error> {
+        <Tuple3I8FolderFolderParts as PortableParts>::define(alloc, defs)
+    }
+}
+
+impl Record for Tuple3I8FolderFolder {
+    type Parts = Tuple3I8FolderFolderParts;
+
+    ghost has_parts = { tuple3_i8_folder_folder_has_parts };
+
+    ghost holds = { lit≤ tt };
+}
+
+// What a tuple looks like.
+fn tuple3_string_folder_option_string_expression(
+    alloc: Global,
+) -> Result<archive_core::shape::Expr, Error>
+    ensures shape { IfOk result (λ e. shape_of e ≡ tuple3_string_folder_option_string_shape) }
+    ensures refused { IfErr result (λ e. e ≡ OutOfMemory) }
+{
+    let a0 = <ArchivedString as Portable>::expr(alloc)?;
+    let a1 = archive_core::shape::Expr::Named("ArchivedFolder");
+    let a2 = <ArchivedOption<ArchivedString> as Portable>::expr(alloc)?;
+    let parts = vec![in alloc; a0, a1, a2]?;
+    Ok(record_of(parts))
+}
+
+// What a tuple looks like.
+fn tuple3_i8_folder_folder_expression(alloc: Global) -> Result<archive_core::shape::Expr, Error>
+    ensures shape { IfOk result (λ e. shape_of e ≡ tuple3_i8_folder_folder_shape) }
+    ensures refused { IfErr result (λ e. e ≡ OutOfMemory) }
+{
+    let a0 = <i8 as Portable>::expr(alloc)?;
+    let a1 = archive_core::shape::Expr::Named("ArchivedFolder");
+    let a2 = archive_core::shape::Expr::Named("ArchivedFolder");
+    let parts = vec![in alloc; a0, a1, a2]?;
+    Ok(record_of(parts))
+}
+
+// The parts of `Folder`.
+fn folder_expressions(alloc: Global) -> Result<Vec<archive_core::shape::Expr>, Error>
+    ensures shapes { IfOk result (λ list. shapes_in list.items ≡ folder_parts) }
+    ensures refused { IfErr result (λ e. e ≡ OutOfMemory) }
+{
+    let a0 = <u8 as Portable>::expr(alloc)?;
+    let a1 = archive_core::shape::Expr::Vec(Box::new(
+        alloc,
+        tuple3_string_folder_option_string_expression(alloc)?,
+    )?);
+    let a2 = archive_core::shape::Expr::Vec(Box::new(
+        alloc,
+        tuple3_i8_folder_folder_expression(alloc)?,
+    )?);
+    Ok(vec![in alloc; a0, a1, a2]?)
+}
+
+// What the name stands for.
+fn folder_expression(alloc: Global) -> Result<archive_core::shape::Expr, Error>
+    ensures shape { IfOk result (λ e. shape_of e ≡ folder_stands_for) }
+    ensures refused { IfErr result (λ e. e ≡ OutOfMemory) }
+{
+    let parts = folder_expressions(alloc)?;
+    Ok(record_of(parts))
+}
+
+impl Portable for ArchivedFolder {
+    ghost shape = { folder_shape };
+
+    ghost layout = { folder_layout };
+
+    type Check = BySchema;
+
+    ghost is_one = { refl };
+
+    ghost is_align = { folder_is_align };
+
+    ghost has_layout = { folder_has_layout };
+
+    ghost no_others = { folder_no_others };
+
+    ghost checks = { λ direct. by_schema direct };
+
+    fn size() -> usize {
+        20
+    }
+
+    fn align() -> usize {
+        4
+    }
+
+    fn expr(_alloc: Global) -> Result<archive_core::shape::Expr, Error> {
+        Ok(archive_core::shape::Expr::Named("ArchivedFolder"))
+    }
+
+    fn define(alloc: Global, defs: &mut Defs) -> Result<(), Error> {
+        let stands_for = match folder_expression(alloc) {
+            Ok(stands_for) => stands_for,
+            Err(error) => return Err(error),
+        };
+        define_name("ArchivedFolder", stands_for, defs)
+    }
+}
+
+impl Record for ArchivedFolder {
+    type Parts = FolderParts;
+
+    ghost has_parts = { folder_has_parts };
+
+    ghost holds = { lit≤ tt };
+}
+
+/// What is kept of `Folder` between `serialize` and `resolve`.
+#[derive(Drop)]
+pub struct FolderResolver {
+    kept: (<u8 as Archive>::Resolver, (VecResolver, (VecResolver, ()))),
+}
+
+impl Archive for Folder {
+    ghost use Rattle.recursive_fields.specs.FolderMeaning.{folder_meaning, folder_flat, folder_keys, folder_belongs, folder_keyed, folder_planned};
+
+    type Archived = ArchivedFolder;
+
+    type Resolver = FolderResolver;
+
+    ghost meaning = { folder_meaning };
+
+    ghost flat = { folder_flat };
+
+    ghost keys = { folder_keys };
+
+    ghost belongs = { folder_belongs };
+
+    ghost in_bulk = { None };
+
+    ghost keyed = { folder_keyed };
+
+    ghost planned = { folder_planned };
+
+    #[inline(always)]
+    fn resolve(
+        &self,
+        resolver: Self::Resolver,
+        place: Place<'_, Self::Archived>,
+    ) -> Result<(), Error>
+        requires zeroed { ZeroedPlace 20 place.pos place.bytes.now }
+        requires same_value { ⟦<Self as Archive>⟧.belongs self.now resolver }
+        ensures { ResolvesAs ⟦<Self::Archived as Portable>⟧ place
+            (⟦<Self as Archive>⟧.flat self.now resolver) result }
+    {
+        let Place { bytes, pos, .. } = place;
+        let FolderResolver { kept } = resolver;
+        let h1: VecAt<Tuple3StringFolderOptionString> = VecAt::of(self.entries.len());
+        let h2: VecAt<Tuple3I8FolderFolder> = VecAt::of(self.attached.len());
+        resolve_named_record_3::<
+            u8,
+            VecAt<Tuple3StringFolderOptionString>,
+            VecAt<Tuple3I8FolderFolder>,
+            ArchivedFolder,
+        >(&self.id, &h1, &h2, kept, Place::new(pos, bytes))
+    }
+
+    #[inline(always)]
+    fn copy_optimization() -> CopyOptimization<Self> {
+        CopyOptimization::disable()
+    }
+
+    #[inline(always)]
+    fn serialize_copied<S: Writer + Keys>(
+        _values: &[Self],
+        _together: usize,
+        _serializer: &mut S,
+    ) -> Result<Option<usize>, Error> {
+        Ok(None)
+    }
+}
+
+// Writes what each of the values owns, in order.
+#[cycle(serialize_folder)]
+fn serialize_each_tuple3_string_folder_option_string<S: Writer + Keys + ResolverAlloc>(
+    values: &[(String, Folder, Option<String>)],
+    serializer: &mut S,
+) -> Result<Vec<<(String, Folder, Option<String>) as Archive>::Resolver, S::Alloc>, Error>
+    ensures serialized { IfOk result (λ rs. SerializedRun
+        tuple3_string_folder_option_string_definitions tuple3_string_folder_option_string_shape
+        (length values.now) (each_keys ⟦<(String, Folder, Option<String>) as Archive>⟧.keys
+        values.now) (each_meaning ⟦<(String, Folder, Option<String>) as Archive>⟧.meaning
+        values.now) (each_flat ⟦<(String, Folder, Option<String>) as Archive>⟧.flat values.now
+        rs.items) (S.state serializer.old) (S.state serializer.new)) }
+    ensures same_values { IfOk result (λ rs. EachBelongs
+        ⟦<(String, Folder, Option<String>) as Archive>⟧.belongs values.now rs.items) }
+    ensures goes_on { GoesOn (S.state serializer.old) (S.state serializer.new) }
+    ensures refused { IfErr result (IsRunRefused tuple3_string_folder_option_string_definitions
+        tuple3_string_folder_option_string_shape (length values.now)
+        (each_keys ⟦<(String, Folder, Option<String>) as Archive>⟧.keys values.now)
+        (each_meaning ⟦<(String, Folder, Option<String>) as Archive>⟧.meaning values.now)
+        (S.state serializer.old) (S.state serializer.new)) }
+{
+    let alloc = serializer.resolver_alloc();
+    let mut resolvers = Vec::with_capacity(alloc, values.len())?;
+    for value in values {
+        let a0 = match serialize_part(&value.0, serializer) {
+            Ok(a0) => a0,
+            Err(error) => return Err(error),
+        };
+        let a1 = match serialize_folder(&value.1, serializer) {
+            Ok(a1) => a1,
+            Err(error) => return Err(handed_on(error)),
+        };
+        let a2 = match serialize_part(&value.2, serializer) {
+            Ok(a2) => a2,
+            Err(error) => return Err(error),
+        };
+        resolvers
+            .push((a0, (a1, (a2, ()))))
+            .map_err(AllocError::from)?;
+    }
+    Ok(resolvers)
+}
+
+// Writes what a vector owns.
+#[cycle(serialize_folder)]
+fn serialize_vec_tuple3_string_folder_option_string<S: Writer + Keys + ResolverAlloc>(
+    value: &Vec<(String, Folder, Option<String>)>,
+    serializer: &mut S,
+) -> Result<VecResolver, Error>
+    ensures serialized { IfOk result (λ r. Serialized tuple3_string_folder_option_string_definitions
+        (vec tuple3_string_folder_option_string_shape)
+        (⟦<Vec<(String, Folder, Option<String>)> as Archive>⟧.keys value.now)
+        (⟦<Vec<(String, Folder, Option<String>)> as Archive>⟧.meaning value.now)
+        (⟦<Vec<(String, Folder, Option<String>)> as Archive>⟧.flat value.now r)
+        (S.state serializer.old) (S.state serializer.new)) }
+    ensures same_value { IfOk result (λ r. ⟦<Vec<(String, Folder, Option<String>)> as Archive>⟧.belongs
+        value.now r) }
+    ensures goes_on { GoesOn (S.state serializer.old) (S.state serializer.new) }
+    ensures refused { IfErr result (IsRefused tuple3_string_folder_option_string_definitions
+        (vec tuple3_string_folder_option_string_shape)
+        (⟦<Vec<(String, Folder, Option<String>)> as Archive>⟧.keys value.now)
+        (⟦<Vec<(String, Folder, Option<String>)> as Archive>⟧.meaning value.now)
+        (S.state serializer.old) (S.state serializer.new)) }
+{
+    if value.len() > u32::MAX as usize {
+        return Err(Error::LengthTooLarge);
+    }
+    let items = value.as_slice();
+    let kept = match serialize_each_tuple3_string_folder_option_string(items, serializer) {
+        Ok(kept) => kept,
+        Err(error) => return Err(error),
+    };
+    match serialize_inner_slice(items, kept, serializer) {
+        Ok(at) => Ok(at),
+        Err(error) => Err(error),
+    }
+}
+
+// Writes what each of the values owns, in order.
+#[cycle(serialize_folder)]
+fn serialize_each_tuple3_i8_folder_folder<S: Writer + Keys + ResolverAlloc>(
+    values: &[(i8, Folder, Folder)],
+    serializer: &mut S,
+) -> Result<Vec<<(i8, Folder, Folder) as Archive>::Resolver, S::Alloc>, Error>
+    ensures serialized { IfOk result (λ rs. SerializedRun tuple3_i8_folder_folder_definitions
+        tuple3_i8_folder_folder_shape (length values.now)
+        (each_keys ⟦<(i8, Folder, Folder) as Archive>⟧.keys values.now)
+        (each_meaning ⟦<(i8, Folder, Folder) as Archive>⟧.meaning values.now)
+        (each_flat ⟦<(i8, Folder, Folder) as Archive>⟧.flat values.now rs.items)
+        (S.state serializer.old) (S.state serializer.new)) }
+    ensures same_values { IfOk result (λ rs. EachBelongs ⟦<(i8, Folder, Folder) as Archive>⟧.belongs
+        values.now rs.items) }
+    ensures goes_on { GoesOn (S.state serializer.old) (S.state serializer.new) }
+    ensures refused { IfErr result (IsRunRefused tuple3_i8_folder_folder_definitions
+        tuple3_i8_folder_folder_shape (length values.now)
+        (each_keys ⟦<(i8, Folder, Folder) as Archive>⟧.keys values.now)
+        (each_meaning ⟦<(i8, Folder, Folder) as Archive>⟧.meaning values.now)
+        (S.state serializer.old) (S.state serializer.new)) }
+{
+    let alloc = serializer.resolver_alloc();
+    let mut resolvers = Vec::with_capacity(alloc, values.len())?;
+    for value in values {
+        let a0 = match serialize_part(&value.0, serializer) {
+            Ok(a0) => a0,
+            Err(error) => return Err(error),
+        };
+        let a1 = match serialize_folder(&value.1, serializer) {
+            Ok(a1) => a1,
+            Err(error) => return Err(handed_on(error)),
+        };
+        let a2 = match serialize_folder(&value.2, serializer) {
+            Ok(a2) => a2,
+            Err(error) => return Err(error),
+        };
+        resolvers
+            .push((a0, (a1, (a2, ()))))
+            .map_err(AllocError::from)?;
+    }
+    Ok(resolvers)
+}
+
+// Writes what a vector owns.
+#[cycle(serialize_folder)]
+fn serialize_vec_tuple3_i8_folder_folder<S: Writer + Keys + ResolverAlloc>(
+    value: &Vec<(i8, Folder, Folder)>,
+    serializer: &mut S,
+) -> Result<VecResolver, Error>
+    ensures serialized { IfOk result (λ r. Serialized tuple3_i8_folder_folder_definitions
+        (vec tuple3_i8_folder_folder_shape) (⟦<Vec<(i8, Folder, Folder)> as Archive>⟧.keys
+        value.now) (⟦<Vec<(i8, Folder, Folder)> as Archive>⟧.meaning value.now)
+        (⟦<Vec<(i8, Folder, Folder)> as Archive>⟧.flat value.now r) (S.state serializer.old)
+        (S.state serializer.new)) }
+    ensures same_value { IfOk result (λ r. ⟦<Vec<(i8, Folder, Folder)> as Archive>⟧.belongs
+        value.now r) }
+    ensures goes_on { GoesOn (S.state serializer.old) (S.state serializer.new) }
+    ensures refused { IfErr result (IsRefused tuple3_i8_folder_folder_definitions
+        (vec tuple3_i8_folder_folder_shape) (⟦<Vec<(i8, Folder, Folder)> as Archive>⟧.keys
+        value.now) (⟦<Vec<(i8, Folder, Folder)> as Archive>⟧.meaning value.now)
+        (S.state serializer.old) (S.state serializer.new)) }
+{
+    if value.len() > u32::MAX as usize {
+        return Err(Error::LengthTooLarge);
+    }
+    let items = value.as_slice();
+    let kept = match serialize_each_tuple3_i8_folder_folder(items, serializer) {
+        Ok(kept) => kept,
+        Err(error) => return Err(error),
+    };
+    match serialize_inner_slice(items, kept, serializer) {
+        Ok(at) => Ok(at),
+        Err(error) => Err(error),
+    }
+}
+
+// Writes what a value owns, part by part.
+#[cycle(serialize_folder)]
+fn serialize_folder<S: Writer + Keys + ResolverAlloc>(
+    value: &Folder,
+    serializer: &mut S,
+) -> Result<FolderResolver, Error>
+    ensures serialized { IfOk result (λ r. Serialized folder_definitions folder_shape
+        (⟦<Folder as Archive>⟧.keys value.now) (⟦<Folder as Archive>⟧.meaning value.now)
+        (⟦<Folder as Archive>⟧.flat value.now r) (S.state serializer.old)
+        (S.state serializer.new)) }
+    ensures same_value { IfOk result (λ r. ⟦<Folder as Archive>⟧.belongs value.now r) }
+    ensures goes_on { GoesOn (S.state serializer.old) (S.state serializer.new) }
+    ensures refused { IfErr result (IsRefused folder_definitions folder_shape
+        (⟦<Folder as Archive>⟧.keys value.now) (⟦<Folder as Archive>⟧.meaning value.now)
+        (S.state serializer.old) (S.state serializer.new)) }
+{
+    let a0 = match serialize_part(&value.id, serializer) {
+        Ok(a0) => a0,
+        Err(error) => return Err(error),
+    };
+    let a1 = match serialize_vec_tuple3_string_folder_option_string(&value.entries, serializer) {
+        Ok(a1) => a1,
+        Err(error) => return Err(error),
+    };
+    let a2 = match serialize_vec_tuple3_i8_folder_folder(&value.attached, serializer) {
+        Ok(a2) => a2,
+        Err(error) => return Err(error),
+    };
+    Ok(FolderResolver {
+        kept: (a0, (a1, (a2, ()))),
+    })
+}
+
+impl<S: Writer + Keys + ResolverAlloc> Serialize<S> for Folder {
+    #[inline(always)]
+    fn serialize(&self, serializer: &mut S) -> Result<Self::Resolver, Error> {
+        serialize_folder(self, serializer)
+    }
+}
+
+/// As a region of its own: the value itself.
+impl ArchiveUnsized for Folder {
+    ghost use Rattle.recursive_fields.specs.contracts.folder.FolderArchive.TheImpl.Laws.{keyed-law as keyed_of_folder, planned-law as planned_of_folder};
+
+    type Archived = ArchivedFolder;
+
+    ghost source_length = { λ _. 0 };
+
+    ghost meaning = { ⟦<Folder as Archive>⟧.meaning };
+
+    ghost keys = { ⟦<Folder as Archive>⟧.keys };
+
+    ghost keyed = { keyed_of_folder };
+
+    ghost one_length = { λ _ _. refl };
+
+    ghost planned = { λ v. one_planned folder_definitions folder_shape
+        (⟦<Folder as Archive>⟧.keys v) (⟦<Folder as Archive>⟧.meaning v) (planned_of_folder v) };
+
+    #[inline(always)]
+    fn archived_metadata(&self) -> Result<(), Error> {
+        Ok(())
+    }
+}
+
+impl<S: Writer + Keys + ResolverAlloc> SerializeUnsized<S> for Folder {
+    #[inline(always)]
+    fn serialize_unsized(&self, serializer: &mut S) -> Result<usize, Error> {
+        serialize_one(self, serializer)
+    }
+}
+
+// Reads a tuple back, part by part.
+#[cycle(read_folder)]
+fn read_tuple3_string_folder_option_string<D: Entries>(
+    alloc: Global,
+    part: RawView<'_>,
+    deserializer: &mut D,
+) -> Result<(String, Folder, Option<String>), Error>
+    requires { IsPartOf ⟦<Tuple3StringFolderOptionString as ArchivePointee>⟧ part }
+    ensures read { IfOk result (λ t. ReadsPart ⟦<Tuple3StringFolderOptionString as ArchivePointee>⟧
+        part D.Entries deserializer (tuple3_string_folder_option_string_meaning t)
+        (tuple3_string_folder_option_string_keys t)) }
+    ensures refused { IfErr result (RefusesPart ⟦<Tuple3StringFolderOptionString as ArchivePointee>⟧
+        part D.Entries deserializer) }
+{
+    let p0 = part_of_record::<Tuple3StringFolderOptionString, ArchivedString>(part, 0, 0);
+    let a0 = read_part::<ArchivedString, String, D>(alloc, p0, deserializer)?;
+    let p1 = part_of_record::<Tuple3StringFolderOptionString, ArchivedFolder>(part, 1, 8);
+    let a1 = read_folder(alloc, p1, deserializer)?;
+    let p2 = part_of_record::<Tuple3StringFolderOptionString, ArchivedOption<ArchivedString>>(
+        part, 2, 28,
+    );
+    let a2 = read_part::<ArchivedOption<ArchivedString>, Option<String>, D>(
+        alloc,
+        p2,
+        deserializer,
+    )?;
+    Ok((a0, a1, a2))
+}
+
+// Reads a vector back.
+#[cycle(read_folder)]
+fn read_vec_tuple3_string_folder_option_string<D: Entries>(
+    alloc: Global,
+    part: RawView<'_>,
+    deserializer: &mut D,
+) -> Result<Vec<(String, Folder, Option<String>)>, Error>
+    requires { IsPartOf ⟦<ArchivedVec<Tuple3StringFolderOptionString> as ArchivePointee>⟧ part }
+    ensures read { IfOk result
+        (λ t. ReadsPart ⟦<ArchivedVec<Tuple3StringFolderOptionString> as ArchivePointee>⟧ part
+        D.Entries deserializer (list (each_meaning tuple3_string_folder_option_string_meaning
+        t.items)) (each_keys tuple3_string_folder_option_string_keys t.items)) }
+    ensures refused { IfErr result
+        (RefusesPart ⟦<ArchivedVec<Tuple3StringFolderOptionString> as ArchivePointee>⟧ part
+        D.Entries deserializer) }
+{
+    let view: Ref<'_, ArchivedVec<Tuple3StringFolderOptionString>> = Ref::at(part);
+    let list = before_vec(view);
+    let mut items = Vec::with_capacity(alloc, list.len())?;
+    for index in 0..list.len() {
+        let item = read_tuple3_string_folder_option_string(
+            alloc,
+            list.index(index).part(),
+            deserializer,
+        )?;
+        items.push_reserved(item);
+    }
+    Ok(items)
+}
+
+// Reads a tuple back, part by part.
+#[cycle(read_folder)]
+fn read_tuple3_i8_folder_folder<D: Entries>(
+    alloc: Global,
+    part: RawView<'_>,
+    deserializer: &mut D,
+) -> Result<(i8, Folder, Folder), Error>
+    requires { IsPartOf ⟦<Tuple3I8FolderFolder as ArchivePointee>⟧ part }
+    ensures read { IfOk result (λ t. ReadsPart ⟦<Tuple3I8FolderFolder as ArchivePointee>⟧ part
+        D.Entries deserializer (tuple3_i8_folder_folder_meaning t)
+        (tuple3_i8_folder_folder_keys t)) }
+    ensures refused { IfErr result (RefusesPart ⟦<Tuple3I8FolderFolder as ArchivePointee>⟧ part
+        D.Entries deserializer) }
+{
+    let p0 = part_of_record::<Tuple3I8FolderFolder, i8>(part, 0, 0);
+    let a0 = read_part::<i8, i8, D>(alloc, p0, deserializer)?;
+    let p1 = part_of_record::<Tuple3I8FolderFolder, ArchivedFolder>(part, 1, 4);
+    let a1 = read_folder(alloc, p1, deserializer)?;
+    let p2 = part_of_record::<Tuple3I8FolderFolder, ArchivedFolder>(part, 2, 24);
+    let a2 = read_folder(alloc, p2, deserializer)?;
+    Ok((a0, a1, a2))
+}
+
+// Reads a vector back.
+#[cycle(read_folder)]
+fn read_vec_tuple3_i8_folder_folder<D: Entries>(
+    alloc: Global,
+    part: RawView<'_>,
+    deserializer: &mut D,
+) -> Result<Vec<(i8, Folder, Folder)>, Error>
+    requires { IsPartOf ⟦<ArchivedVec<Tuple3I8FolderFolder> as ArchivePointee>⟧ part }
+    ensures read { IfOk result (λ t. ReadsPart ⟦<ArchivedVec<Tuple3I8FolderFolder> as ArchivePointee>⟧
+        part D.Entries deserializer (list (each_meaning tuple3_i8_folder_folder_meaning t.items))
+        (each_keys tuple3_i8_folder_folder_keys t.items)) }
+    ensures refused { IfErr result (RefusesPart ⟦<ArchivedVec<Tuple3I8FolderFolder> as ArchivePointee>⟧
+        part D.Entries deserializer) }
+{
+    let view: Ref<'_, ArchivedVec<Tuple3I8FolderFolder>> = Ref::at(part);
+    let list = before_vec(view);
+    let mut items = Vec::with_capacity(alloc, list.len())?;
+    for index in 0..list.len() {
+        let item = read_tuple3_i8_folder_folder(alloc, list.index(index).part(), deserializer)?;
+        items.push_reserved(item);
+    }
+    Ok(items)
+}
+
+// Reads a value back, part by part.
+#[cycle(read_folder)]
+fn read_folder<D: Entries>(
+    alloc: Global,
+    part: RawView<'_>,
+    deserializer: &mut D,
+) -> Result<Folder, Error>
+    requires { IsPartOf ⟦<ArchivedFolder as ArchivePointee>⟧ part }
+    ensures read { IfOk result (Read ⟦<ArchivedFolder as ArchivePointee>⟧ part D.Entries
+        deserializer ⟦<Folder as Archive>⟧) }
+    ensures refused { IfErr result (RefusesPart ⟦<ArchivedFolder as ArchivePointee>⟧ part D.Entries
+        deserializer) }
+{
+    let p0 = part_of_record::<ArchivedFolder, u8>(part, 0, 0);
+    let a0 = read_part::<u8, u8, D>(alloc, p0, deserializer)?;
+    let p1 = part_of_record::<ArchivedFolder, ArchivedVec<Tuple3StringFolderOptionString>>(
+        part, 1, 4,
+    );
+    let a1 = read_vec_tuple3_string_folder_option_string(alloc, p1, deserializer)?;
+    let p2 = part_of_record::<ArchivedFolder, ArchivedVec<Tuple3I8FolderFolder>>(part, 2, 12);
+    let a2 = read_vec_tuple3_i8_folder_folder(alloc, p2, deserializer)?;
+    Ok(Folder {
+        id: a0,
+        entries: a1,
+        attached: a2,
+    })
+}
+
+impl<D: Entries> Deserialize<Folder, D> for ArchivedFolder {
+    #[inline(always)]
+    fn deserialize_part(
+        alloc: Global,
+        part: RawView<'_>,
+        deserializer: &mut D,
+    ) -> Result<Folder, Error>
+        requires { IsPartOf ⟦<Self as ArchivePointee>⟧ part }
+        ensures { ReadsAs ⟦<Self as ArchivePointee>⟧ part D.Entries deserializer
+            ⟦<Folder as Archive>⟧ result }
+    {
+        read_folder(alloc, part, deserializer)
+    }
+}
+
+/// The fields of an archived `Folder`, as views.
+pub trait FolderView<'a> {
+    /// Its number.
+    fn id(self) -> Ref<'a, u8>;
+
+    /// What is in it, with names, and perhaps with notes.
+    fn entries(
+        self,
+    ) -> Ref<
+        'a,
+        ArchivedVec<ArchivedTuple3<ArchivedString, ArchivedFolder, ArchivedOption<ArchivedString>>>,
+    >;
+
+    /// What is attached to it in twos, with places.
+    fn attached(self) -> Ref<'a, ArchivedVec<ArchivedTuple3<i8, ArchivedFolder, ArchivedFolder>>>;
+}
+
+impl<'a> FolderView<'a> for Ref<'a, ArchivedFolder> {
+    fn id(self) -> Ref<'a, u8>
+        ensures buffer { result.bytes.now ≡ self.entry.bytes.now }
+        ensures position { result.pos ≡ self.entry.pos + 0 }
+        ensures length { result.len ≡ 0 }
+        ensures shows { ShowsValueOf result self.entry (field_in 0) }
+    {
+        view_of_field::<ArchivedFolder, u8>(self, 0, 0)
+    }
+
+    fn entries(
+        self,
+    ) -> Ref<
+        'a,
+        ArchivedVec<ArchivedTuple3<ArchivedString, ArchivedFolder, ArchivedOption<ArchivedString>>>,
+    >
+        ensures buffer { result.bytes.now ≡ self.entry.bytes.now }
+        ensures position { result.pos ≡ self.entry.pos + 4 }
+        ensures length { result.len ≡ 0 }
+        ensures shows { ShowsValueOf result self.entry (field_in 1) }
+    {
+        view_of_field::<
+            ArchivedFolder,
+            ArchivedVec<
+                ArchivedTuple3<ArchivedString, ArchivedFolder, ArchivedOption<ArchivedString>>,
+            >,
+        >(self, 1, 4)
+    }
+
+    fn attached(self) -> Ref<'a, ArchivedVec<ArchivedTuple3<i8, ArchivedFolder, ArchivedFolder>>>
+        ensures buffer { result.bytes.now ≡ self.entry.bytes.now }
+        ensures position { result.pos ≡ self.entry.pos + 12 }
+        ensures length { result.len ≡ 0 }
+        ensures shows { ShowsValueOf result self.entry (field_in 2) }
+    {
+        view_of_field::<
+            ArchivedFolder,
+            ArchivedVec<ArchivedTuple3<i8, ArchivedFolder, ArchivedFolder>>,
+        >(self, 2, 12)
+    }
+}
+
+/// The fields of an archived `Folder`, as seals.
+pub trait FolderSeal<'a> {
+    // The seal shows a part of a buffer that was checked.
+    ghost sealed: { Self → Type 0 };
+
+    /// Its number.
+    fn id_mut(self) -> Seal<'a, u8>
+        requires { sealed self };
+
+    /// What is in it, with names, and perhaps with notes.
+    fn entries_mut(
+        self,
+    ) -> Seal<
+        'a,
+        ArchivedVec<ArchivedTuple3<ArchivedString, ArchivedFolder, ArchivedOption<ArchivedString>>>,
+    >
+        requires { sealed self };
+
+    /// What is attached to it in twos, with places.
+    fn attached_mut(
+        self,
+    ) -> Seal<'a, ArchivedVec<ArchivedTuple3<i8, ArchivedFolder, ArchivedFolder>>>
+        requires { sealed self };
+}
+
+impl<'a> FolderSeal<'a> for Seal<'a, ArchivedFolder> {
+    ghost sealed = { λ s. IsSealOf folder_definitions (one ⟦<ArchivedFolder as Portable>⟧.shape)
+        s };
+
+    fn id_mut(self) -> Seal<'a, u8>
+        requires come_to { IsSealOf folder_definitions (one ⟦<ArchivedFolder as Portable>⟧.shape)
+            self }
+        ensures { SealsPart folder_definitions (one ⟦<ArchivedFolder as Portable>⟧.shape)
+            no_definition ⟦<u8 as ArchivePointee>⟧.pointee (self.entry.pos + 0) 0 self.entry
+            result }
+    {
+        seal_of_field::<ArchivedFolder, u8>(self, 0, 0)
+    }
+
+    fn entries_mut(
+        self,
+    ) -> Seal<
+        'a,
+        ArchivedVec<ArchivedTuple3<ArchivedString, ArchivedFolder, ArchivedOption<ArchivedString>>>,
+    >
+        requires come_to { IsSealOf folder_definitions (one ⟦<ArchivedFolder as Portable>⟧.shape)
+            self }
+        ensures { SealsPart folder_definitions (one ⟦<ArchivedFolder as Portable>⟧.shape)
+            (both no_definition (both ⟦<ArchivedFolder as ArchivePointee>⟧.definitions
+            (both no_definition no_definition)))
+            ⟦<ArchivedVec<ArchivedTuple3<ArchivedString, ArchivedFolder, ArchivedOption<ArchivedString>>> as ArchivePointee>⟧.pointee (self.entry.pos + 4) 0 self.entry result }
+    {
+        seal_of_field::<
+            ArchivedFolder,
+            ArchivedVec<
+                ArchivedTuple3<ArchivedString, ArchivedFolder, ArchivedOption<ArchivedString>>,
+            >,
+        >(self, 1, 4)
+    }
+
+    fn attached_mut(
+        self,
+    ) -> Seal<'a, ArchivedVec<ArchivedTuple3<i8, ArchivedFolder, ArchivedFolder>>>
+        requires come_to { IsSealOf folder_definitions (one ⟦<ArchivedFolder as Portable>⟧.shape)
+            self }
+        ensures { SealsPart folder_definitions (one ⟦<ArchivedFolder as Portable>⟧.shape)
+            (both no_definition (both ⟦<ArchivedFolder as ArchivePointee>⟧.definitions
+            (both ⟦<ArchivedFolder as ArchivePointee>⟧.definitions no_definition)))
+            ⟦<ArchivedVec<ArchivedTuple3<i8, ArchivedFolder, ArchivedFolder>> as ArchivePointee>⟧.pointee (self.entry.pos + 12) 0 self.entry result }
+    {
+        seal_of_field::<
+            ArchivedFolder,
+            ArchivedVec<ArchivedTuple3<i8, ArchivedFolder, ArchivedFolder>>,
+        >(self, 2, 12)
+    }
+}

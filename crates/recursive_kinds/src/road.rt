@@ -1,0 +1,848 @@
+//! Roads that lead into one another.
+
+use archive_core::rc::Shared;
+
+/// A road; several may lead into one.
+#[derive(Debug, PartialEq, Drop)]
+pub enum Road {
+    /// A length, and the road that it leads into, if it does.
+    Way(u8, Option<Shared<Road>>),
+    /// Another road in place of this one.
+    Detour(Shared<Road>),
+}
+
+// Below this line all is written by tools/derive: change what is above it, and run it again.
+
+ghost use Rattle.archive_core.specs.Arrays.{named_twice, no_two, twice_keyed};
+ghost use Rattle.archive_core.specs.CallOutcomes.{ResolvesAs};
+ghost use Rattle.archive_core.specs.Causes.{IsRefused};
+ghost use Rattle.archive_core.specs.Choices.{option_shape};
+ghost use Rattle.archive_core.specs.Definitions.{no_definition};
+ghost use Rattle.archive_core.specs.Error.TheVariants.{OutOfMemory};
+ghost use Rattle.archive_core.specs.Expressions.{shape_of, shapes_in};
+ghost use Rattle.archive_core.specs.Options.{option_flat};
+ghost use Rattle.archive_core.specs.Payloads.{payload_in};
+ghost use Rattle.archive_core.specs.PlannedOwners.{one_planned};
+ghost use Rattle.archive_core.specs.Plans.{Serialized};
+ghost use Rattle.archive_core.specs.SealsWritten.{IsSealOf, SealsPart, seal_tag};
+ghost use Rattle.archive_core.specs.Seen.{IsPartOf, RefusesPart, ShowsValueOf, part_tag, tag_of};
+ghost use Rattle.archive_core.specs.SelfCheck.Laws.{by_schema};
+ghost use Rattle.archive_core.specs.Shape.{one, part, parts, shared, variant, vec};
+ghost use Rattle.archive_core.specs.SharedSources.{rc_flat, rc_flavor};
+ghost use Rattle.archive_core.specs.Sources.{Read, ReadsAs};
+ghost use Rattle.archive_core.specs.Value.{case, no_value, shared_value, value};
+ghost use Rattle.archive_core.specs.Writing.{ZeroedPlace};
+ghost use Rattle.archive_core.specs.Written.{GoesOn};
+ghost use Rattle.recursive_kinds.specs.RoadShape.{road_definitions, road_detour_parts, road_has_layout, road_has_variants, road_is_align, road_layout, road_name, road_no_others, road_shape, road_stands_for, road_way_parts};
+ghost use Rattle.std.proofs.Common.{lit≤};
+ghost use Rattle.std.specs.Prelude.{IfErr, IfOk, None, Some, [], length, refl, ℕ, ⊤, ◌++◌, ◌+◌, ◌≡◌, ◌≤◌};
+
+use archive_core::error::Error;
+use archive_core::option::ArchivedOption;
+use archive_core::place::Place;
+use archive_core::pooling::Pooling;
+use archive_core::rc::{ArchivedRc, RcFlavor, RcResolver};
+use archive_core::recursive::{
+    begin_reading, begin_shared, choice_of, define_name, finish_reading, finish_shared,
+    option_expression, part_behind, part_of_variant, read_part, resolve_named_case_1,
+    resolve_named_case_2, seal_of_payload, serialize_part, shared_expression, tag_of_choice,
+    tag_of_view, view_of_payload,
+};
+use archive_core::seal::Seal;
+use archive_core::self_check::BySchema;
+use archive_core::ser::{ResolverAlloc, Writer, serialize_one};
+use archive_core::shape::Defs;
+use archive_core::sharing::Sharing;
+use archive_core::traits::{
+    Archive, ArchivePointee, ArchiveUnsized, Choice, CopyOptimization, Deserialize, Entries, Keys,
+    Portable, Serialize, SerializeUnsized,
+};
+use archive_core::view::{RawView, Ref};
+use std::alloc::Global;
+
+/// An archived `Road`: 12 bytes at a multiple of 4. It is validated by its schema.
+pub struct ArchivedRoad;
+
+type RoadWayParts = (u8, (ArchivedOption<ArchivedRc<ArchivedRoad, RcFlavor>>, ()));
+
+type RoadDetourParts = (ArchivedRc<ArchivedRoad, RcFlavor>, ());
+
+type RoadVariants = (RoadWayParts, (RoadDetourParts, ()));
+
+impl ArchivePointee for ArchivedRoad {
+    type ArchivedMetadata = ();
+
+    ghost pointee = { one road_shape };
+
+    ghost definitions = { road_definitions };
+
+    ghost metadata_length = { λ _. 0 };
+
+    fn pointer_metadata(_metadata: &()) -> usize {
+        0
+    }
+}
+
+// The parts of `Way`.
+fn road_way_expressions(alloc: Global) -> Result<Vec<archive_core::shape::Expr>, Error>
+    ensures shapes { IfOk result (λ list. shapes_in list.items ≡ road_way_parts) }
+    ensures refused { IfErr result (λ e. e ≡ OutOfMemory) }
+{
+    let a0 = <u8 as Portable>::expr(alloc)?;
+    let a1 = option_expression(
+        alloc,
+        shared_expression(alloc, archive_core::shape::Expr::Named("ArchivedRoad"))?,
+    )?;
+    Ok(vec![in alloc; a0, a1]?)
+}
+
+// The parts of `Detour`.
+fn road_detour_expressions(alloc: Global) -> Result<Vec<archive_core::shape::Expr>, Error>
+    ensures shapes { IfOk result (λ list. shapes_in list.items ≡ road_detour_parts) }
+    ensures refused { IfErr result (λ e. e ≡ OutOfMemory) }
+{
+    let a0 = shared_expression(alloc, archive_core::shape::Expr::Named("ArchivedRoad"))?;
+    Ok(vec![in alloc; a0]?)
+}
+
+// What the name stands for.
+fn road_expression(alloc: Global) -> Result<archive_core::shape::Expr, Error>
+    ensures shape { IfOk result (λ e. shape_of e ≡ road_stands_for) }
+    ensures refused { IfErr result (λ e. e ≡ OutOfMemory) }
+{
+    let v0 = road_way_expressions(alloc)?;
+    let v1 = road_detour_expressions(alloc)?;
+    let variants = vec![in alloc; v0, v1]?;
+    Ok(choice_of("ArchivedRoad", variants))
+}
+
+impl Portable for ArchivedRoad {
+    ghost shape = { road_shape };
+
+    ghost layout = { road_layout };
+
+    type Check = BySchema;
+
+    ghost is_one = { refl };
+
+    ghost is_align = { road_is_align };
+
+    ghost has_layout = { road_has_layout };
+
+    ghost no_others = { road_no_others };
+
+    ghost checks = { λ direct. by_schema direct };
+
+    fn size() -> usize {
+        12
+    }
+
+    fn align() -> usize {
+        4
+    }
+
+    fn expr(_alloc: Global) -> Result<archive_core::shape::Expr, Error> {
+        Ok(archive_core::shape::Expr::Named("ArchivedRoad"))
+    }
+
+    fn define(alloc: Global, defs: &mut Defs) -> Result<(), Error> {
+        let stands_for = match road_expression(alloc) {
+            Ok(stands_for) => stands_for,
+            Err(error) => return Err(error),
+        };
+        define_name("ArchivedRoad", stands_for, defs)
+    }
+}
+
+impl Choice for ArchivedRoad {
+    type Variants = RoadVariants;
+
+    ghost name = { road_name };
+
+    ghost has_variants = { road_has_variants };
+
+    ghost holds = { lit≤ tt };
+}
+
+/// What is kept of `Road` between `serialize` and `resolve`.
+#[derive(Drop)]
+pub enum RoadResolver {
+    /// Of `Way`.
+    Way((<u8 as Archive>::Resolver, (Option<RcResolver>, ()))),
+    /// Of `Detour`.
+    Detour((RcResolver, ())),
+}
+
+// A shared pointer to a value that was written before. It can be resolved, and nothing else: it means nothing.
+#[derive(Drop)]
+struct SharedRoadAt;
+
+impl ArchiveUnsized for SharedRoadAt {
+    type Archived = ArchivedRoad;
+
+    ghost source_length = { λ _. 0 };
+
+    ghost meaning = { λ _. shared_value 0 };
+
+    ghost keys = { λ _. named_twice };
+
+    ghost keyed = { λ _. twice_keyed };
+
+    ghost planned = { λ _ a s names known named. absurd (no_two names named) };
+
+    ghost one_length = { λ _ _. refl };
+
+    #[inline(always)]
+    fn archived_metadata(&self) -> Result<(), Error> {
+        Ok(())
+    }
+}
+
+impl Archive for SharedRoadAt {
+    type Archived = ArchivedRc<ArchivedRoad, RcFlavor>;
+
+    type Resolver = RcResolver;
+
+    ghost meaning = { λ _. shared_value 0 };
+
+    ghost flat = { λ _ r. rc_flat r (one road_shape) 0 };
+
+    ghost keys = { λ _. named_twice };
+
+    ghost belongs = { λ _ _. ⊤ };
+
+    ghost in_bulk = { None };
+
+    ghost keyed = { λ _. twice_keyed };
+
+    ghost planned = { λ _ a s names known named. absurd (no_two names named) };
+
+    #[inline(always)]
+    fn resolve(
+        &self,
+        resolver: RcResolver,
+        place: Place<'_, ArchivedRc<ArchivedRoad, RcFlavor>>,
+    ) -> Result<(), Error>
+        requires zeroed { ZeroedPlace 4 place.pos place.bytes.now }
+        requires same_value { ⊤ }
+        ensures { ResolvesAs ⟦<Self::Archived as Portable>⟧ place
+            (⟦<Self as Archive>⟧.flat self.now resolver) result }
+    {
+        let Place { bytes, pos, .. } = place;
+        ArchivedRc::<ArchivedRoad, RcFlavor>::resolve_from_ref(
+            self,
+            resolver,
+            Place::new(pos, bytes),
+        )
+    }
+
+    #[inline(always)]
+    fn copy_optimization() -> CopyOptimization<Self> {
+        CopyOptimization::disable()
+    }
+
+    #[inline(always)]
+    fn serialize_copied<S: Writer + Keys>(
+        _values: &[Self],
+        _together: usize,
+        _serializer: &mut S,
+    ) -> Result<Option<usize>, Error> {
+        Ok(None)
+    }
+}
+
+// An option of a shared pointer to a value that was written before, if there is one: what is kept of it says so. It means nothing.
+#[derive(Drop)]
+struct OptionSharedRoadAt;
+
+impl Archive for OptionSharedRoadAt {
+    type Archived = ArchivedOption<ArchivedRc<ArchivedRoad, RcFlavor>>;
+
+    type Resolver = Option<RcResolver>;
+
+    ghost meaning = { λ _. shared_value 0 };
+
+    ghost flat = { λ _ r. option_flat (λ y s. rc_flat s (one road_shape) 0) r r };
+
+    ghost keys = { λ _. named_twice };
+
+    ghost belongs = { λ _ _. ⊤ };
+
+    ghost in_bulk = { None };
+
+    ghost keyed = { λ _. twice_keyed };
+
+    ghost planned = { λ _ a s names known named. absurd (no_two names named) };
+
+    #[inline(always)]
+    fn resolve(
+        &self,
+        resolver: Option<RcResolver>,
+        place: Place<'_, ArchivedOption<ArchivedRc<ArchivedRoad, RcFlavor>>>,
+    ) -> Result<(), Error>
+        requires zeroed { ZeroedPlace 8 place.pos place.bytes.now }
+        requires same_value { ⊤ }
+        ensures { ResolvesAs ⟦<Self::Archived as Portable>⟧ place
+            (⟦<Self as Archive>⟧.flat self.now resolver) result }
+    {
+        let Place { bytes, pos, .. } = place;
+        match resolver {
+            None => {
+                let none: Option<SharedRoadAt> = None;
+                none.resolve(None, Place::new(pos, bytes))
+            }
+            Some(at) => {
+                let some = Some(SharedRoadAt);
+                some.resolve(Some(at), Place::new(pos, bytes))
+            }
+        }
+    }
+
+    #[inline(always)]
+    fn copy_optimization() -> CopyOptimization<Self> {
+        CopyOptimization::disable()
+    }
+
+    #[inline(always)]
+    fn serialize_copied<S: Writer + Keys>(
+        _values: &[Self],
+        _together: usize,
+        _serializer: &mut S,
+    ) -> Result<Option<usize>, Error> {
+        Ok(None)
+    }
+}
+
+impl Archive for Road {
+    ghost use Rattle.recursive_kinds.specs.RoadMeaning.{road_meaning, road_flat, road_keys, road_belongs, road_keyed, road_planned};
+
+    type Archived = ArchivedRoad;
+
+    type Resolver = RoadResolver;
+
+    ghost meaning = { road_meaning };
+
+    ghost flat = { road_flat };
+
+    ghost keys = { road_keys };
+
+    ghost belongs = { road_belongs };
+
+    ghost in_bulk = { None };
+
+    ghost keyed = { road_keyed };
+
+    ghost planned = { road_planned };
+
+    #[inline(always)]
+    fn resolve(
+        &self,
+        resolver: Self::Resolver,
+        place: Place<'_, Self::Archived>,
+    ) -> Result<(), Error>
+        requires zeroed { ZeroedPlace 12 place.pos place.bytes.now }
+        requires same_value { ⟦<Self as Archive>⟧.belongs self.now resolver }
+        ensures { ResolvesAs ⟦<Self::Archived as Portable>⟧ place
+            (⟦<Self as Archive>⟧.flat self.now resolver) result }
+    {
+        let Place { bytes, pos, .. } = place;
+        match self {
+            Road::Way(a0, _a1) => {
+                let RoadResolver::Way(kept) = resolver else {
+                    unreachable!();
+                };
+                resolve_named_case_2::<u8, OptionSharedRoadAt, ArchivedRoad>(
+                    0,
+                    a0,
+                    &OptionSharedRoadAt,
+                    kept,
+                    Place::new(pos, bytes),
+                )
+            }
+            Road::Detour(_a0) => {
+                let RoadResolver::Detour(kept) = resolver else {
+                    unreachable!();
+                };
+                resolve_named_case_1::<SharedRoadAt, ArchivedRoad>(
+                    1,
+                    &SharedRoadAt,
+                    kept,
+                    Place::new(pos, bytes),
+                )
+            }
+        }
+    }
+
+    #[inline(always)]
+    fn copy_optimization() -> CopyOptimization<Self> {
+        CopyOptimization::disable()
+    }
+
+    #[inline(always)]
+    fn serialize_copied<S: Writer + Keys>(
+        _values: &[Self],
+        _together: usize,
+        _serializer: &mut S,
+    ) -> Result<Option<usize>, Error> {
+        Ok(None)
+    }
+}
+
+// Writes what a shared pointer leads to, if its key is unknown.
+#[cycle(serialize_road)]
+fn serialize_shared_road<S: Sharing + Writer + ResolverAlloc>(
+    value: &Shared<Road>,
+    serializer: &mut S,
+) -> Result<RcResolver, Error>
+    ensures serialized { IfOk result (λ r. Serialized road_definitions
+        (shared rc_flavor (one road_shape)) (⟦<Shared<Road> as Archive>⟧.keys value.now)
+        (⟦<Shared<Road> as Archive>⟧.meaning value.now)
+        (⟦<Shared<Road> as Archive>⟧.flat value.now r) (S.state serializer.old)
+        (S.state serializer.new)) }
+    ensures same_value { IfOk result (λ r. ⟦<Shared<Road> as Archive>⟧.belongs value.now r) }
+    ensures goes_on { GoesOn (S.state serializer.old) (S.state serializer.new) }
+    ensures refused { IfErr result (IsRefused road_definitions (shared rc_flavor (one road_shape))
+        (⟦<Shared<Road> as Archive>⟧.keys value.now) (⟦<Shared<Road> as Archive>⟧.meaning value.now)
+        (S.state serializer.old) (S.state serializer.new)) }
+{
+    let inner = &*value.value;
+    let known = match begin_shared(value.key, serializer) {
+        Ok(known) => known,
+        Err(error) => return Err(error),
+    };
+    match known {
+        Some(resolver) => Ok(resolver),
+        None => {
+            let kept = match serialize_road(inner, serializer) {
+                Ok(kept) => kept,
+                Err(error) => return Err(error),
+            };
+            match finish_shared(value.key, inner, kept, serializer) {
+                Ok(resolver) => Ok(resolver),
+                Err(error) => Err(error),
+            }
+        }
+    }
+}
+
+// Writes what an option of a shared pointer leads to, if its key is unknown.
+#[cycle(serialize_road)]
+fn serialize_option_shared_road<S: Sharing + Writer + ResolverAlloc>(
+    value: &Option<Shared<Road>>,
+    serializer: &mut S,
+) -> Result<Option<RcResolver>, Error>
+    ensures serialized { IfOk result (λ r. Serialized road_definitions
+        (option_shape (shared rc_flavor (one road_shape)))
+        (⟦<Option<Shared<Road>> as Archive>⟧.keys value.now)
+        (⟦<Option<Shared<Road>> as Archive>⟧.meaning value.now)
+        (option_flat (λ y s. (rc_flat s (one road_shape) 0)) r r) (S.state serializer.old)
+        (S.state serializer.new)) }
+    ensures same_value { IfOk result (λ r. ⊤) }
+    ensures goes_on { GoesOn (S.state serializer.old) (S.state serializer.new) }
+    ensures refused { IfErr result (IsRefused road_definitions
+        (option_shape (shared rc_flavor (one road_shape)))
+        (⟦<Option<Shared<Road>> as Archive>⟧.keys value.now)
+        (⟦<Option<Shared<Road>> as Archive>⟧.meaning value.now) (S.state serializer.old)
+        (S.state serializer.new)) }
+{
+    match value {
+        None => Ok(None),
+        Some(whole) => {
+            let inner = &*whole.value;
+            let known = match begin_shared(whole.key, serializer) {
+                Ok(known) => known,
+                Err(error) => return Err(error),
+            };
+            match known {
+                Some(resolver) => Ok(Some(resolver)),
+                None => {
+                    let kept = match serialize_road(inner, serializer) {
+                        Ok(kept) => kept,
+                        Err(error) => return Err(error),
+                    };
+                    match finish_shared(whole.key, inner, kept, serializer) {
+                        Ok(resolver) => Ok(Some(resolver)),
+                        Err(error) => Err(error),
+                    }
+                }
+            }
+        }
+    }
+}
+
+// Writes what the parts of `Way` own, in order.
+#[cycle(serialize_road)]
+fn serialize_road_way<S: Sharing + Writer + ResolverAlloc>(
+    a0: &u8,
+    a1: &Option<Shared<Road>>,
+    serializer: &mut S,
+) -> Result<(<u8 as Archive>::Resolver, (Option<RcResolver>, ())), Error>
+    ensures serialized { IfOk result (λ r. Serialized road_definitions road_shape
+        (⟦<u8 as Archive>⟧.keys a0.now ++ (⟦<Option<Shared<Road>> as Archive>⟧.keys a1.now ++ []))
+        (case 0 (value (⟦<u8 as Archive>⟧.meaning a0.now)
+        (value (⟦<Option<Shared<Road>> as Archive>⟧.meaning a1.now) no_value)))
+        (case 0 (value (⟦<u8 as Archive>⟧.flat a0.now r.0)
+        (value (option_flat (λ y s. (rc_flat s (one road_shape) 0)) r.1.0 r.1.0) no_value)))
+        (S.state serializer.old) (S.state serializer.new)) }
+    ensures same_values { IfOk result (λ r. ⟦<u8 as Archive>⟧.belongs a0.now r.0 × (⊤ × Unit {0})) }
+    ensures goes_on { GoesOn (S.state serializer.old) (S.state serializer.new) }
+    ensures refused { IfErr result (IsRefused road_definitions road_shape
+        (⟦<u8 as Archive>⟧.keys a0.now ++ (⟦<Option<Shared<Road>> as Archive>⟧.keys a1.now ++ []))
+        (case 0 (value (⟦<u8 as Archive>⟧.meaning a0.now)
+        (value (⟦<Option<Shared<Road>> as Archive>⟧.meaning a1.now) no_value)))
+        (S.state serializer.old) (S.state serializer.new)) }
+{
+    let a0 = match serialize_part(a0, serializer) {
+        Ok(a0) => a0,
+        Err(error) => return Err(error),
+    };
+    let a1 = match serialize_option_shared_road(a1, serializer) {
+        Ok(a1) => a1,
+        Err(error) => return Err(error),
+    };
+    Ok((a0, (a1, ())))
+}
+
+// Writes what the parts of `Detour` own, in order.
+#[cycle(serialize_road)]
+fn serialize_road_detour<S: Sharing + Writer + ResolverAlloc>(
+    a0: &Shared<Road>,
+    serializer: &mut S,
+) -> Result<(RcResolver, ()), Error>
+    ensures serialized { IfOk result (λ r. Serialized road_definitions road_shape
+        (⟦<Shared<Road> as Archive>⟧.keys a0.now ++ [])
+        (case 1 (value (⟦<Shared<Road> as Archive>⟧.meaning a0.now) no_value))
+        (case 1 (value (⟦<Shared<Road> as Archive>⟧.flat a0.now r.0) no_value))
+        (S.state serializer.old) (S.state serializer.new)) }
+    ensures same_values { IfOk result (λ r. ⟦<Shared<Road> as Archive>⟧.belongs a0.now r.0
+        × Unit {0}) }
+    ensures goes_on { GoesOn (S.state serializer.old) (S.state serializer.new) }
+    ensures refused { IfErr result (IsRefused road_definitions road_shape
+        (⟦<Shared<Road> as Archive>⟧.keys a0.now ++ [])
+        (case 1 (value (⟦<Shared<Road> as Archive>⟧.meaning a0.now) no_value))
+        (S.state serializer.old) (S.state serializer.new)) }
+{
+    let a0 = match serialize_shared_road(a0, serializer) {
+        Ok(a0) => a0,
+        Err(error) => return Err(error),
+    };
+    Ok((a0, ()))
+}
+
+// Writes what a value owns.
+#[cycle(serialize_road)]
+fn serialize_road<S: Sharing + Writer + ResolverAlloc>(
+    value: &Road,
+    serializer: &mut S,
+) -> Result<RoadResolver, Error>
+    ensures serialized { IfOk result (λ r. Serialized road_definitions road_shape
+        (⟦<Road as Archive>⟧.keys value.now) (⟦<Road as Archive>⟧.meaning value.now)
+        (⟦<Road as Archive>⟧.flat value.now r) (S.state serializer.old) (S.state serializer.new)) }
+    ensures same_value { IfOk result (λ r. ⟦<Road as Archive>⟧.belongs value.now r) }
+    ensures goes_on { GoesOn (S.state serializer.old) (S.state serializer.new) }
+    ensures refused { IfErr result (IsRefused road_definitions road_shape
+        (⟦<Road as Archive>⟧.keys value.now) (⟦<Road as Archive>⟧.meaning value.now)
+        (S.state serializer.old) (S.state serializer.new)) }
+{
+    match value {
+        Road::Way(a0, a1) => match serialize_road_way(a0, a1, serializer) {
+            Ok(kept) => Ok(RoadResolver::Way(kept)),
+            Err(error) => Err(error),
+        },
+        Road::Detour(a0) => match serialize_road_detour(a0, serializer) {
+            Ok(kept) => Ok(RoadResolver::Detour(kept)),
+            Err(error) => Err(error),
+        },
+    }
+}
+
+impl<S: Sharing + Writer + ResolverAlloc> Serialize<S> for Road {
+    #[inline(always)]
+    fn serialize(&self, serializer: &mut S) -> Result<Self::Resolver, Error> {
+        serialize_road(self, serializer)
+    }
+}
+
+/// As a region of its own: the value itself.
+impl ArchiveUnsized for Road {
+    ghost use Rattle.recursive_kinds.specs.contracts.road.RoadArchive.TheImpl.Laws.{keyed-law as keyed_of_road, planned-law as planned_of_road};
+
+    type Archived = ArchivedRoad;
+
+    ghost source_length = { λ _. 0 };
+
+    ghost meaning = { ⟦<Road as Archive>⟧.meaning };
+
+    ghost keys = { ⟦<Road as Archive>⟧.keys };
+
+    ghost keyed = { keyed_of_road };
+
+    ghost one_length = { λ _ _. refl };
+
+    ghost planned = { λ v. one_planned road_definitions road_shape (⟦<Road as Archive>⟧.keys v)
+        (⟦<Road as Archive>⟧.meaning v) (planned_of_road v) };
+
+    #[inline(always)]
+    fn archived_metadata(&self) -> Result<(), Error> {
+        Ok(())
+    }
+}
+
+impl<S: Sharing + Writer + ResolverAlloc> SerializeUnsized<S> for Road {
+    #[inline(always)]
+    fn serialize_unsized(&self, serializer: &mut S) -> Result<usize, Error> {
+        serialize_one(self, serializer)
+    }
+}
+
+// Reads a shared value back.
+#[cycle(read_road)]
+fn read_shared_road<D: Pooling<Shared<Road>>>(
+    alloc: Global,
+    part: RawView<'_>,
+    levels: usize,
+    deserializer: &mut D,
+) -> Result<Shared<Road>, Error>
+    requires { IsPartOf ⟦<ArchivedRc<ArchivedRoad, RcFlavor> as ArchivePointee>⟧ part }
+    ensures read { IfOk result (Read ⟦<ArchivedRc<ArchivedRoad, RcFlavor> as ArchivePointee>⟧ part
+        D.Entries deserializer ⟦<Shared<Road> as Archive>⟧) }
+    ensures refused { IfErr result (RefusesPart ⟦<ArchivedRc<ArchivedRoad, RcFlavor> as ArchivePointee>⟧
+        part D.Entries deserializer) }
+{
+    match begin_reading::<ArchivedRoad, RcFlavor, Shared<Road>, D>(part, deserializer)? {
+        Some(value) => Ok(value),
+        None => {
+            let behind = part_behind::<ArchivedRoad, RcFlavor>(part);
+            let value = read_road(alloc, behind, levels, deserializer)?;
+            finish_reading::<ArchivedRoad, RcFlavor, Shared<Road>, D>(
+                alloc,
+                part,
+                value,
+                deserializer,
+            )
+        }
+    }
+}
+
+// Reads an option back.
+#[cycle(read_road)]
+fn read_option_shared_road<D: Pooling<Shared<Road>>>(
+    alloc: Global,
+    part: RawView<'_>,
+    levels: usize,
+    deserializer: &mut D,
+) -> Result<Option<Shared<Road>>, Error>
+    requires { IsPartOf ⟦<ArchivedOption<ArchivedRc<ArchivedRoad, RcFlavor>> as ArchivePointee>⟧
+        part }
+    ensures read { IfOk result
+        (Read ⟦<ArchivedOption<ArchivedRc<ArchivedRoad, RcFlavor>> as ArchivePointee>⟧ part
+        D.Entries deserializer ⟦<Option<Shared<Road>> as Archive>⟧) }
+    ensures refused { IfErr result
+        (RefusesPart ⟦<ArchivedOption<ArchivedRc<ArchivedRoad, RcFlavor>> as ArchivePointee>⟧ part
+        D.Entries deserializer) }
+{
+    let view: Ref<'_, ArchivedOption<ArchivedRc<ArchivedRoad, RcFlavor>>> = Ref::at(part);
+    match view.as_ref() {
+        None => Ok(None),
+        Some(inner) => {
+            let value = read_shared_road(alloc, inner.part(), levels, deserializer)?;
+            Ok(Some(value))
+        }
+    }
+}
+
+// Reads `Way` back.
+#[cycle(read_road)]
+fn read_road_way<D: Pooling<Shared<Road>>>(
+    alloc: Global,
+    part: RawView<'_>,
+    levels: usize,
+    deserializer: &mut D,
+) -> Result<Road, Error>
+    requires viewed { IsPartOf ⟦<ArchivedRoad as ArchivePointee>⟧ part }
+    requires tag { part_tag part ≡ 0 }
+    ensures read { IfOk result (Read ⟦<ArchivedRoad as ArchivePointee>⟧ part D.Entries deserializer
+        ⟦<Road as Archive>⟧) }
+    ensures refused { IfErr result (RefusesPart ⟦<ArchivedRoad as ArchivePointee>⟧ part D.Entries
+        deserializer) }
+{
+    let p0 = part_of_variant::<ArchivedRoad, u8>(part, 0, 0, 1);
+    let a0 = read_part::<u8, u8, D>(alloc, p0, deserializer)?;
+    let p1 = part_of_variant::<ArchivedRoad, ArchivedOption<ArchivedRc<ArchivedRoad, RcFlavor>>>(
+        part, 0, 1, 4,
+    );
+    let a1 = read_option_shared_road(alloc, p1, levels, deserializer)?;
+    Ok(Road::Way(a0, a1))
+}
+
+// Reads `Detour` back.
+#[cycle(read_road)]
+fn read_road_detour<D: Pooling<Shared<Road>>>(
+    alloc: Global,
+    part: RawView<'_>,
+    levels: usize,
+    deserializer: &mut D,
+) -> Result<Road, Error>
+    requires viewed { IsPartOf ⟦<ArchivedRoad as ArchivePointee>⟧ part }
+    requires tag { part_tag part ≡ 1 }
+    ensures read { IfOk result (Read ⟦<ArchivedRoad as ArchivePointee>⟧ part D.Entries deserializer
+        ⟦<Road as Archive>⟧) }
+    ensures refused { IfErr result (RefusesPart ⟦<ArchivedRoad as ArchivePointee>⟧ part D.Entries
+        deserializer) }
+{
+    let p0 = part_of_variant::<ArchivedRoad, ArchivedRc<ArchivedRoad, RcFlavor>>(part, 1, 0, 4);
+    let a0 = read_shared_road(alloc, p0, levels, deserializer)?;
+    Ok(Road::Detour(a0))
+}
+
+// Reads a value back.
+#[cycle(read_road)]
+fn read_road<D: Pooling<Shared<Road>>>(
+    alloc: Global,
+    part: RawView<'_>,
+    levels: usize,
+    deserializer: &mut D,
+) -> Result<Road, Error>
+    requires { IsPartOf ⟦<ArchivedRoad as ArchivePointee>⟧ part }
+    ensures read { IfOk result (Read ⟦<ArchivedRoad as ArchivePointee>⟧ part D.Entries deserializer
+        ⟦<Road as Archive>⟧) }
+    ensures refused { IfErr result (RefusesPart ⟦<ArchivedRoad as ArchivePointee>⟧ part D.Entries
+        deserializer) }
+{
+    if levels == 0 {
+        return Err(Error::OutOfMemory);
+    }
+    let levels = levels - 1;
+    match tag_of_choice::<ArchivedRoad>(part) {
+        0 => read_road_way(alloc, part, levels, deserializer),
+        _ => read_road_detour(alloc, part, levels, deserializer),
+    }
+}
+
+impl<D: Pooling<Shared<Road>>> Deserialize<Road, D> for ArchivedRoad {
+    #[inline(always)]
+    fn deserialize_part(
+        alloc: Global,
+        part: RawView<'_>,
+        deserializer: &mut D,
+    ) -> Result<Road, Error>
+        requires { IsPartOf ⟦<Self as ArchivePointee>⟧ part }
+        ensures { ReadsAs ⟦<Self as ArchivePointee>⟧ part D.Entries deserializer ⟦<Road as Archive>⟧
+            result }
+    {
+        let levels = part.bytes.len();
+        read_road(alloc, part, levels, deserializer)
+    }
+}
+
+/// What a view of an archived `Road` shows, by its tag.
+#[derive(Drop)]
+pub enum ViewOfRoad<'a> {
+    /// A length, and the road that it leads into, if it does.
+    Way(Ref<'a, u8>, Ref<'a, ArchivedOption<ArchivedRc<ArchivedRoad, RcFlavor>>>),
+    /// Another road in place of this one.
+    Detour(Ref<'a, ArchivedRc<ArchivedRoad, RcFlavor>>),
+}
+
+/// The variant of an archived `Road`, as a view.
+pub trait RoadView<'a> {
+    /// The variant that the tag names, with views of its fields.
+    fn variant(self) -> ViewOfRoad<'a>;
+}
+
+impl<'a> RoadView<'a> for Ref<'a, ArchivedRoad> {
+    ghost use Rattle.recursive_kinds.specs.declared.road.ViewOfRoad.TheVariants.{Detour as RoadDetourShown, Way as RoadWayShown};
+
+    fn variant(self) -> ViewOfRoad<'a>
+        ensures shows { elim result [
+          | RoadWayShown a0 a1 ↦ (tag_of self.entry ≡ 0) × (a0.bytes.now ≡ self.entry.bytes.now)
+              × (a0.pos ≡ self.entry.pos + 1) × (a0.len ≡ 0)
+              × ShowsValueOf a0 self.entry (payload_in 0) × (a1.bytes.now ≡ self.entry.bytes.now)
+              × (a1.pos ≡ self.entry.pos + 4) × (a1.len ≡ 0)
+              × ShowsValueOf a1 self.entry (payload_in 1)
+          | RoadDetourShown a0 ↦ (tag_of self.entry ≡ 1) × (a0.bytes.now ≡ self.entry.bytes.now)
+              × (a0.pos ≡ self.entry.pos + 4) × (a0.len ≡ 0)
+              × ShowsValueOf a0 self.entry (payload_in 0)
+        ] }
+    {
+        match tag_of_view(self) {
+            0 => {
+                let a0 = view_of_payload::<ArchivedRoad, u8>(self, 0, 0, 1);
+                let a1 = view_of_payload::<
+                    ArchivedRoad,
+                    ArchivedOption<ArchivedRc<ArchivedRoad, RcFlavor>>,
+                >(self, 0, 1, 4);
+                ViewOfRoad::Way(a0, a1)
+            }
+            _ => {
+                let a0 = view_of_payload::<ArchivedRoad, ArchivedRc<ArchivedRoad, RcFlavor>>(
+                    self, 1, 0, 4,
+                );
+                ViewOfRoad::Detour(a0)
+            }
+        }
+    }
+}
+
+/// The fields of an archived `Road`, as seals. The caller must ensure that the tag is the variant's.
+pub trait RoadSeal<'a> {
+    // The seal shows a part of a buffer that was checked.
+    ghost sealed: { Self → Type 0 };
+
+    // The tag that it shows.
+    ghost tag: { Self → ℕ };
+
+    /// The field `0` of `Way`.
+    fn way_0_mut(self) -> Seal<'a, u8>
+        requires come_to { sealed self }
+        requires tag { tag self ≡ 0 };
+
+    /// The field `1` of `Way`.
+    fn way_1_mut(self) -> Seal<'a, ArchivedOption<ArchivedRc<ArchivedRoad, RcFlavor>>>
+        requires come_to { sealed self }
+        requires tag { tag self ≡ 0 };
+
+    /// The field `0` of `Detour`.
+    fn detour_0_mut(self) -> Seal<'a, ArchivedRc<ArchivedRoad, RcFlavor>>
+        requires come_to { sealed self }
+        requires tag { tag self ≡ 1 };
+}
+
+impl<'a> RoadSeal<'a> for Seal<'a, ArchivedRoad> {
+    ghost sealed = { λ s. IsSealOf road_definitions (one ⟦<ArchivedRoad as Portable>⟧.shape) s };
+
+    ghost tag = { λ s. seal_tag s };
+
+    fn way_0_mut(self) -> Seal<'a, u8>
+        requires come_to { IsSealOf road_definitions (one ⟦<ArchivedRoad as Portable>⟧.shape) self }
+        requires tag { seal_tag self ≡ 0 }
+        ensures { SealsPart road_definitions (one ⟦<ArchivedRoad as Portable>⟧.shape) no_definition
+            ⟦<u8 as ArchivePointee>⟧.pointee (self.entry.pos + 1) 0 self.entry result }
+    {
+        seal_of_payload::<ArchivedRoad, u8>(self, 0, 0, 1)
+    }
+
+    fn way_1_mut(self) -> Seal<'a, ArchivedOption<ArchivedRc<ArchivedRoad, RcFlavor>>>
+        requires come_to { IsSealOf road_definitions (one ⟦<ArchivedRoad as Portable>⟧.shape) self }
+        requires tag { seal_tag self ≡ 0 }
+        ensures { SealsPart road_definitions (one ⟦<ArchivedRoad as Portable>⟧.shape)
+            ⟦<ArchivedRoad as ArchivePointee>⟧.definitions
+            ⟦<ArchivedOption<ArchivedRc<ArchivedRoad, RcFlavor>> as ArchivePointee>⟧.pointee
+            (self.entry.pos + 4) 0 self.entry result }
+    {
+        seal_of_payload::<ArchivedRoad, ArchivedOption<ArchivedRc<ArchivedRoad, RcFlavor>>>(
+            self, 0, 1, 4,
+        )
+    }
+
+    fn detour_0_mut(self) -> Seal<'a, ArchivedRc<ArchivedRoad, RcFlavor>>
+        requires come_to { IsSealOf road_definitions (one ⟦<ArchivedRoad as Portable>⟧.shape) self }
+        requires tag { seal_tag self ≡ 1 }
+        ensures { SealsPart road_definitions (one ⟦<ArchivedRoad as Portable>⟧.shape)
+            ⟦<ArchivedRoad as ArchivePointee>⟧.definitions
+            ⟦<ArchivedRc<ArchivedRoad, RcFlavor> as ArchivePointee>⟧.pointee (self.entry.pos + 4) 0
+            self.entry result }
+    {
+        seal_of_payload::<ArchivedRoad, ArchivedRc<ArchivedRoad, RcFlavor>>(self, 1, 0, 4)
+    }
+}

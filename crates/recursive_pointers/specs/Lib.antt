@@ -1,4 +1,0 @@
-pub mod GroveMeaning
-pub mod GroveShape
-pub mod RoadMeaning
-pub mod RoadShape

@@ -1,6 +1,0 @@
-//! Recursive types that lead back by boxed slices and by shared pointers, as a user declares them, with what tools/derive writes for them. The tests are in
-//! tests_recursive.
-#![tactic(auto)]
-
-pub mod grove;
-pub mod road;
