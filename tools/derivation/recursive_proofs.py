@@ -3,7 +3,7 @@
 import re
 
 from . import recursive_chain_proofs as chains
-from . import recursive_code, recursive_hollow, recursive_weak
+from . import recursive_code, recursive_hollow, recursive_lent, recursive_weak
 from .common import numbered
 from .formats import snake
 from .recursive_holders import laid
@@ -852,6 +852,7 @@ def defining_all(family):
 def files(family):
     out = {} if family.first.is_simple else defining_all(family)
     for it in family.members:
+        out.update(recursive_lent.files(it))
         if not it.is_holder:
             out.update(defining(it))
             out.update(recursive_hollow.files(it))
