@@ -50,6 +50,7 @@ def text(it):
     pieces += [boxed_slices(it), recursive_weak.calls(it), shared_pointers(it), recursive_lent.text(it), archive(it)]
     if it.is_chain:
         chains.refuse_derived_drop(it.declaration)
+        chains.refuse_long(it)
         chains.bring(it)
         pieces += [chains.check(it), chains.drop(it), chains.writing(it), region(it), chains.reading(it), deserialize(it)]
     else:
