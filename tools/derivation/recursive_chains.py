@@ -179,7 +179,7 @@ class Front:
     """The parts before a box, as a case."""
 
     def __init__(self, case):
-        self.is_record, self.is_row = case.is_record, case.is_row
+        self.is_record, self.is_row, self.is_long = case.is_record, case.is_row, case.is_long
         self.names, self.types, self.leads_back, self.rust, self.archived, self.offsets = (
             part[:-1] for part in (case.names, case.types, case.leads_back, case.rust, case.archived, case.offsets)
         )

@@ -1072,13 +1072,14 @@ def parts_read(it, case):
         else:
             where = Generic("part_of_variant", [it.archived, X], ["part", str(case.tag), str(i), str(offset)])
         lines += statement(4, f"let p{i} = ", where, ";")
-        if by_match(type):
-            read = call(word_of(it, type), ["alloc", f"p{i}", "deserializer"]) if is_made(type) else Generic("read_part", [X, T, "D"], ["alloc", f"p{i}", "deserializer"])
-            lines += statement(4, f"let {name} = match ", read, " {") + f"        Ok({name}) => {name},\n        Err(error) => return Err(error),\n    }};\n"
-            continue
         levels = ["levels"] if it.family.shares and back else []
-        read = call(word_of(it, type), ["alloc", f"p{i}"] + levels + ["deserializer"], "?") if back or is_made(type) else Generic("read_part", [X, T, "D"], ["alloc", f"p{i}", "deserializer"], "?")
-        lines += statement(4, f"let {name} = ", read, ";")
+        is_matched = case.is_long or by_match(type)
+        tail = "" if is_matched else "?"
+        read = call(word_of(it, type), ["alloc", f"p{i}"] + levels + ["deserializer"], tail) if back or is_made(type) else Generic("read_part", [X, T, "D"], ["alloc", f"p{i}", "deserializer"], tail)
+        if is_matched:
+            lines += statement(4, f"let {name} = match ", read, " {") + f"        Ok({name}) => {name},\n        Err(error) => return Err(error),\n    }};\n"
+        else:
+            lines += statement(4, f"let {name} = ", read, ";")
     return lines
 
 

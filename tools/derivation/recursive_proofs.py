@@ -765,7 +765,7 @@ def parts_read(it, case, answers, function):
     """The answers on parts that are read one after another."""
     where = "part_of_record" if case.is_record else "part_of_variant"
     told = ["rw (" + ", ".join(f"c.{where}-p{i}.ensures.{clause}" for clause in ("buffer", "position", "length")) + ") at " for i in range(case.count)]
-    reads = Reads(it, case.names, case.types)
+    reads = Reads(it, case.names, case.types, case.is_long)
     values = reads.values
     parts = Parts(it, case, values)
     laws = [laid(it, type) for type in case.types]
