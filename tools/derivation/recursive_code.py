@@ -244,6 +244,23 @@ def expression(it, type):
     return f"{EXPR}::Vec(Box::new(alloc, {item})?)"
 
 
+# What is archived as a leaf, by its kind.
+LEAVES = {"bool": "Bool", "char": "Char", "()": "Unit"}
+NUMBERS = {f"{sign}{bits}": f"{sign.upper()}{bits}" for sign in "ui" for bits in (8, 16, 32, 64, 128)} | {"usize": "U32", "isize": "I32"}
+
+
+def has_leaf(type):
+    """Whether the expression of a part takes no call, so that nothing fails once it is made: at each end of a function, each one made before is dropped."""
+    return type.own is None and (type.name == "String" or type.name in LEAVES or type.name in NUMBERS)
+
+
+def leaf(type):
+    if type.name == "String":
+        return f"{EXPR}::Str"
+    kind = LEAVES.get(type.name) or f"Number(archive_core::shape::IntegerKind::{NUMBERS[type.name]})"
+    return f"{EXPR}::Leaf(archive_core::shape::Kind::{kind})"
+
+
 def stands_for(it):
     """What the name stands for, as an expression: of each variant one after another."""
     n = it.n
@@ -251,7 +268,8 @@ def stands_for(it):
     for case in it.cases:
         if not case.count:
             continue
-        lets = "".join(statement(4, f"let {name} = ", expression(it, type), ";") for name, type in zip(case.names, case.types))
+        parts = sorted(zip(case.names, case.types), key=lambda part: has_leaf(part[1])) if case.is_long else zip(case.names, case.types)
+        lets = "".join(statement(4, f"let {name} = ", leaf(type) if case.is_long and has_leaf(type) else expression(it, type), ";") for name, type in parts)
         out.append(f"""// The parts of `{case.name}`.
 fn {case.n}_expressions(alloc: Global) -> Result<Vec<{EXPR}>, Error>
     ensures shapes {{ IfOk result (λ list. shapes_in list.items ≡ {case.n}_parts) }}
