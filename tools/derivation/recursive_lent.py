@@ -11,7 +11,7 @@ from .recursive_terms import brought
 RESOLVED = "resolve_lent"
 # What the answers speak of.
 CITED = [
-    ("std.proofs.Common", "rules ◌≡◌ ◌+◌ ◌-◌ ◌<◌ ◌∷◌ length drop slice_set arith"),
+    ("std.proofs.Common", "◌≡◌ ◌+◌ ◌-◌ ◌<◌ ◌∷◌ length drop slice_set arith"),
     ("std.proofs.lemmas.List", "length-take length-drop length-set"),
     ("std.specs.Prelude", "Result Ok Err OnOk"),
     ("archive_core.proofs.Causes", "err_from"),
@@ -50,6 +50,8 @@ def resolving(it):
     f.use("archive_core::parts", "SourceParts")
     f.ghost("Shape", "variant_at")
     f.ghost("OwnChoices", "variant_definitions")
+    f.ghost("Writing", "Resolves")
+    f.ghost("Causes", "HindersAt")
     f.ghosts.setdefault(f"{it.declaration.crate}.specs.{it.family.name}Shape", set()).update((f"{n}_variants", f"{n}_variant_definitions"))
     return f"""// Writes a variant of many fields over zeros, its tag and behind it the fields, which `whole` lends.
 #[inline(always)]
@@ -64,7 +66,11 @@ fn {function(it)}<T, P: SourceParts<T>>(
     requires inside {{ P.Archived.end 1 ≤ {it.size} }}
     requires zeroed {{ ZeroedPlace {it.size} place.pos place.bytes.now }}
     requires same_values {{ P.belongs whole.now resolvers }}
-    ensures {{ ResolvesAs ⟦<{it.archived} as Portable>⟧ place (case tag (P.flats whole.now resolvers)) result }}
+    ensures resolved {{ OnOk result (Resolves {n}_definitions place.entry.pos place.exit.0.now {n}_shape
+        (case tag (P.flats whole.now resolvers))) }}
+    ensures same_length {{ length place.exit.0.now ≡ length place.entry.bytes.now }}
+    ensures refused {{ IfErr result (HindersAt {n}_definitions {n}_shape
+        (case tag (P.flats whole.now resolvers)) place.entry.pos) }}
 {{
     let Place {{ bytes, pos, .. }} = place;
     bytes[0] = tag;
@@ -86,11 +92,12 @@ def call(it, case, values, kept, indent):
 
 
 def files(it):
-    """The answers on the function of the module, and on the one that goes by the variant."""
+    """The answers on the function of the module."""
     if it.is_record or not long_cases(it):
         return {}
-    dotted, folder = ".".join((it.family.crate, "proofs") + tuple(it.family.module)), f"proofs/{'/'.join(it.family.module)}"
-    return {f"{folder}/{function(it)}/Answers.antt": answers(it, dotted), f"{folder}/{it.name}Archive/resolve/Answers.antt": arms(it, dotted)}
+    module = tuple(it.family.module)
+    dotted = ".".join((it.family.crate, "proofs") + module)
+    return {f"proofs/{'/'.join(module)}/{function(it)}/Answers.antt": answers(it, dotted)}
 
 
 def answers(it, dotted):
@@ -99,43 +106,22 @@ def answers(it, dotted):
     n = it.n
     whole = f"{n}_has_variants c.args.tag _ c.requires.variant _ c.requires.definitions _ c.args.place.pos"
     body = f"""{ON_OK}
-pub returns : goal.returns
-returns g c = record {{
-  resolved =
-      let old = c.args.place.bytes.now in
-      let tagged = slice_set old 0 c.args.tag in
-      let new = c.resolve_parts.new.bytes in
-      let rises = g.met.P.Archived.CheckedParts.rises 1 in
-      let some : 0 < length old = omega (arith, rises, c.requires.inside, c.requires.zeroed.sized) in
-      let few : length new + 1 ≡ length old = omega (arith, some, c.resolve_parts.ensures.same_length, length-take (length tagged - 1) (drop 1 tagged), length-drop 1 tagged, length-set old 0 c.args.tag) in
-      let sized : length (c.args.tag ∷ new) ≡ {it.size} = omega (arith, few, c.requires.zeroed.sized) in
-      on_ok c.resolve_parts.result
-      (λ h. rw (tagged_whole c.args.tag (length tagged - 1) old new some (omega (arith, length-set old 0 c.args.tag)))
-      (resolves_variant _ _ _ _ _ {whole} {n}_layout {n}_has_layout new sized h))
-      c.resolve_parts.ensures.resolved;
-  refused = err_from c.resolve_parts.result c.resolve_parts.ensures.refused (λ e h. variant_hindered _ _ _ _ _ {whole} e h);
-  same_length = search rules;
-}}
+pub returns-clause-resolved : goal.returns-clause-resolved
+returns-clause-resolved g c =
+    let old = c.args.place.bytes.now in
+    let tagged = slice_set old 0 c.args.tag in
+    let new = c.resolve_parts.new.bytes in
+    let rises = g.met.P.Archived.CheckedParts.rises 1 in
+    let some : 0 < length old = omega (arith, rises, c.requires.inside, c.requires.zeroed.sized) in
+    let few : length new + 1 ≡ length old = omega (arith, some, c.resolve_parts.ensures.same_length, length-take (length tagged - 1) (drop 1 tagged), length-drop 1 tagged, length-set old 0 c.args.tag) in
+    let sized : length (c.args.tag ∷ new) ≡ {it.size} = omega (arith, few, c.requires.zeroed.sized) in
+    on_ok c.resolve_parts.result
+    (λ h. rw (tagged_whole c.args.tag (length tagged - 1) old new some (omega (arith, length-set old 0 c.args.tag)))
+    (resolves_variant _ _ _ _ _ {whole} {n}_layout {n}_has_layout new sized h))
+    c.resolve_parts.ensures.resolved
+
+pub returns-clause-refused : goal.returns-clause-refused
+returns-clause-refused g c = err_from c.resolve_parts.result c.resolve_parts.ensures.refused (λ e h. variant_hindered _ _ _ _ _ {whole} e h)
 """
     more = CITED + [(f"{it.family.crate}.specs.{it.family.name}Shape", f"{n}_has_variants {n}_layout {n}_has_layout")]
     return f"-- {it.written}\n{brought(body, more)}use Rattle.{dotted}.{function(it)}.Goals as goal\n\n{body}"
-
-
-def arms(it, dotted):
-    """That each variant is resolved as it is flat: of one that is lent the search doesn't find it."""
-    goals = f"Rattle.{dotted}.{it.name}Archive.resolve.Goals"
-    steps, found, seen = [], [], False
-    for case in it.cases:
-        steps.append(f"in-{case.name}+in-{case.name}-resolver" if case.count else f"in-{case.name}")
-        call_ = function(it) if not seen else f"{function(it)}-in-{case.name}"
-        found.append(f"grind (w.{call_}.ensures, w.bytes-is, w.result-is, rules)" if case.is_long else "search rules")
-        seen = seen or case.is_long
-    cases = " | ".join(f"{step} w ↦ {how}" for step, how in zip(steps, found))
-    return f"""-- {it.written}
-use Rattle.std.proofs.Common.{{rules}}
-use {goals}.{{{', '.join(steps)}}}
-use {goals} as goal
-
-pub returns : goal.returns
-returns c = elim c.match-self.branch [ {cases} ]
-"""

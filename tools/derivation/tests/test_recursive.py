@@ -115,8 +115,6 @@ class Recursive(RepositoryTest):
         for word in ("fn resolve_lent_item<T, P: SourceParts<T>>(", "resolve_named_case_1::<u32, ArchivedItem>(", "let lent = ItemItemsLent {", "a0: &h0,"):
             self.assertIn(word, text)
         self.assertIn("item_has_variants c.args.tag", self.beside("proofs", "types", "resolve_lent_item", "Answers.antt"))
-        answers = self.beside("proofs", "types", "ItemArchive", "resolve", "Answers.antt")
-        self.assertIn("in-Number+in-Number-resolver w ↦ search rules | in-Items+in-Items-resolver w ↦ grind (w.resolve_lent_item.ensures, ", answers)
 
     def test_a_tuple_that_leads_back_is_read_by_a_name(self):
         path = self.put("#[derive(Drop)]\npub enum Json { Null, Number(i64), Object(Vec<(String, Json)>) }\n")
