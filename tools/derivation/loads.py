@@ -207,6 +207,10 @@ class Loads:
 
     # ---- calls ----
 
+    def of_lent(self, types):
+        """What a call passes that resolves these fields, lent: nothing of how they are written or read."""
+        return self.parts(types, True) + self.sources(types, True)
+
     def of_reading(self, types, fours):
         """What a call passes that reads these fields."""
         return self.parts(types, fours) + self.owned(types) + self.read(types, fours)

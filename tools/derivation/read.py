@@ -4,7 +4,7 @@ How much the toolchain takes at once is counted in loads.py.
 """
 
 import copy
-from typing import Dict, List, Optional, Sequence, Set
+from typing import Callable, Dict, List, Optional, Sequence, Set
 
 from .circles import check_circles
 from .formats import snake, substituted
@@ -15,6 +15,9 @@ from .model import Declaration, Field, Module, Refused, Type
 from .names import ALIASES, FLOATS, LIBRARY, PRIMITIVES, STD, STD_MODULES, Found, Source, World
 from .parse import Alias, Declared
 from .items import number_of
+from .recursive_holders import is_part
+from .recursive_refusals import MOST_BY_NAME
+from .recursive_refusals import MOST_FIELDS as MOST_OF_RECURSIVE
 
 # Of a struct, and of a variant.
 MOST_FIELDS = 32
@@ -470,27 +473,31 @@ def check_loads(module: Module):
     for it in module.declarations:
         if it.as_tuple and len(it.fields) > MOST_FEW:
             kind = "with type parameters" if it.parameters else "that holds a recursive type"
-            said = f"`{it.name}` has {len(it.fields)} fields, and {MOST_FEW} are the most of a struct {kind}; put some into a struct of their own"
-            raise Refused(module.path, it.fields[MOST_FEW].line, said)
+            most = MOST_OF_RECURSIVE if it.holds_recursive and not it.parameters and all(is_part(it, field.type) for field in it.fields) else MOST_FEW
+            said = f"`{it.name}` has {len(it.fields)} fields, and {most} are the most of a struct {kind}; put some into a struct of their own"
+            raise Refused(module.path, it.fields[most].line, said)
         if it.part_by_part:
             check_variants(module, loads, it)
+            for fields in [it.fields] + [v.fields for v in it.variants]:
+                if len(fields) > MOST_BY_NAME:
+                    check_load(module, fields, loads.of_lent)
         if it.as_tuple or it.part_by_part:
             continue
-        check_load(module, loads, it.fields, True)
+        check_load(module, it.fields, lambda types: loads.least_of_fields(types, True))
         for v in it.variants:
             check_long(module, v.fields)
-            check_load(module, loads, v.fields, False)
+            check_load(module, v.fields, loads.least_of_fields)
         check_variants(module, loads, it)
 
 
-def check_load(module: Module, loads: Loads, fields: List[Field], in_blocks: bool):
-    """Refuses the first field with which there is too much in a struct, whose fields may be in blocks, or in a variant."""
+def check_load(module: Module, fields: List[Field], load: Callable[[List[Type]], int]):
+    """Refuses the first field with which there is too much in a struct or in a variant."""
     types = [field.type for field in fields]
-    if loads.least_of_fields(types, in_blocks) <= MOST_LOAD:
+    if load(types) <= MOST_LOAD:
         return
     for count, field in enumerate(fields, 1):
-        if loads.least_of_fields(types[:count], in_blocks) > MOST_LOAD:
-            is_alone = count == 1 or loads.least_of_fields([field.type], in_blocks) > MOST_LOAD
+        if load(types[:count]) > MOST_LOAD:
+            is_alone = count == 1 or load([field.type]) > MOST_LOAD
             what = "; put a part of it" if is_alone else " beside the fields before it; put some of them"
             raise Refused(module.path, field.type.line, f"`{field.type.text}` is too deep for the toolchain{what} into a struct")
 

@@ -3,6 +3,7 @@
 from . import recursive_chains, recursive_code, recursive_proofs, recursive_specs
 from .formats import Formats, layout_of, snake
 from .model import Field, Type
+from .recursive_refusals import MOST_BY_NAME
 from .recursive_terms import Terms, is_run
 
 WRITTEN = "Written by tools/derive: change the declaration, and run it again."
@@ -24,6 +25,7 @@ class Case:
         self.align, self.offsets, self.end = sizes[1:]
         self.leads_back = [whole.terms.leads_back(type) for type in self.types]
         self.is_record, self.is_row = tag is None, False
+        self.is_long = self.count > MOST_BY_NAME  # resolved as a nest of fields that are lent
 
 
 class Row(Case):

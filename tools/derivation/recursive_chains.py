@@ -4,6 +4,7 @@ from . import recursive_code as code
 from .common import chain, infix
 from .layout import Generic, Group, flat, literal, pair, signature, statement
 from .model import Refused
+from .recursive_refusals import MOST_BY_NAME
 
 
 def is_chain(declaration, leads_back):
@@ -24,6 +25,14 @@ def refuse_derived_drop(declaration):
     if "Drop" in declaration.derives:
         text = f"`{declaration.name}` is a list, which is dropped by a loop that tools/derive writes; leave `Drop` out of its derive"
         raise Refused(declaration.path, declaration.line, text)
+
+
+def refuse_long(it):
+    """Its check goes over the parts of a variant as a nest of pairs, which many are too much for."""
+    for case in it.cases:
+        if case.is_long:
+            said = f"`{it.name}` is a list, a variant of which has up to {MOST_BY_NAME} fields; put some of them into a struct of another file"
+            raise Refused(it.declaration.path, case.fields[MOST_BY_NAME].line, said)
 
 
 def opens(case):
@@ -170,7 +179,7 @@ class Front:
     """The parts before a box, as a case."""
 
     def __init__(self, case):
-        self.is_record, self.is_row = case.is_record, case.is_row
+        self.is_record, self.is_row, self.is_long = case.is_record, case.is_row, case.is_long
         self.names, self.types, self.leads_back, self.rust, self.archived, self.offsets = (
             part[:-1] for part in (case.names, case.types, case.leads_back, case.rust, case.archived, case.offsets)
         )

@@ -10,7 +10,7 @@ other have one, in which the toolchain puts enums before structs and each in the
 
 import re
 
-from . import records, recursive_weak, variants
+from . import records, recursive_lent, recursive_weak, variants
 from . import recursive_chains as chains
 from .common import chain, doc_lines, in_turn, infix, taken_apart
 from .common import kept_of as handed_on
@@ -21,6 +21,7 @@ from .recursive_plain import items_of
 from .recursive_reads import by_match, is_made, word_of
 from .recursive_terms import is_run, stem
 from .layout import Generic, Group, call, flat, implementation, literal, pair, signature, statement
+from .long import nest
 
 SERIALIZED = """    ensures serialized {{ IfOk result (λ r. Serialized {D} {X} (⟦<{T} as Archive>⟧.keys {v}.now)
         (⟦<{T} as Archive>⟧.meaning {v}.now) ({flat})
@@ -46,9 +47,10 @@ READ_ROWS = """    requires {{ IsPartOf ⟦<{X} as ArchivePointee>⟧ part }}
 def text(it):
     bring(it)
     pieces = [types(it), pointee(it), "\n".join(row_format(it, type) for type in it.rows), "" if it.is_holder else stands_for(it), portable(it), view_of(it), resolver(it)]
-    pieces += [boxed_slices(it), recursive_weak.calls(it), shared_pointers(it), archive(it)]
+    pieces += [boxed_slices(it), recursive_weak.calls(it), shared_pointers(it), recursive_lent.text(it), archive(it)]
     if it.is_chain:
         chains.refuse_derived_drop(it.declaration)
+        chains.refuse_long(it)
         chains.bring(it)
         pieces += [chains.check(it), chains.drop(it), chains.writing(it), region(it), chains.reading(it), deserialize(it)]
     else:
@@ -114,7 +116,7 @@ def types(it):
     lines = []
     for case in it.cases:
         if case.count:
-            lines.append(statement(0, f"type {word(it, case)}Parts = ", pair([inside(it, type) for type in case.types]), ";"))
+            lines.append(statement(0, f"type {word(it, case)}Parts = ", nest([inside(it, type) for type in case.types], case.is_long), ";"))
     if not it.is_record:
         lines.append(statement(0, f"type {it.name}Variants = ", pair([f"{word(it, case)}Parts" if case.count else "()" for case in it.cases]), ";"))
     # The check of a list is named for who matches on views of it, as the library's are by all views.
@@ -242,6 +244,23 @@ def expression(it, type):
     return f"{EXPR}::Vec(Box::new(alloc, {item})?)"
 
 
+# What is archived as a leaf, by its kind.
+LEAVES = {"bool": "Bool", "char": "Char", "()": "Unit"}
+NUMBERS = {f"{sign}{bits}": f"{sign.upper()}{bits}" for sign in "ui" for bits in (8, 16, 32, 64, 128)} | {"usize": "U32", "isize": "I32"}
+
+
+def has_leaf(type):
+    """Whether the expression of a part takes no call, so that nothing fails once it is made: at each end of a function, each one made before is dropped."""
+    return type.own is None and (type.name == "String" or type.name in LEAVES or type.name in NUMBERS)
+
+
+def leaf(type):
+    if type.name == "String":
+        return f"{EXPR}::Str"
+    kind = LEAVES.get(type.name) or f"Number(archive_core::shape::IntegerKind::{NUMBERS[type.name]})"
+    return f"{EXPR}::Leaf(archive_core::shape::Kind::{kind})"
+
+
 def stands_for(it):
     """What the name stands for, as an expression: of each variant one after another."""
     n = it.n
@@ -249,7 +268,8 @@ def stands_for(it):
     for case in it.cases:
         if not case.count:
             continue
-        lets = "".join(statement(4, f"let {name} = ", expression(it, type), ";") for name, type in zip(case.names, case.types))
+        parts = sorted(zip(case.names, case.types), key=lambda part: has_leaf(part[1])) if case.is_long else zip(case.names, case.types)
+        lets = "".join(statement(4, f"let {name} = ", leaf(type) if case.is_long and has_leaf(type) else expression(it, type), ";") for name, type in parts)
         out.append(f"""// The parts of `{case.name}`.
 fn {case.n}_expressions(alloc: Global) -> Result<Vec<{EXPR}>, Error>
     ensures shapes {{ IfOk result (λ list. shapes_in list.items ≡ {case.n}_parts) }}
@@ -458,9 +478,10 @@ def hollows(it, case):
         its = hollow(it, type)
         made = f"{type.name}At::of({items_of(type, at)[:-len('.items')]}.len())" if is_run(type) else f"{type.name}At::new()"
         rust.append(its)
-        if it.terms.is_pointer(type):
+        if it.terms.is_pointer(type) and not case.is_long:
             values.append(f"&{its}")
             continue
+        made = its if it.terms.is_pointer(type) else made
         values.append(f"&h{name[1:]}")
         lines.append((f"let h{name[1:]}: {its} = ", made))
     return rust, values, lines
@@ -481,8 +502,11 @@ def archive(it):
         rust, values, lines = hollows(it, case)
         kept_, taken = handed_on(it.formats, case.types), taken_apart(it.formats, case.types, 8)
         body = f"        let {it.resolver} {{ kept }} = resolver;\n{taken}" + "".join(statement(8, before, made, ";") for before, made in lines)
-        body += statement(8, "", Generic(f"resolve_named_record_{case.count}", rust + [it.archived], values + [kept_, "Place::new(pos, bytes)"]), "")
-        it.formats.use("archive_core::recursive", f"resolve_named_record_{case.count}")
+        if case.is_long:
+            body += recursive_lent.call(it, case, values, kept_, 8)
+        else:
+            body += statement(8, "", Generic(f"resolve_named_record_{case.count}", rust + [it.archived], values + [kept_, "Place::new(pos, bytes)"]), "")
+            it.formats.use("archive_core::recursive", f"resolve_named_record_{case.count}")
     else:
         body = "        match self {\n" + "".join(resolve_arm(it, case) for case in it.cases) + "        }\n"
     told, calls = in_turn(it.formats)
@@ -525,17 +549,21 @@ def archive(it):
 
 
 def resolve_arm(it, case):
-    it.formats.use("archive_core::recursive", f"resolve_named_case_{case.count}")
     rust, values, lines = hollows(it, case)
     names = [name if not back or is_run(type) or it.terms.is_member(type) else f"_{name}" for name, type, back in zip(case.names, case.types, case.leads_back)]
-    call_ = Generic(f"resolve_named_case_{case.count}", rust + [it.archived], [str(case.tag)] + values + [handed_on(it.formats, case.types), "Place::new(pos, bytes)"])
+    kept_ = handed_on(it.formats, case.types)
+    if case.is_long:
+        resolved = recursive_lent.call(it, case, values, kept_, 16)
+    else:
+        it.formats.use("archive_core::recursive", f"resolve_named_case_{case.count}")
+        resolved = statement(16, "", Generic(f"resolve_named_case_{case.count}", rust + [it.archived], [str(case.tag)] + values + [kept_, "Place::new(pos, bytes)"]), "")
     opened = f"let {it.resolver}::{case.name}(kept) = resolver" if case.count else f"let {it.resolver}::{case.name} = resolver"
     other = " else {\n                    unreachable!();\n                }" if len(it.cases) > 1 else ""
     if not case.count:
-        return f"            {flat(pattern(it, case, names))} => {{\n{statement(16, '', call_, '')}            }}\n"
+        return f"            {flat(pattern(it, case, names))} => {{\n{resolved}            }}\n"
     return f"""            {flat(pattern(it, case, names))} => {{
                 {opened}{other};
-{taken_apart(it.formats, case.types, 16)}{"".join(statement(16, before, made, ";") for before, made in lines)}{statement(16, "", call_, "")}            }}
+{taken_apart(it.formats, case.types, 16)}{"".join(statement(16, before, made, ";") for before, made in lines)}{resolved}            }}
 """
 
 
@@ -1062,13 +1090,14 @@ def parts_read(it, case):
         else:
             where = Generic("part_of_variant", [it.archived, X], ["part", str(case.tag), str(i), str(offset)])
         lines += statement(4, f"let p{i} = ", where, ";")
-        if by_match(type):
-            read = call(word_of(it, type), ["alloc", f"p{i}", "deserializer"]) if is_made(type) else Generic("read_part", [X, T, "D"], ["alloc", f"p{i}", "deserializer"])
-            lines += statement(4, f"let {name} = match ", read, " {") + f"        Ok({name}) => {name},\n        Err(error) => return Err(error),\n    }};\n"
-            continue
         levels = ["levels"] if it.family.shares and back else []
-        read = call(word_of(it, type), ["alloc", f"p{i}"] + levels + ["deserializer"], "?") if back or is_made(type) else Generic("read_part", [X, T, "D"], ["alloc", f"p{i}", "deserializer"], "?")
-        lines += statement(4, f"let {name} = ", read, ";")
+        is_matched = case.is_long or by_match(type)
+        tail = "" if is_matched else "?"
+        read = call(word_of(it, type), ["alloc", f"p{i}"] + levels + ["deserializer"], tail) if back or is_made(type) else Generic("read_part", [X, T, "D"], ["alloc", f"p{i}", "deserializer"], tail)
+        if is_matched:
+            lines += statement(4, f"let {name} = match ", read, " {") + f"        Ok({name}) => {name},\n        Err(error) => return Err(error),\n    }};\n"
+        else:
+            lines += statement(4, f"let {name} = ", read, ";")
     return lines
 
 

@@ -51,11 +51,8 @@ def check(it: Declaration):
         return
     if it.instance_of:
         raise Refused(it.path, it.line, f"`{it.name}` holds a recursive type and is of an enum with type parameters; write one without")
-    for fields in groups(it):
-        if len(fields) > MOST_FIELDS:
-            raise Refused(it.path, fields[-1].line, f"a variant of `{it.name}`, which holds a recursive type, has up to {MOST_FIELDS} fields; put some of them into a struct of another file")
-        for field in fields:
-            check_part(it, field.type, field.line)
+    for field in it.all_fields():
+        check_part(it, field.type, field.line)
 
 
 def check_part(it: Declaration, type: Type, line: int):

@@ -3,7 +3,7 @@
 import re
 
 from . import recursive_chain_proofs as chains
-from . import recursive_code, recursive_hollow, recursive_weak
+from . import recursive_code, recursive_hollow, recursive_lent, recursive_weak
 from .common import numbered
 from .formats import snake
 from .recursive_holders import laid
@@ -765,7 +765,7 @@ def parts_read(it, case, answers, function):
     """The answers on parts that are read one after another."""
     where = "part_of_record" if case.is_record else "part_of_variant"
     told = ["rw (" + ", ".join(f"c.{where}-p{i}.ensures.{clause}" for clause in ("buffer", "position", "length")) + ") at " for i in range(case.count)]
-    reads = Reads(it, case.names, case.types)
+    reads = Reads(it, case.names, case.types, case.is_long)
     values = reads.values
     parts = Parts(it, case, values)
     laws = [laid(it, type) for type in case.types]
@@ -852,6 +852,7 @@ def defining_all(family):
 def files(family):
     out = {} if family.first.is_simple else defining_all(family)
     for it in family.members:
+        out.update(recursive_lent.files(it))
         if not it.is_holder:
             out.update(defining(it))
             out.update(recursive_hollow.files(it))

@@ -24,11 +24,11 @@ def word_of(it, type):
 
 
 class Reads:
-    """The calls that read parts, each by its index."""
+    """The calls that read parts, each by its index; many go by a `match` each, which has fewer variables than a `?`."""
 
-    def __init__(self, it, names, types):
+    def __init__(self, it, names, types, are_many=False):
         self.names = names
-        self.matched = [by_match(type) for type in types]
+        self.matched = [are_many or by_match(type) for type in types]
         self.oks, self.errs, self.values, self.residuals = [], [], [], []
         questions = 0
         # the first arms are named alone, those behind them by the call

@@ -8,7 +8,9 @@ from .recursive_plain import LEAVES, has_boxed, is_shaped
 
 # What plain parts may be made of, which a recursive type has beside those that lead back to it.
 PLAIN = set(LEAVES) | {"String", "BoxStr", "NonZero", "Option", "Result", "Box", "BoxSlice", "Vec", "BTreeMap", "OwnedArray"}
-MOST_FIELDS = 7
+MOST_FIELDS = 16
+# Up to so many fields there are calls by their number, for types that go by a name.
+MOST_BY_NAME = 7
 MOST_PLACES = 3
 
 

@@ -45,6 +45,12 @@ class Recursive(RepositoryTest):
         self.assertEqual(status, 2)
         self.assertIn("`List` is a list, which is dropped by a loop that tools/derive writes; leave `Drop` out of its derive", text)
 
+    def test_a_list_has_few_fields(self):
+        path = self.put(f"pub enum List {{ Nil, Cons({', '.join(['u8'] * 7)}, Box<List>) }}\n")
+        status, text = self.run_command(path)
+        self.assertEqual(status, 2)
+        self.assertIn("`List` is a list, a variant of which has up to 7 fields; put some of them into a struct of another file", text)
+
     def test_what_boxes_of_a_vector_hold_is_written_where_they_are_gone_over(self):
         path = self.put("#[derive(Drop)]\npub enum Knot { Word(String), Others(Vec<Box<Knot>>) }\n")
         self.assertEqual(self.run_command(path), (0, ""))
@@ -88,6 +94,27 @@ class Recursive(RepositoryTest):
         self.assertIn("let a0 = read_vec_pair_i32_u8_of_setting(alloc, p0, deserializer)?;", text)
         self.assertEqual(text.count("fn read_option_vec_pair_u8_string_of_setting<"), 1)
         self.assertIn("(vec (parts (part (leaf (number_kind signed w32)) (part (leaf (number_kind unsigned w8)) no_part))))", self.beside("specs", "SettingShape.antt"))
+
+    def test_many_fields_are_lent_to_be_resolved(self):
+        few = ", ".join(f"f{i}: u16" for i in range(7))
+        path = self.put(f"#[derive(Drop)]\npub struct Node {{ {few}, first: Option<Box<Node>>, below: Vec<Node> }}\n")
+        self.assertEqual(self.run_command(path), (0, ""))
+        text = self.text(path)
+        for word in ("a7: &'a OptionAt<ArchivedNode>,", "a0: &self.f0,", "a8: &h8,", "resolve_record::<NodeLent<'_>, NodeFields, ArchivedNode>("):
+            self.assertIn(word, text)
+        self.assertIn("type NodeParts = FourParts<", text)
+        self.assertNotIn("resolve_named_record", text)
+        # what may fail is made first
+        self.assertLess(text.index("let a8 = archive_core::shape::Expr::Vec("), text.index("let a0 = archive_core::shape::Expr::Leaf(archive_core::shape::Kind::Number(archive_core::shape::IntegerKind::U16));"))
+        self.assertIn("let a8 = match read_vec_node(alloc, p8, deserializer) {", text)
+
+    def test_a_variant_of_many_fields_is_resolved_by_a_function_of_the_module(self):
+        path = self.put(f"#[derive(Drop)]\npub enum Item {{ Number(u32), Items(Vec<Item>, {', '.join(['u8'] * 7)}) }}\n")
+        self.assertEqual(self.run_command(path), (0, ""))
+        text = self.text(path)
+        for word in ("fn resolve_lent_item<T, P: SourceParts<T>>(", "resolve_named_case_1::<u32, ArchivedItem>(", "let lent = ItemItemsLent {", "a0: &h0,"):
+            self.assertIn(word, text)
+        self.assertIn("item_has_variants c.args.tag", self.beside("proofs", "types", "resolve_lent_item", "Answers.antt"))
 
     def test_a_tuple_that_leads_back_is_read_by_a_name(self):
         path = self.put("#[derive(Drop)]\npub enum Json { Null, Number(i64), Object(Vec<(String, Json)>) }\n")
