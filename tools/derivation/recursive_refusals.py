@@ -81,9 +81,12 @@ def check_plain(it: Declaration, type: Type, line: int, behind: bool = False):
 
 
 def check_owner(it: Declaration, type: Type, line: int):
-    """What leads back is a box or a shared pointer, an option of one, a vector or a boxed slice of these or of the type itself, a vector of tuples, or a box of a vector."""
+    """What leads back is a box or a shared pointer, an option of one, an array of boxes or of options of these, a vector or a boxed slice of these or of the type
+    itself, a vector of tuples, or a box of a vector."""
     for row in rows_in(it, type):
         check_row(it, row, line)
+    if is_array(it, type):
+        return
     if is_pointer(it, type) or is_shared(it, type) or is_weak(it, type) or is_list(it, type) or is_named(type, "Box") and is_named(type.args[0], "Vec") and is_list(it, type.args[0]):
         return
     if is_named(type, "WeakShared") and is_member(it, type.args[0]):
@@ -144,6 +147,12 @@ def is_shared(it: Declaration, type: Type) -> bool:
 def is_weak(it: Declaration, type: Type) -> bool:
     """Whether it is a weak pointer to a struct that leads back to no other type."""
     return it.kind == "struct" and len(it.family) == 1 and is_named(type, "WeakShared") and is_member(it, type.args[0])
+
+
+def is_array(it: Declaration, type: Type) -> bool:
+    """Whether it is an array of boxes or of options of boxes, in a type that leads back to no other and shares nothing."""
+    shares = any(has_shared(field.type, it.family) for field in it.all_fields())
+    return is_named(type, "array") and int(type.length) > 0 and is_pointer(it, type.args[0]) and len(it.family) == 1 and not shares
 
 
 def is_list(it: Declaration, type: Type) -> bool:
