@@ -96,8 +96,8 @@ def it_kept(item):
 def reading(it, type, item_word, levels):
     """The body of the function that reads the elements of an array."""
     return f"""    let list: Ref<'_, {it.formats.archived(type)}> = Ref::at(part);
-    let mut items = Vec::with_capacity(alloc, {type.length})?;
-    for index in 0..{type.length} {{
+    let mut items = Vec::with_capacity(alloc, list.len())?;
+    for index in 0..list.len() {{
         let item = read_{item_word}(alloc, list.index(index).part(), {levels}deserializer)?;
         items.push_reserved(item);
     }}
@@ -180,12 +180,6 @@ as_many_kept b n [] (r ∷ rs) count all = absurd all
 as_many_kept b n (x ∷ xs) [] count all = absurd all
 as_many_kept b n (x ∷ xs) (r ∷ rs) count all = ap suc (as_many_kept b (length xs) xs rs refl all.1) ∙ count
 
-option_kept : {A : Type 0} (P : Pointee) (y : Option A) (r : Option ℕ) → OptionBelongs (λ (z : A) (t : ℕ). ⊤) y r → option_flat (λ (z : A) (t : ℕ). box (hole (to_pointee t P 0))) y r ≡ option_at P r
-option_kept P None None h = refl
-option_kept P None (Some r) h = absurd h
-option_kept P (Some y) None h = absurd h
-option_kept P (Some y) (Some r) h = refl
-
 all_are : {A : Type 0} (xs : List A) (n : ℕ) → length xs ≡ n → are xs n ≡ true
 all_are xs n count = subst (λ c. are xs c ≡ true) count (they_are xs)
 
@@ -222,6 +216,13 @@ module _ {A R : Type 0} (D : Definitions) (X : Shape) (n : ℕ) (k : A → List 
   array_unwritten : (e : Error) → IsRunRefused D X (length xs) (each_keys k xs) (each_meaning m xs) old new e → IsRefused D (array n X) (array_keys n k xs) (array_meaning n m xs) old new e
   array_unwritten e run = subst (λ c. IsRefused D (array n X) (keys_if c (each_keys k xs)) (value_if c (list (each_meaning m xs))) old new e) (sym (all_are xs n count))
       (list_unwritten D X n (each_keys k xs) (each_meaning m xs) old new e (subst (λ c. IsRunRefused D X c (each_keys k xs) (each_meaning m xs) old new e) count run))
+"""
+# And of an option, by that of a box.
+OPTION_WRITTEN = """option_kept : {A : Type 0} (P : Pointee) (y : Option A) (r : Option ℕ) → OptionBelongs (λ (z : A) (t : ℕ). ⊤) y r → option_flat (λ (z : A) (t : ℕ). box (hole (to_pointee t P 0))) y r ≡ option_at P r
+option_kept P None None h = refl
+option_kept P None (Some r) h = absurd h
+option_kept P (Some y) None h = absurd h
+option_kept P (Some y) (Some r) h = refl
 """
 CITED = [
     ("archive_core.proofs.Causes", "explains_sooner"),

@@ -227,6 +227,8 @@ def of_arrays(it, case, answers, values, oks, errs, counts):
             answers.more += arrays.CITED
         type, x = case.types[i], values[i]
         item, t = type.args[0], it.terms
+        if t.is_option(item) and arrays.OPTION_WRITTEN not in answers.items:
+            answers.items.append(arrays.OPTION_WRITTEN)
         flat, belongs = (functions_of(it, which, item) for which in ("flat", "belongs"))
         same = f"(option_kept (one {t.shape(item.args[0].args[0])}))" if t.is_option(item) else "(λ x r b. refl)"
         head = f"{t.definitions(item)} {t.shape(item)} {type.length} {t.said(item)} {flat} {t.kept(item)} {belongs} {same} {x} c.{count}.ensures _ _"
@@ -806,7 +808,7 @@ def array_read(it, type, answers):
         f" × FirstElements g.D.Entries.keeps {D} {X} {L} l.list.bytes.now l.list.pos {P} l.list.len {said} (g.D.Entries.entry_of l.initial.deserializer) (g.D.Entries.entry_of l.deserializer) l.items.items",
     )
     lets = "let kept = c.loop-index.invariant in let b = c.at-list.result.bytes.now in let q = c.at-list.result.pos in let n = c.at-list.result.len in"
-    below = f"let below : c.loop-index.index < {count} = omega (arith, c.loop-index-test.true, c.loop-index.auto.index-end) in"
+    below = f"let below : c.loop-index.index < {count} = omega (arith, c.loop-index-test.true, c.loop-index.auto.index-end, c.len-index-end.ensures) in"
     steps = ", ".join(f"c.{call}.ensures.{clause}" for call in ("part", "index") for clause in ("buffer", "position", "length"))
     here = f"{D} {X} {L} {laid_} b q {P} n {count} (all_have {D} {X} {L} {laid_} b q {count} {P} n (inr refl)) {said} {TOLD}"
     now = "(g.D.Entries.entry_of c.loop-index.deserializer)"
@@ -824,7 +826,7 @@ def array_read(it, type, answers):
         f"({lets} {below} {pushed} {more} let h = rw ({steps}) at c.in_ok-item.ensures.read in"
         f" rw pushed (more, grind (arith, common_steps, kept.1), grind (arith, common_steps, kept.2), {step}))",
     )
-    whole = f"let whole : length c.loop-index.items.items ≡ {count} = omega (arith, kept.0, c.loop-index-test.false, c.loop-index.auto.index-end) in"
+    whole = f"let whole : length c.loop-index.items.items ≡ {count} = omega (arith, kept.0, c.loop-index-test.false, c.loop-index.auto.index-end, c.len-index-end.ensures) in"
     answers.answer(function, "returns-clause-whole", f"({lets} {whole} whole)")
     answers.answer(
         function, "returns-clause-read",

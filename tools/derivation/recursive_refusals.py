@@ -10,6 +10,7 @@ from .recursive_plain import LEAVES, has_boxed, is_shaped
 PLAIN = set(LEAVES) | {"String", "BoxStr", "NonZero", "Option", "Result", "Box", "BoxSlice", "Vec", "BTreeMap", "OwnedArray"}
 MOST_FIELDS = 7
 MOST_PLACES = 3
+MOST_ITEMS = 32
 
 
 def check_recursive(it: Declaration, line: int, names: str):
@@ -85,7 +86,8 @@ def check_owner(it: Declaration, type: Type, line: int):
     itself, a vector of tuples, or a box of a vector."""
     for row in rows_in(it, type):
         check_row(it, row, line)
-    if is_array(it, type):
+    if is_named(type, "array"):
+        check_array(it, type, line)
         return
     if is_pointer(it, type) or is_shared(it, type) or is_weak(it, type) or is_list(it, type) or is_named(type, "Box") and is_named(type.args[0], "Vec") and is_list(it, type.args[0]):
         return
@@ -99,6 +101,14 @@ def check_owner(it: Declaration, type: Type, line: int):
     if type.name not in ("Box", "BoxSlice", "Option", "Shared", "Vec") or type.own is not None:
         raise Refused(it.path, line, f"`{type.name}` around `{it.name}` isn't written yet; {written}")
     raise Refused(it.path, line, f"this {'option' if type.name == 'Option' else f'`{type.name}` of pointers'} to `{it.name}` isn't written yet; {written}")
+
+
+def check_array(it: Declaration, type: Type, line: int):
+    """An array that leads back is of boxes or of options of boxes, in a type that leads back to no other and shares nothing."""
+    shares = any(has_shared(field.type, it.family) for field in it.all_fields())
+    if not is_pointer(it, type.args[0]) or not 0 < int(type.length) <= MOST_ITEMS or len(it.family) > 1 or shares:
+        said = f"an array that leads back to `{it.name}` is written of 1 to {MOST_ITEMS} boxes, or options of boxes, if no other type is recursive with it and none of it is shared"
+        raise Refused(it.path, line, f"{said}; write a `Vec`")
 
 
 def rows_in(it: Declaration, type: Type) -> List[Type]:
@@ -147,12 +157,6 @@ def is_shared(it: Declaration, type: Type) -> bool:
 def is_weak(it: Declaration, type: Type) -> bool:
     """Whether it is a weak pointer to a struct that leads back to no other type."""
     return it.kind == "struct" and len(it.family) == 1 and is_named(type, "WeakShared") and is_member(it, type.args[0])
-
-
-def is_array(it: Declaration, type: Type) -> bool:
-    """Whether it is an array of boxes or of options of boxes, in a type that leads back to no other and shares nothing."""
-    shares = any(has_shared(field.type, it.family) for field in it.all_fields())
-    return is_named(type, "array") and int(type.length) > 0 and is_pointer(it, type.args[0]) and len(it.family) == 1 and not shares
 
 
 def is_list(it: Declaration, type: Type) -> bool:
