@@ -17,15 +17,9 @@ def has_array(declaration):
     return any(is_array(field.type) and leads_back(declaration, field.type) for field in declaration.all_fields())
 
 
-def arrays_of(family):
-    """The arrays of a family that lead back, each once, with the first type that has it."""
-    found = {}
-    for it in family.members:
-        for case in it.cases:
-            for type, back in zip(case.types, case.leads_back):
-                if back and is_array(type):
-                    found.setdefault(it.word(type), (it, type))
-    return list(found.values())
+def arrays_of(it):
+    """The arrays of a type that lead back, each once."""
+    return [type for type in it.owners if is_array(type)]
 
 
 # ---- the module ----
@@ -61,12 +55,10 @@ def array_at(it, type):
     return "".join(word.capitalize() for word in it.word(type).split("_")) + "At"
 
 
-def hollow_arrays(it, hollow_source):
-    """The hollow parts that a type's arrays need, but those that a type of its family before it has."""
+def hollow_arrays(it, kept, hollow_source):
+    """The hollow parts that a type's arrays need; `kept` is the resolver of a part."""
     out = []
-    for owner, type in arrays_of(it.family):
-        if owner is not it:
-            continue
+    for type in arrays_of(it):
         item = type.args[0]
         at = f"{item.name}At"
         of = it.formats.archived((item.args[0] if item.name == "Option" else item).args[0])
@@ -74,7 +66,7 @@ def hollow_arrays(it, hollow_source):
         hollows.resolve(resolver, Place::new(pos, bytes))
 """
         text = hollow_source(
-            array_at(it, type), it.formats.archived(type), f"Vec<{it_kept(item)}>", f"λ _ r. {it.terms.flat(type, '_', 'r')[1:-1]}", it.formats.layout(type)[0], body,
+            array_at(it, type), it.formats.archived(type), kept(it, type), f"λ _ r. {it.terms.flat(type, '_', 'r')[1:-1]}", it.formats.layout(type)[0], body,
             f"length {{}}.items ≡ {type.length}",
         )
         out.append(f"// An array whose values were written before. It can be resolved, and nothing else: it means nothing.\n#[derive(Drop)]\nstruct {array_at(it, type)};\n\n{text}")
@@ -88,17 +80,12 @@ def hollow_arrays(it, hollow_source):
     return "\n".join(out)
 
 
-def it_kept(item):
-    """The resolver of an element."""
-    return "Option<BoxResolver>" if item.name == "Option" else "BoxResolver"
-
-
-def reading(it, type, item_word, levels):
+def reading(it, type):
     """The body of the function that reads the elements of an array."""
     return f"""    let list: Ref<'_, {it.formats.archived(type)}> = Ref::at(part);
     let mut items = Vec::with_capacity(alloc, list.len())?;
     for index in 0..list.len() {{
-        let item = read_{item_word}(alloc, list.index(index).part(), {levels}deserializer)?;
+        let item = read_{it.word(type.args[0])}(alloc, list.index(index).part(), deserializer)?;
         items.push_reserved(item);
     }}
     Ok(items)
@@ -106,6 +93,7 @@ def reading(it, type, item_word, levels):
 
 
 def read_contract(it, type):
+    """What this function promises: of a vector of them, what an array of them means."""
     X, its = it.formats.archived(type), f"⟦<{it.formats.rust(type)} as Archive>⟧"
     return f"""    requires {{ IsPartOf ⟦<{X} as ArchivePointee>⟧ part }}
     ensures read {{ IfOk result (λ t. ReadsPart ⟦<{X} as ArchivePointee>⟧ part D.Entries deserializer
@@ -153,15 +141,14 @@ SPOKEN = [
 ]
 
 
-def said_of_items(terms, which, item, m):
-    """What is said of an element, as a function: of an option by the word for options, as the lemmas have it."""
-    its = terms.function(which, item.args[0], m) if item.name == "Option" else terms.function(which, item, m)
-    return f"(λ o. option_{which} {its} o)" if item.name == "Option" else its
+def of_element(item, which, said):
+    """What is said of an element, by what is said of its box."""
+    return f"(λ o. option_{which} {said} o)" if item.name == "Option" else said
 
 
-def mapped(type, items, which, functions, each):
+def mapped(type, items, which, said_of_mapped, said, each):
     """That what is said of an array whose elements were mapped is what is said of the elements, by the same of a list."""
-    f, h = (f"(λ o. option_{which} {its} o)" if type.args[0].name == "Option" else its for its in functions)
+    f, h = of_element(type.args[0], which, said_of_mapped), of_element(type.args[0], which, said)
     return f"alike_{'' if which == 'meaning' else 'keys_'}array _ {type.length} {f} {h} {items} ({each})"
 
 
@@ -209,13 +196,13 @@ list_unwritten D X n ks vs old new e h = explains_sooner _ _ _ _ old new e
 module _ {A R : Type 0} (D : Definitions) (X : Shape) (n : ℕ) (k : A → List Naming) (m : A → Value) (f : A → R → Value) (h : R → Value) (b : A → R → Type 0) (same : (x : A) (r : R) → b x r → f x r ≡ h r) (xs : List A) (count : length xs ≡ n) (old new : WriterState) where
   array_written : (rs : List R) → EachBelongs b xs rs → SerializedRun D X (length xs) (each_keys k xs) (each_meaning m xs) (each_flat f xs rs) old new
       → Serialized D (array n X) (array_keys n k xs) (array_meaning n m xs) (list (each_meaning h rs)) old new
-  array_written rs all run = subst (λ c. Serialized D (array n X) (keys_if c (each_keys k xs)) (value_if c (list (each_meaning m xs))) (list (each_meaning h rs)) old new) (sym (all_are xs n count))
+  array_written rs all those = subst (λ c. Serialized D (array n X) (keys_if c (each_keys k xs)) (value_if c (list (each_meaning m xs))) (list (each_meaning h rs)) old new) (sym (all_are xs n count))
       (subst (λ fs. Serialized D (array n X) (each_keys k xs) (list (each_meaning m xs)) (list fs) old new) (same_flats f h b same xs rs all)
-      (list_written D X n (each_keys k xs) (each_meaning m xs) (each_flat f xs rs) old new (subst (λ c. SerializedRun D X c (each_keys k xs) (each_meaning m xs) (each_flat f xs rs) old new) count run)))
+      (list_written D X n (each_keys k xs) (each_meaning m xs) (each_flat f xs rs) old new (subst (λ c. SerializedRun D X c (each_keys k xs) (each_meaning m xs) (each_flat f xs rs) old new) count those)))
 
   array_unwritten : (e : Error) → IsRunRefused D X (length xs) (each_keys k xs) (each_meaning m xs) old new e → IsRefused D (array n X) (array_keys n k xs) (array_meaning n m xs) old new e
-  array_unwritten e run = subst (λ c. IsRefused D (array n X) (keys_if c (each_keys k xs)) (value_if c (list (each_meaning m xs))) old new e) (sym (all_are xs n count))
-      (list_unwritten D X n (each_keys k xs) (each_meaning m xs) old new e (subst (λ c. IsRunRefused D X c (each_keys k xs) (each_meaning m xs) old new e) count run))
+  array_unwritten e those = subst (λ c. IsRefused D (array n X) (keys_if c (each_keys k xs)) (value_if c (list (each_meaning m xs))) old new e) (sym (all_are xs n count))
+      (list_unwritten D X n (each_keys k xs) (each_meaning m xs) old new e (subst (λ c. IsRunRefused D X c (each_keys k xs) (each_meaning m xs) old new e) count those))
 """
 # And of an option, by that of a box.
 OPTION_WRITTEN = """option_kept : {A : Type 0} (P : Pointee) (y : Option A) (r : Option ℕ) → OptionBelongs (λ (z : A) (t : ℕ). ⊤) y r → option_flat (λ (z : A) (t : ℕ). box (hole (to_pointee t P 0))) y r ≡ option_at P r

@@ -47,7 +47,7 @@ READ_ROWS = """    requires {{ IsPartOf ⟦<{X} as ArchivePointee>⟧ part }}
 def text(it):
     bring(it)
     pieces = [types(it), pointee(it), "\n".join(row_format(it, type) for type in it.rows), "" if it.is_holder else stands_for(it), portable(it), view_of(it), resolver(it)]
-    pieces += [boxed_slices(it), recursive_weak.calls(it), shared_pointers(it), arrays.calls(it), arrays.hollow_arrays(it, hollow_source), archive(it)]
+    pieces += [boxed_slices(it), recursive_weak.calls(it), shared_pointers(it), arrays.calls(it), arrays.hollow_arrays(it, kept, hollow_source), archive(it)]
     if it.is_chain:
         chains.refuse_derived_drop(it.declaration)
         chains.bring(it)
@@ -846,7 +846,7 @@ def case_writing(it, case):
 def is_inline(case):
     """Whether a variant is written where the value is matched: the toolchain doesn't see that a function ends that is passed several parts which lead back, or a
     boxed slice."""
-    return sum(case.leads_back) > 1 or any(back and (type.name == "BoxSlice" or arrays.is_array(type)) for type, back in zip(case.types, case.leads_back))
+    return sum(case.leads_back) > 1 or any(back and type.name == "BoxSlice" for type, back in zip(case.types, case.leads_back))
 
 
 def cycle_of(it):
@@ -1019,7 +1019,7 @@ def owner_reading(it, type):
         body = parts_read(it, row) + statement(4, "Ok(", Group("(", row.names, ")"), ")")
     elif arrays.is_array(type):
         T = f"Vec<{it.formats.rust(item)}>"
-        return reader(it, it.word(type), T, arrays.read_contract(it, type), arrays.reading(it, type, it.word(item), levels), "Reads the elements of an array back.")
+        return reader(it, it.word(type), T, arrays.read_contract(it, type), arrays.reading(it, type), "Reads the elements of an array back.")
     elif type.name == "Shared":
         of = f"{inner}, RcFlavor, {T}, D"
         body = f"""    match begin_reading::<{of}>(part, deserializer)? {{

@@ -604,7 +604,6 @@ def choice_written(it, answers):
     made = [(case.name, word) for case in it.cases for word in (words_of(it, case) if inline[case.name] else [f"serialize_{case.n}"] if case.count else [])]
     words = [word for _, word in made]
     calls, oks, errs = in_arms(made), matched("in-Ok", words), matched("in-Err", words)
-    whole_calls = in_arms([(case.name, "is_whole") for case in it.cases for _ in wholes_of(case)])
     at = 0
     for case in it.cases:
         if not case.count:
@@ -624,9 +623,8 @@ def choice_written(it, answers):
         ok, err = oks[until - 1], errs[until - 1]
         belongs = f"rw {is_}" if it.is_holder else f"rw ({is_}, {case.n}_opens{opened})"
         if inline[case.name]:
-            counts, whole_calls = whole_calls[:len(wholes_of(case))], whole_calls[len(wholes_of(case)):]
-            those_written(it, case, answers, function, values, as_, calls[at:until], oks[at:until], errs[at:until], counts, f"returns-{ok}")
-            same = same_values(it, case, values, oks[at:until], counts)
+            those_written(it, case, answers, function, values, as_, calls[at:until], oks[at:until], errs[at:until], [], f"returns-{ok}")
+            same = same_values(it, case, values, oks[at:until], [])
             answers.answer(function, f"returns-{ok}-clause-same_value", f"{belongs} {same}")
         else:
             answers.answer(function, f"returns-{ok}-clause-serialized", as_("written_as", f"c.{ok}.ensures.serialized"))

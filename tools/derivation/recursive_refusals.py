@@ -10,7 +10,7 @@ from .recursive_plain import LEAVES, has_boxed, is_shaped
 PLAIN = set(LEAVES) | {"String", "BoxStr", "NonZero", "Option", "Result", "Box", "BoxSlice", "Vec", "BTreeMap", "OwnedArray"}
 MOST_FIELDS = 7
 MOST_PLACES = 3
-MOST_ITEMS = 32
+MOST_ITEMS = 8
 
 
 def check_recursive(it: Declaration, line: int, names: str):
@@ -104,10 +104,11 @@ def check_owner(it: Declaration, type: Type, line: int):
 
 
 def check_array(it: Declaration, type: Type, line: int):
-    """An array that leads back is of boxes or of options of boxes, in a type that leads back to no other and shares nothing."""
-    shares = any(has_shared(field.type, it.family) for field in it.all_fields())
-    if not is_pointer(it, type.args[0]) or not 0 < int(type.length) <= MOST_ITEMS or len(it.family) > 1 or shares:
-        said = f"an array that leads back to `{it.name}` is written of 1 to {MOST_ITEMS} boxes, or options of boxes, if no other type is recursive with it and none of it is shared"
+    """An array that leads back is of options of boxes, in a struct that leads back by no other field and to no other type. Of an enum, a pattern that
+    binds the array isn't covered."""
+    others = sum(leads_back(it, field.type) for field in it.all_fields()) > 1 or len(it.family) > 1
+    if it.kind == "enum" or not is_named(type.args[0], "Option") or not is_pointer(it, type.args[0]) or not 0 < int(type.length) <= MOST_ITEMS or others:
+        said = f"an array that leads back to `{it.name}` is written in a struct, of 1 to {MOST_ITEMS} options of boxes, if no other field leads back and no other type is recursive with it"
         raise Refused(it.path, line, f"{said}; write a `Vec`")
 
 

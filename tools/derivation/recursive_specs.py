@@ -350,7 +350,7 @@ def meaning(family):
     """What values mean, layer by layer, and the laws of it."""
     if family.first.is_holder:
         return meaning_of_holder(family.first)
-    has_arrays = arrays.arrays_of(family)
+    has_arrays = any(map(arrays.arrays_of, family.members))
     lines = pairs(family) if family.shares else []
     lines += [arrays.LAWS] if has_arrays else []
     for which, type, word in SAID:
@@ -529,15 +529,15 @@ def mapped_list(it, type, which, items):
     if not arrays.is_array(type):
         return each
     inner = item.args[0] if it.terms.is_option(item) else item
-    functions = said_of_mapped(it, inner, which), said_with_type(it, inner, which, it.terms.own(which), None)
-    return arrays.mapped(type, items, which, functions, each)
+    return arrays.mapped(type, items, which, said_of_mapped(it, inner, which), said_with_type(it, inner, which, it.terms.own(which), None), each)
 
 
 def still_mapped(it, type, which, items):
     """What is said of a vector, or of an array, whose elements were mapped. How a tuple was mapped antt doesn't find where some of it has no keys."""
     item = type.args[0]
     if arrays.is_array(type):
-        return f"(array_{which} {type.length} {it.terms.function(which, item, '(λ v. v)')} (map _ {items}))"
+        inner = item.args[0] if it.terms.is_option(item) else item
+        return f"(array_{which} {type.length} {arrays.of_element(item, which, said_of_mapped(it, inner, which))} (map _ {items}))"
     if it.terms.is_row(item):
         own = it.terms.own(which)
         places = ", ".join(f"{own[arg.own.name]} y.{i}" if it.terms.is_member(arg) else f"y.{i}" for i, arg in enumerate(item.args))

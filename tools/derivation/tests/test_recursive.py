@@ -63,7 +63,7 @@ class Recursive(RepositoryTest):
         self.assertIn("held_options_keyed _ ", text)
 
     def test_what_is_read_in_the_place_of_an_array_is_said_by_the_resolvers(self):
-        path = self.put("#[derive(Drop)]\npub struct Quad { id: u8, parts: [Option<Box<Quad>>; 2], others: Vec<Option<Box<Quad>>> }\n")
+        path = self.put("#[derive(Drop)]\npub struct Quad { id: u8, parts: [Option<Box<Quad>>; 2] }\n")
         self.assertEqual(self.run_command(path), (0, ""))
         text = self.text(path)
         self.assertEqual(text.count("fn serialize_each_option_box_quad<"), 1)
@@ -72,14 +72,6 @@ class Recursive(RepositoryTest):
         text = self.beside("specs", "QuadMeaning.antt")
         self.assertIn("(list (each_meaning (λ s. (option_at (one quad_shape) s)) r.kept.1.0.items))", text)
         self.assertIn("(alike_array _ 2 (λ o. option_meaning", text)
-
-    def test_an_array_is_written_where_the_variant_is_matched(self):
-        path = self.put("#[derive(Drop)]\npub enum Shape { Leaf(u32), Both([Box<Shape>; 2]) }\n")
-        self.assertEqual(self.run_command(path), (0, ""))
-        text = self.text(path)
-        self.assertNotIn("fn serialize_shape_both<", text)
-        for word in ("is_whole(a0);", "serialize_each_box_shape(a0, serializer)", "Ok(Shape::Both(array_of(a0)))", "BoxAt::new(), BoxAt::new()"):
-            self.assertIn(word, text)
 
     def test_a_vector_in_a_box_is_written_by_a_function_of_its_own(self):
         path = self.put("#[derive(Drop)]\npub struct Grove { id: u8, below: Box<Vec<Grove>> }\n")
