@@ -108,8 +108,13 @@ def pooled_of(type):
 
 def has_shared(type, family):
     """Whether the type leads to one of these behind a shared pointer."""
+    return leads_by(type, family, SHARING)
+
+
+def leads_by(type, family, names):
+    """Whether the type leads to one of these behind one of these names."""
     leads = any(arg is not part for arg in type.args for part in without(arg, family) or [None])
-    return leads and type.own is None and (type.name in SHARING or any(has_shared(arg, family) for arg in type.args))
+    return leads and type.own is None and (type.name in names or any(leads_by(arg, family, names) for arg in type.args))
 
 
 class Formats:
@@ -311,7 +316,7 @@ class Formats:
             return True
         held = self.fields(type) if type.own is not None else []
         if type.own is not None and type.own.recursive:
-            if any(has_shared(field.type, type.own.family) for it in type.own.family for field in it.all_fields()) and "Shared" in names:
+            if any(leads_by(field.type, type.own.family, names) for it in type.own.family for field in it.all_fields()):
                 return True
             held = [part for it in type.own.family for field in it.all_fields() for part in without(field.type, type.own.family)]
         return any(self.any_of(part, names) for part in held + type.args)

@@ -4,7 +4,7 @@ from . import recursive_chains, recursive_code, recursive_proofs, recursive_spec
 from .formats import Formats, layout_of, snake
 from .model import Field, Type
 from .recursive_refusals import MOST_BY_NAME
-from .recursive_terms import Terms, is_run
+from .recursive_terms import Terms, has_elements
 
 WRITTEN = "Written by tools/derive: change the declaration, and run it again."
 
@@ -137,8 +137,8 @@ class Recursive:
         return "".join(word.capitalize() for word in self.word(type).split("_"))
 
     def is_first_run(self, type):
-        """Whether a vector, or a boxed slice, is the first one of its elements that a function writes: that of the elements stands with it."""
-        runs = [run for it in self.family.members for run in it.owners if is_run(run) and it.is_written(run)]
+        """Whether a vector, a boxed slice or an array is the first one of its elements that a function writes: that of the elements stands with it."""
+        runs = [run for it in self.family.members for run in it.owners if has_elements(run) and it.is_written(run)]
         return type is next(run for run in runs if self.word(run.args[0]) == self.word(type.args[0]))
 
     def word(self, type):
@@ -161,6 +161,8 @@ class Recursive:
             return f"({' × '.join(self.antt(arg, held) for arg in type.args)})"
         if type.name == "Option":
             return f"(Option {self.antt(type.args[0], held)})"
+        if type.name == "array":
+            return f"(List {self.antt(type.args[0], held)})"
         return f"({type.name} {self.antt(type.args[0], held)})" if type.name in ("Shared", "WeakShared") else f"({type.name} {self.antt(type.args[0], held)} Global)"
 
     def plain_types(self, body):

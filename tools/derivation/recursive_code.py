@@ -11,12 +11,13 @@ other have one, in which the toolchain puts enums before structs and each in the
 import re
 
 from . import records, recursive_lent, recursive_weak, variants
+from . import recursive_arrays as arrays
 from . import recursive_chains as chains
 from .common import chain, doc_lines, in_turn, infix, taken_apart
 from .common import kept_of as handed_on
 from .formats import snake
 from .model import Type
-from .recursive_hollow import boxed_slices, shared_at, shared_pointers
+from .recursive_hollow import boxed_slices, hollow_source, shared_at, shared_pointers
 from .recursive_plain import items_of
 from .recursive_reads import by_match, is_made, word_of
 from .recursive_terms import is_run, stem
@@ -47,7 +48,8 @@ READ_ROWS = """    requires {{ IsPartOf ⟦<{X} as ArchivePointee>⟧ part }}
 def text(it):
     bring(it)
     pieces = [types(it), pointee(it), "\n".join(row_format(it, type) for type in it.rows), "" if it.is_holder else stands_for(it), portable(it), view_of(it), resolver(it)]
-    pieces += [boxed_slices(it), recursive_weak.calls(it), shared_pointers(it), recursive_lent.text(it), archive(it)]
+    pieces += [boxed_slices(it), recursive_weak.calls(it), shared_pointers(it), recursive_lent.text(it)]
+    pieces += [arrays.calls(it), arrays.hollow_arrays(it, kept, hollow_source), archive(it)]
     if it.is_chain:
         chains.refuse_derived_drop(it.declaration)
         chains.refuse_long(it)
@@ -241,6 +243,8 @@ def expression(it, type):
         return f"{EXPR}::Box(Box::new(alloc, archive_core::shape::Pointee::Run({item}))?)"
     if type.name in ("Option", "Shared", "WeakShared"):
         return f"{'weak' if type.name == 'WeakShared' else type.name.lower()}_expression(alloc, {item})?"
+    if arrays.is_array(type):
+        return f"{EXPR}::Array({type.length}, Box::new(alloc, {item})?)"
     return f"{EXPR}::Vec(Box::new(alloc, {item})?)"
 
 
@@ -433,6 +437,8 @@ def kept(it, type):
         return f"{type.own.name}Resolver"
     if type.name == "Option":
         return f"Option<{kept(it, type.args[0])}>"
+    if arrays.is_array(type):
+        return f"Vec<{kept(it, type.args[0])}>"
     return {"Box": "BoxResolver", "BoxSlice": "BoxResolver", "Shared": "RcResolver", "Vec": "VecResolver", "WeakShared": "RcWeakResolver"}[type.name]
 
 
@@ -460,6 +466,8 @@ pub enum {it.resolver} {{
 
 def hollow(it, type):
     """What stands for a part that was written: its type."""
+    if arrays.is_array(type):
+        return arrays.array_at(it, type)
     item = type.args[0].args[0] if type.name == "Option" else type.args[0]
     if it.terms.is_pointer(type):
         return shared_at(type)
@@ -478,10 +486,11 @@ def hollows(it, case):
         its = hollow(it, type)
         made = f"{type.name}At::of({items_of(type, at)[:-len('.items')]}.len())" if is_run(type) else f"{type.name}At::new()"
         rust.append(its)
-        if it.terms.is_pointer(type) and not case.is_long:
+        is_unit = it.terms.is_pointer(type) or arrays.is_array(type)
+        if is_unit and not case.is_long:
             values.append(f"&{its}")
             continue
-        made = its if it.terms.is_pointer(type) else made
+        made = its if is_unit else made
         values.append(f"&h{name[1:]}")
         lines.append((f"let h{name[1:]}: {its} = ", made))
     return rust, values, lines
@@ -672,7 +681,8 @@ fn serialize_{name}<{it.writer}>(value: &{T}, serializer: &mut S) -> Result<{kep
     }}
 }}
 """
-    return (each_writing(it, item) if it.is_first_run(type) else "") + run_writing(it, type)
+    each = each_writing(it, item) if it.is_first_run(type) else ""
+    return each[:-1] if arrays.is_array(type) else each + run_writing(it, type)
 
 
 def each_writing(it, item):
@@ -827,6 +837,9 @@ def parts_written(it, case, values, indent=4, by_call=None):
         function, error = f"serialize_{it.word(type)}" if back else "serialize_part", "handed_on(error)" if i == by_call else "error"
         if back and type.name == "BoxSlice":
             value = f"&{value.lstrip('&')}.items"
+        if back and arrays.is_array(type):
+            function = f"serialize_each_{it.word(type.args[0])}"
+            lines += f"{pad}is_whole({value});\n"
         lines += f"{pad}let {name} = match {function}({value}, serializer) {{\n{pad}    Ok({name}) => {name},\n{pad}    Err(error) => return Err({error}),\n{pad}}};\n"
     return lines
 
@@ -1036,6 +1049,9 @@ def owner_reading(it, type):
     if type.name == "tuple":
         row = it.row(type)
         body = parts_read(it, row) + statement(4, "Ok(", Group("(", row.names, ")"), ")")
+    elif arrays.is_array(type):
+        T = f"Vec<{it.formats.rust(item)}>"
+        return reader(it, it.word(type), T, arrays.read_contract(it, type), arrays.reading(it, type), "Reads the elements of an array back.")
     elif type.name == "Shared":
         of = f"{inner}, RcFlavor, {T}, D"
         body = f"""    match begin_reading::<{of}>(part, deserializer)? {{
@@ -1102,11 +1118,12 @@ def parts_read(it, case):
 
 
 def built(it, case):
+    names = [f"array_of({name})" if back and arrays.is_array(type) else name for name, type, back in zip(case.names, case.types, case.leads_back)]
     if it.is_record:
         if case.form == "tuple":
-            return Group(f"{it.name}(", case.names, ")")
-        return literal(it.name, [f"{field.name}: {name}" for field, name in zip(case.fields, case.names)])
-    return pattern(it, case, case.names)
+            return Group(f"{it.name}(", names, ")")
+        return literal(it.name, [f"{field.name}: {name}" for field, name in zip(case.fields, names)])
+    return pattern(it, case, names)
 
 
 def case_reading(it, case):

@@ -254,8 +254,8 @@ HOLLOW = [
 ]
 
 
-def hollow_source(name, archived, resolver, flat, size, body):
-    """The impl of `Archive` of a hollow part without fields."""
+def hollow_source(name, archived, resolver, flat, size, body, belongs="⊤"):
+    """The impl of `Archive` of a hollow part without fields; `belongs` says which resolvers are its own, each in place of the braces."""
     meaning, keys, keyed, planned = (f"    ghost {member} = {{ {its} }};\n\n" for member, its in HOLLOW)
     return f"""impl Archive for {name} {{
     type Archived = {archived};
@@ -264,7 +264,7 @@ def hollow_source(name, archived, resolver, flat, size, body):
 
 {meaning}    ghost flat = {{ {flat} }};
 
-{keys}    ghost belongs = {{ λ _ _. ⊤ }};
+{keys}    ghost belongs = {{ λ _ {'r' if '{}' in belongs else '_'}. {belongs.format('r')} }};
 
     ghost in_bulk = {{ None }};
 
@@ -275,7 +275,7 @@ def hollow_source(name, archived, resolver, flat, size, body):
         place: Place<'_, {archived}>,
     ) -> Result<(), Error>
         requires zeroed {{ ZeroedPlace {size} place.pos place.bytes.now }}
-        requires same_value {{ ⊤ }}
+        requires same_value {{ {belongs.format('resolver')} }}
         ensures {{ ResolvesAs ⟦<Self::Archived as Portable>⟧ place
             (⟦<Self as Archive>⟧.flat self.now resolver) result }}
     {{

@@ -21,7 +21,9 @@ OWN_RESOLVERS = {"usize": "({x} < 2 ^ 32)", "isize": "(FitsSigned w32 {x})"}
 
 
 def items_of(type, x):
-    """The elements of a vector, or of a boxed slice."""
+    """The elements of a vector, of a boxed slice, or of an array, which is a list itself."""
+    if type.name == "array":
+        return x
     return f"{x}.items" if type.name == "Vec" else f"{x}.items.items"
 
 

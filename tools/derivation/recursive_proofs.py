@@ -2,6 +2,7 @@
 
 import re
 
+from . import recursive_arrays as arrays
 from . import recursive_chain_proofs as chains
 from . import recursive_code, recursive_hollow, recursive_lent, recursive_weak
 from .common import numbered
@@ -36,7 +37,7 @@ CITED = {
     "archive_core.proofs.Planned": "one_owned",
     "archive_core.proofs.PlannedParts": "serialized_no_part serialized_part serialized_record record_refused first_refused later_refused",
     "archive_core.proofs.ReadChoices": "variant_read_back variant_refuses",
-    "archive_core.proofs.ReadElements": "FirstElements all_have elements_more elements_all element_refused",
+    "archive_core.proofs.ReadElements": "FirstElements all_have elements_more elements_all element_refused array_read",
     "archive_core.proofs.ReadRecords": "record_read_back record_refuses first_refuses later_refuses",
     "archive_core.proofs.Runs": "Continues continues_step continues_broken continues_end belongs_end",
     "archive_core.proofs.ReadVariants": "case_read_back case_refuses empty_case_read_back",
@@ -184,26 +185,67 @@ def all_goes(goes):
 
 
 def words_of(it, case):
-    """The calls that write the parts of a case."""
-    return [f"serialize_{it.word(type)}" if back else "serialize_part" for type, back in zip(case.types, case.leads_back)]
+    """The calls that write the parts of a case: of an array its elements."""
+    words = [it.word(type.args[0] if arrays.is_array(type) else type) for type in case.types]
+    each = ["each_" if arrays.is_array(type) else "" for type in case.types]
+    return [f"serialize_{prefix}{word}" if back else "serialize_part" for prefix, word, back in zip(each, words, case.leads_back)]
+
+
+def wholes_of(case):
+    """The parts that are arrays, by their indices: of each a call says how many elements it has."""
+    return [i for i, (type, back) in enumerate(zip(case.types, case.leads_back)) if back and arrays.is_array(type)]
 
 
 def parts_written(it, case, answers, function, values, as_):
     """The answers on parts that are written one after another. `as_` makes of what is said of the layer what is said of the value."""
     words = words_of(it, case)
     calls, oks, errs = numbered(words), matched("in-Ok", words), matched("in-Err", words)
-    those_written(it, case, answers, function, values, as_, calls, oks, errs, "returns")
+    counts = numbered(["is_whole"] * len(wholes_of(case)))
+    those_written(it, case, answers, function, values, as_, calls, oks, errs, counts, "returns")
+    if counts:
+        answers.answer(function, "returns-clause-same_value", same_values(it, case, values, oks, counts))
 
 
-def those_written(it, case, answers, function, values, as_, calls, oks, errs, end):
-    """The answers on these calls one after another, of which the last is followed by the return `end`."""
-    written = [f"c.{ok}.ensures.serialized" for ok in oks]
+def same_values(it, case, values, oks, counts):
+    """That each resolver is its own part's; of an array, that there are as many as elements."""
+    same, counts = "tt", dict(zip(wholes_of(case), counts))
+    for i, ok in reversed(list(enumerate(oks))):
+        its = f"c.{ok}.ensures.same_value"
+        if i in counts:
+            belongs = functions_of(it, "belongs", case.types[i].args[0])
+            its = f"as_many_kept {belongs} {case.types[i].length} {values[i]} c.{ok}.{case.names[i]}.items c.{counts[i]}.ensures c.{ok}.ensures.same_values"
+        same = f"({its}, {same})"
+    return same
+
+
+def of_arrays(it, case, answers, values, oks, errs, counts):
+    """What is known of the calls that write parts, where arrays are among them: that each is written, and why it isn't."""
+    written, refused = [f"c.{ok}.ensures.serialized" for ok in oks], [f"c.{err}.ensures.refused" for err in errs]
+    for i, count in zip(wholes_of(case), counts):
+        if arrays.WRITTEN not in answers.items:
+            answers.items.append(arrays.WRITTEN)
+            answers.more += arrays.CITED
+        type, x = case.types[i], values[i]
+        item, t = type.args[0], it.terms
+        if t.is_option(item) and arrays.OPTION_WRITTEN not in answers.items:
+            answers.items.append(arrays.OPTION_WRITTEN)
+        flat, belongs = (functions_of(it, which, item) for which in ("flat", "belongs"))
+        same = f"(option_kept (one {t.shape(item.args[0].args[0])}))" if t.is_option(item) else "(λ x r b. refl)"
+        head = f"{t.definitions(item)} {t.shape(item)} {type.length} {t.said(item)} {flat} {t.kept(item)} {belongs} {same} {x} c.{count}.ensures _ _"
+        written[i] = f"(array_written {head} c.{oks[i]}.{case.names[i]}.items c.{oks[i]}.ensures.same_values {written[i]})"
+        refused[i] = f"(array_unwritten {head} _ {refused[i]})"
+    return written, refused
+
+
+def those_written(it, case, answers, function, values, as_, calls, oks, errs, counts, end):
+    """The answers on these calls one after another, of which the last is followed by the return `end`; `counts` are those that say how long arrays are."""
+    written, refusals = of_arrays(it, case, answers, values, oks, errs, counts)
     goes = [f"c.{call}.ensures.goes_on" for call in calls]
     parts = Parts(it, case, values)
     lemma = "record_refused" if case.is_record else "variant_refused"
     for i, err in enumerate(errs):
         # both lemmas take the keys, the meaning, the states and the error
-        refused = f"({lemma} {whole_of(it, case)} _ _ _ _ _ {parts.refused(i, written, goes, f'c.{err}.ensures.refused')})"
+        refused = f"({lemma} {whole_of(it, case)} _ _ _ _ _ {parts.refused(i, written, goes, refusals[i])})"
         answers.answer(function, f"returns-{err}-clause-refused", as_("refused_as", refused))
         if i:
             answers.answer(function, f"returns-{err}-clause-goes_on", all_goes(goes[:i + 1]))
@@ -229,7 +271,7 @@ def writing(family):
     for it in family.members:
         for type in it.owners:
             if it.is_written(type):
-                {"Box": box_written, "BoxSlice": run_written, "Option": option_written, "Shared": pointer_written, "Vec": run_written, "WeakShared": weak_written}[type.name](it, type, answers)
+                {"Box": box_written, "BoxSlice": run_written, "Option": option_written, "Shared": pointer_written, "Vec": run_written, "WeakShared": weak_written, "array": run_written}[type.name](it, type, answers)
         if it.is_record:
             record_written(it, answers)
             continue
@@ -296,10 +338,11 @@ def option_written(it, type, answers):
 
 
 def run_written(it, type, answers):
-    """The answers on a vector or a boxed slice, and on what each of its elements owns where no other before it has these elements."""
+    """The answers on a vector or a boxed slice, and on what each of its elements, or of an array's, owns where no other before it has these elements."""
     if it.is_first_run(type):
         each_written(it, type.args[0], answers)
-    run_owner_written(it, type, answers)
+    if not arrays.is_array(type):
+        run_owner_written(it, type, answers)
 
 
 def each_written(it, item, answers):
@@ -580,10 +623,8 @@ def choice_written(it, answers):
         ok, err = oks[until - 1], errs[until - 1]
         belongs = f"rw {is_}" if it.is_holder else f"rw ({is_}, {case.n}_opens{opened})"
         if inline[case.name]:
-            those_written(it, case, answers, function, values, as_, calls[at:until], oks[at:until], errs[at:until], f"returns-{ok}")
-            same = "tt"
-            for each in reversed(oks[at:until]):
-                same = f"(c.{each}.ensures.same_value, {same})"
+            those_written(it, case, answers, function, values, as_, calls[at:until], oks[at:until], errs[at:until], [], f"returns-{ok}")
+            same = same_values(it, case, values, oks[at:until], [])
             answers.answer(function, f"returns-{ok}-clause-same_value", f"{belongs} {same}")
         else:
             answers.answer(function, f"returns-{ok}-clause-serialized", as_("written_as", f"c.{ok}.ensures.serialized"))
@@ -608,7 +649,7 @@ def reading(family):
         if not it.is_holder:
             measures(it, answers)
         for type in it.owners:
-            {"Box": box_read, "BoxSlice": run_read, "Option": option_read, "Vec": run_read, "Shared": shared_read, "WeakShared": recursive_weak.read, "tuple": row_read}[type.name](it, type, answers)
+            {"Box": box_read, "BoxSlice": run_read, "Option": option_read, "Vec": run_read, "Shared": shared_read, "WeakShared": recursive_weak.read, "array": array_read, "tuple": row_read}[type.name](it, type, answers)
         for case in it.cases:
             here = answers if it.is_record or any(case.leads_back) else Answers(family, f"read_{case.n}")
             parts_read(it, case, here, f"read_{case.n}" if here is answers and not it.is_holder else "")
@@ -750,6 +791,48 @@ def run_read(it, type, answers):
     )
 
 
+def array_read(it, type, answers):
+    """The answers on the elements of an array, which are read as those of a vector are: where they lie, and not behind a pointer."""
+    item, count = type.args[0], type.length
+    t, function = it.terms, f"read_{it.word(type)}"
+    D, X = t.definitions(item), t.shape(item)
+    size, align = it.formats.layout(item)
+    L, laid_ = f"(record {{ size = {size}; align = {align} }})", "(record { solved = λ s k. refl })"
+    said = " ".join(t.function(which, item, t.own(which)) for which in ("meaning", "keys"))
+    P = f"(one (array {count} {X}))"
+    answers.invariant(
+        "", f"invariant-{function}-loop-index",
+        f"(length l.items.items ≡ l.index) × (vec_len l.items ≡ l.index) × ({count} ≤ vec_capacity l.items)"
+        f" × FirstElements g.D.Entries.keeps {D} {X} {L} l.list.bytes.now l.list.pos {P} l.list.len {said} (g.D.Entries.entry_of l.initial.deserializer) (g.D.Entries.entry_of l.deserializer) l.items.items",
+    )
+    lets = "let kept = c.loop-index.invariant in let b = c.at-list.result.bytes.now in let q = c.at-list.result.pos in let n = c.at-list.result.len in"
+    below = f"let below : c.loop-index.index < {count} = omega (arith, c.loop-index-test.true, c.loop-index.auto.index-end, c.len-index-end.ensures) in"
+    steps = ", ".join(f"c.{call}.ensures.{clause}" for call in ("part", "index") for clause in ("buffer", "position", "length"))
+    here = f"{D} {X} {L} {laid_} b q {P} n {count} (all_have {D} {X} {L} {laid_} b q {count} {P} n (inr refl)) {said} {TOLD}"
+    now = "(g.D.Entries.entry_of c.loop-index.deserializer)"
+    listed = ", ".join(f"c.at-list.ensures.{clause}" for clause in ("buffer", "position", "length"))
+    refused = f"element_refused {here} {now} c.loop-index.items.items c.loop-index.index (one {X}) c.in_err-item.field-0.0 refl below (kept.3) h"
+    answers.answer(
+        function, "returns-in_err-item-clause-refused",
+        f"({lets} {below} let h = rw ({steps}) at c.in_err-item.ensures.refused in let r = {refused} in " + error_by(["items", "item"], 1, f"(rw ({listed}) at r)") + ")",
+    )
+    pushed = "let pushed : c.push_reserved.new.self.items ≡ c.loop-index.items.items ++ c.in_ok-item.item ∷ [] = grind (arith, common_steps) in"
+    more = "let more : length (c.loop-index.items.items ++ c.in_ok-item.item ∷ []) ≡ c.loop-index.index + 1 = grind (arith, common_steps, kept.0) in"
+    step = f"elements_more {here} {now} (g.D.Entries.entry_of c.read_{it.word(item)}.new.deserializer) c.loop-index.items.items c.in_ok-item.item c.loop-index.index (one {X}) refl kept.0 below (kept.3) h"
+    answers.answer(
+        function, "loop-index-preserved",
+        f"({lets} {below} {pushed} {more} let h = rw ({steps}) at c.in_ok-item.ensures.read in"
+        f" rw pushed (more, grind (arith, common_steps, kept.1), grind (arith, common_steps, kept.2), {step}))",
+    )
+    whole = f"let whole : length c.loop-index.items.items ≡ {count} = omega (arith, kept.0, c.loop-index-test.false, c.loop-index.auto.index-end, c.len-index-end.ensures) in"
+    answers.answer(function, "returns-clause-whole", f"({lets} {whole} whole)")
+    answers.answer(
+        function, "returns-clause-read",
+        f"({lets} {whole} let r = elements_all {here} {now} c.loop-index.items.items whole (kept.3) in"
+        f" array_read {D} {ARGS.replace(' c.args.part.len', '')} {P} c.args.part.len {count} {said} {TOLD} {now} c.loop-index.items.items whole (rw ({listed}) at r))",
+    )
+
+
 def signed_values(values):
     """What makes of a number with a sign, as a body has it, the number that was read."""
     out, steps = "", []
@@ -766,7 +849,9 @@ def parts_read(it, case, answers, function):
     where = "part_of_record" if case.is_record else "part_of_variant"
     told = ["rw (" + ", ".join(f"c.{where}-p{i}.ensures.{clause}" for clause in ("buffer", "position", "length")) + ") at " for i in range(case.count)]
     reads = Reads(it, case.names, case.types, case.is_long)
-    values = reads.values
+    values = list(reads.values)
+    for i in wholes_of(case):
+        values[i] += ".items"
     parts = Parts(it, case, values)
     laws = [laid(it, type) for type in case.types]
     sizes = [it.formats.layout(type) for type in case.types]
@@ -803,6 +888,8 @@ def parts_read(it, case, answers, function):
         its = f"(variant_read_back {whole_of(it, case)} _ _ _ {first}_ _ _ _ {read()})"
         body = its if it.is_holder else f"read_as ({case.n}_has_keys{those}) ({case.n}_means{those}) {its}"
     lets = signed_values(zip(case.types, case.names, values))
+    made = ", ".join(f"c.{call}.ensures" for call in numbered(["array_of"] * len(wholes_of(case))))
+    lets += f"rw ({made}) " if made else ""
     answers.answer(function, "returns-clause-read", f"({lets}({body}))" if lets else body)
 
 

@@ -12,6 +12,7 @@ MOST_FIELDS = 16
 # Up to so many fields there are calls by their number, for types that go by a name.
 MOST_BY_NAME = 7
 MOST_PLACES = 3
+MOST_ITEMS = 8
 
 
 def check_recursive(it: Declaration, line: int, names: str):
@@ -83,9 +84,13 @@ def check_plain(it: Declaration, type: Type, line: int, behind: bool = False):
 
 
 def check_owner(it: Declaration, type: Type, line: int):
-    """What leads back is a box or a shared pointer, an option of one, a vector or a boxed slice of these or of the type itself, a vector of tuples, or a box of a vector."""
+    """What leads back is a box or a shared pointer, an option of one, an array of boxes or of options of these, a vector or a boxed slice of these or of the type
+    itself, a vector of tuples, or a box of a vector."""
     for row in rows_in(it, type):
         check_row(it, row, line)
+    if is_named(type, "array"):
+        check_array(it, type, line)
+        return
     if is_pointer(it, type) or is_shared(it, type) or is_weak(it, type) or is_list(it, type) or is_named(type, "Box") and is_named(type.args[0], "Vec") and is_list(it, type.args[0]):
         return
     if is_named(type, "WeakShared") and is_member(it, type.args[0]):
@@ -98,6 +103,15 @@ def check_owner(it: Declaration, type: Type, line: int):
     if type.name not in ("Box", "BoxSlice", "Option", "Shared", "Vec") or type.own is not None:
         raise Refused(it.path, line, f"`{type.name}` around `{it.name}` isn't written yet; {written}")
     raise Refused(it.path, line, f"this {'option' if type.name == 'Option' else f'`{type.name}` of pointers'} to `{it.name}` isn't written yet; {written}")
+
+
+def check_array(it: Declaration, type: Type, line: int):
+    """An array that leads back is of options of boxes, in a struct that leads back by no other field and to no other type. Of an enum, a pattern that
+    binds the array isn't covered."""
+    others = sum(leads_back(it, field.type) for field in it.all_fields()) > 1 or len(it.family) > 1
+    if it.kind == "enum" or not is_named(type.args[0], "Option") or not is_pointer(it, type.args[0]) or not 0 < int(type.length) <= MOST_ITEMS or others:
+        said = f"an array that leads back to `{it.name}` is written in a struct, of 1 to {MOST_ITEMS} options of boxes, if no other field leads back and no other type is recursive with it"
+        raise Refused(it.path, line, f"{said}; write a `Vec`")
 
 
 def rows_in(it: Declaration, type: Type) -> List[Type]:

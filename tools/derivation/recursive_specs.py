@@ -1,5 +1,6 @@
 """The definitions that stand beside the modules of recursive types: what they look like, and what their values mean. A family has one file of each."""
 
+from . import recursive_arrays as arrays
 from . import recursive_chain_specs as chains
 from . import recursive_holders as holders
 from .formats import ALIGNS
@@ -193,6 +194,7 @@ AROUND = {
     ("Shared", 0): "mentions_shared (mentions_one ({}))",
     ("Vec", 0): "mentions_vec ({})",
     ("WeakShared", 0): "mentions_weak (mentions_one ({}))",
+    ("array", 0): "mentions_array ({})",
 }
 
 
@@ -348,7 +350,9 @@ def meaning(family):
     """What values mean, layer by layer, and the laws of it."""
     if family.first.is_holder:
         return meaning_of_holder(family.first)
+    has_arrays = any(map(arrays.arrays_of, family.members))
     lines = pairs(family) if family.shares else []
+    lines += [arrays.LAWS] if has_arrays else []
     for which, type, word in SAID:
         if not family.shares:
             lines += [layer(it, which, type) for it in family.members]
@@ -365,6 +369,7 @@ def meaning(family):
     lines += laws(family)
     body = "\n".join(lines)
     more = SPOKEN + [(family.declared(family.ordered[0].name, "TheFolds"), " ".join(f"map-{it.name}" for it in family.members)), ("std.proofs.Common", PRELUDE_COMMON)]
+    more += arrays.SPOKEN if has_arrays else []
     aliases = ""
     for it in family.members:
         N = it.name
@@ -517,8 +522,22 @@ def sources(it):
     return each_type(it.family, lambda other: other.source)
 
 
-def still_mapped(it, item, which, items):
-    """What is said of a vector whose elements were mapped. How a tuple was mapped antt doesn't find where some of it has no keys."""
+def mapped_list(it, type, which, items):
+    """That what is said of a vector, or of an array, whose elements were mapped is what is said of the elements."""
+    item = type.args[0]
+    each = mapped(it, item, which, items)
+    if not arrays.is_array(type):
+        return each
+    inner = item.args[0] if it.terms.is_option(item) else item
+    return arrays.mapped(type, items, which, said_of_mapped(it, inner, which), said_with_type(it, inner, which, it.terms.own(which), None), each)
+
+
+def still_mapped(it, type, which, items):
+    """What is said of a vector, or of an array, whose elements were mapped. How a tuple was mapped antt doesn't find where some of it has no keys."""
+    item = type.args[0]
+    if arrays.is_array(type):
+        inner = item.args[0] if it.terms.is_option(item) else item
+        return f"(array_{which} {type.length} {arrays.of_element(item, which, said_of_mapped(it, inner, which))} (map _ {items}))"
     if it.terms.is_row(item):
         own = it.terms.own(which)
         places = ", ".join(f"{own[arg.own.name]} y.{i}" if it.terms.is_member(arg) else f"y.{i}" for i, arg in enumerate(item.args))
@@ -562,8 +581,8 @@ def rolled(it, which, type, word):
             out = f"ap (λ (p : {BOTH}). p{PLACES[which]}) ({fold(it, 'both', BOTH, 'fold-roll')} {pattern})"
         for j, (vector, items) in lists.items():
             # those before it are the value's own already, those behind it are still mapped
-            terms = {i: "vs" if i == j else still_mapped(it, other.args[0], which, its) for i, (other, its) in lists.items() if i >= j}
-            out += f" ∙ ap (λ vs. {said_of(it, case, which, own, terms, values)}) ({mapped(it, vector.args[0], which, items)})"
+            terms = {i: "vs" if i == j else still_mapped(it, other, which, its) for i, (other, its) in lists.items() if i >= j}
+            out += f" ∙ ap (λ vs. {said_of(it, case, which, own, terms, values)}) ({mapped_list(it, vector, which, items)})"
         return out
 
     claim = f"{n}_{which} (roll-{N} {{0}}) ≡ {n}_{which}_layer {said_by(it.family, which)} {{0}}"

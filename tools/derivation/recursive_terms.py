@@ -1,10 +1,11 @@
 """Terms of antt on the parts of recursive types: what a part looks like, what it means, and the laws of it.
 
-A part is plain (a number, a text, another type that `tools/derive` wrote), the type itself, or an owner of it: a box, an option of a box, a boxed slice, or a
-vector, of which an element may be a tuple of plain parts and of values of the type. A term is one at a value, which is a term itself:
+A part is plain (a number, a text, another type that `tools/derive` wrote), the type itself, or an owner of it: a box, an option of a box, an array of these, a
+boxed slice, or a vector, of which an element may be a tuple of plain parts and of values of the type. A term is one at a value, which is a term itself:
 `meaning(type, "a0", m)`, where `m` is the meaning of the type itself.
 """
 
+from . import recursive_arrays as arrays
 from . import recursive_weak
 from .formats import snake
 from .model import Type
@@ -101,9 +102,11 @@ class Terms:
         return type.name == "Option" and self.leads_back(type)
 
     def list_in(self, type, x):
-        """The vector that leads back, of a part that is one or a box of one, with the term of its elements; none of other parts."""
+        """The vector or array that leads back, of a part that is one or a box of one, with the term of its elements; none of other parts."""
         if not self.leads_back(type) or self.is_member(type):
             return None
+        if arrays.is_array(type):
+            return type, x
         if type.name == "Box":
             return self.list_in(type.args[0], f"{x}.value")
         return (type, items_of(type, x)) if is_run(type) else None
@@ -119,7 +122,8 @@ class Terms:
             return f"{self.word(type)}_shape"
         item = self.shape(type.args[0])
         shapes = {"Box": f"(boxed (one {item}))", "BoxSlice": f"(boxed (run {item}))", "Option": f"(option_shape {item})", "Vec": f"(vec {item})"}
-        return {**shapes, "Shared": f"(shared rc_flavor (one {item}))", "WeakShared": f"(weak rc_flavor (one {item}))"}[type.name]
+        others = {"Shared": f"(shared rc_flavor (one {item}))", "WeakShared": f"(weak rc_flavor (one {item}))", "array": f"(array {type.length} {item})"}
+        return {**shapes, **others}[type.name]
 
     def definitions(self, type):
         if not self.leads_back(type):
@@ -161,6 +165,8 @@ class Terms:
             return f"(box {self.meaning(item, f'{x}.value', m)})"
         if type.name == "Option":
             return f"(option_meaning {self.function('meaning', item, m)} {x})"
+        if arrays.is_array(type):
+            return f"(array_meaning {type.length} {self.function('meaning', item, m)} {x})"
         return around(type, f"(list (each_meaning {self.function('meaning', item, m)} {items_of(type, x)}))")
 
     def keys(self, type, x, k):
@@ -180,6 +186,8 @@ class Terms:
             return self.keys(item, f"{x}.value", k)
         if type.name == "Option":
             return f"(option_keys {self.function('keys', item, k)} {x})"
+        if arrays.is_array(type):
+            return f"(array_keys {type.length} {self.function('keys', item, k)} {x})"
         return f"(each_keys {self.function('keys', item, k)} {items_of(type, x)})"
 
     def of_weak(self, which, type, x, m):
@@ -210,6 +218,8 @@ class Terms:
             return f"(option_flat (λ y s. (rc_flat s (one {self.shape(type.args[0].args[0])}) 0)) {r} {r})"
         if type.name == "Option":
             return f"(option_at (one {self.shape(type.args[0].args[0])}) {r})"
+        if arrays.is_array(type):
+            return f"(list (each_meaning {self.kept(type.args[0])} {r}.items))"
         return around(type, f"(hole (to_pointee {r} (run {item}) (length {items_of(type, x)})))")
 
     def belongs(self, type, x, r):
@@ -221,7 +231,13 @@ class Terms:
             return self.parts_belong(type.args, places(type, x), r)
         if type.name in ("Box", "Option", "Shared", "WeakShared"):
             return "⊤"
+        if arrays.is_array(type):
+            return f"(length {r}.items ≡ {type.length})"
         return f"(length {items_of(type, x)} ≤ 4294967295)"
+
+    def kept(self, item):
+        """What is read in the place of an array's element, by what is kept of it alone."""
+        return f"(λ s. {self.flat(item, 'y', 's')})"
 
     # ---- laws ----
 
@@ -250,6 +266,8 @@ class Terms:
             its = f"(held_each_keyed _ {self.said(item)} (λ e. {self.keyed(item, 'e')}) {items})"
         else:
             its = f"(held_keyed {self.said(item)} {items})"
+        if arrays.is_array(type):
+            return f"(keyed_array _ {type.length} {self.said(item)} {x} {its})"
         return its if type.name == "Vec" else f"(box_keyed _ _ {its})"
 
     def planned(self, type, x, held):
@@ -280,6 +298,10 @@ class Terms:
             its = f"held_options_planned _ {self.said(inner)} {D} {self.shape(inner)} refl (λ e. {self.planned(item, '(Some e)', True)}) {items}"
         elif not self.is_member(item):
             its = f"held_each_planned _ {self.said(item)} {D} {X} (λ e. {self.planned(item, 'e', True)}) {items}"
+        if arrays.is_array(type) and held:
+            return f"(planned_array _ {type.length} {self.said(item)} {D} {X} {x} ({its}))"
+        if arrays.is_array(type):
+            return f"(array_planned {type.length} {D} {X} {self.said(item)} {self.plan(item)} {x})"
         owner = f"vec_planned {D} {X}" if type.name == "Vec" else f"box_planned {D} (run {X})"
         if held:
             return f"({owner} _ _ _ (run_region_planned {D} {X} _ _ _ ({its})))"
@@ -390,6 +412,11 @@ def is_run(type):
     return type.name in ("Vec", "BoxSlice")
 
 
+def has_elements(type):
+    """Whether it is one of these, or an array."""
+    return is_run(type) or arrays.is_array(type)
+
+
 def around(type, term):
     """What a vector means, or what is read in its place, as that of a boxed slice where it is one."""
     return term if type.name == "Vec" else f"(box {term})"
@@ -397,6 +424,8 @@ def around(type, term):
 
 def listed(type, term):
     """What a vector, a boxed slice, or a box of one means, by what its elements do."""
+    if arrays.is_array(type):
+        return term
     return f"(box {listed(type.args[0], term)})" if type.name == "Box" else around(type, f"(list {term})")
 
 

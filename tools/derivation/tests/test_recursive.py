@@ -68,6 +68,17 @@ class Recursive(RepositoryTest):
         self.assertIn("options_alike _ (λ (y : (Box Value Global)). (box (y.value))) (λ (y : (Box Bush-Source Global)). (box (bush_meaning y.value))) refl", text)
         self.assertIn("held_options_keyed _ ", text)
 
+    def test_what_is_read_in_the_place_of_an_array_is_said_by_the_resolvers(self):
+        path = self.put("#[derive(Drop)]\npub struct Quad { id: u8, parts: [Option<Box<Quad>>; 2] }\n")
+        self.assertEqual(self.run_command(path), (0, ""))
+        text = self.text(path)
+        self.assertEqual(text.count("fn serialize_each_option_box_quad<"), 1)
+        for word in ("struct Array2OptionBoxQuadAt;", "is_whole(&value.parts);", "ResolverAlloc<Alloc = Global>", "fn read_array2_option_box_quad<", "parts: array_of(a1),"):
+            self.assertIn(word, text)
+        text = self.beside("specs", "QuadMeaning.antt")
+        self.assertIn("(list (each_meaning (λ s. (option_at (one quad_shape) s)) r.kept.1.0.items))", text)
+        self.assertIn("(alike_array _ 2 (λ o. option_meaning", text)
+
     def test_a_vector_in_a_box_is_written_by_a_function_of_its_own(self):
         path = self.put("#[derive(Drop)]\npub struct Grove { id: u8, below: Box<Vec<Grove>> }\n")
         self.assertEqual(self.run_command(path), (0, ""))
