@@ -20,4 +20,6 @@ mod notes;
 #[cfg(test)]
 mod statements;
 #[cfg(test)]
+mod sums;
+#[cfg(test)]
 mod tuples;
