@@ -15,9 +15,7 @@ from .model import Declaration, Field, Module, Refused, Type
 from .names import ALIASES, FLOATS, LIBRARY, PRIMITIVES, STD, STD_MODULES, Found, Source, World
 from .parse import Alias, Declared
 from .items import number_of
-from .recursive_holders import is_part
 from .recursive_refusals import MOST_BY_NAME
-from .recursive_refusals import MOST_FIELDS as MOST_OF_RECURSIVE
 
 # Of a struct, and of a variant.
 MOST_FIELDS = 32
@@ -473,9 +471,8 @@ def check_loads(module: Module):
     for it in module.declarations:
         if it.as_tuple and len(it.fields) > MOST_FEW:
             kind = "with type parameters" if it.parameters else "that holds a recursive type"
-            most = MOST_OF_RECURSIVE if it.holds_recursive and not it.parameters and all(is_part(it, field.type) for field in it.fields) else MOST_FEW
-            said = f"`{it.name}` has {len(it.fields)} fields, and {most} are the most of a struct {kind}; put some into a struct of their own"
-            raise Refused(module.path, it.fields[most].line, said)
+            said = f"`{it.name}` has {len(it.fields)} fields, and {MOST_FEW} are the most of a struct {kind}; put some into a struct of their own"
+            raise Refused(module.path, it.fields[MOST_FEW].line, said)
         if it.part_by_part:
             check_variants(module, loads, it)
             for fields in [it.fields] + [v.fields for v in it.variants]:

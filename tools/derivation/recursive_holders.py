@@ -9,7 +9,7 @@ from typing import List
 from .formats import ALIGNS, has_shared
 from .model import Declaration, Field, Refused, Type
 from .recursive_plain import is_shaped
-from .recursive_refusals import MOST_FIELDS, PLAIN
+from .recursive_refusals import MOST_BY_NAME, PLAIN
 
 
 def tell(it: Declaration):
@@ -23,7 +23,7 @@ def groups(it: Declaration) -> List[List[Field]]:
 
 
 def fits(it: Declaration, fields: List[Field]) -> bool:
-    return len(fields) <= MOST_FIELDS and all(is_part(it, field.type) for field in fields)
+    return len(fields) <= MOST_BY_NAME and all(is_part(it, field.type) for field in fields)
 
 
 def is_part(it: Declaration, type: Type) -> bool:

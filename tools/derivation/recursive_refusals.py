@@ -8,7 +8,8 @@ from .recursive_plain import LEAVES, has_boxed, is_shaped
 
 # What plain parts may be made of, which a recursive type has beside those that lead back to it.
 PLAIN = set(LEAVES) | {"String", "BoxStr", "NonZero", "Option", "Result", "Box", "BoxSlice", "Vec", "BTreeMap", "OwnedArray"}
-MOST_FIELDS = 16
+# Those of a type that is recursive alone and shares nothing.
+MOST_FIELDS = 9
 # Up to so many fields there are calls by their number, for types that go by a name.
 MOST_BY_NAME = 7
 MOST_PLACES = 3
@@ -50,9 +51,11 @@ def check_family(it: Declaration, names: str):
 
 
 def check_parts(it: Declaration, fields):
-    """A variant or a record has as many fields as the library writes."""
-    if len(fields) > MOST_FIELDS:
-        raise Refused(it.path, fields[-1].line, f"a variant or a struct of the recursive `{it.name}` has up to {MOST_FIELDS} fields; put some of them into a struct of another file")
+    """A variant or a record has as many fields as are proved to be written and read back, of types that hold each other or share fewer."""
+    is_alone = len(it.family) == 1 and not any(has_shared(field.type, it.family) for field in it.all_fields())
+    most = MOST_FIELDS if is_alone else MOST_BY_NAME
+    if len(fields) > most:
+        raise Refused(it.path, fields[-1].line, f"a variant or a struct of the recursive `{it.name}` has up to {most} fields; put some of them into a struct of another file")
 
 
 def check_part(it: Declaration, type: Type, line: int):
