@@ -351,7 +351,7 @@ def meaning(family):
     if family.first.is_holder:
         return meaning_of_holder(family.first)
     has_arrays = any(map(arrays.arrays_of, family.members))
-    lines = pairs(family) if family.shares else []
+    lines = of_each(family, together) + (pairs(family) if family.shares else [])
     lines += [arrays.LAWS] if has_arrays else []
     for which, type, word in SAID:
         if not family.shares:
@@ -579,6 +579,11 @@ def rolled(it, which, type, word):
         out = f"{fold(it, which, type, 'fold-roll')} {pattern}"
         if it.family.shares:
             out = f"ap (λ (p : {BOTH}). p{PLACES[which]}) ({fold(it, 'both', BOTH, 'fold-roll')} {pattern})"
+        if is_together(it, lists):
+            named = {i: f"vs{i}" for i in lists}
+            whole = with_types(it, case, which, own, said_of(it, case, which, own, named, values))
+            equal = " ".join(f"({mapped_list(it, vector, which, items)})" for vector, items in lists.values())
+            return f"{out} ∙ alike_{len(lists)} (λ {' '.join(named.values())}. {whole}) {'_ _ ' * len(lists)}{equal}"
         for j, (vector, items) in lists.items():
             # those before it are the value's own already, those behind it are still mapped
             terms = {i: "vs" if i == j else still_mapped(it, other, which, its) for i, (other, its) in lists.items() if i >= j}
@@ -598,6 +603,49 @@ def rolled(it, which, type, word):
     lines = "".join(f"{n}_{word}_at {' '.join(map(option_of, values))} = {step(it, layer_of(it, it, values), values)}\n" for values in splits(it, it))
     at = f"{n}_{word}_at :{arguments_of(it, it)} → {claim.format(whole)}\n{opened_}{lines}\n"
     return f"{at}{said}{n}_{word}_roll x = {n}_{word}_at {arguments_at(it, 'x')}\n"
+
+
+def with_types(it, case, which, own, whole):
+    """The same, with a type for what is said of what an option holds: in a function of vectors antt finds none."""
+    for type in filter(it.terms.is_option, case.types):
+        item = type.args[0]
+        untyped, typed = it.terms.function(which, item, own), said_with_type(it, item, which, own, None)
+        whole = whole.replace(f"(option_{which} {untyped} ", f"(option_{which} {typed} ")
+    return whole
+
+
+def is_together(it, lists):
+    """Whether vectors of a layer are said to be mapped all at once: antt doesn't find how one of options or of weak pointers was mapped that is behind another."""
+    return any(is_split(it, vector.args[0]) for vector, _ in list(lists.values())[1:])
+
+
+def together(it):
+    """The lemma on several that are, for each number of them; a family's first type that needs it has it."""
+    counts = [counts_of(other) for other in it.family.members]
+    at = it.family.members.index(it)
+    return [alike(n) for n in sorted(set(counts[at]) - {n for before in counts[:at] for n in before})]
+
+
+def counts_of(it):
+    """How many vectors are mapped at once, of each case where several are."""
+    lists = [{i: found for i, type in enumerate(case.types) if (found := it.terms.list_in(type, "x"))} for case in it.cases]
+    return [len(those) for those in lists if is_together(it, those)]
+
+
+def alike(n):
+    """What is made of equal terms is equal."""
+    places = range(n)
+    types = " ".join(f"A{i}" for i in places)
+    takes = " → ".join([f"A{i}" for i in places] + ["R"])
+    terms = " ".join(f"(a{i} b{i} : A{i})" for i in places)
+    equal = " → ".join([f"a{i} ≡ b{i}" for i in places])
+    said, names, proofs = (" ".join(f"{letter}{i}" for i in places) for letter in ("a", "b", "p"))
+    steps = []
+    for i in places:
+        others = " ".join([f"b{j}" for j in range(i)] + ["x"] + [f"a{j}" for j in range(i + 1, n)])
+        steps.append(f"ap (λ x. f {others}) p{i}")
+    taken = " ".join(f"a{i} b{i}" for i in places)
+    return f"alike_{n} : {{{types} R : Type 0}} (f : {takes}) {terms} → {equal} → f {said} ≡ f {names}\nalike_{n} f {taken} {proofs} = {' ∙ '.join(steps)}\n"
 
 
 def opened(it, which, word):
