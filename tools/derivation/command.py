@@ -65,6 +65,7 @@ def main(arguments: List[str]) -> int:
     if not paths or any(it.startswith("-") for it in paths):
         print(USAGE, file=sys.stderr)
         return 2
+    paths = from_top(paths)
     try:
         differing = differences(paths)
     except Refused as error:
@@ -79,6 +80,18 @@ def main(arguments: List[str]) -> int:
         elif not put(path, text):
             return 2
     return 1 if check and differing else 0
+
+
+def from_top(paths: List[str]) -> List[str]:
+    """The same files by their paths from the repository's top folder, to which it goes from a folder below: what stands beside a file is found by its path."""
+    here = top = os.getcwd()
+    while not os.path.isfile(os.path.join(top, "crates.txt")) and top != os.path.dirname(top):
+        top = os.path.dirname(top)
+    if top == here or not os.path.isfile(os.path.join(top, "crates.txt")):
+        return paths
+    whole = [os.path.abspath(it) for it in paths]
+    os.chdir(top)
+    return [os.path.relpath(it, top) for it in whole]
 
 
 def put(path: str, text: str) -> bool:

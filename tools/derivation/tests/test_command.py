@@ -36,6 +36,15 @@ class Writing(RepositoryTest):
         self.run_command(other)
         self.assertEqual(self.text(other), first)
 
+    def test_from_a_folder_below(self):
+        crate = os.path.dirname(os.path.dirname(self.put("pub struct Tree { value: u32, children: Vec<Tree> }\n")))
+        with open(os.path.join(self.top, "crates.txt"), "w", encoding="utf-8") as file:
+            file.write("game: archive_core\n")
+        self.addCleanup(os.chdir, os.getcwd())
+        os.chdir(crate)
+        self.assertEqual(self.run_command(os.path.join("src", "types.rt")), (0, ""))
+        self.assertTrue(os.path.isfile(os.path.join(crate, "specs", "TreeShape.antt")))
+
     def test_a_changed_declaration_is_written_anew(self):
         path = self.put(POINT)
         self.run_command(path)
