@@ -125,7 +125,9 @@ class Recursive:
     def is_written(self, type):
         """Whether a function writes what an owner owns: what is in an option is written with it, and a vector in a box by a function of its own."""
         parts = [part for it in self.family.members for case in it.cases for part in case.types if self.terms.leads_back(part)]
-        return any(self.word(part) == self.word(type) for part in parts + [part.args[0] for part in parts if part.name == "Box"])
+        parts += [part.args[0] for part in parts if part.name == "Box"]
+        parts += [run.args[0] for it in self.family.members for run in it.owners if is_run(run) and self.terms.is_weak(run.args[0])]
+        return any(self.word(part) == self.word(type) for part in parts)
 
     def row(self, type):
         return Row(self, type)

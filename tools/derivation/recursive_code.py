@@ -610,17 +610,8 @@ fn serialize_{name}<{it.writer}>(value: &{T}, serializer: &mut S) -> Result<RcWe
 }}
 """
     if type.name == "Option" and it.terms.is_shared(item):
-        return f"""// Writes what an option of a shared pointer leads to, if its key is unknown.
-#[cycle(serialize_{it.family.n})]
-fn serialize_{name}<{it.writer}>(value: &{T}, serializer: &mut S) -> Result<{kept(it, type)}, Error>
-{contract(it, type, "value")}{{
-    match value {{
-        None => Ok(None),
-        Some(whole) => {{
-{behind_shared(it, item, "whole", 12, "Ok(Some({}))")}        }}
-    }}
-}}
-"""
+        its = option_writing(it, type, f"serialize_{name}", contract(it, type, "value"))
+        return f"// Writes what an option of a shared pointer leads to, if its key is unknown.\n{its}"
     if type.name == "Option":
         return f"""// Writes what an option owns.
 #[cycle(serialize_{it.family.n})]
@@ -645,11 +636,40 @@ fn serialize_{name}<{it.writer}>(value: &{T}, serializer: &mut S) -> Result<{kep
     return (each_writing(it, item) if it.is_first_run(type) else "") + run_writing(it, type)
 
 
+def called(it, item):
+    """The function that writes what an element of a vector leads to."""
+    return f"serialize_{'element_' if item.name == 'Option' else ''}{it.word(item)}"
+
+
+def element_writing(it, item):
+    """That of an option of a shared pointer: beside that of such a field it promises that what is kept is of the option, which resolves it."""
+    T = it.formats.rust(item)
+    said = SERIALIZED.format(T=T, D=it.terms.definitions(item), X=it.terms.shape(item), v="value", flat=f"⟦<{T} as Archive>⟧.flat value.now r", belongs=f"⟦<{T} as Archive>⟧.belongs value.now r")
+    return f"""// Writes what an element of a vector leads to, if there is one and its key is unknown.
+{option_writing(it, item, called(it, item), said)}
+"""
+
+
+def option_writing(it, type, function, says):
+    """The function of this name that writes what an option of a shared pointer leads to."""
+    return f"""#[cycle(serialize_{it.family.n})]
+fn {function}<{it.writer}>(value: &{it.formats.rust(type)}, serializer: &mut S) -> Result<{kept(it, type)}, Error>
+{says}{{
+    match value {{
+        None => Ok(None),
+        Some(whole) => {{
+{behind_shared(it, type.args[0], "whole", 12, "Ok(Some({}))")}        }}
+    }}
+}}
+"""
+
+
 def each_writing(it, item):
     """The function that writes what each element of a vector, or of a boxed slice, owns."""
+    before = element_writing(it, item) if it.terms.is_called(item) and item.name == "Option" else ""
     its, D, X = it.formats.rust(item), it.terms.definitions(item), it.terms.shape(item)
     run = f"{D} {X} (length values.now) (each_keys ⟦<{its} as Archive>⟧.keys values.now)\n        (each_meaning ⟦<{its} as Archive>⟧.meaning values.now)"
-    return f"""// Writes what each of the values owns, in order.
+    return f"""{before}// Writes what each of the values owns, in order.
 #[cycle(serialize_{it.family.n})]
 fn serialize_each_{it.word(item)}<{it.writer}>(values: &[{its}], serializer: &mut S) -> Result<Vec<<{its} as Archive>::Resolver, S::Alloc>, Error>
     ensures serialized {{ IfOk result (λ rs. SerializedRun {run}
@@ -717,10 +737,11 @@ def element_written(it, item):
         row = it.row(item)
         written = parts_written(it, row, [f"&value.{i}" for i in range(row.count)], 8, row.first_back)
         return f"{written}        {push.format(flat(pair(row.names)))}\n"
-    if it.terms.is_member(item):
-        return f"""        let resolver = match serialize_{it.word(item)}(value, serializer) {{
+    if it.terms.is_member(item) or it.terms.is_called(item):
+        written, error = (f"serialize_{it.word(item)}", "handed_on(error)") if it.terms.is_member(item) else (called(it, item), "error")
+        return f"""        let resolver = match {written}(value, serializer) {{
             Ok(resolver) => resolver,
-            Err(error) => return Err(handed_on(error)),
+            Err(error) => return Err({error}),
         }};
         {push.format("resolver")}
 """

@@ -322,8 +322,13 @@ def each_written(it, item, answers):
         # the errors of the levels below come by a call
         answers.answer(each, f"returns-{err}-clause-refused", f"rw c.handed_on.ensures ({broken})" if err == steps.by_call else broken)
     if t.is_row(item):
-        row_deeper(it, it.row(item), answers, each)
-    if t.is_option(item):
+        row = it.row(item)
+        deeper(answers, each, in_loop([f"{word}-requires" for word, back in zip(words_of(it, row), row.leads_back) if back]))
+    if t.is_called(item):
+        deeper(answers, each, [f"{recursive_code.called(it, item)}-requires"])
+        if t.is_option(item):
+            element_written(it, item, answers)
+    if t.is_option(item) and not t.is_called(item):
         option_kept(it, item, answers, each, steps, kept, at)
     elif t.is_shared(item):
         shared_kept(it, item, answers, each, steps, kept, at)
@@ -343,13 +348,13 @@ no_deeper depth n k t xs i x measure below is = subst (λ y. depth y ≤ most de
 """
 
 
-def row_deeper(it, row, answers, each):
-    """That the recursion ends: what is in a tuple isn't deeper than the deepest of the tuples. The toolchain's own search doesn't finish."""
+def deeper(answers, each, calls):
+    """That the recursion ends: what is in an element isn't deeper than the deepest of the elements. The toolchain's own search doesn't finish."""
     if DEEPER not in answers.items:
         answers.items.append(DEEPER)
     answers.answer(each, "returns-in_err-resolvers-clause-goes_on", "goes_nowhere _")
     known = "no_deeper _ _ _ _ c.args.values.now c.loop-value.value-index c.value-item.result c.decreases c.loop-value-test.true c.value-item.is"
-    for call in in_loop([f"{word}-requires" for word, back in zip(words_of(it, row), row.leads_back) if back]):
+    for call in calls:
         answers.answer(each, call, f"(omega (arith, c.decreases, {known}), within)", "g t c κs within")
 
 
@@ -430,6 +435,9 @@ class Element:
         if it.terms.is_row(item):
             self.row(it, it.row(item))
             return
+        if it.terms.is_called(item):
+            self.called(recursive_code.called(it, item))
+            return
         box = item.args[0] if it.terms.is_option(item) else item
         D, X = it.terms.definitions(item), it.terms.shape(box if it.terms.is_member(box) else box.args[0])
         inner = f"serialize_{it.word(box if it.terms.is_member(box) else box.args[0])}"
@@ -472,6 +480,12 @@ class Element:
         refused = [parts.refused(i, written, goes, f"c.{err}.ensures.refused") for i, err in enumerate(errs)]
         self.refusals = [(err, all_goes(goes[:i + 1]), f"(record_refused {whole} {refused[i]})") for i, err in enumerate(errs)]
 
+    def called(self, function):
+        """Those of what is written by one call."""
+        self.by_call = ""
+        self.goes, self.serialized, self.belongs, self.resolver = f"c.{function}.ensures.goes_on", "c.in-Ok.ensures.serialized", "c.in-Ok.ensures.same_value", "c.in-Ok.resolver"
+        self.refusals = [("in-Err", self.goes, "c.in-Err.ensures.refused")]
+
     def shared(self, it, item):
         """Those of a shared pointer: its key is started, and then its value is written, if that wasn't known."""
         its = BehindShared(it, item.args[0], "c.value-item.result", "c.in-Some", "c.in-None")
@@ -504,9 +518,17 @@ class BehindShared:
         ]
 
 
-def pointer_written(it, type, answers):
+def element_written(it, type, answers):
+    """Those on an option of one that is an element of a vector: what is kept is of the option."""
+    function = recursive_code.called(it, type)
+    pointer_written(it, type, answers, function)
+    for arm, of in (("in-None", "in-None"), ("in-Some-known", "in-Some"), ("in-Ok-finish_shared", "in-Some")):
+        answers.answer(function, f"returns-{arm}-clause-same_value", f"rw c.{of}.is tt")
+
+
+def pointer_written(it, type, answers, function=None):
     """The answers on a shared pointer, or on an option of one, which is written in a variant of its own."""
-    item, function, D = type.args[0], f"serialize_{it.word(type)}", it.terms.definitions(type)
+    item, function, D = type.args[0], function or f"serialize_{it.word(type)}", it.terms.definitions(type)
     pointer, some, none, as_written, as_refused = "c.args.value.now", "in-Some", "in-None", "{}", "{}"
     if type.name == "Option":
         case = f"{D} {D} (λ s k. k) _ _ 1 {it.terms.shape(item)} refl _ _"

@@ -81,18 +81,17 @@ def check_plain(it: Declaration, type: Type, line: int, behind: bool = False):
 
 
 def check_owner(it: Declaration, type: Type, line: int):
-    """What leads back is a box or a shared pointer, an option of one, a vector or a boxed slice of these or of the type itself, a vector of tuples, or a box of a vector."""
+    """What leads back is a box or a shared pointer, an option of one, a weak pointer, a vector or a boxed slice of these or of the type itself, a vector of tuples,
+    or a box of a vector."""
     for row in rows_in(it, type):
         check_row(it, row, line)
     if is_pointer(it, type) or is_shared(it, type) or is_weak(it, type) or is_list(it, type) or is_named(type, "Box") and is_named(type.args[0], "Vec") and is_list(it, type.args[0]):
         return
     if is_named(type, "WeakShared") and is_member(it, type.args[0]):
-        said = f"`WeakShared` around `{it.name}` is written in a struct alone, if no other type is recursive with it"
-        raise Refused(it.path, line, f"{said}; write an `Option` of a `Shared`")
-    written = (
-        f"a `Box<{it.name}>`, a `Shared<{it.name}>`, an `Option` of one, a `Vec` or a `BoxSlice` of `{it.name}`, of `Box<{it.name}>`, `Option<Box<{it.name}>>` or `Shared<{it.name}>`,"
-        " a `Vec` of tuples, or a `Box` of such a `Vec` is"
-    )
+        raise Refused(it.path, line, f"`WeakShared` around `{type.args[0].own.name}` is written in a struct or a `Vec` alone; put it into a struct of this file")
+    if is_named(type, "SharedSlice"):
+        raise Refused(it.path, line, f"`SharedSlice` around `{it.name}` isn't written yet; write a `Shared` of a struct of this file with a `Vec`")
+    written = f"a `Box<{it.name}>`, a `Shared<{it.name}>`, an `Option` of one, a `Vec` or a `BoxSlice` of these or of `{it.name}`, a `Vec` of tuples, or a `Box` of such a `Vec` is"
     if type.name not in ("Box", "BoxSlice", "Option", "Shared", "Vec") or type.own is not None:
         raise Refused(it.path, line, f"`{type.name}` around `{it.name}` isn't written yet; {written}")
     raise Refused(it.path, line, f"this {'option' if type.name == 'Option' else f'`{type.name}` of pointers'} to `{it.name}` isn't written yet; {written}")
@@ -142,15 +141,15 @@ def is_shared(it: Declaration, type: Type) -> bool:
 
 
 def is_weak(it: Declaration, type: Type) -> bool:
-    """Whether it is a weak pointer to a struct that leads back to no other type."""
-    return it.kind == "struct" and len(it.family) == 1 and is_named(type, "WeakShared") and is_member(it, type.args[0])
+    """Whether it is a weak pointer to a type of the family, in a struct."""
+    return it.kind == "struct" and is_named(type, "WeakShared") and is_member(it, type.args[0])
 
 
 def is_list(it: Declaration, type: Type) -> bool:
     if not is_named(type, "Vec") and not is_named(type, "BoxSlice"):
         return False
     item = type.args[0]
-    return is_member(it, item) or is_pointer(it, item) or is_named(item, "tuple") and is_named(type, "Vec") or is_named(item, "Shared") and is_member(it, item.args[0])
+    return is_member(it, item) or is_pointer(it, item) or is_named(item, "tuple") and is_named(type, "Vec") or is_shared(it, item) or is_named(item, "WeakShared") and is_member(it, item.args[0])
 
 
 def leads_back(it: Declaration, type: Type) -> bool:

@@ -6,7 +6,8 @@ from .formats import ALIGNS
 from .model import Type
 from .recursive_plain import has_boxed, items_of, product
 from .recursive_terms import around, brought, brought_owns, something, stem
-from .recursive_weak import held_in, option_of, written_out
+from .recursive_weak import SPOKEN as SPOKEN_OF_WEAK
+from .recursive_weak import held_in, option_of, vectors, written_out
 
 
 def of_each(family, piece):
@@ -348,7 +349,7 @@ def meaning(family):
     """What values mean, layer by layer, and the laws of it."""
     if family.first.is_holder:
         return meaning_of_holder(family.first)
-    lines = pairs(family) if family.shares else []
+    lines = vectors(family) + of_each(family, together) + (pairs(family) if family.shares else [])
     for which, type, word in SAID:
         if not family.shares:
             lines += [layer(it, which, type) for it in family.members]
@@ -364,7 +365,7 @@ def meaning(family):
         lines += chains.meaning(family.first)
     lines += laws(family)
     body = "\n".join(lines)
-    more = SPOKEN + [(family.declared(family.ordered[0].name, "TheFolds"), " ".join(f"map-{it.name}" for it in family.members)), ("std.proofs.Common", PRELUDE_COMMON)]
+    more = SPOKEN + SPOKEN_OF_WEAK + [(family.declared(family.ordered[0].name, "TheFolds"), " ".join(f"map-{it.name}" for it in family.members)), ("std.proofs.Common", PRELUDE_COMMON)]
     aliases = ""
     for it in family.members:
         N = it.name
@@ -536,8 +537,11 @@ def mapped(it, item, which, items):
         return f"each_alike{keys} _ (λ (y : {BOTH}). y{PLACES[which]}) {own[item.name]} (λ x. refl) {items}"
     if it.terms.is_member(item):
         return f"each_mapped{keys} {own[item.name]} {items}"
-    lemma, nothing = ("options_alike", "refl ") if it.terms.is_option(item) else ("each_alike", "")
-    inner = item.args[0] if nothing else item
+    lemma, nothing, inner = "each_alike", "", item
+    if it.terms.is_option(item):
+        lemma, nothing, inner = "options_alike", "refl ", item.args[0]
+    elif it.terms.is_weak(item):
+        lemma, nothing, inner = "weaks_alike", "refl ", Type("Shared", item.args)
     return f"{lemma}{keys} _ {said_of_mapped(it, inner, which)} {said_with_type(it, inner, which, own, None)} {nothing}(λ x. refl) {items}"
 
 
@@ -560,6 +564,11 @@ def rolled(it, which, type, word):
         out = f"{fold(it, which, type, 'fold-roll')} {pattern}"
         if it.family.shares:
             out = f"ap (λ (p : {BOTH}). p{PLACES[which]}) ({fold(it, 'both', BOTH, 'fold-roll')} {pattern})"
+        if is_together(it, lists):
+            named = {i: f"vs{i}" for i in lists}
+            whole = said_of(it, case, which, own, named, values)
+            equal = " ".join(f"({mapped(it, vector.args[0], which, items)})" for vector, items in lists.values())
+            return f"{out} ∙ alike_{len(lists)} (λ {' '.join(named.values())}. {whole}) {'_ _ ' * len(lists)}{equal}"
         for j, (vector, items) in lists.items():
             # those before it are the value's own already, those behind it are still mapped
             terms = {i: "vs" if i == j else still_mapped(it, other.args[0], which, its) for i, (other, its) in lists.items() if i >= j}
@@ -579,6 +588,40 @@ def rolled(it, which, type, word):
     lines = "".join(f"{n}_{word}_at {' '.join(map(option_of, values))} = {step(it, layer_of(it, it, values), values)}\n" for values in splits(it, it))
     at = f"{n}_{word}_at :{arguments_of(it, it)} → {claim.format(whole)}\n{opened_}{lines}\n"
     return f"{at}{said}{n}_{word}_roll x = {n}_{word}_at {arguments_at(it, 'x')}\n"
+
+
+def is_together(it, lists):
+    """Whether vectors of a layer are said to be mapped all at once: antt doesn't find how one of options or of weak pointers was mapped that is behind another."""
+    return any(is_split(it, vector.args[0]) for vector, _ in list(lists.values())[1:])
+
+
+def together(it):
+    """The lemma on several that are, for each number of them; a family's first type that needs it has it."""
+    counts = [counts_of(other) for other in it.family.members]
+    at = it.family.members.index(it)
+    return [alike(n) for n in sorted(set(counts[at]) - {n for before in counts[:at] for n in before})]
+
+
+def counts_of(it):
+    """How many vectors are mapped at once, of each case where several are."""
+    lists = [{i: found for i, type in enumerate(case.types) if (found := it.terms.list_in(type, "x"))} for case in it.cases]
+    return [len(those) for those in lists if is_together(it, those)]
+
+
+def alike(n):
+    """What is made of equal terms is equal."""
+    places = range(n)
+    types = " ".join(f"A{i}" for i in places)
+    takes = " → ".join([f"A{i}" for i in places] + ["R"])
+    terms = " ".join(f"(a{i} b{i} : A{i})" for i in places)
+    equal = " → ".join([f"a{i} ≡ b{i}" for i in places])
+    said, names, proofs = (" ".join(f"{letter}{i}" for i in places) for letter in ("a", "b", "p"))
+    steps = []
+    for i in places:
+        others = " ".join([f"b{j}" for j in range(i)] + ["x"] + [f"a{j}" for j in range(i + 1, n)])
+        steps.append(f"ap (λ x. f {others}) p{i}")
+    taken = " ".join(f"a{i} b{i}" for i in places)
+    return f"alike_{n} : {{{types} R : Type 0}} (f : {takes}) {terms} → {equal} → f {said} ≡ f {names}\nalike_{n} f {taken} {proofs} = {' ∙ '.join(steps)}\n"
 
 
 def opened(it, which, word):

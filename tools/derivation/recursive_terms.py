@@ -100,6 +100,10 @@ class Terms:
         """Whether it is an option of a box, or of a shared pointer, that leads back."""
         return type.name == "Option" and self.leads_back(type)
 
+    def is_called(self, type):
+        """Whether what an element of a vector leads to is written by a function of its own: that of a weak pointer, and of an option of a shared one."""
+        return self.is_weak(type) or self.is_option(type) and self.is_shared(type.args[0])
+
     def list_in(self, type, x):
         """The vector that leads back, of a part that is one or a box of one, with the term of its elements; none of other parts."""
         if not self.leads_back(type) or self.is_member(type):
@@ -246,6 +250,8 @@ class Terms:
         items = items_of(type, x)
         if self.is_option(item):
             its = f"(held_options_keyed _ {self.said(item.args[0])} refl (λ e. {self.keyed(item, '(Some e)')}) {items})"
+        elif self.is_weak(item):
+            its = f"(held_weaks_keyed _ {self.said(Type('Shared', item.args))} refl (λ e. {self.keyed(item, recursive_weak.written_out('(Some e)'))}) {items})"
         elif not self.is_member(item):
             its = f"(held_each_keyed _ {self.said(item)} (λ e. {self.keyed(item, 'e')}) {items})"
         else:
@@ -278,6 +284,8 @@ class Terms:
         if self.is_option(item):
             inner = item.args[0]
             its = f"held_options_planned _ {self.said(inner)} {D} {self.shape(inner)} refl (λ e. {self.planned(item, '(Some e)', True)}) {items}"
+        elif self.is_weak(item):
+            its = f"held_weaks_planned _ {self.said(Type('Shared', item.args))} {D} (one {self.shape(item.args[0])}) refl (λ e. {self.planned(item, recursive_weak.written_out('(Some e)'), True)}) {items}"
         elif not self.is_member(item):
             its = f"held_each_planned _ {self.said(item)} {D} {X} (λ e. {self.planned(item, 'e', True)}) {items}"
         owner = f"vec_planned {D} {X}" if type.name == "Vec" else f"box_planned {D} (run {X})"

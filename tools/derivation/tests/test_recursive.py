@@ -135,6 +135,30 @@ class Recursive(RepositoryTest):
             self.assertIn(word, meaning)
         self.assertEqual(self.run_command("--check", path), (0, ""))
 
+    def test_a_weak_pointer_leads_to_another_type_of_the_family(self):
+        path = self.put("use archive_core::rc::{Shared, WeakShared};\n#[derive(Drop)]\npub struct Town { places: Vec<Shared<Spot>> }\n#[derive(Drop)]\npub struct Spot { on: WeakShared<Town>, next: Vec<Shared<Spot>> }\n")
+        self.assertEqual(self.run_command(path), (0, ""))
+        text, meaning = self.text(path), self.beside("specs", "TownMeaning.antt")
+        for word in ("struct WeakTownAt;", "fn read_weak_shared_town<D: Pooling<Shared<Spot>> + Pooling<Shared<Town>>>(", "fn serialize_each_shared_spot<", "fn begin_target<"):
+            self.assertEqual(text.count(word), 1, word)
+        self.assertIn("(option_keys (λ s. (rc_keys s.key (one town_shape) 0 (m1 s.value.value) (k1 s.value.value))) t.on.value)", meaning)
+        self.assertNotIn("weaks_alike", meaning)
+        self.assertEqual(self.run_command("--check", path), (0, ""))
+
+    def test_vectors_of_weak_pointers_and_of_options_are_written_by_a_call_for_each_element(self):
+        path = self.put("use archive_core::rc::{Shared, WeakShared};\n#[derive(Drop)]\npub struct Place { before: Vec<WeakShared<Place>>, next: Vec<Option<Shared<Place>>>, last: Option<Shared<Place>> }\n")
+        self.assertEqual(self.run_command(path), (0, ""))
+        text, meaning = self.text(path), self.beside("specs", "PlaceMeaning.antt")
+        for word in ("fn serialize_weak_shared_place<", "fn serialize_element_option_shared_place<", "fn serialize_option_shared_place<"):
+            self.assertEqual(text.count(word), 1, word)
+        self.assertNotIn("struct WeakPlaceAt;", text)
+        for word in ("(weaks_alike _ (λ (y : (Shared (Value × (List Naming)))). (shared_value y.key)) ", "(held_weaks_keyed _ ", "(held_options_planned _ ", "∙ alike_2 (λ vs0 vs1. product (value (list vs0) "):
+            self.assertIn(word, meaning)
+        answers = self.beside("proofs", "types", "+serialize_place", "Answers.antt")
+        for word in ("serialize_weak_shared_place", "serialize_element_option_shared_place"):
+            self.assertIn(f"-{word}-requires g t c κs within = (omega (arith, c.decreases, no_deeper _ _ _ _ c.args.values.now ", answers)
+        self.assertEqual(self.run_command("--check", path), (0, ""))
+
     def test_calls_of_one_name_in_a_loop_are_named_after_it(self):
         path = self.put("#[derive(Drop)]\npub enum Page { None, Some(Vec<(Page, u8, Page)>) }\n")
         self.assertEqual(self.run_command(path), (0, ""))
