@@ -1,2 +1,2 @@
-pub mod KnotMeaning
-pub mod KnotShape
+pub mod GraphMeaning
+pub mod GraphShape

@@ -1,10 +1,10 @@
-//! A graph.
+//! Graphs.
 
-use crate::knot::Knot;
-use archive_core::rc::Shared;
+use archive_core::rc::{Shared, WeakShared};
 
 /// A graph.
 #[derive(Debug, PartialEq, Drop)]
+#[cycle(graph)]
 pub struct Graph {
     /// Its name.
     pub name: String,
@@ -12,120 +12,204 @@ pub struct Graph {
     pub nodes: Vec<Shared<Knot>>,
 }
 
+/// A number, and the knots that it leads to; several may lead to one.
+#[derive(Debug, PartialEq, Drop)]
+#[cycle(graph)]
+pub struct Knot {
+    /// Its number.
+    pub id: u32,
+    /// The graph that it is of, if that is kept.
+    pub owner: WeakShared<Graph>,
+    /// From where it was found.
+    pub from: Vec<WeakShared<Knot>>,
+    /// What it leads to, by each of its ways; some end.
+    pub next: Vec<Option<Shared<Knot>>>,
+}
+
 // Below this line all is written by tools/derive: change what is above it, and run it again.
 
+ghost use Rattle.archive_core.specs.Arrays.{named_twice, no_two, twice_keyed};
 ghost use Rattle.archive_core.specs.CallOutcomes.{ResolvesAs};
-ghost use Rattle.archive_core.specs.Definitions.{both, no_definition};
+ghost use Rattle.archive_core.specs.Causes.{IsRefused};
+ghost use Rattle.archive_core.specs.Choices.{option_shape};
+ghost use Rattle.archive_core.specs.Definitions.{ExplainsConflict, Extended, defines, no_definition};
+ghost use Rattle.archive_core.specs.Entries.{ReadsBack};
+ghost use Rattle.archive_core.specs.Error.TheVariants.{OutOfMemory};
+ghost use Rattle.archive_core.specs.Expressions.{shape_of, shapes_in, table_of};
 ghost use Rattle.archive_core.specs.Fields.{field_in};
-ghost use Rattle.archive_core.specs.Keyed.{each_keyed, nothing_keyed, part_keyed, record_keyed, text_keyed};
-ghost use Rattle.archive_core.specs.PartsPlanned.{no_part_planned, part_planned, product_planned};
-ghost use Rattle.archive_core.specs.Planned.{string_planned};
-ghost use Rattle.archive_core.specs.PlannedOwners.{one_planned, slice_planned, vec_planned};
+ghost use Rattle.archive_core.specs.PlannedOwners.{one_planned};
+ghost use Rattle.archive_core.specs.Plans.{Serialized};
+ghost use Rattle.archive_core.specs.Pooled.{Entries as Known};
+ghost use Rattle.archive_core.specs.PooledParts.{Awaits};
+ghost use Rattle.archive_core.specs.Pooling.{ReadsShared, RefusesShared};
+ghost use Rattle.archive_core.specs.Runs.{EachBelongs, IsRunRefused, SerializedRun, each_flat, each_keys, each_meaning};
 ghost use Rattle.archive_core.specs.SealsWritten.{IsSealOf, SealsPart};
-ghost use Rattle.archive_core.specs.Seen.{ShowsValueOf};
-ghost use Rattle.archive_core.specs.Shape.{no_part, part};
-ghost use Rattle.archive_core.specs.SharedSources.{rc_keyed, rc_one_planned};
-ghost use Rattle.archive_core.specs.Value.{no_value, product, value};
+ghost use Rattle.archive_core.specs.Seen.{IsPartOf, RefusesPart, ShowsValueOf};
+ghost use Rattle.archive_core.specs.SelfCheck.Laws.{by_schema};
+ghost use Rattle.archive_core.specs.Shape.{one, part, parts, shared, vec, weak};
+ghost use Rattle.archive_core.specs.SharedLaws.{weak_flat};
+ghost use Rattle.archive_core.specs.SharedSources.{rc_flavor};
+ghost use Rattle.archive_core.specs.Sources.{Read, ReadsAs};
+ghost use Rattle.archive_core.specs.Value.{shared_value, value};
+ghost use Rattle.archive_core.specs.Viewed.{Viewed};
 ghost use Rattle.archive_core.specs.Writing.{ZeroedPlace};
-ghost use Rattle.std.specs.Prelude.{None, [], length, refl, string_bytes, ◌++◌, ◌+◌, ◌≡◌};
+ghost use Rattle.archive_core.specs.Written.{GoesOn};
+ghost use Rattle.recursive_graphs.specs.GraphShape.{graph_definitions, graph_has_layout, graph_has_parts, graph_is_align, graph_layout, graph_name, graph_no_others, graph_parts, graph_shape, graph_stands_for, knot_definitions, knot_has_layout, knot_has_parts, knot_is_align, knot_layout, knot_name, knot_no_others, knot_parts, knot_shape, knot_stands_for};
+ghost use Rattle.std.proofs.Common.{lit≤};
+ghost use Rattle.std.specs.Prelude.{IfErr, IfNone, IfOk, IfSome, List, None, OnOk, Some, length, refl, ℕ, ⊤, ◌+◌, ◌≡◌, ◌≤◌};
 
-use crate::knot::ArchivedKnot;
-use archive_core::core_impls::ArchivedTuple;
 use archive_core::error::Error;
-use archive_core::own::{Field, FromParts, HasField};
-use archive_core::parts::SourceParts;
+use archive_core::option::ArchivedOption;
 use archive_core::place::Place;
-use archive_core::rc::{ArchivedRc, RcFlavor};
-use archive_core::record::{resolve_record, serialize_record};
+use archive_core::pooling::{Pooled, Pooling, PoolingState};
+use archive_core::primitive::ArchivedU32;
+use archive_core::rc::{ArchivedRc, ArchivedRcWeak, RcFlavor, RcResolver, RcWeakResolver};
+use archive_core::recursive::{
+    VecAt, before_vec, begin_reading, begin_shared, define_name, finish_reading, finish_shared,
+    option_expression, part_behind, part_of_record, read_part, record_of, resolve_named_record_2,
+    resolve_named_record_4, seal_of_field, serialize_inner_slice, serialize_part,
+    shared_expression, view_of_field,
+};
 use archive_core::seal::Seal;
+use archive_core::self_check::BySchema;
 use archive_core::ser::{ResolverAlloc, Writer, serialize_one};
+use archive_core::shape::Defs;
 use archive_core::sharing::Sharing;
 use archive_core::string::ArchivedString;
 use archive_core::traits::{
-    Archive, ArchivePointee, ArchiveUnsized, CopyOptimization, Keys, Portable, PortableParts,
-    Serialize, SerializeUnsized,
+    Archive, ArchivePointee, ArchiveUnsized, CopyOptimization, Deserialize, Entries, Keys,
+    Portable, Record, Serialize, SerializeUnsized,
 };
-use archive_core::vec::ArchivedVec;
-use archive_core::view::Ref;
+use archive_core::vec::{ArchivedVec, VecResolver};
+use archive_core::view::{RawView, Ref};
+use std::alloc::{AllocError, Global};
 
-/// An archived `Graph`: its fields one after another, as a tuple has them.
-pub type ArchivedGraph = ArchivedTuple<
-    (
-        ArchivedString,
-        (ArchivedVec<ArchivedRc<ArchivedKnot, RcFlavor>>, ()),
-    ),
->;
+/// An archived `Graph`: 16 bytes at a multiple of 4. It is validated by its schema.
+pub struct ArchivedGraph;
 
-impl HasField<0, String> for Graph {
-    ghost field = { λ v. v.name };
+type GraphParts = (
+    ArchivedString,
+    (ArchivedVec<ArchivedRc<ArchivedKnot, RcFlavor>>, ()),
+);
 
-    fn field(&self) -> &String {
-        &self.name
+impl ArchivePointee for ArchivedGraph {
+    type ArchivedMetadata = ();
+
+    ghost pointee = { one graph_shape };
+
+    ghost definitions = { graph_definitions };
+
+    ghost metadata_length = { λ _. 0 };
+
+    fn pointer_metadata(_metadata: &()) -> usize {
+        0
     }
 }
 
-impl HasField<1, Vec<Shared<Knot>>> for Graph {
-    ghost field = { λ v. v.nodes };
+// The parts of `Graph`.
+fn graph_expressions(alloc: Global) -> Result<Vec<archive_core::shape::Expr>, Error>
+    ensures shapes { IfOk result (λ list. shapes_in list.items ≡ graph_parts) }
+    ensures refused { IfErr result (λ e. e ≡ OutOfMemory) }
+{
+    let a0 = <ArchivedString as Portable>::expr(alloc)?;
+    let a1 = archive_core::shape::Expr::Vec(Box::new(
+        alloc,
+        shared_expression(alloc, archive_core::shape::Expr::Named("ArchivedKnot"))?,
+    )?);
+    Ok(vec![in alloc; a0, a1]?)
+}
 
-    fn field(&self) -> &Vec<Shared<Knot>> {
-        &self.nodes
+// What the name stands for.
+fn graph_expression(alloc: Global) -> Result<archive_core::shape::Expr, Error>
+    ensures shape { IfOk result (λ e. shape_of e ≡ graph_stands_for) }
+    ensures refused { IfErr result (λ e. e ≡ OutOfMemory) }
+{
+    let parts = graph_expressions(alloc)?;
+    Ok(record_of(parts))
+}
+
+// Adds what the name stands for.
+fn define_graph(alloc: Global, defs: &mut Defs) -> Result<(), Error>
+    ensures added { OnOk result (Extended (table_of defs.old) (defines graph_name graph_stands_for)
+        (table_of defs.new)) }
+    ensures refused { IfErr result (ExplainsConflict (table_of defs.old)
+        (defines graph_name graph_stands_for)) }
+{
+    let stands_for = match graph_expression(alloc) {
+        Ok(stands_for) => stands_for,
+        Err(error) => return Err(error),
+    };
+    define_name("ArchivedGraph", stands_for, defs)
+}
+
+impl Portable for ArchivedGraph {
+    ghost shape = { graph_shape };
+
+    ghost layout = { graph_layout };
+
+    type Check = BySchema;
+
+    ghost is_one = { refl };
+
+    ghost is_align = { graph_is_align };
+
+    ghost has_layout = { graph_has_layout };
+
+    ghost no_others = { graph_no_others };
+
+    ghost checks = { λ direct. by_schema direct };
+
+    fn size() -> usize {
+        16
+    }
+
+    fn align() -> usize {
+        4
+    }
+
+    fn expr(_alloc: Global) -> Result<archive_core::shape::Expr, Error> {
+        Ok(archive_core::shape::Expr::Named("ArchivedGraph"))
+    }
+
+    fn define(alloc: Global, defs: &mut Defs) -> Result<(), Error> {
+        define_graph_family(alloc, defs)
     }
 }
 
-// Its fields as sources.
-type GraphFields = (Field<0, String>, (Field<1, Vec<Shared<Knot>>>, ()));
+impl Record for ArchivedGraph {
+    type Parts = GraphParts;
+
+    ghost has_parts = { graph_has_parts };
+
+    ghost holds = { lit≤ tt };
+}
+
+/// What is kept of `Graph` between `serialize` and `resolve`.
+#[derive(Drop)]
+pub struct GraphResolver {
+    kept: (<String as Archive>::Resolver, (VecResolver, ())),
+}
 
 impl Archive for Graph {
-    ghost use Rattle.recursive_graphs.specs.contracts.knot.KnotArchive.TheImpl.Laws.{keyed-law as keyed_of_knot, planned-law as planned_of_knot};
+    ghost use Rattle.recursive_graphs.specs.GraphMeaning.{graph_meaning, graph_flat, graph_keys, graph_belongs, graph_keyed, graph_planned};
 
-    type Archived = ArchivedTuple<
-        (
-            ArchivedString,
-            (ArchivedVec<ArchivedRc<ArchivedKnot, RcFlavor>>, ()),
-        ),
-    >;
+    type Archived = ArchivedGraph;
 
-    type Resolver = <GraphFields as SourceParts<Self>>::Resolvers;
+    type Resolver = GraphResolver;
 
-    ghost meaning = { λ v. product (⟦<GraphFields as SourceParts<Self>>⟧.meanings v) };
+    ghost meaning = { graph_meaning };
 
-    ghost flat = { λ v r. product (⟦<GraphFields as SourceParts<Self>>⟧.flats v r) };
+    ghost flat = { graph_flat };
 
-    ghost keys = { λ v. ⟦<GraphFields as SourceParts<Self>>⟧.keys v };
+    ghost keys = { graph_keys };
 
-    ghost belongs = { λ v r. ⟦<GraphFields as SourceParts<Self>>⟧.belongs v r };
+    ghost belongs = { graph_belongs };
 
     ghost in_bulk = { None };
 
-    ghost keyed = { λ v. record_keyed (part_keyed (text_keyed (string_bytes v.name))
-        (part_keyed (each_keyed ⟦<Shared<Knot> as Archive>⟧.keys ⟦<Shared<Knot> as Archive>⟧.meaning
-        (λ x. rc_keyed x.key ⟦<ArchivedKnot as ArchivePointee>⟧.pointee 0
-        (⟦<Knot as Archive>⟧.meaning x.value.value) (⟦<Knot as Archive>⟧.keys x.value.value)
-        (keyed_of_knot x.value.value)) v.nodes.items) nothing_keyed)) };
+    ghost keyed = { graph_keyed };
 
-    ghost planned = { λ v. product_planned (both no_definition
-        (both ⟦<ArchivedKnot as ArchivePointee>⟧.definitions no_definition))
-        (part ⟦<ArchivedString as Portable>⟧.shape (part
-        ⟦<ArchivedVec<ArchivedRc<ArchivedKnot, RcFlavor>> as Portable>⟧.shape no_part))
-        (⟦<String as Archive>⟧.keys v.name ++ (⟦<Vec<Shared<Knot>> as Archive>⟧.keys v.nodes ++ []))
-        (value (⟦<String as Archive>⟧.meaning v.name) (value
-        (⟦<Vec<Shared<Knot>> as Archive>⟧.meaning v.nodes) no_value))
-        (part_planned no_definition ⟦<ArchivedString as Portable>⟧.shape
-        (⟦<String as Archive>⟧.keys v.name) (⟦<String as Archive>⟧.meaning v.name)
-        (string_planned no_definition [] (string_bytes v.name))
-        (part_planned ⟦<ArchivedKnot as ArchivePointee>⟧.definitions
-        ⟦<ArchivedVec<ArchivedRc<ArchivedKnot, RcFlavor>> as Portable>⟧.shape
-        (⟦<Vec<Shared<Knot>> as Archive>⟧.keys v.nodes)
-        (⟦<Vec<Shared<Knot>> as Archive>⟧.meaning v.nodes)
-        (vec_planned ⟦<ArchivedKnot as ArchivePointee>⟧.definitions
-        ⟦<ArchivedRc<ArchivedKnot, RcFlavor> as Portable>⟧.shape _ _ _
-        (slice_planned ⟦<ArchivedKnot as ArchivePointee>⟧.definitions
-        ⟦<ArchivedRc<ArchivedKnot, RcFlavor> as Portable>⟧.shape ⟦<Shared<Knot> as Archive>⟧.keys
-        ⟦<Shared<Knot> as Archive>⟧.meaning (λ x. rc_one_planned
-        ⟦<ArchivedKnot as ArchivePointee>⟧.definitions x.key
-        ⟦<ArchivedKnot as ArchivePointee>⟧.pointee ⟦<ArchivedKnot as Portable>⟧.shape refl
-        (⟦<Knot as Archive>⟧.meaning x.value.value) (⟦<Knot as Archive>⟧.keys x.value.value)
-        (planned_of_knot x.value.value)) v.nodes.items)) no_part_planned)) };
+    ghost planned = { graph_planned };
 
     #[inline(always)]
     fn resolve(
@@ -133,14 +217,20 @@ impl Archive for Graph {
         resolver: Self::Resolver,
         place: Place<'_, Self::Archived>,
     ) -> Result<(), Error>
-        requires zeroed { ZeroedPlace ⟦<Self::Archived as Portable>⟧.layout.size place.pos
-            place.bytes.now }
+        requires zeroed { ZeroedPlace 16 place.pos place.bytes.now }
         requires same_value { ⟦<Self as Archive>⟧.belongs self.now resolver }
         ensures { ResolvesAs ⟦<Self::Archived as Portable>⟧ place
             (⟦<Self as Archive>⟧.flat self.now resolver) result }
     {
         let Place { bytes, pos, .. } = place;
-        resolve_record::<Self, GraphFields, Self::Archived>(self, resolver, Place::new(pos, bytes))
+        let GraphResolver { kept } = resolver;
+        let h1: VecAt<ArchivedRc<ArchivedKnot, RcFlavor>> = VecAt::of(self.nodes.len());
+        resolve_named_record_2::<String, VecAt<ArchivedRc<ArchivedKnot, RcFlavor>>, ArchivedGraph>(
+            &self.name,
+            &h1,
+            kept,
+            Place::new(pos, bytes),
+        )
     }
 
     #[inline(always)]
@@ -158,23 +248,127 @@ impl Archive for Graph {
     }
 }
 
+// Writes what each of the values owns, in order.
+#[cycle(serialize_graph)]
+fn serialize_each_shared_knot<S: Sharing + Writer + ResolverAlloc>(
+    values: &[Shared<Knot>],
+    serializer: &mut S,
+) -> Result<Vec<<Shared<Knot> as Archive>::Resolver, S::Alloc>, Error>
+    ensures serialized { IfOk result (λ rs. SerializedRun graph_definitions
+        (shared rc_flavor (one knot_shape)) (length values.now)
+        (each_keys ⟦<Shared<Knot> as Archive>⟧.keys values.now)
+        (each_meaning ⟦<Shared<Knot> as Archive>⟧.meaning values.now)
+        (each_flat ⟦<Shared<Knot> as Archive>⟧.flat values.now rs.items) (S.state serializer.old)
+        (S.state serializer.new)) }
+    ensures same_values { IfOk result (λ rs. EachBelongs ⟦<Shared<Knot> as Archive>⟧.belongs
+        values.now rs.items) }
+    ensures goes_on { GoesOn (S.state serializer.old) (S.state serializer.new) }
+    ensures refused { IfErr result (IsRunRefused graph_definitions
+        (shared rc_flavor (one knot_shape)) (length values.now)
+        (each_keys ⟦<Shared<Knot> as Archive>⟧.keys values.now)
+        (each_meaning ⟦<Shared<Knot> as Archive>⟧.meaning values.now) (S.state serializer.old)
+        (S.state serializer.new)) }
+{
+    let alloc = serializer.resolver_alloc();
+    let mut resolvers = Vec::with_capacity(alloc, values.len())?;
+    for value in values {
+        let inner = &*value.value;
+        let known = match begin_shared(value.key, serializer) {
+            Ok(known) => known,
+            Err(error) => return Err(error),
+        };
+        match known {
+            Some(resolver) => {
+                resolvers.push(resolver).map_err(AllocError::from)?;
+            }
+            None => {
+                let kept = match serialize_knot(inner, serializer) {
+                    Ok(kept) => kept,
+                    Err(error) => return Err(error),
+                };
+                let resolver = match finish_shared(value.key, inner, kept, serializer) {
+                    Ok(resolver) => resolver,
+                    Err(error) => return Err(error),
+                };
+                resolvers.push(resolver).map_err(AllocError::from)?;
+            }
+        }
+    }
+    Ok(resolvers)
+}
+
+// Writes what a vector owns.
+#[cycle(serialize_graph)]
+fn serialize_vec_shared_knot<S: Sharing + Writer + ResolverAlloc>(
+    value: &Vec<Shared<Knot>>,
+    serializer: &mut S,
+) -> Result<VecResolver, Error>
+    ensures serialized { IfOk result (λ r. Serialized graph_definitions
+        (vec (shared rc_flavor (one knot_shape))) (⟦<Vec<Shared<Knot>> as Archive>⟧.keys value.now)
+        (⟦<Vec<Shared<Knot>> as Archive>⟧.meaning value.now)
+        (⟦<Vec<Shared<Knot>> as Archive>⟧.flat value.now r) (S.state serializer.old)
+        (S.state serializer.new)) }
+    ensures same_value { IfOk result (λ r. ⟦<Vec<Shared<Knot>> as Archive>⟧.belongs value.now r) }
+    ensures goes_on { GoesOn (S.state serializer.old) (S.state serializer.new) }
+    ensures refused { IfErr result (IsRefused graph_definitions
+        (vec (shared rc_flavor (one knot_shape))) (⟦<Vec<Shared<Knot>> as Archive>⟧.keys value.now)
+        (⟦<Vec<Shared<Knot>> as Archive>⟧.meaning value.now) (S.state serializer.old)
+        (S.state serializer.new)) }
+{
+    if value.len() > u32::MAX as usize {
+        return Err(Error::LengthTooLarge);
+    }
+    let items = value.as_slice();
+    let kept = match serialize_each_shared_knot(items, serializer) {
+        Ok(kept) => kept,
+        Err(error) => return Err(error),
+    };
+    match serialize_inner_slice(items, kept, serializer) {
+        Ok(at) => Ok(at),
+        Err(error) => Err(error),
+    }
+}
+
+// Writes what a value owns, part by part.
+#[cycle(serialize_graph)]
+fn serialize_graph<S: Sharing + Writer + ResolverAlloc>(
+    value: &Graph,
+    serializer: &mut S,
+) -> Result<GraphResolver, Error>
+    ensures serialized { IfOk result (λ r. Serialized graph_definitions graph_shape
+        (⟦<Graph as Archive>⟧.keys value.now) (⟦<Graph as Archive>⟧.meaning value.now)
+        (⟦<Graph as Archive>⟧.flat value.now r) (S.state serializer.old) (S.state serializer.new)) }
+    ensures same_value { IfOk result (λ r. ⟦<Graph as Archive>⟧.belongs value.now r) }
+    ensures goes_on { GoesOn (S.state serializer.old) (S.state serializer.new) }
+    ensures refused { IfErr result (IsRefused graph_definitions graph_shape
+        (⟦<Graph as Archive>⟧.keys value.now) (⟦<Graph as Archive>⟧.meaning value.now)
+        (S.state serializer.old) (S.state serializer.new)) }
+{
+    let a0 = match serialize_part(&value.name, serializer) {
+        Ok(a0) => a0,
+        Err(error) => return Err(error),
+    };
+    let a1 = match serialize_vec_shared_knot(&value.nodes, serializer) {
+        Ok(a1) => a1,
+        Err(error) => return Err(error),
+    };
+    Ok(GraphResolver {
+        kept: (a0, (a1, ())),
+    })
+}
+
 impl<S: Sharing + Writer + ResolverAlloc> Serialize<S> for Graph {
     #[inline(always)]
     fn serialize(&self, serializer: &mut S) -> Result<Self::Resolver, Error> {
-        serialize_record::<Self, GraphFields, Self::Archived, S>(self, serializer)
+        serialize_graph(self, serializer)
     }
 }
 
 /// As a region of its own: the value itself.
 impl ArchiveUnsized for Graph {
-    ghost use Rattle.recursive_graphs.specs.contracts.knot.KnotArchive.TheImpl.Laws.{keyed-law as keyed_of_knot, planned-law as planned_of_knot};
+    ghost use Rattle.recursive_graphs.specs.contracts.graph.GraphArchive.TheImpl.Laws.{keyed-law as keyed_of_graph, planned-law as planned_of_graph};
 
-    type Archived = ArchivedTuple<
-        (
-            ArchivedString,
-            (ArchivedVec<ArchivedRc<ArchivedKnot, RcFlavor>>, ()),
-        ),
-    >;
+    type Archived = ArchivedGraph;
 
     ghost source_length = { λ _. 0 };
 
@@ -182,37 +376,12 @@ impl ArchiveUnsized for Graph {
 
     ghost keys = { ⟦<Graph as Archive>⟧.keys };
 
-    ghost keyed = { λ v. record_keyed (part_keyed (text_keyed (string_bytes v.name))
-        (part_keyed (each_keyed ⟦<Shared<Knot> as Archive>⟧.keys ⟦<Shared<Knot> as Archive>⟧.meaning
-        (λ x. rc_keyed x.key ⟦<ArchivedKnot as ArchivePointee>⟧.pointee 0
-        (⟦<Knot as Archive>⟧.meaning x.value.value) (⟦<Knot as Archive>⟧.keys x.value.value)
-        (keyed_of_knot x.value.value)) v.nodes.items) nothing_keyed)) };
+    ghost keyed = { keyed_of_graph };
 
     ghost one_length = { λ _ _. refl };
 
-    ghost planned = { λ v. one_planned _ _ _ _ (product_planned
-        (both no_definition (both ⟦<ArchivedKnot as ArchivePointee>⟧.definitions no_definition))
-        (part ⟦<ArchivedString as Portable>⟧.shape (part
-        ⟦<ArchivedVec<ArchivedRc<ArchivedKnot, RcFlavor>> as Portable>⟧.shape no_part))
-        (⟦<String as Archive>⟧.keys v.name ++ (⟦<Vec<Shared<Knot>> as Archive>⟧.keys v.nodes ++ []))
-        (value (⟦<String as Archive>⟧.meaning v.name) (value
-        (⟦<Vec<Shared<Knot>> as Archive>⟧.meaning v.nodes) no_value))
-        (part_planned no_definition ⟦<ArchivedString as Portable>⟧.shape
-        (⟦<String as Archive>⟧.keys v.name) (⟦<String as Archive>⟧.meaning v.name)
-        (string_planned no_definition [] (string_bytes v.name))
-        (part_planned ⟦<ArchivedKnot as ArchivePointee>⟧.definitions
-        ⟦<ArchivedVec<ArchivedRc<ArchivedKnot, RcFlavor>> as Portable>⟧.shape
-        (⟦<Vec<Shared<Knot>> as Archive>⟧.keys v.nodes)
-        (⟦<Vec<Shared<Knot>> as Archive>⟧.meaning v.nodes)
-        (vec_planned ⟦<ArchivedKnot as ArchivePointee>⟧.definitions
-        ⟦<ArchivedRc<ArchivedKnot, RcFlavor> as Portable>⟧.shape _ _ _
-        (slice_planned ⟦<ArchivedKnot as ArchivePointee>⟧.definitions
-        ⟦<ArchivedRc<ArchivedKnot, RcFlavor> as Portable>⟧.shape ⟦<Shared<Knot> as Archive>⟧.keys
-        ⟦<Shared<Knot> as Archive>⟧.meaning (λ x. rc_one_planned
-        ⟦<ArchivedKnot as ArchivePointee>⟧.definitions x.key
-        ⟦<ArchivedKnot as ArchivePointee>⟧.pointee ⟦<ArchivedKnot as Portable>⟧.shape refl
-        (⟦<Knot as Archive>⟧.meaning x.value.value) (⟦<Knot as Archive>⟧.keys x.value.value)
-        (planned_of_knot x.value.value)) v.nodes.items)) no_part_planned))) };
+    ghost planned = { λ v. one_planned graph_definitions graph_shape (⟦<Graph as Archive>⟧.keys v)
+        (⟦<Graph as Archive>⟧.meaning v) (planned_of_graph v) };
 
     #[inline(always)]
     fn archived_metadata(&self) -> Result<(), Error> {
@@ -227,108 +396,1189 @@ impl<S: Sharing + Writer + ResolverAlloc> SerializeUnsized<S> for Graph {
     }
 }
 
-impl FromParts for Graph {
-    type Owned = (String, (Vec<Shared<Knot>>, ()));
-
-    fn from_parts((a0, (a1, ())): Self::Owned) -> Self {
-        Graph {
-            name: a0,
-            nodes: a1,
+// Reads a shared value back.
+#[cycle(read_graph)]
+fn read_shared_knot<D: Pooling<Shared<Knot>> + Pooling<Shared<Graph>>>(
+    alloc: Global,
+    part: RawView<'_>,
+    levels: usize,
+    deserializer: &mut D,
+) -> Result<Shared<Knot>, Error>
+    requires { IsPartOf ⟦<ArchivedRc<ArchivedKnot, RcFlavor> as ArchivePointee>⟧ part }
+    ensures read { IfOk result (Read ⟦<ArchivedRc<ArchivedKnot, RcFlavor> as ArchivePointee>⟧ part
+        D.Entries deserializer ⟦<Shared<Knot> as Archive>⟧) }
+    ensures refused { IfErr result (RefusesPart ⟦<ArchivedRc<ArchivedKnot, RcFlavor> as ArchivePointee>⟧
+        part D.Entries deserializer) }
+{
+    match begin_reading::<ArchivedKnot, RcFlavor, Shared<Knot>, D>(part, deserializer)? {
+        Some(value) => Ok(value),
+        None => {
+            let behind = part_behind::<ArchivedKnot, RcFlavor>(part);
+            let value = read_knot(alloc, behind, levels, deserializer)?;
+            finish_reading::<ArchivedKnot, RcFlavor, Shared<Knot>, D>(
+                alloc,
+                part,
+                value,
+                deserializer,
+            )
         }
     }
 }
 
-/// The fields of an archived `Graph`, as views.
-pub trait GraphView {
-    /// The view of `name`.
-    type Name;
-
-    /// The view of `nodes`.
-    type Nodes;
-
-    /// Its name.
-    fn name(self) -> Self::Name;
-
-    /// Its knots.
-    fn nodes(self) -> Self::Nodes;
+// Reads a vector back.
+#[cycle(read_graph)]
+fn read_vec_shared_knot<D: Pooling<Shared<Knot>> + Pooling<Shared<Graph>>>(
+    alloc: Global,
+    part: RawView<'_>,
+    levels: usize,
+    deserializer: &mut D,
+) -> Result<Vec<Shared<Knot>>, Error>
+    requires { IsPartOf ⟦<ArchivedVec<ArchivedRc<ArchivedKnot, RcFlavor>> as ArchivePointee>⟧ part }
+    ensures read { IfOk result
+        (Read ⟦<ArchivedVec<ArchivedRc<ArchivedKnot, RcFlavor>> as ArchivePointee>⟧ part D.Entries
+        deserializer ⟦<Vec<Shared<Knot>> as Archive>⟧) }
+    ensures refused { IfErr result
+        (RefusesPart ⟦<ArchivedVec<ArchivedRc<ArchivedKnot, RcFlavor>> as ArchivePointee>⟧ part
+        D.Entries deserializer) }
+{
+    let view: Ref<'_, ArchivedVec<ArchivedRc<ArchivedKnot, RcFlavor>>> = Ref::at(part);
+    let list = before_vec(view);
+    let mut items = Vec::with_capacity(alloc, list.len())?;
+    for index in 0..list.len() {
+        let item = read_shared_knot(alloc, list.index(index).part(), levels, deserializer)?;
+        items.push_reserved(item);
+    }
+    Ok(items)
 }
 
-impl<'a> GraphView for Ref<'a, ArchivedGraph> {
-    type Name = Ref<'a, ArchivedString>;
+// Reads a value back, part by part.
+#[cycle(read_graph)]
+fn read_graph<D: Pooling<Shared<Knot>> + Pooling<Shared<Graph>>>(
+    alloc: Global,
+    part: RawView<'_>,
+    levels: usize,
+    deserializer: &mut D,
+) -> Result<Graph, Error>
+    requires { IsPartOf ⟦<ArchivedGraph as ArchivePointee>⟧ part }
+    ensures read { IfOk result (Read ⟦<ArchivedGraph as ArchivePointee>⟧ part D.Entries deserializer
+        ⟦<Graph as Archive>⟧) }
+    ensures refused { IfErr result (RefusesPart ⟦<ArchivedGraph as ArchivePointee>⟧ part D.Entries
+        deserializer) }
+{
+    if levels == 0 {
+        return Err(Error::OutOfMemory);
+    }
+    let levels = levels - 1;
+    let p0 = part_of_record::<ArchivedGraph, ArchivedString>(part, 0, 0);
+    let a0 = read_part::<ArchivedString, String, D>(alloc, p0, deserializer)?;
+    let p1 = part_of_record::<ArchivedGraph, ArchivedVec<ArchivedRc<ArchivedKnot, RcFlavor>>>(
+        part, 1, 8,
+    );
+    let a1 = read_vec_shared_knot(alloc, p1, levels, deserializer)?;
+    Ok(Graph {
+        name: a0,
+        nodes: a1,
+    })
+}
 
-    type Nodes = Ref<'a, ArchivedVec<ArchivedRc<ArchivedKnot, RcFlavor>>>;
+impl<D: Pooling<Shared<Knot>> + Pooling<Shared<Graph>>> Deserialize<Graph, D> for ArchivedGraph {
+    #[inline(always)]
+    fn deserialize_part(
+        alloc: Global,
+        part: RawView<'_>,
+        deserializer: &mut D,
+    ) -> Result<Graph, Error>
+        requires { IsPartOf ⟦<Self as ArchivePointee>⟧ part }
+        ensures { ReadsAs ⟦<Self as ArchivePointee>⟧ part D.Entries deserializer
+            ⟦<Graph as Archive>⟧ result }
+    {
+        let levels = part.bytes.len();
+        read_graph(alloc, part, levels, deserializer)
+    }
+}
 
+/// The fields of an archived `Graph`, as views.
+pub trait GraphView<'a> {
+    /// Its name.
+    fn name(self) -> Ref<'a, ArchivedString>;
+
+    /// Its knots.
+    fn nodes(self) -> Ref<'a, ArchivedVec<ArchivedRc<ArchivedKnot, RcFlavor>>>;
+}
+
+impl<'a> GraphView<'a> for Ref<'a, ArchivedGraph> {
     fn name(self) -> Ref<'a, ArchivedString>
         ensures buffer { result.bytes.now ≡ self.entry.bytes.now }
-        ensures position { result.pos ≡ self.entry.pos
-            + ⟦<(ArchivedString, (ArchivedVec<ArchivedRc<ArchivedKnot, RcFlavor>>, ())) as PortableParts>⟧.begin 0 0 }
+        ensures position { result.pos ≡ self.entry.pos + 0 }
         ensures length { result.len ≡ 0 }
         ensures shows { ShowsValueOf result self.entry (field_in 0) }
     {
-        self.field(0)
+        view_of_field::<ArchivedGraph, ArchivedString>(self, 0, 0)
     }
 
     fn nodes(self) -> Ref<'a, ArchivedVec<ArchivedRc<ArchivedKnot, RcFlavor>>>
         ensures buffer { result.bytes.now ≡ self.entry.bytes.now }
-        ensures position { result.pos ≡ self.entry.pos
-            + ⟦<(ArchivedString, (ArchivedVec<ArchivedRc<ArchivedKnot, RcFlavor>>, ())) as PortableParts>⟧.begin 0 1 }
+        ensures position { result.pos ≡ self.entry.pos + 8 }
         ensures length { result.len ≡ 0 }
         ensures shows { ShowsValueOf result self.entry (field_in 1) }
     {
-        self.field(1)
+        view_of_field::<ArchivedGraph, ArchivedVec<ArchivedRc<ArchivedKnot, RcFlavor>>>(self, 1, 8)
     }
 }
 
 /// The fields of an archived `Graph`, as seals.
-pub trait GraphSeal {
+pub trait GraphSeal<'a> {
     // The seal shows a part of a buffer that was checked.
     ghost sealed: { Self → Type 0 };
 
-    /// The seal of `name`.
-    type Name;
-
-    /// The seal of `nodes`.
-    type Nodes;
-
     /// Its name.
-    fn name_mut(self) -> Self::Name
+    fn name_mut(self) -> Seal<'a, ArchivedString>
         requires { sealed self };
 
     /// Its knots.
-    fn nodes_mut(self) -> Self::Nodes
+    fn nodes_mut(self) -> Seal<'a, ArchivedVec<ArchivedRc<ArchivedKnot, RcFlavor>>>
         requires { sealed self };
 }
 
-impl<'a> GraphSeal for Seal<'a, ArchivedGraph> {
-    ghost sealed = { λ s. IsSealOf ⟦<ArchivedGraph as ArchivePointee>⟧.definitions
-        ⟦<ArchivedGraph as ArchivePointee>⟧.pointee s };
-
-    type Name = Seal<'a, ArchivedString>;
-
-    type Nodes = Seal<'a, ArchivedVec<ArchivedRc<ArchivedKnot, RcFlavor>>>;
+impl<'a> GraphSeal<'a> for Seal<'a, ArchivedGraph> {
+    ghost sealed = { λ s. IsSealOf graph_definitions (one ⟦<ArchivedGraph as Portable>⟧.shape) s };
 
     fn name_mut(self) -> Seal<'a, ArchivedString>
-        requires come_to { IsSealOf ⟦<ArchivedGraph as ArchivePointee>⟧.definitions
-            ⟦<ArchivedGraph as ArchivePointee>⟧.pointee self }
-        ensures { SealsPart ⟦<ArchivedGraph as ArchivePointee>⟧.definitions
-            ⟦<ArchivedGraph as ArchivePointee>⟧.pointee
-            ⟦<ArchivedString as ArchivePointee>⟧.definitions
-            ⟦<ArchivedString as ArchivePointee>⟧.pointee (self.entry.pos
-            + ⟦<(ArchivedString, (ArchivedVec<ArchivedRc<ArchivedKnot, RcFlavor>>, ())) as PortableParts>⟧.begin 0 0) 0 self.entry result }
+        requires come_to { IsSealOf graph_definitions (one ⟦<ArchivedGraph as Portable>⟧.shape)
+            self }
+        ensures { SealsPart graph_definitions (one ⟦<ArchivedGraph as Portable>⟧.shape)
+            no_definition ⟦<ArchivedString as ArchivePointee>⟧.pointee (self.entry.pos + 0) 0
+            self.entry result }
     {
-        self.field(0)
+        seal_of_field::<ArchivedGraph, ArchivedString>(self, 0, 0)
     }
 
     fn nodes_mut(self) -> Seal<'a, ArchivedVec<ArchivedRc<ArchivedKnot, RcFlavor>>>
-        requires come_to { IsSealOf ⟦<ArchivedGraph as ArchivePointee>⟧.definitions
-            ⟦<ArchivedGraph as ArchivePointee>⟧.pointee self }
-        ensures { SealsPart ⟦<ArchivedGraph as ArchivePointee>⟧.definitions
-            ⟦<ArchivedGraph as ArchivePointee>⟧.pointee
-            ⟦<ArchivedVec<ArchivedRc<ArchivedKnot, RcFlavor>> as ArchivePointee>⟧.definitions
+        requires come_to { IsSealOf graph_definitions (one ⟦<ArchivedGraph as Portable>⟧.shape)
+            self }
+        ensures { SealsPart graph_definitions (one ⟦<ArchivedGraph as Portable>⟧.shape)
+            ⟦<ArchivedKnot as ArchivePointee>⟧.definitions
             ⟦<ArchivedVec<ArchivedRc<ArchivedKnot, RcFlavor>> as ArchivePointee>⟧.pointee
-            (self.entry.pos
-            + ⟦<(ArchivedString, (ArchivedVec<ArchivedRc<ArchivedKnot, RcFlavor>>, ())) as PortableParts>⟧.begin 0 1) 0 self.entry result }
+            (self.entry.pos + 8) 0 self.entry result }
     {
-        self.field(1)
+        seal_of_field::<ArchivedGraph, ArchivedVec<ArchivedRc<ArchivedKnot, RcFlavor>>>(self, 1, 8)
+    }
+}
+
+/// An archived `Knot`: 24 bytes at a multiple of 4. It is validated by its schema.
+pub struct ArchivedKnot;
+
+type KnotParts = (
+    ArchivedU32,
+    (
+        ArchivedRcWeak<ArchivedGraph, RcFlavor>,
+        (
+            ArchivedVec<ArchivedRcWeak<ArchivedKnot, RcFlavor>>,
+            (
+                ArchivedVec<ArchivedOption<ArchivedRc<ArchivedKnot, RcFlavor>>>,
+                (),
+            ),
+        ),
+    ),
+);
+
+impl ArchivePointee for ArchivedKnot {
+    type ArchivedMetadata = ();
+
+    ghost pointee = { one knot_shape };
+
+    ghost definitions = { knot_definitions };
+
+    ghost metadata_length = { λ _. 0 };
+
+    fn pointer_metadata(_metadata: &()) -> usize {
+        0
+    }
+}
+
+// The parts of `Knot`.
+fn knot_expressions(alloc: Global) -> Result<Vec<archive_core::shape::Expr>, Error>
+    ensures shapes { IfOk result (λ list. shapes_in list.items ≡ knot_parts) }
+    ensures refused { IfErr result (λ e. e ≡ OutOfMemory) }
+{
+    let a0 = <ArchivedU32 as Portable>::expr(alloc)?;
+    let a1 = weak_expression(alloc, archive_core::shape::Expr::Named("ArchivedGraph"))?;
+    let a2 = archive_core::shape::Expr::Vec(Box::new(
+        alloc,
+        weak_expression(alloc, archive_core::shape::Expr::Named("ArchivedKnot"))?,
+    )?);
+    let a3 = archive_core::shape::Expr::Vec(Box::new(
+        alloc,
+        option_expression(
+            alloc,
+            shared_expression(alloc, archive_core::shape::Expr::Named("ArchivedKnot"))?,
+        )?,
+    )?);
+    Ok(vec![in alloc; a0, a1, a2, a3]?)
+}
+
+// What the name stands for.
+fn knot_expression(alloc: Global) -> Result<archive_core::shape::Expr, Error>
+    ensures shape { IfOk result (λ e. shape_of e ≡ knot_stands_for) }
+    ensures refused { IfErr result (λ e. e ≡ OutOfMemory) }
+{
+    let parts = knot_expressions(alloc)?;
+    Ok(record_of(parts))
+}
+
+// Adds what the name stands for.
+fn define_knot(alloc: Global, defs: &mut Defs) -> Result<(), Error>
+    ensures added { OnOk result (Extended (table_of defs.old) (defines knot_name knot_stands_for)
+        (table_of defs.new)) }
+    ensures refused { IfErr result (ExplainsConflict (table_of defs.old)
+        (defines knot_name knot_stands_for)) }
+{
+    let stands_for = match knot_expression(alloc) {
+        Ok(stands_for) => stands_for,
+        Err(error) => return Err(error),
+    };
+    define_name("ArchivedKnot", stands_for, defs)
+}
+
+// Adds what the names stand for.
+fn define_graph_family(alloc: Global, defs: &mut Defs) -> Result<(), Error>
+    ensures added { OnOk result (Extended (table_of defs.old) graph_definitions
+        (table_of defs.new)) }
+    ensures refused { IfErr result (ExplainsConflict (table_of defs.old) graph_definitions) }
+{
+    define_graph(alloc, defs)?;
+    define_knot(alloc, defs)
+}
+
+impl Portable for ArchivedKnot {
+    ghost shape = { knot_shape };
+
+    ghost layout = { knot_layout };
+
+    type Check = BySchema;
+
+    ghost is_one = { refl };
+
+    ghost is_align = { knot_is_align };
+
+    ghost has_layout = { knot_has_layout };
+
+    ghost no_others = { knot_no_others };
+
+    ghost checks = { λ direct. by_schema direct };
+
+    fn size() -> usize {
+        24
+    }
+
+    fn align() -> usize {
+        4
+    }
+
+    fn expr(_alloc: Global) -> Result<archive_core::shape::Expr, Error> {
+        Ok(archive_core::shape::Expr::Named("ArchivedKnot"))
+    }
+
+    fn define(alloc: Global, defs: &mut Defs) -> Result<(), Error> {
+        define_graph_family(alloc, defs)
+    }
+}
+
+impl Record for ArchivedKnot {
+    type Parts = KnotParts;
+
+    ghost has_parts = { knot_has_parts };
+
+    ghost holds = { lit≤ tt };
+}
+
+/// What is kept of `Knot` between `serialize` and `resolve`.
+#[derive(Drop)]
+pub struct KnotResolver {
+    kept: (
+        <u32 as Archive>::Resolver,
+        (RcWeakResolver, (VecResolver, (VecResolver, ()))),
+    ),
+}
+
+// The expression of a weak pointer to values with this one.
+fn weak_expression(
+    alloc: Global,
+    item: archive_core::shape::Expr,
+) -> Result<archive_core::shape::Expr, Error>
+    ensures shape { IfOk result (λ e. shape_of e ≡ weak rc_flavor (one (shape_of item))) }
+    ensures refused { IfErr result (λ e. e ≡ OutOfMemory) }
+{
+    let pointee = Box::new(alloc, archive_core::shape::Pointee::One(item))?;
+    let flavor = archive_core::shape::FlavorInfo {
+        name: "RcFlavor",
+        cycles: false,
+    };
+    Ok(archive_core::shape::Expr::Weak(flavor, pointee))
+}
+
+// The shared value at a position, if the pool has it; none if the position was unknown: then the caller reads it back, and calls `finish_target`.
+fn begin_target<T: Pooled, D: Pooling<T>>(
+    pos: usize,
+    deserializer: &mut D,
+) -> Result<Option<T>, Error>
+    ensures known { IfOk result (λ r. IfSome r (λ s. (bytes : List ℕ) (n : ℕ)
+        → ReadsShared D.keeps T.Archived.definitions bytes pos T.Archived.pointee n
+        (D.entry_of deserializer.old) (D.entry_of deserializer.new) (T.kept s))) }
+    ensures begun { IfOk result (λ r. IfNone r (Awaits D.keeps pos (D.entry_of deserializer.old)
+        (D.entry_of deserializer.new))) }
+    ensures refused { IfErr result (λ e. (bytes : List ℕ) (n : ℕ)
+        → RefusesShared T.Archived.definitions bytes pos T.Archived.pointee n
+        (D.entry_of deserializer.old) e) }
+{
+    match deserializer.start_pooling(pos)? {
+        PoolingState::Pending => Err(Error::CyclicDeserialize),
+        PoolingState::Finished(value) => Ok(Some(value)),
+        PoolingState::Started => Ok(None),
+    }
+}
+
+// The shared value of what was read back at a position since it was started: the pool has it from now on.
+fn finish_target<T: Pooled, D: Pooling<T>>(
+    alloc: Global,
+    pos: usize,
+    value: T::Value,
+    deserializer: &mut D,
+) -> Result<T, Error>
+    ensures read { IfOk result (λ s. (old started : Known) (bytes : List ℕ) (n : ℕ)
+        → Awaits D.keeps pos old started
+        → Viewed T.Archived.definitions bytes pos T.Archived.pointee n
+        → ReadsBack D.keeps T.Archived.definitions bytes pos T.Archived.pointee n started
+        (D.entry_of deserializer.old) (T.Value.meaning value) (T.Value.keys value)
+        → ReadsShared D.keeps T.Archived.definitions bytes pos T.Archived.pointee n old
+        (D.entry_of deserializer.new) (T.kept s)) }
+    ensures refused { IfErr result (λ e. (old started : Known) (bytes : List ℕ) (n : ℕ)
+        → Awaits D.keeps pos old started
+        → ReadsBack D.keeps T.Archived.definitions bytes pos T.Archived.pointee n started
+        (D.entry_of deserializer.old) (T.Value.meaning value) (T.Value.keys value)
+        → e ≡ OutOfMemory) }
+{
+    let shared = T::from_value(alloc, pos, value)?;
+    let kept = shared.clone()?;
+    deserializer.finish_pooling(pos, kept)?;
+    Ok(shared)
+}
+
+// A weak pointer to a value that was written before, if there is one: what is kept of it says so. It means nothing.
+#[derive(Drop)]
+struct WeakGraphAt;
+
+impl ArchiveUnsized for WeakGraphAt {
+    type Archived = ArchivedGraph;
+
+    ghost source_length = { λ _. 0 };
+
+    ghost meaning = { λ _. shared_value 0 };
+
+    ghost keys = { λ _. named_twice };
+
+    ghost keyed = { λ _. twice_keyed };
+
+    ghost planned = { λ _ a s names known named. absurd (no_two names named) };
+
+    ghost one_length = { λ _ _. refl };
+
+    #[inline(always)]
+    fn archived_metadata(&self) -> Result<(), Error> {
+        Ok(())
+    }
+}
+
+impl Archive for WeakGraphAt {
+    type Archived = ArchivedRcWeak<ArchivedGraph, RcFlavor>;
+
+    type Resolver = RcWeakResolver;
+
+    ghost meaning = { λ _. shared_value 0 };
+
+    ghost flat = { λ _ r. weak_flat rc_flavor (one graph_shape) 0 r };
+
+    ghost keys = { λ _. named_twice };
+
+    ghost belongs = { λ _ _. ⊤ };
+
+    ghost in_bulk = { None };
+
+    ghost keyed = { λ _. twice_keyed };
+
+    ghost planned = { λ _ a s names known named. absurd (no_two names named) };
+
+    #[inline(always)]
+    fn resolve(
+        &self,
+        resolver: RcWeakResolver,
+        place: Place<'_, ArchivedRcWeak<ArchivedGraph, RcFlavor>>,
+    ) -> Result<(), Error>
+        requires zeroed { ZeroedPlace 4 place.pos place.bytes.now }
+        requires same_value { ⊤ }
+        ensures { ResolvesAs ⟦<Self::Archived as Portable>⟧ place
+            (⟦<Self as Archive>⟧.flat self.now resolver) result }
+    {
+        let Place { bytes, pos, .. } = place;
+        let none: Option<&WeakGraphAt> = None;
+        ArchivedRcWeak::<ArchivedGraph, RcFlavor>::resolve_from_ref(
+            none,
+            resolver,
+            Place::new(pos, bytes),
+        )
+    }
+
+    #[inline(always)]
+    fn copy_optimization() -> CopyOptimization<Self> {
+        CopyOptimization::disable()
+    }
+
+    #[inline(always)]
+    fn serialize_copied<S: Writer + Keys>(
+        _values: &[Self],
+        _together: usize,
+        _serializer: &mut S,
+    ) -> Result<Option<usize>, Error> {
+        Ok(None)
+    }
+}
+
+impl Archive for Knot {
+    ghost use Rattle.recursive_graphs.specs.GraphMeaning.{knot_meaning, knot_flat, knot_keys, knot_belongs, knot_keyed, knot_planned};
+
+    type Archived = ArchivedKnot;
+
+    type Resolver = KnotResolver;
+
+    ghost meaning = { knot_meaning };
+
+    ghost flat = { knot_flat };
+
+    ghost keys = { knot_keys };
+
+    ghost belongs = { knot_belongs };
+
+    ghost in_bulk = { None };
+
+    ghost keyed = { knot_keyed };
+
+    ghost planned = { knot_planned };
+
+    #[inline(always)]
+    fn resolve(
+        &self,
+        resolver: Self::Resolver,
+        place: Place<'_, Self::Archived>,
+    ) -> Result<(), Error>
+        requires zeroed { ZeroedPlace 24 place.pos place.bytes.now }
+        requires same_value { ⟦<Self as Archive>⟧.belongs self.now resolver }
+        ensures { ResolvesAs ⟦<Self::Archived as Portable>⟧ place
+            (⟦<Self as Archive>⟧.flat self.now resolver) result }
+    {
+        let Place { bytes, pos, .. } = place;
+        let KnotResolver { kept } = resolver;
+        let h2: VecAt<ArchivedRcWeak<ArchivedKnot, RcFlavor>> = VecAt::of(self.from.len());
+        let h3: VecAt<ArchivedOption<ArchivedRc<ArchivedKnot, RcFlavor>>> = VecAt::of(
+            self.next.len(),
+        );
+        resolve_named_record_4::<
+            u32,
+            WeakGraphAt,
+            VecAt<ArchivedRcWeak<ArchivedKnot, RcFlavor>>,
+            VecAt<ArchivedOption<ArchivedRc<ArchivedKnot, RcFlavor>>>,
+            ArchivedKnot,
+        >(
+            &self.id,
+            &WeakGraphAt,
+            &h2,
+            &h3,
+            kept,
+            Place::new(pos, bytes),
+        )
+    }
+
+    #[inline(always)]
+    fn copy_optimization() -> CopyOptimization<Self> {
+        CopyOptimization::disable()
+    }
+
+    #[inline(always)]
+    fn serialize_copied<S: Writer + Keys>(
+        _values: &[Self],
+        _together: usize,
+        _serializer: &mut S,
+    ) -> Result<Option<usize>, Error> {
+        Ok(None)
+    }
+}
+
+// Writes what a weak pointer leads to, if its key is unknown.
+#[cycle(serialize_graph)]
+fn serialize_weak_shared_graph<S: Sharing + Writer + ResolverAlloc>(
+    value: &WeakShared<Graph>,
+    serializer: &mut S,
+) -> Result<RcWeakResolver, Error>
+    ensures serialized { IfOk result (λ r. Serialized knot_definitions
+        (weak rc_flavor (one graph_shape)) (⟦<WeakShared<Graph> as Archive>⟧.keys value.now)
+        (⟦<WeakShared<Graph> as Archive>⟧.meaning value.now)
+        (⟦<WeakShared<Graph> as Archive>⟧.flat value.now r) (S.state serializer.old)
+        (S.state serializer.new)) }
+    ensures same_value { IfOk result (λ r. ⟦<WeakShared<Graph> as Archive>⟧.belongs value.now r) }
+    ensures goes_on { GoesOn (S.state serializer.old) (S.state serializer.new) }
+    ensures refused { IfErr result (IsRefused knot_definitions (weak rc_flavor (one graph_shape))
+        (⟦<WeakShared<Graph> as Archive>⟧.keys value.now)
+        (⟦<WeakShared<Graph> as Archive>⟧.meaning value.now) (S.state serializer.old)
+        (S.state serializer.new)) }
+{
+    match &value.value {
+        None => Ok(None),
+        Some(whole) => {
+            let inner = &*whole.value;
+            let known = match begin_shared(whole.key, serializer) {
+                Ok(known) => known,
+                Err(error) => return Err(error),
+            };
+            match known {
+                Some(resolver) => Ok(Some(resolver)),
+                None => {
+                    let kept = match serialize_graph(inner, serializer) {
+                        Ok(kept) => kept,
+                        Err(error) => return Err(error),
+                    };
+                    match finish_shared(whole.key, inner, kept, serializer) {
+                        Ok(resolver) => Ok(Some(resolver)),
+                        Err(error) => Err(error),
+                    }
+                }
+            }
+        }
+    }
+}
+
+// Writes what a weak pointer leads to, if its key is unknown.
+#[cycle(serialize_graph)]
+fn serialize_weak_shared_knot<S: Sharing + Writer + ResolverAlloc>(
+    value: &WeakShared<Knot>,
+    serializer: &mut S,
+) -> Result<RcWeakResolver, Error>
+    ensures serialized { IfOk result (λ r. Serialized knot_definitions
+        (weak rc_flavor (one knot_shape)) (⟦<WeakShared<Knot> as Archive>⟧.keys value.now)
+        (⟦<WeakShared<Knot> as Archive>⟧.meaning value.now)
+        (⟦<WeakShared<Knot> as Archive>⟧.flat value.now r) (S.state serializer.old)
+        (S.state serializer.new)) }
+    ensures same_value { IfOk result (λ r. ⟦<WeakShared<Knot> as Archive>⟧.belongs value.now r) }
+    ensures goes_on { GoesOn (S.state serializer.old) (S.state serializer.new) }
+    ensures refused { IfErr result (IsRefused knot_definitions (weak rc_flavor (one knot_shape))
+        (⟦<WeakShared<Knot> as Archive>⟧.keys value.now)
+        (⟦<WeakShared<Knot> as Archive>⟧.meaning value.now) (S.state serializer.old)
+        (S.state serializer.new)) }
+{
+    match &value.value {
+        None => Ok(None),
+        Some(whole) => {
+            let inner = &*whole.value;
+            let known = match begin_shared(whole.key, serializer) {
+                Ok(known) => known,
+                Err(error) => return Err(error),
+            };
+            match known {
+                Some(resolver) => Ok(Some(resolver)),
+                None => {
+                    let kept = match serialize_knot(inner, serializer) {
+                        Ok(kept) => kept,
+                        Err(error) => return Err(error),
+                    };
+                    match finish_shared(whole.key, inner, kept, serializer) {
+                        Ok(resolver) => Ok(Some(resolver)),
+                        Err(error) => Err(error),
+                    }
+                }
+            }
+        }
+    }
+}
+
+// Writes what each of the values owns, in order.
+#[cycle(serialize_graph)]
+fn serialize_each_weak_shared_knot<S: Sharing + Writer + ResolverAlloc>(
+    values: &[WeakShared<Knot>],
+    serializer: &mut S,
+) -> Result<Vec<<WeakShared<Knot> as Archive>::Resolver, S::Alloc>, Error>
+    ensures serialized { IfOk result (λ rs. SerializedRun knot_definitions
+        (weak rc_flavor (one knot_shape)) (length values.now)
+        (each_keys ⟦<WeakShared<Knot> as Archive>⟧.keys values.now)
+        (each_meaning ⟦<WeakShared<Knot> as Archive>⟧.meaning values.now)
+        (each_flat ⟦<WeakShared<Knot> as Archive>⟧.flat values.now rs.items)
+        (S.state serializer.old) (S.state serializer.new)) }
+    ensures same_values { IfOk result (λ rs. EachBelongs ⟦<WeakShared<Knot> as Archive>⟧.belongs
+        values.now rs.items) }
+    ensures goes_on { GoesOn (S.state serializer.old) (S.state serializer.new) }
+    ensures refused { IfErr result (IsRunRefused knot_definitions (weak rc_flavor (one knot_shape))
+        (length values.now) (each_keys ⟦<WeakShared<Knot> as Archive>⟧.keys values.now)
+        (each_meaning ⟦<WeakShared<Knot> as Archive>⟧.meaning values.now) (S.state serializer.old)
+        (S.state serializer.new)) }
+{
+    let alloc = serializer.resolver_alloc();
+    let mut resolvers = Vec::with_capacity(alloc, values.len())?;
+    for value in values {
+        let resolver = match serialize_weak_shared_knot(value, serializer) {
+            Ok(resolver) => resolver,
+            Err(error) => return Err(error),
+        };
+        resolvers.push(resolver).map_err(AllocError::from)?;
+    }
+    Ok(resolvers)
+}
+
+// Writes what a vector owns.
+#[cycle(serialize_graph)]
+fn serialize_vec_weak_shared_knot<S: Sharing + Writer + ResolverAlloc>(
+    value: &Vec<WeakShared<Knot>>,
+    serializer: &mut S,
+) -> Result<VecResolver, Error>
+    ensures serialized { IfOk result (λ r. Serialized knot_definitions
+        (vec (weak rc_flavor (one knot_shape))) (⟦<Vec<WeakShared<Knot>> as Archive>⟧.keys
+        value.now) (⟦<Vec<WeakShared<Knot>> as Archive>⟧.meaning value.now)
+        (⟦<Vec<WeakShared<Knot>> as Archive>⟧.flat value.now r) (S.state serializer.old)
+        (S.state serializer.new)) }
+    ensures same_value { IfOk result (λ r. ⟦<Vec<WeakShared<Knot>> as Archive>⟧.belongs value.now
+        r) }
+    ensures goes_on { GoesOn (S.state serializer.old) (S.state serializer.new) }
+    ensures refused { IfErr result (IsRefused knot_definitions
+        (vec (weak rc_flavor (one knot_shape))) (⟦<Vec<WeakShared<Knot>> as Archive>⟧.keys
+        value.now) (⟦<Vec<WeakShared<Knot>> as Archive>⟧.meaning value.now) (S.state serializer.old)
+        (S.state serializer.new)) }
+{
+    if value.len() > u32::MAX as usize {
+        return Err(Error::LengthTooLarge);
+    }
+    let items = value.as_slice();
+    let kept = match serialize_each_weak_shared_knot(items, serializer) {
+        Ok(kept) => kept,
+        Err(error) => return Err(error),
+    };
+    match serialize_inner_slice(items, kept, serializer) {
+        Ok(at) => Ok(at),
+        Err(error) => Err(error),
+    }
+}
+
+// Writes what an element of a vector leads to, if there is one and its key is unknown.
+#[cycle(serialize_graph)]
+fn serialize_element_option_shared_knot<S: Sharing + Writer + ResolverAlloc>(
+    value: &Option<Shared<Knot>>,
+    serializer: &mut S,
+) -> Result<Option<RcResolver>, Error>
+    ensures serialized { IfOk result (λ r. Serialized knot_definitions
+        (option_shape (shared rc_flavor (one knot_shape)))
+        (⟦<Option<Shared<Knot>> as Archive>⟧.keys value.now)
+        (⟦<Option<Shared<Knot>> as Archive>⟧.meaning value.now)
+        (⟦<Option<Shared<Knot>> as Archive>⟧.flat value.now r) (S.state serializer.old)
+        (S.state serializer.new)) }
+    ensures same_value { IfOk result (λ r. ⟦<Option<Shared<Knot>> as Archive>⟧.belongs value.now
+        r) }
+    ensures goes_on { GoesOn (S.state serializer.old) (S.state serializer.new) }
+    ensures refused { IfErr result (IsRefused knot_definitions
+        (option_shape (shared rc_flavor (one knot_shape)))
+        (⟦<Option<Shared<Knot>> as Archive>⟧.keys value.now)
+        (⟦<Option<Shared<Knot>> as Archive>⟧.meaning value.now) (S.state serializer.old)
+        (S.state serializer.new)) }
+{
+    match value {
+        None => Ok(None),
+        Some(whole) => {
+            let inner = &*whole.value;
+            let known = match begin_shared(whole.key, serializer) {
+                Ok(known) => known,
+                Err(error) => return Err(error),
+            };
+            match known {
+                Some(resolver) => Ok(Some(resolver)),
+                None => {
+                    let kept = match serialize_knot(inner, serializer) {
+                        Ok(kept) => kept,
+                        Err(error) => return Err(error),
+                    };
+                    match finish_shared(whole.key, inner, kept, serializer) {
+                        Ok(resolver) => Ok(Some(resolver)),
+                        Err(error) => Err(error),
+                    }
+                }
+            }
+        }
+    }
+}
+
+// Writes what each of the values owns, in order.
+#[cycle(serialize_graph)]
+fn serialize_each_option_shared_knot<S: Sharing + Writer + ResolverAlloc>(
+    values: &[Option<Shared<Knot>>],
+    serializer: &mut S,
+) -> Result<Vec<<Option<Shared<Knot>> as Archive>::Resolver, S::Alloc>, Error>
+    ensures serialized { IfOk result (λ rs. SerializedRun knot_definitions
+        (option_shape (shared rc_flavor (one knot_shape))) (length values.now)
+        (each_keys ⟦<Option<Shared<Knot>> as Archive>⟧.keys values.now)
+        (each_meaning ⟦<Option<Shared<Knot>> as Archive>⟧.meaning values.now)
+        (each_flat ⟦<Option<Shared<Knot>> as Archive>⟧.flat values.now rs.items)
+        (S.state serializer.old) (S.state serializer.new)) }
+    ensures same_values { IfOk result (λ rs. EachBelongs ⟦<Option<Shared<Knot>> as Archive>⟧.belongs
+        values.now rs.items) }
+    ensures goes_on { GoesOn (S.state serializer.old) (S.state serializer.new) }
+    ensures refused { IfErr result (IsRunRefused knot_definitions
+        (option_shape (shared rc_flavor (one knot_shape))) (length values.now)
+        (each_keys ⟦<Option<Shared<Knot>> as Archive>⟧.keys values.now)
+        (each_meaning ⟦<Option<Shared<Knot>> as Archive>⟧.meaning values.now)
+        (S.state serializer.old) (S.state serializer.new)) }
+{
+    let alloc = serializer.resolver_alloc();
+    let mut resolvers = Vec::with_capacity(alloc, values.len())?;
+    for value in values {
+        let resolver = match serialize_element_option_shared_knot(value, serializer) {
+            Ok(resolver) => resolver,
+            Err(error) => return Err(error),
+        };
+        resolvers.push(resolver).map_err(AllocError::from)?;
+    }
+    Ok(resolvers)
+}
+
+// Writes what a vector owns.
+#[cycle(serialize_graph)]
+fn serialize_vec_option_shared_knot<S: Sharing + Writer + ResolverAlloc>(
+    value: &Vec<Option<Shared<Knot>>>,
+    serializer: &mut S,
+) -> Result<VecResolver, Error>
+    ensures serialized { IfOk result (λ r. Serialized knot_definitions
+        (vec (option_shape (shared rc_flavor (one knot_shape))))
+        (⟦<Vec<Option<Shared<Knot>>> as Archive>⟧.keys value.now)
+        (⟦<Vec<Option<Shared<Knot>>> as Archive>⟧.meaning value.now)
+        (⟦<Vec<Option<Shared<Knot>>> as Archive>⟧.flat value.now r) (S.state serializer.old)
+        (S.state serializer.new)) }
+    ensures same_value { IfOk result (λ r. ⟦<Vec<Option<Shared<Knot>>> as Archive>⟧.belongs
+        value.now r) }
+    ensures goes_on { GoesOn (S.state serializer.old) (S.state serializer.new) }
+    ensures refused { IfErr result (IsRefused knot_definitions
+        (vec (option_shape (shared rc_flavor (one knot_shape))))
+        (⟦<Vec<Option<Shared<Knot>>> as Archive>⟧.keys value.now)
+        (⟦<Vec<Option<Shared<Knot>>> as Archive>⟧.meaning value.now) (S.state serializer.old)
+        (S.state serializer.new)) }
+{
+    if value.len() > u32::MAX as usize {
+        return Err(Error::LengthTooLarge);
+    }
+    let items = value.as_slice();
+    let kept = match serialize_each_option_shared_knot(items, serializer) {
+        Ok(kept) => kept,
+        Err(error) => return Err(error),
+    };
+    match serialize_inner_slice(items, kept, serializer) {
+        Ok(at) => Ok(at),
+        Err(error) => Err(error),
+    }
+}
+
+// Writes what a value owns, part by part.
+#[cycle(serialize_graph)]
+fn serialize_knot<S: Sharing + Writer + ResolverAlloc>(
+    value: &Knot,
+    serializer: &mut S,
+) -> Result<KnotResolver, Error>
+    ensures serialized { IfOk result (λ r. Serialized knot_definitions knot_shape
+        (⟦<Knot as Archive>⟧.keys value.now) (⟦<Knot as Archive>⟧.meaning value.now)
+        (⟦<Knot as Archive>⟧.flat value.now r) (S.state serializer.old) (S.state serializer.new)) }
+    ensures same_value { IfOk result (λ r. ⟦<Knot as Archive>⟧.belongs value.now r) }
+    ensures goes_on { GoesOn (S.state serializer.old) (S.state serializer.new) }
+    ensures refused { IfErr result (IsRefused knot_definitions knot_shape
+        (⟦<Knot as Archive>⟧.keys value.now) (⟦<Knot as Archive>⟧.meaning value.now)
+        (S.state serializer.old) (S.state serializer.new)) }
+{
+    let a0 = match serialize_part(&value.id, serializer) {
+        Ok(a0) => a0,
+        Err(error) => return Err(error),
+    };
+    let a1 = match serialize_weak_shared_graph(&value.owner, serializer) {
+        Ok(a1) => a1,
+        Err(error) => return Err(error),
+    };
+    let a2 = match serialize_vec_weak_shared_knot(&value.from, serializer) {
+        Ok(a2) => a2,
+        Err(error) => return Err(error),
+    };
+    let a3 = match serialize_vec_option_shared_knot(&value.next, serializer) {
+        Ok(a3) => a3,
+        Err(error) => return Err(error),
+    };
+    Ok(KnotResolver {
+        kept: (a0, (a1, (a2, (a3, ())))),
+    })
+}
+
+impl<S: Sharing + Writer + ResolverAlloc> Serialize<S> for Knot {
+    #[inline(always)]
+    fn serialize(&self, serializer: &mut S) -> Result<Self::Resolver, Error> {
+        serialize_knot(self, serializer)
+    }
+}
+
+/// As a region of its own: the value itself.
+impl ArchiveUnsized for Knot {
+    ghost use Rattle.recursive_graphs.specs.contracts.graph.KnotArchive.TheImpl.Laws.{keyed-law as keyed_of_knot, planned-law as planned_of_knot};
+
+    type Archived = ArchivedKnot;
+
+    ghost source_length = { λ _. 0 };
+
+    ghost meaning = { ⟦<Knot as Archive>⟧.meaning };
+
+    ghost keys = { ⟦<Knot as Archive>⟧.keys };
+
+    ghost keyed = { keyed_of_knot };
+
+    ghost one_length = { λ _ _. refl };
+
+    ghost planned = { λ v. one_planned knot_definitions knot_shape (⟦<Knot as Archive>⟧.keys v)
+        (⟦<Knot as Archive>⟧.meaning v) (planned_of_knot v) };
+
+    #[inline(always)]
+    fn archived_metadata(&self) -> Result<(), Error> {
+        Ok(())
+    }
+}
+
+impl<S: Sharing + Writer + ResolverAlloc> SerializeUnsized<S> for Knot {
+    #[inline(always)]
+    fn serialize_unsized(&self, serializer: &mut S) -> Result<usize, Error> {
+        serialize_one(self, serializer)
+    }
+}
+
+// Reads a weak pointer back.
+#[cycle(read_graph)]
+fn read_weak_shared_graph<D: Pooling<Shared<Knot>> + Pooling<Shared<Graph>>>(
+    alloc: Global,
+    part: RawView<'_>,
+    levels: usize,
+    deserializer: &mut D,
+) -> Result<WeakShared<Graph>, Error>
+    requires { IsPartOf ⟦<ArchivedRcWeak<ArchivedGraph, RcFlavor> as ArchivePointee>⟧ part }
+    ensures read { IfOk result (Read ⟦<ArchivedRcWeak<ArchivedGraph, RcFlavor> as ArchivePointee>⟧
+        part D.Entries deserializer ⟦<WeakShared<Graph> as Archive>⟧) }
+    ensures refused { IfErr result
+        (RefusesPart ⟦<ArchivedRcWeak<ArchivedGraph, RcFlavor> as ArchivePointee>⟧ part D.Entries
+        deserializer) }
+{
+    let view: Ref<'_, ArchivedRcWeak<ArchivedGraph, RcFlavor>> = Ref::at(part);
+    let Some(target) = view.upgrade() else {
+        return Ok(WeakShared { value: None });
+    };
+    let behind = target.part();
+    let pos = behind.pos;
+    match begin_target::<Shared<Graph>, D>(pos, deserializer)? {
+        Some(value) => Ok(WeakShared { value: Some(value) }),
+        None => {
+            let value = read_graph(alloc, behind, levels, deserializer)?;
+            let shared = finish_target::<Shared<Graph>, D>(alloc, pos, value, deserializer)?;
+            Ok(WeakShared {
+                value: Some(shared),
+            })
+        }
+    }
+}
+
+// Reads a weak pointer back.
+#[cycle(read_graph)]
+fn read_weak_shared_knot<D: Pooling<Shared<Knot>> + Pooling<Shared<Graph>>>(
+    alloc: Global,
+    part: RawView<'_>,
+    levels: usize,
+    deserializer: &mut D,
+) -> Result<WeakShared<Knot>, Error>
+    requires { IsPartOf ⟦<ArchivedRcWeak<ArchivedKnot, RcFlavor> as ArchivePointee>⟧ part }
+    ensures read { IfOk result (Read ⟦<ArchivedRcWeak<ArchivedKnot, RcFlavor> as ArchivePointee>⟧
+        part D.Entries deserializer ⟦<WeakShared<Knot> as Archive>⟧) }
+    ensures refused { IfErr result
+        (RefusesPart ⟦<ArchivedRcWeak<ArchivedKnot, RcFlavor> as ArchivePointee>⟧ part D.Entries
+        deserializer) }
+{
+    let view: Ref<'_, ArchivedRcWeak<ArchivedKnot, RcFlavor>> = Ref::at(part);
+    let Some(target) = view.upgrade() else {
+        return Ok(WeakShared { value: None });
+    };
+    let behind = target.part();
+    let pos = behind.pos;
+    match begin_target::<Shared<Knot>, D>(pos, deserializer)? {
+        Some(value) => Ok(WeakShared { value: Some(value) }),
+        None => {
+            let value = read_knot(alloc, behind, levels, deserializer)?;
+            let shared = finish_target::<Shared<Knot>, D>(alloc, pos, value, deserializer)?;
+            Ok(WeakShared {
+                value: Some(shared),
+            })
+        }
+    }
+}
+
+// Reads a vector back.
+#[cycle(read_graph)]
+fn read_vec_weak_shared_knot<D: Pooling<Shared<Knot>> + Pooling<Shared<Graph>>>(
+    alloc: Global,
+    part: RawView<'_>,
+    levels: usize,
+    deserializer: &mut D,
+) -> Result<Vec<WeakShared<Knot>>, Error>
+    requires { IsPartOf ⟦<ArchivedVec<ArchivedRcWeak<ArchivedKnot, RcFlavor>> as ArchivePointee>⟧
+        part }
+    ensures read { IfOk result
+        (Read ⟦<ArchivedVec<ArchivedRcWeak<ArchivedKnot, RcFlavor>> as ArchivePointee>⟧ part
+        D.Entries deserializer ⟦<Vec<WeakShared<Knot>> as Archive>⟧) }
+    ensures refused { IfErr result
+        (RefusesPart ⟦<ArchivedVec<ArchivedRcWeak<ArchivedKnot, RcFlavor>> as ArchivePointee>⟧ part
+        D.Entries deserializer) }
+{
+    let view: Ref<'_, ArchivedVec<ArchivedRcWeak<ArchivedKnot, RcFlavor>>> = Ref::at(part);
+    let list = before_vec(view);
+    let mut items = Vec::with_capacity(alloc, list.len())?;
+    for index in 0..list.len() {
+        let item = read_weak_shared_knot(alloc, list.index(index).part(), levels, deserializer)?;
+        items.push_reserved(item);
+    }
+    Ok(items)
+}
+
+// Reads an option back.
+#[cycle(read_graph)]
+fn read_option_shared_knot<D: Pooling<Shared<Knot>> + Pooling<Shared<Graph>>>(
+    alloc: Global,
+    part: RawView<'_>,
+    levels: usize,
+    deserializer: &mut D,
+) -> Result<Option<Shared<Knot>>, Error>
+    requires { IsPartOf ⟦<ArchivedOption<ArchivedRc<ArchivedKnot, RcFlavor>> as ArchivePointee>⟧
+        part }
+    ensures read { IfOk result
+        (Read ⟦<ArchivedOption<ArchivedRc<ArchivedKnot, RcFlavor>> as ArchivePointee>⟧ part
+        D.Entries deserializer ⟦<Option<Shared<Knot>> as Archive>⟧) }
+    ensures refused { IfErr result
+        (RefusesPart ⟦<ArchivedOption<ArchivedRc<ArchivedKnot, RcFlavor>> as ArchivePointee>⟧ part
+        D.Entries deserializer) }
+{
+    let view: Ref<'_, ArchivedOption<ArchivedRc<ArchivedKnot, RcFlavor>>> = Ref::at(part);
+    match view.as_ref() {
+        None => Ok(None),
+        Some(inner) => {
+            let value = read_shared_knot(alloc, inner.part(), levels, deserializer)?;
+            Ok(Some(value))
+        }
+    }
+}
+
+// Reads a vector back.
+#[cycle(read_graph)]
+fn read_vec_option_shared_knot<D: Pooling<Shared<Knot>> + Pooling<Shared<Graph>>>(
+    alloc: Global,
+    part: RawView<'_>,
+    levels: usize,
+    deserializer: &mut D,
+) -> Result<Vec<Option<Shared<Knot>>>, Error>
+    requires { IsPartOf
+        ⟦<ArchivedVec<ArchivedOption<ArchivedRc<ArchivedKnot, RcFlavor>>> as ArchivePointee>⟧ part }
+    ensures read { IfOk result
+        (Read ⟦<ArchivedVec<ArchivedOption<ArchivedRc<ArchivedKnot, RcFlavor>>> as ArchivePointee>⟧
+        part D.Entries deserializer ⟦<Vec<Option<Shared<Knot>>> as Archive>⟧) }
+    ensures refused { IfErr result
+        (RefusesPart
+        ⟦<ArchivedVec<ArchivedOption<ArchivedRc<ArchivedKnot, RcFlavor>>> as ArchivePointee>⟧ part
+        D.Entries deserializer) }
+{
+    let view: Ref<'_, ArchivedVec<ArchivedOption<ArchivedRc<ArchivedKnot, RcFlavor>>>> = Ref::at(
+        part,
+    );
+    let list = before_vec(view);
+    let mut items = Vec::with_capacity(alloc, list.len())?;
+    for index in 0..list.len() {
+        let item = read_option_shared_knot(alloc, list.index(index).part(), levels, deserializer)?;
+        items.push_reserved(item);
+    }
+    Ok(items)
+}
+
+// Reads a value back, part by part.
+#[cycle(read_graph)]
+fn read_knot<D: Pooling<Shared<Knot>> + Pooling<Shared<Graph>>>(
+    alloc: Global,
+    part: RawView<'_>,
+    levels: usize,
+    deserializer: &mut D,
+) -> Result<Knot, Error>
+    requires { IsPartOf ⟦<ArchivedKnot as ArchivePointee>⟧ part }
+    ensures read { IfOk result (Read ⟦<ArchivedKnot as ArchivePointee>⟧ part D.Entries deserializer
+        ⟦<Knot as Archive>⟧) }
+    ensures refused { IfErr result (RefusesPart ⟦<ArchivedKnot as ArchivePointee>⟧ part D.Entries
+        deserializer) }
+{
+    if levels == 0 {
+        return Err(Error::OutOfMemory);
+    }
+    let levels = levels - 1;
+    let p0 = part_of_record::<ArchivedKnot, ArchivedU32>(part, 0, 0);
+    let a0 = read_part::<ArchivedU32, u32, D>(alloc, p0, deserializer)?;
+    let p1 = part_of_record::<ArchivedKnot, ArchivedRcWeak<ArchivedGraph, RcFlavor>>(part, 1, 4);
+    let a1 = read_weak_shared_graph(alloc, p1, levels, deserializer)?;
+    let p2 = part_of_record::<ArchivedKnot, ArchivedVec<ArchivedRcWeak<ArchivedKnot, RcFlavor>>>(
+        part, 2, 8,
+    );
+    let a2 = read_vec_weak_shared_knot(alloc, p2, levels, deserializer)?;
+    let p3 = part_of_record::<
+        ArchivedKnot,
+        ArchivedVec<ArchivedOption<ArchivedRc<ArchivedKnot, RcFlavor>>>,
+    >(part, 3, 16);
+    let a3 = read_vec_option_shared_knot(alloc, p3, levels, deserializer)?;
+    Ok(Knot {
+        id: a0,
+        owner: a1,
+        from: a2,
+        next: a3,
+    })
+}
+
+impl<D: Pooling<Shared<Knot>> + Pooling<Shared<Graph>>> Deserialize<Knot, D> for ArchivedKnot {
+    #[inline(always)]
+    fn deserialize_part(
+        alloc: Global,
+        part: RawView<'_>,
+        deserializer: &mut D,
+    ) -> Result<Knot, Error>
+        requires { IsPartOf ⟦<Self as ArchivePointee>⟧ part }
+        ensures { ReadsAs ⟦<Self as ArchivePointee>⟧ part D.Entries deserializer ⟦<Knot as Archive>⟧
+            result }
+    {
+        let levels = part.bytes.len();
+        read_knot(alloc, part, levels, deserializer)
+    }
+}
+
+/// The fields of an archived `Knot`, as views.
+pub trait KnotView<'a> {
+    /// Its number.
+    fn id(self) -> Ref<'a, ArchivedU32>;
+
+    /// The graph that it is of, if that is kept.
+    fn owner(self) -> Ref<'a, ArchivedRcWeak<ArchivedGraph, RcFlavor>>;
+
+    /// From where it was found.
+    fn from(self) -> Ref<'a, ArchivedVec<ArchivedRcWeak<ArchivedKnot, RcFlavor>>>;
+
+    /// What it leads to, by each of its ways; some end.
+    fn next(self) -> Ref<'a, ArchivedVec<ArchivedOption<ArchivedRc<ArchivedKnot, RcFlavor>>>>;
+}
+
+impl<'a> KnotView<'a> for Ref<'a, ArchivedKnot> {
+    fn id(self) -> Ref<'a, ArchivedU32>
+        ensures buffer { result.bytes.now ≡ self.entry.bytes.now }
+        ensures position { result.pos ≡ self.entry.pos + 0 }
+        ensures length { result.len ≡ 0 }
+        ensures shows { ShowsValueOf result self.entry (field_in 0) }
+    {
+        view_of_field::<ArchivedKnot, ArchivedU32>(self, 0, 0)
+    }
+
+    fn owner(self) -> Ref<'a, ArchivedRcWeak<ArchivedGraph, RcFlavor>>
+        ensures buffer { result.bytes.now ≡ self.entry.bytes.now }
+        ensures position { result.pos ≡ self.entry.pos + 4 }
+        ensures length { result.len ≡ 0 }
+        ensures shows { ShowsValueOf result self.entry (field_in 1) }
+    {
+        view_of_field::<ArchivedKnot, ArchivedRcWeak<ArchivedGraph, RcFlavor>>(self, 1, 4)
+    }
+
+    fn from(self) -> Ref<'a, ArchivedVec<ArchivedRcWeak<ArchivedKnot, RcFlavor>>>
+        ensures buffer { result.bytes.now ≡ self.entry.bytes.now }
+        ensures position { result.pos ≡ self.entry.pos + 8 }
+        ensures length { result.len ≡ 0 }
+        ensures shows { ShowsValueOf result self.entry (field_in 2) }
+    {
+        view_of_field::<ArchivedKnot, ArchivedVec<ArchivedRcWeak<ArchivedKnot, RcFlavor>>>(
+            self, 2, 8,
+        )
+    }
+
+    fn next(self) -> Ref<'a, ArchivedVec<ArchivedOption<ArchivedRc<ArchivedKnot, RcFlavor>>>>
+        ensures buffer { result.bytes.now ≡ self.entry.bytes.now }
+        ensures position { result.pos ≡ self.entry.pos + 16 }
+        ensures length { result.len ≡ 0 }
+        ensures shows { ShowsValueOf result self.entry (field_in 3) }
+    {
+        view_of_field::<
+            ArchivedKnot,
+            ArchivedVec<ArchivedOption<ArchivedRc<ArchivedKnot, RcFlavor>>>,
+        >(self, 3, 16)
+    }
+}
+
+/// The fields of an archived `Knot`, as seals.
+pub trait KnotSeal<'a> {
+    // The seal shows a part of a buffer that was checked.
+    ghost sealed: { Self → Type 0 };
+
+    /// Its number.
+    fn id_mut(self) -> Seal<'a, ArchivedU32>
+        requires { sealed self };
+
+    /// The graph that it is of, if that is kept.
+    fn owner_mut(self) -> Seal<'a, ArchivedRcWeak<ArchivedGraph, RcFlavor>>
+        requires { sealed self };
+
+    /// From where it was found.
+    fn from_mut(self) -> Seal<'a, ArchivedVec<ArchivedRcWeak<ArchivedKnot, RcFlavor>>>
+        requires { sealed self };
+
+    /// What it leads to, by each of its ways; some end.
+    fn next_mut(self) -> Seal<'a, ArchivedVec<ArchivedOption<ArchivedRc<ArchivedKnot, RcFlavor>>>>
+        requires { sealed self };
+}
+
+impl<'a> KnotSeal<'a> for Seal<'a, ArchivedKnot> {
+    ghost sealed = { λ s. IsSealOf knot_definitions (one ⟦<ArchivedKnot as Portable>⟧.shape) s };
+
+    fn id_mut(self) -> Seal<'a, ArchivedU32>
+        requires come_to { IsSealOf knot_definitions (one ⟦<ArchivedKnot as Portable>⟧.shape) self }
+        ensures { SealsPart knot_definitions (one ⟦<ArchivedKnot as Portable>⟧.shape) no_definition
+            ⟦<ArchivedU32 as ArchivePointee>⟧.pointee (self.entry.pos + 0) 0 self.entry result }
+    {
+        seal_of_field::<ArchivedKnot, ArchivedU32>(self, 0, 0)
+    }
+
+    fn owner_mut(self) -> Seal<'a, ArchivedRcWeak<ArchivedGraph, RcFlavor>>
+        requires come_to { IsSealOf knot_definitions (one ⟦<ArchivedKnot as Portable>⟧.shape) self }
+        ensures { SealsPart knot_definitions (one ⟦<ArchivedKnot as Portable>⟧.shape)
+            ⟦<ArchivedGraph as ArchivePointee>⟧.definitions
+            ⟦<ArchivedRcWeak<ArchivedGraph, RcFlavor> as ArchivePointee>⟧.pointee
+            (self.entry.pos + 4) 0 self.entry result }
+    {
+        seal_of_field::<ArchivedKnot, ArchivedRcWeak<ArchivedGraph, RcFlavor>>(self, 1, 4)
+    }
+
+    fn from_mut(self) -> Seal<'a, ArchivedVec<ArchivedRcWeak<ArchivedKnot, RcFlavor>>>
+        requires come_to { IsSealOf knot_definitions (one ⟦<ArchivedKnot as Portable>⟧.shape) self }
+        ensures { SealsPart knot_definitions (one ⟦<ArchivedKnot as Portable>⟧.shape)
+            ⟦<ArchivedKnot as ArchivePointee>⟧.definitions
+            ⟦<ArchivedVec<ArchivedRcWeak<ArchivedKnot, RcFlavor>> as ArchivePointee>⟧.pointee
+            (self.entry.pos + 8) 0 self.entry result }
+    {
+        seal_of_field::<ArchivedKnot, ArchivedVec<ArchivedRcWeak<ArchivedKnot, RcFlavor>>>(
+            self, 2, 8,
+        )
+    }
+
+    fn next_mut(self) -> Seal<'a, ArchivedVec<ArchivedOption<ArchivedRc<ArchivedKnot, RcFlavor>>>>
+        requires come_to { IsSealOf knot_definitions (one ⟦<ArchivedKnot as Portable>⟧.shape) self }
+        ensures { SealsPart knot_definitions (one ⟦<ArchivedKnot as Portable>⟧.shape)
+            ⟦<ArchivedKnot as ArchivePointee>⟧.definitions
+            ⟦<ArchivedVec<ArchivedOption<ArchivedRc<ArchivedKnot, RcFlavor>>> as ArchivePointee>⟧.pointee (self.entry.pos + 16) 0 self.entry result }
+    {
+        seal_of_field::<
+            ArchivedKnot,
+            ArchivedVec<ArchivedOption<ArchivedRc<ArchivedKnot, RcFlavor>>>,
+        >(self, 3, 16)
     }
 }

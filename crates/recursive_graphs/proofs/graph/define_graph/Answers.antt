@@ -1,5 +1,5 @@
 -- Written by tools/derive: change the declaration, and run it again.
-use Rattle.recursive_graphs.proofs.knot.ArchivedKnotPortable.define.Goals as goal
+use Rattle.recursive_graphs.proofs.graph.define_graph.Goals as goal
 
 pub returns-clause-added : goal.returns-clause-added
 returns-clause-added c = rw c.in-Ok.ensures.shape at c.define_name.ensures.added
