@@ -11,10 +11,26 @@ ghost use Rattle.archive_num.specs.Digits.{is_zero};
 
 use crate::primitive::Plain;
 use archive_check::format::traits::ArchivePointee;
+use archive_check::self_check::{
+    ArrayCheck, BoxCheck, BoxStrCheck, BySchema, MapCheck, StringCheck, TupleCheck, VecCheck,
+};
 use archive_nonzero::NonZero;
 use archive_num::{Integer, LittleEndian, Native};
 use std::alloc::AllocError;
 use std::marker::PhantomData;
+
+// The checks of the library's types. Views name them, since the borrow checker covers a match on a view
+// of an enum alone where all that the impls for the types of its fields stand on is named.
+type Checks = (
+    BySchema,
+    StringCheck,
+    BoxStrCheck,
+    BoxCheck<()>,
+    VecCheck<()>,
+    MapCheck<(), ()>,
+    ArrayCheck<(), 0>,
+    TupleCheck<()>,
+);
 
 /// A view of an archived value, slice or text: a part of a validated buffer. In rkyv 0.8.18 it is a
 /// reference to the archived type.
@@ -32,7 +48,7 @@ pub struct Ref<'a, T: ArchivePointee> {
     bytes: &'a [u8],
     pos: usize,
     len: usize,
-    of: PhantomData<T>,
+    of: PhantomData<(T, Checks)>,
     pub ghost valid: { Viewed T.definitions bytes.now pos T.pointee len },
 }
 
