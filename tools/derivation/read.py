@@ -19,8 +19,8 @@ from .items import number_of
 # Of a struct, and of a variant.
 MOST_FIELDS = 32
 MOST_OF_VARIANT = 16
-# Of an enum's variants that have fields: of 28 the search in `resolve` gives up, of 20 it doesn't.
-MOST_WITH_FIELDS = 20
+# Of an enum's variants that have fields: as many are proved.
+MOST_WITH_FIELDS = 28
 # Of a type that is archived as a tuple with names.
 MOST_FEW = 8
 MOST_PARTS = 13
@@ -509,7 +509,7 @@ def check_variants(module: Module, loads: Loads, it: Declaration):
     """Refuses the first variant with which there is too much. Those of enums that neither are recursive nor hold a recursive type go in blocks."""
     with_fields = [v for v in it.variants if v.fields]
     if not it.part_by_part and len(with_fields) > MOST_WITH_FIELDS:
-        said = f"`{it.name}` has more than {MOST_WITH_FIELDS} variants with fields, whose `resolve` isn't proved; put some into an enum of another file"
+        said = f"`{it.name}` has more than {MOST_WITH_FIELDS} variants with fields, and more aren't proved; put some into an enum of another file"
         raise Refused(module.path, with_fields[MOST_WITH_FIELDS].line, said)
     types = []
     for v in it.variants if it.part_by_part else []:
