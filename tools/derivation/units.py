@@ -142,12 +142,12 @@ impl {choice.name}Tag for {choice.name} {{
     def tag_call(self):
         return f"{self.choice.name}Tag::tag(self)"
 
-    def resolve_arm(self):
+    def resolve_arm(self, pattern="_"):
         if not self.are:
             return ""
         call = Generic("resolve_case_0", [self.choice.archived], [self.tag_call(), "()", "Place::new(pos, bytes)"])
-        one = f"            _ => {flat(call)},\n"
-        return one if len(one) <= 101 and len(flat(call)) <= 90 and call_fits(call) else f"            _ => {{\n{statement(16, '', call, '')}            }}\n"
+        one = f"            {pattern} => {flat(call)},\n"
+        return one if len(one) <= 101 and len(flat(call)) <= 90 and call_fits(call) else f"            {pattern} => {{\n{statement(16, '', call, '')}            }}\n"
 
     def serialize_arm(self, match_arm):
         if not self.are:
@@ -240,17 +240,17 @@ has_no_part v t = elim v as (λ v. HasNoField v → HasTag v t → variant_in (s
         arms = "".join(f"{case.bound()} ↦ λ e. c.in_default.not-{case.name} {' '.join(case.binders)} e | " for case in self.apart())
         return f"((elim c.args.self.now as (λ v. c.args.self.now ≡ v → HasNoField v) [ {arms}v ↦ λ e. tt ]) refl)" if arms else "tt"
 
-    def requires_answer(self, call, given):
+    def requires_answer(self, call, given, none=""):
         step = f"{call}-requires-clause-variant"
         return f"""
 pub {step} : goal.{step}
-{step} {given} = has_no_part c.args.self.now c.tag.result {self.none()} c.tag.ensures
+{step} {given} = has_no_part c.args.self.now c.tag.result {none or self.none()} c.tag.ensures
 """
 
-    def resolve_answers(self, dotted):
-        """Of `resolve`: what it brings in, and the answer."""
+    def resolve_answers(self, dotted, none=""):
+        """Of `resolve`: what it brings in, and the answer. `none` proves that the value has no field, if that isn't by the arm."""
         brought = self.brought(dotted, (f"{self.choice.archived}Portable", "shape-value"))
-        return brought, self.lemmas() + self.requires_answer("resolve_case_0", "c")
+        return brought, self.lemmas() + self.requires_answer("resolve_case_0", "c", none)
 
     def serialize_answers(self, dotted):
         """The same of `serialize`: a variant without fields means its tag, and nothing of its own is kept of it."""

@@ -19,6 +19,7 @@ from .common import (
     taken_apart,
 )
 from .formats import layout_of, snake
+from .kept_blocks import KeptBlocks, belongs_of, flat_of
 from .layout import Generic, Group, WIDTH, ended, flat, implementation, lay, literal, pair, signature, statement
 from .loads import Loads
 from .long import is_long, lent, nest
@@ -87,6 +88,7 @@ class Choice(Source):
         self.span = max(case.end for case in self.cases)
         self.size = -(-self.span // self.align) * self.align
         self.units = Units(self)
+        self.blocks = KeptBlocks(self)
         self.is_searched = all(case.is_long or case.count < 3 for case in self.cases)
         self.variants = self.units.shapes()
         self.shape = f'choice (codes "{self.archived}") {self.variants}'
@@ -98,20 +100,19 @@ class Choice(Source):
         lines = ""
         for suffix, path in of.items():
             suffix = "" if suffix == "own" else suffix
-            names = sorted(f"{name} as {word}{suffix}" for name, word in (self.units.kept() if suffix == "Kept" else [(it.name, it.word) for it in self.cases]))
+            names = sorted(f"{name} as {word}" for name, word in (self.names_kept() if suffix == "Kept" else [(it.name, it.word + suffix) for it in self.cases]))
             path = self.declaration.declared_name if path == self.name else path
             lines += f"    ghost use Rattle.{declared}.{path}.TheVariants.{{{', '.join(names)}}};\n"
         return lines + "\n"
 
+    def names_kept(self):
+        """The variants of the resolver: their names, and those in contracts."""
+        kept = [(name, f"{word}Kept") for name, word in self.units.kept()]
+        return self.blocks.kept() + kept[len(self.units.apart()) :] if self.blocks.are else kept
+
     def elim(self, of, f):
         head = f"elim {of} [ " if of else "elim [ "
         return head + " | ".join(f"{case.bound()} ↦ {f(case)}" for case in self.cases) + " ]"
-
-    def kept(self, case, yes, no):
-        """By a resolver that has to be of the same variant."""
-        bound = f"{case.word}Kept s" if case.count else f"{case.word}Kept"
-        other = f" | _ ↦ {no}" if self.units.kept_count() > 1 else ""
-        return f"elim r [ {bound} ↦ {yes}{other} ]"
 
 
 def text(formats, declaration):
@@ -129,6 +130,7 @@ def text(formats, declaration):
         is_choice(choice),
         resolver(choice),
         choice.units.tag(),
+        choice.blocks.text(resolve_arm),
         archive(choice),
         serialize(choice),
         region(choice),
@@ -180,13 +182,17 @@ def is_choice(choice):
 """
 
 
+def case_kept(case):
+    """What is kept of a variant, as a variant."""
+    kept = pair([f"<{rust} as Archive>::Resolver" for rust in case.rust])
+    doc = f"    /// Of `{case.name}`.\n"
+    return doc + (statement(4, "", Group(f"{case.name}(", [kept], ")"), ",") if case.count else f"    {case.name},\n")
+
+
 def resolver(choice):
-    lines = choice.units.resolver()
-    for case in choice.units.apart():
-        kept = pair([f"<{rust} as Archive>::Resolver" for rust in case.rust])
-        doc = f"    /// Of `{case.name}`.\n"
-        lines.append(doc + (statement(4, "", Group(f"{case.name}(", [kept], ")"), ",") if case.count else f"    {case.name},\n"))
-    return f"""/// What is kept of `{choice.name}` between `serialize` and `resolve`.
+    lines = choice.units.resolver() + (choice.blocks.lines() or [case_kept(case) for case in choice.units.apart()])
+    of_blocks = choice.blocks.types(case_kept) + "\n" if choice.blocks.are else ""
+    return f"""{of_blocks}/// What is kept of `{choice.name}` between `serialize` and `resolve`.
 #[derive(Drop)]
 {choice.declared}enum {choice.resolver} {{
 {"".join(lines)}}}
@@ -203,19 +209,8 @@ def archive(choice):
     def meaning(case):
         return f"case {case.tag} " + chain("value", [f"({q}.meaning {a})" for q, a in zip(case.sources, case.binders)], "no_value")
 
-    def flats(case):
-        those = [f"({q}.flat {a} s{'.1' * i}.0)" for i, (q, a) in enumerate(zip(case.sources, case.binders))]
-        yes = f"case {case.tag} " + chain("value", those, "no_value")
-        return choice.kept(case, yes, f"case {case.tag} no_value") if case.count else yes
-
     def keys(case):
         return infix("++", [f"{q}.keys {a}" for q, a in zip(case.sources, case.binders)], "[]")
-
-    def belongs(case):
-        if choice.units.has(case):
-            return "Unit {0}"
-        those = [f"{q}.belongs {a} s{'.1' * i}.0" for i, (q, a) in enumerate(zip(case.sources, case.binders))]
-        return choice.kept(case, infix("×", those, "Unit {0}"), "⊥")
 
     def keyed(case):
         those = [f.keyed(type, a) for type, a in zip(case.types, case.binders)]
@@ -227,7 +222,16 @@ def archive(choice):
             out = f"(part_planned {f.definitions(type)} {f.shape(type)} ({q}.keys {a}) ({q}.meaning {a}) {f.planned(type, a)} {out})"
         return f"plain_variant_planned _ _ {case.tag} {case.parts} refl {case.defined} _ _ {out} refl"
 
-    arms = "".join(resolve_arm(choice, case) for case in choice.units.apart()) + choice.units.resolve_arm()
+    blocks = choice.blocks
+    if blocks.are:
+        flats, belongs = blocks.flat(), blocks.belongs()
+        matched = f"        match resolver {{\n{blocks.arms()}{choice.units.resolve_arm(f'{choice.resolver}::{choice.units.name}')}        }}\n"
+    else:
+        kinds = choice.units.kept_count()
+        flats = choice.elim("v", lambda case: flat_of(case, kinds))
+        belongs = choice.elim("v", lambda case: "Unit {0}" if choice.units.has(case) else belongs_of(case, kinds))
+        arms = "".join(resolve_arm(choice, case, choice.resolver, kinds) for case in choice.units.apart())
+        matched = choice.units.matched("self", arms + choice.units.resolve_arm())
     laws = (choice.elim("", keyed), choice.elim("", planned))
     told, calls = in_turn(f)
     brought = (f.law_lines() + choice.brought(own=choice.name, Kept=choice.resolver)).replace("\n\n    ghost", "\n    ghost")
@@ -238,11 +242,11 @@ def archive(choice):
 
     ghost meaning = {{ {choice.elim("", meaning)} }};
 
-    ghost flat = {{ λ v r. {choice.elim("v", flats)} }};
+    ghost flat = {{ λ v r. {flats} }};
 
     ghost keys = {{ {choice.elim("", keys)} }};
 
-    ghost belongs = {{ λ v r. {choice.elim("v", belongs)} }};
+    ghost belongs = {{ λ v r. {belongs} }};
 
 {told}
     ghost keyed = {{ {laws[0]} }};
@@ -251,13 +255,14 @@ def archive(choice):
 
 {resolve_head(choice)}    {{
         let Place {{ bytes, pos, .. }} = place;
-{choice.units.matched("self", arms)}    }}
+{matched}    }}
 
 {calls}}}
 """
 
 
-def resolve_arm(choice, case):
+def resolve_arm(choice, case, kept_in, kinds):
+    """How a variant is resolved, of which a variant of this type is kept, that has so many."""
     kept, place = kept_of(choice.formats, case.types), "Place::new(pos, bytes)"
     pattern = flat(case.pattern())
     call = Generic(f"resolve_case_{case.count}", case.rust + [choice.archived], [str(case.tag)] + case.names + [kept, place])
@@ -268,8 +273,8 @@ def resolve_arm(choice, case):
         if len(one) <= WIDTH + 1:
             return one
         return f"            {pattern} => {{\n{statement(16, '', call, '')}            }}\n"
-    opened = f"let {choice.resolver}::{case.name}(kept) = resolver"
-    other = " else {\n                    unreachable!();\n                }" if choice.units.kept_count() > 1 else ""
+    opened = f"let {kept_in}::{case.name}(kept) = resolver"
+    other = " else {\n                    unreachable!();\n                }" if kinds > 1 else ""
     return f"""            {pattern} => {{
                 {opened}{other};
 {taken_apart(choice.formats, case.types, 16)}{lending(case, 16)}{statement(16, "", call, "")}            }}
@@ -306,7 +311,7 @@ def serialize(choice):
         call = Generic(f"serialize_case_{case.count}", case.rust + [choice.archived, "S"], [str(case.tag)] + case.names + ["serializer"])
         if case.is_long:
             call = Generic("serialize_case", [f"{case.word}Lent<'_>", f"{case.word}Fields", choice.archived, "S"], [str(case.tag), "&lent", "serializer"])
-        made = f"{choice.resolver}::{case.name}" + ("(kept)" if case.count else "")
+        made = choice.blocks.wrapped(case, case.count) if choice.blocks.are else f"{choice.resolver}::{case.name}" + ("(kept)" if case.count else "")
         arms.append(match_arm(case.pattern(), call, "kept" if case.count else "()", made, lending(case, 16)))
     arms += choice.units.serialize_arm(match_arm)
     return f"""{implementation([f"S: {bound}"], "Serialize", ["S"], choice.name)}
@@ -358,7 +363,9 @@ def proofs(formats, declaration):
         if answers:
             out[f"proofs/{module}/{made.name}/Answers.antt"] = answers
     in_ways = choice.units.are or any(case.is_long for case in choice.cases)
-    if in_ways:
+    if choice.blocks.are:
+        out.update(choice.blocks.proofs(module, dotted, lent_in_block))
+    elif in_ways:
         out[f"proofs/{module}/{choice.name}Archive/resolve/Answers.antt"] = resolve_answers(choice, dotted)
     if in_ways or not choice.is_searched:
         out[f"proofs/{module}/{choice.name}Serialize/serialize/Answers.antt"] = serialize_answers(choice, dotted)
@@ -402,22 +409,36 @@ def resolve_answers(choice, dotted):
     brought, of_units = choice.units.resolve_answers(dotted) if choice.units.are else ("", "")
     if not any(case.is_long for case in choice.cases):
         return f"-- {WRITTEN}\n{brought}use {goals} as goal\n{of_units}"
-    apart = choice.units.apart()
-    steps = [f"in-{case.name}+in-{case.name}-resolver" if case.count else f"in-{case.name}" for case in apart]
-    calls = by_arms(apart, ["resolve_case" if case.is_long else "" for case in apart])
-    found = [f"grind (w.{call}.ensures, w.bytes-is, w.result-is, rules)" if case.is_long else "search rules" for case, call in zip(apart, calls)]
+    steps, found = resolved_arms(choice.units.apart())
     if choice.units.are:
         steps.append("in_default")
         found.append("search rules")
-    arms = " | ".join(f"{step} w ↦ {how}" for step, how in zip(steps, found))
     return f"""-- {WRITTEN}
 use Rattle.std.proofs.Common.{{rules}}
 {brought}use {goals}.{{{', '.join(steps)}}}
 use {goals} as goal
-{of_units}
-pub returns : goal.returns
-returns c = elim c.match-self.branch [ {arms} ]
-"""
+{of_units}{returned(steps, found)}"""
+
+
+def resolved_arms(cases):
+    """The steps of the arms that resolve these variants, and how each is proved."""
+    steps = [f"in-{case.name}+in-{case.name}-resolver" if case.count else f"in-{case.name}" for case in cases]
+    calls = by_arms(cases, ["resolve_case" if case.is_long else "" for case in cases])
+    return steps, [f"grind (w.{call}.ensures, w.bytes-is, w.result-is, rules)" if case.is_long else "search rules" for case, call in zip(cases, calls)]
+
+
+def returned(steps, found):
+    """The proof of what `resolve` returns, by its arms."""
+    arms = " | ".join(f"{step} w ↦ {how}" for step, how in zip(steps, found))
+    return f"\npub returns : goal.returns\nreturns c = elim c.match-self.branch [ {arms} ]\n"
+
+
+def lent_in_block(cases, goals):
+    """What the proof that the variants of a block are resolved brings in, and it, if one of them is lent."""
+    if not any(case.is_long for case in cases):
+        return "", ""
+    steps, found = resolved_arms(cases)
+    return f"use Rattle.std.proofs.Common.{{rules}}\nuse {goals}.{{{', '.join(steps)}}}\n", returned(steps, found)
 
 
 def views(choice):
