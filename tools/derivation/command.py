@@ -23,7 +23,7 @@ and what is above it stays as it is, byte for byte. docs/OWN_TYPES.md shows what
 Fields: whole numbers, `bool`, `char`, `()`, `String`, `Option`, `Result`, `Box`, `Vec`, `PhantomData`, tuples of up to {read.MOST_PARTS}, arrays, `BTreeMap` with
 keys that are whole numbers, `char` or `String`; of the library `BoxSlice`, `BoxStr`, `OwnedArray`, `NonZero` (and `ArchivedNonZeroU8` ..), `Shared`,
 `SharedSlice`, `SharedStr`, `WeakShared`; and other types that this command wrote, of any module or crate of the repository. A struct has
-up to {read.MOST_FIELDS} fields, each variant of an enum of several {read.MOST_OF_VARIANT}, of deep types fewer, a struct with type parameters or that holds a recursive type {read.MOST_FEW}. An
+up to {read.MOST_FIELDS} fields, each variant of an enum of several {read.MOST_OF_VARIANT}, of deep types fewer, a struct with type parameters {read.MOST_WITH_PARAMETERS}, one that holds a recursive type {read.MOST_FEW}. An
 enum has up to {read.MOST_VARIANTS} variants, a recursive one or one that holds a recursive type up to 59: the command counts what the toolchain takes at once, and tells
 which field or variant is too much.
 

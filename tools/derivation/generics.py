@@ -1,7 +1,8 @@
 """The impls of a struct with type parameters, or that holds a recursive type: a tuple whose fields have names."""
 
 from .common import doc_lines, in_turn, infix, resolve_head
-from .layout import Generic, Group, flat, implementation, literal, pair, signature, statement
+from .layout import Generic, Group, flat, implementation, literal, signature, statement
+from .long import is_long, names_of, nest
 
 
 def camel(name):
@@ -29,7 +30,12 @@ class Tuple:
         self.visibility = "pub "  # also of a private type: an accessor of a public one may show it
         self.where = f"\nwhere\n    {declaration.where.rstrip(',')}," if declaration.where else ""
         self.names = [f"a{i}" for i in range(self.count)]
+        self.by_fours = is_long(self.types)
         self.size = "⟦<Self::Archived as Portable>⟧.layout.size"
+
+    def nest(self, words):
+        """Words for its fields, one after another."""
+        return nest(words, self.by_fours)
 
     def brackets(self):
         """Its parameters as arguments, if it has any."""
@@ -58,6 +64,8 @@ def text(formats, declaration):
     formats.use("archive_core::place", "Place")
     formats.use("archive_core::record", "resolve_record", "serialize_record")
     formats.use("archive_core::traits", "Archive", "Portable", "PortableParts", "Serialize")
+    if made.by_fours:
+        formats.use("archive_core::traits", "FourParts")
     formats.use("archive_core::view", "Ref")
     formats.ghost("std.specs.Prelude", "◌≡◌", "◌+◌", "length", "refl", "OnOk", "IfErr")
     formats.ghost("Value", "product")
@@ -76,7 +84,7 @@ def format_of(made):
     parts = statement(
         0,
         f"pub type {made.archived}{made.brackets()} = ".replace("pub ", made.visibility, 1),
-        Group("ArchivedTuple<", [pair(made.formats_bare)], ">"),
+        Group("ArchivedTuple<", [made.nest(made.formats_bare)], ">"),
         ";",
     )
     return f"/// An archived `{made.name}`: its fields one after another, as a tuple has them.\n{parts}"
@@ -93,7 +101,7 @@ def fields(made):
     }}
 }}
 """)
-    those = pair([f"Field<{i}, {rust}>" for i, rust in enumerate(made.rust)])
+    those = made.nest([f"Field<{i}, {rust}>" for i, rust in enumerate(made.rust)])
     out.append(f"// Its fields as sources.\n{statement(0, f'type {made.parts} = ', those, ';')}")
     return "\n".join(out)
 
@@ -102,7 +110,7 @@ def archive(made):
     f = made.formats
     values = [f"v.{field.name}" for field in made.fields]
     parts = f"⟦<{made.parts} as SourceParts<Self>>⟧"
-    archived = statement(4, "type Archived = ", Group("ArchivedTuple<", [pair(made.formats_of)], ">"), ";")
+    archived = statement(4, "type Archived = ", Group("ArchivedTuple<", [made.nest(made.formats_of)], ">"), ";")
     call = Generic("resolve_record", ["Self", made.parts, "Self::Archived"], ["self", "resolver", "Place::new(pos, bytes)"])
     laws = (f.product_keyed(made.types, values)[1:-1], f.product_planned(made.types, values)[1:-1])
     told, calls = in_turn(f)
@@ -148,7 +156,7 @@ def region(made):
     f.use("archive_core::traits", "ArchiveUnsized", "SerializeUnsized")
     f.ghost("PlannedOwners", "one_planned")
     values = [f"v.{field.name}" for field in made.fields]
-    archived = statement(4, "type Archived = ", Group("ArchivedTuple<", [pair(made.formats_of)], ">"), ";")
+    archived = statement(4, "type Archived = ", Group("ArchivedTuple<", [made.nest(made.formats_of)], ">"), ";")
     bound = f.writer_bound(made.types)
     laws = (f.product_keyed(made.types, values)[1:-1], f.product_planned(made.types, values))
     return f"""/// As a region of its own: the value itself.
@@ -182,8 +190,11 @@ def region(made):
 
 
 def read(made):
-    owned = statement(4, "type Owned = ", pair(made.rust), ";")
-    from_parts = f"    fn from_parts({flat(pair(made.names))}: Self::Owned) -> Self {{\n"
+    owned = statement(4, "type Owned = ", made.nest(made.rust), ";")
+    values, opened = flat(made.nest(made.names)), ""
+    if made.by_fours:
+        values, opened = "values", names_of(made.names, 8, True)
+    from_parts = f"    fn from_parts({values}: Self::Owned) -> Self {{\n{opened}"
     return f"""{head(made, made.bound("Archive"), "FromParts", [])}
 {owned}
 {from_parts}{statement(8, "", made.built(), "")}    }}
@@ -203,7 +214,7 @@ def views(made):
     types = "\n".join(
         f"    type {camel(field.accessor)} = Ref<'a, {format}>;\n" for field, format in zip(made.fields, made.formats_bare)
     )
-    parts = f"⟦<{flat(pair(made.formats_bare))} as PortableParts>⟧"
+    parts = f"⟦<{flat(made.nest(made.formats_bare))} as PortableParts>⟧"
     bodies = "\n".join(
         f"""{signature(f"fn {field.accessor}", [], ["self"], f"Ref<'a, {format}>", 4)}
         ensures buffer {{ result.bytes.now ≡ self.entry.bytes.now }}
@@ -244,7 +255,7 @@ def seals(made):
     types = "\n".join(
         f"    type {camel(field.accessor)} = Seal<'a, {format}>;\n" for field, format in zip(made.fields, made.formats_bare)
     )
-    parts = f"⟦<{flat(pair(made.formats_bare))} as PortableParts>⟧"
+    parts = f"⟦<{flat(made.nest(made.formats_bare))} as PortableParts>⟧"
     sealed = f"IsSealOf {whole}.definitions {whole}.pointee {{0}}"
     bodies = "\n".join(
         f"""{signature(f"fn {field.accessor}_mut", [], ["self"], f"Seal<'a, {format}>", 4)}

@@ -21,7 +21,8 @@ MOST_FIELDS = 32
 MOST_OF_VARIANT = 16
 # Of an enum's variants that have fields: of 28 the search in `resolve` gives up, of 20 it doesn't.
 MOST_WITH_FIELDS = 20
-# Of a type that is archived as a tuple with names.
+# Of a struct that is archived as a tuple with names: with type parameters, and where it holds a recursive type.
+MOST_WITH_PARAMETERS = 12
 MOST_FEW = 8
 MOST_PARTS = 13
 MOST_VARIANTS = 256
@@ -468,10 +469,13 @@ def check_loads(module: Module):
     """Refuses what is too much for the toolchain at once."""
     loads = Loads()
     for it in module.declarations:
-        if it.as_tuple and len(it.fields) > MOST_FEW:
-            kind = "with type parameters" if it.parameters else "that holds a recursive type"
-            said = f"`{it.name}` has {len(it.fields)} fields, and {MOST_FEW} are the most of a struct {kind}; put some into a struct of their own"
-            raise Refused(module.path, it.fields[MOST_FEW].line, said)
+        most = MOST_FEW if it.holds_recursive else MOST_WITH_PARAMETERS
+        if it.as_tuple and len(it.fields) > most:
+            kind = "that holds a recursive type" if it.holds_recursive else "with type parameters"
+            said = f"`{it.name}` has {len(it.fields)} fields, and {most} are the most of a struct {kind}; put some into a struct of their own"
+            raise Refused(module.path, it.fields[most].line, said)
+        if it.as_tuple and is_long(it.fields):
+            check_fours(module, loads, it.fields)
         if it.part_by_part:
             check_variants(module, loads, it)
         if it.as_tuple or it.part_by_part:
@@ -493,6 +497,15 @@ def check_load(module: Module, loads: Loads, fields: List[Field], in_blocks: boo
             is_alone = count == 1 or loads.least_of_fields([field.type], in_blocks) > MOST_LOAD
             what = "; put a part of it" if is_alone else " beside the fields before it; put some of them"
             raise Refused(module.path, field.type.line, f"`{field.type.text}` is too deep for the toolchain{what} into a struct")
+
+
+def check_fours(module: Module, loads: Loads, fields: List[Field]):
+    """Refuses the first field with which there is too much in a struct with type parameters whose fields go by fours."""
+    types = [field.type for field in fields]
+    for count, field in enumerate(fields, 1):
+        if loads.at_once(types[:count], True) > MOST_LOAD:
+            said = f"`{field.type.text}` is too deep for the toolchain beside the fields before it; put some of them into a struct"
+            raise Refused(module.path, field.type.line, said)
 
 
 def check_long(module: Module, fields: List[Field]):

@@ -1,9 +1,10 @@
 """What is refused, with the line and what to write instead."""
 
 from derivation.model import MARK
-from derivation.read import MOST_FIELDS as MOST
 from derivation.read import MOST_FEW as FEW
+from derivation.read import MOST_FIELDS as MOST
 from derivation.read import MOST_OF_VARIANT
+from derivation.read import MOST_WITH_PARAMETERS as WITH_PARAMETERS
 
 from .repository import RepositoryTest
 
@@ -63,7 +64,11 @@ DECLARATIONS = [
     ("struct A<T> { x: u8,\ny: [T; 2] }", "2: an array in a struct with type parameters isn't proved; write a `Vec` in place of `[T; 2]`"),
     ("struct A<T> { x: T,\ny: (u8, T) }", "2: a tuple in a struct with type parameters is too deep for the toolchain; write a struct without parameters"),
     ("struct W<T>(T);\nstruct A { x: Vec<W<Option<W<u8>>>> }", "2: `W<u8>` in a tuple or a struct with type parameters is too deep for the toolchain; write a struct without"),
-    (f"struct A<T> {{ t: T, {LIST.join(f'f{i}: u8' for i in range(FEW))} }}", f"{FEW}: `A` has {FEW + 1} fields, and {FEW} are the most of a struct with type parameters; put some into a struct of their own"),
+    (
+        f"struct A<T> {{ t: T, {LIST.join(f'f{i}: u8' for i in range(WITH_PARAMETERS))} }}",
+        f"{WITH_PARAMETERS}: `A` has {WITH_PARAMETERS + 1} fields, and {WITH_PARAMETERS} are the most of a struct with type parameters; put some into a struct of their own",
+    ),
+    (f"struct A<T> {{ t: T, {LIST.join(f'f{i}: Vec<Vec<u32>>' for i in range(9))} }}", "5: `Vec<Vec<u32>>` is too deep for the toolchain beside the fields before it; put some of them into a struct"),
     (f"enum A {{ X({LIST.join('u8' for _ in range(FEW + 1))}) }}", f"1: `A` has one variant, of more than {FEW} fields; write a struct"),
     (
         f"enum A {{ X, Y({LIST.join('u8' for _ in range(MOST_OF_VARIANT + 1))}) }}",
