@@ -87,7 +87,7 @@ def check_plain(it: Declaration, type: Type, line: int, behind: bool = False):
 
 
 def check_owner(it: Declaration, type: Type, line: int):
-    """What leads back is a box or a shared pointer, an option of one, an array of boxes or of options of these, a vector or a boxed slice of these or of the type
+    """What leads back is a box or a shared pointer, an option of one, an array of options of boxes, a vector or a boxed slice of these or of the type
     itself, a vector of tuples, or a box of a vector."""
     for row in rows_in(it, type):
         check_row(it, row, line)
@@ -111,9 +111,9 @@ def check_owner(it: Declaration, type: Type, line: int):
 def check_array(it: Declaration, type: Type, line: int):
     """An array that leads back is of options of boxes, in a struct that leads back by no other field and to no other type. Of an enum, a pattern that
     binds the array isn't covered."""
-    others = sum(leads_back(it, field.type) for field in it.all_fields()) > 1 or len(it.family) > 1
+    others = sum(leads_back(it, field.type) for field in it.all_fields()) > 1 or len(it.family) > 1 or len(it.fields) > MOST_BY_NAME
     if it.kind == "enum" or not is_named(type.args[0], "Option") or not is_pointer(it, type.args[0]) or not 0 < int(type.length) <= MOST_ITEMS or others:
-        said = f"an array that leads back to `{it.name}` is written in a struct, of 1 to {MOST_ITEMS} options of boxes, if no other field leads back and no other type is recursive with it"
+        said = f"an array that leads back to `{it.name}` is written in a struct of up to {MOST_BY_NAME} fields, of 1 to {MOST_ITEMS} options of boxes, if no other field leads back and no other type is recursive with it"
         raise Refused(it.path, line, f"{said}; write a `Vec`")
 
 

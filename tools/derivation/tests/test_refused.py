@@ -8,7 +8,7 @@ from derivation.read import MOST_OF_VARIANT
 from .repository import RepositoryTest
 
 LIST = ",\n"
-ARRAY = "an array that leads back to `A` is written in a struct, of 1 to 8 options of boxes, if no other field leads back and no other type is recursive with it; write a `Vec`"
+ARRAY = "an array that leads back to `A` is written in a struct of up to 7 fields, of 1 to 8 options of boxes, if no other field leads back and no other type is recursive with it; write a `Vec`"
 # A type of a field, and how its refusal begins.
 FIELDS = [
     ("f64", "a float has no format; write its bits, a `u64` of `to_bits`"),
@@ -207,6 +207,7 @@ class Circles(RepositoryTest):
             ("struct A {\n a: [Box<B>; 2] }\nstruct B { a: Vec<A> }", f"2: {ARRAY}"),
             ("enum A {\n X, Y([Box<A>; 2]) }", f"2: {ARRAY}"),
             ("struct A { a: Vec<A>,\n b: [Option<Box<A>>; 2] }", f"2: {ARRAY}"),
+            (f"struct A {{ {', '.join(f'a{i}: u8' for i in range(7))},\n b: [Option<Box<A>>; 2] }}", f"2: {ARRAY}"),
             ("use archive_core::rc::SharedStr;\nstruct B { x: SharedStr }\nstruct A { a: Vec<A>,\n b: B }", "4: `B` has fields that tools/derive doesn't write beside the recursive `A`; move it to another file"),
             ("enum A { X,\n Y(Box<B>) }\nenum B { X, Z(Box<A>) }", "1: `X` is a variant of `A` and of `B`, which hold each other; give one of them another name"),
             ("struct A { a: Vec<A> }\nenum B { C(A,\n (u8, u8)) }", "3: this field of `B` isn't written yet in an enum that holds a recursive type; put it into a struct of another file"),
