@@ -4,6 +4,7 @@ from typing import Dict, Iterator, List, Optional, Tuple
 
 from . import recursive_holders as holders
 from . import recursive_refusals as refusals
+from .endless import check_ends
 from .model import Declaration, Refused, Type
 
 POINTERS = {"Box", "BoxSlice", "Vec", "BTreeMap", "Shared", "SharedSlice", "WeakShared"}
@@ -114,11 +115,13 @@ def check_circles(declarations: List[Declaration]):
     for it in every:
         way = circle(it, edges, True)
         it.recursive = way is not None
+    check_ends(every)
     reached = {id(it): reached_from(it, edges) for it in every}
     for it in every:
         it.holds_recursive = not it.recursive and any(x.recursive for x in reached[id(it)])
         if it.recursive:
             it.family = sorted((x for x in reached[id(it)] if any(y is it for y in reached[id(x)])), key=lambda x: (x.path, x.line))
+    check_marks(every)
     for it in every:
         holders.tell(it)
     for it in every:
@@ -127,6 +130,31 @@ def check_circles(declarations: List[Declaration]):
             refuse_recursive(it, way)
         else:
             holders.check(it)
+
+
+def named(it: Declaration, type: Type, every: List[Declaration]) -> Iterator[Declaration]:
+    """The declarations that a type names, those in a `PhantomData` as well, which are looked for in the file of the declaration."""
+    if type.own is not None:
+        yield type.own
+    elif type.path == ("Self",):
+        yield it
+    elif len(type.path) == 1 and not type.parameter:
+        yield from (x for x in every if x.name == type.name and x.path == it.path)
+    for x in type.args:
+        yield from named(it, x, every)
+
+
+def check_marks(every: List[Declaration]):
+    """Refuses a type that no value of it holds and that names itself: to the toolchain it is recursive."""
+    edges: Dict[int, List[Edge]] = {
+        id(it): [(x, False, field.line) for field in it.all_fields() for x in named(it, field.type, every)] for it in every
+    }
+    for it in every:
+        way = None if it.recursive else circle(it, edges, True)
+        if way and not any(x.recursive for x, _, _ in way):
+            names = " > ".join([it.name] + [edge[0].name for edge in way])
+            said = f"`{it.name}` names itself, though it holds none ({names}); mark it by a type of its own, as `struct {it.name}Mark;`"
+            raise Refused(it.path, way[0][2], said)
 
 
 def refuse_recursive(it: Declaration, way: List[Edge]):

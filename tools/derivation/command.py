@@ -2,10 +2,10 @@
 
 import os
 import sys
-from typing import List, Tuple
+from typing import Dict, List, Tuple
 
 from . import files, read
-from .model import MARK, Refused
+from .model import MARK, Module, Refused
 from .recursive_refusals import MOST_BY_NAME
 from .recursive_refusals import MOST_FIELDS as MOST_OF_RECURSIVE
 
@@ -26,9 +26,8 @@ Fields: whole numbers, `bool`, `char`, `()`, `String`, `Option`, `Result`, `Box`
 keys that are whole numbers, `char` or `String`; of the library `BoxSlice`, `BoxStr`, `OwnedArray`, `NonZero` (and `ArchivedNonZeroU8` ..), `Shared`,
 `SharedSlice`, `SharedStr`, `WeakShared`; and other types that this command wrote, of any module or crate of the repository. A struct has
 up to {read.MOST_FIELDS} fields, each variant of an enum of several {read.MOST_OF_VARIANT}, of deep types fewer, a recursive struct {MOST_OF_RECURSIVE}, in a family or a graph {MOST_BY_NAME}, a struct with type parameters or
-that holds a recursive type {read.MOST_FEW}. An
-enum has up to {read.MOST_VARIANTS} variants, a recursive one or one that holds a recursive type up to 59: the command counts what the toolchain takes at once, and tells
-which field or variant is too much.
+that holds a recursive type {read.MOST_FEW}. An enum has up to {read.MOST_VARIANTS} variants, {read.MOST_WITH_FIELDS} with fields, a recursive one or one that holds a recursive type up to 59:
+the command counts what the toolchain takes at once, and tells which field or variant is too much.
 
 Views are compared and hashed as the values that they show if the type derives `Eq`, `PartialOrd`, `Ord` or `Hash` and all fields can be.
 
@@ -117,7 +116,8 @@ def written_files() -> List[str]:
 
 def differences(paths: List[str]) -> List[Tuple[str, str, str]]:
     """The files that aren't as they should be: path, text, and where they differ."""
-    done = [(it, files.wanted(it)) for it in read.modules(paths)]
+    made: Dict[str, Module] = {}
+    done = [(it, files.wanted(it, made)) for it in read.modules(paths)]
     kept = {path for _, wanted in done for path, text in wanted.items() if text}
     found = [(path, text, files.difference(it, path, text)) for it, wanted in done for path, text in wanted.items() if text or path not in kept]
     return [it for it in found if it[2]]

@@ -22,14 +22,22 @@ SIZED = {"usize": "u32", "isize": "i32"}
 NO_NAME = "no_definition"
 
 
-def is_compared(declaration):
-    """Whether the views of a declared type are compared: it derives an order or a hash, and all fields can be."""
+def is_compared(declaration, known=None):
+    """Whether the views of a declared type are compared: it derives an order or a hash, and all fields can be. Of which ones that is known is kept."""
     if declaration.as_tuple or declaration.part_by_part or not ASKING & set(declaration.derives):
         return False
+    known = {} if known is None else known
+    if id(declaration) not in known:
+        known[id(declaration)] = are_compared(declaration, known)
+    return known[id(declaration)]
+
+
+def are_compared(declaration, known):
+    """Whether all fields of a declaration that asks for it can be compared."""
     lists = [declaration.fields] + [variant.fields for variant in declaration.variants]
     if declaration.variants and len(blocks_of(types_in_turn(declaration))) > 1:
         return False
-    return all(len(fields) <= MOST and all(can_be(field.type) for field in fields) and in_pairs(fields) for fields in lists)
+    return all(len(fields) <= MOST and all(can_be(field.type, known) for field in fields) and in_pairs(fields) for fields in lists)
 
 
 def in_pairs(fields):
@@ -37,14 +45,14 @@ def in_pairs(fields):
     return Loads().are_read_at_once([field.type for field in fields])
 
 
-def can_be(type):
+def can_be(type, known):
     """Whether the views of a type are compared."""
     if type.parameter:
         return False
     if type.own is not None:
-        return is_compared(type.own)
+        return is_compared(type.own, known)
     if type.name in HOLDERS or type.name == "tuple" and len(type.args) == 2:
-        return all(can_be(arg) for arg in type.args)
+        return all(can_be(arg, known) for arg in type.args)
     return type.name in LEAVES
 
 

@@ -1,29 +1,33 @@
 """The files that a module comes to: its own, and short files of proofs in its crate."""
 
 import os
+import re
 import shutil
 from typing import Dict, List, Optional, Sequence, Tuple
 
 from . import renames, write
 from .clashes import check_clashes
 from .clauses import clauses
-from .model import MARK, Module
+from .model import MARK, Module, Refused
 from .names import text_of
 from .tokens import END, tokens
 
+# The end of the name of the file that says what values of a recursive type mean.
+MEANING = "Meaning.antt"
 # How much of a line is told, in characters.
 MOST_TOLD = 100
 PROOF_BEGINS = "-- Written by tools/derive: change the declaration, and run it again."
 
 
-def wanted(module: Module) -> Dict[str, str]:
-    """The files as they should be, by their paths. One that is no longer wanted is to be empty."""
+def wanted(module: Module, made: Dict[str, Module]) -> Dict[str, str]:
+    """The files as they should be, by their paths. One that is no longer wanted is to be empty. Whose definitions are `made` is kept from module to module."""
     written = renames.written(module)
     check_clashes(module, written)
     out = {module.path: above(module) + clauses(written)}
     crate = crate_folder(module)
     out.update({path: "" for path in proofs_there(module, crate) + specs_there(module, crate)})
     out.update({os.path.normpath(os.path.join(crate, path)): text for path, text in write.proofs(module).items()})
+    check_definitions(module, crate, out, made)
     specs = {os.path.basename(path)[:-len(".antt")]: text for path, text in out.items() if os.path.dirname(path) == os.path.join(crate, "specs")}
     if specs:
         path = os.path.join(crate, "specs", "Lib.antt")
@@ -63,11 +67,48 @@ def specs_there(module: Module, crate: str) -> List[str]:
     """The files of definitions that were written for the module before, of recursive types."""
     folder, found = os.path.join(crate, "specs"), []
     for file in sorted(os.listdir(folder)) if os.path.isdir(folder) else []:
-        name = file[:-len("Meaning.antt")]
-        home = f".specs.declared.{'.'.join(module.module)}.{name}Resolver."
-        if file.endswith("Meaning.antt") and home in text_of(os.path.join(folder, file)):
-            found += [path for path in (os.path.join(folder, f"{name}{it}.antt") for it in ("Meaning", "Shape")) if is_written(path)]
+        if file.endswith(MEANING) and home_of(os.path.join(folder, file)) == module.module:
+            found += [path for path in (os.path.join(folder, f"{file[:-len(MEANING)]}{it}.antt") for it in ("Meaning", "Shape")) if is_written(path)]
     return found
+
+
+def home_of(path: str) -> Optional[Tuple[str, ...]]:
+    """The module of the types of which a file of definitions says what they mean."""
+    name = re.escape(os.path.basename(path)[:-len(MEANING)])
+    found = re.search(rf"\.specs\.declared\.([\w.]*?)\.?{name}Resolver\.", text_of(path))
+    return tuple(found[1].split(".")) if found and found[1] else () if found else None
+
+
+def check_definitions(module: Module, crate: str, out: Dict[str, str], made: Dict[str, Module]):
+    """Refuses a recursive type whose definitions would be written over others: over those of a type of its name in another module of the crate, of which those
+    that were just `made` are given, or over what is by hand."""
+    for declaration in module.declarations:
+        path = os.path.normpath(os.path.join(crate, "specs", f"{declaration.name}{MEANING}"))
+        if not out.get(path):
+            continue
+        other = made.setdefault(path, module)
+        place = other.path if other is not module else other_place(module, path, declaration.name) if os.path.isfile(path) else ""
+        if place:
+            said = f"the definitions of `{declaration.name}` would be written over those of {place}; give one of the types another name"
+            raise Refused(module.path, declaration.line, said)
+
+
+def other_place(module: Module, path: str, name: str) -> str:
+    """What else a file of definitions belongs to: the source of another module that still declares such a type, or the file itself, if it is by hand."""
+    if not is_written(path):
+        return path
+    home = home_of(path)
+    if home is None or home == module.module:
+        return ""
+    folder = os.path.join(os.path.dirname(path), "..", "src")
+    sources = [os.path.normpath(os.path.join(folder, it)) for it in ([f"{'/'.join(home)}.rt"] if home else ["lib.rt", "main.rt"])]
+    return next((it for it in sources if os.path.isfile(it) and declares(it, name)), "")
+
+
+def declares(path: str, name: str) -> bool:
+    """Whether a type of this name stands above the marker of a file."""
+    head = text_of(path).split(f"\n{MARK}")[0]
+    return re.search(rf"\b(struct|enum)\s+{re.escape(name)}\b", head) is not None
 
 
 def is_written(path: str) -> bool:

@@ -92,6 +92,15 @@ def substituted(type, by):
     return replace(type, args=[substituted(arg, by) for arg in type.args], text="")
 
 
+def is_seen(type, seen):
+    """Whether a declared type was seen, which is so from now on. One with arguments counts as another each time."""
+    if type.own is None or type.args:
+        return False
+    was = id(type.own) in seen
+    seen.add(id(type.own))
+    return was
+
+
 def without(type, family):
     """The type, or where it leads to one of these, the arguments that don't."""
     if any(type.own is it for it in family):
@@ -125,6 +134,7 @@ class Formats:
         self.uses = {}  # a path of Rust, and the names of it
         self.ghosts = {}  # a path of specs, and the names of it
         self.laws = {}  # a declaration, and its laws
+        self.layouts = {}  # a declaration, and its layout
 
     # ---- names ----
 
@@ -196,14 +206,15 @@ class Formats:
     def archived(self, type, bare=False):
         """The name of its archived type, which is brought in; `bare` where a parameter is one itself."""
         kind = self.kind(type)
-        args = [self.archived(arg, bare) for arg in type.args] if kind not in ("NonZero", "PhantomData") else []
         if kind == "parameter":
             return type.name if bare else f"<{type.name} as Archive>::Archived"
         if kind == "own":
-            name = type.own.archived
-            if not self.here(type.own):
-                self.use(self.path_of(type.own), name)
-            return name + (f"<{', '.join(args)}>" if args else "")
+            return self.archived_own(type, bare)
+        if kind == "PhantomData":
+            return self.rust(type)
+        if kind == "NonZero":
+            return self.spelled(type)
+        args = [self.archived(arg, bare) for arg in type.args]
         if kind == "integer":
             if type.name in ("u8", "i8"):
                 return type.name
@@ -216,8 +227,6 @@ class Formats:
             return f"{name}<{', '.join(args)}>"
         if kind in ("array", "OwnedArray"):
             return f"[{args[0]}; {type.length}]"
-        if kind in ("PhantomData", "NonZero"):
-            return self.spelled(type)
         if kind in PLAIN:
             _, module, name = PLAIN[kind]
         elif kind in GENERIC:
@@ -236,6 +245,14 @@ class Formats:
             self.use("archive_core::rc", "RcFlavor")
             args.append("RcFlavor")
         return name + (f"<{', '.join(args)}>" if args else "")
+
+    def archived_own(self, type, bare):
+        """The name of the archived type of a declared one, with its arguments."""
+        own = type.own
+        if not self.here(own):
+            self.use(self.path_of(own), own.archived)
+        args = [self.rust(arg) if it.name in own.marks else self.archived(arg, bare) for it, arg in zip(own.parameters, type.args)]
+        return own.archived + (f"<{', '.join(args)}>" if args else "")
 
     def layout(self, type):
         """Size and alignment of its archived type."""
@@ -271,6 +288,11 @@ class Formats:
         self.refuse(type, f"`{self.rust(type)}` has no layout before its parameters are known")
 
     def layout_of_declaration(self, own):
+        if id(own) not in self.layouts:
+            self.layouts[id(own)] = self.found_layout(own)
+        return self.layouts[id(own)]
+
+    def found_layout(self, own):
         if own.kind == "struct":
             return layout_of([self.layout(field.type) for field in own.fields])[:2]
         sides = [layout_of([self.layout(field.type) for field in variant.fields], 1) for variant in own.variants]
@@ -310,39 +332,45 @@ class Formats:
 
     # ---- what values need ----
 
-    def any_of(self, type, names):
-        """Whether the type, or one that it holds, is one of these."""
+    def held(self, type):
+        """The types of what a value holds, of a declared type those of its fields."""
+        if type.own is not None:
+            return self.fields(type)
+        return [] if type.name == "PhantomData" else type.args
+
+    def any_of(self, type, names, seen=None):
+        """Whether the type, or one that it holds, is one of these; none of those declared ones holds one that were `seen`."""
         if type.name in names and type.own is None:
             return True
-        held = self.fields(type) if type.own is not None else []
-        if type.own is not None and type.own.recursive:
-            if any(leads_by(field.type, type.own.family, names) for it in type.own.family for field in it.all_fields()):
-                return True
-            held = [part for it in type.own.family for field in it.all_fields() for part in without(field.type, type.own.family)]
-        return any(self.any_of(part, names) for part in held + type.args)
+        if type.own is None or not type.own.recursive:
+            seen = set() if seen is None else seen
+            return not is_seen(type, seen) and any(self.any_of(part, names, seen) for part in self.held(type))
+        if any(leads_by(field.type, type.own.family, names) for it in type.own.family for field in it.all_fields()):
+            return True
+        held = [part for it in type.own.family for field in it.all_fields() for part in without(field.type, type.own.family)]
+        return any(self.any_of(part, names, seen) for part in held)
 
-    def holds(self, type, names, inside):
+    def holds(self, type, names, inside, seen=None):
         """Whether the type holds another declared one, and that one of these, both behind no pointer; `inside` that one already."""
         if type.own is None and type.name in POINTERS:
             return False
         if inside and type.own is None and type.name in names:
             return True
-        held = self.fields(type) if type.own is not None else type.args
-        return any(self.holds(x, names, inside or type.own is not None) for x in held)
+        seen = set() if seen is None else seen
+        return not is_seen(type, seen) and any(self.holds(x, names, inside or type.own is not None, seen) for x in self.held(type))
 
     def shares(self, type):
         return self.any_of(type, SHARING)
 
-    def pooled(self, type):
+    def pooled(self, type, seen=None):
         """The shared values that are kept to read it back, as types."""
-        out = []
         if type.own is not None and type.own.recursive:
-            out = [inner for it in type.own.family for field in it.all_fields() for inner in self.pooled_in(field.type, type.own.family)]
-        elif type.own is not None:
-            out = [inner for field in self.fields(type) for inner in self.pooled(field)]
-        elif type.name in SHARING:
-            out = [pooled_of(type)]
-        return out + [inner for arg in type.args for inner in self.pooled(arg)]
+            return [inner for it in type.own.family for field in it.all_fields() for inner in self.pooled_in(field.type, type.own.family)]
+        seen = set() if seen is None else seen
+        if is_seen(type, seen):
+            return []
+        out = [pooled_of(type)] if type.own is None and type.name in SHARING else []
+        return out + [inner for part in self.held(type) for inner in self.pooled(part, seen)]
 
     def pooled_in(self, type, family):
         """The same of a field of a recursive type, whose family it may lead to."""

@@ -21,6 +21,7 @@ class Tuple:
         self.count = len(self.types)
         self.parameters = [parameter.name for parameter in declaration.parameters]
         self.bounds = {parameter.name: parameter.bounds for parameter in declaration.parameters}
+        self.marks = declaration.marks
         self.of = f"{self.name}{self.brackets()}"
         self.rust = [formats.rust(type) for type in self.types]
         self.formats_of = [formats.archived(type) for type in self.types]
@@ -36,12 +37,16 @@ class Tuple:
         return f"<{', '.join(self.parameters)}>" if self.parameters else ""
 
     def bound(self, *more, before=(), after=()):
-        """The parameters of an impl, each with its bounds and these."""
+        """The parameters of an impl, each with its bounds and these, which a mark needs not."""
         out = list(before)
         for name in self.parameters:
-            bounds = [b for b in (self.bounds[name], *more) if b]
+            bounds = [b for b in (self.bounds[name], *(() if name in self.marks else more)) if b]
             out.append(f"{name}: {' + '.join(bounds)}" if bounds else name)
         return out + list(after)
+
+    def bound_of_views(self):
+        """The parameters of an impl for views, which are archived types."""
+        return ["'a"] + [name if name in self.marks else f"{name}: Portable" for name in self.parameters]
 
     def built(self):
         if self.declaration.form == "tuple":
@@ -216,14 +221,13 @@ def views(made):
 """
         for i, (field, format) in enumerate(zip(made.fields, made.formats_bare))
     )
-    bound = ["'a"] + [f"{name}: Portable" for name in made.parameters]
     of = f"Ref<'a, {made.archived}{made.brackets()}>"
     return f"""/// The fields of an archived `{made.name}`, as views.
 {made.visibility}trait {made.name}View {{
 {docs}
 {heads}}}
 
-{implementation(bound, f"{made.name}View", [], of)}
+{implementation(made.bound_of_views(), f"{made.name}View", [], of)}
 {types}
 {bodies}}}
 """
@@ -256,7 +260,6 @@ def seals(made):
 """
         for i, (field, format) in enumerate(zip(made.fields, made.formats_bare))
     )
-    bound = ["'a"] + [f"{name}: Portable" for name in made.parameters]
     return f"""/// The fields of an archived `{made.name}`, as seals.
 {made.visibility}trait {made.name}Seal {{
     // The seal shows a part of a buffer that was checked.
@@ -265,7 +268,7 @@ def seals(made):
 {docs}
 {heads}}}
 
-{implementation(bound, f"{made.name}Seal", [], f"Seal<'a, {format_of_all}>")}
+{implementation(made.bound_of_views(), f"{made.name}Seal", [], f"Seal<'a, {format_of_all}>")}
     ghost sealed = {{ λ s. {sealed.format("s")} }};
 
 {types}

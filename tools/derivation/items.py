@@ -21,6 +21,7 @@ class Items(Parser):
 
     def item(self, docs, attributes, notes):
         seen = self.visibility()
+        self.is_shown = seen != ""
         token = self.peek()
         if token.is_word("struct", "enum", "union"):
             self.declaration(seen, docs, attributes, notes)
@@ -95,6 +96,7 @@ class Items(Parser):
         if into.get(name, tuple(words)) != tuple(words):
             self.file.twice.append((name, line))
         into[name] = tuple(words)
+        self.show(name)
         self.file.use_lines[name] = line
 
     def list(self, into: dict, before: Tuple[str, ...], globs: bool):
@@ -117,7 +119,7 @@ class Items(Parser):
         while self.peek().kind != END and not any(self.is_next(it) for it in (",", "}", "{", ";", "::", ".")) and not self.peek().is_word("as"):
             self.next()
         if start == self.at:
-            self.refuse(token.line, f"found `{token.text}`; write a name in the `use` item here")
+            self.refuse(token.line, f"found {token.said()}; write a name in the `use` item here")
         return self.between(start, self.at)
 
     # ---- the others ----
@@ -172,7 +174,7 @@ class Items(Parser):
             said = self.peek()
             self.refuse(said.line, f"found `{said.text}`; write an item here, as `struct Point {{ .. }}`")
         if self.peek().kind == END:
-            self.refuse(token.line, f"found the end behind `{token.text}`; write what it begins")
+            self.refuse(token.line, "found the end; write an item here, as `struct Point { .. }`")
         self.body()
         if self.at == start:
             self.next()

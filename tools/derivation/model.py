@@ -109,12 +109,28 @@ class Declaration:
         return self.recursive or self.holder
 
     @property
+    def marks(self) -> List[str]:
+        """The parameters that stand in a `PhantomData` alone: the archived type has them as they are."""
+        return [it.name for it in self.parameters if not any(holds_parameter(field.type, it.name) for field in self.all_fields())]
+
+    @property
     def declared_name(self) -> str:
         """The name under which its variants are declared."""
         return self.instance_of or self.name
 
+    def home(self, *folder: str) -> str:
+        """How what is written of its module begins in a folder of the crate: `game.specs.declared.event`; at the root without a module."""
+        return ".".join((self.crate, *folder, *self.module))
+
     def all_fields(self) -> List[Field]:
         return self.fields if self.kind == "struct" else [f for v in self.variants for f in v.fields]
+
+
+def holds_parameter(type: Type, name: str) -> bool:
+    """Whether a value of a type that was looked up holds one of this parameter: a `PhantomData` holds nothing."""
+    if type.name == "PhantomData" and type.own is None:
+        return False
+    return type.parameter and type.name == name or any(holds_parameter(it, name) for it in type.args)
 
 
 @dataclass
@@ -130,3 +146,4 @@ class Module:
     uses: dict = field(default_factory=dict)  # the names that its `use` items bring: name -> path as a tuple of words
     ghost_uses: dict = field(default_factory=dict)  # those of its `ghost use` items, likewise
     names: dict = field(default_factory=dict)  # the names that it declares, each with its line
+    globbed: dict = field(default_factory=dict)  # the names that its `use` items with a `*` bring: name -> the path before the `*`, and the path of what it is

@@ -134,22 +134,49 @@ class World:
 
     # ---- names ----
 
-    def find(self, words: Tuple[str, ...], source: Source, passed: Tuple = ()) -> Optional[Found]:
-        """What a path stands for in a file."""
-        step = (source.crate, source.module, words)
-        if step in passed or len(passed) > 100:
+    def globbed(self, source: Source) -> Dict[str, Tuple[Tuple[str, ...], Tuple[str, ...]]]:
+        """The names that a file brings in by `*` from files of the repository, each with the path before the `*` and that of what is brought in, if it isn't theirs."""
+        out = {}
+        for path in source.file.globs:
+            found = self.find(path, source, by_globs=False) if path else None
+            file = self.module_of(path, source)
+            if found and found.declared:
+                out.update({it.name: (path, ()) for it in found.declared.declaration.variants})
+            elif file:
+                out.update({name: (path, file.uses.get(name, ())) for name in file.shown})
+        return out
+
+    def module_of(self, words: Tuple[str, ...], source: Source) -> Optional[File]:
+        """The file of a module that a path names."""
+        crate, module = source.crate, source.module + words
+        if words[:1] == ("crate",):
+            module = words[1:]
+        elif words[:1] == ("self",):
+            module = source.module + words[1:]
+        elif words[:1] == ("super",):
+            ups = next((i for i, it in enumerate(words) if it != "super"), len(words))
+            module = source.module[:-ups] + words[ups:]
+        elif words and not self.source(crate, module) and words[0] not in STD_CRATES | LIBRARY_CRATES:
+            crate, module = words[0], words[1:]
+        found = self.source(crate, module) if "*" not in module else None
+        return found.file if found else None
+
+    def find(self, words: Tuple[str, ...], source: Source, passed: Optional[Set[Tuple]] = None, by_globs: bool = True) -> Optional[Found]:
+        """What a path stands for in a file. What was `passed` on the way is not looked at again: files may bring in all of each other. A path before a `*` isn't
+        looked for `by_globs`."""
+        passed = set() if passed is None else passed
+        if not is_new((source.crate, source.module, words), passed):
             return None
-        passed += (step,)
         first, rest = words[0], words[1:]
         if first in ("crate", "self", "super"):
             module = {"crate": (), "self": source.module, "super": source.module[:-1]}[first]
             while rest[:1] == ("super",):
                 module, rest = module[:-1], rest[1:]
             return self.within(source.crate, module, rest, passed) if rest else None
-        here = self.item(words, source, passed)
+        here = self.item(words, source, passed, by_globs)
         return here or self.outside(words, source, passed)
 
-    def item(self, words: Tuple[str, ...], source: Source, passed: Tuple) -> Optional[Found]:
+    def item(self, words: Tuple[str, ...], source: Source, passed: Set[Tuple], by_globs: bool = True) -> Optional[Found]:
         """What a path stands for among a file's own items and what it brings in."""
         first, rest = words[0], words[1:]
         if not rest and first in source.declared:
@@ -161,15 +188,16 @@ class World:
             if path[0] == first and not self.is_child(first, source):
                 return self.outside(path + rest, source, passed)
             return self.find(path + rest, source, passed)
-        for path in source.file.globs:
-            if path and (found := self.find(path + words, source, passed)):
+        for path in source.file.globs if by_globs else []:
+            found = self.find(path + words, source, passed, False) if path else None
+            if found and found.kind != "foreign":
                 return found
         return None
 
     def is_child(self, name: str, source: Source) -> bool:
         return self.source(source.crate, source.module + (name,)) is not None
 
-    def outside(self, words: Tuple[str, ...], source: Source, passed: Tuple) -> Optional[Found]:
+    def outside(self, words: Tuple[str, ...], source: Source, passed: Set[Tuple]) -> Optional[Found]:
         """What a path stands for that a file has no item for: a module below, another crate, or what every file has."""
         first, rest = words[0], words[1:]
         below = self.within(source.crate, source.module + (first,), rest, passed) if rest else None
@@ -186,17 +214,27 @@ class World:
             return None
         return Found("primitive", first) if first in PRIMITIVES else Found("std", first) if first in PRELUDE else None
 
-    def within(self, crate: str, module: Tuple[str, ...], words: Tuple[str, ...], passed: Tuple) -> Optional[Found]:
+    def within(self, crate: str, module: Tuple[str, ...], words: Tuple[str, ...], passed: Set[Tuple]) -> Optional[Found]:
         """What a path stands for in a module, without what every file has."""
         for count in range(len(words) - 1, -1, -1):
             source = self.source(crate, module + words[:count])
-            step = (crate, module, words, count)
-            if source is None or step in passed or len(passed) > 100:
+            if source is None or not is_new((crate, module, words, count), passed):
                 continue
-            found = self.item(words[count:], source, passed + (step,))
+            found = self.item(words[count:], source, passed)
             if found:
                 return found
         return None
+
+
+# A path that is longer leads to itself: as `use self::a::b as a` does.
+MOST_WORDS = 30
+
+
+def is_new(step: Tuple, passed: Set[Tuple]) -> bool:
+    """Whether a step of a search wasn't passed yet; it is from now on."""
+    was = step in passed or len(step[2]) > MOST_WORDS
+    passed.add(step)
+    return not was
 
 
 # Control characters, other ends of lines, and what turns the direction of writing.

@@ -4,7 +4,7 @@ Nothing is looked up here. What a declaration has that no archive can is kept as
 """
 
 from dataclasses import dataclass, field
-from typing import Dict, List, Optional, Tuple
+from typing import Dict, List, Optional, Set, Tuple
 
 from .model import Declaration, Field, Parameter, Refused, Type, Variant
 from .tokens import DOC, END, INNER_DOC, LIFETIME, NOTE, NUMBER, SIGN, TEXT, WORD, Token, Tokens, tokens
@@ -52,6 +52,7 @@ class File:
     twice: List[Tuple[str, int]] = field(default_factory=list)  # names that are declared or brought in a second time
     use_lines: Dict[str, int] = field(default_factory=dict)  # the line of each name of `uses` and `ghost_uses`
     impls: List[Tuple[str, str]] = field(default_factory=list)  # the last words of the trait and the type of each impl
+    shown: Set[str] = field(default_factory=set)  # the names of items and of what is brought in that other files may bring in
 
 
 class Parser:
@@ -63,6 +64,7 @@ class Parser:
         self.file = File(path, text, words.end)
         self.faults: List[Refused] = []
         self.depth = 0
+        self.is_shown = False  # whether the item that is read has a visibility
 
     # ---- the next words ----
 
@@ -98,10 +100,14 @@ class Parser:
     def want(self, sign: str, where: str = ""):
         if not self.take(sign):
             found = self.peek()
-            said = "the end" if found.kind == END else f"`{found.text}`"
-            self.refuse(found.line, f"found {said}{where}; write `{sign}` here")
+            self.refuse(found.line, f"found {found.said()}{where}; write `{sign}` here")
+
+    def show(self, name: str):
+        if self.is_shown:
+            self.file.shown.add(name)
 
     def declare(self, name: str, line: int):
+        self.show(name)
         if name in self.file.items:
             self.file.twice.append((name, line))
         else:
@@ -110,17 +116,19 @@ class Parser:
     def name(self, of: str) -> Token:
         token = self.peek()
         if token.kind != WORD or token.text in KEYWORDS or token.text == "_":
-            said = "the end" if token.kind == END else f"`{token.text}`"
-            self.refuse(token.line, f"found {said}; write the name of {of} here")
+            self.refuse(token.line, f"found {token.said()}; write the name of {of} here")
         if token.text.startswith("r#"):
             self.fault(token.line, f"`{token.text}` is a keyword; choose another name")
         return self.next()
 
     def between(self, start: int, end: int) -> str:
-        """The text of the words from `start` up to `end`, without `end`."""
-        if start >= end:
-            return ""
-        return self.text[self.words[start].start:self.words[end].start].rstrip()
+        """The text of the words from `start` up to `end`, without `end` and without comments, on one line."""
+        said, at = "", 0
+        for word in self.words[start:end]:
+            if word.kind not in (DOC, INNER_DOC, NOTE):
+                said += " " * (word.start > at and said != "") + word.text
+                at = word.start + len(word.text)
+        return said
 
     def skip_group(self):
         opening = self.next()
@@ -284,8 +292,7 @@ class Parser:
         while True:
             word = self.peek()
             if word.kind != WORD or (word.text in KEYWORDS and word.text not in ("crate", "self", "super")):
-                said = "the end" if word.kind == END else f"`{word.text}`"
-                self.refuse(word.line, f"found {said}; write a type here")
+                self.refuse(word.line, f"found {word.said()}; write a type here")
             words.append(self.next().text)
             within = within or bool(args)
             if self.is_next("!"):

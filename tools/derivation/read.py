@@ -6,6 +6,7 @@ How much the toolchain takes at once is counted in loads.py.
 import copy
 from typing import Callable, Dict, List, Optional, Sequence, Set
 
+from . import variant_functions
 from .circles import check_circles
 from .formats import snake, substituted
 from .loads import MOST as MOST_LOAD
@@ -20,8 +21,9 @@ from .recursive_refusals import MOST_BY_NAME
 # Of a struct, and of a variant.
 MOST_FIELDS = 32
 MOST_OF_VARIANT = 16
-# Of an enum's variants that have fields: of 28 the search in `resolve` gives up, of 20 it doesn't.
-MOST_WITH_FIELDS = 20
+# Of an enum's variants that have fields: as many are proved. Where they have no functions of their own the search in `resolve` gives up at 28.
+MOST_WITH_FIELDS = 28
+MOST_IN_ONE_BODY = 20
 # Of a type that is archived as a tuple with names.
 MOST_FEW = 8
 MOST_PARTS = 13
@@ -369,7 +371,7 @@ def check_shape(it: Declaration):
             raise Refused(it.path, fields[most].line, f"`{of}` has {len(fields)} fields, and {most} are the most; put some into a struct of their own")
     for p in it.parameters:
         if not any(names_parameter(field.type, p.name) for field in it.all_fields()):
-            raise Refused(it.path, it.line, f"`{it.name}` has no field of its parameter `{p.name}`; remove it, or add a field, as `of: PhantomData<{p.name}>`")
+            raise Refused(it.path, it.line, f"`{it.name}` has no field of its parameter `{p.name}`; remove it")
     for name in [it.name] + [p.name for p in it.parameters]:
         check_name(it, name, it.line)
         if name in PARAMETERS:
@@ -448,6 +450,7 @@ def module(reader: Reader, source: Source) -> Module:
     out = Module(source.path, source.crate, source.module, source.head, source.written)
     out.uses, out.ghost_uses = dict(source.file.uses), dict(source.file.ghost_uses)
     out.names = dict(source.file.items)
+    out.globbed = reader.world.globbed(source)
     out.declarations = [one for it in source.declared.values() for one in reader.declarations(it, source)]
     if not out.declarations:
         raise Refused(source.path, 1, "no struct and no enum is declared here; declare one above the marker")
@@ -455,6 +458,7 @@ def module(reader: Reader, source: Source) -> Module:
     check_nests(out)
     check_loads(out)
     check_arrays(out)
+    check_marks(out)
     check_own_names(out)
     return out
 
@@ -509,12 +513,20 @@ def check_long(module: Module, fields: List[Field]):
             raise Refused(module.path, field.type.line, "an `isize` beside so many fields of a variant isn't proved; write an `i32` or an `i64`")
 
 
+def check_with_fields(module: Module, it: Declaration):
+    """Refuses the first variant with fields that is one too many."""
+    with_fields = [v for v in it.variants if v.fields]
+    most = MOST_WITH_FIELDS if variant_functions.are_proved(it) else MOST_IN_ONE_BODY
+    if it.part_by_part or len(with_fields) <= most:
+        return
+    kind = "" if most == MOST_WITH_FIELDS else " where it has type parameters, a variant of more than 8 fields or shared values"
+    said = f"`{it.name}` has {len(with_fields)} variants with fields, and {most} are the most{kind}; put some into an enum of another file"
+    raise Refused(module.path, with_fields[most].line, said)
+
+
 def check_variants(module: Module, loads: Loads, it: Declaration):
     """Refuses the first variant with which there is too much. Those of enums that neither are recursive nor hold a recursive type go in blocks."""
-    with_fields = [v for v in it.variants if v.fields]
-    if not it.part_by_part and len(with_fields) > MOST_WITH_FIELDS:
-        said = f"`{it.name}` has more than {MOST_WITH_FIELDS} variants with fields, whose `resolve` isn't proved; put some into an enum of another file"
-        raise Refused(module.path, with_fields[MOST_WITH_FIELDS].line, said)
+    check_with_fields(module, it)
     types = []
     for v in it.variants if it.part_by_part else []:
         fields = [field.type for field in v.fields]
@@ -559,6 +571,21 @@ def check_arrays(module: Module):
             if held and it.as_tuple:
                 where = "with type parameters" if it.parameters else "that holds a recursive type"
                 raise Refused(module.path, type.line, f"an array in a struct {where} isn't proved; write a `Vec` in place of `{held.text}`")
+
+
+def check_marks(module: Module):
+    """Refuses a parameter in a `PhantomData`: beside a field that holds it, it would be two types in the archived one, and alone it isn't proved."""
+    for it in module.declarations:
+        for field in it.all_fields() if it.parameters else []:
+            if any(names_parameter(mark, p.name) for mark in found_marks(field.type) for p in it.parameters):
+                raise Refused(module.path, field.type.line, f"a type parameter in a `PhantomData` isn't proved; write one struct for each type, without this `{field.type.text}`")
+
+
+def found_marks(it: Type) -> List[Type]:
+    """The `PhantomData` in a type."""
+    if it.name == "PhantomData" and it.own is None:
+        return [it]
+    return [found for x in it.args for found in found_marks(x)]
 
 
 def array_in(it: Type, names: Set[str]) -> Optional[Type]:

@@ -4,7 +4,7 @@ from . import recursive_chains, recursive_code, recursive_proofs, recursive_spec
 from .formats import Formats, layout_of, snake
 from .model import Field, Type
 from .recursive_refusals import MOST_BY_NAME
-from .recursive_terms import Terms, has_elements
+from .recursive_terms import Terms, element, has_elements, is_map
 
 WRITTEN = "Written by tools/derive: change the declaration, and run it again."
 
@@ -106,6 +106,7 @@ class Recursive:
         self.size = -(-max(case.end for case in self.cases) // self.align) * self.align
         self.owners = self.owners_of()
         self.rows = [type for type in self.owners if self.terms.is_row(type)]
+        self.maps = [type for type in self.owners if is_map(type)]
         self.nest = nest_of(declaration)
 
     def owners_of(self):
@@ -116,6 +117,8 @@ class Recursive:
         def go(type):
             for arg in type.args:
                 go(arg)
+            if is_map(type) and self.terms.leads_back(type):
+                go(element(type))
             if self.terms.leads_back(type) and not self.terms.is_member(type) and self.word(type) not in before + [self.word(other) for other in found]:
                 found.append(type)
 
@@ -127,7 +130,8 @@ class Recursive:
     def is_written(self, type):
         """Whether a function writes what an owner owns: what is in an option is written with it, and a vector in a box by a function of its own."""
         parts = [part for it in self.family.members for case in it.cases for part in case.types if self.terms.leads_back(part)]
-        return any(self.word(part) == self.word(type) for part in parts + [part.args[0] for part in parts if part.name == "Box"])
+        parts += [part.args[0] for part in parts if part.name == "Box"]
+        return any(self.word(part) == self.word(type) for part in parts)
 
     def row(self, type):
         return Row(self, type)
@@ -140,6 +144,14 @@ class Recursive:
         """Whether a vector, a boxed slice or an array is the first one of its elements that a function writes: that of the elements stands with it."""
         runs = [run for it in self.family.members for run in it.owners if has_elements(run) and it.is_written(run)]
         return type is next(run for run in runs if self.word(run.args[0]) == self.word(type.args[0]))
+
+    def is_first_keyed(self, item):
+        """Whether the elements of a vector are the first that lead to their type of the family by a shared pointer or by none: it is written under a key by a
+        function that stands with them."""
+        items = [run.args[0] for it in self.family.members for run in it.owners if has_elements(run) and it.is_written(run) and it.is_first_run(run)]
+        leads_to = recursive_code.member_behind
+        first = next((other for other in items if self.terms.is_nullable(other) and self.terms.is_nullable(item) and leads_to(self, other).own is leads_to(self, item).own), None)
+        return item is first
 
     def word(self, type):
         """What functions of an owner are called by: `box_expr`."""
@@ -163,6 +175,8 @@ class Recursive:
             return f"(Option {self.antt(type.args[0], held)})"
         if type.name == "array":
             return f"(List {self.antt(type.args[0], held)})"
+        if is_map(type):
+            return f"(BTreeMap {' '.join(self.antt(arg, held) for arg in type.args)})"
         return f"({type.name} {self.antt(type.args[0], held)})" if type.name in ("Shared", "WeakShared") else f"({type.name} {self.antt(type.args[0], held)} Global)"
 
     def plain_types(self, body):

@@ -13,6 +13,7 @@ import re
 from . import records, recursive_lent, recursive_weak, variants
 from . import recursive_arrays as arrays
 from . import recursive_chains as chains
+from . import recursive_maps as maps
 from .common import chain, doc_lines, in_turn, infix, taken_apart
 from .common import kept_of as handed_on
 from .formats import snake
@@ -20,7 +21,7 @@ from .model import Type
 from .recursive_hollow import boxed_slices, hollow_source, shared_at, shared_pointers
 from .recursive_plain import items_of
 from .recursive_reads import by_match, is_made, word_of
-from .recursive_terms import is_run, stem
+from .recursive_terms import is_map, is_run, stem
 from .layout import Generic, Group, call, flat, implementation, literal, pair, signature, statement
 from .long import nest
 
@@ -108,6 +109,7 @@ def bring(it):
         names += [f"{it.word(type)}_{w}" for w in ("shape", "definitions", "layout", "is_align", "has_layout", "no_others", "has_parts")]
         said = {f"{it.word(type)}_{w}" for w in ("meaning", "keys")}
         f.ghosts.setdefault(f"{it.declaration.crate}.specs.{it.family.name}Meaning", set()).update(said)
+    names += [f"{it.word(type)}_shape" for type in it.maps]
     f.ghosts.setdefault(f"{it.declaration.crate}.specs.{it.family.name}Shape", set()).update(names)
 
 
@@ -236,6 +238,8 @@ def expression(it, type):
         return f"<{it.formats.archived(type)} as Portable>::expr(alloc)?"
     if type.name == "tuple":
         return f"{it.word(type)}_expression(alloc)?"
+    if is_map(type):
+        return maps.expression(it, type, expression(it, type.args[1]))
     item = expression(it, type.args[0])
     if type.name == "Box":
         return f"{EXPR}::Box(Box::new(alloc, archive_core::shape::Pointee::One({item}))?)"
@@ -439,7 +443,8 @@ def kept(it, type):
         return f"Option<{kept(it, type.args[0])}>"
     if arrays.is_array(type):
         return f"Vec<{kept(it, type.args[0])}>"
-    return {"Box": "BoxResolver", "BoxSlice": "BoxResolver", "Shared": "RcResolver", "Vec": "VecResolver", "WeakShared": "RcWeakResolver"}[type.name]
+    resolvers = {"Box": "BoxResolver", "BoxSlice": "BoxResolver", "BTreeMap": "SortedMapResolver", "Shared": "RcResolver", "Vec": "VecResolver", "WeakShared": "RcWeakResolver"}
+    return resolvers[type.name]
 
 
 def kept_of(it, case):
@@ -468,6 +473,8 @@ def hollow(it, type):
     """What stands for a part that was written: its type."""
     if arrays.is_array(type):
         return arrays.array_at(it, type)
+    if is_map(type):
+        return maps.hollow(it, type, inside(it, type.args[1]))
     item = type.args[0].args[0] if type.name == "Option" else type.args[0]
     if it.terms.is_pointer(type):
         return shared_at(type)
@@ -485,6 +492,7 @@ def hollows(it, case):
             continue
         its = hollow(it, type)
         made = f"{type.name}At::of({items_of(type, at)[:-len('.items')]}.len())" if is_run(type) else f"{type.name}At::new()"
+        made = f"MapAt::of({at}.len())" if is_map(type) else made
         rust.append(its)
         is_unit = it.terms.is_pointer(type) or arrays.is_array(type)
         if is_unit and not case.is_long:
@@ -559,7 +567,7 @@ def archive(it):
 
 def resolve_arm(it, case):
     rust, values, lines = hollows(it, case)
-    names = [name if not back or is_run(type) or it.terms.is_member(type) else f"_{name}" for name, type, back in zip(case.names, case.types, case.leads_back)]
+    names = [name if not back or is_run(type) or is_map(type) or it.terms.is_member(type) else f"_{name}" for name, type, back in zip(case.names, case.types, case.leads_back)]
     kept_ = handed_on(it.formats, case.types)
     if case.is_long:
         resolved = recursive_lent.call(it, case, values, kept_, 16)
@@ -592,7 +600,7 @@ def writing(it):
 def contract(it, type, v):
     """What a function that writes what a value owns promises."""
     return SERIALIZED.format(
-        T=it.formats.rust(type), D=it.terms.definitions(type), X=it.terms.shape(type), v=v, flat=flat_of(it, type, f"{v}.now", "r"), belongs=belongs_of(it, type, f"{v}.now", "r")
+        T=it.formats.rust(type), D=it.terms.definitions(type), X=f"{it.word(type)}_shape" if is_map(type) else it.terms.shape(type), v=v, flat=flat_of(it, type, f"{v}.now", "r"), belongs=belongs_of(it, type, f"{v}.now", "r")
     )
 
 
@@ -649,17 +657,8 @@ fn serialize_{name}<{it.writer}>(value: &{T}, serializer: &mut S) -> Result<RcWe
 }}
 """
     if type.name == "Option" and it.terms.is_shared(item):
-        return f"""// Writes what an option of a shared pointer leads to, if its key is unknown.
-#[cycle(serialize_{it.family.n})]
-fn serialize_{name}<{it.writer}>(value: &{T}, serializer: &mut S) -> Result<{kept(it, type)}, Error>
-{contract(it, type, "value")}{{
-    match value {{
-        None => Ok(None),
-        Some(whole) => {{
-{behind_shared(it, item, "whole", 12, "Ok(Some({}))")}        }}
-    }}
-}}
-"""
+        its = option_writing(it, type, f"serialize_{name}", contract(it, type, "value"))
+        return f"// Writes what an option of a shared pointer leads to, if its key is unknown.\n{its}"
     if type.name == "Option":
         return f"""// Writes what an option owns.
 #[cycle(serialize_{it.family.n})]
@@ -681,15 +680,79 @@ fn serialize_{name}<{it.writer}>(value: &{T}, serializer: &mut S) -> Result<{kep
     }}
 }}
 """
+    if is_map(type):
+        return maps.writing(it, type, contract, parts_written)
     each = each_writing(it, item) if it.is_first_run(type) else ""
     return each[:-1] if arrays.is_array(type) else each + run_writing(it, type)
 
 
+def member_behind(it, item):
+    """The type of the family that an element of a vector leads to by a shared pointer, if by any."""
+    return item.args[0].args[0] if item.name == "Option" else item.args[0]
+
+
+def keyed(it, member):
+    """The function that writes a value of a type of the family under a key."""
+    return f"serialize_keyed_{it.word(member)}"
+
+
+def keyed_writing(it, member):
+    """This function. Of one that is passed the weak pointer, or the option, the toolchain doesn't see that it ends where a loop over a vector calls it."""
+    T, D, X = it.formats.rust(member), it.terms.definitions(member), it.terms.shape(member)
+    it.formats.ghost("SharedSources", "rc_flat", "rc_flavor", "rc_keys")
+    it.formats.ghost("Value", "shared_value")
+    its, states = f"⟦<{T} as Archive>⟧", "(S.state serializer.old) (S.state serializer.new)"
+    said = f"{D} (shared rc_flavor (one {X}))\n        (rc_keys key (one {X}) 0 ({its}.meaning value.now) ({its}.keys value.now)) (shared_value key)"
+    return f"""// Writes a value that is shared under this key, if that is unknown.
+#[cycle(serialize_{it.family.n})]
+fn {keyed(it, member)}<{it.writer}>(value: &{T}, key: u64, serializer: &mut S) -> Result<RcResolver, Error>
+    ensures serialized {{ IfOk result (λ r. Serialized {said}
+        (rc_flat r (one {X}) 0) {states}) }}
+    ensures goes_on {{ GoesOn {states} }}
+    ensures refused {{ IfErr result (IsRefused {said} {states}) }}
+{{
+    let known = match begin_shared(key, serializer) {{
+        Ok(known) => known,
+        Err(error) => return Err(error),
+    }};
+    match known {{
+        Some(resolver) => Ok(resolver),
+        None => {{
+            let kept = match serialize_{it.word(member)}(value, serializer) {{
+                Ok(kept) => kept,
+                Err(error) => return Err(error),
+            }};
+            match finish_shared(key, value, kept, serializer) {{
+                Ok(resolver) => Ok(resolver),
+                Err(error) => Err(error),
+            }}
+        }}
+    }}
+}}
+
+"""
+
+
+def option_writing(it, type, function, says):
+    """The function of this name that writes what an option of a shared pointer leads to."""
+    return f"""#[cycle(serialize_{it.family.n})]
+fn {function}<{it.writer}>(value: &{it.formats.rust(type)}, serializer: &mut S) -> Result<{kept(it, type)}, Error>
+{says}{{
+    match value {{
+        None => Ok(None),
+        Some(whole) => {{
+{behind_shared(it, type.args[0], "whole", 12, "Ok(Some({}))")}        }}
+    }}
+}}
+"""
+
+
 def each_writing(it, item):
     """The function that writes what each element of a vector, or of a boxed slice, owns."""
+    before = keyed_writing(it, member_behind(it, item)) if it.is_first_keyed(item) else ""
     its, D, X = it.formats.rust(item), it.terms.definitions(item), it.terms.shape(item)
     run = f"{D} {X} (length values.now) (each_keys ⟦<{its} as Archive>⟧.keys values.now)\n        (each_meaning ⟦<{its} as Archive>⟧.meaning values.now)"
-    return f"""// Writes what each of the values owns, in order.
+    return f"""{before}// Writes what each of the values owns, in order.
 #[cycle(serialize_{it.family.n})]
 fn serialize_each_{it.word(item)}<{it.writer}>(values: &[{its}], serializer: &mut S) -> Result<Vec<<{its} as Archive>::Resolver, S::Alloc>, Error>
     ensures serialized {{ IfOk result (λ rs. SerializedRun {run}
@@ -768,14 +831,26 @@ def element_written(it, item):
         return shared_written(it, item, push)
     if item.name == "Box":
         return inner_written(it, item, "value", 8) + f"        {push.format('resolver')}\n"
-    return f"""        match value {{
+    written = keyed_written(it, item, 16) if it.terms.is_nullable(item) else inner_written(it, item.args[0], "whole", 16)
+    return f"""        match {'&value.value' if it.terms.is_weak(item) else 'value'} {{
             None => {{
                 {push.format("None")}
             }}
             Some(whole) => {{
-{inner_written(it, item.args[0], "whole", 16)}                {push.format("Some(resolver)")}
+{written}                {push.format("Some(resolver)")}
             }}
         }}
+"""
+
+
+def keyed_written(it, item, indent):
+    """The lines that write what a shared pointer in an element of a vector leads to."""
+    pad = " " * indent
+    return f"""{pad}let inner = &*whole.value;
+{pad}let resolver = match {keyed(it, member_behind(it, item))}(inner, whole.key, serializer) {{
+{pad}    Ok(resolver) => resolver,
+{pad}    Err(error) => return Err(error),
+{pad}}};
 """
 
 
@@ -1052,6 +1127,8 @@ def owner_reading(it, type):
     elif arrays.is_array(type):
         T = f"Vec<{it.formats.rust(item)}>"
         return reader(it, it.word(type), T, arrays.read_contract(it, type), arrays.reading(it, type), "Reads the elements of an array back.")
+    elif is_map(type):
+        body = maps.reading(it, type, inside)
     elif type.name == "Shared":
         of = f"{inner}, RcFlavor, {T}, D"
         body = f"""    match begin_reading::<{of}>(part, deserializer)? {{
@@ -1093,7 +1170,7 @@ def owner_reading(it, type):
     }}
     Ok({made})
 """
-    whats = {"Box": "a box", "BoxSlice": "a boxed slice", "Option": "an option", "Vec": "a vector", "Shared": "a shared value", "WeakShared": "a weak pointer"}
+    whats = {"Box": "a box", "BoxSlice": "a boxed slice", "Option": "an option", "Vec": "a vector", "BTreeMap": "a map", "Shared": "a shared value", "WeakShared": "a weak pointer"}
     told = "Reads a tuple back, part by part." if type.name == "tuple" else f"Reads {whats[type.name]} back."
     return reader(it, it.word(type), T, read_contract(it, type), body, told)
 

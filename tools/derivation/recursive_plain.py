@@ -21,9 +21,11 @@ OWN_RESOLVERS = {"usize": "({x} < 2 ^ 32)", "isize": "(FitsSigned w32 {x})"}
 
 
 def items_of(type, x):
-    """The elements of a vector, of a boxed slice, or of an array, which is a list itself."""
+    """The elements of a vector, of a boxed slice, or of an array, which is a list itself; the entries of a map."""
     if type.name == "array":
         return x
+    if type.name == "BTreeMap":
+        return f"{x}.entries"
     return f"{x}.items" if type.name == "Vec" else f"{x}.items.items"
 
 

@@ -4,7 +4,7 @@ import re
 
 from . import recursive_arrays as arrays
 from . import recursive_chain_proofs as chains
-from . import recursive_code, recursive_hollow, recursive_lent, recursive_weak
+from . import recursive_code, recursive_hollow, recursive_lent, recursive_map_proofs, recursive_weak
 from .common import numbered
 from .formats import snake
 from .recursive_holders import laid
@@ -30,6 +30,7 @@ CITED = {
     "archive_core.proofs.Causes": "err_by err_from goes_both goes_nowhere",
     "archive_core.proofs.fields.Ties": "if_ok",
     "archive_core.proofs.recursive.KeysBegun": "region_refused",
+    "archive_core.proofs.recursive.MapsHeld": "taken_written taken_refused",
     "archive_core.proofs.recursive.PositionsBegun": "unread_since",
     "archive_core.proofs.OwnChoices": "serialized_variant variant_refused",
     "archive_core.proofs.Owners": "box_refused vec_refused",
@@ -39,8 +40,10 @@ CITED = {
     "archive_core.proofs.ReadChoices": "variant_read_back variant_refuses",
     "archive_core.proofs.ReadElements": "FirstElements all_have elements_more elements_all element_refused array_read",
     "archive_core.proofs.ReadRecords": "record_read_back record_refuses first_refuses later_refuses",
-    "archive_core.proofs.Runs": "Continues continues_step continues_broken continues_end belongs_end",
+    "archive_core.proofs.Runs": "Continues continues_start continues_step continues_broken continues_end belongs_end",
     "archive_core.proofs.ReadVariants": "case_read_back case_refuses empty_case_read_back",
+    "archive_core.proofs.MapsRead": "pairs_unread",
+    "archive_core.proofs.PlannedMaps": "long_map_refused map_refused",
     "archive_core.proofs.RunRegions": "run_owned long_run_refused",
     "archive_core.proofs.WrittenVariants": "serialized_case serialized_empty_case case_refused",
 }
@@ -160,9 +163,9 @@ def in_arms(made):
     return out
 
 
-def in_loop(words):
-    """Names of calls in the loop over a vector's elements."""
-    return in_arms([("loop-value", word) for word in words])
+def in_loop(words, loop="loop-value"):
+    """Names of calls in the loop over a vector's elements, or over a map's entries."""
+    return in_arms([(loop, word) for word in words])
 
 
 def residual(names, i):
@@ -271,7 +274,7 @@ def writing(family):
     for it in family.members:
         for type in it.owners:
             if it.is_written(type):
-                {"Box": box_written, "BoxSlice": run_written, "Option": option_written, "Shared": pointer_written, "Vec": run_written, "WeakShared": weak_written, "array": run_written}[type.name](it, type, answers)
+                {"Box": box_written, "BoxSlice": run_written, "Option": option_written, "Shared": pointer_written, "Vec": run_written, "BTreeMap": map_written, "WeakShared": weak_written, "array": run_written}[type.name](it, type, answers)
         if it.is_record:
             record_written(it, answers)
             continue
@@ -351,6 +354,8 @@ def each_written(it, item, answers):
     D, X, t = it.terms.definitions(item), it.terms.shape(item), it.terms
     flat, belongs = (functions_of(it, which, item) for which in ("flat", "belongs"))
     steps = Element(it, item)
+    if t.is_weak(item):
+        recursive_weak.bring(answers)
     state = "(g.S.Keys.state l.initial.serializer) (g.S.Keys.state l.serializer)"
     answers.invariant(
         each, f"invariant-{each}-loop-value",
@@ -366,7 +371,9 @@ def each_written(it, item, answers):
         answers.answer(each, f"returns-{err}-clause-refused", f"rw c.handed_on.ensures ({broken})" if err == steps.by_call else broken)
     if t.is_row(item):
         row_deeper(it, it.row(item), answers, each)
-    if t.is_option(item):
+    if it.is_first_keyed(item):
+        keyed_written(it, recursive_code.member_behind(it, item), answers)
+    if t.is_option(item) or t.is_weak(item):
         option_kept(it, item, answers, each, steps, kept, at)
     elif t.is_shared(item):
         shared_kept(it, item, answers, each, steps, kept, at)
@@ -415,14 +422,18 @@ def option_kept(it, item, answers, each, steps, kept, at):
         calls = f"w.push{behind}.ensures.items, w.map_err{behind}.ensures.variant, w.branch-map_err{behind}.ensures, w.in_ok-map_err-in-{arm}.is"
         return f"continues_step {at} _ _ _ {resolver} c.loop-value-test.true c.value-item.is (grind (arith, common_steps, {calls})) {kept}"
 
-    nothing = f"{head('None', 'None')} (rw w.in-None.is (serialized_empty_case {D} _ _ 0 refl _)) (rw w.in-None.is tt) (goes_nowhere _)"
+    empty, belongs = f"serialized_empty_case {D} _ _ 0 refl _", "(rw w.in-{}.is tt)"
+    if it.terms.is_weak(item):
+        empty, belongs = f"null_serialized {D} (one {it.terms.shape(item.args[0])}) _", "tt"
+    nothing = f"{head('None', 'None')} (rw w.in-None.is ({empty})) {belongs.format('None')} (goes_nowhere _)"
     # in this arm the steps are those of `w`
     serialized, goes = (re.sub(r"c\.(in-Some|deref-inner|serialize_|in-Ok)", r"w.\1", text) for text in (steps.serialized, steps.goes))
-    some = f"{head('(Some w.in-Ok-serialize_inner.resolver)', 'Some')} {serialized} (rw w.in-Some.is tt) {goes}"
-    arms = [("in-None+in_ok-map_err-in-None", nothing), ("in-Some+in-Ok+in-Ok-serialize_inner+in_ok-map_err-in-Some", some)]
+    ok = "in-Ok" if it.terms.is_nullable(item) else "in-Ok-serialize_inner"
+    some = f"{head(f'(Some w.{ok}.resolver)', 'Some')} {serialized} {belongs.format('Some')} {goes}"
+    arms = [("in-None+in_ok-map_err-in-None", nothing), (f"in-Some+in-Ok{'' if ok == 'in-Ok' else f'+{ok}'}+in_ok-map_err-in-Some", some)]
     cases = " | ".join(f"{each}-{arm} w ↦ {met} ({step})" for arm, step in arms)
     answers.answer(each, "loop-value-preserved", f"record {{ continues = elim c.match-value.branch [ {cases} ] }}")
-    answers.more.append((f"{it.family.crate}.proofs.{'.'.join(it.family.module)}.+serialize_{it.family.n}.Goals", " ".join(f"{each}-{arm}" for arm, _ in arms)))
+    answers.more.append((f"{it.family.first.declaration.home('proofs')}.+serialize_{it.family.n}.Goals", " ".join(f"{each}-{arm}" for arm, _ in arms)))
 
 
 def shared_kept(it, item, answers, each, steps, kept, at):
@@ -447,7 +458,7 @@ def shared_kept(it, item, answers, each, steps, kept, at):
     ]
     cases = " | ".join(f"{each}-{arm} w ↦ {met} ({body})" for arm, body in arms)
     answers.answer(each, "loop-value-preserved", f"record {{ continues = elim c.match-known.branch [ {cases} ] }}")
-    answers.more.append((f"{it.family.crate}.proofs.{'.'.join(it.family.module)}.+serialize_{it.family.n}.Goals", " ".join(f"{each}-{arm}" for arm, _ in arms)))
+    answers.more.append((f"{it.family.first.declaration.home('proofs')}.+serialize_{it.family.n}.Goals", " ".join(f"{each}-{arm}" for arm, _ in arms)))
 
 
 def functions_of(it, which, item):
@@ -461,6 +472,10 @@ def functions_of(it, which, item):
 SIMPLE = {f"{sign}{bits}" for sign in "ui" for bits in (8, 16, 32, 64, 128)} | {"char", "String"}
 
 
+def map_written(it, type, answers):
+    recursive_map_proofs.written(it, type, answers, Entry)
+
+
 class Element:
     """What is known of the calls that write an element of a vector: those that fail, and that none does; and the resolver that it leaves."""
 
@@ -471,7 +486,11 @@ class Element:
             self.shared(it, item)
             return
         if it.terms.is_row(item):
-            self.row(it, it.row(item))
+            row = it.row(item)
+            self.row(it, row, [f"c.value-item.result.{i}" for i in range(row.count)])
+            return
+        if it.terms.is_nullable(item):
+            self.nullable(it, item)
             return
         box = item.args[0] if it.terms.is_option(item) else item
         D, X = it.terms.definitions(item), it.terms.shape(box if it.terms.is_member(box) else box.args[0])
@@ -501,12 +520,12 @@ class Element:
             self.serialized = f"({same} {written})"
 
 
-    def row(self, it, row):
+    def row(self, it, row, values, loop="loop-value"):
         """Those of a tuple: its parts are written one after another."""
         words = words_of(it, row)
-        calls, oks, errs = in_loop(words), matched("in-Ok", words), matched("in-Err", words)
+        calls, oks, errs = in_loop(words, loop), matched("in-Ok", words), matched("in-Err", words)
         written, goes = [f"c.{ok}.ensures.serialized" for ok in oks], [f"c.{call}.ensures.goes_on" for call in calls]
-        parts, whole = Parts(it, row, [f"c.value-item.result.{i}" for i in range(row.count)]), f"{whole_of(it, row)} _ _ _ _ _"
+        parts, whole = Parts(it, row, values), f"{whole_of(it, row)} _ _ _ _ _"
         self.by_call, self.goes = errs[row.first_back], all_goes(goes)
         self.serialized = f"(serialized_record {whole} {parts.written(written)})"
         self.belongs = self.resolver = "tt"
@@ -514,6 +533,19 @@ class Element:
             self.belongs, self.resolver = f"(c.{ok}.ensures.same_value, {self.belongs})", f"(c.{ok}.{name}, {self.resolver})"
         refused = [parts.refused(i, written, goes, f"c.{err}.ensures.refused") for i, err in enumerate(errs)]
         self.refusals = [(err, all_goes(goes[:i + 1]), f"(record_refused {whole} {refused[i]})") for i, err in enumerate(errs)]
+
+    def nullable(self, it, item):
+        """Those of a weak pointer, or of an option of a shared one: what it leads to is written by a call."""
+        self.by_call = ""
+        member = recursive_code.member_behind(it, item)
+        D, X = it.terms.definitions(item), it.terms.shape(member)
+        same = "let same : c.deref-inner.result.now ≡ c.in-Some.whole.value.value = grind (arith, common_steps) in rw (c.in-Some.is, ← same)"
+        written, unwritten = (f"{lemma} {D} (one {X}) _ _ {more}_ _" for lemma, more in (("weak_serialized", "_ "), ("weak_refused", "_ ")))
+        if item.name == "Option":
+            written, unwritten = (f"{lemma} {D} {D} (λ s k. k) _ _ 1 {it.terms.shape(item.args[0])} refl _ _ _ _ _" for lemma in ("serialized_case", "case_refused"))
+        self.goes = f"c.{recursive_code.keyed(it, member)}.ensures.goes_on"
+        self.serialized = f"({same} ({written} c.in-Ok.ensures.serialized))"
+        self.refusals = [("in-Err", self.goes, f"({same} ({unwritten} c.in-Err.ensures.refused))")]
 
     def shared(self, it, item):
         """Those of a shared pointer: its key is started, and then its value is written, if that wasn't known."""
@@ -523,28 +555,55 @@ class Element:
         self.refusals = [(f"in-Err{behind}", goes, refused) for behind, goes, refused in its.refusals]
 
 
+class Entry(Element):
+    """The same of an entry of a map: of the tuple that it is."""
+
+    def __init__(self, it, row, values, loop):
+        self.row(it, row, values, loop)
+
+
 class BehindShared:
-    """What is known of the calls that write what is behind a shared pointer: those that fail, and that none does. `some` and `none` are the arms of what is known of its key."""
+    """What is known of the calls that write what is behind a shared pointer: those that fail, and that none does. `some` and `none` are the arms of what is known of its key.
+    Where there is no pointer, it is the key and the value that a function is passed."""
 
     def __init__(self, it, value, pointer, some, none):
-        t, inner, y = it.terms, f"serialize_{it.word(value)}", f"{pointer}.value.value"
+        t, inner, key, y = it.terms, f"serialize_{it.word(value)}", f"{pointer}.key", f"{pointer}.value.value"
+        if not pointer:
+            key, y = "c.args.key", "c.args.value.now"
         D, X = t.definitions(value), t.shape(value)
         keys, meaning = (f"({t.own(which)[value.own.name]} {y})" for which in ("keys", "meaning"))
         said = f"said {D} rc_flavor (one {X}) 0 {keys} {meaning}"
         begun, first, written = f"(rw {none}.is at c.in-Ok.ensures.begun)", "c.begin_shared.ensures.goes_on", f"c.{inner}.ensures.goes_on"
-        same = f"let same : c.deref-inner.result.now ≡ {y} = grind (arith, common_steps) in rw (← same)"
+        same = f"let same : c.deref-inner.result.now ≡ {y} = grind (arith, common_steps) in rw (← same) " if pointer else ""
         ok = f"c.in-Ok-{inner}.ensures.serialized"
-        owned = f"(region_refused {D} (one {X}) 0 {pointer}.key _ _ rc_flavor _ _ _ _ {begun} {written} (one_owned {D} {X} _ _ _ _ _ c.in-Err-{inner}.ensures.refused))"
+        owned = f"(region_refused {D} (one {X}) 0 {key} _ _ rc_flavor _ _ _ _ {begun} {written} (one_owned {D} {X} _ _ _ _ _ c.in-Err-{inner}.ensures.refused))"
         since = f"since rc_flavor _ _ {begun} {written} {ok}"
         self.first = first
         self.known = f"((rw {some}.is at c.in-Ok.ensures.known).{said})"
         self.goes = f"(c.finish_shared.ensures.goes_on.since _ _ {begun} {written})"
-        self.serialized = f"({same} (c.in-Ok-finish_shared.ensures.shared.{since}))"
+        self.serialized = f"({same}(c.in-Ok-finish_shared.ensures.shared.{since}))"
         self.refusals = [
             ("", first, f"(c.in-Err.ensures.refused.{said})"),
-            (f"-{inner}", f"(goes_both _ _ _ {first} {written})", f"({same} {owned})"),
-            ("-finish_shared", self.goes, f"({same} (c.in-Err-finish_shared.ensures.refused.{since}))"),
+            (f"-{inner}", f"(goes_both _ _ _ {first} {written})", f"({same}{owned})"),
+            ("-finish_shared", self.goes, f"({same}(c.in-Err-finish_shared.ensures.refused.{since}))"),
         ]
+
+
+def keyed_written(it, member, answers):
+    """The answers on a value that is written under a key."""
+    function = recursive_code.keyed(it, member)
+    answered(answers, function, BehindShared(it, member, "", "c.in-Some", "c.in-None"), "in-Some")
+
+
+def answered(answers, function, its, some, as_written="{}", as_refused="{}"):
+    """These answers; `some` is the arm in which the key is known."""
+    for behind, goes, refused in its.refusals:
+        if behind:
+            answers.answer(function, f"returns-in-Err{behind}-clause-goes_on", goes)
+        answers.answer(function, f"returns-in-Err{behind}-clause-refused", as_refused.format(refused))
+    answers.answer(function, f"returns-{some}-clause-serialized", as_written.format(its.known))
+    answers.answer(function, "returns-in-Ok-finish_shared-clause-serialized", as_written.format(its.serialized))
+    answers.answer(function, "returns-in-Ok-finish_shared-clause-goes_on", its.goes)
 
 
 def pointer_written(it, type, answers):
@@ -556,14 +615,7 @@ def pointer_written(it, type, answers):
         item, pointer, some, none = item.args[0], "c.in-Some.whole", "in-Some-known", "in-None-known"
         as_written, as_refused = (f"rw c.in-Some.is ({lemma} {case} _ _ _ {{}})" for lemma in ("serialized_case", "case_refused"))
         answers.answer(function, "returns-in-None-clause-serialized", f"rw c.in-None.is (serialized_empty_case {D} _ _ 0 refl _)")
-    its = BehindShared(it, item, pointer, f"c.{some}", f"c.{none}")
-    for behind, goes, refused in its.refusals:
-        if behind:
-            answers.answer(function, f"returns-in-Err{behind}-clause-goes_on", goes)
-        answers.answer(function, f"returns-in-Err{behind}-clause-refused", as_refused.format(refused))
-    answers.answer(function, f"returns-{some}-clause-serialized", as_written.format(its.known))
-    answers.answer(function, "returns-in-Ok-finish_shared-clause-serialized", as_written.format(its.serialized))
-    answers.answer(function, "returns-in-Ok-finish_shared-clause-goes_on", its.goes)
+    answered(answers, function, BehindShared(it, item, pointer, f"c.{some}", f"c.{none}"), some, as_written, as_refused)
 
 
 def weak_written(it, type, answers):
@@ -649,7 +701,7 @@ def reading(family):
         if not it.is_holder:
             measures(it, answers)
         for type in it.owners:
-            {"Box": box_read, "BoxSlice": run_read, "Option": option_read, "Vec": run_read, "Shared": shared_read, "WeakShared": recursive_weak.read, "array": array_read, "tuple": row_read}[type.name](it, type, answers)
+            {"Box": box_read, "BoxSlice": run_read, "Option": option_read, "Vec": run_read, "BTreeMap": recursive_map_proofs.read, "Shared": shared_read, "WeakShared": recursive_weak.read, "array": array_read, "tuple": row_read}[type.name](it, type, answers)
         for case in it.cases:
             here = answers if it.is_record or any(case.leads_back) else Answers(family, f"read_{case.n}")
             parts_read(it, case, here, f"read_{case.n}" if here is answers and not it.is_holder else "")

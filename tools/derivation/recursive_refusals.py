@@ -8,8 +8,9 @@ from .recursive_plain import LEAVES, has_boxed, is_shaped
 
 # What plain parts may be made of, which a recursive type has beside those that lead back to it.
 PLAIN = set(LEAVES) | {"String", "BoxStr", "NonZero", "Option", "Result", "Box", "BoxSlice", "Vec", "BTreeMap", "OwnedArray"}
-# Those of a type that is recursive alone and shares nothing.
+# Those of a type that is recursive alone and shares nothing; and of a struct whose other fields are made of no others.
 MOST_FIELDS = 9
+MOST_FLAT = 12
 # Up to so many fields there are calls by their number, for types that go by a name.
 MOST_BY_NAME = 7
 MOST_PLACES = 3
@@ -53,7 +54,8 @@ def check_family(it: Declaration, names: str):
 def check_parts(it: Declaration, fields):
     """A variant or a record has as many fields as are proved to be written and read back, of types that hold each other or share fewer."""
     is_alone = len(it.family) == 1 and not any(has_shared(field.type, it.family) for field in it.all_fields())
-    most = MOST_FIELDS if is_alone else MOST_BY_NAME
+    is_flat = it.kind == "struct" and all(leads_back(it, field.type) or field.type.own is None and not field.type.args for field in fields)
+    most = MOST_BY_NAME if not is_alone else MOST_FLAT if is_flat else MOST_FIELDS
     if len(fields) > most:
         raise Refused(it.path, fields[-1].line, f"a variant or a struct of the recursive `{it.name}` has up to {most} fields; put some of them into a struct of another file")
 
@@ -87,25 +89,37 @@ def check_plain(it: Declaration, type: Type, line: int, behind: bool = False):
 
 
 def check_owner(it: Declaration, type: Type, line: int):
-    """What leads back is a box or a shared pointer, an option of one, an array of options of boxes, a vector or a boxed slice of these or of the type
-    itself, a vector of tuples, or a box of a vector."""
+    """What leads back is a box or a shared pointer, an option of one, a weak pointer, an array of options of boxes, a vector or a boxed slice of these or of
+    the type itself, a vector of tuples, a sorted map, or a box of a vector."""
     for row in rows_in(it, type):
         check_row(it, row, line)
+    if is_map(it, type):
+        check_map(it, type, line)
+        return
     if is_named(type, "array"):
         check_array(it, type, line)
         return
-    if is_pointer(it, type) or is_shared(it, type) or is_weak(it, type) or is_list(it, type) or is_named(type, "Box") and is_named(type.args[0], "Vec") and is_list(it, type.args[0]):
+    if is_nullable(it, type) or is_pointer(it, type) or is_shared(it, type) or is_list(it, type) or is_named(type, "Box") and is_named(type.args[0], "Vec") and is_list(it, type.args[0]):
         return
-    if is_named(type, "WeakShared") and is_member(it, type.args[0]):
-        said = f"`WeakShared` around `{it.name}` is written in a struct alone, if no other type is recursive with it"
-        raise Refused(it.path, line, f"{said}; write an `Option` of a `Shared`")
+    refuse_nullable(it, type, line)
+    if is_named(type, "SharedSlice"):
+        raise Refused(it.path, line, f"`SharedSlice` around `{it.name}` isn't written yet; write a `Shared` of a struct of this file with a `Vec`")
     written = (
         f"a `Box<{it.name}>`, a `Shared<{it.name}>`, an `Option` of one, a `Vec` or a `BoxSlice` of `{it.name}`, of `Box<{it.name}>`, `Option<Box<{it.name}>>` or `Shared<{it.name}>`,"
-        " a `Vec` of tuples, or a `Box` of such a `Vec` is"
+        f" a `Vec` of tuples, a `Box` of such a `Vec`, or a `BTreeMap` of `{it.name}` is"
     )
     if type.name not in ("Box", "BoxSlice", "Option", "Shared", "Vec") or type.own is not None:
         raise Refused(it.path, line, f"`{type.name}` around `{it.name}` isn't written yet; {written}")
     raise Refused(it.path, line, f"this {'option' if type.name == 'Option' else f'`{type.name}` of pointers'} to `{it.name}` isn't written yet; {written}")
+
+
+def refuse_nullable(it: Declaration, type: Type, line: int):
+    """A weak pointer isn't written everywhere."""
+    if is_named(type, "Option") and is_named(type.args[0], "WeakShared"):
+        raise Refused(it.path, line, f"an `Option` of a `WeakShared` around `{it.name}` isn't written; write the `WeakShared`, which may be a null itself")
+    if any(is_named(part, "WeakShared") for part in (type, *type.args)):
+        said = f"`WeakShared` around `{it.name}` is written in a struct, or in a `Vec` in one that leads back by no other field, if no other type is recursive with it"
+        raise Refused(it.path, line, f"{said}; write an `Option` of a `Shared`")
 
 
 def check_array(it: Declaration, type: Type, line: int):
@@ -115,6 +129,15 @@ def check_array(it: Declaration, type: Type, line: int):
     if it.kind == "enum" or not is_named(type.args[0], "Option") or not is_pointer(it, type.args[0]) or not 0 < int(type.length) <= MOST_ITEMS or others:
         said = f"an array that leads back to `{it.name}` is written in a struct of up to {MOST_BY_NAME} fields, of 1 to {MOST_ITEMS} options of boxes, if no other field leads back and no other type is recursive with it"
         raise Refused(it.path, line, f"{said}; write a `Vec`")
+
+
+def check_map(it: Declaration, type: Type, line: int):
+    """A sorted map has values of the type itself, which shares nothing and leads back to no other type. Others aren't proved."""
+    if len(it.family) > 1 or any(has_shared(field.type, it.family) for field in it.all_fields()):
+        said = f"a `BTreeMap` that leads back to `{it.name}` is written if no other type is recursive with it and it shares nothing"
+        raise Refused(it.path, line, f"{said}; write a `Vec` of a struct of this file")
+    if not is_named(type.args[0], "String"):
+        raise Refused(it.path, line, f"a `BTreeMap` that leads back to `{it.name}` is written with keys that are a `String`; write a `Vec` of a struct of this file")
 
 
 def rows_in(it: Declaration, type: Type) -> List[Type]:
@@ -160,9 +183,16 @@ def is_shared(it: Declaration, type: Type) -> bool:
     return is_named(pointer, "Shared") and is_member(it, pointer.args[0])
 
 
-def is_weak(it: Declaration, type: Type) -> bool:
-    """Whether it is a weak pointer to a struct that leads back to no other type."""
-    return it.kind == "struct" and len(it.family) == 1 and is_named(type, "WeakShared") and is_member(it, type.args[0])
+def is_map(it: Declaration, type: Type) -> bool:
+    """Whether it is a sorted map of values of a type of the family."""
+    return is_named(type, "BTreeMap") and is_member(it, type.args[1])
+
+
+def is_nullable(it: Declaration, type: Type) -> bool:
+    """Whether it is a weak pointer to a struct that leads back to no other type, or a vector of these in one that leads back by no other field."""
+    is_only = sum(leads_back(it, field.type) for field in it.all_fields()) == 1
+    weak = type.args[0] if is_named(type, "Vec") and is_only else type
+    return it.kind == "struct" and len(it.family) == 1 and is_named(weak, "WeakShared") and is_member(it, weak.args[0])
 
 
 def is_list(it: Declaration, type: Type) -> bool:

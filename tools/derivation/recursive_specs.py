@@ -6,8 +6,9 @@ from . import recursive_holders as holders
 from .formats import ALIGNS
 from .model import Type
 from .recursive_plain import has_boxed, items_of, product
-from .recursive_terms import around, brought, brought_owns, something, stem
-from .recursive_weak import held_in, option_of, written_out
+from .recursive_terms import around, brought, brought_owns, element, is_map, something, stem
+from .recursive_weak import SPOKEN as SPOKEN_OF_WEAK
+from .recursive_weak import held_in, option_of, vectors, written_out
 
 
 def of_each(family, piece):
@@ -66,12 +67,14 @@ def named(it):
 
 
 def rows(it):
-    """The tuples in vectors that lead back: what they look like."""
+    """The tuples in vectors that lead back, and the maps: what they look like."""
     lines = []
     for type in it.rows:
         w = it.word(type)
         lines.append(f"abbrev pub {w}_parts : Parts\n{w}_parts = {it.terms.parts(type.args)}\n")
         lines.append(f"abbrev pub {w}_shape : Shape\n{w}_shape = parts {w}_parts\n")
+    for type in it.maps:
+        lines.append(f"abbrev pub {it.word(type)}_shape : Shape\n{it.word(type)}_shape = {unwrapped(it.terms.shape(type))}\n")
     return lines
 
 
@@ -281,8 +284,9 @@ def mention_in(it, type, other):
     if it.terms.is_row(type):
         its = [(i, inner) for i, arg in enumerate(type.args) if (inner := mention_in(it, arg, other))]
         return f"mentions_parts ({'mentions_later (' * its[0][0]}mentions_first ({its[0][1]}){')' * its[0][0]})" if its else ""
-    inner = mention_in(it, type.args[0], other)
-    return AROUND[type.name, 0].format(inner) if inner else ""
+    at = 1 if is_map(type) else 0
+    inner = mention_in(it, type.args[at], other)
+    return AROUND[type.name, at].format(inner) if inner else ""
 
 
 def knows(it, known):
@@ -351,7 +355,7 @@ def meaning(family):
     if family.first.is_holder:
         return meaning_of_holder(family.first)
     has_arrays = any(map(arrays.arrays_of, family.members))
-    lines = of_each(family, together) + (pairs(family) if family.shares else [])
+    lines = vectors(family) + of_each(family, together) + (pairs(family) if family.shares else [])
     lines += [arrays.LAWS] if has_arrays else []
     for which, type, word in SAID:
         if not family.shares:
@@ -368,7 +372,7 @@ def meaning(family):
         lines += chains.meaning(family.first)
     lines += laws(family)
     body = "\n".join(lines)
-    more = SPOKEN + [(family.declared(family.ordered[0].name, "TheFolds"), " ".join(f"map-{it.name}" for it in family.members)), ("std.proofs.Common", PRELUDE_COMMON)]
+    more = SPOKEN + SPOKEN_OF_WEAK + [(family.declared(family.ordered[0].name, "TheFolds"), " ".join(f"map-{it.name}" for it in family.members)), ("std.proofs.Common", PRELUDE_COMMON)]
     more += arrays.SPOKEN if has_arrays else []
     aliases = ""
     for it in family.members:
@@ -524,7 +528,7 @@ def sources(it):
 
 def mapped_list(it, type, which, items):
     """That what is said of a vector, or of an array, whose elements were mapped is what is said of the elements."""
-    item = type.args[0]
+    item = element(type)
     each = mapped(it, item, which, items)
     if not arrays.is_array(type):
         return each
@@ -534,7 +538,7 @@ def mapped_list(it, type, which, items):
 
 def still_mapped(it, type, which, items):
     """What is said of a vector, or of an array, whose elements were mapped. How a tuple was mapped antt doesn't find where some of it has no keys."""
-    item = type.args[0]
+    item = element(type)
     if arrays.is_array(type):
         inner = item.args[0] if it.terms.is_option(item) else item
         return f"(array_{which} {type.length} {arrays.of_element(item, which, said_of_mapped(it, inner, which))} (map _ {items}))"
@@ -555,8 +559,11 @@ def mapped(it, item, which, items):
         return f"each_alike{keys} _ (λ (y : {BOTH}). y{PLACES[which]}) {own[item.name]} (λ x. refl) {items}"
     if it.terms.is_member(item):
         return f"each_mapped{keys} {own[item.name]} {items}"
-    lemma, nothing = ("options_alike", "refl ") if it.terms.is_option(item) else ("each_alike", "")
-    inner = item.args[0] if nothing else item
+    lemma, nothing, inner = "each_alike", "", item
+    if it.terms.is_option(item):
+        lemma, nothing, inner = "options_alike", "refl ", item.args[0]
+    elif it.terms.is_weak(item):
+        lemma, nothing, inner = "weaks_alike", "refl ", Type("Shared", item.args)
     return f"{lemma}{keys} _ {said_of_mapped(it, inner, which)} {said_with_type(it, inner, which, own, None)} {nothing}(λ x. refl) {items}"
 
 
@@ -587,7 +594,8 @@ def rolled(it, which, type, word):
         for j, (vector, items) in lists.items():
             # those before it are the value's own already, those behind it are still mapped
             terms = {i: "vs" if i == j else still_mapped(it, other, which, its) for i, (other, its) in lists.items() if i >= j}
-            out += f" ∙ ap (λ vs. {said_of(it, case, which, own, terms, values)}) ({mapped_list(it, vector, which, items)})"
+            whole = with_types(it, case, which, own, said_of(it, case, which, own, terms, values))
+            out += f" ∙ ap (λ vs. {whole}) ({mapped_list(it, vector, which, items)})"
         return out
 
     claim = f"{n}_{which} (roll-{N} {{0}}) ≡ {n}_{which}_layer {said_by(it.family, which)} {{0}}"
@@ -615,8 +623,8 @@ def with_types(it, case, which, own, whole):
 
 
 def is_together(it, lists):
-    """Whether vectors of a layer are said to be mapped all at once: antt doesn't find how one of options or of weak pointers was mapped that is behind another."""
-    return any(is_split(it, vector.args[0]) for vector, _ in list(lists.values())[1:])
+    """Whether vectors of a layer are said to be mapped all at once: antt doesn't find how one of boxes, options or weak pointers was mapped that is behind another."""
+    return any(element(vector).name == "Box" or is_split(it, element(vector)) for vector, _ in list(lists.values())[1:])
 
 
 def together(it):

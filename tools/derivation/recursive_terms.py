@@ -1,7 +1,8 @@
 """Terms of antt on the parts of recursive types: what a part looks like, what it means, and the laws of it.
 
 A part is plain (a number, a text, another type that `tools/derive` wrote), the type itself, or an owner of it: a box, an option of a box, an array of these, a
-boxed slice, or a vector, of which an element may be a tuple of plain parts and of values of the type. A term is one at a value, which is a term itself:
+boxed slice, or a vector, of which an element may be a tuple of plain parts and of values of the type, or a map, whose entries are such tuples. A term is one at
+a value, which is a term itself:
 `meaning(type, "a0", m)`, where `m` is the meaning of the type itself.
 """
 
@@ -43,7 +44,10 @@ class Terms:
         """What functions of an owner, or of a part, are called by: `box_expr`."""
         if self.is_member(type):
             return self.n_of(type)
-        name = {"()": "unit", "tuple": "pair" if len(type.args) == 2 else f"tuple{len(type.args)}"}.get(type.name, snake(type.name) + type.length)
+        names = {"()": "unit", "tuple": "pair" if len(type.args) == 2 else f"tuple{len(type.args)}"}
+        if self.leads_back(type):
+            names["BTreeMap"] = "map"
+        name = names.get(type.name, snake(type.name) + type.length)
         return "_".join([name] + [self.word(arg) for arg in type.args])
 
     def leads_back(self, type):
@@ -101,6 +105,10 @@ class Terms:
         """Whether it is an option of a box, or of a shared pointer, that leads back."""
         return type.name == "Option" and self.leads_back(type)
 
+    def is_nullable(self, type):
+        """Whether it leads back by a shared pointer, or by none: a weak pointer, and an option of a shared one."""
+        return self.is_weak(type) or self.is_option(type) and self.is_shared(type.args[0])
+
     def list_in(self, type, x):
         """The vector or array that leads back, of a part that is one or a box of one, with the term of its elements; none of other parts."""
         if not self.leads_back(type) or self.is_member(type):
@@ -109,7 +117,7 @@ class Terms:
             return type, x
         if type.name == "Box":
             return self.list_in(type.args[0], f"{x}.value")
-        return (type, items_of(type, x)) if is_run(type) else None
+        return (type, items_of(type, x)) if is_run(type) or is_map(type) else None
 
     # ---- formats ----
 
@@ -120,6 +128,8 @@ class Terms:
             return self.plain.shape(type)
         if type.name == "tuple":
             return f"{self.word(type)}_shape"
+        if is_map(type):
+            return f"(sorted_map {self.plain.key(type)} {self.shape(type.args[1])})"
         item = self.shape(type.args[0])
         shapes = {"Box": f"(boxed (one {item}))", "BoxSlice": f"(boxed (run {item}))", "Option": f"(option_shape {item})", "Vec": f"(vec {item})"}
         others = {"Shared": f"(shared rc_flavor (one {item}))", "WeakShared": f"(weak rc_flavor (one {item}))", "array": f"(array {type.length} {item})"}
@@ -128,15 +138,15 @@ class Terms:
     def definitions(self, type):
         if not self.leads_back(type):
             return self.plain.definitions(type)
-        if type.name == "tuple":
-            return f"{self.word(type)}_definitions"
+        if type.name == "tuple" or is_map(type):
+            return f"{self.word(element(type) if is_map(type) else type)}_definitions"
         return f"{self.n}_definitions" if self.is_member(type) else self.definitions(type.args[0])
 
     def known(self, type):
         """A proof that its definitions are known where the type's own are."""
         if not self.leads_back(type):
             return self.plain.known(type)
-        if type.name == "tuple":
+        if type.name == "tuple" or is_map(type):
             return product([self.known(arg) for arg in type.args], "(knows_none s k.laid_out)", "knows_both s _ _")
         return "k" if self.is_member(type) else self.known(type.args[0])
 
@@ -156,7 +166,7 @@ class Terms:
             return self.plain.meaning(type, x)
         if type.name == "tuple":
             return f"(product {self.parts_meaning(type.args, places(type, x), m)})"
-        item = type.args[0]
+        item = element(type)
         if type.name == "Shared":
             return f"(shared_value {x}.key)"
         if type.name == "WeakShared":
@@ -176,7 +186,7 @@ class Terms:
             return self.plain.keys(type, x)
         if type.name == "tuple":
             return self.parts_keys(type.args, places(type, x), k)
-        item = type.args[0]
+        item = element(type)
         if type.name == "Shared":
             y = f"{x}.value.value"
             return f"(rc_keys {x}.key (one {self.shape(item)}) 0 {self.meaning(item, y, meant(k))} {self.keys(item, y, k)})"
@@ -207,6 +217,8 @@ class Terms:
             return self.plain.flat(type, x, r)
         if type.name == "tuple":
             return f"(product {self.parts_flat(type.args, places(type, x), r)})"
+        if is_map(type):
+            return f"(map_flat {self.plain.key(type)} {self.shape(type.args[1])} (btree_map_len {x}) {r})"
         item = self.shape(type.args[0])
         if type.name == "Shared":
             return f"(rc_flat {r} (one {item}) 0)"
@@ -231,6 +243,8 @@ class Terms:
             return self.parts_belong(type.args, places(type, x), r)
         if type.name in ("Box", "Option", "Shared", "WeakShared"):
             return "⊤"
+        if is_map(type):
+            return f"(btree_map_len {x} ≤ 4294967295)"
         if arrays.is_array(type):
             return f"(length {r}.items ≡ {type.length})"
         return f"(length {items_of(type, x)} ≤ 4294967295)"
@@ -249,7 +263,7 @@ class Terms:
             return self.plain.keyed(type, x)
         if type.name == "tuple":
             return f"(record_keyed {self.parts_keyed(type.args, places(type, x))})"
-        item = type.args[0]
+        item = element(type)
         if type.name == "Shared":
             return f"(rc_keyed {x}.key (one {self.shape(item)}) 0 _ _ {self.keyed(item, f'{x}.value.value')})"
         if type.name == "WeakShared":
@@ -262,13 +276,15 @@ class Terms:
         items = items_of(type, x)
         if self.is_option(item):
             its = f"(held_options_keyed _ {self.said(item.args[0])} refl (λ e. {self.keyed(item, '(Some e)')}) {items})"
+        elif self.is_weak(item):
+            its = f"(held_weaks_keyed _ {self.said(Type('Shared', item.args))} refl (λ e. {self.keyed(item, recursive_weak.written_out('(Some e)'))}) {items})"
         elif not self.is_member(item):
             its = f"(held_each_keyed _ {self.said(item)} (λ e. {self.keyed(item, 'e')}) {items})"
         else:
             its = f"(held_keyed {self.said(item)} {items})"
         if arrays.is_array(type):
             return f"(keyed_array _ {type.length} {self.said(item)} {x} {its})"
-        return its if type.name == "Vec" else f"(box_keyed _ _ {its})"
+        return f"(box_keyed _ _ {its})" if type.name == "BoxSlice" else its
 
     def planned(self, type, x, held):
         """A proof that there is a plan of a part; `held` where each value of the type itself has the law beside it."""
@@ -278,7 +294,7 @@ class Terms:
             return self.plain.planned(type, x)
         if type.name == "tuple":
             return f"(product_planned _ _ _ _ {self.row_planned(type, x, held)})"
-        item = type.args[0]
+        item = element(type)
         D, X = self.definitions(type), self.shape(item)
         if type.name == "Shared":
             return f"(rc_one_planned {D} {x}.key (one {X}) {X} refl _ _ {self.planned(item, f'{x}.value.value', held)})"
@@ -296,6 +312,8 @@ class Terms:
         if self.is_option(item):
             inner = item.args[0]
             its = f"held_options_planned _ {self.said(inner)} {D} {self.shape(inner)} refl (λ e. {self.planned(item, '(Some e)', True)}) {items}"
+        elif self.is_weak(item):
+            its = f"held_weaks_planned _ {self.said(Type('Shared', item.args))} {D} (one {self.shape(item.args[0])}) refl (λ e. {self.planned(item, recursive_weak.written_out('(Some e)'), True)}) {items}"
         elif not self.is_member(item):
             its = f"held_each_planned _ {self.said(item)} {D} {X} (λ e. {self.planned(item, 'e', True)}) {items}"
         if arrays.is_array(type) and held:
@@ -303,6 +321,8 @@ class Terms:
         if arrays.is_array(type):
             return f"(array_planned {type.length} {D} {X} {self.said(item)} {self.plan(item)} {x})"
         owner = f"vec_planned {D} {X}" if type.name == "Vec" else f"box_planned {D} (run {X})"
+        if is_map(type):
+            owner = f"map_planned {D} {self.plain.key(type)} {self.shape(type.args[1])}"
         if held:
             return f"({owner} _ _ _ (run_region_planned {D} {X} _ _ _ ({its})))"
         return f"({owner} _ _ _ (slice_planned {D} {X} {self.said(item)} {self.plan(item)} {items}))"
@@ -412,14 +432,24 @@ def is_run(type):
     return type.name in ("Vec", "BoxSlice")
 
 
+def is_map(type):
+    """Whether it is a sorted map."""
+    return type.name == "BTreeMap" and type.own is None
+
+
+def element(type):
+    """The type of what it holds: of a map that of its entries, which are tuples."""
+    return Type("tuple", type.args, type.line) if is_map(type) else type.args[0]
+
+
 def has_elements(type):
     """Whether it is one of these, or an array."""
     return is_run(type) or arrays.is_array(type)
 
 
 def around(type, term):
-    """What a vector means, or what is read in its place, as that of a boxed slice where it is one."""
-    return term if type.name == "Vec" else f"(box {term})"
+    """What a vector or a map means, or what is read in its place, as that of a boxed slice where it is one."""
+    return f"(box {term})" if type.name == "BoxSlice" else term
 
 
 def listed(type, term):
@@ -483,7 +513,7 @@ PRELUDE = {
     "archive_core.specs.ResultShapes": "result_has_layout result_reached result_shape",
     "archive_core.specs.Arrays": "array_keys array_meaning array_keyed array_planned",
     "archive_core.specs.MapPairs": "pair_meaning pair_keys",
-    "archive_core.specs.PlannedMaps": "pairs_keyed map_of_pairs_planned",
+    "archive_core.specs.PlannedMaps": "pairs_keyed map_of_pairs_planned map_planned",
     "archive_core.specs.Planned": "leaf_planned string_planned text_planned",
     "archive_core.specs.PlannedOwners": "box_planned boxed_one_planned vec_planned run_region_planned slice_planned",
     "archive_core.specs.PartsPlanned": "part_planned no_part_planned product_planned record_planned",

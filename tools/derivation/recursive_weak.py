@@ -1,4 +1,4 @@
-"""What a module has beside the library for weak pointers that lead back to a recursive struct.
+"""What a module has beside the library for weak pointers that lead back to a recursive type.
 
 A weak pointer is written as the shared one that it holds, and read back by the position that it leads to, by calls of the module: the library's read what a
 shared pointer leads to. It is a record of an option, at which a layer that is mapped computes where the option is nothing or something.
@@ -11,10 +11,14 @@ def is_weak(declaration, type):
     return type.name == "WeakShared" and type.own is None and leads_back(declaration, type)
 
 
+def has_weak(declaration, type):
+    return is_weak(declaration, type) or any(has_weak(declaration, arg) for arg in type.args)
+
+
 def is_first(it):
     """Whether this is the first type of the module with a field that leads back by a weak pointer."""
     all_of = it.formats.module.declarations
-    first = next((its for its in all_of if its.recursive and any(is_weak(its, field.type) for field in its.all_fields())), None)
+    first = next((its for its in all_of if its.recursive and any(has_weak(its, field.type) for field in its.all_fields())), None)
     return first is it.declaration
 
 
@@ -41,6 +45,58 @@ def held_in(x):
     """The shared pointer in a weak one that is written out; nothing in a null."""
     option = option_of(x)
     return None if option == "None" else option[len("(Some "):-1]
+
+
+# ---- vectors of weak pointers ----
+
+# What a layer says of such a vector, as of one of options (`HeldLists`).
+VECTORS = """-- A vector of weak pointers in a layer: what it means where these were mapped before, and its laws from those of each.
+module _ {A B : Type 0} (g : WeakShared A → WeakShared B) where
+  weak_alike : (f : Shared B → Value) (h : Shared A → Value) → weak_value f (g (record { value = None })).value ≡ null → ((x : Shared A) → weak_value f (g (record { value = Some x })).value ≡ h x)
+      → (o : Option (Shared A)) → weak_value f (g (record { value = o })).value ≡ weak_value h o
+  weak_alike f h none some None = none
+  weak_alike f h none some (Some x) = some x
+
+  weaks_alike : (f : Shared B → Value) (h : Shared A → Value) → weak_value f (g (record { value = None })).value ≡ null → ((x : Shared A) → weak_value f (g (record { value = Some x })).value ≡ h x)
+      → (ws : List (WeakShared A)) → each_meaning (λ (w : WeakShared B). weak_value f w.value) (map g ws) ≡ each_meaning (λ (w : WeakShared A). weak_value h w.value) ws
+  weaks_alike f h none some ws = each_alike g (λ (w : WeakShared B). weak_value f w.value) (λ (w : WeakShared A). weak_value h w.value) (λ w. weak_alike f h none some w.value) ws
+
+  weak_alike_keys : (f : Shared B → List Naming) (h : Shared A → List Naming) → option_keys f (g (record { value = None })).value ≡ [] → ((x : Shared A) → option_keys f (g (record { value = Some x })).value ≡ h x)
+      → (o : Option (Shared A)) → option_keys f (g (record { value = o })).value ≡ option_keys h o
+  weak_alike_keys f h none some None = none
+  weak_alike_keys f h none some (Some x) = some x
+
+  weaks_alike_keys : (f : Shared B → List Naming) (h : Shared A → List Naming) → option_keys f (g (record { value = None })).value ≡ [] → ((x : Shared A) → option_keys f (g (record { value = Some x })).value ≡ h x)
+      → (ws : List (WeakShared A)) → each_keys (λ (w : WeakShared B). option_keys f w.value) (map g ws) ≡ each_keys (λ (w : WeakShared A). option_keys h w.value) ws
+  weaks_alike_keys f h none some ws = each_alike_keys g (λ (w : WeakShared B). option_keys f w.value) (λ (w : WeakShared A). option_keys h w.value) (λ w. weak_alike_keys f h none some w.value) ws
+
+  module _ (k : Shared B → List Naming) (m : Shared B → Value) where
+    weak_held_keyed : (g (record { value = None })).value ≡ None → ((e : Shared A) → IsKeyed (option_keys k (g (record { value = Some e })).value) (weak_value m (g (record { value = Some e })).value))
+        → (o : Option (Shared A)) → IsKeyed (option_keys k (g (record { value = o })).value) (weak_value m (g (record { value = o })).value)
+    weak_held_keyed none h None = rw none (weak_keyed {A = ⊥} (λ u. []) (λ u. null) (λ u. absurd u) None)
+    weak_held_keyed none h (Some e) = h e
+
+    held_weaks_keyed : (g (record { value = None })).value ≡ None → ((e : Shared A) → IsKeyed (option_keys k (g (record { value = Some e })).value) (weak_value m (g (record { value = Some e })).value))
+        → (ws : List (WeakShared A)) → IsKeyed (each_keys (λ (w : WeakShared B). option_keys k w.value) (map g ws)) (list (each_meaning (λ (w : WeakShared B). weak_value m w.value) (map g ws)))
+    held_weaks_keyed none h ws = held_each_keyed g (λ (w : WeakShared B). option_keys k w.value) (λ (w : WeakShared B). weak_value m w.value) (λ w. weak_held_keyed none h w.value) ws
+
+    module _ (D : Definitions) (P : Pointee) where
+      weak_held_planned : (g (record { value = None })).value ≡ None → ((e : Shared A) → HasPlan D (weak rc_flavor P) (option_keys k (g (record { value = Some e })).value) (weak_value m (g (record { value = Some e })).value))
+          → (o : Option (Shared A)) → HasPlan D (weak rc_flavor P) (option_keys k (g (record { value = o })).value) (weak_value m (g (record { value = o })).value)
+      weak_held_planned none h None = rw none (weak_planned {A = ⊥} D rc_flavor P (λ u. []) (λ u. null) (λ u. absurd u) None)
+      weak_held_planned none h (Some e) = h e
+
+      held_weaks_planned : (g (record { value = None })).value ≡ None → ((e : Shared A) → HasPlan D (weak rc_flavor P) (option_keys k (g (record { value = Some e })).value) (weak_value m (g (record { value = Some e })).value))
+          → (ws : List (WeakShared A)) → HasRunPlan D (weak rc_flavor P) (length (map g ws)) (each_keys (λ (w : WeakShared B). option_keys k w.value) (map g ws)) (each_meaning (λ (w : WeakShared B). weak_value m w.value) (map g ws))
+      held_weaks_planned none h ws = held_each_planned g (λ (w : WeakShared B). option_keys k w.value) (λ (w : WeakShared B). weak_value m w.value) D (weak rc_flavor P) (λ w. weak_held_planned none h w.value) ws
+"""
+# What these name, with its module.
+SPOKEN = [("archive_core.specs.Shape", "Pointee")]
+
+
+def vectors(family):
+    """These, where a type of the family has such a vector."""
+    return [VECTORS] if any(owner.args[0].name == "WeakShared" for it in family.members for owner in it.owners) else []
 
 
 # ---- the module ----
@@ -280,12 +336,17 @@ NAMED = [
 ]
 
 
-def written(it, type, answers, behind):
-    """The answers on a weak pointer that is written; `behind` has what is known of the calls that write what it leads to."""
-    function, D, X = f"serialize_{it.word(type)}", it.terms.definitions(type), it.terms.shape(type.args[0])
+def bring(answers):
+    """Brings in these lemmas."""
     if WRITTEN[0] not in answers.items:
         answers.items += WRITTEN
         answers.more += NAMED
+
+
+def written(it, type, answers, behind):
+    """The answers on a weak pointer that is written; `behind` has what is known of the calls that write what it leads to."""
+    function, D, X = f"serialize_{it.word(type)}", it.terms.definitions(type), it.terms.shape(type.args[0])
+    bring(answers)
     its = behind(it, type.args[0], "c.in-Some.whole", "c.in-Some-known", "c.in-None-known")
     as_written, as_refused = (f"rw c.in-Some.is ({lemma} {D} (one {X}) _ _ {more}_ _ {{}})" for lemma, more in (("weak_serialized", "_ "), ("weak_refused", "_ ")))
     answers.answer(function, "returns-in-None-clause-serialized", f"rw c.in-None.is (null_serialized {D} (one {X}) _)")

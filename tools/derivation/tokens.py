@@ -14,6 +14,8 @@ WORD, LIFETIME, NUMBER, TEXT, SIGN, DOC, INNER_DOC, NOTE, END = (
     "word", "lifetime", "number", "text", "sign", "doc", "inner doc", "note", "end",
 )
 
+# How much of a word is told, in characters.
+MOST_SAID = 40
 MARK_BEGINS = "// Below this line all is written by tools/derive"
 NAME_NOTE = re.compile(r"//\s*name:\s*(.*?)\s*$")
 EDGE = re.compile(r"/\*|\*/")
@@ -45,6 +47,13 @@ class Token:
 
     def is_word(self, *texts: str) -> bool:
         return self.kind == WORD and self.text in texts
+
+    def said(self) -> str:
+        """The word as a message says it, of a long one or one of several lines how it begins."""
+        if self.kind == END:
+            return "the end"
+        begin = self.text.split("\n")[0][:MOST_SAID]
+        return f"`{begin}{'' if begin == self.text else '..'}`"
 
 
 @dataclass

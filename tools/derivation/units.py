@@ -146,6 +146,8 @@ impl {choice.name}Tag for {choice.name} {{
         if not self.are:
             return ""
         call = Generic("resolve_case_0", [self.choice.archived], [self.tag_call(), "()", "Place::new(pos, bytes)"])
+        if self.choice.functions:
+            return self.choice.functions.dropping_arm("_", self.choice.functions.unit_call(self.tag_call()))
         one = f"            _ => {flat(call)},\n"
         return one if len(one) <= 101 and len(flat(call)) <= 90 and call_fits(call) else f"            _ => {{\n{statement(16, '', call, '')}            }}\n"
 
@@ -198,16 +200,15 @@ fn {self.maker()}(tag: u8) -> {choice.name}
     def brought(self, dotted, *more):
         """What a proof brings in beside the goals, and these of an impl each."""
         choice = self.choice
-        home = f"Rattle.{choice.declaration.crate}.specs"
-        module = ".".join(choice.declaration.module)
+        declared, contracts = (choice.declaration.home("specs", it) for it in ("declared", "contracts"))
         names = ", ".join(sorted(f"{case.name} as {case.word}" for case in choice.cases))
-        impls = "".join(f"use {home}.contracts.{module}.{impl}.TheImpl.{{{names}}}\n" for impl, names in more)
+        impls = "".join(f"use Rattle.{contracts}.{impl}.TheImpl.{{{names}}}\n" for impl, names in more)
         return f"""use Rattle.std.proofs.Common.{{◌≡◌, ℕ, Some, [], ap, refl, sym}}
 use Rattle.archive_core.specs.Plain.{{variant_in}}
 use Rattle.archive_core.specs.Shape.{{no_part}}
 use Rattle.archive_core.specs.Value.{{case, no_value}}
-use {home}.declared.{module}.{choice.name}.{{{choice.name}}}
-use {home}.declared.{module}.{choice.name}.TheVariants.{{{names}}}
+use Rattle.{declared}.{choice.name}.{{{choice.name}}}
+use Rattle.{declared}.{choice.name}.TheVariants.{{{names}}}
 {impls}"""
 
     def by_case(self, body, refuted):
@@ -235,9 +236,9 @@ has_no_part v t = elim v as (λ v. HasNoField v → HasTag v t → variant_in (s
 {self.by_case("λ none tagged. rw tagged refl", "λ none tagged. absurd none")}]
 """
 
-    def none(self):
-        """The proof that the value has no field, in the last arm."""
-        arms = "".join(f"{case.bound()} ↦ λ e. c.in_default.not-{case.name} {' '.join(case.binders)} e | " for case in self.apart())
+    def none(self, ways="c"):
+        """The proof that the value has no field, in the last arm, of which `ways` knows what the value isn't."""
+        arms = "".join(f"{case.bound()} ↦ λ e. {ways}.in_default.not-{case.name} {' '.join(case.binders)} e | " for case in self.apart())
         return f"((elim c.args.self.now as (λ v. c.args.self.now ≡ v → HasNoField v) [ {arms}v ↦ λ e. tt ]) refl)" if arms else "tt"
 
     def requires_answer(self, call, given):
@@ -252,13 +253,29 @@ pub {step} : goal.{step}
         brought = self.brought(dotted, (f"{self.choice.archived}Portable", "shape-value"))
         return brought, self.lemmas() + self.requires_answer("resolve_case_0", "c")
 
+    def flat_answers(self, dotted, call):
+        """Of a `resolve` with this call in its last arm: what it brings in, the answers, and what proves that a value without fields is flat, in this arm."""
+        name, resolver = self.choice.name, self.choice.resolver
+        home = f"Rattle.{self.choice.declaration.home('specs', 'declared')}"
+        brought = self.brought(dotted, (f"{self.choice.archived}Portable", "shape-value"), (f"{name}Archive", "flat-value"))
+        brought += f"use {home}.{resolver}.{{{resolver}}}\n"
+        lemma = f"""
+-- It is flat as its tag.
+is_flat : (v : {name}) (r : {resolver}) (t : ℕ) → HasNoField v → HasTag v t → (flat-value).it v r ≡ case t no_value
+is_flat v r t = elim v as (λ v. HasNoField v → HasTag v t → (flat-value).it v r ≡ case t no_value) [
+{self.by_case("λ none tagged. ap (λ n. case n no_value) (sym tagged)", "λ none tagged. absurd none")}]
+"""
+        flat = f"is_flat c.args.self.now c.args.resolver w.tag.result {self.none('w')} w.tag.ensures"
+        return brought, self.lemmas() + lemma + self.requires_answer(call, "c"), flat
+
     def serialize_answers(self, dotted):
         """The same of `serialize`: a variant without fields means its tag, and nothing of its own is kept of it."""
         choice, name = self.choice, self.choice.name
         values = ", ".join(f"{it}-value" for it in ("belongs", "flat", "keys", "meaning"))
         brought = self.brought(dotted, (f"{choice.archived}Portable", "shape-value"), (f"{name}Archive", values))
-        kept = f"use Rattle.{choice.declaration.crate}.specs.declared.{'.'.join(choice.declaration.module)}.{choice.resolver}.TheVariants.{{{self.name} as {name}Kept}}\n"
-        step = "returns-in-Ok-serialize_case_0" if self.apart() else "returns-in-Ok"
+        kept = f"use Rattle.{choice.declaration.home('specs', 'declared')}.{choice.resolver}.TheVariants.{{{self.name} as {name}Kept}}\n"
+        is_first = choice.functions or not self.apart()  # of the calls whose result an arm takes
+        arm = "in-Ok" if is_first else "in-Ok-serialize_case_0"
         same = "ap (λ n. case n no_value) (sym tagged)"  # where all are so, what is flat is the meaning by definition
         body = f"""λ none tagged. record {{
     keys = refl;
@@ -278,11 +295,11 @@ is_plain : (v : {name}) (t : ℕ) → HasNoField v → HasTag v t → IsPlain v 
 is_plain v t = elim v as (λ v. HasNoField v → HasTag v t → IsPlain v t) [
 {self.by_case(body, "λ none tagged. absurd none")}]
 {self.requires_answer("serialize_case_0", "g c")}
-pub {step} : goal.{step}
-{step} g c =
+pub returns-{arm} : goal.returns-{arm}
+returns-{arm} g c =
     let it = is_plain c.args.self.now c.tag.result {self.none()} c.tag.ensures in
     record {{
-      serialized = rw (it.keys, it.meaning{", it.flat" if self.apart() else ""}) c.in-Ok{"-serialize_case_0" if self.apart() else ""}.ensures.serialized;
+      serialized = rw (it.keys, it.meaning{", it.flat" if self.apart() else ""}) c.{arm}.ensures.serialized;
       same_value = it.belongs;
       goes_on = c.serialize_case_0.ensures.goes_on;
       refused = tt;

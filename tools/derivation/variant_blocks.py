@@ -11,11 +11,11 @@ from .layout import call, statement
 from .loads import MOST_OF_VARIANTS, Loads
 from .part_laws import bare
 
-# Tuples nest up to 64 deep.
-MOST_IN_NEST = 60
+# Up to so many variants are one nest: what the check takes for the impl of `Choice` doubles with each variant more, and of twelve it took minutes.
+MOST_IN_NEST = 8
 # The most that the variants of one block come to, where there are several, and how many there are.
 MOST_OF_BLOCK = 6_000
-MOST_IN_BLOCK = 12
+MOST_IN_BLOCK = 4
 
 
 def blocks_of(types):

@@ -25,6 +25,7 @@ from .long import is_long, lent, nest
 from .made import WRITTEN, Made
 from .pieces import Pieces, numbered
 from .units import Units
+from .variant_functions import Functions, are_wanted
 
 
 class Case:
@@ -87,6 +88,7 @@ class Choice(Source):
         self.span = max(case.end for case in self.cases)
         self.size = -(-self.span // self.align) * self.align
         self.units = Units(self)
+        self.functions = Functions(self) if are_wanted(declaration) else None
         self.is_searched = all(case.is_long or case.count < 3 for case in self.cases)
         self.variants = self.units.shapes()
         self.shape = f'choice (codes "{self.archived}") {self.variants}'
@@ -129,6 +131,7 @@ def text(formats, declaration):
         is_choice(choice),
         resolver(choice),
         choice.units.tag(),
+        functions(choice),
         archive(choice),
         serialize(choice),
         region(choice),
@@ -257,12 +260,20 @@ def archive(choice):
 """
 
 
-def resolve_arm(choice, case):
-    kept, place = kept_of(choice.formats, case.types), "Place::new(pos, bytes)"
-    pattern = flat(case.pattern())
-    call = Generic(f"resolve_case_{case.count}", case.rust + [choice.archived], [str(case.tag)] + case.names + [kept, place])
+def resolve_call(case):
+    """The call that resolves the fields of a variant."""
+    archived, arguments = case.choice.archived, [kept_of(case.choice.formats, case.types), "Place::new(pos, bytes)"]
     if case.is_long:
-        call = Generic("resolve_case", [f"{case.word}Lent<'_>", f"{case.word}Fields", choice.archived], [str(case.tag), "&lent", kept, place])
+        return Generic("resolve_case", [f"{case.word}Lent<'_>", f"{case.word}Fields", archived], [str(case.tag), "&lent"] + arguments)
+    return Generic(f"resolve_case_{case.count}", case.rust + [archived], [str(case.tag)] + case.names + arguments)
+
+
+def resolve_arm(choice, case):
+    pattern, call = flat(case.pattern()), resolve_call(case)
+    if choice.functions and not case.count:
+        return choice.functions.dropping_arm(pattern, call)
+    if choice.functions:
+        return choice.functions.arm(case, pattern, "resolve", case.names + ["resolver", "Place::new(pos, bytes)"])
     if not case.count:
         one = f"            {pattern} => {flat(call)},\n"
         if len(one) <= WIDTH + 1:
@@ -299,15 +310,23 @@ def match_arm(pattern, call, values, made, first=""):
 """
 
 
+def serialize_call(case):
+    """The call that serializes the fields of a variant."""
+    archived = case.choice.archived
+    if case.is_long:
+        return Generic("serialize_case", [f"{case.word}Lent<'_>", f"{case.word}Fields", archived, "S"], [str(case.tag), "&lent", "serializer"])
+    return Generic(f"serialize_case_{case.count}", case.rust + [archived, "S"], [str(case.tag)] + case.names + ["serializer"])
+
+
 def serialize(choice):
     bound = choice.formats.writer_bound(choice.all_types)
     arms = []
     for case in choice.units.apart():
-        call = Generic(f"serialize_case_{case.count}", case.rust + [choice.archived, "S"], [str(case.tag)] + case.names + ["serializer"])
-        if case.is_long:
-            call = Generic("serialize_case", [f"{case.word}Lent<'_>", f"{case.word}Fields", choice.archived, "S"], [str(case.tag), "&lent", "serializer"])
-        made = f"{choice.resolver}::{case.name}" + ("(kept)" if case.count else "")
-        arms.append(match_arm(case.pattern(), call, "kept" if case.count else "()", made, lending(case, 16)))
+        if choice.functions:
+            arms.append(choice.functions.arm(case, flat(case.pattern()), "serialize", case.names + ["serializer"]))
+        else:
+            made = f"{choice.resolver}::{case.name}" + ("(kept)" if case.count else "")
+            arms.append(match_arm(case.pattern(), serialize_call(case), "kept" if case.count else "()", made, lending(case, 16)))
     arms += choice.units.serialize_arm(match_arm)
     return f"""{implementation([f"S: {bound}"], "Serialize", ["S"], choice.name)}
     #[inline(always)]
@@ -317,24 +336,49 @@ def serialize(choice):
 """
 
 
+def read_call(case):
+    """The call that reads the fields of a variant back."""
+    if case.pieces:
+        return case.its_pieces().call()
+    its = [f"{case.word}Parts", f"{case.word}Owned"] if case.count else ["()", "()"]
+    return Generic("read_case", ["Self"] + its + ["D"], [str(case.tag), "alloc", "part", "deserializer"])
+
+
+def read_values(case):
+    """The names of what was read, and the variant that is made of it."""
+    if case.is_made_apart:
+        return "values", f"{made_of(case).name}(values)"
+    return flat(pair(case.names)), case.built()
+
+
 def read(choice):
     f = choice.formats
     f.use("archive_core::fields", "known_tag", "read_case")
     arms = []
     for case in choice.units.apart():
-        its = [f"{case.word}Parts", f"{case.word}Owned"] if case.count else ["()", "()"]
-        call = Generic("read_case", ["Self"] + its + ["D"], [str(case.tag), "alloc", "part", "deserializer"])
-        if case.pieces:
-            call = case.its_pieces().call()
         tag = "_" if case is choice.cases[-1] and not choice.units.are else str(case.tag)
-        if case.is_made_apart:
-            arms.append(match_arm(tag, call, "values", f"{made_of(case).name}(values)"))
+        if choice.functions:
+            arms.append(choice.functions.arm(case, tag, "read", ["alloc", "part", "deserializer"]))
         else:
-            arms.append(match_arm(tag, call, flat(pair(case.names)), case.built()))
+            arms.append(match_arm(tag, read_call(case), *read_values(case)))
     arms += choice.units.read_arm()
     made = "".join(f"{made_of(case).text(case.names, case.built())}\n" for case in choice.cases if case.is_made_apart) + choice.units.made()
     made = "".join(f"{case.its_pieces().text()}\n" for case in choice.cases if case.pieces) + made
     return made + deserialize(choice, choice.units.matched("known_tag::<Self>(part)", "".join(arms)))
+
+
+def functions(choice):
+    """The functions of variants that have their own."""
+    of = choice.functions
+    if not of:
+        return ""
+    texts = []
+    for case in of.cases:
+        if case.count:
+            texts.append(of.resolve(case, f"{taken_apart(choice.formats, case.types, 8)}{lending(case, 8)}{statement(8, '', resolve_call(case), '')}"))
+        texts.append(of.serialize(case, lending(case, 8), serialize_call(case)))
+        texts.append(of.read(case, read_call(case), ok_arm(*read_values(case), 12)))
+    return of.text(texts)
 
 
 def made_of(case):
@@ -357,6 +401,9 @@ def proofs(formats, declaration):
         answers = made and made.answers(dotted)
         if answers:
             out[f"proofs/{module}/{made.name}/Answers.antt"] = answers
+    if choice.functions:
+        out.update(choice.functions.proofs(module, dotted))
+        return out
     in_ways = choice.units.are or any(case.is_long for case in choice.cases)
     if in_ways:
         out[f"proofs/{module}/{choice.name}Archive/resolve/Answers.antt"] = resolve_answers(choice, dotted)

@@ -1,5 +1,6 @@
 pub mod Elements
 pub mod BoundedSizes
+pub mod FirstBytes
 pub mod Names
 pub mod Checks
 pub mod Tours

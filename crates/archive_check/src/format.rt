@@ -9,4 +9,5 @@ pub mod extents;
 pub mod keys;
 pub mod layout;
 pub mod leaf;
+pub mod order;
 pub mod traits;

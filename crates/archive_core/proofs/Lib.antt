@@ -22,6 +22,8 @@ pub use Rattle.archive_core.proofs.fields.ReadChoices
 pub use Rattle.archive_types.proofs.Planning.Causes
 pub use Rattle.archive_types.proofs.Planning.Owners
 pub use Rattle.archive_types.proofs.Planning.Planned
+pub use Rattle.archive_types.proofs.Maps.MapsRead
+pub use Rattle.archive_types.proofs.Planning.PlannedMaps
 pub use Rattle.archive_types.proofs.Planning.PlannedParts
 pub use Rattle.archive_types.proofs.Planning.Runs
 pub use Rattle.archive_types.proofs.Planning.Unhindered

@@ -3,6 +3,7 @@ pub mod ChainSteps
 pub mod Chains
 pub mod Held
 pub mod HeldLists
+pub mod HeldMaps
 pub mod HeldOptions
 pub mod Hollow
 pub mod SharedParts

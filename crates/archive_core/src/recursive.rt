@@ -6,6 +6,7 @@ mod chain;
 mod fields;
 mod hollow;
 mod inner;
+mod maps;
 mod naming;
 mod part_of;
 mod pooled;
@@ -25,6 +26,7 @@ pub use fields::{
 };
 pub use hollow::{BoxAt, OptionAt, VecAt};
 pub use inner::{handed_on, serialize_inner, serialize_inner_slice, serialize_part};
+pub use maps::{MapAt, before_map, collect_map, serialize_inner_map};
 pub use naming::{choice_of, define_name, option_expression, record_of, shared_expression};
 pub use part_of::{part_of_record, part_of_variant, read_part, tag_of_choice};
 pub use pooled::{begin_reading, finish_reading, part_behind};

@@ -6,6 +6,7 @@ pub mod Entries
 pub mod EntryPlaces
 pub mod EntryTurns
 pub mod FollowedPointers
+pub mod HollowRecords
 pub mod KeysAtOnce
 pub mod LegalElements
 pub mod LegalParts

@@ -9,6 +9,7 @@ ghost use Rattle.archive_schema.specs.plan.SoundPlans.{IsSound};
 ghost use Rattle.archive_schema.specs.check.LoopInvariant.{PartFits, PartsFit, ElementsFit, IsLegalHere, PartIsLegalHere, LiesLegal, IsToOpen};
 
 mod finished;
+mod hollow;
 pub mod regions;
 mod shallow;
 mod turns;

@@ -1,7 +1,6 @@
 -- Views that are compared.
 pub mod Compared
 pub mod ComparedValues
-pub mod FirstBytes
 pub mod LevelRuns
 pub mod SaidOrder
 pub mod FollowedPointers

@@ -1,4 +1,6 @@
-//! Folders: a recursive struct with tuples that lead back to it.
+//! Folders: a recursive struct with tuples and with a sorted map that lead back to it.
+
+use std::collections::BTreeMap;
 
 /// A folder.
 #[derive(Debug, PartialEq, Drop)]
@@ -7,8 +9,8 @@ pub struct Folder {
     pub id: u8,
     /// What is in it, with names, and perhaps with notes.
     pub entries: Vec<(String, Folder, Option<String>)>,
-    /// What is attached to it in twos, with places.
-    pub attached: Vec<(i8, Folder, Folder)>,
+    /// What is attached to it, by name.
+    pub attached: BTreeMap<String, Folder>,
 }
 
 // Below this line all is written by tools/derive: change what is above it, and run it again.
@@ -30,18 +32,20 @@ ghost use Rattle.archive_core.specs.Sources.{Read, ReadsAs};
 ghost use Rattle.archive_core.specs.Value.{list, value};
 ghost use Rattle.archive_core.specs.Writing.{ZeroedPlace};
 ghost use Rattle.archive_core.specs.Written.{GoesOn};
-ghost use Rattle.recursive_fields.specs.FolderMeaning.{tuple3_i8_folder_folder_keys, tuple3_i8_folder_folder_meaning, tuple3_string_folder_option_string_keys, tuple3_string_folder_option_string_meaning};
-ghost use Rattle.recursive_fields.specs.FolderShape.{folder_definitions, folder_has_layout, folder_has_parts, folder_is_align, folder_layout, folder_no_others, folder_parts, folder_shape, folder_stands_for, tuple3_i8_folder_folder_definitions, tuple3_i8_folder_folder_has_layout, tuple3_i8_folder_folder_has_parts, tuple3_i8_folder_folder_is_align, tuple3_i8_folder_folder_layout, tuple3_i8_folder_folder_no_others, tuple3_i8_folder_folder_shape, tuple3_string_folder_option_string_definitions, tuple3_string_folder_option_string_has_layout, tuple3_string_folder_option_string_has_parts, tuple3_string_folder_option_string_is_align, tuple3_string_folder_option_string_layout, tuple3_string_folder_option_string_no_others, tuple3_string_folder_option_string_shape};
+ghost use Rattle.recursive_fields.specs.FolderMeaning.{pair_string_folder_keys, pair_string_folder_meaning, tuple3_string_folder_option_string_keys, tuple3_string_folder_option_string_meaning};
+ghost use Rattle.recursive_fields.specs.FolderShape.{folder_definitions, folder_has_layout, folder_has_parts, folder_is_align, folder_layout, folder_no_others, folder_parts, folder_shape, folder_stands_for, map_string_folder_shape, pair_string_folder_definitions, pair_string_folder_has_layout, pair_string_folder_has_parts, pair_string_folder_is_align, pair_string_folder_layout, pair_string_folder_no_others, pair_string_folder_shape, tuple3_string_folder_option_string_definitions, tuple3_string_folder_option_string_has_layout, tuple3_string_folder_option_string_has_parts, tuple3_string_folder_option_string_is_align, tuple3_string_folder_option_string_layout, tuple3_string_folder_option_string_no_others, tuple3_string_folder_option_string_shape};
 ghost use Rattle.std.proofs.Common.{lit≤};
 ghost use Rattle.std.specs.Prelude.{IfErr, IfOk, None, length, refl, ◌+◌, ◌≡◌, ◌≤◌};
 
-use archive_core::core_impls::ArchivedTuple3;
+use archive_core::core_impls::{ArchivedTuple2, ArchivedTuple3};
 use archive_core::error::Error;
+use archive_core::map::{ArchivedSortedMap, SortedMapResolver};
 use archive_core::option::ArchivedOption;
 use archive_core::place::Place;
 use archive_core::recursive::{
-    VecAt, before_vec, define_name, handed_on, part_of_record, read_part, record_of,
-    resolve_named_record_3, seal_of_field, serialize_inner_slice, serialize_part, view_of_field,
+    MapAt, VecAt, before_map, before_vec, collect_map, define_name, handed_on, part_of_record,
+    read_part, record_of, resolve_named_record_3, seal_of_field, serialize_inner_map,
+    serialize_inner_slice, serialize_part, view_of_field,
 };
 use archive_core::seal::Seal;
 use archive_core::self_check::BySchema;
@@ -49,7 +53,7 @@ use archive_core::ser::{ResolverAlloc, Writer, serialize_one};
 use archive_core::shape::Defs;
 use archive_core::string::ArchivedString;
 use archive_core::traits::{
-    Archive, ArchivePointee, ArchiveUnsized, CopyOptimization, Deserialize, Entries, Keys,
+    Archive, ArchivePointee, ArchiveUnsized, CopyOptimization, Deserialize, Entries, Keys, MapKey,
     Portable, PortableParts, Record, Serialize, SerializeUnsized, expr_of_record,
 };
 use archive_core::vec::{ArchivedVec, VecResolver};
@@ -63,7 +67,7 @@ type FolderParts = (
     u8,
     (
         ArchivedVec<Tuple3StringFolderOptionString>,
-        (ArchivedVec<Tuple3I8FolderFolder>, ()),
+        (ArchivedSortedMap<ArchivedString, ArchivedFolder>, ()),
     ),
 );
 
@@ -145,17 +149,17 @@ impl Record for Tuple3StringFolderOptionString {
     ghost holds = { lit≤ tt };
 }
 
-/// `ArchivedTuple3<i8, ArchivedFolder, ArchivedFolder>` by a name, for the functions below.
-pub struct Tuple3I8FolderFolder;
+/// `ArchivedTuple2<ArchivedString, ArchivedFolder>` by a name, for the functions below.
+pub struct PairStringFolder;
 
-type Tuple3I8FolderFolderParts = (i8, (ArchivedFolder, (ArchivedFolder, ())));
+type PairStringFolderParts = (ArchivedString, (ArchivedFolder, ()));
 
-impl ArchivePointee for Tuple3I8FolderFolder {
+impl ArchivePointee for PairStringFolder {
     type ArchivedMetadata = ();
 
-    ghost pointee = { one tuple3_i8_folder_folder_shape };
+    ghost pointee = { one pair_string_folder_shape };
 
-    ghost definitions = { tuple3_i8_folder_folder_definitions };
+    ghost definitions = { pair_string_folder_definitions };
 
     ghost metadata_length = { λ _. 0 };
 
@@ -164,25 +168,25 @@ impl ArchivePointee for Tuple3I8FolderFolder {
     }
 }
 
-impl Portable for Tuple3I8FolderFolder {
-    ghost shape = { tuple3_i8_folder_folder_shape };
+impl Portable for PairStringFolder {
+    ghost shape = { pair_string_folder_shape };
 
-    ghost layout = { tuple3_i8_folder_folder_layout };
+    ghost layout = { pair_string_folder_layout };
 
     type Check = BySchema;
 
     ghost is_one = { refl };
 
-    ghost is_align = { tuple3_i8_folder_folder_is_align };
+    ghost is_align = { pair_string_folder_is_align };
 
-    ghost has_layout = { tuple3_i8_folder_folder_has_layout };
+    ghost has_layout = { pair_string_folder_has_layout };
 
-    ghost no_others = { tuple3_i8_folder_folder_no_others };
+    ghost no_others = { pair_string_folder_no_others };
 
     ghost checks = { λ direct. by_schema direct };
 
     fn size() -> usize {
-        44
+        28
     }
 
     fn align() -> usize {
@@ -190,18 +194,18 @@ impl Portable for Tuple3I8FolderFolder {
     }
 
     fn expr(alloc: Global) -> Result<archive_core::shape::Expr, Error> {
-        expr_of_record::<Tuple3I8FolderFolderParts>(alloc)
+        expr_of_record::<PairStringFolderParts>(alloc)
     }
 
     fn define(alloc: Global, defs: &mut Defs) -> Result<(), Error> {
-        <Tuple3I8FolderFolderParts as PortableParts>::define(alloc, defs)
+        <PairStringFolderParts as PortableParts>::define(alloc, defs)
     }
 }
 
-impl Record for Tuple3I8FolderFolder {
-    type Parts = Tuple3I8FolderFolderParts;
+impl Record for PairStringFolder {
+    type Parts = PairStringFolderParts;
 
-    ghost has_parts = { tuple3_i8_folder_folder_has_parts };
+    ghost has_parts = { pair_string_folder_has_parts };
 
     ghost holds = { lit≤ tt };
 }
@@ -221,14 +225,13 @@ fn tuple3_string_folder_option_string_expression(
 }
 
 // What a tuple looks like.
-fn tuple3_i8_folder_folder_expression(alloc: Global) -> Result<archive_core::shape::Expr, Error>
-    ensures shape { IfOk result (λ e. shape_of e ≡ tuple3_i8_folder_folder_shape) }
+fn pair_string_folder_expression(alloc: Global) -> Result<archive_core::shape::Expr, Error>
+    ensures shape { IfOk result (λ e. shape_of e ≡ pair_string_folder_shape) }
     ensures refused { IfErr result (λ e. e ≡ OutOfMemory) }
 {
-    let a0 = <i8 as Portable>::expr(alloc)?;
+    let a0 = <ArchivedString as Portable>::expr(alloc)?;
     let a1 = archive_core::shape::Expr::Named("ArchivedFolder");
-    let a2 = archive_core::shape::Expr::Named("ArchivedFolder");
-    let parts = vec![in alloc; a0, a1, a2]?;
+    let parts = vec![in alloc; a0, a1]?;
     Ok(record_of(parts))
 }
 
@@ -242,10 +245,10 @@ fn folder_expressions(alloc: Global) -> Result<Vec<archive_core::shape::Expr>, E
         alloc,
         tuple3_string_folder_option_string_expression(alloc)?,
     )?);
-    let a2 = archive_core::shape::Expr::Vec(Box::new(
-        alloc,
-        tuple3_i8_folder_folder_expression(alloc)?,
-    )?);
+    let a2 = archive_core::shape::Expr::Map(
+        <ArchivedString as MapKey>::key(),
+        Box::new(alloc, archive_core::shape::Expr::Named("ArchivedFolder"))?,
+    );
     Ok(vec![in alloc; a0, a1, a2]?)
 }
 
@@ -307,7 +310,10 @@ impl Record for ArchivedFolder {
 /// What is kept of `Folder` between `serialize` and `resolve`.
 #[derive(Drop)]
 pub struct FolderResolver {
-    kept: (<u8 as Archive>::Resolver, (VecResolver, (VecResolver, ()))),
+    kept: (
+        <u8 as Archive>::Resolver,
+        (VecResolver, (SortedMapResolver, ())),
+    ),
 }
 
 impl Archive for Folder {
@@ -345,11 +351,11 @@ impl Archive for Folder {
         let Place { bytes, pos, .. } = place;
         let FolderResolver { kept } = resolver;
         let h1: VecAt<Tuple3StringFolderOptionString> = VecAt::of(self.entries.len());
-        let h2: VecAt<Tuple3I8FolderFolder> = VecAt::of(self.attached.len());
+        let h2: MapAt<ArchivedString, ArchivedFolder> = MapAt::of(self.attached.len());
         resolve_named_record_3::<
             u8,
             VecAt<Tuple3StringFolderOptionString>,
-            VecAt<Tuple3I8FolderFolder>,
+            MapAt<ArchivedString, ArchivedFolder>,
             ArchivedFolder,
         >(&self.id, &h1, &h2, kept, Place::new(pos, bytes))
     }
@@ -447,77 +453,70 @@ fn serialize_vec_tuple3_string_folder_option_string<S: Writer + Keys + ResolverA
     }
 }
 
-// Writes what each of the values owns, in order.
+// Writes what each of the entries owns, in order.
 #[cycle(serialize_folder)]
-fn serialize_each_tuple3_i8_folder_folder<S: Writer + Keys + ResolverAlloc>(
-    values: &[(i8, Folder, Folder)],
+fn serialize_entries_map_string_folder<S: Writer + Keys + ResolverAlloc>(
+    values: &BTreeMap<String, Folder>,
     serializer: &mut S,
-) -> Result<Vec<<(i8, Folder, Folder) as Archive>::Resolver, S::Alloc>, Error>
-    ensures serialized { IfOk result (λ rs. SerializedRun tuple3_i8_folder_folder_definitions
-        tuple3_i8_folder_folder_shape (length values.now)
-        (each_keys ⟦<(i8, Folder, Folder) as Archive>⟧.keys values.now)
-        (each_meaning ⟦<(i8, Folder, Folder) as Archive>⟧.meaning values.now)
-        (each_flat ⟦<(i8, Folder, Folder) as Archive>⟧.flat values.now rs.items)
+) -> Result<Vec<<(String, Folder) as Archive>::Resolver, S::Alloc>, Error>
+    ensures serialized { IfOk result (λ rs. SerializedRun pair_string_folder_definitions
+        pair_string_folder_shape (length values.now.entries)
+        (each_keys ⟦<(String, Folder) as Archive>⟧.keys values.now.entries)
+        (each_meaning ⟦<(String, Folder) as Archive>⟧.meaning values.now.entries)
+        (each_flat ⟦<(String, Folder) as Archive>⟧.flat values.now.entries rs.items)
         (S.state serializer.old) (S.state serializer.new)) }
-    ensures same_values { IfOk result (λ rs. EachBelongs ⟦<(i8, Folder, Folder) as Archive>⟧.belongs
-        values.now rs.items) }
+    ensures same_values { IfOk result (λ rs. EachBelongs ⟦<(String, Folder) as Archive>⟧.belongs
+        values.now.entries rs.items) }
     ensures goes_on { GoesOn (S.state serializer.old) (S.state serializer.new) }
-    ensures refused { IfErr result (IsRunRefused tuple3_i8_folder_folder_definitions
-        tuple3_i8_folder_folder_shape (length values.now)
-        (each_keys ⟦<(i8, Folder, Folder) as Archive>⟧.keys values.now)
-        (each_meaning ⟦<(i8, Folder, Folder) as Archive>⟧.meaning values.now)
+    ensures refused { IfErr result (IsRunRefused pair_string_folder_definitions
+        pair_string_folder_shape (length values.now.entries)
+        (each_keys ⟦<(String, Folder) as Archive>⟧.keys values.now.entries)
+        (each_meaning ⟦<(String, Folder) as Archive>⟧.meaning values.now.entries)
         (S.state serializer.old) (S.state serializer.new)) }
 {
     let alloc = serializer.resolver_alloc();
     let mut resolvers = Vec::with_capacity(alloc, values.len())?;
-    for value in values {
-        let a0 = match serialize_part(&value.0, serializer) {
+    for (key, value) in values {
+        let a0 = match serialize_part(key, serializer) {
             Ok(a0) => a0,
             Err(error) => return Err(error),
         };
-        let a1 = match serialize_folder(&value.1, serializer) {
+        let a1 = match serialize_folder(value, serializer) {
             Ok(a1) => a1,
             Err(error) => return Err(handed_on(error)),
         };
-        let a2 = match serialize_folder(&value.2, serializer) {
-            Ok(a2) => a2,
-            Err(error) => return Err(error),
-        };
-        resolvers
-            .push((a0, (a1, (a2, ()))))
-            .map_err(AllocError::from)?;
+        resolvers.push((a0, (a1, ()))).map_err(AllocError::from)?;
     }
     Ok(resolvers)
 }
 
-// Writes what a vector owns.
+// Writes what a map owns.
 #[cycle(serialize_folder)]
-fn serialize_vec_tuple3_i8_folder_folder<S: Writer + Keys + ResolverAlloc>(
-    value: &Vec<(i8, Folder, Folder)>,
+fn serialize_map_string_folder<S: Writer + Keys + ResolverAlloc>(
+    value: &BTreeMap<String, Folder>,
     serializer: &mut S,
-) -> Result<VecResolver, Error>
-    ensures serialized { IfOk result (λ r. Serialized tuple3_i8_folder_folder_definitions
-        (vec tuple3_i8_folder_folder_shape) (⟦<Vec<(i8, Folder, Folder)> as Archive>⟧.keys
-        value.now) (⟦<Vec<(i8, Folder, Folder)> as Archive>⟧.meaning value.now)
-        (⟦<Vec<(i8, Folder, Folder)> as Archive>⟧.flat value.now r) (S.state serializer.old)
+) -> Result<SortedMapResolver, Error>
+    ensures serialized { IfOk result (λ r. Serialized pair_string_folder_definitions
+        map_string_folder_shape (⟦<BTreeMap<String, Folder> as Archive>⟧.keys value.now)
+        (⟦<BTreeMap<String, Folder> as Archive>⟧.meaning value.now)
+        (⟦<BTreeMap<String, Folder> as Archive>⟧.flat value.now r) (S.state serializer.old)
         (S.state serializer.new)) }
-    ensures same_value { IfOk result (λ r. ⟦<Vec<(i8, Folder, Folder)> as Archive>⟧.belongs
-        value.now r) }
+    ensures same_value { IfOk result (λ r. ⟦<BTreeMap<String, Folder> as Archive>⟧.belongs value.now
+        r) }
     ensures goes_on { GoesOn (S.state serializer.old) (S.state serializer.new) }
-    ensures refused { IfErr result (IsRefused tuple3_i8_folder_folder_definitions
-        (vec tuple3_i8_folder_folder_shape) (⟦<Vec<(i8, Folder, Folder)> as Archive>⟧.keys
-        value.now) (⟦<Vec<(i8, Folder, Folder)> as Archive>⟧.meaning value.now)
-        (S.state serializer.old) (S.state serializer.new)) }
+    ensures refused { IfErr result (IsRefused pair_string_folder_definitions map_string_folder_shape
+        (⟦<BTreeMap<String, Folder> as Archive>⟧.keys value.now)
+        (⟦<BTreeMap<String, Folder> as Archive>⟧.meaning value.now) (S.state serializer.old)
+        (S.state serializer.new)) }
 {
     if value.len() > u32::MAX as usize {
         return Err(Error::LengthTooLarge);
     }
-    let items = value.as_slice();
-    let kept = match serialize_each_tuple3_i8_folder_folder(items, serializer) {
+    let kept = match serialize_entries_map_string_folder(value, serializer) {
         Ok(kept) => kept,
         Err(error) => return Err(error),
     };
-    match serialize_inner_slice(items, kept, serializer) {
+    match serialize_inner_map(value, kept, serializer) {
         Ok(at) => Ok(at),
         Err(error) => Err(error),
     }
@@ -547,7 +546,7 @@ fn serialize_folder<S: Writer + Keys + ResolverAlloc>(
         Ok(a1) => a1,
         Err(error) => return Err(error),
     };
-    let a2 = match serialize_vec_tuple3_i8_folder_folder(&value.attached, serializer) {
+    let a2 = match serialize_map_string_folder(&value.attached, serializer) {
         Ok(a2) => a2,
         Err(error) => return Err(error),
     };
@@ -656,49 +655,47 @@ fn read_vec_tuple3_string_folder_option_string<D: Entries>(
 
 // Reads a tuple back, part by part.
 #[cycle(read_folder)]
-fn read_tuple3_i8_folder_folder<D: Entries>(
+fn read_pair_string_folder<D: Entries>(
     alloc: Global,
     part: RawView<'_>,
     deserializer: &mut D,
-) -> Result<(i8, Folder, Folder), Error>
-    requires { IsPartOf ⟦<Tuple3I8FolderFolder as ArchivePointee>⟧ part }
-    ensures read { IfOk result (λ t. ReadsPart ⟦<Tuple3I8FolderFolder as ArchivePointee>⟧ part
-        D.Entries deserializer (tuple3_i8_folder_folder_meaning t)
-        (tuple3_i8_folder_folder_keys t)) }
-    ensures refused { IfErr result (RefusesPart ⟦<Tuple3I8FolderFolder as ArchivePointee>⟧ part
+) -> Result<(String, Folder), Error>
+    requires { IsPartOf ⟦<PairStringFolder as ArchivePointee>⟧ part }
+    ensures read { IfOk result (λ t. ReadsPart ⟦<PairStringFolder as ArchivePointee>⟧ part D.Entries
+        deserializer (pair_string_folder_meaning t) (pair_string_folder_keys t)) }
+    ensures refused { IfErr result (RefusesPart ⟦<PairStringFolder as ArchivePointee>⟧ part
         D.Entries deserializer) }
 {
-    let p0 = part_of_record::<Tuple3I8FolderFolder, i8>(part, 0, 0);
-    let a0 = read_part::<i8, i8, D>(alloc, p0, deserializer)?;
-    let p1 = part_of_record::<Tuple3I8FolderFolder, ArchivedFolder>(part, 1, 4);
+    let p0 = part_of_record::<PairStringFolder, ArchivedString>(part, 0, 0);
+    let a0 = read_part::<ArchivedString, String, D>(alloc, p0, deserializer)?;
+    let p1 = part_of_record::<PairStringFolder, ArchivedFolder>(part, 1, 8);
     let a1 = read_folder(alloc, p1, deserializer)?;
-    let p2 = part_of_record::<Tuple3I8FolderFolder, ArchivedFolder>(part, 2, 24);
-    let a2 = read_folder(alloc, p2, deserializer)?;
-    Ok((a0, a1, a2))
+    Ok((a0, a1))
 }
 
-// Reads a vector back.
+// Reads a map back.
 #[cycle(read_folder)]
-fn read_vec_tuple3_i8_folder_folder<D: Entries>(
+fn read_map_string_folder<D: Entries>(
     alloc: Global,
     part: RawView<'_>,
     deserializer: &mut D,
-) -> Result<Vec<(i8, Folder, Folder)>, Error>
-    requires { IsPartOf ⟦<ArchivedVec<Tuple3I8FolderFolder> as ArchivePointee>⟧ part }
-    ensures read { IfOk result (λ t. ReadsPart ⟦<ArchivedVec<Tuple3I8FolderFolder> as ArchivePointee>⟧
-        part D.Entries deserializer (list (each_meaning tuple3_i8_folder_folder_meaning t.items))
-        (each_keys tuple3_i8_folder_folder_keys t.items)) }
-    ensures refused { IfErr result (RefusesPart ⟦<ArchivedVec<Tuple3I8FolderFolder> as ArchivePointee>⟧
-        part D.Entries deserializer) }
+) -> Result<BTreeMap<String, Folder>, Error>
+    requires { IsPartOf ⟦<ArchivedSortedMap<ArchivedString, ArchivedFolder> as ArchivePointee>⟧
+        part }
+    ensures read { IfOk result
+        (Read ⟦<ArchivedSortedMap<ArchivedString, ArchivedFolder> as ArchivePointee>⟧ part D.Entries
+        deserializer ⟦<BTreeMap<String, Folder> as Archive>⟧) }
+    ensures refused { IfErr result
+        (RefusesPart ⟦<ArchivedSortedMap<ArchivedString, ArchivedFolder> as ArchivePointee>⟧ part
+        D.Entries deserializer) }
 {
-    let view: Ref<'_, ArchivedVec<Tuple3I8FolderFolder>> = Ref::at(part);
-    let list = before_vec(view);
+    let list = before_map::<ArchivedString, ArchivedFolder, PairStringFolder>(part);
     let mut items = Vec::with_capacity(alloc, list.len())?;
     for index in 0..list.len() {
-        let item = read_tuple3_i8_folder_folder(alloc, list.index(index).part(), deserializer)?;
+        let item = read_pair_string_folder(alloc, list.index(index).part(), deserializer)?;
         items.push_reserved(item);
     }
-    Ok(items)
+    collect_map::<ArchivedString, ArchivedFolder, String, Folder>(alloc, part, items)
 }
 
 // Reads a value back, part by part.
@@ -720,8 +717,10 @@ fn read_folder<D: Entries>(
         part, 1, 4,
     );
     let a1 = read_vec_tuple3_string_folder_option_string(alloc, p1, deserializer)?;
-    let p2 = part_of_record::<ArchivedFolder, ArchivedVec<Tuple3I8FolderFolder>>(part, 2, 12);
-    let a2 = read_vec_tuple3_i8_folder_folder(alloc, p2, deserializer)?;
+    let p2 = part_of_record::<ArchivedFolder, ArchivedSortedMap<ArchivedString, ArchivedFolder>>(
+        part, 2, 12,
+    );
+    let a2 = read_map_string_folder(alloc, p2, deserializer)?;
     Ok(Folder {
         id: a0,
         entries: a1,
@@ -757,8 +756,8 @@ pub trait FolderView<'a> {
         ArchivedVec<ArchivedTuple3<ArchivedString, ArchivedFolder, ArchivedOption<ArchivedString>>>,
     >;
 
-    /// What is attached to it in twos, with places.
-    fn attached(self) -> Ref<'a, ArchivedVec<ArchivedTuple3<i8, ArchivedFolder, ArchivedFolder>>>;
+    /// What is attached to it, by name.
+    fn attached(self) -> Ref<'a, ArchivedSortedMap<ArchivedString, ArchivedFolder>>;
 }
 
 impl<'a> FolderView<'a> for Ref<'a, ArchivedFolder> {
@@ -790,16 +789,15 @@ impl<'a> FolderView<'a> for Ref<'a, ArchivedFolder> {
         >(self, 1, 4)
     }
 
-    fn attached(self) -> Ref<'a, ArchivedVec<ArchivedTuple3<i8, ArchivedFolder, ArchivedFolder>>>
+    fn attached(self) -> Ref<'a, ArchivedSortedMap<ArchivedString, ArchivedFolder>>
         ensures buffer { result.bytes.now ≡ self.entry.bytes.now }
         ensures position { result.pos ≡ self.entry.pos + 12 }
         ensures length { result.len ≡ 0 }
         ensures shows { ShowsValueOf result self.entry (field_in 2) }
     {
-        view_of_field::<
-            ArchivedFolder,
-            ArchivedVec<ArchivedTuple3<i8, ArchivedFolder, ArchivedFolder>>,
-        >(self, 2, 12)
+        view_of_field::<ArchivedFolder, ArchivedSortedMap<ArchivedString, ArchivedFolder>>(
+            self, 2, 12,
+        )
     }
 }
 
@@ -821,10 +819,8 @@ pub trait FolderSeal<'a> {
     >
         requires { sealed self };
 
-    /// What is attached to it in twos, with places.
-    fn attached_mut(
-        self,
-    ) -> Seal<'a, ArchivedVec<ArchivedTuple3<i8, ArchivedFolder, ArchivedFolder>>>
+    /// What is attached to it, by name.
+    fn attached_mut(self) -> Seal<'a, ArchivedSortedMap<ArchivedString, ArchivedFolder>>
         requires { sealed self };
 }
 
@@ -863,19 +859,17 @@ impl<'a> FolderSeal<'a> for Seal<'a, ArchivedFolder> {
         >(self, 1, 4)
     }
 
-    fn attached_mut(
-        self,
-    ) -> Seal<'a, ArchivedVec<ArchivedTuple3<i8, ArchivedFolder, ArchivedFolder>>>
+    fn attached_mut(self) -> Seal<'a, ArchivedSortedMap<ArchivedString, ArchivedFolder>>
         requires come_to { IsSealOf folder_definitions (one ⟦<ArchivedFolder as Portable>⟧.shape)
             self }
         ensures { SealsPart folder_definitions (one ⟦<ArchivedFolder as Portable>⟧.shape)
             (both no_definition (both ⟦<ArchivedFolder as ArchivePointee>⟧.definitions
-            (both ⟦<ArchivedFolder as ArchivePointee>⟧.definitions no_definition)))
-            ⟦<ArchivedVec<ArchivedTuple3<i8, ArchivedFolder, ArchivedFolder>> as ArchivePointee>⟧.pointee (self.entry.pos + 12) 0 self.entry result }
+            no_definition))
+            ⟦<ArchivedSortedMap<ArchivedString, ArchivedFolder> as ArchivePointee>⟧.pointee
+            (self.entry.pos + 12) 0 self.entry result }
     {
-        seal_of_field::<
-            ArchivedFolder,
-            ArchivedVec<ArchivedTuple3<i8, ArchivedFolder, ArchivedFolder>>,
-        >(self, 2, 12)
+        seal_of_field::<ArchivedFolder, ArchivedSortedMap<ArchivedString, ArchivedFolder>>(
+            self, 2, 12,
+        )
     }
 }

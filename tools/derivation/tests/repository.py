@@ -15,6 +15,8 @@ class RepositoryTest(unittest.TestCase):
         folder = tempfile.TemporaryDirectory()
         self.addCleanup(folder.cleanup)
         self.top = folder.name
+        self.addCleanup(os.chdir, os.getcwd())
+        os.chdir(self.top)
 
     def path(self, crate, module):
         return os.path.join(self.top, "crates", crate, "src", f"{module}.rt")

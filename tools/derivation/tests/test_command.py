@@ -176,6 +176,34 @@ class Writing(RepositoryTest):
         self.assertNotIn("\ue000", written)
         self.assertEqual(self.run_command("--check", path), (0, ""))
 
+    def test_types_that_are_met_again_and_again(self):
+        for field in ("Vec<T{0}>", "T{0}"):
+            types = "".join(f"#[derive(PartialEq, Eq, Drop)]\npub struct T{i} {{ pub x: {field.format(i + 1)}, pub y: Box<T{i + 1}> }}\n" for i in range(30))
+            self.assertEqual(self.run_command(self.put(f"{types}#[derive(PartialEq, Eq, Drop)]\npub struct T30 {{ pub x: u8 }}\n")), (0, ""))
+
+    def test_names_of_std_that_are_another_thing(self):
+        self.put("pub type Result<T> = std::result::Result<T, u8>;\n", "kinds")
+        self.put("pub enum Error { A }\npub use archive_core::view::Ref;\n", "faults")
+        point = "pub struct Point { pub x: Vec<u8> }\n"
+        for text, line, said in [
+            ("pub type Result<T> = std::result::Result<T, u8>;\n", 1, "`Result` is that of std in the written part; give this one another name"),
+            ("pub struct Ok { x: u8 }\n", 1, "`Ok` is that of std in the written part; give this one another name"),
+            ("\nuse anyhow::Result;\n", 2, "`Result` is that of std in the written part; bring this one in `as` another name"),
+            ("use std::fmt::Result;\n", 1, "`Result` is that of std in the written part; bring this one in `as` another name"),
+            ("\nuse crate::kinds::*;\n", 2, "this brings in another `Result` than that of std; name what you bring in, and this one by `as`"),
+            ("use Kind::*;\npub enum Kind { None, One }\n", 1, "this brings in another `None` than that of std; name what you bring in, and this one by `as`"),
+            ("use crate::faults::*;\nfn f(x: Error) {}\n", 1, "the written part brings in `archive_core::error::Error`; bring in by name what is named here, and `Error` by `as`"),
+        ]:
+            with self.subTest(text):
+                self.assertEqual(self.run_command(self.put(text + point)), (2, f"crates/game/src/types.rt:{line}: {said}\n"))
+        for text in ("use std::result::Result::{self, Ok};\nuse core::option::Option::*;\n", "use crate::faults::*;\n// Error\n", "use anyhow::*;\nuse crate::nowhere::*;\nuse super::faults::*;\n"):
+            with self.subTest(text):
+                self.assertEqual(self.run_command(self.put(text + point)), (0, ""))
+
+    def test_all_that_std_has(self):
+        text = "use std::collections::*;\nuse archive_core::rc::*;\npub struct A { pub x: BTreeMap<u8, Shared<u16>>, pub y: bool }\n"
+        self.assertEqual(self.run_command(self.put(text)), (0, ""))
+
     def test_a_file_keeps_its_mode_and_a_link_stays(self):
         path = self.put(POINT)
         os.chmod(path, 0o640)

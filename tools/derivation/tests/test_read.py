@@ -28,6 +28,19 @@ class Declarations(RepositoryTest):
         self.assertEqual([(v.name, v.form, len(v.fields)) for v in it.variants], [("Quit", "unit", 0), ("Key", "tuple", 1), ("Move", "struct", 2), ("Batch", "tuple", 1)])
         self.assertEqual(it.variants[1].docs, ["A key."])
 
+    def test_comments_among_words(self):
+        text = """#[derive(Debug, Drop)] // behind
+/* before */ pub /* a */ struct /* b */ Point<T /* c */ : /* d */ Clone /* e */> where T: /* f
+*/ Debug, // g
+{ pub(crate) /* h */ x: /* i */ Vec<T>, y: u8 } // j
+struct Four { y: [u8; 4 /* four */] }
+#[cfg(test)] // tests alone
+struct OfTests { x: f64 }
+"""
+        it, four = self.module(text).declarations
+        self.assertEqual((it.derives, it.visibility, it.where, it.parameters[0].bounds), (["Debug", "Drop"], "pub", "T: Debug,", "Clone"))
+        self.assertEqual(([f.visibility for f in it.fields], four.fields[0].type.length), (["pub(crate)", ""], "4"))
+
     def test_60_variants(self):
         it = self.declaration(f"enum Many {{ {', '.join(f'V{i}' for i in range(60))} }}")
         self.assertEqual(len(it.variants), 60)
@@ -120,6 +133,18 @@ struct B;
         self.assertIs(owns[3], owns[5])
         self.assertEqual(owns[6].name, "B")
 
+    def test_files_that_bring_in_all_of_each_other(self):
+        names = [f"m{i}" for i in range(8)]
+        all_of = "".join(f"use crate::{it}::*;\n" for it in names)
+        paths = [self.put(f"{all_of}pub struct S{it} {{ x: Vec<S{names[i - 1]}> }}\n" if i else f"{all_of}pub struct S{it};\n", it) for i, it in enumerate(names)]
+        self.assertEqual(read.modules(paths)[7].declarations[0].fields[0].type.args[0].own.name, "Sm6")
+        self.put(f"{all_of}pub struct A {{ x: Nowhere }}\n", "m0")
+        self.assertIn("`Nowhere` has no format here", self.refusal_of_other(paths[0]))
+
+    def test_a_name_that_leads_to_itself(self):
+        path = self.put("use self::a::b as a;\nuse crate::types::c::d as c;\npub struct A { x: a::B, y: c }\n")
+        self.assertIn("`a::B` has no format here", self.refusal_of_other(path))
+
     def test_a_root_file_is_no_module_of_its_own(self):
         it = read.modules([self.put("pub struct A;", "lib")])[0]
         self.assertEqual((it.crate, it.module), ("game", ()))
@@ -141,7 +166,3 @@ struct B;
         with self.assertRaises(Refused) as refused:
             read.modules([path])
         return refused.exception.text
-
-    def test_a_box_in_between_holds_a_parameter(self):
-        it = self.module("struct W<T>(Vec<u8>, std::marker::PhantomData<T>);\nstruct A { x: W<A> }").declarations[1]
-        self.assertFalse(it.recursive)

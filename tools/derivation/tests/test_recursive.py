@@ -119,6 +119,11 @@ class Recursive(RepositoryTest):
         self.assertLess(text.index("let a8 = archive_core::shape::Expr::Vec("), text.index("let a0 = archive_core::shape::Expr::Leaf(archive_core::shape::Kind::Number(archive_core::shape::IntegerKind::U16));"))
         self.assertIn("let a8 = match read_vec_node(alloc, p8, deserializer) {", text)
 
+    def test_an_option_beside_a_vector_is_told_with_its_type(self):
+        path = self.put("#[derive(Drop)]\npub struct Node { first: Option<Box<Node>>, below: Vec<Node> }\n")
+        self.assertEqual(self.run_command(path), (0, ""))
+        self.assertIn("ap (λ vs. ((option_keys (λ (y : (Box Node-Source Global)). (node_keys y.value)) None) ++ (vs ++ []))) ", self.beside("specs", "NodeMeaning.antt"))
+
     def test_a_variant_of_many_fields_is_resolved_by_a_function_of_the_module(self):
         path = self.put(f"#[derive(Drop)]\npub enum Item {{ Number(u32), Items(Vec<Item>, {', '.join(['u8'] * 7)}) }}\n")
         self.assertEqual(self.run_command(path), (0, ""))
@@ -146,6 +151,25 @@ class Recursive(RepositoryTest):
         self.assertIn("-serialize_json-requires g t c κs within = (omega (arith, c.decreases, no_deeper _ _ _ _ c.args.values.now ", answers)
         self.assertEqual(self.run_command("--check", path), (0, ""))
 
+    def test_a_map_is_written_by_its_entries_and_made_of_those_that_were_read(self):
+        path = self.put("use std::collections::BTreeMap;\n#[derive(Drop)]\npub enum Json { Null, Object(BTreeMap<String, Json>) }\n")
+        self.assertEqual(self.run_command(path), (0, ""))
+        text, shape, meaning = self.text(path), self.beside("specs", "JsonShape.antt"), self.beside("specs", "JsonMeaning.antt")
+        for word in ("for (key, value) in values {", "match serialize_inner_map(value, kept, serializer) {", "let h0: MapAt<ArchivedString, ArchivedJson> = MapAt::of(a0.len());"):
+            self.assertIn(word, text)
+        self.assertIn("let list = before_map::<ArchivedString, ArchivedJson, PairStringJson>(part);", text)
+        self.assertIn("Object(Ref<'a, ArchivedSortedMap<ArchivedString, ArchivedJson>>)", text)
+        self.assertIn("(part (sorted_map str_key json_shape) no_part)", shape)
+        self.assertIn("(list (each_meaning (λ y. (product (value (text_value (string_bytes y.0)) (value (m y.1) no_value)))) a0.entries))", meaning)
+        self.assertIn("(value (map_flat str_key json_shape (btree_map_len a0) s.0) no_value)", meaning)
+        self.assertEqual(self.run_command("--check", path), (0, ""))
+
+    def test_what_a_map_looks_like_is_told_beside_the_module(self):
+        path = self.put("use std::collections::BTreeMap;\n#[derive(Drop)]\npub struct Item { parts: BTreeMap<String, Item> }\n")
+        self.assertEqual(self.run_command(path), (0, ""))
+        self.assertIn("map_string_item_shape = sorted_map str_key item_shape", self.beside("specs", "ItemShape.antt"))
+        self.assertIn("Serialized pair_string_item_definitions map_string_item_shape", self.text(path).replace("\n       ", ""))
+
     def test_a_struct_has_several_vectors_of_tuples_that_lead_back(self):
         path = self.put("#[derive(Drop)]\npub struct Dir { id: u32, entries: Vec<(String, Dir)>, marks: Vec<(i32, Dir, Option<String>)> }\n")
         self.assertEqual(self.run_command(path), (0, ""))
@@ -171,6 +195,19 @@ class Recursive(RepositoryTest):
         # a layer that is mapped computes at nothing and at something alone
         for word in ("node_means_at a0 None (Some a2) = ", "node_planned_at a0 (Some a1) None = ", "node_means_roll x = node_means_at x.name x.up.value x.by.value"):
             self.assertIn(word, meaning)
+        self.assertEqual(self.run_command("--check", path), (0, ""))
+
+    def test_what_weak_pointers_in_vectors_lead_to_is_written_under_its_key(self):
+        path = self.put("use archive_core::rc::WeakShared;\n#[derive(Drop)]\npub struct Place { name: String, before: Vec<WeakShared<Place>> }\n")
+        self.assertEqual(self.run_command(path), (0, ""))
+        text, meaning = self.text(path), self.beside("specs", "PlaceMeaning.antt")
+        for word in ("fn serialize_keyed_place<", "match &value.value {", "match serialize_keyed_place(inner, whole.key, serializer) {"):
+            self.assertEqual(text.count(word), 1, word)
+        for word in ("struct WeakPlaceAt;", "fn serialize_weak_shared_place<"):
+            self.assertNotIn(word, text)
+        for word in ("(weaks_alike _ (λ (y : (Shared (Value × (List Naming)))). (shared_value y.key)) ", "(held_weaks_keyed _ "):
+            self.assertIn(word, meaning)
+        self.assertIn("(null_serialized place_definitions (one place_shape) _)", self.beside("proofs", "types", "+serialize_place", "Answers.antt"))
         self.assertEqual(self.run_command("--check", path), (0, ""))
 
     def test_calls_of_one_name_in_a_loop_are_named_after_it(self):
@@ -273,6 +310,16 @@ class Recursive(RepositoryTest):
         self.assertEqual(self.beside("specs", "SearchMeaning.antt").count("\nsearch_keyed_at "), 5)
         self.assertNotIn("serialize_box_search", self.text(path))
         self.assertIn("read_box_search", self.text(path))
+
+    def test_boxes_in_a_vector_behind_another_are_mapped_with_it_at_once(self):
+        path = self.put("#[derive(Drop)]\npub struct Fork { all: Vec<Fork>, each: Vec<Box<Fork>> }\n")
+        self.assertEqual(self.run_command(path), (0, ""))
+        self.assertIn("alike_2 (λ vs0 vs1. product (value (list vs0) (value (list vs1) no_value))) _ _ _ _ (each_mapped fork_meaning", self.beside("specs", "ForkMeaning.antt"))
+
+    def test_an_option_that_is_nothing_beside_a_vector_has_a_type(self):
+        path = self.put("#[derive(Drop)]\npub struct Fork { one: Option<Box<Fork>>, all: Vec<Fork> }\n")
+        self.assertEqual(self.run_command(path), (0, ""))
+        self.assertIn("ap (λ vs. product (value (option_meaning (λ (y : (Box Fork-Source Global)). (box (fork_meaning y.value))) None)", self.beside("specs", "ForkMeaning.antt"))
 
     def test_several_fields_that_lead_back_are_written_where_the_value_is_matched(self):
         path = self.put("#[derive(Drop)]\npub enum Sum { One(u8), Add(Box<Sum>, Box<Sum>) }\n")

@@ -71,3 +71,34 @@ class Removed(RepositoryTest):
         self.assertEqual(self.run_command(one, other), (0, ""))
         self.assertEqual(self.specs(), (["TreeMeaning", "TreeShape"], ["pub mod TreeMeaning", "pub mod TreeShape"]))
         self.assertEqual(self.run_command("--check", one, other), (0, ""))
+
+    def test_definitions_of_one_name_are_not_written_over_others(self):
+        path, other = self.put(TREE), self.put(TREE, "other")
+        self.assertEqual(self.run_command(path), (0, ""))
+        said = "crates/game/src/other.rt:2: the definitions of `Tree` would be written over those of crates/game/src/types.rt; give one of the types another name\n"
+        self.assertEqual(self.run_command(other), (2, said))
+        self.assertEqual(self.run_command(path, other), (2, said))
+        self.assertEqual(self.run_command("--check", path), (0, ""))
+        os.rename(path, self.path("game", "moved"))
+        self.assertEqual(self.run_command(other), (0, ""))
+        self.assertIn("declared.other.TreeResolver", self.text(os.path.join(self.top, "crates/game/specs/TreeMeaning.antt")))
+
+    def test_definitions_by_hand_are_not_written_over(self):
+        hand = os.path.join(self.top, "crates", "game", "specs", "TreeMeaning.antt")
+        os.makedirs(os.path.dirname(hand))
+        with open(hand, "w", encoding="utf-8") as file:
+            file.write("use x\n")
+        status, said = self.run_command(self.put(TREE))
+        self.assertEqual((status, said), (2, "crates/game/src/types.rt:2: the definitions of `Tree` would be written over those of crates/game/specs/TreeMeaning.antt; give one of the types another name\n"))
+
+    def test_a_type_at_the_root_has_files_of_its_own(self):
+        variants = ", ".join(f"V{i}" for i in range(12))
+        knot = "pub struct Knot { id: u32, next: Vec<Shared<Knot>> }\n"
+        path = self.put(f"use archive_core::rc::Shared;\n#[derive(Drop)]\npub enum Many {{ {variants}, Of(u8) }}\n{LIST}{TREE}{knot}", "lib")
+        self.assertEqual(self.run_command(path), (0, ""))
+        for folder, _, names in os.walk(os.path.join(self.top, "crates", "game")):
+            for name in names:
+                self.assertNotRegex(self.text(os.path.join(folder, name)), r"(declared|contracts|proofs)\.\.")
+        self.changed(path, TREE, "")
+        self.assertEqual(self.run_command(path), (0, ""))
+        self.assertEqual(self.specs()[0], ["KnotMeaning", "KnotShape", "ListMeaning", "ListShape"])

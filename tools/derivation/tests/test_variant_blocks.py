@@ -5,6 +5,7 @@ from unittest import mock
 
 from derivation import variant_blocks
 from derivation.loads import MOST_OF_VARIANTS, Loads
+from derivation.read import MOST_WITH_FIELDS
 
 from .repository import RepositoryTest
 
@@ -17,10 +18,10 @@ class VariantBlocks(RepositoryTest):
         return self.text(path)
 
     def test_as_many_variants_have_fields_as_are_proved(self):
-        for count, status in ((20, 0), (21, 2)):
+        for count, status in ((MOST_WITH_FIELDS, 0), (MOST_WITH_FIELDS + 1, 2)):
             path = self.put(f"pub enum A {{ X, {', '.join(f'V{i}(u8)' for i in range(count))} }}")
             self.assertEqual(self.run_command(path)[0], status)
-        said = "types.rt:1: `A` has more than 20 variants with fields, whose `resolve` isn't proved; put some into an enum of another file"
+        said = f"types.rt:1: `A` has {MOST_WITH_FIELDS + 1} variants with fields, and {MOST_WITH_FIELDS} are the most; put some into an enum of another file"
         self.assertIn(said, self.run_command(path)[1])
 
     def test_each_variant_is_in_one_block(self):

@@ -16,6 +16,7 @@ use crate::format::bytes::{
     read_u64, read_u128,
 };
 use crate::format::expr::{IntegerKind, Key, Kind};
+use crate::format::order::text_order;
 
 // The number in the byte at `p`.
 #[inline(always)]
@@ -185,7 +186,7 @@ impl Key {
     {
         match self {
             Key::Leaf(kind) => leaves_ascend(kind, bytes, first, second),
-            Key::Str => key_text(bytes, first).cmp(key_text(bytes, second)).is_lt(),
+            Key::Str => text_order(key_text(bytes, first), key_text(bytes, second)).is_lt(),
         }
     }
 

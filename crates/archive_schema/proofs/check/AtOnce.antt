@@ -22,7 +22,7 @@ use Rattle.archive_schema.specs.plan.SoundPlans.{SpanFits, ArrayFits, IsSound}
 use Rattle.archive_schema.specs.plan.Shallow.{marked, free_at, target_shallow, parts_shallow, variants_shallow, IsShallow}
 use Rattle.archive_schema.specs.check.LoopInvariant.{IsLegalHere, PartFits, PartsFit, ElementsFit, EntriesFit, Stage, stage, pending_in, Ready, Listing, cost, rank}
 use Rattle.archive_check.specs.context.FreshContexts.{HasLevels}
-use Rattle.archive_schema.specs.check.Through.{Rule, Stops, Passed, PassesFrom, TestsFrom, node_rule, parts_rule, span_rule, elements_rule}
+use Rattle.archive_schema.specs.check.Through.{Rule, Stops, Passed, PassesFrom, TestsFrom, Towards, node_rule, parts_rule, span_rule, elements_rule}
 use Rattle.archive_schema.specs.check.Turns.{TurnsFrom}
 use Rattle.std.proofs.lemmas.Bool.{and_parts}
 use Rattle.archive_check.proofs.Elements.{same_at, at_default, at_span}
@@ -176,13 +176,7 @@ test_by : {R Q : Rule} {Other : Type 0} {x y : Stage} {r : Option Bool} {fault :
 test_by {y = y} {r = Some b} h passed stopped = record { known = λ yes. passed y (h.known yes); other = h.other; none = tt }
 test_by {r = None} h passed stopped = record { known = tt; other = tt; none = stopped h.none }
 
--- a rule comes to whatever another one comes to, from one stage to the next
-pub record Towards (R Q : Rule) (x y : Stage) : Type 0 where
-  pub end : y.range.end ≡ x.range.end
-  pub depth : HasLevels x.range.depth → y.range.depth ≡ x.range.depth
-  pub leads : HasLevels x.range.depth → (pending : List ℕ) (seen : Seen) (o : Outcome) → Q pending x.range.depth x.range.end y.range.start seen o → R pending x.range.depth x.range.end x.range.start seen o
-  pub list : y.work ≡ x.work
-  pub positions : y.met ≡ x.met
+-- a rule comes to whatever another one comes to
 
 pub towards_same : {R : Rule} {x : Stage} → Towards R R x x
 towards_same = record { end = refl; depth = λ some. refl; leads = λ some pending seen o q. q; list = refl; positions = refl }

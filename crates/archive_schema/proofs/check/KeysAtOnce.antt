@@ -11,8 +11,8 @@ use Rattle.archive_check.specs.Outcomes.{Outcome, done, refused}
 use Rattle.archive_schema.specs.declared.check.Checker.{Checker}
 use Rattle.archive_schema.specs.check.Runs.{NodeRuns, OrderRuns, EntryTakes, EntriesRun, order_key, order_wrong, order_kept, entries_end, entries_key, entries_value, entries_next}
 use Rattle.archive_schema.specs.check.LoopInvariant.{Stage}
-use Rattle.archive_schema.specs.check.Through.{Rule, Passed, PassesFrom, node_rule, key_rule, order_rule, entries_rule}
-use Rattle.archive_schema.proofs.check.AtOnce.{Towards, towards_then, towards_stops, towards_end, passes_refused}
+use Rattle.archive_schema.specs.check.Through.{Rule, Passed, PassesFrom, node_rule, key_rule, order_rule, entries_rule, Towards}
+use Rattle.archive_schema.proofs.check.AtOnce.{towards_then, towards_stops, towards_end, passes_refused}
 
 -- a key, and its place behind the one before
 module _ {m : Checker} {key : KeyExpr} {j p : ℕ} {before : Option ℕ} where

@@ -1,7 +1,7 @@
 -- What each call of a check pays for the regions that it enters: four bytes for each, of those that it was given in place.
 use denote.Triple.Both.{Both}
 use denote.Ref.{MutBor}
-use Rattle.std.specs.Prelude.{ℕ, ◌+◌, ◌-◌, ◌*◌, ◌≤◌, List, [], ◌∷◌}
+use Rattle.std.specs.Prelude.{ℕ, ◌+◌, ◌-◌, ◌*◌, ◌≤◌, List, [], ◌∷◌, Option, Some, None}
 use Rattle.archive_check.specs.declared.context.Context as Context
 use Rattle.archive_schema.specs.declared.check.Checker.{Checker}
 use Rattle.archive_schema.specs.declared.check.worklist.Work.{Work}
@@ -48,3 +48,13 @@ PaysFrom m n s work s' work' = worth s' + bytes_in m work' ≤ n + (worth s + by
 -- So does a call, from one context and list to the next.
 abbrev pub Pays : {A : Type 0} → Context.Ghosts A → Checker → ℕ → Both (MutBor A) (MutBor A) → Both (MutBor Worklist) (MutBor Worklist) → Type 0
 Pays k m n c w = PaysFrom m n (k.state c.entry.now) (list_of w.entry.now) (k.state c.exit.now) (list_of w.exit.now)
+
+-- Where the first k of n elements are gone through, as the result says, the bytes of the others are left.
+abbrev pub left_of : ℕ → Option ℕ → ℕ
+left_of n None = 0
+left_of n (Some k) = n - k
+
+-- A call goes through the first of n elements of the node j, and pays by these.
+abbrev pub PaysFront : {A : Type 0} → Context.Ghosts A → Checker → ℕ → ℕ → Both (MutBor A) (MutBor A) → Both (MutBor Worklist) (MutBor Worklist) → Option ℕ → Type 0
+PaysFront k m j n c w result =
+    worth (k.state c.exit.now) + bytes_in m (list_of w.exit.now) + bytes_of_elements m j (left_of n result) ≤ bytes_of_elements m j n + (worth (k.state c.entry.now) + bytes_in m (list_of w.entry.now))

@@ -1,7 +1,7 @@
 -- What is checked at once, with nothing listed: what comes of it, whatever is seen and pending.
 use denote.Triple.Both.{Both}
 use denote.Ref.{MutBor}
-use Rattle.std.specs.Prelude.{◌≡◌, ◌≢◌, ℕ, ◌<◌, ℤ, List, Option, OnSome, IfSome, IfNone, Bool, IsTrue, false}
+use Rattle.std.specs.Prelude.{◌≡◌, ◌≢◌, ℕ, ◌+◌, ◌-◌, ◌*◌, ◌<◌, ◌≤◌, ℤ, List, Option, OnSome, IfSome, IfNone, Bool, IsTrue, false}
 use Rattle.archive_check.specs.declared.context.Context as Context
 use Rattle.archive_check.specs.declared.format.error.Error.{Error}
 use Rattle.archive_schema.specs.declared.plan.PointeeKind.{PointeeKind}
@@ -86,6 +86,24 @@ pub record PassesFrom (R : Rule) (x y : Stage) (result : Option (Unit {0})) (fau
   pub some : OnSome result (Passed R x y)
   pub none : IfNone result (Stops R x.range fault)
 
+-- A rule comes to whatever another one comes to, from one stage to the next.
+pub record Towards (R Q : Rule) (x y : Stage) : Type 0 where
+  pub end : y.range.end ≡ x.range.end
+  pub depth : HasLevels x.range.depth → y.range.depth ≡ x.range.depth
+  pub leads : HasLevels x.range.depth → (pending : List ℕ) (seen : Seen) (o : Outcome) → Q pending x.range.depth x.range.end y.range.start seen o → R pending x.range.depth x.range.end x.range.start seen o
+  pub list : y.work ≡ x.work
+  pub positions : y.met ≡ x.met
+
+-- The first of n elements of the node j, each of z bytes, are gone through, from one stage to the next.
+pub record FrontPassed (m : Checker) (j n p z : ℕ) (x y : Stage) (k : ℕ) : Type 0 where
+  pub few : k ≤ n
+  pub towards : Towards (elements_rule m j n p) (elements_rule m j (n - k) (p + k * z)) x y
+
+-- So are as many as the result says, or (None) the elements come to a refusal.
+pub record FrontFrom (m : Checker) (j n p z : ℕ) (x y : Stage) (result : Option ℕ) (fault : Error) : Type 0 where
+  pub some : IfSome result (λ k. FrontPassed m j n p z x y k)
+  pub none : IfNone result (Stops (elements_rule m j n p) x.range fault)
+
 -- It is where it is one of those that the call knows (true), and else nothing changed.
 pub record TestsFrom (R : Rule) (Other : Type 0) (x y : Stage) (result : Option Bool) (fault : Error) : Type 0 where
   pub known : IfSome result (λ known. IsTrue known → Passed R x y)
@@ -110,6 +128,10 @@ Passes k R c w result = PassesFrom R (stage_before k c w) (stage_behind k c w) r
 -- Likewise where it knows the rule.
 abbrev pub PassesIf : {A : Type 0} → Context.Ghosts A → Rule → Both (MutBor A) (MutBor A) → Both (MutBor Worklist) (MutBor Worklist) → Option Bool → Type 0
 PassesIf k R c w result = TestsFrom R (Unit {0}) (stage_before k c w) (stage_behind k c w) result w.exit.now.fault
+
+-- Likewise through the first of some elements.
+abbrev pub PassesFront : {A : Type 0} → Context.Ghosts A → Checker → ℕ → ℕ → ℕ → ℕ → Both (MutBor A) (MutBor A) → Both (MutBor Worklist) (MutBor Worklist) → Option ℕ → Type 0
+PassesFront k m j n p z c w result = FrontFrom m j n p z (stage_before k c w) (stage_behind k c w) result w.exit.now.fault
 
 -- A call goes through a region that a pointer leads to.
 abbrev pub PassesRegion : {A : Type 0} → Context.Ghosts A → Checker → PointeeKind → ℕ → ℕ → ℤ → Both (MutBor A) (MutBor A) → Both (MutBor Worklist) (MutBor Worklist) → Option (Unit {0}) → Type 0

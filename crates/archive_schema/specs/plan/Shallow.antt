@@ -32,6 +32,14 @@ free_at [] i = false
 free_at (x ∷ xs) zero = is_free x.kind
 free_at (x ∷ xs) (suc i) = free_at xs i
 
+-- Whether all these parts may be any bytes; those from a up to b are.
+abbrev pub parts_free : List Node → List Part → Bool
+parts_free nodes [] = true
+parts_free nodes (x ∷ xs) = free_at nodes x.node && parts_free nodes xs
+
+abbrev pub IsFreeSpan : List Node → List Part → ℕ → ℕ → Type 0
+IsFreeSpan nodes parts a b = IsTrue (parts_free nodes (span parts a b))
+
 -- Whether what such a pointer leads to is a text or may be any bytes.
 abbrev pub target_shallow : List Node → PointeeKind → ℕ → Bool
 target_shallow nodes One j = free_at nodes j

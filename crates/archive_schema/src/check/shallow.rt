@@ -311,7 +311,7 @@ impl Checker<'_> {
 
     /// Checks the parts from `first` up to `last`, of what begins at `base`. Each is shallow.
     #[cycle(check_shallow)]
-    fn check_shallow_parts<C: ArchiveContext>(
+    pub fn check_shallow_parts<C: ArchiveContext>(
         &self,
         first: usize,
         last: usize,

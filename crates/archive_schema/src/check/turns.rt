@@ -1,14 +1,14 @@
 //! The loop of a check: each entry of the list is opened, and leaves others in its place.
 
 ghost use Rattle.std.specs.Prelude.{◌≡◌, ◌+◌, ◌<◌, ◌≤◌, ◌∷◌, [], length, OnSome, IfNone, IsTrue};
-ghost use Rattle.archive_schema.specs.declared.check.worklist.Work.TheVariants.{Part as PartWork, Parts as PartsWork};
+ghost use Rattle.archive_schema.specs.declared.check.worklist.Work.TheVariants.{Part as PartWork, Parts as PartsWork, Elements as ElementsWork};
 ghost use Rattle.archive_schema.specs.check.Lists.{list_of};
-ghost use Rattle.archive_schema.specs.check.Runs.{pointer_bytes, before_at};
+ghost use Rattle.archive_schema.specs.check.Runs.{pointer_bytes, before_at, Takes};
 ghost use Rattle.archive_schema.specs.check.LoopInvariant.{Ready};
 ghost use Rattle.archive_check.specs.context.FreshContexts.{KeepsLevels};
 ghost use Rattle.archive_check.specs.context.Pushes.{FewPushed};
 ghost use Rattle.archive_schema.specs.plan.PackedPlans.{size_at};
-ghost use Rattle.archive_schema.specs.check.Paid.{Pays, bytes_of, bytes_of_parts};
+ghost use Rattle.archive_schema.specs.check.Paid.{Pays, bytes_of, bytes_of_parts, bytes_of_elements};
 ghost use Rattle.archive_schema.specs.check.Turns.{IsCheckable, Turn, TurnFollows, PassesRoot, StopsInRoot};
 
 use crate::check::Checker;
@@ -151,6 +151,57 @@ impl Checker<'_> {
         }
     }
 
+    /// Opens the first of the elements at `at`, each of `size` bytes, that is to be opened, and leaves the others.
+    #[inline(always)]
+    fn open_elements<C: ArchiveContext + SharedContext>(
+        &self,
+        node: usize,
+        left: usize,
+        at: usize,
+        size: usize,
+        work: &mut Worklist,
+        context: &mut C,
+    ) -> Option<()>
+        requires plan { IsCheckable self.now }
+        requires ready { Ready self.now (C.state context.old)
+            (ElementsWork node left at ∷ list_of work.old) }
+        requires size { Takes self.now node size }
+        ensures turn { Turn C.Context self.now (ElementsWork node left at) context work result }
+        ensures pays { Pays C.Context self.now (bytes_of_elements self.now node left) context
+            work }
+    {
+        let passed = self.count_passed(node, left, at, size, context);
+        if passed == left {
+            return Some(());
+        }
+        let next = at + passed * size;
+        work.more_elements(node, left - passed - 1, next + size)?;
+        self.open(node, next, work, context)
+    }
+
+    /// Checks elements at `at`, each of `size` bytes, up to the first that is opened.
+    #[inline(always)]
+    fn check_elements<C: ArchiveContext + SharedContext>(
+        &self,
+        node: usize,
+        left: usize,
+        at: usize,
+        size: usize,
+        work: &mut Worklist,
+        context: &mut C,
+    ) -> Option<()>
+        requires plan { IsCheckable self.now }
+        requires ready { Ready self.now (C.state context.old)
+            (ElementsWork node left at ∷ list_of work.old) }
+        requires size { Takes self.now node size }
+        ensures turn { Turn C.Context self.now (ElementsWork node left at) context work result }
+        ensures pays { Pays C.Context self.now (bytes_of_elements self.now node left) context
+            work }
+    {
+        let hollow = self.check_hollow(node, left, at, size, work, context)?;
+        self.open_elements(node, left - hollow, at + hollow * size, size, work, context)
+    }
+
     /// Takes one entry of the list.
     fn step<C: ArchiveContext + SharedContext>(
         &self,
@@ -172,13 +223,7 @@ impl Checker<'_> {
                     return Some(());
                 }
                 let size = element.size.unwrap_or(0);
-                let passed = self.count_passed(node, left, at, size, context);
-                if passed == left {
-                    return Some(());
-                }
-                let next = at + passed * size;
-                work.more_elements(node, left - passed - 1, next + size)?;
-                self.open(node, next, work, context)
+                self.check_elements(node, left, at, size, work, context)
             }
             Work::Entries {
                 key,

@@ -2,7 +2,7 @@
 
 ghost use Rattle.std.specs.Prelude.{◌≡◌, length, IfOk, IsTrue};
 ghost use Rattle.archive_check.specs.Words.Elements.{span};
-ghost use Rattle.archive_schema.specs.plan.Shallow.{marked, free_at, parts_shallow, variants_shallow, IsShallowSpan, AreShallowVariants, HasRange, HasSpans, shallow_in, HasItsIndexes, AreShallowIn, AreAllMarkedIn};
+ghost use Rattle.archive_schema.specs.plan.Shallow.{marked, free_at, parts_free, IsFreeSpan, parts_shallow, variants_shallow, IsShallowSpan, AreShallowVariants, HasRange, HasSpans, shallow_in, HasItsIndexes, AreShallowIn, AreAllMarkedIn};
 
 use crate::plan::growing::is_free;
 use crate::plan::{Node, NodeKind, Part, Plan, PointeeKind, Span};
@@ -22,6 +22,28 @@ fn is_free_at(nodes: &[Node], node: usize) -> bool
     node < nodes.len() && is_free(nodes[node].kind)
 }
 
+// Whether all these parts may be any bytes.
+fn are_free(nodes: &[Node], parts: &[Part]) -> bool
+    ensures { result ≡ parts_free nodes.now parts.now }
+{
+    for part in parts {
+        if !is_free_at(nodes, part.node) {
+            return false;
+        }
+    }
+    true
+}
+
+/// Whether the parts from `first` up to `last` are there, and may all be any bytes.
+pub fn is_span_free(nodes: &[Node], parts: &[Part], first: usize, last: usize) -> bool
+    ensures { IsTrue result → IsFreeSpan nodes.now parts.now first last }
+{
+    match parts.get(first..last) {
+        Some(parts) => are_free(nodes, parts),
+        None => false,
+    }
+}
+
 // Whether all these parts are marked.
 fn are_marked(marks: &[bool], parts: &[Part]) -> bool
     ensures { result ≡ parts_shallow marks.now parts.now }
@@ -34,8 +56,8 @@ fn are_marked(marks: &[bool], parts: &[Part]) -> bool
     true
 }
 
-// Whether the parts from `first` up to `last` are there, and all marked.
-fn is_span_shallow(marks: &[bool], parts: &[Part], first: usize, last: usize) -> bool
+/// Whether the parts from `first` up to `last` are there, and all marked.
+pub fn is_span_shallow(marks: &[bool], parts: &[Part], first: usize, last: usize) -> bool
     ensures sound { IsTrue result → IsShallowSpan marks.now parts.now first last }
     ensures found { HasRange parts.now first last → IsShallowSpan marks.now parts.now first last
         → IsTrue result }

@@ -1,11 +1,9 @@
 // Texts are compared by their bytes, wherever they lie, as `str` is.
 
-ghost use Rattle.std.specs.Prelude.{◌≡◌, ◌+◌, ◌≤◌, IfSome, length};
+ghost use Rattle.std.specs.Prelude.{◌≡◌, ◌≤◌, IfSome, length};
 ghost use Rattle.std.specs.Hash as fed;
 ghost use Rattle.std.specs.Cmp.Lexicographic.{slice_cmp, on_texts};
 ghost use Rattle.std.specs.Ordering.{on, nat_cmp};
-ghost use Rattle.std.specs.Simd.Lanes.{chunk};
-ghost use Rattle.std.specs.Slice.Scan.{big_endian};
 ghost use Rattle.archive_check.specs.Reads.{bytes_at};
 ghost use Rattle.archive_check.specs.Readable.{string_text};
 ghost use Rattle.archive_check.specs.Definitions.{no_definition};
@@ -15,19 +13,9 @@ ghost use Rattle.archive_types.specs.Members.OrderedParts.{texts_ordered, string
 use super::Ordered;
 use crate::string::{ArchivedStr, ArchivedString};
 use crate::view::{RawView, Ref};
+use archive_check::format::order::eight_bytes;
 use std::cmp::Ordering;
 use std::hash::{Hash, Hasher};
-
-// Eight bytes of a text, from `at` on, as a number: the first byte counts most, so that numbers are ordered as such bytes are.
-#[inline(always)]
-fn eight_bytes(text: &[u8], at: usize) -> u64
-    requires { at + 8 ≤ length text.now }
-    ensures { result ≡ big_endian 0 (chunk at 8 text.now) }
-{
-    let mut word = [0; 8];
-    word.copy_from_slice(&text[at..at + 8]);
-    u64::from_be_bytes(word)
-}
 
 // The order of two texts of sixteen bytes or more by the first sixteen, where these differ. No call is made.
 #[inline(always)]

@@ -4,8 +4,7 @@ use Rattle.archive_schema.specs.check.Lists.{list_of}
 use Rattle.archive_schema.specs.check.Paid.{bytes_in, bytes_of_parts, bytes_of_elements}
 use Rattle.archive_check.specs.Words.Elements.{span}
 use Rattle.archive_schema.specs.check.LoopInvariant.{rank}
-use Rattle.archive_schema.specs.check.Through.{parts_rule, elements_rule, stage_of}
-use Rattle.archive_schema.proofs.check.AtOnce.{Towards}
+use Rattle.archive_schema.specs.check.Through.{Towards, parts_rule, elements_rule, stage_of}
 use Rattle.archive_schema.proofs.check.Checker.+check_shallow.Given as goal
 
 abbrev pub decreases-check_shallow : goal.decreases-check_shallow

@@ -4,8 +4,7 @@ use Rattle.archive_check.specs.Layout.{key_size}
 use Rattle.archive_check.specs.context.Pushes.{worth}
 use Rattle.archive_schema.specs.check.Lists.{list_of}
 use Rattle.archive_schema.specs.check.Paid.{bytes_in, bytes_of_entries}
-use Rattle.archive_schema.specs.check.Through.{entries_rule, stage_of}
-use Rattle.archive_schema.proofs.check.AtOnce.{Towards}
+use Rattle.archive_schema.specs.check.Through.{Towards, entries_rule, stage_of}
 use Rattle.archive_schema.proofs.check.Checker.check_shallow_entries.Given as goal
 
 abbrev pub invariant-loop-index : goal.invariant-loop-index

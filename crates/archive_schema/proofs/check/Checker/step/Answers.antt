@@ -2,7 +2,7 @@ use Rattle.std.proofs.Common.{rules, ◌+◌, ◌<◌, ◌≤◌, arith, length}
 use Rattle.std.proofs.lemmas.Int.{to_z_pos}
 use mir.Syntax.{w128}
 use Rattle.archive_schema.proofs.check.LegalElements.{node_takes}
-use Rattle.archive_schema.proofs.check.TurnExits.{no_room, opens_free, opens_no_element, opens_element, element_opened, element_node, leaves, finishes, not_finished}
+use Rattle.archive_schema.proofs.check.TurnExits.{no_room, opens_free, element_node, leaves, finishes, not_finished}
 use Rattle.archive_schema.proofs.plan.PlanSizes.{entry_sizes}
 use Rattle.archive_schema.proofs.check.EntryPlaces.{entry_node, keys_fit, next_room, value_fits}
 use Rattle.archive_schema.proofs.check.EntryTurns.{opens_no_entry, key_refused, entry_opened, opens_entry}
@@ -19,38 +19,10 @@ returns-in-Free-clause-turn g c =
     let ready = rw c.in-Elements.is at c.requires.ready in
     rw c.in-Elements.is (opens_free ready (element_node ready c.index-self-node.is c.in-Free.is))
 
-pub count_passed-passed-requires-clause-size : goal.count_passed-passed-requires-clause-size
-count_passed-passed-requires-clause-size g c =
+pub check_elements-requires : goal.check_elements-requires
+check_elements-requires g c =
     let ready = rw c.in-Elements.is at c.requires.ready in
-    node_takes ready.fits.0 c.index-self-node.is c.unwrap_or-size.ensures
-
-pub count_passed-passed-requires-clause-fits : goal.count_passed-passed-requires-clause-fits
-count_passed-passed-requires-clause-fits g c =
-    let ready = rw c.in-Elements.is at c.requires.ready in
-    ready.fits.0
-
-pub returns-then-passed-left-clause-turn : goal.returns-then-passed-left-clause-turn
-returns-then-passed-left-clause-turn g c =
-    let ready = rw c.in-Elements.is at c.requires.ready in
-    let takes = node_takes ready.fits.0 c.index-self-node.is c.unwrap_or-size.ensures in
-    rw c.in-Elements.is (opens_no_element ready takes c.count_passed-passed.ensures.passed c.count_passed-passed.ensures.below c.if-passed-left.true)
-
-pub returns-in_err-more_elements-in-Elements-clause-turn : goal.returns-in_err-more_elements-in-Elements-clause-turn
-returns-in_err-more_elements-in-Elements-clause-turn g c = rw c.from_residual.ensures (no_room c.in_err-more_elements-in-Elements.ensures.none)
-
-pub open-requires-in-Elements-clause-ready : goal.open-requires-in-Elements-clause-ready
-open-requires-in-Elements-clause-ready g c =
-    let ready = rw c.in-Elements.is at c.requires.ready in
-    let takes = node_takes ready.fits.0 c.index-self-node.is c.unwrap_or-size.ensures in
-    let lt : c.count_passed-passed.result < c.in-Elements.left = omega (arith, c.if-passed-left.false, c.count_passed-passed.ensures.below) in
-    element_opened ready takes lt c.in_ok-more_elements-in-Elements.ensures.some
-
-pub returns-in_ok-more_elements-in-Elements-clause-turn : goal.returns-in_ok-more_elements-in-Elements-clause-turn
-returns-in_ok-more_elements-in-Elements-clause-turn g c =
-    let ready = rw c.in-Elements.is at c.requires.ready in
-    let takes = node_takes ready.fits.0 c.index-self-node.is c.unwrap_or-size.ensures in
-    let lt : c.count_passed-passed.result < c.in-Elements.left = omega (arith, c.if-passed-left.false, c.count_passed-passed.ensures.below) in
-    rw c.in-Elements.is (opens_element ready takes c.count_passed-passed.ensures.passed lt c.in_ok-more_elements-in-Elements.ensures.some c.open-in-Elements.ensures.turn)
+    record { plan = c.requires.plan; ready = ready; size = node_takes ready.fits.0 c.index-self-node.is c.unwrap_or-size.ensures }
 
 pub returns-then-left-eq0-clause-turn : goal.returns-then-left-eq0-clause-turn
 returns-then-left-eq0-clause-turn g c =
@@ -73,7 +45,7 @@ pub returns-in_err-check_next_key-in-Entries-clause-turn : goal.returns-in_err-c
 returns-in_err-check_next_key-in-Entries-clause-turn g c =
     let ready = rw c.in-Entries.is at c.requires.ready in
     let takes = entry_node ready.fits.0 c.index-self-value.is c.value_offset.ensures c.unwrap_or-offset.ensures c.unit_of.ensures.end c.unwrap_or-size-in-Entries.ensures in
-    rw (c.in-Entries.is, c.from_residual-in_err-check_next_key-in-Entries.ensures) (key_refused ready takes (omega (arith, c.if-left-eq0.false)) (rw c.entry_before-before.ensures at c.in_err-check_next_key-in-Entries.ensures.passes))
+    rw (c.in-Entries.is, c.from_residual.ensures) (key_refused ready takes (omega (arith, c.if-left-eq0.false)) (rw c.entry_before-before.ensures at c.in_err-check_next_key-in-Entries.ensures.passes))
 
 pub returns-in_err-more_entries-in-Entries-clause-turn : goal.returns-in_err-more_entries-in-Entries-clause-turn
 returns-in_err-more_entries-in-Entries-clause-turn g c = rw c.from_residual-in_err-more_entries-in-Entries.ensures (no_room c.in_err-more_entries-in-Entries.ensures.none)

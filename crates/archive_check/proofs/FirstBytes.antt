@@ -1,5 +1,5 @@
 -- Texts whose first bytes are compared as numbers: where the numbers differ they decide, and else what follows does.
-use Rattle.std.proofs.Common.{◌≡◌, refl, sym, ap, subst, ◌∙◌, arith, ℕ, zero, suc, ◌+◌, ◌-◌, ◌*◌, ◌<◌, ◌≤◌, List, [], ◌∷◌, length, take, drop, Fits, w8, get_or}
+use Rattle.std.proofs.Common.{◌≡◌, refl, sym, ap, subst, ◌∙◌, arith, ℕ, zero, suc, ◌+◌, ◌*◌, ◌<◌, ◌≤◌, List, [], ◌∷◌, length, take, drop, Fits, w8, get_or}
 use Rattle.std.proofs.lemmas.List.{length-drop, get_or-drop}
 use Rattle.std.specs.declared.cmp.Ordering.{Ordering}
 use Rattle.std.specs.declared.cmp.Ordering.TheVariants.{Less, Equal, Greater}
@@ -55,15 +55,10 @@ decides (suc n) a (u ∷ us) (v ∷ vs) p q g h = by (decides n (a * 256 + u) us
         let first = ap (λ r. ordering_then r (slice_cmp nat_cmp us vs)) e in
         record { apart = λ f. first ∙ t.apart f; alike = λ s. first ∙ t.alike s }
 
--- where the first words differ, they decide
-pub first_word : (us vs : List ℕ) (x y : ℕ) → Bytes us → Bytes vs → 8 ≤ length us → 8 ≤ length vs → x ≡ big_endian 0 (chunk 0 8 us) → y ≡ big_endian 0 (chunk 0 8 vs)
-    → Decides 8 us vs x y
-first_word us vs x y g h p q e f = subst (λ z. Decides 8 us vs z y) (sym e) (subst (λ z. Decides 8 us vs (big_endian 0 (take 8 us)) z) (sym f) (decides 8 0 us vs p q g h))
-
--- and where those are alike, the second ones
-pub second_word : (us vs : List ℕ) (x y : ℕ) → Bytes us → Bytes vs → 16 ≤ length us → 16 ≤ length vs → x ≡ big_endian 0 (chunk 8 8 us) → y ≡ big_endian 0 (chunk 8 8 vs)
-    → Decides 8 (drop 8 us) (drop 8 vs) x y
-second_word us vs x y g h p q e f =
-    subst (λ z. Decides 8 (drop 8 us) (drop 8 vs) z y) (sym e) (subst (λ z. Decides 8 (drop 8 us) (drop 8 vs) (big_endian 0 (chunk 8 8 us)) z) (sym f)
-    (decides 8 0 (drop 8 us) (drop 8 vs) (omega (arith, length-drop 8 us)) (omega (arith, length-drop 8 vs))
-    (λ k. subst (Fits w8) (sym (get_or-drop 8 us k 0)) (g (8 + k))) (λ k. subst (Fits w8) (sym (get_or-drop 8 vs k 0)) (h (8 + k)))))
+-- so do the n bytes from k on
+pub word_at : (n k : ℕ) (us vs : List ℕ) (x y : ℕ) → Bytes us → Bytes vs → k + n ≤ length us → k + n ≤ length vs → x ≡ big_endian 0 (chunk k n us) → y ≡ big_endian 0 (chunk k n vs)
+    → Decides n (drop k us) (drop k vs) x y
+word_at n k us vs x y g h p q e f =
+    subst (λ z. Decides n (drop k us) (drop k vs) z y) (sym e) (subst (λ z. Decides n (drop k us) (drop k vs) (big_endian 0 (chunk k n us)) z) (sym f)
+    (decides n 0 (drop k us) (drop k vs) (omega (arith, length-drop k us)) (omega (arith, length-drop k vs))
+    (λ j. subst (Fits w8) (sym (get_or-drop k us j 0)) (g (k + j))) (λ j. subst (Fits w8) (sym (get_or-drop k vs j 0)) (h (k + j)))))

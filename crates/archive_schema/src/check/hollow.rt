@@ -1,0 +1,209 @@
+//! Records that end in a run of no elements, as a tree's leaves do, are checked one after another, and nothing is listed for them.
+
+ghost use Rattle.std.specs.Prelude.{◌+◌, ◌<◌, ◌≤◌, length, IfSome, IsTrue};
+ghost use Rattle.archive_schema.specs.declared.plan.NodeKind.TheVariants.{Pointer as PointerNode};
+ghost use Rattle.archive_schema.specs.declared.plan.PointeeKind.TheVariants.{Run as RunOf};
+ghost use Rattle.archive_schema.specs.check.Runs.{IsNode, Takes};
+ghost use Rattle.archive_schema.specs.plan.SoundPlans.{IsSound};
+ghost use Rattle.archive_schema.specs.plan.Shallow.{IsShallowSpan, IsFreeSpan};
+ghost use Rattle.archive_schema.specs.check.Hollow.{IsHollow, IsEmptyAt};
+ghost use Rattle.archive_schema.specs.check.LoopInvariant.{PartFits, PartsFit, ElementsFit};
+ghost use Rattle.archive_schema.specs.check.Through.{Passes, PassesRegion, PassesFront, node_rule, parts_rule};
+ghost use Rattle.archive_schema.specs.check.Turns.{IsCheckable};
+ghost use Rattle.archive_schema.specs.plan.PackedPlans.{size_at};
+ghost use Rattle.archive_schema.specs.check.Paid.{Pays, PaysFront, bytes_of_parts, bytes_of_elements};
+
+use crate::check::Checker;
+use crate::check::regions::leave_region;
+use crate::check::worklist::Worklist;
+use crate::plan::shallow::{is_span_free, is_span_shallow};
+use crate::plan::{NodeKind, PointeeKind};
+use archive_check::context::ArchiveContext;
+use archive_check::format::bytes::{read_position, read_u32};
+
+/// A record's parts, of which the last one is a pointer to a run, and the others are shallow.
+#[derive(Clone, Copy)]
+struct Hollow {
+    // The first part.
+    first: usize,
+    // The last one,
+    end: usize,
+    // its offset,
+    offset: usize,
+    // its node,
+    node: usize,
+    // and the node that it leads to.
+    pointee: usize,
+    // Whether the others may be any bytes.
+    is_free: bool,
+}
+
+impl Checker<'_> {
+    // Checks a region of no elements.
+    #[inline(always)]
+    fn check_empty_region<C: ArchiveContext>(
+        &self,
+        pointee: usize,
+        position: i128,
+        work: &mut Worklist,
+        context: &mut C,
+    ) -> Option<()>
+        requires known { pointee < length self.now.nodes.now }
+        ensures passes { PassesRegion C.Context self.now RunOf pointee 0 position context work
+            result }
+        ensures pays { Pays C.Context self.now 4 context work }
+    {
+        let region = self.enter_region(PointeeKind::Run, pointee, 0, position, work, context)?;
+        leave_region(region.outer_start, region.outer_end, work, context)
+    }
+
+    // Checks the pointer at `at` to a run of no elements, whose node this is.
+    #[inline(always)]
+    fn check_empty_run<C: ArchiveContext>(
+        &self,
+        node: usize,
+        at: usize,
+        pointee: usize,
+        work: &mut Worklist,
+        context: &mut C,
+    ) -> Option<()>
+        requires sound { IsSound self.now }
+        requires kind { IsNode self.now node (PointerNode RunOf pointee) }
+        requires empty { IsEmptyAt self.now at }
+        requires fits { PartFits self.now node at }
+        ensures passes { Passes C.Context (node_rule self.now node at) context work result }
+        ensures pays { Pays C.Context self.now (size_at self.now.nodes.now node) context work }
+    {
+        let position = read_position(self.bytes, at, at);
+        self.check_empty_region(pointee, position, work, context)
+    }
+
+    // Checks the parts from `first` up to `last`, of what begins at `base`. Each is shallow, and mostly legal as it lies.
+    #[inline(always)]
+    fn check_front<C: ArchiveContext>(
+        &self,
+        first: usize,
+        last: usize,
+        is_free: bool,
+        base: usize,
+        work: &mut Worklist,
+        context: &mut C,
+    ) -> Option<()>
+        requires plan { IsCheckable self.now }
+        requires shallow { IsShallowSpan self.now.shallow.now self.now.parts.now first last }
+        requires free { IsTrue is_free → IsFreeSpan self.now.nodes.now self.now.parts.now first
+            last }
+        requires fits { PartsFit self.now first last base }
+        requires below { (C.state context.old).end ≤ length self.now.bytes.now }
+        ensures passes { Passes C.Context (parts_rule self.now first last base) context work
+            result }
+        ensures pays { Pays C.Context self.now (bytes_of_parts self.now first last) context work }
+    {
+        if is_free {
+            return Some(());
+        }
+        if self.first_to_open(first, last, base) >= last {
+            return Some(());
+        }
+        self.check_shallow_parts(first, last, base, work, context)
+    }
+
+    // Checks the record at `at`, whose node and whose parts these are, and whose run has no elements.
+    #[inline(always)]
+    fn check_hollow_record<C: ArchiveContext>(
+        &self,
+        node: usize,
+        parts: Hollow,
+        at: usize,
+        work: &mut Worklist,
+        context: &mut C,
+    ) -> Option<()>
+        requires plan { IsCheckable self.now }
+        requires hollow { IsHollow self.now node parts }
+        requires empty { IsEmptyAt self.now (at + parts.offset) }
+        requires fits { PartFits self.now node at }
+        requires below { (C.state context.old).end ≤ length self.now.bytes.now }
+        ensures passes { Passes C.Context (node_rule self.now node at) context work result }
+        ensures pays { Pays C.Context self.now (size_at self.now.nodes.now node) context work }
+    {
+        self.check_front(parts.first, parts.end, parts.is_free, at, work, context)?;
+        self.check_empty_run(parts.node, at + parts.offset, parts.pointee, work, context)
+    }
+
+    // Whether the run of the record at `at`, whose parts these are, has no elements.
+    #[inline(always)]
+    fn is_empty_here(&self, node: usize, parts: Hollow, at: usize) -> bool
+        requires sound { IsSound self.now }
+        requires hollow { IsHollow self.now node parts }
+        requires fits { PartFits self.now node at }
+        ensures empty { IsTrue result → IsEmptyAt self.now (at + parts.offset) }
+    {
+        read_u32(self.bytes, at + parts.offset + 4) == 0
+    }
+
+    // The parts of a node, if it is a record whose last part is a pointer to a run, and whose other parts are shallow.
+    fn hollow(&self, node: usize, size: usize) -> Option<Hollow>
+        requires plan { IsCheckable self.now }
+        requires takes { Takes self.now node size }
+        ensures { IfSome result (λ parts. IsHollow self.now node parts) }
+    {
+        let here = self.nodes[node];
+        let NodeKind::Record { first, last } = here.kind else {
+            return None;
+        };
+        if first >= last {
+            return None;
+        }
+        let end = last - 1;
+        let part = self.parts[end];
+        let there = self.nodes[part.node];
+        let NodeKind::Pointer { target, pointee } = there.kind else {
+            return None;
+        };
+        let PointeeKind::Run = target else {
+            return None;
+        };
+        if !is_span_shallow(self.shallow, self.parts, first, end) {
+            return None;
+        }
+        Some(Hollow {
+            first,
+            end,
+            offset: part.offset,
+            node: part.node,
+            pointee,
+            is_free: is_span_free(self.nodes, self.parts, first, end),
+        })
+    }
+
+    /// Checks the first of the elements at `at`, each of `size` bytes: as many as are records that end in a run of no elements, and lead to nothing else that has
+    /// to be listed. Returns how many.
+    pub fn check_hollow<C: ArchiveContext>(
+        &self,
+        node: usize,
+        count: usize,
+        at: usize,
+        size: usize,
+        work: &mut Worklist,
+        context: &mut C,
+    ) -> Option<usize>
+        requires plan { IsCheckable self.now }
+        requires fits { ElementsFit self.now node count at }
+        requires size { Takes self.now node size }
+        requires below { (C.state context.old).end ≤ length self.now.bytes.now }
+        ensures passes { PassesFront C.Context self.now node count at size context work result }
+        ensures pays { PaysFront C.Context self.now node count context work result }
+    {
+        let Some(parts) = self.hollow(node, size) else {
+            return Some(0);
+        };
+        for index in 0..count {
+            let element = at + index * size;
+            if !self.is_empty_here(node, parts, element) {
+                return Some(index);
+            }
+            self.check_hollow_record(node, parts, element, work, context)?;
+        }
+        Some(count)
+    }
+}
