@@ -1,6 +1,5 @@
 //! Types with deep fields beside others, as tools/derive writes them.
 #![tactic(auto)]
 
-pub mod pallet;
 pub mod parcel;
 pub mod shipment;

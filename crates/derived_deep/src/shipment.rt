@@ -1,4 +1,4 @@
-//! A struct of twenty-six fields, of which three are deep: they go in blocks.
+//! A struct of eighteen fields, of which three are deep: they go in blocks.
 
 /// What is sent by ship.
 #[derive(Debug, PartialEq, Drop)]
@@ -37,22 +37,6 @@ pub struct Shipment {
     pub due: u8,
     /// How many seals it has.
     pub seals: u8,
-    /// How often it was offered.
-    pub tries: u8,
-    /// The crane that lifts it.
-    pub crane: u8,
-    /// The gate at which it is taken.
-    pub gate: u8,
-    /// The shed in which it stands.
-    pub shed: u8,
-    /// The bay in the shed.
-    pub bay: u8,
-    /// How many took it.
-    pub hands: u8,
-    /// The month in which it came.
-    pub month: u8,
-    /// The day.
-    pub day: u8,
     /// When it came, in seconds.
     pub came: u64,
 }
@@ -104,7 +88,7 @@ use archive_core::validation::ArchiveContext;
 use archive_core::view::{RawView, Ref};
 use std::alloc::Global;
 
-/// An archived `Shipment`: 64 bytes at a multiple of 8.
+/// An archived `Shipment`: 56 bytes at a multiple of 8.
 pub struct ArchivedShipment;
 
 type ShipmentParts = FourParts<
@@ -274,71 +258,7 @@ impl HasField<16, u8> for Shipment {
     }
 }
 
-impl HasField<17, u8> for Shipment {
-    ghost field = { λ v. v.tries };
-
-    fn field(&self) -> &u8 {
-        &self.tries
-    }
-}
-
-impl HasField<18, u8> for Shipment {
-    ghost field = { λ v. v.crane };
-
-    fn field(&self) -> &u8 {
-        &self.crane
-    }
-}
-
-impl HasField<19, u8> for Shipment {
-    ghost field = { λ v. v.gate };
-
-    fn field(&self) -> &u8 {
-        &self.gate
-    }
-}
-
-impl HasField<20, u8> for Shipment {
-    ghost field = { λ v. v.shed };
-
-    fn field(&self) -> &u8 {
-        &self.shed
-    }
-}
-
-impl HasField<21, u8> for Shipment {
-    ghost field = { λ v. v.bay };
-
-    fn field(&self) -> &u8 {
-        &self.bay
-    }
-}
-
-impl HasField<22, u8> for Shipment {
-    ghost field = { λ v. v.hands };
-
-    fn field(&self) -> &u8 {
-        &self.hands
-    }
-}
-
-impl HasField<23, u8> for Shipment {
-    ghost field = { λ v. v.month };
-
-    fn field(&self) -> &u8 {
-        &self.month
-    }
-}
-
-impl HasField<24, u8> for Shipment {
-    ghost field = { λ v. v.day };
-
-    fn field(&self) -> &u8 {
-        &self.day
-    }
-}
-
-impl HasField<25, u64> for Shipment {
+impl HasField<17, u64> for Shipment {
     ghost field = { λ v. v.came };
 
     fn field(&self) -> &u64 {
@@ -360,28 +280,7 @@ pub struct ShipmentKept1 {
                 <String as Archive>::Resolver,
                 (
                     <u8 as Archive>::Resolver,
-                    (
-                        <u8 as Archive>::Resolver,
-                        (
-                            <u8 as Archive>::Resolver,
-                            (
-                                <u8 as Archive>::Resolver,
-                                (
-                                    <u8 as Archive>::Resolver,
-                                    (
-                                        <u8 as Archive>::Resolver,
-                                        (
-                                            <u8 as Archive>::Resolver,
-                                            (
-                                                <u8 as Archive>::Resolver,
-                                                (<u8 as Archive>::Resolver, ShipmentKept2),
-                                            ),
-                                        ),
-                                    ),
-                                ),
-                            ),
-                        ),
-                    ),
+                    (<u8 as Archive>::Resolver, (<u64 as Archive>::Resolver, ())),
                 ),
             ),
         ),
@@ -393,7 +292,7 @@ type ShipmentBlock1 = FourParts<
     ArchivedTuple2<u8, u8>,
     ArchivedString,
     u8,
-    FourParts<u8, u8, u8, u8, FourParts<u8, u8, u8, u8, ShipmentRest2>>,
+    (u8, (ArchivedU64, ())),
 >;
 
 type ShipmentFields1 = FourParts<
@@ -401,18 +300,10 @@ type ShipmentFields1 = FourParts<
     Field<13, (u8, u8)>,
     Field<14, String>,
     Field<15, u8>,
-    FourParts<
-        Field<16, u8>,
-        Field<17, u8>,
-        Field<18, u8>,
-        Field<19, u8>,
-        FourParts<Field<20, u8>, Field<21, u8>, Field<22, u8>, Field<23, u8>, ShipmentRest2>,
-    >,
+    (Field<16, u8>, (Field<17, u64>, ())),
 >;
 
 impl CheckedParts for ShipmentRest1 {
-    ghost use Rattle.derived_deep.specs.contracts.shipment.ShipmentRest2CheckedParts.TheImpl.Laws.{rises-law as rises_behind};
-
     ghost parts = { ⟦<ShipmentBlock1 as CheckedParts>⟧.parts };
 
     ghost definitions = { ⟦<ShipmentBlock1 as CheckedParts>⟧.definitions };
@@ -428,24 +319,18 @@ impl CheckedParts for ShipmentRest1 {
     ghost rises = { λ n. rises_over n 1 1 (inl refl) _
         (λ n. rises_over n 1 2 (inl refl) _ (λ n. rises_over n 4 8 (inr (inr (inl refl))) _
         (λ n. rises_over n 1 1 (inl refl) _ (λ n. rises_over n 1 1 (inl refl) _
-        (λ n. rises_over n 1 1 (inl refl) _ (λ n. rises_over n 1 1 (inl refl) _
-        (λ n. rises_over n 1 1 (inl refl) _ (λ n. rises_over n 1 1 (inl refl) _
-        (λ n. rises_over n 1 1 (inl refl) _ (λ n. rises_over n 1 1 (inl refl) _
-        (λ n. rises_over n 1 1 (inl refl) _ rises_behind))))))))))) };
+        (λ n. rises_over n 8 8 (inr (inr (inr (inl refl)))) _ no_lower))))) };
 
     ghost ordered = { λ _. record {
       plain = λ _. record { has = tt; only = tt; once = tt; root = refl; closed = tt; placed = tt };
-      ordered = λ _. (
-        [],
-        record {
-          has = tt;
-          only = tt;
-          once = tt;
-          root = refl;
-          closed = tt;
-          placed = tt;
-        },
-      );
+      ordered = λ _. ([], record {
+        has = tt;
+        only = tt;
+        once = tt;
+        root = refl;
+        closed = tt;
+        placed = tt;
+      });
     } };
 
     fn are_direct() -> bool {
@@ -473,9 +358,6 @@ impl CheckedParts for ShipmentRest1 {
 }
 
 impl PortableParts for ShipmentRest1 {
-    ghost use Rattle.derived_deep.specs.contracts.shipment.ShipmentRest2CheckedParts.TheImpl.Laws.{rises-law as rises_behind};
-    ghost use Rattle.derived_deep.specs.contracts.shipment.ShipmentRest2PortableParts.TheImpl.Laws.{begins-law as begins_behind, laid_out-law as laid_out_behind, sized-law as sized_behind, within-law as within_behind};
-
     ghost greatest = { ⟦<ShipmentBlock1 as PortableParts>⟧.greatest };
 
     ghost begin = { ⟦<ShipmentBlock1 as PortableParts>⟧.begin };
@@ -500,206 +382,66 @@ impl PortableParts for ShipmentRest1 {
           size = 1;
           align = 1;
         }) (record { solved = λ s k. refl }) _ _ _ _ (part_laid_out no_definition _
-        ⟦<u8 as Portable>⟧.shape (record { size = 1; align = 1 }) (record { solved = λ s k. refl })
-        _ _ _ _ (part_laid_out no_definition _ ⟦<u8 as Portable>⟧.shape (record {
-          size = 1;
-          align = 1;
-        }) (record { solved = λ s k. refl }) _ _ _ _ (part_laid_out no_definition _
-        ⟦<u8 as Portable>⟧.shape (record { size = 1; align = 1 }) (record { solved = λ s k. refl })
-        _ _ _ _ (part_laid_out no_definition _ ⟦<u8 as Portable>⟧.shape (record {
-          size = 1;
-          align = 1;
-        }) (record { solved = λ s k. refl }) _ _ _ _ (part_laid_out no_definition _
-        ⟦<u8 as Portable>⟧.shape (record { size = 1; align = 1 }) (record { solved = λ s k. refl })
-        _ _ _ _ (part_laid_out no_definition _ ⟦<u8 as Portable>⟧.shape (record {
-          size = 1;
-          align = 1;
-        }) (record { solved = λ s k. refl }) _ _ _ _ (part_laid_out no_definition _
-        ⟦<u8 as Portable>⟧.shape (record { size = 1; align = 1 }) (record { solved = λ s k. refl })
-        _ _ _ _ laid_out_behind))))))))))) };
+        ⟦<ArchivedU64 as Portable>⟧.shape (record { size = 8; align = 8 }) (record {
+          solved = λ s k. refl;
+        }) _ _ _ _ no_part_laid_out))))) };
 
     ghost sized = { part_sized no_definition (both (both no_definition
         (both no_definition no_definition)) (both no_definition
-        (both no_definition (both no_definition (both no_definition
-        (both no_definition (both no_definition (both no_definition
-        (both no_definition (both no_definition (both no_definition
-        ⟦<ShipmentRest2 as CheckedParts>⟧.definitions))))))))))) ⟦<u8 as Portable>⟧.shape (record {
-          size = 1;
-          align = 1;
-        }) (record { solved = λ s k. refl }) (part ⟦<ArchivedTuple2<u8, u8> as Portable>⟧.shape
+        (both no_definition (both no_definition (both no_definition no_definition)))))
+        ⟦<u8 as Portable>⟧.shape (record { size = 1; align = 1 }) (record { solved = λ s k. refl })
+        (part ⟦<ArchivedTuple2<u8, u8> as Portable>⟧.shape
         (part ⟦<ArchivedString as Portable>⟧.shape (part ⟦<u8 as Portable>⟧.shape
-        (part ⟦<u8 as Portable>⟧.shape (part ⟦<u8 as Portable>⟧.shape
-        (part ⟦<u8 as Portable>⟧.shape (part ⟦<u8 as Portable>⟧.shape
-        (part ⟦<u8 as Portable>⟧.shape (part ⟦<u8 as Portable>⟧.shape
-        (part ⟦<u8 as Portable>⟧.shape (part ⟦<u8 as Portable>⟧.shape
-        ⟦<ShipmentRest2 as CheckedParts>⟧.parts)))))))))))
-        (first_or 2 (first_or 8 (first_or 1 (first_or 1
-        (first_or 1 (first_or 1 (first_or 1 (first_or 1
-        (first_or 1 (first_or 1 (first_or 1 ⟦<ShipmentRest2 as PortableParts>⟧.size_at)))))))))))
+        (part ⟦<u8 as Portable>⟧.shape (part ⟦<ArchivedU64 as Portable>⟧.shape no_part)))))
+        (first_or 2 (first_or 8 (first_or 1 (first_or 1 (first_or 8 (λ i. 0))))))
         (part_sized (both no_definition (both no_definition no_definition))
         (both no_definition (both no_definition (both no_definition
-        (both no_definition (both no_definition (both no_definition
-        (both no_definition (both no_definition (both no_definition
-        (both no_definition ⟦<ShipmentRest2 as CheckedParts>⟧.definitions))))))))))
-        ⟦<ArchivedTuple2<u8, u8> as Portable>⟧.shape (record { size = 2; align = 1 }) (record {
+        (both no_definition no_definition)))) ⟦<ArchivedTuple2<u8, u8> as Portable>⟧.shape
+        (record { size = 2; align = 1 }) (record { solved = λ s k. refl })
+        (part ⟦<ArchivedString as Portable>⟧.shape (part ⟦<u8 as Portable>⟧.shape
+        (part ⟦<u8 as Portable>⟧.shape (part ⟦<ArchivedU64 as Portable>⟧.shape no_part))))
+        (first_or 8 (first_or 1 (first_or 1 (first_or 8 (λ i. 0)))))
+        (part_sized no_definition (both no_definition (both no_definition
+        (both no_definition no_definition))) ⟦<ArchivedString as Portable>⟧.shape (record {
+          size = 8;
+          align = 4;
+        }) (record { solved = λ s k. refl }) (part ⟦<u8 as Portable>⟧.shape
+        (part ⟦<u8 as Portable>⟧.shape (part ⟦<ArchivedU64 as Portable>⟧.shape no_part)))
+        (first_or 1 (first_or 1 (first_or 8 (λ i. 0))))
+        (part_sized no_definition (both no_definition (both no_definition no_definition))
+        ⟦<u8 as Portable>⟧.shape (record { size = 1; align = 1 }) (record { solved = λ s k. refl })
+        (part ⟦<u8 as Portable>⟧.shape (part ⟦<ArchivedU64 as Portable>⟧.shape no_part))
+        (first_or 1 (first_or 8 (λ i. 0))) (part_sized no_definition
+        (both no_definition no_definition) ⟦<u8 as Portable>⟧.shape (record { size = 1; align = 1 })
+        (record { solved = λ s k. refl }) (part ⟦<ArchivedU64 as Portable>⟧.shape no_part)
+        (first_or 8 (λ i. 0)) (part_sized no_definition no_definition
+        ⟦<ArchivedU64 as Portable>⟧.shape (record { size = 8; align = 8 }) (record {
           solved = λ s k. refl;
-        }) (part ⟦<ArchivedString as Portable>⟧.shape (part ⟦<u8 as Portable>⟧.shape
-        (part ⟦<u8 as Portable>⟧.shape (part ⟦<u8 as Portable>⟧.shape
-        (part ⟦<u8 as Portable>⟧.shape (part ⟦<u8 as Portable>⟧.shape
-        (part ⟦<u8 as Portable>⟧.shape (part ⟦<u8 as Portable>⟧.shape
-        (part ⟦<u8 as Portable>⟧.shape (part ⟦<u8 as Portable>⟧.shape
-        ⟦<ShipmentRest2 as CheckedParts>⟧.parts))))))))))
-        (first_or 8 (first_or 1 (first_or 1 (first_or 1
-        (first_or 1 (first_or 1 (first_or 1 (first_or 1
-        (first_or 1 (first_or 1 ⟦<ShipmentRest2 as PortableParts>⟧.size_at))))))))))
-        (part_sized no_definition (both no_definition (both no_definition
-        (both no_definition (both no_definition (both no_definition
-        (both no_definition (both no_definition (both no_definition
-        (both no_definition ⟦<ShipmentRest2 as CheckedParts>⟧.definitions)))))))))
-        ⟦<ArchivedString as Portable>⟧.shape (record { size = 8; align = 4 }) (record {
-          solved = λ s k. refl;
-        }) (part ⟦<u8 as Portable>⟧.shape (part ⟦<u8 as Portable>⟧.shape
-        (part ⟦<u8 as Portable>⟧.shape (part ⟦<u8 as Portable>⟧.shape
-        (part ⟦<u8 as Portable>⟧.shape (part ⟦<u8 as Portable>⟧.shape
-        (part ⟦<u8 as Portable>⟧.shape (part ⟦<u8 as Portable>⟧.shape
-        (part ⟦<u8 as Portable>⟧.shape ⟦<ShipmentRest2 as CheckedParts>⟧.parts)))))))))
-        (first_or 1 (first_or 1 (first_or 1 (first_or 1
-        (first_or 1 (first_or 1 (first_or 1 (first_or 1
-        (first_or 1 ⟦<ShipmentRest2 as PortableParts>⟧.size_at)))))))))
-        (part_sized no_definition (both no_definition (both no_definition
-        (both no_definition (both no_definition (both no_definition
-        (both no_definition (both no_definition (both no_definition
-        ⟦<ShipmentRest2 as CheckedParts>⟧.definitions)))))))) ⟦<u8 as Portable>⟧.shape (record {
-          size = 1;
-          align = 1;
-        }) (record { solved = λ s k. refl }) (part ⟦<u8 as Portable>⟧.shape
-        (part ⟦<u8 as Portable>⟧.shape (part ⟦<u8 as Portable>⟧.shape
-        (part ⟦<u8 as Portable>⟧.shape (part ⟦<u8 as Portable>⟧.shape
-        (part ⟦<u8 as Portable>⟧.shape (part ⟦<u8 as Portable>⟧.shape
-        (part ⟦<u8 as Portable>⟧.shape ⟦<ShipmentRest2 as CheckedParts>⟧.parts))))))))
-        (first_or 1 (first_or 1 (first_or 1 (first_or 1
-        (first_or 1 (first_or 1 (first_or 1 (first_or 1
-        ⟦<ShipmentRest2 as PortableParts>⟧.size_at))))))))
-        (part_sized no_definition (both no_definition (both no_definition
-        (both no_definition (both no_definition (both no_definition
-        (both no_definition (both no_definition ⟦<ShipmentRest2 as CheckedParts>⟧.definitions)))))))
-        ⟦<u8 as Portable>⟧.shape (record { size = 1; align = 1 }) (record { solved = λ s k. refl })
-        (part ⟦<u8 as Portable>⟧.shape (part ⟦<u8 as Portable>⟧.shape
-        (part ⟦<u8 as Portable>⟧.shape (part ⟦<u8 as Portable>⟧.shape
-        (part ⟦<u8 as Portable>⟧.shape (part ⟦<u8 as Portable>⟧.shape
-        (part ⟦<u8 as Portable>⟧.shape ⟦<ShipmentRest2 as CheckedParts>⟧.parts)))))))
-        (first_or 1 (first_or 1 (first_or 1 (first_or 1
-        (first_or 1 (first_or 1 (first_or 1 ⟦<ShipmentRest2 as PortableParts>⟧.size_at)))))))
-        (part_sized no_definition (both no_definition (both no_definition
-        (both no_definition (both no_definition (both no_definition
-        (both no_definition ⟦<ShipmentRest2 as CheckedParts>⟧.definitions))))))
-        ⟦<u8 as Portable>⟧.shape (record { size = 1; align = 1 }) (record { solved = λ s k. refl })
-        (part ⟦<u8 as Portable>⟧.shape (part ⟦<u8 as Portable>⟧.shape
-        (part ⟦<u8 as Portable>⟧.shape (part ⟦<u8 as Portable>⟧.shape
-        (part ⟦<u8 as Portable>⟧.shape (part ⟦<u8 as Portable>⟧.shape
-        ⟦<ShipmentRest2 as CheckedParts>⟧.parts)))))) (first_or 1
-        (first_or 1 (first_or 1 (first_or 1 (first_or 1
-        (first_or 1 ⟦<ShipmentRest2 as PortableParts>⟧.size_at))))))
-        (part_sized no_definition (both no_definition (both no_definition
-        (both no_definition (both no_definition (both no_definition
-        ⟦<ShipmentRest2 as CheckedParts>⟧.definitions))))) ⟦<u8 as Portable>⟧.shape (record {
-          size = 1;
-          align = 1;
-        }) (record { solved = λ s k. refl }) (part ⟦<u8 as Portable>⟧.shape
-        (part ⟦<u8 as Portable>⟧.shape (part ⟦<u8 as Portable>⟧.shape
-        (part ⟦<u8 as Portable>⟧.shape (part ⟦<u8 as Portable>⟧.shape
-        ⟦<ShipmentRest2 as CheckedParts>⟧.parts))))) (first_or 1
-        (first_or 1 (first_or 1 (first_or 1 (first_or 1
-        ⟦<ShipmentRest2 as PortableParts>⟧.size_at)))))
-        (part_sized no_definition (both no_definition (both no_definition
-        (both no_definition (both no_definition ⟦<ShipmentRest2 as CheckedParts>⟧.definitions))))
-        ⟦<u8 as Portable>⟧.shape (record { size = 1; align = 1 }) (record { solved = λ s k. refl })
-        (part ⟦<u8 as Portable>⟧.shape (part ⟦<u8 as Portable>⟧.shape
-        (part ⟦<u8 as Portable>⟧.shape (part ⟦<u8 as Portable>⟧.shape
-        ⟦<ShipmentRest2 as CheckedParts>⟧.parts)))) (first_or 1
-        (first_or 1 (first_or 1 (first_or 1 ⟦<ShipmentRest2 as PortableParts>⟧.size_at))))
-        (part_sized no_definition (both no_definition (both no_definition
-        (both no_definition ⟦<ShipmentRest2 as CheckedParts>⟧.definitions)))
-        ⟦<u8 as Portable>⟧.shape (record { size = 1; align = 1 }) (record { solved = λ s k. refl })
-        (part ⟦<u8 as Portable>⟧.shape (part ⟦<u8 as Portable>⟧.shape
-        (part ⟦<u8 as Portable>⟧.shape ⟦<ShipmentRest2 as CheckedParts>⟧.parts)))
-        (first_or 1 (first_or 1 (first_or 1 ⟦<ShipmentRest2 as PortableParts>⟧.size_at)))
-        (part_sized no_definition (both no_definition (both no_definition
-        ⟦<ShipmentRest2 as CheckedParts>⟧.definitions)) ⟦<u8 as Portable>⟧.shape (record {
-          size = 1;
-          align = 1;
-        }) (record { solved = λ s k. refl }) (part ⟦<u8 as Portable>⟧.shape
-        (part ⟦<u8 as Portable>⟧.shape ⟦<ShipmentRest2 as CheckedParts>⟧.parts))
-        (first_or 1 (first_or 1 ⟦<ShipmentRest2 as PortableParts>⟧.size_at))
-        (part_sized no_definition (both no_definition ⟦<ShipmentRest2 as CheckedParts>⟧.definitions)
-        ⟦<u8 as Portable>⟧.shape (record { size = 1; align = 1 }) (record { solved = λ s k. refl })
-        (part ⟦<u8 as Portable>⟧.shape ⟦<ShipmentRest2 as CheckedParts>⟧.parts)
-        (first_or 1 ⟦<ShipmentRest2 as PortableParts>⟧.size_at)
-        (part_sized no_definition ⟦<ShipmentRest2 as CheckedParts>⟧.definitions
-        ⟦<u8 as Portable>⟧.shape (record { size = 1; align = 1 }) (record { solved = λ s k. refl })
-        ⟦<ShipmentRest2 as CheckedParts>⟧.parts ⟦<ShipmentRest2 as PortableParts>⟧.size_at
-        sized_behind))))))))))) };
+        }) no_part (λ i. 0) no_part_sized))))) };
 
     ghost no_others = { no_definition_reached (parts (part ⟦<u8 as Portable>⟧.shape
         (part ⟦<ArchivedTuple2<u8, u8> as Portable>⟧.shape
         (part ⟦<ArchivedString as Portable>⟧.shape (part ⟦<u8 as Portable>⟧.shape
-        (part ⟦<u8 as Portable>⟧.shape (part ⟦<u8 as Portable>⟧.shape
-        (part ⟦<u8 as Portable>⟧.shape (part ⟦<u8 as Portable>⟧.shape
-        (part ⟦<u8 as Portable>⟧.shape (part ⟦<u8 as Portable>⟧.shape
-        (part ⟦<u8 as Portable>⟧.shape (part ⟦<u8 as Portable>⟧.shape
-        ⟦<ShipmentRest2 as CheckedParts>⟧.parts))))))))))))) };
+        (part ⟦<u8 as Portable>⟧.shape (part ⟦<ArchivedU64 as Portable>⟧.shape no_part))))))) };
 
     ghost begins = { λ n. begins_over n 1 1 (inl refl) _
         (λ n. begins_over n 1 2 (inl refl) _ (λ n. begins_over n 4 8 (inr (inr (inl refl))) _
         (λ n. begins_over n 1 1 (inl refl) _ (λ n. begins_over n 1 1 (inl refl) _
-        (λ n. begins_over n 1 1 (inl refl) _ (λ n. begins_over n 1 1 (inl refl) _
-        (λ n. begins_over n 1 1 (inl refl) _ (λ n. begins_over n 1 1 (inl refl) _
-        (λ n. begins_over n 1 1 (inl refl) _ (λ n. begins_over n 1 1 (inl refl) _
-        (λ n. begins_over n 1 1 (inl refl) _ begins_behind))))))))))) };
+        (λ n. begins_over n 8 8 (inr (inr (inr (inl refl)))) _ begins_at))))) };
 
     ghost within = { λ n. within_over (up n 1) 1 _ _ _
         (λ n. rises_over n 1 2 (inl refl) _ (λ n. rises_over n 4 8 (inr (inr (inl refl))) _
         (λ n. rises_over n 1 1 (inl refl) _ (λ n. rises_over n 1 1 (inl refl) _
-        (λ n. rises_over n 1 1 (inl refl) _ (λ n. rises_over n 1 1 (inl refl) _
-        (λ n. rises_over n 1 1 (inl refl) _ (λ n. rises_over n 1 1 (inl refl) _
-        (λ n. rises_over n 1 1 (inl refl) _ (λ n. rises_over n 1 1 (inl refl) _
-        (λ n. rises_over n 1 1 (inl refl) _ rises_behind)))))))))))
+        (λ n. rises_over n 8 8 (inr (inr (inr (inl refl)))) _ no_lower)))))
         (λ n. within_over (up n 1) 2 _ _ _ (λ n. rises_over n 4 8 (inr (inr (inl refl))) _
         (λ n. rises_over n 1 1 (inl refl) _ (λ n. rises_over n 1 1 (inl refl) _
-        (λ n. rises_over n 1 1 (inl refl) _ (λ n. rises_over n 1 1 (inl refl) _
-        (λ n. rises_over n 1 1 (inl refl) _ (λ n. rises_over n 1 1 (inl refl) _
-        (λ n. rises_over n 1 1 (inl refl) _ (λ n. rises_over n 1 1 (inl refl) _
-        (λ n. rises_over n 1 1 (inl refl) _ rises_behind))))))))))
+        (λ n. rises_over n 8 8 (inr (inr (inr (inl refl)))) _ no_lower))))
         (λ n. within_over (up n 4) 8 _ _ _ (λ n. rises_over n 1 1 (inl refl) _
-        (λ n. rises_over n 1 1 (inl refl) _ (λ n. rises_over n 1 1 (inl refl) _
-        (λ n. rises_over n 1 1 (inl refl) _ (λ n. rises_over n 1 1 (inl refl) _
-        (λ n. rises_over n 1 1 (inl refl) _ (λ n. rises_over n 1 1 (inl refl) _
-        (λ n. rises_over n 1 1 (inl refl) _ (λ n. rises_over n 1 1 (inl refl) _
-        rises_behind))))))))) (λ n. within_over (up n 1) 1 _ _ _
-        (λ n. rises_over n 1 1 (inl refl) _ (λ n. rises_over n 1 1 (inl refl) _
-        (λ n. rises_over n 1 1 (inl refl) _ (λ n. rises_over n 1 1 (inl refl) _
-        (λ n. rises_over n 1 1 (inl refl) _ (λ n. rises_over n 1 1 (inl refl) _
-        (λ n. rises_over n 1 1 (inl refl) _ (λ n. rises_over n 1 1 (inl refl) _ rises_behind))))))))
-        (λ n. within_over (up n 1) 1 _ _ _ (λ n. rises_over n 1 1 (inl refl) _
-        (λ n. rises_over n 1 1 (inl refl) _ (λ n. rises_over n 1 1 (inl refl) _
-        (λ n. rises_over n 1 1 (inl refl) _ (λ n. rises_over n 1 1 (inl refl) _
-        (λ n. rises_over n 1 1 (inl refl) _ (λ n. rises_over n 1 1 (inl refl) _ rises_behind)))))))
-        (λ n. within_over (up n 1) 1 _ _ _ (λ n. rises_over n 1 1 (inl refl) _
-        (λ n. rises_over n 1 1 (inl refl) _ (λ n. rises_over n 1 1 (inl refl) _
-        (λ n. rises_over n 1 1 (inl refl) _ (λ n. rises_over n 1 1 (inl refl) _
-        (λ n. rises_over n 1 1 (inl refl) _ rises_behind))))))
-        (λ n. within_over (up n 1) 1 _ _ _ (λ n. rises_over n 1 1 (inl refl) _
-        (λ n. rises_over n 1 1 (inl refl) _ (λ n. rises_over n 1 1 (inl refl) _
-        (λ n. rises_over n 1 1 (inl refl) _ (λ n. rises_over n 1 1 (inl refl) _ rises_behind)))))
-        (λ n. within_over (up n 1) 1 _ _ _ (λ n. rises_over n 1 1 (inl refl) _
-        (λ n. rises_over n 1 1 (inl refl) _ (λ n. rises_over n 1 1 (inl refl) _
-        (λ n. rises_over n 1 1 (inl refl) _ rises_behind))))
-        (λ n. within_over (up n 1) 1 _ _ _ (λ n. rises_over n 1 1 (inl refl) _
-        (λ n. rises_over n 1 1 (inl refl) _ (λ n. rises_over n 1 1 (inl refl) _ rises_behind)))
-        (λ n. within_over (up n 1) 1 _ _ _ (λ n. rises_over n 1 1 (inl refl) _
-        (λ n. rises_over n 1 1 (inl refl) _ rises_behind))
-        (λ n. within_over (up n 1) 1 _ _ _ (λ n. rises_over n 1 1 (inl refl) _ rises_behind)
-        (λ n. within_over (up n 1) 1 _ _ _ rises_behind within_behind))))))))))) };
+        (λ n. rises_over n 1 1 (inl refl) _ (λ n. rises_over n 8 8 (inr (inr (inr (inl refl)))) _
+        no_lower))) (λ n. within_over (up n 1) 1 _ _ _ (λ n. rises_over n 1 1 (inl refl) _
+        (λ n. rises_over n 8 8 (inr (inr (inr (inl refl)))) _ no_lower))
+        (λ n. within_over (up n 1) 1 _ _ _ (λ n. rises_over n 8 8 (inr (inr (inr (inl refl)))) _
+        no_lower) (λ n. within_over (up n 8) 8 _ _ _ no_lower within_at))))) };
 
     fn align() -> usize {
         <ShipmentBlock1 as PortableParts>::align()
@@ -715,7 +457,10 @@ impl PortableParts for ShipmentRest1 {
         <ShipmentBlock1 as PortableParts>::offset_from(start, i)
     }
 
-    fn push_exprs(alloc: Global, list: &mut Vec<archive_core::shape::Expr>) -> Result<(), Error> {
+    fn push_exprs(
+        alloc: Global,
+        list: &mut Vec<archive_core::shape::Expr>,
+    ) -> Result<(), Error> {
         <ShipmentBlock1 as PortableParts>::push_exprs(alloc, list)
     }
 
@@ -742,11 +487,7 @@ impl SourceParts<Shipment> for ShipmentRest1 {
           (record_keyed (part_keyed (number_keyed _) (part_keyed (number_keyed _) nothing_keyed)))
           (part_keyed (text_keyed (string_bytes v.sender))
           (part_keyed (number_keyed _) (part_keyed (number_keyed _)
-          (part_keyed (number_keyed _) (part_keyed (number_keyed _)
-          (part_keyed (number_keyed _) (part_keyed (number_keyed _)
-          (part_keyed (number_keyed _) (part_keyed (number_keyed _)
-          (part_keyed (number_keyed _) (part_keyed (number_keyed _)
-          (part_keyed (number_keyed _) nothing_keyed)))))))))))));
+          (part_keyed (number_keyed _) nothing_keyed)))));
     } };
 
     ghost planned = { record {
@@ -772,25 +513,9 @@ impl SourceParts<Shipment> for ShipmentRest1 {
           (⟦<u8 as Archive>⟧.meaning v.due) (leaf_planned no_definition _ _ [] _ refl)
           (part_planned no_definition ⟦<u8 as Portable>⟧.shape (⟦<u8 as Archive>⟧.keys v.seals)
           (⟦<u8 as Archive>⟧.meaning v.seals) (leaf_planned no_definition _ _ [] _ refl)
-          (part_planned no_definition ⟦<u8 as Portable>⟧.shape (⟦<u8 as Archive>⟧.keys v.tries)
-          (⟦<u8 as Archive>⟧.meaning v.tries) (leaf_planned no_definition _ _ [] _ refl)
-          (part_planned no_definition ⟦<u8 as Portable>⟧.shape (⟦<u8 as Archive>⟧.keys v.crane)
-          (⟦<u8 as Archive>⟧.meaning v.crane) (leaf_planned no_definition _ _ [] _ refl)
-          (part_planned no_definition ⟦<u8 as Portable>⟧.shape (⟦<u8 as Archive>⟧.keys v.gate)
-          (⟦<u8 as Archive>⟧.meaning v.gate) (leaf_planned no_definition _ _ [] _ refl)
-          (part_planned no_definition ⟦<u8 as Portable>⟧.shape (⟦<u8 as Archive>⟧.keys v.shed)
-          (⟦<u8 as Archive>⟧.meaning v.shed) (leaf_planned no_definition _ _ [] _ refl)
-          (part_planned no_definition ⟦<u8 as Portable>⟧.shape (⟦<u8 as Archive>⟧.keys v.bay)
-          (⟦<u8 as Archive>⟧.meaning v.bay) (leaf_planned no_definition _ _ [] _ refl)
-          (part_planned no_definition ⟦<u8 as Portable>⟧.shape (⟦<u8 as Archive>⟧.keys v.hands)
-          (⟦<u8 as Archive>⟧.meaning v.hands) (leaf_planned no_definition _ _ [] _ refl)
-          (part_planned no_definition ⟦<u8 as Portable>⟧.shape (⟦<u8 as Archive>⟧.keys v.month)
-          (⟦<u8 as Archive>⟧.meaning v.month) (leaf_planned no_definition _ _ [] _ refl)
-          (part_planned no_definition ⟦<u8 as Portable>⟧.shape (⟦<u8 as Archive>⟧.keys v.day)
-          (⟦<u8 as Archive>⟧.meaning v.day) (leaf_planned no_definition _ _ [] _ refl)
           (part_planned no_definition ⟦<ArchivedU64 as Portable>⟧.shape
           (⟦<u64 as Archive>⟧.keys v.came) (⟦<u64 as Archive>⟧.meaning v.came)
-          (leaf_planned no_definition _ _ [] _ refl) no_part_planned)))))))))))));
+          (leaf_planned no_definition _ _ [] _ refl) no_part_planned)))));
     } };
 
     #[inline(always)]
@@ -816,13 +541,7 @@ impl<S: Writer + ResolverAlloc<Alloc = Global>> SerializeParts<Shipment, S> for 
     }
 }
 
-type ShipmentValues1 = FourParts<
-    u8,
-    (u8, u8),
-    String,
-    u8,
-    FourParts<u8, u8, u8, u8, FourParts<u8, u8, u8, u8, ShipmentOwned2>>,
->;
+type ShipmentValues1 = FourParts<u8, (u8, u8), String, u8, (u8, (u64, ()))>;
 
 /// Their values, as they are read back.
 pub struct ShipmentOwned1 {
@@ -857,215 +576,6 @@ impl<D: Entries> DeserializeParts<ShipmentOwned1, D> for ShipmentRest1 {
     }
 }
 
-/// The fields of `Shipment` from `day` on, as one type: it has no values.
-pub struct ShipmentRest2;
-
-/// What is kept of them between `serialize` and `resolve`.
-#[derive(Drop)]
-pub struct ShipmentKept2 {
-    kept: (<u8 as Archive>::Resolver, (<u64 as Archive>::Resolver, ())),
-}
-
-type ShipmentBlock2 = (u8, (ArchivedU64, ()));
-
-type ShipmentFields2 = (Field<24, u8>, (Field<25, u64>, ()));
-
-impl CheckedParts for ShipmentRest2 {
-    ghost parts = { ⟦<ShipmentBlock2 as CheckedParts>⟧.parts };
-
-    ghost definitions = { ⟦<ShipmentBlock2 as CheckedParts>⟧.definitions };
-
-    ghost end = { ⟦<ShipmentBlock2 as CheckedParts>⟧.end };
-
-    ghost direct = { ⟦<ShipmentBlock2 as CheckedParts>⟧.direct };
-
-    ghost nameless = { ⟦<ShipmentBlock2 as CheckedParts>⟧.nameless };
-
-    ghost lone = { ⟦<ShipmentBlock2 as CheckedParts>⟧.lone };
-
-    ghost rises = { λ n. rises_over n 1 1 (inl refl) _
-        (λ n. rises_over n 8 8 (inr (inr (inr (inl refl)))) _ no_lower) };
-
-    ghost ordered = { λ _. record {
-      plain = λ _. record { has = tt; only = tt; once = tt; root = refl; closed = tt; placed = tt };
-      ordered = λ _. (
-        [],
-        record {
-          has = tt;
-          only = tt;
-          once = tt;
-          root = refl;
-          closed = tt;
-          placed = tt;
-        },
-      );
-    } };
-
-    fn are_direct() -> bool {
-        <ShipmentBlock2 as CheckedParts>::are_direct()
-    }
-
-    fn are_nameless() -> bool {
-        <ShipmentBlock2 as CheckedParts>::are_nameless()
-    }
-
-    fn are_lone() -> bool {
-        <ShipmentBlock2 as CheckedParts>::are_lone()
-    }
-
-    #[inline(always)]
-    fn check_parts<C: ArchiveContext>(
-        bytes: &[u8],
-        base: usize,
-        start: usize,
-        refusal: &mut Error,
-        context: &mut C,
-    ) -> Option<()> {
-        <ShipmentBlock2 as CheckedParts>::check_parts(bytes, base, start, refusal, context)
-    }
-}
-
-impl PortableParts for ShipmentRest2 {
-    ghost greatest = { ⟦<ShipmentBlock2 as PortableParts>⟧.greatest };
-
-    ghost begin = { ⟦<ShipmentBlock2 as PortableParts>⟧.begin };
-
-    ghost size_at = { ⟦<ShipmentBlock2 as PortableParts>⟧.size_at };
-
-    ghost is_align = { inr (inr (inr (inl refl))) };
-
-    ghost laid_out = { part_laid_out no_definition _ ⟦<u8 as Portable>⟧.shape (record {
-      size = 1;
-      align = 1;
-    }) (record { solved = λ s k. refl }) _ _ _ _ (part_laid_out no_definition _
-        ⟦<ArchivedU64 as Portable>⟧.shape (record { size = 8; align = 8 }) (record {
-          solved = λ s k. refl;
-        }) _ _ _ _ no_part_laid_out) };
-
-    ghost sized = { part_sized no_definition (both no_definition no_definition)
-        ⟦<u8 as Portable>⟧.shape (record { size = 1; align = 1 }) (record { solved = λ s k. refl })
-        (part ⟦<ArchivedU64 as Portable>⟧.shape no_part) (first_or 8 (λ i. 0))
-        (part_sized no_definition no_definition ⟦<ArchivedU64 as Portable>⟧.shape (record {
-          size = 8;
-          align = 8;
-        }) (record { solved = λ s k. refl }) no_part (λ i. 0) no_part_sized) };
-
-    ghost no_others = { no_definition_reached (parts (part ⟦<u8 as Portable>⟧.shape
-        (part ⟦<ArchivedU64 as Portable>⟧.shape no_part))) };
-
-    ghost begins = { λ n. begins_over n 1 1 (inl refl) _
-        (λ n. begins_over n 8 8 (inr (inr (inr (inl refl)))) _ begins_at) };
-
-    ghost within = { λ n. within_over (up n 1) 1 _ _ _
-        (λ n. rises_over n 8 8 (inr (inr (inr (inl refl)))) _ no_lower)
-        (λ n. within_over (up n 8) 8 _ _ _ no_lower within_at) };
-
-    fn align() -> usize {
-        <ShipmentBlock2 as PortableParts>::align()
-    }
-
-    #[inline(always)]
-    fn end_from(start: usize) -> usize {
-        <ShipmentBlock2 as PortableParts>::end_from(start)
-    }
-
-    #[inline(always)]
-    fn offset_from(start: usize, i: usize) -> usize {
-        <ShipmentBlock2 as PortableParts>::offset_from(start, i)
-    }
-
-    fn push_exprs(alloc: Global, list: &mut Vec<archive_core::shape::Expr>) -> Result<(), Error> {
-        <ShipmentBlock2 as PortableParts>::push_exprs(alloc, list)
-    }
-
-    fn define(alloc: Global, defs: &mut Defs) -> Result<(), Error> {
-        <ShipmentBlock2 as PortableParts>::define(alloc, defs)
-    }
-}
-
-impl SourceParts<Shipment> for ShipmentRest2 {
-    type Archived = ShipmentRest2;
-
-    type Resolvers = ShipmentKept2;
-
-    ghost meanings = { ⟦<ShipmentFields2 as SourceParts<Shipment>>⟧.meanings };
-
-    ghost flats = { λ v r. ⟦<ShipmentFields2 as SourceParts<Shipment>>⟧.flats v r.kept };
-
-    ghost keys = { ⟦<ShipmentFields2 as SourceParts<Shipment>>⟧.keys };
-
-    ghost belongs = { λ v r. ⟦<ShipmentFields2 as SourceParts<Shipment>>⟧.belongs v r.kept };
-
-    ghost keyed = { record {
-      each = λ v. part_keyed (number_keyed _) (part_keyed (number_keyed _) nothing_keyed);
-    } };
-
-    ghost planned = { record {
-      each = λ v. part_planned no_definition ⟦<u8 as Portable>⟧.shape (⟦<u8 as Archive>⟧.keys v.day)
-          (⟦<u8 as Archive>⟧.meaning v.day) (leaf_planned no_definition _ _ [] _ refl)
-          (part_planned no_definition ⟦<ArchivedU64 as Portable>⟧.shape
-          (⟦<u64 as Archive>⟧.keys v.came) (⟦<u64 as Archive>⟧.meaning v.came)
-          (leaf_planned no_definition _ _ [] _ refl) no_part_planned);
-    } };
-
-    #[inline(always)]
-    fn resolve_parts(
-        whole: &Shipment,
-        resolvers: ShipmentKept2,
-        pos: usize,
-        start: usize,
-        bytes: &mut [u8],
-    ) -> Result<(), Error> {
-        let ShipmentKept2 { kept } = resolvers;
-        <ShipmentFields2 as SourceParts<Shipment>>::resolve_parts(whole, kept, pos, start, bytes)
-    }
-}
-
-impl<S: Writer + ResolverAlloc<Alloc = Global>> SerializeParts<Shipment, S> for ShipmentRest2 {
-    #[inline(always)]
-    fn serialize_parts(whole: &Shipment, serializer: &mut S) -> Result<ShipmentKept2, Error> {
-        match <ShipmentFields2 as SerializeParts<Shipment, S>>::serialize_parts(whole, serializer) {
-            Ok(kept) => Ok(ShipmentKept2 { kept }),
-            Err(error) => Err(error),
-        }
-    }
-}
-
-type ShipmentValues2 = (u8, (u64, ()));
-
-/// Their values, as they are read back.
-pub struct ShipmentOwned2 {
-    values: ShipmentValues2,
-}
-
-impl OwnedParts for ShipmentOwned2 {
-    ghost meanings = { λ v. ⟦<ShipmentValues2 as OwnedParts>⟧.meanings v.values };
-
-    ghost keys = { λ v. ⟦<ShipmentValues2 as OwnedParts>⟧.keys v.values };
-}
-
-impl<D: Entries> DeserializeParts<ShipmentOwned2, D> for ShipmentRest2 {
-    #[inline(always)]
-    fn deserialize_parts(
-        alloc: Global,
-        bytes: &[u8],
-        pos: usize,
-        start: usize,
-        deserializer: &mut D,
-    ) -> Result<ShipmentOwned2, Error> {
-        match <ShipmentBlock2 as DeserializeParts<ShipmentValues2, D>>::deserialize_parts(
-            alloc,
-            bytes,
-            pos,
-            start,
-            deserializer,
-        ) {
-            Ok(values) => Ok(ShipmentOwned2 { values }),
-            Err(error) => Err(error),
-        }
-    }
-}
-
 impl ArchivePointee for ArchivedShipment {
     type ArchivedMetadata = ();
 
@@ -1078,12 +588,8 @@ impl ArchivePointee for ArchivedShipment {
         (part ⟦<u8 as Portable>⟧.shape (part ⟦<u8 as Portable>⟧.shape
         (part ⟦<u8 as Portable>⟧.shape (part ⟦<ArchivedTuple2<u8, u8> as Portable>⟧.shape
         (part ⟦<ArchivedString as Portable>⟧.shape (part ⟦<u8 as Portable>⟧.shape
-        (part ⟦<u8 as Portable>⟧.shape (part ⟦<u8 as Portable>⟧.shape
-        (part ⟦<u8 as Portable>⟧.shape (part ⟦<u8 as Portable>⟧.shape
-        (part ⟦<u8 as Portable>⟧.shape (part ⟦<u8 as Portable>⟧.shape
-        (part ⟦<u8 as Portable>⟧.shape (part ⟦<u8 as Portable>⟧.shape
         (part ⟦<u8 as Portable>⟧.shape (part ⟦<ArchivedU64 as Portable>⟧.shape
-        no_part))))))))))))))))))))))))))) };
+        no_part))))))))))))))))))) };
 
     ghost definitions = { no_definition };
 
@@ -1104,14 +610,10 @@ impl Portable for ArchivedShipment {
         (part ⟦<u8 as Portable>⟧.shape (part ⟦<u8 as Portable>⟧.shape
         (part ⟦<u8 as Portable>⟧.shape (part ⟦<ArchivedTuple2<u8, u8> as Portable>⟧.shape
         (part ⟦<ArchivedString as Portable>⟧.shape (part ⟦<u8 as Portable>⟧.shape
-        (part ⟦<u8 as Portable>⟧.shape (part ⟦<u8 as Portable>⟧.shape
-        (part ⟦<u8 as Portable>⟧.shape (part ⟦<u8 as Portable>⟧.shape
-        (part ⟦<u8 as Portable>⟧.shape (part ⟦<u8 as Portable>⟧.shape
-        (part ⟦<u8 as Portable>⟧.shape (part ⟦<u8 as Portable>⟧.shape
         (part ⟦<u8 as Portable>⟧.shape (part ⟦<ArchivedU64 as Portable>⟧.shape
-        no_part)))))))))))))))))))))))))) };
+        no_part)))))))))))))))))) };
 
-    ghost layout = { record { size = 64; align = 8 } };
+    ghost layout = { record { size = 56; align = 8 } };
 
     type Check = ArchivedShipment;
 
@@ -1130,17 +632,13 @@ impl Portable for ArchivedShipment {
         (part ⟦<u8 as Portable>⟧.shape (part ⟦<u8 as Portable>⟧.shape
         (part ⟦<u8 as Portable>⟧.shape (part ⟦<ArchivedTuple2<u8, u8> as Portable>⟧.shape
         (part ⟦<ArchivedString as Portable>⟧.shape (part ⟦<u8 as Portable>⟧.shape
-        (part ⟦<u8 as Portable>⟧.shape (part ⟦<u8 as Portable>⟧.shape
-        (part ⟦<u8 as Portable>⟧.shape (part ⟦<u8 as Portable>⟧.shape
-        (part ⟦<u8 as Portable>⟧.shape (part ⟦<u8 as Portable>⟧.shape
-        (part ⟦<u8 as Portable>⟧.shape (part ⟦<u8 as Portable>⟧.shape
         (part ⟦<u8 as Portable>⟧.shape (part ⟦<ArchivedU64 as Portable>⟧.shape
-        no_part))))))))))))))))))))))))))) };
+        no_part))))))))))))))))))) };
 
     ghost checks = { λ _. plain_own_check _ _ _ _ _ refl refl refl refl };
 
     fn size() -> usize {
-        64
+        56
     }
 
     fn align() -> usize {
@@ -1166,12 +664,8 @@ impl SelfCheck for ArchivedShipment {
         (part ⟦<u8 as Portable>⟧.shape (part ⟦<u8 as Portable>⟧.shape
         (part ⟦<u8 as Portable>⟧.shape (part ⟦<ArchivedTuple2<u8, u8> as Portable>⟧.shape
         (part ⟦<ArchivedString as Portable>⟧.shape (part ⟦<u8 as Portable>⟧.shape
-        (part ⟦<u8 as Portable>⟧.shape (part ⟦<u8 as Portable>⟧.shape
-        (part ⟦<u8 as Portable>⟧.shape (part ⟦<u8 as Portable>⟧.shape
-        (part ⟦<u8 as Portable>⟧.shape (part ⟦<u8 as Portable>⟧.shape
-        (part ⟦<u8 as Portable>⟧.shape (part ⟦<u8 as Portable>⟧.shape
         (part ⟦<u8 as Portable>⟧.shape (part ⟦<ArchivedU64 as Portable>⟧.shape
-        no_part)))))))))))))))))))))))))) };
+        no_part)))))))))))))))))) };
 
     ghost definitions = { (both no_definition (both no_definition
         (both no_definition (both (both no_definition (both no_definition no_definition))
@@ -1180,12 +674,9 @@ impl SelfCheck for ArchivedShipment {
         (both no_definition (both no_definition (both no_definition
         (both (both no_definition (both no_definition no_definition))
         (both no_definition (both no_definition (both no_definition
-        (both no_definition (both no_definition (both no_definition
-        (both no_definition (both no_definition (both no_definition
-        (both no_definition (both no_definition (both no_definition
-        no_definition)))))))))))))))))))))))))) };
+        (both no_definition no_definition)))))))))))))))))) };
 
-    ghost span = { 64 };
+    ghost span = { 56 };
 
     ghost direct = { true };
 
@@ -1222,22 +713,15 @@ impl Record for ArchivedShipment {
         (part ⟦<u8 as Portable>⟧.shape (part ⟦<u8 as Portable>⟧.shape
         (part ⟦<u8 as Portable>⟧.shape (part ⟦<ArchivedTuple2<u8, u8> as Portable>⟧.shape
         (part ⟦<ArchivedString as Portable>⟧.shape (part ⟦<u8 as Portable>⟧.shape
-        (part ⟦<u8 as Portable>⟧.shape (part ⟦<u8 as Portable>⟧.shape
-        (part ⟦<u8 as Portable>⟧.shape (part ⟦<u8 as Portable>⟧.shape
-        (part ⟦<u8 as Portable>⟧.shape (part ⟦<u8 as Portable>⟧.shape
-        (part ⟦<u8 as Portable>⟧.shape (part ⟦<u8 as Portable>⟧.shape
         (part ⟦<u8 as Portable>⟧.shape (part ⟦<ArchivedU64 as Portable>⟧.shape
-        no_part)))))))))))))))))))))))))) (both no_definition
-        (both no_definition (both no_definition (both (both no_definition
-        (both no_definition no_definition)) (both no_definition
-        (both no_definition (both no_definition (both no_definition
-        (both no_definition (both no_definition (both no_definition
-        (both no_definition (both no_definition (both (both no_definition
-        (both no_definition no_definition)) (both no_definition
+        no_part)))))))))))))))))) (both no_definition (both no_definition
+        (both no_definition (both (both no_definition (both no_definition no_definition))
         (both no_definition (both no_definition (both no_definition
         (both no_definition (both no_definition (both no_definition
         (both no_definition (both no_definition (both no_definition
-        (both no_definition (both no_definition no_definition)))))))))))))))))))))))))) refl };
+        (both (both no_definition (both no_definition no_definition))
+        (both no_definition (both no_definition (both no_definition
+        (both no_definition no_definition)))))))))))))))))) refl };
 
     ghost holds = { lit≤ tt };
 }
@@ -1296,11 +780,7 @@ impl Archive for Shipment {
         (value (⟦<u8 as Archive>⟧.meaning v.stamps) (value (⟦<(u8, u8) as Archive>⟧.meaning v.size)
         (value (⟦<String as Archive>⟧.meaning v.sender)
         (value (⟦<u8 as Archive>⟧.meaning v.due) (value (⟦<u8 as Archive>⟧.meaning v.seals)
-        (value (⟦<u8 as Archive>⟧.meaning v.tries) (value (⟦<u8 as Archive>⟧.meaning v.crane)
-        (value (⟦<u8 as Archive>⟧.meaning v.gate) (value (⟦<u8 as Archive>⟧.meaning v.shed)
-        (value (⟦<u8 as Archive>⟧.meaning v.bay) (value (⟦<u8 as Archive>⟧.meaning v.hands)
-        (value (⟦<u8 as Archive>⟧.meaning v.month) (value (⟦<u8 as Archive>⟧.meaning v.day)
-        (value (⟦<u64 as Archive>⟧.meaning v.came) no_value)))))))))))))))))))))))))) };
+        (value (⟦<u64 as Archive>⟧.meaning v.came) no_value)))))))))))))))))) };
 
     ghost flat = { λ v r. product (value (⟦<u8 as Archive>⟧.flat v.number r.kept.0)
         (value (⟦<[u8; 4] as Archive>⟧.flat v.key r.kept.1.0)
@@ -1319,23 +799,8 @@ impl Archive for Shipment {
         (value (⟦<String as Archive>⟧.flat v.sender r.kept.1.1.1.1.1.1.1.1.1.1.1.1.kept.1.1.0)
         (value (⟦<u8 as Archive>⟧.flat v.due r.kept.1.1.1.1.1.1.1.1.1.1.1.1.kept.1.1.1.0)
         (value (⟦<u8 as Archive>⟧.flat v.seals r.kept.1.1.1.1.1.1.1.1.1.1.1.1.kept.1.1.1.1.0)
-        (value (⟦<u8 as Archive>⟧.flat v.tries r.kept.1.1.1.1.1.1.1.1.1.1.1.1.kept.1.1.1.1.1.0)
-        (value (⟦<u8 as Archive>⟧.flat v.crane r.kept.1.1.1.1.1.1.1.1.1.1.1.1.kept.1.1.1.1.1.1.0)
-        (value (⟦<u8 as Archive>⟧.flat v.gate r.kept.1.1.1.1.1.1.1.1.1.1.1.1.kept.1.1.1.1.1.1.1.0)
-        (value (⟦<u8 as Archive>⟧.flat v.shed r.kept.1.1.1.1.1.1.1.1.1.1.1.1.kept.1.1.1.1.1.1.1.1.0)
-        (value
-        (⟦<u8 as Archive>⟧.flat v.bay r.kept.1.1.1.1.1.1.1.1.1.1.1.1.kept.1.1.1.1.1.1.1.1.1.0)
-        (value
-        (⟦<u8 as Archive>⟧.flat v.hands r.kept.1.1.1.1.1.1.1.1.1.1.1.1.kept.1.1.1.1.1.1.1.1.1.1.0)
-        (value
-        (⟦<u8 as Archive>⟧.flat v.month r.kept.1.1.1.1.1.1.1.1.1.1.1.1.kept.1.1.1.1.1.1.1.1.1.1.1.0)
-        (value
-        (⟦<u8 as Archive>⟧.flat v.day
-        r.kept.1.1.1.1.1.1.1.1.1.1.1.1.kept.1.1.1.1.1.1.1.1.1.1.1.1.kept.0)
-        (value
-        (⟦<u64 as Archive>⟧.flat v.came
-        r.kept.1.1.1.1.1.1.1.1.1.1.1.1.kept.1.1.1.1.1.1.1.1.1.1.1.1.kept.1.0)
-        no_value)))))))))))))))))))))))))) };
+        (value (⟦<u64 as Archive>⟧.flat v.came r.kept.1.1.1.1.1.1.1.1.1.1.1.1.kept.1.1.1.1.1.0)
+        no_value)))))))))))))))))) };
 
     ghost keys = { λ v. ⟦<u8 as Archive>⟧.keys v.number
         ++ (⟦<[u8; 4] as Archive>⟧.keys v.key ++ (⟦<bool as Archive>⟧.keys v.is_open
@@ -1346,12 +811,8 @@ impl Archive for Shipment {
         ++ (⟦<u8 as Archive>⟧.keys v.boxes ++ (⟦<u8 as Archive>⟧.keys v.ports
         ++ (⟦<u8 as Archive>⟧.keys v.stamps ++ (⟦<(u8, u8) as Archive>⟧.keys v.size
         ++ (⟦<String as Archive>⟧.keys v.sender ++ (⟦<u8 as Archive>⟧.keys v.due
-        ++ (⟦<u8 as Archive>⟧.keys v.seals ++ (⟦<u8 as Archive>⟧.keys v.tries
-        ++ (⟦<u8 as Archive>⟧.keys v.crane ++ (⟦<u8 as Archive>⟧.keys v.gate
-        ++ (⟦<u8 as Archive>⟧.keys v.shed ++ (⟦<u8 as Archive>⟧.keys v.bay
-        ++ (⟦<u8 as Archive>⟧.keys v.hands ++ (⟦<u8 as Archive>⟧.keys v.month
-        ++ (⟦<u8 as Archive>⟧.keys v.day ++ (⟦<u64 as Archive>⟧.keys v.came
-        ++ []))))))))))))))))))))))))) };
+        ++ (⟦<u8 as Archive>⟧.keys v.seals ++ (⟦<u64 as Archive>⟧.keys v.came
+        ++ []))))))))))))))))) };
 
     ghost belongs = { λ v r. ⟦<u8 as Archive>⟧.belongs v.number r.kept.0
         × (⟦<[u8; 4] as Archive>⟧.belongs v.key r.kept.1.0
@@ -1370,20 +831,8 @@ impl Archive for Shipment {
         × (⟦<String as Archive>⟧.belongs v.sender r.kept.1.1.1.1.1.1.1.1.1.1.1.1.kept.1.1.0
         × (⟦<u8 as Archive>⟧.belongs v.due r.kept.1.1.1.1.1.1.1.1.1.1.1.1.kept.1.1.1.0
         × (⟦<u8 as Archive>⟧.belongs v.seals r.kept.1.1.1.1.1.1.1.1.1.1.1.1.kept.1.1.1.1.0
-        × (⟦<u8 as Archive>⟧.belongs v.tries r.kept.1.1.1.1.1.1.1.1.1.1.1.1.kept.1.1.1.1.1.0
-        × (⟦<u8 as Archive>⟧.belongs v.crane r.kept.1.1.1.1.1.1.1.1.1.1.1.1.kept.1.1.1.1.1.1.0
-        × (⟦<u8 as Archive>⟧.belongs v.gate r.kept.1.1.1.1.1.1.1.1.1.1.1.1.kept.1.1.1.1.1.1.1.0
-        × (⟦<u8 as Archive>⟧.belongs v.shed r.kept.1.1.1.1.1.1.1.1.1.1.1.1.kept.1.1.1.1.1.1.1.1.0
-        × (⟦<u8 as Archive>⟧.belongs v.bay r.kept.1.1.1.1.1.1.1.1.1.1.1.1.kept.1.1.1.1.1.1.1.1.1.0
-        × (⟦<u8 as Archive>⟧.belongs v.hands
-        r.kept.1.1.1.1.1.1.1.1.1.1.1.1.kept.1.1.1.1.1.1.1.1.1.1.0
-        × (⟦<u8 as Archive>⟧.belongs v.month
-        r.kept.1.1.1.1.1.1.1.1.1.1.1.1.kept.1.1.1.1.1.1.1.1.1.1.1.0
-        × (⟦<u8 as Archive>⟧.belongs v.day
-        r.kept.1.1.1.1.1.1.1.1.1.1.1.1.kept.1.1.1.1.1.1.1.1.1.1.1.1.kept.0
-        × (⟦<u64 as Archive>⟧.belongs v.came
-        r.kept.1.1.1.1.1.1.1.1.1.1.1.1.kept.1.1.1.1.1.1.1.1.1.1.1.1.kept.1.0
-        × Unit {0}))))))))))))))))))))))))) };
+        × (⟦<u64 as Archive>⟧.belongs v.came r.kept.1.1.1.1.1.1.1.1.1.1.1.1.kept.1.1.1.1.1.0
+        × Unit {0}))))))))))))))))) };
 
     ghost in_bulk = { None };
 
@@ -1401,11 +850,7 @@ impl Archive for Shipment {
         (part_keyed (number_keyed _) (part_keyed (number_keyed _) nothing_keyed)))
         (part_keyed (text_keyed (string_bytes v.sender))
         (part_keyed (number_keyed _) (part_keyed (number_keyed _)
-        (part_keyed (number_keyed _) (part_keyed (number_keyed _)
-        (part_keyed (number_keyed _) (part_keyed (number_keyed _)
-        (part_keyed (number_keyed _) (part_keyed (number_keyed _)
-        (part_keyed (number_keyed _) (part_keyed (number_keyed _)
-        (part_keyed (number_keyed _) nothing_keyed)))))))))))))))))))))))))) };
+        (part_keyed (number_keyed _) nothing_keyed)))))))))))))))))) };
 
     ghost planned = { λ v. plain_record_planned (both no_definition
         (both no_definition (both no_definition (both (both no_definition
@@ -1414,10 +859,7 @@ impl Archive for Shipment {
         (both no_definition (both no_definition (both no_definition
         (both no_definition (both no_definition (both (both no_definition
         (both no_definition no_definition)) (both no_definition
-        (both no_definition (both no_definition (both no_definition
-        (both no_definition (both no_definition (both no_definition
-        (both no_definition (both no_definition (both no_definition
-        (both no_definition (both no_definition no_definition))))))))))))))))))))))))))
+        (both no_definition (both no_definition (both no_definition no_definition))))))))))))))))))
         (part ⟦<u8 as Portable>⟧.shape (part ⟦<[u8; 4] as Portable>⟧.shape
         (part ⟦<bool as Portable>⟧.shape
         (part ⟦<ArchivedOption<ArchivedTuple2<ArchivedU32, ArchivedString>> as Portable>⟧.shape
@@ -1427,12 +869,8 @@ impl Archive for Shipment {
         (part ⟦<u8 as Portable>⟧.shape (part ⟦<u8 as Portable>⟧.shape
         (part ⟦<u8 as Portable>⟧.shape (part ⟦<ArchivedTuple2<u8, u8> as Portable>⟧.shape
         (part ⟦<ArchivedString as Portable>⟧.shape (part ⟦<u8 as Portable>⟧.shape
-        (part ⟦<u8 as Portable>⟧.shape (part ⟦<u8 as Portable>⟧.shape
-        (part ⟦<u8 as Portable>⟧.shape (part ⟦<u8 as Portable>⟧.shape
-        (part ⟦<u8 as Portable>⟧.shape (part ⟦<u8 as Portable>⟧.shape
-        (part ⟦<u8 as Portable>⟧.shape (part ⟦<u8 as Portable>⟧.shape
         (part ⟦<u8 as Portable>⟧.shape (part ⟦<ArchivedU64 as Portable>⟧.shape
-        no_part)))))))))))))))))))))))))) _ _ (part_planned no_definition ⟦<u8 as Portable>⟧.shape
+        no_part)))))))))))))))))) _ _ (part_planned no_definition ⟦<u8 as Portable>⟧.shape
         (⟦<u8 as Archive>⟧.keys v.number) (⟦<u8 as Archive>⟧.meaning v.number)
         (leaf_planned no_definition _ _ [] _ refl) (part_planned no_definition
         ⟦<[u8; 4] as Portable>⟧.shape (⟦<[u8; 4] as Archive>⟧.keys v.key)
@@ -1495,25 +933,9 @@ impl Archive for Shipment {
         (⟦<u8 as Archive>⟧.meaning v.due) (leaf_planned no_definition _ _ [] _ refl)
         (part_planned no_definition ⟦<u8 as Portable>⟧.shape (⟦<u8 as Archive>⟧.keys v.seals)
         (⟦<u8 as Archive>⟧.meaning v.seals) (leaf_planned no_definition _ _ [] _ refl)
-        (part_planned no_definition ⟦<u8 as Portable>⟧.shape (⟦<u8 as Archive>⟧.keys v.tries)
-        (⟦<u8 as Archive>⟧.meaning v.tries) (leaf_planned no_definition _ _ [] _ refl)
-        (part_planned no_definition ⟦<u8 as Portable>⟧.shape (⟦<u8 as Archive>⟧.keys v.crane)
-        (⟦<u8 as Archive>⟧.meaning v.crane) (leaf_planned no_definition _ _ [] _ refl)
-        (part_planned no_definition ⟦<u8 as Portable>⟧.shape (⟦<u8 as Archive>⟧.keys v.gate)
-        (⟦<u8 as Archive>⟧.meaning v.gate) (leaf_planned no_definition _ _ [] _ refl)
-        (part_planned no_definition ⟦<u8 as Portable>⟧.shape (⟦<u8 as Archive>⟧.keys v.shed)
-        (⟦<u8 as Archive>⟧.meaning v.shed) (leaf_planned no_definition _ _ [] _ refl)
-        (part_planned no_definition ⟦<u8 as Portable>⟧.shape (⟦<u8 as Archive>⟧.keys v.bay)
-        (⟦<u8 as Archive>⟧.meaning v.bay) (leaf_planned no_definition _ _ [] _ refl)
-        (part_planned no_definition ⟦<u8 as Portable>⟧.shape (⟦<u8 as Archive>⟧.keys v.hands)
-        (⟦<u8 as Archive>⟧.meaning v.hands) (leaf_planned no_definition _ _ [] _ refl)
-        (part_planned no_definition ⟦<u8 as Portable>⟧.shape (⟦<u8 as Archive>⟧.keys v.month)
-        (⟦<u8 as Archive>⟧.meaning v.month) (leaf_planned no_definition _ _ [] _ refl)
-        (part_planned no_definition ⟦<u8 as Portable>⟧.shape (⟦<u8 as Archive>⟧.keys v.day)
-        (⟦<u8 as Archive>⟧.meaning v.day) (leaf_planned no_definition _ _ [] _ refl)
         (part_planned no_definition ⟦<ArchivedU64 as Portable>⟧.shape
         (⟦<u64 as Archive>⟧.keys v.came) (⟦<u64 as Archive>⟧.meaning v.came)
-        (leaf_planned no_definition _ _ [] _ refl) no_part_planned)))))))))))))))))))))))))) refl };
+        (leaf_planned no_definition _ _ [] _ refl) no_part_planned)))))))))))))))))) refl };
 
     #[inline(always)]
     fn resolve(
@@ -1521,14 +943,25 @@ impl Archive for Shipment {
         resolver: Self::Resolver,
         place: Place<'_, Self::Archived>,
     ) -> Result<(), Error>
-        requires zeroed { ZeroedPlace 64 place.pos place.bytes.now }
+        requires zeroed { ZeroedPlace 56 place.pos place.bytes.now }
         requires same_value { ⟦<Self as Archive>⟧.belongs self.now resolver }
-        ensures { ResolvesAs ⟦<Self::Archived as Portable>⟧ place
-            (⟦<Self as Archive>⟧.flat self.now resolver) result }
+        ensures {
+            ResolvesAs ⟦<Self::Archived as Portable>⟧ place
+                (⟦<Self as Archive>⟧.flat self.now resolver) result
+        }
     {
         let Place { bytes, pos, .. } = place;
         let ShipmentResolver { kept } = resolver;
-        let (r0, (r1, (r2, (r3, (r4, (r5, (r6, (r7, (r8, (r9, (r10, (r11, behind)))))))))))) = kept;
+        let (
+            r0,
+            (
+                r1,
+                (
+                    r2,
+                    (r3, (r4, (r5, (r6, (r7, (r8, (r9, (r10, (r11, behind))))))))),
+                ),
+            ),
+        ) = kept;
         resolve_record::<Self, ShipmentFields, ArchivedShipment>(
             self,
             (
@@ -1596,12 +1029,8 @@ impl ArchiveUnsized for Shipment {
         (part ⟦<u8 as Portable>⟧.shape (part ⟦<u8 as Portable>⟧.shape
         (part ⟦<u8 as Portable>⟧.shape (part ⟦<ArchivedTuple2<u8, u8> as Portable>⟧.shape
         (part ⟦<ArchivedString as Portable>⟧.shape (part ⟦<u8 as Portable>⟧.shape
-        (part ⟦<u8 as Portable>⟧.shape (part ⟦<u8 as Portable>⟧.shape
-        (part ⟦<u8 as Portable>⟧.shape (part ⟦<u8 as Portable>⟧.shape
-        (part ⟦<u8 as Portable>⟧.shape (part ⟦<u8 as Portable>⟧.shape
-        (part ⟦<u8 as Portable>⟧.shape (part ⟦<u8 as Portable>⟧.shape
         (part ⟦<u8 as Portable>⟧.shape (part ⟦<ArchivedU64 as Portable>⟧.shape
-        no_part))))))))))))))))))))))))))) (⟦<Shipment as Archive>⟧.keys v)
+        no_part))))))))))))))))))) (⟦<Shipment as Archive>⟧.keys v)
         (⟦<Shipment as Archive>⟧.meaning v) (planned_of_shipment v) };
 
     #[inline(always)]
@@ -1636,17 +1065,9 @@ fn shipment_of(values: ShipmentOwned) -> Shipment
         (value (⟦<(u8, u8) as Archive>⟧.meaning values.rest.rest.rest.values.second)
         (value (⟦<String as Archive>⟧.meaning values.rest.rest.rest.values.third)
         (value (⟦<u8 as Archive>⟧.meaning values.rest.rest.rest.values.fourth)
-        (value (⟦<u8 as Archive>⟧.meaning values.rest.rest.rest.values.rest.first)
-        (value (⟦<u8 as Archive>⟧.meaning values.rest.rest.rest.values.rest.second)
-        (value (⟦<u8 as Archive>⟧.meaning values.rest.rest.rest.values.rest.third)
-        (value (⟦<u8 as Archive>⟧.meaning values.rest.rest.rest.values.rest.fourth)
-        (value (⟦<u8 as Archive>⟧.meaning values.rest.rest.rest.values.rest.rest.first)
-        (value (⟦<u8 as Archive>⟧.meaning values.rest.rest.rest.values.rest.rest.second)
-        (value (⟦<u8 as Archive>⟧.meaning values.rest.rest.rest.values.rest.rest.third)
-        (value (⟦<u8 as Archive>⟧.meaning values.rest.rest.rest.values.rest.rest.fourth)
-        (value (⟦<u8 as Archive>⟧.meaning values.rest.rest.rest.values.rest.rest.rest.values.0)
-        (value (⟦<u64 as Archive>⟧.meaning values.rest.rest.rest.values.rest.rest.rest.values.1.0)
-        no_value)))))))))))))))))))))))))) }
+        (value (⟦<u8 as Archive>⟧.meaning values.rest.rest.rest.values.rest.0)
+        (value (⟦<u64 as Archive>⟧.meaning values.rest.rest.rest.values.rest.1.0)
+        no_value)))))))))))))))))) }
     ensures keys { ⟦<Shipment as Archive>⟧.keys result ≡ ⟦<u8 as Archive>⟧.keys values.first
         ++ (⟦<OwnedArray<u8, 4> as Archive>⟧.keys values.second
         ++ (⟦<bool as Archive>⟧.keys values.third ++ (⟦<Option<(u32, String)> as Archive>⟧.keys
@@ -1660,17 +1081,8 @@ fn shipment_of(values: ShipmentOwned) -> Shipment
         ++ (⟦<(u8, u8) as Archive>⟧.keys values.rest.rest.rest.values.second
         ++ (⟦<String as Archive>⟧.keys values.rest.rest.rest.values.third
         ++ (⟦<u8 as Archive>⟧.keys values.rest.rest.rest.values.fourth
-        ++ (⟦<u8 as Archive>⟧.keys values.rest.rest.rest.values.rest.first
-        ++ (⟦<u8 as Archive>⟧.keys values.rest.rest.rest.values.rest.second
-        ++ (⟦<u8 as Archive>⟧.keys values.rest.rest.rest.values.rest.third
-        ++ (⟦<u8 as Archive>⟧.keys values.rest.rest.rest.values.rest.fourth
-        ++ (⟦<u8 as Archive>⟧.keys values.rest.rest.rest.values.rest.rest.first
-        ++ (⟦<u8 as Archive>⟧.keys values.rest.rest.rest.values.rest.rest.second
-        ++ (⟦<u8 as Archive>⟧.keys values.rest.rest.rest.values.rest.rest.third
-        ++ (⟦<u8 as Archive>⟧.keys values.rest.rest.rest.values.rest.rest.fourth
-        ++ (⟦<u8 as Archive>⟧.keys values.rest.rest.rest.values.rest.rest.rest.values.0
-        ++ (⟦<u64 as Archive>⟧.keys values.rest.rest.rest.values.rest.rest.rest.values.1.0
-        ++ []))))))))))))))))))))))))) }
+        ++ (⟦<u8 as Archive>⟧.keys values.rest.rest.rest.values.rest.0
+        ++ (⟦<u64 as Archive>⟧.keys values.rest.rest.rest.values.rest.1.0 ++ []))))))))))))))))) }
 {
     let FourParts {
         first: a0,
@@ -1701,22 +1113,7 @@ fn shipment_of(values: ShipmentOwned) -> Shipment
         fourth: a15,
         rest,
     } = values;
-    let FourParts {
-        first: a16,
-        second: a17,
-        third: a18,
-        fourth: a19,
-        rest,
-    } = rest;
-    let FourParts {
-        first: a20,
-        second: a21,
-        third: a22,
-        fourth: a23,
-        rest,
-    } = rest;
-    let ShipmentOwned2 { values } = rest;
-    let (a24, (a25, ())) = values;
+    let (a16, (a17, ())) = rest;
     Shipment {
         number: a0,
         key: a1.into_array(),
@@ -1735,15 +1132,7 @@ fn shipment_of(values: ShipmentOwned) -> Shipment
         sender: a14,
         due: a15,
         seals: a16,
-        tries: a17,
-        crane: a18,
-        gate: a19,
-        shed: a20,
-        bay: a21,
-        hands: a22,
-        month: a23,
-        day: a24,
-        came: a25,
+        came: a17,
     }
 }
 
@@ -1817,30 +1206,6 @@ pub trait ShipmentView<'a> {
 
     /// How many seals it has.
     fn seals(self) -> Ref<'a, u8>;
-
-    /// How often it was offered.
-    fn tries(self) -> Ref<'a, u8>;
-
-    /// The crane that lifts it.
-    fn crane(self) -> Ref<'a, u8>;
-
-    /// The gate at which it is taken.
-    fn gate(self) -> Ref<'a, u8>;
-
-    /// The shed in which it stands.
-    fn shed(self) -> Ref<'a, u8>;
-
-    /// The bay in the shed.
-    fn bay(self) -> Ref<'a, u8>;
-
-    /// How many took it.
-    fn hands(self) -> Ref<'a, u8>;
-
-    /// The month in which it came.
-    fn month(self) -> Ref<'a, u8>;
-
-    /// The day.
-    fn day(self) -> Ref<'a, u8>;
 
     /// When it came, in seconds.
     fn came(self) -> Ref<'a, ArchivedU64>;
@@ -2003,85 +1368,13 @@ impl<'a> ShipmentView<'a> for Ref<'a, ArchivedShipment> {
         part_in_record::<ArchivedShipment, u8>(self, 16, 45)
     }
 
-    fn tries(self) -> Ref<'a, u8>
-        ensures buffer { result.bytes.now ≡ self.entry.bytes.now }
-        ensures position { result.pos ≡ self.entry.pos + 46 }
-        ensures length { result.len ≡ 0 }
-        ensures shows { ShowsValueOf result self.entry (field_in 17) }
-    {
-        part_in_record::<ArchivedShipment, u8>(self, 17, 46)
-    }
-
-    fn crane(self) -> Ref<'a, u8>
-        ensures buffer { result.bytes.now ≡ self.entry.bytes.now }
-        ensures position { result.pos ≡ self.entry.pos + 47 }
-        ensures length { result.len ≡ 0 }
-        ensures shows { ShowsValueOf result self.entry (field_in 18) }
-    {
-        part_in_record::<ArchivedShipment, u8>(self, 18, 47)
-    }
-
-    fn gate(self) -> Ref<'a, u8>
+    fn came(self) -> Ref<'a, ArchivedU64>
         ensures buffer { result.bytes.now ≡ self.entry.bytes.now }
         ensures position { result.pos ≡ self.entry.pos + 48 }
         ensures length { result.len ≡ 0 }
-        ensures shows { ShowsValueOf result self.entry (field_in 19) }
+        ensures shows { ShowsValueOf result self.entry (field_in 17) }
     {
-        part_in_record::<ArchivedShipment, u8>(self, 19, 48)
-    }
-
-    fn shed(self) -> Ref<'a, u8>
-        ensures buffer { result.bytes.now ≡ self.entry.bytes.now }
-        ensures position { result.pos ≡ self.entry.pos + 49 }
-        ensures length { result.len ≡ 0 }
-        ensures shows { ShowsValueOf result self.entry (field_in 20) }
-    {
-        part_in_record::<ArchivedShipment, u8>(self, 20, 49)
-    }
-
-    fn bay(self) -> Ref<'a, u8>
-        ensures buffer { result.bytes.now ≡ self.entry.bytes.now }
-        ensures position { result.pos ≡ self.entry.pos + 50 }
-        ensures length { result.len ≡ 0 }
-        ensures shows { ShowsValueOf result self.entry (field_in 21) }
-    {
-        part_in_record::<ArchivedShipment, u8>(self, 21, 50)
-    }
-
-    fn hands(self) -> Ref<'a, u8>
-        ensures buffer { result.bytes.now ≡ self.entry.bytes.now }
-        ensures position { result.pos ≡ self.entry.pos + 51 }
-        ensures length { result.len ≡ 0 }
-        ensures shows { ShowsValueOf result self.entry (field_in 22) }
-    {
-        part_in_record::<ArchivedShipment, u8>(self, 22, 51)
-    }
-
-    fn month(self) -> Ref<'a, u8>
-        ensures buffer { result.bytes.now ≡ self.entry.bytes.now }
-        ensures position { result.pos ≡ self.entry.pos + 52 }
-        ensures length { result.len ≡ 0 }
-        ensures shows { ShowsValueOf result self.entry (field_in 23) }
-    {
-        part_in_record::<ArchivedShipment, u8>(self, 23, 52)
-    }
-
-    fn day(self) -> Ref<'a, u8>
-        ensures buffer { result.bytes.now ≡ self.entry.bytes.now }
-        ensures position { result.pos ≡ self.entry.pos + 53 }
-        ensures length { result.len ≡ 0 }
-        ensures shows { ShowsValueOf result self.entry (field_in 24) }
-    {
-        part_in_record::<ArchivedShipment, u8>(self, 24, 53)
-    }
-
-    fn came(self) -> Ref<'a, ArchivedU64>
-        ensures buffer { result.bytes.now ≡ self.entry.bytes.now }
-        ensures position { result.pos ≡ self.entry.pos + 56 }
-        ensures length { result.len ≡ 0 }
-        ensures shows { ShowsValueOf result self.entry (field_in 25) }
-    {
-        part_in_record::<ArchivedShipment, ArchivedU64>(self, 25, 56)
+        part_in_record::<ArchivedShipment, ArchivedU64>(self, 17, 48)
     }
 }
 
@@ -2156,38 +1449,6 @@ pub trait ShipmentSeal<'a> {
 
     /// How many seals it has.
     fn seals_mut(self) -> Seal<'a, u8>
-        requires { sealed self };
-
-    /// How often it was offered.
-    fn tries_mut(self) -> Seal<'a, u8>
-        requires { sealed self };
-
-    /// The crane that lifts it.
-    fn crane_mut(self) -> Seal<'a, u8>
-        requires { sealed self };
-
-    /// The gate at which it is taken.
-    fn gate_mut(self) -> Seal<'a, u8>
-        requires { sealed self };
-
-    /// The shed in which it stands.
-    fn shed_mut(self) -> Seal<'a, u8>
-        requires { sealed self };
-
-    /// The bay in the shed.
-    fn bay_mut(self) -> Seal<'a, u8>
-        requires { sealed self };
-
-    /// How many took it.
-    fn hands_mut(self) -> Seal<'a, u8>
-        requires { sealed self };
-
-    /// The month in which it came.
-    fn month_mut(self) -> Seal<'a, u8>
-        requires { sealed self };
-
-    /// The day.
-    fn day_mut(self) -> Seal<'a, u8>
         requires { sealed self };
 
     /// When it came, in seconds.
@@ -2357,84 +1618,12 @@ impl<'a> ShipmentSeal<'a> for Seal<'a, ArchivedShipment> {
         sealed_part_in_record::<ArchivedShipment, u8>(self, 16, 45)
     }
 
-    fn tries_mut(self) -> Seal<'a, u8>
-        requires come_to { IsSealOf no_definition (one ⟦<ArchivedShipment as Portable>⟧.shape)
-            self }
-        ensures { SealsPart no_definition (one ⟦<ArchivedShipment as Portable>⟧.shape) no_definition
-            ⟦<u8 as ArchivePointee>⟧.pointee (self.entry.pos + 46) 0 self.entry result }
-    {
-        sealed_part_in_record::<ArchivedShipment, u8>(self, 17, 46)
-    }
-
-    fn crane_mut(self) -> Seal<'a, u8>
-        requires come_to { IsSealOf no_definition (one ⟦<ArchivedShipment as Portable>⟧.shape)
-            self }
-        ensures { SealsPart no_definition (one ⟦<ArchivedShipment as Portable>⟧.shape) no_definition
-            ⟦<u8 as ArchivePointee>⟧.pointee (self.entry.pos + 47) 0 self.entry result }
-    {
-        sealed_part_in_record::<ArchivedShipment, u8>(self, 18, 47)
-    }
-
-    fn gate_mut(self) -> Seal<'a, u8>
-        requires come_to { IsSealOf no_definition (one ⟦<ArchivedShipment as Portable>⟧.shape)
-            self }
-        ensures { SealsPart no_definition (one ⟦<ArchivedShipment as Portable>⟧.shape) no_definition
-            ⟦<u8 as ArchivePointee>⟧.pointee (self.entry.pos + 48) 0 self.entry result }
-    {
-        sealed_part_in_record::<ArchivedShipment, u8>(self, 19, 48)
-    }
-
-    fn shed_mut(self) -> Seal<'a, u8>
-        requires come_to { IsSealOf no_definition (one ⟦<ArchivedShipment as Portable>⟧.shape)
-            self }
-        ensures { SealsPart no_definition (one ⟦<ArchivedShipment as Portable>⟧.shape) no_definition
-            ⟦<u8 as ArchivePointee>⟧.pointee (self.entry.pos + 49) 0 self.entry result }
-    {
-        sealed_part_in_record::<ArchivedShipment, u8>(self, 20, 49)
-    }
-
-    fn bay_mut(self) -> Seal<'a, u8>
-        requires come_to { IsSealOf no_definition (one ⟦<ArchivedShipment as Portable>⟧.shape)
-            self }
-        ensures { SealsPart no_definition (one ⟦<ArchivedShipment as Portable>⟧.shape) no_definition
-            ⟦<u8 as ArchivePointee>⟧.pointee (self.entry.pos + 50) 0 self.entry result }
-    {
-        sealed_part_in_record::<ArchivedShipment, u8>(self, 21, 50)
-    }
-
-    fn hands_mut(self) -> Seal<'a, u8>
-        requires come_to { IsSealOf no_definition (one ⟦<ArchivedShipment as Portable>⟧.shape)
-            self }
-        ensures { SealsPart no_definition (one ⟦<ArchivedShipment as Portable>⟧.shape) no_definition
-            ⟦<u8 as ArchivePointee>⟧.pointee (self.entry.pos + 51) 0 self.entry result }
-    {
-        sealed_part_in_record::<ArchivedShipment, u8>(self, 22, 51)
-    }
-
-    fn month_mut(self) -> Seal<'a, u8>
-        requires come_to { IsSealOf no_definition (one ⟦<ArchivedShipment as Portable>⟧.shape)
-            self }
-        ensures { SealsPart no_definition (one ⟦<ArchivedShipment as Portable>⟧.shape) no_definition
-            ⟦<u8 as ArchivePointee>⟧.pointee (self.entry.pos + 52) 0 self.entry result }
-    {
-        sealed_part_in_record::<ArchivedShipment, u8>(self, 23, 52)
-    }
-
-    fn day_mut(self) -> Seal<'a, u8>
-        requires come_to { IsSealOf no_definition (one ⟦<ArchivedShipment as Portable>⟧.shape)
-            self }
-        ensures { SealsPart no_definition (one ⟦<ArchivedShipment as Portable>⟧.shape) no_definition
-            ⟦<u8 as ArchivePointee>⟧.pointee (self.entry.pos + 53) 0 self.entry result }
-    {
-        sealed_part_in_record::<ArchivedShipment, u8>(self, 24, 53)
-    }
-
     fn came_mut(self) -> Seal<'a, ArchivedU64>
         requires come_to { IsSealOf no_definition (one ⟦<ArchivedShipment as Portable>⟧.shape)
             self }
         ensures { SealsPart no_definition (one ⟦<ArchivedShipment as Portable>⟧.shape) no_definition
-            ⟦<ArchivedU64 as ArchivePointee>⟧.pointee (self.entry.pos + 56) 0 self.entry result }
+            ⟦<ArchivedU64 as ArchivePointee>⟧.pointee (self.entry.pos + 48) 0 self.entry result }
     {
-        sealed_part_in_record::<ArchivedShipment, ArchivedU64>(self, 25, 56)
+        sealed_part_in_record::<ArchivedShipment, ArchivedU64>(self, 17, 48)
     }
 }

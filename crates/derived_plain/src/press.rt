@@ -44,32 +44,6 @@ pub enum Press {
     Digit9,
     /// A key of its own name.
     Named(String),
-    F1,
-    F2,
-    F3,
-    F4,
-    F5,
-    F6,
-    F7,
-    F8,
-    F9,
-    F10,
-    F11,
-    F12,
-    Escape,
-    Tab,
-    Space,
-    Enter,
-    Backspace,
-    Delete,
-    Home,
-    End,
-    PageUp,
-    PageDown,
-    Left,
-    Right,
-    Up,
-    Down,
     /// A character with modifiers.
     Chord {
         /// The modifiers, a bit each.
@@ -77,8 +51,6 @@ pub enum Press {
         /// The character.
         key: char,
     },
-    Mute,
-    Power,
 }
 
 // Below this line all is written by tools/derive: change what is above it, and run it again.
@@ -150,13 +122,7 @@ type PressVariants = UnitVariants<
     1,
     (
         PressScannedParts,
-        UnitVariants<
-            36,
-            (
-                PressNamedParts,
-                UnitVariants<26, (PressChordParts, UnitVariants<2, ()>)>,
-            ),
-        >,
+        UnitVariants<36, (PressNamedParts, (PressChordParts, ()))>,
     ),
 >;
 
@@ -166,8 +132,8 @@ impl ArchivePointee for ArchivedPress {
     ghost pointee = { one (choice (codes "ArchivedPress")
         (units 1 (variant (part ⟦<ArchivedU32 as Portable>⟧.shape no_part)
         (units 36 (variant (part ⟦<ArchivedString as Portable>⟧.shape no_part)
-        (units 26 (variant (part ⟦<u8 as Portable>⟧.shape
-        (part ⟦<ArchivedChar as Portable>⟧.shape no_part)) (units 2 no_variant)))))))) };
+        (variant (part ⟦<u8 as Portable>⟧.shape (part ⟦<ArchivedChar as Portable>⟧.shape no_part))
+        no_variant)))))) };
 
     ghost definitions = { no_definition };
 
@@ -182,8 +148,8 @@ impl Portable for ArchivedPress {
     ghost shape = { choice (codes "ArchivedPress") (units 1
         (variant (part ⟦<ArchivedU32 as Portable>⟧.shape no_part)
         (units 36 (variant (part ⟦<ArchivedString as Portable>⟧.shape no_part)
-        (units 26 (variant (part ⟦<u8 as Portable>⟧.shape
-        (part ⟦<ArchivedChar as Portable>⟧.shape no_part)) (units 2 no_variant))))))) };
+        (variant (part ⟦<u8 as Portable>⟧.shape (part ⟦<ArchivedChar as Portable>⟧.shape no_part))
+        no_variant))))) };
 
     ghost layout = { record { size = 12; align = 4 } };
 
@@ -198,8 +164,8 @@ impl Portable for ArchivedPress {
     ghost no_others = { no_definition_reached (choice (codes "ArchivedPress")
         (units 1 (variant (part ⟦<ArchivedU32 as Portable>⟧.shape no_part)
         (units 36 (variant (part ⟦<ArchivedString as Portable>⟧.shape no_part)
-        (units 26 (variant (part ⟦<u8 as Portable>⟧.shape
-        (part ⟦<ArchivedChar as Portable>⟧.shape no_part)) (units 2 no_variant)))))))) };
+        (variant (part ⟦<u8 as Portable>⟧.shape (part ⟦<ArchivedChar as Portable>⟧.shape no_part))
+        no_variant)))))) };
 
     ghost checks = { λ _. plain_own_check _ _ _ _ _ refl refl refl refl };
 
@@ -224,13 +190,12 @@ impl SelfCheck for ArchivedPress {
     ghost shape = { choice (codes "ArchivedPress") (units 1
         (variant (part ⟦<ArchivedU32 as Portable>⟧.shape no_part)
         (units 36 (variant (part ⟦<ArchivedString as Portable>⟧.shape no_part)
-        (units 26 (variant (part ⟦<u8 as Portable>⟧.shape
-        (part ⟦<ArchivedChar as Portable>⟧.shape no_part)) (units 2 no_variant))))))) };
+        (variant (part ⟦<u8 as Portable>⟧.shape (part ⟦<ArchivedChar as Portable>⟧.shape no_part))
+        no_variant))))) };
 
     ghost definitions = { (unit_definitions 1 (both (both no_definition no_definition)
         (unit_definitions 36 (both (both no_definition no_definition)
-        (unit_definitions 26 (both (both no_definition (both no_definition no_definition))
-        (unit_definitions 2 no_definition))))))) };
+        (both (both no_definition (both no_definition no_definition)) no_definition))))) };
 
     ghost span = { 12 };
 
@@ -265,12 +230,10 @@ impl Choice for ArchivedPress {
     ghost has_variants = { plain_choice (codes "ArchivedPress")
         (units 1 (variant (part ⟦<ArchivedU32 as Portable>⟧.shape no_part)
         (units 36 (variant (part ⟦<ArchivedString as Portable>⟧.shape no_part)
-        (units 26 (variant (part ⟦<u8 as Portable>⟧.shape
-        (part ⟦<ArchivedChar as Portable>⟧.shape no_part)) (units 2 no_variant)))))))
-        (unit_definitions 1 (both (both no_definition no_definition)
+        (variant (part ⟦<u8 as Portable>⟧.shape (part ⟦<ArchivedChar as Portable>⟧.shape no_part))
+        no_variant))))) (unit_definitions 1 (both (both no_definition no_definition)
         (unit_definitions 36 (both (both no_definition no_definition)
-        (unit_definitions 26 (both (both no_definition (both no_definition no_definition))
-        (unit_definitions 2 no_definition))))))) refl };
+        (both (both no_definition (both no_definition no_definition)) no_definition))))) refl };
 
     ghost holds = { lit≤ tt };
 }
@@ -294,7 +257,7 @@ trait PressTag {
 }
 
 impl PressTag for Press {
-    ghost use Rattle.derived_plain.specs.declared.press.Press.TheVariants.{A as PressA, B as PressB, Backspace as PressBackspace, C as PressC, Chord as PressChord, D as PressD, Delete as PressDelete, Digit0 as PressDigit0, Digit1 as PressDigit1, Digit2 as PressDigit2, Digit3 as PressDigit3, Digit4 as PressDigit4, Digit5 as PressDigit5, Digit6 as PressDigit6, Digit7 as PressDigit7, Digit8 as PressDigit8, Digit9 as PressDigit9, Down as PressDown, E as PressE, End as PressEnd, Enter as PressEnter, Escape as PressEscape, F as PressF, F1 as PressF1, F10 as PressF10, F11 as PressF11, F12 as PressF12, F2 as PressF2, F3 as PressF3, F4 as PressF4, F5 as PressF5, F6 as PressF6, F7 as PressF7, F8 as PressF8, F9 as PressF9, G as PressG, H as PressH, Home as PressHome, I as PressI, J as PressJ, K as PressK, L as PressL, Left as PressLeft, M as PressM, Mute as PressMute, N as PressN, Named as PressNamed, O as PressO, P as PressP, PageDown as PressPageDown, PageUp as PressPageUp, Power as PressPower, Q as PressQ, R as PressR, Right as PressRight, S as PressS, Scanned as PressScanned, Space as PressSpace, T as PressT, Tab as PressTab, U as PressU, Unknown as PressUnknown, Up as PressUp, V as PressV, W as PressW, X as PressX, Y as PressY, Z as PressZ};
+    ghost use Rattle.derived_plain.specs.declared.press.Press.TheVariants.{A as PressA, B as PressB, C as PressC, Chord as PressChord, D as PressD, Digit0 as PressDigit0, Digit1 as PressDigit1, Digit2 as PressDigit2, Digit3 as PressDigit3, Digit4 as PressDigit4, Digit5 as PressDigit5, Digit6 as PressDigit6, Digit7 as PressDigit7, Digit8 as PressDigit8, Digit9 as PressDigit9, E as PressE, F as PressF, G as PressG, H as PressH, I as PressI, J as PressJ, K as PressK, L as PressL, M as PressM, N as PressN, Named as PressNamed, O as PressO, P as PressP, Q as PressQ, R as PressR, S as PressS, Scanned as PressScanned, T as PressT, U as PressU, Unknown as PressUnknown, V as PressV, W as PressW, X as PressX, Y as PressY, Z as PressZ};
 
     fn tag(&self) -> u8
         ensures { elim self.now [
@@ -337,35 +300,7 @@ impl PressTag for Press {
           | PressDigit8 ↦ result ≡ 36
           | PressDigit9 ↦ result ≡ 37
           | PressNamed a0 ↦ result ≡ 38
-          | PressF1 ↦ result ≡ 39
-          | PressF2 ↦ result ≡ 40
-          | PressF3 ↦ result ≡ 41
-          | PressF4 ↦ result ≡ 42
-          | PressF5 ↦ result ≡ 43
-          | PressF6 ↦ result ≡ 44
-          | PressF7 ↦ result ≡ 45
-          | PressF8 ↦ result ≡ 46
-          | PressF9 ↦ result ≡ 47
-          | PressF10 ↦ result ≡ 48
-          | PressF11 ↦ result ≡ 49
-          | PressF12 ↦ result ≡ 50
-          | PressEscape ↦ result ≡ 51
-          | PressTab ↦ result ≡ 52
-          | PressSpace ↦ result ≡ 53
-          | PressEnter ↦ result ≡ 54
-          | PressBackspace ↦ result ≡ 55
-          | PressDelete ↦ result ≡ 56
-          | PressHome ↦ result ≡ 57
-          | PressEnd ↦ result ≡ 58
-          | PressPageUp ↦ result ≡ 59
-          | PressPageDown ↦ result ≡ 60
-          | PressLeft ↦ result ≡ 61
-          | PressRight ↦ result ≡ 62
-          | PressUp ↦ result ≡ 63
-          | PressDown ↦ result ≡ 64
-          | PressChord a0 a1 ↦ result ≡ 65
-          | PressMute ↦ result ≡ 66
-          | PressPower ↦ result ≡ 67
+          | PressChord a0 a1 ↦ result ≡ 39
         ] }
     {
         match self {
@@ -408,41 +343,13 @@ impl PressTag for Press {
             Press::Digit8 => 36,
             Press::Digit9 => 37,
             Press::Named(..) => 38,
-            Press::F1 => 39,
-            Press::F2 => 40,
-            Press::F3 => 41,
-            Press::F4 => 42,
-            Press::F5 => 43,
-            Press::F6 => 44,
-            Press::F7 => 45,
-            Press::F8 => 46,
-            Press::F9 => 47,
-            Press::F10 => 48,
-            Press::F11 => 49,
-            Press::F12 => 50,
-            Press::Escape => 51,
-            Press::Tab => 52,
-            Press::Space => 53,
-            Press::Enter => 54,
-            Press::Backspace => 55,
-            Press::Delete => 56,
-            Press::Home => 57,
-            Press::End => 58,
-            Press::PageUp => 59,
-            Press::PageDown => 60,
-            Press::Left => 61,
-            Press::Right => 62,
-            Press::Up => 63,
-            Press::Down => 64,
-            Press::Chord { .. } => 65,
-            Press::Mute => 66,
-            Press::Power => 67,
+            Press::Chord { .. } => 39,
         }
     }
 }
 
 impl Archive for Press {
-    ghost use Rattle.derived_plain.specs.declared.press.Press.TheVariants.{A as PressA, B as PressB, Backspace as PressBackspace, C as PressC, Chord as PressChord, D as PressD, Delete as PressDelete, Digit0 as PressDigit0, Digit1 as PressDigit1, Digit2 as PressDigit2, Digit3 as PressDigit3, Digit4 as PressDigit4, Digit5 as PressDigit5, Digit6 as PressDigit6, Digit7 as PressDigit7, Digit8 as PressDigit8, Digit9 as PressDigit9, Down as PressDown, E as PressE, End as PressEnd, Enter as PressEnter, Escape as PressEscape, F as PressF, F1 as PressF1, F10 as PressF10, F11 as PressF11, F12 as PressF12, F2 as PressF2, F3 as PressF3, F4 as PressF4, F5 as PressF5, F6 as PressF6, F7 as PressF7, F8 as PressF8, F9 as PressF9, G as PressG, H as PressH, Home as PressHome, I as PressI, J as PressJ, K as PressK, L as PressL, Left as PressLeft, M as PressM, Mute as PressMute, N as PressN, Named as PressNamed, O as PressO, P as PressP, PageDown as PressPageDown, PageUp as PressPageUp, Power as PressPower, Q as PressQ, R as PressR, Right as PressRight, S as PressS, Scanned as PressScanned, Space as PressSpace, T as PressT, Tab as PressTab, U as PressU, Unknown as PressUnknown, Up as PressUp, V as PressV, W as PressW, X as PressX, Y as PressY, Z as PressZ};
+    ghost use Rattle.derived_plain.specs.declared.press.Press.TheVariants.{A as PressA, B as PressB, C as PressC, Chord as PressChord, D as PressD, Digit0 as PressDigit0, Digit1 as PressDigit1, Digit2 as PressDigit2, Digit3 as PressDigit3, Digit4 as PressDigit4, Digit5 as PressDigit5, Digit6 as PressDigit6, Digit7 as PressDigit7, Digit8 as PressDigit8, Digit9 as PressDigit9, E as PressE, F as PressF, G as PressG, H as PressH, I as PressI, J as PressJ, K as PressK, L as PressL, M as PressM, N as PressN, Named as PressNamed, O as PressO, P as PressP, Q as PressQ, R as PressR, S as PressS, Scanned as PressScanned, T as PressT, U as PressU, Unknown as PressUnknown, V as PressV, W as PressW, X as PressX, Y as PressY, Z as PressZ};
     ghost use Rattle.derived_plain.specs.declared.press.PressResolver.TheVariants.{Chord as PressChordKept, Named as PressNamedKept, Scanned as PressScannedKept, Unit as PressUnitKept};
 
     type Archived = ArchivedPress;
@@ -489,36 +396,8 @@ impl Archive for Press {
       | PressDigit8 ↦ case 36 no_value
       | PressDigit9 ↦ case 37 no_value
       | PressNamed a0 ↦ case 38 (value (⟦<String as Archive>⟧.meaning a0) no_value)
-      | PressF1 ↦ case 39 no_value
-      | PressF2 ↦ case 40 no_value
-      | PressF3 ↦ case 41 no_value
-      | PressF4 ↦ case 42 no_value
-      | PressF5 ↦ case 43 no_value
-      | PressF6 ↦ case 44 no_value
-      | PressF7 ↦ case 45 no_value
-      | PressF8 ↦ case 46 no_value
-      | PressF9 ↦ case 47 no_value
-      | PressF10 ↦ case 48 no_value
-      | PressF11 ↦ case 49 no_value
-      | PressF12 ↦ case 50 no_value
-      | PressEscape ↦ case 51 no_value
-      | PressTab ↦ case 52 no_value
-      | PressSpace ↦ case 53 no_value
-      | PressEnter ↦ case 54 no_value
-      | PressBackspace ↦ case 55 no_value
-      | PressDelete ↦ case 56 no_value
-      | PressHome ↦ case 57 no_value
-      | PressEnd ↦ case 58 no_value
-      | PressPageUp ↦ case 59 no_value
-      | PressPageDown ↦ case 60 no_value
-      | PressLeft ↦ case 61 no_value
-      | PressRight ↦ case 62 no_value
-      | PressUp ↦ case 63 no_value
-      | PressDown ↦ case 64 no_value
-      | PressChord a0 a1 ↦ case 65 (value (⟦<u8 as Archive>⟧.meaning a0)
+      | PressChord a0 a1 ↦ case 39 (value (⟦<u8 as Archive>⟧.meaning a0)
           (value (⟦<char as Archive>⟧.meaning a1) no_value))
-      | PressMute ↦ case 66 no_value
-      | PressPower ↦ case 67 no_value
     ] };
 
     ghost flat = { λ v r. elim v [
@@ -567,39 +446,11 @@ impl Archive for Press {
         | PressNamedKept s ↦ case 38 (value (⟦<String as Archive>⟧.flat a0 s.0) no_value)
         | _ ↦ case 38 no_value
       ]
-      | PressF1 ↦ case 39 no_value
-      | PressF2 ↦ case 40 no_value
-      | PressF3 ↦ case 41 no_value
-      | PressF4 ↦ case 42 no_value
-      | PressF5 ↦ case 43 no_value
-      | PressF6 ↦ case 44 no_value
-      | PressF7 ↦ case 45 no_value
-      | PressF8 ↦ case 46 no_value
-      | PressF9 ↦ case 47 no_value
-      | PressF10 ↦ case 48 no_value
-      | PressF11 ↦ case 49 no_value
-      | PressF12 ↦ case 50 no_value
-      | PressEscape ↦ case 51 no_value
-      | PressTab ↦ case 52 no_value
-      | PressSpace ↦ case 53 no_value
-      | PressEnter ↦ case 54 no_value
-      | PressBackspace ↦ case 55 no_value
-      | PressDelete ↦ case 56 no_value
-      | PressHome ↦ case 57 no_value
-      | PressEnd ↦ case 58 no_value
-      | PressPageUp ↦ case 59 no_value
-      | PressPageDown ↦ case 60 no_value
-      | PressLeft ↦ case 61 no_value
-      | PressRight ↦ case 62 no_value
-      | PressUp ↦ case 63 no_value
-      | PressDown ↦ case 64 no_value
       | PressChord a0 a1 ↦ elim r [
-        | PressChordKept s ↦ case 65 (value (⟦<u8 as Archive>⟧.flat a0 s.0)
+        | PressChordKept s ↦ case 39 (value (⟦<u8 as Archive>⟧.flat a0 s.0)
             (value (⟦<char as Archive>⟧.flat a1 s.1.0) no_value))
-        | _ ↦ case 65 no_value
+        | _ ↦ case 39 no_value
       ]
-      | PressMute ↦ case 66 no_value
-      | PressPower ↦ case 67 no_value
     ] };
 
     ghost keys = { elim [
@@ -642,35 +493,7 @@ impl Archive for Press {
       | PressDigit8 ↦ []
       | PressDigit9 ↦ []
       | PressNamed a0 ↦ ⟦<String as Archive>⟧.keys a0 ++ []
-      | PressF1 ↦ []
-      | PressF2 ↦ []
-      | PressF3 ↦ []
-      | PressF4 ↦ []
-      | PressF5 ↦ []
-      | PressF6 ↦ []
-      | PressF7 ↦ []
-      | PressF8 ↦ []
-      | PressF9 ↦ []
-      | PressF10 ↦ []
-      | PressF11 ↦ []
-      | PressF12 ↦ []
-      | PressEscape ↦ []
-      | PressTab ↦ []
-      | PressSpace ↦ []
-      | PressEnter ↦ []
-      | PressBackspace ↦ []
-      | PressDelete ↦ []
-      | PressHome ↦ []
-      | PressEnd ↦ []
-      | PressPageUp ↦ []
-      | PressPageDown ↦ []
-      | PressLeft ↦ []
-      | PressRight ↦ []
-      | PressUp ↦ []
-      | PressDown ↦ []
       | PressChord a0 a1 ↦ ⟦<u8 as Archive>⟧.keys a0 ++ (⟦<char as Archive>⟧.keys a1 ++ [])
-      | PressMute ↦ []
-      | PressPower ↦ []
     ] };
 
     ghost belongs = { λ v r. elim v [
@@ -719,39 +542,11 @@ impl Archive for Press {
         | PressNamedKept s ↦ ⟦<String as Archive>⟧.belongs a0 s.0 × Unit {0}
         | _ ↦ ⊥
       ]
-      | PressF1 ↦ Unit {0}
-      | PressF2 ↦ Unit {0}
-      | PressF3 ↦ Unit {0}
-      | PressF4 ↦ Unit {0}
-      | PressF5 ↦ Unit {0}
-      | PressF6 ↦ Unit {0}
-      | PressF7 ↦ Unit {0}
-      | PressF8 ↦ Unit {0}
-      | PressF9 ↦ Unit {0}
-      | PressF10 ↦ Unit {0}
-      | PressF11 ↦ Unit {0}
-      | PressF12 ↦ Unit {0}
-      | PressEscape ↦ Unit {0}
-      | PressTab ↦ Unit {0}
-      | PressSpace ↦ Unit {0}
-      | PressEnter ↦ Unit {0}
-      | PressBackspace ↦ Unit {0}
-      | PressDelete ↦ Unit {0}
-      | PressHome ↦ Unit {0}
-      | PressEnd ↦ Unit {0}
-      | PressPageUp ↦ Unit {0}
-      | PressPageDown ↦ Unit {0}
-      | PressLeft ↦ Unit {0}
-      | PressRight ↦ Unit {0}
-      | PressUp ↦ Unit {0}
-      | PressDown ↦ Unit {0}
       | PressChord a0 a1 ↦ elim r [
         | PressChordKept s ↦ ⟦<u8 as Archive>⟧.belongs a0 s.0
             × (⟦<char as Archive>⟧.belongs a1 s.1.0 × Unit {0})
         | _ ↦ ⊥
       ]
-      | PressMute ↦ Unit {0}
-      | PressPower ↦ Unit {0}
     ] };
 
     ghost in_bulk = { None };
@@ -796,36 +591,8 @@ impl Archive for Press {
       | PressDigit8 ↦ case_keyed _ 36 _ nothing_keyed
       | PressDigit9 ↦ case_keyed _ 37 _ nothing_keyed
       | PressNamed a0 ↦ case_keyed _ 38 _ (part_keyed (text_keyed (string_bytes a0)) nothing_keyed)
-      | PressF1 ↦ case_keyed _ 39 _ nothing_keyed
-      | PressF2 ↦ case_keyed _ 40 _ nothing_keyed
-      | PressF3 ↦ case_keyed _ 41 _ nothing_keyed
-      | PressF4 ↦ case_keyed _ 42 _ nothing_keyed
-      | PressF5 ↦ case_keyed _ 43 _ nothing_keyed
-      | PressF6 ↦ case_keyed _ 44 _ nothing_keyed
-      | PressF7 ↦ case_keyed _ 45 _ nothing_keyed
-      | PressF8 ↦ case_keyed _ 46 _ nothing_keyed
-      | PressF9 ↦ case_keyed _ 47 _ nothing_keyed
-      | PressF10 ↦ case_keyed _ 48 _ nothing_keyed
-      | PressF11 ↦ case_keyed _ 49 _ nothing_keyed
-      | PressF12 ↦ case_keyed _ 50 _ nothing_keyed
-      | PressEscape ↦ case_keyed _ 51 _ nothing_keyed
-      | PressTab ↦ case_keyed _ 52 _ nothing_keyed
-      | PressSpace ↦ case_keyed _ 53 _ nothing_keyed
-      | PressEnter ↦ case_keyed _ 54 _ nothing_keyed
-      | PressBackspace ↦ case_keyed _ 55 _ nothing_keyed
-      | PressDelete ↦ case_keyed _ 56 _ nothing_keyed
-      | PressHome ↦ case_keyed _ 57 _ nothing_keyed
-      | PressEnd ↦ case_keyed _ 58 _ nothing_keyed
-      | PressPageUp ↦ case_keyed _ 59 _ nothing_keyed
-      | PressPageDown ↦ case_keyed _ 60 _ nothing_keyed
-      | PressLeft ↦ case_keyed _ 61 _ nothing_keyed
-      | PressRight ↦ case_keyed _ 62 _ nothing_keyed
-      | PressUp ↦ case_keyed _ 63 _ nothing_keyed
-      | PressDown ↦ case_keyed _ 64 _ nothing_keyed
-      | PressChord a0 a1 ↦ case_keyed _ 65 _ (part_keyed (number_keyed _)
+      | PressChord a0 a1 ↦ case_keyed _ 39 _ (part_keyed (number_keyed _)
           (part_keyed (number_keyed _) nothing_keyed))
-      | PressMute ↦ case_keyed _ 66 _ nothing_keyed
-      | PressPower ↦ case_keyed _ 67 _ nothing_keyed
     ] };
 
     ghost planned = { elim [
@@ -887,41 +654,7 @@ impl Archive for Press {
           (part_planned no_definition ⟦<ArchivedString as Portable>⟧.shape
           (⟦<String as Archive>⟧.keys a0) (⟦<String as Archive>⟧.meaning a0)
           (string_planned no_definition [] (string_bytes a0)) no_part_planned) refl
-      | PressF1 ↦ plain_variant_planned _ _ 39 no_part refl no_definition _ _ no_part_planned refl
-      | PressF2 ↦ plain_variant_planned _ _ 40 no_part refl no_definition _ _ no_part_planned refl
-      | PressF3 ↦ plain_variant_planned _ _ 41 no_part refl no_definition _ _ no_part_planned refl
-      | PressF4 ↦ plain_variant_planned _ _ 42 no_part refl no_definition _ _ no_part_planned refl
-      | PressF5 ↦ plain_variant_planned _ _ 43 no_part refl no_definition _ _ no_part_planned refl
-      | PressF6 ↦ plain_variant_planned _ _ 44 no_part refl no_definition _ _ no_part_planned refl
-      | PressF7 ↦ plain_variant_planned _ _ 45 no_part refl no_definition _ _ no_part_planned refl
-      | PressF8 ↦ plain_variant_planned _ _ 46 no_part refl no_definition _ _ no_part_planned refl
-      | PressF9 ↦ plain_variant_planned _ _ 47 no_part refl no_definition _ _ no_part_planned refl
-      | PressF10 ↦ plain_variant_planned _ _ 48 no_part refl no_definition _ _ no_part_planned refl
-      | PressF11 ↦ plain_variant_planned _ _ 49 no_part refl no_definition _ _ no_part_planned refl
-      | PressF12 ↦ plain_variant_planned _ _ 50 no_part refl no_definition _ _ no_part_planned refl
-      | PressEscape ↦ plain_variant_planned _ _ 51 no_part refl no_definition _ _ no_part_planned
-          refl
-      | PressTab ↦ plain_variant_planned _ _ 52 no_part refl no_definition _ _ no_part_planned refl
-      | PressSpace ↦ plain_variant_planned _ _ 53 no_part refl no_definition _ _ no_part_planned
-          refl
-      | PressEnter ↦ plain_variant_planned _ _ 54 no_part refl no_definition _ _ no_part_planned
-          refl
-      | PressBackspace ↦ plain_variant_planned _ _ 55 no_part refl no_definition _ _ no_part_planned
-          refl
-      | PressDelete ↦ plain_variant_planned _ _ 56 no_part refl no_definition _ _ no_part_planned
-          refl
-      | PressHome ↦ plain_variant_planned _ _ 57 no_part refl no_definition _ _ no_part_planned refl
-      | PressEnd ↦ plain_variant_planned _ _ 58 no_part refl no_definition _ _ no_part_planned refl
-      | PressPageUp ↦ plain_variant_planned _ _ 59 no_part refl no_definition _ _ no_part_planned
-          refl
-      | PressPageDown ↦ plain_variant_planned _ _ 60 no_part refl no_definition _ _ no_part_planned
-          refl
-      | PressLeft ↦ plain_variant_planned _ _ 61 no_part refl no_definition _ _ no_part_planned refl
-      | PressRight ↦ plain_variant_planned _ _ 62 no_part refl no_definition _ _ no_part_planned
-          refl
-      | PressUp ↦ plain_variant_planned _ _ 63 no_part refl no_definition _ _ no_part_planned refl
-      | PressDown ↦ plain_variant_planned _ _ 64 no_part refl no_definition _ _ no_part_planned refl
-      | PressChord a0 a1 ↦ plain_variant_planned _ _ 65
+      | PressChord a0 a1 ↦ plain_variant_planned _ _ 39
           (part ⟦<u8 as Portable>⟧.shape (part ⟦<ArchivedChar as Portable>⟧.shape no_part)) refl
           (both no_definition (both no_definition no_definition)) _ _
           (part_planned no_definition ⟦<u8 as Portable>⟧.shape (⟦<u8 as Archive>⟧.keys a0)
@@ -929,9 +662,6 @@ impl Archive for Press {
           (part_planned no_definition ⟦<ArchivedChar as Portable>⟧.shape
           (⟦<char as Archive>⟧.keys a1) (⟦<char as Archive>⟧.meaning a1)
           (leaf_planned no_definition _ _ [] _ refl) no_part_planned)) refl
-      | PressMute ↦ plain_variant_planned _ _ 66 no_part refl no_definition _ _ no_part_planned refl
-      | PressPower ↦ plain_variant_planned _ _ 67 no_part refl no_definition _ _ no_part_planned
-          refl
     ] };
 
     #[inline(always)]
@@ -942,8 +672,10 @@ impl Archive for Press {
     ) -> Result<(), Error>
         requires zeroed { ZeroedPlace 12 place.pos place.bytes.now }
         requires same_value { ⟦<Self as Archive>⟧.belongs self.now resolver }
-        ensures { ResolvesAs ⟦<Self::Archived as Portable>⟧ place
-            (⟦<Self as Archive>⟧.flat self.now resolver) result }
+        ensures {
+            ResolvesAs ⟦<Self::Archived as Portable>⟧ place
+                (⟦<Self as Archive>⟧.flat self.now resolver) result
+        }
     {
         let Place { bytes, pos, .. } = place;
         match self {
@@ -959,14 +691,11 @@ impl Archive for Press {
                 };
                 resolve_case_1::<String, ArchivedPress>(38, a0, kept, Place::new(pos, bytes))
             }
-            Press::Chord {
-                modifiers: a0,
-                key: a1,
-            } => {
+            Press::Chord { modifiers: a0, key: a1 } => {
                 let PressResolver::Chord(kept) = resolver else {
                     unreachable!();
                 };
-                resolve_case_2::<u8, char, ArchivedPress>(65, a0, a1, kept, Place::new(pos, bytes))
+                resolve_case_2::<u8, char, ArchivedPress>(39, a0, a1, kept, Place::new(pos, bytes))
             }
             _ => resolve_case_0::<ArchivedPress>(PressTag::tag(self), (), Place::new(pos, bytes)),
         }
@@ -1003,10 +732,13 @@ impl<S: Writer + ResolverAlloc> Serialize<S> for Press {
                 Ok(kept) => Ok(PressResolver::Named(kept)),
                 Err(error) => Err(error),
             },
-            Press::Chord {
-                modifiers: a0,
-                key: a1,
-            } => match serialize_case_2::<u8, char, ArchivedPress, S>(65, a0, a1, serializer) {
+            Press::Chord { modifiers: a0, key: a1 } => match serialize_case_2::<
+                u8,
+                char,
+                ArchivedPress,
+                S,
+            >(39, a0, a1, serializer)
+            {
                 Ok(kept) => Ok(PressResolver::Chord(kept)),
                 Err(error) => Err(error),
             },
@@ -1037,9 +769,9 @@ impl ArchiveUnsized for Press {
     ghost planned = { λ v. one_planned no_definition (choice (codes "ArchivedPress")
         (units 1 (variant (part ⟦<ArchivedU32 as Portable>⟧.shape no_part)
         (units 36 (variant (part ⟦<ArchivedString as Portable>⟧.shape no_part)
-        (units 26 (variant (part ⟦<u8 as Portable>⟧.shape
-        (part ⟦<ArchivedChar as Portable>⟧.shape no_part)) (units 2 no_variant))))))))
-        (⟦<Press as Archive>⟧.keys v) (⟦<Press as Archive>⟧.meaning v) (planned_of_press v) };
+        (variant (part ⟦<u8 as Portable>⟧.shape (part ⟦<ArchivedChar as Portable>⟧.shape no_part))
+        no_variant)))))) (⟦<Press as Archive>⟧.keys v) (⟦<Press as Archive>⟧.meaning v)
+        (planned_of_press v) };
 
     #[inline(always)]
     fn archived_metadata(&self) -> Result<(), Error> {
@@ -1056,10 +788,10 @@ impl<S: Writer + ResolverAlloc> SerializeUnsized<S> for Press {
 
 // The variant with this tag, which has no fields.
 fn press_without_fields(tag: u8) -> Press
-    requires below { tag < 68 }
+    requires below { tag < 40 }
     requires not_1 { tag ≢ 1 }
     requires not_38 { tag ≢ 38 }
-    requires not_65 { tag ≢ 65 }
+    requires not_39 { tag ≢ 39 }
     ensures variant { variant_in ⟦<ArchivedPress as Portable>⟧.shape tag ≡ Some no_part }
     ensures meaning { ⟦<Press as Archive>⟧.meaning result ≡ case tag no_value }
     ensures keys { ⟦<Press as Archive>⟧.keys result ≡ [] }
@@ -1101,35 +833,7 @@ fn press_without_fields(tag: u8) -> Press
         34 => Press::Digit6,
         35 => Press::Digit7,
         36 => Press::Digit8,
-        37 => Press::Digit9,
-        39 => Press::F1,
-        40 => Press::F2,
-        41 => Press::F3,
-        42 => Press::F4,
-        43 => Press::F5,
-        44 => Press::F6,
-        45 => Press::F7,
-        46 => Press::F8,
-        47 => Press::F9,
-        48 => Press::F10,
-        49 => Press::F11,
-        50 => Press::F12,
-        51 => Press::Escape,
-        52 => Press::Tab,
-        53 => Press::Space,
-        54 => Press::Enter,
-        55 => Press::Backspace,
-        56 => Press::Delete,
-        57 => Press::Home,
-        58 => Press::End,
-        59 => Press::PageUp,
-        60 => Press::PageDown,
-        61 => Press::Left,
-        62 => Press::Right,
-        63 => Press::Up,
-        64 => Press::Down,
-        66 => Press::Mute,
-        _ => Press::Power,
+        _ => Press::Digit9,
     }
 }
 
@@ -1163,8 +867,8 @@ impl<D: Entries> Deserialize<Press, D> for ArchivedPress {
                 Ok((a0, ())) => Ok(Press::Named(a0)),
                 Err(error) => Err(error),
             },
-            65 => match read_case::<Self, PressChordParts, PressChordOwned, D>(
-                65,
+            39 => match read_case::<Self, PressChordParts, PressChordOwned, D>(
+                39,
                 alloc,
                 part,
                 deserializer,
@@ -1267,58 +971,6 @@ pub enum ViewOfPress<'a> {
     Digit9,
     /// A key of its own name.
     Named(Ref<'a, ArchivedString>),
-    /// The variant `F1`.
-    F1,
-    /// The variant `F2`.
-    F2,
-    /// The variant `F3`.
-    F3,
-    /// The variant `F4`.
-    F4,
-    /// The variant `F5`.
-    F5,
-    /// The variant `F6`.
-    F6,
-    /// The variant `F7`.
-    F7,
-    /// The variant `F8`.
-    F8,
-    /// The variant `F9`.
-    F9,
-    /// The variant `F10`.
-    F10,
-    /// The variant `F11`.
-    F11,
-    /// The variant `F12`.
-    F12,
-    /// The variant `Escape`.
-    Escape,
-    /// The variant `Tab`.
-    Tab,
-    /// The variant `Space`.
-    Space,
-    /// The variant `Enter`.
-    Enter,
-    /// The variant `Backspace`.
-    Backspace,
-    /// The variant `Delete`.
-    Delete,
-    /// The variant `Home`.
-    Home,
-    /// The variant `End`.
-    End,
-    /// The variant `PageUp`.
-    PageUp,
-    /// The variant `PageDown`.
-    PageDown,
-    /// The variant `Left`.
-    Left,
-    /// The variant `Right`.
-    Right,
-    /// The variant `Up`.
-    Up,
-    /// The variant `Down`.
-    Down,
     /// A character with modifiers.
     Chord {
         /// The modifiers, a bit each.
@@ -1326,10 +978,6 @@ pub enum ViewOfPress<'a> {
         /// The character.
         key: Ref<'a, ArchivedChar>,
     },
-    /// The variant `Mute`.
-    Mute,
-    /// The variant `Power`.
-    Power,
 }
 
 /// The variant of an archived `Press`, as a view.
@@ -1339,7 +987,7 @@ pub trait PressView<'a> {
 }
 
 impl<'a> PressView<'a> for Ref<'a, ArchivedPress> {
-    ghost use Rattle.derived_plain.specs.declared.press.ViewOfPress.TheVariants.{A as PressAShown, B as PressBShown, Backspace as PressBackspaceShown, C as PressCShown, Chord as PressChordShown, D as PressDShown, Delete as PressDeleteShown, Digit0 as PressDigit0Shown, Digit1 as PressDigit1Shown, Digit2 as PressDigit2Shown, Digit3 as PressDigit3Shown, Digit4 as PressDigit4Shown, Digit5 as PressDigit5Shown, Digit6 as PressDigit6Shown, Digit7 as PressDigit7Shown, Digit8 as PressDigit8Shown, Digit9 as PressDigit9Shown, Down as PressDownShown, E as PressEShown, End as PressEndShown, Enter as PressEnterShown, Escape as PressEscapeShown, F as PressFShown, F1 as PressF1Shown, F10 as PressF10Shown, F11 as PressF11Shown, F12 as PressF12Shown, F2 as PressF2Shown, F3 as PressF3Shown, F4 as PressF4Shown, F5 as PressF5Shown, F6 as PressF6Shown, F7 as PressF7Shown, F8 as PressF8Shown, F9 as PressF9Shown, G as PressGShown, H as PressHShown, Home as PressHomeShown, I as PressIShown, J as PressJShown, K as PressKShown, L as PressLShown, Left as PressLeftShown, M as PressMShown, Mute as PressMuteShown, N as PressNShown, Named as PressNamedShown, O as PressOShown, P as PressPShown, PageDown as PressPageDownShown, PageUp as PressPageUpShown, Power as PressPowerShown, Q as PressQShown, R as PressRShown, Right as PressRightShown, S as PressSShown, Scanned as PressScannedShown, Space as PressSpaceShown, T as PressTShown, Tab as PressTabShown, U as PressUShown, Unknown as PressUnknownShown, Up as PressUpShown, V as PressVShown, W as PressWShown, X as PressXShown, Y as PressYShown, Z as PressZShown};
+    ghost use Rattle.derived_plain.specs.declared.press.ViewOfPress.TheVariants.{A as PressAShown, B as PressBShown, C as PressCShown, Chord as PressChordShown, D as PressDShown, Digit0 as PressDigit0Shown, Digit1 as PressDigit1Shown, Digit2 as PressDigit2Shown, Digit3 as PressDigit3Shown, Digit4 as PressDigit4Shown, Digit5 as PressDigit5Shown, Digit6 as PressDigit6Shown, Digit7 as PressDigit7Shown, Digit8 as PressDigit8Shown, Digit9 as PressDigit9Shown, E as PressEShown, F as PressFShown, G as PressGShown, H as PressHShown, I as PressIShown, J as PressJShown, K as PressKShown, L as PressLShown, M as PressMShown, N as PressNShown, Named as PressNamedShown, O as PressOShown, P as PressPShown, Q as PressQShown, R as PressRShown, S as PressSShown, Scanned as PressScannedShown, T as PressTShown, U as PressUShown, Unknown as PressUnknownShown, V as PressVShown, W as PressWShown, X as PressXShown, Y as PressYShown, Z as PressZShown};
 
     fn variant(self) -> ViewOfPress<'a>
         ensures shows { elim result [
@@ -1386,39 +1034,11 @@ impl<'a> PressView<'a> for Ref<'a, ArchivedPress> {
           | PressNamedShown a0 ↦ (tag_of self.entry ≡ 38) × (a0.bytes.now ≡ self.entry.bytes.now)
               × (a0.pos ≡ self.entry.pos + 4) × (a0.len ≡ 0)
               × ShowsValueOf a0 self.entry (payload_in 0)
-          | PressF1Shown ↦ (tag_of self.entry ≡ 39)
-          | PressF2Shown ↦ (tag_of self.entry ≡ 40)
-          | PressF3Shown ↦ (tag_of self.entry ≡ 41)
-          | PressF4Shown ↦ (tag_of self.entry ≡ 42)
-          | PressF5Shown ↦ (tag_of self.entry ≡ 43)
-          | PressF6Shown ↦ (tag_of self.entry ≡ 44)
-          | PressF7Shown ↦ (tag_of self.entry ≡ 45)
-          | PressF8Shown ↦ (tag_of self.entry ≡ 46)
-          | PressF9Shown ↦ (tag_of self.entry ≡ 47)
-          | PressF10Shown ↦ (tag_of self.entry ≡ 48)
-          | PressF11Shown ↦ (tag_of self.entry ≡ 49)
-          | PressF12Shown ↦ (tag_of self.entry ≡ 50)
-          | PressEscapeShown ↦ (tag_of self.entry ≡ 51)
-          | PressTabShown ↦ (tag_of self.entry ≡ 52)
-          | PressSpaceShown ↦ (tag_of self.entry ≡ 53)
-          | PressEnterShown ↦ (tag_of self.entry ≡ 54)
-          | PressBackspaceShown ↦ (tag_of self.entry ≡ 55)
-          | PressDeleteShown ↦ (tag_of self.entry ≡ 56)
-          | PressHomeShown ↦ (tag_of self.entry ≡ 57)
-          | PressEndShown ↦ (tag_of self.entry ≡ 58)
-          | PressPageUpShown ↦ (tag_of self.entry ≡ 59)
-          | PressPageDownShown ↦ (tag_of self.entry ≡ 60)
-          | PressLeftShown ↦ (tag_of self.entry ≡ 61)
-          | PressRightShown ↦ (tag_of self.entry ≡ 62)
-          | PressUpShown ↦ (tag_of self.entry ≡ 63)
-          | PressDownShown ↦ (tag_of self.entry ≡ 64)
-          | PressChordShown a0 a1 ↦ (tag_of self.entry ≡ 65) × (a0.bytes.now ≡ self.entry.bytes.now)
+          | PressChordShown a0 a1 ↦ (tag_of self.entry ≡ 39) × (a0.bytes.now ≡ self.entry.bytes.now)
               × (a0.pos ≡ self.entry.pos + 1) × (a0.len ≡ 0)
               × ShowsValueOf a0 self.entry (payload_in 0) × (a1.bytes.now ≡ self.entry.bytes.now)
               × (a1.pos ≡ self.entry.pos + 4) × (a1.len ≡ 0)
               × ShowsValueOf a1 self.entry (payload_in 1)
-          | PressMuteShown ↦ (tag_of self.entry ≡ 66)
-          | PressPowerShown ↦ (tag_of self.entry ≡ 67)
         ] }
     {
         match tag_in(self) {
@@ -1464,38 +1084,10 @@ impl<'a> PressView<'a> for Ref<'a, ArchivedPress> {
                 let a0 = part_in_case::<ArchivedPress, ArchivedString>(self, 38, 0, 4);
                 ViewOfPress::Named(a0)
             }
-            39 => ViewOfPress::F1,
-            40 => ViewOfPress::F2,
-            41 => ViewOfPress::F3,
-            42 => ViewOfPress::F4,
-            43 => ViewOfPress::F5,
-            44 => ViewOfPress::F6,
-            45 => ViewOfPress::F7,
-            46 => ViewOfPress::F8,
-            47 => ViewOfPress::F9,
-            48 => ViewOfPress::F10,
-            49 => ViewOfPress::F11,
-            50 => ViewOfPress::F12,
-            51 => ViewOfPress::Escape,
-            52 => ViewOfPress::Tab,
-            53 => ViewOfPress::Space,
-            54 => ViewOfPress::Enter,
-            55 => ViewOfPress::Backspace,
-            56 => ViewOfPress::Delete,
-            57 => ViewOfPress::Home,
-            58 => ViewOfPress::End,
-            59 => ViewOfPress::PageUp,
-            60 => ViewOfPress::PageDown,
-            61 => ViewOfPress::Left,
-            62 => ViewOfPress::Right,
-            63 => ViewOfPress::Up,
-            64 => ViewOfPress::Down,
-            65 => ViewOfPress::Chord {
-                modifiers: part_in_case::<ArchivedPress, u8>(self, 65, 0, 1),
-                key: part_in_case::<ArchivedPress, ArchivedChar>(self, 65, 1, 4),
+            _ => ViewOfPress::Chord {
+                modifiers: part_in_case::<ArchivedPress, u8>(self, 39, 0, 1),
+                key: part_in_case::<ArchivedPress, ArchivedChar>(self, 39, 1, 4),
             },
-            66 => ViewOfPress::Mute,
-            _ => ViewOfPress::Power,
         }
     }
 }
@@ -1521,12 +1113,12 @@ pub trait PressSeal<'a> {
     /// The modifiers, a bit each.
     fn chord_modifiers_mut(self) -> Seal<'a, u8>
         requires come_to { sealed self }
-        requires tag { tag self ≡ 65 };
+        requires tag { tag self ≡ 39 };
 
     /// The character.
     fn chord_key_mut(self) -> Seal<'a, ArchivedChar>
         requires come_to { sealed self }
-        requires tag { tag self ≡ 65 };
+        requires tag { tag self ≡ 39 };
 }
 
 impl<'a> PressSeal<'a> for Seal<'a, ArchivedPress> {
@@ -1554,20 +1146,20 @@ impl<'a> PressSeal<'a> for Seal<'a, ArchivedPress> {
 
     fn chord_modifiers_mut(self) -> Seal<'a, u8>
         requires come_to { IsSealOf no_definition (one ⟦<ArchivedPress as Portable>⟧.shape) self }
-        requires tag { seal_tag self ≡ 65 }
+        requires tag { seal_tag self ≡ 39 }
         ensures { SealsPart no_definition (one ⟦<ArchivedPress as Portable>⟧.shape) no_definition
             ⟦<u8 as ArchivePointee>⟧.pointee (self.entry.pos + 1) 0 self.entry result }
     {
-        sealed_part_in_case::<ArchivedPress, u8>(self, 65, 0, 1)
+        sealed_part_in_case::<ArchivedPress, u8>(self, 39, 0, 1)
     }
 
     fn chord_key_mut(self) -> Seal<'a, ArchivedChar>
         requires come_to { IsSealOf no_definition (one ⟦<ArchivedPress as Portable>⟧.shape) self }
-        requires tag { seal_tag self ≡ 65 }
+        requires tag { seal_tag self ≡ 39 }
         ensures { SealsPart no_definition (one ⟦<ArchivedPress as Portable>⟧.shape) no_definition
             ⟦<ArchivedChar as ArchivePointee>⟧.pointee (self.entry.pos + 4) 0 self.entry result }
     {
-        sealed_part_in_case::<ArchivedPress, ArchivedChar>(self, 65, 1, 4)
+        sealed_part_in_case::<ArchivedPress, ArchivedChar>(self, 39, 1, 4)
     }
 }
 
@@ -1585,12 +1177,11 @@ impl Ordered for ArchivedPress {
         (record { solved = λ s k. refl }) no_field_compared)
         (units_compared 36 (case_compared (field_compared string_compared
         ⟦<ArchivedString as Portable>⟧.layout (record { solved = λ s k. refl }) no_field_compared)
-        (units_compared 26 (case_compared (field_compared
-        (unsigned_compared w8 1 ⟦<u8 as Hash>⟧.hash_input refl) ⟦<u8 as Portable>⟧.layout (record {
-          solved = λ s k. refl;
-        }) (field_compared (char_compared ⟦<char as Hash>⟧.hash_input)
+        (case_compared (field_compared (unsigned_compared w8 1 ⟦<u8 as Hash>⟧.hash_input refl)
+        ⟦<u8 as Portable>⟧.layout (record { solved = λ s k. refl })
+        (field_compared (char_compared ⟦<char as Hash>⟧.hash_input)
         ⟦<ArchivedChar as Portable>⟧.layout (record { solved = λ s k. refl }) no_field_compared))
-        (units_compared 2 no_case_compared))))))) refl).total };
+        no_case_compared))))) refl).total };
 
     ghost respects = { (choice_compared (codes "ArchivedPress")
         (units_compared 1 (case_compared (field_compared
@@ -1598,12 +1189,11 @@ impl Ordered for ArchivedPress {
         (record { solved = λ s k. refl }) no_field_compared)
         (units_compared 36 (case_compared (field_compared string_compared
         ⟦<ArchivedString as Portable>⟧.layout (record { solved = λ s k. refl }) no_field_compared)
-        (units_compared 26 (case_compared (field_compared
-        (unsigned_compared w8 1 ⟦<u8 as Hash>⟧.hash_input refl) ⟦<u8 as Portable>⟧.layout (record {
-          solved = λ s k. refl;
-        }) (field_compared (char_compared ⟦<char as Hash>⟧.hash_input)
+        (case_compared (field_compared (unsigned_compared w8 1 ⟦<u8 as Hash>⟧.hash_input refl)
+        ⟦<u8 as Portable>⟧.layout (record { solved = λ s k. refl })
+        (field_compared (char_compared ⟦<char as Hash>⟧.hash_input)
         ⟦<ArchivedChar as Portable>⟧.layout (record { solved = λ s k. refl }) no_field_compared))
-        (units_compared 2 no_case_compared))))))) refl).respects };
+        no_case_compared))))) refl).respects };
 
     ghost level = { tt };
 
@@ -1613,12 +1203,11 @@ impl Ordered for ArchivedPress {
         (record { solved = λ s k. refl }) no_field_compared)
         (units_compared 36 (case_compared (field_compared string_compared
         ⟦<ArchivedString as Portable>⟧.layout (record { solved = λ s k. refl }) no_field_compared)
-        (units_compared 26 (case_compared (field_compared
-        (unsigned_compared w8 1 ⟦<u8 as Hash>⟧.hash_input refl) ⟦<u8 as Portable>⟧.layout (record {
-          solved = λ s k. refl;
-        }) (field_compared (char_compared ⟦<char as Hash>⟧.hash_input)
+        (case_compared (field_compared (unsigned_compared w8 1 ⟦<u8 as Hash>⟧.hash_input refl)
+        ⟦<u8 as Portable>⟧.layout (record { solved = λ s k. refl })
+        (field_compared (char_compared ⟦<char as Hash>⟧.hash_input)
         ⟦<ArchivedChar as Portable>⟧.layout (record { solved = λ s k. refl }) no_field_compared))
-        (units_compared 2 no_case_compared))))))) refl).by_value };
+        no_case_compared))))) refl).by_value };
 
     fn compare(a: RawView<'_>, b: RawView<'_>) -> Ordering {
         compare_choice::<Self, PressVariants>(a, b)

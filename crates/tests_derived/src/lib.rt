@@ -19,8 +19,6 @@ mod notices;
 #[cfg(test)]
 mod outcomes;
 #[cfg(test)]
-mod pallets;
-#[cfg(test)]
 mod parcels;
 #[cfg(test)]
 mod places;

@@ -1,4 +1,4 @@
-// A struct of twenty-six fields, three of them deep, which is checked, written and read back in blocks.
+// A struct of eighteen fields, three of them deep, which is checked, written and read back in blocks.
 
 use crate::assertions::{
     assert_archived, assert_bytes, assert_same, sealed, text, viewed, write_text,
@@ -10,10 +10,10 @@ use std::alloc::Global;
 use std::process::Abort;
 
 // Two texts. At 24 the shipment: its number and key, at 29 whether it is open and two zeros, at 32 the option with 5 and the first text, at 48 the class, deck,
-// row, place, side, layers, boxes and ports, at 56 the stamps and the size and a zero, at 60 the second text, at 68 the days, seals, tries, crane, gate,
-// shed, bay, hands, month and day, and two zeros, at 80 the seconds.
-const SHIPMENT: &[u8; 88] =
-    b"hello worldfrom far away\x07\x01\x02\x03\x04\x01\0\0\x01\0\0\0\x05\0\0\0\x8b\0\0\0\xd8\xff\xff\xff\x09\x02\x0a\x0b\xfd\x04\x0c\x06\x0d\x03\x02\0\x8d\0\0\0\xcf\xff\xff\xff\x0e\x0f\x10\x11\x12\x13\x14\x15\x16\x17\0\0\x02\x01\0\0\0\0\0\0";
+// row, place, side, layers, boxes and ports, at 56 the stamps and the size and a zero, at 60 the second text, at 68 the days, the seals and two
+// zeros, at 72 the seconds.
+const SHIPMENT: &[u8; 80] =
+    b"hello worldfrom far away\x07\x01\x02\x03\x04\x01\0\0\x01\0\0\0\x05\0\0\0\x8b\0\0\0\xd8\xff\xff\xff\x09\x02\x0a\x0b\xfd\x04\x0c\x06\x0d\x03\x02\0\x8d\0\0\0\xcf\xff\xff\xff\x0e\x0f\0\0\x02\x01\0\0\0\0\0\0";
 
 fn shipment(rt: &impl Abort, alloc: Global) -> Shipment {
     Shipment {
@@ -34,14 +34,6 @@ fn shipment(rt: &impl Abort, alloc: Global) -> Shipment {
         sender: text(rt, alloc, "from far away"),
         due: 14,
         seals: 15,
-        tries: 16,
-        crane: 17,
-        gate: 18,
-        shed: 19,
-        bay: 20,
-        hands: 21,
-        month: 22,
-        day: 23,
         came: 258,
     }
 }
@@ -49,7 +41,7 @@ fn shipment(rt: &impl Abort, alloc: Global) -> Shipment {
 #[test]
 fn shipments_are_written_and_read_back(rt: HostRuntime) {
     let alloc = rt.alloc();
-    assert_archived(&rt, alloc, &shipment(&rt, alloc), 64, SHIPMENT);
+    assert_archived(&rt, alloc, &shipment(&rt, alloc), 56, SHIPMENT);
 }
 
 #[test]
@@ -60,7 +52,7 @@ fn the_fields_of_shipments_are_viewed(rt: HostRuntime) {
     assert_same(&rt, "the side", view.side().get(), -3);
     assert_same(&rt, "the stamps", view.stamps().get(), 13);
     assert_same(&rt, "the sender", view.sender().as_str(), "from far away");
-    assert_same(&rt, "the day", view.day().get(), 23);
+    assert_same(&rt, "the seals", view.seals().get(), 15);
     assert_same(&rt, "the seconds", view.came().get(), 258);
 }
 
@@ -74,7 +66,7 @@ fn shipments_are_edited(rt: HostRuntime) {
     seal = sealed::<ArchivedShipment>(&rt, rt.alloc(), &mut bytes);
     seal.came_mut().write(3);
     let wanted =
-        b"hello worldfrom near by.\x07\x01\x02\x03\x04\x01\0\0\x01\0\0\0\x05\0\0\0\x8b\0\0\0\xd8\xff\xff\xff\x09\x02\x0a\x0b\xfd\x04\x0c\x01\x0d\x03\x02\0\x8d\0\0\0\xcf\xff\xff\xff\x0e\x0f\x10\x11\x12\x13\x14\x15\x16\x17\0\0\x03\0\0\0\0\0\0\0";
+        b"hello worldfrom near by.\x07\x01\x02\x03\x04\x01\0\0\x01\0\0\0\x05\0\0\0\x8b\0\0\0\xd8\xff\xff\xff\x09\x02\x0a\x0b\xfd\x04\x0c\x01\x0d\x03\x02\0\x8d\0\0\0\xcf\xff\xff\xff\x0e\x0f\0\0\x03\0\0\0\0\0\0\0";
     assert_bytes(&rt, "the edited shipment", &bytes, wanted);
 }
 

@@ -4,7 +4,7 @@ use Rattle.archive_core.specs.Plain.{variant_in}
 use Rattle.archive_core.specs.Shape.{no_part}
 use Rattle.archive_core.specs.Value.{case, no_value}
 use Rattle.derived_plain.specs.declared.press.Press.{Press}
-use Rattle.derived_plain.specs.declared.press.Press.TheVariants.{A as PressA, B as PressB, Backspace as PressBackspace, C as PressC, Chord as PressChord, D as PressD, Delete as PressDelete, Digit0 as PressDigit0, Digit1 as PressDigit1, Digit2 as PressDigit2, Digit3 as PressDigit3, Digit4 as PressDigit4, Digit5 as PressDigit5, Digit6 as PressDigit6, Digit7 as PressDigit7, Digit8 as PressDigit8, Digit9 as PressDigit9, Down as PressDown, E as PressE, End as PressEnd, Enter as PressEnter, Escape as PressEscape, F as PressF, F1 as PressF1, F10 as PressF10, F11 as PressF11, F12 as PressF12, F2 as PressF2, F3 as PressF3, F4 as PressF4, F5 as PressF5, F6 as PressF6, F7 as PressF7, F8 as PressF8, F9 as PressF9, G as PressG, H as PressH, Home as PressHome, I as PressI, J as PressJ, K as PressK, L as PressL, Left as PressLeft, M as PressM, Mute as PressMute, N as PressN, Named as PressNamed, O as PressO, P as PressP, PageDown as PressPageDown, PageUp as PressPageUp, Power as PressPower, Q as PressQ, R as PressR, Right as PressRight, S as PressS, Scanned as PressScanned, Space as PressSpace, T as PressT, Tab as PressTab, U as PressU, Unknown as PressUnknown, Up as PressUp, V as PressV, W as PressW, X as PressX, Y as PressY, Z as PressZ}
+use Rattle.derived_plain.specs.declared.press.Press.TheVariants.{A as PressA, B as PressB, C as PressC, Chord as PressChord, D as PressD, Digit0 as PressDigit0, Digit1 as PressDigit1, Digit2 as PressDigit2, Digit3 as PressDigit3, Digit4 as PressDigit4, Digit5 as PressDigit5, Digit6 as PressDigit6, Digit7 as PressDigit7, Digit8 as PressDigit8, Digit9 as PressDigit9, E as PressE, F as PressF, G as PressG, H as PressH, I as PressI, J as PressJ, K as PressK, L as PressL, M as PressM, N as PressN, Named as PressNamed, O as PressO, P as PressP, Q as PressQ, R as PressR, S as PressS, Scanned as PressScanned, T as PressT, U as PressU, Unknown as PressUnknown, V as PressV, W as PressW, X as PressX, Y as PressY, Z as PressZ}
 use Rattle.derived_plain.specs.contracts.press.ArchivedPressPortable.TheImpl.{shape-value}
 use Rattle.derived_plain.specs.contracts.press.PressArchive.TheImpl.{belongs-value, flat-value, keys-value, meaning-value}
 use Rattle.derived_plain.specs.declared.press.PressResolver.TheVariants.{Unit as PressKept}
@@ -12,7 +12,7 @@ use Rattle.derived_plain.proofs.press.PressSerialize.serialize.Goals as goal
 
 -- The tag of each.
 abbrev HasTag : Press → ℕ → Type 0
-HasTag v t = elim v [ PressUnknown ↦ t ≡ 0 | PressScanned a0 ↦ t ≡ 1 | PressA ↦ t ≡ 2 | PressB ↦ t ≡ 3 | PressC ↦ t ≡ 4 | PressD ↦ t ≡ 5 | PressE ↦ t ≡ 6 | PressF ↦ t ≡ 7 | PressG ↦ t ≡ 8 | PressH ↦ t ≡ 9 | PressI ↦ t ≡ 10 | PressJ ↦ t ≡ 11 | PressK ↦ t ≡ 12 | PressL ↦ t ≡ 13 | PressM ↦ t ≡ 14 | PressN ↦ t ≡ 15 | PressO ↦ t ≡ 16 | PressP ↦ t ≡ 17 | PressQ ↦ t ≡ 18 | PressR ↦ t ≡ 19 | PressS ↦ t ≡ 20 | PressT ↦ t ≡ 21 | PressU ↦ t ≡ 22 | PressV ↦ t ≡ 23 | PressW ↦ t ≡ 24 | PressX ↦ t ≡ 25 | PressY ↦ t ≡ 26 | PressZ ↦ t ≡ 27 | PressDigit0 ↦ t ≡ 28 | PressDigit1 ↦ t ≡ 29 | PressDigit2 ↦ t ≡ 30 | PressDigit3 ↦ t ≡ 31 | PressDigit4 ↦ t ≡ 32 | PressDigit5 ↦ t ≡ 33 | PressDigit6 ↦ t ≡ 34 | PressDigit7 ↦ t ≡ 35 | PressDigit8 ↦ t ≡ 36 | PressDigit9 ↦ t ≡ 37 | PressNamed a0 ↦ t ≡ 38 | PressF1 ↦ t ≡ 39 | PressF2 ↦ t ≡ 40 | PressF3 ↦ t ≡ 41 | PressF4 ↦ t ≡ 42 | PressF5 ↦ t ≡ 43 | PressF6 ↦ t ≡ 44 | PressF7 ↦ t ≡ 45 | PressF8 ↦ t ≡ 46 | PressF9 ↦ t ≡ 47 | PressF10 ↦ t ≡ 48 | PressF11 ↦ t ≡ 49 | PressF12 ↦ t ≡ 50 | PressEscape ↦ t ≡ 51 | PressTab ↦ t ≡ 52 | PressSpace ↦ t ≡ 53 | PressEnter ↦ t ≡ 54 | PressBackspace ↦ t ≡ 55 | PressDelete ↦ t ≡ 56 | PressHome ↦ t ≡ 57 | PressEnd ↦ t ≡ 58 | PressPageUp ↦ t ≡ 59 | PressPageDown ↦ t ≡ 60 | PressLeft ↦ t ≡ 61 | PressRight ↦ t ≡ 62 | PressUp ↦ t ≡ 63 | PressDown ↦ t ≡ 64 | PressChord a0 a1 ↦ t ≡ 65 | PressMute ↦ t ≡ 66 | PressPower ↦ t ≡ 67 ]
+HasTag v t = elim v [ PressUnknown ↦ t ≡ 0 | PressScanned a0 ↦ t ≡ 1 | PressA ↦ t ≡ 2 | PressB ↦ t ≡ 3 | PressC ↦ t ≡ 4 | PressD ↦ t ≡ 5 | PressE ↦ t ≡ 6 | PressF ↦ t ≡ 7 | PressG ↦ t ≡ 8 | PressH ↦ t ≡ 9 | PressI ↦ t ≡ 10 | PressJ ↦ t ≡ 11 | PressK ↦ t ≡ 12 | PressL ↦ t ≡ 13 | PressM ↦ t ≡ 14 | PressN ↦ t ≡ 15 | PressO ↦ t ≡ 16 | PressP ↦ t ≡ 17 | PressQ ↦ t ≡ 18 | PressR ↦ t ≡ 19 | PressS ↦ t ≡ 20 | PressT ↦ t ≡ 21 | PressU ↦ t ≡ 22 | PressV ↦ t ≡ 23 | PressW ↦ t ≡ 24 | PressX ↦ t ≡ 25 | PressY ↦ t ≡ 26 | PressZ ↦ t ≡ 27 | PressDigit0 ↦ t ≡ 28 | PressDigit1 ↦ t ≡ 29 | PressDigit2 ↦ t ≡ 30 | PressDigit3 ↦ t ≡ 31 | PressDigit4 ↦ t ≡ 32 | PressDigit5 ↦ t ≡ 33 | PressDigit6 ↦ t ≡ 34 | PressDigit7 ↦ t ≡ 35 | PressDigit8 ↦ t ≡ 36 | PressDigit9 ↦ t ≡ 37 | PressNamed a0 ↦ t ≡ 38 | PressChord a0 a1 ↦ t ≡ 39 ]
 
 abbrev HasNoField : Press → Type 0
 HasNoField v = elim v [ PressScanned a0 ↦ ⊥ | PressNamed a0 ↦ ⊥ | PressChord a0 a1 ↦ ⊥ | w ↦ Unit {0} ]
