@@ -2,13 +2,13 @@
 
 ghost use Rattle.std.specs.Prelude.{◌≡◌, ◌≤◌};
 
+use crate::records::{Plain, Row};
+use crate::run::{run, run_list};
+use crate::sets::Small;
+use crate::values::{Each, Given};
+use crate::{derived, nested};
 use archive_core::pooling::Pool;
 use archive_core::rc::Shared;
-use bench_own::{derived, nested};
-use bench_sets::records::{Plain, Row};
-use bench_sets::run::{run, run_list};
-use bench_sets::sets::Small;
-use bench_sets::values::{Each, Given};
 use own_types::node::Node;
 use std::alloc::Global;
 use std::collections::BTreeMap;

@@ -2,6 +2,8 @@
 
 ghost use Rattle.std.specs.Prelude.{◌≡◌, IfOk};
 
+use crate::sets::name;
+use crate::values::key;
 use archive_core::api::access;
 use archive_core::compare::CompareNative;
 use archive_core::error::Error;
@@ -10,8 +12,6 @@ use archive_core::primitive::ArchivedU32;
 use archive_core::string::ArchivedString;
 use archive_core::traits::{Archive, MapKey};
 use archive_core::view::Ref;
-use bench_sets::sets::name;
-use bench_sets::values::key;
 use std::alloc::Global;
 
 // How far apart in the list of keys two look-ups are.

@@ -8,6 +8,7 @@ ghost use Rattle.archive_core.specs.SealsKept.{KeepsSeals};
 ghost use Rattle.archive_core.specs.Standing.{view};
 ghost use Rattle.archive_bench.specs.Lists.{optional_list, SpotBeside};
 
+use crate::sets::ArchivedSmall;
 use archive_core::api::access;
 use archive_core::option::ArchivedOption;
 use archive_core::primitive::ArchivedI32;
@@ -15,7 +16,6 @@ use archive_core::seal::{SealedLeaf, Spot, SpotExt};
 use archive_core::traits::{ArchivePointee, Portable, Record};
 use archive_core::vec::ArchivedVec;
 use archive_core::view::Ref;
-use bench_sets::sets::ArchivedSmall;
 use std::alloc::Global;
 
 // Where the third element stands of the list that a record's part with the index 2 may be.

@@ -2,11 +2,11 @@
 
 ghost use Rattle.std.specs.Prelude.{◌≡◌};
 
+use crate::records::{ArchivedRow, RowView};
 use archive_core::api::access;
 use archive_core::slice::ArchivedSlice;
 use archive_core::vec::ArchivedVec;
 use archive_core::view::Ref;
-use bench_sets::records::{ArchivedRow, RowView};
 use std::alloc::Global;
 
 // The lengths of a row's name and of its list.

@@ -2,10 +2,10 @@
 
 ghost use Rattle.std.specs.Prelude.{◌≡◌, ◌≤◌};
 
+use crate::run::{run, run_list};
+use crate::sets::{hello, name};
+use crate::values::{Elements, Values, alone, number};
 use archive_core::error::Error;
-use bench_sets::run::{run, run_list};
-use bench_sets::sets::{hello, name};
-use bench_sets::values::{Elements, Values, alone, number};
 use derived_plain::point::Point;
 use derived_types::event::Event;
 use derived_types::spot::{Drawing, Line, Spot};

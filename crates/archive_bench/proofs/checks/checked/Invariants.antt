@@ -1,5 +1,5 @@
 use Rattle.std.proofs.Common.{◌≤◌}
-use Rattle.bench_sets.proofs.checks.accessed.Given as goal
+use Rattle.archive_bench.proofs.checks.checked.Given as goal
 
 abbrev pub invariant-loop : goal.invariant-loop
 invariant-loop g l = l.accepted ≤ l.counter

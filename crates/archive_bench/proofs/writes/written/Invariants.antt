@@ -1,5 +1,5 @@
 use Rattle.std.proofs.Common.{◌≡◌}
-use Rattle.bench_sets.proofs.writes.written.Given as goal
+use Rattle.archive_bench.proofs.writes.written.Given as goal
 
 abbrev pub invariant-loop-round : goal.invariant-loop-round
 invariant-loop-round g l = l.count ≡ 0 → l.total ≡ 0

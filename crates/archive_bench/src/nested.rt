@@ -2,9 +2,9 @@
 
 ghost use Rattle.std.specs.Prelude.{◌≡◌, ◌≤◌};
 
+use crate::run::run;
+use crate::values::{Values, alone, number};
 use archive_core::error::Error;
-use bench_sets::run::run;
-use bench_sets::values::{Values, alone, number};
 use recursive_types::list::List;
 use recursive_types::tree::Tree;
 use std::alloc::Global;

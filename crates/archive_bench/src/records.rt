@@ -275,7 +275,7 @@ impl<S: Writer + ResolverAlloc> Serialize<S> for Plain {
 
 /// As a region of its own: the value itself.
 impl ArchiveUnsized for Plain {
-    ghost use Rattle.bench_sets.specs.contracts.records.PlainArchive.TheImpl.Laws.{keyed-law as keyed_of_plain, planned-law as planned_of_plain};
+    ghost use Rattle.archive_bench.specs.contracts.records.PlainArchive.TheImpl.Laws.{keyed-law as keyed_of_plain, planned-law as planned_of_plain};
 
     type Archived = ArchivedPlain;
 
@@ -634,7 +634,7 @@ impl<S: Writer + ResolverAlloc> Serialize<S> for Row {
 
 /// As a region of its own: the value itself.
 impl ArchiveUnsized for Row {
-    ghost use Rattle.bench_sets.specs.contracts.records.RowArchive.TheImpl.Laws.{keyed-law as keyed_of_row, planned-law as planned_of_row};
+    ghost use Rattle.archive_bench.specs.contracts.records.RowArchive.TheImpl.Laws.{keyed-law as keyed_of_row, planned-law as planned_of_row};
 
     type Archived = ArchivedRow;
 
