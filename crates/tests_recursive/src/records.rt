@@ -8,7 +8,7 @@ ghost use Rattle.archive_core.specs.Shape.{one, vec as vec_shape};
 ghost use Rattle.archive_core.specs.SealsWritten.{IsSealOf};
 
 use crate::assertions::{
-    assert_bytes, assert_holds, assert_refused, assert_same, made, sealed, viewed,
+    assert_bytes, assert_changed, assert_holds, assert_same, made, sealed, tag_of_none, viewed,
 };
 use crate::readme::{archived, record, value_of};
 use archive_core::api::to_bytes_in;
@@ -142,13 +142,7 @@ fn assert_fields<R: Record>(rt: &impl Abort, alloc: Global)
 
 // A list with another tag is refused.
 fn assert_tag_refused<T: Portable>(rt: &impl Abort, alloc: Global) {
-    let refusal = Error::InvalidDiscriminant {
-        name: "ArchivedOption",
-        value: 2,
-    };
-    let mut bytes = *RECORD;
-    bytes[40] = 2;
-    assert_refused::<T>(rt, "another tag", alloc, &bytes, refusal);
+    assert_changed::<T>(rt, alloc, RECORD, 40, 2, tag_of_none("ArchivedOption", 2));
 }
 
 // The number is written over, and no other byte.

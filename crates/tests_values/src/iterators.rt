@@ -1,4 +1,4 @@
-// Vectors written from iterators.
+// Vectors written from iterators that don't know how many items come.
 
 use crate::assertions::{assert_bytes, assert_same};
 use archive_check::format::error::Error;
@@ -6,18 +6,6 @@ use archive_types::primitive::ArchivedU16;
 use archive_types::ser::Serializer;
 use archive_types::string::ArchivedString;
 use archive_types::vec::ArchivedVec;
-
-#[test]
-fn items_are_written_as_those_of_a_slice(rt: HostRuntime) {
-    let before = vec![in rt.alloc(); 0xaau8].expect(&rt, "memory");
-    let mut serializer = Serializer::new(before, rt.alloc(), ());
-    let Ok(_) = ArchivedVec::<ArchivedU16>::serialize_from_iter(1u16..4, &mut serializer) else {
-        panic!(rt; "not written")
-    };
-    let bytes = serializer.into_writer();
-    let right = b"\xaa\0\x01\0\x02\0\x03\0";
-    assert_bytes(&rt, "the bytes", bytes.as_slice(), right);
-}
 
 #[test]
 fn items_are_written_as_they_come(rt: HostRuntime) {

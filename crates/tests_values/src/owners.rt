@@ -7,6 +7,7 @@ use archive_types::place::Place;
 use archive_types::primitive::{ArchivedU16, ArchivedU32};
 use archive_types::ser::{Positional, Serializer};
 use archive_types::slice::{ArchivedSlice, Slice};
+use archive_types::string::ArchivedString;
 use archive_types::traits::{ArchiveUnsized, DeserializeUnsized, SerializeUnsized};
 use archive_types::vec::{ArchivedVec, VecResolver};
 use std::alloc::Global;
@@ -102,6 +103,19 @@ fn a_vector_is_written_and_resolved_by_parts(rt: HostRuntime) {
     let near = Place::new(2, &mut place);
     ArchivedVec::<ArchivedU16>::resolve_from_slice(&[1u16], resolver, near).expect(&rt, "resolved");
     assert_same(&rt, "the vector", place, *b"\xfe\xff\xff\xff\x01\0\0\0");
+}
+
+#[test]
+fn what_a_box_and_a_string_lead_to_is_written(rt: HostRuntime) {
+    let mut serializer = Serializer::new(Vec::new(rt.alloc()), rt.alloc(), ());
+    let Ok(_) = ArchivedBox::<ArchivedU16>::serialize_from_ref(&258u16, &mut serializer) else {
+        panic!(rt; "no number")
+    };
+    let Ok(_) = ArchivedString::serialize_from_str("hello world", &mut serializer) else {
+        panic!(rt; "no text")
+    };
+    let bytes = serializer.into_writer();
+    assert_bytes(&rt, "the bytes", bytes.as_slice(), b"\x02\x01hello world");
 }
 
 // Why a vector of three numbers that lie at 4 isn't resolved at a position, if it isn't.

@@ -1,10 +1,9 @@
 // Pools: what they know of positions, and what is read back by one that knows some.
 
-use crate::archive::pairs::{ONE_NUMBER, parts_of_pair, read_pair, shared};
+use crate::archive::pairs::{ONE_NUMBER, parts_of_pair, read_pair};
 use crate::assertions::{assert_holds, assert_same};
-use archive_core::api::deserialize_using;
 use archive_core::error::Error;
-use archive_core::pooling::{Pool, Pooled, Pooling, PoolingState};
+use archive_core::pooling::{Pool, Pooled, Pooling, PoolingExt, PoolingState};
 use archive_core::primitive::ArchivedU32;
 use archive_core::rc::{ArchivedRc, RcFlavor, Shared, SharedStr};
 use std::alloc::Global;
@@ -42,8 +41,9 @@ fn assert_numbers(rt: &impl Abort, alloc: Global, positions: u8) {
         assert_pending(rt, &mut pool, 610 * usize::from(index));
     }
     for index in 0..positions {
-        let number = shared(rt, alloc, 0, u32::from(index));
-        let done = pool.finish_pooling(610 * usize::from(index), number);
+        let pos = 610 * usize::from(index);
+        let number = <Shared<u32> as Pooled>::from_value(alloc, pos, u32::from(index));
+        let done = pool.finish_pooling(pos, number.expect(rt, "memory"));
         assert_holds(rt, "pending", done.is_ok());
     }
     for index in 0..positions {
@@ -67,7 +67,8 @@ type Pointer = ArchivedRc<ArchivedU32, RcFlavor>;
 // What is read back of the first pointer alone.
 fn read_first(rt: &impl Abort, alloc: Global, pool: &mut Pool<Shared<u32>>) -> Shared<u32> {
     let (first, _second) = parts_of_pair::<Pointer, Pointer>(rt, alloc, ONE_NUMBER);
-    deserialize_using(alloc, first, pool).expect(rt, "a value")
+    pool.deserialize_shared(alloc, first.get())
+        .expect(rt, "a value")
 }
 
 #[test]

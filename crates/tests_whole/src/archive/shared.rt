@@ -1,12 +1,12 @@
 // Archives that share, one behind the other, and keys that are forgotten.
 
-use crate::archive::pairs::{ONE_NUMBER, twice};
+use crate::archive::pairs::{ONE_NUMBER, shared, twice};
 use crate::assertions::{assert_bytes, assert_holds, assert_same};
 use archive_core::api::{HighSerializer, serialize_using, to_bytes_into};
 use archive_core::error::Error;
 use archive_core::ser::{Buffer, Serializer};
 use archive_core::sharing::Share;
-use archive_core::traits::Serialize;
+use archive_core::traits::{Serialize, SerializeUnsized};
 use std::alloc::Global;
 use std::process::Abort;
 
@@ -50,16 +50,16 @@ fn cleared_share<'a, P: Serialize<HighSerializer<Buffer<'a>, Global>>>(
     share
 }
 
-// A share serves a pair on a new writer: its archive, with its root at 4.
-fn assert_serves<P: Serialize<HighSerializer<Vec<u8>, Global>>>(
+// A share serves a value on a new writer: its archive, with its root at 4.
+fn assert_serves<T: SerializeUnsized<HighSerializer<Vec<u8>, Global>>>(
     rt: &impl Abort,
     alloc: Global,
     share: Share,
-    pair: &(P, P),
+    value: &T,
     archive: &[u8],
 ) {
     let mut serializer = Serializer::new(Vec::new(alloc), alloc, share);
-    let root = serialize_using(pair, &mut serializer).expect(rt, "an archive");
+    let root = serialize_using(value, &mut serializer).expect(rt, "an archive");
     assert_same(rt, "the root", root, 4);
     let bytes = serializer.into_writer();
     assert_bytes(rt, "the archive", bytes.as_slice(), archive);
@@ -73,4 +73,12 @@ fn a_share_cleared_after_a_refusal_serves_as_a_fresh_one(rt: HostRuntime) {
         let share = cleared_share(&rt, rt.alloc(), &pair, &mut bytes[..size]);
         assert_serves(&rt, rt.alloc(), share, &pair, ONE_NUMBER);
     }
+}
+
+#[test]
+fn a_shared_value_is_a_region_of_its_own(rt: HostRuntime) {
+    let seven = shared(&rt, rt.alloc(), 1, 7u32);
+    let share = Share::new(rt.alloc());
+    let archive = b"\x07\0\0\0\xfc\xff\xff\xff";
+    assert_serves(&rt, rt.alloc(), share, &seven, archive);
 }
