@@ -195,11 +195,7 @@ fn is_written<T: Serialize<Vec<u8>>>(alloc: Global, value: &T, archive: &[u8]) -
 }
 
 // Whether these bytes are the archive of a value, and of what is read back of them. A test of a long tuple calls this alone, since one call at it is dear.
-pub(crate) fn is_kept<T: Serialize<Vec<u8>> + Drop>(
-    alloc: Global,
-    value: &T,
-    archive: &[u8],
-) -> bool
+pub(crate) fn is_kept<T: Serialize<Vec<u8>> + Drop>(alloc: Global, archive: &[u8], value: T) -> bool
 where
     T::Archived: Deserialize<T, ()>,
 {
@@ -207,7 +203,7 @@ where
     let Some(back) = back else {
         return false;
     };
-    is_written(alloc, value, archive) && is_written(alloc, &back, archive)
+    is_written(alloc, &value, archive) && is_written(alloc, &back, archive)
 }
 
 // The number that is viewed, if there is one.
