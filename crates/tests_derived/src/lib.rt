@@ -1,4 +1,4 @@
-//! Tests of the types of derived_types, derived_plain, derived_turns, derived_deep and derived_blocks, as a user's own, through public calls.
+//! Tests of the types of derived_types, derived_plain, derived_turns, derived_deep, derived_blocks and derived_kinds, as a user's own, through public calls.
 //! The bytes of each archive were worked out by hand, from docs/FORMAT.md.
 #![tactic(auto)]
 
@@ -15,9 +15,15 @@ mod events;
 #[cfg(test)]
 mod judgements;
 #[cfg(test)]
+mod kinds;
+#[cfg(test)]
+mod lists;
+#[cfg(test)]
 mod notices;
 #[cfg(test)]
 mod outcomes;
+#[cfg(test)]
+mod owners;
 #[cfg(test)]
 mod parcels;
 #[cfg(test)]
@@ -32,6 +38,8 @@ mod ranks;
 mod shipments;
 #[cfg(test)]
 mod spots;
+#[cfg(test)]
+mod stock;
 #[cfg(test)]
 mod tracks;
 #[cfg(test)]

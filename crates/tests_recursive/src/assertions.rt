@@ -8,7 +8,7 @@ use archive_core::error::Error;
 use archive_core::seal::Seal;
 use archive_core::traits::{Archive, Deserialize, Portable, Serialize};
 use archive_core::view::Ref;
-use std::alloc::Global;
+use std::alloc::{AllocError, Global};
 use std::fmt::Debug;
 use std::process::Abort;
 
@@ -100,4 +100,36 @@ pub(crate) fn assert_refused<T: Portable>(
 ) {
     let refused = access::<T>(alloc, bytes).err();
     assert_same(rt, what, refused, Some(refusal));
+}
+
+// The archive with another byte at an index.
+pub(crate) fn changed(
+    alloc: Global,
+    bytes: &[u8],
+    at: usize,
+    byte: u8,
+) -> Result<Vec<u8>, AllocError> {
+    let mut out = Vec::with_capacity(alloc, bytes.len())?;
+    for (index, one) in bytes.iter().enumerate() {
+        out.push(if index == at { byte } else { *one })?;
+    }
+    Ok(out)
+}
+
+// The archive is refused with another byte at an index, for this reason.
+pub(crate) fn assert_changed<T: Portable>(
+    rt: &impl Abort,
+    alloc: Global,
+    archive: &[u8],
+    at: usize,
+    byte: u8,
+    refusal: Error,
+) {
+    let bytes = changed(alloc, archive, at, byte).expect(rt, "bytes");
+    assert_refused::<T>(rt, "a damaged archive", alloc, bytes.as_slice(), refusal);
+}
+
+// A tag names no variant.
+pub(crate) fn tag_of_none(name: &'static str, value: u8) -> Error {
+    Error::InvalidDiscriminant { name, value }
 }

@@ -1,6 +1,6 @@
 // Damaged lists: validated by loops, and by their schema, which says the same of each.
 
-use crate::assertions::{assert_refused, assert_same};
+use crate::assertions::{assert_changed, assert_same, changed, tag_of_none};
 use crate::bytes::TWO;
 use archive_core::api::{HighValidator, access};
 use archive_core::core_impls::ArchivedTuple2;
@@ -11,17 +11,8 @@ use archive_core::self_check::SelfCheck;
 use archive_core::shape::Schema;
 use archive_core::traits::Portable;
 use recursive_types::list::ArchivedList;
-use std::alloc::{AllocError, Global};
+use std::alloc::Global;
 use std::process::Abort;
-
-// The archive of two numbers, with a byte of it changed.
-fn changed(alloc: Global, at: usize, byte: u8) -> Result<Vec<u8>, AllocError> {
-    let mut bytes = Vec::with_capacity(alloc, TWO.len())?;
-    for (index, one) in TWO.iter().enumerate() {
-        bytes.push(if index == at { byte } else { *one })?;
-    }
-    Ok(bytes)
-}
 
 fn refusal_by_schema(alloc: Global, schema: &Schema, bytes: &[u8]) -> Option<Error> {
     let mut context = HighValidator::new(alloc, bytes);
@@ -33,7 +24,7 @@ fn refusal(alloc: Global, bytes: &[u8]) -> Option<Error> {
 }
 
 fn assert_alike(rt: &impl Abort, alloc: Global, schema: &Schema, at: usize, byte: u8) {
-    let bytes = changed(alloc, at, byte).expect(rt, "bytes");
+    let bytes = changed(alloc, TWO, at, byte).expect(rt, "bytes");
     let found = refusal(alloc, bytes.as_slice());
     let wanted = refusal_by_schema(alloc, schema, bytes.as_slice());
     assert_same(rt, "both checks", found, wanted);
@@ -50,8 +41,7 @@ fn each_byte_changed(rt: HostRuntime) {
 }
 
 fn assert_damaged(rt: &impl Abort, alloc: Global, at: usize, byte: u8, refusal: Error) {
-    let bytes = changed(alloc, at, byte).expect(rt, "bytes");
-    assert_refused::<ArchivedList>(rt, "a damaged list", alloc, bytes.as_slice(), refusal);
+    assert_changed::<ArchivedList>(rt, alloc, TWO, at, byte, refusal);
 }
 
 // The region of a node at this position, where a list may lie before `end`.
@@ -73,11 +63,7 @@ fn list_within_itself(rt: HostRuntime) {
 
 #[test]
 fn tag_of_no_variant(rt: HostRuntime) {
-    let refusal = Error::InvalidDiscriminant {
-        name: "ArchivedList",
-        value: 2,
-    };
-    assert_damaged(&rt, rt.alloc(), 12, 2, refusal);
+    assert_damaged(&rt, rt.alloc(), 12, 2, tag_of_none("ArchivedList", 2));
 }
 
 fn validates_itself<T: Portable>() -> bool {

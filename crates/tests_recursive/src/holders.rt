@@ -2,11 +2,10 @@
 // damaged ones.
 
 use crate::assertions::{
-    assert_holds, assert_read, assert_refused, assert_same, assert_written, viewed,
+    assert_changed, assert_holds, assert_read, assert_same, assert_written, tag_of_none, viewed,
 };
 use archive_core::error::Error;
 use archive_core::option::ArchivedOption;
-use archive_core::traits::Portable;
 use archive_core::view::Ref;
 use recursive_holders::json::{
     ArchivedJson, Json, JsonView, Member, MemberView, Message, MessageView, Number, NumberView,
@@ -15,30 +14,6 @@ use recursive_holders::json::{
 use recursive_holders::page::{ArchivedBook, ArchivedPage, Book, BookView, Page, PageView};
 use std::alloc::{AllocError, Global};
 use std::process::Abort;
-
-fn changed(alloc: Global, bytes: &[u8], at: usize, byte: u8) -> Result<Vec<u8>, AllocError> {
-    let mut out = Vec::with_capacity(alloc, bytes.len())?;
-    for (index, one) in bytes.iter().enumerate() {
-        out.push(if index == at { byte } else { *one })?;
-    }
-    Ok(out)
-}
-
-fn assert_changed<T: Portable>(
-    rt: &impl Abort,
-    alloc: Global,
-    archive: &[u8],
-    at: usize,
-    byte: u8,
-    refusal: Error,
-) {
-    let bytes = changed(alloc, archive, at, byte).expect(rt, "bytes");
-    assert_refused::<T>(rt, "a damaged archive", alloc, bytes.as_slice(), refusal);
-}
-
-fn tag_of_none(name: &'static str, value: u8) -> Error {
-    Error::InvalidDiscriminant { name, value }
-}
 
 fn first_page(alloc: Global) -> Result<Page, AllocError> {
     let replaced = Json::Text(String::from_str(alloc, "xy")?);

@@ -1,10 +1,12 @@
-//! Tests of recursive types, through public calls.
+//! Tests of recursive types and of those of own_types, through public calls, and of what the program `arc` prints.
 #![tactic(auto)]
 
 #[cfg(test)]
 mod assertions;
 #[cfg(test)]
 mod bytes;
+#[cfg(test)]
+mod commands;
 #[cfg(test)]
 mod damaged;
 #[cfg(test)]
@@ -14,9 +16,19 @@ mod holders;
 #[cfg(test)]
 mod kinds;
 #[cfg(test)]
+mod lengths;
+#[cfg(test)]
 mod long;
 #[cfg(test)]
+mod nodes;
+#[cfg(test)]
 mod notes;
+#[cfg(test)]
+mod readme;
+#[cfg(test)]
+mod records;
+#[cfg(test)]
+mod regions;
 #[cfg(test)]
 mod statements;
 #[cfg(test)]

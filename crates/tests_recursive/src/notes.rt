@@ -4,7 +4,7 @@
 ghost use Rattle.std.specs.Prelude.{◌<◌};
 
 use crate::assertions::{
-    assert_holds, assert_refused, assert_same, assert_written, value_of, viewed,
+    assert_changed, assert_holds, assert_same, assert_written, tag_of_none, value_of, viewed,
 };
 use archive_core::api::{HighValidator, access_with_context};
 use archive_core::boxed::{BoxSlice, BoxStr};
@@ -88,21 +88,8 @@ fn views_of_tuples_that_lead_back(rt: HostRuntime) {
     assert_entries(&rt, rt.alloc());
 }
 
-fn changed(alloc: Global, at: usize, byte: u8) -> Result<Vec<u8>, AllocError> {
-    let mut out = Vec::with_capacity(alloc, NOTES.len())?;
-    for (index, one) in NOTES.iter().enumerate() {
-        out.push(if index == at { byte } else { *one })?;
-    }
-    Ok(out)
-}
-
 fn assert_damaged(rt: &impl Abort, alloc: Global, at: usize, byte: u8, refusal: Error) {
-    let bytes = changed(alloc, at, byte).expect(rt, "bytes");
-    assert_refused::<ArchivedNote>(rt, "damaged notes", alloc, bytes.as_slice(), refusal);
-}
-
-fn tag_of_none(name: &'static str, value: u8) -> Error {
-    Error::InvalidDiscriminant { name, value }
+    assert_changed::<ArchivedNote>(rt, alloc, NOTES, at, byte, refusal);
 }
 
 // What lies neither behind what was left before nor before what leads there.

@@ -1,7 +1,7 @@
 // Tuples and a sorted map in a recursive struct, byte for byte: written, validated, viewed and read back; and damaged ones.
 
 use crate::assertions::{
-    assert_holds, assert_read, assert_refused, assert_same, assert_written, viewed,
+    assert_changed, assert_holds, assert_read, assert_same, assert_written, tag_of_none, viewed,
 };
 use archive_core::error::Error;
 use archive_core::string::ArchivedString;
@@ -9,14 +9,6 @@ use recursive_fields::folder::{ArchivedFolder, Folder, FolderView};
 use std::alloc::{AllocError, Global};
 use std::collections::BTreeMap;
 use std::process::Abort;
-
-fn changed(alloc: Global, bytes: &[u8], at: usize, byte: u8) -> Result<Vec<u8>, AllocError> {
-    let mut out = Vec::with_capacity(alloc, bytes.len())?;
-    for (index, one) in bytes.iter().enumerate() {
-        out.push(if index == at { byte } else { *one })?;
-    }
-    Ok(out)
-}
 
 fn empty_folder(alloc: Global, id: u8) -> Folder {
     Folder {
@@ -79,19 +71,14 @@ fn views_of_tuples_of_a_struct(rt: HostRuntime) {
 }
 
 fn assert_folder_changed(rt: &impl Abort, alloc: Global, at: usize, byte: u8, refusal: Error) {
-    let bytes = changed(alloc, FOLDER, at, byte).expect(rt, "bytes");
-    assert_refused::<ArchivedFolder>(rt, "a damaged folder", alloc, bytes.as_slice(), refusal);
+    assert_changed::<ArchivedFolder>(rt, alloc, FOLDER, at, byte, refusal);
 }
 
 // The tag of the note, a byte of the long name, more that is attached than there is, and a name that stands before a lesser one.
 #[test]
 fn damaged_tuples_of_a_struct(rt: HostRuntime) {
     let alloc = rt.alloc();
-    let tag = Error::InvalidDiscriminant {
-        name: "ArchivedOption",
-        value: 2,
-    };
-    assert_folder_changed(&rt, alloc, 40, 2, tag);
+    assert_folder_changed(&rt, alloc, 40, 2, tag_of_none("ArchivedOption", 2));
     assert_folder_changed(&rt, alloc, 3, 0xc0, Error::InvalidUtf8);
     let outside = Error::InvalidSubtreePointer {
         position: 64,

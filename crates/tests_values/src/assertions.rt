@@ -1,10 +1,12 @@
-// Assertions that are proved once. A call of one takes the check a fifth of a second, and `assert_eq!` written out in a test's body seconds. What isn't as it
-// should be ends the process.
+// Assertions that are proved once. A call of one takes the check a fifth of a second, and `assert_eq!` written out in a test's body seconds. What is written
+// and read back is compared in here, too: a call that writes or reads a type is as dear. A test answers nothing, and no `Error` stands in its body where that
+// can be had: the check writes an `Error` out in full for each local variable that may hold one, at each step. What isn't as it should be ends the process.
 
 use archive_check::context::ArchiveValidator;
 use archive_check::format::error::Error;
 use archive_check::self_check::check_root;
-use archive_types::ser::{Serializer, serialize_one};
+use archive_types::primitive::{LittleEndian, Native};
+use archive_types::ser::{Serializer, serialize_one, serialize_with};
 use archive_types::traits::{Archive, Deserialize, Portable, Serialize};
 use archive_types::view::{RawView, Ref};
 use std::alloc::Global;
@@ -14,6 +16,9 @@ use std::process::Abort;
 
 // The archive of the text "hello world": the text, a zero, and at 12 the string that points back at it.
 pub(crate) const HELLO_WORLD: &[u8] = b"hello world\0\x8b\0\0\0\xf4\xff\xff\xff";
+
+// The same text, a zero, and at 12 the box that points back at its eleven bytes.
+pub(crate) const BOXED_HELLO_WORLD: &[u8] = b"hello world\0\xf4\xff\xff\xff\x0b\0\0\0";
 
 // Two values are equal; `what` names them where they aren't.
 pub(crate) fn assert_same<T: PartialEq + Debug + Drop>(
@@ -43,6 +48,21 @@ pub(crate) fn assert_refusal<T: Drop>(
     refusal: Error,
 ) {
     assert_same(rt, what, found.err(), Some(refusal));
+}
+
+// What `what` names is refused since a buffer of `cap` bytes, of which `len` are taken, has no room for a piece of `write_len`.
+pub(crate) fn assert_full<T: Drop>(
+    rt: &impl Abort,
+    what: &str,
+    found: Result<T, Error>,
+    (write_len, cap, len): (usize, usize, usize),
+) {
+    let refusal = Error::BufferOverflow {
+        write_len,
+        cap,
+        len,
+    };
+    assert_refusal(rt, what, found, refusal);
 }
 
 // What writes an archive of a value that shares nothing.
@@ -124,7 +144,7 @@ pub(crate) fn assert_refused<T: Portable>(rt: &impl Abort, rows: &[(&[u8], Error
 }
 
 // What is read back of an archive.
-fn read<T: Archive>(rt: &impl Abort, alloc: Global, archive: &[u8]) -> T
+pub(crate) fn value_of<T: Archive>(rt: &impl Abort, alloc: Global, archive: &[u8]) -> T
 where
     T::Archived: Deserialize<T, ()>,
 {
@@ -143,8 +163,55 @@ where
     T::Archived: Deserialize<T, ()>,
 {
     assert_written(rt, alloc, value, archive);
-    let back: T = read(rt, alloc, archive);
+    let back: T = value_of(rt, alloc, archive);
     assert_same(rt, "what is read back", &back, value);
+}
+
+// The archive of a value, if it has one. The writer is the vector itself: a call at a long tuple is a fifth cheaper than one of `archived`.
+fn bytes_of<T: Serialize<Vec<u8>>>(alloc: Global, value: &T) -> Option<Vec<u8>> {
+    let mut bytes = Vec::new(alloc);
+    let root = serialize_with(alloc, value, &mut bytes);
+    if root.is_err() {
+        return None;
+    }
+    Some(bytes)
+}
+
+// What is read back of an archive, if it is one.
+fn found<T: Archive>(alloc: Global, archive: &[u8]) -> Option<T>
+where
+    T::Archived: Deserialize<T, ()>,
+{
+    let root = root_of::<T::Archived>(archive).ok()?;
+    <T::Archived as Deserialize<T, ()>>::deserialize(alloc, root, &mut ()).ok()
+}
+
+// Whether these bytes are the archive of a value.
+fn is_written<T: Serialize<Vec<u8>>>(alloc: Global, value: &T, archive: &[u8]) -> bool {
+    match bytes_of(alloc, value) {
+        Some(bytes) => bytes.as_slice() == archive,
+        None => false,
+    }
+}
+
+// Whether these bytes are the archive of a value, and of what is read back of them. A test of a long tuple calls this alone, since one call at it is dear.
+pub(crate) fn is_kept<T: Serialize<Vec<u8>> + Drop>(alloc: Global, archive: &[u8], value: T) -> bool
+where
+    T::Archived: Deserialize<T, ()>,
+{
+    let back: Option<T> = found(alloc, archive);
+    let Some(back) = back else {
+        return false;
+    };
+    is_written(alloc, &value, archive) && is_written(alloc, &back, archive)
+}
+
+// The number that is viewed, if there is one.
+pub(crate) fn number_of<N: Native>(view: Option<Ref<'_, LittleEndian<N>>>) -> Option<N> {
+    match view {
+        Some(view) => Some(view.get()),
+        None => None,
+    }
 }
 
 // What a value feeds a hasher comes to.

@@ -1,6 +1,6 @@
 // Regions: values behind others, in vectors and in buffers, and calls within a region.
 
-use crate::assertions::{HELLO_WORLD, assert_bytes, assert_refusal, assert_same, viewed};
+use crate::assertions::{ByParts, HELLO_WORLD, assert_bytes, assert_refusal, assert_same, viewed};
 use archive_check::context::{ArchiveContextExt, ArchiveValidator};
 use archive_check::format::error::Error;
 use archive_types::place::Place;
@@ -10,7 +10,7 @@ use archive_types::ser::{
 };
 use archive_types::slice::ArchivedSlice;
 use archive_types::string::ArchivedStr;
-use archive_types::traits::{Archive, Serialize};
+use archive_types::traits::{Archive, Serialize, SerializeUnsized};
 use std::alloc::Global;
 use std::process::Abort;
 
@@ -81,6 +81,52 @@ fn a_place_is_resolved_and_written(rt: HostRuntime) {
     let region = region.expect(&rt, "a region");
     assert_same(&rt, "the position of the region", region, 0);
     assert_bytes(&rt, "what is written", writer.as_slice(), &bytes);
+}
+
+#[test]
+fn a_slice_is_resolved_and_written(rt: HostRuntime) {
+    let mut writer = Vec::new(rt.alloc());
+    let resolvers = vec![in rt.alloc(); ()].expect(&rt, "memory");
+    let region = writer.resolve_slice_aligned(rt.alloc(), &[7u32], resolvers);
+    assert_same(&rt, "the region", region.expect(&rt, "a region"), 0);
+    assert_bytes(&rt, "what is written", writer.as_slice(), &[7, 0, 0, 0]);
+}
+
+// A value is written as these bytes, its region at a position in them.
+fn assert_region<T: SerializeUnsized<ByParts>>(
+    rt: &impl Abort,
+    alloc: Global,
+    value: &T,
+    position: usize,
+    bytes: &[u8],
+) {
+    let mut serializer = Serializer::new(Vec::new(alloc), alloc, ());
+    let region = value.serialize_unsized(&mut serializer);
+    let region = region.expect(rt, "a region");
+    assert_same(rt, "the region", region, position);
+    let written = serializer.into_writer();
+    assert_bytes(rt, "the bytes", written.as_slice(), bytes);
+}
+
+#[test]
+fn values_are_regions_of_their_own(rt: HostRuntime) {
+    let alloc = rt.alloc();
+    assert_region(&rt, alloc, &7u32, 0, b"\x07\0\0\0");
+    assert_region(&rt, alloc, &Some(7u32), 0, b"\x01\0\0\0\x07\0\0\0");
+    let result: Result<u32, u32> = Err(7);
+    assert_region(&rt, alloc, &result, 0, b"\x01\0\0\0\x07\0\0\0");
+    let pair: (u32, u32) = (7, 8);
+    assert_region(&rt, alloc, &pair, 0, b"\x07\0\0\0\x08\0\0\0");
+}
+
+#[test]
+fn owners_are_regions_of_their_own(rt: HostRuntime) {
+    let alloc = rt.alloc();
+    let text = String::from_str(alloc, "hello world").expect(&rt, "memory");
+    assert_region(&rt, alloc, &text, 12, HELLO_WORLD);
+    let number = Box::new(alloc, 7u32).expect(&rt, "memory");
+    let bytes = b"\x07\0\0\0\xfc\xff\xff\xff";
+    assert_region(&rt, alloc, &number, 4, bytes);
 }
 
 #[test]

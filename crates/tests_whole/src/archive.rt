@@ -1,10 +1,19 @@
-// Whole archives.
+// Whole archives, and what they share: shared and weak pointers, pools, and cycles.
 
+mod cycles;
 mod edits;
+mod endless;
 mod kept;
+mod pairs;
+mod pools;
 mod positions;
 mod reading;
+mod refusing;
 mod rel_ptr;
+mod shared;
+mod shared_pairs;
+mod shared_seals;
+mod two_pools;
 mod writing;
 
 // The archive of the text "hello world": the text, a zero, and at 12 the string that points back at it.

@@ -1,4 +1,4 @@
-//! Tests of whole archives and of edits in place, through public calls.
+//! Tests of whole archives, of edits in place, and of shared pointers, pools and contexts, through public calls.
 #![tactic(auto)]
 
 #[cfg(test)]

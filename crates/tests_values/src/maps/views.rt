@@ -1,19 +1,11 @@
 // Maps are looked at where they lie.
 
-use crate::assertions::{assert_holds, assert_same, viewed};
+use crate::assertions::{assert_holds, assert_same, number_of, viewed};
 use crate::maps::archives::{EMPTY, NUMBERS, Numbers, TEXTS, Texts};
 use archive_types::primitive::ArchivedU32;
 use archive_types::view::Ref;
 use std::alloc::{AllocError, Global};
 use std::process::Abort;
-
-// The number that is viewed, if there is one.
-fn number_of(value: Option<Ref<'_, ArchivedU32>>) -> Option<u32> {
-    match value {
-        Some(value) => Some(value.get()),
-        None => None,
-    }
-}
 
 // The numbers of an entry, if there is one.
 fn numbers_of(entry: Option<(Ref<'_, ArchivedU32>, Ref<'_, ArchivedU32>)>) -> Option<(u32, u32)> {

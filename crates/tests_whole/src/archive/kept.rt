@@ -2,7 +2,7 @@
 
 use crate::archive::HELLO_WORLD;
 use crate::assertions::{assert_refusal, assert_same};
-use archive_core::api::Access;
+use archive_core::api::{Access, HighValidator};
 use archive_core::core_impls::ArchivedTuple2;
 use archive_core::error::Error;
 use archive_core::primitive::ArchivedU32;
@@ -27,6 +27,9 @@ fn positions<T: Portable>(
     let check: Access<T> = kept(rt, alloc);
     let last = check.access(bytes).expect(rt, "an archive");
     let other = check.access_pos(bytes, pos).expect(rt, "an archive");
+    let mut context = HighValidator::new(alloc, bytes);
+    let checked = check.check_pos_with_context(bytes, pos, &mut context);
+    checked.expect(rt, "an archive");
     (last.pos(), other.pos())
 }
 

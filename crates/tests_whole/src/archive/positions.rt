@@ -1,7 +1,7 @@
 // Where roots lie.
 
-use crate::assertions::{assert_refusal, assert_same};
-use archive_core::api::{access_pos, root_position};
+use crate::assertions::{assert_bytes, assert_refusal, assert_same};
+use archive_core::api::{access_pos, access_pos_mut, root_position};
 use archive_core::error::Error;
 use archive_core::primitive::ArchivedU32;
 use std::alloc::Global;
@@ -35,4 +35,13 @@ fn a_root_lies_where_it_is_said_to(rt: HostRuntime) {
     for (len, root) in [(3, 0), (4, 0), (5, 1)] {
         assert_same(&rt, "the root", root_position::<ArchivedU32>(len), root);
     }
+}
+
+#[test]
+fn a_number_is_written_over_where_it_lies(rt: HostRuntime) {
+    let mut bytes = [7, 0, 0, 0, 1];
+    access_pos_mut::<ArchivedU32>(rt.alloc(), &mut bytes, 0)
+        .expect(&rt, "a number")
+        .write(258);
+    assert_bytes(&rt, "the bytes", &bytes, &[2, 1, 0, 0, 1]);
 }

@@ -63,6 +63,7 @@ fn a_context_limits_the_depth(rt: HostRuntime) {
     let too_deep = Some(Error::ExceededMaximumSubtreeDepth);
     assert_same(&rt, "one level", refusal_within(rt.alloc(), 1), too_deep);
     assert_same(&rt, "two levels", refusal_within(rt.alloc(), 2), too_deep);
+    assert_same(&rt, "three levels", refusal_within(rt.alloc(), 3), None);
     let roots = (root_within_three(rt.alloc()), root_within_any(rt.alloc()));
     assert_same(&rt, "three and any", roots, (Some(12), Some(12)));
 }

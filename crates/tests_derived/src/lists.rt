@@ -1,0 +1,162 @@
+// A record of an array, a list of options of records, and a record with parameters; and such records at other types.
+
+use crate::assertions::{
+    assert_archived, assert_bytes, assert_holds, assert_same, assert_written, sealed, text,
+    value_of, viewed,
+};
+use crate::judgements::{assert_faults, assert_refused, outside, unaligned, unknown_tag};
+use crate::spots::assert_spot;
+use archive_core::core_impls::OwnedArray;
+use archive_core::error::Error;
+use archive_core::option::ArchivedOption;
+use archive_core::primitive::{ArchivedU16, ArchivedU64};
+use archive_core::string::ArchivedString;
+use archive_core::view::Ref;
+use derived_kinds::kinds::{ArchivedLists, Lists, ListsSeal, ListsView};
+use derived_kinds::pair::{ArchivedPair, Pair, PairSeal, PairView};
+use derived_types::event::ArchivedEvent;
+use derived_types::spot::{ArchivedSpot, Spot, SpotSeal};
+use std::alloc::Global;
+use std::process::Abort;
+
+// An option of the numbers 1 and -2, a None, and four zeros. At 16 the numbers 1, -1, 258 and 0, the vector that points 24 bytes back at both options, and at
+// 32, a multiple of 8, the number 7 of eight bytes, 3 and 4 of two bytes, and four zeros.
+const LISTS: &[u8; 48] =
+    b"\x01\0\x01\0\xfe\xff\0\0\0\0\0\0\0\0\0\0\x01\0\xff\xff\x02\x01\0\0\xe8\xff\xff\xff\x02\0\0\0\x07\0\0\0\0\0\0\0\x03\0\x04\0\0\0\0\0";
+
+// The value that those bytes are the archive of.
+fn lists(rt: &impl Abort, alloc: Global) -> Lists {
+    let four = [1i16, -1, 258, 0]
+        .to_vec(alloc)
+        .expect(rt, "memory for numbers");
+    let spots = vec![in alloc; Some(Spot { right: 1, up: -2 }), None];
+    Lists {
+        four: OwnedArray::from_vec(four).expect(rt, "four numbers"),
+        spots: spots.expect(rt, "memory for places"),
+        pair: Pair {
+            left: 7,
+            right: Spot { right: 3, up: 4 },
+        },
+    }
+}
+
+#[test]
+fn lists_are_written(rt: HostRuntime) {
+    let lists = lists(&rt, rt.alloc());
+    assert_written(&rt, rt.alloc(), &lists, 32, LISTS);
+}
+
+#[test]
+fn lists_are_read_back(rt: HostRuntime) {
+    let back: Lists = value_of(&rt, rt.alloc(), LISTS, &mut ());
+    let wanted = lists(&rt, rt.alloc());
+    let numbers = back.four.as_slice();
+    assert_same(&rt, "the numbers", numbers, [1, -1, 258, 0].as_slice());
+    assert_same(&rt, "the places", &back.spots, &wanted.spots);
+    assert_same(&rt, "the pair", &back.pair, &wanted.pair);
+}
+
+// The options of a list: a place, and none.
+fn assert_spots(
+    rt: &impl Abort,
+    first: Ref<'_, ArchivedOption<ArchivedSpot>>,
+    second: Ref<'_, ArchivedOption<ArchivedSpot>>,
+) {
+    let Some(spot) = first.as_ref() else {
+        panic!(rt; "no place")
+    };
+    assert_spot(rt, spot, 1, -2);
+    assert_holds(rt, "none", second.as_ref().is_none());
+}
+
+#[test]
+fn lists_are_viewed(rt: HostRuntime) {
+    let view = viewed::<ArchivedLists>(&rt, rt.alloc(), LISTS);
+    let third = view.four().index(2).get();
+    assert_same(&rt, "a number", (third, view.four().len()), (258, 4));
+    let spots = view.spots().as_slice();
+    let (Some(first), Some(second)) = (spots.get(0), spots.get(1)) else {
+        panic!(&rt; "not two")
+    };
+    assert_spots(&rt, first, second);
+    assert_same(&rt, "to the left", view.pair().left().get(), 7);
+    assert_spot(&rt, view.pair().right(), 3, 4);
+}
+
+// Writes over the last number, and over the place of the pair.
+fn write_lists(rt: &impl Abort, alloc: Global, bytes: &mut [u8]) {
+    let four = sealed::<ArchivedLists>(rt, alloc, bytes).four_mut();
+    four.index(3).write(5);
+    let pair = sealed::<ArchivedLists>(rt, alloc, bytes).pair_mut();
+    pair.right_mut().up_mut().write(-1);
+}
+
+// And over the first place of the list.
+fn write_first(rt: &impl Abort, alloc: Global, bytes: &mut [u8]) {
+    let spots = sealed::<ArchivedLists>(rt, alloc, bytes)
+        .spots_mut()
+        .as_slice_seal();
+    if spots.len() > 0 {
+        if let Some(spot) = spots.index(0).as_seal() {
+            spot.right_mut().write(9);
+        }
+    }
+}
+
+#[test]
+fn lists_are_edited(rt: HostRuntime) {
+    let mut bytes = *LISTS;
+    write_lists(&rt, rt.alloc(), &mut bytes);
+    write_first(&rt, rt.alloc(), &mut bytes);
+    let wanted =
+        b"\x01\0\x09\0\xfe\xff\0\0\0\0\0\0\0\0\0\0\x01\0\xff\xff\x02\x01\x05\0\xe8\xff\xff\xff\x02\0\0\0\x07\0\0\0\0\0\0\0\x03\0\xff\xff\0\0\0\0";
+    assert_bytes(&rt, "the edited lists", &bytes, wanted);
+}
+
+#[test]
+fn faults_of_lists_are_found(rt: HostRuntime) {
+    let rows = [
+        (6, 2, unknown_tag("ArchivedOption", 2)),
+        (24, 0xe9, unaligned(1, 2)),
+        (28, 3, outside(0, 18, 0, 16)),
+    ];
+    assert_faults::<ArchivedLists>(&rt, rt.alloc(), LISTS, &rows);
+    let rows: [(&[u8], Error); 1] = [(&[0; 36], unaligned(4, 8))];
+    assert_refused::<ArchivedLists>(&rt, rt.alloc(), &rows);
+}
+
+// A text and a zero, and at 12 the number 258 with the string that points back at the text.
+const NUMBER_AND_TEXT: &[u8; 24] = b"hello world\0\x02\x01\0\0\x8b\0\0\0\xf0\xff\xff\xff";
+
+// The tag 3 with the numbers -2 and 258, and behind it the number 7 of eight bytes at a multiple of eight.
+const STEP_AND_NUMBER: &[u8; 24] =
+    b"\x03\0\0\0\xfe\xff\xff\xff\x02\x01\0\0\0\0\0\0\x07\0\0\0\0\0\0\0";
+
+#[test]
+fn a_pair_of_a_number_and_a_text(rt: HostRuntime) {
+    let pair = Pair {
+        left: 258u16,
+        right: text(&rt, rt.alloc(), "hello world"),
+    };
+    assert_archived(&rt, rt.alloc(), &pair, 12, NUMBER_AND_TEXT);
+    let view = viewed::<ArchivedPair<ArchivedU16, ArchivedString>>(
+        &rt,
+        rt.alloc(),
+        NUMBER_AND_TEXT,
+    );
+    let found = (view.left().get(), view.right().as_str());
+    assert_same(&rt, "both", found, (258, "hello world"));
+}
+
+#[test]
+fn faults_of_pairs_are_found(rt: HostRuntime) {
+    type Step = ArchivedPair<ArchivedEvent, ArchivedU64>;
+    let unknown = unknown_tag("ArchivedEvent", 6);
+    assert_faults::<Step>(&rt, rt.alloc(), STEP_AND_NUMBER, &[(0, 6, unknown)]);
+    type Named = ArchivedPair<ArchivedU16, ArchivedString>;
+    let rows = [
+        (16, 0x88, Error::InvalidStringRepr),
+        (20, 0xf2, outside(2, 11, 0, 12)),
+    ];
+    assert_faults::<Named>(&rt, rt.alloc(), NUMBER_AND_TEXT, &rows);
+}

@@ -1,4 +1,0 @@
-use Rattle.tests_shared.proofs.archive.endless.+follow.Given as goal
-
-abbrev pub decreases-follow : goal.decreases-follow
-decreases-follow g l = l.left

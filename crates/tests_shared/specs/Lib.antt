@@ -1,3 +1,0 @@
-pub mod TwoPools
-pub mod CircleShape
-pub mod LoopShape
