@@ -25,17 +25,23 @@ pub enum Event {
 ghost use Rattle.archive_core.specs.CallOutcomes.{ResolvesAs};
 ghost use Rattle.archive_core.specs.Definitions.{both, no_definition};
 ghost use Rattle.archive_core.specs.Keyed.{case_keyed, each_keyed, nothing_keyed, number_keyed, part_keyed, text_keyed};
+ghost use Rattle.archive_core.specs.Layout.{up};
 ghost use Rattle.archive_core.specs.LeafLayout.{no_definition_reached};
+ghost use Rattle.archive_core.specs.PartsLayout.{first_or, no_part_laid_out, no_part_sized, part_laid_out, part_sized, within_at, within_over};
 ghost use Rattle.archive_core.specs.PartsPlanned.{no_part_planned, part_planned};
 ghost use Rattle.archive_core.specs.Payloads.{payload_in};
 ghost use Rattle.archive_core.specs.Plain.{plain_choice, plain_own_check, plain_variant_planned};
 ghost use Rattle.archive_core.specs.Planned.{leaf_planned, string_planned};
 ghost use Rattle.archive_core.specs.PlannedOwners.{one_planned, slice_planned, vec_planned};
 ghost use Rattle.archive_core.specs.SealsWritten.{IsSealOf, SealsPart, seal_tag};
-ghost use Rattle.archive_core.specs.Seen.{IsPartOf, ShowsValueOf, tag_of};
-ghost use Rattle.archive_core.specs.Shape.{choice, no_part, no_variant, one, part, variant};
+ghost use Rattle.archive_core.specs.Seen.{IsPartOf, ShowsValueOf, part_tag, tag_of};
+ghost use Rattle.archive_core.specs.SelfCheck.Regions.{no_lower, rises_over};
+ghost use Rattle.archive_core.specs.Shape.{choice, no_part, no_variant, one, part, parts, variant};
+ghost use Rattle.archive_core.specs.SourceOutcomes.{Serializes};
 ghost use Rattle.archive_core.specs.Sources.{ReadsAs};
 ghost use Rattle.archive_core.specs.Value.{case, no_value, value};
+ghost use Rattle.archive_core.specs.VariantsHeld.{no_payload_sized, no_payload_within, payload_sized, payload_within};
+ghost use Rattle.archive_core.specs.VariantsLayout.{no_variant_laid_out, no_variants_reached, variant_laid_out, variant_reached};
 ghost use Rattle.archive_core.specs.Writing.{ZeroedPlace};
 ghost use Rattle.std.proofs.Common.{inl, inr, lit≤};
 ghost use Rattle.std.specs.Prelude.{None, [], codes, refl, string_bytes, true, ℕ, ◌++◌, ◌+◌, ◌≡◌};
@@ -48,18 +54,19 @@ use archive_core::fields::{
 use archive_core::place::Place;
 use archive_core::primitive::{ArchivedChar, ArchivedI32, ArchivedU32};
 use archive_core::seal::{Seal, sealed_part_in_case};
-use archive_core::self_check::{SelfCheck, check_choice};
+use archive_core::self_check::{CheckedVariants, SelfCheck, check_choice};
 use archive_core::ser::{ResolverAlloc, Writer, serialize_one};
 use archive_core::shape::Defs;
 use archive_core::string::ArchivedString;
 use archive_core::traits::{
     Archive, ArchivePointee, ArchiveUnsized, Choice, CopyOptimization, Deserialize, Entries, Keys,
-    Portable, Serialize, SerializeUnsized, expr_of_choice,
+    Portable, PortableVariants, Serialize, SerializeUnsized, expr_of_choice,
 };
 use archive_core::validation::ArchiveContext;
 use archive_core::vec::ArchivedVec;
 use archive_core::view::{RawView, Ref};
 use std::alloc::Global;
+use std::mem::drop;
 
 /// An archived `Event`: 12 bytes at a multiple of 4.
 pub struct ArchivedEvent;
@@ -80,13 +87,119 @@ type EventBatchParts = (ArchivedVec<ArchivedU32>, ());
 
 type EventBatchOwned = (Vec<u32>, ());
 
-type EventVariants = (
-    (),
-    (
-        EventKeyParts,
-        (EventTextParts, (EventMoveParts, (EventBatchParts, ()))),
-    ),
-);
+type EventVariants = ((), (EventKeyParts, (EventTextParts, EventRest1)));
+
+/// The variants of `Event` from `Move` on, as one type: it has no values.
+pub struct EventRest1;
+
+type EventBlock1 = (EventMoveParts, (EventBatchParts, ()));
+
+impl CheckedVariants for EventRest1 {
+    ghost variants = { ⟦<EventBlock1 as CheckedVariants>⟧.variants };
+
+    ghost definitions = { ⟦<EventBlock1 as CheckedVariants>⟧.definitions };
+
+    ghost end = { ⟦<EventBlock1 as CheckedVariants>⟧.end };
+
+    ghost direct = { ⟦<EventBlock1 as CheckedVariants>⟧.direct };
+
+    fn are_direct() -> bool {
+        <EventBlock1 as CheckedVariants>::are_direct()
+    }
+
+    #[inline(always)]
+    fn check_variant<C: ArchiveContext>(
+        bytes: &[u8],
+        base: usize,
+        tag: usize,
+        refusal: &mut Error,
+        context: &mut C,
+    ) -> Option<bool> {
+        <EventBlock1 as CheckedVariants>::check_variant(bytes, base, tag, refusal, context)
+    }
+}
+
+impl PortableVariants for EventRest1 {
+    ghost greatest = { ⟦<EventBlock1 as PortableVariants>⟧.greatest };
+
+    ghost begin = { ⟦<EventBlock1 as PortableVariants>⟧.begin };
+
+    ghost size_at = { ⟦<EventBlock1 as PortableVariants>⟧.size_at };
+
+    ghost is_align = { inr (inr (inl refl)) };
+
+    ghost laid_out = { variant_laid_out _ _ _ _ _ _ (part_laid_out no_definition _
+        ⟦<ArchivedI32 as Portable>⟧.shape (record { size = 4; align = 4 }) (record {
+          solved = λ s k. refl;
+        }) _ _ _ _ (part_laid_out no_definition _ ⟦<ArchivedI32 as Portable>⟧.shape (record {
+          size = 4;
+          align = 4;
+        }) (record { solved = λ s k. refl }) _ _ _ _ no_part_laid_out)) _ _ _ _
+        (variant_laid_out _ _ _ _ _ _ (part_laid_out no_definition _
+        ⟦<ArchivedVec<ArchivedU32> as Portable>⟧.shape (record { size = 8; align = 4 }) (record {
+          solved = λ s k. refl;
+        }) _ _ _ _ no_part_laid_out) _ _ _ _ no_variant_laid_out) };
+
+    ghost no_others = { variant_reached (both no_definition (both no_definition no_definition))
+        (both (both no_definition no_definition) no_definition)
+        (part ⟦<ArchivedI32 as Portable>⟧.shape (part ⟦<ArchivedI32 as Portable>⟧.shape no_part))
+        (variant (part ⟦<ArchivedVec<ArchivedU32> as Portable>⟧.shape no_part) no_variant)
+        (no_definition_reached (parts (part ⟦<ArchivedI32 as Portable>⟧.shape
+        (part ⟦<ArchivedI32 as Portable>⟧.shape no_part))))
+        (variant_reached (both no_definition no_definition) no_definition
+        (part ⟦<ArchivedVec<ArchivedU32> as Portable>⟧.shape no_part) no_variant
+        (no_definition_reached (parts (part ⟦<ArchivedVec<ArchivedU32> as Portable>⟧.shape
+        no_part))) no_variants_reached) };
+
+    ghost sized = { payload_sized (both no_definition (both no_definition no_definition))
+        (both (both no_definition no_definition) no_definition)
+        (part ⟦<ArchivedI32 as Portable>⟧.shape (part ⟦<ArchivedI32 as Portable>⟧.shape no_part)) _
+        (part_sized no_definition (both no_definition no_definition)
+        ⟦<ArchivedI32 as Portable>⟧.shape (record { size = 4; align = 4 }) (record {
+          solved = λ s k. refl;
+        }) (part ⟦<ArchivedI32 as Portable>⟧.shape no_part) (first_or 4 (λ i. 0))
+        (part_sized no_definition no_definition ⟦<ArchivedI32 as Portable>⟧.shape (record {
+          size = 4;
+          align = 4;
+        }) (record { solved = λ s k. refl }) no_part (λ i. 0) no_part_sized))
+        (variant (part ⟦<ArchivedVec<ArchivedU32> as Portable>⟧.shape no_part) no_variant) _
+        (payload_sized (both no_definition no_definition) no_definition
+        (part ⟦<ArchivedVec<ArchivedU32> as Portable>⟧.shape no_part) _
+        (part_sized no_definition no_definition ⟦<ArchivedVec<ArchivedU32> as Portable>⟧.shape
+        (record { size = 8; align = 4 }) (record { solved = λ s k. refl }) no_part (λ i. 0)
+        no_part_sized) no_variant _ no_payload_sized) };
+
+    ghost within = { payload_within _ _ _ (within_over (up 1 4) 4 _ _ _
+        (λ n. rises_over n 4 4 (inr (inr (inl refl))) _ no_lower)
+        (λ n. within_over (up n 4) 4 _ _ _ no_lower within_at)) _ _ _
+        (payload_within _ _ _ (within_over (up 1 4) 8 _ _ _ no_lower within_at) _ _ _
+        no_payload_within) };
+
+    fn align() -> usize {
+        <EventBlock1 as PortableVariants>::align()
+    }
+
+    #[inline(always)]
+    fn longest_end() -> usize {
+        <EventBlock1 as PortableVariants>::longest_end()
+    }
+
+    #[inline(always)]
+    fn payload_offset(tag: usize, i: usize) -> usize {
+        <EventBlock1 as PortableVariants>::payload_offset(tag, i)
+    }
+
+    fn push_variants(
+        alloc: Global,
+        list: &mut Vec<Vec<archive_core::shape::Expr>>,
+    ) -> Result<(), Error> {
+        <EventBlock1 as PortableVariants>::push_variants(alloc, list)
+    }
+
+    fn define(alloc: Global, defs: &mut Defs) -> Result<(), Error> {
+        <EventBlock1 as PortableVariants>::define(alloc, defs)
+    }
+}
 
 impl ArchivePointee for ArchivedEvent {
     type ArchivedMetadata = ();
@@ -223,6 +336,239 @@ pub enum EventResolver {
     Batch((<Vec<u32> as Archive>::Resolver, ())),
 }
 
+// What is done variant by variant.
+impl ArchivedEvent {
+    ghost use Rattle.derived_types.specs.declared.event.Event.TheVariants.{Batch as EventBatch, Key as EventKey, Move as EventMove, Quit as EventQuit, Text as EventText};
+
+    // Writes what `Quit` owns.
+    fn serialize_variant_0<S: Writer + ResolverAlloc>(
+        serializer: &mut S,
+    ) -> Result<EventResolver, Error>
+        ensures { Serializes ⟦<Event as Archive>⟧ ⟦<ArchivedEvent as Portable>⟧ EventQuit S.Keys
+            serializer result }
+    {
+        match serialize_case_0::<ArchivedEvent, S>(0, serializer) {
+            Ok(()) => Ok(EventResolver::Quit),
+            Err(error) => Err(error),
+        }
+    }
+
+    // Reads `Quit` back.
+    fn read_variant_0<D: Entries>(
+        alloc: Global,
+        part: RawView<'_>,
+        deserializer: &mut D,
+    ) -> Result<Event, Error>
+        requires viewed { IsPartOf ⟦<ArchivedEvent as ArchivePointee>⟧ part }
+        requires tag { part_tag part ≡ 0 }
+        ensures { ReadsAs ⟦<ArchivedEvent as ArchivePointee>⟧ part D.Entries deserializer
+            ⟦<Event as Archive>⟧ result }
+    {
+        match read_case::<Self, (), (), D>(0, alloc, part, deserializer) {
+            Ok(()) => Ok(Event::Quit),
+            Err(error) => Err(error),
+        }
+    }
+
+    // Writes `Key` over its place.
+    fn resolve_variant_1(
+        a0: &char,
+        resolver: EventResolver,
+        place: Place<'_, ArchivedEvent>,
+    ) -> Result<(), Error>
+        requires zeroed { ZeroedPlace 12 place.pos place.bytes.now }
+        requires same_value { ⟦<Event as Archive>⟧.belongs (EventKey a0.now) resolver }
+        ensures { ResolvesAs ⟦<ArchivedEvent as Portable>⟧ place
+            (⟦<Event as Archive>⟧.flat (EventKey a0.now) resolver) result }
+    {
+        let EventResolver::Key(kept) = resolver else {
+            unreachable!();
+        };
+        let Place { bytes, pos, .. } = place;
+        resolve_case_1::<char, ArchivedEvent>(1, a0, kept, Place::new(pos, bytes))
+    }
+
+    // Writes what `Key` owns.
+    fn serialize_variant_1<S: Writer + ResolverAlloc>(
+        a0: &char,
+        serializer: &mut S,
+    ) -> Result<EventResolver, Error>
+        ensures { Serializes ⟦<Event as Archive>⟧ ⟦<ArchivedEvent as Portable>⟧ (EventKey a0.now)
+            S.Keys serializer result }
+    {
+        match serialize_case_1::<char, ArchivedEvent, S>(1, a0, serializer) {
+            Ok(kept) => Ok(EventResolver::Key(kept)),
+            Err(error) => Err(error),
+        }
+    }
+
+    // Reads `Key` back.
+    fn read_variant_1<D: Entries>(
+        alloc: Global,
+        part: RawView<'_>,
+        deserializer: &mut D,
+    ) -> Result<Event, Error>
+        requires viewed { IsPartOf ⟦<ArchivedEvent as ArchivePointee>⟧ part }
+        requires tag { part_tag part ≡ 1 }
+        ensures { ReadsAs ⟦<ArchivedEvent as ArchivePointee>⟧ part D.Entries deserializer
+            ⟦<Event as Archive>⟧ result }
+    {
+        match read_case::<Self, EventKeyParts, EventKeyOwned, D>(1, alloc, part, deserializer) {
+            Ok((a0, ())) => Ok(Event::Key(a0)),
+            Err(error) => Err(error),
+        }
+    }
+
+    // Writes `Text` over its place.
+    fn resolve_variant_2(
+        a0: &String,
+        resolver: EventResolver,
+        place: Place<'_, ArchivedEvent>,
+    ) -> Result<(), Error>
+        requires zeroed { ZeroedPlace 12 place.pos place.bytes.now }
+        requires same_value { ⟦<Event as Archive>⟧.belongs (EventText a0.now) resolver }
+        ensures { ResolvesAs ⟦<ArchivedEvent as Portable>⟧ place
+            (⟦<Event as Archive>⟧.flat (EventText a0.now) resolver) result }
+    {
+        let EventResolver::Text(kept) = resolver else {
+            unreachable!();
+        };
+        let Place { bytes, pos, .. } = place;
+        resolve_case_1::<String, ArchivedEvent>(2, a0, kept, Place::new(pos, bytes))
+    }
+
+    // Writes what `Text` owns.
+    fn serialize_variant_2<S: Writer + ResolverAlloc>(
+        a0: &String,
+        serializer: &mut S,
+    ) -> Result<EventResolver, Error>
+        ensures { Serializes ⟦<Event as Archive>⟧ ⟦<ArchivedEvent as Portable>⟧ (EventText a0.now)
+            S.Keys serializer result }
+    {
+        match serialize_case_1::<String, ArchivedEvent, S>(2, a0, serializer) {
+            Ok(kept) => Ok(EventResolver::Text(kept)),
+            Err(error) => Err(error),
+        }
+    }
+
+    // Reads `Text` back.
+    fn read_variant_2<D: Entries>(
+        alloc: Global,
+        part: RawView<'_>,
+        deserializer: &mut D,
+    ) -> Result<Event, Error>
+        requires viewed { IsPartOf ⟦<ArchivedEvent as ArchivePointee>⟧ part }
+        requires tag { part_tag part ≡ 2 }
+        ensures { ReadsAs ⟦<ArchivedEvent as ArchivePointee>⟧ part D.Entries deserializer
+            ⟦<Event as Archive>⟧ result }
+    {
+        match read_case::<Self, EventTextParts, EventTextOwned, D>(2, alloc, part, deserializer) {
+            Ok((a0, ())) => Ok(Event::Text(a0)),
+            Err(error) => Err(error),
+        }
+    }
+
+    // Writes `Move` over its place.
+    fn resolve_variant_3(
+        a0: &i32,
+        a1: &i32,
+        resolver: EventResolver,
+        place: Place<'_, ArchivedEvent>,
+    ) -> Result<(), Error>
+        requires zeroed { ZeroedPlace 12 place.pos place.bytes.now }
+        requires same_value { ⟦<Event as Archive>⟧.belongs (EventMove a0.now a1.now) resolver }
+        ensures { ResolvesAs ⟦<ArchivedEvent as Portable>⟧ place
+            (⟦<Event as Archive>⟧.flat (EventMove a0.now a1.now) resolver) result }
+    {
+        let EventResolver::Move(kept) = resolver else {
+            unreachable!();
+        };
+        let Place { bytes, pos, .. } = place;
+        resolve_case_2::<i32, i32, ArchivedEvent>(3, a0, a1, kept, Place::new(pos, bytes))
+    }
+
+    // Writes what `Move` owns.
+    fn serialize_variant_3<S: Writer + ResolverAlloc>(
+        a0: &i32,
+        a1: &i32,
+        serializer: &mut S,
+    ) -> Result<EventResolver, Error>
+        ensures { Serializes ⟦<Event as Archive>⟧ ⟦<ArchivedEvent as Portable>⟧
+            (EventMove a0.now a1.now) S.Keys serializer result }
+    {
+        match serialize_case_2::<i32, i32, ArchivedEvent, S>(3, a0, a1, serializer) {
+            Ok(kept) => Ok(EventResolver::Move(kept)),
+            Err(error) => Err(error),
+        }
+    }
+
+    // Reads `Move` back.
+    fn read_variant_3<D: Entries>(
+        alloc: Global,
+        part: RawView<'_>,
+        deserializer: &mut D,
+    ) -> Result<Event, Error>
+        requires viewed { IsPartOf ⟦<ArchivedEvent as ArchivePointee>⟧ part }
+        requires tag { part_tag part ≡ 3 }
+        ensures { ReadsAs ⟦<ArchivedEvent as ArchivePointee>⟧ part D.Entries deserializer
+            ⟦<Event as Archive>⟧ result }
+    {
+        match read_case::<Self, EventMoveParts, EventMoveOwned, D>(3, alloc, part, deserializer) {
+            Ok((a0, (a1, ()))) => Ok(Event::Move { x: a0, y: a1 }),
+            Err(error) => Err(error),
+        }
+    }
+
+    // Writes `Batch` over its place.
+    fn resolve_variant_4(
+        a0: &Vec<u32>,
+        resolver: EventResolver,
+        place: Place<'_, ArchivedEvent>,
+    ) -> Result<(), Error>
+        requires zeroed { ZeroedPlace 12 place.pos place.bytes.now }
+        requires same_value { ⟦<Event as Archive>⟧.belongs (EventBatch a0.now) resolver }
+        ensures { ResolvesAs ⟦<ArchivedEvent as Portable>⟧ place
+            (⟦<Event as Archive>⟧.flat (EventBatch a0.now) resolver) result }
+    {
+        let EventResolver::Batch(kept) = resolver else {
+            unreachable!();
+        };
+        let Place { bytes, pos, .. } = place;
+        resolve_case_1::<Vec<u32>, ArchivedEvent>(4, a0, kept, Place::new(pos, bytes))
+    }
+
+    // Writes what `Batch` owns.
+    fn serialize_variant_4<S: Writer + ResolverAlloc>(
+        a0: &Vec<u32>,
+        serializer: &mut S,
+    ) -> Result<EventResolver, Error>
+        ensures { Serializes ⟦<Event as Archive>⟧ ⟦<ArchivedEvent as Portable>⟧ (EventBatch a0.now)
+            S.Keys serializer result }
+    {
+        match serialize_case_1::<Vec<u32>, ArchivedEvent, S>(4, a0, serializer) {
+            Ok(kept) => Ok(EventResolver::Batch(kept)),
+            Err(error) => Err(error),
+        }
+    }
+
+    // Reads `Batch` back.
+    fn read_variant_4<D: Entries>(
+        alloc: Global,
+        part: RawView<'_>,
+        deserializer: &mut D,
+    ) -> Result<Event, Error>
+        requires viewed { IsPartOf ⟦<ArchivedEvent as ArchivePointee>⟧ part }
+        requires tag { part_tag part ≡ 4 }
+        ensures { ReadsAs ⟦<ArchivedEvent as ArchivePointee>⟧ part D.Entries deserializer
+            ⟦<Event as Archive>⟧ result }
+    {
+        match read_case::<Self, EventBatchParts, EventBatchOwned, D>(4, alloc, part, deserializer) {
+            Ok((a0, ())) => Ok(Event::Batch(a0)),
+            Err(error) => Err(error),
+        }
+    }
+}
+
 impl Archive for Event {
     ghost use Rattle.derived_types.specs.declared.event.Event.TheVariants.{Batch as EventBatch, Key as EventKey, Move as EventMove, Quit as EventQuit, Text as EventText};
     ghost use Rattle.derived_types.specs.declared.event.EventResolver.TheVariants.{Batch as EventBatchKept, Key as EventKeyKept, Move as EventMoveKept, Quit as EventQuitKept, Text as EventTextKept};
@@ -345,31 +691,31 @@ impl Archive for Event {
     {
         let Place { bytes, pos, .. } = place;
         match self {
-            Event::Quit => resolve_case_0::<ArchivedEvent>(0, (), Place::new(pos, bytes)),
-            Event::Key(a0) => {
-                let EventResolver::Key(kept) = resolver else {
-                    unreachable!();
-                };
-                resolve_case_1::<char, ArchivedEvent>(1, a0, kept, Place::new(pos, bytes))
+            Event::Quit => {
+                drop(resolver);
+                resolve_case_0::<ArchivedEvent>(0, (), Place::new(pos, bytes))
             }
-            Event::Text(a0) => {
-                let EventResolver::Text(kept) = resolver else {
-                    unreachable!();
-                };
-                resolve_case_1::<String, ArchivedEvent>(2, a0, kept, Place::new(pos, bytes))
-            }
-            Event::Move { x: a0, y: a1 } => {
-                let EventResolver::Move(kept) = resolver else {
-                    unreachable!();
-                };
-                resolve_case_2::<i32, i32, ArchivedEvent>(3, a0, a1, kept, Place::new(pos, bytes))
-            }
-            Event::Batch(a0) => {
-                let EventResolver::Batch(kept) = resolver else {
-                    unreachable!();
-                };
-                resolve_case_1::<Vec<u32>, ArchivedEvent>(4, a0, kept, Place::new(pos, bytes))
-            }
+            Event::Key(a0) => ArchivedEvent::resolve_variant_1(
+                a0,
+                resolver,
+                Place::new(pos, bytes),
+            ),
+            Event::Text(a0) => ArchivedEvent::resolve_variant_2(
+                a0,
+                resolver,
+                Place::new(pos, bytes),
+            ),
+            Event::Move { x: a0, y: a1 } => ArchivedEvent::resolve_variant_3(
+                a0,
+                a1,
+                resolver,
+                Place::new(pos, bytes),
+            ),
+            Event::Batch(a0) => ArchivedEvent::resolve_variant_4(
+                a0,
+                resolver,
+                Place::new(pos, bytes),
+            ),
         }
     }
 
@@ -392,32 +738,11 @@ impl<S: Writer + ResolverAlloc> Serialize<S> for Event {
     #[inline(always)]
     fn serialize(&self, serializer: &mut S) -> Result<Self::Resolver, Error> {
         match self {
-            Event::Quit => match serialize_case_0::<ArchivedEvent, S>(0, serializer) {
-                Ok(()) => Ok(EventResolver::Quit),
-                Err(error) => Err(error),
-            },
-            Event::Key(a0) => match serialize_case_1::<char, ArchivedEvent, S>(1, a0, serializer) {
-                Ok(kept) => Ok(EventResolver::Key(kept)),
-                Err(error) => Err(error),
-            },
-            Event::Text(a0) => match serialize_case_1::<String, ArchivedEvent, S>(
-                2, a0, serializer,
-            ) {
-                Ok(kept) => Ok(EventResolver::Text(kept)),
-                Err(error) => Err(error),
-            },
-            Event::Move { x: a0, y: a1 } => match serialize_case_2::<i32, i32, ArchivedEvent, S>(
-                3, a0, a1, serializer,
-            ) {
-                Ok(kept) => Ok(EventResolver::Move(kept)),
-                Err(error) => Err(error),
-            },
-            Event::Batch(a0) => match serialize_case_1::<Vec<u32>, ArchivedEvent, S>(
-                4, a0, serializer,
-            ) {
-                Ok(kept) => Ok(EventResolver::Batch(kept)),
-                Err(error) => Err(error),
-            },
+            Event::Quit => ArchivedEvent::serialize_variant_0(serializer),
+            Event::Key(a0) => ArchivedEvent::serialize_variant_1(a0, serializer),
+            Event::Text(a0) => ArchivedEvent::serialize_variant_2(a0, serializer),
+            Event::Move { x: a0, y: a1 } => ArchivedEvent::serialize_variant_3(a0, a1, serializer),
+            Event::Batch(a0) => ArchivedEvent::serialize_variant_4(a0, serializer),
         }
     }
 }
@@ -471,46 +796,11 @@ impl<D: Entries> Deserialize<Event, D> for ArchivedEvent {
             ⟦<Event as Archive>⟧ result }
     {
         match known_tag::<Self>(part) {
-            0 => match read_case::<Self, (), (), D>(0, alloc, part, deserializer) {
-                Ok(()) => Ok(Event::Quit),
-                Err(error) => Err(error),
-            },
-            1 => match read_case::<Self, EventKeyParts, EventKeyOwned, D>(
-                1,
-                alloc,
-                part,
-                deserializer,
-            ) {
-                Ok((a0, ())) => Ok(Event::Key(a0)),
-                Err(error) => Err(error),
-            },
-            2 => match read_case::<Self, EventTextParts, EventTextOwned, D>(
-                2,
-                alloc,
-                part,
-                deserializer,
-            ) {
-                Ok((a0, ())) => Ok(Event::Text(a0)),
-                Err(error) => Err(error),
-            },
-            3 => match read_case::<Self, EventMoveParts, EventMoveOwned, D>(
-                3,
-                alloc,
-                part,
-                deserializer,
-            ) {
-                Ok((a0, (a1, ()))) => Ok(Event::Move { x: a0, y: a1 }),
-                Err(error) => Err(error),
-            },
-            _ => match read_case::<Self, EventBatchParts, EventBatchOwned, D>(
-                4,
-                alloc,
-                part,
-                deserializer,
-            ) {
-                Ok((a0, ())) => Ok(Event::Batch(a0)),
-                Err(error) => Err(error),
-            },
+            0 => ArchivedEvent::read_variant_0(alloc, part, deserializer),
+            1 => ArchivedEvent::read_variant_1(alloc, part, deserializer),
+            2 => ArchivedEvent::read_variant_2(alloc, part, deserializer),
+            3 => ArchivedEvent::read_variant_3(alloc, part, deserializer),
+            _ => ArchivedEvent::read_variant_4(alloc, part, deserializer),
         }
     }
 }
