@@ -10,7 +10,7 @@ from .long import is_long
 from .made import WRITTEN
 
 # Up to so many variants with fields have their calls in one body.
-MOST_AT_ONCE = 2
+MOST_AT_ONCE = 8
 # What resolves variants without fields that go together.
 UNIT = "resolve_unit"
 

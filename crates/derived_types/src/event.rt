@@ -34,10 +34,9 @@ ghost use Rattle.archive_core.specs.Plain.{plain_choice, plain_own_check, plain_
 ghost use Rattle.archive_core.specs.Planned.{leaf_planned, string_planned};
 ghost use Rattle.archive_core.specs.PlannedOwners.{one_planned, slice_planned, vec_planned};
 ghost use Rattle.archive_core.specs.SealsWritten.{IsSealOf, SealsPart, seal_tag};
-ghost use Rattle.archive_core.specs.Seen.{IsPartOf, ShowsValueOf, part_tag, tag_of};
+ghost use Rattle.archive_core.specs.Seen.{IsPartOf, ShowsValueOf, tag_of};
 ghost use Rattle.archive_core.specs.SelfCheck.Regions.{no_lower, rises_over};
 ghost use Rattle.archive_core.specs.Shape.{choice, no_part, no_variant, one, part, parts, variant};
-ghost use Rattle.archive_core.specs.SourceOutcomes.{Serializes};
 ghost use Rattle.archive_core.specs.Sources.{ReadsAs};
 ghost use Rattle.archive_core.specs.Value.{case, no_value, value};
 ghost use Rattle.archive_core.specs.VariantsHeld.{no_payload_sized, no_payload_within, payload_sized, payload_within};
@@ -66,7 +65,6 @@ use archive_core::validation::ArchiveContext;
 use archive_core::vec::ArchivedVec;
 use archive_core::view::{RawView, Ref};
 use std::alloc::Global;
-use std::mem::drop;
 
 /// An archived `Event`: 12 bytes at a multiple of 4.
 pub struct ArchivedEvent;
@@ -336,239 +334,6 @@ pub enum EventResolver {
     Batch((<Vec<u32> as Archive>::Resolver, ())),
 }
 
-// What is done variant by variant.
-impl ArchivedEvent {
-    ghost use Rattle.derived_types.specs.declared.event.Event.TheVariants.{Batch as EventBatch, Key as EventKey, Move as EventMove, Quit as EventQuit, Text as EventText};
-
-    // Writes what `Quit` owns.
-    fn serialize_variant_0<S: Writer + ResolverAlloc>(
-        serializer: &mut S,
-    ) -> Result<EventResolver, Error>
-        ensures { Serializes ⟦<Event as Archive>⟧ ⟦<ArchivedEvent as Portable>⟧ EventQuit S.Keys
-            serializer result }
-    {
-        match serialize_case_0::<ArchivedEvent, S>(0, serializer) {
-            Ok(()) => Ok(EventResolver::Quit),
-            Err(error) => Err(error),
-        }
-    }
-
-    // Reads `Quit` back.
-    fn read_variant_0<D: Entries>(
-        alloc: Global,
-        part: RawView<'_>,
-        deserializer: &mut D,
-    ) -> Result<Event, Error>
-        requires viewed { IsPartOf ⟦<ArchivedEvent as ArchivePointee>⟧ part }
-        requires tag { part_tag part ≡ 0 }
-        ensures { ReadsAs ⟦<ArchivedEvent as ArchivePointee>⟧ part D.Entries deserializer
-            ⟦<Event as Archive>⟧ result }
-    {
-        match read_case::<Self, (), (), D>(0, alloc, part, deserializer) {
-            Ok(()) => Ok(Event::Quit),
-            Err(error) => Err(error),
-        }
-    }
-
-    // Writes `Key` over its place.
-    fn resolve_variant_1(
-        a0: &char,
-        resolver: EventResolver,
-        place: Place<'_, ArchivedEvent>,
-    ) -> Result<(), Error>
-        requires zeroed { ZeroedPlace 12 place.pos place.bytes.now }
-        requires same_value { ⟦<Event as Archive>⟧.belongs (EventKey a0.now) resolver }
-        ensures { ResolvesAs ⟦<ArchivedEvent as Portable>⟧ place
-            (⟦<Event as Archive>⟧.flat (EventKey a0.now) resolver) result }
-    {
-        let EventResolver::Key(kept) = resolver else {
-            unreachable!();
-        };
-        let Place { bytes, pos, .. } = place;
-        resolve_case_1::<char, ArchivedEvent>(1, a0, kept, Place::new(pos, bytes))
-    }
-
-    // Writes what `Key` owns.
-    fn serialize_variant_1<S: Writer + ResolverAlloc>(
-        a0: &char,
-        serializer: &mut S,
-    ) -> Result<EventResolver, Error>
-        ensures { Serializes ⟦<Event as Archive>⟧ ⟦<ArchivedEvent as Portable>⟧ (EventKey a0.now)
-            S.Keys serializer result }
-    {
-        match serialize_case_1::<char, ArchivedEvent, S>(1, a0, serializer) {
-            Ok(kept) => Ok(EventResolver::Key(kept)),
-            Err(error) => Err(error),
-        }
-    }
-
-    // Reads `Key` back.
-    fn read_variant_1<D: Entries>(
-        alloc: Global,
-        part: RawView<'_>,
-        deserializer: &mut D,
-    ) -> Result<Event, Error>
-        requires viewed { IsPartOf ⟦<ArchivedEvent as ArchivePointee>⟧ part }
-        requires tag { part_tag part ≡ 1 }
-        ensures { ReadsAs ⟦<ArchivedEvent as ArchivePointee>⟧ part D.Entries deserializer
-            ⟦<Event as Archive>⟧ result }
-    {
-        match read_case::<Self, EventKeyParts, EventKeyOwned, D>(1, alloc, part, deserializer) {
-            Ok((a0, ())) => Ok(Event::Key(a0)),
-            Err(error) => Err(error),
-        }
-    }
-
-    // Writes `Text` over its place.
-    fn resolve_variant_2(
-        a0: &String,
-        resolver: EventResolver,
-        place: Place<'_, ArchivedEvent>,
-    ) -> Result<(), Error>
-        requires zeroed { ZeroedPlace 12 place.pos place.bytes.now }
-        requires same_value { ⟦<Event as Archive>⟧.belongs (EventText a0.now) resolver }
-        ensures { ResolvesAs ⟦<ArchivedEvent as Portable>⟧ place
-            (⟦<Event as Archive>⟧.flat (EventText a0.now) resolver) result }
-    {
-        let EventResolver::Text(kept) = resolver else {
-            unreachable!();
-        };
-        let Place { bytes, pos, .. } = place;
-        resolve_case_1::<String, ArchivedEvent>(2, a0, kept, Place::new(pos, bytes))
-    }
-
-    // Writes what `Text` owns.
-    fn serialize_variant_2<S: Writer + ResolverAlloc>(
-        a0: &String,
-        serializer: &mut S,
-    ) -> Result<EventResolver, Error>
-        ensures { Serializes ⟦<Event as Archive>⟧ ⟦<ArchivedEvent as Portable>⟧ (EventText a0.now)
-            S.Keys serializer result }
-    {
-        match serialize_case_1::<String, ArchivedEvent, S>(2, a0, serializer) {
-            Ok(kept) => Ok(EventResolver::Text(kept)),
-            Err(error) => Err(error),
-        }
-    }
-
-    // Reads `Text` back.
-    fn read_variant_2<D: Entries>(
-        alloc: Global,
-        part: RawView<'_>,
-        deserializer: &mut D,
-    ) -> Result<Event, Error>
-        requires viewed { IsPartOf ⟦<ArchivedEvent as ArchivePointee>⟧ part }
-        requires tag { part_tag part ≡ 2 }
-        ensures { ReadsAs ⟦<ArchivedEvent as ArchivePointee>⟧ part D.Entries deserializer
-            ⟦<Event as Archive>⟧ result }
-    {
-        match read_case::<Self, EventTextParts, EventTextOwned, D>(2, alloc, part, deserializer) {
-            Ok((a0, ())) => Ok(Event::Text(a0)),
-            Err(error) => Err(error),
-        }
-    }
-
-    // Writes `Move` over its place.
-    fn resolve_variant_3(
-        a0: &i32,
-        a1: &i32,
-        resolver: EventResolver,
-        place: Place<'_, ArchivedEvent>,
-    ) -> Result<(), Error>
-        requires zeroed { ZeroedPlace 12 place.pos place.bytes.now }
-        requires same_value { ⟦<Event as Archive>⟧.belongs (EventMove a0.now a1.now) resolver }
-        ensures { ResolvesAs ⟦<ArchivedEvent as Portable>⟧ place
-            (⟦<Event as Archive>⟧.flat (EventMove a0.now a1.now) resolver) result }
-    {
-        let EventResolver::Move(kept) = resolver else {
-            unreachable!();
-        };
-        let Place { bytes, pos, .. } = place;
-        resolve_case_2::<i32, i32, ArchivedEvent>(3, a0, a1, kept, Place::new(pos, bytes))
-    }
-
-    // Writes what `Move` owns.
-    fn serialize_variant_3<S: Writer + ResolverAlloc>(
-        a0: &i32,
-        a1: &i32,
-        serializer: &mut S,
-    ) -> Result<EventResolver, Error>
-        ensures { Serializes ⟦<Event as Archive>⟧ ⟦<ArchivedEvent as Portable>⟧
-            (EventMove a0.now a1.now) S.Keys serializer result }
-    {
-        match serialize_case_2::<i32, i32, ArchivedEvent, S>(3, a0, a1, serializer) {
-            Ok(kept) => Ok(EventResolver::Move(kept)),
-            Err(error) => Err(error),
-        }
-    }
-
-    // Reads `Move` back.
-    fn read_variant_3<D: Entries>(
-        alloc: Global,
-        part: RawView<'_>,
-        deserializer: &mut D,
-    ) -> Result<Event, Error>
-        requires viewed { IsPartOf ⟦<ArchivedEvent as ArchivePointee>⟧ part }
-        requires tag { part_tag part ≡ 3 }
-        ensures { ReadsAs ⟦<ArchivedEvent as ArchivePointee>⟧ part D.Entries deserializer
-            ⟦<Event as Archive>⟧ result }
-    {
-        match read_case::<Self, EventMoveParts, EventMoveOwned, D>(3, alloc, part, deserializer) {
-            Ok((a0, (a1, ()))) => Ok(Event::Move { x: a0, y: a1 }),
-            Err(error) => Err(error),
-        }
-    }
-
-    // Writes `Batch` over its place.
-    fn resolve_variant_4(
-        a0: &Vec<u32>,
-        resolver: EventResolver,
-        place: Place<'_, ArchivedEvent>,
-    ) -> Result<(), Error>
-        requires zeroed { ZeroedPlace 12 place.pos place.bytes.now }
-        requires same_value { ⟦<Event as Archive>⟧.belongs (EventBatch a0.now) resolver }
-        ensures { ResolvesAs ⟦<ArchivedEvent as Portable>⟧ place
-            (⟦<Event as Archive>⟧.flat (EventBatch a0.now) resolver) result }
-    {
-        let EventResolver::Batch(kept) = resolver else {
-            unreachable!();
-        };
-        let Place { bytes, pos, .. } = place;
-        resolve_case_1::<Vec<u32>, ArchivedEvent>(4, a0, kept, Place::new(pos, bytes))
-    }
-
-    // Writes what `Batch` owns.
-    fn serialize_variant_4<S: Writer + ResolverAlloc>(
-        a0: &Vec<u32>,
-        serializer: &mut S,
-    ) -> Result<EventResolver, Error>
-        ensures { Serializes ⟦<Event as Archive>⟧ ⟦<ArchivedEvent as Portable>⟧ (EventBatch a0.now)
-            S.Keys serializer result }
-    {
-        match serialize_case_1::<Vec<u32>, ArchivedEvent, S>(4, a0, serializer) {
-            Ok(kept) => Ok(EventResolver::Batch(kept)),
-            Err(error) => Err(error),
-        }
-    }
-
-    // Reads `Batch` back.
-    fn read_variant_4<D: Entries>(
-        alloc: Global,
-        part: RawView<'_>,
-        deserializer: &mut D,
-    ) -> Result<Event, Error>
-        requires viewed { IsPartOf ⟦<ArchivedEvent as ArchivePointee>⟧ part }
-        requires tag { part_tag part ≡ 4 }
-        ensures { ReadsAs ⟦<ArchivedEvent as ArchivePointee>⟧ part D.Entries deserializer
-            ⟦<Event as Archive>⟧ result }
-    {
-        match read_case::<Self, EventBatchParts, EventBatchOwned, D>(4, alloc, part, deserializer) {
-            Ok((a0, ())) => Ok(Event::Batch(a0)),
-            Err(error) => Err(error),
-        }
-    }
-}
-
 impl Archive for Event {
     ghost use Rattle.derived_types.specs.declared.event.Event.TheVariants.{Batch as EventBatch, Key as EventKey, Move as EventMove, Quit as EventQuit, Text as EventText};
     ghost use Rattle.derived_types.specs.declared.event.EventResolver.TheVariants.{Batch as EventBatchKept, Key as EventKeyKept, Move as EventMoveKept, Quit as EventQuitKept, Text as EventTextKept};
@@ -691,31 +456,31 @@ impl Archive for Event {
     {
         let Place { bytes, pos, .. } = place;
         match self {
-            Event::Quit => {
-                drop(resolver);
-                resolve_case_0::<ArchivedEvent>(0, (), Place::new(pos, bytes))
+            Event::Quit => resolve_case_0::<ArchivedEvent>(0, (), Place::new(pos, bytes)),
+            Event::Key(a0) => {
+                let EventResolver::Key(kept) = resolver else {
+                    unreachable!();
+                };
+                resolve_case_1::<char, ArchivedEvent>(1, a0, kept, Place::new(pos, bytes))
             }
-            Event::Key(a0) => ArchivedEvent::resolve_variant_1(
-                a0,
-                resolver,
-                Place::new(pos, bytes),
-            ),
-            Event::Text(a0) => ArchivedEvent::resolve_variant_2(
-                a0,
-                resolver,
-                Place::new(pos, bytes),
-            ),
-            Event::Move { x: a0, y: a1 } => ArchivedEvent::resolve_variant_3(
-                a0,
-                a1,
-                resolver,
-                Place::new(pos, bytes),
-            ),
-            Event::Batch(a0) => ArchivedEvent::resolve_variant_4(
-                a0,
-                resolver,
-                Place::new(pos, bytes),
-            ),
+            Event::Text(a0) => {
+                let EventResolver::Text(kept) = resolver else {
+                    unreachable!();
+                };
+                resolve_case_1::<String, ArchivedEvent>(2, a0, kept, Place::new(pos, bytes))
+            }
+            Event::Move { x: a0, y: a1 } => {
+                let EventResolver::Move(kept) = resolver else {
+                    unreachable!();
+                };
+                resolve_case_2::<i32, i32, ArchivedEvent>(3, a0, a1, kept, Place::new(pos, bytes))
+            }
+            Event::Batch(a0) => {
+                let EventResolver::Batch(kept) = resolver else {
+                    unreachable!();
+                };
+                resolve_case_1::<Vec<u32>, ArchivedEvent>(4, a0, kept, Place::new(pos, bytes))
+            }
         }
     }
 
@@ -738,11 +503,32 @@ impl<S: Writer + ResolverAlloc> Serialize<S> for Event {
     #[inline(always)]
     fn serialize(&self, serializer: &mut S) -> Result<Self::Resolver, Error> {
         match self {
-            Event::Quit => ArchivedEvent::serialize_variant_0(serializer),
-            Event::Key(a0) => ArchivedEvent::serialize_variant_1(a0, serializer),
-            Event::Text(a0) => ArchivedEvent::serialize_variant_2(a0, serializer),
-            Event::Move { x: a0, y: a1 } => ArchivedEvent::serialize_variant_3(a0, a1, serializer),
-            Event::Batch(a0) => ArchivedEvent::serialize_variant_4(a0, serializer),
+            Event::Quit => match serialize_case_0::<ArchivedEvent, S>(0, serializer) {
+                Ok(()) => Ok(EventResolver::Quit),
+                Err(error) => Err(error),
+            },
+            Event::Key(a0) => match serialize_case_1::<char, ArchivedEvent, S>(1, a0, serializer) {
+                Ok(kept) => Ok(EventResolver::Key(kept)),
+                Err(error) => Err(error),
+            },
+            Event::Text(a0) => match serialize_case_1::<String, ArchivedEvent, S>(
+                2, a0, serializer,
+            ) {
+                Ok(kept) => Ok(EventResolver::Text(kept)),
+                Err(error) => Err(error),
+            },
+            Event::Move { x: a0, y: a1 } => match serialize_case_2::<i32, i32, ArchivedEvent, S>(
+                3, a0, a1, serializer,
+            ) {
+                Ok(kept) => Ok(EventResolver::Move(kept)),
+                Err(error) => Err(error),
+            },
+            Event::Batch(a0) => match serialize_case_1::<Vec<u32>, ArchivedEvent, S>(
+                4, a0, serializer,
+            ) {
+                Ok(kept) => Ok(EventResolver::Batch(kept)),
+                Err(error) => Err(error),
+            },
         }
     }
 }
@@ -796,11 +582,46 @@ impl<D: Entries> Deserialize<Event, D> for ArchivedEvent {
             ⟦<Event as Archive>⟧ result }
     {
         match known_tag::<Self>(part) {
-            0 => ArchivedEvent::read_variant_0(alloc, part, deserializer),
-            1 => ArchivedEvent::read_variant_1(alloc, part, deserializer),
-            2 => ArchivedEvent::read_variant_2(alloc, part, deserializer),
-            3 => ArchivedEvent::read_variant_3(alloc, part, deserializer),
-            _ => ArchivedEvent::read_variant_4(alloc, part, deserializer),
+            0 => match read_case::<Self, (), (), D>(0, alloc, part, deserializer) {
+                Ok(()) => Ok(Event::Quit),
+                Err(error) => Err(error),
+            },
+            1 => match read_case::<Self, EventKeyParts, EventKeyOwned, D>(
+                1,
+                alloc,
+                part,
+                deserializer,
+            ) {
+                Ok((a0, ())) => Ok(Event::Key(a0)),
+                Err(error) => Err(error),
+            },
+            2 => match read_case::<Self, EventTextParts, EventTextOwned, D>(
+                2,
+                alloc,
+                part,
+                deserializer,
+            ) {
+                Ok((a0, ())) => Ok(Event::Text(a0)),
+                Err(error) => Err(error),
+            },
+            3 => match read_case::<Self, EventMoveParts, EventMoveOwned, D>(
+                3,
+                alloc,
+                part,
+                deserializer,
+            ) {
+                Ok((a0, (a1, ()))) => Ok(Event::Move { x: a0, y: a1 }),
+                Err(error) => Err(error),
+            },
+            _ => match read_case::<Self, EventBatchParts, EventBatchOwned, D>(
+                4,
+                alloc,
+                part,
+                deserializer,
+            ) {
+                Ok((a0, ())) => Ok(Event::Batch(a0)),
+                Err(error) => Err(error),
+            },
         }
     }
 }
