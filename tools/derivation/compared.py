@@ -1,19 +1,19 @@
 """Views that are compared and hashed: the impl of `Ordered`, with its laws from those of the fields.
 
-It is written only if the declaration derives an order or a hash, since it adds to the time of the check. It calls one function over the nest of the
+It is written only if the declaration derives an order or a hash, since it adds to the time of the check. It calls one function over a nest of pairs of the
 fields. The laws are terms: with a bound on the nest (`where PointParts: ComparedFields`), callers would pass the impls of all fields in fields.
 """
 
 from .formats import ALIGNS, INTEGERS, snake
-from .layout import Generic, statement
-from .loads import Loads
+from .layout import Generic, Group, pair, statement
+from .loads import MOST_OF_VARIANTS, Loads
 from .units import types_in_turn
-from .variant_blocks import blocks_of
 
 # What a declaration derives whose views are compared.
 ASKING = {"Eq", "PartialOrd", "Ord", "Hash"}
-# Up to so many fields of a struct or of a variant.
+# Up to so many fields of a struct or of a variant, and so many variants: a run of those without fields is one.
 MOST = 8
+MOST_IN_NEST = 8
 # Types whose views are compared, and those that are where what they hold is. Other types of the library have no `PartialEq`, so nothing of them derives these.
 LEAVES = set(INTEGERS) | {"bool", "char", "usize", "isize", "String", "NonZero"}
 HOLDERS = {"Option", "Result", "Box", "Vec", "BTreeMap"}
@@ -35,7 +35,8 @@ def is_compared(declaration, known=None):
 def are_compared(declaration, known):
     """Whether all fields of a declaration that asks for it can be compared."""
     lists = [declaration.fields] + [variant.fields for variant in declaration.variants]
-    if declaration.variants and len(blocks_of(types_in_turn(declaration))) > 1:
+    variants = types_in_turn(declaration)
+    if len(variants) > MOST_IN_NEST or Loads().of_variants(variants) > MOST_OF_VARIANTS:
         return False
     return all(len(fields) <= MOST and all(can_be(field.type, known) for field in fields) and in_pairs(fields) for fields in lists)
 
@@ -145,9 +146,12 @@ def record(source):
     if not is_compared(source.declaration):
         return ""
     laws = Terms(source.formats).record(source.types)
-    nest = f"⟦<{source.name}Parts as ComparedFields>⟧"
+    name, said = f"{source.name}Parts", ""
+    if source.by_fours:
+        name, said = in_pairs_of(source, pair(source.formats_of))
+    nest = f"⟦<{name} as ComparedFields>⟧"
     source.formats.use("archive_core::compared", "ComparedFields", "compare_record", "hash_record")
-    return ordered(source, laws, f"{nest}.order 0", f"{nest}.hash_input 0", "record", f"{source.name}Parts")
+    return said + ordered(source, laws, f"{nest}.order 0", f"{nest}.hash_input 0", "record", name)
 
 
 def choice(source):
@@ -155,10 +159,24 @@ def choice(source):
     if not is_compared(source.declaration):
         return ""
     laws = Terms(source.formats).choice(f'(codes "{source.archived}")', source.units)
-    nest = f"⟦<{source.name}Variants as ComparedCases>⟧"
+    name, said = f"{source.name}Variants", ""
+    if len(source.units.blocks) > 1 or any(case.by_fours for case in source.cases):
+        those = source.units.folded(
+            lambda count, others: Group("UnitVariants<", [str(count), others], ">"),
+            lambda case, others: Group("(", [pair(case.archived), others], ")", 60),
+            "()",
+        )
+        name, said = in_pairs_of(source, those)
+    nest = f"⟦<{name} as ComparedCases>⟧"
     source.formats.use("archive_core::compared", "ComparedCases", "compare_choice", "hash_choice")
     source.formats.ghost("ComparedCases", "choice_order", "choice_fed")
-    return ordered(source, laws, f"choice_order {nest}.order", f"choice_fed {nest}.hash_input", "choice", f"{source.name}Variants")
+    return said + ordered(source, laws, f"choice_order {nest}.order", f"choice_fed {nest}.hash_input", "choice", name)
+
+
+def in_pairs_of(source, those):
+    """A nest of pairs by which views are compared, and the lines that declare it."""
+    name = f"{source.name}Compared"
+    return name, f"// As views are compared.\n{statement(0, f'type {name} = ', those, ';')}\n"
 
 
 def ordered(source, laws, order, fed, kind, nest):

@@ -270,8 +270,8 @@ class Loads:
         return max([self.written(types, self.go_by_fours(types))] + [self.of_reading(those, is_long(those)) for those in pieces])
 
     def go_by_fours(self, types):
-        """Whether the nest by which these fields are checked has four at once: where there are many, or in pairs it came to too much."""
-        return is_long(types) or len(types) >= LEAST_IN_FOURS and not self.are_read_at_once(types) and self.parts(types) > MOST_OF_VARIANTS
+        """Whether the nest of these fields has four at once."""
+        return len(types) >= LEAST_IN_FOURS
 
     def of_variants(self, variants):
         """`PortableVariants`, of an enum with these fields in its variants: those without fields that are written together count as one."""

@@ -9,7 +9,7 @@ references. `serialize_case` and `resolve_case` ask for `Portable` of the enum: 
 `char: Eq` do not end, or are too many" at sixteen fields. By number, each field more adds a half to what the check takes: 21 seconds at nine, 30 at eleven.
 """
 
-from .layout import fours, implementation, literal, pair, statement
+from .layout import flat, fours, implementation, literal, pair, statement
 
 # Up to so many fields there are calls by their number.
 MOST_BY_NUMBER = 8
@@ -33,6 +33,14 @@ def places(count, by_fours):
     last = 4 * (count // 4)
     quads = [f"{'.rest' * (i // 4)}.{ORDINALS[i % 4]}" for i in range(last)]
     return quads + [f"{'.rest' * (last // 4)}{'.1' * i}.0" for i in range(count - last)]
+
+
+def pattern(names, by_fours):
+    """The pattern that names each of the values."""
+    if not by_fours or len(names) < 4:
+        return pair(names)
+    first = [f"{at}: {name}" for at, name in zip(ORDINALS, names)]
+    return literal("FourParts", first + [f"rest: {flat(pattern(names[4:], by_fours))}"])
 
 
 def inside(count, by_fours):

@@ -22,7 +22,7 @@ from .common import (
 from .formats import layout_of, snake
 from .layout import Generic, Group, flat, implementation, literal, pair, signature, statement
 from .loads import Loads
-from .long import as_parts, fields_of, is_long, nest
+from .long import as_parts, fields_of, is_long, nest, pattern
 from .made import WRITTEN, Made
 from .pieces import Pieces
 
@@ -227,7 +227,7 @@ def read(record):
     if is_made_apart(record):
         ok = f"            Ok(values) => Ok({snake(record.name)}_of(values)),\n"
     else:
-        ok = ok_arm(flat(pair(record.names)), record.built(), 12)
+        ok = ok_arm(flat(pattern(record.names, record.by_fours)), record.built(), 12)
     impl = deserialize(record, f"""{statement(8, "match ", call, " {")}{ok}            Err(error) => Err(error),
         }}
 """)

@@ -5,31 +5,30 @@ one block and one more: in a nest of all of them they grow with the square of ho
 tags, offsets and contracts are those of the variants one after another.
 """
 
-from . import part_laws
+from . import evidence, part_laws
 from .formats import ALIGNS
 from .layout import call, statement
 from .loads import MOST_OF_VARIANTS, Loads
 from .part_laws import bare
 
-# Up to so many variants are one nest: what the check takes for the impl of `Choice` doubles with each variant more, and of twelve it took minutes.
-MOST_IN_NEST = 8
 # The most that the variants of one block come to, where there are several, and how many there are.
 MOST_OF_BLOCK = 6_000
 MOST_IN_BLOCK = 4
+# What a block more costs, in lines of evidence.
+COST = 35_000
 
 
 def blocks_of(types):
-    """Where each block begins and ends among the variants, by the types of their fields: a run of variants without fields is one without. One block, if all are
-    taken at once."""
+    """Where each block begins and ends among the variants, by the types of their fields: a run of variants without fields is one without. Those blocks that
+    cost the least."""
     loads = Loads()
-    if loads.of_variants(types) <= MOST_OF_VARIANTS and len(types) <= MOST_IN_NEST:
+    if len(types) <= MOST_IN_BLOCK and loads.of_variants(types) <= MOST_OF_VARIANTS and evidence.variants(types) <= COST:
         return [(0, len(types))]
-    out, begin = [], 0
+    least = [(0, [])]
     for end in range(1, len(types) + 1):
-        if end == len(types) or end - begin == MOST_IN_BLOCK or loads.of_variants(types[begin : end + 1]) > MOST_OF_BLOCK:
-            out.append((begin, end))
-            begin = end
-    return out
+        begins = [begin for begin in range(max(0, end - MOST_IN_BLOCK), end) if begin == end - 1 or loads.of_variants(types[begin:end]) <= MOST_OF_BLOCK]
+        least.append(min((least[begin][0] + COST + evidence.variants(types[begin:end]), [*least[begin][1], (begin, end)]) for begin in begins))
+    return least[-1][1]
 
 
 def rest_of(choice, number):

@@ -21,7 +21,7 @@ from .common import (
 from .formats import layout_of, snake
 from .layout import Generic, Group, WIDTH, ended, flat, implementation, lay, literal, pair, signature, statement
 from .loads import Loads
-from .long import is_long, lent, nest
+from .long import is_long, lent, nest, pattern
 from .made import WRITTEN, Made
 from .pieces import Pieces, numbered
 from .units import Units
@@ -151,7 +151,7 @@ def enum(choice):
         if case.count:
             lines.append(statement(0, f"type {case.word}Parts = ", nest(case.archived, case.by_fours), ";"))
         if case.count and not case.pieces:
-            lines.append(statement(0, f"type {case.word}Owned = ", nest(case.read, case.is_long), ";"))
+            lines.append(statement(0, f"type {case.word}Owned = ", nest(case.read, case.by_fours), ";"))
     lines.append(statement(0, f"type {choice.name}Variants = ", choice.units.nest(), ";"))
     return f"""/// An archived `{choice.name}`: {choice.size} bytes at a multiple of {choice.align}.
 {choice.visibility}struct {choice.archived};
@@ -348,7 +348,7 @@ def read_values(case):
     """The names of what was read, and the variant that is made of it."""
     if case.is_made_apart:
         return "values", f"{made_of(case).name}(values)"
-    return flat(pair(case.names)), case.built()
+    return flat(pattern(case.names, case.by_fours)), case.built()
 
 
 def read(choice):
@@ -385,7 +385,7 @@ def made_of(case):
     """The function that makes a variant of the values of its fields, where they are many or read in pieces."""
     choice = case.choice
     name = f"{snake(choice.name)}_{snake(case.name)}_of"
-    return Made(choice.formats, case.types, case.is_long, name, choice.name, f"{case.word}Owned", f"case {case.tag}", f"{choice.name}::{case.name}", case.pieces)
+    return Made(choice.formats, case.types, case.by_fours, name, choice.name, f"{case.word}Owned", f"case {case.tag}", f"{choice.name}::{case.name}", case.pieces)
 
 
 def proofs(formats, declaration):

@@ -1,12 +1,10 @@
-//! An enum with two variants of nine fields.
+//! An enum with a variant of nine fields.
 
 /// What a depot tells.
 #[derive(Debug, PartialEq, Drop)]
 pub enum Depot {
     /// That it is free.
     Free,
-    /// What each place holds, and what is owed.
-    Held(u8, u8, u8, u8, u8, u8, u8, u8, i8),
     /// What was sent.
     Sent {
         /// Its number.
@@ -19,8 +17,8 @@ pub enum Depot {
         place: u8,
         /// The letter on it.
         letter: char,
-        /// How high it was.
-        height: u8,
+        /// How high it was, above the floor.
+        height: i8,
         /// How wide.
         width: u8,
         /// Whether it was open.
@@ -74,116 +72,17 @@ use std::alloc::Global;
 /// An archived `Depot`: 24 bytes at a multiple of 4.
 pub struct ArchivedDepot;
 
-type DepotHeldParts = FourParts<u8, u8, u8, u8, FourParts<u8, u8, u8, u8, (i8, ())>>;
-
-type DepotHeldOwned = FourParts<u8, u8, u8, u8, FourParts<u8, u8, u8, u8, (i8, ())>>;
-
 type DepotSentParts = FourParts<
     u8,
     u8,
     u8,
     u8,
-    FourParts<ArchivedChar, u8, u8, bool, (ArchivedString, ())>,
+    FourParts<ArchivedChar, i8, u8, bool, (ArchivedString, ())>,
 >;
 
-type DepotSentOwned = FourParts<u8, u8, u8, u8, FourParts<char, u8, u8, bool, (String, ())>>;
+type DepotSentOwned = FourParts<u8, u8, u8, u8, FourParts<char, i8, u8, bool, (String, ())>>;
 
-type DepotVariants = ((), (DepotHeldParts, (DepotSentParts, ())));
-
-// The fields of `Depot::Held`, lent.
-#[derive(Drop)]
-struct DepotHeldLent<'a> {
-    a0: &'a u8,
-    a1: &'a u8,
-    a2: &'a u8,
-    a3: &'a u8,
-    a4: &'a u8,
-    a5: &'a u8,
-    a6: &'a u8,
-    a7: &'a u8,
-    a8: &'a i8,
-}
-
-// The fields as sources.
-type DepotHeldFields = FourParts<
-    Field<0, u8>,
-    Field<1, u8>,
-    Field<2, u8>,
-    Field<3, u8>,
-    FourParts<Field<4, u8>, Field<5, u8>, Field<6, u8>, Field<7, u8>, (Field<8, i8>, ())>,
->;
-
-impl HasField<0, u8> for DepotHeldLent<'_> {
-    ghost field = { λ v. v.a0.now };
-
-    fn field(&self) -> &u8 {
-        self.a0
-    }
-}
-
-impl HasField<1, u8> for DepotHeldLent<'_> {
-    ghost field = { λ v. v.a1.now };
-
-    fn field(&self) -> &u8 {
-        self.a1
-    }
-}
-
-impl HasField<2, u8> for DepotHeldLent<'_> {
-    ghost field = { λ v. v.a2.now };
-
-    fn field(&self) -> &u8 {
-        self.a2
-    }
-}
-
-impl HasField<3, u8> for DepotHeldLent<'_> {
-    ghost field = { λ v. v.a3.now };
-
-    fn field(&self) -> &u8 {
-        self.a3
-    }
-}
-
-impl HasField<4, u8> for DepotHeldLent<'_> {
-    ghost field = { λ v. v.a4.now };
-
-    fn field(&self) -> &u8 {
-        self.a4
-    }
-}
-
-impl HasField<5, u8> for DepotHeldLent<'_> {
-    ghost field = { λ v. v.a5.now };
-
-    fn field(&self) -> &u8 {
-        self.a5
-    }
-}
-
-impl HasField<6, u8> for DepotHeldLent<'_> {
-    ghost field = { λ v. v.a6.now };
-
-    fn field(&self) -> &u8 {
-        self.a6
-    }
-}
-
-impl HasField<7, u8> for DepotHeldLent<'_> {
-    ghost field = { λ v. v.a7.now };
-
-    fn field(&self) -> &u8 {
-        self.a7
-    }
-}
-
-impl HasField<8, i8> for DepotHeldLent<'_> {
-    ghost field = { λ v. v.a8.now };
-
-    fn field(&self) -> &i8 {
-        self.a8
-    }
-}
+type DepotVariants = ((), (DepotSentParts, ()));
 
 // The fields of `Depot::Sent`, lent.
 #[derive(Drop)]
@@ -193,7 +92,7 @@ struct DepotSentLent<'a> {
     a2: &'a u8,
     a3: &'a u8,
     a4: &'a char,
-    a5: &'a u8,
+    a5: &'a i8,
     a6: &'a u8,
     a7: &'a bool,
     a8: &'a String,
@@ -205,7 +104,7 @@ type DepotSentFields = FourParts<
     Field<1, u8>,
     Field<2, u8>,
     Field<3, u8>,
-    FourParts<Field<4, char>, Field<5, u8>, Field<6, u8>, Field<7, bool>, (Field<8, String>, ())>,
+    FourParts<Field<4, char>, Field<5, i8>, Field<6, u8>, Field<7, bool>, (Field<8, String>, ())>,
 >;
 
 impl HasField<0, u8> for DepotSentLent<'_> {
@@ -248,10 +147,10 @@ impl HasField<4, char> for DepotSentLent<'_> {
     }
 }
 
-impl HasField<5, u8> for DepotSentLent<'_> {
+impl HasField<5, i8> for DepotSentLent<'_> {
     ghost field = { λ v. v.a5.now };
 
-    fn field(&self) -> &u8 {
+    fn field(&self) -> &i8 {
         self.a5
     }
 }
@@ -286,14 +185,10 @@ impl ArchivePointee for ArchivedDepot {
     ghost pointee = { one (choice (codes "ArchivedDepot")
         (variant no_part (variant (part ⟦<u8 as Portable>⟧.shape
         (part ⟦<u8 as Portable>⟧.shape (part ⟦<u8 as Portable>⟧.shape
-        (part ⟦<u8 as Portable>⟧.shape (part ⟦<u8 as Portable>⟧.shape
-        (part ⟦<u8 as Portable>⟧.shape (part ⟦<u8 as Portable>⟧.shape
-        (part ⟦<u8 as Portable>⟧.shape (part ⟦<i8 as Portable>⟧.shape no_part)))))))))
-        (variant (part ⟦<u8 as Portable>⟧.shape (part ⟦<u8 as Portable>⟧.shape
-        (part ⟦<u8 as Portable>⟧.shape (part ⟦<u8 as Portable>⟧.shape
-        (part ⟦<ArchivedChar as Portable>⟧.shape (part ⟦<u8 as Portable>⟧.shape
-        (part ⟦<u8 as Portable>⟧.shape (part ⟦<bool as Portable>⟧.shape
-        (part ⟦<ArchivedString as Portable>⟧.shape no_part))))))))) no_variant)))) };
+        (part ⟦<u8 as Portable>⟧.shape (part ⟦<ArchivedChar as Portable>⟧.shape
+        (part ⟦<i8 as Portable>⟧.shape (part ⟦<u8 as Portable>⟧.shape
+        (part ⟦<bool as Portable>⟧.shape (part ⟦<ArchivedString as Portable>⟧.shape no_part)))))))))
+        no_variant))) };
 
     ghost definitions = { no_definition };
 
@@ -308,14 +203,9 @@ impl Portable for ArchivedDepot {
     ghost shape = { choice (codes "ArchivedDepot") (variant no_part
         (variant (part ⟦<u8 as Portable>⟧.shape (part ⟦<u8 as Portable>⟧.shape
         (part ⟦<u8 as Portable>⟧.shape (part ⟦<u8 as Portable>⟧.shape
-        (part ⟦<u8 as Portable>⟧.shape (part ⟦<u8 as Portable>⟧.shape
-        (part ⟦<u8 as Portable>⟧.shape (part ⟦<u8 as Portable>⟧.shape
-        (part ⟦<i8 as Portable>⟧.shape no_part)))))))))
-        (variant (part ⟦<u8 as Portable>⟧.shape (part ⟦<u8 as Portable>⟧.shape
-        (part ⟦<u8 as Portable>⟧.shape (part ⟦<u8 as Portable>⟧.shape
-        (part ⟦<ArchivedChar as Portable>⟧.shape (part ⟦<u8 as Portable>⟧.shape
+        (part ⟦<ArchivedChar as Portable>⟧.shape (part ⟦<i8 as Portable>⟧.shape
         (part ⟦<u8 as Portable>⟧.shape (part ⟦<bool as Portable>⟧.shape
-        (part ⟦<ArchivedString as Portable>⟧.shape no_part))))))))) no_variant))) };
+        (part ⟦<ArchivedString as Portable>⟧.shape no_part))))))))) no_variant)) };
 
     ghost layout = { record { size = 24; align = 4 } };
 
@@ -330,14 +220,10 @@ impl Portable for ArchivedDepot {
     ghost no_others = { no_definition_reached (choice (codes "ArchivedDepot")
         (variant no_part (variant (part ⟦<u8 as Portable>⟧.shape
         (part ⟦<u8 as Portable>⟧.shape (part ⟦<u8 as Portable>⟧.shape
-        (part ⟦<u8 as Portable>⟧.shape (part ⟦<u8 as Portable>⟧.shape
-        (part ⟦<u8 as Portable>⟧.shape (part ⟦<u8 as Portable>⟧.shape
-        (part ⟦<u8 as Portable>⟧.shape (part ⟦<i8 as Portable>⟧.shape no_part)))))))))
-        (variant (part ⟦<u8 as Portable>⟧.shape (part ⟦<u8 as Portable>⟧.shape
-        (part ⟦<u8 as Portable>⟧.shape (part ⟦<u8 as Portable>⟧.shape
-        (part ⟦<ArchivedChar as Portable>⟧.shape (part ⟦<u8 as Portable>⟧.shape
-        (part ⟦<u8 as Portable>⟧.shape (part ⟦<bool as Portable>⟧.shape
-        (part ⟦<ArchivedString as Portable>⟧.shape no_part))))))))) no_variant)))) };
+        (part ⟦<u8 as Portable>⟧.shape (part ⟦<ArchivedChar as Portable>⟧.shape
+        (part ⟦<i8 as Portable>⟧.shape (part ⟦<u8 as Portable>⟧.shape
+        (part ⟦<bool as Portable>⟧.shape (part ⟦<ArchivedString as Portable>⟧.shape no_part)))))))))
+        no_variant))) };
 
     ghost checks = { λ _. plain_own_check _ _ _ _ _ refl refl refl refl };
 
@@ -362,23 +248,14 @@ impl SelfCheck for ArchivedDepot {
     ghost shape = { choice (codes "ArchivedDepot") (variant no_part
         (variant (part ⟦<u8 as Portable>⟧.shape (part ⟦<u8 as Portable>⟧.shape
         (part ⟦<u8 as Portable>⟧.shape (part ⟦<u8 as Portable>⟧.shape
-        (part ⟦<u8 as Portable>⟧.shape (part ⟦<u8 as Portable>⟧.shape
-        (part ⟦<u8 as Portable>⟧.shape (part ⟦<u8 as Portable>⟧.shape
-        (part ⟦<i8 as Portable>⟧.shape no_part)))))))))
-        (variant (part ⟦<u8 as Portable>⟧.shape (part ⟦<u8 as Portable>⟧.shape
-        (part ⟦<u8 as Portable>⟧.shape (part ⟦<u8 as Portable>⟧.shape
-        (part ⟦<ArchivedChar as Portable>⟧.shape (part ⟦<u8 as Portable>⟧.shape
+        (part ⟦<ArchivedChar as Portable>⟧.shape (part ⟦<i8 as Portable>⟧.shape
         (part ⟦<u8 as Portable>⟧.shape (part ⟦<bool as Portable>⟧.shape
-        (part ⟦<ArchivedString as Portable>⟧.shape no_part))))))))) no_variant))) };
+        (part ⟦<ArchivedString as Portable>⟧.shape no_part))))))))) no_variant)) };
 
     ghost definitions = { (both no_definition (both (both no_definition
         (both no_definition (both no_definition (both no_definition
         (both no_definition (both no_definition (both no_definition
-        (both no_definition (both no_definition no_definition)))))))))
-        (both (both no_definition (both no_definition (both no_definition
-        (both no_definition (both no_definition (both no_definition
-        (both no_definition (both no_definition (both no_definition no_definition)))))))))
-        no_definition))) };
+        (both no_definition (both no_definition no_definition))))))))) no_definition)) };
 
     ghost span = { 24 };
 
@@ -413,22 +290,13 @@ impl Choice for ArchivedDepot {
     ghost has_variants = { plain_choice (codes "ArchivedDepot")
         (variant no_part (variant (part ⟦<u8 as Portable>⟧.shape
         (part ⟦<u8 as Portable>⟧.shape (part ⟦<u8 as Portable>⟧.shape
-        (part ⟦<u8 as Portable>⟧.shape (part ⟦<u8 as Portable>⟧.shape
-        (part ⟦<u8 as Portable>⟧.shape (part ⟦<u8 as Portable>⟧.shape
-        (part ⟦<u8 as Portable>⟧.shape (part ⟦<i8 as Portable>⟧.shape no_part)))))))))
-        (variant (part ⟦<u8 as Portable>⟧.shape (part ⟦<u8 as Portable>⟧.shape
-        (part ⟦<u8 as Portable>⟧.shape (part ⟦<u8 as Portable>⟧.shape
-        (part ⟦<ArchivedChar as Portable>⟧.shape (part ⟦<u8 as Portable>⟧.shape
-        (part ⟦<u8 as Portable>⟧.shape (part ⟦<bool as Portable>⟧.shape
-        (part ⟦<ArchivedString as Portable>⟧.shape no_part))))))))) no_variant)))
-        (both no_definition (both (both no_definition (both no_definition
+        (part ⟦<u8 as Portable>⟧.shape (part ⟦<ArchivedChar as Portable>⟧.shape
+        (part ⟦<i8 as Portable>⟧.shape (part ⟦<u8 as Portable>⟧.shape
+        (part ⟦<bool as Portable>⟧.shape (part ⟦<ArchivedString as Portable>⟧.shape no_part)))))))))
+        no_variant)) (both no_definition (both (both no_definition
         (both no_definition (both no_definition (both no_definition
         (both no_definition (both no_definition (both no_definition
-        (both no_definition no_definition))))))))) (both
-        (both no_definition (both no_definition (both no_definition
-        (both no_definition (both no_definition (both no_definition
-        (both no_definition (both no_definition (both no_definition no_definition)))))))))
-        no_definition))) refl };
+        (both no_definition (both no_definition no_definition))))))))) no_definition)) refl };
 
     ghost holds = { lit≤ tt };
 }
@@ -438,31 +306,6 @@ impl Choice for ArchivedDepot {
 pub enum DepotResolver {
     /// Of `Free`.
     Free,
-    /// Of `Held`.
-    Held(
-        (
-            <u8 as Archive>::Resolver,
-            (
-                <u8 as Archive>::Resolver,
-                (
-                    <u8 as Archive>::Resolver,
-                    (
-                        <u8 as Archive>::Resolver,
-                        (
-                            <u8 as Archive>::Resolver,
-                            (
-                                <u8 as Archive>::Resolver,
-                                (
-                                    <u8 as Archive>::Resolver,
-                                    (<u8 as Archive>::Resolver, (<i8 as Archive>::Resolver, ())),
-                                ),
-                            ),
-                        ),
-                    ),
-                ),
-            ),
-        ),
-    ),
     /// Of `Sent`.
     Sent(
         (
@@ -476,7 +319,7 @@ pub enum DepotResolver {
                         (
                             <char as Archive>::Resolver,
                             (
-                                <u8 as Archive>::Resolver,
+                                <i8 as Archive>::Resolver,
                                 (
                                     <u8 as Archive>::Resolver,
                                     (
@@ -494,8 +337,8 @@ pub enum DepotResolver {
 }
 
 impl Archive for Depot {
-    ghost use Rattle.derived_blocks.specs.declared.depot.Depot.TheVariants.{Free as DepotFree, Held as DepotHeld, Sent as DepotSent};
-    ghost use Rattle.derived_blocks.specs.declared.depot.DepotResolver.TheVariants.{Free as DepotFreeKept, Held as DepotHeldKept, Sent as DepotSentKept};
+    ghost use Rattle.derived_blocks.specs.declared.depot.Depot.TheVariants.{Free as DepotFree, Sent as DepotSent};
+    ghost use Rattle.derived_blocks.specs.declared.depot.DepotResolver.TheVariants.{Free as DepotFreeKept, Sent as DepotSentKept};
 
     type Archived = ArchivedDepot;
 
@@ -503,76 +346,45 @@ impl Archive for Depot {
 
     ghost meaning = { elim [
       | DepotFree ↦ case 0 no_value
-      | DepotHeld a0 a1 a2 a3 a4 a5 a6 a7 a8 ↦ case 1 (value (⟦<u8 as Archive>⟧.meaning a0)
-          (value (⟦<u8 as Archive>⟧.meaning a1) (value (⟦<u8 as Archive>⟧.meaning a2)
-          (value (⟦<u8 as Archive>⟧.meaning a3) (value (⟦<u8 as Archive>⟧.meaning a4)
-          (value (⟦<u8 as Archive>⟧.meaning a5) (value (⟦<u8 as Archive>⟧.meaning a6)
-          (value (⟦<u8 as Archive>⟧.meaning a7) (value (⟦<i8 as Archive>⟧.meaning a8)
-          no_value)))))))))
-      | DepotSent a0 a1 a2 a3 a4 a5 a6 a7 a8 ↦ case 2 (value (⟦<u8 as Archive>⟧.meaning a0)
+      | DepotSent a0 a1 a2 a3 a4 a5 a6 a7 a8 ↦ case 1 (value (⟦<u8 as Archive>⟧.meaning a0)
           (value (⟦<u8 as Archive>⟧.meaning a1) (value (⟦<u8 as Archive>⟧.meaning a2)
           (value (⟦<u8 as Archive>⟧.meaning a3) (value (⟦<char as Archive>⟧.meaning a4)
-          (value (⟦<u8 as Archive>⟧.meaning a5) (value (⟦<u8 as Archive>⟧.meaning a6)
+          (value (⟦<i8 as Archive>⟧.meaning a5) (value (⟦<u8 as Archive>⟧.meaning a6)
           (value (⟦<bool as Archive>⟧.meaning a7) (value (⟦<String as Archive>⟧.meaning a8)
           no_value)))))))))
     ] };
 
     ghost flat = { λ v r. elim v [
       | DepotFree ↦ case 0 no_value
-      | DepotHeld a0 a1 a2 a3 a4 a5 a6 a7 a8 ↦ elim r [
-        | DepotHeldKept s ↦ case 1 (value (⟦<u8 as Archive>⟧.flat a0 s.0)
-            (value (⟦<u8 as Archive>⟧.flat a1 s.1.0) (value (⟦<u8 as Archive>⟧.flat a2 s.1.1.0)
-            (value (⟦<u8 as Archive>⟧.flat a3 s.1.1.1.0) (value
-            (⟦<u8 as Archive>⟧.flat a4 s.1.1.1.1.0) (value (⟦<u8 as Archive>⟧.flat a5 s.1.1.1.1.1.0)
-            (value (⟦<u8 as Archive>⟧.flat a6 s.1.1.1.1.1.1.0)
-            (value (⟦<u8 as Archive>⟧.flat a7 s.1.1.1.1.1.1.1.0)
-            (value (⟦<i8 as Archive>⟧.flat a8 s.1.1.1.1.1.1.1.1.0) no_value)))))))))
-        | _ ↦ case 1 no_value
-      ]
       | DepotSent a0 a1 a2 a3 a4 a5 a6 a7 a8 ↦ elim r [
-        | DepotSentKept s ↦ case 2 (value (⟦<u8 as Archive>⟧.flat a0 s.0)
+        | DepotSentKept s ↦ case 1 (value (⟦<u8 as Archive>⟧.flat a0 s.0)
             (value (⟦<u8 as Archive>⟧.flat a1 s.1.0) (value (⟦<u8 as Archive>⟧.flat a2 s.1.1.0)
             (value (⟦<u8 as Archive>⟧.flat a3 s.1.1.1.0) (value
             (⟦<char as Archive>⟧.flat a4 s.1.1.1.1.0) (value
-            (⟦<u8 as Archive>⟧.flat a5 s.1.1.1.1.1.0) (value
+            (⟦<i8 as Archive>⟧.flat a5 s.1.1.1.1.1.0) (value
             (⟦<u8 as Archive>⟧.flat a6 s.1.1.1.1.1.1.0) (value
             (⟦<bool as Archive>⟧.flat a7 s.1.1.1.1.1.1.1.0)
             (value (⟦<String as Archive>⟧.flat a8 s.1.1.1.1.1.1.1.1.0) no_value)))))))))
-        | _ ↦ case 2 no_value
+        | _ ↦ case 1 no_value
       ]
     ] };
 
     ghost keys = { elim [
       | DepotFree ↦ []
-      | DepotHeld a0 a1 a2 a3 a4 a5 a6 a7 a8 ↦ ⟦<u8 as Archive>⟧.keys a0
-          ++ (⟦<u8 as Archive>⟧.keys a1 ++ (⟦<u8 as Archive>⟧.keys a2
-          ++ (⟦<u8 as Archive>⟧.keys a3 ++ (⟦<u8 as Archive>⟧.keys a4
-          ++ (⟦<u8 as Archive>⟧.keys a5 ++ (⟦<u8 as Archive>⟧.keys a6
-          ++ (⟦<u8 as Archive>⟧.keys a7 ++ (⟦<i8 as Archive>⟧.keys a8 ++ []))))))))
       | DepotSent a0 a1 a2 a3 a4 a5 a6 a7 a8 ↦ ⟦<u8 as Archive>⟧.keys a0
           ++ (⟦<u8 as Archive>⟧.keys a1 ++ (⟦<u8 as Archive>⟧.keys a2
           ++ (⟦<u8 as Archive>⟧.keys a3 ++ (⟦<char as Archive>⟧.keys a4
-          ++ (⟦<u8 as Archive>⟧.keys a5 ++ (⟦<u8 as Archive>⟧.keys a6
+          ++ (⟦<i8 as Archive>⟧.keys a5 ++ (⟦<u8 as Archive>⟧.keys a6
           ++ (⟦<bool as Archive>⟧.keys a7 ++ (⟦<String as Archive>⟧.keys a8 ++ []))))))))
     ] };
 
     ghost belongs = { λ v r. elim v [
       | DepotFree ↦ elim r [ DepotFreeKept ↦ Unit {0} | _ ↦ ⊥ ]
-      | DepotHeld a0 a1 a2 a3 a4 a5 a6 a7 a8 ↦ elim r [
-        | DepotHeldKept s ↦ ⟦<u8 as Archive>⟧.belongs a0 s.0
-            × (⟦<u8 as Archive>⟧.belongs a1 s.1.0 × (⟦<u8 as Archive>⟧.belongs a2 s.1.1.0
-            × (⟦<u8 as Archive>⟧.belongs a3 s.1.1.1.0 × (⟦<u8 as Archive>⟧.belongs a4 s.1.1.1.1.0
-            × (⟦<u8 as Archive>⟧.belongs a5 s.1.1.1.1.1.0
-            × (⟦<u8 as Archive>⟧.belongs a6 s.1.1.1.1.1.1.0
-            × (⟦<u8 as Archive>⟧.belongs a7 s.1.1.1.1.1.1.1.0
-            × (⟦<i8 as Archive>⟧.belongs a8 s.1.1.1.1.1.1.1.1.0 × Unit {0}))))))))
-        | _ ↦ ⊥
-      ]
       | DepotSent a0 a1 a2 a3 a4 a5 a6 a7 a8 ↦ elim r [
         | DepotSentKept s ↦ ⟦<u8 as Archive>⟧.belongs a0 s.0
             × (⟦<u8 as Archive>⟧.belongs a1 s.1.0 × (⟦<u8 as Archive>⟧.belongs a2 s.1.1.0
             × (⟦<u8 as Archive>⟧.belongs a3 s.1.1.1.0 × (⟦<char as Archive>⟧.belongs a4 s.1.1.1.1.0
-            × (⟦<u8 as Archive>⟧.belongs a5 s.1.1.1.1.1.0
+            × (⟦<i8 as Archive>⟧.belongs a5 s.1.1.1.1.1.0
             × (⟦<u8 as Archive>⟧.belongs a6 s.1.1.1.1.1.1.0
             × (⟦<bool as Archive>⟧.belongs a7 s.1.1.1.1.1.1.1.0
             × (⟦<String as Archive>⟧.belongs a8 s.1.1.1.1.1.1.1.1.0 × Unit {0}))))))))
@@ -584,13 +396,7 @@ impl Archive for Depot {
 
     ghost keyed = { elim [
       | DepotFree ↦ case_keyed _ 0 _ nothing_keyed
-      | DepotHeld a0 a1 a2 a3 a4 a5 a6 a7 a8 ↦ case_keyed _ 1 _
-          (part_keyed (number_keyed _) (part_keyed (number_keyed _)
-          (part_keyed (number_keyed _) (part_keyed (number_keyed _)
-          (part_keyed (number_keyed _) (part_keyed (number_keyed _)
-          (part_keyed (number_keyed _) (part_keyed (number_keyed _)
-          (part_keyed (number_keyed _) nothing_keyed)))))))))
-      | DepotSent a0 a1 a2 a3 a4 a5 a6 a7 a8 ↦ case_keyed _ 2 _
+      | DepotSent a0 a1 a2 a3 a4 a5 a6 a7 a8 ↦ case_keyed _ 1 _
           (part_keyed (number_keyed _) (part_keyed (number_keyed _)
           (part_keyed (number_keyed _) (part_keyed (number_keyed _)
           (part_keyed (number_keyed _) (part_keyed (number_keyed _)
@@ -600,38 +406,10 @@ impl Archive for Depot {
 
     ghost planned = { elim [
       | DepotFree ↦ plain_variant_planned _ _ 0 no_part refl no_definition _ _ no_part_planned refl
-      | DepotHeld a0 a1 a2 a3 a4 a5 a6 a7 a8 ↦ plain_variant_planned _ _ 1
+      | DepotSent a0 a1 a2 a3 a4 a5 a6 a7 a8 ↦ plain_variant_planned _ _ 1
           (part ⟦<u8 as Portable>⟧.shape (part ⟦<u8 as Portable>⟧.shape
           (part ⟦<u8 as Portable>⟧.shape (part ⟦<u8 as Portable>⟧.shape
-          (part ⟦<u8 as Portable>⟧.shape (part ⟦<u8 as Portable>⟧.shape
-          (part ⟦<u8 as Portable>⟧.shape (part ⟦<u8 as Portable>⟧.shape
-          (part ⟦<i8 as Portable>⟧.shape no_part))))))))) refl
-          (both no_definition (both no_definition (both no_definition
-          (both no_definition (both no_definition (both no_definition
-          (both no_definition (both no_definition (both no_definition no_definition))))))))) _ _
-          (part_planned no_definition ⟦<u8 as Portable>⟧.shape (⟦<u8 as Archive>⟧.keys a0)
-          (⟦<u8 as Archive>⟧.meaning a0) (leaf_planned no_definition _ _ [] _ refl)
-          (part_planned no_definition ⟦<u8 as Portable>⟧.shape (⟦<u8 as Archive>⟧.keys a1)
-          (⟦<u8 as Archive>⟧.meaning a1) (leaf_planned no_definition _ _ [] _ refl)
-          (part_planned no_definition ⟦<u8 as Portable>⟧.shape (⟦<u8 as Archive>⟧.keys a2)
-          (⟦<u8 as Archive>⟧.meaning a2) (leaf_planned no_definition _ _ [] _ refl)
-          (part_planned no_definition ⟦<u8 as Portable>⟧.shape (⟦<u8 as Archive>⟧.keys a3)
-          (⟦<u8 as Archive>⟧.meaning a3) (leaf_planned no_definition _ _ [] _ refl)
-          (part_planned no_definition ⟦<u8 as Portable>⟧.shape (⟦<u8 as Archive>⟧.keys a4)
-          (⟦<u8 as Archive>⟧.meaning a4) (leaf_planned no_definition _ _ [] _ refl)
-          (part_planned no_definition ⟦<u8 as Portable>⟧.shape (⟦<u8 as Archive>⟧.keys a5)
-          (⟦<u8 as Archive>⟧.meaning a5) (leaf_planned no_definition _ _ [] _ refl)
-          (part_planned no_definition ⟦<u8 as Portable>⟧.shape (⟦<u8 as Archive>⟧.keys a6)
-          (⟦<u8 as Archive>⟧.meaning a6) (leaf_planned no_definition _ _ [] _ refl)
-          (part_planned no_definition ⟦<u8 as Portable>⟧.shape (⟦<u8 as Archive>⟧.keys a7)
-          (⟦<u8 as Archive>⟧.meaning a7) (leaf_planned no_definition _ _ [] _ refl)
-          (part_planned no_definition ⟦<i8 as Portable>⟧.shape (⟦<i8 as Archive>⟧.keys a8)
-          (⟦<i8 as Archive>⟧.meaning a8) (leaf_planned no_definition _ _ [] _ refl)
-          no_part_planned))))))))) refl
-      | DepotSent a0 a1 a2 a3 a4 a5 a6 a7 a8 ↦ plain_variant_planned _ _ 2
-          (part ⟦<u8 as Portable>⟧.shape (part ⟦<u8 as Portable>⟧.shape
-          (part ⟦<u8 as Portable>⟧.shape (part ⟦<u8 as Portable>⟧.shape
-          (part ⟦<ArchivedChar as Portable>⟧.shape (part ⟦<u8 as Portable>⟧.shape
+          (part ⟦<ArchivedChar as Portable>⟧.shape (part ⟦<i8 as Portable>⟧.shape
           (part ⟦<u8 as Portable>⟧.shape (part ⟦<bool as Portable>⟧.shape
           (part ⟦<ArchivedString as Portable>⟧.shape no_part))))))))) refl
           (both no_definition (both no_definition (both no_definition
@@ -648,7 +426,7 @@ impl Archive for Depot {
           (part_planned no_definition ⟦<ArchivedChar as Portable>⟧.shape
           (⟦<char as Archive>⟧.keys a4) (⟦<char as Archive>⟧.meaning a4)
           (leaf_planned no_definition _ _ [] _ refl) (part_planned no_definition
-          ⟦<u8 as Portable>⟧.shape (⟦<u8 as Archive>⟧.keys a5) (⟦<u8 as Archive>⟧.meaning a5)
+          ⟦<i8 as Portable>⟧.shape (⟦<i8 as Archive>⟧.keys a5) (⟦<i8 as Archive>⟧.meaning a5)
           (leaf_planned no_definition _ _ [] _ refl) (part_planned no_definition
           ⟦<u8 as Portable>⟧.shape (⟦<u8 as Archive>⟧.keys a6) (⟦<u8 as Archive>⟧.meaning a6)
           (leaf_planned no_definition _ _ [] _ refl) (part_planned no_definition
@@ -673,28 +451,6 @@ impl Archive for Depot {
         let Place { bytes, pos, .. } = place;
         match self {
             Depot::Free => resolve_case_0::<ArchivedDepot>(0, (), Place::new(pos, bytes)),
-            Depot::Held(a0, a1, a2, a3, a4, a5, a6, a7, a8) => {
-                let DepotResolver::Held(kept) = resolver else {
-                    unreachable!();
-                };
-                let lent = DepotHeldLent {
-                    a0,
-                    a1,
-                    a2,
-                    a3,
-                    a4,
-                    a5,
-                    a6,
-                    a7,
-                    a8,
-                };
-                resolve_case::<DepotHeldLent<'_>, DepotHeldFields, ArchivedDepot>(
-                    1,
-                    &lent,
-                    kept,
-                    Place::new(pos, bytes),
-                )
-            }
             Depot::Sent {
                 number: a0,
                 row: a1,
@@ -721,7 +477,7 @@ impl Archive for Depot {
                     a8,
                 };
                 resolve_case::<DepotSentLent<'_>, DepotSentFields, ArchivedDepot>(
-                    2,
+                    1,
                     &lent,
                     kept,
                     Place::new(pos, bytes),
@@ -753,25 +509,6 @@ impl<S: Writer + ResolverAlloc> Serialize<S> for Depot {
                 Ok(()) => Ok(DepotResolver::Free),
                 Err(error) => Err(error),
             },
-            Depot::Held(a0, a1, a2, a3, a4, a5, a6, a7, a8) => {
-                let lent = DepotHeldLent {
-                    a0,
-                    a1,
-                    a2,
-                    a3,
-                    a4,
-                    a5,
-                    a6,
-                    a7,
-                    a8,
-                };
-                match serialize_case::<DepotHeldLent<'_>, DepotHeldFields, ArchivedDepot, S>(
-                    1, &lent, serializer,
-                ) {
-                    Ok(kept) => Ok(DepotResolver::Held(kept)),
-                    Err(error) => Err(error),
-                }
-            }
             Depot::Sent {
                 number: a0,
                 row: a1,
@@ -795,7 +532,7 @@ impl<S: Writer + ResolverAlloc> Serialize<S> for Depot {
                     a8,
                 };
                 match serialize_case::<DepotSentLent<'_>, DepotSentFields, ArchivedDepot, S>(
-                    2, &lent, serializer,
+                    1, &lent, serializer,
                 ) {
                     Ok(kept) => Ok(DepotResolver::Sent(kept)),
                     Err(error) => Err(error),
@@ -824,15 +561,11 @@ impl ArchiveUnsized for Depot {
     ghost planned = { λ v. one_planned no_definition (choice (codes "ArchivedDepot")
         (variant no_part (variant (part ⟦<u8 as Portable>⟧.shape
         (part ⟦<u8 as Portable>⟧.shape (part ⟦<u8 as Portable>⟧.shape
-        (part ⟦<u8 as Portable>⟧.shape (part ⟦<u8 as Portable>⟧.shape
-        (part ⟦<u8 as Portable>⟧.shape (part ⟦<u8 as Portable>⟧.shape
-        (part ⟦<u8 as Portable>⟧.shape (part ⟦<i8 as Portable>⟧.shape no_part)))))))))
-        (variant (part ⟦<u8 as Portable>⟧.shape (part ⟦<u8 as Portable>⟧.shape
-        (part ⟦<u8 as Portable>⟧.shape (part ⟦<u8 as Portable>⟧.shape
-        (part ⟦<ArchivedChar as Portable>⟧.shape (part ⟦<u8 as Portable>⟧.shape
-        (part ⟦<u8 as Portable>⟧.shape (part ⟦<bool as Portable>⟧.shape
-        (part ⟦<ArchivedString as Portable>⟧.shape no_part))))))))) no_variant))))
-        (⟦<Depot as Archive>⟧.keys v) (⟦<Depot as Archive>⟧.meaning v) (planned_of_depot v) };
+        (part ⟦<u8 as Portable>⟧.shape (part ⟦<ArchivedChar as Portable>⟧.shape
+        (part ⟦<i8 as Portable>⟧.shape (part ⟦<u8 as Portable>⟧.shape
+        (part ⟦<bool as Portable>⟧.shape (part ⟦<ArchivedString as Portable>⟧.shape no_part)))))))))
+        no_variant))) (⟦<Depot as Archive>⟧.keys v) (⟦<Depot as Archive>⟧.meaning v)
+        (planned_of_depot v) };
 
     #[inline(always)]
     fn archived_metadata(&self) -> Result<(), Error> {
@@ -847,59 +580,22 @@ impl<S: Writer + ResolverAlloc> SerializeUnsized<S> for Depot {
     }
 }
 
-// The `Depot::Held` of these values, one after another.
-fn depot_held_of(values: DepotHeldOwned) -> Depot
+// The `Depot::Sent` of these values, one after another.
+fn depot_sent_of(values: DepotSentOwned) -> Depot
     ensures meaning { ⟦<Depot as Archive>⟧.meaning result
         ≡ case 1 (value (⟦<u8 as Archive>⟧.meaning values.first)
         (value (⟦<u8 as Archive>⟧.meaning values.second)
         (value (⟦<u8 as Archive>⟧.meaning values.third)
         (value (⟦<u8 as Archive>⟧.meaning values.fourth)
-        (value (⟦<u8 as Archive>⟧.meaning values.rest.first)
-        (value (⟦<u8 as Archive>⟧.meaning values.rest.second)
-        (value (⟦<u8 as Archive>⟧.meaning values.rest.third)
-        (value (⟦<u8 as Archive>⟧.meaning values.rest.fourth)
-        (value (⟦<i8 as Archive>⟧.meaning values.rest.rest.0) no_value))))))))) }
-    ensures keys { ⟦<Depot as Archive>⟧.keys result ≡ ⟦<u8 as Archive>⟧.keys values.first
-        ++ (⟦<u8 as Archive>⟧.keys values.second ++ (⟦<u8 as Archive>⟧.keys values.third
-        ++ (⟦<u8 as Archive>⟧.keys values.fourth ++ (⟦<u8 as Archive>⟧.keys values.rest.first
-        ++ (⟦<u8 as Archive>⟧.keys values.rest.second ++ (⟦<u8 as Archive>⟧.keys values.rest.third
-        ++ (⟦<u8 as Archive>⟧.keys values.rest.fourth ++ (⟦<i8 as Archive>⟧.keys values.rest.rest.0
-        ++ [])))))))) }
-{
-    let FourParts {
-        first: a0,
-        second: a1,
-        third: a2,
-        fourth: a3,
-        rest,
-    } = values;
-    let FourParts {
-        first: a4,
-        second: a5,
-        third: a6,
-        fourth: a7,
-        rest,
-    } = rest;
-    let (a8, ()) = rest;
-    Depot::Held(a0, a1, a2, a3, a4, a5, a6, a7, a8)
-}
-
-// The `Depot::Sent` of these values, one after another.
-fn depot_sent_of(values: DepotSentOwned) -> Depot
-    ensures meaning { ⟦<Depot as Archive>⟧.meaning result
-        ≡ case 2 (value (⟦<u8 as Archive>⟧.meaning values.first)
-        (value (⟦<u8 as Archive>⟧.meaning values.second)
-        (value (⟦<u8 as Archive>⟧.meaning values.third)
-        (value (⟦<u8 as Archive>⟧.meaning values.fourth)
         (value (⟦<char as Archive>⟧.meaning values.rest.first)
-        (value (⟦<u8 as Archive>⟧.meaning values.rest.second)
+        (value (⟦<i8 as Archive>⟧.meaning values.rest.second)
         (value (⟦<u8 as Archive>⟧.meaning values.rest.third)
         (value (⟦<bool as Archive>⟧.meaning values.rest.fourth)
         (value (⟦<String as Archive>⟧.meaning values.rest.rest.0) no_value))))))))) }
     ensures keys { ⟦<Depot as Archive>⟧.keys result ≡ ⟦<u8 as Archive>⟧.keys values.first
         ++ (⟦<u8 as Archive>⟧.keys values.second ++ (⟦<u8 as Archive>⟧.keys values.third
         ++ (⟦<u8 as Archive>⟧.keys values.fourth ++ (⟦<char as Archive>⟧.keys values.rest.first
-        ++ (⟦<u8 as Archive>⟧.keys values.rest.second ++ (⟦<u8 as Archive>⟧.keys values.rest.third
+        ++ (⟦<i8 as Archive>⟧.keys values.rest.second ++ (⟦<u8 as Archive>⟧.keys values.rest.third
         ++ (⟦<bool as Archive>⟧.keys values.rest.fourth
         ++ (⟦<String as Archive>⟧.keys values.rest.rest.0 ++ [])))))))) }
 {
@@ -947,17 +643,8 @@ impl<D: Entries> Deserialize<Depot, D> for ArchivedDepot {
                 Ok(()) => Ok(Depot::Free),
                 Err(error) => Err(error),
             },
-            1 => match read_case::<Self, DepotHeldParts, DepotHeldOwned, D>(
-                1,
-                alloc,
-                part,
-                deserializer,
-            ) {
-                Ok(values) => Ok(depot_held_of(values)),
-                Err(error) => Err(error),
-            },
             _ => match read_case::<Self, DepotSentParts, DepotSentOwned, D>(
-                2,
+                1,
                 alloc,
                 part,
                 deserializer,
@@ -974,18 +661,6 @@ impl<D: Entries> Deserialize<Depot, D> for ArchivedDepot {
 pub enum ViewOfDepot<'a> {
     /// That it is free.
     Free,
-    /// What each place holds, and what is owed.
-    Held(
-        Ref<'a, u8>,
-        Ref<'a, u8>,
-        Ref<'a, u8>,
-        Ref<'a, u8>,
-        Ref<'a, u8>,
-        Ref<'a, u8>,
-        Ref<'a, u8>,
-        Ref<'a, u8>,
-        Ref<'a, i8>,
-    ),
     /// What was sent.
     Sent {
         /// Its number.
@@ -998,8 +673,8 @@ pub enum ViewOfDepot<'a> {
         place: Ref<'a, u8>,
         /// The letter on it.
         letter: Ref<'a, ArchivedChar>,
-        /// How high it was.
-        height: Ref<'a, u8>,
+        /// How high it was, above the floor.
+        height: Ref<'a, i8>,
         /// How wide.
         width: Ref<'a, u8>,
         /// Whether it was open.
@@ -1016,31 +691,12 @@ pub trait DepotView<'a> {
 }
 
 impl<'a> DepotView<'a> for Ref<'a, ArchivedDepot> {
-    ghost use Rattle.derived_blocks.specs.declared.depot.ViewOfDepot.TheVariants.{Free as DepotFreeShown, Held as DepotHeldShown, Sent as DepotSentShown};
+    ghost use Rattle.derived_blocks.specs.declared.depot.ViewOfDepot.TheVariants.{Free as DepotFreeShown, Sent as DepotSentShown};
 
     fn variant(self) -> ViewOfDepot<'a>
         ensures shows { elim result [
           | DepotFreeShown ↦ (tag_of self.entry ≡ 0)
-          | DepotHeldShown a0 a1 a2 a3 a4 a5 a6 a7 a8 ↦ (tag_of self.entry ≡ 1)
-              × (a0.bytes.now ≡ self.entry.bytes.now) × (a0.pos ≡ self.entry.pos + 1) × (a0.len ≡ 0)
-              × ShowsValueOf a0 self.entry (payload_in 0) × (a1.bytes.now ≡ self.entry.bytes.now)
-              × (a1.pos ≡ self.entry.pos + 2) × (a1.len ≡ 0)
-              × ShowsValueOf a1 self.entry (payload_in 1) × (a2.bytes.now ≡ self.entry.bytes.now)
-              × (a2.pos ≡ self.entry.pos + 3) × (a2.len ≡ 0)
-              × ShowsValueOf a2 self.entry (payload_in 2) × (a3.bytes.now ≡ self.entry.bytes.now)
-              × (a3.pos ≡ self.entry.pos + 4) × (a3.len ≡ 0)
-              × ShowsValueOf a3 self.entry (payload_in 3) × (a4.bytes.now ≡ self.entry.bytes.now)
-              × (a4.pos ≡ self.entry.pos + 5) × (a4.len ≡ 0)
-              × ShowsValueOf a4 self.entry (payload_in 4) × (a5.bytes.now ≡ self.entry.bytes.now)
-              × (a5.pos ≡ self.entry.pos + 6) × (a5.len ≡ 0)
-              × ShowsValueOf a5 self.entry (payload_in 5) × (a6.bytes.now ≡ self.entry.bytes.now)
-              × (a6.pos ≡ self.entry.pos + 7) × (a6.len ≡ 0)
-              × ShowsValueOf a6 self.entry (payload_in 6) × (a7.bytes.now ≡ self.entry.bytes.now)
-              × (a7.pos ≡ self.entry.pos + 8) × (a7.len ≡ 0)
-              × ShowsValueOf a7 self.entry (payload_in 7) × (a8.bytes.now ≡ self.entry.bytes.now)
-              × (a8.pos ≡ self.entry.pos + 9) × (a8.len ≡ 0)
-              × ShowsValueOf a8 self.entry (payload_in 8)
-          | DepotSentShown a0 a1 a2 a3 a4 a5 a6 a7 a8 ↦ (tag_of self.entry ≡ 2)
+          | DepotSentShown a0 a1 a2 a3 a4 a5 a6 a7 a8 ↦ (tag_of self.entry ≡ 1)
               × (a0.bytes.now ≡ self.entry.bytes.now) × (a0.pos ≡ self.entry.pos + 1) × (a0.len ≡ 0)
               × ShowsValueOf a0 self.entry (payload_in 0) × (a1.bytes.now ≡ self.entry.bytes.now)
               × (a1.pos ≡ self.entry.pos + 2) × (a1.len ≡ 0)
@@ -1063,28 +719,16 @@ impl<'a> DepotView<'a> for Ref<'a, ArchivedDepot> {
     {
         match tag_in(self) {
             0 => ViewOfDepot::Free,
-            1 => {
-                let a0 = part_in_case::<ArchivedDepot, u8>(self, 1, 0, 1);
-                let a1 = part_in_case::<ArchivedDepot, u8>(self, 1, 1, 2);
-                let a2 = part_in_case::<ArchivedDepot, u8>(self, 1, 2, 3);
-                let a3 = part_in_case::<ArchivedDepot, u8>(self, 1, 3, 4);
-                let a4 = part_in_case::<ArchivedDepot, u8>(self, 1, 4, 5);
-                let a5 = part_in_case::<ArchivedDepot, u8>(self, 1, 5, 6);
-                let a6 = part_in_case::<ArchivedDepot, u8>(self, 1, 6, 7);
-                let a7 = part_in_case::<ArchivedDepot, u8>(self, 1, 7, 8);
-                let a8 = part_in_case::<ArchivedDepot, i8>(self, 1, 8, 9);
-                ViewOfDepot::Held(a0, a1, a2, a3, a4, a5, a6, a7, a8)
-            }
             _ => ViewOfDepot::Sent {
-                number: part_in_case::<ArchivedDepot, u8>(self, 2, 0, 1),
-                row: part_in_case::<ArchivedDepot, u8>(self, 2, 1, 2),
-                shelf: part_in_case::<ArchivedDepot, u8>(self, 2, 2, 3),
-                place: part_in_case::<ArchivedDepot, u8>(self, 2, 3, 4),
-                letter: part_in_case::<ArchivedDepot, ArchivedChar>(self, 2, 4, 8),
-                height: part_in_case::<ArchivedDepot, u8>(self, 2, 5, 12),
-                width: part_in_case::<ArchivedDepot, u8>(self, 2, 6, 13),
-                is_open: part_in_case::<ArchivedDepot, bool>(self, 2, 7, 14),
-                to: part_in_case::<ArchivedDepot, ArchivedString>(self, 2, 8, 16),
+                number: part_in_case::<ArchivedDepot, u8>(self, 1, 0, 1),
+                row: part_in_case::<ArchivedDepot, u8>(self, 1, 1, 2),
+                shelf: part_in_case::<ArchivedDepot, u8>(self, 1, 2, 3),
+                place: part_in_case::<ArchivedDepot, u8>(self, 1, 3, 4),
+                letter: part_in_case::<ArchivedDepot, ArchivedChar>(self, 1, 4, 8),
+                height: part_in_case::<ArchivedDepot, i8>(self, 1, 5, 12),
+                width: part_in_case::<ArchivedDepot, u8>(self, 1, 6, 13),
+                is_open: part_in_case::<ArchivedDepot, bool>(self, 1, 7, 14),
+                to: part_in_case::<ArchivedDepot, ArchivedString>(self, 1, 8, 16),
             },
         }
     }
@@ -1098,95 +742,50 @@ pub trait DepotSeal<'a> {
     // The tag that it shows.
     ghost tag: { Self → ℕ };
 
-    /// The field `0` of `Held`.
-    fn held_0_mut(self) -> Seal<'a, u8>
-        requires come_to { sealed self }
-        requires tag { tag self ≡ 1 };
-
-    /// The field `1` of `Held`.
-    fn held_1_mut(self) -> Seal<'a, u8>
-        requires come_to { sealed self }
-        requires tag { tag self ≡ 1 };
-
-    /// The field `2` of `Held`.
-    fn held_2_mut(self) -> Seal<'a, u8>
-        requires come_to { sealed self }
-        requires tag { tag self ≡ 1 };
-
-    /// The field `3` of `Held`.
-    fn held_3_mut(self) -> Seal<'a, u8>
-        requires come_to { sealed self }
-        requires tag { tag self ≡ 1 };
-
-    /// The field `4` of `Held`.
-    fn held_4_mut(self) -> Seal<'a, u8>
-        requires come_to { sealed self }
-        requires tag { tag self ≡ 1 };
-
-    /// The field `5` of `Held`.
-    fn held_5_mut(self) -> Seal<'a, u8>
-        requires come_to { sealed self }
-        requires tag { tag self ≡ 1 };
-
-    /// The field `6` of `Held`.
-    fn held_6_mut(self) -> Seal<'a, u8>
-        requires come_to { sealed self }
-        requires tag { tag self ≡ 1 };
-
-    /// The field `7` of `Held`.
-    fn held_7_mut(self) -> Seal<'a, u8>
-        requires come_to { sealed self }
-        requires tag { tag self ≡ 1 };
-
-    /// The field `8` of `Held`.
-    fn held_8_mut(self) -> Seal<'a, i8>
-        requires come_to { sealed self }
-        requires tag { tag self ≡ 1 };
-
     /// Its number.
     fn sent_number_mut(self) -> Seal<'a, u8>
         requires come_to { sealed self }
-        requires tag { tag self ≡ 2 };
+        requires tag { tag self ≡ 1 };
 
     /// The row in which it lay.
     fn sent_row_mut(self) -> Seal<'a, u8>
         requires come_to { sealed self }
-        requires tag { tag self ≡ 2 };
+        requires tag { tag self ≡ 1 };
 
     /// The shelf.
     fn sent_shelf_mut(self) -> Seal<'a, u8>
         requires come_to { sealed self }
-        requires tag { tag self ≡ 2 };
+        requires tag { tag self ≡ 1 };
 
     /// The place.
     fn sent_place_mut(self) -> Seal<'a, u8>
         requires come_to { sealed self }
-        requires tag { tag self ≡ 2 };
+        requires tag { tag self ≡ 1 };
 
     /// The letter on it.
     fn sent_letter_mut(self) -> Seal<'a, ArchivedChar>
         requires come_to { sealed self }
-        requires tag { tag self ≡ 2 };
+        requires tag { tag self ≡ 1 };
 
-    /// How high it was.
-    fn sent_height_mut(self) -> Seal<'a, u8>
+    /// How high it was, above the floor.
+    fn sent_height_mut(self) -> Seal<'a, i8>
         requires come_to { sealed self }
-        requires tag { tag self ≡ 2 };
+        requires tag { tag self ≡ 1 };
 
     /// How wide.
     fn sent_width_mut(self) -> Seal<'a, u8>
         requires come_to { sealed self }
-        requires tag { tag self ≡ 2 };
+        requires tag { tag self ≡ 1 };
 
     /// Whether it was open.
     fn sent_is_open_mut(self) -> Seal<'a, bool>
         requires come_to { sealed self }
-        requires tag { tag self ≡ 2 };
+        requires tag { tag self ≡ 1 };
 
     /// Who took it.
     fn sent_to_mut(self) -> Seal<'a, ArchivedString>
         requires come_to { sealed self }
-        requires tag { tag self ≡ 2 };
+        requires tag { tag self ≡ 1 };
 }
 
 impl<'a> DepotSeal<'a> for Seal<'a, ArchivedDepot> {
@@ -1194,7 +793,7 @@ impl<'a> DepotSeal<'a> for Seal<'a, ArchivedDepot> {
 
     ghost tag = { λ s. seal_tag s };
 
-    fn held_0_mut(self) -> Seal<'a, u8>
+    fn sent_number_mut(self) -> Seal<'a, u8>
         requires come_to { IsSealOf no_definition (one ⟦<ArchivedDepot as Portable>⟧.shape) self }
         requires tag { seal_tag self ≡ 1 }
         ensures { SealsPart no_definition (one ⟦<ArchivedDepot as Portable>⟧.shape) no_definition
@@ -1203,7 +802,7 @@ impl<'a> DepotSeal<'a> for Seal<'a, ArchivedDepot> {
         sealed_part_in_case::<ArchivedDepot, u8>(self, 1, 0, 1)
     }
 
-    fn held_1_mut(self) -> Seal<'a, u8>
+    fn sent_row_mut(self) -> Seal<'a, u8>
         requires come_to { IsSealOf no_definition (one ⟦<ArchivedDepot as Portable>⟧.shape) self }
         requires tag { seal_tag self ≡ 1 }
         ensures { SealsPart no_definition (one ⟦<ArchivedDepot as Portable>⟧.shape) no_definition
@@ -1212,7 +811,7 @@ impl<'a> DepotSeal<'a> for Seal<'a, ArchivedDepot> {
         sealed_part_in_case::<ArchivedDepot, u8>(self, 1, 1, 2)
     }
 
-    fn held_2_mut(self) -> Seal<'a, u8>
+    fn sent_shelf_mut(self) -> Seal<'a, u8>
         requires come_to { IsSealOf no_definition (one ⟦<ArchivedDepot as Portable>⟧.shape) self }
         requires tag { seal_tag self ≡ 1 }
         ensures { SealsPart no_definition (one ⟦<ArchivedDepot as Portable>⟧.shape) no_definition
@@ -1221,7 +820,7 @@ impl<'a> DepotSeal<'a> for Seal<'a, ArchivedDepot> {
         sealed_part_in_case::<ArchivedDepot, u8>(self, 1, 2, 3)
     }
 
-    fn held_3_mut(self) -> Seal<'a, u8>
+    fn sent_place_mut(self) -> Seal<'a, u8>
         requires come_to { IsSealOf no_definition (one ⟦<ArchivedDepot as Portable>⟧.shape) self }
         requires tag { seal_tag self ≡ 1 }
         ensures { SealsPart no_definition (one ⟦<ArchivedDepot as Portable>⟧.shape) no_definition
@@ -1230,129 +829,48 @@ impl<'a> DepotSeal<'a> for Seal<'a, ArchivedDepot> {
         sealed_part_in_case::<ArchivedDepot, u8>(self, 1, 3, 4)
     }
 
-    fn held_4_mut(self) -> Seal<'a, u8>
-        requires come_to { IsSealOf no_definition (one ⟦<ArchivedDepot as Portable>⟧.shape) self }
-        requires tag { seal_tag self ≡ 1 }
-        ensures { SealsPart no_definition (one ⟦<ArchivedDepot as Portable>⟧.shape) no_definition
-            ⟦<u8 as ArchivePointee>⟧.pointee (self.entry.pos + 5) 0 self.entry result }
-    {
-        sealed_part_in_case::<ArchivedDepot, u8>(self, 1, 4, 5)
-    }
-
-    fn held_5_mut(self) -> Seal<'a, u8>
-        requires come_to { IsSealOf no_definition (one ⟦<ArchivedDepot as Portable>⟧.shape) self }
-        requires tag { seal_tag self ≡ 1 }
-        ensures { SealsPart no_definition (one ⟦<ArchivedDepot as Portable>⟧.shape) no_definition
-            ⟦<u8 as ArchivePointee>⟧.pointee (self.entry.pos + 6) 0 self.entry result }
-    {
-        sealed_part_in_case::<ArchivedDepot, u8>(self, 1, 5, 6)
-    }
-
-    fn held_6_mut(self) -> Seal<'a, u8>
-        requires come_to { IsSealOf no_definition (one ⟦<ArchivedDepot as Portable>⟧.shape) self }
-        requires tag { seal_tag self ≡ 1 }
-        ensures { SealsPart no_definition (one ⟦<ArchivedDepot as Portable>⟧.shape) no_definition
-            ⟦<u8 as ArchivePointee>⟧.pointee (self.entry.pos + 7) 0 self.entry result }
-    {
-        sealed_part_in_case::<ArchivedDepot, u8>(self, 1, 6, 7)
-    }
-
-    fn held_7_mut(self) -> Seal<'a, u8>
-        requires come_to { IsSealOf no_definition (one ⟦<ArchivedDepot as Portable>⟧.shape) self }
-        requires tag { seal_tag self ≡ 1 }
-        ensures { SealsPart no_definition (one ⟦<ArchivedDepot as Portable>⟧.shape) no_definition
-            ⟦<u8 as ArchivePointee>⟧.pointee (self.entry.pos + 8) 0 self.entry result }
-    {
-        sealed_part_in_case::<ArchivedDepot, u8>(self, 1, 7, 8)
-    }
-
-    fn held_8_mut(self) -> Seal<'a, i8>
-        requires come_to { IsSealOf no_definition (one ⟦<ArchivedDepot as Portable>⟧.shape) self }
-        requires tag { seal_tag self ≡ 1 }
-        ensures { SealsPart no_definition (one ⟦<ArchivedDepot as Portable>⟧.shape) no_definition
-            ⟦<i8 as ArchivePointee>⟧.pointee (self.entry.pos + 9) 0 self.entry result }
-    {
-        sealed_part_in_case::<ArchivedDepot, i8>(self, 1, 8, 9)
-    }
-
-    fn sent_number_mut(self) -> Seal<'a, u8>
-        requires come_to { IsSealOf no_definition (one ⟦<ArchivedDepot as Portable>⟧.shape) self }
-        requires tag { seal_tag self ≡ 2 }
-        ensures { SealsPart no_definition (one ⟦<ArchivedDepot as Portable>⟧.shape) no_definition
-            ⟦<u8 as ArchivePointee>⟧.pointee (self.entry.pos + 1) 0 self.entry result }
-    {
-        sealed_part_in_case::<ArchivedDepot, u8>(self, 2, 0, 1)
-    }
-
-    fn sent_row_mut(self) -> Seal<'a, u8>
-        requires come_to { IsSealOf no_definition (one ⟦<ArchivedDepot as Portable>⟧.shape) self }
-        requires tag { seal_tag self ≡ 2 }
-        ensures { SealsPart no_definition (one ⟦<ArchivedDepot as Portable>⟧.shape) no_definition
-            ⟦<u8 as ArchivePointee>⟧.pointee (self.entry.pos + 2) 0 self.entry result }
-    {
-        sealed_part_in_case::<ArchivedDepot, u8>(self, 2, 1, 2)
-    }
-
-    fn sent_shelf_mut(self) -> Seal<'a, u8>
-        requires come_to { IsSealOf no_definition (one ⟦<ArchivedDepot as Portable>⟧.shape) self }
-        requires tag { seal_tag self ≡ 2 }
-        ensures { SealsPart no_definition (one ⟦<ArchivedDepot as Portable>⟧.shape) no_definition
-            ⟦<u8 as ArchivePointee>⟧.pointee (self.entry.pos + 3) 0 self.entry result }
-    {
-        sealed_part_in_case::<ArchivedDepot, u8>(self, 2, 2, 3)
-    }
-
-    fn sent_place_mut(self) -> Seal<'a, u8>
-        requires come_to { IsSealOf no_definition (one ⟦<ArchivedDepot as Portable>⟧.shape) self }
-        requires tag { seal_tag self ≡ 2 }
-        ensures { SealsPart no_definition (one ⟦<ArchivedDepot as Portable>⟧.shape) no_definition
-            ⟦<u8 as ArchivePointee>⟧.pointee (self.entry.pos + 4) 0 self.entry result }
-    {
-        sealed_part_in_case::<ArchivedDepot, u8>(self, 2, 3, 4)
-    }
-
     fn sent_letter_mut(self) -> Seal<'a, ArchivedChar>
         requires come_to { IsSealOf no_definition (one ⟦<ArchivedDepot as Portable>⟧.shape) self }
-        requires tag { seal_tag self ≡ 2 }
+        requires tag { seal_tag self ≡ 1 }
         ensures { SealsPart no_definition (one ⟦<ArchivedDepot as Portable>⟧.shape) no_definition
             ⟦<ArchivedChar as ArchivePointee>⟧.pointee (self.entry.pos + 8) 0 self.entry result }
     {
-        sealed_part_in_case::<ArchivedDepot, ArchivedChar>(self, 2, 4, 8)
+        sealed_part_in_case::<ArchivedDepot, ArchivedChar>(self, 1, 4, 8)
     }
 
-    fn sent_height_mut(self) -> Seal<'a, u8>
+    fn sent_height_mut(self) -> Seal<'a, i8>
         requires come_to { IsSealOf no_definition (one ⟦<ArchivedDepot as Portable>⟧.shape) self }
-        requires tag { seal_tag self ≡ 2 }
+        requires tag { seal_tag self ≡ 1 }
         ensures { SealsPart no_definition (one ⟦<ArchivedDepot as Portable>⟧.shape) no_definition
-            ⟦<u8 as ArchivePointee>⟧.pointee (self.entry.pos + 12) 0 self.entry result }
+            ⟦<i8 as ArchivePointee>⟧.pointee (self.entry.pos + 12) 0 self.entry result }
     {
-        sealed_part_in_case::<ArchivedDepot, u8>(self, 2, 5, 12)
+        sealed_part_in_case::<ArchivedDepot, i8>(self, 1, 5, 12)
     }
 
     fn sent_width_mut(self) -> Seal<'a, u8>
         requires come_to { IsSealOf no_definition (one ⟦<ArchivedDepot as Portable>⟧.shape) self }
-        requires tag { seal_tag self ≡ 2 }
+        requires tag { seal_tag self ≡ 1 }
         ensures { SealsPart no_definition (one ⟦<ArchivedDepot as Portable>⟧.shape) no_definition
             ⟦<u8 as ArchivePointee>⟧.pointee (self.entry.pos + 13) 0 self.entry result }
     {
-        sealed_part_in_case::<ArchivedDepot, u8>(self, 2, 6, 13)
+        sealed_part_in_case::<ArchivedDepot, u8>(self, 1, 6, 13)
     }
 
     fn sent_is_open_mut(self) -> Seal<'a, bool>
         requires come_to { IsSealOf no_definition (one ⟦<ArchivedDepot as Portable>⟧.shape) self }
-        requires tag { seal_tag self ≡ 2 }
+        requires tag { seal_tag self ≡ 1 }
         ensures { SealsPart no_definition (one ⟦<ArchivedDepot as Portable>⟧.shape) no_definition
             ⟦<bool as ArchivePointee>⟧.pointee (self.entry.pos + 14) 0 self.entry result }
     {
-        sealed_part_in_case::<ArchivedDepot, bool>(self, 2, 7, 14)
+        sealed_part_in_case::<ArchivedDepot, bool>(self, 1, 7, 14)
     }
 
     fn sent_to_mut(self) -> Seal<'a, ArchivedString>
         requires come_to { IsSealOf no_definition (one ⟦<ArchivedDepot as Portable>⟧.shape) self }
-        requires tag { seal_tag self ≡ 2 }
+        requires tag { seal_tag self ≡ 1 }
         ensures { SealsPart no_definition (one ⟦<ArchivedDepot as Portable>⟧.shape) no_definition
             ⟦<ArchivedString as ArchivePointee>⟧.pointee (self.entry.pos + 16) 0 self.entry result }
     {
-        sealed_part_in_case::<ArchivedDepot, ArchivedString>(self, 2, 8, 16)
+        sealed_part_in_case::<ArchivedDepot, ArchivedString>(self, 1, 8, 16)
     }
 }

@@ -137,23 +137,14 @@ type NoticeCountedParts = (u8, ());
 
 type NoticeCountedOwned = (u8, ());
 
-type NoticeVariants = UnitVariants<
-    8,
-    (
-        NoticeFileParts,
-        (NoticeSettingsParts, (NoticeJoinedParts, NoticeRest1)),
-    ),
->;
+type NoticeVariants = UnitVariants<8, (NoticeFileParts, NoticeRest1)>;
 
-/// The variants of `Notice` from `Left` on, as one type: it has no values.
+/// The variants of `Notice` from `Settings` on, as one type: it has no values.
 pub struct NoticeRest1;
 
 type NoticeBlock1 = (
-    NoticeLeftParts,
-    (
-        NoticeResultParts,
-        (NoticeCalledParts, (NoticeSeatedParts, NoticeRest2)),
-    ),
+    NoticeSettingsParts,
+    (NoticeJoinedParts, (NoticeLeftParts, NoticeRest2)),
 );
 
 impl CheckedVariants for NoticeRest1 {
@@ -192,11 +183,9 @@ impl PortableVariants for NoticeRest1 {
 
     ghost is_align = { inr (inr (inl refl)) };
 
-    ghost laid_out = { variant_laid_out _ _ _ _ _ _ (part_laid_out no_definition _
-        ⟦<u8 as Portable>⟧.shape (record { size = 1; align = 1 }) (record { solved = λ s k. refl })
-        _ _ _ _ no_part_laid_out) _ _ _ _ (variant_laid_out _ _ _ _ _ _
-        (part_laid_out (both no_definition (both no_definition no_definition)) _
-        ⟦<ArchivedVec<ArchivedTuple2<ArchivedString, ArchivedU32>> as Portable>⟧.shape (record {
+    ghost laid_out = { variant_laid_out _ _ _ _ _ _ (part_laid_out
+        (both no_definition (both no_definition no_definition)) _
+        ⟦<ArchivedSortedMap<ArchivedString, ArchivedString> as Portable>⟧.shape (record {
           size = 8;
           align = 4;
         }) (record { solved = λ s k. refl }) _ _ _ _ no_part_laid_out) _ _ _ _
@@ -204,26 +193,17 @@ impl PortableVariants for NoticeRest1 {
         (record { size = 1; align = 1 }) (record { solved = λ s k. refl }) _ _ _ _ no_part_laid_out)
         _ _ _ _ (variant_laid_out _ _ _ _ _ _ (part_laid_out no_definition _
         ⟦<u8 as Portable>⟧.shape (record { size = 1; align = 1 }) (record { solved = λ s k. refl })
-        _ _ _ _ no_part_laid_out) _ _ _ _ laid_out_behind))) };
+        _ _ _ _ no_part_laid_out) _ _ _ _ laid_out_behind)) };
 
-    ghost no_others = { variant_reached (both no_definition no_definition)
-        (both (both (both no_definition (both no_definition no_definition)) no_definition)
+    ghost no_others = { variant_reached (both (both no_definition
+        (both no_definition no_definition)) no_definition)
         (both (both no_definition no_definition) (both (both no_definition no_definition)
-        ⟦<NoticeRest2 as CheckedVariants>⟧.definitions))) (part ⟦<u8 as Portable>⟧.shape no_part)
-        (variant
-        (part ⟦<ArchivedVec<ArchivedTuple2<ArchivedString, ArchivedU32>> as Portable>⟧.shape
-        no_part) (variant (part ⟦<u8 as Portable>⟧.shape no_part)
+        ⟦<NoticeRest2 as CheckedVariants>⟧.definitions))
+        (part ⟦<ArchivedSortedMap<ArchivedString, ArchivedString> as Portable>⟧.shape no_part)
         (variant (part ⟦<u8 as Portable>⟧.shape no_part)
-        ⟦<NoticeRest2 as CheckedVariants>⟧.variants))) (no_definition_reached
-        (parts (part ⟦<u8 as Portable>⟧.shape no_part)))
-        (variant_reached (both (both no_definition (both no_definition no_definition))
-        no_definition) (both (both no_definition no_definition)
-        (both (both no_definition no_definition) ⟦<NoticeRest2 as CheckedVariants>⟧.definitions))
-        (part ⟦<ArchivedVec<ArchivedTuple2<ArchivedString, ArchivedU32>> as Portable>⟧.shape
-        no_part) (variant (part ⟦<u8 as Portable>⟧.shape no_part)
         (variant (part ⟦<u8 as Portable>⟧.shape no_part)
         ⟦<NoticeRest2 as CheckedVariants>⟧.variants)) (no_definition_reached
-        (parts (part ⟦<ArchivedVec<ArchivedTuple2<ArchivedString, ArchivedU32>> as Portable>⟧.shape
+        (parts (part ⟦<ArchivedSortedMap<ArchivedString, ArchivedString> as Portable>⟧.shape
         no_part))) (variant_reached (both no_definition no_definition)
         (both (both no_definition no_definition) ⟦<NoticeRest2 as CheckedVariants>⟧.definitions)
         (part ⟦<u8 as Portable>⟧.shape no_part) (variant (part ⟦<u8 as Portable>⟧.shape no_part)
@@ -232,27 +212,14 @@ impl PortableVariants for NoticeRest1 {
         (variant_reached (both no_definition no_definition)
         ⟦<NoticeRest2 as CheckedVariants>⟧.definitions (part ⟦<u8 as Portable>⟧.shape no_part)
         ⟦<NoticeRest2 as CheckedVariants>⟧.variants (no_definition_reached
-        (parts (part ⟦<u8 as Portable>⟧.shape no_part))) no_others_behind))) };
+        (parts (part ⟦<u8 as Portable>⟧.shape no_part))) no_others_behind)) };
 
-    ghost sized = { payload_sized (both no_definition no_definition)
-        (both (both (both no_definition (both no_definition no_definition)) no_definition)
-        (both (both no_definition no_definition) (both (both no_definition no_definition)
-        ⟦<NoticeRest2 as CheckedVariants>⟧.definitions))) (part ⟦<u8 as Portable>⟧.shape no_part) _
-        (part_sized no_definition no_definition ⟦<u8 as Portable>⟧.shape (record {
-          size = 1;
-          align = 1;
-        }) (record { solved = λ s k. refl }) no_part (λ i. 0) no_part_sized)
-        (variant
-        (part ⟦<ArchivedVec<ArchivedTuple2<ArchivedString, ArchivedU32>> as Portable>⟧.shape
-        no_part) (variant (part ⟦<u8 as Portable>⟧.shape no_part)
-        (variant (part ⟦<u8 as Portable>⟧.shape no_part)
-        ⟦<NoticeRest2 as CheckedVariants>⟧.variants))) _
-        (payload_sized (both (both no_definition (both no_definition no_definition)) no_definition)
-        (both (both no_definition no_definition) (both (both no_definition no_definition)
-        ⟦<NoticeRest2 as CheckedVariants>⟧.definitions))
-        (part ⟦<ArchivedVec<ArchivedTuple2<ArchivedString, ArchivedU32>> as Portable>⟧.shape
-        no_part) _ (part_sized (both no_definition (both no_definition no_definition)) no_definition
-        ⟦<ArchivedVec<ArchivedTuple2<ArchivedString, ArchivedU32>> as Portable>⟧.shape (record {
+    ghost sized = { payload_sized (both (both no_definition (both no_definition no_definition))
+        no_definition) (both (both no_definition no_definition)
+        (both (both no_definition no_definition) ⟦<NoticeRest2 as CheckedVariants>⟧.definitions))
+        (part ⟦<ArchivedSortedMap<ArchivedString, ArchivedString> as Portable>⟧.shape no_part) _
+        (part_sized (both no_definition (both no_definition no_definition)) no_definition
+        ⟦<ArchivedSortedMap<ArchivedString, ArchivedString> as Portable>⟧.shape (record {
           size = 8;
           align = 4;
         }) (record { solved = λ s k. refl }) no_part (λ i. 0) no_part_sized)
@@ -269,13 +236,12 @@ impl PortableVariants for NoticeRest1 {
         (part ⟦<u8 as Portable>⟧.shape no_part) _ (part_sized no_definition no_definition
         ⟦<u8 as Portable>⟧.shape (record { size = 1; align = 1 }) (record { solved = λ s k. refl })
         no_part (λ i. 0) no_part_sized) ⟦<NoticeRest2 as CheckedVariants>⟧.variants _
-        sized_behind))) };
+        sized_behind)) };
 
-    ghost within = { payload_within _ _ _ (within_over (up 1 1) 1 _ _ _ no_lower within_at) _ _ _
-        (payload_within _ _ _ (within_over (up 1 4) 8 _ _ _ no_lower within_at) _ _ _
+    ghost within = { payload_within _ _ _ (within_over (up 1 4) 8 _ _ _ no_lower within_at) _ _ _
         (payload_within _ _ _ (within_over (up 1 1) 1 _ _ _ no_lower within_at) _ _ _
         (payload_within _ _ _ (within_over (up 1 1) 1 _ _ _ no_lower within_at) _ _ _
-        within_behind))) };
+        within_behind)) };
 
     fn align() -> usize {
         <NoticeBlock1 as PortableVariants>::align()
@@ -303,10 +269,10 @@ impl PortableVariants for NoticeRest1 {
     }
 }
 
-/// The variants of `Notice` from `Freed` on, as one type: it has no values.
+/// The variants of `Notice` from `Result` on, as one type: it has no values.
 pub struct NoticeRest2;
 
-type NoticeBlock2 = (NoticeFreedParts, (NoticeCountedParts, ()));
+type NoticeBlock2 = (NoticeResultParts, (NoticeCalledParts, NoticeRest3));
 
 impl CheckedVariants for NoticeRest2 {
     ghost variants = { ⟦<NoticeBlock2 as CheckedVariants>⟧.variants };
@@ -334,42 +300,58 @@ impl CheckedVariants for NoticeRest2 {
 }
 
 impl PortableVariants for NoticeRest2 {
+    ghost use Rattle.derived_blocks.specs.contracts.notice.NoticeRest3PortableVariants.TheImpl.Laws.{laid_out-law as laid_out_behind, no_others-law as no_others_behind, sized-law as sized_behind, within-law as within_behind};
+
     ghost greatest = { ⟦<NoticeBlock2 as PortableVariants>⟧.greatest };
 
     ghost begin = { ⟦<NoticeBlock2 as PortableVariants>⟧.begin };
 
     ghost size_at = { ⟦<NoticeBlock2 as PortableVariants>⟧.size_at };
 
-    ghost is_align = { inl refl };
+    ghost is_align = { inr (inr (inl refl)) };
 
-    ghost laid_out = { variant_laid_out _ _ _ _ _ _ (part_laid_out no_definition _
-        ⟦<u8 as Portable>⟧.shape (record { size = 1; align = 1 }) (record { solved = λ s k. refl })
-        _ _ _ _ no_part_laid_out) _ _ _ _ (variant_laid_out _ _ _ _ _ _
-        (part_laid_out no_definition _ ⟦<u8 as Portable>⟧.shape (record { size = 1; align = 1 })
-        (record { solved = λ s k. refl }) _ _ _ _ no_part_laid_out) _ _ _ _ no_variant_laid_out) };
+    ghost laid_out = { variant_laid_out _ _ _ _ _ _ (part_laid_out
+        (both no_definition (both no_definition no_definition)) _
+        ⟦<ArchivedVec<ArchivedTuple2<ArchivedString, ArchivedU32>> as Portable>⟧.shape (record {
+          size = 8;
+          align = 4;
+        }) (record { solved = λ s k. refl }) _ _ _ _ no_part_laid_out) _ _ _ _
+        (variant_laid_out _ _ _ _ _ _ (part_laid_out no_definition _ ⟦<u8 as Portable>⟧.shape
+        (record { size = 1; align = 1 }) (record { solved = λ s k. refl }) _ _ _ _ no_part_laid_out)
+        _ _ _ _ laid_out_behind) };
 
-    ghost no_others = { variant_reached (both no_definition no_definition)
-        (both (both no_definition no_definition) no_definition)
-        (part ⟦<u8 as Portable>⟧.shape no_part) (variant (part ⟦<u8 as Portable>⟧.shape no_part)
-        no_variant) (no_definition_reached (parts (part ⟦<u8 as Portable>⟧.shape no_part)))
-        (variant_reached (both no_definition no_definition) no_definition
-        (part ⟦<u8 as Portable>⟧.shape no_part) no_variant
-        (no_definition_reached (parts (part ⟦<u8 as Portable>⟧.shape no_part)))
-        no_variants_reached) };
+    ghost no_others = { variant_reached (both (both no_definition
+        (both no_definition no_definition)) no_definition)
+        (both (both no_definition no_definition) ⟦<NoticeRest3 as CheckedVariants>⟧.definitions)
+        (part ⟦<ArchivedVec<ArchivedTuple2<ArchivedString, ArchivedU32>> as Portable>⟧.shape
+        no_part) (variant (part ⟦<u8 as Portable>⟧.shape no_part)
+        ⟦<NoticeRest3 as CheckedVariants>⟧.variants) (no_definition_reached
+        (parts (part ⟦<ArchivedVec<ArchivedTuple2<ArchivedString, ArchivedU32>> as Portable>⟧.shape
+        no_part))) (variant_reached (both no_definition no_definition)
+        ⟦<NoticeRest3 as CheckedVariants>⟧.definitions (part ⟦<u8 as Portable>⟧.shape no_part)
+        ⟦<NoticeRest3 as CheckedVariants>⟧.variants (no_definition_reached
+        (parts (part ⟦<u8 as Portable>⟧.shape no_part))) no_others_behind) };
 
-    ghost sized = { payload_sized (both no_definition no_definition)
-        (both (both no_definition no_definition) no_definition)
+    ghost sized = { payload_sized (both (both no_definition (both no_definition no_definition))
+        no_definition) (both (both no_definition no_definition)
+        ⟦<NoticeRest3 as CheckedVariants>⟧.definitions)
+        (part ⟦<ArchivedVec<ArchivedTuple2<ArchivedString, ArchivedU32>> as Portable>⟧.shape
+        no_part) _ (part_sized (both no_definition (both no_definition no_definition)) no_definition
+        ⟦<ArchivedVec<ArchivedTuple2<ArchivedString, ArchivedU32>> as Portable>⟧.shape (record {
+          size = 8;
+          align = 4;
+        }) (record { solved = λ s k. refl }) no_part (λ i. 0) no_part_sized)
+        (variant (part ⟦<u8 as Portable>⟧.shape no_part)
+        ⟦<NoticeRest3 as CheckedVariants>⟧.variants) _ (payload_sized
+        (both no_definition no_definition) ⟦<NoticeRest3 as CheckedVariants>⟧.definitions
         (part ⟦<u8 as Portable>⟧.shape no_part) _ (part_sized no_definition no_definition
         ⟦<u8 as Portable>⟧.shape (record { size = 1; align = 1 }) (record { solved = λ s k. refl })
-        no_part (λ i. 0) no_part_sized) (variant (part ⟦<u8 as Portable>⟧.shape no_part) no_variant)
-        _ (payload_sized (both no_definition no_definition) no_definition
-        (part ⟦<u8 as Portable>⟧.shape no_part) _ (part_sized no_definition no_definition
-        ⟦<u8 as Portable>⟧.shape (record { size = 1; align = 1 }) (record { solved = λ s k. refl })
-        no_part (λ i. 0) no_part_sized) no_variant _ no_payload_sized) };
+        no_part (λ i. 0) no_part_sized) ⟦<NoticeRest3 as CheckedVariants>⟧.variants _
+        sized_behind) };
 
-    ghost within = { payload_within _ _ _ (within_over (up 1 1) 1 _ _ _ no_lower within_at) _ _ _
+    ghost within = { payload_within _ _ _ (within_over (up 1 4) 8 _ _ _ no_lower within_at) _ _ _
         (payload_within _ _ _ (within_over (up 1 1) 1 _ _ _ no_lower within_at) _ _ _
-        no_payload_within) };
+        within_behind) };
 
     fn align() -> usize {
         <NoticeBlock2 as PortableVariants>::align()
@@ -394,6 +376,122 @@ impl PortableVariants for NoticeRest2 {
 
     fn define(alloc: Global, defs: &mut Defs) -> Result<(), Error> {
         <NoticeBlock2 as PortableVariants>::define(alloc, defs)
+    }
+}
+
+/// The variants of `Notice` from `Seated` on, as one type: it has no values.
+pub struct NoticeRest3;
+
+type NoticeBlock3 = (
+    NoticeSeatedParts,
+    (NoticeFreedParts, (NoticeCountedParts, ())),
+);
+
+impl CheckedVariants for NoticeRest3 {
+    ghost variants = { ⟦<NoticeBlock3 as CheckedVariants>⟧.variants };
+
+    ghost definitions = { ⟦<NoticeBlock3 as CheckedVariants>⟧.definitions };
+
+    ghost end = { ⟦<NoticeBlock3 as CheckedVariants>⟧.end };
+
+    ghost direct = { ⟦<NoticeBlock3 as CheckedVariants>⟧.direct };
+
+    fn are_direct() -> bool {
+        <NoticeBlock3 as CheckedVariants>::are_direct()
+    }
+
+    #[inline(always)]
+    fn check_variant<C: ArchiveContext>(
+        bytes: &[u8],
+        base: usize,
+        tag: usize,
+        refusal: &mut Error,
+        context: &mut C,
+    ) -> Option<bool> {
+        <NoticeBlock3 as CheckedVariants>::check_variant(bytes, base, tag, refusal, context)
+    }
+}
+
+impl PortableVariants for NoticeRest3 {
+    ghost greatest = { ⟦<NoticeBlock3 as PortableVariants>⟧.greatest };
+
+    ghost begin = { ⟦<NoticeBlock3 as PortableVariants>⟧.begin };
+
+    ghost size_at = { ⟦<NoticeBlock3 as PortableVariants>⟧.size_at };
+
+    ghost is_align = { inl refl };
+
+    ghost laid_out = { variant_laid_out _ _ _ _ _ _ (part_laid_out no_definition _
+        ⟦<u8 as Portable>⟧.shape (record { size = 1; align = 1 }) (record { solved = λ s k. refl })
+        _ _ _ _ no_part_laid_out) _ _ _ _ (variant_laid_out _ _ _ _ _ _
+        (part_laid_out no_definition _ ⟦<u8 as Portable>⟧.shape (record { size = 1; align = 1 })
+        (record { solved = λ s k. refl }) _ _ _ _ no_part_laid_out) _ _ _ _
+        (variant_laid_out _ _ _ _ _ _ (part_laid_out no_definition _ ⟦<u8 as Portable>⟧.shape
+        (record { size = 1; align = 1 }) (record { solved = λ s k. refl }) _ _ _ _ no_part_laid_out)
+        _ _ _ _ no_variant_laid_out)) };
+
+    ghost no_others = { variant_reached (both no_definition no_definition)
+        (both (both no_definition no_definition) (both (both no_definition no_definition)
+        no_definition)) (part ⟦<u8 as Portable>⟧.shape no_part)
+        (variant (part ⟦<u8 as Portable>⟧.shape no_part)
+        (variant (part ⟦<u8 as Portable>⟧.shape no_part) no_variant))
+        (no_definition_reached (parts (part ⟦<u8 as Portable>⟧.shape no_part)))
+        (variant_reached (both no_definition no_definition)
+        (both (both no_definition no_definition) no_definition)
+        (part ⟦<u8 as Portable>⟧.shape no_part) (variant (part ⟦<u8 as Portable>⟧.shape no_part)
+        no_variant) (no_definition_reached (parts (part ⟦<u8 as Portable>⟧.shape no_part)))
+        (variant_reached (both no_definition no_definition) no_definition
+        (part ⟦<u8 as Portable>⟧.shape no_part) no_variant
+        (no_definition_reached (parts (part ⟦<u8 as Portable>⟧.shape no_part)))
+        no_variants_reached)) };
+
+    ghost sized = { payload_sized (both no_definition no_definition)
+        (both (both no_definition no_definition) (both (both no_definition no_definition)
+        no_definition)) (part ⟦<u8 as Portable>⟧.shape no_part) _
+        (part_sized no_definition no_definition ⟦<u8 as Portable>⟧.shape (record {
+          size = 1;
+          align = 1;
+        }) (record { solved = λ s k. refl }) no_part (λ i. 0) no_part_sized)
+        (variant (part ⟦<u8 as Portable>⟧.shape no_part)
+        (variant (part ⟦<u8 as Portable>⟧.shape no_part) no_variant)) _
+        (payload_sized (both no_definition no_definition)
+        (both (both no_definition no_definition) no_definition)
+        (part ⟦<u8 as Portable>⟧.shape no_part) _ (part_sized no_definition no_definition
+        ⟦<u8 as Portable>⟧.shape (record { size = 1; align = 1 }) (record { solved = λ s k. refl })
+        no_part (λ i. 0) no_part_sized) (variant (part ⟦<u8 as Portable>⟧.shape no_part) no_variant)
+        _ (payload_sized (both no_definition no_definition) no_definition
+        (part ⟦<u8 as Portable>⟧.shape no_part) _ (part_sized no_definition no_definition
+        ⟦<u8 as Portable>⟧.shape (record { size = 1; align = 1 }) (record { solved = λ s k. refl })
+        no_part (λ i. 0) no_part_sized) no_variant _ no_payload_sized)) };
+
+    ghost within = { payload_within _ _ _ (within_over (up 1 1) 1 _ _ _ no_lower within_at) _ _ _
+        (payload_within _ _ _ (within_over (up 1 1) 1 _ _ _ no_lower within_at) _ _ _
+        (payload_within _ _ _ (within_over (up 1 1) 1 _ _ _ no_lower within_at) _ _ _
+        no_payload_within)) };
+
+    fn align() -> usize {
+        <NoticeBlock3 as PortableVariants>::align()
+    }
+
+    #[inline(always)]
+    fn longest_end() -> usize {
+        <NoticeBlock3 as PortableVariants>::longest_end()
+    }
+
+    #[inline(always)]
+    fn payload_offset(tag: usize, i: usize) -> usize {
+        <NoticeBlock3 as PortableVariants>::payload_offset(tag, i)
+    }
+
+    fn push_variants(
+        alloc: Global,
+        list: &mut Vec<Vec<archive_core::shape::Expr>>,
+    ) -> Result<(), Error> {
+        <NoticeBlock3 as PortableVariants>::push_variants(alloc, list)
+    }
+
+    fn define(alloc: Global, defs: &mut Defs) -> Result<(), Error> {
+        <NoticeBlock3 as PortableVariants>::define(alloc, defs)
     }
 }
 

@@ -1,4 +1,4 @@
-//! A struct of eighteen fields, of which three are deep: they go in blocks.
+//! A struct of seventeen fields, of which three are deep: they go in blocks.
 
 /// What is sent by ship.
 #[derive(Debug, PartialEq, Drop)]
@@ -35,8 +35,6 @@ pub struct Shipment {
     pub sender: String,
     /// In how many days it is due.
     pub due: u8,
-    /// How many seals it has.
-    pub seals: u8,
     /// When it came, in seconds.
     pub came: u64,
 }
@@ -250,15 +248,7 @@ impl HasField<15, u8> for Shipment {
     }
 }
 
-impl HasField<16, u8> for Shipment {
-    ghost field = { λ v. v.seals };
-
-    fn field(&self) -> &u8 {
-        &self.seals
-    }
-}
-
-impl HasField<17, u64> for Shipment {
+impl HasField<16, u64> for Shipment {
     ghost field = { λ v. v.came };
 
     fn field(&self) -> &u64 {
@@ -278,29 +268,20 @@ pub struct ShipmentKept1 {
             <(u8, u8) as Archive>::Resolver,
             (
                 <String as Archive>::Resolver,
-                (
-                    <u8 as Archive>::Resolver,
-                    (<u8 as Archive>::Resolver, (<u64 as Archive>::Resolver, ())),
-                ),
+                (<u8 as Archive>::Resolver, (<u64 as Archive>::Resolver, ())),
             ),
         ),
     ),
 }
 
-type ShipmentBlock1 = FourParts<
-    u8,
-    ArchivedTuple2<u8, u8>,
-    ArchivedString,
-    u8,
-    (u8, (ArchivedU64, ())),
->;
+type ShipmentBlock1 = FourParts<u8, ArchivedTuple2<u8, u8>, ArchivedString, u8, (ArchivedU64, ())>;
 
 type ShipmentFields1 = FourParts<
     Field<12, u8>,
     Field<13, (u8, u8)>,
     Field<14, String>,
     Field<15, u8>,
-    (Field<16, u8>, (Field<17, u64>, ())),
+    (Field<16, u64>, ()),
 >;
 
 impl CheckedParts for ShipmentRest1 {
@@ -318,19 +299,22 @@ impl CheckedParts for ShipmentRest1 {
 
     ghost rises = { λ n. rises_over n 1 1 (inl refl) _
         (λ n. rises_over n 1 2 (inl refl) _ (λ n. rises_over n 4 8 (inr (inr (inl refl))) _
-        (λ n. rises_over n 1 1 (inl refl) _ (λ n. rises_over n 1 1 (inl refl) _
-        (λ n. rises_over n 8 8 (inr (inr (inr (inl refl)))) _ no_lower))))) };
+        (λ n. rises_over n 1 1 (inl refl) _ (λ n. rises_over n 8 8 (inr (inr (inr (inl refl)))) _
+        no_lower)))) };
 
     ghost ordered = { λ _. record {
       plain = λ _. record { has = tt; only = tt; once = tt; root = refl; closed = tt; placed = tt };
-      ordered = λ _. ([], record {
-        has = tt;
-        only = tt;
-        once = tt;
-        root = refl;
-        closed = tt;
-        placed = tt;
-      });
+      ordered = λ _. (
+        [],
+        record {
+          has = tt;
+          only = tt;
+          once = tt;
+          root = refl;
+          closed = tt;
+          placed = tt;
+        },
+      );
     } };
 
     fn are_direct() -> bool {
@@ -378,70 +362,58 @@ impl PortableParts for ShipmentRest1 {
           align = 4;
         }) (record { solved = λ s k. refl }) _ _ _ _ (part_laid_out no_definition _
         ⟦<u8 as Portable>⟧.shape (record { size = 1; align = 1 }) (record { solved = λ s k. refl })
-        _ _ _ _ (part_laid_out no_definition _ ⟦<u8 as Portable>⟧.shape (record {
-          size = 1;
-          align = 1;
-        }) (record { solved = λ s k. refl }) _ _ _ _ (part_laid_out no_definition _
-        ⟦<ArchivedU64 as Portable>⟧.shape (record { size = 8; align = 8 }) (record {
-          solved = λ s k. refl;
-        }) _ _ _ _ no_part_laid_out))))) };
+        _ _ _ _ (part_laid_out no_definition _ ⟦<ArchivedU64 as Portable>⟧.shape (record {
+          size = 8;
+          align = 8;
+        }) (record { solved = λ s k. refl }) _ _ _ _ no_part_laid_out)))) };
 
     ghost sized = { part_sized no_definition (both (both no_definition
         (both no_definition no_definition)) (both no_definition
-        (both no_definition (both no_definition (both no_definition no_definition)))))
-        ⟦<u8 as Portable>⟧.shape (record { size = 1; align = 1 }) (record { solved = λ s k. refl })
+        (both no_definition (both no_definition no_definition)))) ⟦<u8 as Portable>⟧.shape
+        (record { size = 1; align = 1 }) (record { solved = λ s k. refl })
         (part ⟦<ArchivedTuple2<u8, u8> as Portable>⟧.shape
         (part ⟦<ArchivedString as Portable>⟧.shape (part ⟦<u8 as Portable>⟧.shape
-        (part ⟦<u8 as Portable>⟧.shape (part ⟦<ArchivedU64 as Portable>⟧.shape no_part)))))
-        (first_or 2 (first_or 8 (first_or 1 (first_or 1 (first_or 8 (λ i. 0))))))
+        (part ⟦<ArchivedU64 as Portable>⟧.shape no_part))))
+        (first_or 2 (first_or 8 (first_or 1 (first_or 8 (λ i. 0)))))
         (part_sized (both no_definition (both no_definition no_definition))
-        (both no_definition (both no_definition (both no_definition
-        (both no_definition no_definition)))) ⟦<ArchivedTuple2<u8, u8> as Portable>⟧.shape
-        (record { size = 2; align = 1 }) (record { solved = λ s k. refl })
-        (part ⟦<ArchivedString as Portable>⟧.shape (part ⟦<u8 as Portable>⟧.shape
-        (part ⟦<u8 as Portable>⟧.shape (part ⟦<ArchivedU64 as Portable>⟧.shape no_part))))
-        (first_or 8 (first_or 1 (first_or 1 (first_or 8 (λ i. 0)))))
-        (part_sized no_definition (both no_definition (both no_definition
-        (both no_definition no_definition))) ⟦<ArchivedString as Portable>⟧.shape (record {
-          size = 8;
-          align = 4;
-        }) (record { solved = λ s k. refl }) (part ⟦<u8 as Portable>⟧.shape
-        (part ⟦<u8 as Portable>⟧.shape (part ⟦<ArchivedU64 as Portable>⟧.shape no_part)))
-        (first_or 1 (first_or 1 (first_or 8 (λ i. 0))))
+        (both no_definition (both no_definition (both no_definition no_definition)))
+        ⟦<ArchivedTuple2<u8, u8> as Portable>⟧.shape (record { size = 2; align = 1 }) (record {
+          solved = λ s k. refl;
+        }) (part ⟦<ArchivedString as Portable>⟧.shape (part ⟦<u8 as Portable>⟧.shape
+        (part ⟦<ArchivedU64 as Portable>⟧.shape no_part)))
+        (first_or 8 (first_or 1 (first_or 8 (λ i. 0))))
         (part_sized no_definition (both no_definition (both no_definition no_definition))
-        ⟦<u8 as Portable>⟧.shape (record { size = 1; align = 1 }) (record { solved = λ s k. refl })
-        (part ⟦<u8 as Portable>⟧.shape (part ⟦<ArchivedU64 as Portable>⟧.shape no_part))
+        ⟦<ArchivedString as Portable>⟧.shape (record { size = 8; align = 4 }) (record {
+          solved = λ s k. refl;
+        }) (part ⟦<u8 as Portable>⟧.shape (part ⟦<ArchivedU64 as Portable>⟧.shape no_part))
         (first_or 1 (first_or 8 (λ i. 0))) (part_sized no_definition
         (both no_definition no_definition) ⟦<u8 as Portable>⟧.shape (record { size = 1; align = 1 })
         (record { solved = λ s k. refl }) (part ⟦<ArchivedU64 as Portable>⟧.shape no_part)
         (first_or 8 (λ i. 0)) (part_sized no_definition no_definition
         ⟦<ArchivedU64 as Portable>⟧.shape (record { size = 8; align = 8 }) (record {
           solved = λ s k. refl;
-        }) no_part (λ i. 0) no_part_sized))))) };
+        }) no_part (λ i. 0) no_part_sized)))) };
 
     ghost no_others = { no_definition_reached (parts (part ⟦<u8 as Portable>⟧.shape
         (part ⟦<ArchivedTuple2<u8, u8> as Portable>⟧.shape
         (part ⟦<ArchivedString as Portable>⟧.shape (part ⟦<u8 as Portable>⟧.shape
-        (part ⟦<u8 as Portable>⟧.shape (part ⟦<ArchivedU64 as Portable>⟧.shape no_part))))))) };
+        (part ⟦<ArchivedU64 as Portable>⟧.shape no_part)))))) };
 
     ghost begins = { λ n. begins_over n 1 1 (inl refl) _
         (λ n. begins_over n 1 2 (inl refl) _ (λ n. begins_over n 4 8 (inr (inr (inl refl))) _
-        (λ n. begins_over n 1 1 (inl refl) _ (λ n. begins_over n 1 1 (inl refl) _
-        (λ n. begins_over n 8 8 (inr (inr (inr (inl refl)))) _ begins_at))))) };
+        (λ n. begins_over n 1 1 (inl refl) _ (λ n. begins_over n 8 8 (inr (inr (inr (inl refl)))) _
+        begins_at)))) };
 
     ghost within = { λ n. within_over (up n 1) 1 _ _ _
         (λ n. rises_over n 1 2 (inl refl) _ (λ n. rises_over n 4 8 (inr (inr (inl refl))) _
-        (λ n. rises_over n 1 1 (inl refl) _ (λ n. rises_over n 1 1 (inl refl) _
-        (λ n. rises_over n 8 8 (inr (inr (inr (inl refl)))) _ no_lower)))))
-        (λ n. within_over (up n 1) 2 _ _ _ (λ n. rises_over n 4 8 (inr (inr (inl refl))) _
-        (λ n. rises_over n 1 1 (inl refl) _ (λ n. rises_over n 1 1 (inl refl) _
-        (λ n. rises_over n 8 8 (inr (inr (inr (inl refl)))) _ no_lower))))
-        (λ n. within_over (up n 4) 8 _ _ _ (λ n. rises_over n 1 1 (inl refl) _
         (λ n. rises_over n 1 1 (inl refl) _ (λ n. rises_over n 8 8 (inr (inr (inr (inl refl)))) _
-        no_lower))) (λ n. within_over (up n 1) 1 _ _ _ (λ n. rises_over n 1 1 (inl refl) _
+        no_lower)))) (λ n. within_over (up n 1) 2 _ _ _
+        (λ n. rises_over n 4 8 (inr (inr (inl refl))) _
+        (λ n. rises_over n 1 1 (inl refl) _ (λ n. rises_over n 8 8 (inr (inr (inr (inl refl)))) _
+        no_lower))) (λ n. within_over (up n 4) 8 _ _ _ (λ n. rises_over n 1 1 (inl refl) _
         (λ n. rises_over n 8 8 (inr (inr (inr (inl refl)))) _ no_lower))
         (λ n. within_over (up n 1) 1 _ _ _ (λ n. rises_over n 8 8 (inr (inr (inr (inl refl)))) _
-        no_lower) (λ n. within_over (up n 8) 8 _ _ _ no_lower within_at))))) };
+        no_lower) (λ n. within_over (up n 8) 8 _ _ _ no_lower within_at)))) };
 
     fn align() -> usize {
         <ShipmentBlock1 as PortableParts>::align()
@@ -457,10 +429,7 @@ impl PortableParts for ShipmentRest1 {
         <ShipmentBlock1 as PortableParts>::offset_from(start, i)
     }
 
-    fn push_exprs(
-        alloc: Global,
-        list: &mut Vec<archive_core::shape::Expr>,
-    ) -> Result<(), Error> {
+    fn push_exprs(alloc: Global, list: &mut Vec<archive_core::shape::Expr>) -> Result<(), Error> {
         <ShipmentBlock1 as PortableParts>::push_exprs(alloc, list)
     }
 
@@ -486,8 +455,7 @@ impl SourceParts<Shipment> for ShipmentRest1 {
       each = λ v. part_keyed (number_keyed _) (part_keyed
           (record_keyed (part_keyed (number_keyed _) (part_keyed (number_keyed _) nothing_keyed)))
           (part_keyed (text_keyed (string_bytes v.sender))
-          (part_keyed (number_keyed _) (part_keyed (number_keyed _)
-          (part_keyed (number_keyed _) nothing_keyed)))));
+          (part_keyed (number_keyed _) (part_keyed (number_keyed _) nothing_keyed))));
     } };
 
     ghost planned = { record {
@@ -511,11 +479,9 @@ impl SourceParts<Shipment> for ShipmentRest1 {
           (string_planned no_definition [] (string_bytes v.sender))
           (part_planned no_definition ⟦<u8 as Portable>⟧.shape (⟦<u8 as Archive>⟧.keys v.due)
           (⟦<u8 as Archive>⟧.meaning v.due) (leaf_planned no_definition _ _ [] _ refl)
-          (part_planned no_definition ⟦<u8 as Portable>⟧.shape (⟦<u8 as Archive>⟧.keys v.seals)
-          (⟦<u8 as Archive>⟧.meaning v.seals) (leaf_planned no_definition _ _ [] _ refl)
           (part_planned no_definition ⟦<ArchivedU64 as Portable>⟧.shape
           (⟦<u64 as Archive>⟧.keys v.came) (⟦<u64 as Archive>⟧.meaning v.came)
-          (leaf_planned no_definition _ _ [] _ refl) no_part_planned)))));
+          (leaf_planned no_definition _ _ [] _ refl) no_part_planned))));
     } };
 
     #[inline(always)]
@@ -541,7 +507,7 @@ impl<S: Writer + ResolverAlloc<Alloc = Global>> SerializeParts<Shipment, S> for 
     }
 }
 
-type ShipmentValues1 = FourParts<u8, (u8, u8), String, u8, (u8, (u64, ()))>;
+type ShipmentValues1 = FourParts<u8, (u8, u8), String, u8, (u64, ())>;
 
 /// Their values, as they are read back.
 pub struct ShipmentOwned1 {
@@ -588,8 +554,7 @@ impl ArchivePointee for ArchivedShipment {
         (part ⟦<u8 as Portable>⟧.shape (part ⟦<u8 as Portable>⟧.shape
         (part ⟦<u8 as Portable>⟧.shape (part ⟦<ArchivedTuple2<u8, u8> as Portable>⟧.shape
         (part ⟦<ArchivedString as Portable>⟧.shape (part ⟦<u8 as Portable>⟧.shape
-        (part ⟦<u8 as Portable>⟧.shape (part ⟦<ArchivedU64 as Portable>⟧.shape
-        no_part))))))))))))))))))) };
+        (part ⟦<ArchivedU64 as Portable>⟧.shape no_part)))))))))))))))))) };
 
     ghost definitions = { no_definition };
 
@@ -610,8 +575,7 @@ impl Portable for ArchivedShipment {
         (part ⟦<u8 as Portable>⟧.shape (part ⟦<u8 as Portable>⟧.shape
         (part ⟦<u8 as Portable>⟧.shape (part ⟦<ArchivedTuple2<u8, u8> as Portable>⟧.shape
         (part ⟦<ArchivedString as Portable>⟧.shape (part ⟦<u8 as Portable>⟧.shape
-        (part ⟦<u8 as Portable>⟧.shape (part ⟦<ArchivedU64 as Portable>⟧.shape
-        no_part)))))))))))))))))) };
+        (part ⟦<ArchivedU64 as Portable>⟧.shape no_part))))))))))))))))) };
 
     ghost layout = { record { size = 56; align = 8 } };
 
@@ -632,8 +596,7 @@ impl Portable for ArchivedShipment {
         (part ⟦<u8 as Portable>⟧.shape (part ⟦<u8 as Portable>⟧.shape
         (part ⟦<u8 as Portable>⟧.shape (part ⟦<ArchivedTuple2<u8, u8> as Portable>⟧.shape
         (part ⟦<ArchivedString as Portable>⟧.shape (part ⟦<u8 as Portable>⟧.shape
-        (part ⟦<u8 as Portable>⟧.shape (part ⟦<ArchivedU64 as Portable>⟧.shape
-        no_part))))))))))))))))))) };
+        (part ⟦<ArchivedU64 as Portable>⟧.shape no_part)))))))))))))))))) };
 
     ghost checks = { λ _. plain_own_check _ _ _ _ _ refl refl refl refl };
 
@@ -664,8 +627,7 @@ impl SelfCheck for ArchivedShipment {
         (part ⟦<u8 as Portable>⟧.shape (part ⟦<u8 as Portable>⟧.shape
         (part ⟦<u8 as Portable>⟧.shape (part ⟦<ArchivedTuple2<u8, u8> as Portable>⟧.shape
         (part ⟦<ArchivedString as Portable>⟧.shape (part ⟦<u8 as Portable>⟧.shape
-        (part ⟦<u8 as Portable>⟧.shape (part ⟦<ArchivedU64 as Portable>⟧.shape
-        no_part)))))))))))))))))) };
+        (part ⟦<ArchivedU64 as Portable>⟧.shape no_part))))))))))))))))) };
 
     ghost definitions = { (both no_definition (both no_definition
         (both no_definition (both (both no_definition (both no_definition no_definition))
@@ -674,7 +636,7 @@ impl SelfCheck for ArchivedShipment {
         (both no_definition (both no_definition (both no_definition
         (both (both no_definition (both no_definition no_definition))
         (both no_definition (both no_definition (both no_definition
-        (both no_definition no_definition)))))))))))))))))) };
+        no_definition))))))))))))))))) };
 
     ghost span = { 56 };
 
@@ -713,15 +675,15 @@ impl Record for ArchivedShipment {
         (part ⟦<u8 as Portable>⟧.shape (part ⟦<u8 as Portable>⟧.shape
         (part ⟦<u8 as Portable>⟧.shape (part ⟦<ArchivedTuple2<u8, u8> as Portable>⟧.shape
         (part ⟦<ArchivedString as Portable>⟧.shape (part ⟦<u8 as Portable>⟧.shape
-        (part ⟦<u8 as Portable>⟧.shape (part ⟦<ArchivedU64 as Portable>⟧.shape
-        no_part)))))))))))))))))) (both no_definition (both no_definition
-        (both no_definition (both (both no_definition (both no_definition no_definition))
+        (part ⟦<ArchivedU64 as Portable>⟧.shape no_part)))))))))))))))))
+        (both no_definition (both no_definition (both no_definition
+        (both (both no_definition (both no_definition no_definition))
         (both no_definition (both no_definition (both no_definition
         (both no_definition (both no_definition (both no_definition
         (both no_definition (both no_definition (both no_definition
         (both (both no_definition (both no_definition no_definition))
-        (both no_definition (both no_definition (both no_definition
-        (both no_definition no_definition)))))))))))))))))) refl };
+        (both no_definition (both no_definition (both no_definition no_definition)))))))))))))))))
+        refl };
 
     ghost holds = { lit≤ tt };
 }
@@ -779,8 +741,8 @@ impl Archive for Shipment {
         (value (⟦<u8 as Archive>⟧.meaning v.boxes) (value (⟦<u8 as Archive>⟧.meaning v.ports)
         (value (⟦<u8 as Archive>⟧.meaning v.stamps) (value (⟦<(u8, u8) as Archive>⟧.meaning v.size)
         (value (⟦<String as Archive>⟧.meaning v.sender)
-        (value (⟦<u8 as Archive>⟧.meaning v.due) (value (⟦<u8 as Archive>⟧.meaning v.seals)
-        (value (⟦<u64 as Archive>⟧.meaning v.came) no_value)))))))))))))))))) };
+        (value (⟦<u8 as Archive>⟧.meaning v.due) (value (⟦<u64 as Archive>⟧.meaning v.came)
+        no_value))))))))))))))))) };
 
     ghost flat = { λ v r. product (value (⟦<u8 as Archive>⟧.flat v.number r.kept.0)
         (value (⟦<[u8; 4] as Archive>⟧.flat v.key r.kept.1.0)
@@ -798,9 +760,8 @@ impl Archive for Shipment {
         (value (⟦<(u8, u8) as Archive>⟧.flat v.size r.kept.1.1.1.1.1.1.1.1.1.1.1.1.kept.1.0)
         (value (⟦<String as Archive>⟧.flat v.sender r.kept.1.1.1.1.1.1.1.1.1.1.1.1.kept.1.1.0)
         (value (⟦<u8 as Archive>⟧.flat v.due r.kept.1.1.1.1.1.1.1.1.1.1.1.1.kept.1.1.1.0)
-        (value (⟦<u8 as Archive>⟧.flat v.seals r.kept.1.1.1.1.1.1.1.1.1.1.1.1.kept.1.1.1.1.0)
-        (value (⟦<u64 as Archive>⟧.flat v.came r.kept.1.1.1.1.1.1.1.1.1.1.1.1.kept.1.1.1.1.1.0)
-        no_value)))))))))))))))))) };
+        (value (⟦<u64 as Archive>⟧.flat v.came r.kept.1.1.1.1.1.1.1.1.1.1.1.1.kept.1.1.1.1.0)
+        no_value))))))))))))))))) };
 
     ghost keys = { λ v. ⟦<u8 as Archive>⟧.keys v.number
         ++ (⟦<[u8; 4] as Archive>⟧.keys v.key ++ (⟦<bool as Archive>⟧.keys v.is_open
@@ -811,8 +772,7 @@ impl Archive for Shipment {
         ++ (⟦<u8 as Archive>⟧.keys v.boxes ++ (⟦<u8 as Archive>⟧.keys v.ports
         ++ (⟦<u8 as Archive>⟧.keys v.stamps ++ (⟦<(u8, u8) as Archive>⟧.keys v.size
         ++ (⟦<String as Archive>⟧.keys v.sender ++ (⟦<u8 as Archive>⟧.keys v.due
-        ++ (⟦<u8 as Archive>⟧.keys v.seals ++ (⟦<u64 as Archive>⟧.keys v.came
-        ++ []))))))))))))))))) };
+        ++ (⟦<u64 as Archive>⟧.keys v.came ++ [])))))))))))))))) };
 
     ghost belongs = { λ v r. ⟦<u8 as Archive>⟧.belongs v.number r.kept.0
         × (⟦<[u8; 4] as Archive>⟧.belongs v.key r.kept.1.0
@@ -830,9 +790,8 @@ impl Archive for Shipment {
         × (⟦<(u8, u8) as Archive>⟧.belongs v.size r.kept.1.1.1.1.1.1.1.1.1.1.1.1.kept.1.0
         × (⟦<String as Archive>⟧.belongs v.sender r.kept.1.1.1.1.1.1.1.1.1.1.1.1.kept.1.1.0
         × (⟦<u8 as Archive>⟧.belongs v.due r.kept.1.1.1.1.1.1.1.1.1.1.1.1.kept.1.1.1.0
-        × (⟦<u8 as Archive>⟧.belongs v.seals r.kept.1.1.1.1.1.1.1.1.1.1.1.1.kept.1.1.1.1.0
-        × (⟦<u64 as Archive>⟧.belongs v.came r.kept.1.1.1.1.1.1.1.1.1.1.1.1.kept.1.1.1.1.1.0
-        × Unit {0}))))))))))))))))) };
+        × (⟦<u64 as Archive>⟧.belongs v.came r.kept.1.1.1.1.1.1.1.1.1.1.1.1.kept.1.1.1.1.0
+        × Unit {0})))))))))))))))) };
 
     ghost in_bulk = { None };
 
@@ -849,8 +808,7 @@ impl Archive for Shipment {
         (part_keyed (number_keyed _) (part_keyed (record_keyed
         (part_keyed (number_keyed _) (part_keyed (number_keyed _) nothing_keyed)))
         (part_keyed (text_keyed (string_bytes v.sender))
-        (part_keyed (number_keyed _) (part_keyed (number_keyed _)
-        (part_keyed (number_keyed _) nothing_keyed)))))))))))))))))) };
+        (part_keyed (number_keyed _) (part_keyed (number_keyed _) nothing_keyed))))))))))))))))) };
 
     ghost planned = { λ v. plain_record_planned (both no_definition
         (both no_definition (both no_definition (both (both no_definition
@@ -859,7 +817,7 @@ impl Archive for Shipment {
         (both no_definition (both no_definition (both no_definition
         (both no_definition (both no_definition (both (both no_definition
         (both no_definition no_definition)) (both no_definition
-        (both no_definition (both no_definition (both no_definition no_definition))))))))))))))))))
+        (both no_definition (both no_definition no_definition)))))))))))))))))
         (part ⟦<u8 as Portable>⟧.shape (part ⟦<[u8; 4] as Portable>⟧.shape
         (part ⟦<bool as Portable>⟧.shape
         (part ⟦<ArchivedOption<ArchivedTuple2<ArchivedU32, ArchivedString>> as Portable>⟧.shape
@@ -869,14 +827,13 @@ impl Archive for Shipment {
         (part ⟦<u8 as Portable>⟧.shape (part ⟦<u8 as Portable>⟧.shape
         (part ⟦<u8 as Portable>⟧.shape (part ⟦<ArchivedTuple2<u8, u8> as Portable>⟧.shape
         (part ⟦<ArchivedString as Portable>⟧.shape (part ⟦<u8 as Portable>⟧.shape
-        (part ⟦<u8 as Portable>⟧.shape (part ⟦<ArchivedU64 as Portable>⟧.shape
-        no_part)))))))))))))))))) _ _ (part_planned no_definition ⟦<u8 as Portable>⟧.shape
-        (⟦<u8 as Archive>⟧.keys v.number) (⟦<u8 as Archive>⟧.meaning v.number)
-        (leaf_planned no_definition _ _ [] _ refl) (part_planned no_definition
-        ⟦<[u8; 4] as Portable>⟧.shape (⟦<[u8; 4] as Archive>⟧.keys v.key)
-        (⟦<[u8; 4] as Archive>⟧.meaning v.key) (array_planned 4 no_definition
-        ⟦<u8 as Portable>⟧.shape ⟦<u8 as Archive>⟧.keys ⟦<u8 as Archive>⟧.meaning
-        (λ x. leaf_planned no_definition _ _ [] _ refl) v.key)
+        (part ⟦<ArchivedU64 as Portable>⟧.shape no_part))))))))))))))))) _ _
+        (part_planned no_definition ⟦<u8 as Portable>⟧.shape (⟦<u8 as Archive>⟧.keys v.number)
+        (⟦<u8 as Archive>⟧.meaning v.number) (leaf_planned no_definition _ _ [] _ refl)
+        (part_planned no_definition ⟦<[u8; 4] as Portable>⟧.shape
+        (⟦<[u8; 4] as Archive>⟧.keys v.key) (⟦<[u8; 4] as Archive>⟧.meaning v.key)
+        (array_planned 4 no_definition ⟦<u8 as Portable>⟧.shape ⟦<u8 as Archive>⟧.keys
+        ⟦<u8 as Archive>⟧.meaning (λ x. leaf_planned no_definition _ _ [] _ refl) v.key)
         (part_planned no_definition ⟦<bool as Portable>⟧.shape (⟦<bool as Archive>⟧.keys v.is_open)
         (⟦<bool as Archive>⟧.meaning v.is_open) (leaf_planned no_definition _ _ [] _ refl)
         (part_planned (both no_definition (both no_definition no_definition))
@@ -931,11 +888,9 @@ impl Archive for Shipment {
         (string_planned no_definition [] (string_bytes v.sender))
         (part_planned no_definition ⟦<u8 as Portable>⟧.shape (⟦<u8 as Archive>⟧.keys v.due)
         (⟦<u8 as Archive>⟧.meaning v.due) (leaf_planned no_definition _ _ [] _ refl)
-        (part_planned no_definition ⟦<u8 as Portable>⟧.shape (⟦<u8 as Archive>⟧.keys v.seals)
-        (⟦<u8 as Archive>⟧.meaning v.seals) (leaf_planned no_definition _ _ [] _ refl)
         (part_planned no_definition ⟦<ArchivedU64 as Portable>⟧.shape
         (⟦<u64 as Archive>⟧.keys v.came) (⟦<u64 as Archive>⟧.meaning v.came)
-        (leaf_planned no_definition _ _ [] _ refl) no_part_planned)))))))))))))))))) refl };
+        (leaf_planned no_definition _ _ [] _ refl) no_part_planned))))))))))))))))) refl };
 
     #[inline(always)]
     fn resolve(
@@ -945,23 +900,12 @@ impl Archive for Shipment {
     ) -> Result<(), Error>
         requires zeroed { ZeroedPlace 56 place.pos place.bytes.now }
         requires same_value { ⟦<Self as Archive>⟧.belongs self.now resolver }
-        ensures {
-            ResolvesAs ⟦<Self::Archived as Portable>⟧ place
-                (⟦<Self as Archive>⟧.flat self.now resolver) result
-        }
+        ensures { ResolvesAs ⟦<Self::Archived as Portable>⟧ place
+            (⟦<Self as Archive>⟧.flat self.now resolver) result }
     {
         let Place { bytes, pos, .. } = place;
         let ShipmentResolver { kept } = resolver;
-        let (
-            r0,
-            (
-                r1,
-                (
-                    r2,
-                    (r3, (r4, (r5, (r6, (r7, (r8, (r9, (r10, (r11, behind))))))))),
-                ),
-            ),
-        ) = kept;
+        let (r0, (r1, (r2, (r3, (r4, (r5, (r6, (r7, (r8, (r9, (r10, (r11, behind)))))))))))) = kept;
         resolve_record::<Self, ShipmentFields, ArchivedShipment>(
             self,
             (
@@ -1029,9 +973,9 @@ impl ArchiveUnsized for Shipment {
         (part ⟦<u8 as Portable>⟧.shape (part ⟦<u8 as Portable>⟧.shape
         (part ⟦<u8 as Portable>⟧.shape (part ⟦<ArchivedTuple2<u8, u8> as Portable>⟧.shape
         (part ⟦<ArchivedString as Portable>⟧.shape (part ⟦<u8 as Portable>⟧.shape
-        (part ⟦<u8 as Portable>⟧.shape (part ⟦<ArchivedU64 as Portable>⟧.shape
-        no_part))))))))))))))))))) (⟦<Shipment as Archive>⟧.keys v)
-        (⟦<Shipment as Archive>⟧.meaning v) (planned_of_shipment v) };
+        (part ⟦<ArchivedU64 as Portable>⟧.shape no_part))))))))))))))))))
+        (⟦<Shipment as Archive>⟧.keys v) (⟦<Shipment as Archive>⟧.meaning v)
+        (planned_of_shipment v) };
 
     #[inline(always)]
     fn archived_metadata(&self) -> Result<(), Error> {
@@ -1065,9 +1009,8 @@ fn shipment_of(values: ShipmentOwned) -> Shipment
         (value (⟦<(u8, u8) as Archive>⟧.meaning values.rest.rest.rest.values.second)
         (value (⟦<String as Archive>⟧.meaning values.rest.rest.rest.values.third)
         (value (⟦<u8 as Archive>⟧.meaning values.rest.rest.rest.values.fourth)
-        (value (⟦<u8 as Archive>⟧.meaning values.rest.rest.rest.values.rest.0)
-        (value (⟦<u64 as Archive>⟧.meaning values.rest.rest.rest.values.rest.1.0)
-        no_value)))))))))))))))))) }
+        (value (⟦<u64 as Archive>⟧.meaning values.rest.rest.rest.values.rest.0)
+        no_value))))))))))))))))) }
     ensures keys { ⟦<Shipment as Archive>⟧.keys result ≡ ⟦<u8 as Archive>⟧.keys values.first
         ++ (⟦<OwnedArray<u8, 4> as Archive>⟧.keys values.second
         ++ (⟦<bool as Archive>⟧.keys values.third ++ (⟦<Option<(u32, String)> as Archive>⟧.keys
@@ -1081,8 +1024,7 @@ fn shipment_of(values: ShipmentOwned) -> Shipment
         ++ (⟦<(u8, u8) as Archive>⟧.keys values.rest.rest.rest.values.second
         ++ (⟦<String as Archive>⟧.keys values.rest.rest.rest.values.third
         ++ (⟦<u8 as Archive>⟧.keys values.rest.rest.rest.values.fourth
-        ++ (⟦<u8 as Archive>⟧.keys values.rest.rest.rest.values.rest.0
-        ++ (⟦<u64 as Archive>⟧.keys values.rest.rest.rest.values.rest.1.0 ++ []))))))))))))))))) }
+        ++ (⟦<u64 as Archive>⟧.keys values.rest.rest.rest.values.rest.0 ++ [])))))))))))))))) }
 {
     let FourParts {
         first: a0,
@@ -1113,7 +1055,7 @@ fn shipment_of(values: ShipmentOwned) -> Shipment
         fourth: a15,
         rest,
     } = values;
-    let (a16, (a17, ())) = rest;
+    let (a16, ()) = rest;
     Shipment {
         number: a0,
         key: a1.into_array(),
@@ -1131,8 +1073,7 @@ fn shipment_of(values: ShipmentOwned) -> Shipment
         size: a13,
         sender: a14,
         due: a15,
-        seals: a16,
-        came: a17,
+        came: a16,
     }
 }
 
@@ -1203,9 +1144,6 @@ pub trait ShipmentView<'a> {
 
     /// In how many days it is due.
     fn due(self) -> Ref<'a, u8>;
-
-    /// How many seals it has.
-    fn seals(self) -> Ref<'a, u8>;
 
     /// When it came, in seconds.
     fn came(self) -> Ref<'a, ArchivedU64>;
@@ -1359,22 +1297,13 @@ impl<'a> ShipmentView<'a> for Ref<'a, ArchivedShipment> {
         part_in_record::<ArchivedShipment, u8>(self, 15, 44)
     }
 
-    fn seals(self) -> Ref<'a, u8>
-        ensures buffer { result.bytes.now ≡ self.entry.bytes.now }
-        ensures position { result.pos ≡ self.entry.pos + 45 }
-        ensures length { result.len ≡ 0 }
-        ensures shows { ShowsValueOf result self.entry (field_in 16) }
-    {
-        part_in_record::<ArchivedShipment, u8>(self, 16, 45)
-    }
-
     fn came(self) -> Ref<'a, ArchivedU64>
         ensures buffer { result.bytes.now ≡ self.entry.bytes.now }
         ensures position { result.pos ≡ self.entry.pos + 48 }
         ensures length { result.len ≡ 0 }
-        ensures shows { ShowsValueOf result self.entry (field_in 17) }
+        ensures shows { ShowsValueOf result self.entry (field_in 16) }
     {
-        part_in_record::<ArchivedShipment, ArchivedU64>(self, 17, 48)
+        part_in_record::<ArchivedShipment, ArchivedU64>(self, 16, 48)
     }
 }
 
@@ -1445,10 +1374,6 @@ pub trait ShipmentSeal<'a> {
 
     /// In how many days it is due.
     fn due_mut(self) -> Seal<'a, u8>
-        requires { sealed self };
-
-    /// How many seals it has.
-    fn seals_mut(self) -> Seal<'a, u8>
         requires { sealed self };
 
     /// When it came, in seconds.
@@ -1609,21 +1534,12 @@ impl<'a> ShipmentSeal<'a> for Seal<'a, ArchivedShipment> {
         sealed_part_in_record::<ArchivedShipment, u8>(self, 15, 44)
     }
 
-    fn seals_mut(self) -> Seal<'a, u8>
-        requires come_to { IsSealOf no_definition (one ⟦<ArchivedShipment as Portable>⟧.shape)
-            self }
-        ensures { SealsPart no_definition (one ⟦<ArchivedShipment as Portable>⟧.shape) no_definition
-            ⟦<u8 as ArchivePointee>⟧.pointee (self.entry.pos + 45) 0 self.entry result }
-    {
-        sealed_part_in_record::<ArchivedShipment, u8>(self, 16, 45)
-    }
-
     fn came_mut(self) -> Seal<'a, ArchivedU64>
         requires come_to { IsSealOf no_definition (one ⟦<ArchivedShipment as Portable>⟧.shape)
             self }
         ensures { SealsPart no_definition (one ⟦<ArchivedShipment as Portable>⟧.shape) no_definition
             ⟦<ArchivedU64 as ArchivePointee>⟧.pointee (self.entry.pos + 48) 0 self.entry result }
     {
-        sealed_part_in_record::<ArchivedShipment, ArchivedU64>(self, 17, 48)
+        sealed_part_in_record::<ArchivedShipment, ArchivedU64>(self, 16, 48)
     }
 }

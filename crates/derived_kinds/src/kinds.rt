@@ -39,24 +39,20 @@ pub struct Owners {
     pub of: PhantomData<u64>,
 }
 
-/// Lists, and a record with parameters.
+/// Lists, and a record with parameters. Its fields have no names.
 #[derive(Drop)]
-pub struct Lists {
+pub struct Lists(
     /// Four numbers.
-    pub four: OwnedArray<i16, 4>,
+    pub OwnedArray<i16, 4>,
     /// Places, perhaps.
-    pub spots: Vec<Option<Spot>>,
+    pub Vec<Option<Spot>>,
     /// A number and a place.
-    pub pair: Pair<u64, Spot>,
-}
+    pub Pair<u64, Spot>,
+);
 
 /// Nothing at all.
 #[derive(Debug, PartialEq, Drop)]
 pub struct Empty;
-
-/// A struct without names.
-#[derive(Debug, PartialEq, Drop)]
-pub struct Unnamed(pub u8, pub String);
 
 // Below this line all is written by tools/derive: change what is above it, and run it again.
 
@@ -88,9 +84,8 @@ use archive_core::boxed::ArchivedBox;
 use archive_core::core_impls::ArchivedTuple2;
 use archive_core::error::Error;
 use archive_core::fields::{
-    part_in_record, resolve_record_0, resolve_record_2, resolve_record_3, resolve_record_5,
-    resolve_record_6, serialize_record_0, serialize_record_2, serialize_record_3,
-    serialize_record_5, serialize_record_6,
+    part_in_record, resolve_record_0, resolve_record_3, resolve_record_5, resolve_record_6,
+    serialize_record_0, serialize_record_3, serialize_record_5, serialize_record_6,
 };
 use archive_core::option::ArchivedOption;
 use archive_core::place::Place;
@@ -106,8 +101,8 @@ use archive_core::shape::Defs;
 use archive_core::slice::ArchivedSlice;
 use archive_core::string::{ArchivedStr, ArchivedString};
 use archive_core::traits::{
-    Archive, ArchivePointee, ArchiveUnsized, CopyOptimization, Deserialize, Entries, Keys,
-    Portable, Record, Serialize, SerializeUnsized, expr_of_record,
+    Archive, ArchivePointee, ArchiveUnsized, CopyOptimization, Deserialize, Entries, FourParts,
+    Keys, Portable, Record, Serialize, SerializeUnsized, expr_of_record,
 };
 use archive_core::validation::ArchiveContext;
 use archive_core::vec::ArchivedVec;
@@ -118,15 +113,15 @@ use std::alloc::Global;
 /// An archived `Numbers`: 48 bytes at a multiple of 16.
 pub struct ArchivedNumbers;
 
-type NumbersParts = (
+type NumbersParts = FourParts<
     NonZero<u32>,
-    (
-        ArchivedUsize,
-        (ArchivedIsize, (ArchivedI128, (bool, ((), ())))),
-    ),
-);
+    ArchivedUsize,
+    ArchivedIsize,
+    ArchivedI128,
+    (bool, ((), ())),
+>;
 
-type NumbersOwned = (NonZero<u32>, (usize, (isize, (i128, (bool, ((), ()))))));
+type NumbersOwned = FourParts<NonZero<u32>, usize, isize, i128, (bool, ((), ()))>;
 
 impl ArchivePointee for ArchivedNumbers {
     type ArchivedMetadata = ();
@@ -415,14 +410,24 @@ impl<D: Entries> Deserialize<Numbers, D> for ArchivedNumbers {
             ⟦<Numbers as Archive>⟧ result }
     {
         match deserialize_record::<Self, NumbersOwned, D>(alloc, part, deserializer) {
-            Ok((a0, (a1, (a2, (a3, (a4, (a5, ()))))))) => Ok(Numbers {
-                some: a0,
-                size: a1,
-                distance: a2,
-                wide: a3,
-                so: a4,
-                nothing: a5,
-            }),
+            Ok(
+                FourParts {
+                    first: a0,
+                    second: a1,
+                    third: a2,
+                    fourth: a3,
+                    rest: (a4, (a5, ())),
+                },
+            ) => {
+                Ok(Numbers {
+                    some: a0,
+                    size: a1,
+                    distance: a2,
+                    wide: a3,
+                    so: a4,
+                    nothing: a5,
+                })
+            }
             Err(error) => Err(error),
         }
     }
@@ -590,24 +595,21 @@ impl<'a> NumbersSeal<'a> for Seal<'a, ArchivedNumbers> {
 /// An archived `Owners`: 40 bytes at a multiple of 4.
 pub struct ArchivedOwners;
 
-type OwnersParts = (
+type OwnersParts = FourParts<
     ArchivedResult<u8, ArchivedString>,
-    (
-        ArchivedBox<ArchivedSlice<ArchivedU16>>,
-        (
-            ArchivedBox<ArchivedStr>,
-            (ArchivedTuple2<u8, ArchivedString>, (PhantomData<u64>, ())),
-        ),
-    ),
-);
+    ArchivedBox<ArchivedSlice<ArchivedU16>>,
+    ArchivedBox<ArchivedStr>,
+    ArchivedTuple2<u8, ArchivedString>,
+    (PhantomData<u64>, ()),
+>;
 
-type OwnersOwned = (
+type OwnersOwned = FourParts<
     Result<u8, String>,
-    (
-        BoxSlice<u16>,
-        (BoxStr, ((u8, String), (PhantomData<u64>, ()))),
-    ),
-);
+    BoxSlice<u16>,
+    BoxStr,
+    (u8, String),
+    (PhantomData<u64>, ()),
+>;
 
 impl ArchivePointee for ArchivedOwners {
     type ArchivedMetadata = ();
@@ -943,13 +945,23 @@ impl<D: Entries> Deserialize<Owners, D> for ArchivedOwners {
             ⟦<Owners as Archive>⟧ result }
     {
         match deserialize_record::<Self, OwnersOwned, D>(alloc, part, deserializer) {
-            Ok((a0, (a1, (a2, (a3, (a4, ())))))) => Ok(Owners {
-                outcome: a0,
-                numbers: a1,
-                text: a2,
-                both: a3,
-                of: a4,
-            }),
+            Ok(
+                FourParts {
+                    first: a0,
+                    second: a1,
+                    third: a2,
+                    fourth: a3,
+                    rest: (a4, ()),
+                },
+            ) => {
+                Ok(Owners {
+                    outcome: a0,
+                    numbers: a1,
+                    text: a2,
+                    both: a3,
+                    of: a4,
+                })
+            }
             Err(error) => Err(error),
         }
     }
@@ -1233,30 +1245,30 @@ impl Archive for Lists {
 
     type Resolver = ListsResolver;
 
-    ghost meaning = { λ v. product (value (⟦<OwnedArray<i16, 4> as Archive>⟧.meaning v.four)
-        (value (⟦<Vec<Option<Spot>> as Archive>⟧.meaning v.spots)
-        (value (⟦<Pair<u64, Spot> as Archive>⟧.meaning v.pair) no_value))) };
+    ghost meaning = { λ v. product (value (⟦<OwnedArray<i16, 4> as Archive>⟧.meaning v.0)
+        (value (⟦<Vec<Option<Spot>> as Archive>⟧.meaning v.1)
+        (value (⟦<Pair<u64, Spot> as Archive>⟧.meaning v.2) no_value))) };
 
-    ghost flat = { λ v r. product (value (⟦<OwnedArray<i16, 4> as Archive>⟧.flat v.four r.kept.0)
-        (value (⟦<Vec<Option<Spot>> as Archive>⟧.flat v.spots r.kept.1.0)
-        (value (⟦<Pair<u64, Spot> as Archive>⟧.flat v.pair r.kept.1.1.0) no_value))) };
+    ghost flat = { λ v r. product (value (⟦<OwnedArray<i16, 4> as Archive>⟧.flat v.0 r.kept.0)
+        (value (⟦<Vec<Option<Spot>> as Archive>⟧.flat v.1 r.kept.1.0)
+        (value (⟦<Pair<u64, Spot> as Archive>⟧.flat v.2 r.kept.1.1.0) no_value))) };
 
-    ghost keys = { λ v. ⟦<OwnedArray<i16, 4> as Archive>⟧.keys v.four
-        ++ (⟦<Vec<Option<Spot>> as Archive>⟧.keys v.spots
-        ++ (⟦<Pair<u64, Spot> as Archive>⟧.keys v.pair ++ [])) };
+    ghost keys = { λ v. ⟦<OwnedArray<i16, 4> as Archive>⟧.keys v.0
+        ++ (⟦<Vec<Option<Spot>> as Archive>⟧.keys v.1 ++ (⟦<Pair<u64, Spot> as Archive>⟧.keys v.2
+        ++ [])) };
 
-    ghost belongs = { λ v r. ⟦<OwnedArray<i16, 4> as Archive>⟧.belongs v.four r.kept.0
-        × (⟦<Vec<Option<Spot>> as Archive>⟧.belongs v.spots r.kept.1.0
-        × (⟦<Pair<u64, Spot> as Archive>⟧.belongs v.pair r.kept.1.1.0 × Unit {0})) };
+    ghost belongs = { λ v r. ⟦<OwnedArray<i16, 4> as Archive>⟧.belongs v.0 r.kept.0
+        × (⟦<Vec<Option<Spot>> as Archive>⟧.belongs v.1 r.kept.1.0
+        × (⟦<Pair<u64, Spot> as Archive>⟧.belongs v.2 r.kept.1.1.0 × Unit {0})) };
 
     ghost in_bulk = { None };
 
     ghost keyed = { λ v. record_keyed (part_keyed (array_keyed 4 ⟦<i16 as Archive>⟧.keys
-        ⟦<i16 as Archive>⟧.meaning (λ x. number_keyed _) v.four)
+        ⟦<i16 as Archive>⟧.meaning (λ x. number_keyed _) v.0)
         (part_keyed (each_keyed ⟦<Option<Spot> as Archive>⟧.keys ⟦<Option<Spot> as Archive>⟧.meaning
         (λ x. option_keyed ⟦<Spot as Archive>⟧.keys ⟦<Spot as Archive>⟧.meaning keyed_of_spot x)
-        v.spots.items) (part_keyed (record_keyed (part_keyed (number_keyed _)
-        (part_keyed (keyed_of_spot v.pair.right) nothing_keyed))) nothing_keyed))) };
+        v.1.items) (part_keyed (record_keyed (part_keyed (number_keyed _)
+        (part_keyed (keyed_of_spot v.2.right) nothing_keyed))) nothing_keyed))) };
 
     ghost planned = { λ v. plain_record_planned (both no_definition
         (both no_definition (both (both no_definition (both no_definition no_definition))
@@ -1264,31 +1276,28 @@ impl Archive for Lists {
         (part ⟦<ArchivedVec<ArchivedOption<ArchivedSpot>> as Portable>⟧.shape
         (part ⟦<ArchivedPair<ArchivedU64, ArchivedSpot> as Portable>⟧.shape no_part))) _ _
         (part_planned no_definition ⟦<[ArchivedI16; 4] as Portable>⟧.shape
-        (⟦<OwnedArray<i16, 4> as Archive>⟧.keys v.four)
-        (⟦<OwnedArray<i16, 4> as Archive>⟧.meaning v.four)
+        (⟦<OwnedArray<i16, 4> as Archive>⟧.keys v.0) (⟦<OwnedArray<i16, 4> as Archive>⟧.meaning v.0)
         (array_planned 4 no_definition ⟦<ArchivedI16 as Portable>⟧.shape ⟦<i16 as Archive>⟧.keys
-        ⟦<i16 as Archive>⟧.meaning (λ x. leaf_planned no_definition _ _ [] _ refl) v.four)
+        ⟦<i16 as Archive>⟧.meaning (λ x. leaf_planned no_definition _ _ [] _ refl) v.0)
         (part_planned no_definition ⟦<ArchivedVec<ArchivedOption<ArchivedSpot>> as Portable>⟧.shape
-        (⟦<Vec<Option<Spot>> as Archive>⟧.keys v.spots)
-        (⟦<Vec<Option<Spot>> as Archive>⟧.meaning v.spots)
+        (⟦<Vec<Option<Spot>> as Archive>⟧.keys v.1) (⟦<Vec<Option<Spot>> as Archive>⟧.meaning v.1)
         (vec_planned no_definition ⟦<ArchivedOption<ArchivedSpot> as Portable>⟧.shape _ _ _
         (slice_planned no_definition ⟦<ArchivedOption<ArchivedSpot> as Portable>⟧.shape
         ⟦<Option<Spot> as Archive>⟧.keys ⟦<Option<Spot> as Archive>⟧.meaning
         (λ x. option_planned no_definition ⟦<ArchivedSpot as Portable>⟧.shape
-        ⟦<Spot as Archive>⟧.keys ⟦<Spot as Archive>⟧.meaning planned_of_spot x) v.spots.items))
+        ⟦<Spot as Archive>⟧.keys ⟦<Spot as Archive>⟧.meaning planned_of_spot x) v.1.items))
         (part_planned (both no_definition (both no_definition no_definition))
         ⟦<ArchivedPair<ArchivedU64, ArchivedSpot> as Portable>⟧.shape
-        (⟦<Pair<u64, Spot> as Archive>⟧.keys v.pair) (⟦<Pair<u64, Spot> as Archive>⟧.meaning v.pair)
+        (⟦<Pair<u64, Spot> as Archive>⟧.keys v.2) (⟦<Pair<u64, Spot> as Archive>⟧.meaning v.2)
         (product_planned (both no_definition (both no_definition no_definition))
         (part ⟦<ArchivedU64 as Portable>⟧.shape (part ⟦<ArchivedSpot as Portable>⟧.shape no_part))
-        (⟦<u64 as Archive>⟧.keys v.pair.left ++ (⟦<Spot as Archive>⟧.keys v.pair.right ++ []))
-        (value (⟦<u64 as Archive>⟧.meaning v.pair.left)
-        (value (⟦<Spot as Archive>⟧.meaning v.pair.right) no_value))
-        (part_planned no_definition ⟦<ArchivedU64 as Portable>⟧.shape
-        (⟦<u64 as Archive>⟧.keys v.pair.left) (⟦<u64 as Archive>⟧.meaning v.pair.left)
+        (⟦<u64 as Archive>⟧.keys v.2.left ++ (⟦<Spot as Archive>⟧.keys v.2.right ++ []))
+        (value (⟦<u64 as Archive>⟧.meaning v.2.left) (value (⟦<Spot as Archive>⟧.meaning v.2.right)
+        no_value)) (part_planned no_definition ⟦<ArchivedU64 as Portable>⟧.shape
+        (⟦<u64 as Archive>⟧.keys v.2.left) (⟦<u64 as Archive>⟧.meaning v.2.left)
         (leaf_planned no_definition _ _ [] _ refl) (part_planned no_definition
-        ⟦<ArchivedSpot as Portable>⟧.shape (⟦<Spot as Archive>⟧.keys v.pair.right)
-        (⟦<Spot as Archive>⟧.meaning v.pair.right) (planned_of_spot v.pair.right) no_part_planned)))
+        ⟦<ArchivedSpot as Portable>⟧.shape (⟦<Spot as Archive>⟧.keys v.2.right)
+        (⟦<Spot as Archive>⟧.meaning v.2.right) (planned_of_spot v.2.right) no_part_planned)))
         no_part_planned))) refl };
 
     #[inline(always)]
@@ -1305,9 +1314,9 @@ impl Archive for Lists {
         let Place { bytes, pos, .. } = place;
         let ListsResolver { kept } = resolver;
         resolve_record_3::<OwnedArray<i16, 4>, Vec<Option<Spot>>, Pair<u64, Spot>, ArchivedLists>(
-            &self.four,
-            &self.spots,
-            &self.pair,
+            &self.0,
+            &self.1,
+            &self.2,
             kept,
             Place::new(pos, bytes),
         )
@@ -1337,7 +1346,7 @@ impl<S: Writer + ResolverAlloc<Alloc = Global>> Serialize<S> for Lists {
             Pair<u64, Spot>,
             ArchivedLists,
             S,
-        >(&self.four, &self.spots, &self.pair, serializer)
+        >(&self.0, &self.1, &self.2, serializer)
         {
             Ok(kept) => Ok(ListsResolver { kept }),
             Err(error) => Err(error),
@@ -1392,11 +1401,7 @@ impl<D: Entries> Deserialize<Lists, D> for ArchivedLists {
             ⟦<Lists as Archive>⟧ result }
     {
         match deserialize_record::<Self, ListsOwned, D>(alloc, part, deserializer) {
-            Ok((a0, (a1, (a2, ())))) => Ok(Lists {
-                four: a0,
-                spots: a1,
-                pair: a2,
-            }),
+            Ok((a0, (a1, (a2, ())))) => Ok(Lists(a0, a1, a2)),
             Err(error) => Err(error),
         }
     }
@@ -1405,17 +1410,17 @@ impl<D: Entries> Deserialize<Lists, D> for ArchivedLists {
 /// The fields of an archived `Lists`, as views.
 pub trait ListsView<'a> {
     /// Four numbers.
-    fn four(self) -> Ref<'a, [ArchivedI16; 4]>;
+    fn field_0(self) -> Ref<'a, [ArchivedI16; 4]>;
 
     /// Places, perhaps.
-    fn spots(self) -> Ref<'a, ArchivedVec<ArchivedOption<ArchivedSpot>>>;
+    fn field_1(self) -> Ref<'a, ArchivedVec<ArchivedOption<ArchivedSpot>>>;
 
     /// A number and a place.
-    fn pair(self) -> Ref<'a, ArchivedPair<ArchivedU64, ArchivedSpot>>;
+    fn field_2(self) -> Ref<'a, ArchivedPair<ArchivedU64, ArchivedSpot>>;
 }
 
 impl<'a> ListsView<'a> for Ref<'a, ArchivedLists> {
-    fn four(self) -> Ref<'a, [ArchivedI16; 4]>
+    fn field_0(self) -> Ref<'a, [ArchivedI16; 4]>
         ensures buffer { result.bytes.now ≡ self.entry.bytes.now }
         ensures position { result.pos ≡ self.entry.pos + 0 }
         ensures length { result.len ≡ 0 }
@@ -1424,7 +1429,7 @@ impl<'a> ListsView<'a> for Ref<'a, ArchivedLists> {
         part_in_record::<ArchivedLists, [ArchivedI16; 4]>(self, 0, 0)
     }
 
-    fn spots(self) -> Ref<'a, ArchivedVec<ArchivedOption<ArchivedSpot>>>
+    fn field_1(self) -> Ref<'a, ArchivedVec<ArchivedOption<ArchivedSpot>>>
         ensures buffer { result.bytes.now ≡ self.entry.bytes.now }
         ensures position { result.pos ≡ self.entry.pos + 8 }
         ensures length { result.len ≡ 0 }
@@ -1433,7 +1438,7 @@ impl<'a> ListsView<'a> for Ref<'a, ArchivedLists> {
         part_in_record::<ArchivedLists, ArchivedVec<ArchivedOption<ArchivedSpot>>>(self, 1, 8)
     }
 
-    fn pair(self) -> Ref<'a, ArchivedPair<ArchivedU64, ArchivedSpot>>
+    fn field_2(self) -> Ref<'a, ArchivedPair<ArchivedU64, ArchivedSpot>>
         ensures buffer { result.bytes.now ≡ self.entry.bytes.now }
         ensures position { result.pos ≡ self.entry.pos + 16 }
         ensures length { result.len ≡ 0 }
@@ -1449,22 +1454,22 @@ pub trait ListsSeal<'a> {
     ghost sealed: { Self → Type 0 };
 
     /// Four numbers.
-    fn four_mut(self) -> Seal<'a, [ArchivedI16; 4]>
+    fn field_0_mut(self) -> Seal<'a, [ArchivedI16; 4]>
         requires { sealed self };
 
     /// Places, perhaps.
-    fn spots_mut(self) -> Seal<'a, ArchivedVec<ArchivedOption<ArchivedSpot>>>
+    fn field_1_mut(self) -> Seal<'a, ArchivedVec<ArchivedOption<ArchivedSpot>>>
         requires { sealed self };
 
     /// A number and a place.
-    fn pair_mut(self) -> Seal<'a, ArchivedPair<ArchivedU64, ArchivedSpot>>
+    fn field_2_mut(self) -> Seal<'a, ArchivedPair<ArchivedU64, ArchivedSpot>>
         requires { sealed self };
 }
 
 impl<'a> ListsSeal<'a> for Seal<'a, ArchivedLists> {
     ghost sealed = { λ s. IsSealOf no_definition (one ⟦<ArchivedLists as Portable>⟧.shape) s };
 
-    fn four_mut(self) -> Seal<'a, [ArchivedI16; 4]>
+    fn field_0_mut(self) -> Seal<'a, [ArchivedI16; 4]>
         requires come_to { IsSealOf no_definition (one ⟦<ArchivedLists as Portable>⟧.shape) self }
         ensures { SealsPart no_definition (one ⟦<ArchivedLists as Portable>⟧.shape) no_definition
             ⟦<[ArchivedI16; 4] as ArchivePointee>⟧.pointee (self.entry.pos + 0) 0 self.entry
@@ -1473,7 +1478,7 @@ impl<'a> ListsSeal<'a> for Seal<'a, ArchivedLists> {
         sealed_part_in_record::<ArchivedLists, [ArchivedI16; 4]>(self, 0, 0)
     }
 
-    fn spots_mut(self) -> Seal<'a, ArchivedVec<ArchivedOption<ArchivedSpot>>>
+    fn field_1_mut(self) -> Seal<'a, ArchivedVec<ArchivedOption<ArchivedSpot>>>
         requires come_to { IsSealOf no_definition (one ⟦<ArchivedLists as Portable>⟧.shape) self }
         ensures { SealsPart no_definition (one ⟦<ArchivedLists as Portable>⟧.shape) no_definition
             ⟦<ArchivedVec<ArchivedOption<ArchivedSpot>> as ArchivePointee>⟧.pointee
@@ -1484,7 +1489,7 @@ impl<'a> ListsSeal<'a> for Seal<'a, ArchivedLists> {
         )
     }
 
-    fn pair_mut(self) -> Seal<'a, ArchivedPair<ArchivedU64, ArchivedSpot>>
+    fn field_2_mut(self) -> Seal<'a, ArchivedPair<ArchivedU64, ArchivedSpot>>
         requires come_to { IsSealOf no_definition (one ⟦<ArchivedLists as Portable>⟧.shape) self }
         ensures { SealsPart no_definition (one ⟦<ArchivedLists as Portable>⟧.shape)
             (both no_definition (both no_definition no_definition))
@@ -1691,303 +1696,5 @@ impl<D: Entries> Deserialize<Empty, D> for ArchivedEmpty {
             Ok(()) => Ok(Empty),
             Err(error) => Err(error),
         }
-    }
-}
-
-/// An archived `Unnamed`: 12 bytes at a multiple of 4.
-pub struct ArchivedUnnamed;
-
-type UnnamedParts = (u8, (ArchivedString, ()));
-
-type UnnamedOwned = (u8, (String, ()));
-
-impl ArchivePointee for ArchivedUnnamed {
-    type ArchivedMetadata = ();
-
-    ghost pointee = { one (parts (part ⟦<u8 as Portable>⟧.shape
-        (part ⟦<ArchivedString as Portable>⟧.shape no_part))) };
-
-    ghost definitions = { no_definition };
-
-    ghost metadata_length = { λ _. 0 };
-
-    fn pointer_metadata(_metadata: &()) -> usize {
-        0
-    }
-}
-
-impl Portable for ArchivedUnnamed {
-    ghost shape = { parts (part ⟦<u8 as Portable>⟧.shape
-        (part ⟦<ArchivedString as Portable>⟧.shape no_part)) };
-
-    ghost layout = { record { size = 12; align = 4 } };
-
-    type Check = ArchivedUnnamed;
-
-    ghost is_one = { refl };
-
-    ghost is_align = { inr (inr (inl refl)) };
-
-    ghost has_layout = { record { solved = λ s k. refl } };
-
-    ghost no_others = { no_definition_reached (parts (part ⟦<u8 as Portable>⟧.shape
-        (part ⟦<ArchivedString as Portable>⟧.shape no_part))) };
-
-    ghost checks = { λ _. plain_own_check _ _ _ _ _ refl refl refl refl };
-
-    fn size() -> usize {
-        12
-    }
-
-    fn align() -> usize {
-        4
-    }
-
-    fn expr(alloc: Global) -> Result<archive_core::shape::Expr, Error> {
-        expr_of_record::<UnnamedParts>(alloc)
-    }
-
-    fn define(_alloc: Global, _defs: &mut Defs) -> Result<(), Error> {
-        Ok(())
-    }
-}
-
-impl SelfCheck for ArchivedUnnamed {
-    ghost shape = { parts (part ⟦<u8 as Portable>⟧.shape
-        (part ⟦<ArchivedString as Portable>⟧.shape no_part)) };
-
-    ghost definitions = { (both no_definition (both no_definition no_definition)) };
-
-    ghost span = { 12 };
-
-    ghost direct = { true };
-
-    ghost nameless = { true };
-
-    fn is_direct() -> bool {
-        true
-    }
-
-    fn is_nameless() -> bool {
-        true
-    }
-
-    #[inline(always)]
-    fn check_at<C: ArchiveContext>(
-        bytes: &[u8],
-        at: usize,
-        refusal: &mut Error,
-        context: &mut C,
-    ) -> Option<()> {
-        RecordCheck::<UnnamedParts>::check_at(bytes, at, refusal, context)
-    }
-}
-
-impl Record for ArchivedUnnamed {
-    type Parts = UnnamedParts;
-
-    ghost has_parts = { plain_record (part ⟦<u8 as Portable>⟧.shape
-        (part ⟦<ArchivedString as Portable>⟧.shape no_part))
-        (both no_definition (both no_definition no_definition)) refl };
-
-    ghost holds = { lit≤ tt };
-}
-
-/// What is kept of `Unnamed` between `serialize` and `resolve`.
-#[derive(Drop)]
-pub struct UnnamedResolver {
-    kept: (
-        <u8 as Archive>::Resolver,
-        (<String as Archive>::Resolver, ()),
-    ),
-}
-
-impl Archive for Unnamed {
-    type Archived = ArchivedUnnamed;
-
-    type Resolver = UnnamedResolver;
-
-    ghost meaning = { λ v. product (value (⟦<u8 as Archive>⟧.meaning v.0)
-        (value (⟦<String as Archive>⟧.meaning v.1) no_value)) };
-
-    ghost flat = { λ v r. product (value (⟦<u8 as Archive>⟧.flat v.0 r.kept.0)
-        (value (⟦<String as Archive>⟧.flat v.1 r.kept.1.0) no_value)) };
-
-    ghost keys = { λ v. ⟦<u8 as Archive>⟧.keys v.0 ++ (⟦<String as Archive>⟧.keys v.1 ++ []) };
-
-    ghost belongs = { λ v r. ⟦<u8 as Archive>⟧.belongs v.0 r.kept.0
-        × (⟦<String as Archive>⟧.belongs v.1 r.kept.1.0 × Unit {0}) };
-
-    ghost in_bulk = { None };
-
-    ghost keyed = { λ v. record_keyed (part_keyed (number_keyed _)
-        (part_keyed (text_keyed (string_bytes v.1)) nothing_keyed)) };
-
-    ghost planned = { λ v. plain_record_planned (both no_definition
-        (both no_definition no_definition)) (part ⟦<u8 as Portable>⟧.shape
-        (part ⟦<ArchivedString as Portable>⟧.shape no_part)) _ _
-        (part_planned no_definition ⟦<u8 as Portable>⟧.shape (⟦<u8 as Archive>⟧.keys v.0)
-        (⟦<u8 as Archive>⟧.meaning v.0) (leaf_planned no_definition _ _ [] _ refl)
-        (part_planned no_definition ⟦<ArchivedString as Portable>⟧.shape
-        (⟦<String as Archive>⟧.keys v.1) (⟦<String as Archive>⟧.meaning v.1)
-        (string_planned no_definition [] (string_bytes v.1)) no_part_planned)) refl };
-
-    #[inline(always)]
-    fn resolve(
-        &self,
-        resolver: Self::Resolver,
-        place: Place<'_, Self::Archived>,
-    ) -> Result<(), Error>
-        requires zeroed { ZeroedPlace 12 place.pos place.bytes.now }
-        requires same_value { ⟦<Self as Archive>⟧.belongs self.now resolver }
-        ensures { ResolvesAs ⟦<Self::Archived as Portable>⟧ place
-            (⟦<Self as Archive>⟧.flat self.now resolver) result }
-    {
-        let Place { bytes, pos, .. } = place;
-        let UnnamedResolver { kept } = resolver;
-        resolve_record_2::<u8, String, ArchivedUnnamed>(
-            &self.0,
-            &self.1,
-            kept,
-            Place::new(pos, bytes),
-        )
-    }
-
-    #[inline(always)]
-    fn copy_optimization() -> CopyOptimization<Self> {
-        CopyOptimization::disable()
-    }
-
-    #[inline(always)]
-    fn serialize_copied<S: Writer + Keys>(
-        _values: &[Self],
-        _together: usize,
-        _serializer: &mut S,
-    ) -> Result<Option<usize>, Error> {
-        Ok(None)
-    }
-}
-
-impl<S: Writer + ResolverAlloc> Serialize<S> for Unnamed {
-    #[inline(always)]
-    fn serialize(&self, serializer: &mut S) -> Result<Self::Resolver, Error> {
-        match serialize_record_2::<u8, String, ArchivedUnnamed, S>(&self.0, &self.1, serializer) {
-            Ok(kept) => Ok(UnnamedResolver { kept }),
-            Err(error) => Err(error),
-        }
-    }
-}
-
-/// As a region of its own: the value itself.
-impl ArchiveUnsized for Unnamed {
-    ghost use Rattle.derived_kinds.specs.contracts.kinds.UnnamedArchive.TheImpl.Laws.{keyed-law as keyed_of_unnamed, planned-law as planned_of_unnamed};
-
-    type Archived = ArchivedUnnamed;
-
-    ghost source_length = { λ _. 0 };
-
-    ghost meaning = { ⟦<Unnamed as Archive>⟧.meaning };
-
-    ghost keys = { ⟦<Unnamed as Archive>⟧.keys };
-
-    ghost keyed = { keyed_of_unnamed };
-
-    ghost one_length = { λ _ _. refl };
-
-    ghost planned = { λ v. one_planned no_definition (parts
-        (part ⟦<u8 as Portable>⟧.shape (part ⟦<ArchivedString as Portable>⟧.shape no_part)))
-        (⟦<Unnamed as Archive>⟧.keys v) (⟦<Unnamed as Archive>⟧.meaning v) (planned_of_unnamed v) };
-
-    #[inline(always)]
-    fn archived_metadata(&self) -> Result<(), Error> {
-        Ok(())
-    }
-}
-
-impl<S: Writer + ResolverAlloc> SerializeUnsized<S> for Unnamed {
-    #[inline(always)]
-    fn serialize_unsized(&self, serializer: &mut S) -> Result<usize, Error> {
-        serialize_one(self, serializer)
-    }
-}
-
-impl<D: Entries> Deserialize<Unnamed, D> for ArchivedUnnamed {
-    #[inline(always)]
-    fn deserialize_part(
-        alloc: Global,
-        part: RawView<'_>,
-        deserializer: &mut D,
-    ) -> Result<Unnamed, Error>
-        requires { IsPartOf ⟦<Self as ArchivePointee>⟧ part }
-        ensures { ReadsAs ⟦<Self as ArchivePointee>⟧ part D.Entries deserializer
-            ⟦<Unnamed as Archive>⟧ result }
-    {
-        match deserialize_record::<Self, UnnamedOwned, D>(alloc, part, deserializer) {
-            Ok((a0, (a1, ()))) => Ok(Unnamed(a0, a1)),
-            Err(error) => Err(error),
-        }
-    }
-}
-
-/// The fields of an archived `Unnamed`, as views.
-pub trait UnnamedView<'a> {
-    /// The field `0`.
-    fn field_0(self) -> Ref<'a, u8>;
-
-    /// The field `1`.
-    fn field_1(self) -> Ref<'a, ArchivedString>;
-}
-
-impl<'a> UnnamedView<'a> for Ref<'a, ArchivedUnnamed> {
-    fn field_0(self) -> Ref<'a, u8>
-        ensures buffer { result.bytes.now ≡ self.entry.bytes.now }
-        ensures position { result.pos ≡ self.entry.pos + 0 }
-        ensures length { result.len ≡ 0 }
-        ensures shows { ShowsValueOf result self.entry (field_in 0) }
-    {
-        part_in_record::<ArchivedUnnamed, u8>(self, 0, 0)
-    }
-
-    fn field_1(self) -> Ref<'a, ArchivedString>
-        ensures buffer { result.bytes.now ≡ self.entry.bytes.now }
-        ensures position { result.pos ≡ self.entry.pos + 4 }
-        ensures length { result.len ≡ 0 }
-        ensures shows { ShowsValueOf result self.entry (field_in 1) }
-    {
-        part_in_record::<ArchivedUnnamed, ArchivedString>(self, 1, 4)
-    }
-}
-
-/// The fields of an archived `Unnamed`, as seals.
-pub trait UnnamedSeal<'a> {
-    // The seal shows a part of a buffer that was checked.
-    ghost sealed: { Self → Type 0 };
-
-    /// The field `0`.
-    fn field_0_mut(self) -> Seal<'a, u8>
-        requires { sealed self };
-
-    /// The field `1`.
-    fn field_1_mut(self) -> Seal<'a, ArchivedString>
-        requires { sealed self };
-}
-
-impl<'a> UnnamedSeal<'a> for Seal<'a, ArchivedUnnamed> {
-    ghost sealed = { λ s. IsSealOf no_definition (one ⟦<ArchivedUnnamed as Portable>⟧.shape) s };
-
-    fn field_0_mut(self) -> Seal<'a, u8>
-        requires come_to { IsSealOf no_definition (one ⟦<ArchivedUnnamed as Portable>⟧.shape) self }
-        ensures { SealsPart no_definition (one ⟦<ArchivedUnnamed as Portable>⟧.shape) no_definition
-            ⟦<u8 as ArchivePointee>⟧.pointee (self.entry.pos + 0) 0 self.entry result }
-    {
-        sealed_part_in_record::<ArchivedUnnamed, u8>(self, 0, 0)
-    }
-
-    fn field_1_mut(self) -> Seal<'a, ArchivedString>
-        requires come_to { IsSealOf no_definition (one ⟦<ArchivedUnnamed as Portable>⟧.shape) self }
-        ensures { SealsPart no_definition (one ⟦<ArchivedUnnamed as Portable>⟧.shape) no_definition
-            ⟦<ArchivedString as ArchivePointee>⟧.pointee (self.entry.pos + 4) 0 self.entry result }
-    {
-        sealed_part_in_record::<ArchivedUnnamed, ArchivedString>(self, 1, 4)
     }
 }

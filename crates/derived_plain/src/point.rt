@@ -44,8 +44,8 @@ use archive_core::ser::{ResolverAlloc, Writer, serialize_one};
 use archive_core::shape::Defs;
 use archive_core::string::ArchivedString;
 use archive_core::traits::{
-    Archive, ArchivePointee, ArchiveUnsized, CopyOptimization, Deserialize, Entries, Keys,
-    Portable, Record, Serialize, SerializeUnsized, expr_of_record,
+    Archive, ArchivePointee, ArchiveUnsized, CopyOptimization, Deserialize, Entries, FourParts,
+    Keys, Portable, Record, Serialize, SerializeUnsized, expr_of_record,
 };
 use archive_core::validation::ArchiveContext;
 use archive_core::vec::ArchivedVec;
@@ -55,15 +55,15 @@ use std::alloc::Global;
 /// An archived `Point`: 24 bytes at a multiple of 4.
 pub struct ArchivedPoint;
 
-type PointParts = (
+type PointParts = FourParts<
     ArchivedI32,
-    (
-        ArchivedI32,
-        (ArchivedString, (ArchivedVec<ArchivedString>, ())),
-    ),
-);
+    ArchivedI32,
+    ArchivedString,
+    ArchivedVec<ArchivedString>,
+    (),
+>;
 
-type PointOwned = (i32, (i32, (String, (Vec<String>, ()))));
+type PointOwned = FourParts<i32, i32, String, Vec<String>, ()>;
 
 impl ArchivePointee for ArchivedPoint {
     type ArchivedMetadata = ();
@@ -323,7 +323,15 @@ impl<D: Entries> Deserialize<Point, D> for ArchivedPoint {
             ⟦<Point as Archive>⟧ result }
     {
         match deserialize_record::<Self, PointOwned, D>(alloc, part, deserializer) {
-            Ok((a0, (a1, (a2, (a3, ()))))) => Ok(Point {
+            Ok(
+                FourParts {
+                    first: a0,
+                    second: a1,
+                    third: a2,
+                    fourth: a3,
+                    rest: (),
+                },
+            ) => Ok(Point {
                 x: a0,
                 y: a1,
                 name: a2,

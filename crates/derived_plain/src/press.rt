@@ -62,7 +62,9 @@ ghost use Rattle.archive_core.specs.ComparedTypes.{case_compared, choice_compare
 ghost use Rattle.archive_core.specs.ComparedUnits.{units_compared};
 ghost use Rattle.archive_core.specs.Definitions.{both, no_definition};
 ghost use Rattle.archive_core.specs.Keyed.{case_keyed, nothing_keyed, number_keyed, part_keyed, text_keyed};
+ghost use Rattle.archive_core.specs.Layout.{up};
 ghost use Rattle.archive_core.specs.LeafLayout.{no_definition_reached};
+ghost use Rattle.archive_core.specs.PartsLayout.{first_or, no_part_laid_out, no_part_sized, part_laid_out, part_sized, within_at, within_over};
 ghost use Rattle.archive_core.specs.PartsPlanned.{no_part_planned, part_planned};
 ghost use Rattle.archive_core.specs.Payloads.{payload_in};
 ghost use Rattle.archive_core.specs.Plain.{plain_choice, plain_own_check, plain_variant_planned, variant_in};
@@ -70,10 +72,13 @@ ghost use Rattle.archive_core.specs.Planned.{leaf_planned, string_planned};
 ghost use Rattle.archive_core.specs.PlannedOwners.{one_planned};
 ghost use Rattle.archive_core.specs.SealsWritten.{IsSealOf, SealsPart, seal_tag};
 ghost use Rattle.archive_core.specs.Seen.{IsPartOf, ShowsValueOf, tag_of};
-ghost use Rattle.archive_core.specs.Shape.{choice, no_part, no_variant, one, part, variant};
+ghost use Rattle.archive_core.specs.SelfCheck.Regions.{no_lower, rises_over};
+ghost use Rattle.archive_core.specs.Shape.{choice, no_part, no_variant, one, part, parts, variant};
 ghost use Rattle.archive_core.specs.Sources.{ReadsAs};
 ghost use Rattle.archive_core.specs.Units.{unit_definitions, units};
 ghost use Rattle.archive_core.specs.Value.{case, no_value, value};
+ghost use Rattle.archive_core.specs.VariantsHeld.{no_payload_sized, no_payload_within, payload_sized, payload_within};
+ghost use Rattle.archive_core.specs.VariantsLayout.{no_variant_laid_out, no_variants_reached, variant_laid_out, variant_reached};
 ghost use Rattle.archive_core.specs.Writing.{ZeroedPlace};
 ghost use Rattle.std.proofs.Common.{inl, inr, lit≤};
 ghost use Rattle.std.specs.Int.{w32, w8};
@@ -89,13 +94,13 @@ use archive_core::fields::{
 use archive_core::place::Place;
 use archive_core::primitive::{ArchivedChar, ArchivedU32};
 use archive_core::seal::{Seal, sealed_part_in_case};
-use archive_core::self_check::{SelfCheck, check_choice};
+use archive_core::self_check::{CheckedVariants, SelfCheck, check_choice};
 use archive_core::ser::{ResolverAlloc, Writer, serialize_one};
 use archive_core::shape::Defs;
 use archive_core::string::ArchivedString;
 use archive_core::traits::{
     Archive, ArchivePointee, ArchiveUnsized, Choice, CopyOptimization, Deserialize, Entries, Keys,
-    Portable, Serialize, SerializeUnsized, expr_of_choice,
+    Portable, PortableVariants, Serialize, SerializeUnsized, expr_of_choice,
 };
 use archive_core::validation::ArchiveContext;
 use archive_core::view::{RawView, Ref};
@@ -122,9 +127,103 @@ type PressVariants = UnitVariants<
     1,
     (
         PressScannedParts,
-        UnitVariants<36, (PressNamedParts, (PressChordParts, ()))>,
+        UnitVariants<36, (PressNamedParts, PressRest1)>,
     ),
 >;
+
+/// The variants of `Press` from `Chord` on, as one type: it has no values.
+pub struct PressRest1;
+
+type PressBlock1 = (PressChordParts, ());
+
+impl CheckedVariants for PressRest1 {
+    ghost variants = { ⟦<PressBlock1 as CheckedVariants>⟧.variants };
+
+    ghost definitions = { ⟦<PressBlock1 as CheckedVariants>⟧.definitions };
+
+    ghost end = { ⟦<PressBlock1 as CheckedVariants>⟧.end };
+
+    ghost direct = { ⟦<PressBlock1 as CheckedVariants>⟧.direct };
+
+    fn are_direct() -> bool {
+        <PressBlock1 as CheckedVariants>::are_direct()
+    }
+
+    #[inline(always)]
+    fn check_variant<C: ArchiveContext>(
+        bytes: &[u8],
+        base: usize,
+        tag: usize,
+        refusal: &mut Error,
+        context: &mut C,
+    ) -> Option<bool> {
+        <PressBlock1 as CheckedVariants>::check_variant(bytes, base, tag, refusal, context)
+    }
+}
+
+impl PortableVariants for PressRest1 {
+    ghost greatest = { ⟦<PressBlock1 as PortableVariants>⟧.greatest };
+
+    ghost begin = { ⟦<PressBlock1 as PortableVariants>⟧.begin };
+
+    ghost size_at = { ⟦<PressBlock1 as PortableVariants>⟧.size_at };
+
+    ghost is_align = { inr (inr (inl refl)) };
+
+    ghost laid_out = { variant_laid_out _ _ _ _ _ _ (part_laid_out no_definition _
+        ⟦<u8 as Portable>⟧.shape (record { size = 1; align = 1 }) (record { solved = λ s k. refl })
+        _ _ _ _ (part_laid_out no_definition _ ⟦<ArchivedChar as Portable>⟧.shape (record {
+          size = 4;
+          align = 4;
+        }) (record { solved = λ s k. refl }) _ _ _ _ no_part_laid_out)) _ _ _ _
+        no_variant_laid_out };
+
+    ghost no_others = { variant_reached (both no_definition (both no_definition no_definition))
+        no_definition (part ⟦<u8 as Portable>⟧.shape (part ⟦<ArchivedChar as Portable>⟧.shape
+        no_part)) no_variant (no_definition_reached (parts
+        (part ⟦<u8 as Portable>⟧.shape (part ⟦<ArchivedChar as Portable>⟧.shape no_part))))
+        no_variants_reached };
+
+    ghost sized = { payload_sized (both no_definition (both no_definition no_definition))
+        no_definition (part ⟦<u8 as Portable>⟧.shape (part ⟦<ArchivedChar as Portable>⟧.shape
+        no_part)) _ (part_sized no_definition (both no_definition no_definition)
+        ⟦<u8 as Portable>⟧.shape (record { size = 1; align = 1 }) (record { solved = λ s k. refl })
+        (part ⟦<ArchivedChar as Portable>⟧.shape no_part) (first_or 4 (λ i. 0))
+        (part_sized no_definition no_definition ⟦<ArchivedChar as Portable>⟧.shape (record {
+          size = 4;
+          align = 4;
+        }) (record { solved = λ s k. refl }) no_part (λ i. 0) no_part_sized)) no_variant _
+        no_payload_sized };
+
+    ghost within = { payload_within _ _ _ (within_over (up 1 1) 1 _ _ _
+        (λ n. rises_over n 4 4 (inr (inr (inl refl))) _ no_lower)
+        (λ n. within_over (up n 4) 4 _ _ _ no_lower within_at)) _ _ _ no_payload_within };
+
+    fn align() -> usize {
+        <PressBlock1 as PortableVariants>::align()
+    }
+
+    #[inline(always)]
+    fn longest_end() -> usize {
+        <PressBlock1 as PortableVariants>::longest_end()
+    }
+
+    #[inline(always)]
+    fn payload_offset(tag: usize, i: usize) -> usize {
+        <PressBlock1 as PortableVariants>::payload_offset(tag, i)
+    }
+
+    fn push_variants(
+        alloc: Global,
+        list: &mut Vec<Vec<archive_core::shape::Expr>>,
+    ) -> Result<(), Error> {
+        <PressBlock1 as PortableVariants>::push_variants(alloc, list)
+    }
+
+    fn define(alloc: Global, defs: &mut Defs) -> Result<(), Error> {
+        <PressBlock1 as PortableVariants>::define(alloc, defs)
+    }
+}
 
 impl ArchivePointee for ArchivedPress {
     type ArchivedMetadata = ();
@@ -672,10 +771,8 @@ impl Archive for Press {
     ) -> Result<(), Error>
         requires zeroed { ZeroedPlace 12 place.pos place.bytes.now }
         requires same_value { ⟦<Self as Archive>⟧.belongs self.now resolver }
-        ensures {
-            ResolvesAs ⟦<Self::Archived as Portable>⟧ place
-                (⟦<Self as Archive>⟧.flat self.now resolver) result
-        }
+        ensures { ResolvesAs ⟦<Self::Archived as Portable>⟧ place
+            (⟦<Self as Archive>⟧.flat self.now resolver) result }
     {
         let Place { bytes, pos, .. } = place;
         match self {
@@ -691,7 +788,10 @@ impl Archive for Press {
                 };
                 resolve_case_1::<String, ArchivedPress>(38, a0, kept, Place::new(pos, bytes))
             }
-            Press::Chord { modifiers: a0, key: a1 } => {
+            Press::Chord {
+                modifiers: a0,
+                key: a1,
+            } => {
                 let PressResolver::Chord(kept) = resolver else {
                     unreachable!();
                 };
@@ -732,13 +832,10 @@ impl<S: Writer + ResolverAlloc> Serialize<S> for Press {
                 Ok(kept) => Ok(PressResolver::Named(kept)),
                 Err(error) => Err(error),
             },
-            Press::Chord { modifiers: a0, key: a1 } => match serialize_case_2::<
-                u8,
-                char,
-                ArchivedPress,
-                S,
-            >(39, a0, a1, serializer)
-            {
+            Press::Chord {
+                modifiers: a0,
+                key: a1,
+            } => match serialize_case_2::<u8, char, ArchivedPress, S>(39, a0, a1, serializer) {
                 Ok(kept) => Ok(PressResolver::Chord(kept)),
                 Err(error) => Err(error),
             },
@@ -1163,11 +1260,20 @@ impl<'a> PressSeal<'a> for Seal<'a, ArchivedPress> {
     }
 }
 
+// As views are compared.
+type PressCompared = UnitVariants<
+    1,
+    (
+        (ArchivedU32, ()),
+        UnitVariants<36, ((ArchivedString, ()), ((u8, (ArchivedChar, ())), ()))>,
+    ),
+>;
+
 /// Views are compared as the values that they show.
 impl Ordered for ArchivedPress {
-    ghost order = { choice_order ⟦<PressVariants as ComparedCases>⟧.order };
+    ghost order = { choice_order ⟦<PressCompared as ComparedCases>⟧.order };
 
-    ghost hash_input = { choice_fed ⟦<PressVariants as ComparedCases>⟧.hash_input };
+    ghost hash_input = { choice_fed ⟦<PressCompared as ComparedCases>⟧.hash_input };
 
     ghost settling = { 0 };
 
@@ -1210,11 +1316,11 @@ impl Ordered for ArchivedPress {
         no_case_compared))))) refl).by_value };
 
     fn compare(a: RawView<'_>, b: RawView<'_>) -> Ordering {
-        compare_choice::<Self, PressVariants>(a, b)
+        compare_choice::<Self, PressCompared>(a, b)
     }
 
     fn hash_part<H: Hasher>(part: RawView<'_>, state: &mut H) {
-        hash_choice::<Self, PressVariants, H>(part, state);
+        hash_choice::<Self, PressCompared, H>(part, state);
     }
 
     fn settling_bytes() -> usize {

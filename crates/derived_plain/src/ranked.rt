@@ -85,8 +85,9 @@ use archive_core::ser::{ResolverAlloc, Writer, serialize_one};
 use archive_core::shape::Defs;
 use archive_core::string::ArchivedString;
 use archive_core::traits::{
-    Archive, ArchivePointee, ArchiveUnsized, Choice, CopyOptimization, Deserialize, Entries, Keys,
-    MapKey, Portable, Record, Serialize, SerializeUnsized, expr_of_choice, expr_of_record,
+    Archive, ArchivePointee, ArchiveUnsized, Choice, CopyOptimization, Deserialize, Entries,
+    FourParts, Keys, MapKey, Portable, Record, Serialize, SerializeUnsized, expr_of_choice,
+    expr_of_record,
 };
 use archive_core::validation::ArchiveContext;
 use archive_core::vec::ArchivedVec;
@@ -610,24 +611,21 @@ impl Ordered for ArchivedLabel {
 /// An archived `Scores`: 24 bytes at a multiple of 4.
 pub struct ArchivedScores;
 
-type ScoresParts = (
+type ScoresParts = FourParts<
     ArchivedResult<u8, bool>,
-    (
-        ArchivedTuple2<NonZero<u8>, NonZero<i8>>,
-        (
-            ArchivedSortedMap<ArchivedString, ArchivedBox<i8>>,
-            (ArchivedOption<ArchivedVec<ArchivedLabel>>, ()),
-        ),
-    ),
-);
+    ArchivedTuple2<NonZero<u8>, NonZero<i8>>,
+    ArchivedSortedMap<ArchivedString, ArchivedBox<i8>>,
+    ArchivedOption<ArchivedVec<ArchivedLabel>>,
+    (),
+>;
 
-type ScoresOwned = (
+type ScoresOwned = FourParts<
     Result<u8, bool>,
-    (
-        (NonZero<u8>, NonZero<i8>),
-        (BTreeMap<String, Box<i8>>, (Option<Vec<Label>>, ())),
-    ),
-);
+    (NonZero<u8>, NonZero<i8>),
+    BTreeMap<String, Box<i8>>,
+    Option<Vec<Label>>,
+    (),
+>;
 
 impl ArchivePointee for ArchivedScores {
     type ArchivedMetadata = ();
@@ -952,7 +950,15 @@ impl<D: Entries> Deserialize<Scores, D> for ArchivedScores {
             ⟦<Scores as Archive>⟧ result }
     {
         match deserialize_record::<Self, ScoresOwned, D>(alloc, part, deserializer) {
-            Ok((a0, (a1, (a2, (a3, ()))))) => Ok(Scores {
+            Ok(
+                FourParts {
+                    first: a0,
+                    second: a1,
+                    third: a2,
+                    fourth: a3,
+                    rest: (),
+                },
+            ) => Ok(Scores {
                 data: a0,
                 result: a1,
                 pos: a2,
@@ -1089,13 +1095,25 @@ impl<'a> ScoresSeal<'a> for Seal<'a, ArchivedScores> {
     }
 }
 
+// As views are compared.
+type ScoresCompared = (
+    ArchivedResult<u8, bool>,
+    (
+        ArchivedTuple2<NonZero<u8>, NonZero<i8>>,
+        (
+            ArchivedSortedMap<ArchivedString, ArchivedBox<i8>>,
+            (ArchivedOption<ArchivedVec<ArchivedLabel>>, ()),
+        ),
+    ),
+);
+
 /// Views are compared as the values that they show.
 impl Ordered for ArchivedScores {
     ghost use Rattle.derived_plain.specs.contracts.ranked.ArchivedLabelOrdered.TheImpl.Laws.{by_value-law as by_value_of_archived_label, respects-law as respects_of_archived_label, total-law as total_of_archived_label};
 
-    ghost order = { ⟦<ScoresParts as ComparedFields>⟧.order 0 };
+    ghost order = { ⟦<ScoresCompared as ComparedFields>⟧.order 0 };
 
-    ghost hash_input = { ⟦<ScoresParts as ComparedFields>⟧.hash_input 0 };
+    ghost hash_input = { ⟦<ScoresCompared as ComparedFields>⟧.hash_input 0 };
 
     ghost settling = { 0 };
 
@@ -1189,11 +1207,11 @@ impl Ordered for ArchivedScores {
         (record { solved = λ s k. refl }) no_field_compared)))) refl).by_value };
 
     fn compare(a: RawView<'_>, b: RawView<'_>) -> Ordering {
-        compare_record::<Self, ScoresParts>(a, b)
+        compare_record::<Self, ScoresCompared>(a, b)
     }
 
     fn hash_part<H: Hasher>(part: RawView<'_>, state: &mut H) {
-        hash_record::<Self, ScoresParts, H>(part, state);
+        hash_record::<Self, ScoresCompared, H>(part, state);
     }
 
     fn settling_bytes() -> usize {

@@ -25,7 +25,9 @@ pub enum Event {
 ghost use Rattle.archive_core.specs.CallOutcomes.{ResolvesAs};
 ghost use Rattle.archive_core.specs.Definitions.{both, no_definition};
 ghost use Rattle.archive_core.specs.Keyed.{case_keyed, each_keyed, nothing_keyed, number_keyed, part_keyed, text_keyed};
+ghost use Rattle.archive_core.specs.Layout.{up};
 ghost use Rattle.archive_core.specs.LeafLayout.{no_definition_reached};
+ghost use Rattle.archive_core.specs.PartsLayout.{first_or, no_part_laid_out, no_part_sized, part_laid_out, part_sized, within_at, within_over};
 ghost use Rattle.archive_core.specs.PartsPlanned.{no_part_planned, part_planned};
 ghost use Rattle.archive_core.specs.Payloads.{payload_in};
 ghost use Rattle.archive_core.specs.Plain.{plain_choice, plain_own_check, plain_variant_planned};
@@ -33,9 +35,12 @@ ghost use Rattle.archive_core.specs.Planned.{leaf_planned, string_planned};
 ghost use Rattle.archive_core.specs.PlannedOwners.{one_planned, slice_planned, vec_planned};
 ghost use Rattle.archive_core.specs.SealsWritten.{IsSealOf, SealsPart, seal_tag};
 ghost use Rattle.archive_core.specs.Seen.{IsPartOf, ShowsValueOf, tag_of};
-ghost use Rattle.archive_core.specs.Shape.{choice, no_part, no_variant, one, part, variant};
+ghost use Rattle.archive_core.specs.SelfCheck.Regions.{no_lower, rises_over};
+ghost use Rattle.archive_core.specs.Shape.{choice, no_part, no_variant, one, part, parts, variant};
 ghost use Rattle.archive_core.specs.Sources.{ReadsAs};
 ghost use Rattle.archive_core.specs.Value.{case, no_value, value};
+ghost use Rattle.archive_core.specs.VariantsHeld.{no_payload_sized, no_payload_within, payload_sized, payload_within};
+ghost use Rattle.archive_core.specs.VariantsLayout.{no_variant_laid_out, no_variants_reached, variant_laid_out, variant_reached};
 ghost use Rattle.archive_core.specs.Writing.{ZeroedPlace};
 ghost use Rattle.std.proofs.Common.{inl, inr, lit≤};
 ghost use Rattle.std.specs.Prelude.{None, [], codes, refl, string_bytes, true, ℕ, ◌++◌, ◌+◌, ◌≡◌};
@@ -48,13 +53,13 @@ use archive_core::fields::{
 use archive_core::place::Place;
 use archive_core::primitive::{ArchivedChar, ArchivedI32, ArchivedU32};
 use archive_core::seal::{Seal, sealed_part_in_case};
-use archive_core::self_check::{SelfCheck, check_choice};
+use archive_core::self_check::{CheckedVariants, SelfCheck, check_choice};
 use archive_core::ser::{ResolverAlloc, Writer, serialize_one};
 use archive_core::shape::Defs;
 use archive_core::string::ArchivedString;
 use archive_core::traits::{
     Archive, ArchivePointee, ArchiveUnsized, Choice, CopyOptimization, Deserialize, Entries, Keys,
-    Portable, Serialize, SerializeUnsized, expr_of_choice,
+    Portable, PortableVariants, Serialize, SerializeUnsized, expr_of_choice,
 };
 use archive_core::validation::ArchiveContext;
 use archive_core::vec::ArchivedVec;
@@ -80,13 +85,119 @@ type EventBatchParts = (ArchivedVec<ArchivedU32>, ());
 
 type EventBatchOwned = (Vec<u32>, ());
 
-type EventVariants = (
-    (),
-    (
-        EventKeyParts,
-        (EventTextParts, (EventMoveParts, (EventBatchParts, ()))),
-    ),
-);
+type EventVariants = ((), (EventKeyParts, (EventTextParts, EventRest1)));
+
+/// The variants of `Event` from `Move` on, as one type: it has no values.
+pub struct EventRest1;
+
+type EventBlock1 = (EventMoveParts, (EventBatchParts, ()));
+
+impl CheckedVariants for EventRest1 {
+    ghost variants = { ⟦<EventBlock1 as CheckedVariants>⟧.variants };
+
+    ghost definitions = { ⟦<EventBlock1 as CheckedVariants>⟧.definitions };
+
+    ghost end = { ⟦<EventBlock1 as CheckedVariants>⟧.end };
+
+    ghost direct = { ⟦<EventBlock1 as CheckedVariants>⟧.direct };
+
+    fn are_direct() -> bool {
+        <EventBlock1 as CheckedVariants>::are_direct()
+    }
+
+    #[inline(always)]
+    fn check_variant<C: ArchiveContext>(
+        bytes: &[u8],
+        base: usize,
+        tag: usize,
+        refusal: &mut Error,
+        context: &mut C,
+    ) -> Option<bool> {
+        <EventBlock1 as CheckedVariants>::check_variant(bytes, base, tag, refusal, context)
+    }
+}
+
+impl PortableVariants for EventRest1 {
+    ghost greatest = { ⟦<EventBlock1 as PortableVariants>⟧.greatest };
+
+    ghost begin = { ⟦<EventBlock1 as PortableVariants>⟧.begin };
+
+    ghost size_at = { ⟦<EventBlock1 as PortableVariants>⟧.size_at };
+
+    ghost is_align = { inr (inr (inl refl)) };
+
+    ghost laid_out = { variant_laid_out _ _ _ _ _ _ (part_laid_out no_definition _
+        ⟦<ArchivedI32 as Portable>⟧.shape (record { size = 4; align = 4 }) (record {
+          solved = λ s k. refl;
+        }) _ _ _ _ (part_laid_out no_definition _ ⟦<ArchivedI32 as Portable>⟧.shape (record {
+          size = 4;
+          align = 4;
+        }) (record { solved = λ s k. refl }) _ _ _ _ no_part_laid_out)) _ _ _ _
+        (variant_laid_out _ _ _ _ _ _ (part_laid_out no_definition _
+        ⟦<ArchivedVec<ArchivedU32> as Portable>⟧.shape (record { size = 8; align = 4 }) (record {
+          solved = λ s k. refl;
+        }) _ _ _ _ no_part_laid_out) _ _ _ _ no_variant_laid_out) };
+
+    ghost no_others = { variant_reached (both no_definition (both no_definition no_definition))
+        (both (both no_definition no_definition) no_definition)
+        (part ⟦<ArchivedI32 as Portable>⟧.shape (part ⟦<ArchivedI32 as Portable>⟧.shape no_part))
+        (variant (part ⟦<ArchivedVec<ArchivedU32> as Portable>⟧.shape no_part) no_variant)
+        (no_definition_reached (parts (part ⟦<ArchivedI32 as Portable>⟧.shape
+        (part ⟦<ArchivedI32 as Portable>⟧.shape no_part))))
+        (variant_reached (both no_definition no_definition) no_definition
+        (part ⟦<ArchivedVec<ArchivedU32> as Portable>⟧.shape no_part) no_variant
+        (no_definition_reached (parts (part ⟦<ArchivedVec<ArchivedU32> as Portable>⟧.shape
+        no_part))) no_variants_reached) };
+
+    ghost sized = { payload_sized (both no_definition (both no_definition no_definition))
+        (both (both no_definition no_definition) no_definition)
+        (part ⟦<ArchivedI32 as Portable>⟧.shape (part ⟦<ArchivedI32 as Portable>⟧.shape no_part)) _
+        (part_sized no_definition (both no_definition no_definition)
+        ⟦<ArchivedI32 as Portable>⟧.shape (record { size = 4; align = 4 }) (record {
+          solved = λ s k. refl;
+        }) (part ⟦<ArchivedI32 as Portable>⟧.shape no_part) (first_or 4 (λ i. 0))
+        (part_sized no_definition no_definition ⟦<ArchivedI32 as Portable>⟧.shape (record {
+          size = 4;
+          align = 4;
+        }) (record { solved = λ s k. refl }) no_part (λ i. 0) no_part_sized))
+        (variant (part ⟦<ArchivedVec<ArchivedU32> as Portable>⟧.shape no_part) no_variant) _
+        (payload_sized (both no_definition no_definition) no_definition
+        (part ⟦<ArchivedVec<ArchivedU32> as Portable>⟧.shape no_part) _
+        (part_sized no_definition no_definition ⟦<ArchivedVec<ArchivedU32> as Portable>⟧.shape
+        (record { size = 8; align = 4 }) (record { solved = λ s k. refl }) no_part (λ i. 0)
+        no_part_sized) no_variant _ no_payload_sized) };
+
+    ghost within = { payload_within _ _ _ (within_over (up 1 4) 4 _ _ _
+        (λ n. rises_over n 4 4 (inr (inr (inl refl))) _ no_lower)
+        (λ n. within_over (up n 4) 4 _ _ _ no_lower within_at)) _ _ _
+        (payload_within _ _ _ (within_over (up 1 4) 8 _ _ _ no_lower within_at) _ _ _
+        no_payload_within) };
+
+    fn align() -> usize {
+        <EventBlock1 as PortableVariants>::align()
+    }
+
+    #[inline(always)]
+    fn longest_end() -> usize {
+        <EventBlock1 as PortableVariants>::longest_end()
+    }
+
+    #[inline(always)]
+    fn payload_offset(tag: usize, i: usize) -> usize {
+        <EventBlock1 as PortableVariants>::payload_offset(tag, i)
+    }
+
+    fn push_variants(
+        alloc: Global,
+        list: &mut Vec<Vec<archive_core::shape::Expr>>,
+    ) -> Result<(), Error> {
+        <EventBlock1 as PortableVariants>::push_variants(alloc, list)
+    }
+
+    fn define(alloc: Global, defs: &mut Defs) -> Result<(), Error> {
+        <EventBlock1 as PortableVariants>::define(alloc, defs)
+    }
+}
 
 impl ArchivePointee for ArchivedEvent {
     type ArchivedMetadata = ();

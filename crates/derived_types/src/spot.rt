@@ -72,7 +72,7 @@ use archive_core::shape::Defs;
 use archive_core::slice::copy_groups;
 use archive_core::traits::{
     Archive, ArchivePointee, ArchiveUnsized, Copied, CopiedSource, CopyOptimization, Deserialize,
-    Entries, Keys, Portable, Record, Serialize, SerializeUnsized, expr_of_record,
+    Entries, FourParts, Keys, Portable, Record, Serialize, SerializeUnsized, expr_of_record,
 };
 use archive_core::validation::ArchiveContext;
 use archive_core::vec::ArchivedVec;
@@ -738,18 +738,15 @@ impl<'a> LineSeal<'a> for Seal<'a, ArchivedLine> {
 /// An archived `Drawing`: 36 bytes at a multiple of 4.
 pub struct ArchivedDrawing;
 
-type DrawingParts = (
+type DrawingParts = FourParts<
     ArchivedLine,
-    (
-        ArchivedVec<ArchivedLine>,
-        (
-            ArchivedOption<ArchivedBox<ArchivedLine>>,
-            (ArchivedEvent, ()),
-        ),
-    ),
-);
+    ArchivedVec<ArchivedLine>,
+    ArchivedOption<ArchivedBox<ArchivedLine>>,
+    ArchivedEvent,
+    (),
+>;
 
-type DrawingOwned = (Line, (Vec<Line>, (Option<Box<Line>>, (Event, ()))));
+type DrawingOwned = FourParts<Line, Vec<Line>, Option<Box<Line>>, Event, ()>;
 
 impl ArchivePointee for ArchivedDrawing {
     type ArchivedMetadata = ();
@@ -1033,7 +1030,15 @@ impl<D: Entries> Deserialize<Drawing, D> for ArchivedDrawing {
             ⟦<Drawing as Archive>⟧ result }
     {
         match deserialize_record::<Self, DrawingOwned, D>(alloc, part, deserializer) {
-            Ok((a0, (a1, (a2, (a3, ()))))) => Ok(Drawing {
+            Ok(
+                FourParts {
+                    first: a0,
+                    second: a1,
+                    third: a2,
+                    fourth: a3,
+                    rest: (),
+                },
+            ) => Ok(Drawing {
                 first: a0,
                 lines: a1,
                 last: a2,

@@ -1,4 +1,4 @@
-// An enum with two variants of nine fields.
+// An enum with a variant of nine fields.
 
 use crate::assertions::{assert_archived, assert_same, text, viewed};
 use crate::judgements::{assert_faults, unknown_tag};
@@ -8,12 +8,9 @@ use derived_blocks::depot::{ArchivedDepot, Depot, DepotView, ViewOfDepot};
 use std::alloc::Global;
 use std::process::Abort;
 
-// The tag 1, eight numbers, a -9, and bytes of no field.
-const HELD: &[u8; 24] = b"\x01\x01\x02\x03\x04\x05\x06\x07\x08\xf7\0\0\0\0\0\0\0\0\0\0\0\0\0\0";
-
-// A text. At 12 the tag 2, a 6, 9, 8, 7, at 20 a W, 1, 2, a true, and the text 28 bytes back.
+// A text. At 12 the tag 1, a 6, 9, 8, 7, at 20 a W, -1, 2, a true, and the text 28 bytes back.
 const SENT: &[u8; 36] =
-    b"hello world\0\x02\x06\x09\x08\x07\0\0\0W\0\0\0\x01\x02\x01\0\x8b\0\0\0\xe4\xff\xff\xff";
+    b"hello world\0\x01\x06\x09\x08\x07\0\0\0W\0\0\0\xff\x02\x01\0\x8b\0\0\0\xe4\xff\xff\xff";
 
 // What the second archive is of.
 fn sent(rt: &impl Abort, alloc: Global) -> Depot {
@@ -23,7 +20,7 @@ fn sent(rt: &impl Abort, alloc: Global) -> Depot {
         shelf: 8,
         place: 7,
         letter: 'W',
-        height: 1,
+        height: -1,
         width: 2,
         is_open: true,
         to: text(rt, alloc, "hello world"),
@@ -34,8 +31,6 @@ fn sent(rt: &impl Abort, alloc: Global) -> Depot {
 fn depots_are_written_and_read_back(rt: HostRuntime) {
     let alloc = rt.alloc();
     assert_archived(&rt, alloc, &Depot::Free, 24, &[0; 24]);
-    let held = Depot::Held(1, 2, 3, 4, 5, 6, 7, 8, -9);
-    assert_archived(&rt, alloc, &held, 24, HELD);
     assert_archived(&rt, alloc, &sent(&rt, alloc), 24, SENT);
 }
 
@@ -43,30 +38,25 @@ fn depots_are_written_and_read_back(rt: HostRuntime) {
 fn variant_of(rt: &impl Abort, view: Ref<'_, ArchivedDepot>) -> u8 {
     match view.variant() {
         ViewOfDepot::Free => 0,
-        ViewOfDepot::Held(first, _, _, _, _, _, _, eighth, last) => {
-            let found = (first.get(), eighth.get(), last.get());
-            assert_same(rt, "what is held", found, (1, 8, -9));
-            1
-        }
         ViewOfDepot::Sent {
             number,
             letter,
-            width,
+            height,
             is_open,
             to,
             ..
         } => {
-            let found = (number.get(), letter.get(), width.get(), is_open.get());
-            assert_same(rt, "what was sent", found, (6, 'W', 2, true));
+            let found = (number.get(), letter.get(), height.get(), is_open.get());
+            assert_same(rt, "what was sent", found, (6, 'W', -1, true));
             assert_same(rt, "to whom", to.as_str(), "hello world");
-            2
+            1
         }
     }
 }
 
 #[test]
 fn depots_are_viewed(rt: HostRuntime) {
-    for (number, archive) in [(0, &[0; 24][..]), (1, HELD), (2, SENT)] {
+    for (number, archive) in [(0, &[0; 24][..]), (1, SENT)] {
         let view = viewed::<ArchivedDepot>(&rt, rt.alloc(), archive);
         assert_same(&rt, "the variant", variant_of(&rt, view), number);
     }
@@ -76,7 +66,7 @@ fn depots_are_viewed(rt: HostRuntime) {
 fn faults_of_depots_are_found(rt: HostRuntime) {
     let rows = [
         (0, 0xc0, Error::InvalidUtf8),
-        (12, 3, unknown_tag("ArchivedDepot", 3)),
+        (12, 2, unknown_tag("ArchivedDepot", 2)),
         (22, 0x11, Error::InvalidChar),
         (26, 2, Error::InvalidBool),
         (28, 0x88, Error::InvalidStringRepr),

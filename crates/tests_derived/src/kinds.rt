@@ -1,15 +1,14 @@
-// Numbers of every kind, a struct of no field, and one whose fields have no names.
+// Numbers of every kind, and a struct of no field.
 
 use crate::assertions::{
-    assert_archived, assert_bytes, assert_same, assert_unwritten, assert_written, sealed, text,
-    value_of, viewed, write_text,
+    assert_archived, assert_bytes, assert_same, assert_unwritten, assert_written, sealed, value_of,
+    viewed,
 };
 use crate::judgements::{assert_faults, assert_refused, outside, unaligned};
 use archive_core::error::Error;
 use archive_core::primitive::NonZero;
 use derived_kinds::kinds::{
-    ArchivedEmpty, ArchivedNumbers, ArchivedUnnamed, Empty, Numbers, NumbersSeal, NumbersView,
-    Unnamed, UnnamedSeal, UnnamedView,
+    ArchivedEmpty, ArchivedNumbers, Empty, Numbers, NumbersSeal, NumbersView,
 };
 use std::alloc::Global;
 use std::process::Abort;
@@ -21,9 +20,6 @@ const NUMBERS: &[u8; 48] =
 // The same with all numbers written over: 7, 3, -4, 5 and false.
 const OTHERS: &[u8; 48] =
     b"\x07\0\0\0\x03\0\0\0\xfc\xff\xff\xff\0\0\0\0\x05\0\0\0\0\0\0\0\0\0\0\0\0\0\0\0\0\0\0\0\0\0\0\0\0\0\0\0\0\0\0\0";
-
-// A text and a zero, and at 12 the number 7 with the string that points back at the text.
-const UNNAMED: &[u8; 24] = b"hello world\0\x07\0\0\0\x8b\0\0\0\xf0\xff\xff\xff";
 
 // Numbers with a size and a distance.
 fn numbers(size: usize, distance: isize) -> Numbers {
@@ -127,41 +123,4 @@ fn a_value_of_no_field_has_no_byte(rt: HostRuntime) {
     assert_archived(&rt, rt.alloc(), &Empty, 0, b"");
     let view = viewed::<ArchivedEmpty>(&rt, rt.alloc(), b"abc");
     assert_same(&rt, "the position, at the end", view.pos(), 3);
-}
-
-#[test]
-fn a_struct_without_names_is_written_and_read_back(rt: HostRuntime) {
-    let unnamed = Unnamed(7, text(&rt, rt.alloc(), "hello world"));
-    assert_archived(&rt, rt.alloc(), &unnamed, 12, UNNAMED);
-}
-
-// Writes over both fields.
-fn write_unnamed(rt: &impl Abort, alloc: Global, bytes: &mut [u8], number: u8, text: &str) {
-    sealed::<ArchivedUnnamed>(rt, alloc, bytes)
-        .field_0_mut()
-        .write(number);
-    write_text(
-        sealed::<ArchivedUnnamed>(rt, alloc, bytes).field_1_mut(),
-        text,
-    );
-}
-
-#[test]
-fn a_struct_without_names_is_viewed_and_edited(rt: HostRuntime) {
-    let view = viewed::<ArchivedUnnamed>(&rt, rt.alloc(), UNNAMED);
-    assert_same(&rt, "the number", view.field_0().get(), 7);
-    assert_same(&rt, "the text", view.field_1().as_str(), "hello world");
-    let mut bytes = *UNNAMED;
-    write_unnamed(&rt, rt.alloc(), &mut bytes, 8, "good-bye...");
-    let wanted = b"good-bye...\0\x08\0\0\0\x8b\0\0\0\xf0\xff\xff\xff";
-    assert_bytes(&rt, "both fields", &bytes, wanted);
-}
-
-#[test]
-fn faults_of_a_struct_without_names_are_found(rt: HostRuntime) {
-    let rows = [
-        (16, 0x80, Error::InvalidStringRepr),
-        (20, 0xf2, outside(2, 11, 0, 12)),
-    ];
-    assert_faults::<ArchivedUnnamed>(&rt, rt.alloc(), UNNAMED, &rows);
 }

@@ -1,4 +1,4 @@
-// A record of an array, a list of options of records, and a record with parameters; and such records at other types.
+// A record without names, of an array, a list of options of records, and a record with parameters; and such records at other types.
 
 use crate::assertions::{
     assert_archived, assert_bytes, assert_holds, assert_same, assert_written, sealed, text,
@@ -30,14 +30,15 @@ fn lists(rt: &impl Abort, alloc: Global) -> Lists {
         .to_vec(alloc)
         .expect(rt, "memory for numbers");
     let spots = vec![in alloc; Some(Spot { right: 1, up: -2 }), None];
-    Lists {
-        four: OwnedArray::from_vec(four).expect(rt, "four numbers"),
-        spots: spots.expect(rt, "memory for places"),
-        pair: Pair {
-            left: 7,
-            right: Spot { right: 3, up: 4 },
-        },
-    }
+    let pair = Pair {
+        left: 7,
+        right: Spot { right: 3, up: 4 },
+    };
+    Lists(
+        OwnedArray::from_vec(four).expect(rt, "four numbers"),
+        spots.expect(rt, "memory for places"),
+        pair,
+    )
 }
 
 #[test]
@@ -50,10 +51,10 @@ fn lists_are_written(rt: HostRuntime) {
 fn lists_are_read_back(rt: HostRuntime) {
     let back: Lists = value_of(&rt, rt.alloc(), LISTS, &mut ());
     let wanted = lists(&rt, rt.alloc());
-    let numbers = back.four.as_slice();
+    let numbers = back.0.as_slice();
     assert_same(&rt, "the numbers", numbers, [1, -1, 258, 0].as_slice());
-    assert_same(&rt, "the places", &back.spots, &wanted.spots);
-    assert_same(&rt, "the pair", &back.pair, &wanted.pair);
+    assert_same(&rt, "the places", &back.1, &wanted.1);
+    assert_same(&rt, "the pair", &back.2, &wanted.2);
 }
 
 // The options of a list: a place, and none.
@@ -72,29 +73,29 @@ fn assert_spots(
 #[test]
 fn lists_are_viewed(rt: HostRuntime) {
     let view = viewed::<ArchivedLists>(&rt, rt.alloc(), LISTS);
-    let third = view.four().index(2).get();
-    assert_same(&rt, "a number", (third, view.four().len()), (258, 4));
-    let spots = view.spots().as_slice();
+    let third = view.field_0().index(2).get();
+    assert_same(&rt, "a number", (third, view.field_0().len()), (258, 4));
+    let spots = view.field_1().as_slice();
     let (Some(first), Some(second)) = (spots.get(0), spots.get(1)) else {
         panic!(&rt; "not two")
     };
     assert_spots(&rt, first, second);
-    assert_same(&rt, "to the left", view.pair().left().get(), 7);
-    assert_spot(&rt, view.pair().right(), 3, 4);
+    assert_same(&rt, "to the left", view.field_2().left().get(), 7);
+    assert_spot(&rt, view.field_2().right(), 3, 4);
 }
 
 // Writes over the last number, and over the place of the pair.
 fn write_lists(rt: &impl Abort, alloc: Global, bytes: &mut [u8]) {
-    let four = sealed::<ArchivedLists>(rt, alloc, bytes).four_mut();
+    let four = sealed::<ArchivedLists>(rt, alloc, bytes).field_0_mut();
     four.index(3).write(5);
-    let pair = sealed::<ArchivedLists>(rt, alloc, bytes).pair_mut();
+    let pair = sealed::<ArchivedLists>(rt, alloc, bytes).field_2_mut();
     pair.right_mut().up_mut().write(-1);
 }
 
 // And over the first place of the list.
 fn write_first(rt: &impl Abort, alloc: Global, bytes: &mut [u8]) {
     let spots = sealed::<ArchivedLists>(rt, alloc, bytes)
-        .spots_mut()
+        .field_1_mut()
         .as_slice_seal();
     if spots.len() > 0 {
         if let Some(spot) = spots.index(0).as_seal() {

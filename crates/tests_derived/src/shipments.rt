@@ -1,4 +1,4 @@
-// A struct of eighteen fields, three of them deep, which is checked, written and read back in blocks.
+// A struct of seventeen fields, three of them deep, which is checked, written and read back in blocks.
 
 use crate::assertions::{
     assert_archived, assert_bytes, assert_same, sealed, text, viewed, write_text,
@@ -10,10 +10,10 @@ use std::alloc::Global;
 use std::process::Abort;
 
 // Two texts. At 24 the shipment: its number and key, at 29 whether it is open and two zeros, at 32 the option with 5 and the first text, at 48 the class, deck,
-// row, place, side, layers, boxes and ports, at 56 the stamps and the size and a zero, at 60 the second text, at 68 the days, the seals and two
+// row, place, side, layers, boxes and ports, at 56 the stamps and the size and a zero, at 60 the second text, at 68 the days and three
 // zeros, at 72 the seconds.
 const SHIPMENT: &[u8; 80] =
-    b"hello worldfrom far away\x07\x01\x02\x03\x04\x01\0\0\x01\0\0\0\x05\0\0\0\x8b\0\0\0\xd8\xff\xff\xff\x09\x02\x0a\x0b\xfd\x04\x0c\x06\x0d\x03\x02\0\x8d\0\0\0\xcf\xff\xff\xff\x0e\x0f\0\0\x02\x01\0\0\0\0\0\0";
+    b"hello worldfrom far away\x07\x01\x02\x03\x04\x01\0\0\x01\0\0\0\x05\0\0\0\x8b\0\0\0\xd8\xff\xff\xff\x09\x02\x0a\x0b\xfd\x04\x0c\x06\x0d\x03\x02\0\x8d\0\0\0\xcf\xff\xff\xff\x0e\0\0\0\x02\x01\0\0\0\0\0\0";
 
 fn shipment(rt: &impl Abort, alloc: Global) -> Shipment {
     Shipment {
@@ -33,7 +33,6 @@ fn shipment(rt: &impl Abort, alloc: Global) -> Shipment {
         size: (3, 2),
         sender: text(rt, alloc, "from far away"),
         due: 14,
-        seals: 15,
         came: 258,
     }
 }
@@ -52,7 +51,7 @@ fn the_fields_of_shipments_are_viewed(rt: HostRuntime) {
     assert_same(&rt, "the side", view.side().get(), -3);
     assert_same(&rt, "the stamps", view.stamps().get(), 13);
     assert_same(&rt, "the sender", view.sender().as_str(), "from far away");
-    assert_same(&rt, "the seals", view.seals().get(), 15);
+    assert_same(&rt, "the days", view.due().get(), 14);
     assert_same(&rt, "the seconds", view.came().get(), 258);
 }
 
@@ -66,7 +65,7 @@ fn shipments_are_edited(rt: HostRuntime) {
     seal = sealed::<ArchivedShipment>(&rt, rt.alloc(), &mut bytes);
     seal.came_mut().write(3);
     let wanted =
-        b"hello worldfrom near by.\x07\x01\x02\x03\x04\x01\0\0\x01\0\0\0\x05\0\0\0\x8b\0\0\0\xd8\xff\xff\xff\x09\x02\x0a\x0b\xfd\x04\x0c\x01\x0d\x03\x02\0\x8d\0\0\0\xcf\xff\xff\xff\x0e\x0f\0\0\x03\0\0\0\0\0\0\0";
+        b"hello worldfrom near by.\x07\x01\x02\x03\x04\x01\0\0\x01\0\0\0\x05\0\0\0\x8b\0\0\0\xd8\xff\xff\xff\x09\x02\x0a\x0b\xfd\x04\x0c\x01\x0d\x03\x02\0\x8d\0\0\0\xcf\xff\xff\xff\x0e\0\0\0\x03\0\0\0\0\0\0\0";
     assert_bytes(&rt, "the edited shipment", &bytes, wanted);
 }
 

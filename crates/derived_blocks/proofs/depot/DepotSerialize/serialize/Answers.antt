@@ -3,7 +3,4 @@ use Rattle.std.proofs.Common.{rules}
 use Rattle.derived_blocks.proofs.depot.DepotSerialize.serialize.Goals as goal
 
 pub returns-in-Ok-serialize_case : goal.returns-in-Ok-serialize_case
-returns-in-Ok-serialize_case g c = rw (c.in-Held.is) record { serialized = c.in-Ok-serialize_case.ensures.serialized; same_value = c.in-Ok-serialize_case.ensures.same_value; goes_on = c.serialize_case.ensures.goes_on; refused = search rules }
-
-pub returns-in-Ok-serialize_case-2 : goal.returns-in-Ok-serialize_case-2
-returns-in-Ok-serialize_case-2 g c = rw (c.in-Sent.is) record { serialized = c.in-Ok-serialize_case-2.ensures.serialized; same_value = c.in-Ok-serialize_case-2.ensures.same_value; goes_on = c.serialize_case-in-Sent.ensures.goes_on; refused = search rules }
+returns-in-Ok-serialize_case g c = rw (c.in-Sent.is) record { serialized = c.in-Ok-serialize_case.ensures.serialized; same_value = c.in-Ok-serialize_case.ensures.same_value; goes_on = c.serialize_case.ensures.goes_on; refused = search rules }

@@ -3,9 +3,9 @@ use Rattle.std.proofs.Common.{◌≡◌, refl, arith, rules}
 use Rattle.std.proofs.lemmas.Int.{to_z-of_z}
 use mir.Syntax.{w8}
 use mir.Val.{SFits}
-use Rattle.derived_blocks.proofs.depot.depot_held_of.Goals as goal
+use Rattle.derived_blocks.proofs.depot.depot_sent_of.Goals as goal
 
 pub returns-clause-meaning : goal.returns-clause-meaning
 returns-clause-meaning c =
-    let e0 : SFits w8 c.args.values.rest.rest.0 = search rules in
-    rw (to_z-of_z w8 c.args.values.rest.rest.0 e0) refl
+    let e0 : SFits w8 c.args.values.rest.second = search rules in
+    rw (to_z-of_z w8 c.args.values.rest.second e0) refl
