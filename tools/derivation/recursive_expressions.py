@@ -3,7 +3,7 @@
 The calls of the library hand on what others made, or that memory was refused: so no function of the module tests for that, and none drops an expression.
 """
 
-from .layout import Generic, call, statement
+from .layout import Generic, Group, call, signature, statement
 from .recursive_maps import archived_key
 from .recursive_terms import is_map
 
@@ -85,13 +85,17 @@ def listed(it):
     return rows + [(case.n, f"`{case.name}`", case.types) for case in it.cases if case.count]
 
 
+def head(n, made):
+    return signature(f"fn {n}_expressions", [], ["alloc: Global"], Group("Result<", [made, "AllocError"], ">"))
+
+
 def text(it):
     """These functions, and that of the variants."""
     brought(it)
     out = []
     for n, what, types in listed(it):
         out.append(f"""// The parts of {what}.
-fn {n}_expressions(alloc: Global) -> Result<Vec<{EXPR}>, AllocError>
+{head(n, f"Vec<{EXPR}>")}
     ensures {{ ExpressesParts {n}_parts result }}
 {{
 {folded("first_expression", "no_expressions(alloc)", [expression(it, type) for type in types])}}}
@@ -99,7 +103,7 @@ fn {n}_expressions(alloc: Global) -> Result<Vec<{EXPR}>, AllocError>
     if not it.is_record:
         made = [f"{case.n}_expressions(alloc)" if case.count else "no_expressions(alloc)" for case in it.cases]
         out.append(f"""// Its variants.
-fn {it.n}_expressions(alloc: Global) -> Result<Vec<Vec<{EXPR}>>, AllocError>
+{head(it.n, f"Vec<Vec<{EXPR}>>")}
     ensures {{ ExpressesVariants {it.n}_variants result }}
 {{
 {folded("first_variant", "no_variants(alloc)", made)}}}

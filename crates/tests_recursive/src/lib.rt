@@ -16,10 +16,10 @@ mod kinds;
 #[cfg(test)]
 mod long;
 #[cfg(test)]
+mod maps;
+#[cfg(test)]
 mod notes;
 #[cfg(test)]
 mod statements;
 #[cfg(test)]
 mod sums;
-#[cfg(test)]
-mod tuples;
