@@ -10,7 +10,7 @@ ghost use Rattle.archive_core.specs.recursive.Expressed.{Expresses, ExpressesPar
 ghost use Rattle.archive_enum.specs.Choices.{option_shape};
 ghost use Rattle.archive_types.specs.Members.SharedSources.{rc_flavor};
 
-use super::naming::define_name;
+use super::naming::{choice_of, define_name, record_of};
 use archive_check::format::error::Error;
 use archive_check::format::expr::{Defs, Expr, FlavorInfo, Pointee};
 use archive_types::traits::{MapKey, Portable};
@@ -61,7 +61,7 @@ pub fn option_expression(alloc: Global, item: Result<Expr, AllocError>) -> Resul
     let some = vec![in alloc; item?]?;
     let none = Vec::new(alloc);
     let variants = vec![in alloc; none, some]?;
-    Ok(Expr::Choice("ArchivedOption", variants))
+    Ok(choice_of("ArchivedOption", variants))
 }
 
 /// The expression of a shared pointer.
@@ -115,7 +115,7 @@ pub fn map_expression<K: MapKey>(
 pub fn record_expression(list: Result<Vec<Expr>, AllocError>) -> Result<Expr, AllocError>
     ensures { (ps : Parts) → ExpressesParts ps list → Expresses (parts ps) result }
 {
-    Ok(Expr::Record(list?))
+    Ok(record_of(list?))
 }
 
 /// The expressions of no parts.
@@ -172,7 +172,7 @@ pub fn define_record(
     let Ok(list) = list else {
         return Err(Error::OutOfMemory);
     };
-    define_name(name, Expr::Record(list), defs)
+    define_name(name, record_of(list), defs)
 }
 
 /// Adds the definition of a name that stands for a choice of variants. Fails as `define_name` does.
@@ -190,5 +190,5 @@ pub fn define_choice(
     let Ok(variants) = variants else {
         return Err(Error::OutOfMemory);
     };
-    define_name(name, Expr::Choice(name, variants), defs)
+    define_name(name, choice_of(name, variants), defs)
 }

@@ -3,8 +3,8 @@
 ghost use Rattle.std.specs.Prelude.{◌≡◌, OnOk, IfErr};
 ghost use Rattle.archive_check.specs.Words.AddedDefinitions.{AreAdded};
 ghost use Rattle.archive_check.specs.Definitions.{ExplainsConflict, defines};
-ghost use Rattle.archive_check.specs.Expressions.{shape_of, table_of, variants_in};
-ghost use Rattle.archive_check.specs.Shape.{choice};
+ghost use Rattle.archive_check.specs.Expressions.{shape_of, shapes_in, table_of, variants_in};
+ghost use Rattle.archive_check.specs.Shape.{choice, parts};
 
 use archive_check::format::error::Error;
 use archive_check::format::expr::{Defs, Expr};
@@ -18,6 +18,13 @@ pub fn define_name(name: &'static str, definition: Expr, defs: &mut Defs) -> Res
 {
     defs.add(name, definition)?;
     Ok(())
+}
+
+// The expression of a record of parts with these expressions.
+pub(super) fn record_of(list: Vec<Expr>) -> Expr
+    ensures { shape_of result ≡ parts (shapes_in list.items) }
+{
+    Expr::Record(list)
 }
 
 /// An expression of a choice with this name and these variants, each by the expressions of its
