@@ -13,11 +13,13 @@ import re
 from . import records, recursive_lent, recursive_weak, variants
 from . import recursive_arrays as arrays
 from . import recursive_chains as chains
+from . import recursive_expressions as expressions
 from . import recursive_maps as maps
 from .common import chain, doc_lines, in_turn, infix, taken_apart
 from .common import kept_of as handed_on
 from .formats import snake
 from .model import Type
+from .recursive_expressions import EXPR
 from .recursive_hollow import boxed_slices, hollow_source, shared_at, shared_pointers
 from .recursive_plain import items_of
 from .recursive_reads import by_match, is_made, word_of
@@ -33,8 +35,6 @@ SERIALIZED = """    ensures serialized {{ IfOk result (λ r. Serialized {D} {X} 
     ensures refused {{ IfErr result (IsRefused {D} {X} (⟦<{T} as Archive>⟧.keys {v}.now)
         (⟦<{T} as Archive>⟧.meaning {v}.now) (S.state serializer.old) (S.state serializer.new)) }}
 """
-# By its path: with a `use` of it, the toolchain finds no clause of the module unless `crates.txt` names `archive_check`, whose type it is.
-EXPR = "archive_core::shape::Expr"
 READ = """    requires {{ IsPartOf ⟦<{X} as ArchivePointee>⟧ part }}
     ensures read {{ IfOk result (Read ⟦<{X} as ArchivePointee>⟧ part D.Entries deserializer ⟦<{T} as Archive>⟧) }}
     ensures refused {{ IfErr result (RefusesPart ⟦<{X} as ArchivePointee>⟧ part D.Entries deserializer) }}
@@ -72,8 +72,8 @@ def bring(it):
     f.use("archive_core::boxed", "ArchivedBox", "BoxResolver", "BoxSlice")
     f.use("archive_core::rc", "ArchivedRc", "RcFlavor", "RcResolver")
     f.use("archive_core::vec", "VecResolver")
-    f.use("archive_core::recursive", "BoxAt", "OptionAt", "VecAt", "before_box", "before_vec", "choice_of", "define_name", "option_expression", "part_of_record", "part_of_variant", "read_part", "record_of")
-    f.use("archive_core::recursive", "begin_reading", "begin_shared", "finish_reading", "finish_shared", "part_behind", "shared_expression")
+    f.use("archive_core::recursive", "BoxAt", "OptionAt", "VecAt", "before_box", "before_vec", "part_of_record", "part_of_variant", "read_part")
+    f.use("archive_core::recursive", "begin_reading", "begin_shared", "finish_reading", "finish_shared", "part_behind")
     f.use("archive_core::recursive", "handed_on", "serialize_inner", "serialize_inner_slice", "serialize_part", "tag_of_choice")
     f.use("archive_core::traits", "PortableParts", "PortableVariants", "expr_of_choice", "expr_of_record")
     f.use("archive_core::traits", "Archive", "ArchivePointee", "ArchiveUnsized", "Choice", "Deserialize", "Entries", "Keys", "Portable", "Record", "Serialize", "SerializeUnsized")
@@ -82,7 +82,7 @@ def bring(it):
     f.ghost("std.specs.Prelude", "◌≡◌", "◌++◌", "◌+◌", "◌≤◌", "[]", "refl", "length", "Some", "IfOk", "IfErr", "OnOk", "⊤", "codes")
     f.ghost("std.proofs.Common", "lit≤")
     f.ghost("SelfCheck.Laws", "by_schema")
-    f.ghost("Expressions", "shape_of", "shapes_in", "table_of")
+    f.ghost("Expressions", "table_of")
     f.ghost("Definitions", "Extended", "ExplainsConflict", "defines")
     f.ghost("Shape", "one", "boxed", "vec", "shared")
     f.ghost("SharedSources", "rc_flavor", "rc_flat")
@@ -102,11 +102,11 @@ def bring(it):
     f.ghost("Written", "GoesOn")
     n = it.n
     names = [f"{n}_{w}" for w in ("name", "shape", "stands_for", "definitions", "layout", "is_align", "has_layout", "no_others")]
-    names += [f"{n}_has_parts", f"{n}_parts"] if it.is_record else [f"{n}_has_variants"] + [f"{case.n}_parts" for case in it.cases]
+    names += [f"{n}_has_parts", f"{n}_parts"] if it.is_record else [f"{n}_has_variants", f"{n}_variants"] + [f"{case.n}_parts" for case in it.cases]
     names += [f"{other.n}_{w}" for other in it.family.members for w in ("shape", "definitions")]
     for type in it.family.rows:
         f.ghost("Value", "list")
-        names += [f"{it.word(type)}_{w}" for w in ("shape", "definitions", "layout", "is_align", "has_layout", "no_others", "has_parts")]
+        names += [f"{it.word(type)}_{w}" for w in ("shape", "parts", "definitions", "layout", "is_align", "has_layout", "no_others", "has_parts")]
         said = {f"{it.word(type)}_{w}" for w in ("meaning", "keys")}
         f.ghosts.setdefault(f"{it.declaration.crate}.specs.{it.family.name}Meaning", set()).update(said)
     names += [f"{it.word(type)}_shape" for type in it.maps]
@@ -230,109 +230,22 @@ def pointee(it):
 """
 
 
-def expression(it, type):
-    """The expression of a part."""
-    if it.terms.is_member(type):
-        return f'{EXPR}::Named("{type.own.archived}")'
-    if not it.terms.leads_back(type):
-        return f"<{it.formats.archived(type)} as Portable>::expr(alloc)?"
-    if type.name == "tuple":
-        return f"{it.word(type)}_expression(alloc)?"
-    if is_map(type):
-        return maps.expression(it, type, expression(it, type.args[1]))
-    item = expression(it, type.args[0])
-    if type.name == "Box":
-        return f"{EXPR}::Box(Box::new(alloc, archive_core::shape::Pointee::One({item}))?)"
-    if type.name == "BoxSlice":
-        return f"{EXPR}::Box(Box::new(alloc, archive_core::shape::Pointee::Run({item}))?)"
-    if type.name in ("Option", "Shared", "WeakShared"):
-        return f"{'weak' if type.name == 'WeakShared' else type.name.lower()}_expression(alloc, {item})?"
-    if arrays.is_array(type):
-        return f"{EXPR}::Array({type.length}, Box::new(alloc, {item})?)"
-    return f"{EXPR}::Vec(Box::new(alloc, {item})?)"
-
-
-# What is archived as a leaf, by its kind.
-LEAVES = {"bool": "Bool", "char": "Char", "()": "Unit"}
-NUMBERS = {f"{sign}{bits}": f"{sign.upper()}{bits}" for sign in "ui" for bits in (8, 16, 32, 64, 128)} | {"usize": "U32", "isize": "I32"}
-
-
-def has_leaf(type):
-    """Whether the expression of a part takes no call, so that nothing fails once it is made: at each end of a function, each one made before is dropped."""
-    return type.own is None and (type.name == "String" or type.name in LEAVES or type.name in NUMBERS)
-
-
-def leaf(type):
-    if type.name == "String":
-        return f"{EXPR}::Str"
-    kind = LEAVES.get(type.name) or f"Number(archive_core::shape::IntegerKind::{NUMBERS[type.name]})"
-    return f"{EXPR}::Leaf(archive_core::shape::Kind::{kind})"
-
-
 def stands_for(it):
-    """What the name stands for, as an expression: of each variant one after another."""
-    n = it.n
-    out = [row_expression(it, type) for type in it.rows]
-    for case in it.cases:
-        if not case.count:
-            continue
-        parts = sorted(zip(case.names, case.types), key=lambda part: has_leaf(part[1])) if case.is_long else zip(case.names, case.types)
-        lets = "".join(statement(4, f"let {name} = ", leaf(type) if case.is_long and has_leaf(type) else expression(it, type), ";") for name, type in parts)
-        out.append(f"""// The parts of `{case.name}`.
-fn {case.n}_expressions(alloc: Global) -> Result<Vec<{EXPR}>, Error>
-    ensures shapes {{ IfOk result (λ list. shapes_in list.items ≡ {case.n}_parts) }}
-    ensures refused {{ IfErr result (λ e. e ≡ OutOfMemory) }}
-{{
-{lets}    Ok(vec![in alloc; {', '.join(case.names)}]?)
-}}
-""")
-    if it.is_record:
-        body = f"    let parts = {n}_expressions(alloc)?;\n    Ok(record_of(parts))\n"
-    else:
-        lets = "".join(f"    let v{case.tag} = {case.n}_expressions(alloc)?;\n" if case.count else f"    let v{case.tag} = vec![in alloc]?;\n" for case in it.cases)
-        body = lets + statement(4, "let variants = ", Group("vec![in alloc; ", [f"v{case.tag}" for case in it.cases], "]?"), ";") + f'    Ok(choice_of("{it.archived}", variants))\n'
-    out.append(f"""// What the name stands for.
-fn {n}_expression(alloc: Global) -> Result<{EXPR}, Error>
-    ensures shape {{ IfOk result (λ e. shape_of e ≡ {n}_stands_for) }}
-    ensures refused {{ IfErr result (λ e. e ≡ OutOfMemory) }}
-{{
-{body}}}
-""")
+    """What the name stands for, as an expression, and what adds its definition."""
+    out = expressions.text(it)
     if it.is_simple:
         return "\n".join(out)
     out += [defining_inner(it, own) for own in it.inner if it is it.family.members[-1]]
     return "\n".join(out + [defining(it)] + ([defining_all(it.family)] if it is it.family.members[-1] else []))
 
 
-def row_expression(it, type):
-    """The expression of a tuple."""
-    row, w = it.row(type), it.word(type)
-    lets = "".join(statement(4, f"let {name} = ", expression(it, arg), ";") for name, arg in zip(row.names, row.types))
-    return f"""// What a tuple looks like.
-fn {w}_expression(alloc: Global) -> Result<{EXPR}, Error>
-    ensures shape {{ IfOk result (λ e. shape_of e ≡ {w}_shape) }}
-    ensures refused {{ IfErr result (λ e. e ≡ OutOfMemory) }}
-{{
-{lets}    let parts = vec![in alloc; {', '.join(row.names)}]?;
-    Ok(record_of(parts))
-}}
-"""
-
-
-DEFINING = """
-    let stands_for = match {n}_expression(alloc) {{
-        Ok(stands_for) => stands_for,
-        Err(error) => return Err(error),
-    }};
-    define_name("{archived}", stands_for, defs)
-"""
-
-
 def defining(it):
     """What adds the definition of one name of a family."""
     definition = f"(defines {it.n}_name {it.n}_stands_for)"
     return f"""// Adds what the name stands for.
-{added(f"define_{it.n}", definition)}{{{DEFINING.format(n=it.n, archived=it.archived)}}}
+{added(f"define_{it.n}", definition)}{{
+    {expressions.defining(it)}
+}}
 """
 
 
@@ -368,7 +281,7 @@ def portable(it):
         named = f"expr_of_record::<{parts}>(alloc)" if it.is_record else f'expr_of_choice::<{parts}>(alloc, "{it.archived}")'
         define = f"\n        <{parts} as Portable{'Parts' if it.is_record else 'Variants'}>::define(alloc, defs)\n"
     elif it.is_simple:
-        define = DEFINING.format(n=n, archived=it.archived).replace("\n    ", "\n        ")
+        define = f"\n        {expressions.defining(it)}\n"
     else:
         define = f"\n        define_{it.family.n}_family(alloc, defs)\n"
     check, checks = (f"ChainCheck<{it.name}Chain>", f"λ _. {n}_checked") if it.is_chain else ("BySchema", "λ direct. by_schema direct")

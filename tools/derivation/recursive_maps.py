@@ -13,18 +13,10 @@ def bring(it):
     f = it.formats
     f.use("archive_core::map", "ArchivedSortedMap", "SortedMapResolver")
     f.use("archive_core::recursive", "MapAt", "before_map", "collect_map", "serialize_inner_map")
-    f.use("archive_core::traits", "MapKey")
 
 
 def archived_key(it, type):
     return it.formats.archived(type.args[0])
-
-
-def expression(it, type, of_value):
-    """The expression of a map, by that of its values."""
-    from .recursive_code import EXPR
-
-    return f"{EXPR}::Map(<{archived_key(it, type)} as MapKey>::key(), Box::new(alloc, {of_value})?)"
 
 
 def hollow(it, type, of_value):

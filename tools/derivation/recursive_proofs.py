@@ -4,7 +4,7 @@ import re
 
 from . import recursive_arrays as arrays
 from . import recursive_chain_proofs as chains
-from . import recursive_code, recursive_hollow, recursive_lent, recursive_map_proofs, recursive_weak
+from . import recursive_code, recursive_expressions, recursive_hollow, recursive_lent, recursive_map_proofs, recursive_weak
 from .common import numbered
 from .formats import snake
 from .recursive_holders import laid
@@ -948,9 +948,10 @@ def parts_read(it, case, answers, function):
 def defining(it):
     """The answers on the definition of the name."""
     answers = Answers(it.family, f"{it.archived}Portable/define" if it.is_simple else f"define_{it.n}")
-    answers.answer("", "returns-clause-added", "rw c.in-Ok.ensures.shape at c.define_name.ensures.added", "c")
-    answers.answer("", "returns-clause-refused", "rw c.in-Ok.ensures.shape at c.define_name.ensures.refused", "c")
-    return answers.files()
+    added = f"c.define_{'record' if it.is_record else 'choice'}.ensures"
+    for clause in ("added", "refused"):
+        answers.answer("", f"returns-clause-{clause}", f"{added}.{clause} _ c.{it.n}_expressions.ensures", "c")
+    return answers.files() | recursive_expressions.files(it, Answers)
 
 
 ON_OK = """on_ok : {A B P Q : Type 0} (r : Result A B) → (P → Q) → OnOk r P → OnOk r Q

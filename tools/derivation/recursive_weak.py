@@ -101,23 +101,7 @@ def vectors(family):
 
 # ---- the module ----
 
-CALLS = """// The expression of a weak pointer to values with this one.
-fn weak_expression(
-    alloc: Global,
-    item: archive_core::shape::Expr,
-) -> Result<archive_core::shape::Expr, Error>
-    ensures shape { IfOk result (λ e. shape_of e ≡ weak rc_flavor (one (shape_of item))) }
-    ensures refused { IfErr result (λ e. e ≡ OutOfMemory) }
-{
-    let pointee = Box::new(alloc, archive_core::shape::Pointee::One(item))?;
-    let flavor = archive_core::shape::FlavorInfo {
-        name: "RcFlavor",
-        cycles: false,
-    };
-    Ok(archive_core::shape::Expr::Weak(flavor, pointee))
-}
-
-// The shared value at a position, if the pool has it; none if the position was unknown: then the caller reads it back, and calls `finish_target`.
+CALLS = """// The shared value at a position, if the pool has it; none if the position was unknown: then the caller reads it back, and calls `finish_target`.
 fn begin_target<T: Pooled, D: Pooling<T>>(
     pos: usize,
     deserializer: &mut D,

@@ -3,6 +3,7 @@
 
 mod before;
 mod chain;
+mod expressions;
 mod fields;
 mod hollow;
 mod inner;
@@ -18,6 +19,12 @@ pub use chain::{
     Chain, ChainBack, ChainCheck, ChainParts, ChainSource, ChainVariants, Head, ReadHead, Rest,
     WrittenHead, read_chain, serialize_chain,
 };
+pub use expressions::{
+    array_expression, boxed_expression, define_choice, define_record, expression_of,
+    first_expression, first_variant, map_expression, named_expression, no_expressions, no_variants,
+    option_expression, record_expression, run_expression, shared_expression, vec_expression,
+    weak_expression,
+};
 pub use fields::{
     resolve_named_case_0, resolve_named_case_1, resolve_named_case_2, resolve_named_case_3,
     resolve_named_case_4, resolve_named_case_5, resolve_named_case_6, resolve_named_case_7,
@@ -27,7 +34,7 @@ pub use fields::{
 pub use hollow::{BoxAt, OptionAt, VecAt};
 pub use inner::{handed_on, serialize_inner, serialize_inner_slice, serialize_part};
 pub use maps::{MapAt, before_map, collect_map, serialize_inner_map};
-pub use naming::{choice_of, define_name, option_expression, record_of, shared_expression};
+pub use naming::{choice_of, define_name};
 pub use part_of::{part_of_record, part_of_variant, read_part, tag_of_choice};
 pub use pooled::{begin_reading, finish_reading, part_behind};
 pub use sharing::{begin_shared, finish_shared};

@@ -36,27 +36,28 @@ pub fn boxes(node: &Node, most: usize) -> usize {
 
 ghost use Rattle.archive_core.specs.CallOutcomes.{ResolvesAs};
 ghost use Rattle.archive_core.specs.Chains.{HeadIsRead};
-ghost use Rattle.archive_core.specs.Error.TheVariants.{OutOfMemory};
-ghost use Rattle.archive_core.specs.Expressions.{shape_of, shapes_in};
+ghost use Rattle.archive_core.specs.Expressed.{ExpressesParts, ExpressesVariants};
 ghost use Rattle.archive_core.specs.Payloads.{payload_in};
 ghost use Rattle.archive_core.specs.PlannedOwners.{one_planned};
 ghost use Rattle.archive_core.specs.SealsWritten.{IsSealOf, SealsPart, seal_tag};
 ghost use Rattle.archive_core.specs.Seen.{IsPartOf, RefusesPart, ShowsValueOf, part_tag, tag_of};
-ghost use Rattle.archive_core.specs.Shape.{one, part, parts, variant, vec};
+ghost use Rattle.archive_core.specs.Shape.{one, part, parts, variant};
 ghost use Rattle.archive_core.specs.Sources.{Read, ReadsAs};
 ghost use Rattle.archive_core.specs.Value.{value};
 ghost use Rattle.archive_core.specs.Writing.{ZeroedPlace};
 ghost use Rattle.own_types.specs.NodeMeaning.{node_around, node_keys_around};
-ghost use Rattle.own_types.specs.NodeShape.{node_chain_known, node_checked, node_cons_parts, node_definitions, node_has_layout, node_has_variants, node_is_align, node_layout, node_name, node_no_others, node_shape, node_stands_for};
+ghost use Rattle.own_types.specs.NodeShape.{node_chain_known, node_checked, node_cons_parts, node_definitions, node_has_layout, node_has_variants, node_is_align, node_layout, node_name, node_no_others, node_shape, node_variants};
 ghost use Rattle.std.proofs.Common.{lit≤};
 ghost use Rattle.std.specs.Prelude.{IfErr, IfOk, None, Some, refl, ℕ, ◌+◌, ◌≡◌, ◌≤◌};
 
 use archive_core::boxed::{ArchivedBox, BoxResolver};
 use archive_core::place::Place;
 use archive_core::recursive::{
-    BoxAt, Chain, ChainBack, ChainCheck, ChainSource, ReadHead, Rest, WrittenHead, choice_of,
-    define_name, part_of_variant, read_chain, resolve_named_case_0, resolve_named_case_1,
-    seal_of_payload, serialize_chain, tag_of_choice, tag_of_view, view_of_payload,
+    BoxAt, Chain, ChainBack, ChainCheck, ChainSource, ReadHead, Rest, WrittenHead,
+    boxed_expression, define_choice, first_expression, first_variant, named_expression,
+    no_expressions, no_variants, part_of_variant, read_chain, resolve_named_case_0,
+    resolve_named_case_1, seal_of_payload, serialize_chain, tag_of_choice, tag_of_view,
+    view_of_payload,
 };
 use archive_core::seal::Seal;
 use archive_core::ser::{ResolverAlloc, Writer, serialize_one};
@@ -66,6 +67,7 @@ use archive_core::traits::{
     Portable, Serialize, SerializeUnsized,
 };
 use archive_core::view::{RawView, Ref};
+use std::alloc::AllocError;
 use std::marker::PhantomData;
 
 /// An archived `Node`: 8 bytes at a multiple of 4. It validates itself.
@@ -92,26 +94,23 @@ impl ArchivePointee for ArchivedNode {
 }
 
 // The parts of `Cons`.
-fn node_cons_expressions(alloc: Global) -> Result<Vec<archive_core::shape::Expr>, Error>
-    ensures shapes { IfOk result (λ list. shapes_in list.items ≡ node_cons_parts) }
-    ensures refused { IfErr result (λ e. e ≡ OutOfMemory) }
+fn node_cons_expressions(alloc: Global) -> Result<Vec<archive_core::shape::Expr>, AllocError>
+    ensures { ExpressesParts node_cons_parts result }
 {
-    let a0 = archive_core::shape::Expr::Box(Box::new(
-        alloc,
-        archive_core::shape::Pointee::One(archive_core::shape::Expr::Named("ArchivedNode")),
-    )?);
-    Ok(vec![in alloc; a0]?)
+    let rest1 = no_expressions(alloc);
+    first_expression(
+        boxed_expression(alloc, named_expression("ArchivedNode")),
+        rest1,
+    )
 }
 
-// What the name stands for.
-fn node_expression(alloc: Global) -> Result<archive_core::shape::Expr, Error>
-    ensures shape { IfOk result (λ e. shape_of e ≡ node_stands_for) }
-    ensures refused { IfErr result (λ e. e ≡ OutOfMemory) }
+// Its variants.
+fn node_expressions(alloc: Global) -> Result<Vec<Vec<archive_core::shape::Expr>>, AllocError>
+    ensures { ExpressesVariants node_variants result }
 {
-    let v0 = vec![in alloc]?;
-    let v1 = node_cons_expressions(alloc)?;
-    let variants = vec![in alloc; v0, v1]?;
-    Ok(choice_of("ArchivedNode", variants))
+    let rest2 = no_variants(alloc);
+    let rest1 = first_variant(node_cons_expressions(alloc), rest2);
+    first_variant(no_expressions(alloc), rest1)
 }
 
 impl Portable for ArchivedNode {
@@ -144,11 +143,7 @@ impl Portable for ArchivedNode {
     }
 
     fn define(alloc: Global, defs: &mut Defs) -> Result<(), Error> {
-        let stands_for = match node_expression(alloc) {
-            Ok(stands_for) => stands_for,
-            Err(error) => return Err(error),
-        };
-        define_name("ArchivedNode", stands_for, defs)
+        define_choice("ArchivedNode", node_expressions(alloc), defs)
     }
 }
 

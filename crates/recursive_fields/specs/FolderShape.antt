@@ -1,5 +1,4 @@
 -- What an archived Folder looks like. Written by tools/derive: change the declaration, and run it again.
-use Rattle.archive_core.specs.Choices.{option_shape}
 use Rattle.archive_core.specs.Definitions.{Definitions, defines, both, no_definition, HasLayout, IsAlign, NoOthers}
 use Rattle.archive_core.specs.Held.{knows_both}
 use Rattle.archive_core.specs.Layout.{Layout}
@@ -7,7 +6,7 @@ use Rattle.archive_core.specs.LeafLayout.{no_definition_reached}
 use Rattle.archive_core.specs.NamedLayout.{name_has_layout, name_reached}
 use Rattle.archive_core.specs.NoOthers.{no_parts_reached, part_reached}
 use Rattle.archive_core.specs.PartsLayout.{IsRecord, by_name, knows_none, is_record, no_part_laid_out, part_laid_out, record_has_layout}
-use Rattle.archive_core.specs.Shape.{Name, Shape, Parts, named, parts, vec, sorted_map, str, leaf, unsigned, str_key, part, no_part, number as number_kind}
+use Rattle.archive_core.specs.Shape.{Name, Shape, Parts, named, parts, sorted_map, str, leaf, unsigned, str_key, part, no_part, number as number_kind}
 use Rattle.std.proofs.Common.{inl, inr}
 use Rattle.std.specs.Int.{w8}
 use Rattle.std.specs.Prelude.{refl, codes}
@@ -17,12 +16,6 @@ folder_name = codes "ArchivedFolder"
 
 abbrev pub folder_shape : Shape
 folder_shape = named folder_name
-
-abbrev pub tuple3_string_folder_option_string_parts : Parts
-tuple3_string_folder_option_string_parts = (part str (part folder_shape (part (option_shape str) no_part)))
-
-abbrev pub tuple3_string_folder_option_string_shape : Shape
-tuple3_string_folder_option_string_shape = parts tuple3_string_folder_option_string_parts
 
 abbrev pub pair_string_folder_parts : Parts
 pair_string_folder_parts = (part str (part folder_shape no_part))
@@ -34,7 +27,7 @@ abbrev pub map_string_folder_shape : Shape
 map_string_folder_shape = sorted_map str_key folder_shape
 
 abbrev pub folder_parts : Parts
-folder_parts = (part (leaf (number_kind unsigned w8)) (part (vec tuple3_string_folder_option_string_shape) (part (sorted_map str_key folder_shape) no_part)))
+folder_parts = (part (leaf (number_kind unsigned w8)) (part (sorted_map str_key folder_shape) no_part))
 
 abbrev pub folder_stands_for : Shape
 folder_stands_for = parts folder_parts
@@ -43,7 +36,7 @@ abbrev pub folder_definitions : Definitions
 folder_definitions = defines folder_name folder_stands_for
 
 abbrev pub folder_layout : Layout
-folder_layout = record { size = 20; align = 4 }
+folder_layout = record { size = 12; align = 4 }
 
 pub folder_is_align : IsAlign 4
 folder_is_align = inr (inr (inl refl))
@@ -54,38 +47,20 @@ folder_has_layout = name_has_layout folder_name folder_stands_for folder_layout 
 pub folder_no_others : NoOthers folder_definitions folder_shape
 folder_no_others = name_reached folder_name folder_stands_for
 
-abbrev pub tuple3_string_folder_option_string_definitions : Definitions
-tuple3_string_folder_option_string_definitions = (both no_definition (both folder_definitions (both no_definition no_definition)))
-
 abbrev pub pair_string_folder_definitions : Definitions
 pair_string_folder_definitions = (both no_definition (both folder_definitions no_definition))
 
 abbrev pub folder_part_definitions : Definitions
-folder_part_definitions = (both no_definition (both tuple3_string_folder_option_string_definitions (both pair_string_folder_definitions no_definition)))
-
-abbrev pub tuple3_string_folder_option_string_layout : Layout
-tuple3_string_folder_option_string_layout = record { size = 40; align = 4 }
-
-pub tuple3_string_folder_option_string_is_align : IsAlign 4
-tuple3_string_folder_option_string_is_align = inr (inr (inl refl))
-
-pub tuple3_string_folder_option_string_has_layout : HasLayout tuple3_string_folder_option_string_definitions tuple3_string_folder_option_string_shape tuple3_string_folder_option_string_layout
-tuple3_string_folder_option_string_has_layout = record_has_layout tuple3_string_folder_option_string_definitions tuple3_string_folder_option_string_parts _ _ _ (part_laid_out no_definition (both folder_definitions (both no_definition no_definition)) str (record { size = 8; align = 4 }) (record { solved = λ s k. refl }) (part folder_shape (part (option_shape str) no_part)) _ _ _ (part_laid_out folder_definitions (both no_definition no_definition) folder_shape (record { size = 20; align = 4 }) folder_has_layout (part (option_shape str) no_part) _ _ _ (part_laid_out no_definition no_definition (option_shape str) (record { size = 12; align = 4 }) (record { solved = λ s k. refl }) no_part _ _ _ no_part_laid_out)))
-
-pub tuple3_string_folder_option_string_no_others : NoOthers tuple3_string_folder_option_string_definitions tuple3_string_folder_option_string_shape
-tuple3_string_folder_option_string_no_others = (part_reached no_definition (both folder_definitions (both no_definition no_definition)) str (part folder_shape (part (option_shape str) no_part)) (no_definition_reached str) (part_reached folder_definitions (both no_definition no_definition) folder_shape (part (option_shape str) no_part) folder_no_others (part_reached no_definition no_definition (option_shape str) no_part (no_definition_reached (option_shape str)) no_parts_reached)))
-
-pub tuple3_string_folder_option_string_has_parts : IsRecord tuple3_string_folder_option_string_definitions tuple3_string_folder_option_string_shape tuple3_string_folder_option_string_definitions tuple3_string_folder_option_string_parts
-tuple3_string_folder_option_string_has_parts = is_record tuple3_string_folder_option_string_definitions tuple3_string_folder_option_string_parts
+folder_part_definitions = (both no_definition (both pair_string_folder_definitions no_definition))
 
 abbrev pub pair_string_folder_layout : Layout
-pair_string_folder_layout = record { size = 28; align = 4 }
+pair_string_folder_layout = record { size = 20; align = 4 }
 
 pub pair_string_folder_is_align : IsAlign 4
 pair_string_folder_is_align = inr (inr (inl refl))
 
 pub pair_string_folder_has_layout : HasLayout pair_string_folder_definitions pair_string_folder_shape pair_string_folder_layout
-pair_string_folder_has_layout = record_has_layout pair_string_folder_definitions pair_string_folder_parts _ _ _ (part_laid_out no_definition (both folder_definitions no_definition) str (record { size = 8; align = 4 }) (record { solved = λ s k. refl }) (part folder_shape no_part) _ _ _ (part_laid_out folder_definitions no_definition folder_shape (record { size = 20; align = 4 }) folder_has_layout no_part _ _ _ no_part_laid_out))
+pair_string_folder_has_layout = record_has_layout pair_string_folder_definitions pair_string_folder_parts _ _ _ (part_laid_out no_definition (both folder_definitions no_definition) str (record { size = 8; align = 4 }) (record { solved = λ s k. refl }) (part folder_shape no_part) _ _ _ (part_laid_out folder_definitions no_definition folder_shape (record { size = 12; align = 4 }) folder_has_layout no_part _ _ _ no_part_laid_out))
 
 pub pair_string_folder_no_others : NoOthers pair_string_folder_definitions pair_string_folder_shape
 pair_string_folder_no_others = (part_reached no_definition (both folder_definitions no_definition) str (part folder_shape no_part) (no_definition_reached str) (part_reached folder_definitions no_definition folder_shape no_part folder_no_others no_parts_reached))
@@ -94,4 +69,4 @@ pub pair_string_folder_has_parts : IsRecord pair_string_folder_definitions pair_
 pair_string_folder_has_parts = is_record pair_string_folder_definitions pair_string_folder_parts
 
 pub folder_has_parts : IsRecord folder_definitions folder_shape folder_part_definitions folder_parts
-folder_has_parts = record { stands = λ s k. by_name k.has; known = λ s k. (knows_both s _ _ (knows_none s k.laid_out) (knows_both s _ _ (knows_both s _ _ (knows_none s k.laid_out) (knows_both s _ _ k (knows_both s _ _ (knows_none s k.laid_out) (knows_none s k.laid_out)))) (knows_both s _ _ (knows_both s _ _ (knows_none s k.laid_out) (knows_both s _ _ k (knows_none s k.laid_out))) (knows_none s k.laid_out)))) }
+folder_has_parts = record { stands = λ s k. by_name k.has; known = λ s k. (knows_both s _ _ (knows_none s k.laid_out) (knows_both s _ _ (knows_both s _ _ (knows_none s k.laid_out) (knows_both s _ _ k (knows_none s k.laid_out))) (knows_none s k.laid_out))) }

@@ -2,3 +2,9 @@ pub mod FolderMeaning
 pub mod FolderShape
 pub mod NoteMeaning
 pub mod NoteShape
+pub mod JsonMeaning
+pub mod JsonShape
+pub mod MessageMeaning
+pub mod MessageShape
+pub mod PageMeaning
+pub mod PageShape

@@ -1,4 +1,4 @@
-//! Folders: a recursive struct with tuples and with a sorted map that lead back to it.
+//! Folders: a recursive struct with a sorted map that leads back to it.
 
 use std::collections::BTreeMap;
 
@@ -7,10 +7,8 @@ use std::collections::BTreeMap;
 pub struct Folder {
     /// Its number.
     pub id: u8,
-    /// What is in it, with names, and perhaps with notes.
-    pub entries: Vec<(String, Folder, Option<String>)>,
-    /// What is attached to it, by name.
-    pub attached: BTreeMap<String, Folder>,
+    /// What is in it, by name.
+    pub entries: BTreeMap<String, Folder>,
 }
 
 // Below this line all is written by tools/derive: change what is above it, and run it again.
@@ -18,8 +16,7 @@ pub struct Folder {
 ghost use Rattle.archive_core.specs.CallOutcomes.{ResolvesAs};
 ghost use Rattle.archive_core.specs.Causes.{IsRefused};
 ghost use Rattle.archive_core.specs.Definitions.{both, no_definition};
-ghost use Rattle.archive_core.specs.Error.TheVariants.{OutOfMemory};
-ghost use Rattle.archive_core.specs.Expressions.{shape_of, shapes_in};
+ghost use Rattle.archive_core.specs.Expressed.{ExpressesParts};
 ghost use Rattle.archive_core.specs.Fields.{field_in};
 ghost use Rattle.archive_core.specs.PlannedOwners.{one_planned};
 ghost use Rattle.archive_core.specs.Plans.{Serialized};
@@ -27,25 +24,24 @@ ghost use Rattle.archive_core.specs.Runs.{EachBelongs, IsRunRefused, SerializedR
 ghost use Rattle.archive_core.specs.SealsWritten.{IsSealOf, SealsPart};
 ghost use Rattle.archive_core.specs.Seen.{IsPartOf, ReadsPart, RefusesPart, ShowsValueOf};
 ghost use Rattle.archive_core.specs.SelfCheck.Laws.{by_schema};
-ghost use Rattle.archive_core.specs.Shape.{one, part, parts, vec};
+ghost use Rattle.archive_core.specs.Shape.{one, part, parts};
 ghost use Rattle.archive_core.specs.Sources.{Read, ReadsAs};
 ghost use Rattle.archive_core.specs.Value.{list, value};
 ghost use Rattle.archive_core.specs.Writing.{ZeroedPlace};
 ghost use Rattle.archive_core.specs.Written.{GoesOn};
-ghost use Rattle.recursive_fields.specs.FolderMeaning.{pair_string_folder_keys, pair_string_folder_meaning, tuple3_string_folder_option_string_keys, tuple3_string_folder_option_string_meaning};
-ghost use Rattle.recursive_fields.specs.FolderShape.{folder_definitions, folder_has_layout, folder_has_parts, folder_is_align, folder_layout, folder_no_others, folder_parts, folder_shape, folder_stands_for, map_string_folder_shape, pair_string_folder_definitions, pair_string_folder_has_layout, pair_string_folder_has_parts, pair_string_folder_is_align, pair_string_folder_layout, pair_string_folder_no_others, pair_string_folder_shape, tuple3_string_folder_option_string_definitions, tuple3_string_folder_option_string_has_layout, tuple3_string_folder_option_string_has_parts, tuple3_string_folder_option_string_is_align, tuple3_string_folder_option_string_layout, tuple3_string_folder_option_string_no_others, tuple3_string_folder_option_string_shape};
+ghost use Rattle.recursive_fields.specs.FolderMeaning.{pair_string_folder_keys, pair_string_folder_meaning};
+ghost use Rattle.recursive_fields.specs.FolderShape.{folder_definitions, folder_has_layout, folder_has_parts, folder_is_align, folder_layout, folder_no_others, folder_parts, folder_shape, map_string_folder_shape, pair_string_folder_definitions, pair_string_folder_has_layout, pair_string_folder_has_parts, pair_string_folder_is_align, pair_string_folder_layout, pair_string_folder_no_others, pair_string_folder_parts, pair_string_folder_shape};
 ghost use Rattle.std.proofs.Common.{lit≤};
 ghost use Rattle.std.specs.Prelude.{IfErr, IfOk, None, length, refl, ◌+◌, ◌≡◌, ◌≤◌};
 
-use archive_core::core_impls::{ArchivedTuple2, ArchivedTuple3};
+use archive_core::core_impls::ArchivedTuple2;
 use archive_core::error::Error;
 use archive_core::map::{ArchivedSortedMap, SortedMapResolver};
-use archive_core::option::ArchivedOption;
 use archive_core::place::Place;
 use archive_core::recursive::{
-    MapAt, VecAt, before_map, before_vec, collect_map, define_name, handed_on, part_of_record,
-    read_part, record_of, resolve_named_record_3, seal_of_field, serialize_inner_map,
-    serialize_inner_slice, serialize_part, view_of_field,
+    MapAt, before_map, collect_map, define_record, expression_of, first_expression, handed_on,
+    map_expression, named_expression, no_expressions, part_of_record, read_part,
+    resolve_named_record_2, seal_of_field, serialize_inner_map, serialize_part, view_of_field,
 };
 use archive_core::seal::Seal;
 use archive_core::self_check::BySchema;
@@ -53,23 +49,16 @@ use archive_core::ser::{ResolverAlloc, Writer, serialize_one};
 use archive_core::shape::Defs;
 use archive_core::string::ArchivedString;
 use archive_core::traits::{
-    Archive, ArchivePointee, ArchiveUnsized, CopyOptimization, Deserialize, Entries, Keys, MapKey,
+    Archive, ArchivePointee, ArchiveUnsized, CopyOptimization, Deserialize, Entries, Keys,
     Portable, PortableParts, Record, Serialize, SerializeUnsized, expr_of_record,
 };
-use archive_core::vec::{ArchivedVec, VecResolver};
 use archive_core::view::{RawView, Ref};
 use std::alloc::{AllocError, Global};
 
-/// An archived `Folder`: 20 bytes at a multiple of 4. It is validated by its schema.
+/// An archived `Folder`: 12 bytes at a multiple of 4. It is validated by its schema.
 pub struct ArchivedFolder;
 
-type FolderParts = (
-    u8,
-    (
-        ArchivedVec<Tuple3StringFolderOptionString>,
-        (ArchivedSortedMap<ArchivedString, ArchivedFolder>, ()),
-    ),
-);
+type FolderParts = (u8, (ArchivedSortedMap<ArchivedString, ArchivedFolder>, ()));
 
 impl ArchivePointee for ArchivedFolder {
     type ArchivedMetadata = ();
@@ -83,70 +72,6 @@ impl ArchivePointee for ArchivedFolder {
     fn pointer_metadata(_metadata: &()) -> usize {
         0
     }
-}
-
-/// `ArchivedTuple3<ArchivedString, ArchivedFolder, ArchivedOption<ArchivedString>>` by a name, for the functions below.
-pub struct Tuple3StringFolderOptionString;
-
-type Tuple3StringFolderOptionStringParts = (
-    ArchivedString,
-    (ArchivedFolder, (ArchivedOption<ArchivedString>, ())),
-);
-
-impl ArchivePointee for Tuple3StringFolderOptionString {
-    type ArchivedMetadata = ();
-
-    ghost pointee = { one tuple3_string_folder_option_string_shape };
-
-    ghost definitions = { tuple3_string_folder_option_string_definitions };
-
-    ghost metadata_length = { λ _. 0 };
-
-    fn pointer_metadata(_metadata: &()) -> usize {
-        0
-    }
-}
-
-impl Portable for Tuple3StringFolderOptionString {
-    ghost shape = { tuple3_string_folder_option_string_shape };
-
-    ghost layout = { tuple3_string_folder_option_string_layout };
-
-    type Check = BySchema;
-
-    ghost is_one = { refl };
-
-    ghost is_align = { tuple3_string_folder_option_string_is_align };
-
-    ghost has_layout = { tuple3_string_folder_option_string_has_layout };
-
-    ghost no_others = { tuple3_string_folder_option_string_no_others };
-
-    ghost checks = { λ direct. by_schema direct };
-
-    fn size() -> usize {
-        40
-    }
-
-    fn align() -> usize {
-        4
-    }
-
-    fn expr(alloc: Global) -> Result<archive_core::shape::Expr, Error> {
-        expr_of_record::<Tuple3StringFolderOptionStringParts>(alloc)
-    }
-
-    fn define(alloc: Global, defs: &mut Defs) -> Result<(), Error> {
-        <Tuple3StringFolderOptionStringParts as PortableParts>::define(alloc, defs)
-    }
-}
-
-impl Record for Tuple3StringFolderOptionString {
-    type Parts = Tuple3StringFolderOptionStringParts;
-
-    ghost has_parts = { tuple3_string_folder_option_string_has_parts };
-
-    ghost holds = { lit≤ tt };
 }
 
 /// `ArchivedTuple2<ArchivedString, ArchivedFolder>` by a name, for the functions below.
@@ -186,7 +111,7 @@ impl Portable for PairStringFolder {
     ghost checks = { λ direct. by_schema direct };
 
     fn size() -> usize {
-        28
+        20
     }
 
     fn align() -> usize {
@@ -210,55 +135,27 @@ impl Record for PairStringFolder {
     ghost holds = { lit≤ tt };
 }
 
-// What a tuple looks like.
-fn tuple3_string_folder_option_string_expression(
+// The parts of a tuple.
+fn pair_string_folder_expressions(
     alloc: Global,
-) -> Result<archive_core::shape::Expr, Error>
-    ensures shape { IfOk result (λ e. shape_of e ≡ tuple3_string_folder_option_string_shape) }
-    ensures refused { IfErr result (λ e. e ≡ OutOfMemory) }
+) -> Result<Vec<archive_core::shape::Expr>, AllocError>
+    ensures { ExpressesParts pair_string_folder_parts result }
 {
-    let a0 = <ArchivedString as Portable>::expr(alloc)?;
-    let a1 = archive_core::shape::Expr::Named("ArchivedFolder");
-    let a2 = <ArchivedOption<ArchivedString> as Portable>::expr(alloc)?;
-    let parts = vec![in alloc; a0, a1, a2]?;
-    Ok(record_of(parts))
-}
-
-// What a tuple looks like.
-fn pair_string_folder_expression(alloc: Global) -> Result<archive_core::shape::Expr, Error>
-    ensures shape { IfOk result (λ e. shape_of e ≡ pair_string_folder_shape) }
-    ensures refused { IfErr result (λ e. e ≡ OutOfMemory) }
-{
-    let a0 = <ArchivedString as Portable>::expr(alloc)?;
-    let a1 = archive_core::shape::Expr::Named("ArchivedFolder");
-    let parts = vec![in alloc; a0, a1]?;
-    Ok(record_of(parts))
+    let rest2 = no_expressions(alloc);
+    let rest1 = first_expression(named_expression("ArchivedFolder"), rest2);
+    first_expression(expression_of::<ArchivedString>(alloc), rest1)
 }
 
 // The parts of `Folder`.
-fn folder_expressions(alloc: Global) -> Result<Vec<archive_core::shape::Expr>, Error>
-    ensures shapes { IfOk result (λ list. shapes_in list.items ≡ folder_parts) }
-    ensures refused { IfErr result (λ e. e ≡ OutOfMemory) }
+fn folder_expressions(alloc: Global) -> Result<Vec<archive_core::shape::Expr>, AllocError>
+    ensures { ExpressesParts folder_parts result }
 {
-    let a0 = <u8 as Portable>::expr(alloc)?;
-    let a1 = archive_core::shape::Expr::Vec(Box::new(
-        alloc,
-        tuple3_string_folder_option_string_expression(alloc)?,
-    )?);
-    let a2 = archive_core::shape::Expr::Map(
-        <ArchivedString as MapKey>::key(),
-        Box::new(alloc, archive_core::shape::Expr::Named("ArchivedFolder"))?,
+    let rest2 = no_expressions(alloc);
+    let rest1 = first_expression(
+        map_expression::<ArchivedString>(alloc, named_expression("ArchivedFolder")),
+        rest2,
     );
-    Ok(vec![in alloc; a0, a1, a2]?)
-}
-
-// What the name stands for.
-fn folder_expression(alloc: Global) -> Result<archive_core::shape::Expr, Error>
-    ensures shape { IfOk result (λ e. shape_of e ≡ folder_stands_for) }
-    ensures refused { IfErr result (λ e. e ≡ OutOfMemory) }
-{
-    let parts = folder_expressions(alloc)?;
-    Ok(record_of(parts))
+    first_expression(expression_of::<u8>(alloc), rest1)
 }
 
 impl Portable for ArchivedFolder {
@@ -279,7 +176,7 @@ impl Portable for ArchivedFolder {
     ghost checks = { λ direct. by_schema direct };
 
     fn size() -> usize {
-        20
+        12
     }
 
     fn align() -> usize {
@@ -291,11 +188,7 @@ impl Portable for ArchivedFolder {
     }
 
     fn define(alloc: Global, defs: &mut Defs) -> Result<(), Error> {
-        let stands_for = match folder_expression(alloc) {
-            Ok(stands_for) => stands_for,
-            Err(error) => return Err(error),
-        };
-        define_name("ArchivedFolder", stands_for, defs)
+        define_record("ArchivedFolder", folder_expressions(alloc), defs)
     }
 }
 
@@ -310,10 +203,7 @@ impl Record for ArchivedFolder {
 /// What is kept of `Folder` between `serialize` and `resolve`.
 #[derive(Drop)]
 pub struct FolderResolver {
-    kept: (
-        <u8 as Archive>::Resolver,
-        (VecResolver, (SortedMapResolver, ())),
-    ),
+    kept: (<u8 as Archive>::Resolver, (SortedMapResolver, ())),
 }
 
 impl Archive for Folder {
@@ -343,21 +233,20 @@ impl Archive for Folder {
         resolver: Self::Resolver,
         place: Place<'_, Self::Archived>,
     ) -> Result<(), Error>
-        requires zeroed { ZeroedPlace 20 place.pos place.bytes.now }
+        requires zeroed { ZeroedPlace 12 place.pos place.bytes.now }
         requires same_value { ⟦<Self as Archive>⟧.belongs self.now resolver }
         ensures { ResolvesAs ⟦<Self::Archived as Portable>⟧ place
             (⟦<Self as Archive>⟧.flat self.now resolver) result }
     {
         let Place { bytes, pos, .. } = place;
         let FolderResolver { kept } = resolver;
-        let h1: VecAt<Tuple3StringFolderOptionString> = VecAt::of(self.entries.len());
-        let h2: MapAt<ArchivedString, ArchivedFolder> = MapAt::of(self.attached.len());
-        resolve_named_record_3::<
-            u8,
-            VecAt<Tuple3StringFolderOptionString>,
-            MapAt<ArchivedString, ArchivedFolder>,
-            ArchivedFolder,
-        >(&self.id, &h1, &h2, kept, Place::new(pos, bytes))
+        let h1: MapAt<ArchivedString, ArchivedFolder> = MapAt::of(self.entries.len());
+        resolve_named_record_2::<u8, MapAt<ArchivedString, ArchivedFolder>, ArchivedFolder>(
+            &self.id,
+            &h1,
+            kept,
+            Place::new(pos, bytes),
+        )
     }
 
     #[inline(always)]
@@ -372,84 +261,6 @@ impl Archive for Folder {
         _serializer: &mut S,
     ) -> Result<Option<usize>, Error> {
         Ok(None)
-    }
-}
-
-// Writes what each of the values owns, in order.
-#[cycle(serialize_folder)]
-fn serialize_each_tuple3_string_folder_option_string<S: Writer + Keys + ResolverAlloc>(
-    values: &[(String, Folder, Option<String>)],
-    serializer: &mut S,
-) -> Result<Vec<<(String, Folder, Option<String>) as Archive>::Resolver, S::Alloc>, Error>
-    ensures serialized { IfOk result (λ rs. SerializedRun
-        tuple3_string_folder_option_string_definitions tuple3_string_folder_option_string_shape
-        (length values.now) (each_keys ⟦<(String, Folder, Option<String>) as Archive>⟧.keys
-        values.now) (each_meaning ⟦<(String, Folder, Option<String>) as Archive>⟧.meaning
-        values.now) (each_flat ⟦<(String, Folder, Option<String>) as Archive>⟧.flat values.now
-        rs.items) (S.state serializer.old) (S.state serializer.new)) }
-    ensures same_values { IfOk result (λ rs. EachBelongs
-        ⟦<(String, Folder, Option<String>) as Archive>⟧.belongs values.now rs.items) }
-    ensures goes_on { GoesOn (S.state serializer.old) (S.state serializer.new) }
-    ensures refused { IfErr result (IsRunRefused tuple3_string_folder_option_string_definitions
-        tuple3_string_folder_option_string_shape (length values.now)
-        (each_keys ⟦<(String, Folder, Option<String>) as Archive>⟧.keys values.now)
-        (each_meaning ⟦<(String, Folder, Option<String>) as Archive>⟧.meaning values.now)
-        (S.state serializer.old) (S.state serializer.new)) }
-{
-    let alloc = serializer.resolver_alloc();
-    let mut resolvers = Vec::with_capacity(alloc, values.len())?;
-    for value in values {
-        let a0 = match serialize_part(&value.0, serializer) {
-            Ok(a0) => a0,
-            Err(error) => return Err(error),
-        };
-        let a1 = match serialize_folder(&value.1, serializer) {
-            Ok(a1) => a1,
-            Err(error) => return Err(handed_on(error)),
-        };
-        let a2 = match serialize_part(&value.2, serializer) {
-            Ok(a2) => a2,
-            Err(error) => return Err(error),
-        };
-        resolvers
-            .push((a0, (a1, (a2, ()))))
-            .map_err(AllocError::from)?;
-    }
-    Ok(resolvers)
-}
-
-// Writes what a vector owns.
-#[cycle(serialize_folder)]
-fn serialize_vec_tuple3_string_folder_option_string<S: Writer + Keys + ResolverAlloc>(
-    value: &Vec<(String, Folder, Option<String>)>,
-    serializer: &mut S,
-) -> Result<VecResolver, Error>
-    ensures serialized { IfOk result (λ r. Serialized tuple3_string_folder_option_string_definitions
-        (vec tuple3_string_folder_option_string_shape)
-        (⟦<Vec<(String, Folder, Option<String>)> as Archive>⟧.keys value.now)
-        (⟦<Vec<(String, Folder, Option<String>)> as Archive>⟧.meaning value.now)
-        (⟦<Vec<(String, Folder, Option<String>)> as Archive>⟧.flat value.now r)
-        (S.state serializer.old) (S.state serializer.new)) }
-    ensures same_value { IfOk result (λ r. ⟦<Vec<(String, Folder, Option<String>)> as Archive>⟧.belongs
-        value.now r) }
-    ensures goes_on { GoesOn (S.state serializer.old) (S.state serializer.new) }
-    ensures refused { IfErr result (IsRefused tuple3_string_folder_option_string_definitions
-        (vec tuple3_string_folder_option_string_shape)
-        (⟦<Vec<(String, Folder, Option<String>)> as Archive>⟧.keys value.now)
-        (⟦<Vec<(String, Folder, Option<String>)> as Archive>⟧.meaning value.now)
-        (S.state serializer.old) (S.state serializer.new)) }
-{
-    if value.len() > u32::MAX as usize {
-        return Err(Error::LengthTooLarge);
-    }
-    let items = value.as_slice();
-    let kept = match serialize_each_tuple3_string_folder_option_string(items, serializer) {
-        Ok(kept) => kept,
-        Err(error) => return Err(error),
-    };
-    match serialize_inner_slice(items, kept, serializer) {
-        Ok(at) => Ok(at),
-        Err(error) => Err(error),
     }
 }
 
@@ -542,16 +353,12 @@ fn serialize_folder<S: Writer + Keys + ResolverAlloc>(
         Ok(a0) => a0,
         Err(error) => return Err(error),
     };
-    let a1 = match serialize_vec_tuple3_string_folder_option_string(&value.entries, serializer) {
+    let a1 = match serialize_map_string_folder(&value.entries, serializer) {
         Ok(a1) => a1,
         Err(error) => return Err(error),
     };
-    let a2 = match serialize_map_string_folder(&value.attached, serializer) {
-        Ok(a2) => a2,
-        Err(error) => return Err(error),
-    };
     Ok(FolderResolver {
-        kept: (a0, (a1, (a2, ()))),
+        kept: (a0, (a1, ())),
     })
 }
 
@@ -592,65 +399,6 @@ impl<S: Writer + Keys + ResolverAlloc> SerializeUnsized<S> for Folder {
     fn serialize_unsized(&self, serializer: &mut S) -> Result<usize, Error> {
         serialize_one(self, serializer)
     }
-}
-
-// Reads a tuple back, part by part.
-#[cycle(read_folder)]
-fn read_tuple3_string_folder_option_string<D: Entries>(
-    alloc: Global,
-    part: RawView<'_>,
-    deserializer: &mut D,
-) -> Result<(String, Folder, Option<String>), Error>
-    requires { IsPartOf ⟦<Tuple3StringFolderOptionString as ArchivePointee>⟧ part }
-    ensures read { IfOk result (λ t. ReadsPart ⟦<Tuple3StringFolderOptionString as ArchivePointee>⟧
-        part D.Entries deserializer (tuple3_string_folder_option_string_meaning t)
-        (tuple3_string_folder_option_string_keys t)) }
-    ensures refused { IfErr result (RefusesPart ⟦<Tuple3StringFolderOptionString as ArchivePointee>⟧
-        part D.Entries deserializer) }
-{
-    let p0 = part_of_record::<Tuple3StringFolderOptionString, ArchivedString>(part, 0, 0);
-    let a0 = read_part::<ArchivedString, String, D>(alloc, p0, deserializer)?;
-    let p1 = part_of_record::<Tuple3StringFolderOptionString, ArchivedFolder>(part, 1, 8);
-    let a1 = read_folder(alloc, p1, deserializer)?;
-    let p2 = part_of_record::<Tuple3StringFolderOptionString, ArchivedOption<ArchivedString>>(
-        part, 2, 28,
-    );
-    let a2 = read_part::<ArchivedOption<ArchivedString>, Option<String>, D>(
-        alloc,
-        p2,
-        deserializer,
-    )?;
-    Ok((a0, a1, a2))
-}
-
-// Reads a vector back.
-#[cycle(read_folder)]
-fn read_vec_tuple3_string_folder_option_string<D: Entries>(
-    alloc: Global,
-    part: RawView<'_>,
-    deserializer: &mut D,
-) -> Result<Vec<(String, Folder, Option<String>)>, Error>
-    requires { IsPartOf ⟦<ArchivedVec<Tuple3StringFolderOptionString> as ArchivePointee>⟧ part }
-    ensures read { IfOk result
-        (λ t. ReadsPart ⟦<ArchivedVec<Tuple3StringFolderOptionString> as ArchivePointee>⟧ part
-        D.Entries deserializer (list (each_meaning tuple3_string_folder_option_string_meaning
-        t.items)) (each_keys tuple3_string_folder_option_string_keys t.items)) }
-    ensures refused { IfErr result
-        (RefusesPart ⟦<ArchivedVec<Tuple3StringFolderOptionString> as ArchivePointee>⟧ part
-        D.Entries deserializer) }
-{
-    let view: Ref<'_, ArchivedVec<Tuple3StringFolderOptionString>> = Ref::at(part);
-    let list = before_vec(view);
-    let mut items = Vec::with_capacity(alloc, list.len())?;
-    for index in 0..list.len() {
-        let item = read_tuple3_string_folder_option_string(
-            alloc,
-            list.index(index).part(),
-            deserializer,
-        )?;
-        items.push_reserved(item);
-    }
-    Ok(items)
 }
 
 // Reads a tuple back, part by part.
@@ -713,18 +461,13 @@ fn read_folder<D: Entries>(
 {
     let p0 = part_of_record::<ArchivedFolder, u8>(part, 0, 0);
     let a0 = read_part::<u8, u8, D>(alloc, p0, deserializer)?;
-    let p1 = part_of_record::<ArchivedFolder, ArchivedVec<Tuple3StringFolderOptionString>>(
+    let p1 = part_of_record::<ArchivedFolder, ArchivedSortedMap<ArchivedString, ArchivedFolder>>(
         part, 1, 4,
     );
-    let a1 = read_vec_tuple3_string_folder_option_string(alloc, p1, deserializer)?;
-    let p2 = part_of_record::<ArchivedFolder, ArchivedSortedMap<ArchivedString, ArchivedFolder>>(
-        part, 2, 12,
-    );
-    let a2 = read_map_string_folder(alloc, p2, deserializer)?;
+    let a1 = read_map_string_folder(alloc, p1, deserializer)?;
     Ok(Folder {
         id: a0,
         entries: a1,
-        attached: a2,
     })
 }
 
@@ -748,16 +491,8 @@ pub trait FolderView<'a> {
     /// Its number.
     fn id(self) -> Ref<'a, u8>;
 
-    /// What is in it, with names, and perhaps with notes.
-    fn entries(
-        self,
-    ) -> Ref<
-        'a,
-        ArchivedVec<ArchivedTuple3<ArchivedString, ArchivedFolder, ArchivedOption<ArchivedString>>>,
-    >;
-
-    /// What is attached to it, by name.
-    fn attached(self) -> Ref<'a, ArchivedSortedMap<ArchivedString, ArchivedFolder>>;
+    /// What is in it, by name.
+    fn entries(self) -> Ref<'a, ArchivedSortedMap<ArchivedString, ArchivedFolder>>;
 }
 
 impl<'a> FolderView<'a> for Ref<'a, ArchivedFolder> {
@@ -770,33 +505,14 @@ impl<'a> FolderView<'a> for Ref<'a, ArchivedFolder> {
         view_of_field::<ArchivedFolder, u8>(self, 0, 0)
     }
 
-    fn entries(
-        self,
-    ) -> Ref<
-        'a,
-        ArchivedVec<ArchivedTuple3<ArchivedString, ArchivedFolder, ArchivedOption<ArchivedString>>>,
-    >
+    fn entries(self) -> Ref<'a, ArchivedSortedMap<ArchivedString, ArchivedFolder>>
         ensures buffer { result.bytes.now ≡ self.entry.bytes.now }
         ensures position { result.pos ≡ self.entry.pos + 4 }
         ensures length { result.len ≡ 0 }
         ensures shows { ShowsValueOf result self.entry (field_in 1) }
     {
-        view_of_field::<
-            ArchivedFolder,
-            ArchivedVec<
-                ArchivedTuple3<ArchivedString, ArchivedFolder, ArchivedOption<ArchivedString>>,
-            >,
-        >(self, 1, 4)
-    }
-
-    fn attached(self) -> Ref<'a, ArchivedSortedMap<ArchivedString, ArchivedFolder>>
-        ensures buffer { result.bytes.now ≡ self.entry.bytes.now }
-        ensures position { result.pos ≡ self.entry.pos + 12 }
-        ensures length { result.len ≡ 0 }
-        ensures shows { ShowsValueOf result self.entry (field_in 2) }
-    {
         view_of_field::<ArchivedFolder, ArchivedSortedMap<ArchivedString, ArchivedFolder>>(
-            self, 2, 12,
+            self, 1, 4,
         )
     }
 }
@@ -810,17 +526,8 @@ pub trait FolderSeal<'a> {
     fn id_mut(self) -> Seal<'a, u8>
         requires { sealed self };
 
-    /// What is in it, with names, and perhaps with notes.
-    fn entries_mut(
-        self,
-    ) -> Seal<
-        'a,
-        ArchivedVec<ArchivedTuple3<ArchivedString, ArchivedFolder, ArchivedOption<ArchivedString>>>,
-    >
-        requires { sealed self };
-
-    /// What is attached to it, by name.
-    fn attached_mut(self) -> Seal<'a, ArchivedSortedMap<ArchivedString, ArchivedFolder>>
+    /// What is in it, by name.
+    fn entries_mut(self) -> Seal<'a, ArchivedSortedMap<ArchivedString, ArchivedFolder>>
         requires { sealed self };
 }
 
@@ -838,38 +545,17 @@ impl<'a> FolderSeal<'a> for Seal<'a, ArchivedFolder> {
         seal_of_field::<ArchivedFolder, u8>(self, 0, 0)
     }
 
-    fn entries_mut(
-        self,
-    ) -> Seal<
-        'a,
-        ArchivedVec<ArchivedTuple3<ArchivedString, ArchivedFolder, ArchivedOption<ArchivedString>>>,
-    >
-        requires come_to { IsSealOf folder_definitions (one ⟦<ArchivedFolder as Portable>⟧.shape)
-            self }
-        ensures { SealsPart folder_definitions (one ⟦<ArchivedFolder as Portable>⟧.shape)
-            (both no_definition (both ⟦<ArchivedFolder as ArchivePointee>⟧.definitions
-            (both no_definition no_definition)))
-            ⟦<ArchivedVec<ArchivedTuple3<ArchivedString, ArchivedFolder, ArchivedOption<ArchivedString>>> as ArchivePointee>⟧.pointee (self.entry.pos + 4) 0 self.entry result }
-    {
-        seal_of_field::<
-            ArchivedFolder,
-            ArchivedVec<
-                ArchivedTuple3<ArchivedString, ArchivedFolder, ArchivedOption<ArchivedString>>,
-            >,
-        >(self, 1, 4)
-    }
-
-    fn attached_mut(self) -> Seal<'a, ArchivedSortedMap<ArchivedString, ArchivedFolder>>
+    fn entries_mut(self) -> Seal<'a, ArchivedSortedMap<ArchivedString, ArchivedFolder>>
         requires come_to { IsSealOf folder_definitions (one ⟦<ArchivedFolder as Portable>⟧.shape)
             self }
         ensures { SealsPart folder_definitions (one ⟦<ArchivedFolder as Portable>⟧.shape)
             (both no_definition (both ⟦<ArchivedFolder as ArchivePointee>⟧.definitions
             no_definition))
             ⟦<ArchivedSortedMap<ArchivedString, ArchivedFolder> as ArchivePointee>⟧.pointee
-            (self.entry.pos + 12) 0 self.entry result }
+            (self.entry.pos + 4) 0 self.entry result }
     {
         seal_of_field::<ArchivedFolder, ArchivedSortedMap<ArchivedString, ArchivedFolder>>(
-            self, 2, 12,
+            self, 1, 4,
         )
     }
 }

@@ -1,6 +1,5 @@
 //! Notes: a recursive enum with fields of many kinds, and with tuples that lead back to it, in the manner of JSON.
 
-use archive_core::boxed::{BoxSlice, BoxStr};
 use archive_core::primitive::ArchivedNonZeroU8;
 use std::collections::BTreeMap;
 
@@ -13,10 +12,8 @@ pub enum Note {
     Work(BTreeMap<u16, i8>, ArchivedNonZeroU8, Box<u8>),
     /// Whether it is done, and nothing of when; what came of it, or why nothing did.
     Outcome(bool, (), Result<u8, String>),
-    /// A picture: its title, and its bytes.
-    Picture(BoxStr, BoxSlice<u8>),
-    /// Notes with names.
-    Table(Vec<(String, Note)>),
+    /// Notes with names, and who wrote each, if that is known.
+    Table(Vec<(String, Note, Option<String>)>),
 }
 
 // Below this line all is written by tools/derive: change what is above it, and run it again.
@@ -24,8 +21,7 @@ pub enum Note {
 ghost use Rattle.archive_core.specs.CallOutcomes.{ResolvesAs};
 ghost use Rattle.archive_core.specs.Causes.{IsRefused};
 ghost use Rattle.archive_core.specs.Definitions.{both, no_definition};
-ghost use Rattle.archive_core.specs.Error.TheVariants.{OutOfMemory};
-ghost use Rattle.archive_core.specs.Expressions.{shape_of, shapes_in};
+ghost use Rattle.archive_core.specs.Expressed.{ExpressesParts, ExpressesVariants};
 ghost use Rattle.archive_core.specs.Payloads.{payload_in};
 ghost use Rattle.archive_core.specs.PlannedOwners.{one_planned};
 ghost use Rattle.archive_core.specs.Plans.{Serialized};
@@ -38,31 +34,31 @@ ghost use Rattle.archive_core.specs.Sources.{Read, ReadsAs};
 ghost use Rattle.archive_core.specs.Value.{case, list, no_value, value};
 ghost use Rattle.archive_core.specs.Writing.{ZeroedPlace};
 ghost use Rattle.archive_core.specs.Written.{GoesOn};
-ghost use Rattle.recursive_fields.specs.NoteMeaning.{pair_string_note_keys, pair_string_note_meaning};
-ghost use Rattle.recursive_fields.specs.NoteShape.{note_definitions, note_has_layout, note_has_variants, note_is_align, note_layout, note_name, note_no_others, note_outcome_parts, note_picture_parts, note_shape, note_stands_for, note_table_parts, note_texts_parts, note_work_parts, pair_string_note_definitions, pair_string_note_has_layout, pair_string_note_has_parts, pair_string_note_is_align, pair_string_note_layout, pair_string_note_no_others, pair_string_note_shape};
+ghost use Rattle.recursive_fields.specs.NoteMeaning.{tuple3_string_note_option_string_keys, tuple3_string_note_option_string_meaning};
+ghost use Rattle.recursive_fields.specs.NoteShape.{note_definitions, note_has_layout, note_has_variants, note_is_align, note_layout, note_name, note_no_others, note_outcome_parts, note_shape, note_table_parts, note_texts_parts, note_variants, note_work_parts, tuple3_string_note_option_string_definitions, tuple3_string_note_option_string_has_layout, tuple3_string_note_option_string_has_parts, tuple3_string_note_option_string_is_align, tuple3_string_note_option_string_layout, tuple3_string_note_option_string_no_others, tuple3_string_note_option_string_parts, tuple3_string_note_option_string_shape};
 ghost use Rattle.std.proofs.Common.{lit≤};
 ghost use Rattle.std.specs.Prelude.{IfErr, IfOk, None, [], length, refl, ℕ, ◌++◌, ◌+◌, ◌≡◌, ◌≤◌};
 
 use archive_core::boxed::ArchivedBox;
-use archive_core::core_impls::ArchivedTuple2;
+use archive_core::core_impls::ArchivedTuple3;
 use archive_core::error::Error;
 use archive_core::map::ArchivedSortedMap;
 use archive_core::option::ArchivedOption;
 use archive_core::place::Place;
 use archive_core::primitive::{ArchivedU16, NonZero};
 use archive_core::recursive::{
-    VecAt, before_vec, choice_of, define_name, handed_on, part_of_record, part_of_variant,
-    read_part, record_of, resolve_named_case_1, resolve_named_case_2, resolve_named_case_3,
+    VecAt, before_vec, define_choice, expression_of, first_expression, first_variant, handed_on,
+    named_expression, no_expressions, no_variants, part_of_record, part_of_variant, read_part,
+    record_expression, resolve_named_case_1, resolve_named_case_2, resolve_named_case_3,
     seal_of_payload, serialize_inner_slice, serialize_part, tag_of_choice, tag_of_view,
-    view_of_payload,
+    vec_expression, view_of_payload,
 };
 use archive_core::result::ArchivedResult;
 use archive_core::seal::Seal;
 use archive_core::self_check::BySchema;
 use archive_core::ser::{ResolverAlloc, Writer, serialize_one};
 use archive_core::shape::Defs;
-use archive_core::slice::ArchivedSlice;
-use archive_core::string::{ArchivedStr, ArchivedString};
+use archive_core::string::ArchivedString;
 use archive_core::traits::{
     Archive, ArchivePointee, ArchiveUnsized, Choice, CopyOptimization, Deserialize, Entries, Keys,
     Portable, PortableParts, Record, Serialize, SerializeUnsized, expr_of_record,
@@ -86,19 +82,11 @@ type NoteWorkParts = (
 
 type NoteOutcomeParts = (bool, ((), (ArchivedResult<u8, ArchivedString>, ())));
 
-type NotePictureParts = (
-    ArchivedBox<ArchivedStr>,
-    (ArchivedBox<ArchivedSlice<u8>>, ()),
-);
-
-type NoteTableParts = (ArchivedVec<PairStringNote>, ());
+type NoteTableParts = (ArchivedVec<Tuple3StringNoteOptionString>, ());
 
 type NoteVariants = (
     NoteTextsParts,
-    (
-        NoteWorkParts,
-        (NoteOutcomeParts, (NotePictureParts, (NoteTableParts, ()))),
-    ),
+    (NoteWorkParts, (NoteOutcomeParts, (NoteTableParts, ()))),
 );
 
 impl ArchivePointee for ArchivedNote {
@@ -115,17 +103,20 @@ impl ArchivePointee for ArchivedNote {
     }
 }
 
-/// `ArchivedTuple2<ArchivedString, ArchivedNote>` by a name, for the functions below.
-pub struct PairStringNote;
+/// `ArchivedTuple3<ArchivedString, ArchivedNote, ArchivedOption<ArchivedString>>` by a name, for the functions below.
+pub struct Tuple3StringNoteOptionString;
 
-type PairStringNoteParts = (ArchivedString, (ArchivedNote, ()));
+type Tuple3StringNoteOptionStringParts = (
+    ArchivedString,
+    (ArchivedNote, (ArchivedOption<ArchivedString>, ())),
+);
 
-impl ArchivePointee for PairStringNote {
+impl ArchivePointee for Tuple3StringNoteOptionString {
     type ArchivedMetadata = ();
 
-    ghost pointee = { one pair_string_note_shape };
+    ghost pointee = { one tuple3_string_note_option_string_shape };
 
-    ghost definitions = { pair_string_note_definitions };
+    ghost definitions = { tuple3_string_note_option_string_definitions };
 
     ghost metadata_length = { λ _. 0 };
 
@@ -134,25 +125,25 @@ impl ArchivePointee for PairStringNote {
     }
 }
 
-impl Portable for PairStringNote {
-    ghost shape = { pair_string_note_shape };
+impl Portable for Tuple3StringNoteOptionString {
+    ghost shape = { tuple3_string_note_option_string_shape };
 
-    ghost layout = { pair_string_note_layout };
+    ghost layout = { tuple3_string_note_option_string_layout };
 
     type Check = BySchema;
 
     ghost is_one = { refl };
 
-    ghost is_align = { pair_string_note_is_align };
+    ghost is_align = { tuple3_string_note_option_string_is_align };
 
-    ghost has_layout = { pair_string_note_has_layout };
+    ghost has_layout = { tuple3_string_note_option_string_has_layout };
 
-    ghost no_others = { pair_string_note_no_others };
+    ghost no_others = { tuple3_string_note_option_string_no_others };
 
     ghost checks = { λ direct. by_schema direct };
 
     fn size() -> usize {
-        32
+        44
     }
 
     fn align() -> usize {
@@ -160,96 +151,98 @@ impl Portable for PairStringNote {
     }
 
     fn expr(alloc: Global) -> Result<archive_core::shape::Expr, Error> {
-        expr_of_record::<PairStringNoteParts>(alloc)
+        expr_of_record::<Tuple3StringNoteOptionStringParts>(alloc)
     }
 
     fn define(alloc: Global, defs: &mut Defs) -> Result<(), Error> {
-        <PairStringNoteParts as PortableParts>::define(alloc, defs)
+        <Tuple3StringNoteOptionStringParts as PortableParts>::define(alloc, defs)
     }
 }
 
-impl Record for PairStringNote {
-    type Parts = PairStringNoteParts;
+impl Record for Tuple3StringNoteOptionString {
+    type Parts = Tuple3StringNoteOptionStringParts;
 
-    ghost has_parts = { pair_string_note_has_parts };
+    ghost has_parts = { tuple3_string_note_option_string_has_parts };
 
     ghost holds = { lit≤ tt };
 }
 
-// What a tuple looks like.
-fn pair_string_note_expression(alloc: Global) -> Result<archive_core::shape::Expr, Error>
-    ensures shape { IfOk result (λ e. shape_of e ≡ pair_string_note_shape) }
-    ensures refused { IfErr result (λ e. e ≡ OutOfMemory) }
+// The parts of a tuple.
+fn tuple3_string_note_option_string_expressions(
+    alloc: Global,
+) -> Result<Vec<archive_core::shape::Expr>, AllocError>
+    ensures { ExpressesParts tuple3_string_note_option_string_parts result }
 {
-    let a0 = <ArchivedString as Portable>::expr(alloc)?;
-    let a1 = archive_core::shape::Expr::Named("ArchivedNote");
-    let parts = vec![in alloc; a0, a1]?;
-    Ok(record_of(parts))
+    let rest3 = no_expressions(alloc);
+    let rest2 = first_expression(
+        expression_of::<ArchivedOption<ArchivedString>>(alloc),
+        rest3,
+    );
+    let rest1 = first_expression(named_expression("ArchivedNote"), rest2);
+    first_expression(expression_of::<ArchivedString>(alloc), rest1)
 }
 
 // The parts of `Texts`.
-fn note_texts_expressions(alloc: Global) -> Result<Vec<archive_core::shape::Expr>, Error>
-    ensures shapes { IfOk result (λ list. shapes_in list.items ≡ note_texts_parts) }
-    ensures refused { IfErr result (λ e. e ≡ OutOfMemory) }
+fn note_texts_expressions(alloc: Global) -> Result<Vec<archive_core::shape::Expr>, AllocError>
+    ensures { ExpressesParts note_texts_parts result }
 {
-    let a0 = <ArchivedVec<ArchivedString> as Portable>::expr(alloc)?;
-    let a1 = <ArchivedOption<ArchivedString> as Portable>::expr(alloc)?;
-    Ok(vec![in alloc; a0, a1]?)
+    let rest2 = no_expressions(alloc);
+    let rest1 = first_expression(
+        expression_of::<ArchivedOption<ArchivedString>>(alloc),
+        rest2,
+    );
+    first_expression(expression_of::<ArchivedVec<ArchivedString>>(alloc), rest1)
 }
 
 // The parts of `Work`.
-fn note_work_expressions(alloc: Global) -> Result<Vec<archive_core::shape::Expr>, Error>
-    ensures shapes { IfOk result (λ list. shapes_in list.items ≡ note_work_parts) }
-    ensures refused { IfErr result (λ e. e ≡ OutOfMemory) }
+fn note_work_expressions(alloc: Global) -> Result<Vec<archive_core::shape::Expr>, AllocError>
+    ensures { ExpressesParts note_work_parts result }
 {
-    let a0 = <ArchivedSortedMap<ArchivedU16, i8> as Portable>::expr(alloc)?;
-    let a1 = <NonZero<u8> as Portable>::expr(alloc)?;
-    let a2 = <ArchivedBox<u8> as Portable>::expr(alloc)?;
-    Ok(vec![in alloc; a0, a1, a2]?)
+    let rest3 = no_expressions(alloc);
+    let rest2 = first_expression(expression_of::<ArchivedBox<u8>>(alloc), rest3);
+    let rest1 = first_expression(expression_of::<NonZero<u8>>(alloc), rest2);
+    first_expression(
+        expression_of::<ArchivedSortedMap<ArchivedU16, i8>>(alloc),
+        rest1,
+    )
 }
 
 // The parts of `Outcome`.
-fn note_outcome_expressions(alloc: Global) -> Result<Vec<archive_core::shape::Expr>, Error>
-    ensures shapes { IfOk result (λ list. shapes_in list.items ≡ note_outcome_parts) }
-    ensures refused { IfErr result (λ e. e ≡ OutOfMemory) }
+fn note_outcome_expressions(alloc: Global) -> Result<Vec<archive_core::shape::Expr>, AllocError>
+    ensures { ExpressesParts note_outcome_parts result }
 {
-    let a0 = <bool as Portable>::expr(alloc)?;
-    let a1 = <() as Portable>::expr(alloc)?;
-    let a2 = <ArchivedResult<u8, ArchivedString> as Portable>::expr(alloc)?;
-    Ok(vec![in alloc; a0, a1, a2]?)
-}
-
-// The parts of `Picture`.
-fn note_picture_expressions(alloc: Global) -> Result<Vec<archive_core::shape::Expr>, Error>
-    ensures shapes { IfOk result (λ list. shapes_in list.items ≡ note_picture_parts) }
-    ensures refused { IfErr result (λ e. e ≡ OutOfMemory) }
-{
-    let a0 = <ArchivedBox<ArchivedStr> as Portable>::expr(alloc)?;
-    let a1 = <ArchivedBox<ArchivedSlice<u8>> as Portable>::expr(alloc)?;
-    Ok(vec![in alloc; a0, a1]?)
+    let rest3 = no_expressions(alloc);
+    let rest2 = first_expression(
+        expression_of::<ArchivedResult<u8, ArchivedString>>(alloc),
+        rest3,
+    );
+    let rest1 = first_expression(expression_of::<()>(alloc), rest2);
+    first_expression(expression_of::<bool>(alloc), rest1)
 }
 
 // The parts of `Table`.
-fn note_table_expressions(alloc: Global) -> Result<Vec<archive_core::shape::Expr>, Error>
-    ensures shapes { IfOk result (λ list. shapes_in list.items ≡ note_table_parts) }
-    ensures refused { IfErr result (λ e. e ≡ OutOfMemory) }
+fn note_table_expressions(alloc: Global) -> Result<Vec<archive_core::shape::Expr>, AllocError>
+    ensures { ExpressesParts note_table_parts result }
 {
-    let a0 = archive_core::shape::Expr::Vec(Box::new(alloc, pair_string_note_expression(alloc)?)?);
-    Ok(vec![in alloc; a0]?)
+    let rest1 = no_expressions(alloc);
+    first_expression(
+        vec_expression(
+            alloc,
+            record_expression(tuple3_string_note_option_string_expressions(alloc)),
+        ),
+        rest1,
+    )
 }
 
-// What the name stands for.
-fn note_expression(alloc: Global) -> Result<archive_core::shape::Expr, Error>
-    ensures shape { IfOk result (λ e. shape_of e ≡ note_stands_for) }
-    ensures refused { IfErr result (λ e. e ≡ OutOfMemory) }
+// Its variants.
+fn note_expressions(alloc: Global) -> Result<Vec<Vec<archive_core::shape::Expr>>, AllocError>
+    ensures { ExpressesVariants note_variants result }
 {
-    let v0 = note_texts_expressions(alloc)?;
-    let v1 = note_work_expressions(alloc)?;
-    let v2 = note_outcome_expressions(alloc)?;
-    let v3 = note_picture_expressions(alloc)?;
-    let v4 = note_table_expressions(alloc)?;
-    let variants = vec![in alloc; v0, v1, v2, v3, v4]?;
-    Ok(choice_of("ArchivedNote", variants))
+    let rest4 = no_variants(alloc);
+    let rest3 = first_variant(note_table_expressions(alloc), rest4);
+    let rest2 = first_variant(note_outcome_expressions(alloc), rest3);
+    let rest1 = first_variant(note_work_expressions(alloc), rest2);
+    first_variant(note_texts_expressions(alloc), rest1)
 }
 
 impl Portable for ArchivedNote {
@@ -282,11 +275,7 @@ impl Portable for ArchivedNote {
     }
 
     fn define(alloc: Global, defs: &mut Defs) -> Result<(), Error> {
-        let stands_for = match note_expression(alloc) {
-            Ok(stands_for) => stands_for,
-            Err(error) => return Err(error),
-        };
-        define_name("ArchivedNote", stands_for, defs)
+        define_choice("ArchivedNote", note_expressions(alloc), defs)
     }
 }
 
@@ -328,13 +317,6 @@ pub enum NoteResolver {
                 <() as Archive>::Resolver,
                 (<Result<u8, String> as Archive>::Resolver, ()),
             ),
-        ),
-    ),
-    /// Of `Picture`.
-    Picture(
-        (
-            <BoxStr as Archive>::Resolver,
-            (<BoxSlice<u8> as Archive>::Resolver, ()),
         ),
     ),
     /// Of `Table`.
@@ -413,25 +395,13 @@ impl Archive for Note {
                     Place::new(pos, bytes),
                 )
             }
-            Note::Picture(a0, a1) => {
-                let NoteResolver::Picture(kept) = resolver else {
-                    unreachable!();
-                };
-                resolve_named_case_2::<BoxStr, BoxSlice<u8>, ArchivedNote>(
-                    3,
-                    a0,
-                    a1,
-                    kept,
-                    Place::new(pos, bytes),
-                )
-            }
             Note::Table(a0) => {
                 let NoteResolver::Table(kept) = resolver else {
                     unreachable!();
                 };
-                let h0: VecAt<PairStringNote> = VecAt::of(a0.len());
-                resolve_named_case_1::<VecAt<PairStringNote>, ArchivedNote>(
-                    4,
+                let h0: VecAt<Tuple3StringNoteOptionString> = VecAt::of(a0.len());
+                resolve_named_case_1::<VecAt<Tuple3StringNoteOptionString>, ArchivedNote>(
+                    3,
                     &h0,
                     kept,
                     Place::new(pos, bytes),
@@ -457,22 +427,24 @@ impl Archive for Note {
 
 // Writes what each of the values owns, in order.
 #[cycle(serialize_note)]
-fn serialize_each_pair_string_note<S: Writer + Keys + ResolverAlloc>(
-    values: &[(String, Note)],
+fn serialize_each_tuple3_string_note_option_string<S: Writer + Keys + ResolverAlloc>(
+    values: &[(String, Note, Option<String>)],
     serializer: &mut S,
-) -> Result<Vec<<(String, Note) as Archive>::Resolver, S::Alloc>, Error>
-    ensures serialized { IfOk result (λ rs. SerializedRun pair_string_note_definitions
-        pair_string_note_shape (length values.now) (each_keys ⟦<(String, Note) as Archive>⟧.keys
-        values.now) (each_meaning ⟦<(String, Note) as Archive>⟧.meaning values.now)
-        (each_flat ⟦<(String, Note) as Archive>⟧.flat values.now rs.items) (S.state serializer.old)
-        (S.state serializer.new)) }
-    ensures same_values { IfOk result (λ rs. EachBelongs ⟦<(String, Note) as Archive>⟧.belongs
-        values.now rs.items) }
+) -> Result<Vec<<(String, Note, Option<String>) as Archive>::Resolver, S::Alloc>, Error>
+    ensures serialized { IfOk result (λ rs. SerializedRun
+        tuple3_string_note_option_string_definitions tuple3_string_note_option_string_shape
+        (length values.now) (each_keys ⟦<(String, Note, Option<String>) as Archive>⟧.keys
+        values.now) (each_meaning ⟦<(String, Note, Option<String>) as Archive>⟧.meaning values.now)
+        (each_flat ⟦<(String, Note, Option<String>) as Archive>⟧.flat values.now rs.items)
+        (S.state serializer.old) (S.state serializer.new)) }
+    ensures same_values { IfOk result (λ rs. EachBelongs
+        ⟦<(String, Note, Option<String>) as Archive>⟧.belongs values.now rs.items) }
     ensures goes_on { GoesOn (S.state serializer.old) (S.state serializer.new) }
-    ensures refused { IfErr result (IsRunRefused pair_string_note_definitions pair_string_note_shape
-        (length values.now) (each_keys ⟦<(String, Note) as Archive>⟧.keys values.now)
-        (each_meaning ⟦<(String, Note) as Archive>⟧.meaning values.now) (S.state serializer.old)
-        (S.state serializer.new)) }
+    ensures refused { IfErr result (IsRunRefused tuple3_string_note_option_string_definitions
+        tuple3_string_note_option_string_shape (length values.now)
+        (each_keys ⟦<(String, Note, Option<String>) as Archive>⟧.keys values.now)
+        (each_meaning ⟦<(String, Note, Option<String>) as Archive>⟧.meaning values.now)
+        (S.state serializer.old) (S.state serializer.new)) }
 {
     let alloc = serializer.resolver_alloc();
     let mut resolvers = Vec::with_capacity(alloc, values.len())?;
@@ -485,34 +457,43 @@ fn serialize_each_pair_string_note<S: Writer + Keys + ResolverAlloc>(
             Ok(a1) => a1,
             Err(error) => return Err(handed_on(error)),
         };
-        resolvers.push((a0, (a1, ()))).map_err(AllocError::from)?;
+        let a2 = match serialize_part(&value.2, serializer) {
+            Ok(a2) => a2,
+            Err(error) => return Err(error),
+        };
+        resolvers
+            .push((a0, (a1, (a2, ()))))
+            .map_err(AllocError::from)?;
     }
     Ok(resolvers)
 }
 
 // Writes what a vector owns.
 #[cycle(serialize_note)]
-fn serialize_vec_pair_string_note<S: Writer + Keys + ResolverAlloc>(
-    value: &Vec<(String, Note)>,
+fn serialize_vec_tuple3_string_note_option_string<S: Writer + Keys + ResolverAlloc>(
+    value: &Vec<(String, Note, Option<String>)>,
     serializer: &mut S,
 ) -> Result<VecResolver, Error>
-    ensures serialized { IfOk result (λ r. Serialized pair_string_note_definitions
-        (vec pair_string_note_shape) (⟦<Vec<(String, Note)> as Archive>⟧.keys value.now)
-        (⟦<Vec<(String, Note)> as Archive>⟧.meaning value.now)
-        (⟦<Vec<(String, Note)> as Archive>⟧.flat value.now r) (S.state serializer.old)
-        (S.state serializer.new)) }
-    ensures same_value { IfOk result (λ r. ⟦<Vec<(String, Note)> as Archive>⟧.belongs value.now r) }
+    ensures serialized { IfOk result (λ r. Serialized tuple3_string_note_option_string_definitions
+        (vec tuple3_string_note_option_string_shape)
+        (⟦<Vec<(String, Note, Option<String>)> as Archive>⟧.keys value.now)
+        (⟦<Vec<(String, Note, Option<String>)> as Archive>⟧.meaning value.now)
+        (⟦<Vec<(String, Note, Option<String>)> as Archive>⟧.flat value.now r)
+        (S.state serializer.old) (S.state serializer.new)) }
+    ensures same_value { IfOk result (λ r. ⟦<Vec<(String, Note, Option<String>)> as Archive>⟧.belongs
+        value.now r) }
     ensures goes_on { GoesOn (S.state serializer.old) (S.state serializer.new) }
-    ensures refused { IfErr result (IsRefused pair_string_note_definitions
-        (vec pair_string_note_shape) (⟦<Vec<(String, Note)> as Archive>⟧.keys value.now)
-        (⟦<Vec<(String, Note)> as Archive>⟧.meaning value.now) (S.state serializer.old)
-        (S.state serializer.new)) }
+    ensures refused { IfErr result (IsRefused tuple3_string_note_option_string_definitions
+        (vec tuple3_string_note_option_string_shape)
+        (⟦<Vec<(String, Note, Option<String>)> as Archive>⟧.keys value.now)
+        (⟦<Vec<(String, Note, Option<String>)> as Archive>⟧.meaning value.now)
+        (S.state serializer.old) (S.state serializer.new)) }
 {
     if value.len() > u32::MAX as usize {
         return Err(Error::LengthTooLarge);
     }
     let items = value.as_slice();
-    let kept = match serialize_each_pair_string_note(items, serializer) {
+    let kept = match serialize_each_tuple3_string_note_option_string(items, serializer) {
         Ok(kept) => kept,
         Err(error) => return Err(error),
     };
@@ -667,65 +648,26 @@ fn serialize_note_outcome<S: Writer + Keys + ResolverAlloc>(
     Ok((a0, (a1, (a2, ()))))
 }
 
-// Writes what the parts of `Picture` own, in order.
-fn serialize_note_picture<S: Writer + Keys + ResolverAlloc>(
-    a0: &BoxStr,
-    a1: &BoxSlice<u8>,
-    serializer: &mut S,
-) -> Result<
-    (
-        <BoxStr as Archive>::Resolver,
-        (<BoxSlice<u8> as Archive>::Resolver, ()),
-    ),
-    Error,
->
-    ensures serialized { IfOk result (λ r. Serialized note_definitions note_shape
-        (⟦<BoxStr as Archive>⟧.keys a0.now ++ (⟦<BoxSlice<u8> as Archive>⟧.keys a1.now ++ []))
-        (case 3 (value (⟦<BoxStr as Archive>⟧.meaning a0.now)
-        (value (⟦<BoxSlice<u8> as Archive>⟧.meaning a1.now) no_value)))
-        (case 3 (value (⟦<BoxStr as Archive>⟧.flat a0.now r.0)
-        (value (⟦<BoxSlice<u8> as Archive>⟧.flat a1.now r.1.0) no_value))) (S.state serializer.old)
-        (S.state serializer.new)) }
-    ensures same_values { IfOk result (λ r. ⟦<BoxStr as Archive>⟧.belongs a0.now r.0
-        × (⟦<BoxSlice<u8> as Archive>⟧.belongs a1.now r.1.0 × Unit {0})) }
-    ensures goes_on { GoesOn (S.state serializer.old) (S.state serializer.new) }
-    ensures refused { IfErr result (IsRefused note_definitions note_shape
-        (⟦<BoxStr as Archive>⟧.keys a0.now ++ (⟦<BoxSlice<u8> as Archive>⟧.keys a1.now ++ []))
-        (case 3 (value (⟦<BoxStr as Archive>⟧.meaning a0.now)
-        (value (⟦<BoxSlice<u8> as Archive>⟧.meaning a1.now) no_value))) (S.state serializer.old)
-        (S.state serializer.new)) }
-{
-    let a0 = match serialize_part(a0, serializer) {
-        Ok(a0) => a0,
-        Err(error) => return Err(error),
-    };
-    let a1 = match serialize_part(a1, serializer) {
-        Ok(a1) => a1,
-        Err(error) => return Err(error),
-    };
-    Ok((a0, (a1, ())))
-}
-
 // Writes what the parts of `Table` own, in order.
 #[cycle(serialize_note)]
 fn serialize_note_table<S: Writer + Keys + ResolverAlloc>(
-    a0: &Vec<(String, Note)>,
+    a0: &Vec<(String, Note, Option<String>)>,
     serializer: &mut S,
 ) -> Result<(VecResolver, ()), Error>
     ensures serialized { IfOk result (λ r. Serialized note_definitions note_shape
-        (⟦<Vec<(String, Note)> as Archive>⟧.keys a0.now ++ [])
-        (case 4 (value (⟦<Vec<(String, Note)> as Archive>⟧.meaning a0.now) no_value))
-        (case 4 (value (⟦<Vec<(String, Note)> as Archive>⟧.flat a0.now r.0) no_value))
-        (S.state serializer.old) (S.state serializer.new)) }
-    ensures same_values { IfOk result (λ r. ⟦<Vec<(String, Note)> as Archive>⟧.belongs a0.now r.0
-        × Unit {0}) }
+        (⟦<Vec<(String, Note, Option<String>)> as Archive>⟧.keys a0.now ++ [])
+        (case 3 (value (⟦<Vec<(String, Note, Option<String>)> as Archive>⟧.meaning a0.now)
+        no_value)) (case 3 (value (⟦<Vec<(String, Note, Option<String>)> as Archive>⟧.flat a0.now
+        r.0) no_value)) (S.state serializer.old) (S.state serializer.new)) }
+    ensures same_values { IfOk result (λ r. ⟦<Vec<(String, Note, Option<String>)> as Archive>⟧.belongs
+        a0.now r.0 × Unit {0}) }
     ensures goes_on { GoesOn (S.state serializer.old) (S.state serializer.new) }
     ensures refused { IfErr result (IsRefused note_definitions note_shape
-        (⟦<Vec<(String, Note)> as Archive>⟧.keys a0.now ++ [])
-        (case 4 (value (⟦<Vec<(String, Note)> as Archive>⟧.meaning a0.now) no_value))
-        (S.state serializer.old) (S.state serializer.new)) }
+        (⟦<Vec<(String, Note, Option<String>)> as Archive>⟧.keys a0.now ++ [])
+        (case 3 (value (⟦<Vec<(String, Note, Option<String>)> as Archive>⟧.meaning a0.now)
+        no_value)) (S.state serializer.old) (S.state serializer.new)) }
 {
-    let a0 = match serialize_vec_pair_string_note(a0, serializer) {
+    let a0 = match serialize_vec_tuple3_string_note_option_string(a0, serializer) {
         Ok(a0) => a0,
         Err(error) => return Err(error),
     };
@@ -758,10 +700,6 @@ fn serialize_note<S: Writer + Keys + ResolverAlloc>(
         },
         Note::Outcome(a0, a1, a2) => match serialize_note_outcome(a0, a1, a2, serializer) {
             Ok(kept) => Ok(NoteResolver::Outcome(kept)),
-            Err(error) => Err(error),
-        },
-        Note::Picture(a0, a1) => match serialize_note_picture(a0, a1, serializer) {
-            Ok(kept) => Ok(NoteResolver::Picture(kept)),
             Err(error) => Err(error),
         },
         Note::Table(a0) => match serialize_note_table(a0, serializer) {
@@ -812,43 +750,58 @@ impl<S: Writer + Keys + ResolverAlloc> SerializeUnsized<S> for Note {
 
 // Reads a tuple back, part by part.
 #[cycle(read_note)]
-fn read_pair_string_note<D: Entries>(
+fn read_tuple3_string_note_option_string<D: Entries>(
     alloc: Global,
     part: RawView<'_>,
     deserializer: &mut D,
-) -> Result<(String, Note), Error>
-    requires { IsPartOf ⟦<PairStringNote as ArchivePointee>⟧ part }
-    ensures read { IfOk result (λ t. ReadsPart ⟦<PairStringNote as ArchivePointee>⟧ part D.Entries
-        deserializer (pair_string_note_meaning t) (pair_string_note_keys t)) }
-    ensures refused { IfErr result (RefusesPart ⟦<PairStringNote as ArchivePointee>⟧ part D.Entries
-        deserializer) }
+) -> Result<(String, Note, Option<String>), Error>
+    requires { IsPartOf ⟦<Tuple3StringNoteOptionString as ArchivePointee>⟧ part }
+    ensures read { IfOk result (λ t. ReadsPart ⟦<Tuple3StringNoteOptionString as ArchivePointee>⟧
+        part D.Entries deserializer (tuple3_string_note_option_string_meaning t)
+        (tuple3_string_note_option_string_keys t)) }
+    ensures refused { IfErr result (RefusesPart ⟦<Tuple3StringNoteOptionString as ArchivePointee>⟧
+        part D.Entries deserializer) }
 {
-    let p0 = part_of_record::<PairStringNote, ArchivedString>(part, 0, 0);
+    let p0 = part_of_record::<Tuple3StringNoteOptionString, ArchivedString>(part, 0, 0);
     let a0 = read_part::<ArchivedString, String, D>(alloc, p0, deserializer)?;
-    let p1 = part_of_record::<PairStringNote, ArchivedNote>(part, 1, 8);
+    let p1 = part_of_record::<Tuple3StringNoteOptionString, ArchivedNote>(part, 1, 8);
     let a1 = read_note(alloc, p1, deserializer)?;
-    Ok((a0, a1))
+    let p2 = part_of_record::<Tuple3StringNoteOptionString, ArchivedOption<ArchivedString>>(
+        part, 2, 32,
+    );
+    let a2 = read_part::<ArchivedOption<ArchivedString>, Option<String>, D>(
+        alloc,
+        p2,
+        deserializer,
+    )?;
+    Ok((a0, a1, a2))
 }
 
 // Reads a vector back.
 #[cycle(read_note)]
-fn read_vec_pair_string_note<D: Entries>(
+fn read_vec_tuple3_string_note_option_string<D: Entries>(
     alloc: Global,
     part: RawView<'_>,
     deserializer: &mut D,
-) -> Result<Vec<(String, Note)>, Error>
-    requires { IsPartOf ⟦<ArchivedVec<PairStringNote> as ArchivePointee>⟧ part }
-    ensures read { IfOk result (λ t. ReadsPart ⟦<ArchivedVec<PairStringNote> as ArchivePointee>⟧
-        part D.Entries deserializer (list (each_meaning pair_string_note_meaning t.items))
-        (each_keys pair_string_note_keys t.items)) }
-    ensures refused { IfErr result (RefusesPart ⟦<ArchivedVec<PairStringNote> as ArchivePointee>⟧
-        part D.Entries deserializer) }
+) -> Result<Vec<(String, Note, Option<String>)>, Error>
+    requires { IsPartOf ⟦<ArchivedVec<Tuple3StringNoteOptionString> as ArchivePointee>⟧ part }
+    ensures read { IfOk result
+        (λ t. ReadsPart ⟦<ArchivedVec<Tuple3StringNoteOptionString> as ArchivePointee>⟧ part
+        D.Entries deserializer (list (each_meaning tuple3_string_note_option_string_meaning
+        t.items)) (each_keys tuple3_string_note_option_string_keys t.items)) }
+    ensures refused { IfErr result
+        (RefusesPart ⟦<ArchivedVec<Tuple3StringNoteOptionString> as ArchivePointee>⟧ part D.Entries
+        deserializer) }
 {
-    let view: Ref<'_, ArchivedVec<PairStringNote>> = Ref::at(part);
+    let view: Ref<'_, ArchivedVec<Tuple3StringNoteOptionString>> = Ref::at(part);
     let list = before_vec(view);
     let mut items = Vec::with_capacity(alloc, list.len())?;
     for index in 0..list.len() {
-        let item = read_pair_string_note(alloc, list.index(index).part(), deserializer)?;
+        let item = read_tuple3_string_note_option_string(
+            alloc,
+            list.index(index).part(),
+            deserializer,
+        )?;
         items.push_reserved(item);
     }
     Ok(items)
@@ -936,9 +889,9 @@ fn read_note_outcome<D: Entries>(
     Ok(Note::Outcome(a0, a1, a2))
 }
 
-// Reads `Picture` back.
-#[inline(always)]
-fn read_note_picture<D: Entries>(
+// Reads `Table` back.
+#[cycle(read_note)]
+fn read_note_table<D: Entries>(
     alloc: Global,
     part: RawView<'_>,
     deserializer: &mut D,
@@ -950,29 +903,10 @@ fn read_note_picture<D: Entries>(
     ensures refused { IfErr result (RefusesPart ⟦<ArchivedNote as ArchivePointee>⟧ part D.Entries
         deserializer) }
 {
-    let p0 = part_of_variant::<ArchivedNote, ArchivedBox<ArchivedStr>>(part, 3, 0, 4);
-    let a0 = read_part::<ArchivedBox<ArchivedStr>, BoxStr, D>(alloc, p0, deserializer)?;
-    let p1 = part_of_variant::<ArchivedNote, ArchivedBox<ArchivedSlice<u8>>>(part, 3, 1, 12);
-    let a1 = read_part::<ArchivedBox<ArchivedSlice<u8>>, BoxSlice<u8>, D>(alloc, p1, deserializer)?;
-    Ok(Note::Picture(a0, a1))
-}
-
-// Reads `Table` back.
-#[cycle(read_note)]
-fn read_note_table<D: Entries>(
-    alloc: Global,
-    part: RawView<'_>,
-    deserializer: &mut D,
-) -> Result<Note, Error>
-    requires viewed { IsPartOf ⟦<ArchivedNote as ArchivePointee>⟧ part }
-    requires tag { part_tag part ≡ 4 }
-    ensures read { IfOk result (Read ⟦<ArchivedNote as ArchivePointee>⟧ part D.Entries deserializer
-        ⟦<Note as Archive>⟧) }
-    ensures refused { IfErr result (RefusesPart ⟦<ArchivedNote as ArchivePointee>⟧ part D.Entries
-        deserializer) }
-{
-    let p0 = part_of_variant::<ArchivedNote, ArchivedVec<PairStringNote>>(part, 4, 0, 4);
-    let a0 = read_vec_pair_string_note(alloc, p0, deserializer)?;
+    let p0 = part_of_variant::<ArchivedNote, ArchivedVec<Tuple3StringNoteOptionString>>(
+        part, 3, 0, 4,
+    );
+    let a0 = read_vec_tuple3_string_note_option_string(alloc, p0, deserializer)?;
     Ok(Note::Table(a0))
 }
 
@@ -993,7 +927,6 @@ fn read_note<D: Entries>(
         0 => read_note_texts(alloc, part, deserializer),
         1 => read_note_work(alloc, part, deserializer),
         2 => read_note_outcome(alloc, part, deserializer),
-        3 => read_note_picture(alloc, part, deserializer),
         _ => read_note_table(alloc, part, deserializer),
     }
 }
@@ -1026,10 +959,15 @@ pub enum ViewOfNote<'a> {
     ),
     /// Whether it is done, and nothing of when; what came of it, or why nothing did.
     Outcome(Ref<'a, bool>, Ref<'a, ()>, Ref<'a, ArchivedResult<u8, ArchivedString>>),
-    /// A picture: its title, and its bytes.
-    Picture(Ref<'a, ArchivedBox<ArchivedStr>>, Ref<'a, ArchivedBox<ArchivedSlice<u8>>>),
-    /// Notes with names.
-    Table(Ref<'a, ArchivedVec<ArchivedTuple2<ArchivedString, ArchivedNote>>>),
+    /// Notes with names, and who wrote each, if that is known.
+    Table(
+        Ref<
+            'a,
+            ArchivedVec<
+                ArchivedTuple3<ArchivedString, ArchivedNote, ArchivedOption<ArchivedString>>,
+            >,
+        >,
+    ),
 }
 
 /// The variant of an archived `Note`, as a view.
@@ -1039,7 +977,7 @@ pub trait NoteView<'a> {
 }
 
 impl<'a> NoteView<'a> for Ref<'a, ArchivedNote> {
-    ghost use Rattle.recursive_fields.specs.declared.note.ViewOfNote.TheVariants.{Outcome as NoteOutcomeShown, Picture as NotePictureShown, Table as NoteTableShown, Texts as NoteTextsShown, Work as NoteWorkShown};
+    ghost use Rattle.recursive_fields.specs.declared.note.ViewOfNote.TheVariants.{Outcome as NoteOutcomeShown, Table as NoteTableShown, Texts as NoteTextsShown, Work as NoteWorkShown};
 
     fn variant(self) -> ViewOfNote<'a>
         ensures shows { elim result [
@@ -1062,12 +1000,7 @@ impl<'a> NoteView<'a> for Ref<'a, ArchivedNote> {
               × ShowsValueOf a1 self.entry (payload_in 1) × (a2.bytes.now ≡ self.entry.bytes.now)
               × (a2.pos ≡ self.entry.pos + 4) × (a2.len ≡ 0)
               × ShowsValueOf a2 self.entry (payload_in 2)
-          | NotePictureShown a0 a1 ↦ (tag_of self.entry ≡ 3) × (a0.bytes.now ≡ self.entry.bytes.now)
-              × (a0.pos ≡ self.entry.pos + 4) × (a0.len ≡ 0)
-              × ShowsValueOf a0 self.entry (payload_in 0) × (a1.bytes.now ≡ self.entry.bytes.now)
-              × (a1.pos ≡ self.entry.pos + 12) × (a1.len ≡ 0)
-              × ShowsValueOf a1 self.entry (payload_in 1)
-          | NoteTableShown a0 ↦ (tag_of self.entry ≡ 4) × (a0.bytes.now ≡ self.entry.bytes.now)
+          | NoteTableShown a0 ↦ (tag_of self.entry ≡ 3) × (a0.bytes.now ≡ self.entry.bytes.now)
               × (a0.pos ≡ self.entry.pos + 4) × (a0.len ≡ 0)
               × ShowsValueOf a0 self.entry (payload_in 0)
         ] }
@@ -1098,18 +1031,17 @@ impl<'a> NoteView<'a> for Ref<'a, ArchivedNote> {
                 );
                 ViewOfNote::Outcome(a0, a1, a2)
             }
-            3 => {
-                let a0 = view_of_payload::<ArchivedNote, ArchivedBox<ArchivedStr>>(self, 3, 0, 4);
-                let a1 = view_of_payload::<ArchivedNote, ArchivedBox<ArchivedSlice<u8>>>(
-                    self, 3, 1, 12,
-                );
-                ViewOfNote::Picture(a0, a1)
-            }
             _ => {
                 let a0 = view_of_payload::<
                     ArchivedNote,
-                    ArchivedVec<ArchivedTuple2<ArchivedString, ArchivedNote>>,
-                >(self, 4, 0, 4);
+                    ArchivedVec<
+                        ArchivedTuple3<
+                            ArchivedString,
+                            ArchivedNote,
+                            ArchivedOption<ArchivedString>,
+                        >,
+                    >,
+                >(self, 3, 0, 4);
                 ViewOfNote::Table(a0)
             }
         }
@@ -1164,20 +1096,15 @@ pub trait NoteSeal<'a> {
         requires come_to { sealed self }
         requires tag { tag self ≡ 2 };
 
-    /// The field `0` of `Picture`.
-    fn picture_0_mut(self) -> Seal<'a, ArchivedBox<ArchivedStr>>
-        requires come_to { sealed self }
-        requires tag { tag self ≡ 3 };
-
-    /// The field `1` of `Picture`.
-    fn picture_1_mut(self) -> Seal<'a, ArchivedBox<ArchivedSlice<u8>>>
-        requires come_to { sealed self }
-        requires tag { tag self ≡ 3 };
-
     /// The field `0` of `Table`.
-    fn table_0_mut(self) -> Seal<'a, ArchivedVec<ArchivedTuple2<ArchivedString, ArchivedNote>>>
+    fn table_0_mut(
+        self,
+    ) -> Seal<
+        'a,
+        ArchivedVec<ArchivedTuple3<ArchivedString, ArchivedNote, ArchivedOption<ArchivedString>>>,
+    >
         requires come_to { sealed self }
-        requires tag { tag self ≡ 4 };
+        requires tag { tag self ≡ 3 };
 }
 
 impl<'a> NoteSeal<'a> for Seal<'a, ArchivedNote> {
@@ -1264,36 +1191,24 @@ impl<'a> NoteSeal<'a> for Seal<'a, ArchivedNote> {
         seal_of_payload::<ArchivedNote, ArchivedResult<u8, ArchivedString>>(self, 2, 2, 4)
     }
 
-    fn picture_0_mut(self) -> Seal<'a, ArchivedBox<ArchivedStr>>
+    fn table_0_mut(
+        self,
+    ) -> Seal<
+        'a,
+        ArchivedVec<ArchivedTuple3<ArchivedString, ArchivedNote, ArchivedOption<ArchivedString>>>,
+    >
         requires come_to { IsSealOf note_definitions (one ⟦<ArchivedNote as Portable>⟧.shape) self }
         requires tag { seal_tag self ≡ 3 }
-        ensures { SealsPart note_definitions (one ⟦<ArchivedNote as Portable>⟧.shape) no_definition
-            ⟦<ArchivedBox<ArchivedStr> as ArchivePointee>⟧.pointee (self.entry.pos + 4) 0 self.entry
-            result }
-    {
-        seal_of_payload::<ArchivedNote, ArchivedBox<ArchivedStr>>(self, 3, 0, 4)
-    }
-
-    fn picture_1_mut(self) -> Seal<'a, ArchivedBox<ArchivedSlice<u8>>>
-        requires come_to { IsSealOf note_definitions (one ⟦<ArchivedNote as Portable>⟧.shape) self }
-        requires tag { seal_tag self ≡ 3 }
-        ensures { SealsPart note_definitions (one ⟦<ArchivedNote as Portable>⟧.shape) no_definition
-            ⟦<ArchivedBox<ArchivedSlice<u8>> as ArchivePointee>⟧.pointee (self.entry.pos + 12) 0
-            self.entry result }
-    {
-        seal_of_payload::<ArchivedNote, ArchivedBox<ArchivedSlice<u8>>>(self, 3, 1, 12)
-    }
-
-    fn table_0_mut(self) -> Seal<'a, ArchivedVec<ArchivedTuple2<ArchivedString, ArchivedNote>>>
-        requires come_to { IsSealOf note_definitions (one ⟦<ArchivedNote as Portable>⟧.shape) self }
-        requires tag { seal_tag self ≡ 4 }
         ensures { SealsPart note_definitions (one ⟦<ArchivedNote as Portable>⟧.shape)
-            (both no_definition (both ⟦<ArchivedNote as ArchivePointee>⟧.definitions no_definition))
-            ⟦<ArchivedVec<ArchivedTuple2<ArchivedString, ArchivedNote>> as ArchivePointee>⟧.pointee
-            (self.entry.pos + 4) 0 self.entry result }
+            (both no_definition (both ⟦<ArchivedNote as ArchivePointee>⟧.definitions
+            (both no_definition no_definition)))
+            ⟦<ArchivedVec<ArchivedTuple3<ArchivedString, ArchivedNote, ArchivedOption<ArchivedString>>> as ArchivePointee>⟧.pointee (self.entry.pos + 4) 0 self.entry result }
     {
-        seal_of_payload::<ArchivedNote, ArchivedVec<ArchivedTuple2<ArchivedString, ArchivedNote>>>(
-            self, 4, 0, 4,
-        )
+        seal_of_payload::<
+            ArchivedNote,
+            ArchivedVec<
+                ArchivedTuple3<ArchivedString, ArchivedNote, ArchivedOption<ArchivedString>>,
+            >,
+        >(self, 3, 0, 4)
     }
 }

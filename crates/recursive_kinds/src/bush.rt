@@ -1,4 +1,4 @@
-//! A tree of boxes that may be missing.
+//! A tree of boxes in vectors, and of a vector in a box.
 
 /// A number, and what it leads to.
 #[derive(Debug, PartialEq, Drop)]
@@ -7,6 +7,8 @@ pub struct Bush {
     pub id: u32,
     /// Each in a box of its own, or nothing.
     pub sides: Vec<Option<Box<Bush>>>,
+    /// Each in a box of its own.
+    pub next: Vec<Box<Bush>>,
     /// Others, in one box.
     pub others: Box<Vec<Bush>>,
 }
@@ -17,8 +19,7 @@ ghost use Rattle.archive_core.specs.CallOutcomes.{ResolvesAs};
 ghost use Rattle.archive_core.specs.Causes.{IsRefused};
 ghost use Rattle.archive_core.specs.Choices.{option_shape};
 ghost use Rattle.archive_core.specs.Definitions.{no_definition};
-ghost use Rattle.archive_core.specs.Error.TheVariants.{OutOfMemory};
-ghost use Rattle.archive_core.specs.Expressions.{shape_of, shapes_in};
+ghost use Rattle.archive_core.specs.Expressed.{ExpressesParts};
 ghost use Rattle.archive_core.specs.Fields.{field_in};
 ghost use Rattle.archive_core.specs.PlannedOwners.{one_planned};
 ghost use Rattle.archive_core.specs.Plans.{Serialized};
@@ -31,7 +32,7 @@ ghost use Rattle.archive_core.specs.Sources.{Read, ReadsAs};
 ghost use Rattle.archive_core.specs.Value.{value};
 ghost use Rattle.archive_core.specs.Writing.{ZeroedPlace};
 ghost use Rattle.archive_core.specs.Written.{GoesOn};
-ghost use Rattle.recursive_kinds.specs.BushShape.{bush_definitions, bush_has_layout, bush_has_parts, bush_is_align, bush_layout, bush_no_others, bush_parts, bush_shape, bush_stands_for};
+ghost use Rattle.recursive_kinds.specs.BushShape.{bush_definitions, bush_has_layout, bush_has_parts, bush_is_align, bush_layout, bush_no_others, bush_parts, bush_shape};
 ghost use Rattle.std.proofs.Common.{lit≤};
 ghost use Rattle.std.specs.Prelude.{IfErr, IfOk, None, Some, length, refl, ◌+◌, ◌≡◌, ◌≤◌};
 
@@ -41,9 +42,10 @@ use archive_core::option::ArchivedOption;
 use archive_core::place::Place;
 use archive_core::primitive::ArchivedU32;
 use archive_core::recursive::{
-    BoxAt, VecAt, before_box, before_vec, define_name, handed_on, option_expression,
-    part_of_record, read_part, record_of, resolve_named_record_3, seal_of_field, serialize_inner,
-    serialize_inner_slice, serialize_part, view_of_field,
+    BoxAt, VecAt, before_box, before_vec, boxed_expression, define_record, expression_of,
+    first_expression, handed_on, named_expression, no_expressions, option_expression,
+    part_of_record, read_part, resolve_named_record_4, seal_of_field, serialize_inner,
+    serialize_inner_slice, serialize_part, vec_expression, view_of_field,
 };
 use archive_core::seal::Seal;
 use archive_core::self_check::BySchema;
@@ -57,14 +59,17 @@ use archive_core::vec::{ArchivedVec, VecResolver};
 use archive_core::view::{RawView, Ref};
 use std::alloc::{AllocError, Global};
 
-/// An archived `Bush`: 16 bytes at a multiple of 4. It is validated by its schema.
+/// An archived `Bush`: 24 bytes at a multiple of 4. It is validated by its schema.
 pub struct ArchivedBush;
 
 type BushParts = (
     ArchivedU32,
     (
         ArchivedVec<ArchivedOption<ArchivedBox<ArchivedBush>>>,
-        (ArchivedBox<ArchivedVec<ArchivedBush>>, ()),
+        (
+            ArchivedVec<ArchivedBox<ArchivedBush>>,
+            (ArchivedBox<ArchivedVec<ArchivedBush>>, ()),
+        ),
     ),
 );
 
@@ -83,38 +88,35 @@ impl ArchivePointee for ArchivedBush {
 }
 
 // The parts of `Bush`.
-fn bush_expressions(alloc: Global) -> Result<Vec<archive_core::shape::Expr>, Error>
-    ensures shapes { IfOk result (λ list. shapes_in list.items ≡ bush_parts) }
-    ensures refused { IfErr result (λ e. e ≡ OutOfMemory) }
+fn bush_expressions(alloc: Global) -> Result<Vec<archive_core::shape::Expr>, AllocError>
+    ensures { ExpressesParts bush_parts result }
 {
-    let a0 = <ArchivedU32 as Portable>::expr(alloc)?;
-    let a1 = archive_core::shape::Expr::Vec(Box::new(
-        alloc,
-        option_expression(
+    let rest4 = no_expressions(alloc);
+    let rest3 = first_expression(
+        boxed_expression(
             alloc,
-            archive_core::shape::Expr::Box(Box::new(
+            vec_expression(alloc, named_expression("ArchivedBush")),
+        ),
+        rest4,
+    );
+    let rest2 = first_expression(
+        vec_expression(
+            alloc,
+            boxed_expression(alloc, named_expression("ArchivedBush")),
+        ),
+        rest3,
+    );
+    let rest1 = first_expression(
+        vec_expression(
+            alloc,
+            option_expression(
                 alloc,
-                archive_core::shape::Pointee::One(archive_core::shape::Expr::Named("ArchivedBush")),
-            )?),
-        )?,
-    )?);
-    let a2 = archive_core::shape::Expr::Box(Box::new(
-        alloc,
-        archive_core::shape::Pointee::One(archive_core::shape::Expr::Vec(Box::new(
-            alloc,
-            archive_core::shape::Expr::Named("ArchivedBush"),
-        )?)),
-    )?);
-    Ok(vec![in alloc; a0, a1, a2]?)
-}
-
-// What the name stands for.
-fn bush_expression(alloc: Global) -> Result<archive_core::shape::Expr, Error>
-    ensures shape { IfOk result (λ e. shape_of e ≡ bush_stands_for) }
-    ensures refused { IfErr result (λ e. e ≡ OutOfMemory) }
-{
-    let parts = bush_expressions(alloc)?;
-    Ok(record_of(parts))
+                boxed_expression(alloc, named_expression("ArchivedBush")),
+            ),
+        ),
+        rest2,
+    );
+    first_expression(expression_of::<ArchivedU32>(alloc), rest1)
 }
 
 impl Portable for ArchivedBush {
@@ -135,7 +137,7 @@ impl Portable for ArchivedBush {
     ghost checks = { λ direct. by_schema direct };
 
     fn size() -> usize {
-        16
+        24
     }
 
     fn align() -> usize {
@@ -147,11 +149,7 @@ impl Portable for ArchivedBush {
     }
 
     fn define(alloc: Global, defs: &mut Defs) -> Result<(), Error> {
-        let stands_for = match bush_expression(alloc) {
-            Ok(stands_for) => stands_for,
-            Err(error) => return Err(error),
-        };
-        define_name("ArchivedBush", stands_for, defs)
+        define_record("ArchivedBush", bush_expressions(alloc), defs)
     }
 }
 
@@ -166,7 +164,10 @@ impl Record for ArchivedBush {
 /// What is kept of `Bush` between `serialize` and `resolve`.
 #[derive(Drop)]
 pub struct BushResolver {
-    kept: (<u32 as Archive>::Resolver, (VecResolver, (BoxResolver, ()))),
+    kept: (
+        <u32 as Archive>::Resolver,
+        (VecResolver, (VecResolver, (BoxResolver, ()))),
+    ),
 }
 
 impl Archive for Bush {
@@ -196,7 +197,7 @@ impl Archive for Bush {
         resolver: Self::Resolver,
         place: Place<'_, Self::Archived>,
     ) -> Result<(), Error>
-        requires zeroed { ZeroedPlace 16 place.pos place.bytes.now }
+        requires zeroed { ZeroedPlace 24 place.pos place.bytes.now }
         requires same_value { ⟦<Self as Archive>⟧.belongs self.now resolver }
         ensures { ResolvesAs ⟦<Self::Archived as Portable>⟧ place
             (⟦<Self as Archive>⟧.flat self.now resolver) result }
@@ -204,13 +205,15 @@ impl Archive for Bush {
         let Place { bytes, pos, .. } = place;
         let BushResolver { kept } = resolver;
         let h1: VecAt<ArchivedOption<ArchivedBox<ArchivedBush>>> = VecAt::of(self.sides.len());
-        let h2: BoxAt<ArchivedVec<ArchivedBush>> = BoxAt::new();
-        resolve_named_record_3::<
+        let h2: VecAt<ArchivedBox<ArchivedBush>> = VecAt::of(self.next.len());
+        let h3: BoxAt<ArchivedVec<ArchivedBush>> = BoxAt::new();
+        resolve_named_record_4::<
             u32,
             VecAt<ArchivedOption<ArchivedBox<ArchivedBush>>>,
+            VecAt<ArchivedBox<ArchivedBush>>,
             BoxAt<ArchivedVec<ArchivedBush>>,
             ArchivedBush,
-        >(&self.id, &h1, &h2, kept, Place::new(pos, bytes))
+        >(&self.id, &h1, &h2, &h3, kept, Place::new(pos, bytes))
     }
 
     #[inline(always)]
@@ -297,6 +300,73 @@ fn serialize_vec_option_box_bush<S: Writer + Keys + ResolverAlloc>(
     }
     let items = value.as_slice();
     let kept = match serialize_each_option_box_bush(items, serializer) {
+        Ok(kept) => kept,
+        Err(error) => return Err(error),
+    };
+    match serialize_inner_slice(items, kept, serializer) {
+        Ok(at) => Ok(at),
+        Err(error) => Err(error),
+    }
+}
+
+// Writes what each of the values owns, in order.
+#[cycle(serialize_bush)]
+fn serialize_each_box_bush<S: Writer + Keys + ResolverAlloc>(
+    values: &[Box<Bush>],
+    serializer: &mut S,
+) -> Result<Vec<<Box<Bush> as Archive>::Resolver, S::Alloc>, Error>
+    ensures serialized { IfOk result (λ rs. SerializedRun bush_definitions (boxed (one bush_shape))
+        (length values.now) (each_keys ⟦<Box<Bush> as Archive>⟧.keys values.now)
+        (each_meaning ⟦<Box<Bush> as Archive>⟧.meaning values.now)
+        (each_flat ⟦<Box<Bush> as Archive>⟧.flat values.now rs.items) (S.state serializer.old)
+        (S.state serializer.new)) }
+    ensures same_values { IfOk result (λ rs. EachBelongs ⟦<Box<Bush> as Archive>⟧.belongs values.now
+        rs.items) }
+    ensures goes_on { GoesOn (S.state serializer.old) (S.state serializer.new) }
+    ensures refused { IfErr result (IsRunRefused bush_definitions (boxed (one bush_shape))
+        (length values.now) (each_keys ⟦<Box<Bush> as Archive>⟧.keys values.now)
+        (each_meaning ⟦<Box<Bush> as Archive>⟧.meaning values.now) (S.state serializer.old)
+        (S.state serializer.new)) }
+{
+    let alloc = serializer.resolver_alloc();
+    let mut resolvers = Vec::with_capacity(alloc, values.len())?;
+    for value in values {
+        let inner = &**value;
+        let kept = match serialize_bush(inner, serializer) {
+            Ok(kept) => kept,
+            Err(error) => return Err(handed_on(error)),
+        };
+        let resolver = match serialize_inner(inner, kept, serializer) {
+            Ok(resolver) => resolver,
+            Err(error) => return Err(error),
+        };
+        resolvers.push(resolver).map_err(AllocError::from)?;
+    }
+    Ok(resolvers)
+}
+
+// Writes what a vector owns.
+#[cycle(serialize_bush)]
+fn serialize_vec_box_bush<S: Writer + Keys + ResolverAlloc>(
+    value: &Vec<Box<Bush>>,
+    serializer: &mut S,
+) -> Result<VecResolver, Error>
+    ensures serialized { IfOk result (λ r. Serialized bush_definitions
+        (vec (boxed (one bush_shape))) (⟦<Vec<Box<Bush>> as Archive>⟧.keys value.now)
+        (⟦<Vec<Box<Bush>> as Archive>⟧.meaning value.now)
+        (⟦<Vec<Box<Bush>> as Archive>⟧.flat value.now r) (S.state serializer.old)
+        (S.state serializer.new)) }
+    ensures same_value { IfOk result (λ r. ⟦<Vec<Box<Bush>> as Archive>⟧.belongs value.now r) }
+    ensures goes_on { GoesOn (S.state serializer.old) (S.state serializer.new) }
+    ensures refused { IfErr result (IsRefused bush_definitions (vec (boxed (one bush_shape)))
+        (⟦<Vec<Box<Bush>> as Archive>⟧.keys value.now) (⟦<Vec<Box<Bush>> as Archive>⟧.meaning
+        value.now) (S.state serializer.old) (S.state serializer.new)) }
+{
+    if value.len() > u32::MAX as usize {
+        return Err(Error::LengthTooLarge);
+    }
+    let items = value.as_slice();
+    let kept = match serialize_each_box_bush(items, serializer) {
         Ok(kept) => kept,
         Err(error) => return Err(error),
     };
@@ -418,12 +488,16 @@ fn serialize_bush<S: Writer + Keys + ResolverAlloc>(
         Ok(a1) => a1,
         Err(error) => return Err(error),
     };
-    let a2 = match serialize_box_vec_bush(&value.others, serializer) {
+    let a2 = match serialize_vec_box_bush(&value.next, serializer) {
         Ok(a2) => a2,
         Err(error) => return Err(error),
     };
+    let a3 = match serialize_box_vec_bush(&value.others, serializer) {
+        Ok(a3) => a3,
+        Err(error) => return Err(error),
+    };
     Ok(BushResolver {
-        kept: (a0, (a1, (a2, ()))),
+        kept: (a0, (a1, (a2, (a3, ())))),
     })
 }
 
@@ -537,6 +611,30 @@ fn read_vec_option_box_bush<D: Entries>(
 
 // Reads a vector back.
 #[cycle(read_bush)]
+fn read_vec_box_bush<D: Entries>(
+    alloc: Global,
+    part: RawView<'_>,
+    deserializer: &mut D,
+) -> Result<Vec<Box<Bush>>, Error>
+    requires { IsPartOf ⟦<ArchivedVec<ArchivedBox<ArchivedBush>> as ArchivePointee>⟧ part }
+    ensures read { IfOk result (Read ⟦<ArchivedVec<ArchivedBox<ArchivedBush>> as ArchivePointee>⟧
+        part D.Entries deserializer ⟦<Vec<Box<Bush>> as Archive>⟧) }
+    ensures refused { IfErr result
+        (RefusesPart ⟦<ArchivedVec<ArchivedBox<ArchivedBush>> as ArchivePointee>⟧ part D.Entries
+        deserializer) }
+{
+    let view: Ref<'_, ArchivedVec<ArchivedBox<ArchivedBush>>> = Ref::at(part);
+    let list = before_vec(view);
+    let mut items = Vec::with_capacity(alloc, list.len())?;
+    for index in 0..list.len() {
+        let item = read_box_bush(alloc, list.index(index).part(), deserializer)?;
+        items.push_reserved(item);
+    }
+    Ok(items)
+}
+
+// Reads a vector back.
+#[cycle(read_bush)]
 fn read_vec_bush<D: Entries>(
     alloc: Global,
     part: RawView<'_>,
@@ -597,12 +695,15 @@ fn read_bush<D: Entries>(
         part, 1, 4,
     );
     let a1 = read_vec_option_box_bush(alloc, p1, deserializer)?;
-    let p2 = part_of_record::<ArchivedBush, ArchivedBox<ArchivedVec<ArchivedBush>>>(part, 2, 12);
-    let a2 = read_box_vec_bush(alloc, p2, deserializer)?;
+    let p2 = part_of_record::<ArchivedBush, ArchivedVec<ArchivedBox<ArchivedBush>>>(part, 2, 12);
+    let a2 = read_vec_box_bush(alloc, p2, deserializer)?;
+    let p3 = part_of_record::<ArchivedBush, ArchivedBox<ArchivedVec<ArchivedBush>>>(part, 3, 20);
+    let a3 = read_box_vec_bush(alloc, p3, deserializer)?;
     Ok(Bush {
         id: a0,
         sides: a1,
-        others: a2,
+        next: a2,
+        others: a3,
     })
 }
 
@@ -629,6 +730,9 @@ pub trait BushView<'a> {
     /// Each in a box of its own, or nothing.
     fn sides(self) -> Ref<'a, ArchivedVec<ArchivedOption<ArchivedBox<ArchivedBush>>>>;
 
+    /// Each in a box of its own.
+    fn next(self) -> Ref<'a, ArchivedVec<ArchivedBox<ArchivedBush>>>;
+
     /// Others, in one box.
     fn others(self) -> Ref<'a, ArchivedBox<ArchivedVec<ArchivedBush>>>;
 }
@@ -654,13 +758,22 @@ impl<'a> BushView<'a> for Ref<'a, ArchivedBush> {
         )
     }
 
-    fn others(self) -> Ref<'a, ArchivedBox<ArchivedVec<ArchivedBush>>>
+    fn next(self) -> Ref<'a, ArchivedVec<ArchivedBox<ArchivedBush>>>
         ensures buffer { result.bytes.now ≡ self.entry.bytes.now }
         ensures position { result.pos ≡ self.entry.pos + 12 }
         ensures length { result.len ≡ 0 }
         ensures shows { ShowsValueOf result self.entry (field_in 2) }
     {
-        view_of_field::<ArchivedBush, ArchivedBox<ArchivedVec<ArchivedBush>>>(self, 2, 12)
+        view_of_field::<ArchivedBush, ArchivedVec<ArchivedBox<ArchivedBush>>>(self, 2, 12)
+    }
+
+    fn others(self) -> Ref<'a, ArchivedBox<ArchivedVec<ArchivedBush>>>
+        ensures buffer { result.bytes.now ≡ self.entry.bytes.now }
+        ensures position { result.pos ≡ self.entry.pos + 20 }
+        ensures length { result.len ≡ 0 }
+        ensures shows { ShowsValueOf result self.entry (field_in 3) }
+    {
+        view_of_field::<ArchivedBush, ArchivedBox<ArchivedVec<ArchivedBush>>>(self, 3, 20)
     }
 }
 
@@ -675,6 +788,10 @@ pub trait BushSeal<'a> {
 
     /// Each in a box of its own, or nothing.
     fn sides_mut(self) -> Seal<'a, ArchivedVec<ArchivedOption<ArchivedBox<ArchivedBush>>>>
+        requires { sealed self };
+
+    /// Each in a box of its own.
+    fn next_mut(self) -> Seal<'a, ArchivedVec<ArchivedBox<ArchivedBush>>>
         requires { sealed self };
 
     /// Others, in one box.
@@ -705,13 +822,23 @@ impl<'a> BushSeal<'a> for Seal<'a, ArchivedBush> {
         )
     }
 
+    fn next_mut(self) -> Seal<'a, ArchivedVec<ArchivedBox<ArchivedBush>>>
+        requires come_to { IsSealOf bush_definitions (one ⟦<ArchivedBush as Portable>⟧.shape) self }
+        ensures { SealsPart bush_definitions (one ⟦<ArchivedBush as Portable>⟧.shape)
+            ⟦<ArchivedBush as ArchivePointee>⟧.definitions
+            ⟦<ArchivedVec<ArchivedBox<ArchivedBush>> as ArchivePointee>⟧.pointee
+            (self.entry.pos + 12) 0 self.entry result }
+    {
+        seal_of_field::<ArchivedBush, ArchivedVec<ArchivedBox<ArchivedBush>>>(self, 2, 12)
+    }
+
     fn others_mut(self) -> Seal<'a, ArchivedBox<ArchivedVec<ArchivedBush>>>
         requires come_to { IsSealOf bush_definitions (one ⟦<ArchivedBush as Portable>⟧.shape) self }
         ensures { SealsPart bush_definitions (one ⟦<ArchivedBush as Portable>⟧.shape)
             ⟦<ArchivedBush as ArchivePointee>⟧.definitions
             ⟦<ArchivedBox<ArchivedVec<ArchivedBush>> as ArchivePointee>⟧.pointee
-            (self.entry.pos + 12) 0 self.entry result }
+            (self.entry.pos + 20) 0 self.entry result }
     {
-        seal_of_field::<ArchivedBush, ArchivedBox<ArchivedVec<ArchivedBush>>>(self, 2, 12)
+        seal_of_field::<ArchivedBush, ArchivedBox<ArchivedVec<ArchivedBush>>>(self, 3, 20)
     }
 }

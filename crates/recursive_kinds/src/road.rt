@@ -19,7 +19,7 @@ ghost use Rattle.archive_core.specs.Causes.{IsRefused};
 ghost use Rattle.archive_core.specs.Choices.{option_shape};
 ghost use Rattle.archive_core.specs.Definitions.{no_definition};
 ghost use Rattle.archive_core.specs.Error.TheVariants.{OutOfMemory};
-ghost use Rattle.archive_core.specs.Expressions.{shape_of, shapes_in};
+ghost use Rattle.archive_core.specs.Expressed.{ExpressesParts, ExpressesVariants};
 ghost use Rattle.archive_core.specs.Options.{option_flat};
 ghost use Rattle.archive_core.specs.Payloads.{payload_in};
 ghost use Rattle.archive_core.specs.PlannedOwners.{one_planned};
@@ -27,13 +27,13 @@ ghost use Rattle.archive_core.specs.Plans.{Serialized};
 ghost use Rattle.archive_core.specs.SealsWritten.{IsSealOf, SealsPart, seal_tag};
 ghost use Rattle.archive_core.specs.Seen.{IsPartOf, RefusesPart, ShowsValueOf, part_tag, tag_of};
 ghost use Rattle.archive_core.specs.SelfCheck.Laws.{by_schema};
-ghost use Rattle.archive_core.specs.Shape.{one, part, parts, shared, variant, vec};
+ghost use Rattle.archive_core.specs.Shape.{one, part, parts, shared, variant};
 ghost use Rattle.archive_core.specs.SharedSources.{rc_flat, rc_flavor};
 ghost use Rattle.archive_core.specs.Sources.{Read, ReadsAs};
 ghost use Rattle.archive_core.specs.Value.{case, no_value, shared_value, value};
 ghost use Rattle.archive_core.specs.Writing.{ZeroedPlace};
 ghost use Rattle.archive_core.specs.Written.{GoesOn};
-ghost use Rattle.recursive_kinds.specs.RoadShape.{road_definitions, road_detour_parts, road_has_layout, road_has_variants, road_is_align, road_layout, road_name, road_no_others, road_shape, road_stands_for, road_way_parts};
+ghost use Rattle.recursive_kinds.specs.RoadShape.{road_definitions, road_detour_parts, road_has_layout, road_has_variants, road_is_align, road_layout, road_name, road_no_others, road_shape, road_variants, road_way_parts};
 ghost use Rattle.std.proofs.Common.{lit≤};
 ghost use Rattle.std.specs.Prelude.{IfErr, IfOk, None, Some, [], length, refl, ℕ, ⊤, ◌++◌, ◌+◌, ◌≡◌, ◌≤◌};
 
@@ -43,7 +43,8 @@ use archive_core::place::Place;
 use archive_core::pooling::Pooling;
 use archive_core::rc::{ArchivedRc, RcFlavor, RcResolver};
 use archive_core::recursive::{
-    begin_reading, begin_shared, choice_of, define_name, finish_reading, finish_shared,
+    begin_reading, begin_shared, define_choice, expression_of, finish_reading, finish_shared,
+    first_expression, first_variant, named_expression, no_expressions, no_variants,
     option_expression, part_behind, part_of_variant, read_part, resolve_named_case_1,
     resolve_named_case_2, seal_of_payload, serialize_part, shared_expression, tag_of_choice,
     tag_of_view, view_of_payload,
@@ -58,7 +59,7 @@ use archive_core::traits::{
     Portable, Serialize, SerializeUnsized,
 };
 use archive_core::view::{RawView, Ref};
-use std::alloc::Global;
+use std::alloc::{AllocError, Global};
 
 /// An archived `Road`: 12 bytes at a multiple of 4. It is validated by its schema.
 pub struct ArchivedRoad;
@@ -84,36 +85,38 @@ impl ArchivePointee for ArchivedRoad {
 }
 
 // The parts of `Way`.
-fn road_way_expressions(alloc: Global) -> Result<Vec<archive_core::shape::Expr>, Error>
-    ensures shapes { IfOk result (λ list. shapes_in list.items ≡ road_way_parts) }
-    ensures refused { IfErr result (λ e. e ≡ OutOfMemory) }
+fn road_way_expressions(alloc: Global) -> Result<Vec<archive_core::shape::Expr>, AllocError>
+    ensures { ExpressesParts road_way_parts result }
 {
-    let a0 = <u8 as Portable>::expr(alloc)?;
-    let a1 = option_expression(
-        alloc,
-        shared_expression(alloc, archive_core::shape::Expr::Named("ArchivedRoad"))?,
-    )?;
-    Ok(vec![in alloc; a0, a1]?)
+    let rest2 = no_expressions(alloc);
+    let rest1 = first_expression(
+        option_expression(
+            alloc,
+            shared_expression(alloc, named_expression("ArchivedRoad")),
+        ),
+        rest2,
+    );
+    first_expression(expression_of::<u8>(alloc), rest1)
 }
 
 // The parts of `Detour`.
-fn road_detour_expressions(alloc: Global) -> Result<Vec<archive_core::shape::Expr>, Error>
-    ensures shapes { IfOk result (λ list. shapes_in list.items ≡ road_detour_parts) }
-    ensures refused { IfErr result (λ e. e ≡ OutOfMemory) }
+fn road_detour_expressions(alloc: Global) -> Result<Vec<archive_core::shape::Expr>, AllocError>
+    ensures { ExpressesParts road_detour_parts result }
 {
-    let a0 = shared_expression(alloc, archive_core::shape::Expr::Named("ArchivedRoad"))?;
-    Ok(vec![in alloc; a0]?)
+    let rest1 = no_expressions(alloc);
+    first_expression(
+        shared_expression(alloc, named_expression("ArchivedRoad")),
+        rest1,
+    )
 }
 
-// What the name stands for.
-fn road_expression(alloc: Global) -> Result<archive_core::shape::Expr, Error>
-    ensures shape { IfOk result (λ e. shape_of e ≡ road_stands_for) }
-    ensures refused { IfErr result (λ e. e ≡ OutOfMemory) }
+// Its variants.
+fn road_expressions(alloc: Global) -> Result<Vec<Vec<archive_core::shape::Expr>>, AllocError>
+    ensures { ExpressesVariants road_variants result }
 {
-    let v0 = road_way_expressions(alloc)?;
-    let v1 = road_detour_expressions(alloc)?;
-    let variants = vec![in alloc; v0, v1]?;
-    Ok(choice_of("ArchivedRoad", variants))
+    let rest2 = no_variants(alloc);
+    let rest1 = first_variant(road_detour_expressions(alloc), rest2);
+    first_variant(road_way_expressions(alloc), rest1)
 }
 
 impl Portable for ArchivedRoad {
@@ -146,11 +149,7 @@ impl Portable for ArchivedRoad {
     }
 
     fn define(alloc: Global, defs: &mut Defs) -> Result<(), Error> {
-        let stands_for = match road_expression(alloc) {
-            Ok(stands_for) => stands_for,
-            Err(error) => return Err(error),
-        };
-        define_name("ArchivedRoad", stands_for, defs)
+        define_choice("ArchivedRoad", road_expressions(alloc), defs)
     }
 }
 

@@ -24,8 +24,7 @@ ghost use Rattle.archive_core.specs.Arrays.{named_twice, no_two, twice_keyed};
 ghost use Rattle.archive_core.specs.CallOutcomes.{ResolvesAs};
 ghost use Rattle.archive_core.specs.Causes.{IsRefused};
 ghost use Rattle.archive_core.specs.Definitions.{no_definition};
-ghost use Rattle.archive_core.specs.Error.TheVariants.{OutOfMemory};
-ghost use Rattle.archive_core.specs.Expressions.{shape_of, shapes_in};
+ghost use Rattle.archive_core.specs.Expressed.{ExpressesParts};
 ghost use Rattle.archive_core.specs.Fields.{field_in};
 ghost use Rattle.archive_core.specs.PlannedOwners.{one_planned};
 ghost use Rattle.archive_core.specs.Plans.{Serialized};
@@ -35,13 +34,13 @@ ghost use Rattle.archive_core.specs.Runs.{EachBelongs, IsRunRefused, SerializedR
 ghost use Rattle.archive_core.specs.SealsWritten.{IsSealOf, SealsPart};
 ghost use Rattle.archive_core.specs.Seen.{IsPartOf, RefusesPart, ShowsValueOf};
 ghost use Rattle.archive_core.specs.SelfCheck.Laws.{by_schema};
-ghost use Rattle.archive_core.specs.Shape.{boxed, one, part, parts, run, vec};
+ghost use Rattle.archive_core.specs.Shape.{boxed, one, part, parts, run};
 ghost use Rattle.archive_core.specs.Sources.{Read, ReadsAs};
 ghost use Rattle.archive_core.specs.Value.{box, hole, list, shared_value, value};
 ghost use Rattle.archive_core.specs.WriterState.{WriterState};
 ghost use Rattle.archive_core.specs.Writing.{ZeroedPlace, to_pointee};
 ghost use Rattle.archive_core.specs.Written.{GoesOn};
-ghost use Rattle.recursive_kinds.specs.RuleShape.{rule_definitions, rule_has_layout, rule_has_parts, rule_is_align, rule_layout, rule_no_others, rule_parts, rule_shape, rule_stands_for};
+ghost use Rattle.recursive_kinds.specs.RuleShape.{rule_definitions, rule_has_layout, rule_has_parts, rule_is_align, rule_layout, rule_no_others, rule_parts, rule_shape};
 ghost use Rattle.std.proofs.Common.{lit≤};
 ghost use Rattle.std.specs.Prelude.{IfErr, IfOk, None, length, refl, ◌*◌, ◌+◌, ◌≡◌, ◌≤◌};
 
@@ -51,8 +50,9 @@ use archive_core::laws::{parts_reached, pointers_reached, unique_before};
 use archive_core::place::Place;
 use archive_core::primitive::{ArchivedU16, ArchivedUsize};
 use archive_core::recursive::{
-    define_name, handed_on, part_of_record, read_part, record_of, resolve_named_record_5,
-    seal_of_field, serialize_part, view_of_field,
+    define_record, expression_of, first_expression, handed_on, named_expression, no_expressions,
+    part_of_record, read_part, resolve_named_record_5, run_expression, seal_of_field,
+    serialize_part, view_of_field,
 };
 use archive_core::seal::Seal;
 use archive_core::self_check::BySchema;
@@ -100,28 +100,21 @@ impl ArchivePointee for ArchivedRule {
 }
 
 // The parts of `Rule`.
-fn rule_expressions(alloc: Global) -> Result<Vec<archive_core::shape::Expr>, Error>
-    ensures shapes { IfOk result (λ list. shapes_in list.items ≡ rule_parts) }
-    ensures refused { IfErr result (λ e. e ≡ OutOfMemory) }
+fn rule_expressions(alloc: Global) -> Result<Vec<archive_core::shape::Expr>, AllocError>
+    ensures { ExpressesParts rule_parts result }
 {
-    let a0 = <ArchivedBox<ArchivedStr> as Portable>::expr(alloc)?;
-    let a1 = <[u8; 4] as Portable>::expr(alloc)?;
-    let a2 = <ArchivedBox<ArchivedSlice<ArchivedU16>> as Portable>::expr(alloc)?;
-    let a3 = <ArchivedUsize as Portable>::expr(alloc)?;
-    let a4 = archive_core::shape::Expr::Box(Box::new(
-        alloc,
-        archive_core::shape::Pointee::Run(archive_core::shape::Expr::Named("ArchivedRule")),
-    )?);
-    Ok(vec![in alloc; a0, a1, a2, a3, a4]?)
-}
-
-// What the name stands for.
-fn rule_expression(alloc: Global) -> Result<archive_core::shape::Expr, Error>
-    ensures shape { IfOk result (λ e. shape_of e ≡ rule_stands_for) }
-    ensures refused { IfErr result (λ e. e ≡ OutOfMemory) }
-{
-    let parts = rule_expressions(alloc)?;
-    Ok(record_of(parts))
+    let rest5 = no_expressions(alloc);
+    let rest4 = first_expression(
+        run_expression(alloc, named_expression("ArchivedRule")),
+        rest5,
+    );
+    let rest3 = first_expression(expression_of::<ArchivedUsize>(alloc), rest4);
+    let rest2 = first_expression(
+        expression_of::<ArchivedBox<ArchivedSlice<ArchivedU16>>>(alloc),
+        rest3,
+    );
+    let rest1 = first_expression(expression_of::<[u8; 4]>(alloc), rest2);
+    first_expression(expression_of::<ArchivedBox<ArchivedStr>>(alloc), rest1)
 }
 
 impl Portable for ArchivedRule {
@@ -154,11 +147,7 @@ impl Portable for ArchivedRule {
     }
 
     fn define(alloc: Global, defs: &mut Defs) -> Result<(), Error> {
-        let stands_for = match rule_expression(alloc) {
-            Ok(stands_for) => stands_for,
-            Err(error) => return Err(error),
-        };
-        define_name("ArchivedRule", stands_for, defs)
+        define_record("ArchivedRule", rule_expressions(alloc), defs)
     }
 }
 

@@ -25,8 +25,8 @@ pub enum Entry {
 ghost use Rattle.archive_core.specs.CallOutcomes.{ResolvesAs};
 ghost use Rattle.archive_core.specs.Causes.{IsRefused};
 ghost use Rattle.archive_core.specs.Definitions.{ExplainsConflict, Extended, defines, no_definition};
-ghost use Rattle.archive_core.specs.Error.TheVariants.{OutOfMemory};
-ghost use Rattle.archive_core.specs.Expressions.{shape_of, shapes_in, table_of};
+ghost use Rattle.archive_core.specs.Expressed.{ExpressesParts, ExpressesVariants};
+ghost use Rattle.archive_core.specs.Expressions.{table_of};
 ghost use Rattle.archive_core.specs.Fields.{field_in};
 ghost use Rattle.archive_core.specs.Payloads.{payload_in};
 ghost use Rattle.archive_core.specs.PlannedOwners.{one_planned};
@@ -40,7 +40,7 @@ ghost use Rattle.archive_core.specs.Sources.{Read, ReadsAs};
 ghost use Rattle.archive_core.specs.Value.{case, no_value, value};
 ghost use Rattle.archive_core.specs.Writing.{ZeroedPlace};
 ghost use Rattle.archive_core.specs.Written.{GoesOn};
-ghost use Rattle.recursive_types.specs.DirShape.{dir_definitions, dir_has_layout, dir_has_parts, dir_is_align, dir_layout, dir_name, dir_no_others, dir_parts, dir_shape, dir_stands_for, entry_definitions, entry_file_parts, entry_has_layout, entry_has_variants, entry_is_align, entry_layout, entry_name, entry_no_others, entry_shape, entry_stands_for, entry_sub_parts};
+ghost use Rattle.recursive_types.specs.DirShape.{dir_definitions, dir_has_layout, dir_has_parts, dir_is_align, dir_layout, dir_name, dir_no_others, dir_parts, dir_shape, dir_stands_for, entry_definitions, entry_file_parts, entry_has_layout, entry_has_variants, entry_is_align, entry_layout, entry_name, entry_no_others, entry_shape, entry_stands_for, entry_sub_parts, entry_variants};
 ghost use Rattle.std.proofs.Common.{lit≤};
 ghost use Rattle.std.specs.Prelude.{IfErr, IfOk, None, OnOk, [], length, refl, ℕ, ◌++◌, ◌+◌, ◌≡◌, ◌≤◌};
 
@@ -49,10 +49,11 @@ use archive_core::error::Error;
 use archive_core::place::Place;
 use archive_core::primitive::ArchivedU64;
 use archive_core::recursive::{
-    BoxAt, VecAt, before_box, before_vec, choice_of, define_name, handed_on, part_of_record,
-    part_of_variant, read_part, record_of, resolve_named_case_1, resolve_named_record_2,
-    seal_of_field, seal_of_payload, serialize_inner, serialize_inner_slice, serialize_part,
-    tag_of_choice, tag_of_view, view_of_field, view_of_payload,
+    BoxAt, VecAt, before_box, before_vec, boxed_expression, define_choice, define_record,
+    expression_of, first_expression, first_variant, handed_on, named_expression, no_expressions,
+    no_variants, part_of_record, part_of_variant, read_part, resolve_named_case_1,
+    resolve_named_record_2, seal_of_field, seal_of_payload, serialize_inner, serialize_inner_slice,
+    serialize_part, tag_of_choice, tag_of_view, vec_expression, view_of_field, view_of_payload,
 };
 use archive_core::seal::Seal;
 use archive_core::self_check::BySchema;
@@ -87,25 +88,15 @@ impl ArchivePointee for ArchivedDir {
 }
 
 // The parts of `Dir`.
-fn dir_expressions(alloc: Global) -> Result<Vec<archive_core::shape::Expr>, Error>
-    ensures shapes { IfOk result (λ list. shapes_in list.items ≡ dir_parts) }
-    ensures refused { IfErr result (λ e. e ≡ OutOfMemory) }
+fn dir_expressions(alloc: Global) -> Result<Vec<archive_core::shape::Expr>, AllocError>
+    ensures { ExpressesParts dir_parts result }
 {
-    let a0 = <ArchivedString as Portable>::expr(alloc)?;
-    let a1 = archive_core::shape::Expr::Vec(Box::new(
-        alloc,
-        archive_core::shape::Expr::Named("ArchivedEntry"),
-    )?);
-    Ok(vec![in alloc; a0, a1]?)
-}
-
-// What the name stands for.
-fn dir_expression(alloc: Global) -> Result<archive_core::shape::Expr, Error>
-    ensures shape { IfOk result (λ e. shape_of e ≡ dir_stands_for) }
-    ensures refused { IfErr result (λ e. e ≡ OutOfMemory) }
-{
-    let parts = dir_expressions(alloc)?;
-    Ok(record_of(parts))
+    let rest2 = no_expressions(alloc);
+    let rest1 = first_expression(
+        vec_expression(alloc, named_expression("ArchivedEntry")),
+        rest2,
+    );
+    first_expression(expression_of::<ArchivedString>(alloc), rest1)
 }
 
 // Adds what the name stands for.
@@ -115,11 +106,7 @@ fn define_dir(alloc: Global, defs: &mut Defs) -> Result<(), Error>
     ensures refused { IfErr result (ExplainsConflict (table_of defs.old)
         (defines dir_name dir_stands_for)) }
 {
-    let stands_for = match dir_expression(alloc) {
-        Ok(stands_for) => stands_for,
-        Err(error) => return Err(error),
-    };
-    define_name("ArchivedDir", stands_for, defs)
+    define_record("ArchivedDir", dir_expressions(alloc), defs)
 }
 
 impl Portable for ArchivedDir {
@@ -506,35 +493,31 @@ impl ArchivePointee for ArchivedEntry {
 }
 
 // The parts of `File`.
-fn entry_file_expressions(alloc: Global) -> Result<Vec<archive_core::shape::Expr>, Error>
-    ensures shapes { IfOk result (λ list. shapes_in list.items ≡ entry_file_parts) }
-    ensures refused { IfErr result (λ e. e ≡ OutOfMemory) }
+fn entry_file_expressions(alloc: Global) -> Result<Vec<archive_core::shape::Expr>, AllocError>
+    ensures { ExpressesParts entry_file_parts result }
 {
-    let a0 = <ArchivedU64 as Portable>::expr(alloc)?;
-    Ok(vec![in alloc; a0]?)
+    let rest1 = no_expressions(alloc);
+    first_expression(expression_of::<ArchivedU64>(alloc), rest1)
 }
 
 // The parts of `Sub`.
-fn entry_sub_expressions(alloc: Global) -> Result<Vec<archive_core::shape::Expr>, Error>
-    ensures shapes { IfOk result (λ list. shapes_in list.items ≡ entry_sub_parts) }
-    ensures refused { IfErr result (λ e. e ≡ OutOfMemory) }
+fn entry_sub_expressions(alloc: Global) -> Result<Vec<archive_core::shape::Expr>, AllocError>
+    ensures { ExpressesParts entry_sub_parts result }
 {
-    let a0 = archive_core::shape::Expr::Box(Box::new(
-        alloc,
-        archive_core::shape::Pointee::One(archive_core::shape::Expr::Named("ArchivedDir")),
-    )?);
-    Ok(vec![in alloc; a0]?)
+    let rest1 = no_expressions(alloc);
+    first_expression(
+        boxed_expression(alloc, named_expression("ArchivedDir")),
+        rest1,
+    )
 }
 
-// What the name stands for.
-fn entry_expression(alloc: Global) -> Result<archive_core::shape::Expr, Error>
-    ensures shape { IfOk result (λ e. shape_of e ≡ entry_stands_for) }
-    ensures refused { IfErr result (λ e. e ≡ OutOfMemory) }
+// Its variants.
+fn entry_expressions(alloc: Global) -> Result<Vec<Vec<archive_core::shape::Expr>>, AllocError>
+    ensures { ExpressesVariants entry_variants result }
 {
-    let v0 = entry_file_expressions(alloc)?;
-    let v1 = entry_sub_expressions(alloc)?;
-    let variants = vec![in alloc; v0, v1]?;
-    Ok(choice_of("ArchivedEntry", variants))
+    let rest2 = no_variants(alloc);
+    let rest1 = first_variant(entry_sub_expressions(alloc), rest2);
+    first_variant(entry_file_expressions(alloc), rest1)
 }
 
 // Adds what the name stands for.
@@ -544,11 +527,7 @@ fn define_entry(alloc: Global, defs: &mut Defs) -> Result<(), Error>
     ensures refused { IfErr result (ExplainsConflict (table_of defs.old)
         (defines entry_name entry_stands_for)) }
 {
-    let stands_for = match entry_expression(alloc) {
-        Ok(stands_for) => stands_for,
-        Err(error) => return Err(error),
-    };
-    define_name("ArchivedEntry", stands_for, defs)
+    define_choice("ArchivedEntry", entry_expressions(alloc), defs)
 }
 
 // Adds what the names stand for.

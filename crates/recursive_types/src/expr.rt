@@ -16,8 +16,7 @@ pub enum Expr {
 ghost use Rattle.archive_core.specs.CallOutcomes.{ResolvesAs};
 ghost use Rattle.archive_core.specs.Causes.{IsRefused};
 ghost use Rattle.archive_core.specs.Definitions.{no_definition};
-ghost use Rattle.archive_core.specs.Error.TheVariants.{OutOfMemory};
-ghost use Rattle.archive_core.specs.Expressions.{shape_of, shapes_in};
+ghost use Rattle.archive_core.specs.Expressed.{ExpressesParts, ExpressesVariants};
 ghost use Rattle.archive_core.specs.Payloads.{payload_in};
 ghost use Rattle.archive_core.specs.PlannedOwners.{one_planned};
 ghost use Rattle.archive_core.specs.Plans.{Serialized};
@@ -30,7 +29,7 @@ ghost use Rattle.archive_core.specs.Sources.{Read, ReadsAs};
 ghost use Rattle.archive_core.specs.Value.{case, no_value, value};
 ghost use Rattle.archive_core.specs.Writing.{ZeroedPlace};
 ghost use Rattle.archive_core.specs.Written.{GoesOn};
-ghost use Rattle.recursive_types.specs.ExprShape.{expr_add_parts, expr_call_parts, expr_definitions, expr_has_layout, expr_has_variants, expr_is_align, expr_layout, expr_name, expr_no_others, expr_num_parts, expr_shape, expr_stands_for};
+ghost use Rattle.recursive_types.specs.ExprShape.{expr_add_parts, expr_call_parts, expr_definitions, expr_has_layout, expr_has_variants, expr_is_align, expr_layout, expr_name, expr_no_others, expr_num_parts, expr_shape, expr_variants};
 ghost use Rattle.std.proofs.Common.{lit≤};
 ghost use Rattle.std.specs.Prelude.{IfErr, IfOk, None, [], length, refl, ℕ, ◌++◌, ◌+◌, ◌≡◌, ◌≤◌};
 
@@ -39,9 +38,11 @@ use archive_core::error::Error;
 use archive_core::place::Place;
 use archive_core::primitive::ArchivedI64;
 use archive_core::recursive::{
-    BoxAt, VecAt, before_box, before_vec, choice_of, define_name, handed_on, part_of_variant,
-    read_part, resolve_named_case_1, resolve_named_case_2, seal_of_payload, serialize_inner,
-    serialize_inner_slice, serialize_part, tag_of_choice, tag_of_view, view_of_payload,
+    BoxAt, VecAt, before_box, before_vec, boxed_expression, define_choice, expression_of,
+    first_expression, first_variant, handed_on, named_expression, no_expressions, no_variants,
+    part_of_variant, read_part, resolve_named_case_1, resolve_named_case_2, seal_of_payload,
+    serialize_inner, serialize_inner_slice, serialize_part, tag_of_choice, tag_of_view,
+    vec_expression, view_of_payload,
 };
 use archive_core::seal::Seal;
 use archive_core::self_check::BySchema;
@@ -82,53 +83,48 @@ impl ArchivePointee for ArchivedExpr {
 }
 
 // The parts of `Num`.
-fn expr_num_expressions(alloc: Global) -> Result<Vec<archive_core::shape::Expr>, Error>
-    ensures shapes { IfOk result (λ list. shapes_in list.items ≡ expr_num_parts) }
-    ensures refused { IfErr result (λ e. e ≡ OutOfMemory) }
+fn expr_num_expressions(alloc: Global) -> Result<Vec<archive_core::shape::Expr>, AllocError>
+    ensures { ExpressesParts expr_num_parts result }
 {
-    let a0 = <ArchivedI64 as Portable>::expr(alloc)?;
-    Ok(vec![in alloc; a0]?)
+    let rest1 = no_expressions(alloc);
+    first_expression(expression_of::<ArchivedI64>(alloc), rest1)
 }
 
 // The parts of `Add`.
-fn expr_add_expressions(alloc: Global) -> Result<Vec<archive_core::shape::Expr>, Error>
-    ensures shapes { IfOk result (λ list. shapes_in list.items ≡ expr_add_parts) }
-    ensures refused { IfErr result (λ e. e ≡ OutOfMemory) }
+fn expr_add_expressions(alloc: Global) -> Result<Vec<archive_core::shape::Expr>, AllocError>
+    ensures { ExpressesParts expr_add_parts result }
 {
-    let a0 = archive_core::shape::Expr::Box(Box::new(
-        alloc,
-        archive_core::shape::Pointee::One(archive_core::shape::Expr::Named("ArchivedExpr")),
-    )?);
-    let a1 = archive_core::shape::Expr::Box(Box::new(
-        alloc,
-        archive_core::shape::Pointee::One(archive_core::shape::Expr::Named("ArchivedExpr")),
-    )?);
-    Ok(vec![in alloc; a0, a1]?)
+    let rest2 = no_expressions(alloc);
+    let rest1 = first_expression(
+        boxed_expression(alloc, named_expression("ArchivedExpr")),
+        rest2,
+    );
+    first_expression(
+        boxed_expression(alloc, named_expression("ArchivedExpr")),
+        rest1,
+    )
 }
 
 // The parts of `Call`.
-fn expr_call_expressions(alloc: Global) -> Result<Vec<archive_core::shape::Expr>, Error>
-    ensures shapes { IfOk result (λ list. shapes_in list.items ≡ expr_call_parts) }
-    ensures refused { IfErr result (λ e. e ≡ OutOfMemory) }
+fn expr_call_expressions(alloc: Global) -> Result<Vec<archive_core::shape::Expr>, AllocError>
+    ensures { ExpressesParts expr_call_parts result }
 {
-    let a0 = <ArchivedString as Portable>::expr(alloc)?;
-    let a1 = archive_core::shape::Expr::Vec(Box::new(
-        alloc,
-        archive_core::shape::Expr::Named("ArchivedExpr"),
-    )?);
-    Ok(vec![in alloc; a0, a1]?)
+    let rest2 = no_expressions(alloc);
+    let rest1 = first_expression(
+        vec_expression(alloc, named_expression("ArchivedExpr")),
+        rest2,
+    );
+    first_expression(expression_of::<ArchivedString>(alloc), rest1)
 }
 
-// What the name stands for.
-fn expr_expression(alloc: Global) -> Result<archive_core::shape::Expr, Error>
-    ensures shape { IfOk result (λ e. shape_of e ≡ expr_stands_for) }
-    ensures refused { IfErr result (λ e. e ≡ OutOfMemory) }
+// Its variants.
+fn expr_expressions(alloc: Global) -> Result<Vec<Vec<archive_core::shape::Expr>>, AllocError>
+    ensures { ExpressesVariants expr_variants result }
 {
-    let v0 = expr_num_expressions(alloc)?;
-    let v1 = expr_add_expressions(alloc)?;
-    let v2 = expr_call_expressions(alloc)?;
-    let variants = vec![in alloc; v0, v1, v2]?;
-    Ok(choice_of("ArchivedExpr", variants))
+    let rest3 = no_variants(alloc);
+    let rest2 = first_variant(expr_call_expressions(alloc), rest3);
+    let rest1 = first_variant(expr_add_expressions(alloc), rest2);
+    first_variant(expr_num_expressions(alloc), rest1)
 }
 
 impl Portable for ArchivedExpr {
@@ -161,11 +157,7 @@ impl Portable for ArchivedExpr {
     }
 
     fn define(alloc: Global, defs: &mut Defs) -> Result<(), Error> {
-        let stands_for = match expr_expression(alloc) {
-            Ok(stands_for) => stands_for,
-            Err(error) => return Err(error),
-        };
-        define_name("ArchivedExpr", stands_for, defs)
+        define_choice("ArchivedExpr", expr_expressions(alloc), defs)
     }
 }
 

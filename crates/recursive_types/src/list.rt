@@ -15,19 +15,18 @@ ghost use Rattle.archive_core.specs.CallOutcomes.{ResolvesAs};
 ghost use Rattle.archive_core.specs.Causes.{IsRefused};
 ghost use Rattle.archive_core.specs.Chains.{HeadIsRead, IsWrittenUpTo};
 ghost use Rattle.archive_core.specs.Definitions.{no_definition};
-ghost use Rattle.archive_core.specs.Error.TheVariants.{OutOfMemory};
-ghost use Rattle.archive_core.specs.Expressions.{shape_of, shapes_in};
+ghost use Rattle.archive_core.specs.Expressed.{ExpressesParts, ExpressesVariants};
 ghost use Rattle.archive_core.specs.Payloads.{payload_in};
 ghost use Rattle.archive_core.specs.PlannedOwners.{one_planned};
 ghost use Rattle.archive_core.specs.SealsWritten.{IsSealOf, SealsPart, seal_tag};
 ghost use Rattle.archive_core.specs.Seen.{IsPartOf, RefusesPart, ShowsValueOf, part_tag, tag_of};
-ghost use Rattle.archive_core.specs.Shape.{one, part, parts, variant, vec};
+ghost use Rattle.archive_core.specs.Shape.{one, part, parts, variant};
 ghost use Rattle.archive_core.specs.Sources.{Read, ReadsAs};
 ghost use Rattle.archive_core.specs.Value.{case, no_value, value};
 ghost use Rattle.archive_core.specs.Writing.{ZeroedPlace};
 ghost use Rattle.archive_core.specs.Written.{GoesOn};
 ghost use Rattle.recursive_types.specs.ListMeaning.{list_around, list_keys_around};
-ghost use Rattle.recursive_types.specs.ListShape.{list_chain_known, list_checked, list_cons_parts, list_definitions, list_has_layout, list_has_variants, list_is_align, list_layout, list_name, list_no_others, list_shape, list_stands_for};
+ghost use Rattle.recursive_types.specs.ListShape.{list_chain_known, list_checked, list_cons_parts, list_definitions, list_has_layout, list_has_variants, list_is_align, list_layout, list_name, list_no_others, list_shape, list_variants};
 ghost use Rattle.std.proofs.Common.{lit≤};
 ghost use Rattle.std.specs.Prelude.{IfErr, IfOk, None, Some, [], refl, ℕ, ◌++◌, ◌+◌, ◌≡◌, ◌≤◌};
 
@@ -36,10 +35,11 @@ use archive_core::error::Error;
 use archive_core::place::Place;
 use archive_core::primitive::ArchivedU32;
 use archive_core::recursive::{
-    BoxAt, Chain, ChainBack, ChainCheck, ChainSource, ReadHead, Rest, WrittenHead, choice_of,
-    define_name, part_of_variant, read_chain, read_part, resolve_named_case_0,
-    resolve_named_case_2, seal_of_payload, serialize_chain, serialize_part, tag_of_choice,
-    tag_of_view, view_of_payload,
+    BoxAt, Chain, ChainBack, ChainCheck, ChainSource, ReadHead, Rest, WrittenHead,
+    boxed_expression, define_choice, expression_of, first_expression, first_variant,
+    named_expression, no_expressions, no_variants, part_of_variant, read_chain, read_part,
+    resolve_named_case_0, resolve_named_case_2, seal_of_payload, serialize_chain, serialize_part,
+    tag_of_choice, tag_of_view, view_of_payload,
 };
 use archive_core::seal::Seal;
 use archive_core::ser::{ResolverAlloc, Writer, serialize_one};
@@ -49,7 +49,7 @@ use archive_core::traits::{
     Portable, Serialize, SerializeUnsized,
 };
 use archive_core::view::{RawView, Ref};
-use std::alloc::Global;
+use std::alloc::{AllocError, Global};
 use std::marker::PhantomData;
 
 /// An archived `List`: 12 bytes at a multiple of 4. It validates itself.
@@ -76,27 +76,24 @@ impl ArchivePointee for ArchivedList {
 }
 
 // The parts of `Cons`.
-fn list_cons_expressions(alloc: Global) -> Result<Vec<archive_core::shape::Expr>, Error>
-    ensures shapes { IfOk result (λ list. shapes_in list.items ≡ list_cons_parts) }
-    ensures refused { IfErr result (λ e. e ≡ OutOfMemory) }
+fn list_cons_expressions(alloc: Global) -> Result<Vec<archive_core::shape::Expr>, AllocError>
+    ensures { ExpressesParts list_cons_parts result }
 {
-    let a0 = <ArchivedU32 as Portable>::expr(alloc)?;
-    let a1 = archive_core::shape::Expr::Box(Box::new(
-        alloc,
-        archive_core::shape::Pointee::One(archive_core::shape::Expr::Named("ArchivedList")),
-    )?);
-    Ok(vec![in alloc; a0, a1]?)
+    let rest2 = no_expressions(alloc);
+    let rest1 = first_expression(
+        boxed_expression(alloc, named_expression("ArchivedList")),
+        rest2,
+    );
+    first_expression(expression_of::<ArchivedU32>(alloc), rest1)
 }
 
-// What the name stands for.
-fn list_expression(alloc: Global) -> Result<archive_core::shape::Expr, Error>
-    ensures shape { IfOk result (λ e. shape_of e ≡ list_stands_for) }
-    ensures refused { IfErr result (λ e. e ≡ OutOfMemory) }
+// Its variants.
+fn list_expressions(alloc: Global) -> Result<Vec<Vec<archive_core::shape::Expr>>, AllocError>
+    ensures { ExpressesVariants list_variants result }
 {
-    let v0 = vec![in alloc]?;
-    let v1 = list_cons_expressions(alloc)?;
-    let variants = vec![in alloc; v0, v1]?;
-    Ok(choice_of("ArchivedList", variants))
+    let rest2 = no_variants(alloc);
+    let rest1 = first_variant(list_cons_expressions(alloc), rest2);
+    first_variant(no_expressions(alloc), rest1)
 }
 
 impl Portable for ArchivedList {
@@ -129,11 +126,7 @@ impl Portable for ArchivedList {
     }
 
     fn define(alloc: Global, defs: &mut Defs) -> Result<(), Error> {
-        let stands_for = match list_expression(alloc) {
-            Ok(stands_for) => stands_for,
-            Err(error) => return Err(error),
-        };
-        define_name("ArchivedList", stands_for, defs)
+        define_choice("ArchivedList", list_expressions(alloc), defs)
     }
 }
 

@@ -17,8 +17,7 @@ ghost use Rattle.archive_core.specs.CallOutcomes.{ResolvesAs};
 ghost use Rattle.archive_core.specs.Causes.{IsRefused};
 ghost use Rattle.archive_core.specs.Choices.{option_shape};
 ghost use Rattle.archive_core.specs.Definitions.{no_definition};
-ghost use Rattle.archive_core.specs.Error.TheVariants.{OutOfMemory};
-ghost use Rattle.archive_core.specs.Expressions.{shape_of, shapes_in};
+ghost use Rattle.archive_core.specs.Expressed.{ExpressesParts};
 ghost use Rattle.archive_core.specs.Fields.{field_in};
 ghost use Rattle.archive_core.specs.Hollow.{option_at};
 ghost use Rattle.archive_core.specs.PlannedOwners.{one_planned};
@@ -26,12 +25,12 @@ ghost use Rattle.archive_core.specs.Plans.{Serialized};
 ghost use Rattle.archive_core.specs.SealsWritten.{IsSealOf, SealsPart};
 ghost use Rattle.archive_core.specs.Seen.{IsPartOf, RefusesPart, ShowsValueOf};
 ghost use Rattle.archive_core.specs.SelfCheck.Laws.{by_schema};
-ghost use Rattle.archive_core.specs.Shape.{boxed, one, part, parts, vec};
+ghost use Rattle.archive_core.specs.Shape.{boxed, one, part, parts};
 ghost use Rattle.archive_core.specs.Sources.{Read, ReadsAs};
 ghost use Rattle.archive_core.specs.Value.{value};
 ghost use Rattle.archive_core.specs.Writing.{ZeroedPlace};
 ghost use Rattle.archive_core.specs.Written.{GoesOn};
-ghost use Rattle.recursive_types.specs.SearchShape.{search_definitions, search_has_layout, search_has_parts, search_is_align, search_layout, search_no_others, search_parts, search_shape, search_stands_for};
+ghost use Rattle.recursive_types.specs.SearchShape.{search_definitions, search_has_layout, search_has_parts, search_is_align, search_layout, search_no_others, search_parts, search_shape};
 ghost use Rattle.std.proofs.Common.{lit≤};
 ghost use Rattle.std.specs.Prelude.{IfErr, IfOk, None, Some, length, refl, ⊤, ◌+◌, ◌≡◌, ◌≤◌};
 
@@ -41,9 +40,9 @@ use archive_core::option::ArchivedOption;
 use archive_core::place::Place;
 use archive_core::primitive::ArchivedU32;
 use archive_core::recursive::{
-    OptionAt, before_box, define_name, handed_on, option_expression, part_of_record, read_part,
-    record_of, resolve_named_record_3, seal_of_field, serialize_inner, serialize_part,
-    view_of_field,
+    OptionAt, before_box, boxed_expression, define_record, expression_of, first_expression,
+    handed_on, named_expression, no_expressions, option_expression, part_of_record, read_part,
+    resolve_named_record_3, seal_of_field, serialize_inner, serialize_part, view_of_field,
 };
 use archive_core::seal::Seal;
 use archive_core::self_check::BySchema;
@@ -54,7 +53,7 @@ use archive_core::traits::{
     Portable, Record, Serialize, SerializeUnsized,
 };
 use archive_core::view::{RawView, Ref};
-use std::alloc::Global;
+use std::alloc::{AllocError, Global};
 
 /// An archived `Search`: 20 bytes at a multiple of 4. It is validated by its schema.
 pub struct ArchivedSearch;
@@ -82,35 +81,25 @@ impl ArchivePointee for ArchivedSearch {
 }
 
 // The parts of `Search`.
-fn search_expressions(alloc: Global) -> Result<Vec<archive_core::shape::Expr>, Error>
-    ensures shapes { IfOk result (λ list. shapes_in list.items ≡ search_parts) }
-    ensures refused { IfErr result (λ e. e ≡ OutOfMemory) }
+fn search_expressions(alloc: Global) -> Result<Vec<archive_core::shape::Expr>, AllocError>
+    ensures { ExpressesParts search_parts result }
 {
-    let a0 = option_expression(
-        alloc,
-        archive_core::shape::Expr::Box(Box::new(
+    let rest3 = no_expressions(alloc);
+    let rest2 = first_expression(
+        option_expression(
             alloc,
-            archive_core::shape::Pointee::One(archive_core::shape::Expr::Named("ArchivedSearch")),
-        )?),
-    )?;
-    let a1 = <ArchivedU32 as Portable>::expr(alloc)?;
-    let a2 = option_expression(
-        alloc,
-        archive_core::shape::Expr::Box(Box::new(
+            boxed_expression(alloc, named_expression("ArchivedSearch")),
+        ),
+        rest3,
+    );
+    let rest1 = first_expression(expression_of::<ArchivedU32>(alloc), rest2);
+    first_expression(
+        option_expression(
             alloc,
-            archive_core::shape::Pointee::One(archive_core::shape::Expr::Named("ArchivedSearch")),
-        )?),
-    )?;
-    Ok(vec![in alloc; a0, a1, a2]?)
-}
-
-// What the name stands for.
-fn search_expression(alloc: Global) -> Result<archive_core::shape::Expr, Error>
-    ensures shape { IfOk result (λ e. shape_of e ≡ search_stands_for) }
-    ensures refused { IfErr result (λ e. e ≡ OutOfMemory) }
-{
-    let parts = search_expressions(alloc)?;
-    Ok(record_of(parts))
+            boxed_expression(alloc, named_expression("ArchivedSearch")),
+        ),
+        rest1,
+    )
 }
 
 impl Portable for ArchivedSearch {
@@ -143,11 +132,7 @@ impl Portable for ArchivedSearch {
     }
 
     fn define(alloc: Global, defs: &mut Defs) -> Result<(), Error> {
-        let stands_for = match search_expression(alloc) {
-            Ok(stands_for) => stands_for,
-            Err(error) => return Err(error),
-        };
-        define_name("ArchivedSearch", stands_for, defs)
+        define_record("ArchivedSearch", search_expressions(alloc), defs)
     }
 }
 

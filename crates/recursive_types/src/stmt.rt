@@ -5,21 +5,19 @@ use crate::expr::Expr;
 /// A statement.
 #[derive(Debug, PartialEq, Drop)]
 pub enum Stmt {
-    /// Gives a name a value.
-    Let(String, Expr),
+    /// Gives what an expression leads to a value, or takes the one it has.
+    Set(Expr, Option<Expr>),
     /// Statements one after another.
     Block(Vec<Stmt>),
-    /// The end, and what is returned, if something is.
-    Return(Option<Expr>),
 }
 
 // Below this line all is written by tools/derive: change what is above it, and run it again.
 
 ghost use Rattle.archive_core.specs.CallOutcomes.{ResolvesAs};
 ghost use Rattle.archive_core.specs.Causes.{IsRefused};
-ghost use Rattle.archive_core.specs.Definitions.{ExplainsConflict, Extended, defines, no_definition};
-ghost use Rattle.archive_core.specs.Error.TheVariants.{OutOfMemory};
-ghost use Rattle.archive_core.specs.Expressions.{shape_of, shapes_in, table_of};
+ghost use Rattle.archive_core.specs.Definitions.{ExplainsConflict, Extended, defines};
+ghost use Rattle.archive_core.specs.Expressed.{ExpressesParts, ExpressesVariants};
+ghost use Rattle.archive_core.specs.Expressions.{table_of};
 ghost use Rattle.archive_core.specs.Payloads.{payload_in};
 ghost use Rattle.archive_core.specs.PlannedOwners.{one_planned};
 ghost use Rattle.archive_core.specs.Plans.{Serialized};
@@ -32,7 +30,7 @@ ghost use Rattle.archive_core.specs.Sources.{Read, ReadsAs};
 ghost use Rattle.archive_core.specs.Value.{case, no_value, value};
 ghost use Rattle.archive_core.specs.Writing.{ZeroedPlace};
 ghost use Rattle.archive_core.specs.Written.{GoesOn};
-ghost use Rattle.recursive_types.specs.StmtShape.{stmt_block_parts, stmt_definitions, stmt_has_layout, stmt_has_variants, stmt_is_align, stmt_layout, stmt_let_parts, stmt_name, stmt_no_others, stmt_return_parts, stmt_shape, stmt_stands_for};
+ghost use Rattle.recursive_types.specs.StmtShape.{stmt_block_parts, stmt_definitions, stmt_has_layout, stmt_has_variants, stmt_is_align, stmt_layout, stmt_name, stmt_no_others, stmt_set_parts, stmt_shape, stmt_stands_for, stmt_variants};
 ghost use Rattle.std.proofs.Common.{lit≤};
 ghost use Rattle.std.specs.Prelude.{IfErr, IfOk, None, OnOk, [], length, refl, ℕ, ◌++◌, ◌+◌, ◌≡◌, ◌≤◌};
 
@@ -41,15 +39,15 @@ use archive_core::error::Error;
 use archive_core::option::ArchivedOption;
 use archive_core::place::Place;
 use archive_core::recursive::{
-    VecAt, before_vec, choice_of, define_name, handed_on, part_of_variant, read_part,
+    VecAt, before_vec, define_choice, expression_of, first_expression, first_variant, handed_on,
+    named_expression, no_expressions, no_variants, part_of_variant, read_part,
     resolve_named_case_1, resolve_named_case_2, seal_of_payload, serialize_inner_slice,
-    serialize_part, tag_of_choice, tag_of_view, view_of_payload,
+    serialize_part, tag_of_choice, tag_of_view, vec_expression, view_of_payload,
 };
 use archive_core::seal::Seal;
 use archive_core::self_check::BySchema;
 use archive_core::ser::{ResolverAlloc, Writer, serialize_one};
 use archive_core::shape::Defs;
-use archive_core::string::ArchivedString;
 use archive_core::traits::{
     Archive, ArchivePointee, ArchiveUnsized, Choice, CopyOptimization, Deserialize, Entries, Keys,
     Portable, Serialize, SerializeUnsized,
@@ -58,16 +56,14 @@ use archive_core::vec::{ArchivedVec, VecResolver};
 use archive_core::view::{RawView, Ref};
 use std::alloc::{AllocError, Global};
 
-/// An archived `Stmt`: 40 bytes at a multiple of 8. It is validated by its schema.
+/// An archived `Stmt`: 64 bytes at a multiple of 8. It is validated by its schema.
 pub struct ArchivedStmt;
 
-type StmtLetParts = (ArchivedString, (ArchivedExpr, ()));
+type StmtSetParts = (ArchivedExpr, (ArchivedOption<ArchivedExpr>, ()));
 
 type StmtBlockParts = (ArchivedVec<ArchivedStmt>, ());
 
-type StmtReturnParts = (ArchivedOption<ArchivedExpr>, ());
-
-type StmtVariants = (StmtLetParts, (StmtBlockParts, (StmtReturnParts, ())));
+type StmtVariants = (StmtSetParts, (StmtBlockParts, ()));
 
 impl ArchivePointee for ArchivedStmt {
     type ArchivedMetadata = ();
@@ -83,47 +79,33 @@ impl ArchivePointee for ArchivedStmt {
     }
 }
 
-// The parts of `Let`.
-fn stmt_let_expressions(alloc: Global) -> Result<Vec<archive_core::shape::Expr>, Error>
-    ensures shapes { IfOk result (λ list. shapes_in list.items ≡ stmt_let_parts) }
-    ensures refused { IfErr result (λ e. e ≡ OutOfMemory) }
+// The parts of `Set`.
+fn stmt_set_expressions(alloc: Global) -> Result<Vec<archive_core::shape::Expr>, AllocError>
+    ensures { ExpressesParts stmt_set_parts result }
 {
-    let a0 = <ArchivedString as Portable>::expr(alloc)?;
-    let a1 = <ArchivedExpr as Portable>::expr(alloc)?;
-    Ok(vec![in alloc; a0, a1]?)
+    let rest2 = no_expressions(alloc);
+    let rest1 = first_expression(expression_of::<ArchivedOption<ArchivedExpr>>(alloc), rest2);
+    first_expression(expression_of::<ArchivedExpr>(alloc), rest1)
 }
 
 // The parts of `Block`.
-fn stmt_block_expressions(alloc: Global) -> Result<Vec<archive_core::shape::Expr>, Error>
-    ensures shapes { IfOk result (λ list. shapes_in list.items ≡ stmt_block_parts) }
-    ensures refused { IfErr result (λ e. e ≡ OutOfMemory) }
+fn stmt_block_expressions(alloc: Global) -> Result<Vec<archive_core::shape::Expr>, AllocError>
+    ensures { ExpressesParts stmt_block_parts result }
 {
-    let a0 = archive_core::shape::Expr::Vec(Box::new(
-        alloc,
-        archive_core::shape::Expr::Named("ArchivedStmt"),
-    )?);
-    Ok(vec![in alloc; a0]?)
+    let rest1 = no_expressions(alloc);
+    first_expression(
+        vec_expression(alloc, named_expression("ArchivedStmt")),
+        rest1,
+    )
 }
 
-// The parts of `Return`.
-fn stmt_return_expressions(alloc: Global) -> Result<Vec<archive_core::shape::Expr>, Error>
-    ensures shapes { IfOk result (λ list. shapes_in list.items ≡ stmt_return_parts) }
-    ensures refused { IfErr result (λ e. e ≡ OutOfMemory) }
+// Its variants.
+fn stmt_expressions(alloc: Global) -> Result<Vec<Vec<archive_core::shape::Expr>>, AllocError>
+    ensures { ExpressesVariants stmt_variants result }
 {
-    let a0 = <ArchivedOption<ArchivedExpr> as Portable>::expr(alloc)?;
-    Ok(vec![in alloc; a0]?)
-}
-
-// What the name stands for.
-fn stmt_expression(alloc: Global) -> Result<archive_core::shape::Expr, Error>
-    ensures shape { IfOk result (λ e. shape_of e ≡ stmt_stands_for) }
-    ensures refused { IfErr result (λ e. e ≡ OutOfMemory) }
-{
-    let v0 = stmt_let_expressions(alloc)?;
-    let v1 = stmt_block_expressions(alloc)?;
-    let v2 = stmt_return_expressions(alloc)?;
-    let variants = vec![in alloc; v0, v1, v2]?;
-    Ok(choice_of("ArchivedStmt", variants))
+    let rest2 = no_variants(alloc);
+    let rest1 = first_variant(stmt_block_expressions(alloc), rest2);
+    first_variant(stmt_set_expressions(alloc), rest1)
 }
 
 // Adds what `ArchivedExpr` brings.
@@ -143,11 +125,7 @@ fn define_stmt(alloc: Global, defs: &mut Defs) -> Result<(), Error>
     ensures refused { IfErr result (ExplainsConflict (table_of defs.old)
         (defines stmt_name stmt_stands_for)) }
 {
-    let stands_for = match stmt_expression(alloc) {
-        Ok(stands_for) => stands_for,
-        Err(error) => return Err(error),
-    };
-    define_name("ArchivedStmt", stands_for, defs)
+    define_choice("ArchivedStmt", stmt_expressions(alloc), defs)
 }
 
 // Adds what the names stand for.
@@ -178,7 +156,7 @@ impl Portable for ArchivedStmt {
     ghost checks = { λ direct. by_schema direct };
 
     fn size() -> usize {
-        40
+        64
     }
 
     fn align() -> usize {
@@ -207,17 +185,15 @@ impl Choice for ArchivedStmt {
 /// What is kept of `Stmt` between `serialize` and `resolve`.
 #[derive(Drop)]
 pub enum StmtResolver {
-    /// Of `Let`.
-    Let(
+    /// Of `Set`.
+    Set(
         (
-            <String as Archive>::Resolver,
-            (<Expr as Archive>::Resolver, ()),
+            <Expr as Archive>::Resolver,
+            (<Option<Expr> as Archive>::Resolver, ()),
         ),
     ),
     /// Of `Block`.
     Block((VecResolver, ())),
-    /// Of `Return`.
-    Return((<Option<Expr> as Archive>::Resolver, ())),
 }
 
 impl Archive for Stmt {
@@ -247,18 +223,18 @@ impl Archive for Stmt {
         resolver: Self::Resolver,
         place: Place<'_, Self::Archived>,
     ) -> Result<(), Error>
-        requires zeroed { ZeroedPlace 40 place.pos place.bytes.now }
+        requires zeroed { ZeroedPlace 64 place.pos place.bytes.now }
         requires same_value { ⟦<Self as Archive>⟧.belongs self.now resolver }
         ensures { ResolvesAs ⟦<Self::Archived as Portable>⟧ place
             (⟦<Self as Archive>⟧.flat self.now resolver) result }
     {
         let Place { bytes, pos, .. } = place;
         match self {
-            Stmt::Let(a0, a1) => {
-                let StmtResolver::Let(kept) = resolver else {
+            Stmt::Set(a0, a1) => {
+                let StmtResolver::Set(kept) = resolver else {
                     unreachable!();
                 };
-                resolve_named_case_2::<String, Expr, ArchivedStmt>(
+                resolve_named_case_2::<Expr, Option<Expr>, ArchivedStmt>(
                     0,
                     a0,
                     a1,
@@ -274,17 +250,6 @@ impl Archive for Stmt {
                 resolve_named_case_1::<VecAt<ArchivedStmt>, ArchivedStmt>(
                     1,
                     &h0,
-                    kept,
-                    Place::new(pos, bytes),
-                )
-            }
-            Stmt::Return(a0) => {
-                let StmtResolver::Return(kept) = resolver else {
-                    unreachable!();
-                };
-                resolve_named_case_1::<Option<Expr>, ArchivedStmt>(
-                    2,
-                    a0,
                     kept,
                     Place::new(pos, bytes),
                 )
@@ -368,32 +333,32 @@ fn serialize_vec_stmt<S: Writer + Keys + ResolverAlloc>(
     }
 }
 
-// Writes what the parts of `Let` own, in order.
-fn serialize_stmt_let<S: Writer + Keys + ResolverAlloc>(
-    a0: &String,
-    a1: &Expr,
+// Writes what the parts of `Set` own, in order.
+fn serialize_stmt_set<S: Writer + Keys + ResolverAlloc>(
+    a0: &Expr,
+    a1: &Option<Expr>,
     serializer: &mut S,
 ) -> Result<
     (
-        <String as Archive>::Resolver,
-        (<Expr as Archive>::Resolver, ()),
+        <Expr as Archive>::Resolver,
+        (<Option<Expr> as Archive>::Resolver, ()),
     ),
     Error,
 >
     ensures serialized { IfOk result (λ r. Serialized stmt_definitions stmt_shape
-        (⟦<String as Archive>⟧.keys a0.now ++ (⟦<Expr as Archive>⟧.keys a1.now ++ []))
-        (case 0 (value (⟦<String as Archive>⟧.meaning a0.now)
-        (value (⟦<Expr as Archive>⟧.meaning a1.now) no_value)))
-        (case 0 (value (⟦<String as Archive>⟧.flat a0.now r.0)
-        (value (⟦<Expr as Archive>⟧.flat a1.now r.1.0) no_value))) (S.state serializer.old)
+        (⟦<Expr as Archive>⟧.keys a0.now ++ (⟦<Option<Expr> as Archive>⟧.keys a1.now ++ []))
+        (case 0 (value (⟦<Expr as Archive>⟧.meaning a0.now)
+        (value (⟦<Option<Expr> as Archive>⟧.meaning a1.now) no_value)))
+        (case 0 (value (⟦<Expr as Archive>⟧.flat a0.now r.0)
+        (value (⟦<Option<Expr> as Archive>⟧.flat a1.now r.1.0) no_value))) (S.state serializer.old)
         (S.state serializer.new)) }
-    ensures same_values { IfOk result (λ r. ⟦<String as Archive>⟧.belongs a0.now r.0
-        × (⟦<Expr as Archive>⟧.belongs a1.now r.1.0 × Unit {0})) }
+    ensures same_values { IfOk result (λ r. ⟦<Expr as Archive>⟧.belongs a0.now r.0
+        × (⟦<Option<Expr> as Archive>⟧.belongs a1.now r.1.0 × Unit {0})) }
     ensures goes_on { GoesOn (S.state serializer.old) (S.state serializer.new) }
     ensures refused { IfErr result (IsRefused stmt_definitions stmt_shape
-        (⟦<String as Archive>⟧.keys a0.now ++ (⟦<Expr as Archive>⟧.keys a1.now ++ []))
-        (case 0 (value (⟦<String as Archive>⟧.meaning a0.now)
-        (value (⟦<Expr as Archive>⟧.meaning a1.now) no_value))) (S.state serializer.old)
+        (⟦<Expr as Archive>⟧.keys a0.now ++ (⟦<Option<Expr> as Archive>⟧.keys a1.now ++ []))
+        (case 0 (value (⟦<Expr as Archive>⟧.meaning a0.now)
+        (value (⟦<Option<Expr> as Archive>⟧.meaning a1.now) no_value))) (S.state serializer.old)
         (S.state serializer.new)) }
 {
     let a0 = match serialize_part(a0, serializer) {
@@ -433,31 +398,6 @@ fn serialize_stmt_block<S: Writer + Keys + ResolverAlloc>(
     Ok((a0, ()))
 }
 
-// Writes what the parts of `Return` own, in order.
-fn serialize_stmt_return<S: Writer + Keys + ResolverAlloc>(
-    a0: &Option<Expr>,
-    serializer: &mut S,
-) -> Result<(<Option<Expr> as Archive>::Resolver, ()), Error>
-    ensures serialized { IfOk result (λ r. Serialized stmt_definitions stmt_shape
-        (⟦<Option<Expr> as Archive>⟧.keys a0.now ++ [])
-        (case 2 (value (⟦<Option<Expr> as Archive>⟧.meaning a0.now) no_value))
-        (case 2 (value (⟦<Option<Expr> as Archive>⟧.flat a0.now r.0) no_value))
-        (S.state serializer.old) (S.state serializer.new)) }
-    ensures same_values { IfOk result (λ r. ⟦<Option<Expr> as Archive>⟧.belongs a0.now r.0
-        × Unit {0}) }
-    ensures goes_on { GoesOn (S.state serializer.old) (S.state serializer.new) }
-    ensures refused { IfErr result (IsRefused stmt_definitions stmt_shape
-        (⟦<Option<Expr> as Archive>⟧.keys a0.now ++ [])
-        (case 2 (value (⟦<Option<Expr> as Archive>⟧.meaning a0.now) no_value))
-        (S.state serializer.old) (S.state serializer.new)) }
-{
-    let a0 = match serialize_part(a0, serializer) {
-        Ok(a0) => a0,
-        Err(error) => return Err(error),
-    };
-    Ok((a0, ()))
-}
-
 // Writes what a value owns.
 #[cycle(serialize_stmt)]
 fn serialize_stmt<S: Writer + Keys + ResolverAlloc>(
@@ -474,16 +414,12 @@ fn serialize_stmt<S: Writer + Keys + ResolverAlloc>(
         (S.state serializer.old) (S.state serializer.new)) }
 {
     match value {
-        Stmt::Let(a0, a1) => match serialize_stmt_let(a0, a1, serializer) {
-            Ok(kept) => Ok(StmtResolver::Let(kept)),
+        Stmt::Set(a0, a1) => match serialize_stmt_set(a0, a1, serializer) {
+            Ok(kept) => Ok(StmtResolver::Set(kept)),
             Err(error) => Err(error),
         },
         Stmt::Block(a0) => match serialize_stmt_block(a0, serializer) {
             Ok(kept) => Ok(StmtResolver::Block(kept)),
-            Err(error) => Err(error),
-        },
-        Stmt::Return(a0) => match serialize_stmt_return(a0, serializer) {
-            Ok(kept) => Ok(StmtResolver::Return(kept)),
             Err(error) => Err(error),
         },
     }
@@ -551,9 +487,9 @@ fn read_vec_stmt<D: Entries>(
     Ok(items)
 }
 
-// Reads `Let` back.
+// Reads `Set` back.
 #[inline(always)]
-fn read_stmt_let<D: Entries>(
+fn read_stmt_set<D: Entries>(
     alloc: Global,
     part: RawView<'_>,
     deserializer: &mut D,
@@ -565,11 +501,11 @@ fn read_stmt_let<D: Entries>(
     ensures refused { IfErr result (RefusesPart ⟦<ArchivedStmt as ArchivePointee>⟧ part D.Entries
         deserializer) }
 {
-    let p0 = part_of_variant::<ArchivedStmt, ArchivedString>(part, 0, 0, 4);
-    let a0 = read_part::<ArchivedString, String, D>(alloc, p0, deserializer)?;
-    let p1 = part_of_variant::<ArchivedStmt, ArchivedExpr>(part, 0, 1, 16);
-    let a1 = read_part::<ArchivedExpr, Expr, D>(alloc, p1, deserializer)?;
-    Ok(Stmt::Let(a0, a1))
+    let p0 = part_of_variant::<ArchivedStmt, ArchivedExpr>(part, 0, 0, 8);
+    let a0 = read_part::<ArchivedExpr, Expr, D>(alloc, p0, deserializer)?;
+    let p1 = part_of_variant::<ArchivedStmt, ArchivedOption<ArchivedExpr>>(part, 0, 1, 32);
+    let a1 = read_part::<ArchivedOption<ArchivedExpr>, Option<Expr>, D>(alloc, p1, deserializer)?;
+    Ok(Stmt::Set(a0, a1))
 }
 
 // Reads `Block` back.
@@ -591,25 +527,6 @@ fn read_stmt_block<D: Entries>(
     Ok(Stmt::Block(a0))
 }
 
-// Reads `Return` back.
-#[inline(always)]
-fn read_stmt_return<D: Entries>(
-    alloc: Global,
-    part: RawView<'_>,
-    deserializer: &mut D,
-) -> Result<Stmt, Error>
-    requires viewed { IsPartOf ⟦<ArchivedStmt as ArchivePointee>⟧ part }
-    requires tag { part_tag part ≡ 2 }
-    ensures read { IfOk result (Read ⟦<ArchivedStmt as ArchivePointee>⟧ part D.Entries deserializer
-        ⟦<Stmt as Archive>⟧) }
-    ensures refused { IfErr result (RefusesPart ⟦<ArchivedStmt as ArchivePointee>⟧ part D.Entries
-        deserializer) }
-{
-    let p0 = part_of_variant::<ArchivedStmt, ArchivedOption<ArchivedExpr>>(part, 2, 0, 8);
-    let a0 = read_part::<ArchivedOption<ArchivedExpr>, Option<Expr>, D>(alloc, p0, deserializer)?;
-    Ok(Stmt::Return(a0))
-}
-
 // Reads a value back.
 #[cycle(read_stmt)]
 fn read_stmt<D: Entries>(
@@ -624,9 +541,8 @@ fn read_stmt<D: Entries>(
         deserializer) }
 {
     match tag_of_choice::<ArchivedStmt>(part) {
-        0 => read_stmt_let(alloc, part, deserializer),
-        1 => read_stmt_block(alloc, part, deserializer),
-        _ => read_stmt_return(alloc, part, deserializer),
+        0 => read_stmt_set(alloc, part, deserializer),
+        _ => read_stmt_block(alloc, part, deserializer),
     }
 }
 
@@ -648,12 +564,10 @@ impl<D: Entries> Deserialize<Stmt, D> for ArchivedStmt {
 /// What a view of an archived `Stmt` shows, by its tag.
 #[derive(Drop)]
 pub enum ViewOfStmt<'a> {
-    /// Gives a name a value.
-    Let(Ref<'a, ArchivedString>, Ref<'a, ArchivedExpr>),
+    /// Gives what an expression leads to a value, or takes the one it has.
+    Set(Ref<'a, ArchivedExpr>, Ref<'a, ArchivedOption<ArchivedExpr>>),
     /// Statements one after another.
     Block(Ref<'a, ArchivedVec<ArchivedStmt>>),
-    /// The end, and what is returned, if something is.
-    Return(Ref<'a, ArchivedOption<ArchivedExpr>>),
 }
 
 /// The variant of an archived `Stmt`, as a view.
@@ -663,38 +577,31 @@ pub trait StmtView<'a> {
 }
 
 impl<'a> StmtView<'a> for Ref<'a, ArchivedStmt> {
-    ghost use Rattle.recursive_types.specs.declared.stmt.ViewOfStmt.TheVariants.{Block as StmtBlockShown, Let as StmtLetShown, Return as StmtReturnShown};
+    ghost use Rattle.recursive_types.specs.declared.stmt.ViewOfStmt.TheVariants.{Block as StmtBlockShown, Set as StmtSetShown};
 
     fn variant(self) -> ViewOfStmt<'a>
         ensures shows { elim result [
-          | StmtLetShown a0 a1 ↦ (tag_of self.entry ≡ 0) × (a0.bytes.now ≡ self.entry.bytes.now)
-              × (a0.pos ≡ self.entry.pos + 4) × (a0.len ≡ 0)
+          | StmtSetShown a0 a1 ↦ (tag_of self.entry ≡ 0) × (a0.bytes.now ≡ self.entry.bytes.now)
+              × (a0.pos ≡ self.entry.pos + 8) × (a0.len ≡ 0)
               × ShowsValueOf a0 self.entry (payload_in 0) × (a1.bytes.now ≡ self.entry.bytes.now)
-              × (a1.pos ≡ self.entry.pos + 16) × (a1.len ≡ 0)
+              × (a1.pos ≡ self.entry.pos + 32) × (a1.len ≡ 0)
               × ShowsValueOf a1 self.entry (payload_in 1)
           | StmtBlockShown a0 ↦ (tag_of self.entry ≡ 1) × (a0.bytes.now ≡ self.entry.bytes.now)
               × (a0.pos ≡ self.entry.pos + 4) × (a0.len ≡ 0)
-              × ShowsValueOf a0 self.entry (payload_in 0)
-          | StmtReturnShown a0 ↦ (tag_of self.entry ≡ 2) × (a0.bytes.now ≡ self.entry.bytes.now)
-              × (a0.pos ≡ self.entry.pos + 8) × (a0.len ≡ 0)
               × ShowsValueOf a0 self.entry (payload_in 0)
         ] }
     {
         match tag_of_view(self) {
             0 => {
-                let a0 = view_of_payload::<ArchivedStmt, ArchivedString>(self, 0, 0, 4);
-                let a1 = view_of_payload::<ArchivedStmt, ArchivedExpr>(self, 0, 1, 16);
-                ViewOfStmt::Let(a0, a1)
-            }
-            1 => {
-                let a0 = view_of_payload::<ArchivedStmt, ArchivedVec<ArchivedStmt>>(self, 1, 0, 4);
-                ViewOfStmt::Block(a0)
+                let a0 = view_of_payload::<ArchivedStmt, ArchivedExpr>(self, 0, 0, 8);
+                let a1 = view_of_payload::<ArchivedStmt, ArchivedOption<ArchivedExpr>>(
+                    self, 0, 1, 32,
+                );
+                ViewOfStmt::Set(a0, a1)
             }
             _ => {
-                let a0 = view_of_payload::<ArchivedStmt, ArchivedOption<ArchivedExpr>>(
-                    self, 2, 0, 8,
-                );
-                ViewOfStmt::Return(a0)
+                let a0 = view_of_payload::<ArchivedStmt, ArchivedVec<ArchivedStmt>>(self, 1, 0, 4);
+                ViewOfStmt::Block(a0)
             }
         }
     }
@@ -708,13 +615,13 @@ pub trait StmtSeal<'a> {
     // The tag that it shows.
     ghost tag: { Self → ℕ };
 
-    /// The field `0` of `Let`.
-    fn let_0_mut(self) -> Seal<'a, ArchivedString>
+    /// The field `0` of `Set`.
+    fn set_0_mut(self) -> Seal<'a, ArchivedExpr>
         requires come_to { sealed self }
         requires tag { tag self ≡ 0 };
 
-    /// The field `1` of `Let`.
-    fn let_1_mut(self) -> Seal<'a, ArchivedExpr>
+    /// The field `1` of `Set`.
+    fn set_1_mut(self) -> Seal<'a, ArchivedOption<ArchivedExpr>>
         requires come_to { sealed self }
         requires tag { tag self ≡ 0 };
 
@@ -722,11 +629,6 @@ pub trait StmtSeal<'a> {
     fn block_0_mut(self) -> Seal<'a, ArchivedVec<ArchivedStmt>>
         requires come_to { sealed self }
         requires tag { tag self ≡ 1 };
-
-    /// The field `0` of `Return`.
-    fn return_0_mut(self) -> Seal<'a, ArchivedOption<ArchivedExpr>>
-        requires come_to { sealed self }
-        requires tag { tag self ≡ 2 };
 }
 
 impl<'a> StmtSeal<'a> for Seal<'a, ArchivedStmt> {
@@ -734,23 +636,25 @@ impl<'a> StmtSeal<'a> for Seal<'a, ArchivedStmt> {
 
     ghost tag = { λ s. seal_tag s };
 
-    fn let_0_mut(self) -> Seal<'a, ArchivedString>
-        requires come_to { IsSealOf stmt_definitions (one ⟦<ArchivedStmt as Portable>⟧.shape) self }
-        requires tag { seal_tag self ≡ 0 }
-        ensures { SealsPart stmt_definitions (one ⟦<ArchivedStmt as Portable>⟧.shape) no_definition
-            ⟦<ArchivedString as ArchivePointee>⟧.pointee (self.entry.pos + 4) 0 self.entry result }
-    {
-        seal_of_payload::<ArchivedStmt, ArchivedString>(self, 0, 0, 4)
-    }
-
-    fn let_1_mut(self) -> Seal<'a, ArchivedExpr>
+    fn set_0_mut(self) -> Seal<'a, ArchivedExpr>
         requires come_to { IsSealOf stmt_definitions (one ⟦<ArchivedStmt as Portable>⟧.shape) self }
         requires tag { seal_tag self ≡ 0 }
         ensures { SealsPart stmt_definitions (one ⟦<ArchivedStmt as Portable>⟧.shape)
             ⟦<ArchivedExpr as ArchivePointee>⟧.definitions
-            ⟦<ArchivedExpr as ArchivePointee>⟧.pointee (self.entry.pos + 16) 0 self.entry result }
+            ⟦<ArchivedExpr as ArchivePointee>⟧.pointee (self.entry.pos + 8) 0 self.entry result }
     {
-        seal_of_payload::<ArchivedStmt, ArchivedExpr>(self, 0, 1, 16)
+        seal_of_payload::<ArchivedStmt, ArchivedExpr>(self, 0, 0, 8)
+    }
+
+    fn set_1_mut(self) -> Seal<'a, ArchivedOption<ArchivedExpr>>
+        requires come_to { IsSealOf stmt_definitions (one ⟦<ArchivedStmt as Portable>⟧.shape) self }
+        requires tag { seal_tag self ≡ 0 }
+        ensures { SealsPart stmt_definitions (one ⟦<ArchivedStmt as Portable>⟧.shape)
+            ⟦<ArchivedExpr as ArchivePointee>⟧.definitions
+            ⟦<ArchivedOption<ArchivedExpr> as ArchivePointee>⟧.pointee (self.entry.pos + 32) 0
+            self.entry result }
+    {
+        seal_of_payload::<ArchivedStmt, ArchivedOption<ArchivedExpr>>(self, 0, 1, 32)
     }
 
     fn block_0_mut(self) -> Seal<'a, ArchivedVec<ArchivedStmt>>
@@ -762,16 +666,5 @@ impl<'a> StmtSeal<'a> for Seal<'a, ArchivedStmt> {
             self.entry result }
     {
         seal_of_payload::<ArchivedStmt, ArchivedVec<ArchivedStmt>>(self, 1, 0, 4)
-    }
-
-    fn return_0_mut(self) -> Seal<'a, ArchivedOption<ArchivedExpr>>
-        requires come_to { IsSealOf stmt_definitions (one ⟦<ArchivedStmt as Portable>⟧.shape) self }
-        requires tag { seal_tag self ≡ 2 }
-        ensures { SealsPart stmt_definitions (one ⟦<ArchivedStmt as Portable>⟧.shape)
-            ⟦<ArchivedExpr as ArchivePointee>⟧.definitions
-            ⟦<ArchivedOption<ArchivedExpr> as ArchivePointee>⟧.pointee (self.entry.pos + 8) 0
-            self.entry result }
-    {
-        seal_of_payload::<ArchivedStmt, ArchivedOption<ArchivedExpr>>(self, 2, 0, 8)
     }
 }

@@ -14,8 +14,7 @@ pub struct Tree {
 ghost use Rattle.archive_core.specs.CallOutcomes.{ResolvesAs};
 ghost use Rattle.archive_core.specs.Causes.{IsRefused};
 ghost use Rattle.archive_core.specs.Definitions.{no_definition};
-ghost use Rattle.archive_core.specs.Error.TheVariants.{OutOfMemory};
-ghost use Rattle.archive_core.specs.Expressions.{shape_of, shapes_in};
+ghost use Rattle.archive_core.specs.Expressed.{ExpressesParts};
 ghost use Rattle.archive_core.specs.Fields.{field_in};
 ghost use Rattle.archive_core.specs.PlannedOwners.{one_planned};
 ghost use Rattle.archive_core.specs.Plans.{Serialized};
@@ -28,7 +27,7 @@ ghost use Rattle.archive_core.specs.Sources.{Read, ReadsAs};
 ghost use Rattle.archive_core.specs.Value.{value};
 ghost use Rattle.archive_core.specs.Writing.{ZeroedPlace};
 ghost use Rattle.archive_core.specs.Written.{GoesOn};
-ghost use Rattle.recursive_types.specs.TreeShape.{tree_definitions, tree_has_layout, tree_has_parts, tree_is_align, tree_layout, tree_no_others, tree_parts, tree_shape, tree_stands_for};
+ghost use Rattle.recursive_types.specs.TreeShape.{tree_definitions, tree_has_layout, tree_has_parts, tree_is_align, tree_layout, tree_no_others, tree_parts, tree_shape};
 ghost use Rattle.std.proofs.Common.{lit≤};
 ghost use Rattle.std.specs.Prelude.{IfErr, IfOk, None, length, refl, ◌+◌, ◌≡◌, ◌≤◌};
 
@@ -36,8 +35,9 @@ use archive_core::error::Error;
 use archive_core::place::Place;
 use archive_core::primitive::ArchivedU32;
 use archive_core::recursive::{
-    VecAt, before_vec, define_name, handed_on, part_of_record, read_part, record_of,
-    resolve_named_record_2, seal_of_field, serialize_inner_slice, serialize_part, view_of_field,
+    VecAt, before_vec, define_record, expression_of, first_expression, handed_on, named_expression,
+    no_expressions, part_of_record, read_part, resolve_named_record_2, seal_of_field,
+    serialize_inner_slice, serialize_part, vec_expression, view_of_field,
 };
 use archive_core::seal::Seal;
 use archive_core::self_check::BySchema;
@@ -71,25 +71,15 @@ impl ArchivePointee for ArchivedTree {
 }
 
 // The parts of `Tree`.
-fn tree_expressions(alloc: Global) -> Result<Vec<archive_core::shape::Expr>, Error>
-    ensures shapes { IfOk result (λ list. shapes_in list.items ≡ tree_parts) }
-    ensures refused { IfErr result (λ e. e ≡ OutOfMemory) }
+fn tree_expressions(alloc: Global) -> Result<Vec<archive_core::shape::Expr>, AllocError>
+    ensures { ExpressesParts tree_parts result }
 {
-    let a0 = <ArchivedU32 as Portable>::expr(alloc)?;
-    let a1 = archive_core::shape::Expr::Vec(Box::new(
-        alloc,
-        archive_core::shape::Expr::Named("ArchivedTree"),
-    )?);
-    Ok(vec![in alloc; a0, a1]?)
-}
-
-// What the name stands for.
-fn tree_expression(alloc: Global) -> Result<archive_core::shape::Expr, Error>
-    ensures shape { IfOk result (λ e. shape_of e ≡ tree_stands_for) }
-    ensures refused { IfErr result (λ e. e ≡ OutOfMemory) }
-{
-    let parts = tree_expressions(alloc)?;
-    Ok(record_of(parts))
+    let rest2 = no_expressions(alloc);
+    let rest1 = first_expression(
+        vec_expression(alloc, named_expression("ArchivedTree")),
+        rest2,
+    );
+    first_expression(expression_of::<ArchivedU32>(alloc), rest1)
 }
 
 impl Portable for ArchivedTree {
@@ -122,11 +112,7 @@ impl Portable for ArchivedTree {
     }
 
     fn define(alloc: Global, defs: &mut Defs) -> Result<(), Error> {
-        let stands_for = match tree_expression(alloc) {
-            Ok(stands_for) => stands_for,
-            Err(error) => return Err(error),
-        };
-        define_name("ArchivedTree", stands_for, defs)
+        define_record("ArchivedTree", tree_expressions(alloc), defs)
     }
 }
 

@@ -20,6 +20,8 @@ mod lengths;
 #[cfg(test)]
 mod long;
 #[cfg(test)]
+mod maps;
+#[cfg(test)]
 mod nodes;
 #[cfg(test)]
 mod notes;
@@ -33,5 +35,3 @@ mod regions;
 mod statements;
 #[cfg(test)]
 mod sums;
-#[cfg(test)]
-mod tuples;

@@ -1,17 +1,13 @@
 // The names of archived types, and what they stand for.
 
-ghost use Rattle.std.specs.Prelude.{◌≡◌, OnOk, IfOk, IfErr};
+ghost use Rattle.std.specs.Prelude.{◌≡◌, OnOk, IfErr};
 ghost use Rattle.archive_check.specs.Words.AddedDefinitions.{AreAdded};
 ghost use Rattle.archive_check.specs.Definitions.{ExplainsConflict, defines};
 ghost use Rattle.archive_check.specs.Expressions.{shape_of, shapes_in, table_of, variants_in};
-ghost use Rattle.archive_check.specs.Shape.{choice, one, parts, shared};
-ghost use Rattle.archive_check.specs.declared.format.error.Error.TheVariants.{OutOfMemory};
-ghost use Rattle.archive_enum.specs.Choices.{option_shape};
-ghost use Rattle.archive_types.specs.Members.SharedSources.{rc_flavor};
+ghost use Rattle.archive_check.specs.Shape.{choice, parts};
 
 use archive_check::format::error::Error;
-use archive_check::format::expr::{Defs, Expr, FlavorInfo, Pointee};
-use std::alloc::Global;
+use archive_check::format::expr::{Defs, Expr};
 
 /// Adds the definition of a name. Fails with the error of `Defs::add`: of memory, or of a name that stands for something else already.
 #[tactic(auto, using(archive_check::proofs::format::AddedDefinitions::adding))]
@@ -24,35 +20,11 @@ pub fn define_name(name: &'static str, definition: Expr, defs: &mut Defs) -> Res
     Ok(())
 }
 
-/// The expression of a record of parts with these expressions.
-pub fn record_of(list: Vec<Expr>) -> Expr
+// The expression of a record of parts with these expressions.
+pub(super) fn record_of(list: Vec<Expr>) -> Expr
     ensures { shape_of result ≡ parts (shapes_in list.items) }
 {
     Expr::Record(list)
-}
-
-/// The expression of an option of values with this one.
-pub fn option_expression(alloc: Global, item: Expr) -> Result<Expr, Error>
-    ensures shape { IfOk result (λ e. shape_of e ≡ option_shape (shape_of item)) }
-    ensures refused { IfErr result (λ e. e ≡ OutOfMemory) }
-{
-    let none = vec![in alloc]?;
-    let some = vec![in alloc; item]?;
-    let variants = vec![in alloc; none, some]?;
-    Ok(choice_of("ArchivedOption", variants))
-}
-
-/// The expression of a shared pointer to values with this one.
-pub fn shared_expression(alloc: Global, item: Expr) -> Result<Expr, Error>
-    ensures shape { IfOk result (λ e. shape_of e ≡ shared rc_flavor (one (shape_of item))) }
-    ensures refused { IfErr result (λ e. e ≡ OutOfMemory) }
-{
-    let pointee = Box::new(alloc, Pointee::One(item))?;
-    let flavor = FlavorInfo {
-        name: "RcFlavor",
-        cycles: false,
-    };
-    Ok(Expr::Shared(flavor, pointee))
 }
 
 /// An expression of a choice with this name and these variants, each by the expressions of its

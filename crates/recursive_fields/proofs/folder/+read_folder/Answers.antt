@@ -1,54 +1,30 @@
 -- Written by tools/derive: change the declaration, and run it again.
 use Rattle.archive_core.proofs.Causes.{err_by}
 use Rattle.archive_core.proofs.MapsRead.{pairs_unread}
-use Rattle.archive_core.proofs.OwnersRead.{vec_read, vec_unread}
 use Rattle.archive_core.proofs.ReadElements.{all_have, elements_more, elements_all, element_refused}
 use Rattle.archive_core.proofs.ReadRecords.{record_read_back, record_refuses, first_refuses, later_refuses}
 use Rattle.archive_core.proofs.fields.Ties.{if_ok}
-use Rattle.archive_core.specs.Choices.{option_shape}
 use Rattle.archive_core.specs.Definitions.{both, no_definition}
 use Rattle.archive_core.specs.Held.{read_as}
-use Rattle.archive_core.specs.Options.{option_keys}
 use Rattle.archive_core.specs.PartsReading.{part_read_back, no_part_read_back}
 use Rattle.archive_core.specs.Runs.{each_keys}
-use Rattle.archive_core.specs.Shape.{vec, sorted_map, str, one, run, leaf, unsigned, str_key, part, no_part, number as number_kind}
-use Rattle.recursive_fields.specs.FolderMeaning.{folder_keys, folder_means_roll, folder_has_keys_roll, tuple3_string_folder_option_string_meaning, tuple3_string_folder_option_string_keys, pair_string_folder_meaning, pair_string_folder_keys}
-use Rattle.recursive_fields.specs.FolderShape.{folder_has_layout, tuple3_string_folder_option_string_layout, tuple3_string_folder_option_string_has_layout, pair_string_folder_layout, pair_string_folder_has_layout, folder_shape, folder_definitions, tuple3_string_folder_option_string_shape, tuple3_string_folder_option_string_parts, tuple3_string_folder_option_string_definitions, tuple3_string_folder_option_string_has_parts, pair_string_folder_shape, pair_string_folder_parts, pair_string_folder_definitions, pair_string_folder_has_parts, folder_parts, folder_part_definitions, folder_has_parts}
+use Rattle.archive_core.specs.Shape.{sorted_map, str, one, run, leaf, unsigned, str_key, part, no_part, number as number_kind}
+use Rattle.recursive_fields.specs.FolderMeaning.{folder_keys, folder_means_roll, folder_has_keys_roll, pair_string_folder_meaning, pair_string_folder_keys}
+use Rattle.recursive_fields.specs.FolderShape.{folder_has_layout, pair_string_folder_layout, pair_string_folder_has_layout, folder_shape, folder_definitions, pair_string_folder_shape, pair_string_folder_parts, pair_string_folder_definitions, pair_string_folder_has_parts, folder_parts, folder_part_definitions, folder_has_parts}
 use Rattle.std.proofs.Common.{inl, ◌≡◌, ◌<◌, ◌+◌, ◌++◌, ◌∷◌, [], length, refl, arith, pos}
 use Rattle.std.proofs.lemmas.Grind.{common_steps}
 use Rattle.std.specs.Int.{w8}
 use Rattle.std.specs.Prelude.{[], ◌++◌, ◌≡◌, refl, pos, length}
 use Rattle.recursive_fields.proofs.folder.+read_folder.Goals as goal
 
-pub read_tuple3_string_folder_option_string-returns-in_err-a0-clause-refused : goal.read_tuple3_string_folder_option_string-returns-in_err-a0-clause-refused
-read_tuple3_string_folder_option_string-returns-in_err-a0-clause-refused g t c = err_by c.from_residual.result c.in_err-a0.field-0.0 _ c.from_residual.ensures.1 (record_refuses tuple3_string_folder_option_string_definitions tuple3_string_folder_option_string_shape tuple3_string_folder_option_string_definitions tuple3_string_folder_option_string_parts tuple3_string_folder_option_string_has_parts _ _ _ _ _ (first_refuses no_definition (both folder_definitions (both no_definition no_definition)) str (record { size = 8; align = 4 }) (record { solved = λ s k. refl }) (part folder_shape (part (option_shape str) no_part)) _ _ 0 _ _ (rw (c.part_of_record-p0.ensures.buffer, c.part_of_record-p0.ensures.position, c.part_of_record-p0.ensures.length) at c.in_err-a0.ensures.refused)))
-
-pub read_tuple3_string_folder_option_string-returns-in_err-a1-clause-refused : goal.read_tuple3_string_folder_option_string-returns-in_err-a1-clause-refused
-read_tuple3_string_folder_option_string-returns-in_err-a1-clause-refused g t c = err_by c.from_residual-in_err-a1.result c.in_err-a1.field-0.0 _ c.from_residual-in_err-a1.ensures.1 (record_refuses tuple3_string_folder_option_string_definitions tuple3_string_folder_option_string_shape tuple3_string_folder_option_string_definitions tuple3_string_folder_option_string_parts tuple3_string_folder_option_string_has_parts _ _ _ _ _ (later_refuses no_definition (both folder_definitions (both no_definition no_definition)) str (record { size = 8; align = 4 }) (record { solved = λ s k. refl }) (part folder_shape (part (option_shape str) no_part)) _ _ 0 _ _ _ c.in_ok-a0.ensures.read.kept (first_refuses folder_definitions (both no_definition no_definition) folder_shape (record { size = 20; align = 4 }) folder_has_layout (part (option_shape str) no_part) _ _ 8 _ _ (rw (c.part_of_record-p1.ensures.buffer, c.part_of_record-p1.ensures.position, c.part_of_record-p1.ensures.length) at c.in_err-a1.ensures.refused))))
-
-pub read_tuple3_string_folder_option_string-returns-in_err-a2-clause-refused : goal.read_tuple3_string_folder_option_string-returns-in_err-a2-clause-refused
-read_tuple3_string_folder_option_string-returns-in_err-a2-clause-refused g t c = err_by c.from_residual-in_err-a2.result c.in_err-a2.field-0.0 _ c.from_residual-in_err-a2.ensures.1 (record_refuses tuple3_string_folder_option_string_definitions tuple3_string_folder_option_string_shape tuple3_string_folder_option_string_definitions tuple3_string_folder_option_string_parts tuple3_string_folder_option_string_has_parts _ _ _ _ _ (later_refuses no_definition (both folder_definitions (both no_definition no_definition)) str (record { size = 8; align = 4 }) (record { solved = λ s k. refl }) (part folder_shape (part (option_shape str) no_part)) _ _ 0 _ _ _ c.in_ok-a0.ensures.read.kept (later_refuses folder_definitions (both no_definition no_definition) folder_shape (record { size = 20; align = 4 }) folder_has_layout (part (option_shape str) no_part) _ _ 8 _ _ _ c.in_ok-a1.ensures.read.kept (first_refuses no_definition no_definition (option_shape str) (record { size = 12; align = 4 }) (record { solved = λ s k. refl }) no_part _ _ 28 _ _ (rw (c.part_of_record-p2.ensures.buffer, c.part_of_record-p2.ensures.position, c.part_of_record-p2.ensures.length) at c.in_err-a2.ensures.refused)))))
-
-pub read_tuple3_string_folder_option_string-returns-clause-read : goal.read_tuple3_string_folder_option_string-returns-clause-read
-read_tuple3_string_folder_option_string-returns-clause-read g t c = record_read_back tuple3_string_folder_option_string_definitions tuple3_string_folder_option_string_shape tuple3_string_folder_option_string_definitions tuple3_string_folder_option_string_parts tuple3_string_folder_option_string_has_parts _ _ _ _ _ _ _ (part_read_back {L = (record { size = 8; align = 4 })} {ks = []} {ls = ((folder_keys c.in_ok-a1.a1) ++ ((option_keys (λ y. []) c.in_ok-a2.a2) ++ []))} (record { solved = λ s k. refl }) (rw (c.part_of_record-p0.ensures.buffer, c.part_of_record-p0.ensures.position, c.part_of_record-p0.ensures.length) at c.in_ok-a0.ensures.read) (part_read_back {L = (record { size = 20; align = 4 })} {ks = (folder_keys c.in_ok-a1.a1)} {ls = ((option_keys (λ y. []) c.in_ok-a2.a2) ++ [])} folder_has_layout (rw (c.part_of_record-p1.ensures.buffer, c.part_of_record-p1.ensures.position, c.part_of_record-p1.ensures.length) at c.in_ok-a1.ensures.read) (part_read_back {L = (record { size = 12; align = 4 })} {ks = (option_keys (λ y. []) c.in_ok-a2.a2)} {ls = []} (record { solved = λ s k. refl }) (rw (c.part_of_record-p2.ensures.buffer, c.part_of_record-p2.ensures.position, c.part_of_record-p2.ensures.length) at c.in_ok-a2.ensures.read) no_part_read_back)))
-
-pub read_vec_tuple3_string_folder_option_string-returns-in_err-item-clause-refused : goal.read_vec_tuple3_string_folder_option_string-returns-in_err-item-clause-refused
-read_vec_tuple3_string_folder_option_string-returns-in_err-item-clause-refused g t c = (let kept = c.loop-index.invariant in let b = c.before_vec-list.result.bytes.now in let q = c.before_vec-list.result.pos in let n = c.before_vec-list.result.len in let below : c.loop-index.index < n = omega (arith, c.loop-index-test.true, c.loop-index.auto.index-end, c.len-index-end.ensures) in let h = rw (c.part.ensures.buffer, c.part.ensures.position, c.part.ensures.length, c.index.ensures.buffer, c.index.ensures.position, c.index.ensures.length) at c.in_err-item.ensures.refused in let r = element_refused tuple3_string_folder_option_string_definitions tuple3_string_folder_option_string_shape tuple3_string_folder_option_string_layout tuple3_string_folder_option_string_has_layout b q (run tuple3_string_folder_option_string_shape) n n (all_have tuple3_string_folder_option_string_definitions tuple3_string_folder_option_string_shape tuple3_string_folder_option_string_layout tuple3_string_folder_option_string_has_layout b q n (run tuple3_string_folder_option_string_shape) n (inl (refl, refl))) tuple3_string_folder_option_string_meaning tuple3_string_folder_option_string_keys (g.D.Entries.entry_of c.args.deserializer.now) (g.D.Entries.entry_of c.loop-index.deserializer) c.loop-index.items.items c.loop-index.index (one tuple3_string_folder_option_string_shape) c.in_err-item.field-0.0 refl below (kept.3) h in err_by c.from_residual-in_err-item.result c.in_err-item.field-0.0 _ c.from_residual-in_err-item.ensures.1 (vec_unread tuple3_string_folder_option_string_definitions c.args.part.bytes.now c.args.part.pos c.args.part.len tuple3_string_folder_option_string_shape (g.D.Entries.entry_of c.args.deserializer.now) c.in_err-item.field-0.0 c.requires (rw (c.before_vec-list.ensures.buffer, c.before_vec-list.ensures.position, c.before_vec-list.ensures.length, c.at-view.ensures.buffer, c.at-view.ensures.position) at r)))
-
-pub read_vec_tuple3_string_folder_option_string-loop-index-preserved : goal.read_vec_tuple3_string_folder_option_string-loop-index-preserved
-read_vec_tuple3_string_folder_option_string-loop-index-preserved g t c = (let kept = c.loop-index.invariant in let b = c.before_vec-list.result.bytes.now in let q = c.before_vec-list.result.pos in let n = c.before_vec-list.result.len in let below : c.loop-index.index < n = omega (arith, c.loop-index-test.true, c.loop-index.auto.index-end, c.len-index-end.ensures) in let pushed : c.push_reserved.new.self.items ≡ c.loop-index.items.items ++ c.in_ok-item.item ∷ [] = grind (arith, common_steps) in let more : length (c.loop-index.items.items ++ c.in_ok-item.item ∷ []) ≡ c.loop-index.index + 1 = grind (arith, common_steps, kept.0) in let h = rw (c.part.ensures.buffer, c.part.ensures.position, c.part.ensures.length, c.index.ensures.buffer, c.index.ensures.position, c.index.ensures.length) at c.in_ok-item.ensures.read in rw pushed (more, grind (arith, common_steps, kept.1), grind (arith, common_steps, kept.2), elements_more tuple3_string_folder_option_string_definitions tuple3_string_folder_option_string_shape tuple3_string_folder_option_string_layout tuple3_string_folder_option_string_has_layout b q (run tuple3_string_folder_option_string_shape) n n (all_have tuple3_string_folder_option_string_definitions tuple3_string_folder_option_string_shape tuple3_string_folder_option_string_layout tuple3_string_folder_option_string_has_layout b q n (run tuple3_string_folder_option_string_shape) n (inl (refl, refl))) tuple3_string_folder_option_string_meaning tuple3_string_folder_option_string_keys (g.D.Entries.entry_of c.args.deserializer.now) (g.D.Entries.entry_of c.loop-index.deserializer) (g.D.Entries.entry_of c.read_tuple3_string_folder_option_string.new.deserializer) c.loop-index.items.items c.in_ok-item.item c.loop-index.index (one tuple3_string_folder_option_string_shape) refl kept.0 below (kept.3) h))
-
-pub read_vec_tuple3_string_folder_option_string-returns-clause-read : goal.read_vec_tuple3_string_folder_option_string-returns-clause-read
-read_vec_tuple3_string_folder_option_string-returns-clause-read g t c = (let kept = c.loop-index.invariant in let b = c.before_vec-list.result.bytes.now in let q = c.before_vec-list.result.pos in let n = c.before_vec-list.result.len in let whole : length c.loop-index.items.items ≡ n = omega (arith, kept.0, c.loop-index-test.false, c.loop-index.auto.index-end, c.len-index-end.ensures) in let r = elements_all tuple3_string_folder_option_string_definitions tuple3_string_folder_option_string_shape tuple3_string_folder_option_string_layout tuple3_string_folder_option_string_has_layout b q (run tuple3_string_folder_option_string_shape) n n (all_have tuple3_string_folder_option_string_definitions tuple3_string_folder_option_string_shape tuple3_string_folder_option_string_layout tuple3_string_folder_option_string_has_layout b q n (run tuple3_string_folder_option_string_shape) n (inl (refl, refl))) tuple3_string_folder_option_string_meaning tuple3_string_folder_option_string_keys (g.D.Entries.entry_of c.args.deserializer.now) (g.D.Entries.entry_of c.loop-index.deserializer) c.loop-index.items.items whole (kept.3) in vec_read tuple3_string_folder_option_string_definitions c.args.part.bytes.now c.args.part.pos c.args.part.len tuple3_string_folder_option_string_shape _ _ _ _ c.requires (rw (c.before_vec-list.ensures.buffer, c.before_vec-list.ensures.position, c.before_vec-list.ensures.length, c.at-view.ensures.buffer, c.at-view.ensures.position) at r))
-
 pub read_pair_string_folder-returns-in_err-a0-clause-refused : goal.read_pair_string_folder-returns-in_err-a0-clause-refused
 read_pair_string_folder-returns-in_err-a0-clause-refused g t c = err_by c.from_residual.result c.in_err-a0.field-0.0 _ c.from_residual.ensures.1 (record_refuses pair_string_folder_definitions pair_string_folder_shape pair_string_folder_definitions pair_string_folder_parts pair_string_folder_has_parts _ _ _ _ _ (first_refuses no_definition (both folder_definitions no_definition) str (record { size = 8; align = 4 }) (record { solved = λ s k. refl }) (part folder_shape no_part) _ _ 0 _ _ (rw (c.part_of_record-p0.ensures.buffer, c.part_of_record-p0.ensures.position, c.part_of_record-p0.ensures.length) at c.in_err-a0.ensures.refused)))
 
 pub read_pair_string_folder-returns-in_err-a1-clause-refused : goal.read_pair_string_folder-returns-in_err-a1-clause-refused
-read_pair_string_folder-returns-in_err-a1-clause-refused g t c = err_by c.from_residual-in_err-a1.result c.in_err-a1.field-0.0 _ c.from_residual-in_err-a1.ensures.1 (record_refuses pair_string_folder_definitions pair_string_folder_shape pair_string_folder_definitions pair_string_folder_parts pair_string_folder_has_parts _ _ _ _ _ (later_refuses no_definition (both folder_definitions no_definition) str (record { size = 8; align = 4 }) (record { solved = λ s k. refl }) (part folder_shape no_part) _ _ 0 _ _ _ c.in_ok-a0.ensures.read.kept (first_refuses folder_definitions no_definition folder_shape (record { size = 20; align = 4 }) folder_has_layout no_part _ _ 8 _ _ (rw (c.part_of_record-p1.ensures.buffer, c.part_of_record-p1.ensures.position, c.part_of_record-p1.ensures.length) at c.in_err-a1.ensures.refused))))
+read_pair_string_folder-returns-in_err-a1-clause-refused g t c = err_by c.from_residual-in_err-a1.result c.in_err-a1.field-0.0 _ c.from_residual-in_err-a1.ensures.1 (record_refuses pair_string_folder_definitions pair_string_folder_shape pair_string_folder_definitions pair_string_folder_parts pair_string_folder_has_parts _ _ _ _ _ (later_refuses no_definition (both folder_definitions no_definition) str (record { size = 8; align = 4 }) (record { solved = λ s k. refl }) (part folder_shape no_part) _ _ 0 _ _ _ c.in_ok-a0.ensures.read.kept (first_refuses folder_definitions no_definition folder_shape (record { size = 12; align = 4 }) folder_has_layout no_part _ _ 8 _ _ (rw (c.part_of_record-p1.ensures.buffer, c.part_of_record-p1.ensures.position, c.part_of_record-p1.ensures.length) at c.in_err-a1.ensures.refused))))
 
 pub read_pair_string_folder-returns-clause-read : goal.read_pair_string_folder-returns-clause-read
-read_pair_string_folder-returns-clause-read g t c = record_read_back pair_string_folder_definitions pair_string_folder_shape pair_string_folder_definitions pair_string_folder_parts pair_string_folder_has_parts _ _ _ _ _ _ _ (part_read_back {L = (record { size = 8; align = 4 })} {ks = []} {ls = ((folder_keys c.in_ok-a1.a1) ++ [])} (record { solved = λ s k. refl }) (rw (c.part_of_record-p0.ensures.buffer, c.part_of_record-p0.ensures.position, c.part_of_record-p0.ensures.length) at c.in_ok-a0.ensures.read) (part_read_back {L = (record { size = 20; align = 4 })} {ks = (folder_keys c.in_ok-a1.a1)} {ls = []} folder_has_layout (rw (c.part_of_record-p1.ensures.buffer, c.part_of_record-p1.ensures.position, c.part_of_record-p1.ensures.length) at c.in_ok-a1.ensures.read) no_part_read_back))
+read_pair_string_folder-returns-clause-read g t c = record_read_back pair_string_folder_definitions pair_string_folder_shape pair_string_folder_definitions pair_string_folder_parts pair_string_folder_has_parts _ _ _ _ _ _ _ (part_read_back {L = (record { size = 8; align = 4 })} {ks = []} {ls = ((folder_keys c.in_ok-a1.a1) ++ [])} (record { solved = λ s k. refl }) (rw (c.part_of_record-p0.ensures.buffer, c.part_of_record-p0.ensures.position, c.part_of_record-p0.ensures.length) at c.in_ok-a0.ensures.read) (part_read_back {L = (record { size = 12; align = 4 })} {ks = (folder_keys c.in_ok-a1.a1)} {ls = []} folder_has_layout (rw (c.part_of_record-p1.ensures.buffer, c.part_of_record-p1.ensures.position, c.part_of_record-p1.ensures.length) at c.in_ok-a1.ensures.read) no_part_read_back))
 
 pub read_map_string_folder-returns-in_err-item-clause-refused : goal.read_map_string_folder-returns-in_err-item-clause-refused
 read_map_string_folder-returns-in_err-item-clause-refused g t c = (let kept = c.loop-index.invariant in let b = c.before_map-list.result.bytes.now in let q = c.before_map-list.result.pos in let n = c.before_map-list.result.len in let below : c.loop-index.index < n = omega (arith, c.loop-index-test.true, c.loop-index.auto.index-end, c.len-index-end.ensures) in let h = rw (c.part.ensures.buffer, c.part.ensures.position, c.part.ensures.length, c.index.ensures.buffer, c.index.ensures.position, c.index.ensures.length) at c.in_err-item.ensures.refused in let r = element_refused pair_string_folder_definitions pair_string_folder_shape pair_string_folder_layout pair_string_folder_has_layout b q (run pair_string_folder_shape) n n (all_have pair_string_folder_definitions pair_string_folder_shape pair_string_folder_layout pair_string_folder_has_layout b q n (run pair_string_folder_shape) n (inl (refl, refl))) pair_string_folder_meaning pair_string_folder_keys (g.D.Entries.entry_of c.args.deserializer.now) (g.D.Entries.entry_of c.loop-index.deserializer) c.loop-index.items.items c.loop-index.index (one pair_string_folder_shape) c.in_err-item.field-0.0 refl below (kept.3) h in err_by c.from_residual-in_err-item.result c.in_err-item.field-0.0 _ c.from_residual-in_err-item.ensures.1 (pairs_unread pair_string_folder_definitions str folder_shape str_key refl c.args.part.bytes.now c.args.part.pos c.args.part.len c.requires (g.D.Entries.entry_of c.args.deserializer.now) c.in_err-item.field-0.0 (rw (c.before_map-list.ensures.buffer, c.before_map-list.ensures.position, c.before_map-list.ensures.length) at r)))
@@ -60,13 +36,10 @@ pub read_map_string_folder-returns-clause-read : goal.read_map_string_folder-ret
 read_map_string_folder-returns-clause-read g t c = (let kept = c.loop-index.invariant in let b = c.before_map-list.result.bytes.now in let q = c.before_map-list.result.pos in let n = c.before_map-list.result.len in let whole : length c.loop-index.items.items ≡ n = omega (arith, kept.0, c.loop-index-test.false, c.loop-index.auto.index-end, c.len-index-end.ensures) in let r = elements_all pair_string_folder_definitions pair_string_folder_shape pair_string_folder_layout pair_string_folder_has_layout b q (run pair_string_folder_shape) n n (all_have pair_string_folder_definitions pair_string_folder_shape pair_string_folder_layout pair_string_folder_has_layout b q n (run pair_string_folder_shape) n (inl (refl, refl))) pair_string_folder_meaning pair_string_folder_keys (g.D.Entries.entry_of c.args.deserializer.now) (g.D.Entries.entry_of c.loop-index.deserializer) c.loop-index.items.items whole (kept.3) in if_ok c.collect_map.result (λ m h. h.since _ _ _ (rw (c.before_map-list.ensures.buffer, c.before_map-list.ensures.position, c.before_map-list.ensures.length) at r)) c.collect_map.ensures.read)
 
 pub read_folder-returns-in_err-a0-clause-refused : goal.read_folder-returns-in_err-a0-clause-refused
-read_folder-returns-in_err-a0-clause-refused g t c = err_by c.from_residual.result c.in_err-a0.field-0.0 _ c.from_residual.ensures.1 (record_refuses folder_definitions folder_shape folder_part_definitions folder_parts folder_has_parts _ _ _ _ _ (first_refuses no_definition (both tuple3_string_folder_option_string_definitions (both pair_string_folder_definitions no_definition)) (leaf (number_kind unsigned w8)) (record { size = 1; align = 1 }) (record { solved = λ s k. refl }) (part (vec tuple3_string_folder_option_string_shape) (part (sorted_map str_key folder_shape) no_part)) _ _ 0 _ _ (rw (c.part_of_record-p0.ensures.buffer, c.part_of_record-p0.ensures.position, c.part_of_record-p0.ensures.length) at c.in_err-a0.ensures.refused)))
+read_folder-returns-in_err-a0-clause-refused g t c = err_by c.from_residual.result c.in_err-a0.field-0.0 _ c.from_residual.ensures.1 (record_refuses folder_definitions folder_shape folder_part_definitions folder_parts folder_has_parts _ _ _ _ _ (first_refuses no_definition (both pair_string_folder_definitions no_definition) (leaf (number_kind unsigned w8)) (record { size = 1; align = 1 }) (record { solved = λ s k. refl }) (part (sorted_map str_key folder_shape) no_part) _ _ 0 _ _ (rw (c.part_of_record-p0.ensures.buffer, c.part_of_record-p0.ensures.position, c.part_of_record-p0.ensures.length) at c.in_err-a0.ensures.refused)))
 
 pub read_folder-returns-in_err-a1-clause-refused : goal.read_folder-returns-in_err-a1-clause-refused
-read_folder-returns-in_err-a1-clause-refused g t c = err_by c.from_residual-in_err-a1.result c.in_err-a1.field-0.0 _ c.from_residual-in_err-a1.ensures.1 (record_refuses folder_definitions folder_shape folder_part_definitions folder_parts folder_has_parts _ _ _ _ _ (later_refuses no_definition (both tuple3_string_folder_option_string_definitions (both pair_string_folder_definitions no_definition)) (leaf (number_kind unsigned w8)) (record { size = 1; align = 1 }) (record { solved = λ s k. refl }) (part (vec tuple3_string_folder_option_string_shape) (part (sorted_map str_key folder_shape) no_part)) _ _ 0 _ _ _ c.in_ok-a0.ensures.read.kept (first_refuses tuple3_string_folder_option_string_definitions (both pair_string_folder_definitions no_definition) (vec tuple3_string_folder_option_string_shape) (record { size = 8; align = 4 }) (record { solved = λ s k. refl }) (part (sorted_map str_key folder_shape) no_part) _ _ 1 _ _ (rw (c.part_of_record-p1.ensures.buffer, c.part_of_record-p1.ensures.position, c.part_of_record-p1.ensures.length) at c.in_err-a1.ensures.refused))))
-
-pub read_folder-returns-in_err-a2-clause-refused : goal.read_folder-returns-in_err-a2-clause-refused
-read_folder-returns-in_err-a2-clause-refused g t c = err_by c.from_residual-in_err-a2.result c.in_err-a2.field-0.0 _ c.from_residual-in_err-a2.ensures.1 (record_refuses folder_definitions folder_shape folder_part_definitions folder_parts folder_has_parts _ _ _ _ _ (later_refuses no_definition (both tuple3_string_folder_option_string_definitions (both pair_string_folder_definitions no_definition)) (leaf (number_kind unsigned w8)) (record { size = 1; align = 1 }) (record { solved = λ s k. refl }) (part (vec tuple3_string_folder_option_string_shape) (part (sorted_map str_key folder_shape) no_part)) _ _ 0 _ _ _ c.in_ok-a0.ensures.read.kept (later_refuses tuple3_string_folder_option_string_definitions (both pair_string_folder_definitions no_definition) (vec tuple3_string_folder_option_string_shape) (record { size = 8; align = 4 }) (record { solved = λ s k. refl }) (part (sorted_map str_key folder_shape) no_part) _ _ 1 _ _ _ c.in_ok-a1.ensures.read.kept (first_refuses pair_string_folder_definitions no_definition (sorted_map str_key folder_shape) (record { size = 8; align = 4 }) (record { solved = λ s k. refl }) no_part _ _ 12 _ _ (rw (c.part_of_record-p2.ensures.buffer, c.part_of_record-p2.ensures.position, c.part_of_record-p2.ensures.length) at c.in_err-a2.ensures.refused)))))
+read_folder-returns-in_err-a1-clause-refused g t c = err_by c.from_residual-in_err-a1.result c.in_err-a1.field-0.0 _ c.from_residual-in_err-a1.ensures.1 (record_refuses folder_definitions folder_shape folder_part_definitions folder_parts folder_has_parts _ _ _ _ _ (later_refuses no_definition (both pair_string_folder_definitions no_definition) (leaf (number_kind unsigned w8)) (record { size = 1; align = 1 }) (record { solved = λ s k. refl }) (part (sorted_map str_key folder_shape) no_part) _ _ 0 _ _ _ c.in_ok-a0.ensures.read.kept (first_refuses pair_string_folder_definitions no_definition (sorted_map str_key folder_shape) (record { size = 8; align = 4 }) (record { solved = λ s k. refl }) no_part _ _ 1 _ _ (rw (c.part_of_record-p1.ensures.buffer, c.part_of_record-p1.ensures.position, c.part_of_record-p1.ensures.length) at c.in_err-a1.ensures.refused))))
 
 pub read_folder-returns-clause-read : goal.read_folder-returns-clause-read
-read_folder-returns-clause-read g t c = read_as (folder_has_keys_roll (record { id = c.in_ok-a0.a0; entries = c.in_ok-a1.a1; attached = c.in_ok-a2.a2 })) (folder_means_roll (record { id = c.in_ok-a0.a0; entries = c.in_ok-a1.a1; attached = c.in_ok-a2.a2 })) (record_read_back folder_definitions folder_shape folder_part_definitions folder_parts folder_has_parts _ _ _ _ _ _ _ (part_read_back {L = (record { size = 1; align = 1 })} {ks = []} {ls = ((each_keys (λ y. ([] ++ ((folder_keys y.1) ++ ((option_keys (λ y. []) y.2) ++ [])))) c.in_ok-a1.a1.items) ++ ((each_keys (λ y. ([] ++ ((folder_keys y.1) ++ []))) c.in_ok-a2.a2.entries) ++ []))} (record { solved = λ s k. refl }) (rw (c.part_of_record-p0.ensures.buffer, c.part_of_record-p0.ensures.position, c.part_of_record-p0.ensures.length) at c.in_ok-a0.ensures.read) (part_read_back {L = (record { size = 8; align = 4 })} {ks = (each_keys (λ y. ([] ++ ((folder_keys y.1) ++ ((option_keys (λ y. []) y.2) ++ [])))) c.in_ok-a1.a1.items)} {ls = ((each_keys (λ y. ([] ++ ((folder_keys y.1) ++ []))) c.in_ok-a2.a2.entries) ++ [])} (record { solved = λ s k. refl }) (rw (c.part_of_record-p1.ensures.buffer, c.part_of_record-p1.ensures.position, c.part_of_record-p1.ensures.length) at c.in_ok-a1.ensures.read) (part_read_back {L = (record { size = 8; align = 4 })} {ks = (each_keys (λ y. ([] ++ ((folder_keys y.1) ++ []))) c.in_ok-a2.a2.entries)} {ls = []} (record { solved = λ s k. refl }) (rw (c.part_of_record-p2.ensures.buffer, c.part_of_record-p2.ensures.position, c.part_of_record-p2.ensures.length) at c.in_ok-a2.ensures.read) no_part_read_back))))
+read_folder-returns-clause-read g t c = read_as (folder_has_keys_roll (record { id = c.in_ok-a0.a0; entries = c.in_ok-a1.a1 })) (folder_means_roll (record { id = c.in_ok-a0.a0; entries = c.in_ok-a1.a1 })) (record_read_back folder_definitions folder_shape folder_part_definitions folder_parts folder_has_parts _ _ _ _ _ _ _ (part_read_back {L = (record { size = 1; align = 1 })} {ks = []} {ls = ((each_keys (λ y. ([] ++ ((folder_keys y.1) ++ []))) c.in_ok-a1.a1.entries) ++ [])} (record { solved = λ s k. refl }) (rw (c.part_of_record-p0.ensures.buffer, c.part_of_record-p0.ensures.position, c.part_of_record-p0.ensures.length) at c.in_ok-a0.ensures.read) (part_read_back {L = (record { size = 8; align = 4 })} {ks = (each_keys (λ y. ([] ++ ((folder_keys y.1) ++ []))) c.in_ok-a1.a1.entries)} {ls = []} (record { solved = λ s k. refl }) (rw (c.part_of_record-p1.ensures.buffer, c.part_of_record-p1.ensures.position, c.part_of_record-p1.ensures.length) at c.in_ok-a1.ensures.read) no_part_read_back)))

@@ -6,17 +6,19 @@ use Rattle.archive_core.proofs.PlannedParts.{serialized_no_part, serialized_part
 use Rattle.archive_core.proofs.RunRegions.{run_owned, long_run_refused}
 use Rattle.archive_core.proofs.Runs.{continues_step, continues_broken, continues_end, belongs_end}
 use Rattle.archive_core.specs.Causes.{no_memory}
+use Rattle.archive_core.specs.Choices.{option_shape}
 use Rattle.archive_core.specs.Definitions.{both, no_definition}
 use Rattle.archive_core.specs.Error.TheVariants.{OutOfMemory}
 use Rattle.archive_core.specs.Held.{written_as, refused_as}
+use Rattle.archive_core.specs.Options.{option_keys, option_meaning, option_planned}
 use Rattle.archive_core.specs.PartsPlanned.{part_planned, no_part_planned, product_planned}
 use Rattle.archive_core.specs.Planned.{string_planned}
 use Rattle.archive_core.specs.PlannedOwners.{each_planned}
 use Rattle.archive_core.specs.Runs.{each_keys, each_meaning}
 use Rattle.archive_core.specs.Shape.{vec, str, part, no_part}
 use Rattle.archive_core.specs.Value.{product, list, value, no_value, text_value}
-use Rattle.recursive_fields.specs.NoteMeaning.{note_meaning, note_keys, note_planned, note_texts_means, note_texts_has_keys, note_texts_opens, note_work_means, note_work_has_keys, note_work_opens, note_outcome_means, note_outcome_has_keys, note_outcome_opens, note_picture_means, note_picture_has_keys, note_picture_opens, note_table_means, note_table_has_keys, note_table_opens}
-use Rattle.recursive_fields.specs.NoteShape.{note_name, note_shape, note_definitions, pair_string_note_shape, pair_string_note_parts, pair_string_note_definitions, pair_string_note_has_parts, note_variants, note_variant_definitions, note_has_variants, note_table_parts, note_table_definitions}
+use Rattle.recursive_fields.specs.NoteMeaning.{note_meaning, note_keys, note_planned, note_texts_means, note_texts_has_keys, note_texts_opens, note_work_means, note_work_has_keys, note_work_opens, note_outcome_means, note_outcome_has_keys, note_outcome_opens, note_table_means, note_table_has_keys, note_table_opens}
+use Rattle.recursive_fields.specs.NoteShape.{note_name, note_shape, note_definitions, tuple3_string_note_option_string_shape, tuple3_string_note_option_string_parts, tuple3_string_note_option_string_definitions, tuple3_string_note_option_string_has_parts, note_variants, note_variant_definitions, note_has_variants, note_table_parts, note_table_definitions}
 use Rattle.std.proofs.Common.{subst, sym, ◌≡◌, ◌<◌, ◌≤◌, ◌+◌, ◌*◌, ◌++◌, [], ℕ, List, get_or, length, refl, arith, string_bytes}
 use Rattle.std.proofs.Math.ListN.{drop_of_length-le}
 use Rattle.std.proofs.lemmas.Grind.{common_steps}
@@ -24,68 +26,74 @@ use Rattle.std.specs.Prelude.{ℕ, List, [], ◌++◌, ◌≡◌, ◌≤◌, ref
 use denote.Param.Weighed.{at_most, most}
 use Rattle.recursive_fields.proofs.note.+serialize_note.Goals as goal
 
-pub serialize_each_pair_string_note-returns-in_err-resolvers-clause-refused : goal.serialize_each_pair_string_note-returns-in_err-resolvers-clause-refused
-serialize_each_pair_string_note-returns-in_err-resolvers-clause-refused g t c = err_by c.from_residual.result OutOfMemory _ c.from_residual.ensures.1 no_memory
+pub serialize_each_tuple3_string_note_option_string-returns-in_err-resolvers-clause-refused : goal.serialize_each_tuple3_string_note_option_string-returns-in_err-resolvers-clause-refused
+serialize_each_tuple3_string_note_option_string-returns-in_err-resolvers-clause-refused g t c = err_by c.from_residual.result OutOfMemory _ c.from_residual.ensures.1 no_memory
 
-pub serialize_each_pair_string_note-returns-in-Err-clause-goes_on : goal.serialize_each_pair_string_note-returns-in-Err-clause-goes_on
-serialize_each_pair_string_note-returns-in-Err-clause-goes_on g t c = goes_both _ _ _ c.loop-value.invariant.continues.goes c.serialize_part.ensures.goes_on
+pub serialize_each_tuple3_string_note_option_string-returns-in-Err-clause-goes_on : goal.serialize_each_tuple3_string_note_option_string-returns-in-Err-clause-goes_on
+serialize_each_tuple3_string_note_option_string-returns-in-Err-clause-goes_on g t c = goes_both _ _ _ c.loop-value.invariant.continues.goes c.serialize_part.ensures.goes_on
 
-pub serialize_each_pair_string_note-returns-in-Err-clause-refused : goal.serialize_each_pair_string_note-returns-in-Err-clause-refused
-serialize_each_pair_string_note-returns-in-Err-clause-refused g t c = continues_broken _ _ _ _ _ _ _ _ _ _ c.loop-value.value-index _ _ _ c.loop-value-test.true c.value-item.is (λ y. (product_planned _ _ _ _ (part_planned no_definition str [] (text_value (string_bytes y.0)) (string_planned no_definition [] (string_bytes y.0)) (part_planned note_definitions note_shape (note_keys y.1) (note_meaning y.1) (note_planned y.1) no_part_planned)))) c.loop-value.invariant.continues c.serialize_part.ensures.goes_on (record_refused pair_string_note_definitions pair_string_note_shape pair_string_note_definitions pair_string_note_parts pair_string_note_has_parts _ _ _ _ _ (first_refused no_definition (both note_definitions no_definition) str (part note_shape no_part) [] ((note_keys c.value-item.result.1) ++ []) (text_value (string_bytes c.value-item.result.0)) (value (note_meaning c.value-item.result.1) no_value) _ _ _ (part_planned note_definitions note_shape (note_keys c.value-item.result.1) (note_meaning c.value-item.result.1) (note_planned c.value-item.result.1) no_part_planned) c.in-Err.ensures.refused))
+pub serialize_each_tuple3_string_note_option_string-returns-in-Err-clause-refused : goal.serialize_each_tuple3_string_note_option_string-returns-in-Err-clause-refused
+serialize_each_tuple3_string_note_option_string-returns-in-Err-clause-refused g t c = continues_broken _ _ _ _ _ _ _ _ _ _ c.loop-value.value-index _ _ _ c.loop-value-test.true c.value-item.is (λ y. (product_planned _ _ _ _ (part_planned no_definition str [] (text_value (string_bytes y.0)) (string_planned no_definition [] (string_bytes y.0)) (part_planned note_definitions note_shape (note_keys y.1) (note_meaning y.1) (note_planned y.1) (part_planned no_definition (option_shape str) (option_keys (λ y. []) y.2) (option_meaning (λ y. (text_value (string_bytes y))) y.2) (option_planned no_definition str (λ y. []) (λ y. (text_value (string_bytes y))) (λ y. (string_planned no_definition [] (string_bytes y))) y.2) no_part_planned))))) c.loop-value.invariant.continues c.serialize_part.ensures.goes_on (record_refused tuple3_string_note_option_string_definitions tuple3_string_note_option_string_shape tuple3_string_note_option_string_definitions tuple3_string_note_option_string_parts tuple3_string_note_option_string_has_parts _ _ _ _ _ (first_refused no_definition (both note_definitions (both no_definition no_definition)) str (part note_shape (part (option_shape str) no_part)) [] ((note_keys c.value-item.result.1) ++ ((option_keys (λ y. []) c.value-item.result.2) ++ [])) (text_value (string_bytes c.value-item.result.0)) (value (note_meaning c.value-item.result.1) (value (option_meaning (λ y. (text_value (string_bytes y))) c.value-item.result.2) no_value)) _ _ _ (part_planned note_definitions note_shape (note_keys c.value-item.result.1) (note_meaning c.value-item.result.1) (note_planned c.value-item.result.1) (part_planned no_definition (option_shape str) (option_keys (λ y. []) c.value-item.result.2) (option_meaning (λ y. (text_value (string_bytes y))) c.value-item.result.2) (option_planned no_definition str (λ y. []) (λ y. (text_value (string_bytes y))) (λ y. (string_planned no_definition [] (string_bytes y))) c.value-item.result.2) no_part_planned)) c.in-Err.ensures.refused))
 
-pub serialize_each_pair_string_note-returns-in-Err-serialize_note-clause-goes_on : goal.serialize_each_pair_string_note-returns-in-Err-serialize_note-clause-goes_on
-serialize_each_pair_string_note-returns-in-Err-serialize_note-clause-goes_on g t c = goes_both _ _ _ c.loop-value.invariant.continues.goes (goes_both _ _ _ c.serialize_part.ensures.goes_on c.serialize_note.ensures.goes_on)
+pub serialize_each_tuple3_string_note_option_string-returns-in-Err-serialize_note-clause-goes_on : goal.serialize_each_tuple3_string_note_option_string-returns-in-Err-serialize_note-clause-goes_on
+serialize_each_tuple3_string_note_option_string-returns-in-Err-serialize_note-clause-goes_on g t c = goes_both _ _ _ c.loop-value.invariant.continues.goes (goes_both _ _ _ c.serialize_part.ensures.goes_on c.serialize_note.ensures.goes_on)
 
-pub serialize_each_pair_string_note-returns-in-Err-serialize_note-clause-refused : goal.serialize_each_pair_string_note-returns-in-Err-serialize_note-clause-refused
-serialize_each_pair_string_note-returns-in-Err-serialize_note-clause-refused g t c = rw c.handed_on.ensures (continues_broken _ _ _ _ _ _ _ _ _ _ c.loop-value.value-index _ _ _ c.loop-value-test.true c.value-item.is (λ y. (product_planned _ _ _ _ (part_planned no_definition str [] (text_value (string_bytes y.0)) (string_planned no_definition [] (string_bytes y.0)) (part_planned note_definitions note_shape (note_keys y.1) (note_meaning y.1) (note_planned y.1) no_part_planned)))) c.loop-value.invariant.continues (goes_both _ _ _ c.serialize_part.ensures.goes_on c.serialize_note.ensures.goes_on) (record_refused pair_string_note_definitions pair_string_note_shape pair_string_note_definitions pair_string_note_parts pair_string_note_has_parts _ _ _ _ _ (later_refused no_definition (both note_definitions no_definition) str (part note_shape no_part) [] ((note_keys c.value-item.result.1) ++ []) (text_value (string_bytes c.value-item.result.0)) (value (note_meaning c.value-item.result.1) no_value) _ _ _ _ _ c.in-Ok.ensures.serialized c.serialize_part.ensures.goes_on c.serialize_note.ensures.goes_on (first_refused note_definitions no_definition note_shape no_part (note_keys c.value-item.result.1) [] (note_meaning c.value-item.result.1) no_value _ _ _ no_part_planned c.in-Err-serialize_note.ensures.refused))))
+pub serialize_each_tuple3_string_note_option_string-returns-in-Err-serialize_note-clause-refused : goal.serialize_each_tuple3_string_note_option_string-returns-in-Err-serialize_note-clause-refused
+serialize_each_tuple3_string_note_option_string-returns-in-Err-serialize_note-clause-refused g t c = rw c.handed_on.ensures (continues_broken _ _ _ _ _ _ _ _ _ _ c.loop-value.value-index _ _ _ c.loop-value-test.true c.value-item.is (λ y. (product_planned _ _ _ _ (part_planned no_definition str [] (text_value (string_bytes y.0)) (string_planned no_definition [] (string_bytes y.0)) (part_planned note_definitions note_shape (note_keys y.1) (note_meaning y.1) (note_planned y.1) (part_planned no_definition (option_shape str) (option_keys (λ y. []) y.2) (option_meaning (λ y. (text_value (string_bytes y))) y.2) (option_planned no_definition str (λ y. []) (λ y. (text_value (string_bytes y))) (λ y. (string_planned no_definition [] (string_bytes y))) y.2) no_part_planned))))) c.loop-value.invariant.continues (goes_both _ _ _ c.serialize_part.ensures.goes_on c.serialize_note.ensures.goes_on) (record_refused tuple3_string_note_option_string_definitions tuple3_string_note_option_string_shape tuple3_string_note_option_string_definitions tuple3_string_note_option_string_parts tuple3_string_note_option_string_has_parts _ _ _ _ _ (later_refused no_definition (both note_definitions (both no_definition no_definition)) str (part note_shape (part (option_shape str) no_part)) [] ((note_keys c.value-item.result.1) ++ ((option_keys (λ y. []) c.value-item.result.2) ++ [])) (text_value (string_bytes c.value-item.result.0)) (value (note_meaning c.value-item.result.1) (value (option_meaning (λ y. (text_value (string_bytes y))) c.value-item.result.2) no_value)) _ _ _ _ _ c.in-Ok.ensures.serialized c.serialize_part.ensures.goes_on c.serialize_note.ensures.goes_on (first_refused note_definitions (both no_definition no_definition) note_shape (part (option_shape str) no_part) (note_keys c.value-item.result.1) ((option_keys (λ y. []) c.value-item.result.2) ++ []) (note_meaning c.value-item.result.1) (value (option_meaning (λ y. (text_value (string_bytes y))) c.value-item.result.2) no_value) _ _ _ (part_planned no_definition (option_shape str) (option_keys (λ y. []) c.value-item.result.2) (option_meaning (λ y. (text_value (string_bytes y))) c.value-item.result.2) (option_planned no_definition str (λ y. []) (λ y. (text_value (string_bytes y))) (λ y. (string_planned no_definition [] (string_bytes y))) c.value-item.result.2) no_part_planned) c.in-Err-serialize_note.ensures.refused))))
+
+pub serialize_each_tuple3_string_note_option_string-returns-in-Err-serialize_part-clause-goes_on : goal.serialize_each_tuple3_string_note_option_string-returns-in-Err-serialize_part-clause-goes_on
+serialize_each_tuple3_string_note_option_string-returns-in-Err-serialize_part-clause-goes_on g t c = goes_both _ _ _ c.loop-value.invariant.continues.goes (goes_both _ _ _ (goes_both _ _ _ c.serialize_part.ensures.goes_on c.serialize_note.ensures.goes_on) c.serialize_part-in-loop-value.ensures.goes_on)
+
+pub serialize_each_tuple3_string_note_option_string-returns-in-Err-serialize_part-clause-refused : goal.serialize_each_tuple3_string_note_option_string-returns-in-Err-serialize_part-clause-refused
+serialize_each_tuple3_string_note_option_string-returns-in-Err-serialize_part-clause-refused g t c = continues_broken _ _ _ _ _ _ _ _ _ _ c.loop-value.value-index _ _ _ c.loop-value-test.true c.value-item.is (λ y. (product_planned _ _ _ _ (part_planned no_definition str [] (text_value (string_bytes y.0)) (string_planned no_definition [] (string_bytes y.0)) (part_planned note_definitions note_shape (note_keys y.1) (note_meaning y.1) (note_planned y.1) (part_planned no_definition (option_shape str) (option_keys (λ y. []) y.2) (option_meaning (λ y. (text_value (string_bytes y))) y.2) (option_planned no_definition str (λ y. []) (λ y. (text_value (string_bytes y))) (λ y. (string_planned no_definition [] (string_bytes y))) y.2) no_part_planned))))) c.loop-value.invariant.continues (goes_both _ _ _ (goes_both _ _ _ c.serialize_part.ensures.goes_on c.serialize_note.ensures.goes_on) c.serialize_part-in-loop-value.ensures.goes_on) (record_refused tuple3_string_note_option_string_definitions tuple3_string_note_option_string_shape tuple3_string_note_option_string_definitions tuple3_string_note_option_string_parts tuple3_string_note_option_string_has_parts _ _ _ _ _ (later_refused no_definition (both note_definitions (both no_definition no_definition)) str (part note_shape (part (option_shape str) no_part)) [] ((note_keys c.value-item.result.1) ++ ((option_keys (λ y. []) c.value-item.result.2) ++ [])) (text_value (string_bytes c.value-item.result.0)) (value (note_meaning c.value-item.result.1) (value (option_meaning (λ y. (text_value (string_bytes y))) c.value-item.result.2) no_value)) _ _ _ _ _ c.in-Ok.ensures.serialized c.serialize_part.ensures.goes_on (goes_both _ _ _ c.serialize_note.ensures.goes_on c.serialize_part-in-loop-value.ensures.goes_on) (later_refused note_definitions (both no_definition no_definition) note_shape (part (option_shape str) no_part) (note_keys c.value-item.result.1) ((option_keys (λ y. []) c.value-item.result.2) ++ []) (note_meaning c.value-item.result.1) (value (option_meaning (λ y. (text_value (string_bytes y))) c.value-item.result.2) no_value) _ _ _ _ _ c.in-Ok-serialize_note.ensures.serialized c.serialize_note.ensures.goes_on c.serialize_part-in-loop-value.ensures.goes_on (first_refused no_definition no_definition (option_shape str) no_part (option_keys (λ y. []) c.value-item.result.2) [] (option_meaning (λ y. (text_value (string_bytes y))) c.value-item.result.2) no_value _ _ _ no_part_planned c.in-Err-serialize_part.ensures.refused))))
 
 no_deeper : {X : Type 0} (depth : X → ℕ) (n k t : ℕ) (xs : List X) (i : ℕ) (x : X) → n * most depth xs + k ≡ t → i < length xs → x ≡ get_or xs i x → depth x ≤ most depth xs
 no_deeper depth n k t xs i x measure below is = subst (λ y. depth y ≤ most depth xs) (sym is) (at_most depth xs i x below)
 
-pub serialize_each_pair_string_note-returns-in_err-resolvers-clause-goes_on : goal.serialize_each_pair_string_note-returns-in_err-resolvers-clause-goes_on
-serialize_each_pair_string_note-returns-in_err-resolvers-clause-goes_on g t c = goes_nowhere _
+pub serialize_each_tuple3_string_note_option_string-returns-in_err-resolvers-clause-goes_on : goal.serialize_each_tuple3_string_note_option_string-returns-in_err-resolvers-clause-goes_on
+serialize_each_tuple3_string_note_option_string-returns-in_err-resolvers-clause-goes_on g t c = goes_nowhere _
 
-pub serialize_each_pair_string_note-serialize_note-requires : goal.serialize_each_pair_string_note-serialize_note-requires
-serialize_each_pair_string_note-serialize_note-requires g t c κs within = (omega (arith, c.decreases, no_deeper _ _ _ _ c.args.values.now c.loop-value.value-index c.value-item.result c.decreases c.loop-value-test.true c.value-item.is), within)
+pub serialize_each_tuple3_string_note_option_string-serialize_note-requires : goal.serialize_each_tuple3_string_note_option_string-serialize_note-requires
+serialize_each_tuple3_string_note_option_string-serialize_note-requires g t c κs within = (omega (arith, c.decreases, no_deeper _ _ _ _ c.args.values.now c.loop-value.value-index c.value-item.result c.decreases c.loop-value-test.true c.value-item.is), within)
 
-pub serialize_each_pair_string_note-returns-in_err-map_err-clause-goes_on : goal.serialize_each_pair_string_note-returns-in_err-map_err-clause-goes_on
-serialize_each_pair_string_note-returns-in_err-map_err-clause-goes_on g t c = goes_both _ _ _ c.loop-value.invariant.continues.goes (goes_both _ _ _ c.serialize_part.ensures.goes_on c.serialize_note.ensures.goes_on)
+pub serialize_each_tuple3_string_note_option_string-returns-in_err-map_err-clause-goes_on : goal.serialize_each_tuple3_string_note_option_string-returns-in_err-map_err-clause-goes_on
+serialize_each_tuple3_string_note_option_string-returns-in_err-map_err-clause-goes_on g t c = goes_both _ _ _ c.loop-value.invariant.continues.goes (goes_both _ _ _ (goes_both _ _ _ c.serialize_part.ensures.goes_on c.serialize_note.ensures.goes_on) c.serialize_part-in-loop-value.ensures.goes_on)
 
-pub serialize_each_pair_string_note-returns-in_err-map_err-clause-refused : goal.serialize_each_pair_string_note-returns-in_err-map_err-clause-refused
-serialize_each_pair_string_note-returns-in_err-map_err-clause-refused g t c = err_by c.from_residual-in_err-map_err.result OutOfMemory _ c.from_residual-in_err-map_err.ensures.1 no_memory
+pub serialize_each_tuple3_string_note_option_string-returns-in_err-map_err-clause-refused : goal.serialize_each_tuple3_string_note_option_string-returns-in_err-map_err-clause-refused
+serialize_each_tuple3_string_note_option_string-returns-in_err-map_err-clause-refused g t c = err_by c.from_residual-in_err-map_err.result OutOfMemory _ c.from_residual-in_err-map_err.ensures.1 no_memory
 
-pub serialize_each_pair_string_note-loop-value-preserved : goal.serialize_each_pair_string_note-loop-value-preserved
-serialize_each_pair_string_note-loop-value-preserved g t c = record { continues = continues_step _ _ _ _ _ _ _ _ _ _ c.loop-value.value-index _ _ _ (c.in-Ok.a0, (c.in-Ok-serialize_note.a1, tt)) c.loop-value-test.true c.value-item.is (grind (arith, common_steps)) c.loop-value.invariant.continues (serialized_record pair_string_note_definitions pair_string_note_shape pair_string_note_definitions pair_string_note_parts pair_string_note_has_parts _ _ _ _ _ (serialized_part no_definition (both note_definitions no_definition) str (part note_shape no_part) [] ((note_keys c.value-item.result.1) ++ []) (text_value (string_bytes c.value-item.result.0)) (value (note_meaning c.value-item.result.1) no_value) _ _ _ _ _ c.in-Ok.ensures.serialized (serialized_part note_definitions no_definition note_shape no_part (note_keys c.value-item.result.1) [] (note_meaning c.value-item.result.1) no_value _ _ _ _ _ c.in-Ok-serialize_note.ensures.serialized (serialized_no_part no_definition _)))) (c.in-Ok.ensures.same_value, (c.in-Ok-serialize_note.ensures.same_value, tt)) (goes_both _ _ _ c.serialize_part.ensures.goes_on c.serialize_note.ensures.goes_on) }
+pub serialize_each_tuple3_string_note_option_string-loop-value-preserved : goal.serialize_each_tuple3_string_note_option_string-loop-value-preserved
+serialize_each_tuple3_string_note_option_string-loop-value-preserved g t c = record { continues = continues_step _ _ _ _ _ _ _ _ _ _ c.loop-value.value-index _ _ _ (c.in-Ok.a0, (c.in-Ok-serialize_note.a1, (c.in-Ok-serialize_part.a2, tt))) c.loop-value-test.true c.value-item.is (grind (arith, common_steps)) c.loop-value.invariant.continues (serialized_record tuple3_string_note_option_string_definitions tuple3_string_note_option_string_shape tuple3_string_note_option_string_definitions tuple3_string_note_option_string_parts tuple3_string_note_option_string_has_parts _ _ _ _ _ (serialized_part no_definition (both note_definitions (both no_definition no_definition)) str (part note_shape (part (option_shape str) no_part)) [] ((note_keys c.value-item.result.1) ++ ((option_keys (λ y. []) c.value-item.result.2) ++ [])) (text_value (string_bytes c.value-item.result.0)) (value (note_meaning c.value-item.result.1) (value (option_meaning (λ y. (text_value (string_bytes y))) c.value-item.result.2) no_value)) _ _ _ _ _ c.in-Ok.ensures.serialized (serialized_part note_definitions (both no_definition no_definition) note_shape (part (option_shape str) no_part) (note_keys c.value-item.result.1) ((option_keys (λ y. []) c.value-item.result.2) ++ []) (note_meaning c.value-item.result.1) (value (option_meaning (λ y. (text_value (string_bytes y))) c.value-item.result.2) no_value) _ _ _ _ _ c.in-Ok-serialize_note.ensures.serialized (serialized_part no_definition no_definition (option_shape str) no_part (option_keys (λ y. []) c.value-item.result.2) [] (option_meaning (λ y. (text_value (string_bytes y))) c.value-item.result.2) no_value _ _ _ _ _ c.in-Ok-serialize_part.ensures.serialized (serialized_no_part no_definition _))))) (c.in-Ok.ensures.same_value, (c.in-Ok-serialize_note.ensures.same_value, (c.in-Ok-serialize_part.ensures.same_value, tt))) (goes_both _ _ _ (goes_both _ _ _ c.serialize_part.ensures.goes_on c.serialize_note.ensures.goes_on) c.serialize_part-in-loop-value.ensures.goes_on) }
 
-pub serialize_each_pair_string_note-returns-clause-serialized : goal.serialize_each_pair_string_note-returns-clause-serialized
-serialize_each_pair_string_note-returns-clause-serialized g t c = continues_end _ _ _ _ _ _ _ _ _ _ _ (drop_of_length-le _ c.loop-value-test.false) c.loop-value.invariant.continues
+pub serialize_each_tuple3_string_note_option_string-returns-clause-serialized : goal.serialize_each_tuple3_string_note_option_string-returns-clause-serialized
+serialize_each_tuple3_string_note_option_string-returns-clause-serialized g t c = continues_end _ _ _ _ _ _ _ _ _ _ _ (drop_of_length-le _ c.loop-value-test.false) c.loop-value.invariant.continues
 
-pub serialize_each_pair_string_note-returns-clause-same_values : goal.serialize_each_pair_string_note-returns-clause-same_values
-serialize_each_pair_string_note-returns-clause-same_values g t c = belongs_end _ _ _ _ _ _ _ _ _ _ _ (drop_of_length-le _ c.loop-value-test.false) c.loop-value.invariant.continues
+pub serialize_each_tuple3_string_note_option_string-returns-clause-same_values : goal.serialize_each_tuple3_string_note_option_string-returns-clause-same_values
+serialize_each_tuple3_string_note_option_string-returns-clause-same_values g t c = belongs_end _ _ _ _ _ _ _ _ _ _ _ (drop_of_length-le _ c.loop-value-test.false) c.loop-value.invariant.continues
 
-pub serialize_vec_pair_string_note-returns-then-len-clause-refused : goal.serialize_vec_pair_string_note-returns-then-len-clause-refused
-serialize_vec_pair_string_note-returns-then-len-clause-refused g t c = (let long : 4294967295 < length c.args.value.now.items = (let whole : length c.args.value.now.items ≡ c.len.result = grind (arith, common_steps, c.len.ensures) in omega (arith, c.if-len.true, whole)) in vec_refused pair_string_note_definitions pair_string_note_shape (length c.args.value.now.items) (each_keys (λ y. ([] ++ ((note_keys y.1) ++ []))) c.args.value.now.items) (list (each_meaning (λ y. (product (value (text_value (string_bytes y.0)) (value (note_meaning y.1) no_value)))) c.args.value.now.items)) _ _ _ (long_run_refused pair_string_note_definitions pair_string_note_shape (length c.args.value.now.items) (each_keys (λ y. ([] ++ ((note_keys y.1) ++ []))) c.args.value.now.items) (each_meaning (λ y. (product (value (text_value (string_bytes y.0)) (value (note_meaning y.1) no_value)))) c.args.value.now.items) _ _ (each_planned pair_string_note_definitions pair_string_note_shape (λ y. ([] ++ ((note_keys y.1) ++ []))) (λ y. (product (value (text_value (string_bytes y.0)) (value (note_meaning y.1) no_value)))) (λ y. (product_planned _ _ _ _ (part_planned no_definition str [] (text_value (string_bytes y.0)) (string_planned no_definition [] (string_bytes y.0)) (part_planned note_definitions note_shape (note_keys y.1) (note_meaning y.1) (note_planned y.1) no_part_planned)))) c.args.value.now.items) long))
+pub serialize_vec_tuple3_string_note_option_string-returns-then-len-clause-refused : goal.serialize_vec_tuple3_string_note_option_string-returns-then-len-clause-refused
+serialize_vec_tuple3_string_note_option_string-returns-then-len-clause-refused g t c = (let long : 4294967295 < length c.args.value.now.items = (let whole : length c.args.value.now.items ≡ c.len.result = grind (arith, common_steps, c.len.ensures) in omega (arith, c.if-len.true, whole)) in vec_refused tuple3_string_note_option_string_definitions tuple3_string_note_option_string_shape (length c.args.value.now.items) (each_keys (λ y. ([] ++ ((note_keys y.1) ++ ((option_keys (λ y. []) y.2) ++ [])))) c.args.value.now.items) (list (each_meaning (λ y. (product (value (text_value (string_bytes y.0)) (value (note_meaning y.1) (value (option_meaning (λ y. (text_value (string_bytes y))) y.2) no_value))))) c.args.value.now.items)) _ _ _ (long_run_refused tuple3_string_note_option_string_definitions tuple3_string_note_option_string_shape (length c.args.value.now.items) (each_keys (λ y. ([] ++ ((note_keys y.1) ++ ((option_keys (λ y. []) y.2) ++ [])))) c.args.value.now.items) (each_meaning (λ y. (product (value (text_value (string_bytes y.0)) (value (note_meaning y.1) (value (option_meaning (λ y. (text_value (string_bytes y))) y.2) no_value))))) c.args.value.now.items) _ _ (each_planned tuple3_string_note_option_string_definitions tuple3_string_note_option_string_shape (λ y. ([] ++ ((note_keys y.1) ++ ((option_keys (λ y. []) y.2) ++ [])))) (λ y. (product (value (text_value (string_bytes y.0)) (value (note_meaning y.1) (value (option_meaning (λ y. (text_value (string_bytes y))) y.2) no_value))))) (λ y. (product_planned _ _ _ _ (part_planned no_definition str [] (text_value (string_bytes y.0)) (string_planned no_definition [] (string_bytes y.0)) (part_planned note_definitions note_shape (note_keys y.1) (note_meaning y.1) (note_planned y.1) (part_planned no_definition (option_shape str) (option_keys (λ y. []) y.2) (option_meaning (λ y. (text_value (string_bytes y))) y.2) (option_planned no_definition str (λ y. []) (λ y. (text_value (string_bytes y))) (λ y. (string_planned no_definition [] (string_bytes y))) y.2) no_part_planned))))) c.args.value.now.items) long))
 
-pub serialize_vec_pair_string_note-returns-in-Err-clause-refused : goal.serialize_vec_pair_string_note-returns-in-Err-clause-refused
-serialize_vec_pair_string_note-returns-in-Err-clause-refused g t c = vec_refused pair_string_note_definitions pair_string_note_shape (length c.args.value.now.items) (each_keys (λ y. ([] ++ ((note_keys y.1) ++ []))) c.args.value.now.items) (list (each_meaning (λ y. (product (value (text_value (string_bytes y.0)) (value (note_meaning y.1) no_value)))) c.args.value.now.items)) _ _ _ (run_owned pair_string_note_definitions pair_string_note_shape (length c.args.value.now.items) (each_keys (λ y. ([] ++ ((note_keys y.1) ++ []))) c.args.value.now.items) (each_meaning (λ y. (product (value (text_value (string_bytes y.0)) (value (note_meaning y.1) no_value)))) c.args.value.now.items) _ _ _ (rw c.as_slice-items.ensures.value at c.in-Err.ensures.refused))
+pub serialize_vec_tuple3_string_note_option_string-returns-in-Err-clause-refused : goal.serialize_vec_tuple3_string_note_option_string-returns-in-Err-clause-refused
+serialize_vec_tuple3_string_note_option_string-returns-in-Err-clause-refused g t c = vec_refused tuple3_string_note_option_string_definitions tuple3_string_note_option_string_shape (length c.args.value.now.items) (each_keys (λ y. ([] ++ ((note_keys y.1) ++ ((option_keys (λ y. []) y.2) ++ [])))) c.args.value.now.items) (list (each_meaning (λ y. (product (value (text_value (string_bytes y.0)) (value (note_meaning y.1) (value (option_meaning (λ y. (text_value (string_bytes y))) y.2) no_value))))) c.args.value.now.items)) _ _ _ (run_owned tuple3_string_note_option_string_definitions tuple3_string_note_option_string_shape (length c.args.value.now.items) (each_keys (λ y. ([] ++ ((note_keys y.1) ++ ((option_keys (λ y. []) y.2) ++ [])))) c.args.value.now.items) (each_meaning (λ y. (product (value (text_value (string_bytes y.0)) (value (note_meaning y.1) (value (option_meaning (λ y. (text_value (string_bytes y))) y.2) no_value))))) c.args.value.now.items) _ _ _ (rw c.as_slice-items.ensures.value at c.in-Err.ensures.refused))
 
-pub serialize_vec_pair_string_note-returns-in-Ok-serialize_inner_slice-clause-serialized : goal.serialize_vec_pair_string_note-returns-in-Ok-serialize_inner_slice-clause-serialized
-serialize_vec_pair_string_note-returns-in-Ok-serialize_inner_slice-clause-serialized g t c = (rw c.as_slice-items.ensures.value at c.in-Ok-serialize_inner_slice.ensures.listed).since _ c.serialize_each_pair_string_note.ensures.goes_on (rw c.as_slice-items.ensures.value at c.in-Ok.ensures.serialized)
+pub serialize_vec_tuple3_string_note_option_string-returns-in-Ok-serialize_inner_slice-clause-serialized : goal.serialize_vec_tuple3_string_note_option_string-returns-in-Ok-serialize_inner_slice-clause-serialized
+serialize_vec_tuple3_string_note_option_string-returns-in-Ok-serialize_inner_slice-clause-serialized g t c = (rw c.as_slice-items.ensures.value at c.in-Ok-serialize_inner_slice.ensures.listed).since _ c.serialize_each_tuple3_string_note_option_string.ensures.goes_on (rw c.as_slice-items.ensures.value at c.in-Ok.ensures.serialized)
 
-pub serialize_vec_pair_string_note-returns-in-Ok-serialize_inner_slice-clause-goes_on : goal.serialize_vec_pair_string_note-returns-in-Ok-serialize_inner_slice-clause-goes_on
-serialize_vec_pair_string_note-returns-in-Ok-serialize_inner_slice-clause-goes_on g t c = (goes_both _ _ _ c.serialize_each_pair_string_note.ensures.goes_on c.serialize_inner_slice.ensures.goes_on)
+pub serialize_vec_tuple3_string_note_option_string-returns-in-Ok-serialize_inner_slice-clause-goes_on : goal.serialize_vec_tuple3_string_note_option_string-returns-in-Ok-serialize_inner_slice-clause-goes_on
+serialize_vec_tuple3_string_note_option_string-returns-in-Ok-serialize_inner_slice-clause-goes_on g t c = (goes_both _ _ _ c.serialize_each_tuple3_string_note_option_string.ensures.goes_on c.serialize_inner_slice.ensures.goes_on)
 
-pub serialize_vec_pair_string_note-returns-in-Err-serialize_inner_slice-clause-goes_on : goal.serialize_vec_pair_string_note-returns-in-Err-serialize_inner_slice-clause-goes_on
-serialize_vec_pair_string_note-returns-in-Err-serialize_inner_slice-clause-goes_on g t c = (goes_both _ _ _ c.serialize_each_pair_string_note.ensures.goes_on c.serialize_inner_slice.ensures.goes_on)
+pub serialize_vec_tuple3_string_note_option_string-returns-in-Err-serialize_inner_slice-clause-goes_on : goal.serialize_vec_tuple3_string_note_option_string-returns-in-Err-serialize_inner_slice-clause-goes_on
+serialize_vec_tuple3_string_note_option_string-returns-in-Err-serialize_inner_slice-clause-goes_on g t c = (goes_both _ _ _ c.serialize_each_tuple3_string_note_option_string.ensures.goes_on c.serialize_inner_slice.ensures.goes_on)
 
-pub serialize_vec_pair_string_note-returns-in-Err-serialize_inner_slice-clause-refused : goal.serialize_vec_pair_string_note-returns-in-Err-serialize_inner_slice-clause-refused
-serialize_vec_pair_string_note-returns-in-Err-serialize_inner_slice-clause-refused g t c = (rw c.as_slice-items.ensures.value at c.in-Err-serialize_inner_slice.ensures.refused).since _ c.serialize_each_pair_string_note.ensures.goes_on (rw c.as_slice-items.ensures.value at c.in-Ok.ensures.serialized)
+pub serialize_vec_tuple3_string_note_option_string-returns-in-Err-serialize_inner_slice-clause-refused : goal.serialize_vec_tuple3_string_note_option_string-returns-in-Err-serialize_inner_slice-clause-refused
+serialize_vec_tuple3_string_note_option_string-returns-in-Err-serialize_inner_slice-clause-refused g t c = (rw c.as_slice-items.ensures.value at c.in-Err-serialize_inner_slice.ensures.refused).since _ c.serialize_each_tuple3_string_note_option_string.ensures.goes_on (rw c.as_slice-items.ensures.value at c.in-Ok.ensures.serialized)
 
 pub serialize_note_table-returns-in-Err-clause-refused : goal.serialize_note_table-returns-in-Err-clause-refused
-serialize_note_table-returns-in-Err-clause-refused g t c = (variant_refused note_definitions note_shape note_name note_variant_definitions note_variants note_has_variants 4 note_table_parts refl note_table_definitions refl _ _ _ _ _ (first_refused pair_string_note_definitions no_definition (vec pair_string_note_shape) no_part (each_keys (λ y. ([] ++ ((note_keys y.1) ++ []))) c.args.a0.now.items) [] (list (each_meaning (λ y. (product (value (text_value (string_bytes y.0)) (value (note_meaning y.1) no_value)))) c.args.a0.now.items)) no_value _ _ _ no_part_planned c.in-Err.ensures.refused))
+serialize_note_table-returns-in-Err-clause-refused g t c = (variant_refused note_definitions note_shape note_name note_variant_definitions note_variants note_has_variants 3 note_table_parts refl note_table_definitions refl _ _ _ _ _ (first_refused tuple3_string_note_option_string_definitions no_definition (vec tuple3_string_note_option_string_shape) no_part (each_keys (λ y. ([] ++ ((note_keys y.1) ++ ((option_keys (λ y. []) y.2) ++ [])))) c.args.a0.now.items) [] (list (each_meaning (λ y. (product (value (text_value (string_bytes y.0)) (value (note_meaning y.1) (value (option_meaning (λ y. (text_value (string_bytes y))) y.2) no_value))))) c.args.a0.now.items)) no_value _ _ _ no_part_planned c.in-Err.ensures.refused))
 
 pub serialize_note_table-returns-clause-serialized : goal.serialize_note_table-returns-clause-serialized
-serialize_note_table-returns-clause-serialized g t c = (serialized_variant note_definitions note_shape note_name note_variant_definitions note_variants note_has_variants 4 note_table_parts refl note_table_definitions refl _ _ _ _ _ (serialized_part pair_string_note_definitions no_definition (vec pair_string_note_shape) no_part (each_keys (λ y. ([] ++ ((note_keys y.1) ++ []))) c.args.a0.now.items) [] (list (each_meaning (λ y. (product (value (text_value (string_bytes y.0)) (value (note_meaning y.1) no_value)))) c.args.a0.now.items)) no_value _ _ _ _ _ c.in-Ok.ensures.serialized (serialized_no_part no_definition _)))
+serialize_note_table-returns-clause-serialized g t c = (serialized_variant note_definitions note_shape note_name note_variant_definitions note_variants note_has_variants 3 note_table_parts refl note_table_definitions refl _ _ _ _ _ (serialized_part tuple3_string_note_option_string_definitions no_definition (vec tuple3_string_note_option_string_shape) no_part (each_keys (λ y. ([] ++ ((note_keys y.1) ++ ((option_keys (λ y. []) y.2) ++ [])))) c.args.a0.now.items) [] (list (each_meaning (λ y. (product (value (text_value (string_bytes y.0)) (value (note_meaning y.1) (value (option_meaning (λ y. (text_value (string_bytes y))) y.2) no_value))))) c.args.a0.now.items)) no_value _ _ _ _ _ c.in-Ok.ensures.serialized (serialized_no_part no_definition _)))
 
 pub serialize_note-returns-in-Ok-clause-serialized : goal.serialize_note-returns-in-Ok-clause-serialized
 serialize_note-returns-in-Ok-clause-serialized g t c = rw c.in-Texts.is (written_as (note_texts_has_keys c.in-Texts.a0 c.in-Texts.a1) (note_texts_means c.in-Texts.a0 c.in-Texts.a1) (rw (note_texts_opens c.in-Texts.a0 c.in-Texts.a1) refl) c.in-Ok.ensures.serialized)
@@ -113,15 +121,6 @@ serialize_note-returns-in-Ok-serialize_note_outcome-clause-same_value g t c = rw
 
 pub serialize_note-returns-in-Err-serialize_note_outcome-clause-refused : goal.serialize_note-returns-in-Err-serialize_note_outcome-clause-refused
 serialize_note-returns-in-Err-serialize_note_outcome-clause-refused g t c = rw c.in-Outcome.is (refused_as (note_outcome_has_keys c.in-Outcome.a0 c.in-Outcome.a1 c.in-Outcome.a2) (note_outcome_means c.in-Outcome.a0 c.in-Outcome.a1 c.in-Outcome.a2) c.in-Err-serialize_note_outcome.ensures.refused)
-
-pub serialize_note-returns-in-Ok-serialize_note_picture-clause-serialized : goal.serialize_note-returns-in-Ok-serialize_note_picture-clause-serialized
-serialize_note-returns-in-Ok-serialize_note_picture-clause-serialized g t c = rw c.in-Picture.is (written_as (note_picture_has_keys c.in-Picture.a0 c.in-Picture.a1) (note_picture_means c.in-Picture.a0 c.in-Picture.a1) (rw (note_picture_opens c.in-Picture.a0 c.in-Picture.a1) refl) c.in-Ok-serialize_note_picture.ensures.serialized)
-
-pub serialize_note-returns-in-Ok-serialize_note_picture-clause-same_value : goal.serialize_note-returns-in-Ok-serialize_note_picture-clause-same_value
-serialize_note-returns-in-Ok-serialize_note_picture-clause-same_value g t c = rw (c.in-Picture.is, note_picture_opens c.in-Picture.a0 c.in-Picture.a1) c.in-Ok-serialize_note_picture.ensures.same_values
-
-pub serialize_note-returns-in-Err-serialize_note_picture-clause-refused : goal.serialize_note-returns-in-Err-serialize_note_picture-clause-refused
-serialize_note-returns-in-Err-serialize_note_picture-clause-refused g t c = rw c.in-Picture.is (refused_as (note_picture_has_keys c.in-Picture.a0 c.in-Picture.a1) (note_picture_means c.in-Picture.a0 c.in-Picture.a1) c.in-Err-serialize_note_picture.ensures.refused)
 
 pub serialize_note-returns-in-Ok-serialize_note_table-clause-serialized : goal.serialize_note-returns-in-Ok-serialize_note_table-clause-serialized
 serialize_note-returns-in-Ok-serialize_note_table-clause-serialized g t c = rw c.in-Table.is (written_as (note_table_has_keys c.in-Table.a0) (note_table_means c.in-Table.a0) (rw (note_table_opens c.in-Table.a0) refl) c.in-Ok-serialize_note_table.ensures.serialized)

@@ -1,88 +1,181 @@
 -- Written by tools/derive: change the declaration, and run it again.
-use Rattle.archive_core.proofs.Causes.{err_by, goes_both}
-use Rattle.archive_core.proofs.Owners.{box_refused, vec_refused}
+use Rattle.archive_core.proofs.Causes.{err_by, goes_both, goes_nowhere, explains_sooner}
+use Rattle.archive_core.proofs.Owners.{vec_refused}
 use Rattle.archive_core.proofs.Planned.{one_owned}
 use Rattle.archive_core.proofs.PlannedParts.{serialized_no_part, serialized_part, serialized_record, record_refused, first_refused, later_refused}
 use Rattle.archive_core.proofs.RunRegions.{run_owned, long_run_refused}
 use Rattle.archive_core.proofs.Runs.{continues_step, continues_broken, continues_end, belongs_end}
-use Rattle.archive_core.specs.Causes.{no_memory}
-use Rattle.archive_core.specs.Definitions.{both, no_definition}
+use Rattle.archive_core.proofs.WrittenVariants.{serialized_empty_case}
+use Rattle.archive_core.proofs.recursive.KeysBegun.{region_refused}
+use Rattle.archive_core.specs.Causes.{no_memory, ValuePart, part_itself, HindersPart, stands_too_far, owner_shared, owner_weak, shared_too_long, shared_owner, weak_owner, IsRefused}
+use Rattle.archive_core.specs.Definitions.{Definitions, both, no_definition}
+use Rattle.archive_core.specs.Denotes.{Naming, fills_null}
+use Rattle.archive_core.specs.Error.{Error}
 use Rattle.archive_core.specs.Error.TheVariants.{OutOfMemory}
 use Rattle.archive_core.specs.Held.{written_as, refused_as}
+use Rattle.archive_core.specs.Options.{option_keys}
 use Rattle.archive_core.specs.PartsPlanned.{part_planned, no_part_planned}
-use Rattle.archive_core.specs.PlannedOwners.{boxed_one_planned, vec_planned, slice_planned, each_planned}
+use Rattle.archive_core.specs.PlannedOwners.{vec_planned, slice_planned, each_planned}
+use Rattle.archive_core.specs.Plans.{Serialized, serialized, cursor, plans_null}
+use Rattle.archive_core.specs.Reads.{SchemaTable}
 use Rattle.archive_core.specs.Runs.{each_keys, each_meaning}
-use Rattle.archive_core.specs.Shape.{boxed, vec, one, leaf, unsigned, part, no_part, number as number_kind}
-use Rattle.archive_core.specs.Value.{list, box, number, value, no_value}
+use Rattle.archive_core.specs.Shape.{Shape, named, choice, shared, weak, vec, one, leaf, unsigned, part, no_part, variant, no_variant, Pointee, number as number_kind}
+use Rattle.archive_core.specs.SharedLaws.{weak_value, weak_planned, as_weak}
+use Rattle.archive_core.specs.SharedSources.{rc_flavor, rc_keys, rc_one_planned}
+use Rattle.archive_core.specs.Value.{Value, case, list, number, value, no_value, null, shared_value}
+use Rattle.archive_core.specs.WriterState.{WriterState}
+use Rattle.recursive_kinds.proofs.knot.+serialize_knot.Goals.{serialize_each_shared_knot-in-Some+in_ok-map_err-in-Some, serialize_each_shared_knot-in-None+in-Ok-serialize_knot+in-Ok-finish_shared+in_ok-map_err-in-None}
 use Rattle.recursive_kinds.specs.KnotMeaning.{knot_meaning, knot_keys, knot_planned, knot_means, knot_has_keys}
 use Rattle.recursive_kinds.specs.KnotShape.{knot_shape, knot_definitions, knot_parts, knot_part_definitions, knot_has_parts}
 use Rattle.recursive_kinds.specs.declared.knot.Knot.{out-Knot}
-use Rattle.std.proofs.Common.{◌≡◌, ◌<◌, ◌++◌, [], length, refl, arith, pos}
+use Rattle.std.proofs.Common.{inl, inr, ◌≡◌, ◌<◌, ◌++◌, [], ℕ, List, length, refl, arith, pos, ⊎_elim}
 use Rattle.std.proofs.Math.ListN.{drop_of_length-le}
 use Rattle.std.proofs.lemmas.Grind.{common_steps}
 use Rattle.std.specs.Int.{w32}
-use Rattle.std.specs.Prelude.{[], ◌++◌, ◌≡◌, refl, pos, length}
+use Rattle.std.specs.Prelude.{ℕ, List, [], ◌++◌, ◌≡◌, refl, pos, length, codes}
 use Rattle.recursive_kinds.proofs.knot.+serialize_knot.Goals as goal
 
-pub serialize_each_box_knot-returns-in_err-resolvers-clause-refused : goal.serialize_each_box_knot-returns-in_err-resolvers-clause-refused
-serialize_each_box_knot-returns-in_err-resolvers-clause-refused g t c = err_by c.from_residual.result OutOfMemory _ c.from_residual.ensures.1 no_memory
+weak_serialized : (D : Definitions) (P : Pointee) (ks : List Naming) (v flat : Value) (old new : WriterState) → Serialized D (shared rc_flavor P) ks v flat old new → Serialized D (weak rc_flavor P) ks v flat old new
+weak_serialized D P ks v flat old new (serialized writes planned) = serialized writes (λ below s names k m. (
+    let q = planned below s names k m in
+    record { flat = q.flat; steps = q.steps; stop = q.stop; plans = as_weak q.plans; such = q.such }))
 
-pub serialize_each_box_knot-returns-in-Err-clause-goes_on : goal.serialize_each_box_knot-returns-in-Err-clause-goes_on
-serialize_each_box_knot-returns-in-Err-clause-goes_on g t c = goes_both _ _ _ c.loop-value.invariant.continues.goes c.serialize_knot.ensures.goes_on
+null_serialized : (D : Definitions) (P : Pointee) (w : WriterState) → Serialized D (weak rc_flavor P) [] null null w w
+null_serialized D P w = as_null (serialized_empty_case D (codes "") (variant no_part no_variant) 0 refl w)
+  where
+    as_null : Serialized D (choice (codes "") (variant no_part no_variant)) [] (case 0 no_value) (case 0 no_value) w w → Serialized D (weak rc_flavor P) [] null null w w
+    as_null (serialized writes planned) = serialized
+        (record { added = writes.added; grown = writes.grown; states = writes.states; finished = λ k n. elim n [ ]; appends = writes.appends; fills = λ x c. fills_null })
+        (λ below s names k n. record { flat = null; steps = []; stop = cursor w; plans = plans_null; such = (refl, record { position = refl; keys = λ key. refl }) })
 
-pub serialize_each_box_knot-returns-in-Err-clause-refused : goal.serialize_each_box_knot-returns-in-Err-clause-refused
-serialize_each_box_knot-returns-in-Err-clause-refused g t c = rw c.handed_on.ensures (continues_broken _ _ _ _ _ _ _ _ _ _ c.loop-value.value-index _ _ _ c.loop-value-test.true c.value-item.is (λ y. (boxed_one_planned knot_definitions (one knot_shape) knot_shape refl _ _ (knot_planned y.value))) c.loop-value.invariant.continues c.serialize_knot.ensures.goes_on (let same : c.deref-inner.result.now ≡ c.value-item.result.value = grind (arith, common_steps) in rw (← same) (box_refused knot_definitions (one knot_shape) 0 _ _ _ _ _ (one_owned knot_definitions knot_shape _ _ _ _ _ c.in-Err.ensures.refused))))
+weak_part : {s : SchemaTable} {P : Pointee} {v : Value} {o : ℕ} {Y : Shape} {w : Value} {e : Error} → ValuePart s (shared rc_flavor P) v o Y w → HindersPart Y w e
+    → (Z : Shape) × ValuePart s (weak rc_flavor P) v o Z w × HindersPart Z w e
+weak_part {P = P} part_itself (stands_too_far owner_shared there far) = (weak rc_flavor P, part_itself, stands_too_far owner_weak there far)
+weak_part {P = P} part_itself (shared_too_long shared_owner long) = (weak rc_flavor P, part_itself, shared_too_long weak_owner long)
 
-pub serialize_each_box_knot-returns-in-Err-serialize_inner-clause-goes_on : goal.serialize_each_box_knot-returns-in-Err-serialize_inner-clause-goes_on
-serialize_each_box_knot-returns-in-Err-serialize_inner-clause-goes_on g t c = goes_both _ _ _ c.loop-value.invariant.continues.goes (goes_both _ _ _ c.serialize_knot.ensures.goes_on c.serialize_inner.ensures.goes_on)
+weak_refused : (D : Definitions) (P : Pointee) (ks : List Naming) (v : Value) (old new : WriterState) (e : Error) → IsRefused D (shared rc_flavor P) ks v old new e → IsRefused D (weak rc_flavor P) ks v old new e
+weak_refused D P ks v old new e h = explains_sooner _ _ _ _ old new e
+    (λ x. record {
+      named = x.named;
+      cause = λ below s names k m. (
+          let q = x.cause below s names k m in
+          record {
+            flat = q.flat;
+            steps = q.steps;
+            stop = q.stop;
+            plans = as_weak q.plans;
+            such = ⊎_elim inl (λ y. (let z = weak_part y.3 y.4 in inr (y.0, z.0, y.2, z.1, z.2))) q.such;
+          });
+    })
+    (λ m x below s names k l. (let q = x below s names k l in record { flat = q.flat; steps = q.steps; stop = q.stop; plans = as_weak q.plans; such = q.such })) h
 
-pub serialize_each_box_knot-returns-in-Err-serialize_inner-clause-refused : goal.serialize_each_box_knot-returns-in-Err-serialize_inner-clause-refused
-serialize_each_box_knot-returns-in-Err-serialize_inner-clause-refused g t c = continues_broken _ _ _ _ _ _ _ _ _ _ c.loop-value.value-index _ _ _ c.loop-value-test.true c.value-item.is (λ y. (boxed_one_planned knot_definitions (one knot_shape) knot_shape refl _ _ (knot_planned y.value))) c.loop-value.invariant.continues (goes_both _ _ _ c.serialize_knot.ensures.goes_on c.serialize_inner.ensures.goes_on) (let same : c.deref-inner.result.now ≡ c.value-item.result.value = grind (arith, common_steps) in rw (← same) (c.in-Err-serialize_inner.ensures.refused.since _ c.serialize_knot.ensures.goes_on c.in-Ok.ensures.serialized))
+pub serialize_weak_shared_knot-returns-in-None-clause-serialized : goal.serialize_weak_shared_knot-returns-in-None-clause-serialized
+serialize_weak_shared_knot-returns-in-None-clause-serialized g t c = rw c.in-None.is (null_serialized knot_definitions (one knot_shape) _)
 
-pub serialize_each_box_knot-returns-in_err-map_err-clause-goes_on : goal.serialize_each_box_knot-returns-in_err-map_err-clause-goes_on
-serialize_each_box_knot-returns-in_err-map_err-clause-goes_on g t c = goes_both _ _ _ c.loop-value.invariant.continues.goes (goes_both _ _ _ c.serialize_knot.ensures.goes_on c.serialize_inner.ensures.goes_on)
+pub serialize_weak_shared_knot-returns-in-Err-clause-refused : goal.serialize_weak_shared_knot-returns-in-Err-clause-refused
+serialize_weak_shared_knot-returns-in-Err-clause-refused g t c = rw c.in-Some.is (weak_refused knot_definitions (one knot_shape) _ _ _ _ _ (c.in-Err.ensures.refused.said knot_definitions rc_flavor (one knot_shape) 0 (knot_keys c.in-Some.whole.value.value) (knot_meaning c.in-Some.whole.value.value)))
 
-pub serialize_each_box_knot-returns-in_err-map_err-clause-refused : goal.serialize_each_box_knot-returns-in_err-map_err-clause-refused
-serialize_each_box_knot-returns-in_err-map_err-clause-refused g t c = err_by c.from_residual-in_err-map_err.result OutOfMemory _ c.from_residual-in_err-map_err.ensures.1 no_memory
+pub serialize_weak_shared_knot-returns-in-Err-serialize_knot-clause-goes_on : goal.serialize_weak_shared_knot-returns-in-Err-serialize_knot-clause-goes_on
+serialize_weak_shared_knot-returns-in-Err-serialize_knot-clause-goes_on g t c = (goes_both _ _ _ c.begin_shared.ensures.goes_on c.serialize_knot.ensures.goes_on)
 
-pub serialize_each_box_knot-loop-value-preserved : goal.serialize_each_box_knot-loop-value-preserved
-serialize_each_box_knot-loop-value-preserved g t c = record { continues = continues_step _ _ _ _ _ _ _ _ _ _ c.loop-value.value-index _ _ _ c.in-Ok-serialize_inner.resolver c.loop-value-test.true c.value-item.is (grind (arith, common_steps)) c.loop-value.invariant.continues (let same : c.deref-inner.result.now ≡ c.value-item.result.value = grind (arith, common_steps) in rw (← same) (c.in-Ok-serialize_inner.ensures.boxed.since _ c.serialize_knot.ensures.goes_on c.in-Ok.ensures.serialized)) tt (goes_both _ _ _ c.serialize_knot.ensures.goes_on c.serialize_inner.ensures.goes_on) }
+pub serialize_weak_shared_knot-returns-in-Err-serialize_knot-clause-refused : goal.serialize_weak_shared_knot-returns-in-Err-serialize_knot-clause-refused
+serialize_weak_shared_knot-returns-in-Err-serialize_knot-clause-refused g t c = rw c.in-Some.is (weak_refused knot_definitions (one knot_shape) _ _ _ _ _ (let same : c.deref-inner.result.now ≡ c.in-Some.whole.value.value = grind (arith, common_steps) in rw (← same) (region_refused knot_definitions (one knot_shape) 0 c.in-Some.whole.key _ _ rc_flavor _ _ _ _ (rw c.in-None-known.is at c.in-Ok.ensures.begun) c.serialize_knot.ensures.goes_on (one_owned knot_definitions knot_shape _ _ _ _ _ c.in-Err-serialize_knot.ensures.refused))))
 
-pub serialize_each_box_knot-returns-clause-serialized : goal.serialize_each_box_knot-returns-clause-serialized
-serialize_each_box_knot-returns-clause-serialized g t c = continues_end _ _ _ _ _ _ _ _ _ _ _ (drop_of_length-le _ c.loop-value-test.false) c.loop-value.invariant.continues
+pub serialize_weak_shared_knot-returns-in-Err-finish_shared-clause-goes_on : goal.serialize_weak_shared_knot-returns-in-Err-finish_shared-clause-goes_on
+serialize_weak_shared_knot-returns-in-Err-finish_shared-clause-goes_on g t c = (c.finish_shared.ensures.goes_on.since _ _ (rw c.in-None-known.is at c.in-Ok.ensures.begun) c.serialize_knot.ensures.goes_on)
 
-pub serialize_each_box_knot-returns-clause-same_values : goal.serialize_each_box_knot-returns-clause-same_values
-serialize_each_box_knot-returns-clause-same_values g t c = belongs_end _ _ _ _ _ _ _ _ _ _ _ (drop_of_length-le _ c.loop-value-test.false) c.loop-value.invariant.continues
+pub serialize_weak_shared_knot-returns-in-Err-finish_shared-clause-refused : goal.serialize_weak_shared_knot-returns-in-Err-finish_shared-clause-refused
+serialize_weak_shared_knot-returns-in-Err-finish_shared-clause-refused g t c = rw c.in-Some.is (weak_refused knot_definitions (one knot_shape) _ _ _ _ _ (let same : c.deref-inner.result.now ≡ c.in-Some.whole.value.value = grind (arith, common_steps) in rw (← same) (c.in-Err-finish_shared.ensures.refused.since rc_flavor _ _ (rw c.in-None-known.is at c.in-Ok.ensures.begun) c.serialize_knot.ensures.goes_on c.in-Ok-serialize_knot.ensures.serialized)))
 
-pub serialize_vec_box_knot-returns-then-len-clause-refused : goal.serialize_vec_box_knot-returns-then-len-clause-refused
-serialize_vec_box_knot-returns-then-len-clause-refused g t c = (let long : 4294967295 < length c.args.value.now.items = (let whole : length c.args.value.now.items ≡ c.len.result = grind (arith, common_steps, c.len.ensures) in omega (arith, c.if-len.true, whole)) in vec_refused knot_definitions (boxed (one knot_shape)) (length c.args.value.now.items) (each_keys (λ y. (knot_keys y.value)) c.args.value.now.items) (list (each_meaning (λ y. (box (knot_meaning y.value))) c.args.value.now.items)) _ _ _ (long_run_refused knot_definitions (boxed (one knot_shape)) (length c.args.value.now.items) (each_keys (λ y. (knot_keys y.value)) c.args.value.now.items) (each_meaning (λ y. (box (knot_meaning y.value))) c.args.value.now.items) _ _ (each_planned knot_definitions (boxed (one knot_shape)) (λ y. (knot_keys y.value)) (λ y. (box (knot_meaning y.value))) (λ y. (boxed_one_planned knot_definitions (one knot_shape) knot_shape refl _ _ (knot_planned y.value))) c.args.value.now.items) long))
+pub serialize_weak_shared_knot-returns-in-Some-known-clause-serialized : goal.serialize_weak_shared_knot-returns-in-Some-known-clause-serialized
+serialize_weak_shared_knot-returns-in-Some-known-clause-serialized g t c = rw c.in-Some.is (weak_serialized knot_definitions (one knot_shape) _ _ _ _ _ ((rw c.in-Some-known.is at c.in-Ok.ensures.known).said knot_definitions rc_flavor (one knot_shape) 0 (knot_keys c.in-Some.whole.value.value) (knot_meaning c.in-Some.whole.value.value)))
 
-pub serialize_vec_box_knot-returns-in-Err-clause-refused : goal.serialize_vec_box_knot-returns-in-Err-clause-refused
-serialize_vec_box_knot-returns-in-Err-clause-refused g t c = vec_refused knot_definitions (boxed (one knot_shape)) (length c.args.value.now.items) (each_keys (λ y. (knot_keys y.value)) c.args.value.now.items) (list (each_meaning (λ y. (box (knot_meaning y.value))) c.args.value.now.items)) _ _ _ (run_owned knot_definitions (boxed (one knot_shape)) (length c.args.value.now.items) (each_keys (λ y. (knot_keys y.value)) c.args.value.now.items) (each_meaning (λ y. (box (knot_meaning y.value))) c.args.value.now.items) _ _ _ (rw c.as_slice-items.ensures.value at c.in-Err.ensures.refused))
+pub serialize_weak_shared_knot-returns-in-Ok-finish_shared-clause-serialized : goal.serialize_weak_shared_knot-returns-in-Ok-finish_shared-clause-serialized
+serialize_weak_shared_knot-returns-in-Ok-finish_shared-clause-serialized g t c = rw c.in-Some.is (weak_serialized knot_definitions (one knot_shape) _ _ _ _ _ (let same : c.deref-inner.result.now ≡ c.in-Some.whole.value.value = grind (arith, common_steps) in rw (← same) (c.in-Ok-finish_shared.ensures.shared.since rc_flavor _ _ (rw c.in-None-known.is at c.in-Ok.ensures.begun) c.serialize_knot.ensures.goes_on c.in-Ok-serialize_knot.ensures.serialized)))
 
-pub serialize_vec_box_knot-returns-in-Ok-serialize_inner_slice-clause-serialized : goal.serialize_vec_box_knot-returns-in-Ok-serialize_inner_slice-clause-serialized
-serialize_vec_box_knot-returns-in-Ok-serialize_inner_slice-clause-serialized g t c = (rw c.as_slice-items.ensures.value at c.in-Ok-serialize_inner_slice.ensures.listed).since _ c.serialize_each_box_knot.ensures.goes_on (rw c.as_slice-items.ensures.value at c.in-Ok.ensures.serialized)
+pub serialize_weak_shared_knot-returns-in-Ok-finish_shared-clause-goes_on : goal.serialize_weak_shared_knot-returns-in-Ok-finish_shared-clause-goes_on
+serialize_weak_shared_knot-returns-in-Ok-finish_shared-clause-goes_on g t c = (c.finish_shared.ensures.goes_on.since _ _ (rw c.in-None-known.is at c.in-Ok.ensures.begun) c.serialize_knot.ensures.goes_on)
 
-pub serialize_vec_box_knot-returns-in-Ok-serialize_inner_slice-clause-goes_on : goal.serialize_vec_box_knot-returns-in-Ok-serialize_inner_slice-clause-goes_on
-serialize_vec_box_knot-returns-in-Ok-serialize_inner_slice-clause-goes_on g t c = (goes_both _ _ _ c.serialize_each_box_knot.ensures.goes_on c.serialize_inner_slice.ensures.goes_on)
+pub serialize_each_shared_knot-returns-in_err-resolvers-clause-refused : goal.serialize_each_shared_knot-returns-in_err-resolvers-clause-refused
+serialize_each_shared_knot-returns-in_err-resolvers-clause-refused g t c = err_by c.from_residual.result OutOfMemory _ c.from_residual.ensures.1 no_memory
 
-pub serialize_vec_box_knot-returns-in-Err-serialize_inner_slice-clause-goes_on : goal.serialize_vec_box_knot-returns-in-Err-serialize_inner_slice-clause-goes_on
-serialize_vec_box_knot-returns-in-Err-serialize_inner_slice-clause-goes_on g t c = (goes_both _ _ _ c.serialize_each_box_knot.ensures.goes_on c.serialize_inner_slice.ensures.goes_on)
+pub serialize_each_shared_knot-returns-in-Err-clause-goes_on : goal.serialize_each_shared_knot-returns-in-Err-clause-goes_on
+serialize_each_shared_knot-returns-in-Err-clause-goes_on g t c = goes_both _ _ _ c.loop-value.invariant.continues.goes c.begin_shared.ensures.goes_on
 
-pub serialize_vec_box_knot-returns-in-Err-serialize_inner_slice-clause-refused : goal.serialize_vec_box_knot-returns-in-Err-serialize_inner_slice-clause-refused
-serialize_vec_box_knot-returns-in-Err-serialize_inner_slice-clause-refused g t c = (rw c.as_slice-items.ensures.value at c.in-Err-serialize_inner_slice.ensures.refused).since _ c.serialize_each_box_knot.ensures.goes_on (rw c.as_slice-items.ensures.value at c.in-Ok.ensures.serialized)
+pub serialize_each_shared_knot-returns-in-Err-clause-refused : goal.serialize_each_shared_knot-returns-in-Err-clause-refused
+serialize_each_shared_knot-returns-in-Err-clause-refused g t c = continues_broken _ _ _ _ _ _ _ _ _ _ c.loop-value.value-index _ _ _ c.loop-value-test.true c.value-item.is (λ y. (rc_one_planned knot_definitions y.key (one knot_shape) knot_shape refl _ _ (knot_planned y.value.value))) c.loop-value.invariant.continues c.begin_shared.ensures.goes_on (c.in-Err.ensures.refused.said knot_definitions rc_flavor (one knot_shape) 0 (knot_keys c.value-item.result.value.value) (knot_meaning c.value-item.result.value.value))
+
+pub serialize_each_shared_knot-returns-in-Err-serialize_knot-clause-goes_on : goal.serialize_each_shared_knot-returns-in-Err-serialize_knot-clause-goes_on
+serialize_each_shared_knot-returns-in-Err-serialize_knot-clause-goes_on g t c = goes_both _ _ _ c.loop-value.invariant.continues.goes (goes_both _ _ _ c.begin_shared.ensures.goes_on c.serialize_knot.ensures.goes_on)
+
+pub serialize_each_shared_knot-returns-in-Err-serialize_knot-clause-refused : goal.serialize_each_shared_knot-returns-in-Err-serialize_knot-clause-refused
+serialize_each_shared_knot-returns-in-Err-serialize_knot-clause-refused g t c = continues_broken _ _ _ _ _ _ _ _ _ _ c.loop-value.value-index _ _ _ c.loop-value-test.true c.value-item.is (λ y. (rc_one_planned knot_definitions y.key (one knot_shape) knot_shape refl _ _ (knot_planned y.value.value))) c.loop-value.invariant.continues (goes_both _ _ _ c.begin_shared.ensures.goes_on c.serialize_knot.ensures.goes_on) (let same : c.deref-inner.result.now ≡ c.value-item.result.value.value = grind (arith, common_steps) in rw (← same) (region_refused knot_definitions (one knot_shape) 0 c.value-item.result.key _ _ rc_flavor _ _ _ _ (rw c.in-None.is at c.in-Ok.ensures.begun) c.serialize_knot.ensures.goes_on (one_owned knot_definitions knot_shape _ _ _ _ _ c.in-Err-serialize_knot.ensures.refused)))
+
+pub serialize_each_shared_knot-returns-in-Err-finish_shared-clause-goes_on : goal.serialize_each_shared_knot-returns-in-Err-finish_shared-clause-goes_on
+serialize_each_shared_knot-returns-in-Err-finish_shared-clause-goes_on g t c = goes_both _ _ _ c.loop-value.invariant.continues.goes (c.finish_shared.ensures.goes_on.since _ _ (rw c.in-None.is at c.in-Ok.ensures.begun) c.serialize_knot.ensures.goes_on)
+
+pub serialize_each_shared_knot-returns-in-Err-finish_shared-clause-refused : goal.serialize_each_shared_knot-returns-in-Err-finish_shared-clause-refused
+serialize_each_shared_knot-returns-in-Err-finish_shared-clause-refused g t c = continues_broken _ _ _ _ _ _ _ _ _ _ c.loop-value.value-index _ _ _ c.loop-value-test.true c.value-item.is (λ y. (rc_one_planned knot_definitions y.key (one knot_shape) knot_shape refl _ _ (knot_planned y.value.value))) c.loop-value.invariant.continues (c.finish_shared.ensures.goes_on.since _ _ (rw c.in-None.is at c.in-Ok.ensures.begun) c.serialize_knot.ensures.goes_on) (let same : c.deref-inner.result.now ≡ c.value-item.result.value.value = grind (arith, common_steps) in rw (← same) (c.in-Err-finish_shared.ensures.refused.since rc_flavor _ _ (rw c.in-None.is at c.in-Ok.ensures.begun) c.serialize_knot.ensures.goes_on c.in-Ok-serialize_knot.ensures.serialized))
+
+pub serialize_each_shared_knot-returns-in_err-resolvers-clause-goes_on : goal.serialize_each_shared_knot-returns-in_err-resolvers-clause-goes_on
+serialize_each_shared_knot-returns-in_err-resolvers-clause-goes_on g t c = goes_nowhere _
+
+pub serialize_each_shared_knot-returns-in_err-map_err-in-Some-clause-goes_on : goal.serialize_each_shared_knot-returns-in_err-map_err-in-Some-clause-goes_on
+serialize_each_shared_knot-returns-in_err-map_err-in-Some-clause-goes_on g t c = goes_both _ _ _ c.loop-value.invariant.continues.goes c.begin_shared.ensures.goes_on
+
+pub serialize_each_shared_knot-returns-in_err-map_err-in-Some-clause-refused : goal.serialize_each_shared_knot-returns-in_err-map_err-in-Some-clause-refused
+serialize_each_shared_knot-returns-in_err-map_err-in-Some-clause-refused g t c = err_by c.from_residual-in_err-map_err-in-Some.result OutOfMemory _ c.from_residual-in_err-map_err-in-Some.ensures.1 no_memory
+
+pub serialize_each_shared_knot-returns-in_err-map_err-in-None-clause-goes_on : goal.serialize_each_shared_knot-returns-in_err-map_err-in-None-clause-goes_on
+serialize_each_shared_knot-returns-in_err-map_err-in-None-clause-goes_on g t c = goes_both _ _ _ c.loop-value.invariant.continues.goes (c.finish_shared.ensures.goes_on.since _ _ (rw c.in-None.is at c.in-Ok.ensures.begun) c.serialize_knot.ensures.goes_on)
+
+pub serialize_each_shared_knot-returns-in_err-map_err-in-None-clause-refused : goal.serialize_each_shared_knot-returns-in_err-map_err-in-None-clause-refused
+serialize_each_shared_knot-returns-in_err-map_err-in-None-clause-refused g t c = err_by c.from_residual-in_err-map_err-in-None.result OutOfMemory _ c.from_residual-in_err-map_err-in-None.ensures.1 no_memory
+
+pub serialize_each_shared_knot-loop-value-preserved : goal.serialize_each_shared_knot-loop-value-preserved
+serialize_each_shared_knot-loop-value-preserved g t c = record { continues = elim c.match-known.branch [ serialize_each_shared_knot-in-Some+in_ok-map_err-in-Some w ↦ rw (w.serializer-is, w.resolvers-is) (continues_step _ _ _ _ _ _ _ _ _ _ c.loop-value.value-index _ _ _ w.in-Some.resolver c.loop-value-test.true c.value-item.is (grind (arith, common_steps, w.push.ensures.items, w.map_err.ensures.variant, w.branch-map_err.ensures, w.in_ok-map_err-in-Some.is)) c.loop-value.invariant.continues ((rw w.in-Some.is at c.in-Ok.ensures.known).said knot_definitions rc_flavor (one knot_shape) 0 (knot_keys c.value-item.result.value.value) (knot_meaning c.value-item.result.value.value)) tt c.begin_shared.ensures.goes_on) | serialize_each_shared_knot-in-None+in-Ok-serialize_knot+in-Ok-finish_shared+in_ok-map_err-in-None w ↦ rw (w.serializer-is, w.resolvers-is) (continues_step _ _ _ _ _ _ _ _ _ _ c.loop-value.value-index _ _ _ w.in-Ok-finish_shared.resolver c.loop-value-test.true c.value-item.is (grind (arith, common_steps, w.push-in-None.ensures.items, w.map_err-in-None.ensures.variant, w.branch-map_err-in-None.ensures, w.in_ok-map_err-in-None.is)) c.loop-value.invariant.continues (let same : c.deref-inner.result.now ≡ c.value-item.result.value.value = grind (arith, common_steps) in rw (← same) (w.in-Ok-finish_shared.ensures.shared.since rc_flavor _ _ (rw w.in-None.is at c.in-Ok.ensures.begun) w.serialize_knot.ensures.goes_on w.in-Ok-serialize_knot.ensures.serialized)) tt (w.finish_shared.ensures.goes_on.since _ _ (rw w.in-None.is at c.in-Ok.ensures.begun) w.serialize_knot.ensures.goes_on)) ] }
+
+pub serialize_each_shared_knot-returns-clause-serialized : goal.serialize_each_shared_knot-returns-clause-serialized
+serialize_each_shared_knot-returns-clause-serialized g t c = continues_end _ _ _ _ _ _ _ _ _ _ _ (drop_of_length-le _ c.loop-value-test.false) c.loop-value.invariant.continues
+
+pub serialize_each_shared_knot-returns-clause-same_values : goal.serialize_each_shared_knot-returns-clause-same_values
+serialize_each_shared_knot-returns-clause-same_values g t c = belongs_end _ _ _ _ _ _ _ _ _ _ _ (drop_of_length-le _ c.loop-value-test.false) c.loop-value.invariant.continues
+
+pub serialize_vec_shared_knot-returns-then-len-clause-refused : goal.serialize_vec_shared_knot-returns-then-len-clause-refused
+serialize_vec_shared_knot-returns-then-len-clause-refused g t c = (let long : 4294967295 < length c.args.value.now.items = (let whole : length c.args.value.now.items ≡ c.len.result = grind (arith, common_steps, c.len.ensures) in omega (arith, c.if-len.true, whole)) in vec_refused knot_definitions (shared rc_flavor (one knot_shape)) (length c.args.value.now.items) (each_keys (λ y. (rc_keys y.key (one knot_shape) 0 (knot_meaning y.value.value) (knot_keys y.value.value))) c.args.value.now.items) (list (each_meaning (λ y. (shared_value y.key)) c.args.value.now.items)) _ _ _ (long_run_refused knot_definitions (shared rc_flavor (one knot_shape)) (length c.args.value.now.items) (each_keys (λ y. (rc_keys y.key (one knot_shape) 0 (knot_meaning y.value.value) (knot_keys y.value.value))) c.args.value.now.items) (each_meaning (λ y. (shared_value y.key)) c.args.value.now.items) _ _ (each_planned knot_definitions (shared rc_flavor (one knot_shape)) (λ y. (rc_keys y.key (one knot_shape) 0 (knot_meaning y.value.value) (knot_keys y.value.value))) (λ y. (shared_value y.key)) (λ y. (rc_one_planned knot_definitions y.key (one knot_shape) knot_shape refl _ _ (knot_planned y.value.value))) c.args.value.now.items) long))
+
+pub serialize_vec_shared_knot-returns-in-Err-clause-refused : goal.serialize_vec_shared_knot-returns-in-Err-clause-refused
+serialize_vec_shared_knot-returns-in-Err-clause-refused g t c = vec_refused knot_definitions (shared rc_flavor (one knot_shape)) (length c.args.value.now.items) (each_keys (λ y. (rc_keys y.key (one knot_shape) 0 (knot_meaning y.value.value) (knot_keys y.value.value))) c.args.value.now.items) (list (each_meaning (λ y. (shared_value y.key)) c.args.value.now.items)) _ _ _ (run_owned knot_definitions (shared rc_flavor (one knot_shape)) (length c.args.value.now.items) (each_keys (λ y. (rc_keys y.key (one knot_shape) 0 (knot_meaning y.value.value) (knot_keys y.value.value))) c.args.value.now.items) (each_meaning (λ y. (shared_value y.key)) c.args.value.now.items) _ _ _ (rw c.as_slice-items.ensures.value at c.in-Err.ensures.refused))
+
+pub serialize_vec_shared_knot-returns-in-Ok-serialize_inner_slice-clause-serialized : goal.serialize_vec_shared_knot-returns-in-Ok-serialize_inner_slice-clause-serialized
+serialize_vec_shared_knot-returns-in-Ok-serialize_inner_slice-clause-serialized g t c = (rw c.as_slice-items.ensures.value at c.in-Ok-serialize_inner_slice.ensures.listed).since _ c.serialize_each_shared_knot.ensures.goes_on (rw c.as_slice-items.ensures.value at c.in-Ok.ensures.serialized)
+
+pub serialize_vec_shared_knot-returns-in-Ok-serialize_inner_slice-clause-goes_on : goal.serialize_vec_shared_knot-returns-in-Ok-serialize_inner_slice-clause-goes_on
+serialize_vec_shared_knot-returns-in-Ok-serialize_inner_slice-clause-goes_on g t c = (goes_both _ _ _ c.serialize_each_shared_knot.ensures.goes_on c.serialize_inner_slice.ensures.goes_on)
+
+pub serialize_vec_shared_knot-returns-in-Err-serialize_inner_slice-clause-goes_on : goal.serialize_vec_shared_knot-returns-in-Err-serialize_inner_slice-clause-goes_on
+serialize_vec_shared_knot-returns-in-Err-serialize_inner_slice-clause-goes_on g t c = (goes_both _ _ _ c.serialize_each_shared_knot.ensures.goes_on c.serialize_inner_slice.ensures.goes_on)
+
+pub serialize_vec_shared_knot-returns-in-Err-serialize_inner_slice-clause-refused : goal.serialize_vec_shared_knot-returns-in-Err-serialize_inner_slice-clause-refused
+serialize_vec_shared_knot-returns-in-Err-serialize_inner_slice-clause-refused g t c = (rw c.as_slice-items.ensures.value at c.in-Err-serialize_inner_slice.ensures.refused).since _ c.serialize_each_shared_knot.ensures.goes_on (rw c.as_slice-items.ensures.value at c.in-Ok.ensures.serialized)
 
 pub serialize_knot-returns-in-Err-clause-refused : goal.serialize_knot-returns-in-Err-clause-refused
-serialize_knot-returns-in-Err-clause-refused g t c = (refused_as (knot_has_keys c.args.value.now) (knot_means c.args.value.now) (record_refused knot_definitions knot_shape knot_part_definitions knot_parts knot_has_parts _ _ _ _ _ (first_refused no_definition (both knot_definitions no_definition) (leaf (number_kind unsigned w32)) (part (vec (boxed (one knot_shape))) no_part) [] ((each_keys (λ y. (knot_keys y.value)) (out-Knot c.args.value.now).next.items) ++ []) (number (pos (out-Knot c.args.value.now).id)) (value (list (each_meaning (λ y. (box (knot_meaning y.value))) (out-Knot c.args.value.now).next.items)) no_value) _ _ _ (part_planned knot_definitions (vec (boxed (one knot_shape))) (each_keys (λ y. (knot_keys y.value)) (out-Knot c.args.value.now).next.items) (list (each_meaning (λ y. (box (knot_meaning y.value))) (out-Knot c.args.value.now).next.items)) (vec_planned knot_definitions (boxed (one knot_shape)) _ _ _ (slice_planned knot_definitions (boxed (one knot_shape)) (λ y. (knot_keys y.value)) (λ y. (box (knot_meaning y.value))) (λ y. (boxed_one_planned knot_definitions (one knot_shape) knot_shape refl _ _ (knot_planned y.value))) (out-Knot c.args.value.now).next.items)) no_part_planned) c.in-Err.ensures.refused)))
+serialize_knot-returns-in-Err-clause-refused g t c = (refused_as (knot_has_keys c.args.value.now) (knot_means c.args.value.now) (record_refused knot_definitions knot_shape knot_part_definitions knot_parts knot_has_parts _ _ _ _ _ (first_refused no_definition (both knot_definitions (both knot_definitions no_definition)) (leaf (number_kind unsigned w32)) (part (weak rc_flavor (one knot_shape)) (part (vec (shared rc_flavor (one knot_shape))) no_part)) [] ((option_keys (λ s. (rc_keys s.key (one knot_shape) 0 (knot_meaning s.value.value) (knot_keys s.value.value))) (out-Knot c.args.value.now).from.value) ++ ((each_keys (λ y. (rc_keys y.key (one knot_shape) 0 (knot_meaning y.value.value) (knot_keys y.value.value))) (out-Knot c.args.value.now).next.items) ++ [])) (number (pos (out-Knot c.args.value.now).id)) (value (weak_value (λ s. (shared_value s.key)) (out-Knot c.args.value.now).from.value) (value (list (each_meaning (λ y. (shared_value y.key)) (out-Knot c.args.value.now).next.items)) no_value)) _ _ _ (part_planned knot_definitions (weak rc_flavor (one knot_shape)) (option_keys (λ s. (rc_keys s.key (one knot_shape) 0 (knot_meaning s.value.value) (knot_keys s.value.value))) (out-Knot c.args.value.now).from.value) (weak_value (λ s. (shared_value s.key)) (out-Knot c.args.value.now).from.value) (weak_planned knot_definitions rc_flavor (one knot_shape) (λ s. (rc_keys s.key (one knot_shape) 0 (knot_meaning s.value.value) (knot_keys s.value.value))) (λ s. (shared_value s.key)) (λ s. (rc_one_planned knot_definitions s.key (one knot_shape) knot_shape refl _ _ (knot_planned s.value.value))) (out-Knot c.args.value.now).from.value) (part_planned knot_definitions (vec (shared rc_flavor (one knot_shape))) (each_keys (λ y. (rc_keys y.key (one knot_shape) 0 (knot_meaning y.value.value) (knot_keys y.value.value))) (out-Knot c.args.value.now).next.items) (list (each_meaning (λ y. (shared_value y.key)) (out-Knot c.args.value.now).next.items)) (vec_planned knot_definitions (shared rc_flavor (one knot_shape)) _ _ _ (slice_planned knot_definitions (shared rc_flavor (one knot_shape)) (λ y. (rc_keys y.key (one knot_shape) 0 (knot_meaning y.value.value) (knot_keys y.value.value))) (λ y. (shared_value y.key)) (λ y. (rc_one_planned knot_definitions y.key (one knot_shape) knot_shape refl _ _ (knot_planned y.value.value))) (out-Knot c.args.value.now).next.items)) no_part_planned)) c.in-Err.ensures.refused)))
 
-pub serialize_knot-returns-in-Err-serialize_vec_box_knot-clause-refused : goal.serialize_knot-returns-in-Err-serialize_vec_box_knot-clause-refused
-serialize_knot-returns-in-Err-serialize_vec_box_knot-clause-refused g t c = (refused_as (knot_has_keys c.args.value.now) (knot_means c.args.value.now) (record_refused knot_definitions knot_shape knot_part_definitions knot_parts knot_has_parts _ _ _ _ _ (later_refused no_definition (both knot_definitions no_definition) (leaf (number_kind unsigned w32)) (part (vec (boxed (one knot_shape))) no_part) [] ((each_keys (λ y. (knot_keys y.value)) (out-Knot c.args.value.now).next.items) ++ []) (number (pos (out-Knot c.args.value.now).id)) (value (list (each_meaning (λ y. (box (knot_meaning y.value))) (out-Knot c.args.value.now).next.items)) no_value) _ _ _ _ _ c.in-Ok.ensures.serialized c.serialize_part.ensures.goes_on c.serialize_vec_box_knot.ensures.goes_on (first_refused knot_definitions no_definition (vec (boxed (one knot_shape))) no_part (each_keys (λ y. (knot_keys y.value)) (out-Knot c.args.value.now).next.items) [] (list (each_meaning (λ y. (box (knot_meaning y.value))) (out-Knot c.args.value.now).next.items)) no_value _ _ _ no_part_planned c.in-Err-serialize_vec_box_knot.ensures.refused))))
+pub serialize_knot-returns-in-Err-serialize_weak_shared_knot-clause-refused : goal.serialize_knot-returns-in-Err-serialize_weak_shared_knot-clause-refused
+serialize_knot-returns-in-Err-serialize_weak_shared_knot-clause-refused g t c = (refused_as (knot_has_keys c.args.value.now) (knot_means c.args.value.now) (record_refused knot_definitions knot_shape knot_part_definitions knot_parts knot_has_parts _ _ _ _ _ (later_refused no_definition (both knot_definitions (both knot_definitions no_definition)) (leaf (number_kind unsigned w32)) (part (weak rc_flavor (one knot_shape)) (part (vec (shared rc_flavor (one knot_shape))) no_part)) [] ((option_keys (λ s. (rc_keys s.key (one knot_shape) 0 (knot_meaning s.value.value) (knot_keys s.value.value))) (out-Knot c.args.value.now).from.value) ++ ((each_keys (λ y. (rc_keys y.key (one knot_shape) 0 (knot_meaning y.value.value) (knot_keys y.value.value))) (out-Knot c.args.value.now).next.items) ++ [])) (number (pos (out-Knot c.args.value.now).id)) (value (weak_value (λ s. (shared_value s.key)) (out-Knot c.args.value.now).from.value) (value (list (each_meaning (λ y. (shared_value y.key)) (out-Knot c.args.value.now).next.items)) no_value)) _ _ _ _ _ c.in-Ok.ensures.serialized c.serialize_part.ensures.goes_on c.serialize_weak_shared_knot.ensures.goes_on (first_refused knot_definitions (both knot_definitions no_definition) (weak rc_flavor (one knot_shape)) (part (vec (shared rc_flavor (one knot_shape))) no_part) (option_keys (λ s. (rc_keys s.key (one knot_shape) 0 (knot_meaning s.value.value) (knot_keys s.value.value))) (out-Knot c.args.value.now).from.value) ((each_keys (λ y. (rc_keys y.key (one knot_shape) 0 (knot_meaning y.value.value) (knot_keys y.value.value))) (out-Knot c.args.value.now).next.items) ++ []) (weak_value (λ s. (shared_value s.key)) (out-Knot c.args.value.now).from.value) (value (list (each_meaning (λ y. (shared_value y.key)) (out-Knot c.args.value.now).next.items)) no_value) _ _ _ (part_planned knot_definitions (vec (shared rc_flavor (one knot_shape))) (each_keys (λ y. (rc_keys y.key (one knot_shape) 0 (knot_meaning y.value.value) (knot_keys y.value.value))) (out-Knot c.args.value.now).next.items) (list (each_meaning (λ y. (shared_value y.key)) (out-Knot c.args.value.now).next.items)) (vec_planned knot_definitions (shared rc_flavor (one knot_shape)) _ _ _ (slice_planned knot_definitions (shared rc_flavor (one knot_shape)) (λ y. (rc_keys y.key (one knot_shape) 0 (knot_meaning y.value.value) (knot_keys y.value.value))) (λ y. (shared_value y.key)) (λ y. (rc_one_planned knot_definitions y.key (one knot_shape) knot_shape refl _ _ (knot_planned y.value.value))) (out-Knot c.args.value.now).next.items)) no_part_planned) c.in-Err-serialize_weak_shared_knot.ensures.refused))))
 
-pub serialize_knot-returns-in-Err-serialize_vec_box_knot-clause-goes_on : goal.serialize_knot-returns-in-Err-serialize_vec_box_knot-clause-goes_on
-serialize_knot-returns-in-Err-serialize_vec_box_knot-clause-goes_on g t c = (goes_both _ _ _ c.serialize_part.ensures.goes_on c.serialize_vec_box_knot.ensures.goes_on)
+pub serialize_knot-returns-in-Err-serialize_weak_shared_knot-clause-goes_on : goal.serialize_knot-returns-in-Err-serialize_weak_shared_knot-clause-goes_on
+serialize_knot-returns-in-Err-serialize_weak_shared_knot-clause-goes_on g t c = (goes_both _ _ _ c.serialize_part.ensures.goes_on c.serialize_weak_shared_knot.ensures.goes_on)
+
+pub serialize_knot-returns-in-Err-serialize_vec_shared_knot-clause-refused : goal.serialize_knot-returns-in-Err-serialize_vec_shared_knot-clause-refused
+serialize_knot-returns-in-Err-serialize_vec_shared_knot-clause-refused g t c = (refused_as (knot_has_keys c.args.value.now) (knot_means c.args.value.now) (record_refused knot_definitions knot_shape knot_part_definitions knot_parts knot_has_parts _ _ _ _ _ (later_refused no_definition (both knot_definitions (both knot_definitions no_definition)) (leaf (number_kind unsigned w32)) (part (weak rc_flavor (one knot_shape)) (part (vec (shared rc_flavor (one knot_shape))) no_part)) [] ((option_keys (λ s. (rc_keys s.key (one knot_shape) 0 (knot_meaning s.value.value) (knot_keys s.value.value))) (out-Knot c.args.value.now).from.value) ++ ((each_keys (λ y. (rc_keys y.key (one knot_shape) 0 (knot_meaning y.value.value) (knot_keys y.value.value))) (out-Knot c.args.value.now).next.items) ++ [])) (number (pos (out-Knot c.args.value.now).id)) (value (weak_value (λ s. (shared_value s.key)) (out-Knot c.args.value.now).from.value) (value (list (each_meaning (λ y. (shared_value y.key)) (out-Knot c.args.value.now).next.items)) no_value)) _ _ _ _ _ c.in-Ok.ensures.serialized c.serialize_part.ensures.goes_on (goes_both _ _ _ c.serialize_weak_shared_knot.ensures.goes_on c.serialize_vec_shared_knot.ensures.goes_on) (later_refused knot_definitions (both knot_definitions no_definition) (weak rc_flavor (one knot_shape)) (part (vec (shared rc_flavor (one knot_shape))) no_part) (option_keys (λ s. (rc_keys s.key (one knot_shape) 0 (knot_meaning s.value.value) (knot_keys s.value.value))) (out-Knot c.args.value.now).from.value) ((each_keys (λ y. (rc_keys y.key (one knot_shape) 0 (knot_meaning y.value.value) (knot_keys y.value.value))) (out-Knot c.args.value.now).next.items) ++ []) (weak_value (λ s. (shared_value s.key)) (out-Knot c.args.value.now).from.value) (value (list (each_meaning (λ y. (shared_value y.key)) (out-Knot c.args.value.now).next.items)) no_value) _ _ _ _ _ c.in-Ok-serialize_weak_shared_knot.ensures.serialized c.serialize_weak_shared_knot.ensures.goes_on c.serialize_vec_shared_knot.ensures.goes_on (first_refused knot_definitions no_definition (vec (shared rc_flavor (one knot_shape))) no_part (each_keys (λ y. (rc_keys y.key (one knot_shape) 0 (knot_meaning y.value.value) (knot_keys y.value.value))) (out-Knot c.args.value.now).next.items) [] (list (each_meaning (λ y. (shared_value y.key)) (out-Knot c.args.value.now).next.items)) no_value _ _ _ no_part_planned c.in-Err-serialize_vec_shared_knot.ensures.refused)))))
+
+pub serialize_knot-returns-in-Err-serialize_vec_shared_knot-clause-goes_on : goal.serialize_knot-returns-in-Err-serialize_vec_shared_knot-clause-goes_on
+serialize_knot-returns-in-Err-serialize_vec_shared_knot-clause-goes_on g t c = (goes_both _ _ _ (goes_both _ _ _ c.serialize_part.ensures.goes_on c.serialize_weak_shared_knot.ensures.goes_on) c.serialize_vec_shared_knot.ensures.goes_on)
 
 pub serialize_knot-returns-clause-serialized : goal.serialize_knot-returns-clause-serialized
-serialize_knot-returns-clause-serialized g t c = (written_as (knot_has_keys c.args.value.now) (knot_means c.args.value.now) refl (serialized_record knot_definitions knot_shape knot_part_definitions knot_parts knot_has_parts _ _ _ _ _ (serialized_part no_definition (both knot_definitions no_definition) (leaf (number_kind unsigned w32)) (part (vec (boxed (one knot_shape))) no_part) [] ((each_keys (λ y. (knot_keys y.value)) (out-Knot c.args.value.now).next.items) ++ []) (number (pos (out-Knot c.args.value.now).id)) (value (list (each_meaning (λ y. (box (knot_meaning y.value))) (out-Knot c.args.value.now).next.items)) no_value) _ _ _ _ _ c.in-Ok.ensures.serialized (serialized_part knot_definitions no_definition (vec (boxed (one knot_shape))) no_part (each_keys (λ y. (knot_keys y.value)) (out-Knot c.args.value.now).next.items) [] (list (each_meaning (λ y. (box (knot_meaning y.value))) (out-Knot c.args.value.now).next.items)) no_value _ _ _ _ _ c.in-Ok-serialize_vec_box_knot.ensures.serialized (serialized_no_part no_definition _)))))
+serialize_knot-returns-clause-serialized g t c = (written_as (knot_has_keys c.args.value.now) (knot_means c.args.value.now) refl (serialized_record knot_definitions knot_shape knot_part_definitions knot_parts knot_has_parts _ _ _ _ _ (serialized_part no_definition (both knot_definitions (both knot_definitions no_definition)) (leaf (number_kind unsigned w32)) (part (weak rc_flavor (one knot_shape)) (part (vec (shared rc_flavor (one knot_shape))) no_part)) [] ((option_keys (λ s. (rc_keys s.key (one knot_shape) 0 (knot_meaning s.value.value) (knot_keys s.value.value))) (out-Knot c.args.value.now).from.value) ++ ((each_keys (λ y. (rc_keys y.key (one knot_shape) 0 (knot_meaning y.value.value) (knot_keys y.value.value))) (out-Knot c.args.value.now).next.items) ++ [])) (number (pos (out-Knot c.args.value.now).id)) (value (weak_value (λ s. (shared_value s.key)) (out-Knot c.args.value.now).from.value) (value (list (each_meaning (λ y. (shared_value y.key)) (out-Knot c.args.value.now).next.items)) no_value)) _ _ _ _ _ c.in-Ok.ensures.serialized (serialized_part knot_definitions (both knot_definitions no_definition) (weak rc_flavor (one knot_shape)) (part (vec (shared rc_flavor (one knot_shape))) no_part) (option_keys (λ s. (rc_keys s.key (one knot_shape) 0 (knot_meaning s.value.value) (knot_keys s.value.value))) (out-Knot c.args.value.now).from.value) ((each_keys (λ y. (rc_keys y.key (one knot_shape) 0 (knot_meaning y.value.value) (knot_keys y.value.value))) (out-Knot c.args.value.now).next.items) ++ []) (weak_value (λ s. (shared_value s.key)) (out-Knot c.args.value.now).from.value) (value (list (each_meaning (λ y. (shared_value y.key)) (out-Knot c.args.value.now).next.items)) no_value) _ _ _ _ _ c.in-Ok-serialize_weak_shared_knot.ensures.serialized (serialized_part knot_definitions no_definition (vec (shared rc_flavor (one knot_shape))) no_part (each_keys (λ y. (rc_keys y.key (one knot_shape) 0 (knot_meaning y.value.value) (knot_keys y.value.value))) (out-Knot c.args.value.now).next.items) [] (list (each_meaning (λ y. (shared_value y.key)) (out-Knot c.args.value.now).next.items)) no_value _ _ _ _ _ c.in-Ok-serialize_vec_shared_knot.ensures.serialized (serialized_no_part no_definition _))))))
 
 pub serialize_knot-returns-clause-goes_on : goal.serialize_knot-returns-clause-goes_on
-serialize_knot-returns-clause-goes_on g t c = (goes_both _ _ _ c.serialize_part.ensures.goes_on c.serialize_vec_box_knot.ensures.goes_on)
+serialize_knot-returns-clause-goes_on g t c = (goes_both _ _ _ (goes_both _ _ _ c.serialize_part.ensures.goes_on c.serialize_weak_shared_knot.ensures.goes_on) c.serialize_vec_shared_knot.ensures.goes_on)

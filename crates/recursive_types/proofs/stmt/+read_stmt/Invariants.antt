@@ -13,10 +13,10 @@ abbrev pub decreases-read_vec_stmt : goal.decreases-read_vec_stmt
 decreases-read_vec_stmt g l = (l.part.pos + 8) * 4 + 1
 
 abbrev pub decreases-read_stmt_block : goal.decreases-read_stmt_block
-decreases-read_stmt_block g l = (l.part.pos + 40) * 4 + 2
+decreases-read_stmt_block g l = (l.part.pos + 64) * 4 + 2
 
 abbrev pub decreases-read_stmt : goal.decreases-read_stmt
-decreases-read_stmt g l = (l.part.pos + 40) * 4 + 3
+decreases-read_stmt g l = (l.part.pos + 64) * 4 + 3
 
 abbrev pub invariant-read_vec_stmt-loop-index : goal.invariant-read_vec_stmt-loop-index
 invariant-read_vec_stmt-loop-index g l = (length l.items.items ≡ l.index) × (vec_len l.items ≡ l.index) × (l.list.len ≤ vec_capacity l.items) × FirstElements g.D.Entries.keeps stmt_definitions stmt_shape stmt_layout l.list.bytes.now l.list.pos (run stmt_shape) l.list.len stmt_meaning stmt_keys (g.D.Entries.entry_of l.initial.deserializer) (g.D.Entries.entry_of l.deserializer) l.items.items

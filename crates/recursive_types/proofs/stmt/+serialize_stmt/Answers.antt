@@ -14,7 +14,7 @@ use Rattle.archive_core.specs.PlannedOwners.{each_planned}
 use Rattle.archive_core.specs.Runs.{each_keys, each_meaning}
 use Rattle.archive_core.specs.Shape.{vec, no_part}
 use Rattle.archive_core.specs.Value.{list, value, no_value}
-use Rattle.recursive_types.specs.StmtMeaning.{stmt_meaning, stmt_keys, stmt_planned, stmt_let_means, stmt_let_has_keys, stmt_let_opens, stmt_block_means, stmt_block_has_keys, stmt_block_opens, stmt_return_means, stmt_return_has_keys, stmt_return_opens}
+use Rattle.recursive_types.specs.StmtMeaning.{stmt_meaning, stmt_keys, stmt_planned, stmt_set_means, stmt_set_has_keys, stmt_set_opens, stmt_block_means, stmt_block_has_keys, stmt_block_opens}
 use Rattle.recursive_types.specs.StmtShape.{stmt_name, stmt_shape, stmt_definitions, stmt_variants, stmt_variant_definitions, stmt_has_variants, stmt_block_parts, stmt_block_definitions}
 use Rattle.std.proofs.Common.{◌≡◌, ◌<◌, [], length, refl, arith}
 use Rattle.std.proofs.Math.ListN.{drop_of_length-le}
@@ -71,13 +71,13 @@ pub serialize_stmt_block-returns-clause-serialized : goal.serialize_stmt_block-r
 serialize_stmt_block-returns-clause-serialized g t c = (serialized_variant stmt_definitions stmt_shape stmt_name stmt_variant_definitions stmt_variants stmt_has_variants 1 stmt_block_parts refl stmt_block_definitions refl _ _ _ _ _ (serialized_part stmt_definitions no_definition (vec stmt_shape) no_part (each_keys stmt_keys c.args.a0.now.items) [] (list (each_meaning stmt_meaning c.args.a0.now.items)) no_value _ _ _ _ _ c.in-Ok.ensures.serialized (serialized_no_part no_definition _)))
 
 pub serialize_stmt-returns-in-Ok-clause-serialized : goal.serialize_stmt-returns-in-Ok-clause-serialized
-serialize_stmt-returns-in-Ok-clause-serialized g t c = rw c.in-Let.is (written_as (stmt_let_has_keys c.in-Let.a0 c.in-Let.a1) (stmt_let_means c.in-Let.a0 c.in-Let.a1) (rw (stmt_let_opens c.in-Let.a0 c.in-Let.a1) refl) c.in-Ok.ensures.serialized)
+serialize_stmt-returns-in-Ok-clause-serialized g t c = rw c.in-Set.is (written_as (stmt_set_has_keys c.in-Set.a0 c.in-Set.a1) (stmt_set_means c.in-Set.a0 c.in-Set.a1) (rw (stmt_set_opens c.in-Set.a0 c.in-Set.a1) refl) c.in-Ok.ensures.serialized)
 
 pub serialize_stmt-returns-in-Ok-clause-same_value : goal.serialize_stmt-returns-in-Ok-clause-same_value
-serialize_stmt-returns-in-Ok-clause-same_value g t c = rw (c.in-Let.is, stmt_let_opens c.in-Let.a0 c.in-Let.a1) c.in-Ok.ensures.same_values
+serialize_stmt-returns-in-Ok-clause-same_value g t c = rw (c.in-Set.is, stmt_set_opens c.in-Set.a0 c.in-Set.a1) c.in-Ok.ensures.same_values
 
 pub serialize_stmt-returns-in-Err-clause-refused : goal.serialize_stmt-returns-in-Err-clause-refused
-serialize_stmt-returns-in-Err-clause-refused g t c = rw c.in-Let.is (refused_as (stmt_let_has_keys c.in-Let.a0 c.in-Let.a1) (stmt_let_means c.in-Let.a0 c.in-Let.a1) c.in-Err.ensures.refused)
+serialize_stmt-returns-in-Err-clause-refused g t c = rw c.in-Set.is (refused_as (stmt_set_has_keys c.in-Set.a0 c.in-Set.a1) (stmt_set_means c.in-Set.a0 c.in-Set.a1) c.in-Err.ensures.refused)
 
 pub serialize_stmt-returns-in-Ok-serialize_stmt_block-clause-serialized : goal.serialize_stmt-returns-in-Ok-serialize_stmt_block-clause-serialized
 serialize_stmt-returns-in-Ok-serialize_stmt_block-clause-serialized g t c = rw c.in-Block.is (written_as (stmt_block_has_keys c.in-Block.a0) (stmt_block_means c.in-Block.a0) (rw (stmt_block_opens c.in-Block.a0) refl) c.in-Ok-serialize_stmt_block.ensures.serialized)
@@ -87,12 +87,3 @@ serialize_stmt-returns-in-Ok-serialize_stmt_block-clause-same_value g t c = rw (
 
 pub serialize_stmt-returns-in-Err-serialize_stmt_block-clause-refused : goal.serialize_stmt-returns-in-Err-serialize_stmt_block-clause-refused
 serialize_stmt-returns-in-Err-serialize_stmt_block-clause-refused g t c = rw c.in-Block.is (refused_as (stmt_block_has_keys c.in-Block.a0) (stmt_block_means c.in-Block.a0) c.in-Err-serialize_stmt_block.ensures.refused)
-
-pub serialize_stmt-returns-in-Ok-serialize_stmt_return-clause-serialized : goal.serialize_stmt-returns-in-Ok-serialize_stmt_return-clause-serialized
-serialize_stmt-returns-in-Ok-serialize_stmt_return-clause-serialized g t c = rw c.in-Return.is (written_as (stmt_return_has_keys c.in-Return.a0) (stmt_return_means c.in-Return.a0) (rw (stmt_return_opens c.in-Return.a0) refl) c.in-Ok-serialize_stmt_return.ensures.serialized)
-
-pub serialize_stmt-returns-in-Ok-serialize_stmt_return-clause-same_value : goal.serialize_stmt-returns-in-Ok-serialize_stmt_return-clause-same_value
-serialize_stmt-returns-in-Ok-serialize_stmt_return-clause-same_value g t c = rw (c.in-Return.is, stmt_return_opens c.in-Return.a0) c.in-Ok-serialize_stmt_return.ensures.same_values
-
-pub serialize_stmt-returns-in-Err-serialize_stmt_return-clause-refused : goal.serialize_stmt-returns-in-Err-serialize_stmt_return-clause-refused
-serialize_stmt-returns-in-Err-serialize_stmt_return-clause-refused g t c = rw c.in-Return.is (refused_as (stmt_return_has_keys c.in-Return.a0) (stmt_return_means c.in-Return.a0) c.in-Err-serialize_stmt_return.ensures.refused)

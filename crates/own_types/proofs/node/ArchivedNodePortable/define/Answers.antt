@@ -2,7 +2,7 @@
 use Rattle.own_types.proofs.node.ArchivedNodePortable.define.Goals as goal
 
 pub returns-clause-added : goal.returns-clause-added
-returns-clause-added c = rw c.in-Ok.ensures.shape at c.define_name.ensures.added
+returns-clause-added c = c.define_choice.ensures.added _ c.node_expressions.ensures
 
 pub returns-clause-refused : goal.returns-clause-refused
-returns-clause-refused c = rw c.in-Ok.ensures.shape at c.define_name.ensures.refused
+returns-clause-refused c = c.define_choice.ensures.refused _ c.node_expressions.ensures

@@ -1,0 +1,5 @@
+-- Written by tools/derive: change the declaration, and run it again.
+use Rattle.recursive_fields.proofs.note.note_table_expressions.Goals as goal
+
+pub returns : goal.returns
+returns c = c.first_expression.ensures _ _ (c.vec_expression.ensures _ (c.record_expression.ensures _ c.tuple3_string_note_option_string_expressions.ensures)) c.no_expressions-rest1.ensures

@@ -1,2 +1,0 @@
-pub mod KnotMeaning
-pub mod KnotShape

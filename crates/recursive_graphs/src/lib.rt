@@ -1,5 +1,0 @@
-//! Graphs, as a user declares them, with what tools/derive writes for them.
-#![tactic(auto)]
-
-pub mod graph;
-pub mod knot;

@@ -1,8 +1,0 @@
--- Written by tools/derive: change the declaration, and run it again.
-use Rattle.recursive_holders.proofs.json.define_json.Goals as goal
-
-pub returns-clause-added : goal.returns-clause-added
-returns-clause-added c = rw c.in-Ok.ensures.shape at c.define_name.ensures.added
-
-pub returns-clause-refused : goal.returns-clause-refused
-returns-clause-refused c = rw c.in-Ok.ensures.shape at c.define_name.ensures.refused
