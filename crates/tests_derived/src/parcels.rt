@@ -3,7 +3,7 @@
 use crate::assertions::{assert_archived, assert_same, text, viewed};
 use crate::judgements::{assert_faults, unknown_tag};
 use archive_core::error::Error;
-use derived_deep::parcel::{ArchivedParcel, Parcel, ParcelView};
+use derived_plain::parcel::{ArchivedParcel, Parcel, ParcelView};
 use std::alloc::{AllocError, Global};
 use std::collections::BTreeMap;
 use std::process::Abort;

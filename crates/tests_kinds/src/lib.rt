@@ -1,4 +1,4 @@
-//! Tests of the types of derived_kinds, as a user's own, through public calls. The bytes of each archive were worked out by hand, from
+//! Tests of the types of derived_types with fields of every kind, as a user's own, through public calls. The bytes of each archive were worked out by hand, from
 //! docs/FORMAT.md.
 #![tactic(auto)]
 
