@@ -12,7 +12,7 @@ or in the blocks in which they are checked and written.
 """
 
 from .formats import substituted
-from .long import MOST_BY_NUMBER, is_long
+from .long import is_long
 
 # What is allowed of it over fields, and over the variants of an enum, where the count comes to less than the front end's: eleven `Option<Box<u32>>`, a
 # variant each, are 23,177 and rejected.
@@ -23,6 +23,8 @@ MOST_OF_BLOCK = 12_000
 MOST_AT_ONCE = 16
 MOST_IN_BLOCK = 12
 LEAST_IN_FOURS = 4
+# How many fields are read at once of those that are read in pieces: the evidence doubles with each.
+MOST_IN_PIECE = 3
 # `Native` of a number, with all that this asks: `Copy`, `Ord`, `Hash` and theirs.
 NATIVE = 9
 PLAIN = {"u8", "i8", "bool", "()"}
@@ -223,7 +225,7 @@ class Loads:
         """Where each piece begins and ends in which fields are read that aren't read at once: as many fields each as are not too much."""
         found, begin = [], 0
         for end in range(1, len(types) + 1):
-            if end == len(types) or end - begin == MOST_BY_NUMBER or self.of_reading(types[begin:end + 1], False) > MOST:
+            if end == len(types) or end - begin == MOST_IN_PIECE or self.of_reading(types[begin:end + 1], False) > MOST:
                 found.append((begin, end))
                 begin = end
         return found

@@ -34,7 +34,7 @@ pub enum Notice {
     /// A member went.
     Left(u8),
     /// How often each was chosen.
-    Result(Vec<(String, u32)>),
+    Result(Vec<(String, u8)>),
     /// A member may speak.
     Called(u8),
     /// A seat is taken.
@@ -53,7 +53,7 @@ ghost use Rattle.archive_core.specs.Definitions.{both, no_definition};
 ghost use Rattle.archive_core.specs.Keyed.{case_keyed, each_keyed, nothing_keyed, number_keyed, part_keyed, record_keyed, text_keyed};
 ghost use Rattle.archive_core.specs.Layout.{up};
 ghost use Rattle.archive_core.specs.LeafLayout.{no_definition_reached};
-ghost use Rattle.archive_core.specs.PartsLayout.{no_part_laid_out, no_part_sized, part_laid_out, part_sized, within_at, within_over};
+ghost use Rattle.archive_core.specs.PartsLayout.{first_or, no_part_laid_out, no_part_sized, part_laid_out, part_sized, within_at, within_over};
 ghost use Rattle.archive_core.specs.PartsPlanned.{no_part_planned, part_planned, product_planned};
 ghost use Rattle.archive_core.specs.Payloads.{payload_in};
 ghost use Rattle.archive_core.specs.Plain.{plain_choice, plain_own_check, plain_variant_planned, variant_in};
@@ -62,7 +62,7 @@ ghost use Rattle.archive_core.specs.PlannedMaps.{map_of_pairs_planned, pairs_key
 ghost use Rattle.archive_core.specs.PlannedOwners.{one_planned, slice_planned, vec_planned};
 ghost use Rattle.archive_core.specs.SealsWritten.{IsSealOf, SealsPart, seal_tag};
 ghost use Rattle.archive_core.specs.Seen.{IsPartOf, ShowsValueOf, part_tag, tag_of};
-ghost use Rattle.archive_core.specs.SelfCheck.Regions.{no_lower};
+ghost use Rattle.archive_core.specs.SelfCheck.Regions.{no_lower, rises_over};
 ghost use Rattle.archive_core.specs.Shape.{choice, no_part, no_variant, one, part, parts, variant};
 ghost use Rattle.archive_core.specs.SourceOutcomes.{Serializes};
 ghost use Rattle.archive_core.specs.Sources.{ReadsAs};
@@ -82,7 +82,6 @@ use archive_core::fields::{
 };
 use archive_core::map::ArchivedSortedMap;
 use archive_core::place::Place;
-use archive_core::primitive::ArchivedU32;
 use archive_core::seal::{Seal, sealed_part_in_case};
 use archive_core::self_check::{CheckedVariants, SelfCheck, check_choice};
 use archive_core::ser::{ResolverAlloc, Writer, serialize_one};
@@ -117,9 +116,9 @@ type NoticeLeftParts = (u8, ());
 
 type NoticeLeftOwned = (u8, ());
 
-type NoticeResultParts = (ArchivedVec<ArchivedTuple2<ArchivedString, ArchivedU32>>, ());
+type NoticeResultParts = (ArchivedVec<ArchivedTuple2<ArchivedString, u8>>, ());
 
-type NoticeResultOwned = (Vec<(String, u32)>, ());
+type NoticeResultOwned = (Vec<(String, u8)>, ());
 
 type NoticeCalledParts = (u8, ());
 
@@ -137,14 +136,17 @@ type NoticeCountedParts = (u8, ());
 
 type NoticeCountedOwned = (u8, ());
 
-type NoticeVariants = UnitVariants<8, (NoticeFileParts, NoticeRest1)>;
+type NoticeVariants = UnitVariants<8, NoticeRest1>;
 
-/// The variants of `Notice` from `Settings` on, as one type: it has no values.
+/// The variants of `Notice` from `File` on, as one type: it has no values.
 pub struct NoticeRest1;
 
 type NoticeBlock1 = (
-    NoticeSettingsParts,
-    (NoticeJoinedParts, (NoticeLeftParts, NoticeRest2)),
+    NoticeFileParts,
+    (
+        NoticeSettingsParts,
+        (NoticeJoinedParts, (NoticeLeftParts, NoticeRest2)),
+    ),
 );
 
 impl CheckedVariants for NoticeRest1 {
@@ -183,8 +185,16 @@ impl PortableVariants for NoticeRest1 {
 
     ghost is_align = { inr (inr (inl refl)) };
 
-    ghost laid_out = { variant_laid_out _ _ _ _ _ _ (part_laid_out
-        (both no_definition (both no_definition no_definition)) _
+    ghost laid_out = { variant_laid_out _ _ _ _ _ _ (part_laid_out no_definition _
+        ⟦<u8 as Portable>⟧.shape (record { size = 1; align = 1 }) (record { solved = λ s k. refl })
+        _ _ _ _ (part_laid_out no_definition _ ⟦<ArchivedString as Portable>⟧.shape (record {
+          size = 8;
+          align = 4;
+        }) (record { solved = λ s k. refl }) _ _ _ _ (part_laid_out no_definition _
+        ⟦<[u8; 4] as Portable>⟧.shape (record { size = 4; align = 1 }) (record {
+          solved = λ s k. refl;
+        }) _ _ _ _ no_part_laid_out))) _ _ _ _ (variant_laid_out _ _ _ _ _ _
+        (part_laid_out (both no_definition (both no_definition no_definition)) _
         ⟦<ArchivedSortedMap<ArchivedString, ArchivedString> as Portable>⟧.shape (record {
           size = 8;
           align = 4;
@@ -193,12 +203,24 @@ impl PortableVariants for NoticeRest1 {
         (record { size = 1; align = 1 }) (record { solved = λ s k. refl }) _ _ _ _ no_part_laid_out)
         _ _ _ _ (variant_laid_out _ _ _ _ _ _ (part_laid_out no_definition _
         ⟦<u8 as Portable>⟧.shape (record { size = 1; align = 1 }) (record { solved = λ s k. refl })
-        _ _ _ _ no_part_laid_out) _ _ _ _ laid_out_behind)) };
+        _ _ _ _ no_part_laid_out) _ _ _ _ laid_out_behind))) };
 
-    ghost no_others = { variant_reached (both (both no_definition
-        (both no_definition no_definition)) no_definition)
+    ghost no_others = { variant_reached (both no_definition
+        (both no_definition (both no_definition no_definition)))
+        (both (both (both no_definition (both no_definition no_definition)) no_definition)
         (both (both no_definition no_definition) (both (both no_definition no_definition)
-        ⟦<NoticeRest2 as CheckedVariants>⟧.definitions))
+        ⟦<NoticeRest2 as CheckedVariants>⟧.definitions)))
+        (part ⟦<u8 as Portable>⟧.shape (part ⟦<ArchivedString as Portable>⟧.shape
+        (part ⟦<[u8; 4] as Portable>⟧.shape no_part))) (variant
+        (part ⟦<ArchivedSortedMap<ArchivedString, ArchivedString> as Portable>⟧.shape no_part)
+        (variant (part ⟦<u8 as Portable>⟧.shape no_part)
+        (variant (part ⟦<u8 as Portable>⟧.shape no_part)
+        ⟦<NoticeRest2 as CheckedVariants>⟧.variants))) (no_definition_reached
+        (parts (part ⟦<u8 as Portable>⟧.shape (part ⟦<ArchivedString as Portable>⟧.shape
+        (part ⟦<[u8; 4] as Portable>⟧.shape no_part)))))
+        (variant_reached (both (both no_definition (both no_definition no_definition))
+        no_definition) (both (both no_definition no_definition)
+        (both (both no_definition no_definition) ⟦<NoticeRest2 as CheckedVariants>⟧.definitions))
         (part ⟦<ArchivedSortedMap<ArchivedString, ArchivedString> as Portable>⟧.shape no_part)
         (variant (part ⟦<u8 as Portable>⟧.shape no_part)
         (variant (part ⟦<u8 as Portable>⟧.shape no_part)
@@ -212,11 +234,33 @@ impl PortableVariants for NoticeRest1 {
         (variant_reached (both no_definition no_definition)
         ⟦<NoticeRest2 as CheckedVariants>⟧.definitions (part ⟦<u8 as Portable>⟧.shape no_part)
         ⟦<NoticeRest2 as CheckedVariants>⟧.variants (no_definition_reached
-        (parts (part ⟦<u8 as Portable>⟧.shape no_part))) no_others_behind)) };
+        (parts (part ⟦<u8 as Portable>⟧.shape no_part))) no_others_behind))) };
 
-    ghost sized = { payload_sized (both (both no_definition (both no_definition no_definition))
-        no_definition) (both (both no_definition no_definition)
-        (both (both no_definition no_definition) ⟦<NoticeRest2 as CheckedVariants>⟧.definitions))
+    ghost sized = { payload_sized (both no_definition
+        (both no_definition (both no_definition no_definition)))
+        (both (both (both no_definition (both no_definition no_definition)) no_definition)
+        (both (both no_definition no_definition) (both (both no_definition no_definition)
+        ⟦<NoticeRest2 as CheckedVariants>⟧.definitions)))
+        (part ⟦<u8 as Portable>⟧.shape (part ⟦<ArchivedString as Portable>⟧.shape
+        (part ⟦<[u8; 4] as Portable>⟧.shape no_part))) _
+        (part_sized no_definition (both no_definition (both no_definition no_definition))
+        ⟦<u8 as Portable>⟧.shape (record { size = 1; align = 1 }) (record { solved = λ s k. refl })
+        (part ⟦<ArchivedString as Portable>⟧.shape (part ⟦<[u8; 4] as Portable>⟧.shape no_part))
+        (first_or 8 (first_or 4 (λ i. 0))) (part_sized no_definition
+        (both no_definition no_definition) ⟦<ArchivedString as Portable>⟧.shape (record {
+          size = 8;
+          align = 4;
+        }) (record { solved = λ s k. refl }) (part ⟦<[u8; 4] as Portable>⟧.shape no_part)
+        (first_or 4 (λ i. 0)) (part_sized no_definition no_definition ⟦<[u8; 4] as Portable>⟧.shape
+        (record { size = 4; align = 1 }) (record { solved = λ s k. refl }) no_part (λ i. 0)
+        no_part_sized)))
+        (variant (part ⟦<ArchivedSortedMap<ArchivedString, ArchivedString> as Portable>⟧.shape
+        no_part) (variant (part ⟦<u8 as Portable>⟧.shape no_part)
+        (variant (part ⟦<u8 as Portable>⟧.shape no_part)
+        ⟦<NoticeRest2 as CheckedVariants>⟧.variants))) _
+        (payload_sized (both (both no_definition (both no_definition no_definition)) no_definition)
+        (both (both no_definition no_definition) (both (both no_definition no_definition)
+        ⟦<NoticeRest2 as CheckedVariants>⟧.definitions))
         (part ⟦<ArchivedSortedMap<ArchivedString, ArchivedString> as Portable>⟧.shape no_part) _
         (part_sized (both no_definition (both no_definition no_definition)) no_definition
         ⟦<ArchivedSortedMap<ArchivedString, ArchivedString> as Portable>⟧.shape (record {
@@ -236,12 +280,16 @@ impl PortableVariants for NoticeRest1 {
         (part ⟦<u8 as Portable>⟧.shape no_part) _ (part_sized no_definition no_definition
         ⟦<u8 as Portable>⟧.shape (record { size = 1; align = 1 }) (record { solved = λ s k. refl })
         no_part (λ i. 0) no_part_sized) ⟦<NoticeRest2 as CheckedVariants>⟧.variants _
-        sized_behind)) };
+        sized_behind))) };
 
-    ghost within = { payload_within _ _ _ (within_over (up 1 4) 8 _ _ _ no_lower within_at) _ _ _
+    ghost within = { payload_within _ _ _ (within_over (up 1 1) 1 _ _ _
+        (λ n. rises_over n 4 8 (inr (inr (inl refl))) _
+        (λ n. rises_over n 1 4 (inl refl) _ no_lower)) (λ n. within_over (up n 4) 8 _ _ _
+        (λ n. rises_over n 1 4 (inl refl) _ no_lower) (λ n. within_over (up n 1) 4 _ _ _ no_lower
+        within_at))) _ _ _ (payload_within _ _ _ (within_over (up 1 4) 8 _ _ _ no_lower within_at) _
+        _ _ (payload_within _ _ _ (within_over (up 1 1) 1 _ _ _ no_lower within_at) _ _ _
         (payload_within _ _ _ (within_over (up 1 1) 1 _ _ _ no_lower within_at) _ _ _
-        (payload_within _ _ _ (within_over (up 1 1) 1 _ _ _ no_lower within_at) _ _ _
-        within_behind)) };
+        within_behind))) };
 
     fn align() -> usize {
         <NoticeBlock1 as PortableVariants>::align()
@@ -312,7 +360,7 @@ impl PortableVariants for NoticeRest2 {
 
     ghost laid_out = { variant_laid_out _ _ _ _ _ _ (part_laid_out
         (both no_definition (both no_definition no_definition)) _
-        ⟦<ArchivedVec<ArchivedTuple2<ArchivedString, ArchivedU32>> as Portable>⟧.shape (record {
+        ⟦<ArchivedVec<ArchivedTuple2<ArchivedString, u8>> as Portable>⟧.shape (record {
           size = 8;
           align = 4;
         }) (record { solved = λ s k. refl }) _ _ _ _ no_part_laid_out) _ _ _ _
@@ -323,10 +371,10 @@ impl PortableVariants for NoticeRest2 {
     ghost no_others = { variant_reached (both (both no_definition
         (both no_definition no_definition)) no_definition)
         (both (both no_definition no_definition) ⟦<NoticeRest3 as CheckedVariants>⟧.definitions)
-        (part ⟦<ArchivedVec<ArchivedTuple2<ArchivedString, ArchivedU32>> as Portable>⟧.shape
-        no_part) (variant (part ⟦<u8 as Portable>⟧.shape no_part)
+        (part ⟦<ArchivedVec<ArchivedTuple2<ArchivedString, u8>> as Portable>⟧.shape no_part)
+        (variant (part ⟦<u8 as Portable>⟧.shape no_part)
         ⟦<NoticeRest3 as CheckedVariants>⟧.variants) (no_definition_reached
-        (parts (part ⟦<ArchivedVec<ArchivedTuple2<ArchivedString, ArchivedU32>> as Portable>⟧.shape
+        (parts (part ⟦<ArchivedVec<ArchivedTuple2<ArchivedString, u8>> as Portable>⟧.shape
         no_part))) (variant_reached (both no_definition no_definition)
         ⟦<NoticeRest3 as CheckedVariants>⟧.definitions (part ⟦<u8 as Portable>⟧.shape no_part)
         ⟦<NoticeRest3 as CheckedVariants>⟧.variants (no_definition_reached
@@ -335,9 +383,9 @@ impl PortableVariants for NoticeRest2 {
     ghost sized = { payload_sized (both (both no_definition (both no_definition no_definition))
         no_definition) (both (both no_definition no_definition)
         ⟦<NoticeRest3 as CheckedVariants>⟧.definitions)
-        (part ⟦<ArchivedVec<ArchivedTuple2<ArchivedString, ArchivedU32>> as Portable>⟧.shape
-        no_part) _ (part_sized (both no_definition (both no_definition no_definition)) no_definition
-        ⟦<ArchivedVec<ArchivedTuple2<ArchivedString, ArchivedU32>> as Portable>⟧.shape (record {
+        (part ⟦<ArchivedVec<ArchivedTuple2<ArchivedString, u8>> as Portable>⟧.shape no_part) _
+        (part_sized (both no_definition (both no_definition no_definition)) no_definition
+        ⟦<ArchivedVec<ArchivedTuple2<ArchivedString, u8>> as Portable>⟧.shape (record {
           size = 8;
           align = 4;
         }) (record { solved = λ s k. refl }) no_part (λ i. 0) no_part_sized)
@@ -504,8 +552,7 @@ impl ArchivePointee for ArchivedNotice {
         (variant (part ⟦<ArchivedSortedMap<ArchivedString, ArchivedString> as Portable>⟧.shape
         no_part) (variant (part ⟦<u8 as Portable>⟧.shape no_part)
         (variant (part ⟦<u8 as Portable>⟧.shape no_part)
-        (variant
-        (part ⟦<ArchivedVec<ArchivedTuple2<ArchivedString, ArchivedU32>> as Portable>⟧.shape
+        (variant (part ⟦<ArchivedVec<ArchivedTuple2<ArchivedString, u8>> as Portable>⟧.shape
         no_part) (variant (part ⟦<u8 as Portable>⟧.shape no_part)
         (variant (part ⟦<u8 as Portable>⟧.shape no_part)
         (variant (part ⟦<u8 as Portable>⟧.shape no_part)
@@ -527,8 +574,7 @@ impl Portable for ArchivedNotice {
         (part ⟦<ArchivedSortedMap<ArchivedString, ArchivedString> as Portable>⟧.shape no_part)
         (variant (part ⟦<u8 as Portable>⟧.shape no_part)
         (variant (part ⟦<u8 as Portable>⟧.shape no_part)
-        (variant
-        (part ⟦<ArchivedVec<ArchivedTuple2<ArchivedString, ArchivedU32>> as Portable>⟧.shape
+        (variant (part ⟦<ArchivedVec<ArchivedTuple2<ArchivedString, u8>> as Portable>⟧.shape
         no_part) (variant (part ⟦<u8 as Portable>⟧.shape no_part)
         (variant (part ⟦<u8 as Portable>⟧.shape no_part)
         (variant (part ⟦<u8 as Portable>⟧.shape no_part)
@@ -550,8 +596,7 @@ impl Portable for ArchivedNotice {
         (variant (part ⟦<ArchivedSortedMap<ArchivedString, ArchivedString> as Portable>⟧.shape
         no_part) (variant (part ⟦<u8 as Portable>⟧.shape no_part)
         (variant (part ⟦<u8 as Portable>⟧.shape no_part)
-        (variant
-        (part ⟦<ArchivedVec<ArchivedTuple2<ArchivedString, ArchivedU32>> as Portable>⟧.shape
+        (variant (part ⟦<ArchivedVec<ArchivedTuple2<ArchivedString, u8>> as Portable>⟧.shape
         no_part) (variant (part ⟦<u8 as Portable>⟧.shape no_part)
         (variant (part ⟦<u8 as Portable>⟧.shape no_part)
         (variant (part ⟦<u8 as Portable>⟧.shape no_part)
@@ -583,8 +628,7 @@ impl SelfCheck for ArchivedNotice {
         (part ⟦<ArchivedSortedMap<ArchivedString, ArchivedString> as Portable>⟧.shape no_part)
         (variant (part ⟦<u8 as Portable>⟧.shape no_part)
         (variant (part ⟦<u8 as Portable>⟧.shape no_part)
-        (variant
-        (part ⟦<ArchivedVec<ArchivedTuple2<ArchivedString, ArchivedU32>> as Portable>⟧.shape
+        (variant (part ⟦<ArchivedVec<ArchivedTuple2<ArchivedString, u8>> as Portable>⟧.shape
         no_part) (variant (part ⟦<u8 as Portable>⟧.shape no_part)
         (variant (part ⟦<u8 as Portable>⟧.shape no_part)
         (variant (part ⟦<u8 as Portable>⟧.shape no_part)
@@ -635,8 +679,7 @@ impl Choice for ArchivedNotice {
         (variant (part ⟦<ArchivedSortedMap<ArchivedString, ArchivedString> as Portable>⟧.shape
         no_part) (variant (part ⟦<u8 as Portable>⟧.shape no_part)
         (variant (part ⟦<u8 as Portable>⟧.shape no_part)
-        (variant
-        (part ⟦<ArchivedVec<ArchivedTuple2<ArchivedString, ArchivedU32>> as Portable>⟧.shape
+        (variant (part ⟦<ArchivedVec<ArchivedTuple2<ArchivedString, u8>> as Portable>⟧.shape
         no_part) (variant (part ⟦<u8 as Portable>⟧.shape no_part)
         (variant (part ⟦<u8 as Portable>⟧.shape no_part)
         (variant (part ⟦<u8 as Portable>⟧.shape no_part)
@@ -675,7 +718,7 @@ pub enum NoticeResolver {
     /// Of `Left`.
     Left((<u8 as Archive>::Resolver, ())),
     /// Of `Result`.
-    Result((<Vec<(String, u32)> as Archive>::Resolver, ())),
+    Result((<Vec<(String, u8)> as Archive>::Resolver, ())),
     /// Of `Called`.
     Called((<u8 as Archive>::Resolver, ())),
     /// Of `Seated`.
@@ -973,7 +1016,7 @@ impl ArchivedNotice {
 
     // Writes `Result` over its place.
     fn resolve_variant_12(
-        a0: &Vec<(String, u32)>,
+        a0: &Vec<(String, u8)>,
         resolver: NoticeResolver,
         place: Place<'_, ArchivedNotice>,
     ) -> Result<(), Error>
@@ -986,18 +1029,18 @@ impl ArchivedNotice {
             unreachable!();
         };
         let Place { bytes, pos, .. } = place;
-        resolve_case_1::<Vec<(String, u32)>, ArchivedNotice>(12, a0, kept, Place::new(pos, bytes))
+        resolve_case_1::<Vec<(String, u8)>, ArchivedNotice>(12, a0, kept, Place::new(pos, bytes))
     }
 
     // Writes what `Result` owns.
     fn serialize_variant_12<S: Writer + ResolverAlloc<Alloc = Global>>(
-        a0: &Vec<(String, u32)>,
+        a0: &Vec<(String, u8)>,
         serializer: &mut S,
     ) -> Result<NoticeResolver, Error>
         ensures { Serializes ⟦<Notice as Archive>⟧ ⟦<ArchivedNotice as Portable>⟧
             (NoticeResult a0.now) S.Keys serializer result }
     {
-        match serialize_case_1::<Vec<(String, u32)>, ArchivedNotice, S>(12, a0, serializer) {
+        match serialize_case_1::<Vec<(String, u8)>, ArchivedNotice, S>(12, a0, serializer) {
             Ok(kept) => Ok(NoticeResolver::Result(kept)),
             Err(error) => Err(error),
         }
@@ -1276,7 +1319,7 @@ impl Archive for Notice {
           no_value)
       | NoticeJoined a0 ↦ case 10 (value (⟦<u8 as Archive>⟧.meaning a0) no_value)
       | NoticeLeft a0 ↦ case 11 (value (⟦<u8 as Archive>⟧.meaning a0) no_value)
-      | NoticeResult a0 ↦ case 12 (value (⟦<Vec<(String, u32)> as Archive>⟧.meaning a0) no_value)
+      | NoticeResult a0 ↦ case 12 (value (⟦<Vec<(String, u8)> as Archive>⟧.meaning a0) no_value)
       | NoticeCalled a0 ↦ case 13 (value (⟦<u8 as Archive>⟧.meaning a0) no_value)
       | NoticeSeated a0 ↦ case 14 (value (⟦<u8 as Archive>⟧.meaning a0) no_value)
       | NoticeFreed a0 ↦ case 15 (value (⟦<u8 as Archive>⟧.meaning a0) no_value)
@@ -1312,7 +1355,7 @@ impl Archive for Notice {
         | _ ↦ case 11 no_value
       ]
       | NoticeResult a0 ↦ elim r [
-        | NoticeResultKept s ↦ case 12 (value (⟦<Vec<(String, u32)> as Archive>⟧.flat a0 s.0)
+        | NoticeResultKept s ↦ case 12 (value (⟦<Vec<(String, u8)> as Archive>⟧.flat a0 s.0)
             no_value)
         | _ ↦ case 12 no_value
       ]
@@ -1348,7 +1391,7 @@ impl Archive for Notice {
       | NoticeSettings a0 ↦ ⟦<BTreeMap<String, String> as Archive>⟧.keys a0 ++ []
       | NoticeJoined a0 ↦ ⟦<u8 as Archive>⟧.keys a0 ++ []
       | NoticeLeft a0 ↦ ⟦<u8 as Archive>⟧.keys a0 ++ []
-      | NoticeResult a0 ↦ ⟦<Vec<(String, u32)> as Archive>⟧.keys a0 ++ []
+      | NoticeResult a0 ↦ ⟦<Vec<(String, u8)> as Archive>⟧.keys a0 ++ []
       | NoticeCalled a0 ↦ ⟦<u8 as Archive>⟧.keys a0 ++ []
       | NoticeSeated a0 ↦ ⟦<u8 as Archive>⟧.keys a0 ++ []
       | NoticeFreed a0 ↦ ⟦<u8 as Archive>⟧.keys a0 ++ []
@@ -1383,7 +1426,7 @@ impl Archive for Notice {
         | _ ↦ ⊥
       ]
       | NoticeResult a0 ↦ elim r [
-        | NoticeResultKept s ↦ ⟦<Vec<(String, u32)> as Archive>⟧.belongs a0 s.0 × Unit {0}
+        | NoticeResultKept s ↦ ⟦<Vec<(String, u8)> as Archive>⟧.belongs a0 s.0 × Unit {0}
         | _ ↦ ⊥
       ]
       | NoticeCalled a0 ↦ elim r [
@@ -1427,7 +1470,7 @@ impl Archive for Notice {
       | NoticeJoined a0 ↦ case_keyed _ 10 _ (part_keyed (number_keyed _) nothing_keyed)
       | NoticeLeft a0 ↦ case_keyed _ 11 _ (part_keyed (number_keyed _) nothing_keyed)
       | NoticeResult a0 ↦ case_keyed _ 12 _ (part_keyed
-          (each_keyed ⟦<(String, u32) as Archive>⟧.keys ⟦<(String, u32) as Archive>⟧.meaning
+          (each_keyed ⟦<(String, u8) as Archive>⟧.keys ⟦<(String, u8) as Archive>⟧.meaning
           (λ x. record_keyed (part_keyed (text_keyed (string_bytes x.0))
           (part_keyed (number_keyed _) nothing_keyed))) a0.items) nothing_keyed)
       | NoticeCalled a0 ↦ case_keyed _ 13 _ (part_keyed (number_keyed _) nothing_keyed)
@@ -1488,27 +1531,26 @@ impl Archive for Notice {
           ⟦<u8 as Portable>⟧.shape (⟦<u8 as Archive>⟧.keys a0) (⟦<u8 as Archive>⟧.meaning a0)
           (leaf_planned no_definition _ _ [] _ refl) no_part_planned) refl
       | NoticeResult a0 ↦ plain_variant_planned _ _ 12
-          (part ⟦<ArchivedVec<ArchivedTuple2<ArchivedString, ArchivedU32>> as Portable>⟧.shape
-          no_part) refl (both (both no_definition (both no_definition no_definition)) no_definition)
-          _ _ (part_planned (both no_definition (both no_definition no_definition))
-          ⟦<ArchivedVec<ArchivedTuple2<ArchivedString, ArchivedU32>> as Portable>⟧.shape
-          (⟦<Vec<(String, u32)> as Archive>⟧.keys a0) (⟦<Vec<(String, u32)> as Archive>⟧.meaning a0)
+          (part ⟦<ArchivedVec<ArchivedTuple2<ArchivedString, u8>> as Portable>⟧.shape no_part) refl
+          (both (both no_definition (both no_definition no_definition)) no_definition) _ _
+          (part_planned (both no_definition (both no_definition no_definition))
+          ⟦<ArchivedVec<ArchivedTuple2<ArchivedString, u8>> as Portable>⟧.shape
+          (⟦<Vec<(String, u8)> as Archive>⟧.keys a0) (⟦<Vec<(String, u8)> as Archive>⟧.meaning a0)
           (vec_planned (both no_definition (both no_definition no_definition))
-          ⟦<ArchivedTuple2<ArchivedString, ArchivedU32> as Portable>⟧.shape _ _ _
+          ⟦<ArchivedTuple2<ArchivedString, u8> as Portable>⟧.shape _ _ _
           (slice_planned (both no_definition (both no_definition no_definition))
-          ⟦<ArchivedTuple2<ArchivedString, ArchivedU32> as Portable>⟧.shape
-          ⟦<(String, u32) as Archive>⟧.keys ⟦<(String, u32) as Archive>⟧.meaning
-          (λ x. product_planned (both no_definition (both no_definition no_definition))
-          (part ⟦<ArchivedString as Portable>⟧.shape (part ⟦<ArchivedU32 as Portable>⟧.shape
-          no_part)) (⟦<String as Archive>⟧.keys x.0 ++ (⟦<u32 as Archive>⟧.keys x.1 ++ []))
-          (value (⟦<String as Archive>⟧.meaning x.0) (value (⟦<u32 as Archive>⟧.meaning x.1)
+          ⟦<ArchivedTuple2<ArchivedString, u8> as Portable>⟧.shape ⟦<(String, u8) as Archive>⟧.keys
+          ⟦<(String, u8) as Archive>⟧.meaning (λ x. product_planned
+          (both no_definition (both no_definition no_definition))
+          (part ⟦<ArchivedString as Portable>⟧.shape (part ⟦<u8 as Portable>⟧.shape no_part))
+          (⟦<String as Archive>⟧.keys x.0 ++ (⟦<u8 as Archive>⟧.keys x.1 ++ []))
+          (value (⟦<String as Archive>⟧.meaning x.0) (value (⟦<u8 as Archive>⟧.meaning x.1)
           no_value)) (part_planned no_definition ⟦<ArchivedString as Portable>⟧.shape
           (⟦<String as Archive>⟧.keys x.0) (⟦<String as Archive>⟧.meaning x.0)
           (string_planned no_definition [] (string_bytes x.0))
-          (part_planned no_definition ⟦<ArchivedU32 as Portable>⟧.shape
-          (⟦<u32 as Archive>⟧.keys x.1) (⟦<u32 as Archive>⟧.meaning x.1)
-          (leaf_planned no_definition _ _ [] _ refl) no_part_planned))) a0.items)) no_part_planned)
-          refl
+          (part_planned no_definition ⟦<u8 as Portable>⟧.shape (⟦<u8 as Archive>⟧.keys x.1)
+          (⟦<u8 as Archive>⟧.meaning x.1) (leaf_planned no_definition _ _ [] _ refl)
+          no_part_planned))) a0.items)) no_part_planned) refl
       | NoticeCalled a0 ↦ plain_variant_planned _ _ 13 (part ⟦<u8 as Portable>⟧.shape no_part) refl
           (both no_definition no_definition) _ _ (part_planned no_definition
           ⟦<u8 as Portable>⟧.shape (⟦<u8 as Archive>⟧.keys a0) (⟦<u8 as Archive>⟧.meaning a0)
@@ -1654,8 +1696,7 @@ impl ArchiveUnsized for Notice {
         (variant (part ⟦<ArchivedSortedMap<ArchivedString, ArchivedString> as Portable>⟧.shape
         no_part) (variant (part ⟦<u8 as Portable>⟧.shape no_part)
         (variant (part ⟦<u8 as Portable>⟧.shape no_part)
-        (variant
-        (part ⟦<ArchivedVec<ArchivedTuple2<ArchivedString, ArchivedU32>> as Portable>⟧.shape
+        (variant (part ⟦<ArchivedVec<ArchivedTuple2<ArchivedString, u8>> as Portable>⟧.shape
         no_part) (variant (part ⟦<u8 as Portable>⟧.shape no_part)
         (variant (part ⟦<u8 as Portable>⟧.shape no_part)
         (variant (part ⟦<u8 as Portable>⟧.shape no_part)
@@ -1788,7 +1829,7 @@ pub enum ViewOfNotice<'a> {
     /// A member went.
     Left(Ref<'a, u8>),
     /// How often each was chosen.
-    Result(Ref<'a, ArchivedVec<ArchivedTuple2<ArchivedString, ArchivedU32>>>),
+    Result(Ref<'a, ArchivedVec<ArchivedTuple2<ArchivedString, u8>>>),
     /// A member may speak.
     Called(Ref<'a, u8>),
     /// A seat is taken.
@@ -1877,7 +1918,7 @@ impl<'a> NoticeView<'a> for Ref<'a, ArchivedNotice> {
             12 => {
                 let a0 = part_in_case::<
                     ArchivedNotice,
-                    ArchivedVec<ArchivedTuple2<ArchivedString, ArchivedU32>>,
+                    ArchivedVec<ArchivedTuple2<ArchivedString, u8>>,
                 >(self, 12, 0, 4);
                 ViewOfNotice::Result(a0)
             }
@@ -1928,7 +1969,7 @@ pub trait NoticeSeal<'a> {
         requires tag { tag self ≡ 11 };
 
     /// The field `0` of `Result`.
-    fn result_0_mut(self) -> Seal<'a, ArchivedVec<ArchivedTuple2<ArchivedString, ArchivedU32>>>
+    fn result_0_mut(self) -> Seal<'a, ArchivedVec<ArchivedTuple2<ArchivedString, u8>>>
         requires come_to { sealed self }
         requires tag { tag self ≡ 12 };
 
@@ -2016,18 +2057,17 @@ impl<'a> NoticeSeal<'a> for Seal<'a, ArchivedNotice> {
         sealed_part_in_case::<ArchivedNotice, u8>(self, 11, 0, 1)
     }
 
-    fn result_0_mut(self) -> Seal<'a, ArchivedVec<ArchivedTuple2<ArchivedString, ArchivedU32>>>
+    fn result_0_mut(self) -> Seal<'a, ArchivedVec<ArchivedTuple2<ArchivedString, u8>>>
         requires come_to { IsSealOf no_definition (one ⟦<ArchivedNotice as Portable>⟧.shape) self }
         requires tag { seal_tag self ≡ 12 }
         ensures { SealsPart no_definition (one ⟦<ArchivedNotice as Portable>⟧.shape)
             (both no_definition (both no_definition no_definition))
-            ⟦<ArchivedVec<ArchivedTuple2<ArchivedString, ArchivedU32>> as ArchivePointee>⟧.pointee
+            ⟦<ArchivedVec<ArchivedTuple2<ArchivedString, u8>> as ArchivePointee>⟧.pointee
             (self.entry.pos + 4) 0 self.entry result }
     {
-        sealed_part_in_case::<
-            ArchivedNotice,
-            ArchivedVec<ArchivedTuple2<ArchivedString, ArchivedU32>>,
-        >(self, 12, 0, 4)
+        sealed_part_in_case::<ArchivedNotice, ArchivedVec<ArchivedTuple2<ArchivedString, u8>>>(
+            self, 12, 0, 4,
+        )
     }
 
     fn called_0_mut(self) -> Seal<'a, u8>

@@ -10,15 +10,15 @@ pub struct Parcel {
     /// Its key.
     pub key: [u8; 4],
     /// What it weighed, and where.
-    pub weighed: Option<(u32, String)>,
+    pub weighed: Option<(u8, String)>,
     /// What is in it, and how many of each.
-    pub content: Vec<(String, u32)>,
+    pub content: Vec<(String, u8)>,
     /// What is noted of it.
     pub notes: Option<Vec<String>>,
     /// When it came to each station.
-    pub stations: BTreeMap<String, Vec<u32>>,
+    pub stations: BTreeMap<String, Vec<u8>>,
     /// Who took it, or when it was offered.
-    pub taken: Result<String, Vec<u32>>,
+    pub taken: Result<String, Vec<u8>>,
 }
 
 // Below this line all is written by tools/derive: change what is above it, and run it again.
@@ -52,7 +52,7 @@ use archive_core::map::ArchivedSortedMap;
 use archive_core::option::ArchivedOption;
 use archive_core::parts::DeserializeParts;
 use archive_core::place::Place;
-use archive_core::primitive::{ArchivedU32, ArchivedU64};
+use archive_core::primitive::ArchivedU64;
 use archive_core::result::ArchivedResult;
 use archive_core::seal::{Seal, sealed_part_in_record};
 use archive_core::self_check::{RecordCheck, SelfCheck};
@@ -74,13 +74,13 @@ pub struct ArchivedParcel;
 type ParcelParts = FourParts<
     ArchivedU64,
     [u8; 4],
-    ArchivedOption<ArchivedTuple2<ArchivedU32, ArchivedString>>,
-    ArchivedVec<ArchivedTuple2<ArchivedString, ArchivedU32>>,
+    ArchivedOption<ArchivedTuple2<u8, ArchivedString>>,
+    ArchivedVec<ArchivedTuple2<ArchivedString, u8>>,
     (
         ArchivedOption<ArchivedVec<ArchivedString>>,
         (
-            ArchivedSortedMap<ArchivedString, ArchivedVec<ArchivedU32>>,
-            (ArchivedResult<ArchivedString, ArchivedVec<ArchivedU32>>, ()),
+            ArchivedSortedMap<ArchivedString, ArchivedVec<u8>>,
+            (ArchivedResult<ArchivedString, ArchivedVec<u8>>, ()),
         ),
     ),
 >;
@@ -90,11 +90,11 @@ impl ArchivePointee for ArchivedParcel {
 
     ghost pointee = { one (parts (part ⟦<ArchivedU64 as Portable>⟧.shape
         (part ⟦<[u8; 4] as Portable>⟧.shape
-        (part ⟦<ArchivedOption<ArchivedTuple2<ArchivedU32, ArchivedString>> as Portable>⟧.shape
-        (part ⟦<ArchivedVec<ArchivedTuple2<ArchivedString, ArchivedU32>> as Portable>⟧.shape
+        (part ⟦<ArchivedOption<ArchivedTuple2<u8, ArchivedString>> as Portable>⟧.shape
+        (part ⟦<ArchivedVec<ArchivedTuple2<ArchivedString, u8>> as Portable>⟧.shape
         (part ⟦<ArchivedOption<ArchivedVec<ArchivedString>> as Portable>⟧.shape
-        (part ⟦<ArchivedSortedMap<ArchivedString, ArchivedVec<ArchivedU32>> as Portable>⟧.shape
-        (part ⟦<ArchivedResult<ArchivedString, ArchivedVec<ArchivedU32>> as Portable>⟧.shape
+        (part ⟦<ArchivedSortedMap<ArchivedString, ArchivedVec<u8>> as Portable>⟧.shape
+        (part ⟦<ArchivedResult<ArchivedString, ArchivedVec<u8>> as Portable>⟧.shape
         no_part)))))))) };
 
     ghost definitions = { no_definition };
@@ -109,11 +109,11 @@ impl ArchivePointee for ArchivedParcel {
 impl Portable for ArchivedParcel {
     ghost shape = { parts (part ⟦<ArchivedU64 as Portable>⟧.shape
         (part ⟦<[u8; 4] as Portable>⟧.shape
-        (part ⟦<ArchivedOption<ArchivedTuple2<ArchivedU32, ArchivedString>> as Portable>⟧.shape
-        (part ⟦<ArchivedVec<ArchivedTuple2<ArchivedString, ArchivedU32>> as Portable>⟧.shape
+        (part ⟦<ArchivedOption<ArchivedTuple2<u8, ArchivedString>> as Portable>⟧.shape
+        (part ⟦<ArchivedVec<ArchivedTuple2<ArchivedString, u8>> as Portable>⟧.shape
         (part ⟦<ArchivedOption<ArchivedVec<ArchivedString>> as Portable>⟧.shape
-        (part ⟦<ArchivedSortedMap<ArchivedString, ArchivedVec<ArchivedU32>> as Portable>⟧.shape
-        (part ⟦<ArchivedResult<ArchivedString, ArchivedVec<ArchivedU32>> as Portable>⟧.shape
+        (part ⟦<ArchivedSortedMap<ArchivedString, ArchivedVec<u8>> as Portable>⟧.shape
+        (part ⟦<ArchivedResult<ArchivedString, ArchivedVec<u8>> as Portable>⟧.shape
         no_part))))))) };
 
     ghost layout = { record { size = 72; align = 8 } };
@@ -128,11 +128,11 @@ impl Portable for ArchivedParcel {
 
     ghost no_others = { no_definition_reached (parts (part ⟦<ArchivedU64 as Portable>⟧.shape
         (part ⟦<[u8; 4] as Portable>⟧.shape
-        (part ⟦<ArchivedOption<ArchivedTuple2<ArchivedU32, ArchivedString>> as Portable>⟧.shape
-        (part ⟦<ArchivedVec<ArchivedTuple2<ArchivedString, ArchivedU32>> as Portable>⟧.shape
+        (part ⟦<ArchivedOption<ArchivedTuple2<u8, ArchivedString>> as Portable>⟧.shape
+        (part ⟦<ArchivedVec<ArchivedTuple2<ArchivedString, u8>> as Portable>⟧.shape
         (part ⟦<ArchivedOption<ArchivedVec<ArchivedString>> as Portable>⟧.shape
-        (part ⟦<ArchivedSortedMap<ArchivedString, ArchivedVec<ArchivedU32>> as Portable>⟧.shape
-        (part ⟦<ArchivedResult<ArchivedString, ArchivedVec<ArchivedU32>> as Portable>⟧.shape
+        (part ⟦<ArchivedSortedMap<ArchivedString, ArchivedVec<u8>> as Portable>⟧.shape
+        (part ⟦<ArchivedResult<ArchivedString, ArchivedVec<u8>> as Portable>⟧.shape
         no_part)))))))) };
 
     ghost checks = { λ _. plain_own_check _ _ _ _ _ refl refl refl refl };
@@ -157,11 +157,11 @@ impl Portable for ArchivedParcel {
 impl SelfCheck for ArchivedParcel {
     ghost shape = { parts (part ⟦<ArchivedU64 as Portable>⟧.shape
         (part ⟦<[u8; 4] as Portable>⟧.shape
-        (part ⟦<ArchivedOption<ArchivedTuple2<ArchivedU32, ArchivedString>> as Portable>⟧.shape
-        (part ⟦<ArchivedVec<ArchivedTuple2<ArchivedString, ArchivedU32>> as Portable>⟧.shape
+        (part ⟦<ArchivedOption<ArchivedTuple2<u8, ArchivedString>> as Portable>⟧.shape
+        (part ⟦<ArchivedVec<ArchivedTuple2<ArchivedString, u8>> as Portable>⟧.shape
         (part ⟦<ArchivedOption<ArchivedVec<ArchivedString>> as Portable>⟧.shape
-        (part ⟦<ArchivedSortedMap<ArchivedString, ArchivedVec<ArchivedU32>> as Portable>⟧.shape
-        (part ⟦<ArchivedResult<ArchivedString, ArchivedVec<ArchivedU32>> as Portable>⟧.shape
+        (part ⟦<ArchivedSortedMap<ArchivedString, ArchivedVec<u8>> as Portable>⟧.shape
+        (part ⟦<ArchivedResult<ArchivedString, ArchivedVec<u8>> as Portable>⟧.shape
         no_part))))))) };
 
     ghost definitions = { (both no_definition (both no_definition
@@ -200,15 +200,15 @@ impl Record for ArchivedParcel {
 
     ghost has_parts = { plain_record (part ⟦<ArchivedU64 as Portable>⟧.shape
         (part ⟦<[u8; 4] as Portable>⟧.shape
-        (part ⟦<ArchivedOption<ArchivedTuple2<ArchivedU32, ArchivedString>> as Portable>⟧.shape
-        (part ⟦<ArchivedVec<ArchivedTuple2<ArchivedString, ArchivedU32>> as Portable>⟧.shape
+        (part ⟦<ArchivedOption<ArchivedTuple2<u8, ArchivedString>> as Portable>⟧.shape
+        (part ⟦<ArchivedVec<ArchivedTuple2<ArchivedString, u8>> as Portable>⟧.shape
         (part ⟦<ArchivedOption<ArchivedVec<ArchivedString>> as Portable>⟧.shape
-        (part ⟦<ArchivedSortedMap<ArchivedString, ArchivedVec<ArchivedU32>> as Portable>⟧.shape
-        (part ⟦<ArchivedResult<ArchivedString, ArchivedVec<ArchivedU32>> as Portable>⟧.shape
-        no_part))))))) (both no_definition (both no_definition
+        (part ⟦<ArchivedSortedMap<ArchivedString, ArchivedVec<u8>> as Portable>⟧.shape
+        (part ⟦<ArchivedResult<ArchivedString, ArchivedVec<u8>> as Portable>⟧.shape no_part)))))))
+        (both no_definition (both no_definition (both (both no_definition
+        (both no_definition no_definition)) (both (both no_definition
+        (both no_definition no_definition)) (both no_definition
         (both (both no_definition (both no_definition no_definition))
-        (both (both no_definition (both no_definition no_definition))
-        (both no_definition (both (both no_definition (both no_definition no_definition))
         (both (both no_definition no_definition) no_definition))))))) refl };
 
     ghost holds = { lit≤ tt };
@@ -222,14 +222,14 @@ pub struct ParcelResolver {
         (
             <[u8; 4] as Archive>::Resolver,
             (
-                <Option<(u32, String)> as Archive>::Resolver,
+                <Option<(u8, String)> as Archive>::Resolver,
                 (
-                    <Vec<(String, u32)> as Archive>::Resolver,
+                    <Vec<(String, u8)> as Archive>::Resolver,
                     (
                         <Option<Vec<String>> as Archive>::Resolver,
                         (
-                            <BTreeMap<String, Vec<u32>> as Archive>::Resolver,
-                            (<Result<String, Vec<u32>> as Archive>::Resolver, ()),
+                            <BTreeMap<String, Vec<u8>> as Archive>::Resolver,
+                            (<Result<String, Vec<u8>> as Archive>::Resolver, ()),
                         ),
                     ),
                 ),
@@ -245,58 +245,58 @@ impl Archive for Parcel {
 
     ghost meaning = { λ v. product (value (⟦<u64 as Archive>⟧.meaning v.number)
         (value (⟦<[u8; 4] as Archive>⟧.meaning v.key) (value
-        (⟦<Option<(u32, String)> as Archive>⟧.meaning v.weighed)
-        (value (⟦<Vec<(String, u32)> as Archive>⟧.meaning v.content)
+        (⟦<Option<(u8, String)> as Archive>⟧.meaning v.weighed)
+        (value (⟦<Vec<(String, u8)> as Archive>⟧.meaning v.content)
         (value (⟦<Option<Vec<String>> as Archive>⟧.meaning v.notes)
-        (value (⟦<BTreeMap<String, Vec<u32>> as Archive>⟧.meaning v.stations)
-        (value (⟦<Result<String, Vec<u32>> as Archive>⟧.meaning v.taken) no_value))))))) };
+        (value (⟦<BTreeMap<String, Vec<u8>> as Archive>⟧.meaning v.stations)
+        (value (⟦<Result<String, Vec<u8>> as Archive>⟧.meaning v.taken) no_value))))))) };
 
     ghost flat = { λ v r. product (value (⟦<u64 as Archive>⟧.flat v.number r.kept.0)
         (value (⟦<[u8; 4] as Archive>⟧.flat v.key r.kept.1.0)
-        (value (⟦<Option<(u32, String)> as Archive>⟧.flat v.weighed r.kept.1.1.0)
-        (value (⟦<Vec<(String, u32)> as Archive>⟧.flat v.content r.kept.1.1.1.0)
+        (value (⟦<Option<(u8, String)> as Archive>⟧.flat v.weighed r.kept.1.1.0)
+        (value (⟦<Vec<(String, u8)> as Archive>⟧.flat v.content r.kept.1.1.1.0)
         (value (⟦<Option<Vec<String>> as Archive>⟧.flat v.notes r.kept.1.1.1.1.0)
-        (value (⟦<BTreeMap<String, Vec<u32>> as Archive>⟧.flat v.stations r.kept.1.1.1.1.1.0)
-        (value (⟦<Result<String, Vec<u32>> as Archive>⟧.flat v.taken r.kept.1.1.1.1.1.1.0)
+        (value (⟦<BTreeMap<String, Vec<u8>> as Archive>⟧.flat v.stations r.kept.1.1.1.1.1.0)
+        (value (⟦<Result<String, Vec<u8>> as Archive>⟧.flat v.taken r.kept.1.1.1.1.1.1.0)
         no_value))))))) };
 
     ghost keys = { λ v. ⟦<u64 as Archive>⟧.keys v.number
-        ++ (⟦<[u8; 4] as Archive>⟧.keys v.key ++ (⟦<Option<(u32, String)> as Archive>⟧.keys
-        v.weighed ++ (⟦<Vec<(String, u32)> as Archive>⟧.keys v.content
+        ++ (⟦<[u8; 4] as Archive>⟧.keys v.key ++ (⟦<Option<(u8, String)> as Archive>⟧.keys v.weighed
+        ++ (⟦<Vec<(String, u8)> as Archive>⟧.keys v.content
         ++ (⟦<Option<Vec<String>> as Archive>⟧.keys v.notes
-        ++ (⟦<BTreeMap<String, Vec<u32>> as Archive>⟧.keys v.stations
-        ++ (⟦<Result<String, Vec<u32>> as Archive>⟧.keys v.taken ++ [])))))) };
+        ++ (⟦<BTreeMap<String, Vec<u8>> as Archive>⟧.keys v.stations
+        ++ (⟦<Result<String, Vec<u8>> as Archive>⟧.keys v.taken ++ [])))))) };
 
     ghost belongs = { λ v r. ⟦<u64 as Archive>⟧.belongs v.number r.kept.0
         × (⟦<[u8; 4] as Archive>⟧.belongs v.key r.kept.1.0
-        × (⟦<Option<(u32, String)> as Archive>⟧.belongs v.weighed r.kept.1.1.0
-        × (⟦<Vec<(String, u32)> as Archive>⟧.belongs v.content r.kept.1.1.1.0
+        × (⟦<Option<(u8, String)> as Archive>⟧.belongs v.weighed r.kept.1.1.0
+        × (⟦<Vec<(String, u8)> as Archive>⟧.belongs v.content r.kept.1.1.1.0
         × (⟦<Option<Vec<String>> as Archive>⟧.belongs v.notes r.kept.1.1.1.1.0
-        × (⟦<BTreeMap<String, Vec<u32>> as Archive>⟧.belongs v.stations r.kept.1.1.1.1.1.0
-        × (⟦<Result<String, Vec<u32>> as Archive>⟧.belongs v.taken r.kept.1.1.1.1.1.1.0
+        × (⟦<BTreeMap<String, Vec<u8>> as Archive>⟧.belongs v.stations r.kept.1.1.1.1.1.0
+        × (⟦<Result<String, Vec<u8>> as Archive>⟧.belongs v.taken r.kept.1.1.1.1.1.1.0
         × Unit {0})))))) };
 
     ghost in_bulk = { None };
 
     ghost keyed = { λ v. record_keyed (part_keyed (number_keyed _)
         (part_keyed (array_keyed 4 ⟦<u8 as Archive>⟧.keys ⟦<u8 as Archive>⟧.meaning
-        (λ x. number_keyed _) v.key) (part_keyed (option_keyed ⟦<(u32, String) as Archive>⟧.keys
-        ⟦<(u32, String) as Archive>⟧.meaning (λ x. record_keyed
+        (λ x. number_keyed _) v.key) (part_keyed (option_keyed ⟦<(u8, String) as Archive>⟧.keys
+        ⟦<(u8, String) as Archive>⟧.meaning (λ x. record_keyed
         (part_keyed (number_keyed _) (part_keyed (text_keyed (string_bytes x.1)) nothing_keyed)))
-        v.weighed) (part_keyed (each_keyed ⟦<(String, u32) as Archive>⟧.keys
-        ⟦<(String, u32) as Archive>⟧.meaning (λ x. record_keyed
+        v.weighed) (part_keyed (each_keyed ⟦<(String, u8) as Archive>⟧.keys
+        ⟦<(String, u8) as Archive>⟧.meaning (λ x. record_keyed
         (part_keyed (text_keyed (string_bytes x.0)) (part_keyed (number_keyed _) nothing_keyed)))
         v.content.items) (part_keyed (option_keyed ⟦<Vec<String> as Archive>⟧.keys
         ⟦<Vec<String> as Archive>⟧.meaning (λ x. each_keyed ⟦<String as Archive>⟧.keys
         ⟦<String as Archive>⟧.meaning (λ x. text_keyed (string_bytes x)) x.items) v.notes)
-        (part_keyed (pairs_keyed ⟦<String as Archive>⟧.keys ⟦<Vec<u32> as Archive>⟧.keys
-        ⟦<String as Archive>⟧.meaning ⟦<Vec<u32> as Archive>⟧.meaning
-        (λ x. text_keyed (string_bytes x)) (λ x. each_keyed ⟦<u32 as Archive>⟧.keys
-        ⟦<u32 as Archive>⟧.meaning (λ x. number_keyed _) x.items) v.stations.entries)
-        (part_keyed (result_keyed ⟦<String as Archive>⟧.keys ⟦<Vec<u32> as Archive>⟧.keys
-        ⟦<String as Archive>⟧.meaning ⟦<Vec<u32> as Archive>⟧.meaning
-        (λ x. text_keyed (string_bytes x)) (λ x. each_keyed ⟦<u32 as Archive>⟧.keys
-        ⟦<u32 as Archive>⟧.meaning (λ x. number_keyed _) x.items) v.taken) nothing_keyed))))))) };
+        (part_keyed (pairs_keyed ⟦<String as Archive>⟧.keys ⟦<Vec<u8> as Archive>⟧.keys
+        ⟦<String as Archive>⟧.meaning ⟦<Vec<u8> as Archive>⟧.meaning
+        (λ x. text_keyed (string_bytes x)) (λ x. each_keyed ⟦<u8 as Archive>⟧.keys
+        ⟦<u8 as Archive>⟧.meaning (λ x. number_keyed _) x.items) v.stations.entries)
+        (part_keyed (result_keyed ⟦<String as Archive>⟧.keys ⟦<Vec<u8> as Archive>⟧.keys
+        ⟦<String as Archive>⟧.meaning ⟦<Vec<u8> as Archive>⟧.meaning
+        (λ x. text_keyed (string_bytes x)) (λ x. each_keyed ⟦<u8 as Archive>⟧.keys
+        ⟦<u8 as Archive>⟧.meaning (λ x. number_keyed _) x.items) v.taken) nothing_keyed))))))) };
 
     ghost planned = { λ v. plain_record_planned (both no_definition
         (both no_definition (both (both no_definition (both no_definition no_definition))
@@ -304,12 +304,12 @@ impl Archive for Parcel {
         (both no_definition (both (both no_definition (both no_definition no_definition))
         (both (both no_definition no_definition) no_definition)))))))
         (part ⟦<ArchivedU64 as Portable>⟧.shape (part ⟦<[u8; 4] as Portable>⟧.shape
-        (part ⟦<ArchivedOption<ArchivedTuple2<ArchivedU32, ArchivedString>> as Portable>⟧.shape
-        (part ⟦<ArchivedVec<ArchivedTuple2<ArchivedString, ArchivedU32>> as Portable>⟧.shape
+        (part ⟦<ArchivedOption<ArchivedTuple2<u8, ArchivedString>> as Portable>⟧.shape
+        (part ⟦<ArchivedVec<ArchivedTuple2<ArchivedString, u8>> as Portable>⟧.shape
         (part ⟦<ArchivedOption<ArchivedVec<ArchivedString>> as Portable>⟧.shape
-        (part ⟦<ArchivedSortedMap<ArchivedString, ArchivedVec<ArchivedU32>> as Portable>⟧.shape
-        (part ⟦<ArchivedResult<ArchivedString, ArchivedVec<ArchivedU32>> as Portable>⟧.shape
-        no_part))))))) _ _ (part_planned no_definition ⟦<ArchivedU64 as Portable>⟧.shape
+        (part ⟦<ArchivedSortedMap<ArchivedString, ArchivedVec<u8>> as Portable>⟧.shape
+        (part ⟦<ArchivedResult<ArchivedString, ArchivedVec<u8>> as Portable>⟧.shape no_part))))))) _
+        _ (part_planned no_definition ⟦<ArchivedU64 as Portable>⟧.shape
         (⟦<u64 as Archive>⟧.keys v.number) (⟦<u64 as Archive>⟧.meaning v.number)
         (leaf_planned no_definition _ _ [] _ refl) (part_planned no_definition
         ⟦<[u8; 4] as Portable>⟧.shape (⟦<[u8; 4] as Archive>⟧.keys v.key)
@@ -317,40 +317,39 @@ impl Archive for Parcel {
         ⟦<u8 as Portable>⟧.shape ⟦<u8 as Archive>⟧.keys ⟦<u8 as Archive>⟧.meaning
         (λ x. leaf_planned no_definition _ _ [] _ refl) v.key)
         (part_planned (both no_definition (both no_definition no_definition))
-        ⟦<ArchivedOption<ArchivedTuple2<ArchivedU32, ArchivedString>> as Portable>⟧.shape
-        (⟦<Option<(u32, String)> as Archive>⟧.keys v.weighed)
-        (⟦<Option<(u32, String)> as Archive>⟧.meaning v.weighed)
+        ⟦<ArchivedOption<ArchivedTuple2<u8, ArchivedString>> as Portable>⟧.shape
+        (⟦<Option<(u8, String)> as Archive>⟧.keys v.weighed)
+        (⟦<Option<(u8, String)> as Archive>⟧.meaning v.weighed)
         (option_planned (both no_definition (both no_definition no_definition))
-        ⟦<ArchivedTuple2<ArchivedU32, ArchivedString> as Portable>⟧.shape
-        ⟦<(u32, String) as Archive>⟧.keys ⟦<(u32, String) as Archive>⟧.meaning
-        (λ x. product_planned (both no_definition (both no_definition no_definition))
-        (part ⟦<ArchivedU32 as Portable>⟧.shape (part ⟦<ArchivedString as Portable>⟧.shape no_part))
-        (⟦<u32 as Archive>⟧.keys x.0 ++ (⟦<String as Archive>⟧.keys x.1 ++ []))
-        (value (⟦<u32 as Archive>⟧.meaning x.0) (value (⟦<String as Archive>⟧.meaning x.1)
-        no_value)) (part_planned no_definition ⟦<ArchivedU32 as Portable>⟧.shape
-        (⟦<u32 as Archive>⟧.keys x.0) (⟦<u32 as Archive>⟧.meaning x.0)
-        (leaf_planned no_definition _ _ [] _ refl) (part_planned no_definition
-        ⟦<ArchivedString as Portable>⟧.shape (⟦<String as Archive>⟧.keys x.1)
-        (⟦<String as Archive>⟧.meaning x.1) (string_planned no_definition [] (string_bytes x.1))
-        no_part_planned))) v.weighed) (part_planned (both no_definition
-        (both no_definition no_definition))
-        ⟦<ArchivedVec<ArchivedTuple2<ArchivedString, ArchivedU32>> as Portable>⟧.shape
-        (⟦<Vec<(String, u32)> as Archive>⟧.keys v.content)
-        (⟦<Vec<(String, u32)> as Archive>⟧.meaning v.content)
+        ⟦<ArchivedTuple2<u8, ArchivedString> as Portable>⟧.shape ⟦<(u8, String) as Archive>⟧.keys
+        ⟦<(u8, String) as Archive>⟧.meaning (λ x. product_planned
+        (both no_definition (both no_definition no_definition))
+        (part ⟦<u8 as Portable>⟧.shape (part ⟦<ArchivedString as Portable>⟧.shape no_part))
+        (⟦<u8 as Archive>⟧.keys x.0 ++ (⟦<String as Archive>⟧.keys x.1 ++ []))
+        (value (⟦<u8 as Archive>⟧.meaning x.0) (value (⟦<String as Archive>⟧.meaning x.1) no_value))
+        (part_planned no_definition ⟦<u8 as Portable>⟧.shape (⟦<u8 as Archive>⟧.keys x.0)
+        (⟦<u8 as Archive>⟧.meaning x.0) (leaf_planned no_definition _ _ [] _ refl)
+        (part_planned no_definition ⟦<ArchivedString as Portable>⟧.shape
+        (⟦<String as Archive>⟧.keys x.1) (⟦<String as Archive>⟧.meaning x.1)
+        (string_planned no_definition [] (string_bytes x.1)) no_part_planned))) v.weighed)
+        (part_planned (both no_definition (both no_definition no_definition))
+        ⟦<ArchivedVec<ArchivedTuple2<ArchivedString, u8>> as Portable>⟧.shape
+        (⟦<Vec<(String, u8)> as Archive>⟧.keys v.content)
+        (⟦<Vec<(String, u8)> as Archive>⟧.meaning v.content)
         (vec_planned (both no_definition (both no_definition no_definition))
-        ⟦<ArchivedTuple2<ArchivedString, ArchivedU32> as Portable>⟧.shape _ _ _
+        ⟦<ArchivedTuple2<ArchivedString, u8> as Portable>⟧.shape _ _ _
         (slice_planned (both no_definition (both no_definition no_definition))
-        ⟦<ArchivedTuple2<ArchivedString, ArchivedU32> as Portable>⟧.shape
-        ⟦<(String, u32) as Archive>⟧.keys ⟦<(String, u32) as Archive>⟧.meaning
-        (λ x. product_planned (both no_definition (both no_definition no_definition))
-        (part ⟦<ArchivedString as Portable>⟧.shape (part ⟦<ArchivedU32 as Portable>⟧.shape no_part))
-        (⟦<String as Archive>⟧.keys x.0 ++ (⟦<u32 as Archive>⟧.keys x.1 ++ []))
-        (value (⟦<String as Archive>⟧.meaning x.0) (value (⟦<u32 as Archive>⟧.meaning x.1)
-        no_value)) (part_planned no_definition ⟦<ArchivedString as Portable>⟧.shape
+        ⟦<ArchivedTuple2<ArchivedString, u8> as Portable>⟧.shape ⟦<(String, u8) as Archive>⟧.keys
+        ⟦<(String, u8) as Archive>⟧.meaning (λ x. product_planned
+        (both no_definition (both no_definition no_definition))
+        (part ⟦<ArchivedString as Portable>⟧.shape (part ⟦<u8 as Portable>⟧.shape no_part))
+        (⟦<String as Archive>⟧.keys x.0 ++ (⟦<u8 as Archive>⟧.keys x.1 ++ []))
+        (value (⟦<String as Archive>⟧.meaning x.0) (value (⟦<u8 as Archive>⟧.meaning x.1) no_value))
+        (part_planned no_definition ⟦<ArchivedString as Portable>⟧.shape
         (⟦<String as Archive>⟧.keys x.0) (⟦<String as Archive>⟧.meaning x.0)
         (string_planned no_definition [] (string_bytes x.0))
-        (part_planned no_definition ⟦<ArchivedU32 as Portable>⟧.shape (⟦<u32 as Archive>⟧.keys x.1)
-        (⟦<u32 as Archive>⟧.meaning x.1) (leaf_planned no_definition _ _ [] _ refl)
+        (part_planned no_definition ⟦<u8 as Portable>⟧.shape (⟦<u8 as Archive>⟧.keys x.1)
+        (⟦<u8 as Archive>⟧.meaning x.1) (leaf_planned no_definition _ _ [] _ refl)
         no_part_planned))) v.content.items)) (part_planned no_definition
         ⟦<ArchivedOption<ArchivedVec<ArchivedString>> as Portable>⟧.shape
         (⟦<Option<Vec<String>> as Archive>⟧.keys v.notes)
@@ -361,29 +360,29 @@ impl Archive for Parcel {
         (slice_planned no_definition ⟦<ArchivedString as Portable>⟧.shape ⟦<String as Archive>⟧.keys
         ⟦<String as Archive>⟧.meaning (λ x. string_planned no_definition [] (string_bytes x))
         x.items)) v.notes) (part_planned (both no_definition (both no_definition no_definition))
-        ⟦<ArchivedSortedMap<ArchivedString, ArchivedVec<ArchivedU32>> as Portable>⟧.shape
-        (⟦<BTreeMap<String, Vec<u32>> as Archive>⟧.keys v.stations)
-        (⟦<BTreeMap<String, Vec<u32>> as Archive>⟧.meaning v.stations)
-        (map_of_pairs_planned ⟦<String as Archive>⟧.keys ⟦<Vec<u32> as Archive>⟧.keys
-        ⟦<String as Archive>⟧.meaning ⟦<Vec<u32> as Archive>⟧.meaning no_definition no_definition
-        ⟦<ArchivedString as Portable>⟧.shape ⟦<ArchivedVec<ArchivedU32> as Portable>⟧.shape
+        ⟦<ArchivedSortedMap<ArchivedString, ArchivedVec<u8>> as Portable>⟧.shape
+        (⟦<BTreeMap<String, Vec<u8>> as Archive>⟧.keys v.stations)
+        (⟦<BTreeMap<String, Vec<u8>> as Archive>⟧.meaning v.stations)
+        (map_of_pairs_planned ⟦<String as Archive>⟧.keys ⟦<Vec<u8> as Archive>⟧.keys
+        ⟦<String as Archive>⟧.meaning ⟦<Vec<u8> as Archive>⟧.meaning no_definition no_definition
+        ⟦<ArchivedString as Portable>⟧.shape ⟦<ArchivedVec<u8> as Portable>⟧.shape
         (λ x. string_planned no_definition [] (string_bytes x))
-        (λ x. vec_planned no_definition ⟦<ArchivedU32 as Portable>⟧.shape _ _ _
-        (slice_planned no_definition ⟦<ArchivedU32 as Portable>⟧.shape ⟦<u32 as Archive>⟧.keys
-        ⟦<u32 as Archive>⟧.meaning (λ x. leaf_planned no_definition _ _ [] _ refl) x.items))
+        (λ x. vec_planned no_definition ⟦<u8 as Portable>⟧.shape _ _ _
+        (slice_planned no_definition ⟦<u8 as Portable>⟧.shape ⟦<u8 as Archive>⟧.keys
+        ⟦<u8 as Archive>⟧.meaning (λ x. leaf_planned no_definition _ _ [] _ refl) x.items))
         ⟦<ArchivedString as MapKey>⟧.key refl v.stations.entries)
         (part_planned (both no_definition no_definition)
-        ⟦<ArchivedResult<ArchivedString, ArchivedVec<ArchivedU32>> as Portable>⟧.shape
-        (⟦<Result<String, Vec<u32>> as Archive>⟧.keys v.taken)
-        (⟦<Result<String, Vec<u32>> as Archive>⟧.meaning v.taken)
-        (result_planned ⟦<String as Archive>⟧.keys ⟦<Vec<u32> as Archive>⟧.keys
-        ⟦<String as Archive>⟧.meaning ⟦<Vec<u32> as Archive>⟧.meaning no_definition no_definition
-        ⟦<ArchivedString as Portable>⟧.shape ⟦<ArchivedVec<ArchivedU32> as Portable>⟧.shape
+        ⟦<ArchivedResult<ArchivedString, ArchivedVec<u8>> as Portable>⟧.shape
+        (⟦<Result<String, Vec<u8>> as Archive>⟧.keys v.taken)
+        (⟦<Result<String, Vec<u8>> as Archive>⟧.meaning v.taken)
+        (result_planned ⟦<String as Archive>⟧.keys ⟦<Vec<u8> as Archive>⟧.keys
+        ⟦<String as Archive>⟧.meaning ⟦<Vec<u8> as Archive>⟧.meaning no_definition no_definition
+        ⟦<ArchivedString as Portable>⟧.shape ⟦<ArchivedVec<u8> as Portable>⟧.shape
         (λ x. string_planned no_definition [] (string_bytes x))
-        (λ x. vec_planned no_definition ⟦<ArchivedU32 as Portable>⟧.shape _ _ _
-        (slice_planned no_definition ⟦<ArchivedU32 as Portable>⟧.shape ⟦<u32 as Archive>⟧.keys
-        ⟦<u32 as Archive>⟧.meaning (λ x. leaf_planned no_definition _ _ [] _ refl) x.items))
-        v.taken) no_part_planned))))))) refl };
+        (λ x. vec_planned no_definition ⟦<u8 as Portable>⟧.shape _ _ _
+        (slice_planned no_definition ⟦<u8 as Portable>⟧.shape ⟦<u8 as Archive>⟧.keys
+        ⟦<u8 as Archive>⟧.meaning (λ x. leaf_planned no_definition _ _ [] _ refl) x.items)) v.taken)
+        no_part_planned))))))) refl };
 
     #[inline(always)]
     fn resolve(
@@ -401,11 +400,11 @@ impl Archive for Parcel {
         resolve_record_7::<
             u64,
             [u8; 4],
-            Option<(u32, String)>,
-            Vec<(String, u32)>,
+            Option<(u8, String)>,
+            Vec<(String, u8)>,
             Option<Vec<String>>,
-            BTreeMap<String, Vec<u32>>,
-            Result<String, Vec<u32>>,
+            BTreeMap<String, Vec<u8>>,
+            Result<String, Vec<u8>>,
             ArchivedParcel,
         >(
             &self.number,
@@ -441,11 +440,11 @@ impl<S: Writer + ResolverAlloc<Alloc = Global>> Serialize<S> for Parcel {
         match serialize_record_7::<
             u64,
             [u8; 4],
-            Option<(u32, String)>,
-            Vec<(String, u32)>,
+            Option<(u8, String)>,
+            Vec<(String, u8)>,
             Option<Vec<String>>,
-            BTreeMap<String, Vec<u32>>,
-            Result<String, Vec<u32>>,
+            BTreeMap<String, Vec<u8>>,
+            Result<String, Vec<u8>>,
             ArchivedParcel,
             S,
         >(
@@ -482,13 +481,12 @@ impl ArchiveUnsized for Parcel {
 
     ghost planned = { λ v. one_planned no_definition (parts
         (part ⟦<ArchivedU64 as Portable>⟧.shape (part ⟦<[u8; 4] as Portable>⟧.shape
-        (part ⟦<ArchivedOption<ArchivedTuple2<ArchivedU32, ArchivedString>> as Portable>⟧.shape
-        (part ⟦<ArchivedVec<ArchivedTuple2<ArchivedString, ArchivedU32>> as Portable>⟧.shape
+        (part ⟦<ArchivedOption<ArchivedTuple2<u8, ArchivedString>> as Portable>⟧.shape
+        (part ⟦<ArchivedVec<ArchivedTuple2<ArchivedString, u8>> as Portable>⟧.shape
         (part ⟦<ArchivedOption<ArchivedVec<ArchivedString>> as Portable>⟧.shape
-        (part ⟦<ArchivedSortedMap<ArchivedString, ArchivedVec<ArchivedU32>> as Portable>⟧.shape
-        (part ⟦<ArchivedResult<ArchivedString, ArchivedVec<ArchivedU32>> as Portable>⟧.shape
-        no_part)))))))) (⟦<Parcel as Archive>⟧.keys v) (⟦<Parcel as Archive>⟧.meaning v)
-        (planned_of_parcel v) };
+        (part ⟦<ArchivedSortedMap<ArchivedString, ArchivedVec<u8>> as Portable>⟧.shape
+        (part ⟦<ArchivedResult<ArchivedString, ArchivedVec<u8>> as Portable>⟧.shape no_part))))))))
+        (⟦<Parcel as Archive>⟧.keys v) (⟦<Parcel as Archive>⟧.meaning v) (planned_of_parcel v) };
 
     #[inline(always)]
     fn archived_metadata(&self) -> Result<(), Error> {
@@ -507,34 +505,28 @@ type ParcelParts0 = (
     ArchivedU64,
     (
         [u8; 4],
-        (
-            ArchivedOption<ArchivedTuple2<ArchivedU32, ArchivedString>>,
-            (),
-        ),
+        (ArchivedOption<ArchivedTuple2<u8, ArchivedString>>, ()),
     ),
 );
 
-type ParcelOwned0 = (u64, (OwnedArray<u8, 4>, (Option<(u32, String)>, ())));
+type ParcelOwned0 = (u64, (OwnedArray<u8, 4>, (Option<(u8, String)>, ())));
 
 type ParcelParts1 = (
-    ArchivedVec<ArchivedTuple2<ArchivedString, ArchivedU32>>,
+    ArchivedVec<ArchivedTuple2<ArchivedString, u8>>,
     (
         ArchivedOption<ArchivedVec<ArchivedString>>,
-        (
-            ArchivedSortedMap<ArchivedString, ArchivedVec<ArchivedU32>>,
-            (),
-        ),
+        (ArchivedSortedMap<ArchivedString, ArchivedVec<u8>>, ()),
     ),
 );
 
 type ParcelOwned1 = (
-    Vec<(String, u32)>,
-    (Option<Vec<String>>, (BTreeMap<String, Vec<u32>>, ())),
+    Vec<(String, u8)>,
+    (Option<Vec<String>>, (BTreeMap<String, Vec<u8>>, ())),
 );
 
-type ParcelParts2 = (ArchivedResult<ArchivedString, ArchivedVec<ArchivedU32>>, ());
+type ParcelParts2 = (ArchivedResult<ArchivedString, ArchivedVec<u8>>, ());
 
-type ParcelOwned2 = (Result<String, Vec<u32>>, ());
+type ParcelOwned2 = (Result<String, Vec<u8>>, ());
 
 type ParcelOwned = (ParcelOwned0, (ParcelOwned1, (ParcelOwned2, ())));
 
@@ -548,17 +540,17 @@ fn read_parcel<D: Entries>(
     ensures read { IfOk result (λ t. ReadsPart ⟦<ArchivedParcel as ArchivePointee>⟧ part D.Entries
         deserializer (product (value (⟦<u64 as Archive>⟧.meaning t.0.0)
         (value (⟦<OwnedArray<u8, 4> as Archive>⟧.meaning t.0.1.0)
-        (value (⟦<Option<(u32, String)> as Archive>⟧.meaning t.0.1.1.0)
-        (value (⟦<Vec<(String, u32)> as Archive>⟧.meaning t.1.0.0)
+        (value (⟦<Option<(u8, String)> as Archive>⟧.meaning t.0.1.1.0)
+        (value (⟦<Vec<(String, u8)> as Archive>⟧.meaning t.1.0.0)
         (value (⟦<Option<Vec<String>> as Archive>⟧.meaning t.1.0.1.0)
-        (value (⟦<BTreeMap<String, Vec<u32>> as Archive>⟧.meaning t.1.0.1.1.0)
-        (value (⟦<Result<String, Vec<u32>> as Archive>⟧.meaning t.1.1.0.0) no_value))))))))
+        (value (⟦<BTreeMap<String, Vec<u8>> as Archive>⟧.meaning t.1.0.1.1.0)
+        (value (⟦<Result<String, Vec<u8>> as Archive>⟧.meaning t.1.1.0.0) no_value))))))))
         (⟦<u64 as Archive>⟧.keys t.0.0 ++ (⟦<OwnedArray<u8, 4> as Archive>⟧.keys t.0.1.0
-        ++ (⟦<Option<(u32, String)> as Archive>⟧.keys t.0.1.1.0
-        ++ (⟦<Vec<(String, u32)> as Archive>⟧.keys t.1.0.0
+        ++ (⟦<Option<(u8, String)> as Archive>⟧.keys t.0.1.1.0
+        ++ (⟦<Vec<(String, u8)> as Archive>⟧.keys t.1.0.0
         ++ (⟦<Option<Vec<String>> as Archive>⟧.keys t.1.0.1.0
-        ++ (⟦<BTreeMap<String, Vec<u32>> as Archive>⟧.keys t.1.0.1.1.0
-        ++ (⟦<Result<String, Vec<u32>> as Archive>⟧.keys t.1.1.0.0 ++ [])))))))) }
+        ++ (⟦<BTreeMap<String, Vec<u8>> as Archive>⟧.keys t.1.0.1.1.0
+        ++ (⟦<Result<String, Vec<u8>> as Archive>⟧.keys t.1.1.0.0 ++ [])))))))) }
     ensures refused { IfErr result (RefusesPart ⟦<ArchivedParcel as ArchivePointee>⟧ part D.Entries
         deserializer) }
 {
@@ -601,18 +593,18 @@ fn parcel_of(values: ParcelOwned) -> Parcel
     ensures meaning { ⟦<Parcel as Archive>⟧.meaning result
         ≡ product (value (⟦<u64 as Archive>⟧.meaning values.0.0)
         (value (⟦<OwnedArray<u8, 4> as Archive>⟧.meaning values.0.1.0)
-        (value (⟦<Option<(u32, String)> as Archive>⟧.meaning values.0.1.1.0)
-        (value (⟦<Vec<(String, u32)> as Archive>⟧.meaning values.1.0.0)
+        (value (⟦<Option<(u8, String)> as Archive>⟧.meaning values.0.1.1.0)
+        (value (⟦<Vec<(String, u8)> as Archive>⟧.meaning values.1.0.0)
         (value (⟦<Option<Vec<String>> as Archive>⟧.meaning values.1.0.1.0)
-        (value (⟦<BTreeMap<String, Vec<u32>> as Archive>⟧.meaning values.1.0.1.1.0)
-        (value (⟦<Result<String, Vec<u32>> as Archive>⟧.meaning values.1.1.0.0) no_value))))))) }
+        (value (⟦<BTreeMap<String, Vec<u8>> as Archive>⟧.meaning values.1.0.1.1.0)
+        (value (⟦<Result<String, Vec<u8>> as Archive>⟧.meaning values.1.1.0.0) no_value))))))) }
     ensures keys { ⟦<Parcel as Archive>⟧.keys result ≡ ⟦<u64 as Archive>⟧.keys values.0.0
         ++ (⟦<OwnedArray<u8, 4> as Archive>⟧.keys values.0.1.0
-        ++ (⟦<Option<(u32, String)> as Archive>⟧.keys values.0.1.1.0
-        ++ (⟦<Vec<(String, u32)> as Archive>⟧.keys values.1.0.0
+        ++ (⟦<Option<(u8, String)> as Archive>⟧.keys values.0.1.1.0
+        ++ (⟦<Vec<(String, u8)> as Archive>⟧.keys values.1.0.0
         ++ (⟦<Option<Vec<String>> as Archive>⟧.keys values.1.0.1.0
-        ++ (⟦<BTreeMap<String, Vec<u32>> as Archive>⟧.keys values.1.0.1.1.0
-        ++ (⟦<Result<String, Vec<u32>> as Archive>⟧.keys values.1.1.0.0 ++ [])))))) }
+        ++ (⟦<BTreeMap<String, Vec<u8>> as Archive>⟧.keys values.1.0.1.1.0
+        ++ (⟦<Result<String, Vec<u8>> as Archive>⟧.keys values.1.1.0.0 ++ [])))))) }
 {
     let (v0, (v1, (v2, ()))) = values;
     let (a0, (a1, (a2, ()))) = v0;
@@ -656,19 +648,19 @@ pub trait ParcelView<'a> {
     fn key(self) -> Ref<'a, [u8; 4]>;
 
     /// What it weighed, and where.
-    fn weighed(self) -> Ref<'a, ArchivedOption<ArchivedTuple2<ArchivedU32, ArchivedString>>>;
+    fn weighed(self) -> Ref<'a, ArchivedOption<ArchivedTuple2<u8, ArchivedString>>>;
 
     /// What is in it, and how many of each.
-    fn content(self) -> Ref<'a, ArchivedVec<ArchivedTuple2<ArchivedString, ArchivedU32>>>;
+    fn content(self) -> Ref<'a, ArchivedVec<ArchivedTuple2<ArchivedString, u8>>>;
 
     /// What is noted of it.
     fn notes(self) -> Ref<'a, ArchivedOption<ArchivedVec<ArchivedString>>>;
 
     /// When it came to each station.
-    fn stations(self) -> Ref<'a, ArchivedSortedMap<ArchivedString, ArchivedVec<ArchivedU32>>>;
+    fn stations(self) -> Ref<'a, ArchivedSortedMap<ArchivedString, ArchivedVec<u8>>>;
 
     /// Who took it, or when it was offered.
-    fn taken(self) -> Ref<'a, ArchivedResult<ArchivedString, ArchivedVec<ArchivedU32>>>;
+    fn taken(self) -> Ref<'a, ArchivedResult<ArchivedString, ArchivedVec<u8>>>;
 }
 
 impl<'a> ParcelView<'a> for Ref<'a, ArchivedParcel> {
@@ -690,25 +682,24 @@ impl<'a> ParcelView<'a> for Ref<'a, ArchivedParcel> {
         part_in_record::<ArchivedParcel, [u8; 4]>(self, 1, 8)
     }
 
-    fn weighed(self) -> Ref<'a, ArchivedOption<ArchivedTuple2<ArchivedU32, ArchivedString>>>
+    fn weighed(self) -> Ref<'a, ArchivedOption<ArchivedTuple2<u8, ArchivedString>>>
         ensures buffer { result.bytes.now ≡ self.entry.bytes.now }
         ensures position { result.pos ≡ self.entry.pos + 12 }
         ensures length { result.len ≡ 0 }
         ensures shows { ShowsValueOf result self.entry (field_in 2) }
     {
-        part_in_record::<
-            ArchivedParcel,
-            ArchivedOption<ArchivedTuple2<ArchivedU32, ArchivedString>>,
-        >(self, 2, 12)
+        part_in_record::<ArchivedParcel, ArchivedOption<ArchivedTuple2<u8, ArchivedString>>>(
+            self, 2, 12,
+        )
     }
 
-    fn content(self) -> Ref<'a, ArchivedVec<ArchivedTuple2<ArchivedString, ArchivedU32>>>
+    fn content(self) -> Ref<'a, ArchivedVec<ArchivedTuple2<ArchivedString, u8>>>
         ensures buffer { result.bytes.now ≡ self.entry.bytes.now }
         ensures position { result.pos ≡ self.entry.pos + 28 }
         ensures length { result.len ≡ 0 }
         ensures shows { ShowsValueOf result self.entry (field_in 3) }
     {
-        part_in_record::<ArchivedParcel, ArchivedVec<ArchivedTuple2<ArchivedString, ArchivedU32>>>(
+        part_in_record::<ArchivedParcel, ArchivedVec<ArchivedTuple2<ArchivedString, u8>>>(
             self, 3, 28,
         )
     }
@@ -722,25 +713,24 @@ impl<'a> ParcelView<'a> for Ref<'a, ArchivedParcel> {
         part_in_record::<ArchivedParcel, ArchivedOption<ArchivedVec<ArchivedString>>>(self, 4, 36)
     }
 
-    fn stations(self) -> Ref<'a, ArchivedSortedMap<ArchivedString, ArchivedVec<ArchivedU32>>>
+    fn stations(self) -> Ref<'a, ArchivedSortedMap<ArchivedString, ArchivedVec<u8>>>
         ensures buffer { result.bytes.now ≡ self.entry.bytes.now }
         ensures position { result.pos ≡ self.entry.pos + 48 }
         ensures length { result.len ≡ 0 }
         ensures shows { ShowsValueOf result self.entry (field_in 5) }
     {
-        part_in_record::<
-            ArchivedParcel,
-            ArchivedSortedMap<ArchivedString, ArchivedVec<ArchivedU32>>,
-        >(self, 5, 48)
+        part_in_record::<ArchivedParcel, ArchivedSortedMap<ArchivedString, ArchivedVec<u8>>>(
+            self, 5, 48,
+        )
     }
 
-    fn taken(self) -> Ref<'a, ArchivedResult<ArchivedString, ArchivedVec<ArchivedU32>>>
+    fn taken(self) -> Ref<'a, ArchivedResult<ArchivedString, ArchivedVec<u8>>>
         ensures buffer { result.bytes.now ≡ self.entry.bytes.now }
         ensures position { result.pos ≡ self.entry.pos + 56 }
         ensures length { result.len ≡ 0 }
         ensures shows { ShowsValueOf result self.entry (field_in 6) }
     {
-        part_in_record::<ArchivedParcel, ArchivedResult<ArchivedString, ArchivedVec<ArchivedU32>>>(
+        part_in_record::<ArchivedParcel, ArchivedResult<ArchivedString, ArchivedVec<u8>>>(
             self, 6, 56,
         )
     }
@@ -760,11 +750,11 @@ pub trait ParcelSeal<'a> {
         requires { sealed self };
 
     /// What it weighed, and where.
-    fn weighed_mut(self) -> Seal<'a, ArchivedOption<ArchivedTuple2<ArchivedU32, ArchivedString>>>
+    fn weighed_mut(self) -> Seal<'a, ArchivedOption<ArchivedTuple2<u8, ArchivedString>>>
         requires { sealed self };
 
     /// What is in it, and how many of each.
-    fn content_mut(self) -> Seal<'a, ArchivedVec<ArchivedTuple2<ArchivedString, ArchivedU32>>>
+    fn content_mut(self) -> Seal<'a, ArchivedVec<ArchivedTuple2<ArchivedString, u8>>>
         requires { sealed self };
 
     /// What is noted of it.
@@ -772,11 +762,11 @@ pub trait ParcelSeal<'a> {
         requires { sealed self };
 
     /// When it came to each station.
-    fn stations_mut(self) -> Seal<'a, ArchivedSortedMap<ArchivedString, ArchivedVec<ArchivedU32>>>
+    fn stations_mut(self) -> Seal<'a, ArchivedSortedMap<ArchivedString, ArchivedVec<u8>>>
         requires { sealed self };
 
     /// Who took it, or when it was offered.
-    fn taken_mut(self) -> Seal<'a, ArchivedResult<ArchivedString, ArchivedVec<ArchivedU32>>>
+    fn taken_mut(self) -> Seal<'a, ArchivedResult<ArchivedString, ArchivedVec<u8>>>
         requires { sealed self };
 }
 
@@ -799,29 +789,28 @@ impl<'a> ParcelSeal<'a> for Seal<'a, ArchivedParcel> {
         sealed_part_in_record::<ArchivedParcel, [u8; 4]>(self, 1, 8)
     }
 
-    fn weighed_mut(self) -> Seal<'a, ArchivedOption<ArchivedTuple2<ArchivedU32, ArchivedString>>>
+    fn weighed_mut(self) -> Seal<'a, ArchivedOption<ArchivedTuple2<u8, ArchivedString>>>
         requires come_to { IsSealOf no_definition (one ⟦<ArchivedParcel as Portable>⟧.shape) self }
         ensures { SealsPart no_definition (one ⟦<ArchivedParcel as Portable>⟧.shape)
             (both no_definition (both no_definition no_definition))
-            ⟦<ArchivedOption<ArchivedTuple2<ArchivedU32, ArchivedString>> as ArchivePointee>⟧.pointee (self.entry.pos + 12) 0 self.entry result }
+            ⟦<ArchivedOption<ArchivedTuple2<u8, ArchivedString>> as ArchivePointee>⟧.pointee
+            (self.entry.pos + 12) 0 self.entry result }
     {
-        sealed_part_in_record::<
-            ArchivedParcel,
-            ArchivedOption<ArchivedTuple2<ArchivedU32, ArchivedString>>,
-        >(self, 2, 12)
+        sealed_part_in_record::<ArchivedParcel, ArchivedOption<ArchivedTuple2<u8, ArchivedString>>>(
+            self, 2, 12,
+        )
     }
 
-    fn content_mut(self) -> Seal<'a, ArchivedVec<ArchivedTuple2<ArchivedString, ArchivedU32>>>
+    fn content_mut(self) -> Seal<'a, ArchivedVec<ArchivedTuple2<ArchivedString, u8>>>
         requires come_to { IsSealOf no_definition (one ⟦<ArchivedParcel as Portable>⟧.shape) self }
         ensures { SealsPart no_definition (one ⟦<ArchivedParcel as Portable>⟧.shape)
             (both no_definition (both no_definition no_definition))
-            ⟦<ArchivedVec<ArchivedTuple2<ArchivedString, ArchivedU32>> as ArchivePointee>⟧.pointee
+            ⟦<ArchivedVec<ArchivedTuple2<ArchivedString, u8>> as ArchivePointee>⟧.pointee
             (self.entry.pos + 28) 0 self.entry result }
     {
-        sealed_part_in_record::<
-            ArchivedParcel,
-            ArchivedVec<ArchivedTuple2<ArchivedString, ArchivedU32>>,
-        >(self, 3, 28)
+        sealed_part_in_record::<ArchivedParcel, ArchivedVec<ArchivedTuple2<ArchivedString, u8>>>(
+            self, 3, 28,
+        )
     }
 
     fn notes_mut(self) -> Seal<'a, ArchivedOption<ArchivedVec<ArchivedString>>>
@@ -835,28 +824,27 @@ impl<'a> ParcelSeal<'a> for Seal<'a, ArchivedParcel> {
         )
     }
 
-    fn stations_mut(self) -> Seal<'a, ArchivedSortedMap<ArchivedString, ArchivedVec<ArchivedU32>>>
+    fn stations_mut(self) -> Seal<'a, ArchivedSortedMap<ArchivedString, ArchivedVec<u8>>>
         requires come_to { IsSealOf no_definition (one ⟦<ArchivedParcel as Portable>⟧.shape) self }
         ensures { SealsPart no_definition (one ⟦<ArchivedParcel as Portable>⟧.shape)
             (both no_definition (both no_definition no_definition))
-            ⟦<ArchivedSortedMap<ArchivedString, ArchivedVec<ArchivedU32>> as ArchivePointee>⟧.pointee (self.entry.pos + 48) 0 self.entry result }
+            ⟦<ArchivedSortedMap<ArchivedString, ArchivedVec<u8>> as ArchivePointee>⟧.pointee
+            (self.entry.pos + 48) 0 self.entry result }
     {
-        sealed_part_in_record::<
-            ArchivedParcel,
-            ArchivedSortedMap<ArchivedString, ArchivedVec<ArchivedU32>>,
-        >(self, 5, 48)
+        sealed_part_in_record::<ArchivedParcel, ArchivedSortedMap<ArchivedString, ArchivedVec<u8>>>(
+            self, 5, 48,
+        )
     }
 
-    fn taken_mut(self) -> Seal<'a, ArchivedResult<ArchivedString, ArchivedVec<ArchivedU32>>>
+    fn taken_mut(self) -> Seal<'a, ArchivedResult<ArchivedString, ArchivedVec<u8>>>
         requires come_to { IsSealOf no_definition (one ⟦<ArchivedParcel as Portable>⟧.shape) self }
         ensures { SealsPart no_definition (one ⟦<ArchivedParcel as Portable>⟧.shape)
             (both no_definition no_definition)
-            ⟦<ArchivedResult<ArchivedString, ArchivedVec<ArchivedU32>> as ArchivePointee>⟧.pointee
+            ⟦<ArchivedResult<ArchivedString, ArchivedVec<u8>> as ArchivePointee>⟧.pointee
             (self.entry.pos + 56) 0 self.entry result }
     {
-        sealed_part_in_record::<
-            ArchivedParcel,
-            ArchivedResult<ArchivedString, ArchivedVec<ArchivedU32>>,
-        >(self, 6, 56)
+        sealed_part_in_record::<ArchivedParcel, ArchivedResult<ArchivedString, ArchivedVec<u8>>>(
+            self, 6, 56,
+        )
     }
 }

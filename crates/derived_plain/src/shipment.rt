@@ -10,7 +10,7 @@ pub struct Shipment {
     /// Whether it is open.
     pub is_open: bool,
     /// What it weighed, and where.
-    pub weighed: Option<(u32, String)>,
+    pub weighed: Option<(u8, String)>,
     /// How dangerous it is.
     pub class: u8,
     /// The deck.
@@ -71,7 +71,7 @@ use archive_core::option::ArchivedOption;
 use archive_core::own::{Field, HasField};
 use archive_core::parts::{DeserializeParts, OwnedParts, SerializeParts, SourceParts};
 use archive_core::place::Place;
-use archive_core::primitive::{ArchivedU32, ArchivedU64};
+use archive_core::primitive::ArchivedU64;
 use archive_core::record::{deserialize_record, resolve_record, serialize_record};
 use archive_core::seal::{Seal, sealed_part_in_record};
 use archive_core::self_check::{CheckedParts, RecordCheck, SelfCheck};
@@ -93,7 +93,7 @@ type ShipmentParts = FourParts<
     u8,
     [u8; 4],
     bool,
-    ArchivedOption<ArchivedTuple2<ArchivedU32, ArchivedString>>,
+    ArchivedOption<ArchivedTuple2<u8, ArchivedString>>,
     FourParts<u8, u8, u8, u8, FourParts<i8, u8, u8, u8, ShipmentRest1>>,
 >;
 
@@ -101,7 +101,7 @@ type ShipmentOwned = FourParts<
     u8,
     OwnedArray<u8, 4>,
     bool,
-    Option<(u32, String)>,
+    Option<(u8, String)>,
     FourParts<u8, u8, u8, u8, FourParts<i8, u8, u8, u8, ShipmentOwned1>>,
 >;
 
@@ -110,7 +110,7 @@ type ShipmentFields = FourParts<
     Field<0, u8>,
     Field<1, [u8; 4]>,
     Field<2, bool>,
-    Field<3, Option<(u32, String)>>,
+    Field<3, Option<(u8, String)>>,
     FourParts<
         Field<4, u8>,
         Field<5, u8>,
@@ -144,10 +144,10 @@ impl HasField<2, bool> for Shipment {
     }
 }
 
-impl HasField<3, Option<(u32, String)>> for Shipment {
+impl HasField<3, Option<(u8, String)>> for Shipment {
     ghost field = { λ v. v.weighed };
 
-    fn field(&self) -> &Option<(u32, String)> {
+    fn field(&self) -> &Option<(u8, String)> {
         &self.weighed
     }
 }
@@ -547,7 +547,7 @@ impl ArchivePointee for ArchivedShipment {
 
     ghost pointee = { one (parts (part ⟦<u8 as Portable>⟧.shape
         (part ⟦<[u8; 4] as Portable>⟧.shape (part ⟦<bool as Portable>⟧.shape
-        (part ⟦<ArchivedOption<ArchivedTuple2<ArchivedU32, ArchivedString>> as Portable>⟧.shape
+        (part ⟦<ArchivedOption<ArchivedTuple2<u8, ArchivedString>> as Portable>⟧.shape
         (part ⟦<u8 as Portable>⟧.shape (part ⟦<u8 as Portable>⟧.shape
         (part ⟦<u8 as Portable>⟧.shape (part ⟦<u8 as Portable>⟧.shape
         (part ⟦<i8 as Portable>⟧.shape (part ⟦<u8 as Portable>⟧.shape
@@ -568,7 +568,7 @@ impl ArchivePointee for ArchivedShipment {
 impl Portable for ArchivedShipment {
     ghost shape = { parts (part ⟦<u8 as Portable>⟧.shape
         (part ⟦<[u8; 4] as Portable>⟧.shape (part ⟦<bool as Portable>⟧.shape
-        (part ⟦<ArchivedOption<ArchivedTuple2<ArchivedU32, ArchivedString>> as Portable>⟧.shape
+        (part ⟦<ArchivedOption<ArchivedTuple2<u8, ArchivedString>> as Portable>⟧.shape
         (part ⟦<u8 as Portable>⟧.shape (part ⟦<u8 as Portable>⟧.shape
         (part ⟦<u8 as Portable>⟧.shape (part ⟦<u8 as Portable>⟧.shape
         (part ⟦<i8 as Portable>⟧.shape (part ⟦<u8 as Portable>⟧.shape
@@ -589,7 +589,7 @@ impl Portable for ArchivedShipment {
 
     ghost no_others = { no_definition_reached (parts (part ⟦<u8 as Portable>⟧.shape
         (part ⟦<[u8; 4] as Portable>⟧.shape (part ⟦<bool as Portable>⟧.shape
-        (part ⟦<ArchivedOption<ArchivedTuple2<ArchivedU32, ArchivedString>> as Portable>⟧.shape
+        (part ⟦<ArchivedOption<ArchivedTuple2<u8, ArchivedString>> as Portable>⟧.shape
         (part ⟦<u8 as Portable>⟧.shape (part ⟦<u8 as Portable>⟧.shape
         (part ⟦<u8 as Portable>⟧.shape (part ⟦<u8 as Portable>⟧.shape
         (part ⟦<i8 as Portable>⟧.shape (part ⟦<u8 as Portable>⟧.shape
@@ -620,7 +620,7 @@ impl Portable for ArchivedShipment {
 impl SelfCheck for ArchivedShipment {
     ghost shape = { parts (part ⟦<u8 as Portable>⟧.shape
         (part ⟦<[u8; 4] as Portable>⟧.shape (part ⟦<bool as Portable>⟧.shape
-        (part ⟦<ArchivedOption<ArchivedTuple2<ArchivedU32, ArchivedString>> as Portable>⟧.shape
+        (part ⟦<ArchivedOption<ArchivedTuple2<u8, ArchivedString>> as Portable>⟧.shape
         (part ⟦<u8 as Portable>⟧.shape (part ⟦<u8 as Portable>⟧.shape
         (part ⟦<u8 as Portable>⟧.shape (part ⟦<u8 as Portable>⟧.shape
         (part ⟦<i8 as Portable>⟧.shape (part ⟦<u8 as Portable>⟧.shape
@@ -668,7 +668,7 @@ impl Record for ArchivedShipment {
 
     ghost has_parts = { plain_record (part ⟦<u8 as Portable>⟧.shape
         (part ⟦<[u8; 4] as Portable>⟧.shape (part ⟦<bool as Portable>⟧.shape
-        (part ⟦<ArchivedOption<ArchivedTuple2<ArchivedU32, ArchivedString>> as Portable>⟧.shape
+        (part ⟦<ArchivedOption<ArchivedTuple2<u8, ArchivedString>> as Portable>⟧.shape
         (part ⟦<u8 as Portable>⟧.shape (part ⟦<u8 as Portable>⟧.shape
         (part ⟦<u8 as Portable>⟧.shape (part ⟦<u8 as Portable>⟧.shape
         (part ⟦<i8 as Portable>⟧.shape (part ⟦<u8 as Portable>⟧.shape
@@ -698,7 +698,7 @@ pub struct ShipmentResolver {
             (
                 <bool as Archive>::Resolver,
                 (
-                    <Option<(u32, String)> as Archive>::Resolver,
+                    <Option<(u8, String)> as Archive>::Resolver,
                     (
                         <u8 as Archive>::Resolver,
                         (
@@ -734,7 +734,7 @@ impl Archive for Shipment {
 
     ghost meaning = { λ v. product (value (⟦<u8 as Archive>⟧.meaning v.number)
         (value (⟦<[u8; 4] as Archive>⟧.meaning v.key) (value (⟦<bool as Archive>⟧.meaning v.is_open)
-        (value (⟦<Option<(u32, String)> as Archive>⟧.meaning v.weighed)
+        (value (⟦<Option<(u8, String)> as Archive>⟧.meaning v.weighed)
         (value (⟦<u8 as Archive>⟧.meaning v.class) (value (⟦<u8 as Archive>⟧.meaning v.deck)
         (value (⟦<u8 as Archive>⟧.meaning v.row) (value (⟦<u8 as Archive>⟧.meaning v.place)
         (value (⟦<i8 as Archive>⟧.meaning v.side) (value (⟦<u8 as Archive>⟧.meaning v.layers)
@@ -747,7 +747,7 @@ impl Archive for Shipment {
     ghost flat = { λ v r. product (value (⟦<u8 as Archive>⟧.flat v.number r.kept.0)
         (value (⟦<[u8; 4] as Archive>⟧.flat v.key r.kept.1.0)
         (value (⟦<bool as Archive>⟧.flat v.is_open r.kept.1.1.0)
-        (value (⟦<Option<(u32, String)> as Archive>⟧.flat v.weighed r.kept.1.1.1.0)
+        (value (⟦<Option<(u8, String)> as Archive>⟧.flat v.weighed r.kept.1.1.1.0)
         (value (⟦<u8 as Archive>⟧.flat v.class r.kept.1.1.1.1.0)
         (value (⟦<u8 as Archive>⟧.flat v.deck r.kept.1.1.1.1.1.0)
         (value (⟦<u8 as Archive>⟧.flat v.row r.kept.1.1.1.1.1.1.0)
@@ -765,7 +765,7 @@ impl Archive for Shipment {
 
     ghost keys = { λ v. ⟦<u8 as Archive>⟧.keys v.number
         ++ (⟦<[u8; 4] as Archive>⟧.keys v.key ++ (⟦<bool as Archive>⟧.keys v.is_open
-        ++ (⟦<Option<(u32, String)> as Archive>⟧.keys v.weighed
+        ++ (⟦<Option<(u8, String)> as Archive>⟧.keys v.weighed
         ++ (⟦<u8 as Archive>⟧.keys v.class ++ (⟦<u8 as Archive>⟧.keys v.deck
         ++ (⟦<u8 as Archive>⟧.keys v.row ++ (⟦<u8 as Archive>⟧.keys v.place
         ++ (⟦<i8 as Archive>⟧.keys v.side ++ (⟦<u8 as Archive>⟧.keys v.layers
@@ -777,7 +777,7 @@ impl Archive for Shipment {
     ghost belongs = { λ v r. ⟦<u8 as Archive>⟧.belongs v.number r.kept.0
         × (⟦<[u8; 4] as Archive>⟧.belongs v.key r.kept.1.0
         × (⟦<bool as Archive>⟧.belongs v.is_open r.kept.1.1.0
-        × (⟦<Option<(u32, String)> as Archive>⟧.belongs v.weighed r.kept.1.1.1.0
+        × (⟦<Option<(u8, String)> as Archive>⟧.belongs v.weighed r.kept.1.1.1.0
         × (⟦<u8 as Archive>⟧.belongs v.class r.kept.1.1.1.1.0
         × (⟦<u8 as Archive>⟧.belongs v.deck r.kept.1.1.1.1.1.0
         × (⟦<u8 as Archive>⟧.belongs v.row r.kept.1.1.1.1.1.1.0
@@ -798,8 +798,8 @@ impl Archive for Shipment {
     ghost keyed = { λ v. record_keyed (part_keyed (number_keyed _)
         (part_keyed (array_keyed 4 ⟦<u8 as Archive>⟧.keys ⟦<u8 as Archive>⟧.meaning
         (λ x. number_keyed _) v.key) (part_keyed (number_keyed _)
-        (part_keyed (option_keyed ⟦<(u32, String) as Archive>⟧.keys
-        ⟦<(u32, String) as Archive>⟧.meaning (λ x. record_keyed
+        (part_keyed (option_keyed ⟦<(u8, String) as Archive>⟧.keys
+        ⟦<(u8, String) as Archive>⟧.meaning (λ x. record_keyed
         (part_keyed (number_keyed _) (part_keyed (text_keyed (string_bytes x.1)) nothing_keyed)))
         v.weighed) (part_keyed (number_keyed _) (part_keyed (number_keyed _)
         (part_keyed (number_keyed _) (part_keyed (number_keyed _)
@@ -820,7 +820,7 @@ impl Archive for Shipment {
         (both no_definition (both no_definition no_definition)))))))))))))))))
         (part ⟦<u8 as Portable>⟧.shape (part ⟦<[u8; 4] as Portable>⟧.shape
         (part ⟦<bool as Portable>⟧.shape
-        (part ⟦<ArchivedOption<ArchivedTuple2<ArchivedU32, ArchivedString>> as Portable>⟧.shape
+        (part ⟦<ArchivedOption<ArchivedTuple2<u8, ArchivedString>> as Portable>⟧.shape
         (part ⟦<u8 as Portable>⟧.shape (part ⟦<u8 as Portable>⟧.shape
         (part ⟦<u8 as Portable>⟧.shape (part ⟦<u8 as Portable>⟧.shape
         (part ⟦<i8 as Portable>⟧.shape (part ⟦<u8 as Portable>⟧.shape
@@ -837,29 +837,28 @@ impl Archive for Shipment {
         (part_planned no_definition ⟦<bool as Portable>⟧.shape (⟦<bool as Archive>⟧.keys v.is_open)
         (⟦<bool as Archive>⟧.meaning v.is_open) (leaf_planned no_definition _ _ [] _ refl)
         (part_planned (both no_definition (both no_definition no_definition))
-        ⟦<ArchivedOption<ArchivedTuple2<ArchivedU32, ArchivedString>> as Portable>⟧.shape
-        (⟦<Option<(u32, String)> as Archive>⟧.keys v.weighed)
-        (⟦<Option<(u32, String)> as Archive>⟧.meaning v.weighed)
+        ⟦<ArchivedOption<ArchivedTuple2<u8, ArchivedString>> as Portable>⟧.shape
+        (⟦<Option<(u8, String)> as Archive>⟧.keys v.weighed)
+        (⟦<Option<(u8, String)> as Archive>⟧.meaning v.weighed)
         (option_planned (both no_definition (both no_definition no_definition))
-        ⟦<ArchivedTuple2<ArchivedU32, ArchivedString> as Portable>⟧.shape
-        ⟦<(u32, String) as Archive>⟧.keys ⟦<(u32, String) as Archive>⟧.meaning
-        (λ x. product_planned (both no_definition (both no_definition no_definition))
-        (part ⟦<ArchivedU32 as Portable>⟧.shape (part ⟦<ArchivedString as Portable>⟧.shape no_part))
-        (⟦<u32 as Archive>⟧.keys x.0 ++ (⟦<String as Archive>⟧.keys x.1 ++ []))
-        (value (⟦<u32 as Archive>⟧.meaning x.0) (value (⟦<String as Archive>⟧.meaning x.1)
-        no_value)) (part_planned no_definition ⟦<ArchivedU32 as Portable>⟧.shape
-        (⟦<u32 as Archive>⟧.keys x.0) (⟦<u32 as Archive>⟧.meaning x.0)
-        (leaf_planned no_definition _ _ [] _ refl) (part_planned no_definition
-        ⟦<ArchivedString as Portable>⟧.shape (⟦<String as Archive>⟧.keys x.1)
-        (⟦<String as Archive>⟧.meaning x.1) (string_planned no_definition [] (string_bytes x.1))
-        no_part_planned))) v.weighed) (part_planned no_definition ⟦<u8 as Portable>⟧.shape
-        (⟦<u8 as Archive>⟧.keys v.class) (⟦<u8 as Archive>⟧.meaning v.class)
-        (leaf_planned no_definition _ _ [] _ refl) (part_planned no_definition
-        ⟦<u8 as Portable>⟧.shape (⟦<u8 as Archive>⟧.keys v.deck) (⟦<u8 as Archive>⟧.meaning v.deck)
-        (leaf_planned no_definition _ _ [] _ refl) (part_planned no_definition
-        ⟦<u8 as Portable>⟧.shape (⟦<u8 as Archive>⟧.keys v.row) (⟦<u8 as Archive>⟧.meaning v.row)
-        (leaf_planned no_definition _ _ [] _ refl) (part_planned no_definition
-        ⟦<u8 as Portable>⟧.shape (⟦<u8 as Archive>⟧.keys v.place)
+        ⟦<ArchivedTuple2<u8, ArchivedString> as Portable>⟧.shape ⟦<(u8, String) as Archive>⟧.keys
+        ⟦<(u8, String) as Archive>⟧.meaning (λ x. product_planned
+        (both no_definition (both no_definition no_definition))
+        (part ⟦<u8 as Portable>⟧.shape (part ⟦<ArchivedString as Portable>⟧.shape no_part))
+        (⟦<u8 as Archive>⟧.keys x.0 ++ (⟦<String as Archive>⟧.keys x.1 ++ []))
+        (value (⟦<u8 as Archive>⟧.meaning x.0) (value (⟦<String as Archive>⟧.meaning x.1) no_value))
+        (part_planned no_definition ⟦<u8 as Portable>⟧.shape (⟦<u8 as Archive>⟧.keys x.0)
+        (⟦<u8 as Archive>⟧.meaning x.0) (leaf_planned no_definition _ _ [] _ refl)
+        (part_planned no_definition ⟦<ArchivedString as Portable>⟧.shape
+        (⟦<String as Archive>⟧.keys x.1) (⟦<String as Archive>⟧.meaning x.1)
+        (string_planned no_definition [] (string_bytes x.1)) no_part_planned))) v.weighed)
+        (part_planned no_definition ⟦<u8 as Portable>⟧.shape (⟦<u8 as Archive>⟧.keys v.class)
+        (⟦<u8 as Archive>⟧.meaning v.class) (leaf_planned no_definition _ _ [] _ refl)
+        (part_planned no_definition ⟦<u8 as Portable>⟧.shape (⟦<u8 as Archive>⟧.keys v.deck)
+        (⟦<u8 as Archive>⟧.meaning v.deck) (leaf_planned no_definition _ _ [] _ refl)
+        (part_planned no_definition ⟦<u8 as Portable>⟧.shape (⟦<u8 as Archive>⟧.keys v.row)
+        (⟦<u8 as Archive>⟧.meaning v.row) (leaf_planned no_definition _ _ [] _ refl)
+        (part_planned no_definition ⟦<u8 as Portable>⟧.shape (⟦<u8 as Archive>⟧.keys v.place)
         (⟦<u8 as Archive>⟧.meaning v.place) (leaf_planned no_definition _ _ [] _ refl)
         (part_planned no_definition ⟦<i8 as Portable>⟧.shape (⟦<i8 as Archive>⟧.keys v.side)
         (⟦<i8 as Archive>⟧.meaning v.side) (leaf_planned no_definition _ _ [] _ refl)
@@ -966,7 +965,7 @@ impl ArchiveUnsized for Shipment {
     ghost planned = { λ v. one_planned no_definition (parts
         (part ⟦<u8 as Portable>⟧.shape (part ⟦<[u8; 4] as Portable>⟧.shape
         (part ⟦<bool as Portable>⟧.shape
-        (part ⟦<ArchivedOption<ArchivedTuple2<ArchivedU32, ArchivedString>> as Portable>⟧.shape
+        (part ⟦<ArchivedOption<ArchivedTuple2<u8, ArchivedString>> as Portable>⟧.shape
         (part ⟦<u8 as Portable>⟧.shape (part ⟦<u8 as Portable>⟧.shape
         (part ⟦<u8 as Portable>⟧.shape (part ⟦<u8 as Portable>⟧.shape
         (part ⟦<i8 as Portable>⟧.shape (part ⟦<u8 as Portable>⟧.shape
@@ -996,7 +995,7 @@ fn shipment_of(values: ShipmentOwned) -> Shipment
         ≡ product (value (⟦<u8 as Archive>⟧.meaning values.first)
         (value (⟦<OwnedArray<u8, 4> as Archive>⟧.meaning values.second)
         (value (⟦<bool as Archive>⟧.meaning values.third)
-        (value (⟦<Option<(u32, String)> as Archive>⟧.meaning values.fourth)
+        (value (⟦<Option<(u8, String)> as Archive>⟧.meaning values.fourth)
         (value (⟦<u8 as Archive>⟧.meaning values.rest.first)
         (value (⟦<u8 as Archive>⟧.meaning values.rest.second)
         (value (⟦<u8 as Archive>⟧.meaning values.rest.third)
@@ -1013,7 +1012,7 @@ fn shipment_of(values: ShipmentOwned) -> Shipment
         no_value))))))))))))))))) }
     ensures keys { ⟦<Shipment as Archive>⟧.keys result ≡ ⟦<u8 as Archive>⟧.keys values.first
         ++ (⟦<OwnedArray<u8, 4> as Archive>⟧.keys values.second
-        ++ (⟦<bool as Archive>⟧.keys values.third ++ (⟦<Option<(u32, String)> as Archive>⟧.keys
+        ++ (⟦<bool as Archive>⟧.keys values.third ++ (⟦<Option<(u8, String)> as Archive>⟧.keys
         values.fourth ++ (⟦<u8 as Archive>⟧.keys values.rest.first
         ++ (⟦<u8 as Archive>⟧.keys values.rest.second ++ (⟦<u8 as Archive>⟧.keys values.rest.third
         ++ (⟦<u8 as Archive>⟧.keys values.rest.fourth ++ (⟦<i8 as Archive>⟧.keys
@@ -1107,7 +1106,7 @@ pub trait ShipmentView<'a> {
     fn is_open(self) -> Ref<'a, bool>;
 
     /// What it weighed, and where.
-    fn weighed(self) -> Ref<'a, ArchivedOption<ArchivedTuple2<ArchivedU32, ArchivedString>>>;
+    fn weighed(self) -> Ref<'a, ArchivedOption<ArchivedTuple2<u8, ArchivedString>>>;
 
     /// How dangerous it is.
     fn class(self) -> Ref<'a, u8>;
@@ -1177,16 +1176,15 @@ impl<'a> ShipmentView<'a> for Ref<'a, ArchivedShipment> {
         part_in_record::<ArchivedShipment, bool>(self, 2, 5)
     }
 
-    fn weighed(self) -> Ref<'a, ArchivedOption<ArchivedTuple2<ArchivedU32, ArchivedString>>>
+    fn weighed(self) -> Ref<'a, ArchivedOption<ArchivedTuple2<u8, ArchivedString>>>
         ensures buffer { result.bytes.now ≡ self.entry.bytes.now }
         ensures position { result.pos ≡ self.entry.pos + 8 }
         ensures length { result.len ≡ 0 }
         ensures shows { ShowsValueOf result self.entry (field_in 3) }
     {
-        part_in_record::<
-            ArchivedShipment,
-            ArchivedOption<ArchivedTuple2<ArchivedU32, ArchivedString>>,
-        >(self, 3, 8)
+        part_in_record::<ArchivedShipment, ArchivedOption<ArchivedTuple2<u8, ArchivedString>>>(
+            self, 3, 8,
+        )
     }
 
     fn class(self) -> Ref<'a, u8>
@@ -1325,7 +1323,7 @@ pub trait ShipmentSeal<'a> {
         requires { sealed self };
 
     /// What it weighed, and where.
-    fn weighed_mut(self) -> Seal<'a, ArchivedOption<ArchivedTuple2<ArchivedU32, ArchivedString>>>
+    fn weighed_mut(self) -> Seal<'a, ArchivedOption<ArchivedTuple2<u8, ArchivedString>>>
         requires { sealed self };
 
     /// How dangerous it is.
@@ -1411,16 +1409,17 @@ impl<'a> ShipmentSeal<'a> for Seal<'a, ArchivedShipment> {
         sealed_part_in_record::<ArchivedShipment, bool>(self, 2, 5)
     }
 
-    fn weighed_mut(self) -> Seal<'a, ArchivedOption<ArchivedTuple2<ArchivedU32, ArchivedString>>>
+    fn weighed_mut(self) -> Seal<'a, ArchivedOption<ArchivedTuple2<u8, ArchivedString>>>
         requires come_to { IsSealOf no_definition (one ⟦<ArchivedShipment as Portable>⟧.shape)
             self }
         ensures { SealsPart no_definition (one ⟦<ArchivedShipment as Portable>⟧.shape)
             (both no_definition (both no_definition no_definition))
-            ⟦<ArchivedOption<ArchivedTuple2<ArchivedU32, ArchivedString>> as ArchivePointee>⟧.pointee (self.entry.pos + 8) 0 self.entry result }
+            ⟦<ArchivedOption<ArchivedTuple2<u8, ArchivedString>> as ArchivePointee>⟧.pointee
+            (self.entry.pos + 8) 0 self.entry result }
     {
         sealed_part_in_record::<
             ArchivedShipment,
-            ArchivedOption<ArchivedTuple2<ArchivedU32, ArchivedString>>,
+            ArchivedOption<ArchivedTuple2<u8, ArchivedString>>,
         >(self, 3, 8)
     }
 

@@ -42,12 +42,12 @@ pub struct Owners {
 /// Lists, and a record with parameters. Its fields have no names.
 #[derive(Drop)]
 pub struct Lists(
+    /// A number and a place.
+    pub Pair<u64, Spot>,
     /// Four numbers.
     pub OwnedArray<i16, 4>,
     /// Places, perhaps.
     pub Vec<Option<Spot>>,
-    /// A number and a place.
-    pub Pair<u64, Spot>,
 );
 
 /// Nothing at all.
@@ -1115,24 +1115,24 @@ impl<'a> OwnersSeal<'a> for Seal<'a, ArchivedOwners> {
 pub struct ArchivedLists;
 
 type ListsParts = (
-    [ArchivedI16; 4],
+    ArchivedPair<ArchivedU64, ArchivedSpot>,
     (
-        ArchivedVec<ArchivedOption<ArchivedSpot>>,
-        (ArchivedPair<ArchivedU64, ArchivedSpot>, ()),
+        [ArchivedI16; 4],
+        (ArchivedVec<ArchivedOption<ArchivedSpot>>, ()),
     ),
 );
 
 type ListsOwned = (
-    OwnedArray<i16, 4>,
-    (Vec<Option<Spot>>, (Pair<u64, Spot>, ())),
+    Pair<u64, Spot>,
+    (OwnedArray<i16, 4>, (Vec<Option<Spot>>, ())),
 );
 
 impl ArchivePointee for ArchivedLists {
     type ArchivedMetadata = ();
 
-    ghost pointee = { one (parts (part ⟦<[ArchivedI16; 4] as Portable>⟧.shape
-        (part ⟦<ArchivedVec<ArchivedOption<ArchivedSpot>> as Portable>⟧.shape
-        (part ⟦<ArchivedPair<ArchivedU64, ArchivedSpot> as Portable>⟧.shape no_part)))) };
+    ghost pointee = { one (parts (part ⟦<ArchivedPair<ArchivedU64, ArchivedSpot> as Portable>⟧.shape
+        (part ⟦<[ArchivedI16; 4] as Portable>⟧.shape (part
+        ⟦<ArchivedVec<ArchivedOption<ArchivedSpot>> as Portable>⟧.shape no_part)))) };
 
     ghost definitions = { no_definition };
 
@@ -1144,9 +1144,9 @@ impl ArchivePointee for ArchivedLists {
 }
 
 impl Portable for ArchivedLists {
-    ghost shape = { parts (part ⟦<[ArchivedI16; 4] as Portable>⟧.shape
-        (part ⟦<ArchivedVec<ArchivedOption<ArchivedSpot>> as Portable>⟧.shape
-        (part ⟦<ArchivedPair<ArchivedU64, ArchivedSpot> as Portable>⟧.shape no_part))) };
+    ghost shape = { parts (part ⟦<ArchivedPair<ArchivedU64, ArchivedSpot> as Portable>⟧.shape
+        (part ⟦<[ArchivedI16; 4] as Portable>⟧.shape (part
+        ⟦<ArchivedVec<ArchivedOption<ArchivedSpot>> as Portable>⟧.shape no_part))) };
 
     ghost layout = { record { size = 32; align = 8 } };
 
@@ -1158,9 +1158,10 @@ impl Portable for ArchivedLists {
 
     ghost has_layout = { record { solved = λ s k. refl } };
 
-    ghost no_others = { no_definition_reached (parts (part ⟦<[ArchivedI16; 4] as Portable>⟧.shape
-        (part ⟦<ArchivedVec<ArchivedOption<ArchivedSpot>> as Portable>⟧.shape
-        (part ⟦<ArchivedPair<ArchivedU64, ArchivedSpot> as Portable>⟧.shape no_part)))) };
+    ghost no_others = { no_definition_reached (parts (part
+        ⟦<ArchivedPair<ArchivedU64, ArchivedSpot> as Portable>⟧.shape
+        (part ⟦<[ArchivedI16; 4] as Portable>⟧.shape (part
+        ⟦<ArchivedVec<ArchivedOption<ArchivedSpot>> as Portable>⟧.shape no_part)))) };
 
     ghost checks = { λ _. plain_own_check _ _ _ _ _ refl refl refl refl };
 
@@ -1182,12 +1183,12 @@ impl Portable for ArchivedLists {
 }
 
 impl SelfCheck for ArchivedLists {
-    ghost shape = { parts (part ⟦<[ArchivedI16; 4] as Portable>⟧.shape
-        (part ⟦<ArchivedVec<ArchivedOption<ArchivedSpot>> as Portable>⟧.shape
-        (part ⟦<ArchivedPair<ArchivedU64, ArchivedSpot> as Portable>⟧.shape no_part))) };
+    ghost shape = { parts (part ⟦<ArchivedPair<ArchivedU64, ArchivedSpot> as Portable>⟧.shape
+        (part ⟦<[ArchivedI16; 4] as Portable>⟧.shape (part
+        ⟦<ArchivedVec<ArchivedOption<ArchivedSpot>> as Portable>⟧.shape no_part))) };
 
-    ghost definitions = { (both no_definition (both no_definition
-        (both (both no_definition (both no_definition no_definition)) no_definition))) };
+    ghost definitions = { (both (both no_definition (both no_definition no_definition))
+        (both no_definition (both no_definition no_definition))) };
 
     ghost span = { 32 };
 
@@ -1217,11 +1218,12 @@ impl SelfCheck for ArchivedLists {
 impl Record for ArchivedLists {
     type Parts = ListsParts;
 
-    ghost has_parts = { plain_record (part ⟦<[ArchivedI16; 4] as Portable>⟧.shape
-        (part ⟦<ArchivedVec<ArchivedOption<ArchivedSpot>> as Portable>⟧.shape
-        (part ⟦<ArchivedPair<ArchivedU64, ArchivedSpot> as Portable>⟧.shape no_part)))
-        (both no_definition (both no_definition (both (both no_definition
-        (both no_definition no_definition)) no_definition))) refl };
+    ghost has_parts = { plain_record
+        (part ⟦<ArchivedPair<ArchivedU64, ArchivedSpot> as Portable>⟧.shape
+        (part ⟦<[ArchivedI16; 4] as Portable>⟧.shape (part
+        ⟦<ArchivedVec<ArchivedOption<ArchivedSpot>> as Portable>⟧.shape no_part)))
+        (both (both no_definition (both no_definition no_definition))
+        (both no_definition (both no_definition no_definition))) refl };
 
     ghost holds = { lit≤ tt };
 }
@@ -1230,10 +1232,10 @@ impl Record for ArchivedLists {
 #[derive(Drop)]
 pub struct ListsResolver {
     kept: (
-        <OwnedArray<i16, 4> as Archive>::Resolver,
+        <Pair<u64, Spot> as Archive>::Resolver,
         (
-            <Vec<Option<Spot>> as Archive>::Resolver,
-            (<Pair<u64, Spot> as Archive>::Resolver, ()),
+            <OwnedArray<i16, 4> as Archive>::Resolver,
+            (<Vec<Option<Spot>> as Archive>::Resolver, ()),
         ),
     ),
 }
@@ -1245,59 +1247,60 @@ impl Archive for Lists {
 
     type Resolver = ListsResolver;
 
-    ghost meaning = { λ v. product (value (⟦<OwnedArray<i16, 4> as Archive>⟧.meaning v.0)
-        (value (⟦<Vec<Option<Spot>> as Archive>⟧.meaning v.1)
-        (value (⟦<Pair<u64, Spot> as Archive>⟧.meaning v.2) no_value))) };
+    ghost meaning = { λ v. product (value (⟦<Pair<u64, Spot> as Archive>⟧.meaning v.0)
+        (value (⟦<OwnedArray<i16, 4> as Archive>⟧.meaning v.1)
+        (value (⟦<Vec<Option<Spot>> as Archive>⟧.meaning v.2) no_value))) };
 
-    ghost flat = { λ v r. product (value (⟦<OwnedArray<i16, 4> as Archive>⟧.flat v.0 r.kept.0)
-        (value (⟦<Vec<Option<Spot>> as Archive>⟧.flat v.1 r.kept.1.0)
-        (value (⟦<Pair<u64, Spot> as Archive>⟧.flat v.2 r.kept.1.1.0) no_value))) };
+    ghost flat = { λ v r. product (value (⟦<Pair<u64, Spot> as Archive>⟧.flat v.0 r.kept.0)
+        (value (⟦<OwnedArray<i16, 4> as Archive>⟧.flat v.1 r.kept.1.0)
+        (value (⟦<Vec<Option<Spot>> as Archive>⟧.flat v.2 r.kept.1.1.0) no_value))) };
 
-    ghost keys = { λ v. ⟦<OwnedArray<i16, 4> as Archive>⟧.keys v.0
-        ++ (⟦<Vec<Option<Spot>> as Archive>⟧.keys v.1 ++ (⟦<Pair<u64, Spot> as Archive>⟧.keys v.2
+    ghost keys = { λ v. ⟦<Pair<u64, Spot> as Archive>⟧.keys v.0
+        ++ (⟦<OwnedArray<i16, 4> as Archive>⟧.keys v.1 ++ (⟦<Vec<Option<Spot>> as Archive>⟧.keys v.2
         ++ [])) };
 
-    ghost belongs = { λ v r. ⟦<OwnedArray<i16, 4> as Archive>⟧.belongs v.0 r.kept.0
-        × (⟦<Vec<Option<Spot>> as Archive>⟧.belongs v.1 r.kept.1.0
-        × (⟦<Pair<u64, Spot> as Archive>⟧.belongs v.2 r.kept.1.1.0 × Unit {0})) };
+    ghost belongs = { λ v r. ⟦<Pair<u64, Spot> as Archive>⟧.belongs v.0 r.kept.0
+        × (⟦<OwnedArray<i16, 4> as Archive>⟧.belongs v.1 r.kept.1.0
+        × (⟦<Vec<Option<Spot>> as Archive>⟧.belongs v.2 r.kept.1.1.0 × Unit {0})) };
 
     ghost in_bulk = { None };
 
-    ghost keyed = { λ v. record_keyed (part_keyed (array_keyed 4 ⟦<i16 as Archive>⟧.keys
-        ⟦<i16 as Archive>⟧.meaning (λ x. number_keyed _) v.0)
-        (part_keyed (each_keyed ⟦<Option<Spot> as Archive>⟧.keys ⟦<Option<Spot> as Archive>⟧.meaning
-        (λ x. option_keyed ⟦<Spot as Archive>⟧.keys ⟦<Spot as Archive>⟧.meaning keyed_of_spot x)
-        v.1.items) (part_keyed (record_keyed (part_keyed (number_keyed _)
-        (part_keyed (keyed_of_spot v.2.right) nothing_keyed))) nothing_keyed))) };
+    ghost keyed = { λ v. record_keyed (part_keyed (record_keyed
+        (part_keyed (number_keyed _) (part_keyed (keyed_of_spot v.0.right) nothing_keyed)))
+        (part_keyed (array_keyed 4 ⟦<i16 as Archive>⟧.keys ⟦<i16 as Archive>⟧.meaning
+        (λ x. number_keyed _) v.1) (part_keyed (each_keyed ⟦<Option<Spot> as Archive>⟧.keys
+        ⟦<Option<Spot> as Archive>⟧.meaning (λ x. option_keyed ⟦<Spot as Archive>⟧.keys
+        ⟦<Spot as Archive>⟧.meaning keyed_of_spot x) v.2.items) nothing_keyed))) };
 
-    ghost planned = { λ v. plain_record_planned (both no_definition
-        (both no_definition (both (both no_definition (both no_definition no_definition))
-        no_definition))) (part ⟦<[ArchivedI16; 4] as Portable>⟧.shape
-        (part ⟦<ArchivedVec<ArchivedOption<ArchivedSpot>> as Portable>⟧.shape
-        (part ⟦<ArchivedPair<ArchivedU64, ArchivedSpot> as Portable>⟧.shape no_part))) _ _
+    ghost planned = { λ v. plain_record_planned (both
+        (both no_definition (both no_definition no_definition))
+        (both no_definition (both no_definition no_definition)))
+        (part ⟦<ArchivedPair<ArchivedU64, ArchivedSpot> as Portable>⟧.shape
+        (part ⟦<[ArchivedI16; 4] as Portable>⟧.shape (part
+        ⟦<ArchivedVec<ArchivedOption<ArchivedSpot>> as Portable>⟧.shape no_part))) _ _
+        (part_planned (both no_definition (both no_definition no_definition))
+        ⟦<ArchivedPair<ArchivedU64, ArchivedSpot> as Portable>⟧.shape
+        (⟦<Pair<u64, Spot> as Archive>⟧.keys v.0) (⟦<Pair<u64, Spot> as Archive>⟧.meaning v.0)
+        (product_planned (both no_definition (both no_definition no_definition))
+        (part ⟦<ArchivedU64 as Portable>⟧.shape (part ⟦<ArchivedSpot as Portable>⟧.shape no_part))
+        (⟦<u64 as Archive>⟧.keys v.0.left ++ (⟦<Spot as Archive>⟧.keys v.0.right ++ []))
+        (value (⟦<u64 as Archive>⟧.meaning v.0.left) (value (⟦<Spot as Archive>⟧.meaning v.0.right)
+        no_value)) (part_planned no_definition ⟦<ArchivedU64 as Portable>⟧.shape
+        (⟦<u64 as Archive>⟧.keys v.0.left) (⟦<u64 as Archive>⟧.meaning v.0.left)
+        (leaf_planned no_definition _ _ [] _ refl) (part_planned no_definition
+        ⟦<ArchivedSpot as Portable>⟧.shape (⟦<Spot as Archive>⟧.keys v.0.right)
+        (⟦<Spot as Archive>⟧.meaning v.0.right) (planned_of_spot v.0.right) no_part_planned)))
         (part_planned no_definition ⟦<[ArchivedI16; 4] as Portable>⟧.shape
-        (⟦<OwnedArray<i16, 4> as Archive>⟧.keys v.0) (⟦<OwnedArray<i16, 4> as Archive>⟧.meaning v.0)
+        (⟦<OwnedArray<i16, 4> as Archive>⟧.keys v.1) (⟦<OwnedArray<i16, 4> as Archive>⟧.meaning v.1)
         (array_planned 4 no_definition ⟦<ArchivedI16 as Portable>⟧.shape ⟦<i16 as Archive>⟧.keys
-        ⟦<i16 as Archive>⟧.meaning (λ x. leaf_planned no_definition _ _ [] _ refl) v.0)
+        ⟦<i16 as Archive>⟧.meaning (λ x. leaf_planned no_definition _ _ [] _ refl) v.1)
         (part_planned no_definition ⟦<ArchivedVec<ArchivedOption<ArchivedSpot>> as Portable>⟧.shape
-        (⟦<Vec<Option<Spot>> as Archive>⟧.keys v.1) (⟦<Vec<Option<Spot>> as Archive>⟧.meaning v.1)
+        (⟦<Vec<Option<Spot>> as Archive>⟧.keys v.2) (⟦<Vec<Option<Spot>> as Archive>⟧.meaning v.2)
         (vec_planned no_definition ⟦<ArchivedOption<ArchivedSpot> as Portable>⟧.shape _ _ _
         (slice_planned no_definition ⟦<ArchivedOption<ArchivedSpot> as Portable>⟧.shape
         ⟦<Option<Spot> as Archive>⟧.keys ⟦<Option<Spot> as Archive>⟧.meaning
         (λ x. option_planned no_definition ⟦<ArchivedSpot as Portable>⟧.shape
-        ⟦<Spot as Archive>⟧.keys ⟦<Spot as Archive>⟧.meaning planned_of_spot x) v.1.items))
-        (part_planned (both no_definition (both no_definition no_definition))
-        ⟦<ArchivedPair<ArchivedU64, ArchivedSpot> as Portable>⟧.shape
-        (⟦<Pair<u64, Spot> as Archive>⟧.keys v.2) (⟦<Pair<u64, Spot> as Archive>⟧.meaning v.2)
-        (product_planned (both no_definition (both no_definition no_definition))
-        (part ⟦<ArchivedU64 as Portable>⟧.shape (part ⟦<ArchivedSpot as Portable>⟧.shape no_part))
-        (⟦<u64 as Archive>⟧.keys v.2.left ++ (⟦<Spot as Archive>⟧.keys v.2.right ++ []))
-        (value (⟦<u64 as Archive>⟧.meaning v.2.left) (value (⟦<Spot as Archive>⟧.meaning v.2.right)
-        no_value)) (part_planned no_definition ⟦<ArchivedU64 as Portable>⟧.shape
-        (⟦<u64 as Archive>⟧.keys v.2.left) (⟦<u64 as Archive>⟧.meaning v.2.left)
-        (leaf_planned no_definition _ _ [] _ refl) (part_planned no_definition
-        ⟦<ArchivedSpot as Portable>⟧.shape (⟦<Spot as Archive>⟧.keys v.2.right)
-        (⟦<Spot as Archive>⟧.meaning v.2.right) (planned_of_spot v.2.right) no_part_planned)))
+        ⟦<Spot as Archive>⟧.keys ⟦<Spot as Archive>⟧.meaning planned_of_spot x) v.2.items))
         no_part_planned))) refl };
 
     #[inline(always)]
@@ -1313,7 +1316,7 @@ impl Archive for Lists {
     {
         let Place { bytes, pos, .. } = place;
         let ListsResolver { kept } = resolver;
-        resolve_record_3::<OwnedArray<i16, 4>, Vec<Option<Spot>>, Pair<u64, Spot>, ArchivedLists>(
+        resolve_record_3::<Pair<u64, Spot>, OwnedArray<i16, 4>, Vec<Option<Spot>>, ArchivedLists>(
             &self.0,
             &self.1,
             &self.2,
@@ -1341,9 +1344,9 @@ impl<S: Writer + ResolverAlloc<Alloc = Global>> Serialize<S> for Lists {
     #[inline(always)]
     fn serialize(&self, serializer: &mut S) -> Result<Self::Resolver, Error> {
         match serialize_record_3::<
+            Pair<u64, Spot>,
             OwnedArray<i16, 4>,
             Vec<Option<Spot>>,
-            Pair<u64, Spot>,
             ArchivedLists,
             S,
         >(&self.0, &self.1, &self.2, serializer)
@@ -1371,9 +1374,9 @@ impl ArchiveUnsized for Lists {
     ghost one_length = { λ _ _. refl };
 
     ghost planned = { λ v. one_planned no_definition (parts
+        (part ⟦<ArchivedPair<ArchivedU64, ArchivedSpot> as Portable>⟧.shape
         (part ⟦<[ArchivedI16; 4] as Portable>⟧.shape (part
-        ⟦<ArchivedVec<ArchivedOption<ArchivedSpot>> as Portable>⟧.shape
-        (part ⟦<ArchivedPair<ArchivedU64, ArchivedSpot> as Portable>⟧.shape no_part))))
+        ⟦<ArchivedVec<ArchivedOption<ArchivedSpot>> as Portable>⟧.shape no_part))))
         (⟦<Lists as Archive>⟧.keys v) (⟦<Lists as Archive>⟧.meaning v) (planned_of_lists v) };
 
     #[inline(always)]
@@ -1409,42 +1412,42 @@ impl<D: Entries> Deserialize<Lists, D> for ArchivedLists {
 
 /// The fields of an archived `Lists`, as views.
 pub trait ListsView<'a> {
+    /// A number and a place.
+    fn field_0(self) -> Ref<'a, ArchivedPair<ArchivedU64, ArchivedSpot>>;
+
     /// Four numbers.
-    fn field_0(self) -> Ref<'a, [ArchivedI16; 4]>;
+    fn field_1(self) -> Ref<'a, [ArchivedI16; 4]>;
 
     /// Places, perhaps.
-    fn field_1(self) -> Ref<'a, ArchivedVec<ArchivedOption<ArchivedSpot>>>;
-
-    /// A number and a place.
-    fn field_2(self) -> Ref<'a, ArchivedPair<ArchivedU64, ArchivedSpot>>;
+    fn field_2(self) -> Ref<'a, ArchivedVec<ArchivedOption<ArchivedSpot>>>;
 }
 
 impl<'a> ListsView<'a> for Ref<'a, ArchivedLists> {
-    fn field_0(self) -> Ref<'a, [ArchivedI16; 4]>
+    fn field_0(self) -> Ref<'a, ArchivedPair<ArchivedU64, ArchivedSpot>>
         ensures buffer { result.bytes.now ≡ self.entry.bytes.now }
         ensures position { result.pos ≡ self.entry.pos + 0 }
         ensures length { result.len ≡ 0 }
         ensures shows { ShowsValueOf result self.entry (field_in 0) }
     {
-        part_in_record::<ArchivedLists, [ArchivedI16; 4]>(self, 0, 0)
+        part_in_record::<ArchivedLists, ArchivedPair<ArchivedU64, ArchivedSpot>>(self, 0, 0)
     }
 
-    fn field_1(self) -> Ref<'a, ArchivedVec<ArchivedOption<ArchivedSpot>>>
-        ensures buffer { result.bytes.now ≡ self.entry.bytes.now }
-        ensures position { result.pos ≡ self.entry.pos + 8 }
-        ensures length { result.len ≡ 0 }
-        ensures shows { ShowsValueOf result self.entry (field_in 1) }
-    {
-        part_in_record::<ArchivedLists, ArchivedVec<ArchivedOption<ArchivedSpot>>>(self, 1, 8)
-    }
-
-    fn field_2(self) -> Ref<'a, ArchivedPair<ArchivedU64, ArchivedSpot>>
+    fn field_1(self) -> Ref<'a, [ArchivedI16; 4]>
         ensures buffer { result.bytes.now ≡ self.entry.bytes.now }
         ensures position { result.pos ≡ self.entry.pos + 16 }
         ensures length { result.len ≡ 0 }
+        ensures shows { ShowsValueOf result self.entry (field_in 1) }
+    {
+        part_in_record::<ArchivedLists, [ArchivedI16; 4]>(self, 1, 16)
+    }
+
+    fn field_2(self) -> Ref<'a, ArchivedVec<ArchivedOption<ArchivedSpot>>>
+        ensures buffer { result.bytes.now ≡ self.entry.bytes.now }
+        ensures position { result.pos ≡ self.entry.pos + 24 }
+        ensures length { result.len ≡ 0 }
         ensures shows { ShowsValueOf result self.entry (field_in 2) }
     {
-        part_in_record::<ArchivedLists, ArchivedPair<ArchivedU64, ArchivedSpot>>(self, 2, 16)
+        part_in_record::<ArchivedLists, ArchivedVec<ArchivedOption<ArchivedSpot>>>(self, 2, 24)
     }
 }
 
@@ -1453,50 +1456,50 @@ pub trait ListsSeal<'a> {
     // The seal shows a part of a buffer that was checked.
     ghost sealed: { Self → Type 0 };
 
+    /// A number and a place.
+    fn field_0_mut(self) -> Seal<'a, ArchivedPair<ArchivedU64, ArchivedSpot>>
+        requires { sealed self };
+
     /// Four numbers.
-    fn field_0_mut(self) -> Seal<'a, [ArchivedI16; 4]>
+    fn field_1_mut(self) -> Seal<'a, [ArchivedI16; 4]>
         requires { sealed self };
 
     /// Places, perhaps.
-    fn field_1_mut(self) -> Seal<'a, ArchivedVec<ArchivedOption<ArchivedSpot>>>
-        requires { sealed self };
-
-    /// A number and a place.
-    fn field_2_mut(self) -> Seal<'a, ArchivedPair<ArchivedU64, ArchivedSpot>>
+    fn field_2_mut(self) -> Seal<'a, ArchivedVec<ArchivedOption<ArchivedSpot>>>
         requires { sealed self };
 }
 
 impl<'a> ListsSeal<'a> for Seal<'a, ArchivedLists> {
     ghost sealed = { λ s. IsSealOf no_definition (one ⟦<ArchivedLists as Portable>⟧.shape) s };
 
-    fn field_0_mut(self) -> Seal<'a, [ArchivedI16; 4]>
-        requires come_to { IsSealOf no_definition (one ⟦<ArchivedLists as Portable>⟧.shape) self }
-        ensures { SealsPart no_definition (one ⟦<ArchivedLists as Portable>⟧.shape) no_definition
-            ⟦<[ArchivedI16; 4] as ArchivePointee>⟧.pointee (self.entry.pos + 0) 0 self.entry
-            result }
-    {
-        sealed_part_in_record::<ArchivedLists, [ArchivedI16; 4]>(self, 0, 0)
-    }
-
-    fn field_1_mut(self) -> Seal<'a, ArchivedVec<ArchivedOption<ArchivedSpot>>>
-        requires come_to { IsSealOf no_definition (one ⟦<ArchivedLists as Portable>⟧.shape) self }
-        ensures { SealsPart no_definition (one ⟦<ArchivedLists as Portable>⟧.shape) no_definition
-            ⟦<ArchivedVec<ArchivedOption<ArchivedSpot>> as ArchivePointee>⟧.pointee
-            (self.entry.pos + 8) 0 self.entry result }
-    {
-        sealed_part_in_record::<ArchivedLists, ArchivedVec<ArchivedOption<ArchivedSpot>>>(
-            self, 1, 8,
-        )
-    }
-
-    fn field_2_mut(self) -> Seal<'a, ArchivedPair<ArchivedU64, ArchivedSpot>>
+    fn field_0_mut(self) -> Seal<'a, ArchivedPair<ArchivedU64, ArchivedSpot>>
         requires come_to { IsSealOf no_definition (one ⟦<ArchivedLists as Portable>⟧.shape) self }
         ensures { SealsPart no_definition (one ⟦<ArchivedLists as Portable>⟧.shape)
             (both no_definition (both no_definition no_definition))
             ⟦<ArchivedPair<ArchivedU64, ArchivedSpot> as ArchivePointee>⟧.pointee
-            (self.entry.pos + 16) 0 self.entry result }
+            (self.entry.pos + 0) 0 self.entry result }
     {
-        sealed_part_in_record::<ArchivedLists, ArchivedPair<ArchivedU64, ArchivedSpot>>(self, 2, 16)
+        sealed_part_in_record::<ArchivedLists, ArchivedPair<ArchivedU64, ArchivedSpot>>(self, 0, 0)
+    }
+
+    fn field_1_mut(self) -> Seal<'a, [ArchivedI16; 4]>
+        requires come_to { IsSealOf no_definition (one ⟦<ArchivedLists as Portable>⟧.shape) self }
+        ensures { SealsPart no_definition (one ⟦<ArchivedLists as Portable>⟧.shape) no_definition
+            ⟦<[ArchivedI16; 4] as ArchivePointee>⟧.pointee (self.entry.pos + 16) 0 self.entry
+            result }
+    {
+        sealed_part_in_record::<ArchivedLists, [ArchivedI16; 4]>(self, 1, 16)
+    }
+
+    fn field_2_mut(self) -> Seal<'a, ArchivedVec<ArchivedOption<ArchivedSpot>>>
+        requires come_to { IsSealOf no_definition (one ⟦<ArchivedLists as Portable>⟧.shape) self }
+        ensures { SealsPart no_definition (one ⟦<ArchivedLists as Portable>⟧.shape) no_definition
+            ⟦<ArchivedVec<ArchivedOption<ArchivedSpot>> as ArchivePointee>⟧.pointee
+            (self.entry.pos + 24) 0 self.entry result }
+    {
+        sealed_part_in_record::<ArchivedLists, ArchivedVec<ArchivedOption<ArchivedSpot>>>(
+            self, 2, 24,
+        )
     }
 }
 
