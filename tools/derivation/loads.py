@@ -7,8 +7,8 @@ of the library's impls. Of some 80 lists of fields that were tried, all below 28
     25,588   six fields `Option<Box<Vec<String>>>`   taken         28,989   sixteen `(String, String)`     rejected
     32,804   two fields `Vec<Option<Vec<u32>>>`      taken         30,672   eleven `Vec<u32>`              rejected
 
-Up to eight fields are a nest of pairs, as long as that comes to less. What reading them at once comes to grows fastest, so deep ones are read in pieces,
-or in the blocks in which they are checked and written.
+From four fields on they go by fours, which comes to less than pairs (evidence.py). What reading them at once comes to grows fastest, so deep ones are read in
+pieces, or in the blocks in which they are checked and written.
 """
 
 from .formats import substituted
@@ -218,7 +218,7 @@ class Loads:
         return self.parts(types, fours) + self.owned(types) + self.read(types, fours)
 
     def are_read_at_once(self, types):
-        """Whether one call reads them: by their nest in pairs, or where they are many in fours."""
+        """Whether one call reads them. Up to eight are counted as in pairs, which is more than they come to."""
         return self.of_reading(types, is_long(types)) <= MOST
 
     def pieces(self, types):
