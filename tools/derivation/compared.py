@@ -8,12 +8,12 @@ from .formats import ALIGNS, INTEGERS, snake
 from .layout import Generic, Group, pair, statement
 from .loads import MOST_OF_VARIANTS, Loads
 from .units import types_in_turn
+from .variant_blocks import MOST_IN_NEST
 
 # What a declaration derives whose views are compared.
 ASKING = {"Eq", "PartialOrd", "Ord", "Hash"}
-# Up to so many fields of a struct or of a variant, and so many variants: a run of those without fields is one.
+# Up to so many fields of a struct or of a variant.
 MOST = 8
-MOST_IN_NEST = 8
 # Types whose views are compared, and those that are where what they hold is. Other types of the library have no `PartialEq`, so nothing of them derives these.
 LEAVES = set(INTEGERS) | {"bool", "char", "usize", "isize", "String", "NonZero"}
 HOLDERS = {"Option", "Result", "Box", "Vec", "BTreeMap"}

@@ -23,7 +23,7 @@ def value(type):
     if name == "tuple":
         return WORDS * (1 + parts(args))
     if name == "BTreeMap":
-        return WORDS * (1 + 2 * parts(args))
+        return WORDS * (1 + 2 * value(args[0]) + value(args[1]))
     if name in POINTERS | TO_MANY:
         return WORDS * (1 + 3 * sum(map(value, args)))
     if name in TEXTS or name == "PhantomData" or not args:

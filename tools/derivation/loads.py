@@ -7,12 +7,12 @@ of the library's impls. Of some 80 lists of fields that were tried, all below 28
     25,588   six fields `Option<Box<Vec<String>>>`   taken         28,989   sixteen `(String, String)`     rejected
     32,804   two fields `Vec<Option<Vec<u32>>>`      taken         30,672   eleven `Vec<u32>`              rejected
 
-Up to eight fields are a nest of pairs, as long as that comes to less. What reading them at once comes to grows fastest, so deep ones are read in pieces,
-or in the blocks in which they are checked and written.
+From four fields on they go by fours, which comes to less than pairs (evidence.py). What reading them at once comes to grows fastest, so deep ones are read in
+pieces, or in the blocks in which they are checked and written.
 """
 
 from .formats import substituted
-from .long import MOST_BY_NUMBER, is_long
+from .long import is_long
 
 # What is allowed of it over fields, and over the variants of an enum, where the count comes to less than the front end's: eleven `Option<Box<u32>>`, a
 # variant each, are 23,177 and rejected.
@@ -23,6 +23,8 @@ MOST_OF_BLOCK = 12_000
 MOST_AT_ONCE = 16
 MOST_IN_BLOCK = 12
 LEAST_IN_FOURS = 4
+# How many fields are read at once of those that are read in pieces: the evidence doubles with each.
+MOST_IN_PIECE = 3
 # `Native` of a number, with all that this asks: `Copy`, `Ord`, `Hash` and theirs.
 NATIVE = 9
 PLAIN = {"u8", "i8", "bool", "()"}
@@ -216,14 +218,14 @@ class Loads:
         return self.parts(types, fours) + self.owned(types) + self.read(types, fours)
 
     def are_read_at_once(self, types):
-        """Whether one call reads them: by their nest in pairs, or where they are many in fours."""
+        """Whether one call reads them. Up to eight are counted as in pairs, which is more than they come to."""
         return self.of_reading(types, is_long(types)) <= MOST
 
     def pieces(self, types):
         """Where each piece begins and ends in which fields are read that aren't read at once: as many fields each as are not too much."""
         found, begin = [], 0
         for end in range(1, len(types) + 1):
-            if end == len(types) or end - begin == MOST_BY_NUMBER or self.of_reading(types[begin:end + 1], False) > MOST:
+            if end == len(types) or end - begin == MOST_IN_PIECE or self.of_reading(types[begin:end + 1], False) > MOST:
                 found.append((begin, end))
                 begin = end
         return found

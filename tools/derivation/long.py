@@ -1,4 +1,5 @@
-"""Fields one after another: up to eight by calls by their number, more as a nest of four at once.
+"""Fields one after another: up to eight are written by calls by their number, more by their nest. They are checked and read back by the nest, from four on by
+fours.
 
 The evidence of a call with a flat list of fields (`serialize_record_4` and its kin) is linear in the fields. Reading goes by the nest: by number, with a
 bound `A::Archived: Deserialize<A, R>` a field, it "stopped at the step limit (50000000 steps a task, the default)" at three. The front end doesn't take

@@ -11,6 +11,8 @@ from .layout import call, statement
 from .loads import MOST_OF_VARIANTS, Loads
 from .part_laws import bare
 
+# Up to so many variants are one nest.
+MOST_IN_NEST = 8
 # The most that the variants of one block come to, where there are several, and how many there are.
 MOST_OF_BLOCK = 6_000
 MOST_IN_BLOCK = 4
@@ -22,12 +24,12 @@ def blocks_of(types):
     """Where each block begins and ends among the variants, by the types of their fields: a run of variants without fields is one without. Those blocks that
     cost the least."""
     loads = Loads()
-    if len(types) <= MOST_IN_BLOCK and loads.of_variants(types) <= MOST_OF_VARIANTS and evidence.variants(types) <= COST:
-        return [(0, len(types))]
     least = [(0, [])]
     for end in range(1, len(types) + 1):
         begins = [begin for begin in range(max(0, end - MOST_IN_BLOCK), end) if begin == end - 1 or loads.of_variants(types[begin:end]) <= MOST_OF_BLOCK]
         least.append(min((least[begin][0] + COST + evidence.variants(types[begin:end]), [*least[begin][1], (begin, end)]) for begin in begins))
+    if len(types) <= MOST_IN_NEST and loads.of_variants(types) <= MOST_OF_VARIANTS:
+        least.append(min(least[-1], (COST + evidence.variants(types), [(0, len(types))])))
     return least[-1][1]
 
 

@@ -4,7 +4,7 @@ use crate::assertions::{assert_archived, assert_same, text, viewed};
 use crate::judgements::{assert_faults, unknown_tag};
 use archive_core::error::Error;
 use archive_core::view::Ref;
-use derived_blocks::depot::{ArchivedDepot, Depot, DepotView, ViewOfDepot};
+use derived_plain::depot::{ArchivedDepot, Depot, DepotView, ViewOfDepot};
 use std::alloc::Global;
 use std::process::Abort;
 

@@ -7,7 +7,7 @@ use crate::assertions::{
 use crate::judgements::{assert_faults, assert_refused, outside, unaligned};
 use archive_core::error::Error;
 use archive_core::primitive::NonZero;
-use derived_kinds::kinds::{
+use derived_types::kinds::{
     ArchivedEmpty, ArchivedNumbers, Empty, Numbers, NumbersSeal, NumbersView,
 };
 use std::alloc::Global;

@@ -1,4 +1,4 @@
-// A record without names, of an array, a list of options of records, and a record with parameters; and such records at other types.
+// A record without names, of a record with parameters, an array and a list of options of records; and such records at other types.
 
 use crate::assertions::{
     assert_archived, assert_bytes, assert_holds, assert_same, assert_written, sealed, text,
@@ -12,17 +12,17 @@ use archive_core::option::ArchivedOption;
 use archive_core::primitive::{ArchivedU16, ArchivedU64};
 use archive_core::string::ArchivedString;
 use archive_core::view::Ref;
-use derived_kinds::kinds::{ArchivedLists, Lists, ListsSeal, ListsView};
-use derived_kinds::pair::{ArchivedPair, Pair, PairSeal, PairView};
 use derived_types::event::ArchivedEvent;
+use derived_types::kinds::{ArchivedLists, Lists, ListsSeal, ListsView};
+use derived_types::pair::{ArchivedPair, Pair, PairSeal, PairView};
 use derived_types::spot::{ArchivedSpot, Spot, SpotSeal};
 use std::alloc::Global;
 use std::process::Abort;
 
-// An option of the numbers 1 and -2, a None, and four zeros. At 16 the numbers 1, -1, 258 and 0, the vector that points 24 bytes back at both options, and at
-// 32, a multiple of 8, the number 7 of eight bytes, 3 and 4 of two bytes, and four zeros.
+// An option of the numbers 1 and -2, a None, and four zeros. At 16, a multiple of 8, the number 7 of eight bytes, 3 and 4 of two bytes, and four zeros, at 32
+// the numbers 1, -1, 258 and 0, and the vector that points 40 bytes back at both options.
 const LISTS: &[u8; 48] =
-    b"\x01\0\x01\0\xfe\xff\0\0\0\0\0\0\0\0\0\0\x01\0\xff\xff\x02\x01\0\0\xe8\xff\xff\xff\x02\0\0\0\x07\0\0\0\0\0\0\0\x03\0\x04\0\0\0\0\0";
+    b"\x01\0\x01\0\xfe\xff\0\0\0\0\0\0\0\0\0\0\x07\0\0\0\0\0\0\0\x03\0\x04\0\0\0\0\0\x01\0\xff\xff\x02\x01\0\0\xd8\xff\xff\xff\x02\0\0\0";
 
 // The value that those bytes are the archive of.
 fn lists(rt: &impl Abort, alloc: Global) -> Lists {
@@ -35,9 +35,9 @@ fn lists(rt: &impl Abort, alloc: Global) -> Lists {
         right: Spot { right: 3, up: 4 },
     };
     Lists(
+        pair,
         OwnedArray::from_vec(four).expect(rt, "four numbers"),
         spots.expect(rt, "memory for places"),
-        pair,
     )
 }
 
@@ -51,10 +51,10 @@ fn lists_are_written(rt: HostRuntime) {
 fn lists_are_read_back(rt: HostRuntime) {
     let back: Lists = value_of(&rt, rt.alloc(), LISTS, &mut ());
     let wanted = lists(&rt, rt.alloc());
-    let numbers = back.0.as_slice();
+    let numbers = back.1.as_slice();
     assert_same(&rt, "the numbers", numbers, [1, -1, 258, 0].as_slice());
-    assert_same(&rt, "the places", &back.1, &wanted.1);
-    assert_same(&rt, "the pair", &back.2, &wanted.2);
+    assert_same(&rt, "the places", &back.2, &wanted.2);
+    assert_same(&rt, "the pair", &back.0, &wanted.0);
 }
 
 // The options of a list: a place, and none.
@@ -73,29 +73,29 @@ fn assert_spots(
 #[test]
 fn lists_are_viewed(rt: HostRuntime) {
     let view = viewed::<ArchivedLists>(&rt, rt.alloc(), LISTS);
-    let third = view.field_0().index(2).get();
-    assert_same(&rt, "a number", (third, view.field_0().len()), (258, 4));
-    let spots = view.field_1().as_slice();
+    let third = view.field_1().index(2).get();
+    assert_same(&rt, "a number", (third, view.field_1().len()), (258, 4));
+    let spots = view.field_2().as_slice();
     let (Some(first), Some(second)) = (spots.get(0), spots.get(1)) else {
         panic!(&rt; "not two")
     };
     assert_spots(&rt, first, second);
-    assert_same(&rt, "to the left", view.field_2().left().get(), 7);
-    assert_spot(&rt, view.field_2().right(), 3, 4);
+    assert_same(&rt, "to the left", view.field_0().left().get(), 7);
+    assert_spot(&rt, view.field_0().right(), 3, 4);
 }
 
 // Writes over the last number, and over the place of the pair.
 fn write_lists(rt: &impl Abort, alloc: Global, bytes: &mut [u8]) {
-    let four = sealed::<ArchivedLists>(rt, alloc, bytes).field_0_mut();
+    let four = sealed::<ArchivedLists>(rt, alloc, bytes).field_1_mut();
     four.index(3).write(5);
-    let pair = sealed::<ArchivedLists>(rt, alloc, bytes).field_2_mut();
+    let pair = sealed::<ArchivedLists>(rt, alloc, bytes).field_0_mut();
     pair.right_mut().up_mut().write(-1);
 }
 
 // And over the first place of the list.
 fn write_first(rt: &impl Abort, alloc: Global, bytes: &mut [u8]) {
     let spots = sealed::<ArchivedLists>(rt, alloc, bytes)
-        .field_1_mut()
+        .field_2_mut()
         .as_slice_seal();
     if spots.len() > 0 {
         if let Some(spot) = spots.index(0).as_seal() {
@@ -110,7 +110,7 @@ fn lists_are_edited(rt: HostRuntime) {
     write_lists(&rt, rt.alloc(), &mut bytes);
     write_first(&rt, rt.alloc(), &mut bytes);
     let wanted =
-        b"\x01\0\x09\0\xfe\xff\0\0\0\0\0\0\0\0\0\0\x01\0\xff\xff\x02\x01\x05\0\xe8\xff\xff\xff\x02\0\0\0\x07\0\0\0\0\0\0\0\x03\0\xff\xff\0\0\0\0";
+        b"\x01\0\x09\0\xfe\xff\0\0\0\0\0\0\0\0\0\0\x07\0\0\0\0\0\0\0\x03\0\xff\xff\0\0\0\0\x01\0\xff\xff\x02\x01\x05\0\xd8\xff\xff\xff\x02\0\0\0";
     assert_bytes(&rt, "the edited lists", &bytes, wanted);
 }
 
@@ -118,8 +118,8 @@ fn lists_are_edited(rt: HostRuntime) {
 fn faults_of_lists_are_found(rt: HostRuntime) {
     let rows = [
         (6, 2, unknown_tag("ArchivedOption", 2)),
-        (24, 0xe9, unaligned(1, 2)),
-        (28, 3, outside(0, 18, 0, 16)),
+        (40, 0xd9, unaligned(1, 2)),
+        (44, 3, outside(0, 18, 0, 16)),
     ];
     assert_faults::<ArchivedLists>(&rt, rt.alloc(), LISTS, &rows);
     let rows: [(&[u8], Error); 1] = [(&[0; 36], unaligned(4, 8))];

@@ -18,7 +18,7 @@ use archive_core::seal::Seal;
 use archive_core::slice::ArchivedSlice;
 use archive_core::string::{ArchivedStr, ArchivedString};
 use archive_core::view::Ref;
-use derived_kinds::kinds::{ArchivedOwners, Owners, OwnersSeal, OwnersView};
+use derived_types::kinds::{ArchivedOwners, Owners, OwnersSeal, OwnersView};
 use std::alloc::Global;
 use std::marker::PhantomData;
 use std::process::Abort;

@@ -3,15 +3,15 @@
 use crate::assertions::{assert_archived, assert_same, text, viewed};
 use crate::judgements::{assert_faults, unknown_tag};
 use archive_core::error::Error;
-use derived_deep::parcel::{ArchivedParcel, Parcel, ParcelView};
+use derived_plain::parcel::{ArchivedParcel, Parcel, ParcelView};
 use std::alloc::{AllocError, Global};
 use std::collections::BTreeMap;
 use std::process::Abort;
 
-// A text and a zero; at 12 the pair of "a" and 3, at 24 the text "hi", at 32 the number 258. At 40 the parcel: its number and key, at 52 the option with 5 and the
+// A text and a zero; at 12 the pair of "a" and 3, at 24 the text "hi", at 32 the number 9. At 40 the parcel: its number and key, at 52 the option with 5 and the
 // text, at 68 the pairs, at 76 the option with the texts, at 88 no entries, at 96 the result with the number.
 const PARCEL: &[u8; 112] =
-    b"hello world\0a\xff\xff\xff\xff\xff\xff\xff\x03\0\0\0hi\xff\xff\xff\xff\xff\xff\x02\x01\0\0\0\0\0\0\x07\0\0\0\0\0\0\0\x01\x02\x03\x04\x01\0\0\0\x05\0\0\0\x8b\0\0\0\xc4\xff\xff\xff\xc8\xff\xff\xff\x01\0\0\0\x01\0\0\0\xc8\xff\xff\xff\x01\0\0\0\xc8\xff\xff\xff\0\0\0\0\x01\0\0\0\xbc\xff\xff\xff\x01\0\0\0\0\0\0\0";
+    b"hello world\0a\xff\xff\xff\xff\xff\xff\xff\x03\0\0\0hi\xff\xff\xff\xff\xff\xff\x09\0\0\0\0\0\0\0\x07\0\0\0\0\0\0\0\x01\x02\x03\x04\x01\0\0\0\x05\0\0\0\x8b\0\0\0\xc4\xff\xff\xff\xc8\xff\xff\xff\x01\0\0\0\x01\0\0\0\xc8\xff\xff\xff\x01\0\0\0\xc8\xff\xff\xff\0\0\0\0\x01\0\0\0\xbc\xff\xff\xff\x01\0\0\0\0\0\0\0";
 
 // What the archive is of, with these texts.
 fn parcel_of(
@@ -22,7 +22,7 @@ fn parcel_of(
 ) -> Result<Parcel, AllocError> {
     let content = vec![in alloc; (second, 3)]?;
     let notes = vec![in alloc; third]?;
-    let offers = vec![in alloc; 258]?;
+    let offers = vec![in alloc; 9]?;
     Ok(Parcel {
         number: 7,
         key: [1, 2, 3, 4],

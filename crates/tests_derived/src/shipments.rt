@@ -5,7 +5,7 @@ use crate::assertions::{
 };
 use crate::judgements::{assert_faults, outside, unknown_tag};
 use archive_core::error::Error;
-use derived_deep::shipment::{ArchivedShipment, Shipment, ShipmentSeal, ShipmentView};
+use derived_plain::shipment::{ArchivedShipment, Shipment, ShipmentSeal, ShipmentView};
 use std::alloc::Global;
 use std::process::Abort;
 

@@ -97,7 +97,7 @@ class LoadsTest(RepositoryTest):
         path = self.put("pub struct A { " + ", ".join(f"f{i}: Vec<u32>" for i in range(8)) + " }")
         self.assertEqual(self.run_command(path), (0, ""))
         written = self.text(path)
-        self.assertIn("type AParts1 = (ArchivedVec<ArchivedU32>, (ArchivedVec<ArchivedU32>, ()));", written)
+        self.assertIn("type AParts2 = (ArchivedVec<ArchivedU32>, (ArchivedVec<ArchivedU32>, ()));", written)
         self.assertIn("serialize_record_8::<", written)
         self.assertIn("match read_a(alloc, part, deserializer) {", written)
         self.assertIn("Ok(values) => Ok(a_of(values)),", written)

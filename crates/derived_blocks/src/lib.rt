@@ -1,5 +1,0 @@
-//! Types of many fields, as tools/derive writes them.
-#![tactic(auto)]
-
-pub mod depot;
-pub mod notice;
