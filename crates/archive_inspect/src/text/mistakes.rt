@@ -1,96 +1,61 @@
 //! What is wrong with a schema text, and where.
 
 use std::alloc::AllocError;
-use std::error::Error;
-use std::fmt::{self, Display};
+use thiserror::Error;
 
 /// What is wrong with a text that is no schema.
-#[derive(Debug, Drop, Clone, Copy)]
+#[derive(Debug, Drop, Clone, Copy, Error)]
 pub enum Mistake {
     /// Memory was refused.
+    #[error("out of memory")]
     OutOfMemory,
     /// A character that no type is written with.
+    #[error("unexpected character")]
     Sign,
     /// Something else is expected there.
+    #[error("expected {0}")]
     Expected(&'static str),
     /// A type is neither defined nor one of the library's.
+    #[error("unknown type `{0}`")]
     UnknownType(&'static str),
     /// A type has the name of one above.
+    #[error("a type of this name is defined above")]
     DefinedTwice,
     /// A field has the name of one before it.
+    #[error("a field of this name comes before")]
     FieldTwice,
     /// A variant has the name of one before it.
+    #[error("a variant of this name comes before")]
     VariantTwice,
     /// A defined type has parameters.
+    #[error("generic types aren't supported: define one for each use")]
     Parameters,
     /// A `str` or a slice is not behind a pointer.
+    #[error("`str` and slices must be behind a pointer, as in `Box<str>`")]
     Unsized,
     /// A number is too large.
+    #[error("the number is too large")]
     LargeNumber,
     /// An enum has no variant, or more than 256.
+    #[error("an enum must have 1 to 256 variants")]
     Variants,
     /// Types are nested too deep.
+    #[error("types are nested more than 100 deep")]
     TooDeep,
     /// The text has too many definitions.
+    #[error("more than 500 types are defined")]
     TooMany,
     /// The root has too many parts, those of its parts included.
+    #[error("the type has more than 100000 parts")]
     TooLarge,
     /// A type contains itself other than behind a pointer.
+    #[error("the type contains itself without a `Box` or `Vec` between")]
     Recursive,
 }
 
-impl Mistake {
-    // The text of the mistake, in front of what it names.
-    fn text(self) -> &'static str {
-        match self {
-            Mistake::OutOfMemory => "out of memory",
-            Mistake::Sign => "unexpected character",
-            Mistake::DefinedTwice => "a type of this name is defined above",
-            Mistake::FieldTwice => "a field of this name comes before",
-            Mistake::VariantTwice => "a variant of this name comes before",
-            Mistake::Parameters => "generic types aren't supported: define one for each use",
-            Mistake::Unsized => "`str` and slices must be behind a pointer, as in `Box<str>`",
-            Mistake::LargeNumber => "the number is too large",
-            Mistake::Variants => "an enum must have 1 to 256 variants",
-            Mistake::TooDeep => "types are nested more than 100 deep",
-            Mistake::TooMany => "more than 500 types are defined",
-            Mistake::TooLarge => "the type has more than 100000 parts",
-            Mistake::Recursive => "the type contains itself without a `Box` or `Vec` between",
-            Mistake::Expected(_) => "expected ",
-            Mistake::UnknownType(_) => "unknown type `",
-        }
-    }
-
-    // What it names, if something.
-    fn named(self) -> &'static str {
-        match self {
-            Mistake::Expected(named) | Mistake::UnknownType(named) => named,
-            _ => "",
-        }
-    }
-
-    // What comes behind that.
-    fn end(self) -> &'static str {
-        match self {
-            Mistake::UnknownType(_) => "`",
-            _ => "",
-        }
-    }
-}
-
-/// As `expected a type`.
-impl fmt::Display for Mistake {
-    fn fmt<W: fmt::Write>(&self, f: &mut fmt::Formatter<W>) -> fmt::Result {
-        f.write_str(self.text())?;
-        f.write_str(self.named())?;
-        f.write_str(self.end())
-    }
-}
-
-impl Error for Mistake {}
-
 /// Why a text is no schema.
-#[derive(Debug, Drop, Clone, Copy)]
+#[derive(Debug, Drop, Clone, Copy, Error)]
+#[error("line {line}, column {column}: {mistake}")]
 pub struct SchemaError {
     /// The line, from 1.
     pub line: usize,
@@ -106,18 +71,6 @@ impl SchemaError {
         matches!(self.mistake, Mistake::OutOfMemory)
     }
 }
-
-/// As `line 1, column 3: expected a type`.
-impl fmt::Display for SchemaError {
-    fn fmt<W: fmt::Write>(&self, f: &mut fmt::Formatter<W>) -> fmt::Result {
-        let line = self.line;
-        let column = self.column;
-        write!(f, "line {line}, column {column}: ")?;
-        self.mistake.fmt(f)
-    }
-}
-
-impl Error for SchemaError {}
 
 // The same, with a position in bytes.
 #[derive(Clone, Copy)]

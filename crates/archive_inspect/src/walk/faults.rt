@@ -4,7 +4,7 @@ use crate::walk::{Count, Region};
 use archive_check::format::error::Error;
 use archive_check::format::expr::Kind;
 use std::alloc::{AllocError, AllocFailed};
-use std::fmt::{self, Display};
+use std::fmt;
 
 /// Why a walk has stopped.
 #[derive(Clone, Copy)]
@@ -94,33 +94,22 @@ impl Reason {
     }
 }
 
-// What is said of a region in front of its bytes.
-fn opening_of(count: Count) -> &'static str {
-    match count {
-        Count::Root => "the root's ",
-        Count::One => "a value of ",
-        Count::Elements(1) => "1 element of ",
-        Count::Elements(_) => " elements of ",
-        Count::Text(_) => "a text of ",
-    }
-}
-
 /// As `3 elements of 8 bytes at -20`.
 impl fmt::Display for Region {
     fn fmt<W: fmt::Write>(&self, f: &mut fmt::Formatter<W>) -> fmt::Result {
         let position = self.position;
-        let size = match self.count {
-            Count::Text(count) => count as i128,
-            _ => self.size,
-        };
+        let size = self.size;
         let bytes = if size == 1 { "byte" } else { "bytes" };
-        if let Count::Elements(count) = self.count {
-            if count != 1 {
-                count.fmt(f)?;
+        match self.count {
+            Count::Root => write!(f, "the root's {size} {bytes} at {position}"),
+            Count::One => write!(f, "a value of {size} {bytes} at {position}"),
+            Count::Elements(1) => write!(f, "1 element of {size} {bytes} at {position}"),
+            Count::Elements(count) => {
+                write!(f, "{count} elements of {size} {bytes} at {position}")
             }
+            Count::Text(1) => write!(f, "a text of 1 byte at {position}"),
+            Count::Text(count) => write!(f, "a text of {count} bytes at {position}"),
         }
-        f.write_str(opening_of(self.count))?;
-        write!(f, "{size} {bytes} at {position}")
     }
 }
 
@@ -133,84 +122,58 @@ fn lies(region: Region) -> &'static str {
     }
 }
 
-impl Reason {
-    // What is said in front of the numbers.
-    fn opening(&self) -> &'static str {
-        match self {
-            Reason::TooLarge(_) | Reason::Outside(_, _, _) | Reason::Unaligned(_) => "",
-            Reason::Bool(_) => "the bool is 0x",
-            Reason::Char(_) => "the char is 0x",
-            Reason::Zero(_) => "the number is 0, which its type excludes",
-            Reason::Tag(_, _, _, _) => "the tag is ",
-            Reason::Text(_, _, _) => "the text isn't UTF-8 (byte ",
-            Reason::Coded(_) => "the string is out of line, but its length is only ",
-            Reason::OtherType(_) | Reason::OtherLength(_) => "the value at ",
-            Reason::Cycle(_) => "the shared value at ",
-            Reason::Unsorted => "the key is no greater than the one before it",
-        }
-    }
-
-    // What is said behind them.
-    fn end(&self) -> &'static str {
-        match self {
-            Reason::TooLarge(_) => ": more bytes than a usize counts",
-            Reason::Bool(_) => ", neither 0 nor 1",
-            Reason::Char(_) => ", which is no Unicode scalar value",
-            Reason::Text(_, _, _) => ")",
-            Reason::OtherType(_) => " is also pointed to as another type",
-            Reason::OtherLength(_) => " is also pointed to with another length",
-            Reason::Cycle(_) => " contains itself",
-            _ => "",
-        }
-    }
-}
-
-// The numbers of a reason.
-fn show_numbers<W: fmt::Write>(f: &mut fmt::Formatter<W>, reason: &Reason) -> fmt::Result {
-    match reason {
-        Reason::TooLarge(region) => region.fmt(f),
-        Reason::Outside(region, start, end) => show_outside(f, *region, *start, *end),
-        Reason::Unaligned(region) => show_unaligned(f, *region),
-        Reason::Bool(byte) => write!(f, "{byte:02x}"),
-        Reason::Char(code) => write!(f, "{code:x}"),
-        Reason::Tag(tag, count, _, shown) => show_tag(f, *tag, *count, shown),
-        Reason::Text(length, index, byte) => show_text(f, *length, *index, *byte),
-        Reason::Coded(length) => length.fmt(f),
-        Reason::OtherType(position) | Reason::OtherLength(position) | Reason::Cycle(position) => {
-            position.fmt(f)
-        }
-        Reason::Zero(_) | Reason::Unsorted => Ok(()),
-    }
-}
-
-/// As `the bool is 0x02, neither 0 nor 1`.
+/// As `the bool is 0x02, and neither 0 nor 1`.
 impl fmt::Display for Reason {
     fn fmt<W: fmt::Write>(&self, f: &mut fmt::Formatter<W>) -> fmt::Result {
-        f.write_str(self.opening())?;
-        show_numbers(f, self)?;
-        f.write_str(self.end())
+        match self {
+            Reason::TooLarge(region) => { write!(f, "{region}: more bytes than a usize counts") }
+            Reason::Outside(region, start, end) => {
+                let lies = lies(*region);
+                write!(f, "{region} {lies} within {start}..{end}")
+            }
+            Reason::Unaligned(region) => {
+                let lies = lies(*region);
+                let align = region.align;
+                write!(f, "{region} {lies} at a multiple of {align}")
+            }
+            Reason::Bool(byte) => write!(f, "the bool is 0x{byte:02x}, neither 0 nor 1"),
+            Reason::Char(code) => write!(
+                f,
+                "the char is 0x{code:x}, which is no Unicode scalar value"
+            ),
+            Reason::Zero(_) => f.write_str("the number is 0, which its type excludes"),
+            Reason::Tag(tag, count, _, shown) => show_tag(f, *tag, *count, shown),
+            Reason::Text(length, index, byte) => {
+                write!(
+                    f,
+                    "the text isn't UTF-8 (byte {index} of {length} is 0x{byte:02x})"
+                )
+            }
+            Reason::Coded(length) => {
+                write!(
+                    f,
+                    "the string is out of line, but its length is only {length}"
+                )
+            }
+            Reason::OtherType(position) => {
+                write!(
+                    f,
+                    "the value at {position} is also pointed to as another type"
+                )
+            }
+            Reason::OtherLength(position) => {
+                write!(
+                    f,
+                    "the value at {position} is also pointed to with another length"
+                )
+            }
+            Reason::Cycle(position) => write!(f, "the shared value at {position} contains itself"),
+            Reason::Unsorted => f.write_str("the key is no greater than the one before it"),
+        }
     }
 }
 
-// As `a value of 8 bytes at 4 doesn't lie within 0..8`.
-fn show_outside<W: fmt::Write>(
-    f: &mut fmt::Formatter<W>,
-    region: Region,
-    start: i128,
-    end: i128,
-) -> fmt::Result {
-    let lies = lies(region);
-    write!(f, "{region} {lies} within {start}..{end}")
-}
-
-// As `a value of 8 bytes at 4 doesn't lie at a multiple of 8`.
-fn show_unaligned<W: fmt::Write>(f: &mut fmt::Formatter<W>, region: Region) -> fmt::Result {
-    let lies = lies(region);
-    let align = region.align;
-    write!(f, "{region} {lies} at a multiple of {align}")
-}
-
-// As `9, and Event has 5 variants`.
+// As `the tag is 9, and Event has 5 variants`.
 fn show_tag<W: fmt::Write>(
     f: &mut fmt::Formatter<W>,
     tag: u8,
@@ -218,17 +181,7 @@ fn show_tag<W: fmt::Write>(
     shown: &str,
 ) -> fmt::Result {
     let variants = if count == 1 { "variant" } else { "variants" };
-    write!(f, "{tag}, and {shown} has {count} {variants}")
-}
-
-// As `3 of 11 is 0xc0`.
-fn show_text<W: fmt::Write>(
-    f: &mut fmt::Formatter<W>,
-    length: usize,
-    index: usize,
-    byte: u8,
-) -> fmt::Result {
-    write!(f, "{index} of {length} is 0x{byte:02x}")
+    write!(f, "the tag is {tag}, and {shown} has {count} {variants}")
 }
 
 impl From<AllocError> for Stop {
