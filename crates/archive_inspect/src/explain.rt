@@ -70,7 +70,7 @@ pub fn explain<T: Portable>(alloc: Global, bytes: &[u8]) -> Result<Option<Explan
     ensures refused { IfErr result (λ e. ExplainsNoSchema T.shape T.definitions e) }
 {
     let form = Form::of::<T>(alloc)?;
-    explained_as::<T>(alloc, &form, bytes)
+    explained_as::<T>(alloc, form, bytes)
 }
 
 /// The same with the names of a text, such as `tools/derive` writes of a file by `// text: NAME`.
@@ -88,20 +88,10 @@ pub fn explain_by<T: Portable>(
     ensures refused { IfErr result (λ e. ExplainsNoSchema T.shape T.definitions e) }
 {
     let form = Form::of::<T>(alloc)?;
-    match named_by(alloc, form, text) {
-        Some(named) => explained_as::<T>(alloc, &named, bytes),
-        None => Err(Error::OutOfMemory),
-    }
-}
-
-// The same form with the names of a text, if that writes the same schema. None if memory is refused.
-fn named_by(alloc: Global, form: Form, text: &str) -> Option<Form>
-    ensures { IfSome result (λ named. named.schema ≡ form.schema) }
-{
     match parse(alloc, text) {
-        Ok(written) => Some(form.with_names_of(written)),
-        Err(error) if error.is_out_of_memory() => None,
-        Err(_) => Some(form),
+        Ok(written) => explained_as::<T>(alloc, form.with_names_of(written), bytes),
+        Err(error) if error.is_out_of_memory() => Err(Error::OutOfMemory),
+        Err(_) => explained_as::<T>(alloc, form, bytes),
     }
 }
 
@@ -121,17 +111,17 @@ pub fn explain_with(
 // What is explained by a form of `T`.
 fn explained_as<T: Portable>(
     alloc: Global,
-    form: &Form,
+    form: Form,
     bytes: &[u8],
 ) -> Result<Option<Explanation>, Error>
-    requires { IsSchemaOf form.now.schema T.shape T.definitions }
+    requires { IsSchemaOf form.schema T.shape T.definitions }
     ensures explained { IfOk result (ExplainsBuffer T.definitions bytes.now
         (root_in bytes.now T.layout) T.shape) }
     ensures refused { IfErr result (λ e. ExplainsNoSchema T.shape T.definitions e) }
 {
-    let answer = check_as::<T>(alloc, form, bytes);
+    let answer = check_as::<T>(alloc, &form, bytes);
     let root = root_position::<T>(bytes.len());
-    let explanation = explained(alloc, form, bytes, root, answer)?;
+    let explanation = explained(alloc, &form, bytes, root, answer)?;
     Ok(explanation)
 }
 

@@ -3,7 +3,7 @@
 use crate::form::labels::PartLabels;
 use crate::walk::frames::{Frame, Held, OpenElements, OpenEntries, OpenParts};
 use std::alloc::{AllocError, Global};
-use std::fmt::{self, Display};
+use std::fmt;
 
 /// A step from a value to one within it.
 #[derive(Clone, Copy)]
@@ -26,60 +26,20 @@ pub enum RouteStep {
     Text,
 }
 
-impl RouteStep {
-    // What is written in front of the number or the name.
-    fn opening(&self) -> &'static str {
-        match self {
-            RouteStep::Part(_, _) => ".",
-            RouteStep::Variant(_, "") => ".#",
-            RouteStep::Variant(_, _) => ".",
-            RouteStep::Element(_) => "[",
-            RouteStep::Key(_) => ".key(",
-            RouteStep::Value(_) => ".value(",
-            RouteStep::Target => ".*",
-            RouteStep::Only | RouteStep::Text => "",
-        }
-    }
-
-    // The name.
-    fn name(&self) -> &'static str {
-        match self {
-            RouteStep::Part(_, name) | RouteStep::Variant(_, name) => name,
-            _ => "",
-        }
-    }
-
-    // The number, if it has one and no name.
-    fn number(&self) -> Option<usize> {
-        match self {
-            RouteStep::Part(number, "") => Some(*number),
-            RouteStep::Variant(tag, "") => Some(*tag as usize),
-            RouteStep::Element(number) | RouteStep::Key(number) | RouteStep::Value(number) => {
-                Some(*number)
-            }
-            _ => None,
-        }
-    }
-
-    // What is written behind it.
-    fn end(&self) -> &'static str {
-        match self {
-            RouteStep::Element(_) => "]",
-            RouteStep::Key(_) | RouteStep::Value(_) => ")",
-            _ => "",
-        }
-    }
-}
-
 /// As `.name`, `[17]` or `.*`.
 impl fmt::Display for RouteStep {
     fn fmt<W: fmt::Write>(&self, f: &mut fmt::Formatter<W>) -> fmt::Result {
-        f.write_str(self.opening())?;
-        match self.number() {
-            Some(number) => number.fmt(f)?,
-            None => f.write_str(self.name())?,
+        match self {
+            RouteStep::Part(number, "") => write!(f, ".{number}"),
+            RouteStep::Part(_, name) => write!(f, ".{name}"),
+            RouteStep::Variant(tag, "") => write!(f, ".#{tag}"),
+            RouteStep::Variant(_, name) => write!(f, ".{name}"),
+            RouteStep::Element(number) => write!(f, "[{number}]"),
+            RouteStep::Key(number) => write!(f, ".key({number})"),
+            RouteStep::Value(number) => write!(f, ".value({number})"),
+            RouteStep::Target => f.write_str(".*"),
+            RouteStep::Only | RouteStep::Text => Ok(()),
         }
-        f.write_str(self.end())
     }
 }
 
@@ -97,12 +57,9 @@ const WRITTEN: usize = 200;
 
 // Whether nothing is written of any of the steps.
 fn are_silent(steps: &[RouteStep]) -> bool {
-    for step in steps {
-        if !matches!(step, RouteStep::Only | RouteStep::Text) {
-            return false;
-        }
-    }
-    true
+    steps
+        .iter()
+        .all(|step| matches!(step, RouteStep::Only | RouteStep::Text))
 }
 
 /// As `.events[17].Text`; the root alone is `the root`. Of a long one the last steps are written.
@@ -115,7 +72,7 @@ impl fmt::Display for Route {
             return f.write_str("the root");
         }
         for step in &self.steps[skipped..] {
-            step.fmt(f)?;
+            write!(f, "{step}")?;
         }
         Ok(())
     }

@@ -5,18 +5,18 @@ mod building;
 mod declarations;
 mod known;
 mod mistakes;
-mod nodes;
 mod parser;
 mod resolving;
 mod tokens;
-mod writing;
 
 use crate::form::Form;
+use declarations::declared_names;
 use mistakes::Wrong;
 pub use mistakes::{Mistake, SchemaError};
 use parser::Parser;
 use resolving::form_of;
 use std::alloc::Global;
+use tokens::tokens_of;
 
 /// The form that a text writes: the definitions of structs and enums in any order, and then the
 /// root; without one the last definition is the root. Attributes, comments, `pub` and lines of
@@ -33,14 +33,10 @@ pub fn parse(alloc: Global, text: &str) -> Result<Form, SchemaError> {
 
 // The same, with a mistake told by its position.
 fn read(alloc: Global, bytes: &[u8]) -> Result<Form, Wrong> {
-    let mut parser = Parser::new(alloc, bytes);
-    parser.read_tokens();
-    parser.add_known_names();
-    parser.find_all_declared();
-    let last = parser.declarations();
-    let root = parser.root(last);
-    match parser.wrong {
-        Some(wrong) => Err(wrong),
-        None => form_of(alloc, &parser.tree, root),
-    }
+    let tokens = tokens_of(alloc, bytes)?;
+    let names = declared_names(alloc, bytes, &tokens)?;
+    let mut parser = Parser::new(alloc, bytes, &tokens, &names);
+    let declared = parser.declarations()?;
+    let root = parser.root(&declared)?;
+    form_of(alloc, declared, root)
 }

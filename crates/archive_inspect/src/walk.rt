@@ -12,7 +12,7 @@ mod met;
 
 use crate::form::Form;
 use crate::form::labels::Labels;
-use crate::walk::faults::{FirstFault, Reason, Stop};
+use crate::walk::faults::Stop;
 use crate::walk::frames::{Begun, Frame, Place};
 use crate::walk::met::Met;
 use archive_check::format::expr::Expr;
@@ -136,10 +136,6 @@ pub struct Walker<'a> {
     twice: bool,
     // Whether the innermost region is gone through again, so that its pointers aren't followed.
     again: bool,
-    // What was met last: none at the end.
-    event: Option<Event<'a>>,
-    // Why it has stopped, if it has.
-    stopped: Option<Stop>,
 }
 
 impl<'a> Walker<'a> {
@@ -157,8 +153,6 @@ impl<'a> Walker<'a> {
             quick: false,
             twice: false,
             again: false,
-            event: None,
-            stopped: None,
         }
     }
 
@@ -200,62 +194,16 @@ impl<'a> Walker<'a> {
 
     /// What is met next: none at the end. Once it has stopped, further calls return nothing of use.
     pub fn step(&mut self) -> Result<Option<Event<'a>>, Stop> {
-        self.event = None;
-        self.look();
-        match self.stopped {
-            Some(stop) => Err(stop),
-            None => Ok(self.event),
+        match self.next {
+            Next::Root => self.enter_root()?,
+            Next::Text(place, region) => return self.look_at_text(place, region),
+            Next::Nothing | Next::Value(_) => {}
         }
-    }
-
-    // Looks at what is next.
-    fn look(&mut self) {
         let next = self.next;
         self.next = Next::Nothing;
         match next {
-            Next::Root => self.look_at_root(),
-            Next::Text(place, region) => self.look_at_text(place, region),
             Next::Value(place) => self.look_at(place),
-            Next::Nothing => self.go_on(),
-        }
-    }
-
-    // What was found at a place, with so many bytes of its own.
-    fn found(&mut self, place: Place<'a>, size: i128, what: What<'a>) {
-        self.event = Some(Event::Found(Visited {
-            position: place.at,
-            size,
-            expr: place.expr,
-            labels: place.labels,
-            what,
-        }));
-    }
-
-    // A test of what lies at a position is false: of so many bytes there.
-    fn fault(&mut self, position: i128, count: i128, reason: Reason) {
-        self.stopped = Some(Stop::Fault(FirstFault {
-            position,
-            faulty: position,
-            count,
-            reason,
-        }));
-    }
-
-    // What lies outside of the buffer: the regions that were entered keep it from being met.
-    fn nowhere(&mut self, place: Place<'a>) {
-        let region = Region {
-            position: place.at,
-            size: 1,
-            align: 1,
-            count: Count::One,
-        };
-        self.fault(place.at, 1, Reason::Outside(region, 0, 0));
-    }
-
-    // Goes into a record, a variant, an array or a region.
-    fn open(&mut self, frame: Frame<'a>) {
-        if self.frames.push(frame).is_err() {
-            self.stopped = Some(Stop::OutOfMemory);
+            _ => self.go_on(),
         }
     }
 
@@ -284,27 +232,20 @@ impl<'a> Walker<'a> {
     }
 
     // The next part or element of what is innermost, or its end.
-    fn go_on(&mut self) {
+    fn go_on(&mut self) -> Result<Option<Event<'a>>, Stop> {
         let form = self.form;
         let Some(frame) = self.frames.last_mut() else {
-            return;
+            return Ok(None);
         };
         match frame.advance(form) {
-            Some(begun) => self.look_at_begun(begun),
-            None => self.end(),
-        }
-    }
-
-    fn look_at_begun(&mut self, begun: Begun<'a>) {
-        match begun {
-            Begun::Value(place) => self.look_at(place),
-            Begun::Key(place, key) => self.look_at_key(place, key),
-            Begun::Behind(place, key, before, at) => {
-                if self.look_at_order(key, before, at) {
-                    self.begin_value();
-                    self.look_at(place);
-                }
+            Some(Begun::Value(place)) => self.look_at(place),
+            Some(Begun::Key(place, key)) => self.look_at_key(place, key),
+            Some(Begun::Behind(place, key, before, at)) => {
+                self.look_at_order(key, before, at)?;
+                self.begin_value();
+                self.look_at(place)
             }
+            None => Ok(self.end()),
         }
     }
 
@@ -328,10 +269,9 @@ impl<'a> Walker<'a> {
 
     // What is innermost has ended: a region is left, so that the range begins where it ends, and
     // ends where it did before.
-    fn end(&mut self) {
-        self.event = Some(Event::Ended);
+    fn end(&mut self) -> Option<Event<'a>> {
         if self.begin_again() {
-            return;
+            return Some(Event::Ended);
         }
         if let Some(Frame::Region(inside)) = self.frames.pop() {
             self.again = false;
@@ -342,8 +282,9 @@ impl<'a> Walker<'a> {
                 self.finish(position);
             }
             if self.frames.is_empty() {
-                self.event = None;
+                return None;
             }
         }
+        Some(Event::Ended)
     }
 }

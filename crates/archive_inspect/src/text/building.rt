@@ -1,181 +1,258 @@
 //! What is made of a word and its arguments.
 
-use crate::text::known::{BAD, Builder, GOOD, NO_VALUE, OPTION, RESULT, SOME, builder_of};
-use crate::text::mistakes::Mistake;
-use crate::text::nodes::{NONE, Shape};
-use crate::text::parser::{Arguments, Parser};
-use archive_check::format::expr::{Key, Kind};
+use crate::form::labels::{Labels, VariantLabels};
+use crate::text::known::{SHARED, kept};
+use crate::text::mistakes::{Mistake, Wrong};
+use crate::text::parser::{Read, ReadParts, leaf};
+use archive_check::format::expr::{Expr, Key, Kind, Pointee};
+use std::alloc::Global;
 
-impl Parser<'_> {
-    // A type that must have a size.
-    pub(super) fn sized(&mut self, number: usize, at: usize) -> usize {
-        match self.shape(number) {
-            Shape::Run | Shape::Text => self.fail(at, Mistake::Unsized),
-            _ => {}
+// What a pointer leads to.
+#[derive(Drop)]
+pub(super) enum Target {
+    One(Read),
+    Run(Read),
+    Text,
+}
+
+// What stands between `<` and `>`.
+#[derive(Drop)]
+pub(super) enum Argument {
+    Target(Target),
+    Count(usize),
+}
+
+impl Target {
+    // The type, which has a size.
+    pub(super) fn sized(self, at: usize) -> Result<Read, Wrong> {
+        match self {
+            Target::One(read) => Ok(read),
+            Target::Run(_) | Target::Text => Err(Wrong {
+                at,
+                mistake: Mistake::Unsized,
+            }),
         }
-        number
     }
 
-    // The number between `<` and `>` that it is.
-    fn count_of(&self, number: usize) -> Option<usize> {
-        match self.shape(number) {
-            Shape::Count(count) => Some(count),
-            _ => None,
-        }
-    }
-
-    // The type of a word that stands at a position, with its arguments.
-    pub(super) fn built_of(&mut self, word: &str, at: usize, arguments: Arguments) -> usize {
-        let Some(builder) = builder_of(word) else {
-            return self.unknown(word, at);
+    // As the library writes it, with the names of what is there.
+    fn pointee(self, alloc: Global) -> Result<(Box<Pointee>, Labels), Wrong> {
+        let (pointee, labels) = match self {
+            Target::One(Read { expr, labels }) => (Pointee::One(expr), labels),
+            Target::Run(Read { expr, labels }) => (Pointee::Run(expr), labels),
+            Target::Text => (Pointee::Text, Labels::Unknown),
         };
-        match builder {
-            Builder::Str | Builder::TextBehind(_) if arguments.count > 0 => self.unknown(word, at),
-            Builder::Str => self.add(Shape::Str, NONE, NONE),
-            Builder::TextBehind(pointer) => {
-                let text = self.add(Shape::Text, NONE, NONE);
-                self.add(Shape::Pointer(pointer), NONE, text)
-            }
-            Builder::Unsized => {
-                self.fail(at, Mistake::Unsized);
-                NONE
-            }
-            Builder::Result | Builder::Array | Builder::Map => {
-                self.built_of_pair(builder, at, arguments)
-            }
-            _ => self.built_of_one(builder, at, arguments),
-        }
+        let pointee = Box::new(alloc, pointee)?;
+        let labels = Labels::Inner(Box::new(alloc, labels)?);
+        Ok((pointee, labels))
     }
 
-    // A word that has no meaning.
-    fn unknown(&mut self, word: &str, at: usize) -> usize {
-        if self.wrong.is_some() {
-            return NONE;
-        }
-        let name = self.kept("", word);
-        self.fail(at, Mistake::UnknownType(name));
-        NONE
+    fn boxed(self, alloc: Global) -> Result<Read, Wrong> {
+        let (pointee, labels) = self.pointee(alloc)?;
+        Ok(Read {
+            expr: Expr::Box(pointee),
+            labels,
+        })
     }
 
-    // The type of a word with one argument.
-    fn built_of_one(&mut self, builder: Builder, at: usize, arguments: Arguments) -> usize {
-        let target = arguments.first;
-        if arguments.count != 1 || self.count_of(target).is_some() {
-            self.fail(at, Mistake::Expected("one type between `<` and `>`"));
-        }
-        match builder {
-            Builder::Behind(pointer) => self.add(Shape::Pointer(pointer), NONE, target),
-            Builder::Nothing => self.nothing(target),
-            _ => {
-                let value = self.sized(target, at);
-                self.built_of_value(builder, at, value)
-            }
-        }
+    fn shared(self, alloc: Global) -> Result<Read, Wrong> {
+        let (pointee, labels) = self.pointee(alloc)?;
+        Ok(Read {
+            expr: Expr::Shared(SHARED, pointee),
+            labels,
+        })
     }
 
-    // A record of no parts in place of a type, which is forgotten.
-    fn nothing(&mut self, target: usize) -> usize {
-        let start = self.tree.node(target).start;
-        self.tree.nodes.truncate(start);
-        self.add(Shape::Record, NONE, NONE)
+    fn weak(self, alloc: Global) -> Result<Read, Wrong> {
+        let (pointee, labels) = self.pointee(alloc)?;
+        Ok(Read {
+            expr: Expr::Weak(SHARED, pointee),
+            labels,
+        })
+    }
+}
+
+impl Read {
+    // A vector of such elements.
+    fn vector(self, alloc: Global) -> Result<Read, Wrong> {
+        let Read { expr, labels } = self;
+        Ok(Read {
+            expr: Expr::Vec(Box::new(alloc, expr)?),
+            labels: Labels::Inner(Box::new(alloc, labels)?),
+        })
     }
 
-    // The type of a word with a type of a size.
-    fn built_of_value(&mut self, builder: Builder, at: usize, value: usize) -> usize {
-        match builder {
-            Builder::RunBehind(pointer) => {
-                let run = self.add(Shape::Run, NONE, value);
-                self.add(Shape::Pointer(pointer), NONE, run)
-            }
-            Builder::NonZero => self.non_zero(value, at),
-            Builder::Option => self.option(value),
-            _ => self.add(Shape::Vec, NONE, value),
-        }
+    // So many of them.
+    pub(super) fn array(self, alloc: Global, count: usize) -> Result<Read, Wrong> {
+        let Read { expr, labels } = self;
+        Ok(Read {
+            expr: Expr::Array(count, Box::new(alloc, expr)?),
+            labels: Labels::Inner(Box::new(alloc, labels)?),
+        })
     }
+}
 
-    // A number that isn't 0.
-    fn non_zero(&mut self, number: usize, at: usize) -> usize {
-        match self.shape(number) {
-            Shape::Leaf(Kind::Number(integer)) => self.leaf(Kind::NonZero(integer)),
-            _ => {
-                self.fail(at, Mistake::Expected("a number's type between `<` and `>`"));
-                NONE
-            }
-        }
-    }
+// The one part of a variant.
+fn one_part(alloc: Global, read: Read) -> Result<ReadParts, Wrong> {
+    let mut parts = ReadParts::new(alloc);
+    parts.push("", read)?;
+    Ok(parts)
+}
 
-    // A choice of two variants.
-    fn two_variants(&mut self, name: usize, first: usize, second: usize) -> usize {
-        self.link(first, second);
-        self.add(Shape::Choice, name, first)
-    }
+// A choice of two variants; it has a name in archives, and one for people.
+fn two_variants(
+    alloc: Global,
+    name: (&'static str, &'static str),
+    first: (&'static str, ReadParts),
+    second: (&'static str, ReadParts),
+) -> Result<Read, Wrong> {
+    let (archived, shown) = name;
+    let (first_name, first) = first;
+    let (second_name, second) = second;
+    let variants = vec![in alloc; first.exprs, second.exprs]?;
+    let first = VariantLabels {
+        name: first_name,
+        parts: first.labels,
+    };
+    let second = VariantLabels {
+        name: second_name,
+        parts: second.labels,
+    };
+    let labels = vec![in alloc; first, second]?;
+    Ok(Read {
+        expr: Expr::Choice(archived, variants),
+        labels: Labels::Choice(shown, labels),
+    })
+}
 
-    fn option(&mut self, value: usize) -> usize {
-        // The variant without a value lies before it in the choice, but behind it among the nodes.
-        let some = self.add(Shape::Variant, SOME, value);
-        let none = self.add(Shape::Variant, NO_VALUE, NONE);
-        let start = self.tree.node(some).start;
-        let option = self.two_variants(OPTION, none, some);
-        self.starts_at(option, start);
-        option
-    }
+fn option(alloc: Global, value: Read) -> Result<Read, Wrong> {
+    let some = one_part(alloc, value)?;
+    let none = ReadParts::new(alloc);
+    two_variants(
+        alloc,
+        ("ArchivedOption", "Option"),
+        ("None", none),
+        ("Some", some),
+    )
+}
 
-    // A node's own and all below it begin with this number.
-    fn starts_at(&mut self, number: usize, start: usize) {
-        if let Some(node) = self.tree.nodes.get_mut(number) {
-            node.start = start;
-        }
-    }
+fn result(alloc: Global, value: Read, error: Read) -> Result<Read, Wrong> {
+    let good = one_part(alloc, value)?;
+    let bad = one_part(alloc, error)?;
+    two_variants(
+        alloc,
+        ("ArchivedResult", "Result"),
+        ("Ok", good),
+        ("Err", bad),
+    )
+}
 
-    // The type of a word with two arguments.
-    fn built_of_pair(&mut self, builder: Builder, at: usize, arguments: Arguments) -> usize {
-        if arguments.count != 2 || self.count_of(arguments.first).is_some() {
-            self.fail(at, Mistake::Expected("two arguments between `<` and `>`"));
-        }
-        let first = self.sized(arguments.first, at);
-        let second = arguments.second;
-        match (builder, self.count_of(second)) {
-            (Builder::Array, Some(count)) => self.add(Shape::Array(count), NONE, first),
-            (Builder::Map, None) => self.map(first, second, at),
-            (Builder::Result, None) => self.result(first, second, at),
-            _ => self.mismatched(at),
-        }
-    }
-
-    // The second argument is none that the word takes.
-    fn mismatched(&mut self, at: usize) -> usize {
-        self.fail(
+// The only argument: what a pointer leads to.
+fn only(mut arguments: Vec<Argument>, at: usize) -> Result<Target, Wrong> {
+    let last = arguments.pop();
+    match last {
+        Some(Argument::Target(target)) if arguments.is_empty() => Ok(target),
+        _ => Err(Wrong {
             at,
-            Mistake::Expected("two types, or a type and a number, between `<` and `>`"),
-        );
-        NONE
+            mistake: Mistake::Expected("one type between `<` and `>`"),
+        }),
     }
+}
 
-    fn result(&mut self, value: usize, error: usize, at: usize) -> usize {
-        let error = self.sized(error, at);
-        let good = self.add(Shape::Variant, GOOD, value);
-        let bad = self.add(Shape::Variant, BAD, error);
-        self.two_variants(RESULT, good, bad)
+// Two arguments.
+fn pair(mut arguments: Vec<Argument>, at: usize) -> Result<(Read, Argument), Wrong> {
+    let last = arguments.pop();
+    match (only(arguments, at), last) {
+        (Ok(first), Some(last)) => Ok((first.sized(at)?, last)),
+        _ => Err(Wrong {
+            at,
+            mistake: Mistake::Expected("two arguments between `<` and `>`"),
+        }),
     }
+}
 
-    // What the keys of a map are, by their type.
-    fn key_of(&self, number: usize) -> Option<Key> {
-        match self.shape(number) {
-            Shape::Leaf(kind) => Some(Key::Leaf(kind)),
-            Shape::Str => Some(Key::Str),
-            _ => None,
+// A number that isn't 0.
+fn non_zero(at: usize, number: Read) -> Result<Read, Wrong> {
+    match number.expr {
+        Expr::Leaf(Kind::Number(integer)) => Ok(leaf(Kind::NonZero(integer))),
+        _ => Err(Wrong {
+            at,
+            mistake: Mistake::Expected("a number's type between `<` and `>`"),
+        }),
+    }
+}
+
+// A sorted map, whose keys are leaves or strings.
+fn map(alloc: Global, at: usize, key: Read, value: Read) -> Result<Read, Wrong> {
+    let key = match key.expr {
+        Expr::Leaf(kind) => Key::Leaf(kind),
+        Expr::Str => Key::Str,
+        _ => {
+            return Err(Wrong {
+                at,
+                mistake: Mistake::Expected("keys that are leaves or a `String`"),
+            });
         }
-    }
+    };
+    let Read { expr, labels } = value;
+    Ok(Read {
+        expr: Expr::Map(key, Box::new(alloc, expr)?),
+        labels: Labels::Inner(Box::new(alloc, labels)?),
+    })
+}
 
-    // A sorted map, whose keys are leaves or strings.
-    fn map(&mut self, key: usize, value: usize, at: usize) -> usize {
-        let value = self.sized(value, at);
-        match self.key_of(key) {
-            Some(key) => self.add(Shape::Map(key), NONE, value),
-            None => {
-                self.fail(at, Mistake::Expected("keys that are leaves or a `String`"));
-                NONE
-            }
+// The type of a word with two arguments.
+fn built_of_pair(
+    alloc: Global,
+    word: &str,
+    at: usize,
+    arguments: Vec<Argument>,
+) -> Result<Read, Wrong> {
+    let (first, second) = pair(arguments, at)?;
+    match (word, second) {
+        ("Result", Argument::Target(error)) => result(alloc, first, error.sized(at)?),
+        ("BTreeMap", Argument::Target(value)) => map(alloc, at, first, value.sized(at)?),
+        ("OwnedArray", Argument::Count(count)) => first.array(alloc, count),
+        _ => Err(Wrong {
+            at,
+            mistake: Mistake::Expected("two types, or a type and a number, between `<` and `>`"),
+        }),
+    }
+}
+
+// The library's type of a word that stands at a position, with its arguments.
+pub(super) fn built_of(
+    alloc: Global,
+    word: &str,
+    at: usize,
+    arguments: Vec<Argument>,
+) -> Result<Read, Wrong> {
+    match word {
+        "String" if arguments.is_empty() => Ok(Read {
+            expr: Expr::Str,
+            labels: Labels::Unknown,
+        }),
+        "BoxStr" if arguments.is_empty() => Target::Text.boxed(alloc),
+        "SharedStr" if arguments.is_empty() => Target::Text.shared(alloc),
+        "NonZero" => non_zero(at, only(arguments, at)?.sized(at)?),
+        "Option" => option(alloc, only(arguments, at)?.sized(at)?),
+        "Vec" => only(arguments, at)?.sized(at)?.vector(alloc),
+        "Box" => only(arguments, at)?.boxed(alloc),
+        "BoxSlice" => Target::Run(only(arguments, at)?.sized(at)?).boxed(alloc),
+        "Shared" => only(arguments, at)?.shared(alloc),
+        "SharedSlice" => Target::Run(only(arguments, at)?.sized(at)?).shared(alloc),
+        "Weak" | "WeakShared" => only(arguments, at)?.weak(alloc),
+        "Result" | "OwnedArray" | "BTreeMap" => built_of_pair(alloc, word, at, arguments),
+        "PhantomData" => {
+            let _ = only(arguments, at)?;
+            Ok(ReadParts::new(alloc).record(""))
         }
+        "str" => Err(Wrong {
+            at,
+            mistake: Mistake::Unsized,
+        }),
+        _ => Err(Wrong {
+            at,
+            mistake: Mistake::UnknownType(kept(alloc, "", word)?),
+        }),
     }
 }

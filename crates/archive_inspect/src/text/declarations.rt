@@ -1,9 +1,12 @@
 //! Definitions of structs and enums, read from tokens.
 
-use crate::text::mistakes::Mistake;
-use crate::text::nodes::{Declared, NONE, Name, Shape};
-use crate::text::parser::{LEVELS, List, Parser};
-use crate::text::tokens::{Token, TokenKind};
+use crate::form::labels::{Labels, VariantLabels};
+use crate::text::known::kept;
+use crate::text::mistakes::{Mistake, Wrong};
+use crate::text::parser::{LEVELS, Parser, Read, ReadParts};
+use crate::text::tokens::{Token, TokenKind, text_of};
+use archive_check::format::expr::Expr;
+use std::alloc::Global;
 use std::collections::BTreeSet;
 
 // How many types may be defined.
@@ -12,210 +15,259 @@ const TYPES: usize = 500;
 // How many variants an enum may have.
 const VARIANTS: usize = 256;
 
-impl Parser<'_> {
-    // Whether a token is a word that begins a definition.
-    fn begins(&self, token: Token) -> bool {
-        if token.kind != TokenKind::Word {
-            return false;
-        }
-        let word = self.text(token);
-        word == "struct" || word == "enum"
-    }
+// The name of a defined type, that of its archived type, and where it stands.
+#[derive(Drop)]
+pub(super) struct DeclaredName {
+    pub(super) name: &'static str,
+    pub(super) archived: &'static str,
+    pub(super) at: usize,
+}
 
-    // Adds the name behind a `struct` or an `enum`.
-    fn find_declared(&mut self, token: Token) {
-        let at = token.start;
-        let word = self.text(token);
-        if self.declared(word).is_some() {
-            self.fail(at, Mistake::DefinedTwice);
-            return;
+// A defined type.
+#[derive(Drop)]
+pub(super) struct Declared {
+    pub(super) archived: &'static str,
+    pub(super) at: usize,
+    pub(super) read: Read,
+}
+
+// Whether a type of this name is among those.
+fn is_declared(names: &[DeclaredName], name: &str) -> bool {
+    for declared in names {
+        if declared.name == name {
+            return true;
         }
-        if self.tree.declared.len() >= TYPES {
-            self.fail(at, Mistake::TooMany);
-            return;
-        }
-        let shown = self.kept("", word);
-        let archived = self.kept("Archived", word);
-        let name = self.add_name(Name { shown, archived });
-        self.add_declared(Declared {
-            name,
+    }
+    false
+}
+
+// The name behind a `struct` or an `enum`, as one that lasts.
+fn declared_name(
+    alloc: Global,
+    bytes: &[u8],
+    token: Token,
+    names: &[DeclaredName],
+) -> Result<DeclaredName, Wrong> {
+    let at = token.start;
+    let name = text_of(bytes, token);
+    if is_declared(names, name) {
+        return Err(Wrong {
             at,
-            node: NONE,
+            mistake: Mistake::DefinedTwice,
         });
     }
+    if names.len() >= TYPES {
+        return Err(Wrong {
+            at,
+            mistake: Mistake::TooMany,
+        });
+    }
+    Ok(DeclaredName {
+        name: kept(alloc, "", name)?,
+        archived: kept(alloc, "Archived", name)?,
+        at,
+    })
+}
 
-    // The names of all types that the text defines.
-    pub(super) fn find_all_declared(&mut self) {
-        let mut begins = false;
-        for number in 0..self.most() {
-            let Some(token) = self.token(number) else {
-                break;
-            };
-            if begins && token.kind == TokenKind::Word {
-                self.find_declared(token);
-            }
-            if self.wrong.is_some() {
-                break;
-            }
-            begins = self.begins(token);
+// Whether a token is a word that begins a definition.
+fn begins(bytes: &[u8], token: Token) -> bool {
+    if token.kind != TokenKind::Word {
+        return false;
+    }
+    match text_of(bytes, token) {
+        "struct" | "enum" => true,
+        _ => false,
+    }
+}
+
+// The names of all types that a text defines.
+pub(super) fn declared_names(
+    alloc: Global,
+    bytes: &[u8],
+    tokens: &[Token],
+) -> Result<Vec<DeclaredName>, Wrong> {
+    let mut names = Vec::new(alloc);
+    for index in 1..tokens.len() {
+        let token = tokens[index];
+        if token.kind == TokenKind::Word && begins(bytes, tokens[index - 1]) {
+            names.push(declared_name(alloc, bytes, token, &names)?)?;
         }
     }
+    Ok(names)
+}
 
-    // All definitions, up to the root. The number of the last one.
-    pub(super) fn declarations(&mut self) -> usize {
-        let mut last = NONE;
+impl Parser<'_> {
+    // All definitions, up to the root.
+    pub(super) fn declarations(&mut self) -> Result<Vec<Declared>, Wrong> {
+        let mut declared = Vec::new(self.alloc);
         for _ in 0..self.most() {
             self.pass_visibility();
             if self.is_word("use") {
                 self.pass_line();
             } else if self.is_word("struct") {
                 self.pass();
-                last = self.declaration(false);
+                declared.push(self.declaration(false)?)?;
             } else if self.is_word("enum") {
                 self.pass();
-                last = self.declaration(true);
+                declared.push(self.declaration(true)?)?;
             } else {
                 break;
             }
         }
-        last
+        Ok(declared)
     }
 
     // Passes what stands up to a semicolon.
     fn pass_line(&mut self) {
         for _ in 0..self.most() {
-            if self.take_sign(b';') || self.is_end() {
+            if self.take_sign(b';') || self.peek().kind == TokenKind::End {
                 break;
             }
             self.pass();
         }
     }
 
-    // What is defined behind `struct` or `enum`, by its number.
-    fn declaration(&mut self, is_enum: bool) -> usize {
-        let token = self.word("the name of a type");
+    // What is defined behind `struct` or `enum`.
+    fn declaration(&mut self, is_enum: bool) -> Result<Declared, Wrong> {
+        let token = self.word("the name of a type")?;
         if self.is_sign(b'<') {
-            let at = self.peek().start;
-            self.fail(at, Mistake::Parameters);
-            return NONE;
+            return Err(self.wrong(Mistake::Parameters));
         }
-        let Some(number) = self.declared(self.text(token)) else {
-            return NONE;
-        };
-        let name = self.tree.declared_of(number).name;
-        let node = if is_enum {
-            self.read_enum(token, name)
+        let name = self.kept(token)?;
+        let archived = kept(self.alloc, "Archived", name)?;
+        let read = if is_enum {
+            self.read_enum(token, name, archived)?
         } else {
-            self.read_struct(name)
+            self.read_struct(name)?
         };
-        if let Some(declared) = self.tree.declared.get_mut(number) {
-            declared.node = node;
-        }
-        number
+        Ok(Declared {
+            archived,
+            at: token.start,
+            read,
+        })
     }
 
-    fn read_struct(&mut self, name: usize) -> usize {
-        let mut parts = List::EMPTY;
+    fn read_struct(&mut self, name: &'static str) -> Result<Read, Wrong> {
+        let mut parts = ReadParts::new(self.alloc);
         if self.take_sign(b'{') {
-            parts = self.read_fields();
-            let _ = self.take_sign(b';');
+            self.read_fields(&mut parts)?;
+            self.take_sign(b';');
         } else if self.take_sign(b'(') {
-            parts = self.read_parts(b')', parts, LEVELS);
-            let _ = self.take_sign(b';');
+            self.read_parts(b')', &mut parts, LEVELS)?;
+            self.take_sign(b';');
         } else {
-            self.sign(b';', "`{`, `(` or `;`");
+            self.sign(b';', "`{`, `(` or `;`")?;
         }
-        self.add(Shape::Record, name, parts.first)
+        Ok(parts.record(name))
     }
 
     // The name in a token, as one that lasts. A name that those before it have is the mistake.
     fn new_name(
-        &mut self,
+        &self,
         token: Token,
         before: &mut BTreeSet<&'static str>,
-        twice: Mistake,
-    ) -> usize {
-        let word = self.text(token);
-        let shown = self.kept("", word);
-        match before.insert(shown) {
-            Ok(true) => {}
-            Ok(false) => self.fail(token.start, twice),
-            Err(_) => self.fail(0, Mistake::OutOfMemory),
+        mistake: Mistake,
+    ) -> Result<&'static str, Wrong> {
+        let name = self.kept(token)?;
+        if before.insert(name)? {
+            Ok(name)
+        } else {
+            Err(Wrong {
+                at: token.start,
+                mistake,
+            })
         }
-        self.add_name(Name {
-            shown,
-            archived: "",
-        })
     }
 
     // Fields with names, up to the brace.
-    fn read_fields(&mut self) -> List {
+    fn read_fields(&mut self, parts: &mut ReadParts) -> Result<(), Wrong> {
         let mut names = BTreeSet::new(self.alloc);
-        let mut fields = List::EMPTY;
         for _ in 0..self.most() {
             if self.take_sign(b'}') {
-                return fields;
+                return Ok(());
             }
             self.pass_visibility();
-            let token = self.word("a field or `}`");
-            let name = self.new_name(token, &mut names, Mistake::FieldTwice);
-            self.sign(b':', "`:`");
-            let field = self.read_type(LEVELS);
-            self.name_part(field, name);
-            fields = self.append(fields, field);
-            if !self.goes_on(b'}', "`,` or `}`") {
-                return fields;
+            let token = self.word("a field or `}`")?;
+            let name = self.new_name(token, &mut names, Mistake::FieldTwice)?;
+            self.sign(b':', "`:`")?;
+            let read = self.read_type(LEVELS)?;
+            parts.push(name, read)?;
+            if !self.is_sign(b'}') {
+                self.sign(b',', "`,` or `}`")?;
             }
         }
-        self.expected("`}`");
-        fields
+        Err(self.wrong(Mistake::Expected("`}`")))
     }
 
-    fn read_enum(&mut self, token: Token, name: usize) -> usize {
+    fn read_enum(
+        &mut self,
+        token: Token,
+        name: &'static str,
+        archived: &'static str,
+    ) -> Result<Read, Wrong> {
+        let mut exprs = Vec::new(self.alloc);
+        let mut labels = Vec::new(self.alloc);
         let mut names = BTreeSet::new(self.alloc);
-        let mut variants = List::EMPTY;
-        self.sign(b'{', "`{`");
+        self.sign(b'{', "`{`")?;
         for _ in 0..self.most() {
             if self.take_sign(b'}') {
                 break;
             }
-            let variant = self.read_variant(&mut names);
-            variants = self.append(variants, variant);
-            if !self.goes_on(b'}', "`,` or `}`") {
-                break;
+            let (parts, variant) = self.read_variant(&mut names)?;
+            exprs.push(parts)?;
+            labels.push(variant)?;
+            if !self.is_sign(b'}') {
+                self.sign(b',', "`,` or `}`")?;
             }
         }
-        if variants.count == 0 || variants.count > VARIANTS {
-            self.fail(token.start, Mistake::Variants);
+        if exprs.is_empty() || exprs.len() > VARIANTS {
+            return Err(Wrong {
+                at: token.start,
+                mistake: Mistake::Variants,
+            });
         }
-        self.add(Shape::Choice, name, variants.first)
+        Ok(Read {
+            expr: Expr::Choice(archived, exprs),
+            labels: Labels::Choice(name, labels),
+        })
     }
 
     // A variant; `before` has the names of those before it.
-    fn read_variant(&mut self, before: &mut BTreeSet<&'static str>) -> usize {
-        let token = self.word("a variant or `}`");
-        let name = self.new_name(token, before, Mistake::VariantTwice);
-        let mut parts = List::EMPTY;
+    fn read_variant(
+        &mut self,
+        before: &mut BTreeSet<&'static str>,
+    ) -> Result<(Vec<Expr>, VariantLabels), Wrong> {
+        let token = self.word("a variant or `}`")?;
+        let name = self.new_name(token, before, Mistake::VariantTwice)?;
+        let mut parts = ReadParts::new(self.alloc);
         if self.take_sign(b'{') {
-            parts = self.read_fields();
+            self.read_fields(&mut parts)?;
         } else if self.take_sign(b'(') {
-            parts = self.read_parts(b')', parts, LEVELS);
+            self.read_parts(b')', &mut parts, LEVELS)?;
         }
-        self.add(Shape::Variant, name, parts.first)
+        let variant = VariantLabels {
+            name,
+            parts: parts.labels,
+        };
+        Ok((parts.exprs, variant))
     }
 
-    // The root, behind which the text ends: where there is none, the definition of this number.
-    pub(super) fn root(&mut self, last: usize) -> usize {
-        if !self.is_end() {
-            let root = self.read_type(LEVELS);
-            if !self.is_end() {
-                self.expected("the end of the text");
-            }
-            return root;
+    // The root, behind which the text ends: the last definition where there is none.
+    pub(super) fn root(&mut self, declared: &[Declared]) -> Result<Read, Wrong> {
+        if self.peek().kind == TokenKind::End {
+            return match declared.last() {
+                Some(last) => Ok(Read {
+                    expr: Expr::Named(last.archived),
+                    labels: Labels::Of(last.archived),
+                }),
+                None => Err(self.wrong(Mistake::Expected("a type"))),
+            };
         }
-        if last == NONE {
-            self.expected("a type");
+        let root = self.read_type(LEVELS)?;
+        if self.peek().kind == TokenKind::End {
+            Ok(root)
+        } else {
+            Err(self.wrong(Mistake::Expected("the end of the text")))
         }
-        self.add(Shape::Named(last), NONE, NONE)
     }
 }

@@ -1,6 +1,6 @@
 //! What is wrong with a schema text, and where.
 
-use std::alloc::AllocError;
+use std::alloc::{AllocError, AllocFailed};
 use thiserror::Error;
 
 /// What is wrong with a text that is no schema.
@@ -73,7 +73,7 @@ impl SchemaError {
 }
 
 // The same, with a position in bytes.
-#[derive(Clone, Copy)]
+#[derive(Drop, Clone, Copy)]
 pub(super) struct Wrong {
     pub(super) at: usize,
     pub(super) mistake: Mistake,
@@ -105,6 +105,15 @@ impl Wrong {
 
 impl From<AllocError> for Wrong {
     fn from(_error: AllocError) -> Wrong {
+        Wrong {
+            at: 0,
+            mistake: Mistake::OutOfMemory,
+        }
+    }
+}
+
+impl<T: Drop> From<AllocFailed<T>> for Wrong {
+    fn from(_error: AllocFailed<T>) -> Wrong {
         Wrong {
             at: 0,
             mistake: Mistake::OutOfMemory,

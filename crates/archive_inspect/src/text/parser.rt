@@ -1,11 +1,12 @@
-//! Types, read from tokens into nodes. The first mistake is kept, and what comes behind it isn't
-//! read.
+//! Types, read from tokens.
 
-use crate::text::known::{NAMES, kept, leaf_of};
+use crate::form::labels::{Labels, PartLabels};
+use crate::text::building::{Argument, Target, built_of};
+use crate::text::declarations::DeclaredName;
+use crate::text::known::{kept, leaf_of};
 use crate::text::mistakes::{Mistake, Wrong};
-use crate::text::nodes::{Declared, NONE, Name, Node, Shape, Tree};
-use crate::text::tokens::{Token, TokenKind, behind_blanks, text_of, token_at};
-use archive_check::format::expr::Kind;
+use crate::text::tokens::{Token, TokenKind, text_of};
+use archive_check::format::expr::{Expr, Kind};
 use std::alloc::Global;
 
 // How deep types may lie in one another.
@@ -14,29 +15,18 @@ pub(super) const LEVELS: usize = 100;
 // The most parts of a tuple.
 const TUPLE: usize = 13;
 
-// Nodes that lie in the same one.
-#[derive(Clone, Copy)]
-pub(super) struct List {
-    pub(super) first: usize,
-    pub(super) last: usize,
-    pub(super) count: usize,
+// A type that was read. A defined one is a name until all are read.
+#[derive(Drop)]
+pub(super) struct Read {
+    pub(super) expr: Expr,
+    pub(super) labels: Labels,
 }
 
-// What stands in `<` and `>`: the first two, and how many there are.
-#[derive(Clone, Copy)]
-pub(super) struct Arguments {
-    pub(super) first: usize,
-    pub(super) second: usize,
-    pub(super) count: usize,
-}
-
-impl List {
-    // None.
-    pub(super) const EMPTY: List = List {
-        first: NONE,
-        last: NONE,
-        count: 0,
-    };
+// Parts that were read.
+#[derive(Drop)]
+pub(super) struct ReadParts {
+    pub(super) exprs: Vec<Expr>,
+    pub(super) labels: Vec<PartLabels>,
 }
 
 // What is read, and how far.
@@ -44,26 +34,24 @@ impl List {
 pub(super) struct Parser<'a> {
     pub(super) alloc: Global,
     bytes: &'a [u8],
-    tokens: Vec<Token>,
+    tokens: &'a [Token],
+    declared: &'a [DeclaredName],
     at: usize,
-    pub(super) tree: Tree,
-    // The first mistake.
-    pub(super) wrong: Option<Wrong>,
 }
 
 impl<'a> Parser<'a> {
-    pub(super) fn new(alloc: Global, bytes: &'a [u8]) -> Parser<'a> {
+    pub(super) fn new(
+        alloc: Global,
+        bytes: &'a [u8],
+        tokens: &'a [Token],
+        declared: &'a [DeclaredName],
+    ) -> Parser<'a> {
         Parser {
             alloc,
             bytes,
-            tokens: Vec::new(alloc),
+            tokens,
+            declared,
             at: 0,
-            tree: Tree {
-                nodes: Vec::new(alloc),
-                names: Vec::new(alloc),
-                declared: Vec::new(alloc),
-            },
-            wrong: None,
         }
     }
 
@@ -76,14 +64,6 @@ impl<'a> Parser<'a> {
                 start: self.bytes.len(),
                 end: self.bytes.len(),
             },
-        }
-    }
-
-    // The token of a number.
-    pub(super) fn token(&self, number: usize) -> Option<Token> {
-        match self.tokens.get(number) {
-            Some(token) => Some(*token),
-            None => None,
         }
     }
 
@@ -102,148 +82,11 @@ impl<'a> Parser<'a> {
         text_of(self.bytes, token)
     }
 
-    // A mistake at a position. Nothing more is read.
-    pub(super) fn fail(&mut self, at: usize, mistake: Mistake) {
-        if self.wrong.is_none() {
-            self.wrong = Some(Wrong { at, mistake });
-        }
-        self.at = self.tokens.len();
-    }
-
-    // Memory was refused.
-    fn fail_memory(&mut self) {
-        self.fail(0, Mistake::OutOfMemory);
-    }
-
-    // Something else is expected in place of the next token.
-    pub(super) fn expected(&mut self, wanted: &'static str) {
-        let at = self.peek().start;
-        self.fail(at, Mistake::Expected(wanted));
-    }
-
-    // Adds a token.
-    fn add_token(&mut self, token: Token) {
-        if self.tokens.push(token).is_err() {
-            self.fail_memory();
-        }
-    }
-
-    // The tokens of the text.
-    pub(super) fn read_tokens(&mut self) {
-        let bytes = self.bytes;
-        let mut at = 0;
-        for _ in 0..bytes.len() {
-            at = behind_blanks(bytes, at);
-            if at >= bytes.len() {
-                break;
-            }
-            match token_at(bytes, at) {
-                Some(token) => {
-                    self.add_token(token);
-                    at = token.end;
-                }
-                None => {
-                    self.fail(at, Mistake::Sign);
-                    break;
-                }
-            }
-        }
-    }
-
-    // Adds a node, the first one in which is this, and tells its number.
-    pub(super) fn add(&mut self, shape: Shape, name: usize, first: usize) -> usize {
-        let number = self.tree.nodes.len();
-        let start = if first == NONE {
-            number
-        } else {
-            self.tree.node(first).start
-        };
-        let node = Node {
-            shape,
-            name,
-            part: NONE,
-            first,
-            next: NONE,
-            start,
-        };
-        if self.tree.nodes.push(node).is_err() {
-            self.fail_memory();
-        }
-        number
-    }
-
-    // A leaf.
-    pub(super) fn leaf(&mut self, kind: Kind) -> usize {
-        self.add(Shape::Leaf(kind), NONE, NONE)
-    }
-
-    // What a node is.
-    pub(super) fn shape(&self, number: usize) -> Shape {
-        self.tree.node(number).shape
-    }
-
-    // A node lies behind another in the same one.
-    pub(super) fn link(&mut self, before: usize, next: usize) {
-        if let Some(node) = self.tree.nodes.get_mut(before) {
-            node.next = next;
-        }
-    }
-
-    // A part has a name.
-    pub(super) fn name_part(&mut self, number: usize, name: usize) {
-        if let Some(node) = self.tree.nodes.get_mut(number) {
-            node.part = name;
-        }
-    }
-
-    // One more behind those of a list.
-    pub(super) fn append(&mut self, list: List, number: usize) -> List {
-        if list.count == 0 {
-            return List {
-                first: number,
-                last: number,
-                count: 1,
-            };
-        }
-        self.link(list.last, number);
-        List {
-            first: list.first,
-            last: number,
-            count: list.count.saturating_add(1),
-        }
-    }
-
-    // Adds a name, and tells its number.
-    pub(super) fn add_name(&mut self, name: Name) -> usize {
-        let number = self.tree.names.len();
-        if self.tree.names.push(name).is_err() {
-            self.fail_memory();
-        }
-        number
-    }
-
-    // The names that options and results have come first.
-    pub(super) fn add_known_names(&mut self) {
-        for name in NAMES {
-            let _ = self.add_name(name);
-        }
-    }
-
-    // Adds a defined type, which isn't read yet.
-    pub(super) fn add_declared(&mut self, declared: Declared) {
-        if self.tree.declared.push(declared).is_err() {
-            self.fail_memory();
-        }
-    }
-
-    // A text that lasts, behind a prefix.
-    pub(super) fn kept(&mut self, prefix: &str, text: &str) -> &'static str {
-        match kept(self.alloc, prefix, text) {
-            Ok(name) => name,
-            Err(_) => {
-                self.fail_memory();
-                ""
-            }
+    // A mistake at the next token.
+    pub(super) fn wrong(&self, mistake: Mistake) -> Wrong {
+        Wrong {
+            at: self.peek().start,
+            mistake,
         }
     }
 
@@ -258,11 +101,6 @@ impl<'a> Parser<'a> {
         token.kind == TokenKind::Word && self.text(token) == word
     }
 
-    // Whether the text ends here.
-    pub(super) fn is_end(&self) -> bool {
-        self.peek().kind == TokenKind::End
-    }
-
     // Passes a sign, if it comes next.
     pub(super) fn take_sign(&mut self, sign: u8) -> bool {
         let found = self.is_sign(sign);
@@ -273,68 +111,69 @@ impl<'a> Parser<'a> {
     }
 
     // Passes a sign that must come next.
-    pub(super) fn sign(&mut self, sign: u8, wanted: &'static str) {
-        if !self.take_sign(sign) {
-            self.expected(wanted);
+    pub(super) fn sign(&mut self, sign: u8, wanted: &'static str) -> Result<(), Wrong> {
+        if self.take_sign(sign) {
+            Ok(())
+        } else {
+            Err(self.wrong(Mistake::Expected(wanted)))
         }
-    }
-
-    // Whether a list goes on behind a comma, or is closed by what comes next.
-    pub(super) fn goes_on(&mut self, close: u8, wanted: &'static str) -> bool {
-        if self.is_sign(close) || self.take_sign(b',') {
-            return true;
-        }
-        self.expected(wanted);
-        false
     }
 
     // Passes a word that must come next.
-    pub(super) fn word(&mut self, wanted: &'static str) -> Token {
+    pub(super) fn word(&mut self, wanted: &'static str) -> Result<Token, Wrong> {
         let token = self.peek();
-        if token.kind == TokenKind::Word {
-            self.pass();
-        } else {
-            self.expected(wanted);
+        if token.kind != TokenKind::Word {
+            return Err(self.wrong(Mistake::Expected(wanted)));
         }
-        token
+        self.pass();
+        Ok(token)
     }
 
     // The word of a path, its last one.
-    fn last_word(&mut self) -> Token {
-        let mut token = self.word("a type");
-        for _ in 0..self.most() {
+    fn last_word(&mut self) -> Result<Token, Wrong> {
+        let mut token = self.word("a type")?;
+        for _ in 0..self.tokens.len() {
             if self.peek().kind != TokenKind::Path {
                 break;
             }
             self.pass();
-            token = self.word("a type");
+            token = self.word("a type")?;
         }
-        token
+        Ok(token)
     }
 
     // A number of elements.
-    fn count(&mut self) -> usize {
+    fn count(&mut self) -> Result<usize, Wrong> {
         let token = self.peek();
         if token.kind != TokenKind::Number {
-            self.expected("a number of elements");
-            return 0;
+            return Err(self.wrong(Mistake::Expected("a number of elements")));
         }
-        match number_in(self.text(token)) {
-            Digits::Number(count) => {
-                self.pass();
-                return count;
-            }
-            Digits::TooLarge => self.fail(token.start, Mistake::LargeNumber),
-            Digits::Other => self.expected("a number of elements"),
+        let mut count = 0usize;
+        for digit in self.text(token).bytes() {
+            count = match digit {
+                b'_' => count,
+                b'0'..=b'9' => match count.checked_mul(10) {
+                    Some(tens) => match tens.checked_add((digit - b'0') as usize) {
+                        Some(count) => count,
+                        None => return Err(self.wrong(Mistake::LargeNumber)),
+                    },
+                    None => return Err(self.wrong(Mistake::LargeNumber)),
+                },
+                _ => return Err(self.wrong(Mistake::Expected("a number of elements"))),
+            };
         }
-        0
+        self.pass();
+        Ok(count)
     }
 
-    // The number of the defined type of a name.
-    pub(super) fn declared(&self, word: &str) -> Option<usize> {
-        for number in 0..self.tree.declared.len() {
-            if self.tree.shown(self.tree.declared[number].name) == word {
-                return Some(number);
+    // The defined type of a name, as a name.
+    fn declared(&self, word: &str) -> Option<Read> {
+        for declared in self.declared {
+            if declared.name == word {
+                return Some(Read {
+                    expr: Expr::Named(declared.archived),
+                    labels: Labels::Of(declared.archived),
+                });
             }
         }
         None
@@ -342,21 +181,17 @@ impl<'a> Parser<'a> {
 
     // A type.
     #[cycle(parser)]
-    pub(super) fn read_type(&mut self, levels: usize) -> usize {
-        let start = self.peek();
+    pub(super) fn read_type(&mut self, levels: usize) -> Result<Read, Wrong> {
         let Some(levels) = levels.checked_sub(1) else {
-            self.fail(start.start, Mistake::TooDeep);
-            return NONE;
+            return Err(self.wrong(Mistake::TooDeep));
         };
+        let start = self.peek();
         match start.kind {
             TokenKind::Sign(b'(') => self.read_tuple(levels),
-            TokenKind::Sign(b'[') => {
-                let target = self.read_target(levels);
-                self.sized(target, start.start)
-            }
+            TokenKind::Sign(b'[') => self.read_target(levels)?.sized(start.start),
             _ => {
-                let token = self.last_word();
-                let arguments = self.read_arguments(levels);
+                let token = self.last_word()?;
+                let arguments = self.read_arguments(levels)?;
                 self.built(token, arguments)
             }
         }
@@ -364,101 +199,93 @@ impl<'a> Parser<'a> {
 
     // A unit, a tuple, or a type in parentheses.
     #[cycle(parser)]
-    fn read_tuple(&mut self, levels: usize) -> usize {
+    fn read_tuple(&mut self, levels: usize) -> Result<Read, Wrong> {
         let start = self.peek();
         self.pass();
         if self.take_sign(b')') {
-            return self.leaf(Kind::Unit);
+            return Ok(leaf(Kind::Unit));
         }
-        let first = self.read_type(levels);
+        let first = self.read_type(levels)?;
         if self.take_sign(b')') {
-            return first;
+            return Ok(first);
         }
-        self.sign(b',', "`,` or `)`");
-        let parts = self.append(List::EMPTY, first);
-        let parts = self.read_parts(b')', parts, levels);
-        if parts.count > TUPLE {
-            self.fail(start.start, Mistake::Expected("at most 13 parts"));
+        self.sign(b',', "`,` or `)`")?;
+        let mut parts = ReadParts::new(self.alloc);
+        parts.push("", first)?;
+        self.read_parts(b')', &mut parts, levels)?;
+        if parts.exprs.len() > TUPLE {
+            return Err(Wrong {
+                at: start.start,
+                mistake: Mistake::Expected("at most 13 parts"),
+            });
         }
-        self.add(Shape::Record, NONE, parts.first)
+        Ok(parts.record(""))
     }
 
     // Types between commas, up to a sign that closes the list and is passed.
     #[cycle(parser)]
-    pub(super) fn read_parts(&mut self, close: u8, before: List, levels: usize) -> List {
-        let mut parts = before;
-        for _ in 0..self.most() {
+    pub(super) fn read_parts(
+        &mut self,
+        close: u8,
+        parts: &mut ReadParts,
+        levels: usize,
+    ) -> Result<(), Wrong> {
+        for _ in 0..self.tokens.len() {
             if self.take_sign(close) {
-                return parts;
+                return Ok(());
             }
             self.pass_visibility();
-            let part = self.read_type(levels);
-            parts = self.append(parts, part);
-            if !self.goes_on(close, "`,` or the end of the list") {
-                return parts;
+            let read = self.read_type(levels)?;
+            parts.push("", read)?;
+            if !self.is_sign(close) {
+                self.sign(b',', "`,` or the end of the list")?;
             }
         }
-        self.expected("the end of the list");
-        parts
+        Err(self.wrong(Mistake::Expected("the end of the list")))
     }
 
     // What a pointer leads to: a type, a slice, or a text.
     #[cycle(parser)]
-    fn read_target(&mut self, levels: usize) -> usize {
+    fn read_target(&mut self, levels: usize) -> Result<Target, Wrong> {
         if self.is_word("str") {
             self.pass();
-            return self.add(Shape::Text, NONE, NONE);
+            return Ok(Target::Text);
         }
         if !self.take_sign(b'[') {
-            return self.read_type(levels);
+            return Ok(Target::One(self.read_type(levels)?));
         }
-        let element = self.read_type(levels);
+        let element = self.read_type(levels)?;
         if self.take_sign(b']') {
-            return self.add(Shape::Run, NONE, element);
+            return Ok(Target::Run(element));
         }
-        self.sign(b';', "`;` or `]`");
-        let count = self.count();
-        self.sign(b']', "`]`");
-        self.add(Shape::Array(count), NONE, element)
-    }
-
-    // One of what stands in `<` and `>`.
-    #[cycle(parser)]
-    fn read_argument(&mut self, levels: usize) -> usize {
-        if self.peek().kind != TokenKind::Number {
-            return self.read_target(levels);
-        }
-        let count = self.count();
-        self.add(Shape::Count(count), NONE, NONE)
+        self.sign(b';', "`;` or `]`")?;
+        let count = self.count()?;
+        self.sign(b']', "`]`")?;
+        Ok(Target::One(element.array(self.alloc, count)?))
     }
 
     // What stands in `<` and `>`, if they follow.
     #[cycle(parser)]
-    fn read_arguments(&mut self, levels: usize) -> Arguments {
-        let mut arguments = Arguments {
-            first: NONE,
-            second: NONE,
-            count: 0,
-        };
+    fn read_arguments(&mut self, levels: usize) -> Result<Vec<Argument>, Wrong> {
+        let mut arguments = Vec::new(self.alloc);
         if !self.take_sign(b'<') {
-            return arguments;
+            return Ok(arguments);
         }
-        for _ in 0..self.most() {
+        for _ in 0..self.tokens.len() {
             if self.take_sign(b'>') {
                 break;
             }
-            let argument = self.read_argument(levels);
-            match arguments.count {
-                0 => arguments.first = argument,
-                1 => arguments.second = argument,
-                _ => {}
-            }
-            arguments.count = arguments.count.saturating_add(1);
-            if !self.goes_on(b'>', "`,` or `>`") {
-                break;
+            let argument = if self.peek().kind == TokenKind::Number {
+                Argument::Count(self.count()?)
+            } else {
+                Argument::Target(self.read_target(levels)?)
+            };
+            arguments.push(argument)?;
+            if !self.is_sign(b'>') {
+                self.sign(b',', "`,` or `>`")?;
             }
         }
-        arguments
+        Ok(arguments)
     }
 
     // Passes a `pub`, perhaps with what it is for in parentheses.
@@ -476,71 +303,73 @@ impl<'a> Parser<'a> {
 
     // Whether what stands in parentheses is no place that a `pub` names.
     fn starts_tuple(&self) -> bool {
-        match self.token(self.at.saturating_add(1)) {
-            Some(token) => !is_place(self.text(token)),
+        match self.tokens.get(self.at.saturating_add(1)) {
+            Some(token) => match self.text(*token) {
+                "crate" | "super" | "self" | "in" => false,
+                _ => true,
+            },
             None => true,
         }
     }
 
-    // What has no arguments: a defined type or a leaf.
-    fn plain(&self, word: &str) -> Option<Shape> {
-        if let Some(number) = self.declared(word) {
-            return Some(Shape::Named(number));
-        }
-        match leaf_of(word) {
-            Some(kind) => Some(Shape::Leaf(kind)),
-            None => None,
-        }
-    }
-
     // The type of a word and its arguments: a defined one, a leaf, or one of the library's.
-    fn built(&mut self, token: Token, arguments: Arguments) -> usize {
+    fn built(&self, token: Token, arguments: Vec<Argument>) -> Result<Read, Wrong> {
         let word = self.text(token);
-        let Some(shape) = self.plain(word) else {
-            return self.built_of(word, token.start, arguments);
-        };
-        if arguments.count > 0 {
-            self.fail(token.start, Mistake::Expected("a type without `<` and `>`"));
-        }
-        self.add(shape, NONE, NONE)
-    }
-}
-
-// Whether a word behind `pub` and a parenthesis names a place.
-fn is_place(word: &str) -> bool {
-    for place in ["crate", "super", "self", "in"] {
-        if word == place {
-            return true;
-        }
-    }
-    false
-}
-
-// What digits write.
-#[derive(Clone, Copy)]
-enum Digits {
-    Number(usize),
-    TooLarge,
-    Other,
-}
-
-// A number with one more digit behind it, if that isn't too large.
-fn with_digit(number: usize, digit: u8) -> Option<usize> {
-    number.checked_mul(10)?.checked_add(digit as usize)
-}
-
-// What these write, of which `_` is none.
-fn number_in(digits: &str) -> Digits {
-    let mut number = 0usize;
-    for digit in digits.bytes() {
-        match digit {
-            b'_' => {}
-            b'0'..=b'9' => match with_digit(number, digit - b'0') {
-                Some(next) => number = next,
-                None => return Digits::TooLarge,
+        let alone = arguments.is_empty();
+        let read = match self.declared(word) {
+            Some(read) => Some(read),
+            None => match leaf_of(word) {
+                Some(kind) => Some(leaf(kind)),
+                None => None,
             },
-            _ => return Digits::Other,
+        };
+        match read {
+            Some(read) if alone => Ok(read),
+            Some(_) => Err(Wrong {
+                at: token.start,
+                mistake: Mistake::Expected("a type without `<` and `>`"),
+            }),
+            None => built_of(self.alloc, word, token.start, arguments),
         }
     }
-    Digits::Number(number)
+
+    // A name that lasts.
+    pub(super) fn kept(&self, token: Token) -> Result<&'static str, Wrong> {
+        Ok(kept(self.alloc, "", self.text(token))?)
+    }
+}
+
+impl ReadParts {
+    // None.
+    pub(super) fn new(alloc: Global) -> ReadParts {
+        ReadParts {
+            exprs: Vec::new(alloc),
+            labels: Vec::new(alloc),
+        }
+    }
+
+    // One more, with its name.
+    pub(super) fn push(&mut self, name: &'static str, read: Read) -> Result<(), Wrong> {
+        let Read { expr, labels } = read;
+        self.exprs.push(expr)?;
+        self.labels.push(PartLabels { name, labels })?;
+        Ok(())
+    }
+
+    // The record of these parts, under a name.
+    pub(super) fn record(self, name: &'static str) -> Read {
+        let ReadParts { exprs, labels } = self;
+        Read {
+            expr: Expr::Record(exprs),
+            labels: Labels::Record(name, labels),
+        }
+    }
+}
+
+// A leaf, which names nothing.
+pub(super) fn leaf(kind: Kind) -> Read {
+    Read {
+        expr: Expr::Leaf(kind),
+        labels: Labels::Unknown,
+    }
 }

@@ -1,5 +1,8 @@
 //! The words, numbers and signs of a text.
 
+use crate::text::mistakes::{Mistake, Wrong};
+use std::alloc::Global;
+
 // What a token is.
 #[derive(Clone, Copy, PartialEq, Eq)]
 pub(super) enum TokenKind {
@@ -93,7 +96,7 @@ fn behind_blank(bytes: &[u8], at: usize) -> Option<usize> {
 }
 
 // Where the next token begins.
-pub(super) fn behind_blanks(bytes: &[u8], start: usize) -> usize {
+fn behind_blanks(bytes: &[u8], start: usize) -> usize {
     let mut at = start;
     for _ in start..bytes.len() {
         match behind_blank(bytes, at) {
@@ -119,29 +122,49 @@ fn end_of_word(bytes: &[u8], at: usize) -> usize {
     bytes.len()
 }
 
-// Whether a byte is a sign of its own.
-fn is_sign(byte: u8) -> bool {
-    match byte {
-        b'{' | b'}' | b'(' | b')' | b'[' | b']' | b'<' | b'>' | b',' | b':' | b';' | b'=' => true,
-        _ => false,
-    }
-}
-
-// The token at a position, which is no blank: none if no token begins so.
-pub(super) fn token_at(bytes: &[u8], at: usize) -> Option<Token> {
+// The token at a position, which is no blank.
+fn token_at(bytes: &[u8], at: usize) -> Result<Token, Wrong> {
     let byte = byte_at(bytes, at);
     let (kind, end) = match byte {
         b'0'..=b'9' => (TokenKind::Number, end_of_word(bytes, at)),
         _ if goes_on(byte) => (TokenKind::Word, end_of_word(bytes, at)),
         b':' if lies_at(bytes, at, b"::") => (TokenKind::Path, at.saturating_add(2)),
-        _ if is_sign(byte) => (TokenKind::Sign(byte), at.saturating_add(1)),
-        _ => return None,
+        b'{' | b'}' | b'(' | b')' | b'[' | b']' | b'<' | b'>' | b',' | b':' | b';' | b'=' => {
+            (TokenKind::Sign(byte), at.saturating_add(1))
+        }
+        _ => {
+            return Err(Wrong {
+                at,
+                mistake: Mistake::Sign,
+            });
+        }
     };
-    Some(Token {
+    Ok(Token {
         kind,
         start: at,
         end,
     })
+}
+
+// The tokens of a text, the last of which is its end.
+pub(super) fn tokens_of(alloc: Global, bytes: &[u8]) -> Result<Vec<Token>, Wrong> {
+    let mut tokens = Vec::new(alloc);
+    let mut at = 0;
+    for _ in 0..bytes.len() {
+        at = behind_blanks(bytes, at);
+        if at >= bytes.len() {
+            break;
+        }
+        let token = token_at(bytes, at)?;
+        at = token.end;
+        tokens.push(token)?;
+    }
+    tokens.push(Token {
+        kind: TokenKind::End,
+        start: bytes.len(),
+        end: bytes.len(),
+    })?;
+    Ok(tokens)
 }
 
 // The text of a word: empty where there is none.

@@ -3,7 +3,7 @@
 use crate::walk::bytes::bytes_at;
 use crate::walk::faults::{FirstFault, Reason, Stop};
 use crate::walk::frames::{Frame, Held, Inside, OpenElements, Place};
-use crate::walk::{Count, Next, Region, Walker, What};
+use crate::walk::{Count, Event, Next, Region, Visited, Walker, What};
 use archive_check::format::expr::{Expr, Kind};
 
 // Why a region may not be entered from this range, if so.
@@ -29,11 +29,15 @@ fn is_free(expr: &Expr) -> bool {
 }
 
 impl<'a> Walker<'a> {
-    // The root's region, and the root.
-    pub(super) fn look_at_root(&mut self) {
+    // The root's region.
+    pub(super) fn enter_root(&mut self) -> Result<(), Stop> {
         let form = self.form;
-        let expr = form.schema().root();
-        let layout = form.layout(expr);
+        let place = Place {
+            expr: form.schema().root(),
+            labels: Some(form.labels()),
+            at: 0,
+        };
+        let layout = form.layout(place.expr);
         let position = (self.bytes.len() as i128)
             .saturating_sub(layout.size)
             .max(0);
@@ -44,15 +48,13 @@ impl<'a> Walker<'a> {
             count: Count::Root,
         };
         let place = Place {
-            expr,
-            labels: Some(form.labels()),
+            expr: place.expr,
+            labels: place.labels,
             at: position,
         };
-        if self.enter(region, Held::Root, None, (position, layout.size)) {
-            self.begin_only(place);
-            self.next = Next::Nothing;
-            self.look_at(place);
-        }
+        self.enter(region, Held::Root, None, (position, layout.size))?;
+        self.begin_only(place);
+        Ok(())
     }
 
     // The only value of the innermost region is looked at next.
@@ -63,18 +65,22 @@ impl<'a> Walker<'a> {
         self.next = Next::Value(place);
     }
 
-    // Enters a region, if it may: the range ends where it begins. The pointer's bytes are faulty where
-    // it may not be: their position and number.
+    // A region is entered: the range ends where it begins. The pointer's bytes are faulty where it
+    // may not be: their position and number.
     pub(super) fn enter(
         &mut self,
         region: Region,
         held: Held<'a>,
         shared: Option<i128>,
         pointer: (i128, i128),
-    ) -> bool {
+    ) -> Result<(), Stop> {
         if let Some(reason) = refusal_of(region, self.start, self.stop) {
-            self.fault(pointer.0, pointer.1, reason);
-            return false;
+            return Err(Stop::Fault(FirstFault {
+                position: pointer.0,
+                faulty: pointer.0,
+                count: pointer.1,
+                reason,
+            }));
         }
         let inside = Inside {
             held,
@@ -83,10 +89,10 @@ impl<'a> Walker<'a> {
             stop: self.stop,
             shared,
         };
-        self.open(Frame::Region(inside));
+        self.frames.push(Frame::Region(inside))?;
         self.depth = self.depth.saturating_add(1);
         self.stop = region.position;
-        true
+        Ok(())
     }
 
     // Elements that lie one behind another. Those that need not be looked at one by one are passed
@@ -105,40 +111,38 @@ impl<'a> Walker<'a> {
     }
 
     // The text that a pointer of a place leads to.
-    pub(super) fn look_at_text(&mut self, place: Place<'a>, region: Region) {
-        let size = region.bytes();
-        let bytes = bytes_at(self.bytes, region.position, size).unwrap_or(&[]);
-        let text = self.text_in(bytes, region.position);
-        let here = Place {
+    pub(super) fn look_at_text(
+        &mut self,
+        place: Place<'a>,
+        region: Region,
+    ) -> Result<Option<Event<'a>>, Stop> {
+        self.next = Next::Nothing;
+        let bytes = self.bytes;
+        let text = bytes_at(bytes, region.position, region.bytes()).unwrap_or(&[]);
+        let text = text_in(text, region.position)?;
+        Ok(Some(Event::Found(Visited {
+            position: region.position,
+            size: region.bytes(),
             expr: place.expr,
             labels: place.labels,
-            at: region.position,
-        };
-        self.found(here, size, What::Text(text));
+            what: What::Text(text),
+        })))
     }
+}
 
-    // The text in bytes that lie at a position.
-    pub(super) fn text_in(&mut self, bytes: &'a [u8], position: i128) -> &'a str {
-        match str::from_utf8(bytes) {
-            Ok(text) => text,
-            Err(error) => {
-                self.refuse_text(bytes, position, error.valid_up_to());
-                ""
-            }
+// The text in bytes that lie at a position.
+pub(super) fn text_in(bytes: &[u8], position: i128) -> Result<&str, Stop> {
+    match str::from_utf8(bytes) {
+        Ok(text) => Ok(text),
+        Err(error) => {
+            let index = error.valid_up_to();
+            let byte = bytes.get(index).copied().unwrap_or(0);
+            Err(Stop::Fault(FirstFault {
+                position,
+                faulty: position.saturating_add(index as i128),
+                count: 1,
+                reason: Reason::Text(bytes.len(), index, byte),
+            }))
         }
-    }
-
-    // A byte of a text is in no character.
-    fn refuse_text(&mut self, bytes: &[u8], position: i128, index: usize) {
-        let byte = match bytes.get(index) {
-            Some(byte) => *byte,
-            None => 0,
-        };
-        self.stopped = Some(Stop::Fault(FirstFault {
-            position,
-            faulty: position.saturating_add(index as i128),
-            count: 1,
-            reason: Reason::Text(bytes.len(), index, byte),
-        }));
     }
 }

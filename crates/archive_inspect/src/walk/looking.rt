@@ -5,11 +5,12 @@ use crate::walk::bytes::{
     byte_at, coded_length, inline_text, is_out_of_line, number_at, start_of, target_at,
     text_target_at,
 };
-use crate::walk::faults::Reason;
+use crate::walk::entering::text_in;
+use crate::walk::faults::{FirstFault, Reason, Stop};
 use crate::walk::frames::{Frame, Held, OpenParts, Place};
 use crate::walk::leaves::{leaf_from, number_in};
 use crate::walk::met::{Meeting, Met};
-use crate::walk::{Count, Next, Region, Walker, What};
+use crate::walk::{Count, Event, Next, Region, Visited, Walker, What};
 use archive_check::format::expr::{Expr, FlavorInfo, Kind, Pointee};
 
 // A pointer: where it lies, how many bytes it has, and what it leads to.
@@ -19,6 +20,27 @@ struct Pointer<'a> {
     size: i128,
     target: i128,
     length: usize,
+}
+
+// A fault in bytes at a position, so many of them.
+fn fault_at(position: i128, count: i128, reason: Reason) -> Stop {
+    Stop::Fault(FirstFault {
+        position,
+        faulty: position,
+        count,
+        reason,
+    })
+}
+
+// What lies outside of the buffer: the regions that were entered keep it from being met.
+fn nowhere(place: Place<'_>) -> Stop {
+    let region = Region {
+        position: place.at,
+        size: 1,
+        align: 1,
+        count: Count::One,
+    };
+    fault_at(place.at, 1, Reason::Outside(region, 0, 0))
 }
 
 // Why the bytes are no leaf of the kind.
@@ -52,8 +74,23 @@ fn own_name(labels: Option<&Labels>, name: &'static str) -> &'static str {
 }
 
 impl<'a> Walker<'a> {
+    // What was found at a place, with so many bytes of its own.
+    pub(super) fn found(
+        place: Place<'a>,
+        size: i128,
+        what: What<'a>,
+    ) -> Result<Option<Event<'a>>, Stop> {
+        Ok(Some(Event::Found(Visited {
+            position: place.at,
+            size,
+            expr: place.expr,
+            labels: place.labels,
+            what,
+        })))
+    }
+
     // A value.
-    pub(super) fn look_at(&mut self, place: Place<'a>) {
+    pub(super) fn look_at(&mut self, place: Place<'a>) -> Result<Option<Event<'a>>, Stop> {
         let form = self.form;
         let place = Place {
             expr: form.meant(place.expr),
@@ -66,81 +103,91 @@ impl<'a> Walker<'a> {
             Expr::Choice(name, variants) => self.look_at_choice(place, *name, variants),
             Expr::Array(count, element) => self.look_at_array(place, *count, element),
             Expr::Str => self.look_at_string(place),
-            Expr::Box(pointee) => self.look_at_box(place, pointee),
-            Expr::Shared(flavor, pointee) => self.look_at_shared(place, *flavor, pointee),
-            Expr::Weak(flavor, pointee) => self.look_at_weak(place, *flavor, pointee),
+            Expr::Weak(_, pointee) if number_at(self.bytes, place.at) == Some(1) => {
+                Walker::found(place, size_of(pointee), What::Null)
+            }
+            Expr::Box(pointee) => {
+                let pointer = self.pointer(place, pointee)?;
+                self.follow(pointer, pointee, None)
+            }
+            Expr::Shared(flavor, pointee) | Expr::Weak(flavor, pointee) => {
+                let pointer = self.pointer(place, pointee)?;
+                self.look_at_shared(pointer, *flavor, pointee)
+            }
             Expr::Vec(element) => self.look_at_vector(place, element),
             Expr::Map(key, value) => self.look_at_map(place, *key, value),
-            Expr::Named(_) => self.nowhere(place),
+            Expr::Named(_) => Err(nowhere(place)),
         }
     }
 
-    pub(super) fn look_at_leaf(&mut self, place: Place<'a>, kind: Kind) {
+    pub(super) fn look_at_leaf(
+        &mut self,
+        place: Place<'a>,
+        kind: Kind,
+    ) -> Result<Option<Event<'a>>, Stop> {
         let bytes = self.bytes;
         let size = kind.size();
         let Some(start) = start_of(bytes, place.at, size) else {
-            return self.nowhere(place);
+            return Err(nowhere(place));
         };
         match leaf_from(kind, bytes, start) {
-            Some(leaf) => self.found(place, size as i128, What::Leaf(leaf)),
+            Some(leaf) => Walker::found(place, size as i128, What::Leaf(leaf)),
             None => {
                 let reason = illegal(kind, &bytes[start..start + size]);
-                self.fault(place.at, size as i128, reason);
+                Err(fault_at(place.at, size as i128, reason))
             }
         }
     }
 
     // Parts are begun, those of a variant behind the tag.
-    fn open_parts(
+    fn open(
         &mut self,
         place: Place<'a>,
         exprs: &'a [Expr],
         labels: &'a [PartLabels],
         variant: Option<(u8, &'static str)>,
-    ) {
-        let end = if variant.is_some() { 1 } else { 0 };
-        self.open(Frame::Parts(OpenParts {
+    ) -> Result<(), Stop> {
+        let parts = OpenParts {
             exprs,
             labels,
             variant,
             begun: 0,
             at: place.at,
-            end,
-        }));
+            end: if variant.is_some() { 1 } else { 0 },
+        };
+        self.frames.push(Frame::Parts(parts))?;
+        Ok(())
     }
 
-    fn look_at_record(&mut self, place: Place<'a>, parts: &'a [Expr]) {
+    fn look_at_record(
+        &mut self,
+        place: Place<'a>,
+        parts: &'a [Expr],
+    ) -> Result<Option<Event<'a>>, Stop> {
         let labels = match place.labels {
             Some(labels) => labels.parts(),
             None => &[],
         };
-        self.open_parts(place, parts, labels, None);
-        self.found(place, 0, What::Record(parts.len()));
+        self.open(place, parts, labels, None)?;
+        Walker::found(place, 0, What::Record(parts.len()))
     }
 
-    fn look_at_choice(&mut self, place: Place<'a>, name: &'static str, variants: &'a [Vec<Expr>]) {
-        let Some(tag) = byte_at(self.bytes, place.at) else {
-            return self.nowhere(place);
-        };
-        match variants.get(tag as usize) {
-            Some(parts) => self.look_at_variant(place, name, tag, parts),
-            None => {
-                let reason = Reason::Tag(tag, variants.len(), name, own_name(place.labels, name));
-                self.fault(place.at, 1, reason);
-            }
-        }
-    }
-
-    fn look_at_variant(
+    fn look_at_choice(
         &mut self,
         place: Place<'a>,
-        choice: &'static str,
-        tag: u8,
-        parts: &'a [Expr],
-    ) {
-        let (shown, labels) = self.variant(place, choice, tag);
-        self.open_parts(place, parts, labels, Some((tag, shown)));
-        self.found(place, 1, What::Variant(tag, shown, parts.len()));
+        name: &'static str,
+        variants: &'a [Vec<Expr>],
+    ) -> Result<Option<Event<'a>>, Stop> {
+        let Some(tag) = byte_at(self.bytes, place.at) else {
+            return Err(nowhere(place));
+        };
+        let Some(parts) = variants.get(tag as usize) else {
+            let reason = Reason::Tag(tag, variants.len(), name, own_name(place.labels, name));
+            return Err(fault_at(place.at, 1, reason));
+        };
+        let (shown, labels) = self.variant(place, name, tag);
+        self.open(place, parts, labels, Some((tag, shown)))?;
+        Walker::found(place, 1, What::Variant(tag, shown, parts.len()))
     }
 
     // The name of a variant, and those of its parts.
@@ -154,12 +201,17 @@ impl<'a> Walker<'a> {
         }
     }
 
-    fn look_at_array(&mut self, place: Place<'a>, count: usize, element: &'a Expr) {
+    fn look_at_array(
+        &mut self,
+        place: Place<'a>,
+        count: usize,
+        element: &'a Expr,
+    ) -> Result<Option<Event<'a>>, Stop> {
         let first = self.within(place, element);
         let size = self.form.layout(element).size;
         let elements = self.elements(first, count, size);
-        self.open(Frame::Array(elements));
-        self.found(place, 0, What::Array(count));
+        self.frames.push(Frame::Array(elements))?;
+        Walker::found(place, 0, What::Array(count))
     }
 
     // An element or a pointee, at the same position.
@@ -175,25 +227,20 @@ impl<'a> Walker<'a> {
         }
     }
 
-    pub(super) fn look_at_string(&mut self, place: Place<'a>) {
+    pub(super) fn look_at_string(&mut self, place: Place<'a>) -> Result<Option<Event<'a>>, Stop> {
         let bytes = self.bytes;
         if is_out_of_line(bytes, place.at) == Some(false) {
-            let text = self.text_in(inline_text(bytes, place.at).unwrap_or(&[]), place.at);
-            return self.found(place, 8, What::Text(text));
+            let text = text_in(inline_text(bytes, place.at).unwrap_or(&[]), place.at)?;
+            return Walker::found(place, 8, What::Text(text));
         }
-        match (
+        let (Some(target), Some(length)) = (
             text_target_at(bytes, place.at),
             coded_length(bytes, place.at),
-        ) {
-            (Some(target), Some(length)) => self.look_at_text_elsewhere(place, target, length),
-            _ => self.nowhere(place),
-        }
-    }
-
-    // A string whose text lies elsewhere.
-    fn look_at_text_elsewhere(&mut self, place: Place<'a>, target: i128, length: usize) {
+        ) else {
+            return Err(nowhere(place));
+        };
         if length <= 8 {
-            return self.fault(place.at, 4, Reason::Coded(length));
+            return Err(fault_at(place.at, 4, Reason::Coded(length)));
         }
         let pointer = Pointer {
             place,
@@ -201,76 +248,62 @@ impl<'a> Walker<'a> {
             target,
             length,
         };
-        self.follow_text(pointer, None);
+        self.follow_text(pointer, None)
     }
 
     // The pointer at a place.
-    fn pointer(&mut self, place: Place<'a>, pointee: &Pointee) -> Pointer<'a> {
+    fn pointer(&self, place: Place<'a>, pointee: &Pointee) -> Result<Pointer<'a>, Stop> {
         let size = size_of(pointee);
-        let (target, length) = if size == 4 {
-            match target_at(self.bytes, place.at) {
-                Some(target) => (target, 0),
-                None => self.run_at(place),
-            }
+        let length = if size == 4 {
+            Some(0)
         } else {
-            self.run_at(place)
+            number_at(self.bytes, place.at.saturating_add(4))
         };
-        Pointer {
-            place,
-            size,
-            target,
-            length,
+        match (target_at(self.bytes, place.at), length) {
+            (Some(target), Some(length)) => Ok(Pointer {
+                place,
+                size,
+                target,
+                length: length as usize,
+            }),
+            _ => Err(nowhere(place)),
         }
     }
 
     // Where the elements or entries lie that a pointer leads to, and how many there are.
-    pub(super) fn run_at(&mut self, place: Place<'a>) -> (i128, usize) {
+    pub(super) fn run_at(&self, place: Place<'a>) -> Result<(i128, usize), Stop> {
         let length = number_at(self.bytes, place.at.saturating_add(4));
         match (target_at(self.bytes, place.at), length) {
-            (Some(target), Some(length)) => (target, length as usize),
-            _ => {
-                self.nowhere(place);
-                (0, 0)
-            }
+            (Some(target), Some(length)) => Ok((target, length as usize)),
+            _ => Err(nowhere(place)),
         }
     }
 
-    fn look_at_vector(&mut self, place: Place<'a>, element: &'a Expr) {
-        let (target, length) = self.run_at(place);
+    fn look_at_vector(
+        &mut self,
+        place: Place<'a>,
+        element: &'a Expr,
+    ) -> Result<Option<Event<'a>>, Stop> {
+        let (target, length) = self.run_at(place)?;
         let pointer = Pointer {
             place,
             size: 8,
             target,
             length,
         };
-        self.follow_run(pointer, element, None);
+        self.follow_run(pointer, element, None)
     }
 
-    fn look_at_box(&mut self, place: Place<'a>, pointee: &'a Pointee) {
-        let pointer = self.pointer(place, pointee);
-        self.follow(pointer, pointee, None);
-    }
-
-    // A weak pointer, or a null.
-    fn look_at_weak(&mut self, place: Place<'a>, flavor: FlavorInfo, pointee: &'a Pointee) {
-        if number_at(self.bytes, place.at) == Some(1) {
-            return self.found(place, size_of(pointee), What::Null);
-        }
-        self.look_at_shared(place, flavor, pointee);
-    }
-
-    // A shared pointer.
-    fn look_at_shared(&mut self, place: Place<'a>, flavor: FlavorInfo, pointee: &'a Pointee) {
-        let pointer = self.pointer(place, pointee);
+    // A shared pointer: its region is entered where its position is met first.
+    fn look_at_shared(
+        &mut self,
+        pointer: Pointer<'a>,
+        flavor: FlavorInfo,
+        pointee: &'a Pointee,
+    ) -> Result<Option<Event<'a>>, Stop> {
         if self.again {
-            self.look_again(pointer, pointee);
-        } else {
-            self.meet_shared(pointer, flavor, pointee);
+            return self.look_again(pointer, pointee);
         }
-    }
-
-    // The region of a shared pointer is entered where its position is met first.
-    fn meet_shared(&mut self, pointer: Pointer<'a>, flavor: FlavorInfo, pointee: &'a Pointee) {
         let met = Met {
             flavor,
             pointee,
@@ -278,111 +311,132 @@ impl<'a> Walker<'a> {
             pointer: pointer.place.at,
             pending: true,
         };
-        match self.meet(pointer.target, met) {
+        match self.meet(pointer.target, met)? {
             Meeting::First => self.follow(pointer, pointee, Some(pointer.target)),
             Meeting::Again => {
                 let region = self.region_of(pointer, pointee);
-                self.found(pointer.place, pointer.size, What::Again(region));
+                Walker::found(pointer.place, pointer.size, What::Again(region))
             }
-            Meeting::Refused(reason) => self.fault(pointer.place.at, pointer.size, reason),
+            Meeting::Refused(reason) => Err(fault_at(pointer.place.at, pointer.size, reason)),
         }
     }
 
     // A shared pointer of a region that is gone through again.
-    fn look_again(&mut self, pointer: Pointer<'a>, pointee: &Pointee) {
+    fn look_again(
+        &self,
+        pointer: Pointer<'a>,
+        pointee: &Pointee,
+    ) -> Result<Option<Event<'a>>, Stop> {
         let region = self.region_of(pointer, pointee);
         let what = if self.is_first(pointer.target, pointer.place.at) {
             What::Pointer(region)
         } else {
             What::Again(region)
         };
-        self.found(pointer.place, pointer.size, what);
+        Walker::found(pointer.place, pointer.size, what)
     }
 
     // The region that a pointer leads to.
     fn region_of(&self, pointer: Pointer<'a>, pointee: &Pointee) -> Region {
-        match pointee {
-            Pointee::One(expr) => self.region_at(pointer.target, expr, Count::One),
-            Pointee::Run(expr) => {
-                self.region_at(pointer.target, expr, Count::Elements(pointer.length))
+        let (size, align, count) = match pointee {
+            Pointee::One(expr) => {
+                let layout = self.form.layout(expr);
+                (layout.size, layout.align, Count::One)
             }
-            Pointee::Text => text_region(pointer),
-        }
-    }
-
-    // One of values at a position.
-    fn region_at(&self, position: i128, expr: &Expr, count: Count) -> Region {
-        let layout = self.form.layout(expr);
+            Pointee::Run(expr) => {
+                let layout = self.form.layout(expr);
+                (layout.size, layout.align, Count::Elements(pointer.length))
+            }
+            Pointee::Text => (1, 1, Count::Text(pointer.length)),
+        };
         Region {
-            position,
-            size: layout.size,
-            align: layout.align,
+            position: pointer.target,
+            size,
+            align,
             count,
         }
     }
 
     // The region that a pointer leads to is entered.
-    fn follow(&mut self, pointer: Pointer<'a>, pointee: &'a Pointee, shared: Option<i128>) {
+    fn follow(
+        &mut self,
+        pointer: Pointer<'a>,
+        pointee: &'a Pointee,
+        shared: Option<i128>,
+    ) -> Result<Option<Event<'a>>, Stop> {
         match pointee {
-            Pointee::One(expr) => self.follow_one(pointer, expr, shared),
+            Pointee::One(expr) => {
+                let region = self.region_of(pointer, pointee);
+                if self.again {
+                    return Walker::found(pointer.place, pointer.size, What::Pointer(region));
+                }
+                self.enter(region, Held::One, shared, (pointer.place.at, pointer.size))?;
+                let inner = self.within(pointer.place, expr);
+                self.begin_only(Place {
+                    expr: inner.expr,
+                    labels: inner.labels,
+                    at: region.position,
+                });
+                Walker::found(pointer.place, pointer.size, What::Pointer(region))
+            }
             Pointee::Run(expr) => self.follow_run(pointer, expr, shared),
             Pointee::Text => self.follow_text(pointer, shared),
         }
     }
 
-    // One value.
-    fn follow_one(&mut self, pointer: Pointer<'a>, expr: &'a Expr, shared: Option<i128>) {
-        let region = self.region_at(pointer.target, expr, Count::One);
-        if !self.again {
-            let inner = self.behind(pointer, expr);
-            if self.enter(region, Held::One, shared, (pointer.place.at, pointer.size)) {
-                self.begin_only(inner);
-            }
+    // Elements.
+    fn follow_run(
+        &mut self,
+        pointer: Pointer<'a>,
+        element: &'a Expr,
+        shared: Option<i128>,
+    ) -> Result<Option<Event<'a>>, Stop> {
+        let layout = self.form.layout(element);
+        let region = Region {
+            position: pointer.target,
+            size: layout.size,
+            align: layout.align,
+            count: Count::Elements(pointer.length),
+        };
+        if self.again {
+            return Walker::found(pointer.place, pointer.size, What::Pointer(region));
         }
-        self.found(pointer.place, pointer.size, What::Pointer(region));
-    }
-
-    // A value that a pointer leads to.
-    fn behind(&self, pointer: Pointer<'a>, expr: &'a Expr) -> Place<'a> {
-        let inner = self.within(pointer.place, expr);
-        Place {
+        let inner = self.within(pointer.place, element);
+        let first = Place {
             expr: inner.expr,
             labels: inner.labels,
-            at: pointer.target,
-        }
-    }
-
-    // Elements.
-    fn follow_run(&mut self, pointer: Pointer<'a>, element: &'a Expr, shared: Option<i128>) {
-        let region = self.region_at(pointer.target, element, Count::Elements(pointer.length));
-        if !self.again {
-            let first = self.behind(pointer, element);
-            let elements = self.elements(first, pointer.length, region.size);
-            let held = Held::Elements(elements);
-            let _ = self.enter(region, held, shared, (pointer.place.at, pointer.size));
-        }
-        self.found(pointer.place, pointer.size, What::Pointer(region));
+            at: region.position,
+        };
+        let elements = self.elements(first, pointer.length, layout.size);
+        self.enter(
+            region,
+            Held::Elements(elements),
+            shared,
+            (pointer.place.at, pointer.size),
+        )?;
+        Walker::found(pointer.place, pointer.size, What::Pointer(region))
     }
 
     // A text.
-    fn follow_text(&mut self, pointer: Pointer<'a>, shared: Option<i128>) {
-        let region = text_region(pointer);
-        if !self.again && self.enter(region, Held::Text, shared, (pointer.place.at, pointer.size)) {
-            self.next = Next::Text(pointer.place, region);
-            // Once is enough: a text leads nowhere.
-            self.again = self.twice;
+    fn follow_text(
+        &mut self,
+        pointer: Pointer<'a>,
+        shared: Option<i128>,
+    ) -> Result<Option<Event<'a>>, Stop> {
+        let region = Region {
+            position: pointer.target,
+            size: 1,
+            align: 1,
+            count: Count::Text(pointer.length),
+        };
+        if self.again {
+            return Walker::found(pointer.place, pointer.size, What::Pointer(region));
         }
-        self.found(pointer.place, pointer.size, What::Pointer(region));
-    }
-}
-
-// That of a text.
-fn text_region(pointer: Pointer<'_>) -> Region {
-    Region {
-        position: pointer.target,
-        size: 1,
-        align: 1,
-        count: Count::Text(pointer.length),
+        self.enter(region, Held::Text, shared, (pointer.place.at, pointer.size))?;
+        self.next = Next::Text(pointer.place, region);
+        // Once is enough: a text leads nowhere.
+        self.again = self.twice;
+        Walker::found(pointer.place, pointer.size, What::Pointer(region))
     }
 }
 

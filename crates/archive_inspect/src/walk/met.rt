@@ -42,14 +42,14 @@ impl Met<'_> {
 
 impl<'a> Walker<'a> {
     // How a position is met; from the first time on it is being checked.
-    pub(super) fn meet(&mut self, position: i128, met: Met<'a>) -> Meeting {
-        if let Some(known) = self.met.get(&position) {
-            return known.again(&met, position);
+    pub(super) fn meet(&mut self, position: i128, met: Met<'a>) -> Result<Meeting, Stop> {
+        match self.met.get(&position) {
+            Some(known) => Ok(known.again(&met, position)),
+            None => {
+                self.met.insert(position, met)?;
+                Ok(Meeting::First)
+            }
         }
-        if self.met.insert(position, met).is_err() {
-            self.stopped = Some(Stop::OutOfMemory);
-        }
-        Meeting::First
     }
 
     // Whether a position was first met by the pointer that lies here.

@@ -14,7 +14,4 @@ abbrev pub decreases-read_tuple : goal.decreases-read_tuple
 decreases-read_tuple l = 4 * l.levels + 2
 
 abbrev pub decreases-read_arguments : goal.decreases-read_arguments
-decreases-read_arguments l = 4 * l.levels + 3
-
-abbrev pub decreases-read_argument : goal.decreases-read_argument
-decreases-read_argument l = 4 * l.levels + 2
+decreases-read_arguments l = 4 * l.levels + 2

@@ -1,14 +1,11 @@
 use Rattle.std.proofs.Common.{◌+◌, ◌*◌}
-use Rattle.archive_inspect.proofs.text.writing.Writer.+writing.Given as goal
+use Rattle.archive_inspect.proofs.text.resolving.Writer.+writing.Given as goal
 
 abbrev pub decreases-write : goal.decreases-write
 decreases-write l = 4 * l.levels
 
-abbrev pub decreases-write_around : goal.decreases-write_around
-decreases-write_around l = 4 * l.levels + 1
-
-abbrev pub decreases-write_pointer : goal.decreases-write_pointer
-decreases-write_pointer l = 4 * l.levels + 2
+abbrev pub decreases-write_boxed : goal.decreases-write_boxed
+decreases-write_boxed l = 4 * l.levels + 1
 
 abbrev pub decreases-write_pointee : goal.decreases-write_pointee
 decreases-write_pointee l = 4 * l.levels + 1
