@@ -175,7 +175,7 @@ def front_read(it, case):
     reads = Reads(it, case.names[:-1], case.types[:-1])
     for i, err in enumerate(reads.errs):
         refused = parts_refused(it, case, reads, i, f"c.{err}.ensures.refused")
-        answers.answer("", f"returns-{err}-clause-refused", reads.refused(i, f"({refused})"))
+        answers.answer("", f"returns-{err}-clause-refused", f"({refused})")
     last = case.count - 1
     at = f"c.part_of_variant-p{last}" if last else "c.part_of_variant-p0"
     D, X = it.terms.definitions(case.types[last]), it.terms.shape(case.types[last].args[0])

@@ -22,7 +22,7 @@ from .model import Type
 from .recursive_expressions import EXPR
 from .recursive_hollow import boxed_slices, hollow_source, shared_at, shared_pointers
 from .recursive_plain import items_of
-from .recursive_reads import by_match, is_made, word_of
+from .recursive_reads import is_made, word_of
 from .recursive_terms import is_map, is_run, stem
 from .layout import Generic, Group, call, flat, implementation, literal, pair, signature, statement
 from .long import nest
@@ -1057,7 +1057,10 @@ def owner_reading(it, type):
         body = recursive_weak.reading(it, type)
     elif type.name == "Box":
         body = f"""    let view: Ref<'_, ArchivedBox<{inner}>> = Ref::at(part);
-    let value = read_{it.word(item)}(alloc, before_box(view).part(), {levels}deserializer)?;
+    let value = match read_{it.word(item)}(alloc, before_box(view).part(), {levels}deserializer) {{
+        Ok(value) => value,
+        Err(error) => return Err(error),
+    }};
     let whole = Box::new(alloc, value)?;
     Ok(whole)
 """
@@ -1065,10 +1068,10 @@ def owner_reading(it, type):
         body = f"""    let view: Ref<'_, ArchivedOption<{inner}>> = Ref::at(part);
     match view.as_ref() {{
         None => Ok(None),
-        Some(inner) => {{
-            let value = read_{it.word(item)}(alloc, inner.part(), {levels}deserializer)?;
-            Ok(Some(value))
-        }}
+        Some(inner) => match read_{it.word(item)}(alloc, inner.part(), {levels}deserializer) {{
+            Ok(value) => Ok(Some(value)),
+            Err(error) => Err(error),
+        }},
     }}
 """
     else:
@@ -1078,7 +1081,10 @@ def owner_reading(it, type):
             lines, made = f"    let list = before_box_slice::<{inner}>(part);\n", "BoxSlice { items }"
         body = f"""{lines}    let mut items = Vec::with_capacity(alloc, list.len())?;
     for index in 0..list.len() {{
-        let item = read_{it.word(item)}(alloc, list.index(index).part(), {levels}deserializer)?;
+        let item = match read_{it.word(item)}(alloc, list.index(index).part(), {levels}deserializer) {{
+            Ok(item) => item,
+            Err(error) => return Err(error),
+        }};
         items.push_reserved(item);
     }}
     Ok({made})
@@ -1097,13 +1103,8 @@ def parts_read(it, case):
             where = Generic("part_of_variant", [it.archived, X], ["part", str(case.tag), str(i), str(offset)])
         lines += statement(4, f"let p{i} = ", where, ";")
         levels = ["levels"] if it.family.shares and back else []
-        is_matched = case.is_long or by_match(type)
-        tail = "" if is_matched else "?"
-        read = call(word_of(it, type), ["alloc", f"p{i}"] + levels + ["deserializer"], tail) if back or is_made(type) else Generic("read_part", [X, T, "D"], ["alloc", f"p{i}", "deserializer"], tail)
-        if is_matched:
-            lines += statement(4, f"let {name} = match ", read, " {") + f"        Ok({name}) => {name},\n        Err(error) => return Err(error),\n    }};\n"
-        else:
-            lines += statement(4, f"let {name} = ", read, ";")
+        read = call(word_of(it, type), ["alloc", f"p{i}"] + levels + ["deserializer"]) if back or is_made(type) else Generic("read_part", [X, T, "D"], ["alloc", f"p{i}", "deserializer"])
+        lines += statement(4, f"let {name} = match ", read, " {") + f"        Ok({name}) => {name},\n        Err(error) => return Err(error),\n    }};\n"
     return lines
 
 

@@ -71,7 +71,7 @@ def owner_written(it, type, answers):
 
 def read(it, type, answers):
     """The answers on a map, whose entries are read back as those of a vector are."""
-    from .recursive_proofs import ARGS, TOLD, error_by
+    from .recursive_proofs import ARGS, TOLD
 
     item, t = element(type), it.terms
     w, function = it.word(item), f"read_{it.word(type)}"
@@ -89,19 +89,19 @@ def read(it, type, answers):
     here = f"{D} {X} {L} {laid} b q (run {X}) n n (all_have {D} {X} {L} {laid} b q n (run {X}) n (inl (refl, refl))) {said} {TOLD}"
     now = "(g.D.Entries.entry_of c.loop-index.deserializer)"
     listed = ", ".join(f"c.{before}.ensures.{clause}" for clause in ("buffer", "position", "length"))
-    refused = f"element_refused {here} {now} c.loop-index.items.items c.loop-index.index (one {X}) c.in_err-item.field-0.0 refl below (kept.3) h"
+    refused = f"element_refused {here} {now} c.loop-index.items.items c.loop-index.index (one {X}) c.in-Err.error refl below (kept.3) h"
     map_ = f"{t.plain.shape(type.args[0])} {t.shape(type.args[1])} {t.plain.key(type)} refl"
     answers.answer(
-        function, "returns-in_err-item-clause-refused",
-        f"({lets} {below} let h = rw ({steps}) at c.in_err-item.ensures.refused in let r = {refused} in "
-        + error_by(["items", "item"], 1, f"(pairs_unread {D} {map_} {ARGS} c.requires {TOLD} c.in_err-item.field-0.0 (rw ({listed}) at r))") + ")",
+        function, "returns-in-Err-clause-refused",
+        f"({lets} {below} let h = rw ({steps}) at c.in-Err.ensures.refused in let r = {refused} in "
+        + f"pairs_unread {D} {map_} {ARGS} c.requires {TOLD} c.in-Err.error (rw ({listed}) at r))",
     )
-    pushed = "let pushed : c.push_reserved.new.self.items ≡ c.loop-index.items.items ++ c.in_ok-item.item ∷ [] = grind (arith, common_steps) in"
-    more = "let more : length (c.loop-index.items.items ++ c.in_ok-item.item ∷ []) ≡ c.loop-index.index + 1 = grind (arith, common_steps, kept.0) in"
-    step = f"elements_more {here} {now} (g.D.Entries.entry_of c.read_{w}.new.deserializer) c.loop-index.items.items c.in_ok-item.item c.loop-index.index (one {X}) refl kept.0 below (kept.3) h"
+    pushed = "let pushed : c.push_reserved.new.self.items ≡ c.loop-index.items.items ++ c.in-Ok.item ∷ [] = grind (arith, common_steps) in"
+    more = "let more : length (c.loop-index.items.items ++ c.in-Ok.item ∷ []) ≡ c.loop-index.index + 1 = grind (arith, common_steps, kept.0) in"
+    step = f"elements_more {here} {now} (g.D.Entries.entry_of c.read_{w}.new.deserializer) c.loop-index.items.items c.in-Ok.item c.loop-index.index (one {X}) refl kept.0 below (kept.3) h"
     answers.answer(
         function, "loop-index-preserved",
-        f"({lets} {below} {pushed} {more} let h = rw ({steps}) at c.in_ok-item.ensures.read in"
+        f"({lets} {below} {pushed} {more} let h = rw ({steps}) at c.in-Ok.ensures.read in"
         f" rw pushed (more, grind (arith, common_steps, kept.1), grind (arith, common_steps, kept.2), {step}))",
     )
     whole = "let whole : length c.loop-index.items.items ≡ n = omega (arith, kept.0, c.loop-index-test.false, c.loop-index.auto.index-end, c.len-index-end.ensures) in"

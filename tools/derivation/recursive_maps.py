@@ -83,7 +83,10 @@ def reading(it, type, inside):
     made = Generic("collect_map", [key, value, *rust], ["alloc", "part", "items"])
     return f"""{statement(4, "let list = ", Generic("before_map", [key, value, row], ["part"]), ";")}    let mut items = Vec::with_capacity(alloc, list.len())?;
     for index in 0..list.len() {{
-        let item = read_{it.word(item)}(alloc, list.index(index).part(), deserializer)?;
+        let item = match read_{it.word(item)}(alloc, list.index(index).part(), deserializer) {{
+            Ok(item) => item,
+            Err(error) => return Err(error),
+        }};
         items.push_reserved(item);
     }}
 {statement(4, "", made, "")}"""

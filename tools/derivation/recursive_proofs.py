@@ -744,13 +744,13 @@ def box_read(it, type, answers):
     steps = [f"c.{call}.ensures.{clause}" for call in ("part", "before_box") for clause in ("buffer", "position", "length")]
     steps = ", ".join(steps + ["c.at-view.ensures.buffer", "c.at-view.ensures.position"])
     answers.answer(
-        function, "returns-in_err-value-clause-refused",
-        error_by(["value"], 0, f"(box_unread {D} {ARGS} (one {X}) {TOLD} c.in_err-value.field-0.0 c.requires (rw ({steps}) at c.in_err-value.ensures.refused))"),
+        function, "returns-in-Err-clause-refused",
+        f"box_unread {D} {ARGS} (one {X}) {TOLD} c.in-Err.error c.requires (rw ({steps}) at c.in-Err.ensures.refused)",
     )
     answers.answer(
         function, "returns-clause-read",
-        "(let same : c.in_ok-whole.whole.value ≡ c.in_ok-value.value = grind (arith, common_steps) in"
-        f" rw same (box_read {D} {ARGS} (one {X}) _ _ _ _ c.requires (rw ({steps}) at c.in_ok-value.ensures.read)))",
+        "(let same : c.in_ok-whole.whole.value ≡ c.in-Ok.value = grind (arith, common_steps) in"
+        f" rw same (box_read {D} {ARGS} (one {X}) _ _ _ _ c.requires (rw ({steps}) at c.in-Ok.ensures.read)))",
     )
 
 
@@ -788,10 +788,10 @@ def option_read(it, type, answers):
     told = f"rw ({', '.join(steps + ['c.at-view.ensures.buffer', 'c.at-view.ensures.position'])}) at"
     answers.answer(function, "returns-in-None-clause-read", f"empty_case_read_back {D} _ _ 0 refl {here} {shown.format('None')} _ _ refl")
     answers.answer(
-        function, "returns-in_err-value-in-Some-clause-refused",
-        f"err_by c.from_residual.result c.in_err-value-in-Some.field-0.0 _ c.from_residual.ensures.1 (case_refuses {case} _ _ ({told} c.in_err-value-in-Some.ensures.refused))",
+        function, "returns-in-Err-clause-refused",
+        f"case_refuses {case} _ _ ({told} c.in-Err.ensures.refused)",
     )
-    answers.answer(function, "returns-in_ok-value-in-Some-clause-read", f"case_read_back {case} _ _ _ _ ({told} c.in_ok-value-in-Some.ensures.read)")
+    answers.answer(function, "returns-in-Ok-clause-read", f"case_read_back {case} _ _ _ _ ({told} c.in-Ok.ensures.read)")
 
 
 def run_read(it, type, answers):
@@ -822,18 +822,18 @@ def run_read(it, type, answers):
     now = "(g.D.Entries.entry_of c.loop-index.deserializer)"
     listed = ", ".join([f"c.{before}.ensures.{clause}" for clause in ("buffer", "position", "length")] + ["c.at-view.ensures.buffer", "c.at-view.ensures.position"] * (type.name == "Vec"))
     owner, its = ("vec", X) if type.name == "Vec" else ("box", f"(run {X})")
-    refused = f"element_refused {here} {now} c.loop-index.items.items c.loop-index.index (one {X}) c.in_err-item.field-0.0 refl below (kept.3) h"
+    refused = f"element_refused {here} {now} c.loop-index.items.items c.loop-index.index (one {X}) c.in-Err.error refl below (kept.3) h"
     answers.answer(
-        function, "returns-in_err-item-clause-refused",
-        f"({lets} {below} let h = rw ({steps}) at c.in_err-item.ensures.refused in let r = {refused} in "
-        + error_by(["items", "item"], 1, f"({owner}_unread {D} {ARGS} {its} {TOLD} c.in_err-item.field-0.0 c.requires (rw ({listed}) at r))") + ")",
+        function, "returns-in-Err-clause-refused",
+        f"({lets} {below} let h = rw ({steps}) at c.in-Err.ensures.refused in let r = {refused} in "
+        + f"{owner}_unread {D} {ARGS} {its} {TOLD} c.in-Err.error c.requires (rw ({listed}) at r))",
     )
-    pushed = "let pushed : c.push_reserved.new.self.items ≡ c.loop-index.items.items ++ c.in_ok-item.item ∷ [] = grind (arith, common_steps) in"
-    more = "let more : length (c.loop-index.items.items ++ c.in_ok-item.item ∷ []) ≡ c.loop-index.index + 1 = grind (arith, common_steps, kept.0) in"
-    step = f"elements_more {here} {now} (g.D.Entries.entry_of c.read_{w}.new.deserializer) c.loop-index.items.items c.in_ok-item.item c.loop-index.index (one {X}) refl kept.0 below (kept.3) h"
+    pushed = "let pushed : c.push_reserved.new.self.items ≡ c.loop-index.items.items ++ c.in-Ok.item ∷ [] = grind (arith, common_steps) in"
+    more = "let more : length (c.loop-index.items.items ++ c.in-Ok.item ∷ []) ≡ c.loop-index.index + 1 = grind (arith, common_steps, kept.0) in"
+    step = f"elements_more {here} {now} (g.D.Entries.entry_of c.read_{w}.new.deserializer) c.loop-index.items.items c.in-Ok.item c.loop-index.index (one {X}) refl kept.0 below (kept.3) h"
     answers.answer(
         function, "loop-index-preserved",
-        f"({lets} {below} {pushed} {more} let h = rw ({steps}) at c.in_ok-item.ensures.read in"
+        f"({lets} {below} {pushed} {more} let h = rw ({steps}) at c.in-Ok.ensures.read in"
         f" rw pushed (more, grind (arith, common_steps, kept.1), grind (arith, common_steps, kept.2), {step}))",
     )
     whole = "let whole : length c.loop-index.items.items ≡ n = omega (arith, kept.0, c.loop-index-test.false, c.loop-index.auto.index-end, c.len-index-end.ensures) in"
@@ -900,7 +900,7 @@ def parts_read(it, case, answers, function):
     """The answers on parts that are read one after another."""
     where = "part_of_record" if case.is_record else "part_of_variant"
     told = ["rw (" + ", ".join(f"c.{where}-p{i}.ensures.{clause}" for clause in ("buffer", "position", "length")) + ") at " for i in range(case.count)]
-    reads = Reads(it, case.names, case.types, case.is_long)
+    reads = Reads(it, case.names, case.types)
     values = list(reads.values)
     for i in wholes_of(case):
         values[i] += ".items"
@@ -928,7 +928,7 @@ def parts_read(it, case, answers, function):
 
     lemma = "record_refuses" if case.is_record else "variant_refuses"
     for i, err in enumerate(reads.errs):
-        answers.answer(function, f"returns-{err}-clause-refused", reads.refused(i, f"({lemma} {whole_of(it, case)} _ _ _ {first}_ _ {refused(i)})"))
+        answers.answer(function, f"returns-{err}-clause-refused", f"({lemma} {whole_of(it, case)} _ _ _ {first}_ _ {refused(i)})")
     if case.is_row:
         body = f"record_read_back {whole_of(it, case)} _ _ _ _ _ _ _ {read()}"
     elif it.is_record:

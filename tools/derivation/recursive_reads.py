@@ -2,14 +2,6 @@
 
 from .common import numbered
 
-# Read by a `match`: `?` isn't covered on a `Result` that holds an `Error` and a type with a model.
-MODELS = ("NonZero", "OwnedArray")
-
-
-def by_match(type):
-    """Whether a part is read by a `match`."""
-    return type.own is None and (type.name in MODELS or type.name in ("Option", "Result", "tuple") and any(map(by_match, type.args)))
-
 
 def is_made(type):
     """Whether a plain part is a tuple or made of some: then it is read by a function of its own, since what the toolchain makes of the call grows fast."""
@@ -24,32 +16,13 @@ def word_of(it, type):
 
 
 class Reads:
-    """The calls that read parts, each by its index; many go by a `match` each, which has fewer variables than a `?`."""
+    """The calls that read parts, each by its index. They go by a `match` each, which has fewer variables than a `?`: the check writes out the type of each at each
+    step, and an error's in a hundred lines."""
 
-    def __init__(self, it, names, types, are_many=False):
-        self.names = names
-        self.matched = [are_many or by_match(type) for type in types]
-        self.oks, self.errs, self.values, self.residuals = [], [], [], []
-        questions = 0
+    def __init__(self, it, names, types):
         # the first arms are named alone, those behind them by the call
-        words = [word_of(it, type) for type, matched in zip(types, self.matched) if matched]
-        arms = iter([""] + [f"-{word}" for word in numbered(words[1:])])
-        for name, matched in zip(names, self.matched):
-            if matched:
-                behind = next(arms)
-                self.oks.append(f"in-Ok{behind}")
-                self.errs.append(f"in-Err{behind}")
-                self.residuals.append("")
-            else:
-                self.oks.append(f"in_ok-{name}")
-                self.errs.append(f"in_err-{name}")
-                self.residuals.append("from_residual" if not questions else f"from_residual-in_err-{name}")
-                questions += 1
-            self.values.append(f"c.{self.oks[-1]}.{name}")
-
-    def refused(self, i, body):
-        """The proof that the call with this index is refused, as its error is."""
-        if self.matched[i]:
-            return body
-        residual, err = self.residuals[i], self.errs[i]
-        return f"err_by c.{residual}.result c.{err}.field-0.0 _ c.{residual}.ensures.1 {body}"
+        words = [word_of(it, type) for type in types]
+        arms = [""] + [f"-{word}" for word in numbered(words[1:])]
+        self.oks = [f"in-Ok{arm}" for arm, _ in zip(arms, names)]
+        self.errs = [f"in-Err{arm}" for arm, _ in zip(arms, names)]
+        self.values = [f"c.{ok}.{name}" for ok, name in zip(self.oks, names)]

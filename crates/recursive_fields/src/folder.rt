@@ -415,9 +415,15 @@ fn read_pair_string_folder<D: Entries>(
         D.Entries deserializer) }
 {
     let p0 = part_of_record::<PairStringFolder, ArchivedString>(part, 0, 0);
-    let a0 = read_part::<ArchivedString, String, D>(alloc, p0, deserializer)?;
+    let a0 = match read_part::<ArchivedString, String, D>(alloc, p0, deserializer) {
+        Ok(a0) => a0,
+        Err(error) => return Err(error),
+    };
     let p1 = part_of_record::<PairStringFolder, ArchivedFolder>(part, 1, 8);
-    let a1 = read_folder(alloc, p1, deserializer)?;
+    let a1 = match read_folder(alloc, p1, deserializer) {
+        Ok(a1) => a1,
+        Err(error) => return Err(error),
+    };
     Ok((a0, a1))
 }
 
@@ -440,7 +446,10 @@ fn read_map_string_folder<D: Entries>(
     let list = before_map::<ArchivedString, ArchivedFolder, PairStringFolder>(part);
     let mut items = Vec::with_capacity(alloc, list.len())?;
     for index in 0..list.len() {
-        let item = read_pair_string_folder(alloc, list.index(index).part(), deserializer)?;
+        let item = match read_pair_string_folder(alloc, list.index(index).part(), deserializer) {
+            Ok(item) => item,
+            Err(error) => return Err(error),
+        };
         items.push_reserved(item);
     }
     collect_map::<ArchivedString, ArchivedFolder, String, Folder>(alloc, part, items)
@@ -460,11 +469,17 @@ fn read_folder<D: Entries>(
         deserializer) }
 {
     let p0 = part_of_record::<ArchivedFolder, u8>(part, 0, 0);
-    let a0 = read_part::<u8, u8, D>(alloc, p0, deserializer)?;
+    let a0 = match read_part::<u8, u8, D>(alloc, p0, deserializer) {
+        Ok(a0) => a0,
+        Err(error) => return Err(error),
+    };
     let p1 = part_of_record::<ArchivedFolder, ArchivedSortedMap<ArchivedString, ArchivedFolder>>(
         part, 1, 4,
     );
-    let a1 = read_map_string_folder(alloc, p1, deserializer)?;
+    let a1 = match read_map_string_folder(alloc, p1, deserializer) {
+        Ok(a1) => a1,
+        Err(error) => return Err(error),
+    };
     Ok(Folder {
         id: a0,
         entries: a1,

@@ -663,7 +663,10 @@ fn read_vec_json<D: Entries>(
     let list = before_vec(view);
     let mut items = Vec::with_capacity(alloc, list.len())?;
     for index in 0..list.len() {
-        let item = read_json(alloc, list.index(index).part(), deserializer)?;
+        let item = match read_json(alloc, list.index(index).part(), deserializer) {
+            Ok(item) => item,
+            Err(error) => return Err(error),
+        };
         items.push_reserved(item);
     }
     Ok(items)
@@ -686,7 +689,10 @@ fn read_vec_member_type<D: Entries>(
     let list = before_vec(view);
     let mut items = Vec::with_capacity(alloc, list.len())?;
     for index in 0..list.len() {
-        let item = read_member_type(alloc, list.index(index).part(), deserializer)?;
+        let item = match read_member_type(alloc, list.index(index).part(), deserializer) {
+            Ok(item) => item,
+            Err(error) => return Err(error),
+        };
         items.push_reserved(item);
     }
     Ok(items)
@@ -724,7 +730,10 @@ fn read_json_number<D: Entries>(
         deserializer) }
 {
     let p0 = part_of_variant::<ArchivedJson, ArchivedNumber>(part, 1, 0, 8);
-    let a0 = read_part::<ArchivedNumber, Number, D>(alloc, p0, deserializer)?;
+    let a0 = match read_part::<ArchivedNumber, Number, D>(alloc, p0, deserializer) {
+        Ok(a0) => a0,
+        Err(error) => return Err(error),
+    };
     Ok(Json::Number(a0))
 }
 
@@ -743,7 +752,10 @@ fn read_json_text<D: Entries>(
         deserializer) }
 {
     let p0 = part_of_variant::<ArchivedJson, ArchivedString>(part, 2, 0, 4);
-    let a0 = read_part::<ArchivedString, String, D>(alloc, p0, deserializer)?;
+    let a0 = match read_part::<ArchivedString, String, D>(alloc, p0, deserializer) {
+        Ok(a0) => a0,
+        Err(error) => return Err(error),
+    };
     Ok(Json::Text(a0))
 }
 
@@ -762,7 +774,10 @@ fn read_json_list<D: Entries>(
         deserializer) }
 {
     let p0 = part_of_variant::<ArchivedJson, ArchivedVec<ArchivedJson>>(part, 3, 0, 4);
-    let a0 = read_vec_json(alloc, p0, deserializer)?;
+    let a0 = match read_vec_json(alloc, p0, deserializer) {
+        Ok(a0) => a0,
+        Err(error) => return Err(error),
+    };
     Ok(Json::List(a0))
 }
 
@@ -781,7 +796,10 @@ fn read_json_object<D: Entries>(
         deserializer) }
 {
     let p0 = part_of_variant::<ArchivedJson, ArchivedVec<ArchivedMember>>(part, 4, 0, 4);
-    let a0 = read_vec_member_type(alloc, p0, deserializer)?;
+    let a0 = match read_vec_member_type(alloc, p0, deserializer) {
+        Ok(a0) => a0,
+        Err(error) => return Err(error),
+    };
     Ok(Json::Object(a0))
 }
 
@@ -1191,9 +1209,15 @@ fn read_member_type<D: Entries>(
         deserializer) }
 {
     let p0 = part_of_record::<ArchivedMember, ArchivedString>(part, 0, 0);
-    let a0 = read_part::<ArchivedString, String, D>(alloc, p0, deserializer)?;
+    let a0 = match read_part::<ArchivedString, String, D>(alloc, p0, deserializer) {
+        Ok(a0) => a0,
+        Err(error) => return Err(error),
+    };
     let p1 = part_of_record::<ArchivedMember, ArchivedJson>(part, 1, 8);
-    let a1 = read_json(alloc, p1, deserializer)?;
+    let a1 = match read_json(alloc, p1, deserializer) {
+        Ok(a1) => a1,
+        Err(error) => return Err(error),
+    };
     Ok(Member {
         name: a0,
         value: a1,
@@ -1917,9 +1941,19 @@ fn read_message_sent<D: Entries>(
         deserializer) }
 {
     let p0 = part_of_variant::<ArchivedMessage, ArchivedJson>(part, 1, 0, 8);
-    let a0 = read_part::<ArchivedJson, Json, D>(alloc, p0, deserializer)?;
+    let a0 = match read_part::<ArchivedJson, Json, D>(alloc, p0, deserializer) {
+        Ok(a0) => a0,
+        Err(error) => return Err(error),
+    };
     let p1 = part_of_variant::<ArchivedMessage, ArchivedOption<ArchivedJson>>(part, 1, 1, 24);
-    let a1 = read_part::<ArchivedOption<ArchivedJson>, Option<Json>, D>(alloc, p1, deserializer)?;
+    let a1 = match read_part::<ArchivedOption<ArchivedJson>, Option<Json>, D>(
+        alloc,
+        p1,
+        deserializer,
+    ) {
+        Ok(a1) => a1,
+        Err(error) => return Err(error),
+    };
     Ok(Message::Sent(a0, a1))
 }
 
@@ -1938,9 +1972,15 @@ fn read_message_listed<D: Entries>(
         deserializer) }
 {
     let p0 = part_of_variant::<ArchivedMessage, u8>(part, 2, 0, 1);
-    let a0 = read_part::<u8, u8, D>(alloc, p0, deserializer)?;
+    let a0 = match read_part::<u8, u8, D>(alloc, p0, deserializer) {
+        Ok(a0) => a0,
+        Err(error) => return Err(error),
+    };
     let p1 = part_of_variant::<ArchivedMessage, ArchivedVec<ArchivedJson>>(part, 2, 1, 4);
-    let a1 = read_part::<ArchivedVec<ArchivedJson>, Vec<Json>, D>(alloc, p1, deserializer)?;
+    let a1 = match read_part::<ArchivedVec<ArchivedJson>, Vec<Json>, D>(alloc, p1, deserializer) {
+        Ok(a1) => a1,
+        Err(error) => return Err(error),
+    };
     Ok(Message::Listed {
         others: a0,
         documents: a1,

@@ -763,17 +763,26 @@ fn read_tuple3_string_note_option_string<D: Entries>(
         part D.Entries deserializer) }
 {
     let p0 = part_of_record::<Tuple3StringNoteOptionString, ArchivedString>(part, 0, 0);
-    let a0 = read_part::<ArchivedString, String, D>(alloc, p0, deserializer)?;
+    let a0 = match read_part::<ArchivedString, String, D>(alloc, p0, deserializer) {
+        Ok(a0) => a0,
+        Err(error) => return Err(error),
+    };
     let p1 = part_of_record::<Tuple3StringNoteOptionString, ArchivedNote>(part, 1, 8);
-    let a1 = read_note(alloc, p1, deserializer)?;
+    let a1 = match read_note(alloc, p1, deserializer) {
+        Ok(a1) => a1,
+        Err(error) => return Err(error),
+    };
     let p2 = part_of_record::<Tuple3StringNoteOptionString, ArchivedOption<ArchivedString>>(
         part, 2, 32,
     );
-    let a2 = read_part::<ArchivedOption<ArchivedString>, Option<String>, D>(
+    let a2 = match read_part::<ArchivedOption<ArchivedString>, Option<String>, D>(
         alloc,
         p2,
         deserializer,
-    )?;
+    ) {
+        Ok(a2) => a2,
+        Err(error) => return Err(error),
+    };
     Ok((a0, a1, a2))
 }
 
@@ -797,11 +806,14 @@ fn read_vec_tuple3_string_note_option_string<D: Entries>(
     let list = before_vec(view);
     let mut items = Vec::with_capacity(alloc, list.len())?;
     for index in 0..list.len() {
-        let item = read_tuple3_string_note_option_string(
+        let item = match read_tuple3_string_note_option_string(
             alloc,
             list.index(index).part(),
             deserializer,
-        )?;
+        ) {
+            Ok(item) => item,
+            Err(error) => return Err(error),
+        };
         items.push_reserved(item);
     }
     Ok(items)
@@ -822,13 +834,23 @@ fn read_note_texts<D: Entries>(
         deserializer) }
 {
     let p0 = part_of_variant::<ArchivedNote, ArchivedVec<ArchivedString>>(part, 0, 0, 4);
-    let a0 = read_part::<ArchivedVec<ArchivedString>, Vec<String>, D>(alloc, p0, deserializer)?;
+    let a0 = match read_part::<ArchivedVec<ArchivedString>, Vec<String>, D>(
+        alloc,
+        p0,
+        deserializer,
+    ) {
+        Ok(a0) => a0,
+        Err(error) => return Err(error),
+    };
     let p1 = part_of_variant::<ArchivedNote, ArchivedOption<ArchivedString>>(part, 0, 1, 12);
-    let a1 = read_part::<ArchivedOption<ArchivedString>, Option<String>, D>(
+    let a1 = match read_part::<ArchivedOption<ArchivedString>, Option<String>, D>(
         alloc,
         p1,
         deserializer,
-    )?;
+    ) {
+        Ok(a1) => a1,
+        Err(error) => return Err(error),
+    };
     Ok(Note::Texts(a0, a1))
 }
 
@@ -847,18 +869,24 @@ fn read_note_work<D: Entries>(
         deserializer) }
 {
     let p0 = part_of_variant::<ArchivedNote, ArchivedSortedMap<ArchivedU16, i8>>(part, 1, 0, 4);
-    let a0 = read_part::<ArchivedSortedMap<ArchivedU16, i8>, BTreeMap<u16, i8>, D>(
+    let a0 = match read_part::<ArchivedSortedMap<ArchivedU16, i8>, BTreeMap<u16, i8>, D>(
         alloc,
         p0,
         deserializer,
-    )?;
+    ) {
+        Ok(a0) => a0,
+        Err(error) => return Err(error),
+    };
     let p1 = part_of_variant::<ArchivedNote, NonZero<u8>>(part, 1, 1, 12);
     let a1 = match read_part::<NonZero<u8>, ArchivedNonZeroU8, D>(alloc, p1, deserializer) {
         Ok(a1) => a1,
         Err(error) => return Err(error),
     };
     let p2 = part_of_variant::<ArchivedNote, ArchivedBox<u8>>(part, 1, 2, 16);
-    let a2 = read_part::<ArchivedBox<u8>, Box<u8>, D>(alloc, p2, deserializer)?;
+    let a2 = match read_part::<ArchivedBox<u8>, Box<u8>, D>(alloc, p2, deserializer) {
+        Ok(a2) => a2,
+        Err(error) => return Err(error),
+    };
     Ok(Note::Work(a0, a1, a2))
 }
 
@@ -877,15 +905,24 @@ fn read_note_outcome<D: Entries>(
         deserializer) }
 {
     let p0 = part_of_variant::<ArchivedNote, bool>(part, 2, 0, 1);
-    let a0 = read_part::<bool, bool, D>(alloc, p0, deserializer)?;
+    let a0 = match read_part::<bool, bool, D>(alloc, p0, deserializer) {
+        Ok(a0) => a0,
+        Err(error) => return Err(error),
+    };
     let p1 = part_of_variant::<ArchivedNote, ()>(part, 2, 1, 2);
-    let a1 = read_part::<(), (), D>(alloc, p1, deserializer)?;
+    let a1 = match read_part::<(), (), D>(alloc, p1, deserializer) {
+        Ok(a1) => a1,
+        Err(error) => return Err(error),
+    };
     let p2 = part_of_variant::<ArchivedNote, ArchivedResult<u8, ArchivedString>>(part, 2, 2, 4);
-    let a2 = read_part::<ArchivedResult<u8, ArchivedString>, Result<u8, String>, D>(
+    let a2 = match read_part::<ArchivedResult<u8, ArchivedString>, Result<u8, String>, D>(
         alloc,
         p2,
         deserializer,
-    )?;
+    ) {
+        Ok(a2) => a2,
+        Err(error) => return Err(error),
+    };
     Ok(Note::Outcome(a0, a1, a2))
 }
 
@@ -906,7 +943,10 @@ fn read_note_table<D: Entries>(
     let p0 = part_of_variant::<ArchivedNote, ArchivedVec<Tuple3StringNoteOptionString>>(
         part, 3, 0, 4,
     );
-    let a0 = read_vec_tuple3_string_note_option_string(alloc, p0, deserializer)?;
+    let a0 = match read_vec_tuple3_string_note_option_string(alloc, p0, deserializer) {
+        Ok(a0) => a0,
+        Err(error) => return Err(error),
+    };
     Ok(Note::Table(a0))
 }
 

@@ -255,9 +255,19 @@ fn read_page<D: Entries>(
         deserializer) }
 {
     let p0 = part_of_record::<ArchivedPage, ArchivedJson>(part, 0, 0);
-    let a0 = read_part::<ArchivedJson, Json, D>(alloc, p0, deserializer)?;
+    let a0 = match read_part::<ArchivedJson, Json, D>(alloc, p0, deserializer) {
+        Ok(a0) => a0,
+        Err(error) => return Err(error),
+    };
     let p1 = part_of_record::<ArchivedPage, ArchivedVec<ArchivedMessage>>(part, 1, 16);
-    let a1 = read_part::<ArchivedVec<ArchivedMessage>, Vec<Message>, D>(alloc, p1, deserializer)?;
+    let a1 = match read_part::<ArchivedVec<ArchivedMessage>, Vec<Message>, D>(
+        alloc,
+        p1,
+        deserializer,
+    ) {
+        Ok(a1) => a1,
+        Err(error) => return Err(error),
+    };
     Ok(Page {
         subject: a0,
         messages: a1,

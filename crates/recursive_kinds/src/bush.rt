@@ -554,7 +554,10 @@ fn read_box_bush<D: Entries>(
         D.Entries deserializer) }
 {
     let view: Ref<'_, ArchivedBox<ArchivedBush>> = Ref::at(part);
-    let value = read_bush(alloc, before_box(view).part(), deserializer)?;
+    let value = match read_bush(alloc, before_box(view).part(), deserializer) {
+        Ok(value) => value,
+        Err(error) => return Err(error),
+    };
     let whole = Box::new(alloc, value)?;
     Ok(whole)
 }
@@ -576,10 +579,10 @@ fn read_option_box_bush<D: Entries>(
     let view: Ref<'_, ArchivedOption<ArchivedBox<ArchivedBush>>> = Ref::at(part);
     match view.as_ref() {
         None => Ok(None),
-        Some(inner) => {
-            let value = read_box_bush(alloc, inner.part(), deserializer)?;
-            Ok(Some(value))
-        }
+        Some(inner) => match read_box_bush(alloc, inner.part(), deserializer) {
+            Ok(value) => Ok(Some(value)),
+            Err(error) => Err(error),
+        },
     }
 }
 
@@ -603,7 +606,10 @@ fn read_vec_option_box_bush<D: Entries>(
     let list = before_vec(view);
     let mut items = Vec::with_capacity(alloc, list.len())?;
     for index in 0..list.len() {
-        let item = read_option_box_bush(alloc, list.index(index).part(), deserializer)?;
+        let item = match read_option_box_bush(alloc, list.index(index).part(), deserializer) {
+            Ok(item) => item,
+            Err(error) => return Err(error),
+        };
         items.push_reserved(item);
     }
     Ok(items)
@@ -627,7 +633,10 @@ fn read_vec_box_bush<D: Entries>(
     let list = before_vec(view);
     let mut items = Vec::with_capacity(alloc, list.len())?;
     for index in 0..list.len() {
-        let item = read_box_bush(alloc, list.index(index).part(), deserializer)?;
+        let item = match read_box_bush(alloc, list.index(index).part(), deserializer) {
+            Ok(item) => item,
+            Err(error) => return Err(error),
+        };
         items.push_reserved(item);
     }
     Ok(items)
@@ -650,7 +659,10 @@ fn read_vec_bush<D: Entries>(
     let list = before_vec(view);
     let mut items = Vec::with_capacity(alloc, list.len())?;
     for index in 0..list.len() {
-        let item = read_bush(alloc, list.index(index).part(), deserializer)?;
+        let item = match read_bush(alloc, list.index(index).part(), deserializer) {
+            Ok(item) => item,
+            Err(error) => return Err(error),
+        };
         items.push_reserved(item);
     }
     Ok(items)
@@ -671,7 +683,10 @@ fn read_box_vec_bush<D: Entries>(
         deserializer) }
 {
     let view: Ref<'_, ArchivedBox<ArchivedVec<ArchivedBush>>> = Ref::at(part);
-    let value = read_vec_bush(alloc, before_box(view).part(), deserializer)?;
+    let value = match read_vec_bush(alloc, before_box(view).part(), deserializer) {
+        Ok(value) => value,
+        Err(error) => return Err(error),
+    };
     let whole = Box::new(alloc, value)?;
     Ok(whole)
 }
@@ -690,15 +705,27 @@ fn read_bush<D: Entries>(
         deserializer) }
 {
     let p0 = part_of_record::<ArchivedBush, ArchivedU32>(part, 0, 0);
-    let a0 = read_part::<ArchivedU32, u32, D>(alloc, p0, deserializer)?;
+    let a0 = match read_part::<ArchivedU32, u32, D>(alloc, p0, deserializer) {
+        Ok(a0) => a0,
+        Err(error) => return Err(error),
+    };
     let p1 = part_of_record::<ArchivedBush, ArchivedVec<ArchivedOption<ArchivedBox<ArchivedBush>>>>(
         part, 1, 4,
     );
-    let a1 = read_vec_option_box_bush(alloc, p1, deserializer)?;
+    let a1 = match read_vec_option_box_bush(alloc, p1, deserializer) {
+        Ok(a1) => a1,
+        Err(error) => return Err(error),
+    };
     let p2 = part_of_record::<ArchivedBush, ArchivedVec<ArchivedBox<ArchivedBush>>>(part, 2, 12);
-    let a2 = read_vec_box_bush(alloc, p2, deserializer)?;
+    let a2 = match read_vec_box_bush(alloc, p2, deserializer) {
+        Ok(a2) => a2,
+        Err(error) => return Err(error),
+    };
     let p3 = part_of_record::<ArchivedBush, ArchivedBox<ArchivedVec<ArchivedBush>>>(part, 3, 20);
-    let a3 = read_box_vec_bush(alloc, p3, deserializer)?;
+    let a3 = match read_box_vec_bush(alloc, p3, deserializer) {
+        Ok(a3) => a3,
+        Err(error) => return Err(error),
+    };
     Ok(Bush {
         id: a0,
         sides: a1,

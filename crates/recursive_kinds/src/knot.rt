@@ -624,7 +624,10 @@ fn read_vec_shared_knot<D: Pooling<Shared<Knot>>>(
     let list = before_vec(view);
     let mut items = Vec::with_capacity(alloc, list.len())?;
     for index in 0..list.len() {
-        let item = read_shared_knot(alloc, list.index(index).part(), levels, deserializer)?;
+        let item = match read_shared_knot(alloc, list.index(index).part(), levels, deserializer) {
+            Ok(item) => item,
+            Err(error) => return Err(error),
+        };
         items.push_reserved(item);
     }
     Ok(items)
@@ -649,13 +652,22 @@ fn read_knot<D: Pooling<Shared<Knot>>>(
     }
     let levels = levels - 1;
     let p0 = part_of_record::<ArchivedKnot, ArchivedU32>(part, 0, 0);
-    let a0 = read_part::<ArchivedU32, u32, D>(alloc, p0, deserializer)?;
+    let a0 = match read_part::<ArchivedU32, u32, D>(alloc, p0, deserializer) {
+        Ok(a0) => a0,
+        Err(error) => return Err(error),
+    };
     let p1 = part_of_record::<ArchivedKnot, ArchivedRcWeak<ArchivedKnot, RcFlavor>>(part, 1, 4);
-    let a1 = read_weak_shared_knot(alloc, p1, levels, deserializer)?;
+    let a1 = match read_weak_shared_knot(alloc, p1, levels, deserializer) {
+        Ok(a1) => a1,
+        Err(error) => return Err(error),
+    };
     let p2 = part_of_record::<ArchivedKnot, ArchivedVec<ArchivedRc<ArchivedKnot, RcFlavor>>>(
         part, 2, 8,
     );
-    let a2 = read_vec_shared_knot(alloc, p2, levels, deserializer)?;
+    let a2 = match read_vec_shared_knot(alloc, p2, levels, deserializer) {
+        Ok(a2) => a2,
+        Err(error) => return Err(error),
+    };
     Ok(Knot {
         id: a0,
         from: a1,

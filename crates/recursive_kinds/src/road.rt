@@ -643,10 +643,10 @@ fn read_option_shared_road<D: Pooling<Shared<Road>>>(
     let view: Ref<'_, ArchivedOption<ArchivedRc<ArchivedRoad, RcFlavor>>> = Ref::at(part);
     match view.as_ref() {
         None => Ok(None),
-        Some(inner) => {
-            let value = read_shared_road(alloc, inner.part(), levels, deserializer)?;
-            Ok(Some(value))
-        }
+        Some(inner) => match read_shared_road(alloc, inner.part(), levels, deserializer) {
+            Ok(value) => Ok(Some(value)),
+            Err(error) => Err(error),
+        },
     }
 }
 
@@ -666,11 +666,17 @@ fn read_road_way<D: Pooling<Shared<Road>>>(
         deserializer) }
 {
     let p0 = part_of_variant::<ArchivedRoad, u8>(part, 0, 0, 1);
-    let a0 = read_part::<u8, u8, D>(alloc, p0, deserializer)?;
+    let a0 = match read_part::<u8, u8, D>(alloc, p0, deserializer) {
+        Ok(a0) => a0,
+        Err(error) => return Err(error),
+    };
     let p1 = part_of_variant::<ArchivedRoad, ArchivedOption<ArchivedRc<ArchivedRoad, RcFlavor>>>(
         part, 0, 1, 4,
     );
-    let a1 = read_option_shared_road(alloc, p1, levels, deserializer)?;
+    let a1 = match read_option_shared_road(alloc, p1, levels, deserializer) {
+        Ok(a1) => a1,
+        Err(error) => return Err(error),
+    };
     Ok(Road::Way(a0, a1))
 }
 
@@ -690,7 +696,10 @@ fn read_road_detour<D: Pooling<Shared<Road>>>(
         deserializer) }
 {
     let p0 = part_of_variant::<ArchivedRoad, ArchivedRc<ArchivedRoad, RcFlavor>>(part, 1, 0, 4);
-    let a0 = read_shared_road(alloc, p0, levels, deserializer)?;
+    let a0 = match read_shared_road(alloc, p0, levels, deserializer) {
+        Ok(a0) => a0,
+        Err(error) => return Err(error),
+    };
     Ok(Road::Detour(a0))
 }
 

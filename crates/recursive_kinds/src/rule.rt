@@ -525,7 +525,10 @@ fn read_box_slice_rule<D: Entries>(
     let list = before_box_slice::<ArchivedRule>(part);
     let mut items = Vec::with_capacity(alloc, list.len())?;
     for index in 0..list.len() {
-        let item = read_rule(alloc, list.index(index).part(), deserializer)?;
+        let item = match read_rule(alloc, list.index(index).part(), deserializer) {
+            Ok(item) => item,
+            Err(error) => return Err(error),
+        };
         items.push_reserved(item);
     }
     Ok(BoxSlice { items })
@@ -545,22 +548,34 @@ fn read_rule<D: Entries>(
         deserializer) }
 {
     let p0 = part_of_record::<ArchivedRule, ArchivedBox<ArchivedStr>>(part, 0, 0);
-    let a0 = read_part::<ArchivedBox<ArchivedStr>, BoxStr, D>(alloc, p0, deserializer)?;
+    let a0 = match read_part::<ArchivedBox<ArchivedStr>, BoxStr, D>(alloc, p0, deserializer) {
+        Ok(a0) => a0,
+        Err(error) => return Err(error),
+    };
     let p1 = part_of_record::<ArchivedRule, [u8; 4]>(part, 1, 8);
     let a1 = match read_part::<[u8; 4], OwnedArray<u8, 4>, D>(alloc, p1, deserializer) {
         Ok(a1) => a1,
         Err(error) => return Err(error),
     };
     let p2 = part_of_record::<ArchivedRule, ArchivedBox<ArchivedSlice<ArchivedU16>>>(part, 2, 12);
-    let a2 = read_part::<ArchivedBox<ArchivedSlice<ArchivedU16>>, BoxSlice<u16>, D>(
+    let a2 = match read_part::<ArchivedBox<ArchivedSlice<ArchivedU16>>, BoxSlice<u16>, D>(
         alloc,
         p2,
         deserializer,
-    )?;
+    ) {
+        Ok(a2) => a2,
+        Err(error) => return Err(error),
+    };
     let p3 = part_of_record::<ArchivedRule, ArchivedUsize>(part, 3, 20);
-    let a3 = read_part::<ArchivedUsize, usize, D>(alloc, p3, deserializer)?;
+    let a3 = match read_part::<ArchivedUsize, usize, D>(alloc, p3, deserializer) {
+        Ok(a3) => a3,
+        Err(error) => return Err(error),
+    };
     let p4 = part_of_record::<ArchivedRule, ArchivedBox<ArchivedSlice<ArchivedRule>>>(part, 4, 24);
-    let a4 = read_box_slice_rule(alloc, p4, deserializer)?;
+    let a4 = match read_box_slice_rule(alloc, p4, deserializer) {
+        Ok(a4) => a4,
+        Err(error) => return Err(error),
+    };
     Ok(Rule {
         words: a0,
         version: a1,

@@ -360,7 +360,10 @@ fn read_vec_entry<D: Entries>(
     let list = before_vec(view);
     let mut items = Vec::with_capacity(alloc, list.len())?;
     for index in 0..list.len() {
-        let item = read_entry(alloc, list.index(index).part(), deserializer)?;
+        let item = match read_entry(alloc, list.index(index).part(), deserializer) {
+            Ok(item) => item,
+            Err(error) => return Err(error),
+        };
         items.push_reserved(item);
     }
     Ok(items)
@@ -380,9 +383,15 @@ fn read_dir<D: Entries>(
         deserializer) }
 {
     let p0 = part_of_record::<ArchivedDir, ArchivedString>(part, 0, 0);
-    let a0 = read_part::<ArchivedString, String, D>(alloc, p0, deserializer)?;
+    let a0 = match read_part::<ArchivedString, String, D>(alloc, p0, deserializer) {
+        Ok(a0) => a0,
+        Err(error) => return Err(error),
+    };
     let p1 = part_of_record::<ArchivedDir, ArchivedVec<ArchivedEntry>>(part, 1, 8);
-    let a1 = read_vec_entry(alloc, p1, deserializer)?;
+    let a1 = match read_vec_entry(alloc, p1, deserializer) {
+        Ok(a1) => a1,
+        Err(error) => return Err(error),
+    };
     Ok(Dir {
         name: a0,
         entries: a1,
@@ -816,7 +825,10 @@ fn read_box_dir<D: Entries>(
         D.Entries deserializer) }
 {
     let view: Ref<'_, ArchivedBox<ArchivedDir>> = Ref::at(part);
-    let value = read_dir(alloc, before_box(view).part(), deserializer)?;
+    let value = match read_dir(alloc, before_box(view).part(), deserializer) {
+        Ok(value) => value,
+        Err(error) => return Err(error),
+    };
     let whole = Box::new(alloc, value)?;
     Ok(whole)
 }
@@ -836,7 +848,10 @@ fn read_entry_file<D: Entries>(
         deserializer) }
 {
     let p0 = part_of_variant::<ArchivedEntry, ArchivedU64>(part, 0, 0, 8);
-    let a0 = read_part::<ArchivedU64, u64, D>(alloc, p0, deserializer)?;
+    let a0 = match read_part::<ArchivedU64, u64, D>(alloc, p0, deserializer) {
+        Ok(a0) => a0,
+        Err(error) => return Err(error),
+    };
     Ok(Entry::File(a0))
 }
 
@@ -855,7 +870,10 @@ fn read_entry_sub<D: Entries>(
         deserializer) }
 {
     let p0 = part_of_variant::<ArchivedEntry, ArchivedBox<ArchivedDir>>(part, 1, 0, 4);
-    let a0 = read_box_dir(alloc, p0, deserializer)?;
+    let a0 = match read_box_dir(alloc, p0, deserializer) {
+        Ok(a0) => a0,
+        Err(error) => return Err(error),
+    };
     Ok(Entry::Sub(a0))
 }
 

@@ -502,7 +502,10 @@ fn read_box_expr<D: Entries>(
         D.Entries deserializer) }
 {
     let view: Ref<'_, ArchivedBox<ArchivedExpr>> = Ref::at(part);
-    let value = read_expr(alloc, before_box(view).part(), deserializer)?;
+    let value = match read_expr(alloc, before_box(view).part(), deserializer) {
+        Ok(value) => value,
+        Err(error) => return Err(error),
+    };
     let whole = Box::new(alloc, value)?;
     Ok(whole)
 }
@@ -524,7 +527,10 @@ fn read_vec_expr<D: Entries>(
     let list = before_vec(view);
     let mut items = Vec::with_capacity(alloc, list.len())?;
     for index in 0..list.len() {
-        let item = read_expr(alloc, list.index(index).part(), deserializer)?;
+        let item = match read_expr(alloc, list.index(index).part(), deserializer) {
+            Ok(item) => item,
+            Err(error) => return Err(error),
+        };
         items.push_reserved(item);
     }
     Ok(items)
@@ -545,7 +551,10 @@ fn read_expr_num<D: Entries>(
         deserializer) }
 {
     let p0 = part_of_variant::<ArchivedExpr, ArchivedI64>(part, 0, 0, 8);
-    let a0 = read_part::<ArchivedI64, i64, D>(alloc, p0, deserializer)?;
+    let a0 = match read_part::<ArchivedI64, i64, D>(alloc, p0, deserializer) {
+        Ok(a0) => a0,
+        Err(error) => return Err(error),
+    };
     Ok(Expr::Num(a0))
 }
 
@@ -564,9 +573,15 @@ fn read_expr_add<D: Entries>(
         deserializer) }
 {
     let p0 = part_of_variant::<ArchivedExpr, ArchivedBox<ArchivedExpr>>(part, 1, 0, 4);
-    let a0 = read_box_expr(alloc, p0, deserializer)?;
+    let a0 = match read_box_expr(alloc, p0, deserializer) {
+        Ok(a0) => a0,
+        Err(error) => return Err(error),
+    };
     let p1 = part_of_variant::<ArchivedExpr, ArchivedBox<ArchivedExpr>>(part, 1, 1, 8);
-    let a1 = read_box_expr(alloc, p1, deserializer)?;
+    let a1 = match read_box_expr(alloc, p1, deserializer) {
+        Ok(a1) => a1,
+        Err(error) => return Err(error),
+    };
     Ok(Expr::Add(a0, a1))
 }
 
@@ -585,9 +600,15 @@ fn read_expr_call<D: Entries>(
         deserializer) }
 {
     let p0 = part_of_variant::<ArchivedExpr, ArchivedString>(part, 2, 0, 4);
-    let a0 = read_part::<ArchivedString, String, D>(alloc, p0, deserializer)?;
+    let a0 = match read_part::<ArchivedString, String, D>(alloc, p0, deserializer) {
+        Ok(a0) => a0,
+        Err(error) => return Err(error),
+    };
     let p1 = part_of_variant::<ArchivedExpr, ArchivedVec<ArchivedExpr>>(part, 2, 1, 12);
-    let a1 = read_vec_expr(alloc, p1, deserializer)?;
+    let a1 = match read_vec_expr(alloc, p1, deserializer) {
+        Ok(a1) => a1,
+        Err(error) => return Err(error),
+    };
     Ok(Expr::Call(a0, a1))
 }
 

@@ -416,7 +416,10 @@ fn read_list_cons<D: Entries>(
         deserializer) }
 {
     let p0 = part_of_variant::<ArchivedList, ArchivedU32>(part, 1, 0, 4);
-    let a0 = read_part::<ArchivedU32, u32, D>(alloc, p0, deserializer)?;
+    let a0 = match read_part::<ArchivedU32, u32, D>(alloc, p0, deserializer) {
+        Ok(a0) => a0,
+        Err(error) => return Err(error),
+    };
     let p1 = part_of_variant::<ArchivedList, ArchivedBox<ArchivedList>>(part, 1, 1, 8);
     Ok(ReadHead::Open(ListFront::Cons(a0), p1.pos))
 }

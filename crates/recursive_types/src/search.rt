@@ -331,7 +331,10 @@ fn read_box_search<D: Entries>(
         part D.Entries deserializer) }
 {
     let view: Ref<'_, ArchivedBox<ArchivedSearch>> = Ref::at(part);
-    let value = read_search(alloc, before_box(view).part(), deserializer)?;
+    let value = match read_search(alloc, before_box(view).part(), deserializer) {
+        Ok(value) => value,
+        Err(error) => return Err(error),
+    };
     let whole = Box::new(alloc, value)?;
     Ok(whole)
 }
@@ -353,10 +356,10 @@ fn read_option_box_search<D: Entries>(
     let view: Ref<'_, ArchivedOption<ArchivedBox<ArchivedSearch>>> = Ref::at(part);
     match view.as_ref() {
         None => Ok(None),
-        Some(inner) => {
-            let value = read_box_search(alloc, inner.part(), deserializer)?;
-            Ok(Some(value))
-        }
+        Some(inner) => match read_box_search(alloc, inner.part(), deserializer) {
+            Ok(value) => Ok(Some(value)),
+            Err(error) => Err(error),
+        },
     }
 }
 
@@ -376,13 +379,22 @@ fn read_search<D: Entries>(
     let p0 = part_of_record::<ArchivedSearch, ArchivedOption<ArchivedBox<ArchivedSearch>>>(
         part, 0, 0,
     );
-    let a0 = read_option_box_search(alloc, p0, deserializer)?;
+    let a0 = match read_option_box_search(alloc, p0, deserializer) {
+        Ok(a0) => a0,
+        Err(error) => return Err(error),
+    };
     let p1 = part_of_record::<ArchivedSearch, ArchivedU32>(part, 1, 8);
-    let a1 = read_part::<ArchivedU32, u32, D>(alloc, p1, deserializer)?;
+    let a1 = match read_part::<ArchivedU32, u32, D>(alloc, p1, deserializer) {
+        Ok(a1) => a1,
+        Err(error) => return Err(error),
+    };
     let p2 = part_of_record::<ArchivedSearch, ArchivedOption<ArchivedBox<ArchivedSearch>>>(
         part, 2, 12,
     );
-    let a2 = read_option_box_search(alloc, p2, deserializer)?;
+    let a2 = match read_option_box_search(alloc, p2, deserializer) {
+        Ok(a2) => a2,
+        Err(error) => return Err(error),
+    };
     Ok(Search {
         left: a0,
         value: a1,

@@ -481,7 +481,10 @@ fn read_vec_stmt<D: Entries>(
     let list = before_vec(view);
     let mut items = Vec::with_capacity(alloc, list.len())?;
     for index in 0..list.len() {
-        let item = read_stmt(alloc, list.index(index).part(), deserializer)?;
+        let item = match read_stmt(alloc, list.index(index).part(), deserializer) {
+            Ok(item) => item,
+            Err(error) => return Err(error),
+        };
         items.push_reserved(item);
     }
     Ok(items)
@@ -502,9 +505,19 @@ fn read_stmt_set<D: Entries>(
         deserializer) }
 {
     let p0 = part_of_variant::<ArchivedStmt, ArchivedExpr>(part, 0, 0, 8);
-    let a0 = read_part::<ArchivedExpr, Expr, D>(alloc, p0, deserializer)?;
+    let a0 = match read_part::<ArchivedExpr, Expr, D>(alloc, p0, deserializer) {
+        Ok(a0) => a0,
+        Err(error) => return Err(error),
+    };
     let p1 = part_of_variant::<ArchivedStmt, ArchivedOption<ArchivedExpr>>(part, 0, 1, 32);
-    let a1 = read_part::<ArchivedOption<ArchivedExpr>, Option<Expr>, D>(alloc, p1, deserializer)?;
+    let a1 = match read_part::<ArchivedOption<ArchivedExpr>, Option<Expr>, D>(
+        alloc,
+        p1,
+        deserializer,
+    ) {
+        Ok(a1) => a1,
+        Err(error) => return Err(error),
+    };
     Ok(Stmt::Set(a0, a1))
 }
 
@@ -523,7 +536,10 @@ fn read_stmt_block<D: Entries>(
         deserializer) }
 {
     let p0 = part_of_variant::<ArchivedStmt, ArchivedVec<ArchivedStmt>>(part, 1, 0, 4);
-    let a0 = read_vec_stmt(alloc, p0, deserializer)?;
+    let a0 = match read_vec_stmt(alloc, p0, deserializer) {
+        Ok(a0) => a0,
+        Err(error) => return Err(error),
+    };
     Ok(Stmt::Block(a0))
 }
 

@@ -333,7 +333,10 @@ fn read_vec_tree<D: Entries>(
     let list = before_vec(view);
     let mut items = Vec::with_capacity(alloc, list.len())?;
     for index in 0..list.len() {
-        let item = read_tree(alloc, list.index(index).part(), deserializer)?;
+        let item = match read_tree(alloc, list.index(index).part(), deserializer) {
+            Ok(item) => item,
+            Err(error) => return Err(error),
+        };
         items.push_reserved(item);
     }
     Ok(items)
@@ -353,9 +356,15 @@ fn read_tree<D: Entries>(
         deserializer) }
 {
     let p0 = part_of_record::<ArchivedTree, ArchivedU32>(part, 0, 0);
-    let a0 = read_part::<ArchivedU32, u32, D>(alloc, p0, deserializer)?;
+    let a0 = match read_part::<ArchivedU32, u32, D>(alloc, p0, deserializer) {
+        Ok(a0) => a0,
+        Err(error) => return Err(error),
+    };
     let p1 = part_of_record::<ArchivedTree, ArchivedVec<ArchivedTree>>(part, 1, 4);
-    let a1 = read_vec_tree(alloc, p1, deserializer)?;
+    let a1 = match read_vec_tree(alloc, p1, deserializer) {
+        Ok(a1) => a1,
+        Err(error) => return Err(error),
+    };
     Ok(Tree {
         value: a0,
         children: a1,

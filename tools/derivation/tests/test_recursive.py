@@ -1,6 +1,7 @@
 """Types that hold themselves: which files are written for them."""
 
 import os
+import re
 
 from derivation.files import naming
 
@@ -115,9 +116,24 @@ class Recursive(RepositoryTest):
             self.assertIn(word, text)
         self.assertIn("type NodeParts = FourParts<", text)
         self.assertNotIn("resolve_named_record", text)
-        # what may fail is made first
-        self.assertLess(text.index("let a8 = archive_core::shape::Expr::Vec("), text.index("let a0 = archive_core::shape::Expr::Leaf(archive_core::shape::Kind::Number(archive_core::shape::IntegerKind::U16));"))
         self.assertIn("let a8 = match read_vec_node(alloc, p8, deserializer) {", text)
+
+    def test_expressions_are_made_by_calls_that_hand_on_what_fails(self):
+        path = self.put("#[derive(Drop)]\npub enum Node { Leaf(u8), Sides(Option<Box<Node>>, Vec<(u8, Node)>) }\n")
+        self.assertEqual(self.run_command(path), (0, ""))
+        text = self.text(path)
+        for word in (
+            'let rest2 = no_expressions(alloc);\n    let rest1 = first_expression(vec_expression(alloc, record_expression(pair_u8_node_expressions(alloc))), rest2);\n',
+            'first_expression(option_expression(alloc, boxed_expression(alloc, named_expression("ArchivedNode"))), rest1)',
+            'define_choice("ArchivedNode", node_expressions(alloc), defs)',
+        ):
+            self.assertIn(re.sub(r"\s", "", word), re.sub(r"\s|,(?=\s*\))", "", text))
+        answers = self.beside("proofs", "types", "node_sides_expressions", "Answers.antt")
+        self.assertIn(
+            "returns c = c.first_expression.ensures _ _ (c.option_expression.ensures _ (c.boxed_expression.ensures _ c.named_expression.ensures)) "
+            "(c.first_expression-rest1.ensures _ _ (c.vec_expression.ensures _ (c.record_expression.ensures _ c.pair_u8_node_expressions.ensures)) c.no_expressions-rest2.ensures)\n",
+            answers,
+        )
 
     def test_an_option_beside_a_vector_is_told_with_its_type(self):
         path = self.put("#[derive(Drop)]\npub struct Node { first: Option<Box<Node>>, below: Vec<Node> }\n")

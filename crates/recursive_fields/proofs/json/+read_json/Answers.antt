@@ -1,5 +1,4 @@
 -- Written by tools/derive: change the declaration, and run it again.
-use Rattle.archive_core.proofs.Causes.{err_by}
 use Rattle.archive_core.proofs.OwnersRead.{vec_read, vec_unread}
 use Rattle.archive_core.proofs.ReadChoices.{variant_read_back, variant_refuses}
 use Rattle.archive_core.proofs.ReadElements.{all_have, elements_more, elements_all, element_refused}
@@ -17,41 +16,41 @@ use Rattle.std.proofs.lemmas.Grind.{common_steps}
 use Rattle.std.specs.Prelude.{[], ◌++◌, ◌≡◌, refl, pos, length}
 use Rattle.recursive_fields.proofs.json.+read_json.Goals as goal
 
-pub read_vec_json-returns-in_err-item-clause-refused : goal.read_vec_json-returns-in_err-item-clause-refused
-read_vec_json-returns-in_err-item-clause-refused g t c = (let kept = c.loop-index.invariant in let b = c.before_vec-list.result.bytes.now in let q = c.before_vec-list.result.pos in let n = c.before_vec-list.result.len in let below : c.loop-index.index < n = omega (arith, c.loop-index-test.true, c.loop-index.auto.index-end, c.len-index-end.ensures) in let h = rw (c.part.ensures.buffer, c.part.ensures.position, c.part.ensures.length, c.index.ensures.buffer, c.index.ensures.position, c.index.ensures.length) at c.in_err-item.ensures.refused in let r = element_refused json_definitions json_shape json_layout json_has_layout b q (run json_shape) n n (all_have json_definitions json_shape json_layout json_has_layout b q n (run json_shape) n (inl (refl, refl))) json_meaning json_keys (g.D.Entries.entry_of c.args.deserializer.now) (g.D.Entries.entry_of c.loop-index.deserializer) c.loop-index.items.items c.loop-index.index (one json_shape) c.in_err-item.field-0.0 refl below (kept.3) h in err_by c.from_residual-in_err-item.result c.in_err-item.field-0.0 _ c.from_residual-in_err-item.ensures.1 (vec_unread json_definitions c.args.part.bytes.now c.args.part.pos c.args.part.len json_shape (g.D.Entries.entry_of c.args.deserializer.now) c.in_err-item.field-0.0 c.requires (rw (c.before_vec-list.ensures.buffer, c.before_vec-list.ensures.position, c.before_vec-list.ensures.length, c.at-view.ensures.buffer, c.at-view.ensures.position) at r)))
+pub read_vec_json-returns-in-Err-clause-refused : goal.read_vec_json-returns-in-Err-clause-refused
+read_vec_json-returns-in-Err-clause-refused g t c = (let kept = c.loop-index.invariant in let b = c.before_vec-list.result.bytes.now in let q = c.before_vec-list.result.pos in let n = c.before_vec-list.result.len in let below : c.loop-index.index < n = omega (arith, c.loop-index-test.true, c.loop-index.auto.index-end, c.len-index-end.ensures) in let h = rw (c.part.ensures.buffer, c.part.ensures.position, c.part.ensures.length, c.index.ensures.buffer, c.index.ensures.position, c.index.ensures.length) at c.in-Err.ensures.refused in let r = element_refused json_definitions json_shape json_layout json_has_layout b q (run json_shape) n n (all_have json_definitions json_shape json_layout json_has_layout b q n (run json_shape) n (inl (refl, refl))) json_meaning json_keys (g.D.Entries.entry_of c.args.deserializer.now) (g.D.Entries.entry_of c.loop-index.deserializer) c.loop-index.items.items c.loop-index.index (one json_shape) c.in-Err.error refl below (kept.3) h in vec_unread json_definitions c.args.part.bytes.now c.args.part.pos c.args.part.len json_shape (g.D.Entries.entry_of c.args.deserializer.now) c.in-Err.error c.requires (rw (c.before_vec-list.ensures.buffer, c.before_vec-list.ensures.position, c.before_vec-list.ensures.length, c.at-view.ensures.buffer, c.at-view.ensures.position) at r))
 
 pub read_vec_json-loop-index-preserved : goal.read_vec_json-loop-index-preserved
-read_vec_json-loop-index-preserved g t c = (let kept = c.loop-index.invariant in let b = c.before_vec-list.result.bytes.now in let q = c.before_vec-list.result.pos in let n = c.before_vec-list.result.len in let below : c.loop-index.index < n = omega (arith, c.loop-index-test.true, c.loop-index.auto.index-end, c.len-index-end.ensures) in let pushed : c.push_reserved.new.self.items ≡ c.loop-index.items.items ++ c.in_ok-item.item ∷ [] = grind (arith, common_steps) in let more : length (c.loop-index.items.items ++ c.in_ok-item.item ∷ []) ≡ c.loop-index.index + 1 = grind (arith, common_steps, kept.0) in let h = rw (c.part.ensures.buffer, c.part.ensures.position, c.part.ensures.length, c.index.ensures.buffer, c.index.ensures.position, c.index.ensures.length) at c.in_ok-item.ensures.read in rw pushed (more, grind (arith, common_steps, kept.1), grind (arith, common_steps, kept.2), elements_more json_definitions json_shape json_layout json_has_layout b q (run json_shape) n n (all_have json_definitions json_shape json_layout json_has_layout b q n (run json_shape) n (inl (refl, refl))) json_meaning json_keys (g.D.Entries.entry_of c.args.deserializer.now) (g.D.Entries.entry_of c.loop-index.deserializer) (g.D.Entries.entry_of c.read_json.new.deserializer) c.loop-index.items.items c.in_ok-item.item c.loop-index.index (one json_shape) refl kept.0 below (kept.3) h))
+read_vec_json-loop-index-preserved g t c = (let kept = c.loop-index.invariant in let b = c.before_vec-list.result.bytes.now in let q = c.before_vec-list.result.pos in let n = c.before_vec-list.result.len in let below : c.loop-index.index < n = omega (arith, c.loop-index-test.true, c.loop-index.auto.index-end, c.len-index-end.ensures) in let pushed : c.push_reserved.new.self.items ≡ c.loop-index.items.items ++ c.in-Ok.item ∷ [] = grind (arith, common_steps) in let more : length (c.loop-index.items.items ++ c.in-Ok.item ∷ []) ≡ c.loop-index.index + 1 = grind (arith, common_steps, kept.0) in let h = rw (c.part.ensures.buffer, c.part.ensures.position, c.part.ensures.length, c.index.ensures.buffer, c.index.ensures.position, c.index.ensures.length) at c.in-Ok.ensures.read in rw pushed (more, grind (arith, common_steps, kept.1), grind (arith, common_steps, kept.2), elements_more json_definitions json_shape json_layout json_has_layout b q (run json_shape) n n (all_have json_definitions json_shape json_layout json_has_layout b q n (run json_shape) n (inl (refl, refl))) json_meaning json_keys (g.D.Entries.entry_of c.args.deserializer.now) (g.D.Entries.entry_of c.loop-index.deserializer) (g.D.Entries.entry_of c.read_json.new.deserializer) c.loop-index.items.items c.in-Ok.item c.loop-index.index (one json_shape) refl kept.0 below (kept.3) h))
 
 pub read_vec_json-returns-clause-read : goal.read_vec_json-returns-clause-read
 read_vec_json-returns-clause-read g t c = (let kept = c.loop-index.invariant in let b = c.before_vec-list.result.bytes.now in let q = c.before_vec-list.result.pos in let n = c.before_vec-list.result.len in let whole : length c.loop-index.items.items ≡ n = omega (arith, kept.0, c.loop-index-test.false, c.loop-index.auto.index-end, c.len-index-end.ensures) in let r = elements_all json_definitions json_shape json_layout json_has_layout b q (run json_shape) n n (all_have json_definitions json_shape json_layout json_has_layout b q n (run json_shape) n (inl (refl, refl))) json_meaning json_keys (g.D.Entries.entry_of c.args.deserializer.now) (g.D.Entries.entry_of c.loop-index.deserializer) c.loop-index.items.items whole (kept.3) in vec_read json_definitions c.args.part.bytes.now c.args.part.pos c.args.part.len json_shape _ _ _ _ c.requires (rw (c.before_vec-list.ensures.buffer, c.before_vec-list.ensures.position, c.before_vec-list.ensures.length, c.at-view.ensures.buffer, c.at-view.ensures.position) at r))
 
-pub read_vec_member_type-returns-in_err-item-clause-refused : goal.read_vec_member_type-returns-in_err-item-clause-refused
-read_vec_member_type-returns-in_err-item-clause-refused g t c = (let kept = c.loop-index.invariant in let b = c.before_vec-list.result.bytes.now in let q = c.before_vec-list.result.pos in let n = c.before_vec-list.result.len in let below : c.loop-index.index < n = omega (arith, c.loop-index-test.true, c.loop-index.auto.index-end, c.len-index-end.ensures) in let h = rw (c.part.ensures.buffer, c.part.ensures.position, c.part.ensures.length, c.index.ensures.buffer, c.index.ensures.position, c.index.ensures.length) at c.in_err-item.ensures.refused in let r = element_refused json_definitions member_type_shape member_type_layout member_type_has_layout b q (run member_type_shape) n n (all_have json_definitions member_type_shape member_type_layout member_type_has_layout b q n (run member_type_shape) n (inl (refl, refl))) member_type_meaning member_type_keys (g.D.Entries.entry_of c.args.deserializer.now) (g.D.Entries.entry_of c.loop-index.deserializer) c.loop-index.items.items c.loop-index.index (one member_type_shape) c.in_err-item.field-0.0 refl below (kept.3) h in err_by c.from_residual-in_err-item.result c.in_err-item.field-0.0 _ c.from_residual-in_err-item.ensures.1 (vec_unread json_definitions c.args.part.bytes.now c.args.part.pos c.args.part.len member_type_shape (g.D.Entries.entry_of c.args.deserializer.now) c.in_err-item.field-0.0 c.requires (rw (c.before_vec-list.ensures.buffer, c.before_vec-list.ensures.position, c.before_vec-list.ensures.length, c.at-view.ensures.buffer, c.at-view.ensures.position) at r)))
+pub read_vec_member_type-returns-in-Err-clause-refused : goal.read_vec_member_type-returns-in-Err-clause-refused
+read_vec_member_type-returns-in-Err-clause-refused g t c = (let kept = c.loop-index.invariant in let b = c.before_vec-list.result.bytes.now in let q = c.before_vec-list.result.pos in let n = c.before_vec-list.result.len in let below : c.loop-index.index < n = omega (arith, c.loop-index-test.true, c.loop-index.auto.index-end, c.len-index-end.ensures) in let h = rw (c.part.ensures.buffer, c.part.ensures.position, c.part.ensures.length, c.index.ensures.buffer, c.index.ensures.position, c.index.ensures.length) at c.in-Err.ensures.refused in let r = element_refused json_definitions member_type_shape member_type_layout member_type_has_layout b q (run member_type_shape) n n (all_have json_definitions member_type_shape member_type_layout member_type_has_layout b q n (run member_type_shape) n (inl (refl, refl))) member_type_meaning member_type_keys (g.D.Entries.entry_of c.args.deserializer.now) (g.D.Entries.entry_of c.loop-index.deserializer) c.loop-index.items.items c.loop-index.index (one member_type_shape) c.in-Err.error refl below (kept.3) h in vec_unread json_definitions c.args.part.bytes.now c.args.part.pos c.args.part.len member_type_shape (g.D.Entries.entry_of c.args.deserializer.now) c.in-Err.error c.requires (rw (c.before_vec-list.ensures.buffer, c.before_vec-list.ensures.position, c.before_vec-list.ensures.length, c.at-view.ensures.buffer, c.at-view.ensures.position) at r))
 
 pub read_vec_member_type-loop-index-preserved : goal.read_vec_member_type-loop-index-preserved
-read_vec_member_type-loop-index-preserved g t c = (let kept = c.loop-index.invariant in let b = c.before_vec-list.result.bytes.now in let q = c.before_vec-list.result.pos in let n = c.before_vec-list.result.len in let below : c.loop-index.index < n = omega (arith, c.loop-index-test.true, c.loop-index.auto.index-end, c.len-index-end.ensures) in let pushed : c.push_reserved.new.self.items ≡ c.loop-index.items.items ++ c.in_ok-item.item ∷ [] = grind (arith, common_steps) in let more : length (c.loop-index.items.items ++ c.in_ok-item.item ∷ []) ≡ c.loop-index.index + 1 = grind (arith, common_steps, kept.0) in let h = rw (c.part.ensures.buffer, c.part.ensures.position, c.part.ensures.length, c.index.ensures.buffer, c.index.ensures.position, c.index.ensures.length) at c.in_ok-item.ensures.read in rw pushed (more, grind (arith, common_steps, kept.1), grind (arith, common_steps, kept.2), elements_more json_definitions member_type_shape member_type_layout member_type_has_layout b q (run member_type_shape) n n (all_have json_definitions member_type_shape member_type_layout member_type_has_layout b q n (run member_type_shape) n (inl (refl, refl))) member_type_meaning member_type_keys (g.D.Entries.entry_of c.args.deserializer.now) (g.D.Entries.entry_of c.loop-index.deserializer) (g.D.Entries.entry_of c.read_member_type.new.deserializer) c.loop-index.items.items c.in_ok-item.item c.loop-index.index (one member_type_shape) refl kept.0 below (kept.3) h))
+read_vec_member_type-loop-index-preserved g t c = (let kept = c.loop-index.invariant in let b = c.before_vec-list.result.bytes.now in let q = c.before_vec-list.result.pos in let n = c.before_vec-list.result.len in let below : c.loop-index.index < n = omega (arith, c.loop-index-test.true, c.loop-index.auto.index-end, c.len-index-end.ensures) in let pushed : c.push_reserved.new.self.items ≡ c.loop-index.items.items ++ c.in-Ok.item ∷ [] = grind (arith, common_steps) in let more : length (c.loop-index.items.items ++ c.in-Ok.item ∷ []) ≡ c.loop-index.index + 1 = grind (arith, common_steps, kept.0) in let h = rw (c.part.ensures.buffer, c.part.ensures.position, c.part.ensures.length, c.index.ensures.buffer, c.index.ensures.position, c.index.ensures.length) at c.in-Ok.ensures.read in rw pushed (more, grind (arith, common_steps, kept.1), grind (arith, common_steps, kept.2), elements_more json_definitions member_type_shape member_type_layout member_type_has_layout b q (run member_type_shape) n n (all_have json_definitions member_type_shape member_type_layout member_type_has_layout b q n (run member_type_shape) n (inl (refl, refl))) member_type_meaning member_type_keys (g.D.Entries.entry_of c.args.deserializer.now) (g.D.Entries.entry_of c.loop-index.deserializer) (g.D.Entries.entry_of c.read_member_type.new.deserializer) c.loop-index.items.items c.in-Ok.item c.loop-index.index (one member_type_shape) refl kept.0 below (kept.3) h))
 
 pub read_vec_member_type-returns-clause-read : goal.read_vec_member_type-returns-clause-read
 read_vec_member_type-returns-clause-read g t c = (let kept = c.loop-index.invariant in let b = c.before_vec-list.result.bytes.now in let q = c.before_vec-list.result.pos in let n = c.before_vec-list.result.len in let whole : length c.loop-index.items.items ≡ n = omega (arith, kept.0, c.loop-index-test.false, c.loop-index.auto.index-end, c.len-index-end.ensures) in let r = elements_all json_definitions member_type_shape member_type_layout member_type_has_layout b q (run member_type_shape) n n (all_have json_definitions member_type_shape member_type_layout member_type_has_layout b q n (run member_type_shape) n (inl (refl, refl))) member_type_meaning member_type_keys (g.D.Entries.entry_of c.args.deserializer.now) (g.D.Entries.entry_of c.loop-index.deserializer) c.loop-index.items.items whole (kept.3) in vec_read json_definitions c.args.part.bytes.now c.args.part.pos c.args.part.len member_type_shape _ _ _ _ c.requires (rw (c.before_vec-list.ensures.buffer, c.before_vec-list.ensures.position, c.before_vec-list.ensures.length, c.at-view.ensures.buffer, c.at-view.ensures.position) at r))
 
-pub read_json_list-returns-in_err-a0-clause-refused : goal.read_json_list-returns-in_err-a0-clause-refused
-read_json_list-returns-in_err-a0-clause-refused g t c = err_by c.from_residual.result c.in_err-a0.field-0.0 _ c.from_residual.ensures.1 (variant_refuses json_definitions json_shape json_name json_variant_definitions json_variants json_has_variants 3 json_list_parts refl json_list_definitions refl _ _ _ c.requires.tag _ _ (first_refuses json_definitions no_definition (vec json_shape) (record { size = 8; align = 4 }) (record { solved = λ s k. refl }) no_part _ _ 1 _ _ (rw (c.part_of_variant-p0.ensures.buffer, c.part_of_variant-p0.ensures.position, c.part_of_variant-p0.ensures.length) at c.in_err-a0.ensures.refused)))
+pub read_json_list-returns-in-Err-clause-refused : goal.read_json_list-returns-in-Err-clause-refused
+read_json_list-returns-in-Err-clause-refused g t c = (variant_refuses json_definitions json_shape json_name json_variant_definitions json_variants json_has_variants 3 json_list_parts refl json_list_definitions refl _ _ _ c.requires.tag _ _ (first_refuses json_definitions no_definition (vec json_shape) (record { size = 8; align = 4 }) (record { solved = λ s k. refl }) no_part _ _ 1 _ _ (rw (c.part_of_variant-p0.ensures.buffer, c.part_of_variant-p0.ensures.position, c.part_of_variant-p0.ensures.length) at c.in-Err.ensures.refused)))
 
 pub read_json_list-returns-clause-read : goal.read_json_list-returns-clause-read
-read_json_list-returns-clause-read g t c = read_as (json_list_has_keys c.in_ok-a0.a0) (json_list_means c.in_ok-a0.a0) (variant_read_back json_definitions json_shape json_name json_variant_definitions json_variants json_has_variants 3 json_list_parts refl json_list_definitions refl _ _ _ c.requires.tag _ _ _ _ (part_read_back {L = (record { size = 8; align = 4 })} {ks = (each_keys json_keys c.in_ok-a0.a0.items)} {ls = []} (record { solved = λ s k. refl }) (rw (c.part_of_variant-p0.ensures.buffer, c.part_of_variant-p0.ensures.position, c.part_of_variant-p0.ensures.length) at c.in_ok-a0.ensures.read) no_part_read_back))
+read_json_list-returns-clause-read g t c = read_as (json_list_has_keys c.in-Ok.a0) (json_list_means c.in-Ok.a0) (variant_read_back json_definitions json_shape json_name json_variant_definitions json_variants json_has_variants 3 json_list_parts refl json_list_definitions refl _ _ _ c.requires.tag _ _ _ _ (part_read_back {L = (record { size = 8; align = 4 })} {ks = (each_keys json_keys c.in-Ok.a0.items)} {ls = []} (record { solved = λ s k. refl }) (rw (c.part_of_variant-p0.ensures.buffer, c.part_of_variant-p0.ensures.position, c.part_of_variant-p0.ensures.length) at c.in-Ok.ensures.read) no_part_read_back))
 
-pub read_json_object-returns-in_err-a0-clause-refused : goal.read_json_object-returns-in_err-a0-clause-refused
-read_json_object-returns-in_err-a0-clause-refused g t c = err_by c.from_residual.result c.in_err-a0.field-0.0 _ c.from_residual.ensures.1 (variant_refuses json_definitions json_shape json_name json_variant_definitions json_variants json_has_variants 4 json_object_parts refl json_object_definitions refl _ _ _ c.requires.tag _ _ (first_refuses json_definitions no_definition (vec member_type_shape) (record { size = 8; align = 4 }) (record { solved = λ s k. refl }) no_part _ _ 1 _ _ (rw (c.part_of_variant-p0.ensures.buffer, c.part_of_variant-p0.ensures.position, c.part_of_variant-p0.ensures.length) at c.in_err-a0.ensures.refused)))
+pub read_json_object-returns-in-Err-clause-refused : goal.read_json_object-returns-in-Err-clause-refused
+read_json_object-returns-in-Err-clause-refused g t c = (variant_refuses json_definitions json_shape json_name json_variant_definitions json_variants json_has_variants 4 json_object_parts refl json_object_definitions refl _ _ _ c.requires.tag _ _ (first_refuses json_definitions no_definition (vec member_type_shape) (record { size = 8; align = 4 }) (record { solved = λ s k. refl }) no_part _ _ 1 _ _ (rw (c.part_of_variant-p0.ensures.buffer, c.part_of_variant-p0.ensures.position, c.part_of_variant-p0.ensures.length) at c.in-Err.ensures.refused)))
 
 pub read_json_object-returns-clause-read : goal.read_json_object-returns-clause-read
-read_json_object-returns-clause-read g t c = read_as (json_object_has_keys c.in_ok-a0.a0) (json_object_means c.in_ok-a0.a0) (variant_read_back json_definitions json_shape json_name json_variant_definitions json_variants json_has_variants 4 json_object_parts refl json_object_definitions refl _ _ _ c.requires.tag _ _ _ _ (part_read_back {L = (record { size = 8; align = 4 })} {ks = (each_keys member_type_keys c.in_ok-a0.a0.items)} {ls = []} (record { solved = λ s k. refl }) (rw (c.part_of_variant-p0.ensures.buffer, c.part_of_variant-p0.ensures.position, c.part_of_variant-p0.ensures.length) at c.in_ok-a0.ensures.read) no_part_read_back))
+read_json_object-returns-clause-read g t c = read_as (json_object_has_keys c.in-Ok.a0) (json_object_means c.in-Ok.a0) (variant_read_back json_definitions json_shape json_name json_variant_definitions json_variants json_has_variants 4 json_object_parts refl json_object_definitions refl _ _ _ c.requires.tag _ _ _ _ (part_read_back {L = (record { size = 8; align = 4 })} {ks = (each_keys member_type_keys c.in-Ok.a0.items)} {ls = []} (record { solved = λ s k. refl }) (rw (c.part_of_variant-p0.ensures.buffer, c.part_of_variant-p0.ensures.position, c.part_of_variant-p0.ensures.length) at c.in-Ok.ensures.read) no_part_read_back))
 
-pub read_member_type-returns-in_err-a0-clause-refused : goal.read_member_type-returns-in_err-a0-clause-refused
-read_member_type-returns-in_err-a0-clause-refused g t c = err_by c.from_residual.result c.in_err-a0.field-0.0 _ c.from_residual.ensures.1 (record_refuses member_type_definitions member_type_shape member_type_part_definitions member_type_parts member_type_has_parts _ _ _ _ _ (first_refuses no_definition (both member_type_definitions no_definition) str (record { size = 8; align = 4 }) (record { solved = λ s k. refl }) (part json_shape no_part) _ _ 0 _ _ (rw (c.part_of_record-p0.ensures.buffer, c.part_of_record-p0.ensures.position, c.part_of_record-p0.ensures.length) at c.in_err-a0.ensures.refused)))
+pub read_member_type-returns-in-Err-clause-refused : goal.read_member_type-returns-in-Err-clause-refused
+read_member_type-returns-in-Err-clause-refused g t c = (record_refuses member_type_definitions member_type_shape member_type_part_definitions member_type_parts member_type_has_parts _ _ _ _ _ (first_refuses no_definition (both member_type_definitions no_definition) str (record { size = 8; align = 4 }) (record { solved = λ s k. refl }) (part json_shape no_part) _ _ 0 _ _ (rw (c.part_of_record-p0.ensures.buffer, c.part_of_record-p0.ensures.position, c.part_of_record-p0.ensures.length) at c.in-Err.ensures.refused)))
 
-pub read_member_type-returns-in_err-a1-clause-refused : goal.read_member_type-returns-in_err-a1-clause-refused
-read_member_type-returns-in_err-a1-clause-refused g t c = err_by c.from_residual-in_err-a1.result c.in_err-a1.field-0.0 _ c.from_residual-in_err-a1.ensures.1 (record_refuses member_type_definitions member_type_shape member_type_part_definitions member_type_parts member_type_has_parts _ _ _ _ _ (later_refuses no_definition (both member_type_definitions no_definition) str (record { size = 8; align = 4 }) (record { solved = λ s k. refl }) (part json_shape no_part) _ _ 0 _ _ _ c.in_ok-a0.ensures.read.kept (first_refuses member_type_definitions no_definition json_shape (record { size = 16; align = 8 }) json_has_layout no_part _ _ 8 _ _ (rw (c.part_of_record-p1.ensures.buffer, c.part_of_record-p1.ensures.position, c.part_of_record-p1.ensures.length) at c.in_err-a1.ensures.refused))))
+pub read_member_type-returns-in-Err-read_json-clause-refused : goal.read_member_type-returns-in-Err-read_json-clause-refused
+read_member_type-returns-in-Err-read_json-clause-refused g t c = (record_refuses member_type_definitions member_type_shape member_type_part_definitions member_type_parts member_type_has_parts _ _ _ _ _ (later_refuses no_definition (both member_type_definitions no_definition) str (record { size = 8; align = 4 }) (record { solved = λ s k. refl }) (part json_shape no_part) _ _ 0 _ _ _ c.in-Ok.ensures.read.kept (first_refuses member_type_definitions no_definition json_shape (record { size = 16; align = 8 }) json_has_layout no_part _ _ 8 _ _ (rw (c.part_of_record-p1.ensures.buffer, c.part_of_record-p1.ensures.position, c.part_of_record-p1.ensures.length) at c.in-Err-read_json.ensures.refused))))
 
 pub read_member_type-returns-clause-read : goal.read_member_type-returns-clause-read
-read_member_type-returns-clause-read g t c = read_as (member_type_has_keys_roll (record { name = c.in_ok-a0.a0; value = c.in_ok-a1.a1 })) (member_type_means_roll (record { name = c.in_ok-a0.a0; value = c.in_ok-a1.a1 })) (record_read_back member_type_definitions member_type_shape member_type_part_definitions member_type_parts member_type_has_parts _ _ _ _ _ _ _ (part_read_back {L = (record { size = 8; align = 4 })} {ks = []} {ls = ((json_keys c.in_ok-a1.a1) ++ [])} (record { solved = λ s k. refl }) (rw (c.part_of_record-p0.ensures.buffer, c.part_of_record-p0.ensures.position, c.part_of_record-p0.ensures.length) at c.in_ok-a0.ensures.read) (part_read_back {L = (record { size = 16; align = 8 })} {ks = (json_keys c.in_ok-a1.a1)} {ls = []} json_has_layout (rw (c.part_of_record-p1.ensures.buffer, c.part_of_record-p1.ensures.position, c.part_of_record-p1.ensures.length) at c.in_ok-a1.ensures.read) no_part_read_back)))
+read_member_type-returns-clause-read g t c = read_as (member_type_has_keys_roll (record { name = c.in-Ok.a0; value = c.in-Ok-read_json.a1 })) (member_type_means_roll (record { name = c.in-Ok.a0; value = c.in-Ok-read_json.a1 })) (record_read_back member_type_definitions member_type_shape member_type_part_definitions member_type_parts member_type_has_parts _ _ _ _ _ _ _ (part_read_back {L = (record { size = 8; align = 4 })} {ks = []} {ls = ((json_keys c.in-Ok-read_json.a1) ++ [])} (record { solved = λ s k. refl }) (rw (c.part_of_record-p0.ensures.buffer, c.part_of_record-p0.ensures.position, c.part_of_record-p0.ensures.length) at c.in-Ok.ensures.read) (part_read_back {L = (record { size = 16; align = 8 })} {ks = (json_keys c.in-Ok-read_json.a1)} {ls = []} json_has_layout (rw (c.part_of_record-p1.ensures.buffer, c.part_of_record-p1.ensures.position, c.part_of_record-p1.ensures.length) at c.in-Ok-read_json.ensures.read) no_part_read_back)))

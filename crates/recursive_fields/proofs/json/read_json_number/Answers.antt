@@ -1,5 +1,4 @@
 -- Written by tools/derive: change the declaration, and run it again.
-use Rattle.archive_core.proofs.Causes.{err_by}
 use Rattle.archive_core.proofs.ReadChoices.{variant_read_back, variant_refuses}
 use Rattle.archive_core.proofs.ReadRecords.{first_refuses}
 use Rattle.archive_core.specs.Definitions.{no_definition}
@@ -14,8 +13,8 @@ use Rattle.std.specs.Prelude.{[], refl, length}
 use Rattle.recursive_fields.specs.contracts.json.NumberArchive.TheImpl as source_of_number
 use Rattle.recursive_fields.proofs.json.read_json_number.Goals as goal
 
-pub returns-in_err-a0-clause-refused : goal.returns-in_err-a0-clause-refused
-returns-in_err-a0-clause-refused g c = err_by c.from_residual.result c.in_err-a0.field-0.0 _ c.from_residual.ensures.1 (variant_refuses json_definitions json_shape json_name json_variant_definitions json_variants json_has_variants 1 json_number_parts refl json_number_definitions refl _ _ _ c.requires.tag _ _ (first_refuses no_definition no_definition (parts (part (leaf (number_kind signed w64)) no_part)) (record { size = 8; align = 8 }) (record { solved = λ s k. refl }) no_part _ _ 1 _ _ (rw (c.part_of_variant-p0.ensures.buffer, c.part_of_variant-p0.ensures.position, c.part_of_variant-p0.ensures.length) at c.in_err-a0.ensures.refused)))
+pub returns-in-Err-clause-refused : goal.returns-in-Err-clause-refused
+returns-in-Err-clause-refused g c = (variant_refuses json_definitions json_shape json_name json_variant_definitions json_variants json_has_variants 1 json_number_parts refl json_number_definitions refl _ _ _ c.requires.tag _ _ (first_refuses no_definition no_definition (parts (part (leaf (number_kind signed w64)) no_part)) (record { size = 8; align = 8 }) (record { solved = λ s k. refl }) no_part _ _ 1 _ _ (rw (c.part_of_variant-p0.ensures.buffer, c.part_of_variant-p0.ensures.position, c.part_of_variant-p0.ensures.length) at c.in-Err.ensures.refused)))
 
 pub returns-clause-read : goal.returns-clause-read
-returns-clause-read g c = read_as (json_number_has_keys c.in_ok-a0.a0) (json_number_means c.in_ok-a0.a0) (variant_read_back json_definitions json_shape json_name json_variant_definitions json_variants json_has_variants 1 json_number_parts refl json_number_definitions refl _ _ _ c.requires.tag _ _ _ _ (part_read_back {L = (record { size = 8; align = 8 })} {ks = ((source_of_number.ghosts).keys c.in_ok-a0.a0)} {ls = []} (record { solved = λ s k. refl }) (rw (c.part_of_variant-p0.ensures.buffer, c.part_of_variant-p0.ensures.position, c.part_of_variant-p0.ensures.length) at c.in_ok-a0.ensures.read) no_part_read_back))
+returns-clause-read g c = read_as (json_number_has_keys c.in-Ok.a0) (json_number_means c.in-Ok.a0) (variant_read_back json_definitions json_shape json_name json_variant_definitions json_variants json_has_variants 1 json_number_parts refl json_number_definitions refl _ _ _ c.requires.tag _ _ _ _ (part_read_back {L = (record { size = 8; align = 8 })} {ks = ((source_of_number.ghosts).keys c.in-Ok.a0)} {ls = []} (record { solved = λ s k. refl }) (rw (c.part_of_variant-p0.ensures.buffer, c.part_of_variant-p0.ensures.position, c.part_of_variant-p0.ensures.length) at c.in-Ok.ensures.read) no_part_read_back))

@@ -1,5 +1,4 @@
 -- Written by tools/derive: change the declaration, and run it again.
-use Rattle.archive_core.proofs.Causes.{err_by}
 use Rattle.archive_core.proofs.ReadChoices.{variant_read_back, variant_refuses}
 use Rattle.archive_core.proofs.ReadRecords.{first_refuses, later_refuses}
 use Rattle.archive_core.specs.Definitions.{both, no_definition}
@@ -15,14 +14,14 @@ use Rattle.std.specs.Int.{w8}
 use Rattle.std.specs.Prelude.{[], ◌++◌, refl, length}
 use Rattle.recursive_fields.proofs.note.read_note_outcome.Goals as goal
 
-pub returns-in_err-a0-clause-refused : goal.returns-in_err-a0-clause-refused
-returns-in_err-a0-clause-refused g c = err_by c.from_residual.result c.in_err-a0.field-0.0 _ c.from_residual.ensures.1 (variant_refuses note_definitions note_shape note_name note_variant_definitions note_variants note_has_variants 2 note_outcome_parts refl note_outcome_definitions refl _ _ _ c.requires.tag _ _ (first_refuses no_definition (both no_definition (both (both no_definition no_definition) no_definition)) (leaf bool) (record { size = 1; align = 1 }) (record { solved = λ s k. refl }) (part (leaf unit) (part (result_shape (leaf (number_kind unsigned w8)) str) no_part)) _ _ 1 _ _ (rw (c.part_of_variant-p0.ensures.buffer, c.part_of_variant-p0.ensures.position, c.part_of_variant-p0.ensures.length) at c.in_err-a0.ensures.refused)))
+pub returns-in-Err-clause-refused : goal.returns-in-Err-clause-refused
+returns-in-Err-clause-refused g c = (variant_refuses note_definitions note_shape note_name note_variant_definitions note_variants note_has_variants 2 note_outcome_parts refl note_outcome_definitions refl _ _ _ c.requires.tag _ _ (first_refuses no_definition (both no_definition (both (both no_definition no_definition) no_definition)) (leaf bool) (record { size = 1; align = 1 }) (record { solved = λ s k. refl }) (part (leaf unit) (part (result_shape (leaf (number_kind unsigned w8)) str) no_part)) _ _ 1 _ _ (rw (c.part_of_variant-p0.ensures.buffer, c.part_of_variant-p0.ensures.position, c.part_of_variant-p0.ensures.length) at c.in-Err.ensures.refused)))
 
-pub returns-in_err-a1-clause-refused : goal.returns-in_err-a1-clause-refused
-returns-in_err-a1-clause-refused g c = err_by c.from_residual-in_err-a1.result c.in_err-a1.field-0.0 _ c.from_residual-in_err-a1.ensures.1 (variant_refuses note_definitions note_shape note_name note_variant_definitions note_variants note_has_variants 2 note_outcome_parts refl note_outcome_definitions refl _ _ _ c.requires.tag _ _ (later_refuses no_definition (both no_definition (both (both no_definition no_definition) no_definition)) (leaf bool) (record { size = 1; align = 1 }) (record { solved = λ s k. refl }) (part (leaf unit) (part (result_shape (leaf (number_kind unsigned w8)) str) no_part)) _ _ 1 _ _ _ c.in_ok-a0.ensures.read.kept (first_refuses no_definition (both (both no_definition no_definition) no_definition) (leaf unit) (record { size = 0; align = 1 }) (record { solved = λ s k. refl }) (part (result_shape (leaf (number_kind unsigned w8)) str) no_part) _ _ 2 _ _ (rw (c.part_of_variant-p1.ensures.buffer, c.part_of_variant-p1.ensures.position, c.part_of_variant-p1.ensures.length) at c.in_err-a1.ensures.refused))))
+pub returns-in-Err-read_part-clause-refused : goal.returns-in-Err-read_part-clause-refused
+returns-in-Err-read_part-clause-refused g c = (variant_refuses note_definitions note_shape note_name note_variant_definitions note_variants note_has_variants 2 note_outcome_parts refl note_outcome_definitions refl _ _ _ c.requires.tag _ _ (later_refuses no_definition (both no_definition (both (both no_definition no_definition) no_definition)) (leaf bool) (record { size = 1; align = 1 }) (record { solved = λ s k. refl }) (part (leaf unit) (part (result_shape (leaf (number_kind unsigned w8)) str) no_part)) _ _ 1 _ _ _ c.in-Ok.ensures.read.kept (first_refuses no_definition (both (both no_definition no_definition) no_definition) (leaf unit) (record { size = 0; align = 1 }) (record { solved = λ s k. refl }) (part (result_shape (leaf (number_kind unsigned w8)) str) no_part) _ _ 2 _ _ (rw (c.part_of_variant-p1.ensures.buffer, c.part_of_variant-p1.ensures.position, c.part_of_variant-p1.ensures.length) at c.in-Err-read_part.ensures.refused))))
 
-pub returns-in_err-a2-clause-refused : goal.returns-in_err-a2-clause-refused
-returns-in_err-a2-clause-refused g c = err_by c.from_residual-in_err-a2.result c.in_err-a2.field-0.0 _ c.from_residual-in_err-a2.ensures.1 (variant_refuses note_definitions note_shape note_name note_variant_definitions note_variants note_has_variants 2 note_outcome_parts refl note_outcome_definitions refl _ _ _ c.requires.tag _ _ (later_refuses no_definition (both no_definition (both (both no_definition no_definition) no_definition)) (leaf bool) (record { size = 1; align = 1 }) (record { solved = λ s k. refl }) (part (leaf unit) (part (result_shape (leaf (number_kind unsigned w8)) str) no_part)) _ _ 1 _ _ _ c.in_ok-a0.ensures.read.kept (later_refuses no_definition (both (both no_definition no_definition) no_definition) (leaf unit) (record { size = 0; align = 1 }) (record { solved = λ s k. refl }) (part (result_shape (leaf (number_kind unsigned w8)) str) no_part) _ _ 2 _ _ _ c.in_ok-a1.ensures.read.kept (first_refuses (both no_definition no_definition) no_definition (result_shape (leaf (number_kind unsigned w8)) str) (record { size = 12; align = 4 }) (record { solved = λ s k. refl }) no_part _ _ 2 _ _ (rw (c.part_of_variant-p2.ensures.buffer, c.part_of_variant-p2.ensures.position, c.part_of_variant-p2.ensures.length) at c.in_err-a2.ensures.refused)))))
+pub returns-in-Err-read_part-2-clause-refused : goal.returns-in-Err-read_part-2-clause-refused
+returns-in-Err-read_part-2-clause-refused g c = (variant_refuses note_definitions note_shape note_name note_variant_definitions note_variants note_has_variants 2 note_outcome_parts refl note_outcome_definitions refl _ _ _ c.requires.tag _ _ (later_refuses no_definition (both no_definition (both (both no_definition no_definition) no_definition)) (leaf bool) (record { size = 1; align = 1 }) (record { solved = λ s k. refl }) (part (leaf unit) (part (result_shape (leaf (number_kind unsigned w8)) str) no_part)) _ _ 1 _ _ _ c.in-Ok.ensures.read.kept (later_refuses no_definition (both (both no_definition no_definition) no_definition) (leaf unit) (record { size = 0; align = 1 }) (record { solved = λ s k. refl }) (part (result_shape (leaf (number_kind unsigned w8)) str) no_part) _ _ 2 _ _ _ c.in-Ok-read_part.ensures.read.kept (first_refuses (both no_definition no_definition) no_definition (result_shape (leaf (number_kind unsigned w8)) str) (record { size = 12; align = 4 }) (record { solved = λ s k. refl }) no_part _ _ 2 _ _ (rw (c.part_of_variant-p2.ensures.buffer, c.part_of_variant-p2.ensures.position, c.part_of_variant-p2.ensures.length) at c.in-Err-read_part-2.ensures.refused)))))
 
 pub returns-clause-read : goal.returns-clause-read
-returns-clause-read g c = read_as (note_outcome_has_keys c.in_ok-a0.a0 c.in_ok-a1.a1 c.in_ok-a2.a2) (note_outcome_means c.in_ok-a0.a0 c.in_ok-a1.a1 c.in_ok-a2.a2) (variant_read_back note_definitions note_shape note_name note_variant_definitions note_variants note_has_variants 2 note_outcome_parts refl note_outcome_definitions refl _ _ _ c.requires.tag _ _ _ _ (part_read_back {L = (record { size = 1; align = 1 })} {ks = []} {ls = ([] ++ ((result_keys (λ y. []) (λ y. []) c.in_ok-a2.a2) ++ []))} (record { solved = λ s k. refl }) (rw (c.part_of_variant-p0.ensures.buffer, c.part_of_variant-p0.ensures.position, c.part_of_variant-p0.ensures.length) at c.in_ok-a0.ensures.read) (part_read_back {L = (record { size = 0; align = 1 })} {ks = []} {ls = ((result_keys (λ y. []) (λ y. []) c.in_ok-a2.a2) ++ [])} (record { solved = λ s k. refl }) (rw (c.part_of_variant-p1.ensures.buffer, c.part_of_variant-p1.ensures.position, c.part_of_variant-p1.ensures.length) at c.in_ok-a1.ensures.read) (part_read_back {L = (record { size = 12; align = 4 })} {ks = (result_keys (λ y. []) (λ y. []) c.in_ok-a2.a2)} {ls = []} (record { solved = λ s k. refl }) (rw (c.part_of_variant-p2.ensures.buffer, c.part_of_variant-p2.ensures.position, c.part_of_variant-p2.ensures.length) at c.in_ok-a2.ensures.read) no_part_read_back))))
+returns-clause-read g c = read_as (note_outcome_has_keys c.in-Ok.a0 c.in-Ok-read_part.a1 c.in-Ok-read_part-2.a2) (note_outcome_means c.in-Ok.a0 c.in-Ok-read_part.a1 c.in-Ok-read_part-2.a2) (variant_read_back note_definitions note_shape note_name note_variant_definitions note_variants note_has_variants 2 note_outcome_parts refl note_outcome_definitions refl _ _ _ c.requires.tag _ _ _ _ (part_read_back {L = (record { size = 1; align = 1 })} {ks = []} {ls = ([] ++ ((result_keys (λ y. []) (λ y. []) c.in-Ok-read_part-2.a2) ++ []))} (record { solved = λ s k. refl }) (rw (c.part_of_variant-p0.ensures.buffer, c.part_of_variant-p0.ensures.position, c.part_of_variant-p0.ensures.length) at c.in-Ok.ensures.read) (part_read_back {L = (record { size = 0; align = 1 })} {ks = []} {ls = ((result_keys (λ y. []) (λ y. []) c.in-Ok-read_part-2.a2) ++ [])} (record { solved = λ s k. refl }) (rw (c.part_of_variant-p1.ensures.buffer, c.part_of_variant-p1.ensures.position, c.part_of_variant-p1.ensures.length) at c.in-Ok-read_part.ensures.read) (part_read_back {L = (record { size = 12; align = 4 })} {ks = (result_keys (λ y. []) (λ y. []) c.in-Ok-read_part-2.a2)} {ls = []} (record { solved = λ s k. refl }) (rw (c.part_of_variant-p2.ensures.buffer, c.part_of_variant-p2.ensures.position, c.part_of_variant-p2.ensures.length) at c.in-Ok-read_part-2.ensures.read) no_part_read_back))))

@@ -53,23 +53,23 @@ read_shared_knot-returns-in_ok-value-in-None-clause-read g t c = if_ok c.finish_
 pub read_shared_knot-returns-in_ok-value-in-None-clause-refused : goal.read_shared_knot-returns-in_ok-value-in-None-clause-refused
 read_shared_knot-returns-in_ok-value-in-None-clause-refused g t c = err_from c.finish_reading.result c.finish_reading.ensures.refused (λ e h. h.since _ _ (rw c.in-None.is at c.in_ok-value.ensures.begun) (rw (c.part_behind-behind.ensures.buffer, c.part_behind-behind.ensures.position, c.part_behind-behind.ensures.length) at c.in_ok-value-in-None.ensures.read))
 
-pub read_vec_shared_knot-returns-in_err-item-clause-refused : goal.read_vec_shared_knot-returns-in_err-item-clause-refused
-read_vec_shared_knot-returns-in_err-item-clause-refused g t c = (let kept = c.loop-index.invariant in let b = c.before_vec-list.result.bytes.now in let q = c.before_vec-list.result.pos in let n = c.before_vec-list.result.len in let below : c.loop-index.index < n = omega (arith, c.loop-index-test.true, c.loop-index.auto.index-end, c.len-index-end.ensures) in let h = rw (c.part.ensures.buffer, c.part.ensures.position, c.part.ensures.length, c.index.ensures.buffer, c.index.ensures.position, c.index.ensures.length) at c.in_err-item.ensures.refused in let r = element_refused knot_definitions (shared rc_flavor (one knot_shape)) (record { size = 4; align = 4 }) (record { solved = λ s k. refl }) b q (run (shared rc_flavor (one knot_shape))) n n (all_have knot_definitions (shared rc_flavor (one knot_shape)) (record { size = 4; align = 4 }) (record { solved = λ s k. refl }) b q n (run (shared rc_flavor (one knot_shape))) n (inl (refl, refl))) (λ y. (shared_value y.key)) (λ y. (rc_keys y.key (one knot_shape) 0 (knot_meaning y.value.value) (knot_keys y.value.value))) (g.D.Entries.entry_of c.args.deserializer.now) (g.D.Entries.entry_of c.loop-index.deserializer) c.loop-index.items.items c.loop-index.index (one (shared rc_flavor (one knot_shape))) c.in_err-item.field-0.0 refl below (kept.3) h in err_by c.from_residual-in_err-item.result c.in_err-item.field-0.0 _ c.from_residual-in_err-item.ensures.1 (vec_unread knot_definitions c.args.part.bytes.now c.args.part.pos c.args.part.len (shared rc_flavor (one knot_shape)) (g.D.Entries.entry_of c.args.deserializer.now) c.in_err-item.field-0.0 c.requires (rw (c.before_vec-list.ensures.buffer, c.before_vec-list.ensures.position, c.before_vec-list.ensures.length, c.at-view.ensures.buffer, c.at-view.ensures.position) at r)))
+pub read_vec_shared_knot-returns-in-Err-clause-refused : goal.read_vec_shared_knot-returns-in-Err-clause-refused
+read_vec_shared_knot-returns-in-Err-clause-refused g t c = (let kept = c.loop-index.invariant in let b = c.before_vec-list.result.bytes.now in let q = c.before_vec-list.result.pos in let n = c.before_vec-list.result.len in let below : c.loop-index.index < n = omega (arith, c.loop-index-test.true, c.loop-index.auto.index-end, c.len-index-end.ensures) in let h = rw (c.part.ensures.buffer, c.part.ensures.position, c.part.ensures.length, c.index.ensures.buffer, c.index.ensures.position, c.index.ensures.length) at c.in-Err.ensures.refused in let r = element_refused knot_definitions (shared rc_flavor (one knot_shape)) (record { size = 4; align = 4 }) (record { solved = λ s k. refl }) b q (run (shared rc_flavor (one knot_shape))) n n (all_have knot_definitions (shared rc_flavor (one knot_shape)) (record { size = 4; align = 4 }) (record { solved = λ s k. refl }) b q n (run (shared rc_flavor (one knot_shape))) n (inl (refl, refl))) (λ y. (shared_value y.key)) (λ y. (rc_keys y.key (one knot_shape) 0 (knot_meaning y.value.value) (knot_keys y.value.value))) (g.D.Entries.entry_of c.args.deserializer.now) (g.D.Entries.entry_of c.loop-index.deserializer) c.loop-index.items.items c.loop-index.index (one (shared rc_flavor (one knot_shape))) c.in-Err.error refl below (kept.3) h in vec_unread knot_definitions c.args.part.bytes.now c.args.part.pos c.args.part.len (shared rc_flavor (one knot_shape)) (g.D.Entries.entry_of c.args.deserializer.now) c.in-Err.error c.requires (rw (c.before_vec-list.ensures.buffer, c.before_vec-list.ensures.position, c.before_vec-list.ensures.length, c.at-view.ensures.buffer, c.at-view.ensures.position) at r))
 
 pub read_vec_shared_knot-loop-index-preserved : goal.read_vec_shared_knot-loop-index-preserved
-read_vec_shared_knot-loop-index-preserved g t c = (let kept = c.loop-index.invariant in let b = c.before_vec-list.result.bytes.now in let q = c.before_vec-list.result.pos in let n = c.before_vec-list.result.len in let below : c.loop-index.index < n = omega (arith, c.loop-index-test.true, c.loop-index.auto.index-end, c.len-index-end.ensures) in let pushed : c.push_reserved.new.self.items ≡ c.loop-index.items.items ++ c.in_ok-item.item ∷ [] = grind (arith, common_steps) in let more : length (c.loop-index.items.items ++ c.in_ok-item.item ∷ []) ≡ c.loop-index.index + 1 = grind (arith, common_steps, kept.0) in let h = rw (c.part.ensures.buffer, c.part.ensures.position, c.part.ensures.length, c.index.ensures.buffer, c.index.ensures.position, c.index.ensures.length) at c.in_ok-item.ensures.read in rw pushed (more, grind (arith, common_steps, kept.1), grind (arith, common_steps, kept.2), elements_more knot_definitions (shared rc_flavor (one knot_shape)) (record { size = 4; align = 4 }) (record { solved = λ s k. refl }) b q (run (shared rc_flavor (one knot_shape))) n n (all_have knot_definitions (shared rc_flavor (one knot_shape)) (record { size = 4; align = 4 }) (record { solved = λ s k. refl }) b q n (run (shared rc_flavor (one knot_shape))) n (inl (refl, refl))) (λ y. (shared_value y.key)) (λ y. (rc_keys y.key (one knot_shape) 0 (knot_meaning y.value.value) (knot_keys y.value.value))) (g.D.Entries.entry_of c.args.deserializer.now) (g.D.Entries.entry_of c.loop-index.deserializer) (g.D.Entries.entry_of c.read_shared_knot.new.deserializer) c.loop-index.items.items c.in_ok-item.item c.loop-index.index (one (shared rc_flavor (one knot_shape))) refl kept.0 below (kept.3) h))
+read_vec_shared_knot-loop-index-preserved g t c = (let kept = c.loop-index.invariant in let b = c.before_vec-list.result.bytes.now in let q = c.before_vec-list.result.pos in let n = c.before_vec-list.result.len in let below : c.loop-index.index < n = omega (arith, c.loop-index-test.true, c.loop-index.auto.index-end, c.len-index-end.ensures) in let pushed : c.push_reserved.new.self.items ≡ c.loop-index.items.items ++ c.in-Ok.item ∷ [] = grind (arith, common_steps) in let more : length (c.loop-index.items.items ++ c.in-Ok.item ∷ []) ≡ c.loop-index.index + 1 = grind (arith, common_steps, kept.0) in let h = rw (c.part.ensures.buffer, c.part.ensures.position, c.part.ensures.length, c.index.ensures.buffer, c.index.ensures.position, c.index.ensures.length) at c.in-Ok.ensures.read in rw pushed (more, grind (arith, common_steps, kept.1), grind (arith, common_steps, kept.2), elements_more knot_definitions (shared rc_flavor (one knot_shape)) (record { size = 4; align = 4 }) (record { solved = λ s k. refl }) b q (run (shared rc_flavor (one knot_shape))) n n (all_have knot_definitions (shared rc_flavor (one knot_shape)) (record { size = 4; align = 4 }) (record { solved = λ s k. refl }) b q n (run (shared rc_flavor (one knot_shape))) n (inl (refl, refl))) (λ y. (shared_value y.key)) (λ y. (rc_keys y.key (one knot_shape) 0 (knot_meaning y.value.value) (knot_keys y.value.value))) (g.D.Entries.entry_of c.args.deserializer.now) (g.D.Entries.entry_of c.loop-index.deserializer) (g.D.Entries.entry_of c.read_shared_knot.new.deserializer) c.loop-index.items.items c.in-Ok.item c.loop-index.index (one (shared rc_flavor (one knot_shape))) refl kept.0 below (kept.3) h))
 
 pub read_vec_shared_knot-returns-clause-read : goal.read_vec_shared_knot-returns-clause-read
 read_vec_shared_knot-returns-clause-read g t c = (let kept = c.loop-index.invariant in let b = c.before_vec-list.result.bytes.now in let q = c.before_vec-list.result.pos in let n = c.before_vec-list.result.len in let whole : length c.loop-index.items.items ≡ n = omega (arith, kept.0, c.loop-index-test.false, c.loop-index.auto.index-end, c.len-index-end.ensures) in let r = elements_all knot_definitions (shared rc_flavor (one knot_shape)) (record { size = 4; align = 4 }) (record { solved = λ s k. refl }) b q (run (shared rc_flavor (one knot_shape))) n n (all_have knot_definitions (shared rc_flavor (one knot_shape)) (record { size = 4; align = 4 }) (record { solved = λ s k. refl }) b q n (run (shared rc_flavor (one knot_shape))) n (inl (refl, refl))) (λ y. (shared_value y.key)) (λ y. (rc_keys y.key (one knot_shape) 0 (knot_meaning y.value.value) (knot_keys y.value.value))) (g.D.Entries.entry_of c.args.deserializer.now) (g.D.Entries.entry_of c.loop-index.deserializer) c.loop-index.items.items whole (kept.3) in vec_read knot_definitions c.args.part.bytes.now c.args.part.pos c.args.part.len (shared rc_flavor (one knot_shape)) _ _ _ _ c.requires (rw (c.before_vec-list.ensures.buffer, c.before_vec-list.ensures.position, c.before_vec-list.ensures.length, c.at-view.ensures.buffer, c.at-view.ensures.position) at r))
 
-pub read_knot-returns-in_err-a0-clause-refused : goal.read_knot-returns-in_err-a0-clause-refused
-read_knot-returns-in_err-a0-clause-refused g t c = err_by c.from_residual.result c.in_err-a0.field-0.0 _ c.from_residual.ensures.1 (record_refuses knot_definitions knot_shape knot_part_definitions knot_parts knot_has_parts _ _ _ _ _ (first_refuses no_definition (both knot_definitions (both knot_definitions no_definition)) (leaf (number_kind unsigned w32)) (record { size = 4; align = 4 }) (record { solved = λ s k. refl }) (part (weak rc_flavor (one knot_shape)) (part (vec (shared rc_flavor (one knot_shape))) no_part)) _ _ 0 _ _ (rw (c.part_of_record-p0.ensures.buffer, c.part_of_record-p0.ensures.position, c.part_of_record-p0.ensures.length) at c.in_err-a0.ensures.refused)))
+pub read_knot-returns-in-Err-clause-refused : goal.read_knot-returns-in-Err-clause-refused
+read_knot-returns-in-Err-clause-refused g t c = (record_refuses knot_definitions knot_shape knot_part_definitions knot_parts knot_has_parts _ _ _ _ _ (first_refuses no_definition (both knot_definitions (both knot_definitions no_definition)) (leaf (number_kind unsigned w32)) (record { size = 4; align = 4 }) (record { solved = λ s k. refl }) (part (weak rc_flavor (one knot_shape)) (part (vec (shared rc_flavor (one knot_shape))) no_part)) _ _ 0 _ _ (rw (c.part_of_record-p0.ensures.buffer, c.part_of_record-p0.ensures.position, c.part_of_record-p0.ensures.length) at c.in-Err.ensures.refused)))
 
-pub read_knot-returns-in_err-a1-clause-refused : goal.read_knot-returns-in_err-a1-clause-refused
-read_knot-returns-in_err-a1-clause-refused g t c = err_by c.from_residual-in_err-a1.result c.in_err-a1.field-0.0 _ c.from_residual-in_err-a1.ensures.1 (record_refuses knot_definitions knot_shape knot_part_definitions knot_parts knot_has_parts _ _ _ _ _ (later_refuses no_definition (both knot_definitions (both knot_definitions no_definition)) (leaf (number_kind unsigned w32)) (record { size = 4; align = 4 }) (record { solved = λ s k. refl }) (part (weak rc_flavor (one knot_shape)) (part (vec (shared rc_flavor (one knot_shape))) no_part)) _ _ 0 _ _ _ c.in_ok-a0.ensures.read.kept (first_refuses knot_definitions (both knot_definitions no_definition) (weak rc_flavor (one knot_shape)) (record { size = 4; align = 4 }) (record { solved = λ s k. refl }) (part (vec (shared rc_flavor (one knot_shape))) no_part) _ _ 4 _ _ (rw (c.part_of_record-p1.ensures.buffer, c.part_of_record-p1.ensures.position, c.part_of_record-p1.ensures.length) at c.in_err-a1.ensures.refused))))
+pub read_knot-returns-in-Err-read_weak_shared_knot-clause-refused : goal.read_knot-returns-in-Err-read_weak_shared_knot-clause-refused
+read_knot-returns-in-Err-read_weak_shared_knot-clause-refused g t c = (record_refuses knot_definitions knot_shape knot_part_definitions knot_parts knot_has_parts _ _ _ _ _ (later_refuses no_definition (both knot_definitions (both knot_definitions no_definition)) (leaf (number_kind unsigned w32)) (record { size = 4; align = 4 }) (record { solved = λ s k. refl }) (part (weak rc_flavor (one knot_shape)) (part (vec (shared rc_flavor (one knot_shape))) no_part)) _ _ 0 _ _ _ c.in-Ok.ensures.read.kept (first_refuses knot_definitions (both knot_definitions no_definition) (weak rc_flavor (one knot_shape)) (record { size = 4; align = 4 }) (record { solved = λ s k. refl }) (part (vec (shared rc_flavor (one knot_shape))) no_part) _ _ 4 _ _ (rw (c.part_of_record-p1.ensures.buffer, c.part_of_record-p1.ensures.position, c.part_of_record-p1.ensures.length) at c.in-Err-read_weak_shared_knot.ensures.refused))))
 
-pub read_knot-returns-in_err-a2-clause-refused : goal.read_knot-returns-in_err-a2-clause-refused
-read_knot-returns-in_err-a2-clause-refused g t c = err_by c.from_residual-in_err-a2.result c.in_err-a2.field-0.0 _ c.from_residual-in_err-a2.ensures.1 (record_refuses knot_definitions knot_shape knot_part_definitions knot_parts knot_has_parts _ _ _ _ _ (later_refuses no_definition (both knot_definitions (both knot_definitions no_definition)) (leaf (number_kind unsigned w32)) (record { size = 4; align = 4 }) (record { solved = λ s k. refl }) (part (weak rc_flavor (one knot_shape)) (part (vec (shared rc_flavor (one knot_shape))) no_part)) _ _ 0 _ _ _ c.in_ok-a0.ensures.read.kept (later_refuses knot_definitions (both knot_definitions no_definition) (weak rc_flavor (one knot_shape)) (record { size = 4; align = 4 }) (record { solved = λ s k. refl }) (part (vec (shared rc_flavor (one knot_shape))) no_part) _ _ 4 _ _ _ c.in_ok-a1.ensures.read.kept (first_refuses knot_definitions no_definition (vec (shared rc_flavor (one knot_shape))) (record { size = 8; align = 4 }) (record { solved = λ s k. refl }) no_part _ _ 8 _ _ (rw (c.part_of_record-p2.ensures.buffer, c.part_of_record-p2.ensures.position, c.part_of_record-p2.ensures.length) at c.in_err-a2.ensures.refused)))))
+pub read_knot-returns-in-Err-read_vec_shared_knot-clause-refused : goal.read_knot-returns-in-Err-read_vec_shared_knot-clause-refused
+read_knot-returns-in-Err-read_vec_shared_knot-clause-refused g t c = (record_refuses knot_definitions knot_shape knot_part_definitions knot_parts knot_has_parts _ _ _ _ _ (later_refuses no_definition (both knot_definitions (both knot_definitions no_definition)) (leaf (number_kind unsigned w32)) (record { size = 4; align = 4 }) (record { solved = λ s k. refl }) (part (weak rc_flavor (one knot_shape)) (part (vec (shared rc_flavor (one knot_shape))) no_part)) _ _ 0 _ _ _ c.in-Ok.ensures.read.kept (later_refuses knot_definitions (both knot_definitions no_definition) (weak rc_flavor (one knot_shape)) (record { size = 4; align = 4 }) (record { solved = λ s k. refl }) (part (vec (shared rc_flavor (one knot_shape))) no_part) _ _ 4 _ _ _ c.in-Ok-read_weak_shared_knot.ensures.read.kept (first_refuses knot_definitions no_definition (vec (shared rc_flavor (one knot_shape))) (record { size = 8; align = 4 }) (record { solved = λ s k. refl }) no_part _ _ 8 _ _ (rw (c.part_of_record-p2.ensures.buffer, c.part_of_record-p2.ensures.position, c.part_of_record-p2.ensures.length) at c.in-Err-read_vec_shared_knot.ensures.refused)))))
 
 pub read_knot-returns-clause-read : goal.read_knot-returns-clause-read
-read_knot-returns-clause-read g t c = read_as (knot_has_keys_roll (record { id = c.in_ok-a0.a0; from = c.in_ok-a1.a1; next = c.in_ok-a2.a2 })) (knot_means_roll (record { id = c.in_ok-a0.a0; from = c.in_ok-a1.a1; next = c.in_ok-a2.a2 })) (record_read_back knot_definitions knot_shape knot_part_definitions knot_parts knot_has_parts _ _ _ _ _ _ _ (part_read_back {L = (record { size = 4; align = 4 })} {ks = []} {ls = ((option_keys (λ s. (rc_keys s.key (one knot_shape) 0 (knot_meaning s.value.value) (knot_keys s.value.value))) c.in_ok-a1.a1.value) ++ ((each_keys (λ y. (rc_keys y.key (one knot_shape) 0 (knot_meaning y.value.value) (knot_keys y.value.value))) c.in_ok-a2.a2.items) ++ []))} (record { solved = λ s k. refl }) (rw (c.part_of_record-p0.ensures.buffer, c.part_of_record-p0.ensures.position, c.part_of_record-p0.ensures.length) at c.in_ok-a0.ensures.read) (part_read_back {L = (record { size = 4; align = 4 })} {ks = (option_keys (λ s. (rc_keys s.key (one knot_shape) 0 (knot_meaning s.value.value) (knot_keys s.value.value))) c.in_ok-a1.a1.value)} {ls = ((each_keys (λ y. (rc_keys y.key (one knot_shape) 0 (knot_meaning y.value.value) (knot_keys y.value.value))) c.in_ok-a2.a2.items) ++ [])} (record { solved = λ s k. refl }) (rw (c.part_of_record-p1.ensures.buffer, c.part_of_record-p1.ensures.position, c.part_of_record-p1.ensures.length) at c.in_ok-a1.ensures.read) (part_read_back {L = (record { size = 8; align = 4 })} {ks = (each_keys (λ y. (rc_keys y.key (one knot_shape) 0 (knot_meaning y.value.value) (knot_keys y.value.value))) c.in_ok-a2.a2.items)} {ls = []} (record { solved = λ s k. refl }) (rw (c.part_of_record-p2.ensures.buffer, c.part_of_record-p2.ensures.position, c.part_of_record-p2.ensures.length) at c.in_ok-a2.ensures.read) no_part_read_back))))
+read_knot-returns-clause-read g t c = read_as (knot_has_keys_roll (record { id = c.in-Ok.a0; from = c.in-Ok-read_weak_shared_knot.a1; next = c.in-Ok-read_vec_shared_knot.a2 })) (knot_means_roll (record { id = c.in-Ok.a0; from = c.in-Ok-read_weak_shared_knot.a1; next = c.in-Ok-read_vec_shared_knot.a2 })) (record_read_back knot_definitions knot_shape knot_part_definitions knot_parts knot_has_parts _ _ _ _ _ _ _ (part_read_back {L = (record { size = 4; align = 4 })} {ks = []} {ls = ((option_keys (λ s. (rc_keys s.key (one knot_shape) 0 (knot_meaning s.value.value) (knot_keys s.value.value))) c.in-Ok-read_weak_shared_knot.a1.value) ++ ((each_keys (λ y. (rc_keys y.key (one knot_shape) 0 (knot_meaning y.value.value) (knot_keys y.value.value))) c.in-Ok-read_vec_shared_knot.a2.items) ++ []))} (record { solved = λ s k. refl }) (rw (c.part_of_record-p0.ensures.buffer, c.part_of_record-p0.ensures.position, c.part_of_record-p0.ensures.length) at c.in-Ok.ensures.read) (part_read_back {L = (record { size = 4; align = 4 })} {ks = (option_keys (λ s. (rc_keys s.key (one knot_shape) 0 (knot_meaning s.value.value) (knot_keys s.value.value))) c.in-Ok-read_weak_shared_knot.a1.value)} {ls = ((each_keys (λ y. (rc_keys y.key (one knot_shape) 0 (knot_meaning y.value.value) (knot_keys y.value.value))) c.in-Ok-read_vec_shared_knot.a2.items) ++ [])} (record { solved = λ s k. refl }) (rw (c.part_of_record-p1.ensures.buffer, c.part_of_record-p1.ensures.position, c.part_of_record-p1.ensures.length) at c.in-Ok-read_weak_shared_knot.ensures.read) (part_read_back {L = (record { size = 8; align = 4 })} {ks = (each_keys (λ y. (rc_keys y.key (one knot_shape) 0 (knot_meaning y.value.value) (knot_keys y.value.value))) c.in-Ok-read_vec_shared_knot.a2.items)} {ls = []} (record { solved = λ s k. refl }) (rw (c.part_of_record-p2.ensures.buffer, c.part_of_record-p2.ensures.position, c.part_of_record-p2.ensures.length) at c.in-Ok-read_vec_shared_knot.ensures.read) no_part_read_back))))

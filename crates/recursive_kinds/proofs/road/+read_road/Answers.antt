@@ -35,23 +35,23 @@ read_shared_road-returns-in_ok-value-in-None-clause-refused g t c = err_from c.f
 pub read_option_shared_road-returns-in-None-clause-read : goal.read_option_shared_road-returns-in-None-clause-read
 read_option_shared_road-returns-in-None-clause-read g t c = empty_case_read_back road_definitions _ _ 0 refl c.args.part.bytes.now c.args.part.pos c.args.part.len (rw (c.at-view.ensures.buffer, c.at-view.ensures.position) at c.in-None.ensures.tag) _ _ refl
 
-pub read_option_shared_road-returns-in_err-value-in-Some-clause-refused : goal.read_option_shared_road-returns-in_err-value-in-Some-clause-refused
-read_option_shared_road-returns-in_err-value-in-Some-clause-refused g t c = err_by c.from_residual.result c.in_err-value-in-Some.field-0.0 _ c.from_residual.ensures.1 (case_refuses road_definitions road_definitions (λ s k. k) _ _ 1 (shared rc_flavor (one road_shape)) refl (record { size = 4; align = 4 }) (record { solved = λ s k. refl }) c.args.part.bytes.now c.args.part.pos c.args.part.len 4 refl (rw (c.at-view.ensures.buffer, c.at-view.ensures.position) at c.in-Some.ensures.tag) _ _ (rw (c.part.ensures.buffer, c.part.ensures.position, c.part.ensures.length, c.in-Some.ensures.buffer, c.in-Some.ensures.position, c.in-Some.ensures.length, c.at-view.ensures.buffer, c.at-view.ensures.position) at c.in_err-value-in-Some.ensures.refused))
+pub read_option_shared_road-returns-in-Err-clause-refused : goal.read_option_shared_road-returns-in-Err-clause-refused
+read_option_shared_road-returns-in-Err-clause-refused g t c = case_refuses road_definitions road_definitions (λ s k. k) _ _ 1 (shared rc_flavor (one road_shape)) refl (record { size = 4; align = 4 }) (record { solved = λ s k. refl }) c.args.part.bytes.now c.args.part.pos c.args.part.len 4 refl (rw (c.at-view.ensures.buffer, c.at-view.ensures.position) at c.in-Some.ensures.tag) _ _ (rw (c.part.ensures.buffer, c.part.ensures.position, c.part.ensures.length, c.in-Some.ensures.buffer, c.in-Some.ensures.position, c.in-Some.ensures.length, c.at-view.ensures.buffer, c.at-view.ensures.position) at c.in-Err.ensures.refused)
 
-pub read_option_shared_road-returns-in_ok-value-in-Some-clause-read : goal.read_option_shared_road-returns-in_ok-value-in-Some-clause-read
-read_option_shared_road-returns-in_ok-value-in-Some-clause-read g t c = case_read_back road_definitions road_definitions (λ s k. k) _ _ 1 (shared rc_flavor (one road_shape)) refl (record { size = 4; align = 4 }) (record { solved = λ s k. refl }) c.args.part.bytes.now c.args.part.pos c.args.part.len 4 refl (rw (c.at-view.ensures.buffer, c.at-view.ensures.position) at c.in-Some.ensures.tag) _ _ _ _ (rw (c.part.ensures.buffer, c.part.ensures.position, c.part.ensures.length, c.in-Some.ensures.buffer, c.in-Some.ensures.position, c.in-Some.ensures.length, c.at-view.ensures.buffer, c.at-view.ensures.position) at c.in_ok-value-in-Some.ensures.read)
+pub read_option_shared_road-returns-in-Ok-clause-read : goal.read_option_shared_road-returns-in-Ok-clause-read
+read_option_shared_road-returns-in-Ok-clause-read g t c = case_read_back road_definitions road_definitions (λ s k. k) _ _ 1 (shared rc_flavor (one road_shape)) refl (record { size = 4; align = 4 }) (record { solved = λ s k. refl }) c.args.part.bytes.now c.args.part.pos c.args.part.len 4 refl (rw (c.at-view.ensures.buffer, c.at-view.ensures.position) at c.in-Some.ensures.tag) _ _ _ _ (rw (c.part.ensures.buffer, c.part.ensures.position, c.part.ensures.length, c.in-Some.ensures.buffer, c.in-Some.ensures.position, c.in-Some.ensures.length, c.at-view.ensures.buffer, c.at-view.ensures.position) at c.in-Ok.ensures.read)
 
-pub read_road_way-returns-in_err-a0-clause-refused : goal.read_road_way-returns-in_err-a0-clause-refused
-read_road_way-returns-in_err-a0-clause-refused g t c = err_by c.from_residual.result c.in_err-a0.field-0.0 _ c.from_residual.ensures.1 (variant_refuses road_definitions road_shape road_name road_variant_definitions road_variants road_has_variants 0 road_way_parts refl road_way_definitions refl _ _ _ c.requires.tag _ _ (first_refuses no_definition (both road_definitions no_definition) (leaf (number_kind unsigned w8)) (record { size = 1; align = 1 }) (record { solved = λ s k. refl }) (part (option_shape (shared rc_flavor (one road_shape))) no_part) _ _ 1 _ _ (rw (c.part_of_variant-p0.ensures.buffer, c.part_of_variant-p0.ensures.position, c.part_of_variant-p0.ensures.length) at c.in_err-a0.ensures.refused)))
+pub read_road_way-returns-in-Err-clause-refused : goal.read_road_way-returns-in-Err-clause-refused
+read_road_way-returns-in-Err-clause-refused g t c = (variant_refuses road_definitions road_shape road_name road_variant_definitions road_variants road_has_variants 0 road_way_parts refl road_way_definitions refl _ _ _ c.requires.tag _ _ (first_refuses no_definition (both road_definitions no_definition) (leaf (number_kind unsigned w8)) (record { size = 1; align = 1 }) (record { solved = λ s k. refl }) (part (option_shape (shared rc_flavor (one road_shape))) no_part) _ _ 1 _ _ (rw (c.part_of_variant-p0.ensures.buffer, c.part_of_variant-p0.ensures.position, c.part_of_variant-p0.ensures.length) at c.in-Err.ensures.refused)))
 
-pub read_road_way-returns-in_err-a1-clause-refused : goal.read_road_way-returns-in_err-a1-clause-refused
-read_road_way-returns-in_err-a1-clause-refused g t c = err_by c.from_residual-in_err-a1.result c.in_err-a1.field-0.0 _ c.from_residual-in_err-a1.ensures.1 (variant_refuses road_definitions road_shape road_name road_variant_definitions road_variants road_has_variants 0 road_way_parts refl road_way_definitions refl _ _ _ c.requires.tag _ _ (later_refuses no_definition (both road_definitions no_definition) (leaf (number_kind unsigned w8)) (record { size = 1; align = 1 }) (record { solved = λ s k. refl }) (part (option_shape (shared rc_flavor (one road_shape))) no_part) _ _ 1 _ _ _ c.in_ok-a0.ensures.read.kept (first_refuses road_definitions no_definition (option_shape (shared rc_flavor (one road_shape))) (record { size = 8; align = 4 }) (record { solved = λ s k. refl }) no_part _ _ 2 _ _ (rw (c.part_of_variant-p1.ensures.buffer, c.part_of_variant-p1.ensures.position, c.part_of_variant-p1.ensures.length) at c.in_err-a1.ensures.refused))))
+pub read_road_way-returns-in-Err-read_option_shared_road-clause-refused : goal.read_road_way-returns-in-Err-read_option_shared_road-clause-refused
+read_road_way-returns-in-Err-read_option_shared_road-clause-refused g t c = (variant_refuses road_definitions road_shape road_name road_variant_definitions road_variants road_has_variants 0 road_way_parts refl road_way_definitions refl _ _ _ c.requires.tag _ _ (later_refuses no_definition (both road_definitions no_definition) (leaf (number_kind unsigned w8)) (record { size = 1; align = 1 }) (record { solved = λ s k. refl }) (part (option_shape (shared rc_flavor (one road_shape))) no_part) _ _ 1 _ _ _ c.in-Ok.ensures.read.kept (first_refuses road_definitions no_definition (option_shape (shared rc_flavor (one road_shape))) (record { size = 8; align = 4 }) (record { solved = λ s k. refl }) no_part _ _ 2 _ _ (rw (c.part_of_variant-p1.ensures.buffer, c.part_of_variant-p1.ensures.position, c.part_of_variant-p1.ensures.length) at c.in-Err-read_option_shared_road.ensures.refused))))
 
 pub read_road_way-returns-clause-read : goal.read_road_way-returns-clause-read
-read_road_way-returns-clause-read g t c = read_as (road_way_has_keys c.in_ok-a0.a0 c.in_ok-a1.a1) (road_way_means c.in_ok-a0.a0 c.in_ok-a1.a1) (variant_read_back road_definitions road_shape road_name road_variant_definitions road_variants road_has_variants 0 road_way_parts refl road_way_definitions refl _ _ _ c.requires.tag _ _ _ _ (part_read_back {L = (record { size = 1; align = 1 })} {ks = []} {ls = ((option_keys (λ y. (rc_keys y.key (one road_shape) 0 (road_meaning y.value.value) (road_keys y.value.value))) c.in_ok-a1.a1) ++ [])} (record { solved = λ s k. refl }) (rw (c.part_of_variant-p0.ensures.buffer, c.part_of_variant-p0.ensures.position, c.part_of_variant-p0.ensures.length) at c.in_ok-a0.ensures.read) (part_read_back {L = (record { size = 8; align = 4 })} {ks = (option_keys (λ y. (rc_keys y.key (one road_shape) 0 (road_meaning y.value.value) (road_keys y.value.value))) c.in_ok-a1.a1)} {ls = []} (record { solved = λ s k. refl }) (rw (c.part_of_variant-p1.ensures.buffer, c.part_of_variant-p1.ensures.position, c.part_of_variant-p1.ensures.length) at c.in_ok-a1.ensures.read) no_part_read_back)))
+read_road_way-returns-clause-read g t c = read_as (road_way_has_keys c.in-Ok.a0 c.in-Ok-read_option_shared_road.a1) (road_way_means c.in-Ok.a0 c.in-Ok-read_option_shared_road.a1) (variant_read_back road_definitions road_shape road_name road_variant_definitions road_variants road_has_variants 0 road_way_parts refl road_way_definitions refl _ _ _ c.requires.tag _ _ _ _ (part_read_back {L = (record { size = 1; align = 1 })} {ks = []} {ls = ((option_keys (λ y. (rc_keys y.key (one road_shape) 0 (road_meaning y.value.value) (road_keys y.value.value))) c.in-Ok-read_option_shared_road.a1) ++ [])} (record { solved = λ s k. refl }) (rw (c.part_of_variant-p0.ensures.buffer, c.part_of_variant-p0.ensures.position, c.part_of_variant-p0.ensures.length) at c.in-Ok.ensures.read) (part_read_back {L = (record { size = 8; align = 4 })} {ks = (option_keys (λ y. (rc_keys y.key (one road_shape) 0 (road_meaning y.value.value) (road_keys y.value.value))) c.in-Ok-read_option_shared_road.a1)} {ls = []} (record { solved = λ s k. refl }) (rw (c.part_of_variant-p1.ensures.buffer, c.part_of_variant-p1.ensures.position, c.part_of_variant-p1.ensures.length) at c.in-Ok-read_option_shared_road.ensures.read) no_part_read_back)))
 
-pub read_road_detour-returns-in_err-a0-clause-refused : goal.read_road_detour-returns-in_err-a0-clause-refused
-read_road_detour-returns-in_err-a0-clause-refused g t c = err_by c.from_residual.result c.in_err-a0.field-0.0 _ c.from_residual.ensures.1 (variant_refuses road_definitions road_shape road_name road_variant_definitions road_variants road_has_variants 1 road_detour_parts refl road_detour_definitions refl _ _ _ c.requires.tag _ _ (first_refuses road_definitions no_definition (shared rc_flavor (one road_shape)) (record { size = 4; align = 4 }) (record { solved = λ s k. refl }) no_part _ _ 1 _ _ (rw (c.part_of_variant-p0.ensures.buffer, c.part_of_variant-p0.ensures.position, c.part_of_variant-p0.ensures.length) at c.in_err-a0.ensures.refused)))
+pub read_road_detour-returns-in-Err-clause-refused : goal.read_road_detour-returns-in-Err-clause-refused
+read_road_detour-returns-in-Err-clause-refused g t c = (variant_refuses road_definitions road_shape road_name road_variant_definitions road_variants road_has_variants 1 road_detour_parts refl road_detour_definitions refl _ _ _ c.requires.tag _ _ (first_refuses road_definitions no_definition (shared rc_flavor (one road_shape)) (record { size = 4; align = 4 }) (record { solved = λ s k. refl }) no_part _ _ 1 _ _ (rw (c.part_of_variant-p0.ensures.buffer, c.part_of_variant-p0.ensures.position, c.part_of_variant-p0.ensures.length) at c.in-Err.ensures.refused)))
 
 pub read_road_detour-returns-clause-read : goal.read_road_detour-returns-clause-read
-read_road_detour-returns-clause-read g t c = read_as (road_detour_has_keys c.in_ok-a0.a0) (road_detour_means c.in_ok-a0.a0) (variant_read_back road_definitions road_shape road_name road_variant_definitions road_variants road_has_variants 1 road_detour_parts refl road_detour_definitions refl _ _ _ c.requires.tag _ _ _ _ (part_read_back {L = (record { size = 4; align = 4 })} {ks = (rc_keys c.in_ok-a0.a0.key (one road_shape) 0 (road_meaning c.in_ok-a0.a0.value.value) (road_keys c.in_ok-a0.a0.value.value))} {ls = []} (record { solved = λ s k. refl }) (rw (c.part_of_variant-p0.ensures.buffer, c.part_of_variant-p0.ensures.position, c.part_of_variant-p0.ensures.length) at c.in_ok-a0.ensures.read) no_part_read_back))
+read_road_detour-returns-clause-read g t c = read_as (road_detour_has_keys c.in-Ok.a0) (road_detour_means c.in-Ok.a0) (variant_read_back road_definitions road_shape road_name road_variant_definitions road_variants road_has_variants 1 road_detour_parts refl road_detour_definitions refl _ _ _ c.requires.tag _ _ _ _ (part_read_back {L = (record { size = 4; align = 4 })} {ks = (rc_keys c.in-Ok.a0.key (one road_shape) 0 (road_meaning c.in-Ok.a0.value.value) (road_keys c.in-Ok.a0.value.value))} {ls = []} (record { solved = λ s k. refl }) (rw (c.part_of_variant-p0.ensures.buffer, c.part_of_variant-p0.ensures.position, c.part_of_variant-p0.ensures.length) at c.in-Ok.ensures.read) no_part_read_back))

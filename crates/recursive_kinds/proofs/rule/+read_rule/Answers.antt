@@ -1,5 +1,4 @@
 -- Written by tools/derive: change the declaration, and run it again.
-use Rattle.archive_core.proofs.Causes.{err_by}
 use Rattle.archive_core.proofs.OwnersRead.{box_read, box_unread}
 use Rattle.archive_core.proofs.ReadElements.{all_have, elements_more, elements_all, element_refused}
 use Rattle.archive_core.proofs.ReadRecords.{record_read_back, record_refuses, first_refuses, later_refuses}
@@ -17,29 +16,29 @@ use Rattle.std.specs.Int.{w8, w16, w32}
 use Rattle.std.specs.Prelude.{[], ◌++◌, ◌≡◌, refl, pos, length}
 use Rattle.recursive_kinds.proofs.rule.+read_rule.Goals as goal
 
-pub read_box_slice_rule-returns-in_err-item-clause-refused : goal.read_box_slice_rule-returns-in_err-item-clause-refused
-read_box_slice_rule-returns-in_err-item-clause-refused g t c = (let kept = c.loop-index.invariant in let b = c.before_box_slice-list.result.bytes.now in let q = c.before_box_slice-list.result.pos in let n = c.before_box_slice-list.result.len in let below : c.loop-index.index < n = omega (arith, c.loop-index-test.true, c.loop-index.auto.index-end, c.len-index-end.ensures) in let h = rw (c.part.ensures.buffer, c.part.ensures.position, c.part.ensures.length, c.index.ensures.buffer, c.index.ensures.position, c.index.ensures.length) at c.in_err-item.ensures.refused in let r = element_refused rule_definitions rule_shape rule_layout rule_has_layout b q (run rule_shape) n n (all_have rule_definitions rule_shape rule_layout rule_has_layout b q n (run rule_shape) n (inl (refl, refl))) rule_meaning rule_keys (g.D.Entries.entry_of c.args.deserializer.now) (g.D.Entries.entry_of c.loop-index.deserializer) c.loop-index.items.items c.loop-index.index (one rule_shape) c.in_err-item.field-0.0 refl below (kept.3) h in err_by c.from_residual-in_err-item.result c.in_err-item.field-0.0 _ c.from_residual-in_err-item.ensures.1 (box_unread rule_definitions c.args.part.bytes.now c.args.part.pos c.args.part.len (run rule_shape) (g.D.Entries.entry_of c.args.deserializer.now) c.in_err-item.field-0.0 c.requires (rw (c.before_box_slice-list.ensures.buffer, c.before_box_slice-list.ensures.position, c.before_box_slice-list.ensures.length) at r)))
+pub read_box_slice_rule-returns-in-Err-clause-refused : goal.read_box_slice_rule-returns-in-Err-clause-refused
+read_box_slice_rule-returns-in-Err-clause-refused g t c = (let kept = c.loop-index.invariant in let b = c.before_box_slice-list.result.bytes.now in let q = c.before_box_slice-list.result.pos in let n = c.before_box_slice-list.result.len in let below : c.loop-index.index < n = omega (arith, c.loop-index-test.true, c.loop-index.auto.index-end, c.len-index-end.ensures) in let h = rw (c.part.ensures.buffer, c.part.ensures.position, c.part.ensures.length, c.index.ensures.buffer, c.index.ensures.position, c.index.ensures.length) at c.in-Err.ensures.refused in let r = element_refused rule_definitions rule_shape rule_layout rule_has_layout b q (run rule_shape) n n (all_have rule_definitions rule_shape rule_layout rule_has_layout b q n (run rule_shape) n (inl (refl, refl))) rule_meaning rule_keys (g.D.Entries.entry_of c.args.deserializer.now) (g.D.Entries.entry_of c.loop-index.deserializer) c.loop-index.items.items c.loop-index.index (one rule_shape) c.in-Err.error refl below (kept.3) h in box_unread rule_definitions c.args.part.bytes.now c.args.part.pos c.args.part.len (run rule_shape) (g.D.Entries.entry_of c.args.deserializer.now) c.in-Err.error c.requires (rw (c.before_box_slice-list.ensures.buffer, c.before_box_slice-list.ensures.position, c.before_box_slice-list.ensures.length) at r))
 
 pub read_box_slice_rule-loop-index-preserved : goal.read_box_slice_rule-loop-index-preserved
-read_box_slice_rule-loop-index-preserved g t c = (let kept = c.loop-index.invariant in let b = c.before_box_slice-list.result.bytes.now in let q = c.before_box_slice-list.result.pos in let n = c.before_box_slice-list.result.len in let below : c.loop-index.index < n = omega (arith, c.loop-index-test.true, c.loop-index.auto.index-end, c.len-index-end.ensures) in let pushed : c.push_reserved.new.self.items ≡ c.loop-index.items.items ++ c.in_ok-item.item ∷ [] = grind (arith, common_steps) in let more : length (c.loop-index.items.items ++ c.in_ok-item.item ∷ []) ≡ c.loop-index.index + 1 = grind (arith, common_steps, kept.0) in let h = rw (c.part.ensures.buffer, c.part.ensures.position, c.part.ensures.length, c.index.ensures.buffer, c.index.ensures.position, c.index.ensures.length) at c.in_ok-item.ensures.read in rw pushed (more, grind (arith, common_steps, kept.1), grind (arith, common_steps, kept.2), elements_more rule_definitions rule_shape rule_layout rule_has_layout b q (run rule_shape) n n (all_have rule_definitions rule_shape rule_layout rule_has_layout b q n (run rule_shape) n (inl (refl, refl))) rule_meaning rule_keys (g.D.Entries.entry_of c.args.deserializer.now) (g.D.Entries.entry_of c.loop-index.deserializer) (g.D.Entries.entry_of c.read_rule.new.deserializer) c.loop-index.items.items c.in_ok-item.item c.loop-index.index (one rule_shape) refl kept.0 below (kept.3) h))
+read_box_slice_rule-loop-index-preserved g t c = (let kept = c.loop-index.invariant in let b = c.before_box_slice-list.result.bytes.now in let q = c.before_box_slice-list.result.pos in let n = c.before_box_slice-list.result.len in let below : c.loop-index.index < n = omega (arith, c.loop-index-test.true, c.loop-index.auto.index-end, c.len-index-end.ensures) in let pushed : c.push_reserved.new.self.items ≡ c.loop-index.items.items ++ c.in-Ok.item ∷ [] = grind (arith, common_steps) in let more : length (c.loop-index.items.items ++ c.in-Ok.item ∷ []) ≡ c.loop-index.index + 1 = grind (arith, common_steps, kept.0) in let h = rw (c.part.ensures.buffer, c.part.ensures.position, c.part.ensures.length, c.index.ensures.buffer, c.index.ensures.position, c.index.ensures.length) at c.in-Ok.ensures.read in rw pushed (more, grind (arith, common_steps, kept.1), grind (arith, common_steps, kept.2), elements_more rule_definitions rule_shape rule_layout rule_has_layout b q (run rule_shape) n n (all_have rule_definitions rule_shape rule_layout rule_has_layout b q n (run rule_shape) n (inl (refl, refl))) rule_meaning rule_keys (g.D.Entries.entry_of c.args.deserializer.now) (g.D.Entries.entry_of c.loop-index.deserializer) (g.D.Entries.entry_of c.read_rule.new.deserializer) c.loop-index.items.items c.in-Ok.item c.loop-index.index (one rule_shape) refl kept.0 below (kept.3) h))
 
 pub read_box_slice_rule-returns-clause-read : goal.read_box_slice_rule-returns-clause-read
 read_box_slice_rule-returns-clause-read g t c = (let kept = c.loop-index.invariant in let b = c.before_box_slice-list.result.bytes.now in let q = c.before_box_slice-list.result.pos in let n = c.before_box_slice-list.result.len in let whole : length c.loop-index.items.items ≡ n = omega (arith, kept.0, c.loop-index-test.false, c.loop-index.auto.index-end, c.len-index-end.ensures) in let r = elements_all rule_definitions rule_shape rule_layout rule_has_layout b q (run rule_shape) n n (all_have rule_definitions rule_shape rule_layout rule_has_layout b q n (run rule_shape) n (inl (refl, refl))) rule_meaning rule_keys (g.D.Entries.entry_of c.args.deserializer.now) (g.D.Entries.entry_of c.loop-index.deserializer) c.loop-index.items.items whole (kept.3) in box_read rule_definitions c.args.part.bytes.now c.args.part.pos c.args.part.len (run rule_shape) _ _ _ _ c.requires (rw (c.before_box_slice-list.ensures.buffer, c.before_box_slice-list.ensures.position, c.before_box_slice-list.ensures.length) at r))
 
-pub read_rule-returns-in_err-a0-clause-refused : goal.read_rule-returns-in_err-a0-clause-refused
-read_rule-returns-in_err-a0-clause-refused g t c = err_by c.from_residual.result c.in_err-a0.field-0.0 _ c.from_residual.ensures.1 (record_refuses rule_definitions rule_shape rule_part_definitions rule_parts rule_has_parts _ _ _ _ _ (first_refuses no_definition (both no_definition (both no_definition (both no_definition (both rule_definitions no_definition)))) (boxed text) (record { size = 8; align = 4 }) (record { solved = λ s k. refl }) (part (array 4 (leaf (number_kind unsigned w8))) (part (boxed (run (leaf (number_kind unsigned w16)))) (part (leaf (number_kind unsigned w32)) (part (boxed (run rule_shape)) no_part)))) _ _ 0 _ _ (rw (c.part_of_record-p0.ensures.buffer, c.part_of_record-p0.ensures.position, c.part_of_record-p0.ensures.length) at c.in_err-a0.ensures.refused)))
-
 pub read_rule-returns-in-Err-clause-refused : goal.read_rule-returns-in-Err-clause-refused
-read_rule-returns-in-Err-clause-refused g t c = (record_refuses rule_definitions rule_shape rule_part_definitions rule_parts rule_has_parts _ _ _ _ _ (later_refuses no_definition (both no_definition (both no_definition (both no_definition (both rule_definitions no_definition)))) (boxed text) (record { size = 8; align = 4 }) (record { solved = λ s k. refl }) (part (array 4 (leaf (number_kind unsigned w8))) (part (boxed (run (leaf (number_kind unsigned w16)))) (part (leaf (number_kind unsigned w32)) (part (boxed (run rule_shape)) no_part)))) _ _ 0 _ _ _ c.in_ok-a0.ensures.read.kept (first_refuses no_definition (both no_definition (both no_definition (both rule_definitions no_definition))) (array 4 (leaf (number_kind unsigned w8))) (record { size = 4; align = 1 }) (record { solved = λ s k. refl }) (part (boxed (run (leaf (number_kind unsigned w16)))) (part (leaf (number_kind unsigned w32)) (part (boxed (run rule_shape)) no_part))) _ _ 8 _ _ (rw (c.part_of_record-p1.ensures.buffer, c.part_of_record-p1.ensures.position, c.part_of_record-p1.ensures.length) at c.in-Err.ensures.refused))))
+read_rule-returns-in-Err-clause-refused g t c = (record_refuses rule_definitions rule_shape rule_part_definitions rule_parts rule_has_parts _ _ _ _ _ (first_refuses no_definition (both no_definition (both no_definition (both no_definition (both rule_definitions no_definition)))) (boxed text) (record { size = 8; align = 4 }) (record { solved = λ s k. refl }) (part (array 4 (leaf (number_kind unsigned w8))) (part (boxed (run (leaf (number_kind unsigned w16)))) (part (leaf (number_kind unsigned w32)) (part (boxed (run rule_shape)) no_part)))) _ _ 0 _ _ (rw (c.part_of_record-p0.ensures.buffer, c.part_of_record-p0.ensures.position, c.part_of_record-p0.ensures.length) at c.in-Err.ensures.refused)))
 
-pub read_rule-returns-in_err-a2-clause-refused : goal.read_rule-returns-in_err-a2-clause-refused
-read_rule-returns-in_err-a2-clause-refused g t c = err_by c.from_residual-in_err-a2.result c.in_err-a2.field-0.0 _ c.from_residual-in_err-a2.ensures.1 (record_refuses rule_definitions rule_shape rule_part_definitions rule_parts rule_has_parts _ _ _ _ _ (later_refuses no_definition (both no_definition (both no_definition (both no_definition (both rule_definitions no_definition)))) (boxed text) (record { size = 8; align = 4 }) (record { solved = λ s k. refl }) (part (array 4 (leaf (number_kind unsigned w8))) (part (boxed (run (leaf (number_kind unsigned w16)))) (part (leaf (number_kind unsigned w32)) (part (boxed (run rule_shape)) no_part)))) _ _ 0 _ _ _ c.in_ok-a0.ensures.read.kept (later_refuses no_definition (both no_definition (both no_definition (both rule_definitions no_definition))) (array 4 (leaf (number_kind unsigned w8))) (record { size = 4; align = 1 }) (record { solved = λ s k. refl }) (part (boxed (run (leaf (number_kind unsigned w16)))) (part (leaf (number_kind unsigned w32)) (part (boxed (run rule_shape)) no_part))) _ _ 8 _ _ _ c.in-Ok.ensures.read.kept (first_refuses no_definition (both no_definition (both rule_definitions no_definition)) (boxed (run (leaf (number_kind unsigned w16)))) (record { size = 8; align = 4 }) (record { solved = λ s k. refl }) (part (leaf (number_kind unsigned w32)) (part (boxed (run rule_shape)) no_part)) _ _ 12 _ _ (rw (c.part_of_record-p2.ensures.buffer, c.part_of_record-p2.ensures.position, c.part_of_record-p2.ensures.length) at c.in_err-a2.ensures.refused)))))
+pub read_rule-returns-in-Err-read_part-clause-refused : goal.read_rule-returns-in-Err-read_part-clause-refused
+read_rule-returns-in-Err-read_part-clause-refused g t c = (record_refuses rule_definitions rule_shape rule_part_definitions rule_parts rule_has_parts _ _ _ _ _ (later_refuses no_definition (both no_definition (both no_definition (both no_definition (both rule_definitions no_definition)))) (boxed text) (record { size = 8; align = 4 }) (record { solved = λ s k. refl }) (part (array 4 (leaf (number_kind unsigned w8))) (part (boxed (run (leaf (number_kind unsigned w16)))) (part (leaf (number_kind unsigned w32)) (part (boxed (run rule_shape)) no_part)))) _ _ 0 _ _ _ c.in-Ok.ensures.read.kept (first_refuses no_definition (both no_definition (both no_definition (both rule_definitions no_definition))) (array 4 (leaf (number_kind unsigned w8))) (record { size = 4; align = 1 }) (record { solved = λ s k. refl }) (part (boxed (run (leaf (number_kind unsigned w16)))) (part (leaf (number_kind unsigned w32)) (part (boxed (run rule_shape)) no_part))) _ _ 8 _ _ (rw (c.part_of_record-p1.ensures.buffer, c.part_of_record-p1.ensures.position, c.part_of_record-p1.ensures.length) at c.in-Err-read_part.ensures.refused))))
 
-pub read_rule-returns-in_err-a3-clause-refused : goal.read_rule-returns-in_err-a3-clause-refused
-read_rule-returns-in_err-a3-clause-refused g t c = err_by c.from_residual-in_err-a3.result c.in_err-a3.field-0.0 _ c.from_residual-in_err-a3.ensures.1 (record_refuses rule_definitions rule_shape rule_part_definitions rule_parts rule_has_parts _ _ _ _ _ (later_refuses no_definition (both no_definition (both no_definition (both no_definition (both rule_definitions no_definition)))) (boxed text) (record { size = 8; align = 4 }) (record { solved = λ s k. refl }) (part (array 4 (leaf (number_kind unsigned w8))) (part (boxed (run (leaf (number_kind unsigned w16)))) (part (leaf (number_kind unsigned w32)) (part (boxed (run rule_shape)) no_part)))) _ _ 0 _ _ _ c.in_ok-a0.ensures.read.kept (later_refuses no_definition (both no_definition (both no_definition (both rule_definitions no_definition))) (array 4 (leaf (number_kind unsigned w8))) (record { size = 4; align = 1 }) (record { solved = λ s k. refl }) (part (boxed (run (leaf (number_kind unsigned w16)))) (part (leaf (number_kind unsigned w32)) (part (boxed (run rule_shape)) no_part))) _ _ 8 _ _ _ c.in-Ok.ensures.read.kept (later_refuses no_definition (both no_definition (both rule_definitions no_definition)) (boxed (run (leaf (number_kind unsigned w16)))) (record { size = 8; align = 4 }) (record { solved = λ s k. refl }) (part (leaf (number_kind unsigned w32)) (part (boxed (run rule_shape)) no_part)) _ _ 12 _ _ _ c.in_ok-a2.ensures.read.kept (first_refuses no_definition (both rule_definitions no_definition) (leaf (number_kind unsigned w32)) (record { size = 4; align = 4 }) (record { solved = λ s k. refl }) (part (boxed (run rule_shape)) no_part) _ _ 20 _ _ (rw (c.part_of_record-p3.ensures.buffer, c.part_of_record-p3.ensures.position, c.part_of_record-p3.ensures.length) at c.in_err-a3.ensures.refused))))))
+pub read_rule-returns-in-Err-read_part-2-clause-refused : goal.read_rule-returns-in-Err-read_part-2-clause-refused
+read_rule-returns-in-Err-read_part-2-clause-refused g t c = (record_refuses rule_definitions rule_shape rule_part_definitions rule_parts rule_has_parts _ _ _ _ _ (later_refuses no_definition (both no_definition (both no_definition (both no_definition (both rule_definitions no_definition)))) (boxed text) (record { size = 8; align = 4 }) (record { solved = λ s k. refl }) (part (array 4 (leaf (number_kind unsigned w8))) (part (boxed (run (leaf (number_kind unsigned w16)))) (part (leaf (number_kind unsigned w32)) (part (boxed (run rule_shape)) no_part)))) _ _ 0 _ _ _ c.in-Ok.ensures.read.kept (later_refuses no_definition (both no_definition (both no_definition (both rule_definitions no_definition))) (array 4 (leaf (number_kind unsigned w8))) (record { size = 4; align = 1 }) (record { solved = λ s k. refl }) (part (boxed (run (leaf (number_kind unsigned w16)))) (part (leaf (number_kind unsigned w32)) (part (boxed (run rule_shape)) no_part))) _ _ 8 _ _ _ c.in-Ok-read_part.ensures.read.kept (first_refuses no_definition (both no_definition (both rule_definitions no_definition)) (boxed (run (leaf (number_kind unsigned w16)))) (record { size = 8; align = 4 }) (record { solved = λ s k. refl }) (part (leaf (number_kind unsigned w32)) (part (boxed (run rule_shape)) no_part)) _ _ 12 _ _ (rw (c.part_of_record-p2.ensures.buffer, c.part_of_record-p2.ensures.position, c.part_of_record-p2.ensures.length) at c.in-Err-read_part-2.ensures.refused)))))
 
-pub read_rule-returns-in_err-a4-clause-refused : goal.read_rule-returns-in_err-a4-clause-refused
-read_rule-returns-in_err-a4-clause-refused g t c = err_by c.from_residual-in_err-a4.result c.in_err-a4.field-0.0 _ c.from_residual-in_err-a4.ensures.1 (record_refuses rule_definitions rule_shape rule_part_definitions rule_parts rule_has_parts _ _ _ _ _ (later_refuses no_definition (both no_definition (both no_definition (both no_definition (both rule_definitions no_definition)))) (boxed text) (record { size = 8; align = 4 }) (record { solved = λ s k. refl }) (part (array 4 (leaf (number_kind unsigned w8))) (part (boxed (run (leaf (number_kind unsigned w16)))) (part (leaf (number_kind unsigned w32)) (part (boxed (run rule_shape)) no_part)))) _ _ 0 _ _ _ c.in_ok-a0.ensures.read.kept (later_refuses no_definition (both no_definition (both no_definition (both rule_definitions no_definition))) (array 4 (leaf (number_kind unsigned w8))) (record { size = 4; align = 1 }) (record { solved = λ s k. refl }) (part (boxed (run (leaf (number_kind unsigned w16)))) (part (leaf (number_kind unsigned w32)) (part (boxed (run rule_shape)) no_part))) _ _ 8 _ _ _ c.in-Ok.ensures.read.kept (later_refuses no_definition (both no_definition (both rule_definitions no_definition)) (boxed (run (leaf (number_kind unsigned w16)))) (record { size = 8; align = 4 }) (record { solved = λ s k. refl }) (part (leaf (number_kind unsigned w32)) (part (boxed (run rule_shape)) no_part)) _ _ 12 _ _ _ c.in_ok-a2.ensures.read.kept (later_refuses no_definition (both rule_definitions no_definition) (leaf (number_kind unsigned w32)) (record { size = 4; align = 4 }) (record { solved = λ s k. refl }) (part (boxed (run rule_shape)) no_part) _ _ 20 _ _ _ c.in_ok-a3.ensures.read.kept (first_refuses rule_definitions no_definition (boxed (run rule_shape)) (record { size = 8; align = 4 }) (record { solved = λ s k. refl }) no_part _ _ 24 _ _ (rw (c.part_of_record-p4.ensures.buffer, c.part_of_record-p4.ensures.position, c.part_of_record-p4.ensures.length) at c.in_err-a4.ensures.refused)))))))
+pub read_rule-returns-in-Err-read_part-3-clause-refused : goal.read_rule-returns-in-Err-read_part-3-clause-refused
+read_rule-returns-in-Err-read_part-3-clause-refused g t c = (record_refuses rule_definitions rule_shape rule_part_definitions rule_parts rule_has_parts _ _ _ _ _ (later_refuses no_definition (both no_definition (both no_definition (both no_definition (both rule_definitions no_definition)))) (boxed text) (record { size = 8; align = 4 }) (record { solved = λ s k. refl }) (part (array 4 (leaf (number_kind unsigned w8))) (part (boxed (run (leaf (number_kind unsigned w16)))) (part (leaf (number_kind unsigned w32)) (part (boxed (run rule_shape)) no_part)))) _ _ 0 _ _ _ c.in-Ok.ensures.read.kept (later_refuses no_definition (both no_definition (both no_definition (both rule_definitions no_definition))) (array 4 (leaf (number_kind unsigned w8))) (record { size = 4; align = 1 }) (record { solved = λ s k. refl }) (part (boxed (run (leaf (number_kind unsigned w16)))) (part (leaf (number_kind unsigned w32)) (part (boxed (run rule_shape)) no_part))) _ _ 8 _ _ _ c.in-Ok-read_part.ensures.read.kept (later_refuses no_definition (both no_definition (both rule_definitions no_definition)) (boxed (run (leaf (number_kind unsigned w16)))) (record { size = 8; align = 4 }) (record { solved = λ s k. refl }) (part (leaf (number_kind unsigned w32)) (part (boxed (run rule_shape)) no_part)) _ _ 12 _ _ _ c.in-Ok-read_part-2.ensures.read.kept (first_refuses no_definition (both rule_definitions no_definition) (leaf (number_kind unsigned w32)) (record { size = 4; align = 4 }) (record { solved = λ s k. refl }) (part (boxed (run rule_shape)) no_part) _ _ 20 _ _ (rw (c.part_of_record-p3.ensures.buffer, c.part_of_record-p3.ensures.position, c.part_of_record-p3.ensures.length) at c.in-Err-read_part-3.ensures.refused))))))
+
+pub read_rule-returns-in-Err-read_box_slice_rule-clause-refused : goal.read_rule-returns-in-Err-read_box_slice_rule-clause-refused
+read_rule-returns-in-Err-read_box_slice_rule-clause-refused g t c = (record_refuses rule_definitions rule_shape rule_part_definitions rule_parts rule_has_parts _ _ _ _ _ (later_refuses no_definition (both no_definition (both no_definition (both no_definition (both rule_definitions no_definition)))) (boxed text) (record { size = 8; align = 4 }) (record { solved = λ s k. refl }) (part (array 4 (leaf (number_kind unsigned w8))) (part (boxed (run (leaf (number_kind unsigned w16)))) (part (leaf (number_kind unsigned w32)) (part (boxed (run rule_shape)) no_part)))) _ _ 0 _ _ _ c.in-Ok.ensures.read.kept (later_refuses no_definition (both no_definition (both no_definition (both rule_definitions no_definition))) (array 4 (leaf (number_kind unsigned w8))) (record { size = 4; align = 1 }) (record { solved = λ s k. refl }) (part (boxed (run (leaf (number_kind unsigned w16)))) (part (leaf (number_kind unsigned w32)) (part (boxed (run rule_shape)) no_part))) _ _ 8 _ _ _ c.in-Ok-read_part.ensures.read.kept (later_refuses no_definition (both no_definition (both rule_definitions no_definition)) (boxed (run (leaf (number_kind unsigned w16)))) (record { size = 8; align = 4 }) (record { solved = λ s k. refl }) (part (leaf (number_kind unsigned w32)) (part (boxed (run rule_shape)) no_part)) _ _ 12 _ _ _ c.in-Ok-read_part-2.ensures.read.kept (later_refuses no_definition (both rule_definitions no_definition) (leaf (number_kind unsigned w32)) (record { size = 4; align = 4 }) (record { solved = λ s k. refl }) (part (boxed (run rule_shape)) no_part) _ _ 20 _ _ _ c.in-Ok-read_part-3.ensures.read.kept (first_refuses rule_definitions no_definition (boxed (run rule_shape)) (record { size = 8; align = 4 }) (record { solved = λ s k. refl }) no_part _ _ 24 _ _ (rw (c.part_of_record-p4.ensures.buffer, c.part_of_record-p4.ensures.position, c.part_of_record-p4.ensures.length) at c.in-Err-read_box_slice_rule.ensures.refused)))))))
 
 pub read_rule-returns-clause-read : goal.read_rule-returns-clause-read
-read_rule-returns-clause-read g t c = read_as (rule_has_keys_roll (record { words = c.in_ok-a0.a0; version = c.in-Ok.a1; pages = c.in_ok-a2.a2; lines = c.in_ok-a3.a3; parts = c.in_ok-a4.a4 })) (rule_means_roll (record { words = c.in_ok-a0.a0; version = c.in-Ok.a1; pages = c.in_ok-a2.a2; lines = c.in_ok-a3.a3; parts = c.in_ok-a4.a4 })) (record_read_back rule_definitions rule_shape rule_part_definitions rule_parts rule_has_parts _ _ _ _ _ _ _ (part_read_back {L = (record { size = 8; align = 4 })} {ks = []} {ls = ((array_keys 4 (λ y. []) c.in-Ok.a1) ++ ((each_keys (λ y. []) c.in_ok-a2.a2.items.items) ++ ([] ++ ((each_keys rule_keys c.in_ok-a4.a4.items.items) ++ []))))} (record { solved = λ s k. refl }) (rw (c.part_of_record-p0.ensures.buffer, c.part_of_record-p0.ensures.position, c.part_of_record-p0.ensures.length) at c.in_ok-a0.ensures.read) (part_read_back {L = (record { size = 4; align = 1 })} {ks = (array_keys 4 (λ y. []) c.in-Ok.a1)} {ls = ((each_keys (λ y. []) c.in_ok-a2.a2.items.items) ++ ([] ++ ((each_keys rule_keys c.in_ok-a4.a4.items.items) ++ [])))} (record { solved = λ s k. refl }) (rw (c.part_of_record-p1.ensures.buffer, c.part_of_record-p1.ensures.position, c.part_of_record-p1.ensures.length) at c.in-Ok.ensures.read) (part_read_back {L = (record { size = 8; align = 4 })} {ks = (each_keys (λ y. []) c.in_ok-a2.a2.items.items)} {ls = ([] ++ ((each_keys rule_keys c.in_ok-a4.a4.items.items) ++ []))} (record { solved = λ s k. refl }) (rw (c.part_of_record-p2.ensures.buffer, c.part_of_record-p2.ensures.position, c.part_of_record-p2.ensures.length) at c.in_ok-a2.ensures.read) (part_read_back {L = (record { size = 4; align = 4 })} {ks = []} {ls = ((each_keys rule_keys c.in_ok-a4.a4.items.items) ++ [])} (record { solved = λ s k. refl }) (rw (c.part_of_record-p3.ensures.buffer, c.part_of_record-p3.ensures.position, c.part_of_record-p3.ensures.length) at c.in_ok-a3.ensures.read) (part_read_back {L = (record { size = 8; align = 4 })} {ks = (each_keys rule_keys c.in_ok-a4.a4.items.items)} {ls = []} (record { solved = λ s k. refl }) (rw (c.part_of_record-p4.ensures.buffer, c.part_of_record-p4.ensures.position, c.part_of_record-p4.ensures.length) at c.in_ok-a4.ensures.read) no_part_read_back))))))
+read_rule-returns-clause-read g t c = read_as (rule_has_keys_roll (record { words = c.in-Ok.a0; version = c.in-Ok-read_part.a1; pages = c.in-Ok-read_part-2.a2; lines = c.in-Ok-read_part-3.a3; parts = c.in-Ok-read_box_slice_rule.a4 })) (rule_means_roll (record { words = c.in-Ok.a0; version = c.in-Ok-read_part.a1; pages = c.in-Ok-read_part-2.a2; lines = c.in-Ok-read_part-3.a3; parts = c.in-Ok-read_box_slice_rule.a4 })) (record_read_back rule_definitions rule_shape rule_part_definitions rule_parts rule_has_parts _ _ _ _ _ _ _ (part_read_back {L = (record { size = 8; align = 4 })} {ks = []} {ls = ((array_keys 4 (λ y. []) c.in-Ok-read_part.a1) ++ ((each_keys (λ y. []) c.in-Ok-read_part-2.a2.items.items) ++ ([] ++ ((each_keys rule_keys c.in-Ok-read_box_slice_rule.a4.items.items) ++ []))))} (record { solved = λ s k. refl }) (rw (c.part_of_record-p0.ensures.buffer, c.part_of_record-p0.ensures.position, c.part_of_record-p0.ensures.length) at c.in-Ok.ensures.read) (part_read_back {L = (record { size = 4; align = 1 })} {ks = (array_keys 4 (λ y. []) c.in-Ok-read_part.a1)} {ls = ((each_keys (λ y. []) c.in-Ok-read_part-2.a2.items.items) ++ ([] ++ ((each_keys rule_keys c.in-Ok-read_box_slice_rule.a4.items.items) ++ [])))} (record { solved = λ s k. refl }) (rw (c.part_of_record-p1.ensures.buffer, c.part_of_record-p1.ensures.position, c.part_of_record-p1.ensures.length) at c.in-Ok-read_part.ensures.read) (part_read_back {L = (record { size = 8; align = 4 })} {ks = (each_keys (λ y. []) c.in-Ok-read_part-2.a2.items.items)} {ls = ([] ++ ((each_keys rule_keys c.in-Ok-read_box_slice_rule.a4.items.items) ++ []))} (record { solved = λ s k. refl }) (rw (c.part_of_record-p2.ensures.buffer, c.part_of_record-p2.ensures.position, c.part_of_record-p2.ensures.length) at c.in-Ok-read_part-2.ensures.read) (part_read_back {L = (record { size = 4; align = 4 })} {ks = []} {ls = ((each_keys rule_keys c.in-Ok-read_box_slice_rule.a4.items.items) ++ [])} (record { solved = λ s k. refl }) (rw (c.part_of_record-p3.ensures.buffer, c.part_of_record-p3.ensures.position, c.part_of_record-p3.ensures.length) at c.in-Ok-read_part-3.ensures.read) (part_read_back {L = (record { size = 8; align = 4 })} {ks = (each_keys rule_keys c.in-Ok-read_box_slice_rule.a4.items.items)} {ls = []} (record { solved = λ s k. refl }) (rw (c.part_of_record-p4.ensures.buffer, c.part_of_record-p4.ensures.position, c.part_of_record-p4.ensures.length) at c.in-Ok-read_box_slice_rule.ensures.read) no_part_read_back))))))

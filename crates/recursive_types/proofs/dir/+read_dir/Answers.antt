@@ -1,5 +1,4 @@
 -- Written by tools/derive: change the declaration, and run it again.
-use Rattle.archive_core.proofs.Causes.{err_by}
 use Rattle.archive_core.proofs.OwnersRead.{box_read, box_unread, vec_read, vec_unread}
 use Rattle.archive_core.proofs.ReadChoices.{variant_read_back, variant_refuses}
 use Rattle.archive_core.proofs.ReadElements.{all_have, elements_more, elements_all, element_refused}
@@ -17,32 +16,32 @@ use Rattle.std.proofs.lemmas.Grind.{common_steps}
 use Rattle.std.specs.Prelude.{[], ◌++◌, ◌≡◌, refl, pos, length}
 use Rattle.recursive_types.proofs.dir.+read_dir.Goals as goal
 
-pub read_vec_entry-returns-in_err-item-clause-refused : goal.read_vec_entry-returns-in_err-item-clause-refused
-read_vec_entry-returns-in_err-item-clause-refused g t c = (let kept = c.loop-index.invariant in let b = c.before_vec-list.result.bytes.now in let q = c.before_vec-list.result.pos in let n = c.before_vec-list.result.len in let below : c.loop-index.index < n = omega (arith, c.loop-index-test.true, c.loop-index.auto.index-end, c.len-index-end.ensures) in let h = rw (c.part.ensures.buffer, c.part.ensures.position, c.part.ensures.length, c.index.ensures.buffer, c.index.ensures.position, c.index.ensures.length) at c.in_err-item.ensures.refused in let r = element_refused dir_definitions entry_shape entry_layout entry_has_layout b q (run entry_shape) n n (all_have dir_definitions entry_shape entry_layout entry_has_layout b q n (run entry_shape) n (inl (refl, refl))) entry_meaning entry_keys (g.D.Entries.entry_of c.args.deserializer.now) (g.D.Entries.entry_of c.loop-index.deserializer) c.loop-index.items.items c.loop-index.index (one entry_shape) c.in_err-item.field-0.0 refl below (kept.3) h in err_by c.from_residual-in_err-item.result c.in_err-item.field-0.0 _ c.from_residual-in_err-item.ensures.1 (vec_unread dir_definitions c.args.part.bytes.now c.args.part.pos c.args.part.len entry_shape (g.D.Entries.entry_of c.args.deserializer.now) c.in_err-item.field-0.0 c.requires (rw (c.before_vec-list.ensures.buffer, c.before_vec-list.ensures.position, c.before_vec-list.ensures.length, c.at-view.ensures.buffer, c.at-view.ensures.position) at r)))
+pub read_vec_entry-returns-in-Err-clause-refused : goal.read_vec_entry-returns-in-Err-clause-refused
+read_vec_entry-returns-in-Err-clause-refused g t c = (let kept = c.loop-index.invariant in let b = c.before_vec-list.result.bytes.now in let q = c.before_vec-list.result.pos in let n = c.before_vec-list.result.len in let below : c.loop-index.index < n = omega (arith, c.loop-index-test.true, c.loop-index.auto.index-end, c.len-index-end.ensures) in let h = rw (c.part.ensures.buffer, c.part.ensures.position, c.part.ensures.length, c.index.ensures.buffer, c.index.ensures.position, c.index.ensures.length) at c.in-Err.ensures.refused in let r = element_refused dir_definitions entry_shape entry_layout entry_has_layout b q (run entry_shape) n n (all_have dir_definitions entry_shape entry_layout entry_has_layout b q n (run entry_shape) n (inl (refl, refl))) entry_meaning entry_keys (g.D.Entries.entry_of c.args.deserializer.now) (g.D.Entries.entry_of c.loop-index.deserializer) c.loop-index.items.items c.loop-index.index (one entry_shape) c.in-Err.error refl below (kept.3) h in vec_unread dir_definitions c.args.part.bytes.now c.args.part.pos c.args.part.len entry_shape (g.D.Entries.entry_of c.args.deserializer.now) c.in-Err.error c.requires (rw (c.before_vec-list.ensures.buffer, c.before_vec-list.ensures.position, c.before_vec-list.ensures.length, c.at-view.ensures.buffer, c.at-view.ensures.position) at r))
 
 pub read_vec_entry-loop-index-preserved : goal.read_vec_entry-loop-index-preserved
-read_vec_entry-loop-index-preserved g t c = (let kept = c.loop-index.invariant in let b = c.before_vec-list.result.bytes.now in let q = c.before_vec-list.result.pos in let n = c.before_vec-list.result.len in let below : c.loop-index.index < n = omega (arith, c.loop-index-test.true, c.loop-index.auto.index-end, c.len-index-end.ensures) in let pushed : c.push_reserved.new.self.items ≡ c.loop-index.items.items ++ c.in_ok-item.item ∷ [] = grind (arith, common_steps) in let more : length (c.loop-index.items.items ++ c.in_ok-item.item ∷ []) ≡ c.loop-index.index + 1 = grind (arith, common_steps, kept.0) in let h = rw (c.part.ensures.buffer, c.part.ensures.position, c.part.ensures.length, c.index.ensures.buffer, c.index.ensures.position, c.index.ensures.length) at c.in_ok-item.ensures.read in rw pushed (more, grind (arith, common_steps, kept.1), grind (arith, common_steps, kept.2), elements_more dir_definitions entry_shape entry_layout entry_has_layout b q (run entry_shape) n n (all_have dir_definitions entry_shape entry_layout entry_has_layout b q n (run entry_shape) n (inl (refl, refl))) entry_meaning entry_keys (g.D.Entries.entry_of c.args.deserializer.now) (g.D.Entries.entry_of c.loop-index.deserializer) (g.D.Entries.entry_of c.read_entry.new.deserializer) c.loop-index.items.items c.in_ok-item.item c.loop-index.index (one entry_shape) refl kept.0 below (kept.3) h))
+read_vec_entry-loop-index-preserved g t c = (let kept = c.loop-index.invariant in let b = c.before_vec-list.result.bytes.now in let q = c.before_vec-list.result.pos in let n = c.before_vec-list.result.len in let below : c.loop-index.index < n = omega (arith, c.loop-index-test.true, c.loop-index.auto.index-end, c.len-index-end.ensures) in let pushed : c.push_reserved.new.self.items ≡ c.loop-index.items.items ++ c.in-Ok.item ∷ [] = grind (arith, common_steps) in let more : length (c.loop-index.items.items ++ c.in-Ok.item ∷ []) ≡ c.loop-index.index + 1 = grind (arith, common_steps, kept.0) in let h = rw (c.part.ensures.buffer, c.part.ensures.position, c.part.ensures.length, c.index.ensures.buffer, c.index.ensures.position, c.index.ensures.length) at c.in-Ok.ensures.read in rw pushed (more, grind (arith, common_steps, kept.1), grind (arith, common_steps, kept.2), elements_more dir_definitions entry_shape entry_layout entry_has_layout b q (run entry_shape) n n (all_have dir_definitions entry_shape entry_layout entry_has_layout b q n (run entry_shape) n (inl (refl, refl))) entry_meaning entry_keys (g.D.Entries.entry_of c.args.deserializer.now) (g.D.Entries.entry_of c.loop-index.deserializer) (g.D.Entries.entry_of c.read_entry.new.deserializer) c.loop-index.items.items c.in-Ok.item c.loop-index.index (one entry_shape) refl kept.0 below (kept.3) h))
 
 pub read_vec_entry-returns-clause-read : goal.read_vec_entry-returns-clause-read
 read_vec_entry-returns-clause-read g t c = (let kept = c.loop-index.invariant in let b = c.before_vec-list.result.bytes.now in let q = c.before_vec-list.result.pos in let n = c.before_vec-list.result.len in let whole : length c.loop-index.items.items ≡ n = omega (arith, kept.0, c.loop-index-test.false, c.loop-index.auto.index-end, c.len-index-end.ensures) in let r = elements_all dir_definitions entry_shape entry_layout entry_has_layout b q (run entry_shape) n n (all_have dir_definitions entry_shape entry_layout entry_has_layout b q n (run entry_shape) n (inl (refl, refl))) entry_meaning entry_keys (g.D.Entries.entry_of c.args.deserializer.now) (g.D.Entries.entry_of c.loop-index.deserializer) c.loop-index.items.items whole (kept.3) in vec_read dir_definitions c.args.part.bytes.now c.args.part.pos c.args.part.len entry_shape _ _ _ _ c.requires (rw (c.before_vec-list.ensures.buffer, c.before_vec-list.ensures.position, c.before_vec-list.ensures.length, c.at-view.ensures.buffer, c.at-view.ensures.position) at r))
 
-pub read_dir-returns-in_err-a0-clause-refused : goal.read_dir-returns-in_err-a0-clause-refused
-read_dir-returns-in_err-a0-clause-refused g t c = err_by c.from_residual.result c.in_err-a0.field-0.0 _ c.from_residual.ensures.1 (record_refuses dir_definitions dir_shape dir_part_definitions dir_parts dir_has_parts _ _ _ _ _ (first_refuses no_definition (both dir_definitions no_definition) str (record { size = 8; align = 4 }) (record { solved = λ s k. refl }) (part (vec entry_shape) no_part) _ _ 0 _ _ (rw (c.part_of_record-p0.ensures.buffer, c.part_of_record-p0.ensures.position, c.part_of_record-p0.ensures.length) at c.in_err-a0.ensures.refused)))
+pub read_dir-returns-in-Err-clause-refused : goal.read_dir-returns-in-Err-clause-refused
+read_dir-returns-in-Err-clause-refused g t c = (record_refuses dir_definitions dir_shape dir_part_definitions dir_parts dir_has_parts _ _ _ _ _ (first_refuses no_definition (both dir_definitions no_definition) str (record { size = 8; align = 4 }) (record { solved = λ s k. refl }) (part (vec entry_shape) no_part) _ _ 0 _ _ (rw (c.part_of_record-p0.ensures.buffer, c.part_of_record-p0.ensures.position, c.part_of_record-p0.ensures.length) at c.in-Err.ensures.refused)))
 
-pub read_dir-returns-in_err-a1-clause-refused : goal.read_dir-returns-in_err-a1-clause-refused
-read_dir-returns-in_err-a1-clause-refused g t c = err_by c.from_residual-in_err-a1.result c.in_err-a1.field-0.0 _ c.from_residual-in_err-a1.ensures.1 (record_refuses dir_definitions dir_shape dir_part_definitions dir_parts dir_has_parts _ _ _ _ _ (later_refuses no_definition (both dir_definitions no_definition) str (record { size = 8; align = 4 }) (record { solved = λ s k. refl }) (part (vec entry_shape) no_part) _ _ 0 _ _ _ c.in_ok-a0.ensures.read.kept (first_refuses dir_definitions no_definition (vec entry_shape) (record { size = 8; align = 4 }) (record { solved = λ s k. refl }) no_part _ _ 8 _ _ (rw (c.part_of_record-p1.ensures.buffer, c.part_of_record-p1.ensures.position, c.part_of_record-p1.ensures.length) at c.in_err-a1.ensures.refused))))
+pub read_dir-returns-in-Err-read_vec_entry-clause-refused : goal.read_dir-returns-in-Err-read_vec_entry-clause-refused
+read_dir-returns-in-Err-read_vec_entry-clause-refused g t c = (record_refuses dir_definitions dir_shape dir_part_definitions dir_parts dir_has_parts _ _ _ _ _ (later_refuses no_definition (both dir_definitions no_definition) str (record { size = 8; align = 4 }) (record { solved = λ s k. refl }) (part (vec entry_shape) no_part) _ _ 0 _ _ _ c.in-Ok.ensures.read.kept (first_refuses dir_definitions no_definition (vec entry_shape) (record { size = 8; align = 4 }) (record { solved = λ s k. refl }) no_part _ _ 8 _ _ (rw (c.part_of_record-p1.ensures.buffer, c.part_of_record-p1.ensures.position, c.part_of_record-p1.ensures.length) at c.in-Err-read_vec_entry.ensures.refused))))
 
 pub read_dir-returns-clause-read : goal.read_dir-returns-clause-read
-read_dir-returns-clause-read g t c = read_as (dir_has_keys_roll (record { name = c.in_ok-a0.a0; entries = c.in_ok-a1.a1 })) (dir_means_roll (record { name = c.in_ok-a0.a0; entries = c.in_ok-a1.a1 })) (record_read_back dir_definitions dir_shape dir_part_definitions dir_parts dir_has_parts _ _ _ _ _ _ _ (part_read_back {L = (record { size = 8; align = 4 })} {ks = []} {ls = ((each_keys entry_keys c.in_ok-a1.a1.items) ++ [])} (record { solved = λ s k. refl }) (rw (c.part_of_record-p0.ensures.buffer, c.part_of_record-p0.ensures.position, c.part_of_record-p0.ensures.length) at c.in_ok-a0.ensures.read) (part_read_back {L = (record { size = 8; align = 4 })} {ks = (each_keys entry_keys c.in_ok-a1.a1.items)} {ls = []} (record { solved = λ s k. refl }) (rw (c.part_of_record-p1.ensures.buffer, c.part_of_record-p1.ensures.position, c.part_of_record-p1.ensures.length) at c.in_ok-a1.ensures.read) no_part_read_back)))
+read_dir-returns-clause-read g t c = read_as (dir_has_keys_roll (record { name = c.in-Ok.a0; entries = c.in-Ok-read_vec_entry.a1 })) (dir_means_roll (record { name = c.in-Ok.a0; entries = c.in-Ok-read_vec_entry.a1 })) (record_read_back dir_definitions dir_shape dir_part_definitions dir_parts dir_has_parts _ _ _ _ _ _ _ (part_read_back {L = (record { size = 8; align = 4 })} {ks = []} {ls = ((each_keys entry_keys c.in-Ok-read_vec_entry.a1.items) ++ [])} (record { solved = λ s k. refl }) (rw (c.part_of_record-p0.ensures.buffer, c.part_of_record-p0.ensures.position, c.part_of_record-p0.ensures.length) at c.in-Ok.ensures.read) (part_read_back {L = (record { size = 8; align = 4 })} {ks = (each_keys entry_keys c.in-Ok-read_vec_entry.a1.items)} {ls = []} (record { solved = λ s k. refl }) (rw (c.part_of_record-p1.ensures.buffer, c.part_of_record-p1.ensures.position, c.part_of_record-p1.ensures.length) at c.in-Ok-read_vec_entry.ensures.read) no_part_read_back)))
 
-pub read_box_dir-returns-in_err-value-clause-refused : goal.read_box_dir-returns-in_err-value-clause-refused
-read_box_dir-returns-in_err-value-clause-refused g t c = err_by c.from_residual.result c.in_err-value.field-0.0 _ c.from_residual.ensures.1 (box_unread entry_definitions c.args.part.bytes.now c.args.part.pos c.args.part.len (one dir_shape) (g.D.Entries.entry_of c.args.deserializer.now) c.in_err-value.field-0.0 c.requires (rw (c.part.ensures.buffer, c.part.ensures.position, c.part.ensures.length, c.before_box.ensures.buffer, c.before_box.ensures.position, c.before_box.ensures.length, c.at-view.ensures.buffer, c.at-view.ensures.position) at c.in_err-value.ensures.refused))
+pub read_box_dir-returns-in-Err-clause-refused : goal.read_box_dir-returns-in-Err-clause-refused
+read_box_dir-returns-in-Err-clause-refused g t c = box_unread entry_definitions c.args.part.bytes.now c.args.part.pos c.args.part.len (one dir_shape) (g.D.Entries.entry_of c.args.deserializer.now) c.in-Err.error c.requires (rw (c.part.ensures.buffer, c.part.ensures.position, c.part.ensures.length, c.before_box.ensures.buffer, c.before_box.ensures.position, c.before_box.ensures.length, c.at-view.ensures.buffer, c.at-view.ensures.position) at c.in-Err.ensures.refused)
 
 pub read_box_dir-returns-clause-read : goal.read_box_dir-returns-clause-read
-read_box_dir-returns-clause-read g t c = (let same : c.in_ok-whole.whole.value ≡ c.in_ok-value.value = grind (arith, common_steps) in rw same (box_read entry_definitions c.args.part.bytes.now c.args.part.pos c.args.part.len (one dir_shape) _ _ _ _ c.requires (rw (c.part.ensures.buffer, c.part.ensures.position, c.part.ensures.length, c.before_box.ensures.buffer, c.before_box.ensures.position, c.before_box.ensures.length, c.at-view.ensures.buffer, c.at-view.ensures.position) at c.in_ok-value.ensures.read)))
+read_box_dir-returns-clause-read g t c = (let same : c.in_ok-whole.whole.value ≡ c.in-Ok.value = grind (arith, common_steps) in rw same (box_read entry_definitions c.args.part.bytes.now c.args.part.pos c.args.part.len (one dir_shape) _ _ _ _ c.requires (rw (c.part.ensures.buffer, c.part.ensures.position, c.part.ensures.length, c.before_box.ensures.buffer, c.before_box.ensures.position, c.before_box.ensures.length, c.at-view.ensures.buffer, c.at-view.ensures.position) at c.in-Ok.ensures.read)))
 
-pub read_entry_sub-returns-in_err-a0-clause-refused : goal.read_entry_sub-returns-in_err-a0-clause-refused
-read_entry_sub-returns-in_err-a0-clause-refused g t c = err_by c.from_residual.result c.in_err-a0.field-0.0 _ c.from_residual.ensures.1 (variant_refuses entry_definitions entry_shape entry_name entry_variant_definitions entry_variants entry_has_variants 1 entry_sub_parts refl entry_sub_definitions refl _ _ _ c.requires.tag _ _ (first_refuses entry_definitions no_definition (boxed (one dir_shape)) (record { size = 4; align = 4 }) (record { solved = λ s k. refl }) no_part _ _ 1 _ _ (rw (c.part_of_variant-p0.ensures.buffer, c.part_of_variant-p0.ensures.position, c.part_of_variant-p0.ensures.length) at c.in_err-a0.ensures.refused)))
+pub read_entry_sub-returns-in-Err-clause-refused : goal.read_entry_sub-returns-in-Err-clause-refused
+read_entry_sub-returns-in-Err-clause-refused g t c = (variant_refuses entry_definitions entry_shape entry_name entry_variant_definitions entry_variants entry_has_variants 1 entry_sub_parts refl entry_sub_definitions refl _ _ _ c.requires.tag _ _ (first_refuses entry_definitions no_definition (boxed (one dir_shape)) (record { size = 4; align = 4 }) (record { solved = λ s k. refl }) no_part _ _ 1 _ _ (rw (c.part_of_variant-p0.ensures.buffer, c.part_of_variant-p0.ensures.position, c.part_of_variant-p0.ensures.length) at c.in-Err.ensures.refused)))
 
 pub read_entry_sub-returns-clause-read : goal.read_entry_sub-returns-clause-read
-read_entry_sub-returns-clause-read g t c = read_as (entry_sub_has_keys c.in_ok-a0.a0) (entry_sub_means c.in_ok-a0.a0) (variant_read_back entry_definitions entry_shape entry_name entry_variant_definitions entry_variants entry_has_variants 1 entry_sub_parts refl entry_sub_definitions refl _ _ _ c.requires.tag _ _ _ _ (part_read_back {L = (record { size = 4; align = 4 })} {ks = (dir_keys c.in_ok-a0.a0.value)} {ls = []} (record { solved = λ s k. refl }) (rw (c.part_of_variant-p0.ensures.buffer, c.part_of_variant-p0.ensures.position, c.part_of_variant-p0.ensures.length) at c.in_ok-a0.ensures.read) no_part_read_back))
+read_entry_sub-returns-clause-read g t c = read_as (entry_sub_has_keys c.in-Ok.a0) (entry_sub_means c.in-Ok.a0) (variant_read_back entry_definitions entry_shape entry_name entry_variant_definitions entry_variants entry_has_variants 1 entry_sub_parts refl entry_sub_definitions refl _ _ _ c.requires.tag _ _ _ _ (part_read_back {L = (record { size = 4; align = 4 })} {ks = (dir_keys c.in-Ok.a0.value)} {ls = []} (record { solved = λ s k. refl }) (rw (c.part_of_variant-p0.ensures.buffer, c.part_of_variant-p0.ensures.position, c.part_of_variant-p0.ensures.length) at c.in-Ok.ensures.read) no_part_read_back))

@@ -1,5 +1,4 @@
 -- Written by tools/derive: change the declaration, and run it again.
-use Rattle.archive_core.proofs.Causes.{err_by}
 use Rattle.archive_core.proofs.ReadChoices.{variant_read_back, variant_refuses}
 use Rattle.archive_core.proofs.ReadRecords.{first_refuses}
 use Rattle.archive_core.specs.Definitions.{no_definition}
@@ -15,8 +14,8 @@ use Rattle.std.specs.Prelude.{[], refl, length}
 use mir.Val.{SFits}
 use Rattle.recursive_types.proofs.expr.read_expr_num.Goals as goal
 
-pub returns-in_err-a0-clause-refused : goal.returns-in_err-a0-clause-refused
-returns-in_err-a0-clause-refused g c = err_by c.from_residual.result c.in_err-a0.field-0.0 _ c.from_residual.ensures.1 (variant_refuses expr_definitions expr_shape expr_name expr_variant_definitions expr_variants expr_has_variants 0 expr_num_parts refl expr_num_definitions refl _ _ _ c.requires.tag _ _ (first_refuses no_definition no_definition (leaf (number_kind signed w64)) (record { size = 8; align = 8 }) (record { solved = λ s k. refl }) no_part _ _ 1 _ _ (rw (c.part_of_variant-p0.ensures.buffer, c.part_of_variant-p0.ensures.position, c.part_of_variant-p0.ensures.length) at c.in_err-a0.ensures.refused)))
+pub returns-in-Err-clause-refused : goal.returns-in-Err-clause-refused
+returns-in-Err-clause-refused g c = (variant_refuses expr_definitions expr_shape expr_name expr_variant_definitions expr_variants expr_has_variants 0 expr_num_parts refl expr_num_definitions refl _ _ _ c.requires.tag _ _ (first_refuses no_definition no_definition (leaf (number_kind signed w64)) (record { size = 8; align = 8 }) (record { solved = λ s k. refl }) no_part _ _ 1 _ _ (rw (c.part_of_variant-p0.ensures.buffer, c.part_of_variant-p0.ensures.position, c.part_of_variant-p0.ensures.length) at c.in-Err.ensures.refused)))
 
 pub returns-clause-read : goal.returns-clause-read
-returns-clause-read g c = (let fits_a0 : SFits w64 c.in_ok-a0.a0 = search rules in rw (to_z-of_z w64 c.in_ok-a0.a0 fits_a0) (read_as (expr_num_has_keys c.in_ok-a0.a0) (expr_num_means c.in_ok-a0.a0) (variant_read_back expr_definitions expr_shape expr_name expr_variant_definitions expr_variants expr_has_variants 0 expr_num_parts refl expr_num_definitions refl _ _ _ c.requires.tag _ _ _ _ (part_read_back {L = (record { size = 8; align = 8 })} {ks = []} {ls = []} (record { solved = λ s k. refl }) (rw (c.part_of_variant-p0.ensures.buffer, c.part_of_variant-p0.ensures.position, c.part_of_variant-p0.ensures.length) at c.in_ok-a0.ensures.read) no_part_read_back))))
+returns-clause-read g c = (let fits_a0 : SFits w64 c.in-Ok.a0 = search rules in rw (to_z-of_z w64 c.in-Ok.a0 fits_a0) (read_as (expr_num_has_keys c.in-Ok.a0) (expr_num_means c.in-Ok.a0) (variant_read_back expr_definitions expr_shape expr_name expr_variant_definitions expr_variants expr_has_variants 0 expr_num_parts refl expr_num_definitions refl _ _ _ c.requires.tag _ _ _ _ (part_read_back {L = (record { size = 8; align = 8 })} {ks = []} {ls = []} (record { solved = λ s k. refl }) (rw (c.part_of_variant-p0.ensures.buffer, c.part_of_variant-p0.ensures.position, c.part_of_variant-p0.ensures.length) at c.in-Ok.ensures.read) no_part_read_back))))
