@@ -1,4 +1,5 @@
-//! Calls of the library that wrong bodies are tried on, in a crate of its own, since each crate with wrong bodies is proved once more.
+//! Calls of the library, and derived types, that wrong bodies are tried on, in a crate of their own, since each crate with wrong bodies is proved once more.
 #![tactic(auto)]
 
 pub mod calls;
+pub mod turns;

@@ -1,4 +1,4 @@
-//! Tests of the types of derived_types, derived_plain and derived_turns, as a user's own, through public calls.
+//! Tests of the types of derived_types and derived_plain, and of the module turns of library_calls, as a user's own, through public calls.
 //! The bytes of each archive were worked out by hand, from docs/FORMAT.md.
 #![tactic(auto)]
 

@@ -3,7 +3,7 @@
 use crate::assertions::assert_same;
 use archive_core::place::Place;
 use archive_core::primitive::ArchivedU16;
-use derived_turns::turns::ArchivedTurn;
+use library_calls::turns::ArchivedTurn;
 
 #[test]
 fn a_variant_is_written_behind_its_tag(rt: HostRuntime) {

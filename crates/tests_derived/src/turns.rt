@@ -9,7 +9,7 @@ use crate::judgements::{assert_refused, unknown_tag};
 use archive_core::seal::Seal;
 use archive_core::traits::Portable;
 use archive_core::view::Ref;
-use derived_turns::turns::{
+use library_calls::turns::{
     ArchivedSteps, ArchivedTurn, Steps, StepsSeal, StepsView, Turn, TurnSeal, TurnView, ViewOfTurn,
 };
 use std::alloc::Global;

@@ -185,8 +185,8 @@ pub enum TurnResolver {
 }
 
 impl Archive for Turn {
-    ghost use Rattle.derived_turns.specs.declared.turns.Turn.TheVariants.{Left as TurnLeft, Right as TurnRight};
-    ghost use Rattle.derived_turns.specs.declared.turns.TurnResolver.TheVariants.{Left as TurnLeftKept, Right as TurnRightKept};
+    ghost use Rattle.library_calls.specs.declared.turns.Turn.TheVariants.{Left as TurnLeft, Right as TurnRight};
+    ghost use Rattle.library_calls.specs.declared.turns.TurnResolver.TheVariants.{Left as TurnLeftKept, Right as TurnRightKept};
 
     type Archived = ArchivedTurn;
 
@@ -305,7 +305,7 @@ impl<S: Writer + ResolverAlloc> Serialize<S> for Turn {
 
 /// As a region of its own: the value itself.
 impl ArchiveUnsized for Turn {
-    ghost use Rattle.derived_turns.specs.contracts.turns.TurnArchive.TheImpl.Laws.{keyed-law as keyed_of_turn, planned-law as planned_of_turn};
+    ghost use Rattle.library_calls.specs.contracts.turns.TurnArchive.TheImpl.Laws.{keyed-law as keyed_of_turn, planned-law as planned_of_turn};
 
     type Archived = ArchivedTurn;
 
@@ -387,7 +387,7 @@ pub trait TurnView<'a> {
 }
 
 impl<'a> TurnView<'a> for Ref<'a, ArchivedTurn> {
-    ghost use Rattle.derived_turns.specs.declared.turns.ViewOfTurn.TheVariants.{Left as TurnLeftShown, Right as TurnRightShown};
+    ghost use Rattle.library_calls.specs.declared.turns.ViewOfTurn.TheVariants.{Left as TurnLeftShown, Right as TurnRightShown};
 
     fn variant(self) -> ViewOfTurn<'a>
         ensures shows { elim result [
@@ -668,7 +668,7 @@ impl<S: Writer + ResolverAlloc> Serialize<S> for Steps {
 
 /// As a region of its own: the value itself.
 impl ArchiveUnsized for Steps {
-    ghost use Rattle.derived_turns.specs.contracts.turns.StepsArchive.TheImpl.Laws.{keyed-law as keyed_of_steps, planned-law as planned_of_steps};
+    ghost use Rattle.library_calls.specs.contracts.turns.StepsArchive.TheImpl.Laws.{keyed-law as keyed_of_steps, planned-law as planned_of_steps};
 
     type Archived = ArchivedSteps;
 

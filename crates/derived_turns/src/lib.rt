@@ -1,4 +1,0 @@
-//! Derived types that wrong bodies are tried on, in a crate of its own, since each crate with wrong bodies is proved once more.
-#![tactic(auto)]
-
-pub mod turns;
