@@ -103,7 +103,7 @@ class Recursive(RepositoryTest):
         self.assertEqual(self.run_command(path), (0, ""))
         text = self.text(path)
         self.assertIn("fn read_vec_pair_i32_u8_of_setting<D: Entries>(", text)
-        self.assertIn("let a0 = read_vec_pair_i32_u8_of_setting(alloc, p0, deserializer)?;", text)
+        self.assertIn("let a0 = match read_vec_pair_i32_u8_of_setting(alloc, p0, deserializer) {", text)
         self.assertEqual(text.count("fn read_option_vec_pair_u8_string_of_setting<"), 1)
         self.assertIn("(vec (parts (part (leaf (number_kind signed w32)) (part (leaf (number_kind unsigned w8)) no_part))))", self.beside("specs", "SettingShape.antt"))
 
@@ -294,7 +294,7 @@ class Recursive(RepositoryTest):
         text, shape = self.text(path), self.beside("specs", "MemberShape.antt")
         self.assertIn("kept: (<String as Archive>::Resolver, (JsonResolver, ()))", text)
         self.assertIn("resolve_named_record_2::<String, Json, ArchivedMember>(", text)
-        self.assertIn("let a1 = read_json(alloc, p1, deserializer)?;", text)
+        self.assertIn("let a1 = match read_json(alloc, p1, deserializer) {", text)
         self.assertLess(shape.index("pub json_has_layout"), shape.index("pub member_type_has_layout"))
         self.assertIn("(part_laid_out member_type_definitions no_definition json_shape (record { size = 12; align = 4 }) json_has_layout no_part", shape)
         invariants = self.beside("proofs", "types", "+read_member_type", "Invariants.antt")
@@ -380,4 +380,4 @@ class Recursive(RepositoryTest):
 
     def test_a_number_with_a_sign_is_read_as_it_was(self):
         self.run_command(self.put(TREE))
-        self.assertIn("to_z-of_z w64 c.in_ok-a0.a0", self.beside("proofs", "types", "+read_tree", "Answers.antt"))
+        self.assertIn("to_z-of_z w64 c.in-Ok.a0", self.beside("proofs", "types", "+read_tree", "Answers.antt"))
