@@ -7,8 +7,7 @@ use Rattle.archive_core.specs.LeafLayout.{no_definition_reached}
 use Rattle.archive_core.specs.NamedLayout.{name_has_layout, name_reached}
 use Rattle.archive_core.specs.NoOthers.{no_parts_reached, part_reached}
 use Rattle.archive_core.specs.PartsLayout.{IsRecord, knows_none, is_record, no_part_laid_out, part_laid_out, record_has_layout}
-use Rattle.archive_core.specs.ResultShapes.{result_shape}
-use Rattle.archive_core.specs.Shape.{Name, Shape, Parts, Variants, named, choice, parts, boxed, vec, sorted_map, str, one, leaf, unit, bool, non_zero, unsigned, signed, leaf_key, part, no_part, variant, no_variant, number as number_kind}
+use Rattle.archive_core.specs.Shape.{Name, Shape, Parts, Variants, named, choice, parts, vec, sorted_map, str, leaf, unsigned, signed, leaf_key, part, no_part, variant, no_variant, number as number_kind}
 use Rattle.archive_core.specs.VariantsLayout.{IsChoice, is_recursive_choice}
 use Rattle.std.proofs.Common.{inl, inr}
 use Rattle.std.specs.Int.{w8, w16}
@@ -26,20 +25,17 @@ tuple3_string_note_option_string_parts = (part str (part note_shape (part (optio
 abbrev pub tuple3_string_note_option_string_shape : Shape
 tuple3_string_note_option_string_shape = parts tuple3_string_note_option_string_parts
 
-abbrev pub note_texts_parts : Parts
-note_texts_parts = (part (vec str) (part (option_shape str) no_part))
+abbrev pub note_text_parts : Parts
+note_text_parts = (part str no_part)
 
 abbrev pub note_work_parts : Parts
-note_work_parts = (part (sorted_map (leaf_key (number_kind unsigned w16)) (leaf (number_kind signed w8))) (part (leaf (non_zero unsigned w8)) (part (boxed (one (leaf (number_kind unsigned w8)))) no_part)))
-
-abbrev pub note_outcome_parts : Parts
-note_outcome_parts = (part (leaf bool) (part (leaf unit) (part (result_shape (leaf (number_kind unsigned w8)) str) no_part)))
+note_work_parts = (part (sorted_map (leaf_key (number_kind unsigned w16)) (leaf (number_kind signed w8))) no_part)
 
 abbrev pub note_table_parts : Parts
 note_table_parts = (part (vec tuple3_string_note_option_string_shape) no_part)
 
 abbrev pub note_variants : Variants
-note_variants = (variant note_texts_parts (variant note_work_parts (variant note_outcome_parts (variant note_table_parts no_variant))))
+note_variants = (variant note_text_parts (variant note_work_parts (variant note_table_parts no_variant)))
 
 abbrev pub note_stands_for : Shape
 note_stands_for = choice note_name note_variants
@@ -48,7 +44,7 @@ abbrev pub note_definitions : Definitions
 note_definitions = defines note_name note_stands_for
 
 abbrev pub note_layout : Layout
-note_layout = record { size = 24; align = 4 }
+note_layout = record { size = 12; align = 4 }
 
 pub note_is_align : IsAlign 4
 note_is_align = inr (inr (inl refl))
@@ -62,29 +58,26 @@ note_no_others = name_reached note_name note_stands_for
 abbrev pub tuple3_string_note_option_string_definitions : Definitions
 tuple3_string_note_option_string_definitions = (both no_definition (both note_definitions (both no_definition no_definition)))
 
-abbrev pub note_texts_definitions : Definitions
-note_texts_definitions = (both no_definition (both no_definition no_definition))
+abbrev pub note_text_definitions : Definitions
+note_text_definitions = (both no_definition no_definition)
 
 abbrev pub note_work_definitions : Definitions
-note_work_definitions = (both (both no_definition (both no_definition no_definition)) (both no_definition (both no_definition no_definition)))
-
-abbrev pub note_outcome_definitions : Definitions
-note_outcome_definitions = (both no_definition (both no_definition (both (both no_definition no_definition) no_definition)))
+note_work_definitions = (both (both no_definition (both no_definition no_definition)) no_definition)
 
 abbrev pub note_table_definitions : Definitions
 note_table_definitions = (both tuple3_string_note_option_string_definitions no_definition)
 
 abbrev pub note_variant_definitions : Definitions
-note_variant_definitions = (both note_texts_definitions (both note_work_definitions (both note_outcome_definitions (both note_table_definitions no_definition))))
+note_variant_definitions = (both note_text_definitions (both note_work_definitions (both note_table_definitions no_definition)))
 
 abbrev pub tuple3_string_note_option_string_layout : Layout
-tuple3_string_note_option_string_layout = record { size = 44; align = 4 }
+tuple3_string_note_option_string_layout = record { size = 32; align = 4 }
 
 pub tuple3_string_note_option_string_is_align : IsAlign 4
 tuple3_string_note_option_string_is_align = inr (inr (inl refl))
 
 pub tuple3_string_note_option_string_has_layout : HasLayout tuple3_string_note_option_string_definitions tuple3_string_note_option_string_shape tuple3_string_note_option_string_layout
-tuple3_string_note_option_string_has_layout = record_has_layout tuple3_string_note_option_string_definitions tuple3_string_note_option_string_parts _ _ _ (part_laid_out no_definition (both note_definitions (both no_definition no_definition)) str (record { size = 8; align = 4 }) (record { solved = λ s k. refl }) (part note_shape (part (option_shape str) no_part)) _ _ _ (part_laid_out note_definitions (both no_definition no_definition) note_shape (record { size = 24; align = 4 }) note_has_layout (part (option_shape str) no_part) _ _ _ (part_laid_out no_definition no_definition (option_shape str) (record { size = 12; align = 4 }) (record { solved = λ s k. refl }) no_part _ _ _ no_part_laid_out)))
+tuple3_string_note_option_string_has_layout = record_has_layout tuple3_string_note_option_string_definitions tuple3_string_note_option_string_parts _ _ _ (part_laid_out no_definition (both note_definitions (both no_definition no_definition)) str (record { size = 8; align = 4 }) (record { solved = λ s k. refl }) (part note_shape (part (option_shape str) no_part)) _ _ _ (part_laid_out note_definitions (both no_definition no_definition) note_shape (record { size = 12; align = 4 }) note_has_layout (part (option_shape str) no_part) _ _ _ (part_laid_out no_definition no_definition (option_shape str) (record { size = 12; align = 4 }) (record { solved = λ s k. refl }) no_part _ _ _ no_part_laid_out)))
 
 pub tuple3_string_note_option_string_no_others : NoOthers tuple3_string_note_option_string_definitions tuple3_string_note_option_string_shape
 tuple3_string_note_option_string_no_others = (part_reached no_definition (both note_definitions (both no_definition no_definition)) str (part note_shape (part (option_shape str) no_part)) (no_definition_reached str) (part_reached note_definitions (both no_definition no_definition) note_shape (part (option_shape str) no_part) note_no_others (part_reached no_definition no_definition (option_shape str) no_part (no_definition_reached (option_shape str)) no_parts_reached)))
@@ -93,4 +86,4 @@ pub tuple3_string_note_option_string_has_parts : IsRecord tuple3_string_note_opt
 tuple3_string_note_option_string_has_parts = is_record tuple3_string_note_option_string_definitions tuple3_string_note_option_string_parts
 
 pub note_has_variants : IsChoice note_definitions note_shape note_name note_variant_definitions note_variants
-note_has_variants = is_recursive_choice note_name note_variant_definitions note_variants (λ s k. (knows_both s _ _ (knows_both s _ _ (knows_none s k.laid_out) (knows_both s _ _ (knows_none s k.laid_out) (knows_none s k.laid_out))) (knows_both s _ _ (knows_both s _ _ (knows_both s _ _ (knows_none s k.laid_out) (knows_both s _ _ (knows_none s k.laid_out) (knows_none s k.laid_out))) (knows_both s _ _ (knows_none s k.laid_out) (knows_both s _ _ (knows_none s k.laid_out) (knows_none s k.laid_out)))) (knows_both s _ _ (knows_both s _ _ (knows_none s k.laid_out) (knows_both s _ _ (knows_none s k.laid_out) (knows_both s _ _ (knows_both s _ _ (knows_none s k.laid_out) (knows_none s k.laid_out)) (knows_none s k.laid_out)))) (knows_both s _ _ (knows_both s _ _ (knows_both s _ _ (knows_none s k.laid_out) (knows_both s _ _ k (knows_both s _ _ (knows_none s k.laid_out) (knows_none s k.laid_out)))) (knows_none s k.laid_out)) (knows_none s k.laid_out))))))
+note_has_variants = is_recursive_choice note_name note_variant_definitions note_variants (λ s k. (knows_both s _ _ (knows_both s _ _ (knows_none s k.laid_out) (knows_none s k.laid_out)) (knows_both s _ _ (knows_both s _ _ (knows_both s _ _ (knows_none s k.laid_out) (knows_both s _ _ (knows_none s k.laid_out) (knows_none s k.laid_out))) (knows_none s k.laid_out)) (knows_both s _ _ (knows_both s _ _ (knows_both s _ _ (knows_none s k.laid_out) (knows_both s _ _ k (knows_both s _ _ (knows_none s k.laid_out) (knows_none s k.laid_out)))) (knows_none s k.laid_out)) (knows_none s k.laid_out)))))

@@ -1,17 +1,14 @@
-//! Notes: a recursive enum with fields of many kinds, and with tuples that lead back to it, in the manner of JSON.
+//! Notes: a recursive enum with a map, and with tuples that lead back to it, in the manner of JSON.
 
-use archive_core::primitive::ArchivedNonZeroU8;
 use std::collections::BTreeMap;
 
 /// What was noted.
 #[derive(Drop)]
 pub enum Note {
-    /// Texts, and who wrote them.
-    Texts(Vec<String>, Option<String>),
-    /// Hours of work, by the day; how soon it is to be done, and by how many.
-    Work(BTreeMap<u16, i8>, ArchivedNonZeroU8, Box<u8>),
-    /// Whether it is done, and nothing of when; what came of it, or why nothing did.
-    Outcome(bool, (), Result<u8, String>),
+    /// A text.
+    Text(String),
+    /// Hours of work, by the day.
+    Work(BTreeMap<u16, i8>),
     /// Notes with names, and who wrote each, if that is known.
     Table(Vec<(String, Note, Option<String>)>),
 }
@@ -35,25 +32,22 @@ ghost use Rattle.archive_core.specs.Value.{case, list, no_value, value};
 ghost use Rattle.archive_core.specs.Writing.{ZeroedPlace};
 ghost use Rattle.archive_core.specs.Written.{GoesOn};
 ghost use Rattle.recursive_fields.specs.NoteMeaning.{tuple3_string_note_option_string_keys, tuple3_string_note_option_string_meaning};
-ghost use Rattle.recursive_fields.specs.NoteShape.{note_definitions, note_has_layout, note_has_variants, note_is_align, note_layout, note_name, note_no_others, note_outcome_parts, note_shape, note_table_parts, note_texts_parts, note_variants, note_work_parts, tuple3_string_note_option_string_definitions, tuple3_string_note_option_string_has_layout, tuple3_string_note_option_string_has_parts, tuple3_string_note_option_string_is_align, tuple3_string_note_option_string_layout, tuple3_string_note_option_string_no_others, tuple3_string_note_option_string_parts, tuple3_string_note_option_string_shape};
+ghost use Rattle.recursive_fields.specs.NoteShape.{note_definitions, note_has_layout, note_has_variants, note_is_align, note_layout, note_name, note_no_others, note_shape, note_table_parts, note_text_parts, note_variants, note_work_parts, tuple3_string_note_option_string_definitions, tuple3_string_note_option_string_has_layout, tuple3_string_note_option_string_has_parts, tuple3_string_note_option_string_is_align, tuple3_string_note_option_string_layout, tuple3_string_note_option_string_no_others, tuple3_string_note_option_string_parts, tuple3_string_note_option_string_shape};
 ghost use Rattle.std.proofs.Common.{lit≤};
 ghost use Rattle.std.specs.Prelude.{IfErr, IfOk, None, [], length, refl, ℕ, ◌++◌, ◌+◌, ◌≡◌, ◌≤◌};
 
-use archive_core::boxed::ArchivedBox;
 use archive_core::core_impls::ArchivedTuple3;
 use archive_core::error::Error;
 use archive_core::map::ArchivedSortedMap;
 use archive_core::option::ArchivedOption;
 use archive_core::place::Place;
-use archive_core::primitive::{ArchivedU16, NonZero};
+use archive_core::primitive::ArchivedU16;
 use archive_core::recursive::{
     VecAt, before_vec, define_choice, expression_of, first_expression, first_variant, handed_on,
     named_expression, no_expressions, no_variants, part_of_record, part_of_variant, read_part,
-    record_expression, resolve_named_case_1, resolve_named_case_2, resolve_named_case_3,
-    seal_of_payload, serialize_inner_slice, serialize_part, tag_of_choice, tag_of_view,
-    vec_expression, view_of_payload,
+    record_expression, resolve_named_case_1, seal_of_payload, serialize_inner_slice, serialize_part,
+    tag_of_choice, tag_of_view, vec_expression, view_of_payload,
 };
-use archive_core::result::ArchivedResult;
 use archive_core::seal::Seal;
 use archive_core::self_check::BySchema;
 use archive_core::ser::{ResolverAlloc, Writer, serialize_one};
@@ -67,27 +61,16 @@ use archive_core::vec::{ArchivedVec, VecResolver};
 use archive_core::view::{RawView, Ref};
 use std::alloc::{AllocError, Global};
 
-/// An archived `Note`: 24 bytes at a multiple of 4. It is validated by its schema.
+/// An archived `Note`: 12 bytes at a multiple of 4. It is validated by its schema.
 pub struct ArchivedNote;
 
-type NoteTextsParts = (
-    ArchivedVec<ArchivedString>,
-    (ArchivedOption<ArchivedString>, ()),
-);
+type NoteTextParts = (ArchivedString, ());
 
-type NoteWorkParts = (
-    ArchivedSortedMap<ArchivedU16, i8>,
-    (NonZero<u8>, (ArchivedBox<u8>, ())),
-);
-
-type NoteOutcomeParts = (bool, ((), (ArchivedResult<u8, ArchivedString>, ())));
+type NoteWorkParts = (ArchivedSortedMap<ArchivedU16, i8>, ());
 
 type NoteTableParts = (ArchivedVec<Tuple3StringNoteOptionString>, ());
 
-type NoteVariants = (
-    NoteTextsParts,
-    (NoteWorkParts, (NoteOutcomeParts, (NoteTableParts, ()))),
-);
+type NoteVariants = (NoteTextParts, (NoteWorkParts, (NoteTableParts, ())));
 
 impl ArchivePointee for ArchivedNote {
     type ArchivedMetadata = ();
@@ -143,7 +126,7 @@ impl Portable for Tuple3StringNoteOptionString {
     ghost checks = { λ direct. by_schema direct };
 
     fn size() -> usize {
-        44
+        32
     }
 
     fn align() -> usize {
@@ -182,42 +165,23 @@ fn tuple3_string_note_option_string_expressions(
     first_expression(expression_of::<ArchivedString>(alloc), rest1)
 }
 
-// The parts of `Texts`.
-fn note_texts_expressions(alloc: Global) -> Result<Vec<archive_core::shape::Expr>, AllocError>
-    ensures { ExpressesParts note_texts_parts result }
+// The parts of `Text`.
+fn note_text_expressions(alloc: Global) -> Result<Vec<archive_core::shape::Expr>, AllocError>
+    ensures { ExpressesParts note_text_parts result }
 {
-    let rest2 = no_expressions(alloc);
-    let rest1 = first_expression(
-        expression_of::<ArchivedOption<ArchivedString>>(alloc),
-        rest2,
-    );
-    first_expression(expression_of::<ArchivedVec<ArchivedString>>(alloc), rest1)
+    let rest1 = no_expressions(alloc);
+    first_expression(expression_of::<ArchivedString>(alloc), rest1)
 }
 
 // The parts of `Work`.
 fn note_work_expressions(alloc: Global) -> Result<Vec<archive_core::shape::Expr>, AllocError>
     ensures { ExpressesParts note_work_parts result }
 {
-    let rest3 = no_expressions(alloc);
-    let rest2 = first_expression(expression_of::<ArchivedBox<u8>>(alloc), rest3);
-    let rest1 = first_expression(expression_of::<NonZero<u8>>(alloc), rest2);
+    let rest1 = no_expressions(alloc);
     first_expression(
         expression_of::<ArchivedSortedMap<ArchivedU16, i8>>(alloc),
         rest1,
     )
-}
-
-// The parts of `Outcome`.
-fn note_outcome_expressions(alloc: Global) -> Result<Vec<archive_core::shape::Expr>, AllocError>
-    ensures { ExpressesParts note_outcome_parts result }
-{
-    let rest3 = no_expressions(alloc);
-    let rest2 = first_expression(
-        expression_of::<ArchivedResult<u8, ArchivedString>>(alloc),
-        rest3,
-    );
-    let rest1 = first_expression(expression_of::<()>(alloc), rest2);
-    first_expression(expression_of::<bool>(alloc), rest1)
 }
 
 // The parts of `Table`.
@@ -238,11 +202,10 @@ fn note_table_expressions(alloc: Global) -> Result<Vec<archive_core::shape::Expr
 fn note_expressions(alloc: Global) -> Result<Vec<Vec<archive_core::shape::Expr>>, AllocError>
     ensures { ExpressesVariants note_variants result }
 {
-    let rest4 = no_variants(alloc);
-    let rest3 = first_variant(note_table_expressions(alloc), rest4);
-    let rest2 = first_variant(note_outcome_expressions(alloc), rest3);
+    let rest3 = no_variants(alloc);
+    let rest2 = first_variant(note_table_expressions(alloc), rest3);
     let rest1 = first_variant(note_work_expressions(alloc), rest2);
-    first_variant(note_texts_expressions(alloc), rest1)
+    first_variant(note_text_expressions(alloc), rest1)
 }
 
 impl Portable for ArchivedNote {
@@ -263,7 +226,7 @@ impl Portable for ArchivedNote {
     ghost checks = { λ direct. by_schema direct };
 
     fn size() -> usize {
-        24
+        12
     }
 
     fn align() -> usize {
@@ -292,33 +255,10 @@ impl Choice for ArchivedNote {
 /// What is kept of `Note` between `serialize` and `resolve`.
 #[derive(Drop)]
 pub enum NoteResolver {
-    /// Of `Texts`.
-    Texts(
-        (
-            <Vec<String> as Archive>::Resolver,
-            (<Option<String> as Archive>::Resolver, ()),
-        ),
-    ),
+    /// Of `Text`.
+    Text((<String as Archive>::Resolver, ())),
     /// Of `Work`.
-    Work(
-        (
-            <BTreeMap<u16, i8> as Archive>::Resolver,
-            (
-                <ArchivedNonZeroU8 as Archive>::Resolver,
-                (<Box<u8> as Archive>::Resolver, ()),
-            ),
-        ),
-    ),
-    /// Of `Outcome`.
-    Outcome(
-        (
-            <bool as Archive>::Resolver,
-            (
-                <() as Archive>::Resolver,
-                (<Result<u8, String> as Archive>::Resolver, ()),
-            ),
-        ),
-    ),
+    Work((<BTreeMap<u16, i8> as Archive>::Resolver, ())),
     /// Of `Table`.
     Table((VecResolver, ())),
 }
@@ -350,47 +290,26 @@ impl Archive for Note {
         resolver: Self::Resolver,
         place: Place<'_, Self::Archived>,
     ) -> Result<(), Error>
-        requires zeroed { ZeroedPlace 24 place.pos place.bytes.now }
+        requires zeroed { ZeroedPlace 12 place.pos place.bytes.now }
         requires same_value { ⟦<Self as Archive>⟧.belongs self.now resolver }
         ensures { ResolvesAs ⟦<Self::Archived as Portable>⟧ place
             (⟦<Self as Archive>⟧.flat self.now resolver) result }
     {
         let Place { bytes, pos, .. } = place;
         match self {
-            Note::Texts(a0, a1) => {
-                let NoteResolver::Texts(kept) = resolver else {
+            Note::Text(a0) => {
+                let NoteResolver::Text(kept) = resolver else {
                     unreachable!();
                 };
-                resolve_named_case_2::<Vec<String>, Option<String>, ArchivedNote>(
-                    0,
-                    a0,
-                    a1,
-                    kept,
-                    Place::new(pos, bytes),
-                )
+                resolve_named_case_1::<String, ArchivedNote>(0, a0, kept, Place::new(pos, bytes))
             }
-            Note::Work(a0, a1, a2) => {
+            Note::Work(a0) => {
                 let NoteResolver::Work(kept) = resolver else {
                     unreachable!();
                 };
-                resolve_named_case_3::<BTreeMap<u16, i8>, ArchivedNonZeroU8, Box<u8>, ArchivedNote>(
+                resolve_named_case_1::<BTreeMap<u16, i8>, ArchivedNote>(
                     1,
                     a0,
-                    a1,
-                    a2,
-                    kept,
-                    Place::new(pos, bytes),
-                )
-            }
-            Note::Outcome(a0, a1, a2) => {
-                let NoteResolver::Outcome(kept) = resolver else {
-                    unreachable!();
-                };
-                resolve_named_case_3::<bool, (), Result<u8, String>, ArchivedNote>(
-                    2,
-                    a0,
-                    a1,
-                    a2,
                     kept,
                     Place::new(pos, bytes),
                 )
@@ -401,7 +320,7 @@ impl Archive for Note {
                 };
                 let h0: VecAt<Tuple3StringNoteOptionString> = VecAt::of(a0.len());
                 resolve_named_case_1::<VecAt<Tuple3StringNoteOptionString>, ArchivedNote>(
-                    3,
+                    2,
                     &h0,
                     kept,
                     Place::new(pos, bytes),
@@ -427,10 +346,7 @@ impl Archive for Note {
 
 // Writes what each of the values owns, in order.
 #[cycle(serialize_note)]
-fn serialize_each_tuple3_string_note_option_string<S: Writer + Keys + ResolverAlloc>(
-    values: &[(String, Note, Option<String>)],
-    serializer: &mut S,
-) -> Result<Vec<<(String, Note, Option<String>) as Archive>::Resolver, S::Alloc>, Error>
+fn serialize_each_tuple3_string_note_option_string<S: Writer + Keys + ResolverAlloc>(values: &[(String, Note, Option<String>)], serializer: &mut S) -> Result<Vec<<(String, Note, Option<String>) as Archive>::Resolver, S::Alloc>, Error>
     ensures serialized { IfOk result (λ rs. SerializedRun
         tuple3_string_note_option_string_definitions tuple3_string_note_option_string_shape
         (length values.now) (each_keys ⟦<(String, Note, Option<String>) as Archive>⟧.keys
@@ -461,26 +377,22 @@ fn serialize_each_tuple3_string_note_option_string<S: Writer + Keys + ResolverAl
             Ok(a2) => a2,
             Err(error) => return Err(error),
         };
-        resolvers
-            .push((a0, (a1, (a2, ()))))
-            .map_err(AllocError::from)?;
+        resolvers.push((a0, (a1, (a2, ())))).map_err(AllocError::from)?;
     }
     Ok(resolvers)
 }
 
 // Writes what a vector owns.
 #[cycle(serialize_note)]
-fn serialize_vec_tuple3_string_note_option_string<S: Writer + Keys + ResolverAlloc>(
-    value: &Vec<(String, Note, Option<String>)>,
-    serializer: &mut S,
-) -> Result<VecResolver, Error>
+fn serialize_vec_tuple3_string_note_option_string<S: Writer + Keys + ResolverAlloc>(value: &Vec<(String, Note, Option<String>)>, serializer: &mut S) -> Result<VecResolver, Error>
     ensures serialized { IfOk result (λ r. Serialized tuple3_string_note_option_string_definitions
         (vec tuple3_string_note_option_string_shape)
         (⟦<Vec<(String, Note, Option<String>)> as Archive>⟧.keys value.now)
         (⟦<Vec<(String, Note, Option<String>)> as Archive>⟧.meaning value.now)
         (⟦<Vec<(String, Note, Option<String>)> as Archive>⟧.flat value.now r)
         (S.state serializer.old) (S.state serializer.new)) }
-    ensures same_value { IfOk result (λ r. ⟦<Vec<(String, Note, Option<String>)> as Archive>⟧.belongs
+    ensures
+        same_value { IfOk result (λ r. ⟦<Vec<(String, Note, Option<String>)> as Archive>⟧.belongs
         value.now r) }
     ensures goes_on { GoesOn (S.state serializer.old) (S.state serializer.new) }
     ensures refused { IfErr result (IsRefused tuple3_string_note_option_string_definitions
@@ -503,149 +415,53 @@ fn serialize_vec_tuple3_string_note_option_string<S: Writer + Keys + ResolverAll
     }
 }
 
-// Writes what the parts of `Texts` own, in order.
-fn serialize_note_texts<S: Writer + Keys + ResolverAlloc>(
-    a0: &Vec<String>,
-    a1: &Option<String>,
+// Writes what the parts of `Text` own, in order.
+fn serialize_note_text<S: Writer + Keys + ResolverAlloc>(
+    a0: &String,
     serializer: &mut S,
-) -> Result<
-    (
-        <Vec<String> as Archive>::Resolver,
-        (<Option<String> as Archive>::Resolver, ()),
-    ),
-    Error,
->
+) -> Result<(<String as Archive>::Resolver, ()), Error>
     ensures serialized { IfOk result (λ r. Serialized note_definitions note_shape
-        (⟦<Vec<String> as Archive>⟧.keys a0.now ++ (⟦<Option<String> as Archive>⟧.keys a1.now
-        ++ [])) (case 0 (value (⟦<Vec<String> as Archive>⟧.meaning a0.now)
-        (value (⟦<Option<String> as Archive>⟧.meaning a1.now) no_value)))
-        (case 0 (value (⟦<Vec<String> as Archive>⟧.flat a0.now r.0)
-        (value (⟦<Option<String> as Archive>⟧.flat a1.now r.1.0) no_value)))
-        (S.state serializer.old) (S.state serializer.new)) }
-    ensures same_values { IfOk result (λ r. ⟦<Vec<String> as Archive>⟧.belongs a0.now r.0
-        × (⟦<Option<String> as Archive>⟧.belongs a1.now r.1.0 × Unit {0})) }
+        (⟦<String as Archive>⟧.keys a0.now ++ []) (case 0
+        (value (⟦<String as Archive>⟧.meaning a0.now) no_value))
+        (case 0 (value (⟦<String as Archive>⟧.flat a0.now r.0) no_value)) (S.state serializer.old)
+        (S.state serializer.new)) }
+    ensures same_values { IfOk result (λ r. ⟦<String as Archive>⟧.belongs a0.now r.0 × Unit {0}) }
     ensures goes_on { GoesOn (S.state serializer.old) (S.state serializer.new) }
     ensures refused { IfErr result (IsRefused note_definitions note_shape
-        (⟦<Vec<String> as Archive>⟧.keys a0.now ++ (⟦<Option<String> as Archive>⟧.keys a1.now
-        ++ [])) (case 0 (value (⟦<Vec<String> as Archive>⟧.meaning a0.now)
-        (value (⟦<Option<String> as Archive>⟧.meaning a1.now) no_value))) (S.state serializer.old)
+        (⟦<String as Archive>⟧.keys a0.now ++ []) (case 0
+        (value (⟦<String as Archive>⟧.meaning a0.now) no_value)) (S.state serializer.old)
         (S.state serializer.new)) }
 {
     let a0 = match serialize_part(a0, serializer) {
         Ok(a0) => a0,
         Err(error) => return Err(error),
     };
-    let a1 = match serialize_part(a1, serializer) {
-        Ok(a1) => a1,
-        Err(error) => return Err(error),
-    };
-    Ok((a0, (a1, ())))
+    Ok((a0, ()))
 }
 
 // Writes what the parts of `Work` own, in order.
 fn serialize_note_work<S: Writer + Keys + ResolverAlloc>(
     a0: &BTreeMap<u16, i8>,
-    a1: &ArchivedNonZeroU8,
-    a2: &Box<u8>,
     serializer: &mut S,
-) -> Result<
-    (
-        <BTreeMap<u16, i8> as Archive>::Resolver,
-        (
-            <ArchivedNonZeroU8 as Archive>::Resolver,
-            (<Box<u8> as Archive>::Resolver, ()),
-        ),
-    ),
-    Error,
->
+) -> Result<(<BTreeMap<u16, i8> as Archive>::Resolver, ()), Error>
     ensures serialized { IfOk result (λ r. Serialized note_definitions note_shape
-        (⟦<BTreeMap<u16, i8> as Archive>⟧.keys a0.now ++ (⟦<ArchivedNonZeroU8 as Archive>⟧.keys
-        a1.now ++ (⟦<Box<u8> as Archive>⟧.keys a2.now ++ [])))
-        (case 1 (value (⟦<BTreeMap<u16, i8> as Archive>⟧.meaning a0.now)
-        (value (⟦<ArchivedNonZeroU8 as Archive>⟧.meaning a1.now)
-        (value (⟦<Box<u8> as Archive>⟧.meaning a2.now) no_value))))
-        (case 1 (value (⟦<BTreeMap<u16, i8> as Archive>⟧.flat a0.now r.0)
-        (value (⟦<ArchivedNonZeroU8 as Archive>⟧.flat a1.now r.1.0)
-        (value (⟦<Box<u8> as Archive>⟧.flat a2.now r.1.1.0) no_value)))) (S.state serializer.old)
-        (S.state serializer.new)) }
-    ensures same_values { IfOk result (λ r. ⟦<BTreeMap<u16, i8> as Archive>⟧.belongs a0.now r.0
-        × (⟦<ArchivedNonZeroU8 as Archive>⟧.belongs a1.now r.1.0
-        × (⟦<Box<u8> as Archive>⟧.belongs a2.now r.1.1.0 × Unit {0}))) }
-    ensures goes_on { GoesOn (S.state serializer.old) (S.state serializer.new) }
-    ensures refused { IfErr result (IsRefused note_definitions note_shape
-        (⟦<BTreeMap<u16, i8> as Archive>⟧.keys a0.now ++ (⟦<ArchivedNonZeroU8 as Archive>⟧.keys
-        a1.now ++ (⟦<Box<u8> as Archive>⟧.keys a2.now ++ [])))
-        (case 1 (value (⟦<BTreeMap<u16, i8> as Archive>⟧.meaning a0.now)
-        (value (⟦<ArchivedNonZeroU8 as Archive>⟧.meaning a1.now)
-        (value (⟦<Box<u8> as Archive>⟧.meaning a2.now) no_value)))) (S.state serializer.old)
-        (S.state serializer.new)) }
-{
-    let a0 = match serialize_part(a0, serializer) {
-        Ok(a0) => a0,
-        Err(error) => return Err(error),
-    };
-    let a1 = match serialize_part(a1, serializer) {
-        Ok(a1) => a1,
-        Err(error) => return Err(error),
-    };
-    let a2 = match serialize_part(a2, serializer) {
-        Ok(a2) => a2,
-        Err(error) => return Err(error),
-    };
-    Ok((a0, (a1, (a2, ()))))
-}
-
-// Writes what the parts of `Outcome` own, in order.
-fn serialize_note_outcome<S: Writer + Keys + ResolverAlloc>(
-    a0: &bool,
-    a1: &(),
-    a2: &Result<u8, String>,
-    serializer: &mut S,
-) -> Result<
-    (
-        <bool as Archive>::Resolver,
-        (
-            <() as Archive>::Resolver,
-            (<Result<u8, String> as Archive>::Resolver, ()),
-        ),
-    ),
-    Error,
->
-    ensures serialized { IfOk result (λ r. Serialized note_definitions note_shape
-        (⟦<bool as Archive>⟧.keys a0.now ++ (⟦<() as Archive>⟧.keys a1.now
-        ++ (⟦<Result<u8, String> as Archive>⟧.keys a2.now ++ [])))
-        (case 2 (value (⟦<bool as Archive>⟧.meaning a0.now)
-        (value (⟦<() as Archive>⟧.meaning a1.now) (value
-        (⟦<Result<u8, String> as Archive>⟧.meaning a2.now) no_value))))
-        (case 2 (value (⟦<bool as Archive>⟧.flat a0.now r.0)
-        (value (⟦<() as Archive>⟧.flat a1.now r.1.0) (value
-        (⟦<Result<u8, String> as Archive>⟧.flat a2.now r.1.1.0) no_value))))
+        (⟦<BTreeMap<u16, i8> as Archive>⟧.keys a0.now ++ [])
+        (case 1 (value (⟦<BTreeMap<u16, i8> as Archive>⟧.meaning a0.now) no_value))
+        (case 1 (value (⟦<BTreeMap<u16, i8> as Archive>⟧.flat a0.now r.0) no_value))
         (S.state serializer.old) (S.state serializer.new)) }
-    ensures same_values { IfOk result (λ r. ⟦<bool as Archive>⟧.belongs a0.now r.0
-        × (⟦<() as Archive>⟧.belongs a1.now r.1.0 × (⟦<Result<u8, String> as Archive>⟧.belongs
-        a2.now r.1.1.0 × Unit {0}))) }
+    ensures same_values { IfOk result (λ r. ⟦<BTreeMap<u16, i8> as Archive>⟧.belongs a0.now r.0
+        × Unit {0}) }
     ensures goes_on { GoesOn (S.state serializer.old) (S.state serializer.new) }
     ensures refused { IfErr result (IsRefused note_definitions note_shape
-        (⟦<bool as Archive>⟧.keys a0.now ++ (⟦<() as Archive>⟧.keys a1.now
-        ++ (⟦<Result<u8, String> as Archive>⟧.keys a2.now ++ [])))
-        (case 2 (value (⟦<bool as Archive>⟧.meaning a0.now)
-        (value (⟦<() as Archive>⟧.meaning a1.now) (value
-        (⟦<Result<u8, String> as Archive>⟧.meaning a2.now) no_value)))) (S.state serializer.old)
-        (S.state serializer.new)) }
+        (⟦<BTreeMap<u16, i8> as Archive>⟧.keys a0.now ++ [])
+        (case 1 (value (⟦<BTreeMap<u16, i8> as Archive>⟧.meaning a0.now) no_value))
+        (S.state serializer.old) (S.state serializer.new)) }
 {
     let a0 = match serialize_part(a0, serializer) {
         Ok(a0) => a0,
         Err(error) => return Err(error),
     };
-    let a1 = match serialize_part(a1, serializer) {
-        Ok(a1) => a1,
-        Err(error) => return Err(error),
-    };
-    let a2 = match serialize_part(a2, serializer) {
-        Ok(a2) => a2,
-        Err(error) => return Err(error),
-    };
-    Ok((a0, (a1, (a2, ()))))
+    Ok((a0, ()))
 }
 
 // Writes what the parts of `Table` own, in order.
@@ -656,15 +472,16 @@ fn serialize_note_table<S: Writer + Keys + ResolverAlloc>(
 ) -> Result<(VecResolver, ()), Error>
     ensures serialized { IfOk result (λ r. Serialized note_definitions note_shape
         (⟦<Vec<(String, Note, Option<String>)> as Archive>⟧.keys a0.now ++ [])
-        (case 3 (value (⟦<Vec<(String, Note, Option<String>)> as Archive>⟧.meaning a0.now)
-        no_value)) (case 3 (value (⟦<Vec<(String, Note, Option<String>)> as Archive>⟧.flat a0.now
+        (case 2 (value (⟦<Vec<(String, Note, Option<String>)> as Archive>⟧.meaning a0.now)
+        no_value)) (case 2 (value (⟦<Vec<(String, Note, Option<String>)> as Archive>⟧.flat a0.now
         r.0) no_value)) (S.state serializer.old) (S.state serializer.new)) }
-    ensures same_values { IfOk result (λ r. ⟦<Vec<(String, Note, Option<String>)> as Archive>⟧.belongs
+    ensures
+        same_values { IfOk result (λ r. ⟦<Vec<(String, Note, Option<String>)> as Archive>⟧.belongs
         a0.now r.0 × Unit {0}) }
     ensures goes_on { GoesOn (S.state serializer.old) (S.state serializer.new) }
     ensures refused { IfErr result (IsRefused note_definitions note_shape
         (⟦<Vec<(String, Note, Option<String>)> as Archive>⟧.keys a0.now ++ [])
-        (case 3 (value (⟦<Vec<(String, Note, Option<String>)> as Archive>⟧.meaning a0.now)
+        (case 2 (value (⟦<Vec<(String, Note, Option<String>)> as Archive>⟧.meaning a0.now)
         no_value)) (S.state serializer.old) (S.state serializer.new)) }
 {
     let a0 = match serialize_vec_tuple3_string_note_option_string(a0, serializer) {
@@ -676,10 +493,7 @@ fn serialize_note_table<S: Writer + Keys + ResolverAlloc>(
 
 // Writes what a value owns.
 #[cycle(serialize_note)]
-fn serialize_note<S: Writer + Keys + ResolverAlloc>(
-    value: &Note,
-    serializer: &mut S,
-) -> Result<NoteResolver, Error>
+fn serialize_note<S: Writer + Keys + ResolverAlloc>(value: &Note, serializer: &mut S) -> Result<NoteResolver, Error>
     ensures serialized { IfOk result (λ r. Serialized note_definitions note_shape
         (⟦<Note as Archive>⟧.keys value.now) (⟦<Note as Archive>⟧.meaning value.now)
         (⟦<Note as Archive>⟧.flat value.now r) (S.state serializer.old) (S.state serializer.new)) }
@@ -690,16 +504,12 @@ fn serialize_note<S: Writer + Keys + ResolverAlloc>(
         (S.state serializer.old) (S.state serializer.new)) }
 {
     match value {
-        Note::Texts(a0, a1) => match serialize_note_texts(a0, a1, serializer) {
-            Ok(kept) => Ok(NoteResolver::Texts(kept)),
+        Note::Text(a0) => match serialize_note_text(a0, serializer) {
+            Ok(kept) => Ok(NoteResolver::Text(kept)),
             Err(error) => Err(error),
         },
-        Note::Work(a0, a1, a2) => match serialize_note_work(a0, a1, a2, serializer) {
+        Note::Work(a0) => match serialize_note_work(a0, serializer) {
             Ok(kept) => Ok(NoteResolver::Work(kept)),
-            Err(error) => Err(error),
-        },
-        Note::Outcome(a0, a1, a2) => match serialize_note_outcome(a0, a1, a2, serializer) {
-            Ok(kept) => Ok(NoteResolver::Outcome(kept)),
             Err(error) => Err(error),
         },
         Note::Table(a0) => match serialize_note_table(a0, serializer) {
@@ -750,11 +560,7 @@ impl<S: Writer + Keys + ResolverAlloc> SerializeUnsized<S> for Note {
 
 // Reads a tuple back, part by part.
 #[cycle(read_note)]
-fn read_tuple3_string_note_option_string<D: Entries>(
-    alloc: Global,
-    part: RawView<'_>,
-    deserializer: &mut D,
-) -> Result<(String, Note, Option<String>), Error>
+fn read_tuple3_string_note_option_string<D: Entries>(alloc: Global, part: RawView<'_>, deserializer: &mut D) -> Result<(String, Note, Option<String>), Error>
     requires { IsPartOf ⟦<Tuple3StringNoteOptionString as ArchivePointee>⟧ part }
     ensures read { IfOk result (λ t. ReadsPart ⟦<Tuple3StringNoteOptionString as ArchivePointee>⟧
         part D.Entries deserializer (tuple3_string_note_option_string_meaning t)
@@ -773,7 +579,7 @@ fn read_tuple3_string_note_option_string<D: Entries>(
         Err(error) => return Err(error),
     };
     let p2 = part_of_record::<Tuple3StringNoteOptionString, ArchivedOption<ArchivedString>>(
-        part, 2, 32,
+        part, 2, 20,
     );
     let a2 = match read_part::<ArchivedOption<ArchivedString>, Option<String>, D>(
         alloc,
@@ -788,17 +594,15 @@ fn read_tuple3_string_note_option_string<D: Entries>(
 
 // Reads a vector back.
 #[cycle(read_note)]
-fn read_vec_tuple3_string_note_option_string<D: Entries>(
-    alloc: Global,
-    part: RawView<'_>,
-    deserializer: &mut D,
-) -> Result<Vec<(String, Note, Option<String>)>, Error>
+fn read_vec_tuple3_string_note_option_string<D: Entries>(alloc: Global, part: RawView<'_>, deserializer: &mut D) -> Result<Vec<(String, Note, Option<String>)>, Error>
     requires { IsPartOf ⟦<ArchivedVec<Tuple3StringNoteOptionString> as ArchivePointee>⟧ part }
-    ensures read { IfOk result
+    ensures
+        read { IfOk result
         (λ t. ReadsPart ⟦<ArchivedVec<Tuple3StringNoteOptionString> as ArchivePointee>⟧ part
         D.Entries deserializer (list (each_meaning tuple3_string_note_option_string_meaning
         t.items)) (each_keys tuple3_string_note_option_string_keys t.items)) }
-    ensures refused { IfErr result
+    ensures
+        refused { IfErr result
         (RefusesPart ⟦<ArchivedVec<Tuple3StringNoteOptionString> as ArchivePointee>⟧ part D.Entries
         deserializer) }
 {
@@ -806,11 +610,7 @@ fn read_vec_tuple3_string_note_option_string<D: Entries>(
     let list = before_vec(view);
     let mut items = Vec::with_capacity(alloc, list.len())?;
     for index in 0..list.len() {
-        let item = match read_tuple3_string_note_option_string(
-            alloc,
-            list.index(index).part(),
-            deserializer,
-        ) {
+        let item = match read_tuple3_string_note_option_string(alloc, list.index(index).part(), deserializer) {
             Ok(item) => item,
             Err(error) => return Err(error),
         };
@@ -819,13 +619,9 @@ fn read_vec_tuple3_string_note_option_string<D: Entries>(
     Ok(items)
 }
 
-// Reads `Texts` back.
+// Reads `Text` back.
 #[inline(always)]
-fn read_note_texts<D: Entries>(
-    alloc: Global,
-    part: RawView<'_>,
-    deserializer: &mut D,
-) -> Result<Note, Error>
+fn read_note_text<D: Entries>(alloc: Global, part: RawView<'_>, deserializer: &mut D) -> Result<Note, Error>
     requires viewed { IsPartOf ⟦<ArchivedNote as ArchivePointee>⟧ part }
     requires tag { part_tag part ≡ 0 }
     ensures read { IfOk result (Read ⟦<ArchivedNote as ArchivePointee>⟧ part D.Entries deserializer
@@ -833,34 +629,17 @@ fn read_note_texts<D: Entries>(
     ensures refused { IfErr result (RefusesPart ⟦<ArchivedNote as ArchivePointee>⟧ part D.Entries
         deserializer) }
 {
-    let p0 = part_of_variant::<ArchivedNote, ArchivedVec<ArchivedString>>(part, 0, 0, 4);
-    let a0 = match read_part::<ArchivedVec<ArchivedString>, Vec<String>, D>(
-        alloc,
-        p0,
-        deserializer,
-    ) {
+    let p0 = part_of_variant::<ArchivedNote, ArchivedString>(part, 0, 0, 4);
+    let a0 = match read_part::<ArchivedString, String, D>(alloc, p0, deserializer) {
         Ok(a0) => a0,
         Err(error) => return Err(error),
     };
-    let p1 = part_of_variant::<ArchivedNote, ArchivedOption<ArchivedString>>(part, 0, 1, 12);
-    let a1 = match read_part::<ArchivedOption<ArchivedString>, Option<String>, D>(
-        alloc,
-        p1,
-        deserializer,
-    ) {
-        Ok(a1) => a1,
-        Err(error) => return Err(error),
-    };
-    Ok(Note::Texts(a0, a1))
+    Ok(Note::Text(a0))
 }
 
 // Reads `Work` back.
 #[inline(always)]
-fn read_note_work<D: Entries>(
-    alloc: Global,
-    part: RawView<'_>,
-    deserializer: &mut D,
-) -> Result<Note, Error>
+fn read_note_work<D: Entries>(alloc: Global, part: RawView<'_>, deserializer: &mut D) -> Result<Note, Error>
     requires viewed { IsPartOf ⟦<ArchivedNote as ArchivePointee>⟧ part }
     requires tag { part_tag part ≡ 1 }
     ensures read { IfOk result (Read ⟦<ArchivedNote as ArchivePointee>⟧ part D.Entries deserializer
@@ -877,26 +656,12 @@ fn read_note_work<D: Entries>(
         Ok(a0) => a0,
         Err(error) => return Err(error),
     };
-    let p1 = part_of_variant::<ArchivedNote, NonZero<u8>>(part, 1, 1, 12);
-    let a1 = match read_part::<NonZero<u8>, ArchivedNonZeroU8, D>(alloc, p1, deserializer) {
-        Ok(a1) => a1,
-        Err(error) => return Err(error),
-    };
-    let p2 = part_of_variant::<ArchivedNote, ArchivedBox<u8>>(part, 1, 2, 16);
-    let a2 = match read_part::<ArchivedBox<u8>, Box<u8>, D>(alloc, p2, deserializer) {
-        Ok(a2) => a2,
-        Err(error) => return Err(error),
-    };
-    Ok(Note::Work(a0, a1, a2))
+    Ok(Note::Work(a0))
 }
 
-// Reads `Outcome` back.
-#[inline(always)]
-fn read_note_outcome<D: Entries>(
-    alloc: Global,
-    part: RawView<'_>,
-    deserializer: &mut D,
-) -> Result<Note, Error>
+// Reads `Table` back.
+#[cycle(read_note)]
+fn read_note_table<D: Entries>(alloc: Global, part: RawView<'_>, deserializer: &mut D) -> Result<Note, Error>
     requires viewed { IsPartOf ⟦<ArchivedNote as ArchivePointee>⟧ part }
     requires tag { part_tag part ≡ 2 }
     ensures read { IfOk result (Read ⟦<ArchivedNote as ArchivePointee>⟧ part D.Entries deserializer
@@ -904,44 +669,8 @@ fn read_note_outcome<D: Entries>(
     ensures refused { IfErr result (RefusesPart ⟦<ArchivedNote as ArchivePointee>⟧ part D.Entries
         deserializer) }
 {
-    let p0 = part_of_variant::<ArchivedNote, bool>(part, 2, 0, 1);
-    let a0 = match read_part::<bool, bool, D>(alloc, p0, deserializer) {
-        Ok(a0) => a0,
-        Err(error) => return Err(error),
-    };
-    let p1 = part_of_variant::<ArchivedNote, ()>(part, 2, 1, 2);
-    let a1 = match read_part::<(), (), D>(alloc, p1, deserializer) {
-        Ok(a1) => a1,
-        Err(error) => return Err(error),
-    };
-    let p2 = part_of_variant::<ArchivedNote, ArchivedResult<u8, ArchivedString>>(part, 2, 2, 4);
-    let a2 = match read_part::<ArchivedResult<u8, ArchivedString>, Result<u8, String>, D>(
-        alloc,
-        p2,
-        deserializer,
-    ) {
-        Ok(a2) => a2,
-        Err(error) => return Err(error),
-    };
-    Ok(Note::Outcome(a0, a1, a2))
-}
-
-// Reads `Table` back.
-#[cycle(read_note)]
-fn read_note_table<D: Entries>(
-    alloc: Global,
-    part: RawView<'_>,
-    deserializer: &mut D,
-) -> Result<Note, Error>
-    requires viewed { IsPartOf ⟦<ArchivedNote as ArchivePointee>⟧ part }
-    requires tag { part_tag part ≡ 3 }
-    ensures read { IfOk result (Read ⟦<ArchivedNote as ArchivePointee>⟧ part D.Entries deserializer
-        ⟦<Note as Archive>⟧) }
-    ensures refused { IfErr result (RefusesPart ⟦<ArchivedNote as ArchivePointee>⟧ part D.Entries
-        deserializer) }
-{
     let p0 = part_of_variant::<ArchivedNote, ArchivedVec<Tuple3StringNoteOptionString>>(
-        part, 3, 0, 4,
+        part, 2, 0, 4,
     );
     let a0 = match read_vec_tuple3_string_note_option_string(alloc, p0, deserializer) {
         Ok(a0) => a0,
@@ -952,11 +681,7 @@ fn read_note_table<D: Entries>(
 
 // Reads a value back.
 #[cycle(read_note)]
-fn read_note<D: Entries>(
-    alloc: Global,
-    part: RawView<'_>,
-    deserializer: &mut D,
-) -> Result<Note, Error>
+fn read_note<D: Entries>(alloc: Global, part: RawView<'_>, deserializer: &mut D) -> Result<Note, Error>
     requires { IsPartOf ⟦<ArchivedNote as ArchivePointee>⟧ part }
     ensures read { IfOk result (Read ⟦<ArchivedNote as ArchivePointee>⟧ part D.Entries deserializer
         ⟦<Note as Archive>⟧) }
@@ -964,9 +689,8 @@ fn read_note<D: Entries>(
         deserializer) }
 {
     match tag_of_choice::<ArchivedNote>(part) {
-        0 => read_note_texts(alloc, part, deserializer),
+        0 => read_note_text(alloc, part, deserializer),
         1 => read_note_work(alloc, part, deserializer),
-        2 => read_note_outcome(alloc, part, deserializer),
         _ => read_note_table(alloc, part, deserializer),
     }
 }
@@ -989,24 +713,13 @@ impl<D: Entries> Deserialize<Note, D> for ArchivedNote {
 /// What a view of an archived `Note` shows, by its tag.
 #[derive(Drop)]
 pub enum ViewOfNote<'a> {
-    /// Texts, and who wrote them.
-    Texts(Ref<'a, ArchivedVec<ArchivedString>>, Ref<'a, ArchivedOption<ArchivedString>>),
-    /// Hours of work, by the day; how soon it is to be done, and by how many.
-    Work(
-        Ref<'a, ArchivedSortedMap<ArchivedU16, i8>>,
-        Ref<'a, NonZero<u8>>,
-        Ref<'a, ArchivedBox<u8>>,
-    ),
-    /// Whether it is done, and nothing of when; what came of it, or why nothing did.
-    Outcome(Ref<'a, bool>, Ref<'a, ()>, Ref<'a, ArchivedResult<u8, ArchivedString>>),
+    /// A text.
+    Text(Ref<'a, ArchivedString>),
+    /// Hours of work, by the day.
+    Work(Ref<'a, ArchivedSortedMap<ArchivedU16, i8>>),
     /// Notes with names, and who wrote each, if that is known.
     Table(
-        Ref<
-            'a,
-            ArchivedVec<
-                ArchivedTuple3<ArchivedString, ArchivedNote, ArchivedOption<ArchivedString>>,
-            >,
-        >,
+        Ref<'a, ArchivedVec<ArchivedTuple3<ArchivedString, ArchivedNote, ArchivedOption<ArchivedString>>>>,
     ),
 }
 
@@ -1017,71 +730,34 @@ pub trait NoteView<'a> {
 }
 
 impl<'a> NoteView<'a> for Ref<'a, ArchivedNote> {
-    ghost use Rattle.recursive_fields.specs.declared.note.ViewOfNote.TheVariants.{Outcome as NoteOutcomeShown, Table as NoteTableShown, Texts as NoteTextsShown, Work as NoteWorkShown};
+    ghost use Rattle.recursive_fields.specs.declared.note.ViewOfNote.TheVariants.{Table as NoteTableShown, Text as NoteTextShown, Work as NoteWorkShown};
 
     fn variant(self) -> ViewOfNote<'a>
         ensures shows { elim result [
-          | NoteTextsShown a0 a1 ↦ (tag_of self.entry ≡ 0) × (a0.bytes.now ≡ self.entry.bytes.now)
+          | NoteTextShown a0 ↦ (tag_of self.entry ≡ 0) × (a0.bytes.now ≡ self.entry.bytes.now)
               × (a0.pos ≡ self.entry.pos + 4) × (a0.len ≡ 0)
-              × ShowsValueOf a0 self.entry (payload_in 0) × (a1.bytes.now ≡ self.entry.bytes.now)
-              × (a1.pos ≡ self.entry.pos + 12) × (a1.len ≡ 0)
-              × ShowsValueOf a1 self.entry (payload_in 1)
-          | NoteWorkShown a0 a1 a2 ↦ (tag_of self.entry ≡ 1) × (a0.bytes.now ≡ self.entry.bytes.now)
+              × ShowsValueOf a0 self.entry (payload_in 0)
+          | NoteWorkShown a0 ↦ (tag_of self.entry ≡ 1) × (a0.bytes.now ≡ self.entry.bytes.now)
               × (a0.pos ≡ self.entry.pos + 4) × (a0.len ≡ 0)
-              × ShowsValueOf a0 self.entry (payload_in 0) × (a1.bytes.now ≡ self.entry.bytes.now)
-              × (a1.pos ≡ self.entry.pos + 12) × (a1.len ≡ 0)
-              × ShowsValueOf a1 self.entry (payload_in 1) × (a2.bytes.now ≡ self.entry.bytes.now)
-              × (a2.pos ≡ self.entry.pos + 16) × (a2.len ≡ 0)
-              × ShowsValueOf a2 self.entry (payload_in 2)
-          | NoteOutcomeShown a0 a1 a2 ↦ (tag_of self.entry ≡ 2)
-              × (a0.bytes.now ≡ self.entry.bytes.now) × (a0.pos ≡ self.entry.pos + 1) × (a0.len ≡ 0)
-              × ShowsValueOf a0 self.entry (payload_in 0) × (a1.bytes.now ≡ self.entry.bytes.now)
-              × (a1.pos ≡ self.entry.pos + 2) × (a1.len ≡ 0)
-              × ShowsValueOf a1 self.entry (payload_in 1) × (a2.bytes.now ≡ self.entry.bytes.now)
-              × (a2.pos ≡ self.entry.pos + 4) × (a2.len ≡ 0)
-              × ShowsValueOf a2 self.entry (payload_in 2)
-          | NoteTableShown a0 ↦ (tag_of self.entry ≡ 3) × (a0.bytes.now ≡ self.entry.bytes.now)
+              × ShowsValueOf a0 self.entry (payload_in 0)
+          | NoteTableShown a0 ↦ (tag_of self.entry ≡ 2) × (a0.bytes.now ≡ self.entry.bytes.now)
               × (a0.pos ≡ self.entry.pos + 4) × (a0.len ≡ 0)
               × ShowsValueOf a0 self.entry (payload_in 0)
         ] }
     {
         match tag_of_view(self) {
-            0 => {
-                let a0 = view_of_payload::<ArchivedNote, ArchivedVec<ArchivedString>>(
-                    self, 0, 0, 4,
-                );
-                let a1 = view_of_payload::<ArchivedNote, ArchivedOption<ArchivedString>>(
-                    self, 0, 1, 12,
-                );
-                ViewOfNote::Texts(a0, a1)
-            }
+            0 => ViewOfNote::Text(view_of_payload::<ArchivedNote, ArchivedString>(self, 0, 0, 4)),
             1 => {
                 let a0 = view_of_payload::<ArchivedNote, ArchivedSortedMap<ArchivedU16, i8>>(
                     self, 1, 0, 4,
                 );
-                let a1 = view_of_payload::<ArchivedNote, NonZero<u8>>(self, 1, 1, 12);
-                let a2 = view_of_payload::<ArchivedNote, ArchivedBox<u8>>(self, 1, 2, 16);
-                ViewOfNote::Work(a0, a1, a2)
-            }
-            2 => {
-                let a0 = view_of_payload::<ArchivedNote, bool>(self, 2, 0, 1);
-                let a1 = view_of_payload::<ArchivedNote, ()>(self, 2, 1, 2);
-                let a2 = view_of_payload::<ArchivedNote, ArchivedResult<u8, ArchivedString>>(
-                    self, 2, 2, 4,
-                );
-                ViewOfNote::Outcome(a0, a1, a2)
+                ViewOfNote::Work(a0)
             }
             _ => {
                 let a0 = view_of_payload::<
                     ArchivedNote,
-                    ArchivedVec<
-                        ArchivedTuple3<
-                            ArchivedString,
-                            ArchivedNote,
-                            ArchivedOption<ArchivedString>,
-                        >,
-                    >,
-                >(self, 3, 0, 4);
+                    ArchivedVec<ArchivedTuple3<ArchivedString, ArchivedNote, ArchivedOption<ArchivedString>>>,
+                >(self, 2, 0, 4);
                 ViewOfNote::Table(a0)
             }
         }
@@ -1096,13 +772,8 @@ pub trait NoteSeal<'a> {
     // The tag that it shows.
     ghost tag: { Self → ℕ };
 
-    /// The field `0` of `Texts`.
-    fn texts_0_mut(self) -> Seal<'a, ArchivedVec<ArchivedString>>
-        requires come_to { sealed self }
-        requires tag { tag self ≡ 0 };
-
-    /// The field `1` of `Texts`.
-    fn texts_1_mut(self) -> Seal<'a, ArchivedOption<ArchivedString>>
+    /// The field `0` of `Text`.
+    fn text_0_mut(self) -> Seal<'a, ArchivedString>
         requires come_to { sealed self }
         requires tag { tag self ≡ 0 };
 
@@ -1111,40 +782,12 @@ pub trait NoteSeal<'a> {
         requires come_to { sealed self }
         requires tag { tag self ≡ 1 };
 
-    /// The field `1` of `Work`.
-    fn work_1_mut(self) -> Seal<'a, NonZero<u8>>
-        requires come_to { sealed self }
-        requires tag { tag self ≡ 1 };
-
-    /// The field `2` of `Work`.
-    fn work_2_mut(self) -> Seal<'a, ArchivedBox<u8>>
-        requires come_to { sealed self }
-        requires tag { tag self ≡ 1 };
-
-    /// The field `0` of `Outcome`.
-    fn outcome_0_mut(self) -> Seal<'a, bool>
-        requires come_to { sealed self }
-        requires tag { tag self ≡ 2 };
-
-    /// The field `1` of `Outcome`.
-    fn outcome_1_mut(self) -> Seal<'a, ()>
-        requires come_to { sealed self }
-        requires tag { tag self ≡ 2 };
-
-    /// The field `2` of `Outcome`.
-    fn outcome_2_mut(self) -> Seal<'a, ArchivedResult<u8, ArchivedString>>
-        requires come_to { sealed self }
-        requires tag { tag self ≡ 2 };
-
     /// The field `0` of `Table`.
     fn table_0_mut(
         self,
-    ) -> Seal<
-        'a,
-        ArchivedVec<ArchivedTuple3<ArchivedString, ArchivedNote, ArchivedOption<ArchivedString>>>,
-    >
+    ) -> Seal<'a, ArchivedVec<ArchivedTuple3<ArchivedString, ArchivedNote, ArchivedOption<ArchivedString>>>>
         requires come_to { sealed self }
-        requires tag { tag self ≡ 3 };
+        requires tag { tag self ≡ 2 };
 }
 
 impl<'a> NoteSeal<'a> for Seal<'a, ArchivedNote> {
@@ -1152,24 +795,13 @@ impl<'a> NoteSeal<'a> for Seal<'a, ArchivedNote> {
 
     ghost tag = { λ s. seal_tag s };
 
-    fn texts_0_mut(self) -> Seal<'a, ArchivedVec<ArchivedString>>
+    fn text_0_mut(self) -> Seal<'a, ArchivedString>
         requires come_to { IsSealOf note_definitions (one ⟦<ArchivedNote as Portable>⟧.shape) self }
         requires tag { seal_tag self ≡ 0 }
         ensures { SealsPart note_definitions (one ⟦<ArchivedNote as Portable>⟧.shape) no_definition
-            ⟦<ArchivedVec<ArchivedString> as ArchivePointee>⟧.pointee (self.entry.pos + 4) 0
-            self.entry result }
+            ⟦<ArchivedString as ArchivePointee>⟧.pointee (self.entry.pos + 4) 0 self.entry result }
     {
-        seal_of_payload::<ArchivedNote, ArchivedVec<ArchivedString>>(self, 0, 0, 4)
-    }
-
-    fn texts_1_mut(self) -> Seal<'a, ArchivedOption<ArchivedString>>
-        requires come_to { IsSealOf note_definitions (one ⟦<ArchivedNote as Portable>⟧.shape) self }
-        requires tag { seal_tag self ≡ 0 }
-        ensures { SealsPart note_definitions (one ⟦<ArchivedNote as Portable>⟧.shape) no_definition
-            ⟦<ArchivedOption<ArchivedString> as ArchivePointee>⟧.pointee (self.entry.pos + 12) 0
-            self.entry result }
-    {
-        seal_of_payload::<ArchivedNote, ArchivedOption<ArchivedString>>(self, 0, 1, 12)
+        seal_of_payload::<ArchivedNote, ArchivedString>(self, 0, 0, 4)
     }
 
     fn work_0_mut(self) -> Seal<'a, ArchivedSortedMap<ArchivedU16, i8>>
@@ -1183,62 +815,11 @@ impl<'a> NoteSeal<'a> for Seal<'a, ArchivedNote> {
         seal_of_payload::<ArchivedNote, ArchivedSortedMap<ArchivedU16, i8>>(self, 1, 0, 4)
     }
 
-    fn work_1_mut(self) -> Seal<'a, NonZero<u8>>
-        requires come_to { IsSealOf note_definitions (one ⟦<ArchivedNote as Portable>⟧.shape) self }
-        requires tag { seal_tag self ≡ 1 }
-        ensures { SealsPart note_definitions (one ⟦<ArchivedNote as Portable>⟧.shape) no_definition
-            ⟦<NonZero<u8> as ArchivePointee>⟧.pointee (self.entry.pos + 12) 0 self.entry result }
-    {
-        seal_of_payload::<ArchivedNote, NonZero<u8>>(self, 1, 1, 12)
-    }
-
-    fn work_2_mut(self) -> Seal<'a, ArchivedBox<u8>>
-        requires come_to { IsSealOf note_definitions (one ⟦<ArchivedNote as Portable>⟧.shape) self }
-        requires tag { seal_tag self ≡ 1 }
-        ensures { SealsPart note_definitions (one ⟦<ArchivedNote as Portable>⟧.shape) no_definition
-            ⟦<ArchivedBox<u8> as ArchivePointee>⟧.pointee (self.entry.pos + 16) 0 self.entry
-            result }
-    {
-        seal_of_payload::<ArchivedNote, ArchivedBox<u8>>(self, 1, 2, 16)
-    }
-
-    fn outcome_0_mut(self) -> Seal<'a, bool>
-        requires come_to { IsSealOf note_definitions (one ⟦<ArchivedNote as Portable>⟧.shape) self }
-        requires tag { seal_tag self ≡ 2 }
-        ensures { SealsPart note_definitions (one ⟦<ArchivedNote as Portable>⟧.shape) no_definition
-            ⟦<bool as ArchivePointee>⟧.pointee (self.entry.pos + 1) 0 self.entry result }
-    {
-        seal_of_payload::<ArchivedNote, bool>(self, 2, 0, 1)
-    }
-
-    fn outcome_1_mut(self) -> Seal<'a, ()>
-        requires come_to { IsSealOf note_definitions (one ⟦<ArchivedNote as Portable>⟧.shape) self }
-        requires tag { seal_tag self ≡ 2 }
-        ensures { SealsPart note_definitions (one ⟦<ArchivedNote as Portable>⟧.shape) no_definition
-            ⟦<() as ArchivePointee>⟧.pointee (self.entry.pos + 2) 0 self.entry result }
-    {
-        seal_of_payload::<ArchivedNote, ()>(self, 2, 1, 2)
-    }
-
-    fn outcome_2_mut(self) -> Seal<'a, ArchivedResult<u8, ArchivedString>>
-        requires come_to { IsSealOf note_definitions (one ⟦<ArchivedNote as Portable>⟧.shape) self }
-        requires tag { seal_tag self ≡ 2 }
-        ensures { SealsPart note_definitions (one ⟦<ArchivedNote as Portable>⟧.shape)
-            (both no_definition no_definition)
-            ⟦<ArchivedResult<u8, ArchivedString> as ArchivePointee>⟧.pointee (self.entry.pos + 4) 0
-            self.entry result }
-    {
-        seal_of_payload::<ArchivedNote, ArchivedResult<u8, ArchivedString>>(self, 2, 2, 4)
-    }
-
     fn table_0_mut(
         self,
-    ) -> Seal<
-        'a,
-        ArchivedVec<ArchivedTuple3<ArchivedString, ArchivedNote, ArchivedOption<ArchivedString>>>,
-    >
+    ) -> Seal<'a, ArchivedVec<ArchivedTuple3<ArchivedString, ArchivedNote, ArchivedOption<ArchivedString>>>>
         requires come_to { IsSealOf note_definitions (one ⟦<ArchivedNote as Portable>⟧.shape) self }
-        requires tag { seal_tag self ≡ 3 }
+        requires tag { seal_tag self ≡ 2 }
         ensures { SealsPart note_definitions (one ⟦<ArchivedNote as Portable>⟧.shape)
             (both no_definition (both ⟦<ArchivedNote as ArchivePointee>⟧.definitions
             (both no_definition no_definition)))
@@ -1246,9 +827,7 @@ impl<'a> NoteSeal<'a> for Seal<'a, ArchivedNote> {
     {
         seal_of_payload::<
             ArchivedNote,
-            ArchivedVec<
-                ArchivedTuple3<ArchivedString, ArchivedNote, ArchivedOption<ArchivedString>>,
-            >,
-        >(self, 3, 0, 4)
+            ArchivedVec<ArchivedTuple3<ArchivedString, ArchivedNote, ArchivedOption<ArchivedString>>>,
+        >(self, 2, 0, 4)
     }
 }

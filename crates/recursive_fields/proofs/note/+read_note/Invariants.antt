@@ -10,16 +10,16 @@ use Rattle.std.specs.Vec.{vec_len, vec_capacity}
 use Rattle.recursive_fields.proofs.note.+read_note.Given as goal
 
 abbrev pub decreases-read_tuple3_string_note_option_string : goal.decreases-read_tuple3_string_note_option_string
-decreases-read_tuple3_string_note_option_string g l = (l.part.pos + 44) * 6 + 5
+decreases-read_tuple3_string_note_option_string g l = (l.part.pos + 32) * 6 + 5
 
 abbrev pub decreases-read_vec_tuple3_string_note_option_string : goal.decreases-read_vec_tuple3_string_note_option_string
 decreases-read_vec_tuple3_string_note_option_string g l = (l.part.pos + 8) * 6 + 2
 
 abbrev pub decreases-read_note_table : goal.decreases-read_note_table
-decreases-read_note_table g l = (l.part.pos + 24) * 6 + 3
+decreases-read_note_table g l = (l.part.pos + 12) * 6 + 3
 
 abbrev pub decreases-read_note : goal.decreases-read_note
-decreases-read_note g l = (l.part.pos + 24) * 6 + 4
+decreases-read_note g l = (l.part.pos + 12) * 6 + 4
 
 abbrev pub invariant-read_vec_tuple3_string_note_option_string-loop-index : goal.invariant-read_vec_tuple3_string_note_option_string-loop-index
 invariant-read_vec_tuple3_string_note_option_string-loop-index g l = (length l.items.items ≡ l.index) × (vec_len l.items ≡ l.index) × (l.list.len ≤ vec_capacity l.items) × FirstElements g.D.Entries.keeps tuple3_string_note_option_string_definitions tuple3_string_note_option_string_shape tuple3_string_note_option_string_layout l.list.bytes.now l.list.pos (run tuple3_string_note_option_string_shape) l.list.len tuple3_string_note_option_string_meaning tuple3_string_note_option_string_keys (g.D.Entries.entry_of l.initial.deserializer) (g.D.Entries.entry_of l.deserializer) l.items.items

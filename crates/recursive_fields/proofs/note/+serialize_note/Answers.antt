@@ -17,7 +17,7 @@ use Rattle.archive_core.specs.PlannedOwners.{each_planned}
 use Rattle.archive_core.specs.Runs.{each_keys, each_meaning}
 use Rattle.archive_core.specs.Shape.{vec, str, part, no_part}
 use Rattle.archive_core.specs.Value.{product, list, value, no_value, text_value}
-use Rattle.recursive_fields.specs.NoteMeaning.{note_meaning, note_keys, note_planned, note_texts_means, note_texts_has_keys, note_texts_opens, note_work_means, note_work_has_keys, note_work_opens, note_outcome_means, note_outcome_has_keys, note_outcome_opens, note_table_means, note_table_has_keys, note_table_opens}
+use Rattle.recursive_fields.specs.NoteMeaning.{note_meaning, note_keys, note_planned, note_text_means, note_text_has_keys, note_text_opens, note_work_means, note_work_has_keys, note_work_opens, note_table_means, note_table_has_keys, note_table_opens}
 use Rattle.recursive_fields.specs.NoteShape.{note_name, note_shape, note_definitions, tuple3_string_note_option_string_shape, tuple3_string_note_option_string_parts, tuple3_string_note_option_string_definitions, tuple3_string_note_option_string_has_parts, note_variants, note_variant_definitions, note_has_variants, note_table_parts, note_table_definitions}
 use Rattle.std.proofs.Common.{subst, sym, ◌≡◌, ◌<◌, ◌≤◌, ◌+◌, ◌*◌, ◌++◌, [], ℕ, List, get_or, length, refl, arith, string_bytes}
 use Rattle.std.proofs.Math.ListN.{drop_of_length-le}
@@ -90,37 +90,28 @@ pub serialize_vec_tuple3_string_note_option_string-returns-in-Err-serialize_inne
 serialize_vec_tuple3_string_note_option_string-returns-in-Err-serialize_inner_slice-clause-refused g t c = (rw c.as_slice-items.ensures.value at c.in-Err-serialize_inner_slice.ensures.refused).since _ c.serialize_each_tuple3_string_note_option_string.ensures.goes_on (rw c.as_slice-items.ensures.value at c.in-Ok.ensures.serialized)
 
 pub serialize_note_table-returns-in-Err-clause-refused : goal.serialize_note_table-returns-in-Err-clause-refused
-serialize_note_table-returns-in-Err-clause-refused g t c = (variant_refused note_definitions note_shape note_name note_variant_definitions note_variants note_has_variants 3 note_table_parts refl note_table_definitions refl _ _ _ _ _ (first_refused tuple3_string_note_option_string_definitions no_definition (vec tuple3_string_note_option_string_shape) no_part (each_keys (λ y. ([] ++ ((note_keys y.1) ++ ((option_keys (λ y. []) y.2) ++ [])))) c.args.a0.now.items) [] (list (each_meaning (λ y. (product (value (text_value (string_bytes y.0)) (value (note_meaning y.1) (value (option_meaning (λ y. (text_value (string_bytes y))) y.2) no_value))))) c.args.a0.now.items)) no_value _ _ _ no_part_planned c.in-Err.ensures.refused))
+serialize_note_table-returns-in-Err-clause-refused g t c = (variant_refused note_definitions note_shape note_name note_variant_definitions note_variants note_has_variants 2 note_table_parts refl note_table_definitions refl _ _ _ _ _ (first_refused tuple3_string_note_option_string_definitions no_definition (vec tuple3_string_note_option_string_shape) no_part (each_keys (λ y. ([] ++ ((note_keys y.1) ++ ((option_keys (λ y. []) y.2) ++ [])))) c.args.a0.now.items) [] (list (each_meaning (λ y. (product (value (text_value (string_bytes y.0)) (value (note_meaning y.1) (value (option_meaning (λ y. (text_value (string_bytes y))) y.2) no_value))))) c.args.a0.now.items)) no_value _ _ _ no_part_planned c.in-Err.ensures.refused))
 
 pub serialize_note_table-returns-clause-serialized : goal.serialize_note_table-returns-clause-serialized
-serialize_note_table-returns-clause-serialized g t c = (serialized_variant note_definitions note_shape note_name note_variant_definitions note_variants note_has_variants 3 note_table_parts refl note_table_definitions refl _ _ _ _ _ (serialized_part tuple3_string_note_option_string_definitions no_definition (vec tuple3_string_note_option_string_shape) no_part (each_keys (λ y. ([] ++ ((note_keys y.1) ++ ((option_keys (λ y. []) y.2) ++ [])))) c.args.a0.now.items) [] (list (each_meaning (λ y. (product (value (text_value (string_bytes y.0)) (value (note_meaning y.1) (value (option_meaning (λ y. (text_value (string_bytes y))) y.2) no_value))))) c.args.a0.now.items)) no_value _ _ _ _ _ c.in-Ok.ensures.serialized (serialized_no_part no_definition _)))
+serialize_note_table-returns-clause-serialized g t c = (serialized_variant note_definitions note_shape note_name note_variant_definitions note_variants note_has_variants 2 note_table_parts refl note_table_definitions refl _ _ _ _ _ (serialized_part tuple3_string_note_option_string_definitions no_definition (vec tuple3_string_note_option_string_shape) no_part (each_keys (λ y. ([] ++ ((note_keys y.1) ++ ((option_keys (λ y. []) y.2) ++ [])))) c.args.a0.now.items) [] (list (each_meaning (λ y. (product (value (text_value (string_bytes y.0)) (value (note_meaning y.1) (value (option_meaning (λ y. (text_value (string_bytes y))) y.2) no_value))))) c.args.a0.now.items)) no_value _ _ _ _ _ c.in-Ok.ensures.serialized (serialized_no_part no_definition _)))
 
 pub serialize_note-returns-in-Ok-clause-serialized : goal.serialize_note-returns-in-Ok-clause-serialized
-serialize_note-returns-in-Ok-clause-serialized g t c = rw c.in-Texts.is (written_as (note_texts_has_keys c.in-Texts.a0 c.in-Texts.a1) (note_texts_means c.in-Texts.a0 c.in-Texts.a1) (rw (note_texts_opens c.in-Texts.a0 c.in-Texts.a1) refl) c.in-Ok.ensures.serialized)
+serialize_note-returns-in-Ok-clause-serialized g t c = rw c.in-Text.is (written_as (note_text_has_keys c.in-Text.a0) (note_text_means c.in-Text.a0) (rw (note_text_opens c.in-Text.a0) refl) c.in-Ok.ensures.serialized)
 
 pub serialize_note-returns-in-Ok-clause-same_value : goal.serialize_note-returns-in-Ok-clause-same_value
-serialize_note-returns-in-Ok-clause-same_value g t c = rw (c.in-Texts.is, note_texts_opens c.in-Texts.a0 c.in-Texts.a1) c.in-Ok.ensures.same_values
+serialize_note-returns-in-Ok-clause-same_value g t c = rw (c.in-Text.is, note_text_opens c.in-Text.a0) c.in-Ok.ensures.same_values
 
 pub serialize_note-returns-in-Err-clause-refused : goal.serialize_note-returns-in-Err-clause-refused
-serialize_note-returns-in-Err-clause-refused g t c = rw c.in-Texts.is (refused_as (note_texts_has_keys c.in-Texts.a0 c.in-Texts.a1) (note_texts_means c.in-Texts.a0 c.in-Texts.a1) c.in-Err.ensures.refused)
+serialize_note-returns-in-Err-clause-refused g t c = rw c.in-Text.is (refused_as (note_text_has_keys c.in-Text.a0) (note_text_means c.in-Text.a0) c.in-Err.ensures.refused)
 
 pub serialize_note-returns-in-Ok-serialize_note_work-clause-serialized : goal.serialize_note-returns-in-Ok-serialize_note_work-clause-serialized
-serialize_note-returns-in-Ok-serialize_note_work-clause-serialized g t c = rw c.in-Work.is (written_as (note_work_has_keys c.in-Work.a0 c.in-Work.a1 c.in-Work.a2) (note_work_means c.in-Work.a0 c.in-Work.a1 c.in-Work.a2) (rw (note_work_opens c.in-Work.a0 c.in-Work.a1 c.in-Work.a2) refl) c.in-Ok-serialize_note_work.ensures.serialized)
+serialize_note-returns-in-Ok-serialize_note_work-clause-serialized g t c = rw c.in-Work.is (written_as (note_work_has_keys c.in-Work.a0) (note_work_means c.in-Work.a0) (rw (note_work_opens c.in-Work.a0) refl) c.in-Ok-serialize_note_work.ensures.serialized)
 
 pub serialize_note-returns-in-Ok-serialize_note_work-clause-same_value : goal.serialize_note-returns-in-Ok-serialize_note_work-clause-same_value
-serialize_note-returns-in-Ok-serialize_note_work-clause-same_value g t c = rw (c.in-Work.is, note_work_opens c.in-Work.a0 c.in-Work.a1 c.in-Work.a2) c.in-Ok-serialize_note_work.ensures.same_values
+serialize_note-returns-in-Ok-serialize_note_work-clause-same_value g t c = rw (c.in-Work.is, note_work_opens c.in-Work.a0) c.in-Ok-serialize_note_work.ensures.same_values
 
 pub serialize_note-returns-in-Err-serialize_note_work-clause-refused : goal.serialize_note-returns-in-Err-serialize_note_work-clause-refused
-serialize_note-returns-in-Err-serialize_note_work-clause-refused g t c = rw c.in-Work.is (refused_as (note_work_has_keys c.in-Work.a0 c.in-Work.a1 c.in-Work.a2) (note_work_means c.in-Work.a0 c.in-Work.a1 c.in-Work.a2) c.in-Err-serialize_note_work.ensures.refused)
-
-pub serialize_note-returns-in-Ok-serialize_note_outcome-clause-serialized : goal.serialize_note-returns-in-Ok-serialize_note_outcome-clause-serialized
-serialize_note-returns-in-Ok-serialize_note_outcome-clause-serialized g t c = rw c.in-Outcome.is (written_as (note_outcome_has_keys c.in-Outcome.a0 c.in-Outcome.a1 c.in-Outcome.a2) (note_outcome_means c.in-Outcome.a0 c.in-Outcome.a1 c.in-Outcome.a2) (rw (note_outcome_opens c.in-Outcome.a0 c.in-Outcome.a1 c.in-Outcome.a2) refl) c.in-Ok-serialize_note_outcome.ensures.serialized)
-
-pub serialize_note-returns-in-Ok-serialize_note_outcome-clause-same_value : goal.serialize_note-returns-in-Ok-serialize_note_outcome-clause-same_value
-serialize_note-returns-in-Ok-serialize_note_outcome-clause-same_value g t c = rw (c.in-Outcome.is, note_outcome_opens c.in-Outcome.a0 c.in-Outcome.a1 c.in-Outcome.a2) c.in-Ok-serialize_note_outcome.ensures.same_values
-
-pub serialize_note-returns-in-Err-serialize_note_outcome-clause-refused : goal.serialize_note-returns-in-Err-serialize_note_outcome-clause-refused
-serialize_note-returns-in-Err-serialize_note_outcome-clause-refused g t c = rw c.in-Outcome.is (refused_as (note_outcome_has_keys c.in-Outcome.a0 c.in-Outcome.a1 c.in-Outcome.a2) (note_outcome_means c.in-Outcome.a0 c.in-Outcome.a1 c.in-Outcome.a2) c.in-Err-serialize_note_outcome.ensures.refused)
+serialize_note-returns-in-Err-serialize_note_work-clause-refused g t c = rw c.in-Work.is (refused_as (note_work_has_keys c.in-Work.a0) (note_work_means c.in-Work.a0) c.in-Err-serialize_note_work.ensures.refused)
 
 pub serialize_note-returns-in-Ok-serialize_note_table-clause-serialized : goal.serialize_note-returns-in-Ok-serialize_note_table-clause-serialized
 serialize_note-returns-in-Ok-serialize_note_table-clause-serialized g t c = rw c.in-Table.is (written_as (note_table_has_keys c.in-Table.a0) (note_table_means c.in-Table.a0) (rw (note_table_opens c.in-Table.a0) refl) c.in-Ok-serialize_note_table.ensures.serialized)

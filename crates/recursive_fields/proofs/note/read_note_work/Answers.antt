@@ -1,27 +1,21 @@
 -- Written by tools/derive: change the declaration, and run it again.
 use Rattle.archive_core.proofs.ReadChoices.{variant_read_back, variant_refuses}
-use Rattle.archive_core.proofs.ReadRecords.{first_refuses, later_refuses}
+use Rattle.archive_core.proofs.ReadRecords.{first_refuses}
 use Rattle.archive_core.specs.Definitions.{both, no_definition}
 use Rattle.archive_core.specs.Held.{read_as}
 use Rattle.archive_core.specs.MapPairs.{pair_keys}
 use Rattle.archive_core.specs.PartsReading.{part_read_back, no_part_read_back}
 use Rattle.archive_core.specs.Runs.{each_keys}
-use Rattle.archive_core.specs.Shape.{boxed, sorted_map, one, leaf, non_zero, unsigned, signed, leaf_key, part, no_part, number as number_kind}
+use Rattle.archive_core.specs.Shape.{sorted_map, leaf, unsigned, signed, leaf_key, no_part, number as number_kind}
 use Rattle.recursive_fields.specs.NoteMeaning.{note_work_means, note_work_has_keys}
 use Rattle.recursive_fields.specs.NoteShape.{note_name, note_shape, note_definitions, note_variants, note_variant_definitions, note_has_variants, note_work_parts, note_work_definitions}
-use Rattle.std.proofs.Common.{◌++◌, [], length, refl}
+use Rattle.std.proofs.Common.{[], length, refl}
 use Rattle.std.specs.Int.{w8, w16}
-use Rattle.std.specs.Prelude.{[], ◌++◌, refl, length}
+use Rattle.std.specs.Prelude.{[], refl, length}
 use Rattle.recursive_fields.proofs.note.read_note_work.Goals as goal
 
 pub returns-in-Err-clause-refused : goal.returns-in-Err-clause-refused
-returns-in-Err-clause-refused g c = (variant_refuses note_definitions note_shape note_name note_variant_definitions note_variants note_has_variants 1 note_work_parts refl note_work_definitions refl _ _ _ c.requires.tag _ _ (first_refuses (both no_definition (both no_definition no_definition)) (both no_definition (both no_definition no_definition)) (sorted_map (leaf_key (number_kind unsigned w16)) (leaf (number_kind signed w8))) (record { size = 8; align = 4 }) (record { solved = λ s k. refl }) (part (leaf (non_zero unsigned w8)) (part (boxed (one (leaf (number_kind unsigned w8)))) no_part)) _ _ 1 _ _ (rw (c.part_of_variant-p0.ensures.buffer, c.part_of_variant-p0.ensures.position, c.part_of_variant-p0.ensures.length) at c.in-Err.ensures.refused)))
-
-pub returns-in-Err-read_part-clause-refused : goal.returns-in-Err-read_part-clause-refused
-returns-in-Err-read_part-clause-refused g c = (variant_refuses note_definitions note_shape note_name note_variant_definitions note_variants note_has_variants 1 note_work_parts refl note_work_definitions refl _ _ _ c.requires.tag _ _ (later_refuses (both no_definition (both no_definition no_definition)) (both no_definition (both no_definition no_definition)) (sorted_map (leaf_key (number_kind unsigned w16)) (leaf (number_kind signed w8))) (record { size = 8; align = 4 }) (record { solved = λ s k. refl }) (part (leaf (non_zero unsigned w8)) (part (boxed (one (leaf (number_kind unsigned w8)))) no_part)) _ _ 1 _ _ _ c.in-Ok.ensures.read.kept (first_refuses no_definition (both no_definition no_definition) (leaf (non_zero unsigned w8)) (record { size = 1; align = 1 }) (record { solved = λ s k. refl }) (part (boxed (one (leaf (number_kind unsigned w8)))) no_part) _ _ 12 _ _ (rw (c.part_of_variant-p1.ensures.buffer, c.part_of_variant-p1.ensures.position, c.part_of_variant-p1.ensures.length) at c.in-Err-read_part.ensures.refused))))
-
-pub returns-in-Err-read_part-2-clause-refused : goal.returns-in-Err-read_part-2-clause-refused
-returns-in-Err-read_part-2-clause-refused g c = (variant_refuses note_definitions note_shape note_name note_variant_definitions note_variants note_has_variants 1 note_work_parts refl note_work_definitions refl _ _ _ c.requires.tag _ _ (later_refuses (both no_definition (both no_definition no_definition)) (both no_definition (both no_definition no_definition)) (sorted_map (leaf_key (number_kind unsigned w16)) (leaf (number_kind signed w8))) (record { size = 8; align = 4 }) (record { solved = λ s k. refl }) (part (leaf (non_zero unsigned w8)) (part (boxed (one (leaf (number_kind unsigned w8)))) no_part)) _ _ 1 _ _ _ c.in-Ok.ensures.read.kept (later_refuses no_definition (both no_definition no_definition) (leaf (non_zero unsigned w8)) (record { size = 1; align = 1 }) (record { solved = λ s k. refl }) (part (boxed (one (leaf (number_kind unsigned w8)))) no_part) _ _ 12 _ _ _ c.in-Ok-read_part.ensures.read.kept (first_refuses no_definition no_definition (boxed (one (leaf (number_kind unsigned w8)))) (record { size = 4; align = 4 }) (record { solved = λ s k. refl }) no_part _ _ 13 _ _ (rw (c.part_of_variant-p2.ensures.buffer, c.part_of_variant-p2.ensures.position, c.part_of_variant-p2.ensures.length) at c.in-Err-read_part-2.ensures.refused)))))
+returns-in-Err-clause-refused g c = (variant_refuses note_definitions note_shape note_name note_variant_definitions note_variants note_has_variants 1 note_work_parts refl note_work_definitions refl _ _ _ c.requires.tag _ _ (first_refuses (both no_definition (both no_definition no_definition)) no_definition (sorted_map (leaf_key (number_kind unsigned w16)) (leaf (number_kind signed w8))) (record { size = 8; align = 4 }) (record { solved = λ s k. refl }) no_part _ _ 1 _ _ (rw (c.part_of_variant-p0.ensures.buffer, c.part_of_variant-p0.ensures.position, c.part_of_variant-p0.ensures.length) at c.in-Err.ensures.refused)))
 
 pub returns-clause-read : goal.returns-clause-read
-returns-clause-read g c = read_as (note_work_has_keys c.in-Ok.a0 c.in-Ok-read_part.a1 c.in-Ok-read_part-2.a2) (note_work_means c.in-Ok.a0 c.in-Ok-read_part.a1 c.in-Ok-read_part-2.a2) (variant_read_back note_definitions note_shape note_name note_variant_definitions note_variants note_has_variants 1 note_work_parts refl note_work_definitions refl _ _ _ c.requires.tag _ _ _ _ (part_read_back {L = (record { size = 8; align = 4 })} {ks = (each_keys (pair_keys (λ y. []) (λ y. [])) c.in-Ok.a0.entries)} {ls = ([] ++ ([] ++ []))} (record { solved = λ s k. refl }) (rw (c.part_of_variant-p0.ensures.buffer, c.part_of_variant-p0.ensures.position, c.part_of_variant-p0.ensures.length) at c.in-Ok.ensures.read) (part_read_back {L = (record { size = 1; align = 1 })} {ks = []} {ls = ([] ++ [])} (record { solved = λ s k. refl }) (rw (c.part_of_variant-p1.ensures.buffer, c.part_of_variant-p1.ensures.position, c.part_of_variant-p1.ensures.length) at c.in-Ok-read_part.ensures.read) (part_read_back {L = (record { size = 4; align = 4 })} {ks = []} {ls = []} (record { solved = λ s k. refl }) (rw (c.part_of_variant-p2.ensures.buffer, c.part_of_variant-p2.ensures.position, c.part_of_variant-p2.ensures.length) at c.in-Ok-read_part-2.ensures.read) no_part_read_back))))
+returns-clause-read g c = read_as (note_work_has_keys c.in-Ok.a0) (note_work_means c.in-Ok.a0) (variant_read_back note_definitions note_shape note_name note_variant_definitions note_variants note_has_variants 1 note_work_parts refl note_work_definitions refl _ _ _ c.requires.tag _ _ _ _ (part_read_back {L = (record { size = 8; align = 4 })} {ks = (each_keys (pair_keys (λ y. []) (λ y. [])) c.in-Ok.a0.entries)} {ls = []} (record { solved = λ s k. refl }) (rw (c.part_of_variant-p0.ensures.buffer, c.part_of_variant-p0.ensures.position, c.part_of_variant-p0.ensures.length) at c.in-Ok.ensures.read) no_part_read_back))
