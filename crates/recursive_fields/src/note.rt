@@ -45,8 +45,8 @@ use archive_core::primitive::ArchivedU16;
 use archive_core::recursive::{
     VecAt, before_vec, define_choice, expression_of, first_expression, first_variant, handed_on,
     named_expression, no_expressions, no_variants, part_of_record, part_of_variant, read_part,
-    record_expression, resolve_named_case_1, seal_of_payload, serialize_inner_slice, serialize_part,
-    tag_of_choice, tag_of_view, vec_expression, view_of_payload,
+    record_expression, resolve_named_case_1, seal_of_payload, serialize_inner_slice,
+    serialize_part, tag_of_choice, tag_of_view, vec_expression, view_of_payload,
 };
 use archive_core::seal::Seal;
 use archive_core::self_check::BySchema;
@@ -346,7 +346,10 @@ impl Archive for Note {
 
 // Writes what each of the values owns, in order.
 #[cycle(serialize_note)]
-fn serialize_each_tuple3_string_note_option_string<S: Writer + Keys + ResolverAlloc>(values: &[(String, Note, Option<String>)], serializer: &mut S) -> Result<Vec<<(String, Note, Option<String>) as Archive>::Resolver, S::Alloc>, Error>
+fn serialize_each_tuple3_string_note_option_string<S: Writer + Keys + ResolverAlloc>(
+    values: &[(String, Note, Option<String>)],
+    serializer: &mut S,
+) -> Result<Vec<<(String, Note, Option<String>) as Archive>::Resolver, S::Alloc>, Error>
     ensures serialized { IfOk result (λ rs. SerializedRun
         tuple3_string_note_option_string_definitions tuple3_string_note_option_string_shape
         (length values.now) (each_keys ⟦<(String, Note, Option<String>) as Archive>⟧.keys
@@ -377,22 +380,26 @@ fn serialize_each_tuple3_string_note_option_string<S: Writer + Keys + ResolverAl
             Ok(a2) => a2,
             Err(error) => return Err(error),
         };
-        resolvers.push((a0, (a1, (a2, ())))).map_err(AllocError::from)?;
+        resolvers
+            .push((a0, (a1, (a2, ()))))
+            .map_err(AllocError::from)?;
     }
     Ok(resolvers)
 }
 
 // Writes what a vector owns.
 #[cycle(serialize_note)]
-fn serialize_vec_tuple3_string_note_option_string<S: Writer + Keys + ResolverAlloc>(value: &Vec<(String, Note, Option<String>)>, serializer: &mut S) -> Result<VecResolver, Error>
+fn serialize_vec_tuple3_string_note_option_string<S: Writer + Keys + ResolverAlloc>(
+    value: &Vec<(String, Note, Option<String>)>,
+    serializer: &mut S,
+) -> Result<VecResolver, Error>
     ensures serialized { IfOk result (λ r. Serialized tuple3_string_note_option_string_definitions
         (vec tuple3_string_note_option_string_shape)
         (⟦<Vec<(String, Note, Option<String>)> as Archive>⟧.keys value.now)
         (⟦<Vec<(String, Note, Option<String>)> as Archive>⟧.meaning value.now)
         (⟦<Vec<(String, Note, Option<String>)> as Archive>⟧.flat value.now r)
         (S.state serializer.old) (S.state serializer.new)) }
-    ensures
-        same_value { IfOk result (λ r. ⟦<Vec<(String, Note, Option<String>)> as Archive>⟧.belongs
+    ensures same_value { IfOk result (λ r. ⟦<Vec<(String, Note, Option<String>)> as Archive>⟧.belongs
         value.now r) }
     ensures goes_on { GoesOn (S.state serializer.old) (S.state serializer.new) }
     ensures refused { IfErr result (IsRefused tuple3_string_note_option_string_definitions
@@ -475,8 +482,7 @@ fn serialize_note_table<S: Writer + Keys + ResolverAlloc>(
         (case 2 (value (⟦<Vec<(String, Note, Option<String>)> as Archive>⟧.meaning a0.now)
         no_value)) (case 2 (value (⟦<Vec<(String, Note, Option<String>)> as Archive>⟧.flat a0.now
         r.0) no_value)) (S.state serializer.old) (S.state serializer.new)) }
-    ensures
-        same_values { IfOk result (λ r. ⟦<Vec<(String, Note, Option<String>)> as Archive>⟧.belongs
+    ensures same_values { IfOk result (λ r. ⟦<Vec<(String, Note, Option<String>)> as Archive>⟧.belongs
         a0.now r.0 × Unit {0}) }
     ensures goes_on { GoesOn (S.state serializer.old) (S.state serializer.new) }
     ensures refused { IfErr result (IsRefused note_definitions note_shape
@@ -493,7 +499,10 @@ fn serialize_note_table<S: Writer + Keys + ResolverAlloc>(
 
 // Writes what a value owns.
 #[cycle(serialize_note)]
-fn serialize_note<S: Writer + Keys + ResolverAlloc>(value: &Note, serializer: &mut S) -> Result<NoteResolver, Error>
+fn serialize_note<S: Writer + Keys + ResolverAlloc>(
+    value: &Note,
+    serializer: &mut S,
+) -> Result<NoteResolver, Error>
     ensures serialized { IfOk result (λ r. Serialized note_definitions note_shape
         (⟦<Note as Archive>⟧.keys value.now) (⟦<Note as Archive>⟧.meaning value.now)
         (⟦<Note as Archive>⟧.flat value.now r) (S.state serializer.old) (S.state serializer.new)) }
@@ -560,7 +569,11 @@ impl<S: Writer + Keys + ResolverAlloc> SerializeUnsized<S> for Note {
 
 // Reads a tuple back, part by part.
 #[cycle(read_note)]
-fn read_tuple3_string_note_option_string<D: Entries>(alloc: Global, part: RawView<'_>, deserializer: &mut D) -> Result<(String, Note, Option<String>), Error>
+fn read_tuple3_string_note_option_string<D: Entries>(
+    alloc: Global,
+    part: RawView<'_>,
+    deserializer: &mut D,
+) -> Result<(String, Note, Option<String>), Error>
     requires { IsPartOf ⟦<Tuple3StringNoteOptionString as ArchivePointee>⟧ part }
     ensures read { IfOk result (λ t. ReadsPart ⟦<Tuple3StringNoteOptionString as ArchivePointee>⟧
         part D.Entries deserializer (tuple3_string_note_option_string_meaning t)
@@ -594,15 +607,17 @@ fn read_tuple3_string_note_option_string<D: Entries>(alloc: Global, part: RawVie
 
 // Reads a vector back.
 #[cycle(read_note)]
-fn read_vec_tuple3_string_note_option_string<D: Entries>(alloc: Global, part: RawView<'_>, deserializer: &mut D) -> Result<Vec<(String, Note, Option<String>)>, Error>
+fn read_vec_tuple3_string_note_option_string<D: Entries>(
+    alloc: Global,
+    part: RawView<'_>,
+    deserializer: &mut D,
+) -> Result<Vec<(String, Note, Option<String>)>, Error>
     requires { IsPartOf ⟦<ArchivedVec<Tuple3StringNoteOptionString> as ArchivePointee>⟧ part }
-    ensures
-        read { IfOk result
+    ensures read { IfOk result
         (λ t. ReadsPart ⟦<ArchivedVec<Tuple3StringNoteOptionString> as ArchivePointee>⟧ part
         D.Entries deserializer (list (each_meaning tuple3_string_note_option_string_meaning
         t.items)) (each_keys tuple3_string_note_option_string_keys t.items)) }
-    ensures
-        refused { IfErr result
+    ensures refused { IfErr result
         (RefusesPart ⟦<ArchivedVec<Tuple3StringNoteOptionString> as ArchivePointee>⟧ part D.Entries
         deserializer) }
 {
@@ -610,7 +625,11 @@ fn read_vec_tuple3_string_note_option_string<D: Entries>(alloc: Global, part: Ra
     let list = before_vec(view);
     let mut items = Vec::with_capacity(alloc, list.len())?;
     for index in 0..list.len() {
-        let item = match read_tuple3_string_note_option_string(alloc, list.index(index).part(), deserializer) {
+        let item = match read_tuple3_string_note_option_string(
+            alloc,
+            list.index(index).part(),
+            deserializer,
+        ) {
             Ok(item) => item,
             Err(error) => return Err(error),
         };
@@ -621,7 +640,11 @@ fn read_vec_tuple3_string_note_option_string<D: Entries>(alloc: Global, part: Ra
 
 // Reads `Text` back.
 #[inline(always)]
-fn read_note_text<D: Entries>(alloc: Global, part: RawView<'_>, deserializer: &mut D) -> Result<Note, Error>
+fn read_note_text<D: Entries>(
+    alloc: Global,
+    part: RawView<'_>,
+    deserializer: &mut D,
+) -> Result<Note, Error>
     requires viewed { IsPartOf ⟦<ArchivedNote as ArchivePointee>⟧ part }
     requires tag { part_tag part ≡ 0 }
     ensures read { IfOk result (Read ⟦<ArchivedNote as ArchivePointee>⟧ part D.Entries deserializer
@@ -639,7 +662,11 @@ fn read_note_text<D: Entries>(alloc: Global, part: RawView<'_>, deserializer: &m
 
 // Reads `Work` back.
 #[inline(always)]
-fn read_note_work<D: Entries>(alloc: Global, part: RawView<'_>, deserializer: &mut D) -> Result<Note, Error>
+fn read_note_work<D: Entries>(
+    alloc: Global,
+    part: RawView<'_>,
+    deserializer: &mut D,
+) -> Result<Note, Error>
     requires viewed { IsPartOf ⟦<ArchivedNote as ArchivePointee>⟧ part }
     requires tag { part_tag part ≡ 1 }
     ensures read { IfOk result (Read ⟦<ArchivedNote as ArchivePointee>⟧ part D.Entries deserializer
@@ -661,7 +688,11 @@ fn read_note_work<D: Entries>(alloc: Global, part: RawView<'_>, deserializer: &m
 
 // Reads `Table` back.
 #[cycle(read_note)]
-fn read_note_table<D: Entries>(alloc: Global, part: RawView<'_>, deserializer: &mut D) -> Result<Note, Error>
+fn read_note_table<D: Entries>(
+    alloc: Global,
+    part: RawView<'_>,
+    deserializer: &mut D,
+) -> Result<Note, Error>
     requires viewed { IsPartOf ⟦<ArchivedNote as ArchivePointee>⟧ part }
     requires tag { part_tag part ≡ 2 }
     ensures read { IfOk result (Read ⟦<ArchivedNote as ArchivePointee>⟧ part D.Entries deserializer
@@ -681,7 +712,11 @@ fn read_note_table<D: Entries>(alloc: Global, part: RawView<'_>, deserializer: &
 
 // Reads a value back.
 #[cycle(read_note)]
-fn read_note<D: Entries>(alloc: Global, part: RawView<'_>, deserializer: &mut D) -> Result<Note, Error>
+fn read_note<D: Entries>(
+    alloc: Global,
+    part: RawView<'_>,
+    deserializer: &mut D,
+) -> Result<Note, Error>
     requires { IsPartOf ⟦<ArchivedNote as ArchivePointee>⟧ part }
     ensures read { IfOk result (Read ⟦<ArchivedNote as ArchivePointee>⟧ part D.Entries deserializer
         ⟦<Note as Archive>⟧) }
@@ -719,7 +754,12 @@ pub enum ViewOfNote<'a> {
     Work(Ref<'a, ArchivedSortedMap<ArchivedU16, i8>>),
     /// Notes with names, and who wrote each, if that is known.
     Table(
-        Ref<'a, ArchivedVec<ArchivedTuple3<ArchivedString, ArchivedNote, ArchivedOption<ArchivedString>>>>,
+        Ref<
+            'a,
+            ArchivedVec<
+                ArchivedTuple3<ArchivedString, ArchivedNote, ArchivedOption<ArchivedString>>,
+            >,
+        >,
     ),
 }
 
@@ -756,7 +796,13 @@ impl<'a> NoteView<'a> for Ref<'a, ArchivedNote> {
             _ => {
                 let a0 = view_of_payload::<
                     ArchivedNote,
-                    ArchivedVec<ArchivedTuple3<ArchivedString, ArchivedNote, ArchivedOption<ArchivedString>>>,
+                    ArchivedVec<
+                        ArchivedTuple3<
+                            ArchivedString,
+                            ArchivedNote,
+                            ArchivedOption<ArchivedString>,
+                        >,
+                    >,
                 >(self, 2, 0, 4);
                 ViewOfNote::Table(a0)
             }
@@ -785,7 +831,10 @@ pub trait NoteSeal<'a> {
     /// The field `0` of `Table`.
     fn table_0_mut(
         self,
-    ) -> Seal<'a, ArchivedVec<ArchivedTuple3<ArchivedString, ArchivedNote, ArchivedOption<ArchivedString>>>>
+    ) -> Seal<
+        'a,
+        ArchivedVec<ArchivedTuple3<ArchivedString, ArchivedNote, ArchivedOption<ArchivedString>>>,
+    >
         requires come_to { sealed self }
         requires tag { tag self ≡ 2 };
 }
@@ -817,7 +866,10 @@ impl<'a> NoteSeal<'a> for Seal<'a, ArchivedNote> {
 
     fn table_0_mut(
         self,
-    ) -> Seal<'a, ArchivedVec<ArchivedTuple3<ArchivedString, ArchivedNote, ArchivedOption<ArchivedString>>>>
+    ) -> Seal<
+        'a,
+        ArchivedVec<ArchivedTuple3<ArchivedString, ArchivedNote, ArchivedOption<ArchivedString>>>,
+    >
         requires come_to { IsSealOf note_definitions (one ⟦<ArchivedNote as Portable>⟧.shape) self }
         requires tag { seal_tag self ≡ 2 }
         ensures { SealsPart note_definitions (one ⟦<ArchivedNote as Portable>⟧.shape)
@@ -827,7 +879,9 @@ impl<'a> NoteSeal<'a> for Seal<'a, ArchivedNote> {
     {
         seal_of_payload::<
             ArchivedNote,
-            ArchivedVec<ArchivedTuple3<ArchivedString, ArchivedNote, ArchivedOption<ArchivedString>>>,
+            ArchivedVec<
+                ArchivedTuple3<ArchivedString, ArchivedNote, ArchivedOption<ArchivedString>>,
+            >,
         >(self, 2, 0, 4)
     }
 }
