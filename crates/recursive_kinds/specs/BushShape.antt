@@ -17,7 +17,7 @@ abbrev pub bush_shape : Shape
 bush_shape = named bush_name
 
 abbrev pub bush_parts : Parts
-bush_parts = (part (leaf (number_kind unsigned w32)) (part (vec (option_shape (boxed (one bush_shape)))) (part (vec (boxed (one bush_shape))) (part (boxed (one (vec bush_shape))) no_part))))
+bush_parts = (part (leaf (number_kind unsigned w32)) (part (vec (option_shape (boxed (one bush_shape)))) (part (vec (boxed (one bush_shape))) no_part)))
 
 abbrev pub bush_stands_for : Shape
 bush_stands_for = parts bush_parts
@@ -26,7 +26,7 @@ abbrev pub bush_definitions : Definitions
 bush_definitions = defines bush_name bush_stands_for
 
 abbrev pub bush_layout : Layout
-bush_layout = record { size = 24; align = 4 }
+bush_layout = record { size = 20; align = 4 }
 
 pub bush_is_align : IsAlign 4
 bush_is_align = inr (inr (inl refl))
@@ -38,7 +38,7 @@ pub bush_no_others : NoOthers bush_definitions bush_shape
 bush_no_others = name_reached bush_name bush_stands_for
 
 abbrev pub bush_part_definitions : Definitions
-bush_part_definitions = (both no_definition (both bush_definitions (both bush_definitions (both bush_definitions no_definition))))
+bush_part_definitions = (both no_definition (both bush_definitions (both bush_definitions no_definition)))
 
 pub bush_has_parts : IsRecord bush_definitions bush_shape bush_part_definitions bush_parts
-bush_has_parts = record { stands = λ s k. by_name k.has; known = λ s k. (knows_both s _ _ (knows_none s k.laid_out) (knows_both s _ _ k (knows_both s _ _ k (knows_both s _ _ k (knows_none s k.laid_out))))) }
+bush_has_parts = record { stands = λ s k. by_name k.has; known = λ s k. (knows_both s _ _ (knows_none s k.laid_out) (knows_both s _ _ k (knows_both s _ _ k (knows_none s k.laid_out)))) }

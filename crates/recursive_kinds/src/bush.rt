@@ -1,4 +1,4 @@
-//! A tree of boxes in vectors, and of a vector in a box.
+//! A tree of boxes in vectors.
 
 /// A number, and what it leads to.
 #[derive(Debug, PartialEq, Drop)]
@@ -9,8 +9,6 @@ pub struct Bush {
     pub sides: Vec<Option<Box<Bush>>>,
     /// Each in a box of its own.
     pub next: Vec<Box<Bush>>,
-    /// Others, in one box.
-    pub others: Box<Vec<Bush>>,
 }
 
 // Below this line all is written by tools/derive: change what is above it, and run it again.
@@ -36,15 +34,15 @@ ghost use Rattle.recursive_kinds.specs.BushShape.{bush_definitions, bush_has_lay
 ghost use Rattle.std.proofs.Common.{lit≤};
 ghost use Rattle.std.specs.Prelude.{IfErr, IfOk, None, Some, length, refl, ◌+◌, ◌≡◌, ◌≤◌};
 
-use archive_core::boxed::{ArchivedBox, BoxResolver};
+use archive_core::boxed::ArchivedBox;
 use archive_core::error::Error;
 use archive_core::option::ArchivedOption;
 use archive_core::place::Place;
 use archive_core::primitive::ArchivedU32;
 use archive_core::recursive::{
-    BoxAt, VecAt, before_box, before_vec, boxed_expression, define_record, expression_of,
+    VecAt, before_box, before_vec, boxed_expression, define_record, expression_of,
     first_expression, handed_on, named_expression, no_expressions, option_expression,
-    part_of_record, read_part, resolve_named_record_4, seal_of_field, serialize_inner,
+    part_of_record, read_part, resolve_named_record_3, seal_of_field, serialize_inner,
     serialize_inner_slice, serialize_part, vec_expression, view_of_field,
 };
 use archive_core::seal::Seal;
@@ -59,17 +57,14 @@ use archive_core::vec::{ArchivedVec, VecResolver};
 use archive_core::view::{RawView, Ref};
 use std::alloc::{AllocError, Global};
 
-/// An archived `Bush`: 24 bytes at a multiple of 4. It is validated by its schema.
+/// An archived `Bush`: 20 bytes at a multiple of 4. It is validated by its schema.
 pub struct ArchivedBush;
 
 type BushParts = (
     ArchivedU32,
     (
         ArchivedVec<ArchivedOption<ArchivedBox<ArchivedBush>>>,
-        (
-            ArchivedVec<ArchivedBox<ArchivedBush>>,
-            (ArchivedBox<ArchivedVec<ArchivedBush>>, ()),
-        ),
+        (ArchivedVec<ArchivedBox<ArchivedBush>>, ()),
     ),
 );
 
@@ -91,14 +86,7 @@ impl ArchivePointee for ArchivedBush {
 fn bush_expressions(alloc: Global) -> Result<Vec<archive_core::shape::Expr>, AllocError>
     ensures { ExpressesParts bush_parts result }
 {
-    let rest4 = no_expressions(alloc);
-    let rest3 = first_expression(
-        boxed_expression(
-            alloc,
-            vec_expression(alloc, named_expression("ArchivedBush")),
-        ),
-        rest4,
-    );
+    let rest3 = no_expressions(alloc);
     let rest2 = first_expression(
         vec_expression(
             alloc,
@@ -137,7 +125,7 @@ impl Portable for ArchivedBush {
     ghost checks = { λ direct. by_schema direct };
 
     fn size() -> usize {
-        24
+        20
     }
 
     fn align() -> usize {
@@ -164,10 +152,7 @@ impl Record for ArchivedBush {
 /// What is kept of `Bush` between `serialize` and `resolve`.
 #[derive(Drop)]
 pub struct BushResolver {
-    kept: (
-        <u32 as Archive>::Resolver,
-        (VecResolver, (VecResolver, (BoxResolver, ()))),
-    ),
+    kept: (<u32 as Archive>::Resolver, (VecResolver, (VecResolver, ()))),
 }
 
 impl Archive for Bush {
@@ -197,7 +182,7 @@ impl Archive for Bush {
         resolver: Self::Resolver,
         place: Place<'_, Self::Archived>,
     ) -> Result<(), Error>
-        requires zeroed { ZeroedPlace 24 place.pos place.bytes.now }
+        requires zeroed { ZeroedPlace 20 place.pos place.bytes.now }
         requires same_value { ⟦<Self as Archive>⟧.belongs self.now resolver }
         ensures { ResolvesAs ⟦<Self::Archived as Portable>⟧ place
             (⟦<Self as Archive>⟧.flat self.now resolver) result }
@@ -206,14 +191,12 @@ impl Archive for Bush {
         let BushResolver { kept } = resolver;
         let h1: VecAt<ArchivedOption<ArchivedBox<ArchivedBush>>> = VecAt::of(self.sides.len());
         let h2: VecAt<ArchivedBox<ArchivedBush>> = VecAt::of(self.next.len());
-        let h3: BoxAt<ArchivedVec<ArchivedBush>> = BoxAt::new();
-        resolve_named_record_4::<
+        resolve_named_record_3::<
             u32,
             VecAt<ArchivedOption<ArchivedBox<ArchivedBush>>>,
             VecAt<ArchivedBox<ArchivedBush>>,
-            BoxAt<ArchivedVec<ArchivedBush>>,
             ArchivedBush,
-        >(&self.id, &h1, &h2, &h3, kept, Place::new(pos, bytes))
+        >(&self.id, &h1, &h2, kept, Place::new(pos, bytes))
     }
 
     #[inline(always)]
@@ -376,95 +359,6 @@ fn serialize_vec_box_bush<S: Writer + Keys + ResolverAlloc>(
     }
 }
 
-// Writes what each of the values owns, in order.
-#[cycle(serialize_bush)]
-fn serialize_each_bush<S: Writer + Keys + ResolverAlloc>(
-    values: &[Bush],
-    serializer: &mut S,
-) -> Result<Vec<<Bush as Archive>::Resolver, S::Alloc>, Error>
-    ensures serialized { IfOk result (λ rs. SerializedRun bush_definitions bush_shape
-        (length values.now) (each_keys ⟦<Bush as Archive>⟧.keys values.now)
-        (each_meaning ⟦<Bush as Archive>⟧.meaning values.now)
-        (each_flat ⟦<Bush as Archive>⟧.flat values.now rs.items) (S.state serializer.old)
-        (S.state serializer.new)) }
-    ensures same_values { IfOk result (λ rs. EachBelongs ⟦<Bush as Archive>⟧.belongs values.now
-        rs.items) }
-    ensures goes_on { GoesOn (S.state serializer.old) (S.state serializer.new) }
-    ensures refused { IfErr result (IsRunRefused bush_definitions bush_shape (length values.now)
-        (each_keys ⟦<Bush as Archive>⟧.keys values.now)
-        (each_meaning ⟦<Bush as Archive>⟧.meaning values.now) (S.state serializer.old)
-        (S.state serializer.new)) }
-{
-    let alloc = serializer.resolver_alloc();
-    let mut resolvers = Vec::with_capacity(alloc, values.len())?;
-    for value in values {
-        let resolver = match serialize_bush(value, serializer) {
-            Ok(resolver) => resolver,
-            Err(error) => return Err(handed_on(error)),
-        };
-        resolvers.push(resolver).map_err(AllocError::from)?;
-    }
-    Ok(resolvers)
-}
-
-// Writes what a vector owns.
-#[cycle(serialize_bush)]
-fn serialize_vec_bush<S: Writer + Keys + ResolverAlloc>(
-    value: &Vec<Bush>,
-    serializer: &mut S,
-) -> Result<VecResolver, Error>
-    ensures serialized { IfOk result (λ r. Serialized bush_definitions (vec bush_shape)
-        (⟦<Vec<Bush> as Archive>⟧.keys value.now) (⟦<Vec<Bush> as Archive>⟧.meaning value.now)
-        (⟦<Vec<Bush> as Archive>⟧.flat value.now r) (S.state serializer.old)
-        (S.state serializer.new)) }
-    ensures same_value { IfOk result (λ r. ⟦<Vec<Bush> as Archive>⟧.belongs value.now r) }
-    ensures goes_on { GoesOn (S.state serializer.old) (S.state serializer.new) }
-    ensures refused { IfErr result (IsRefused bush_definitions (vec bush_shape)
-        (⟦<Vec<Bush> as Archive>⟧.keys value.now) (⟦<Vec<Bush> as Archive>⟧.meaning value.now)
-        (S.state serializer.old) (S.state serializer.new)) }
-{
-    if value.len() > u32::MAX as usize {
-        return Err(Error::LengthTooLarge);
-    }
-    let items = value.as_slice();
-    let kept = match serialize_each_bush(items, serializer) {
-        Ok(kept) => kept,
-        Err(error) => return Err(error),
-    };
-    match serialize_inner_slice(items, kept, serializer) {
-        Ok(at) => Ok(at),
-        Err(error) => Err(error),
-    }
-}
-
-// Writes what a box owns.
-#[cycle(serialize_bush)]
-fn serialize_box_vec_bush<S: Writer + Keys + ResolverAlloc>(
-    value: &Box<Vec<Bush>>,
-    serializer: &mut S,
-) -> Result<BoxResolver, Error>
-    ensures serialized { IfOk result (λ r. Serialized bush_definitions
-        (boxed (one (vec bush_shape))) (⟦<Box<Vec<Bush>> as Archive>⟧.keys value.now)
-        (⟦<Box<Vec<Bush>> as Archive>⟧.meaning value.now)
-        (⟦<Box<Vec<Bush>> as Archive>⟧.flat value.now r) (S.state serializer.old)
-        (S.state serializer.new)) }
-    ensures same_value { IfOk result (λ r. ⟦<Box<Vec<Bush>> as Archive>⟧.belongs value.now r) }
-    ensures goes_on { GoesOn (S.state serializer.old) (S.state serializer.new) }
-    ensures refused { IfErr result (IsRefused bush_definitions (boxed (one (vec bush_shape)))
-        (⟦<Box<Vec<Bush>> as Archive>⟧.keys value.now) (⟦<Box<Vec<Bush>> as Archive>⟧.meaning
-        value.now) (S.state serializer.old) (S.state serializer.new)) }
-{
-    let inner = &**value;
-    let kept = match serialize_vec_bush(inner, serializer) {
-        Ok(kept) => kept,
-        Err(error) => return Err(handed_on(error)),
-    };
-    match serialize_inner(inner, kept, serializer) {
-        Ok(at) => Ok(at),
-        Err(error) => Err(error),
-    }
-}
-
 // Writes what a value owns, part by part.
 #[cycle(serialize_bush)]
 fn serialize_bush<S: Writer + Keys + ResolverAlloc>(
@@ -492,12 +386,8 @@ fn serialize_bush<S: Writer + Keys + ResolverAlloc>(
         Ok(a2) => a2,
         Err(error) => return Err(error),
     };
-    let a3 = match serialize_box_vec_bush(&value.others, serializer) {
-        Ok(a3) => a3,
-        Err(error) => return Err(error),
-    };
     Ok(BushResolver {
-        kept: (a0, (a1, (a2, (a3, ())))),
+        kept: (a0, (a1, (a2, ()))),
     })
 }
 
@@ -642,55 +532,6 @@ fn read_vec_box_bush<D: Entries>(
     Ok(items)
 }
 
-// Reads a vector back.
-#[cycle(read_bush)]
-fn read_vec_bush<D: Entries>(
-    alloc: Global,
-    part: RawView<'_>,
-    deserializer: &mut D,
-) -> Result<Vec<Bush>, Error>
-    requires { IsPartOf ⟦<ArchivedVec<ArchivedBush> as ArchivePointee>⟧ part }
-    ensures read { IfOk result (Read ⟦<ArchivedVec<ArchivedBush> as ArchivePointee>⟧ part D.Entries
-        deserializer ⟦<Vec<Bush> as Archive>⟧) }
-    ensures refused { IfErr result (RefusesPart ⟦<ArchivedVec<ArchivedBush> as ArchivePointee>⟧ part
-        D.Entries deserializer) }
-{
-    let view: Ref<'_, ArchivedVec<ArchivedBush>> = Ref::at(part);
-    let list = before_vec(view);
-    let mut items = Vec::with_capacity(alloc, list.len())?;
-    for index in 0..list.len() {
-        let item = match read_bush(alloc, list.index(index).part(), deserializer) {
-            Ok(item) => item,
-            Err(error) => return Err(error),
-        };
-        items.push_reserved(item);
-    }
-    Ok(items)
-}
-
-// Reads a box back.
-#[cycle(read_bush)]
-fn read_box_vec_bush<D: Entries>(
-    alloc: Global,
-    part: RawView<'_>,
-    deserializer: &mut D,
-) -> Result<Box<Vec<Bush>>, Error>
-    requires { IsPartOf ⟦<ArchivedBox<ArchivedVec<ArchivedBush>> as ArchivePointee>⟧ part }
-    ensures read { IfOk result (Read ⟦<ArchivedBox<ArchivedVec<ArchivedBush>> as ArchivePointee>⟧
-        part D.Entries deserializer ⟦<Box<Vec<Bush>> as Archive>⟧) }
-    ensures refused { IfErr result
-        (RefusesPart ⟦<ArchivedBox<ArchivedVec<ArchivedBush>> as ArchivePointee>⟧ part D.Entries
-        deserializer) }
-{
-    let view: Ref<'_, ArchivedBox<ArchivedVec<ArchivedBush>>> = Ref::at(part);
-    let value = match read_vec_bush(alloc, before_box(view).part(), deserializer) {
-        Ok(value) => value,
-        Err(error) => return Err(error),
-    };
-    let whole = Box::new(alloc, value)?;
-    Ok(whole)
-}
-
 // Reads a value back, part by part.
 #[cycle(read_bush)]
 fn read_bush<D: Entries>(
@@ -721,16 +562,10 @@ fn read_bush<D: Entries>(
         Ok(a2) => a2,
         Err(error) => return Err(error),
     };
-    let p3 = part_of_record::<ArchivedBush, ArchivedBox<ArchivedVec<ArchivedBush>>>(part, 3, 20);
-    let a3 = match read_box_vec_bush(alloc, p3, deserializer) {
-        Ok(a3) => a3,
-        Err(error) => return Err(error),
-    };
     Ok(Bush {
         id: a0,
         sides: a1,
         next: a2,
-        others: a3,
     })
 }
 
@@ -759,9 +594,6 @@ pub trait BushView<'a> {
 
     /// Each in a box of its own.
     fn next(self) -> Ref<'a, ArchivedVec<ArchivedBox<ArchivedBush>>>;
-
-    /// Others, in one box.
-    fn others(self) -> Ref<'a, ArchivedBox<ArchivedVec<ArchivedBush>>>;
 }
 
 impl<'a> BushView<'a> for Ref<'a, ArchivedBush> {
@@ -793,15 +625,6 @@ impl<'a> BushView<'a> for Ref<'a, ArchivedBush> {
     {
         view_of_field::<ArchivedBush, ArchivedVec<ArchivedBox<ArchivedBush>>>(self, 2, 12)
     }
-
-    fn others(self) -> Ref<'a, ArchivedBox<ArchivedVec<ArchivedBush>>>
-        ensures buffer { result.bytes.now ≡ self.entry.bytes.now }
-        ensures position { result.pos ≡ self.entry.pos + 20 }
-        ensures length { result.len ≡ 0 }
-        ensures shows { ShowsValueOf result self.entry (field_in 3) }
-    {
-        view_of_field::<ArchivedBush, ArchivedBox<ArchivedVec<ArchivedBush>>>(self, 3, 20)
-    }
 }
 
 /// The fields of an archived `Bush`, as seals.
@@ -819,10 +642,6 @@ pub trait BushSeal<'a> {
 
     /// Each in a box of its own.
     fn next_mut(self) -> Seal<'a, ArchivedVec<ArchivedBox<ArchivedBush>>>
-        requires { sealed self };
-
-    /// Others, in one box.
-    fn others_mut(self) -> Seal<'a, ArchivedBox<ArchivedVec<ArchivedBush>>>
         requires { sealed self };
 }
 
@@ -857,15 +676,5 @@ impl<'a> BushSeal<'a> for Seal<'a, ArchivedBush> {
             (self.entry.pos + 12) 0 self.entry result }
     {
         seal_of_field::<ArchivedBush, ArchivedVec<ArchivedBox<ArchivedBush>>>(self, 2, 12)
-    }
-
-    fn others_mut(self) -> Seal<'a, ArchivedBox<ArchivedVec<ArchivedBush>>>
-        requires come_to { IsSealOf bush_definitions (one ⟦<ArchivedBush as Portable>⟧.shape) self }
-        ensures { SealsPart bush_definitions (one ⟦<ArchivedBush as Portable>⟧.shape)
-            ⟦<ArchivedBush as ArchivePointee>⟧.definitions
-            ⟦<ArchivedBox<ArchivedVec<ArchivedBush>> as ArchivePointee>⟧.pointee
-            (self.entry.pos + 20) 0 self.entry result }
-    {
-        seal_of_field::<ArchivedBush, ArchivedBox<ArchivedVec<ArchivedBush>>>(self, 3, 20)
     }
 }

@@ -12,33 +12,28 @@ use recursive_kinds::rule::{ArchivedRule, Rule, RuleView};
 use std::alloc::{AllocError, Global};
 use std::process::Abort;
 
-fn bush(alloc: Global, id: u32) -> Result<Bush, AllocError> {
-    Ok(Bush {
+fn bush(alloc: Global, id: u32) -> Bush {
+    Bush {
         id,
         sides: Vec::new(alloc),
         next: Vec::new(alloc),
-        others: Box::new(alloc, Vec::new(alloc))?,
-    })
+    }
 }
 
 fn bushes(alloc: Global) -> Result<Bush, AllocError> {
-    let two = Box::new(alloc, bush(alloc, 2)?)?;
-    let three = Box::new(alloc, bush(alloc, 3)?)?;
-    let four = bush(alloc, 4)?;
-    let others = vec![in alloc; four]?;
+    let two = Box::new(alloc, bush(alloc, 2))?;
+    let three = Box::new(alloc, bush(alloc, 3))?;
     Ok(Bush {
         id: 1,
         sides: vec![in alloc; None, Some(two)]?,
         next: vec![in alloc; three]?,
-        others: Box::new(alloc, others)?,
     })
 }
 
-// The vector that the box of bush 2 holds at 0, which is empty, and bush 2 at 8; the two options at 32, each a tag and a box; the empty vector of bush 3
-// at 48, bush 3 at 56, and the box of it at 80; the empty vector of bush 4 at 84, bush 4 at 92, the vector of it at 116, and bush 1 at 124. A bush is its
-// number, twice an offset and a length, and a box.
+// Bush 2 at 0; the two options at 20, each a tag and a box; bush 3 at 36, and the box of it at 56; and bush 1 at 60. A bush is its number, and twice an offset
+// and a length.
 const BUSHES: &[u8] =
-    b"\0\0\0\0\0\0\0\0\x02\0\0\0\xf4\xff\xff\xff\0\0\0\0\xec\xff\xff\xff\0\0\0\0\xe4\xff\xff\xff\0\0\0\0\0\0\0\0\x01\0\0\0\xdc\xff\xff\xff\0\0\0\0\0\0\0\0\x03\0\0\0\xf4\xff\xff\xff\0\0\0\0\xec\xff\xff\xff\0\0\0\0\xe4\xff\xff\xff\xe8\xff\xff\xff\0\0\0\0\0\0\0\0\x04\0\0\0\xf4\xff\xff\xff\0\0\0\0\xec\xff\xff\xff\0\0\0\0\xe4\xff\xff\xff\xe8\xff\xff\xff\x01\0\0\0\x01\0\0\0\xa0\xff\xff\xff\x02\0\0\0\xc8\xff\xff\xff\x01\0\0\0\xe4\xff\xff\xff";
+    b"\x02\0\0\0\xfc\xff\xff\xff\0\0\0\0\xf4\xff\xff\xff\0\0\0\0\0\0\0\0\0\0\0\0\x01\0\0\0\xe0\xff\xff\xff\x03\0\0\0\xfc\xff\xff\xff\0\0\0\0\xf4\xff\xff\xff\0\0\0\0\xec\xff\xff\xff\x01\0\0\0\xd4\xff\xff\xff\x02\0\0\0\xf0\xff\xff\xff\x01\0\0\0";
 
 #[test]
 fn boxes_and_options_in_vectors(rt: HostRuntime) {
@@ -51,12 +46,12 @@ fn boxes_and_options_in_vectors(rt: HostRuntime) {
 #[test]
 fn a_box_that_leads_into_itself(rt: HostRuntime) {
     let outside = Error::InvalidSubtreePointer {
-        position: 76,
-        size: 24,
-        start: 48,
-        end: 80,
+        position: 52,
+        size: 20,
+        start: 36,
+        end: 56,
     };
-    assert_changed::<ArchivedBush>(&rt, rt.alloc(), BUSHES, 80, 0xfc, outside);
+    assert_changed::<ArchivedBush>(&rt, rt.alloc(), BUSHES, 56, 0xfc, outside);
 }
 
 // An array of these bytes; they are four.

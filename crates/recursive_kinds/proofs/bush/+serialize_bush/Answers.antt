@@ -130,86 +130,23 @@ serialize_vec_box_bush-returns-in-Err-serialize_inner_slice-clause-goes_on g t c
 pub serialize_vec_box_bush-returns-in-Err-serialize_inner_slice-clause-refused : goal.serialize_vec_box_bush-returns-in-Err-serialize_inner_slice-clause-refused
 serialize_vec_box_bush-returns-in-Err-serialize_inner_slice-clause-refused g t c = (rw c.as_slice-items.ensures.value at c.in-Err-serialize_inner_slice.ensures.refused).since _ c.serialize_each_box_bush.ensures.goes_on (rw c.as_slice-items.ensures.value at c.in-Ok.ensures.serialized)
 
-pub serialize_each_bush-returns-in_err-resolvers-clause-refused : goal.serialize_each_bush-returns-in_err-resolvers-clause-refused
-serialize_each_bush-returns-in_err-resolvers-clause-refused g t c = err_by c.from_residual.result OutOfMemory _ c.from_residual.ensures.1 no_memory
-
-pub serialize_each_bush-returns-in-Err-clause-goes_on : goal.serialize_each_bush-returns-in-Err-clause-goes_on
-serialize_each_bush-returns-in-Err-clause-goes_on g t c = goes_both _ _ _ c.loop-value.invariant.continues.goes c.serialize_bush.ensures.goes_on
-
-pub serialize_each_bush-returns-in-Err-clause-refused : goal.serialize_each_bush-returns-in-Err-clause-refused
-serialize_each_bush-returns-in-Err-clause-refused g t c = rw c.handed_on.ensures (continues_broken _ _ _ _ _ _ _ _ _ _ c.loop-value.value-index _ _ _ c.loop-value-test.true c.value-item.is bush_planned c.loop-value.invariant.continues c.serialize_bush.ensures.goes_on c.in-Err.ensures.refused)
-
-pub serialize_each_bush-returns-in_err-map_err-clause-goes_on : goal.serialize_each_bush-returns-in_err-map_err-clause-goes_on
-serialize_each_bush-returns-in_err-map_err-clause-goes_on g t c = goes_both _ _ _ c.loop-value.invariant.continues.goes c.serialize_bush.ensures.goes_on
-
-pub serialize_each_bush-returns-in_err-map_err-clause-refused : goal.serialize_each_bush-returns-in_err-map_err-clause-refused
-serialize_each_bush-returns-in_err-map_err-clause-refused g t c = err_by c.from_residual-in_err-map_err.result OutOfMemory _ c.from_residual-in_err-map_err.ensures.1 no_memory
-
-pub serialize_each_bush-loop-value-preserved : goal.serialize_each_bush-loop-value-preserved
-serialize_each_bush-loop-value-preserved g t c = record { continues = continues_step _ _ _ _ _ _ _ _ _ _ c.loop-value.value-index _ _ _ _ c.loop-value-test.true c.value-item.is (grind (arith, common_steps)) c.loop-value.invariant.continues c.in-Ok.ensures.serialized c.in-Ok.ensures.same_value c.serialize_bush.ensures.goes_on }
-
-pub serialize_each_bush-returns-clause-serialized : goal.serialize_each_bush-returns-clause-serialized
-serialize_each_bush-returns-clause-serialized g t c = continues_end _ _ _ _ _ _ _ _ _ _ _ (drop_of_length-le _ c.loop-value-test.false) c.loop-value.invariant.continues
-
-pub serialize_each_bush-returns-clause-same_values : goal.serialize_each_bush-returns-clause-same_values
-serialize_each_bush-returns-clause-same_values g t c = belongs_end _ _ _ _ _ _ _ _ _ _ _ (drop_of_length-le _ c.loop-value-test.false) c.loop-value.invariant.continues
-
-pub serialize_vec_bush-returns-then-len-clause-refused : goal.serialize_vec_bush-returns-then-len-clause-refused
-serialize_vec_bush-returns-then-len-clause-refused g t c = (let long : 4294967295 < length c.args.value.now.items = (let whole : length c.args.value.now.items ≡ c.len.result = grind (arith, common_steps, c.len.ensures) in omega (arith, c.if-len.true, whole)) in vec_refused bush_definitions bush_shape (length c.args.value.now.items) (each_keys bush_keys c.args.value.now.items) (list (each_meaning bush_meaning c.args.value.now.items)) _ _ _ (long_run_refused bush_definitions bush_shape (length c.args.value.now.items) (each_keys bush_keys c.args.value.now.items) (each_meaning bush_meaning c.args.value.now.items) _ _ (each_planned bush_definitions bush_shape bush_keys bush_meaning bush_planned c.args.value.now.items) long))
-
-pub serialize_vec_bush-returns-in-Err-clause-refused : goal.serialize_vec_bush-returns-in-Err-clause-refused
-serialize_vec_bush-returns-in-Err-clause-refused g t c = vec_refused bush_definitions bush_shape (length c.args.value.now.items) (each_keys bush_keys c.args.value.now.items) (list (each_meaning bush_meaning c.args.value.now.items)) _ _ _ (run_owned bush_definitions bush_shape (length c.args.value.now.items) (each_keys bush_keys c.args.value.now.items) (each_meaning bush_meaning c.args.value.now.items) _ _ _ (rw c.as_slice-items.ensures.value at c.in-Err.ensures.refused))
-
-pub serialize_vec_bush-returns-in-Ok-serialize_inner_slice-clause-serialized : goal.serialize_vec_bush-returns-in-Ok-serialize_inner_slice-clause-serialized
-serialize_vec_bush-returns-in-Ok-serialize_inner_slice-clause-serialized g t c = (rw c.as_slice-items.ensures.value at c.in-Ok-serialize_inner_slice.ensures.listed).since _ c.serialize_each_bush.ensures.goes_on (rw c.as_slice-items.ensures.value at c.in-Ok.ensures.serialized)
-
-pub serialize_vec_bush-returns-in-Ok-serialize_inner_slice-clause-goes_on : goal.serialize_vec_bush-returns-in-Ok-serialize_inner_slice-clause-goes_on
-serialize_vec_bush-returns-in-Ok-serialize_inner_slice-clause-goes_on g t c = (goes_both _ _ _ c.serialize_each_bush.ensures.goes_on c.serialize_inner_slice.ensures.goes_on)
-
-pub serialize_vec_bush-returns-in-Err-serialize_inner_slice-clause-goes_on : goal.serialize_vec_bush-returns-in-Err-serialize_inner_slice-clause-goes_on
-serialize_vec_bush-returns-in-Err-serialize_inner_slice-clause-goes_on g t c = (goes_both _ _ _ c.serialize_each_bush.ensures.goes_on c.serialize_inner_slice.ensures.goes_on)
-
-pub serialize_vec_bush-returns-in-Err-serialize_inner_slice-clause-refused : goal.serialize_vec_bush-returns-in-Err-serialize_inner_slice-clause-refused
-serialize_vec_bush-returns-in-Err-serialize_inner_slice-clause-refused g t c = (rw c.as_slice-items.ensures.value at c.in-Err-serialize_inner_slice.ensures.refused).since _ c.serialize_each_bush.ensures.goes_on (rw c.as_slice-items.ensures.value at c.in-Ok.ensures.serialized)
-
-pub serialize_box_vec_bush-returns-in-Err-clause-refused : goal.serialize_box_vec_bush-returns-in-Err-clause-refused
-serialize_box_vec_bush-returns-in-Err-clause-refused g t c = rw c.handed_on.ensures (let same : c.deref-inner.result.now ≡ c.args.value.now.value = grind (arith, common_steps) in rw (← same) (box_refused bush_definitions (one (vec bush_shape)) 0 _ _ _ _ _ (one_owned bush_definitions (vec bush_shape) _ _ _ _ _ c.in-Err.ensures.refused)))
-
-pub serialize_box_vec_bush-returns-in-Ok-serialize_inner-clause-serialized : goal.serialize_box_vec_bush-returns-in-Ok-serialize_inner-clause-serialized
-serialize_box_vec_bush-returns-in-Ok-serialize_inner-clause-serialized g t c = (let same : c.deref-inner.result.now ≡ c.args.value.now.value = grind (arith, common_steps) in rw (← same) (c.in-Ok-serialize_inner.ensures.boxed.since _ c.serialize_vec_bush.ensures.goes_on c.in-Ok.ensures.serialized))
-
-pub serialize_box_vec_bush-returns-in-Ok-serialize_inner-clause-goes_on : goal.serialize_box_vec_bush-returns-in-Ok-serialize_inner-clause-goes_on
-serialize_box_vec_bush-returns-in-Ok-serialize_inner-clause-goes_on g t c = (goes_both _ _ _ c.serialize_vec_bush.ensures.goes_on c.serialize_inner.ensures.goes_on)
-
-pub serialize_box_vec_bush-returns-in-Err-serialize_inner-clause-goes_on : goal.serialize_box_vec_bush-returns-in-Err-serialize_inner-clause-goes_on
-serialize_box_vec_bush-returns-in-Err-serialize_inner-clause-goes_on g t c = (goes_both _ _ _ c.serialize_vec_bush.ensures.goes_on c.serialize_inner.ensures.goes_on)
-
-pub serialize_box_vec_bush-returns-in-Err-serialize_inner-clause-refused : goal.serialize_box_vec_bush-returns-in-Err-serialize_inner-clause-refused
-serialize_box_vec_bush-returns-in-Err-serialize_inner-clause-refused g t c = (let same : c.deref-inner.result.now ≡ c.args.value.now.value = grind (arith, common_steps) in rw (← same) (c.in-Err-serialize_inner.ensures.refused.since _ c.serialize_vec_bush.ensures.goes_on c.in-Ok.ensures.serialized))
-
 pub serialize_bush-returns-in-Err-clause-refused : goal.serialize_bush-returns-in-Err-clause-refused
-serialize_bush-returns-in-Err-clause-refused g t c = (refused_as (bush_has_keys c.args.value.now) (bush_means c.args.value.now) (record_refused bush_definitions bush_shape bush_part_definitions bush_parts bush_has_parts _ _ _ _ _ (first_refused no_definition (both bush_definitions (both bush_definitions (both bush_definitions no_definition))) (leaf (number_kind unsigned w32)) (part (vec (option_shape (boxed (one bush_shape)))) (part (vec (boxed (one bush_shape))) (part (boxed (one (vec bush_shape))) no_part))) [] ((each_keys (λ y. (option_keys (λ y. (bush_keys y.value)) y)) (out-Bush c.args.value.now).sides.items) ++ ((each_keys (λ y. (bush_keys y.value)) (out-Bush c.args.value.now).next.items) ++ ((each_keys bush_keys (out-Bush c.args.value.now).others.value.items) ++ []))) (number (pos (out-Bush c.args.value.now).id)) (value (list (each_meaning (λ y. (option_meaning (λ y. (box (bush_meaning y.value))) y)) (out-Bush c.args.value.now).sides.items)) (value (list (each_meaning (λ y. (box (bush_meaning y.value))) (out-Bush c.args.value.now).next.items)) (value (box (list (each_meaning bush_meaning (out-Bush c.args.value.now).others.value.items))) no_value))) _ _ _ (part_planned bush_definitions (vec (option_shape (boxed (one bush_shape)))) (each_keys (λ y. (option_keys (λ y. (bush_keys y.value)) y)) (out-Bush c.args.value.now).sides.items) (list (each_meaning (λ y. (option_meaning (λ y. (box (bush_meaning y.value))) y)) (out-Bush c.args.value.now).sides.items)) (vec_planned bush_definitions (option_shape (boxed (one bush_shape))) _ _ _ (slice_planned bush_definitions (option_shape (boxed (one bush_shape))) (λ y. (option_keys (λ y. (bush_keys y.value)) y)) (λ y. (option_meaning (λ y. (box (bush_meaning y.value))) y)) (λ y. (option_planned bush_definitions (boxed (one bush_shape)) (λ y. (bush_keys y.value)) (λ y. (box (bush_meaning y.value))) (λ y. (boxed_one_planned bush_definitions (one bush_shape) bush_shape refl _ _ (bush_planned y.value))) y)) (out-Bush c.args.value.now).sides.items)) (part_planned bush_definitions (vec (boxed (one bush_shape))) (each_keys (λ y. (bush_keys y.value)) (out-Bush c.args.value.now).next.items) (list (each_meaning (λ y. (box (bush_meaning y.value))) (out-Bush c.args.value.now).next.items)) (vec_planned bush_definitions (boxed (one bush_shape)) _ _ _ (slice_planned bush_definitions (boxed (one bush_shape)) (λ y. (bush_keys y.value)) (λ y. (box (bush_meaning y.value))) (λ y. (boxed_one_planned bush_definitions (one bush_shape) bush_shape refl _ _ (bush_planned y.value))) (out-Bush c.args.value.now).next.items)) (part_planned bush_definitions (boxed (one (vec bush_shape))) (each_keys bush_keys (out-Bush c.args.value.now).others.value.items) (box (list (each_meaning bush_meaning (out-Bush c.args.value.now).others.value.items))) (boxed_one_planned bush_definitions (one (vec bush_shape)) (vec bush_shape) refl _ _ (vec_planned bush_definitions bush_shape _ _ _ (slice_planned bush_definitions bush_shape bush_keys bush_meaning bush_planned (out-Bush c.args.value.now).others.value.items))) no_part_planned))) c.in-Err.ensures.refused)))
+serialize_bush-returns-in-Err-clause-refused g t c = (refused_as (bush_has_keys c.args.value.now) (bush_means c.args.value.now) (record_refused bush_definitions bush_shape bush_part_definitions bush_parts bush_has_parts _ _ _ _ _ (first_refused no_definition (both bush_definitions (both bush_definitions no_definition)) (leaf (number_kind unsigned w32)) (part (vec (option_shape (boxed (one bush_shape)))) (part (vec (boxed (one bush_shape))) no_part)) [] ((each_keys (λ y. (option_keys (λ y. (bush_keys y.value)) y)) (out-Bush c.args.value.now).sides.items) ++ ((each_keys (λ y. (bush_keys y.value)) (out-Bush c.args.value.now).next.items) ++ [])) (number (pos (out-Bush c.args.value.now).id)) (value (list (each_meaning (λ y. (option_meaning (λ y. (box (bush_meaning y.value))) y)) (out-Bush c.args.value.now).sides.items)) (value (list (each_meaning (λ y. (box (bush_meaning y.value))) (out-Bush c.args.value.now).next.items)) no_value)) _ _ _ (part_planned bush_definitions (vec (option_shape (boxed (one bush_shape)))) (each_keys (λ y. (option_keys (λ y. (bush_keys y.value)) y)) (out-Bush c.args.value.now).sides.items) (list (each_meaning (λ y. (option_meaning (λ y. (box (bush_meaning y.value))) y)) (out-Bush c.args.value.now).sides.items)) (vec_planned bush_definitions (option_shape (boxed (one bush_shape))) _ _ _ (slice_planned bush_definitions (option_shape (boxed (one bush_shape))) (λ y. (option_keys (λ y. (bush_keys y.value)) y)) (λ y. (option_meaning (λ y. (box (bush_meaning y.value))) y)) (λ y. (option_planned bush_definitions (boxed (one bush_shape)) (λ y. (bush_keys y.value)) (λ y. (box (bush_meaning y.value))) (λ y. (boxed_one_planned bush_definitions (one bush_shape) bush_shape refl _ _ (bush_planned y.value))) y)) (out-Bush c.args.value.now).sides.items)) (part_planned bush_definitions (vec (boxed (one bush_shape))) (each_keys (λ y. (bush_keys y.value)) (out-Bush c.args.value.now).next.items) (list (each_meaning (λ y. (box (bush_meaning y.value))) (out-Bush c.args.value.now).next.items)) (vec_planned bush_definitions (boxed (one bush_shape)) _ _ _ (slice_planned bush_definitions (boxed (one bush_shape)) (λ y. (bush_keys y.value)) (λ y. (box (bush_meaning y.value))) (λ y. (boxed_one_planned bush_definitions (one bush_shape) bush_shape refl _ _ (bush_planned y.value))) (out-Bush c.args.value.now).next.items)) no_part_planned)) c.in-Err.ensures.refused)))
 
 pub serialize_bush-returns-in-Err-serialize_vec_option_box_bush-clause-refused : goal.serialize_bush-returns-in-Err-serialize_vec_option_box_bush-clause-refused
-serialize_bush-returns-in-Err-serialize_vec_option_box_bush-clause-refused g t c = (refused_as (bush_has_keys c.args.value.now) (bush_means c.args.value.now) (record_refused bush_definitions bush_shape bush_part_definitions bush_parts bush_has_parts _ _ _ _ _ (later_refused no_definition (both bush_definitions (both bush_definitions (both bush_definitions no_definition))) (leaf (number_kind unsigned w32)) (part (vec (option_shape (boxed (one bush_shape)))) (part (vec (boxed (one bush_shape))) (part (boxed (one (vec bush_shape))) no_part))) [] ((each_keys (λ y. (option_keys (λ y. (bush_keys y.value)) y)) (out-Bush c.args.value.now).sides.items) ++ ((each_keys (λ y. (bush_keys y.value)) (out-Bush c.args.value.now).next.items) ++ ((each_keys bush_keys (out-Bush c.args.value.now).others.value.items) ++ []))) (number (pos (out-Bush c.args.value.now).id)) (value (list (each_meaning (λ y. (option_meaning (λ y. (box (bush_meaning y.value))) y)) (out-Bush c.args.value.now).sides.items)) (value (list (each_meaning (λ y. (box (bush_meaning y.value))) (out-Bush c.args.value.now).next.items)) (value (box (list (each_meaning bush_meaning (out-Bush c.args.value.now).others.value.items))) no_value))) _ _ _ _ _ c.in-Ok.ensures.serialized c.serialize_part.ensures.goes_on c.serialize_vec_option_box_bush.ensures.goes_on (first_refused bush_definitions (both bush_definitions (both bush_definitions no_definition)) (vec (option_shape (boxed (one bush_shape)))) (part (vec (boxed (one bush_shape))) (part (boxed (one (vec bush_shape))) no_part)) (each_keys (λ y. (option_keys (λ y. (bush_keys y.value)) y)) (out-Bush c.args.value.now).sides.items) ((each_keys (λ y. (bush_keys y.value)) (out-Bush c.args.value.now).next.items) ++ ((each_keys bush_keys (out-Bush c.args.value.now).others.value.items) ++ [])) (list (each_meaning (λ y. (option_meaning (λ y. (box (bush_meaning y.value))) y)) (out-Bush c.args.value.now).sides.items)) (value (list (each_meaning (λ y. (box (bush_meaning y.value))) (out-Bush c.args.value.now).next.items)) (value (box (list (each_meaning bush_meaning (out-Bush c.args.value.now).others.value.items))) no_value)) _ _ _ (part_planned bush_definitions (vec (boxed (one bush_shape))) (each_keys (λ y. (bush_keys y.value)) (out-Bush c.args.value.now).next.items) (list (each_meaning (λ y. (box (bush_meaning y.value))) (out-Bush c.args.value.now).next.items)) (vec_planned bush_definitions (boxed (one bush_shape)) _ _ _ (slice_planned bush_definitions (boxed (one bush_shape)) (λ y. (bush_keys y.value)) (λ y. (box (bush_meaning y.value))) (λ y. (boxed_one_planned bush_definitions (one bush_shape) bush_shape refl _ _ (bush_planned y.value))) (out-Bush c.args.value.now).next.items)) (part_planned bush_definitions (boxed (one (vec bush_shape))) (each_keys bush_keys (out-Bush c.args.value.now).others.value.items) (box (list (each_meaning bush_meaning (out-Bush c.args.value.now).others.value.items))) (boxed_one_planned bush_definitions (one (vec bush_shape)) (vec bush_shape) refl _ _ (vec_planned bush_definitions bush_shape _ _ _ (slice_planned bush_definitions bush_shape bush_keys bush_meaning bush_planned (out-Bush c.args.value.now).others.value.items))) no_part_planned)) c.in-Err-serialize_vec_option_box_bush.ensures.refused))))
+serialize_bush-returns-in-Err-serialize_vec_option_box_bush-clause-refused g t c = (refused_as (bush_has_keys c.args.value.now) (bush_means c.args.value.now) (record_refused bush_definitions bush_shape bush_part_definitions bush_parts bush_has_parts _ _ _ _ _ (later_refused no_definition (both bush_definitions (both bush_definitions no_definition)) (leaf (number_kind unsigned w32)) (part (vec (option_shape (boxed (one bush_shape)))) (part (vec (boxed (one bush_shape))) no_part)) [] ((each_keys (λ y. (option_keys (λ y. (bush_keys y.value)) y)) (out-Bush c.args.value.now).sides.items) ++ ((each_keys (λ y. (bush_keys y.value)) (out-Bush c.args.value.now).next.items) ++ [])) (number (pos (out-Bush c.args.value.now).id)) (value (list (each_meaning (λ y. (option_meaning (λ y. (box (bush_meaning y.value))) y)) (out-Bush c.args.value.now).sides.items)) (value (list (each_meaning (λ y. (box (bush_meaning y.value))) (out-Bush c.args.value.now).next.items)) no_value)) _ _ _ _ _ c.in-Ok.ensures.serialized c.serialize_part.ensures.goes_on c.serialize_vec_option_box_bush.ensures.goes_on (first_refused bush_definitions (both bush_definitions no_definition) (vec (option_shape (boxed (one bush_shape)))) (part (vec (boxed (one bush_shape))) no_part) (each_keys (λ y. (option_keys (λ y. (bush_keys y.value)) y)) (out-Bush c.args.value.now).sides.items) ((each_keys (λ y. (bush_keys y.value)) (out-Bush c.args.value.now).next.items) ++ []) (list (each_meaning (λ y. (option_meaning (λ y. (box (bush_meaning y.value))) y)) (out-Bush c.args.value.now).sides.items)) (value (list (each_meaning (λ y. (box (bush_meaning y.value))) (out-Bush c.args.value.now).next.items)) no_value) _ _ _ (part_planned bush_definitions (vec (boxed (one bush_shape))) (each_keys (λ y. (bush_keys y.value)) (out-Bush c.args.value.now).next.items) (list (each_meaning (λ y. (box (bush_meaning y.value))) (out-Bush c.args.value.now).next.items)) (vec_planned bush_definitions (boxed (one bush_shape)) _ _ _ (slice_planned bush_definitions (boxed (one bush_shape)) (λ y. (bush_keys y.value)) (λ y. (box (bush_meaning y.value))) (λ y. (boxed_one_planned bush_definitions (one bush_shape) bush_shape refl _ _ (bush_planned y.value))) (out-Bush c.args.value.now).next.items)) no_part_planned) c.in-Err-serialize_vec_option_box_bush.ensures.refused))))
 
 pub serialize_bush-returns-in-Err-serialize_vec_option_box_bush-clause-goes_on : goal.serialize_bush-returns-in-Err-serialize_vec_option_box_bush-clause-goes_on
 serialize_bush-returns-in-Err-serialize_vec_option_box_bush-clause-goes_on g t c = (goes_both _ _ _ c.serialize_part.ensures.goes_on c.serialize_vec_option_box_bush.ensures.goes_on)
 
 pub serialize_bush-returns-in-Err-serialize_vec_box_bush-clause-refused : goal.serialize_bush-returns-in-Err-serialize_vec_box_bush-clause-refused
-serialize_bush-returns-in-Err-serialize_vec_box_bush-clause-refused g t c = (refused_as (bush_has_keys c.args.value.now) (bush_means c.args.value.now) (record_refused bush_definitions bush_shape bush_part_definitions bush_parts bush_has_parts _ _ _ _ _ (later_refused no_definition (both bush_definitions (both bush_definitions (both bush_definitions no_definition))) (leaf (number_kind unsigned w32)) (part (vec (option_shape (boxed (one bush_shape)))) (part (vec (boxed (one bush_shape))) (part (boxed (one (vec bush_shape))) no_part))) [] ((each_keys (λ y. (option_keys (λ y. (bush_keys y.value)) y)) (out-Bush c.args.value.now).sides.items) ++ ((each_keys (λ y. (bush_keys y.value)) (out-Bush c.args.value.now).next.items) ++ ((each_keys bush_keys (out-Bush c.args.value.now).others.value.items) ++ []))) (number (pos (out-Bush c.args.value.now).id)) (value (list (each_meaning (λ y. (option_meaning (λ y. (box (bush_meaning y.value))) y)) (out-Bush c.args.value.now).sides.items)) (value (list (each_meaning (λ y. (box (bush_meaning y.value))) (out-Bush c.args.value.now).next.items)) (value (box (list (each_meaning bush_meaning (out-Bush c.args.value.now).others.value.items))) no_value))) _ _ _ _ _ c.in-Ok.ensures.serialized c.serialize_part.ensures.goes_on (goes_both _ _ _ c.serialize_vec_option_box_bush.ensures.goes_on c.serialize_vec_box_bush.ensures.goes_on) (later_refused bush_definitions (both bush_definitions (both bush_definitions no_definition)) (vec (option_shape (boxed (one bush_shape)))) (part (vec (boxed (one bush_shape))) (part (boxed (one (vec bush_shape))) no_part)) (each_keys (λ y. (option_keys (λ y. (bush_keys y.value)) y)) (out-Bush c.args.value.now).sides.items) ((each_keys (λ y. (bush_keys y.value)) (out-Bush c.args.value.now).next.items) ++ ((each_keys bush_keys (out-Bush c.args.value.now).others.value.items) ++ [])) (list (each_meaning (λ y. (option_meaning (λ y. (box (bush_meaning y.value))) y)) (out-Bush c.args.value.now).sides.items)) (value (list (each_meaning (λ y. (box (bush_meaning y.value))) (out-Bush c.args.value.now).next.items)) (value (box (list (each_meaning bush_meaning (out-Bush c.args.value.now).others.value.items))) no_value)) _ _ _ _ _ c.in-Ok-serialize_vec_option_box_bush.ensures.serialized c.serialize_vec_option_box_bush.ensures.goes_on c.serialize_vec_box_bush.ensures.goes_on (first_refused bush_definitions (both bush_definitions no_definition) (vec (boxed (one bush_shape))) (part (boxed (one (vec bush_shape))) no_part) (each_keys (λ y. (bush_keys y.value)) (out-Bush c.args.value.now).next.items) ((each_keys bush_keys (out-Bush c.args.value.now).others.value.items) ++ []) (list (each_meaning (λ y. (box (bush_meaning y.value))) (out-Bush c.args.value.now).next.items)) (value (box (list (each_meaning bush_meaning (out-Bush c.args.value.now).others.value.items))) no_value) _ _ _ (part_planned bush_definitions (boxed (one (vec bush_shape))) (each_keys bush_keys (out-Bush c.args.value.now).others.value.items) (box (list (each_meaning bush_meaning (out-Bush c.args.value.now).others.value.items))) (boxed_one_planned bush_definitions (one (vec bush_shape)) (vec bush_shape) refl _ _ (vec_planned bush_definitions bush_shape _ _ _ (slice_planned bush_definitions bush_shape bush_keys bush_meaning bush_planned (out-Bush c.args.value.now).others.value.items))) no_part_planned) c.in-Err-serialize_vec_box_bush.ensures.refused)))))
+serialize_bush-returns-in-Err-serialize_vec_box_bush-clause-refused g t c = (refused_as (bush_has_keys c.args.value.now) (bush_means c.args.value.now) (record_refused bush_definitions bush_shape bush_part_definitions bush_parts bush_has_parts _ _ _ _ _ (later_refused no_definition (both bush_definitions (both bush_definitions no_definition)) (leaf (number_kind unsigned w32)) (part (vec (option_shape (boxed (one bush_shape)))) (part (vec (boxed (one bush_shape))) no_part)) [] ((each_keys (λ y. (option_keys (λ y. (bush_keys y.value)) y)) (out-Bush c.args.value.now).sides.items) ++ ((each_keys (λ y. (bush_keys y.value)) (out-Bush c.args.value.now).next.items) ++ [])) (number (pos (out-Bush c.args.value.now).id)) (value (list (each_meaning (λ y. (option_meaning (λ y. (box (bush_meaning y.value))) y)) (out-Bush c.args.value.now).sides.items)) (value (list (each_meaning (λ y. (box (bush_meaning y.value))) (out-Bush c.args.value.now).next.items)) no_value)) _ _ _ _ _ c.in-Ok.ensures.serialized c.serialize_part.ensures.goes_on (goes_both _ _ _ c.serialize_vec_option_box_bush.ensures.goes_on c.serialize_vec_box_bush.ensures.goes_on) (later_refused bush_definitions (both bush_definitions no_definition) (vec (option_shape (boxed (one bush_shape)))) (part (vec (boxed (one bush_shape))) no_part) (each_keys (λ y. (option_keys (λ y. (bush_keys y.value)) y)) (out-Bush c.args.value.now).sides.items) ((each_keys (λ y. (bush_keys y.value)) (out-Bush c.args.value.now).next.items) ++ []) (list (each_meaning (λ y. (option_meaning (λ y. (box (bush_meaning y.value))) y)) (out-Bush c.args.value.now).sides.items)) (value (list (each_meaning (λ y. (box (bush_meaning y.value))) (out-Bush c.args.value.now).next.items)) no_value) _ _ _ _ _ c.in-Ok-serialize_vec_option_box_bush.ensures.serialized c.serialize_vec_option_box_bush.ensures.goes_on c.serialize_vec_box_bush.ensures.goes_on (first_refused bush_definitions no_definition (vec (boxed (one bush_shape))) no_part (each_keys (λ y. (bush_keys y.value)) (out-Bush c.args.value.now).next.items) [] (list (each_meaning (λ y. (box (bush_meaning y.value))) (out-Bush c.args.value.now).next.items)) no_value _ _ _ no_part_planned c.in-Err-serialize_vec_box_bush.ensures.refused)))))
 
 pub serialize_bush-returns-in-Err-serialize_vec_box_bush-clause-goes_on : goal.serialize_bush-returns-in-Err-serialize_vec_box_bush-clause-goes_on
 serialize_bush-returns-in-Err-serialize_vec_box_bush-clause-goes_on g t c = (goes_both _ _ _ (goes_both _ _ _ c.serialize_part.ensures.goes_on c.serialize_vec_option_box_bush.ensures.goes_on) c.serialize_vec_box_bush.ensures.goes_on)
 
-pub serialize_bush-returns-in-Err-serialize_box_vec_bush-clause-refused : goal.serialize_bush-returns-in-Err-serialize_box_vec_bush-clause-refused
-serialize_bush-returns-in-Err-serialize_box_vec_bush-clause-refused g t c = (refused_as (bush_has_keys c.args.value.now) (bush_means c.args.value.now) (record_refused bush_definitions bush_shape bush_part_definitions bush_parts bush_has_parts _ _ _ _ _ (later_refused no_definition (both bush_definitions (both bush_definitions (both bush_definitions no_definition))) (leaf (number_kind unsigned w32)) (part (vec (option_shape (boxed (one bush_shape)))) (part (vec (boxed (one bush_shape))) (part (boxed (one (vec bush_shape))) no_part))) [] ((each_keys (λ y. (option_keys (λ y. (bush_keys y.value)) y)) (out-Bush c.args.value.now).sides.items) ++ ((each_keys (λ y. (bush_keys y.value)) (out-Bush c.args.value.now).next.items) ++ ((each_keys bush_keys (out-Bush c.args.value.now).others.value.items) ++ []))) (number (pos (out-Bush c.args.value.now).id)) (value (list (each_meaning (λ y. (option_meaning (λ y. (box (bush_meaning y.value))) y)) (out-Bush c.args.value.now).sides.items)) (value (list (each_meaning (λ y. (box (bush_meaning y.value))) (out-Bush c.args.value.now).next.items)) (value (box (list (each_meaning bush_meaning (out-Bush c.args.value.now).others.value.items))) no_value))) _ _ _ _ _ c.in-Ok.ensures.serialized c.serialize_part.ensures.goes_on (goes_both _ _ _ (goes_both _ _ _ c.serialize_vec_option_box_bush.ensures.goes_on c.serialize_vec_box_bush.ensures.goes_on) c.serialize_box_vec_bush.ensures.goes_on) (later_refused bush_definitions (both bush_definitions (both bush_definitions no_definition)) (vec (option_shape (boxed (one bush_shape)))) (part (vec (boxed (one bush_shape))) (part (boxed (one (vec bush_shape))) no_part)) (each_keys (λ y. (option_keys (λ y. (bush_keys y.value)) y)) (out-Bush c.args.value.now).sides.items) ((each_keys (λ y. (bush_keys y.value)) (out-Bush c.args.value.now).next.items) ++ ((each_keys bush_keys (out-Bush c.args.value.now).others.value.items) ++ [])) (list (each_meaning (λ y. (option_meaning (λ y. (box (bush_meaning y.value))) y)) (out-Bush c.args.value.now).sides.items)) (value (list (each_meaning (λ y. (box (bush_meaning y.value))) (out-Bush c.args.value.now).next.items)) (value (box (list (each_meaning bush_meaning (out-Bush c.args.value.now).others.value.items))) no_value)) _ _ _ _ _ c.in-Ok-serialize_vec_option_box_bush.ensures.serialized c.serialize_vec_option_box_bush.ensures.goes_on (goes_both _ _ _ c.serialize_vec_box_bush.ensures.goes_on c.serialize_box_vec_bush.ensures.goes_on) (later_refused bush_definitions (both bush_definitions no_definition) (vec (boxed (one bush_shape))) (part (boxed (one (vec bush_shape))) no_part) (each_keys (λ y. (bush_keys y.value)) (out-Bush c.args.value.now).next.items) ((each_keys bush_keys (out-Bush c.args.value.now).others.value.items) ++ []) (list (each_meaning (λ y. (box (bush_meaning y.value))) (out-Bush c.args.value.now).next.items)) (value (box (list (each_meaning bush_meaning (out-Bush c.args.value.now).others.value.items))) no_value) _ _ _ _ _ c.in-Ok-serialize_vec_box_bush.ensures.serialized c.serialize_vec_box_bush.ensures.goes_on c.serialize_box_vec_bush.ensures.goes_on (first_refused bush_definitions no_definition (boxed (one (vec bush_shape))) no_part (each_keys bush_keys (out-Bush c.args.value.now).others.value.items) [] (box (list (each_meaning bush_meaning (out-Bush c.args.value.now).others.value.items))) no_value _ _ _ no_part_planned c.in-Err-serialize_box_vec_bush.ensures.refused))))))
-
-pub serialize_bush-returns-in-Err-serialize_box_vec_bush-clause-goes_on : goal.serialize_bush-returns-in-Err-serialize_box_vec_bush-clause-goes_on
-serialize_bush-returns-in-Err-serialize_box_vec_bush-clause-goes_on g t c = (goes_both _ _ _ (goes_both _ _ _ (goes_both _ _ _ c.serialize_part.ensures.goes_on c.serialize_vec_option_box_bush.ensures.goes_on) c.serialize_vec_box_bush.ensures.goes_on) c.serialize_box_vec_bush.ensures.goes_on)
-
 pub serialize_bush-returns-clause-serialized : goal.serialize_bush-returns-clause-serialized
-serialize_bush-returns-clause-serialized g t c = (written_as (bush_has_keys c.args.value.now) (bush_means c.args.value.now) refl (serialized_record bush_definitions bush_shape bush_part_definitions bush_parts bush_has_parts _ _ _ _ _ (serialized_part no_definition (both bush_definitions (both bush_definitions (both bush_definitions no_definition))) (leaf (number_kind unsigned w32)) (part (vec (option_shape (boxed (one bush_shape)))) (part (vec (boxed (one bush_shape))) (part (boxed (one (vec bush_shape))) no_part))) [] ((each_keys (λ y. (option_keys (λ y. (bush_keys y.value)) y)) (out-Bush c.args.value.now).sides.items) ++ ((each_keys (λ y. (bush_keys y.value)) (out-Bush c.args.value.now).next.items) ++ ((each_keys bush_keys (out-Bush c.args.value.now).others.value.items) ++ []))) (number (pos (out-Bush c.args.value.now).id)) (value (list (each_meaning (λ y. (option_meaning (λ y. (box (bush_meaning y.value))) y)) (out-Bush c.args.value.now).sides.items)) (value (list (each_meaning (λ y. (box (bush_meaning y.value))) (out-Bush c.args.value.now).next.items)) (value (box (list (each_meaning bush_meaning (out-Bush c.args.value.now).others.value.items))) no_value))) _ _ _ _ _ c.in-Ok.ensures.serialized (serialized_part bush_definitions (both bush_definitions (both bush_definitions no_definition)) (vec (option_shape (boxed (one bush_shape)))) (part (vec (boxed (one bush_shape))) (part (boxed (one (vec bush_shape))) no_part)) (each_keys (λ y. (option_keys (λ y. (bush_keys y.value)) y)) (out-Bush c.args.value.now).sides.items) ((each_keys (λ y. (bush_keys y.value)) (out-Bush c.args.value.now).next.items) ++ ((each_keys bush_keys (out-Bush c.args.value.now).others.value.items) ++ [])) (list (each_meaning (λ y. (option_meaning (λ y. (box (bush_meaning y.value))) y)) (out-Bush c.args.value.now).sides.items)) (value (list (each_meaning (λ y. (box (bush_meaning y.value))) (out-Bush c.args.value.now).next.items)) (value (box (list (each_meaning bush_meaning (out-Bush c.args.value.now).others.value.items))) no_value)) _ _ _ _ _ c.in-Ok-serialize_vec_option_box_bush.ensures.serialized (serialized_part bush_definitions (both bush_definitions no_definition) (vec (boxed (one bush_shape))) (part (boxed (one (vec bush_shape))) no_part) (each_keys (λ y. (bush_keys y.value)) (out-Bush c.args.value.now).next.items) ((each_keys bush_keys (out-Bush c.args.value.now).others.value.items) ++ []) (list (each_meaning (λ y. (box (bush_meaning y.value))) (out-Bush c.args.value.now).next.items)) (value (box (list (each_meaning bush_meaning (out-Bush c.args.value.now).others.value.items))) no_value) _ _ _ _ _ c.in-Ok-serialize_vec_box_bush.ensures.serialized (serialized_part bush_definitions no_definition (boxed (one (vec bush_shape))) no_part (each_keys bush_keys (out-Bush c.args.value.now).others.value.items) [] (box (list (each_meaning bush_meaning (out-Bush c.args.value.now).others.value.items))) no_value _ _ _ _ _ c.in-Ok-serialize_box_vec_bush.ensures.serialized (serialized_no_part no_definition _)))))))
+serialize_bush-returns-clause-serialized g t c = (written_as (bush_has_keys c.args.value.now) (bush_means c.args.value.now) refl (serialized_record bush_definitions bush_shape bush_part_definitions bush_parts bush_has_parts _ _ _ _ _ (serialized_part no_definition (both bush_definitions (both bush_definitions no_definition)) (leaf (number_kind unsigned w32)) (part (vec (option_shape (boxed (one bush_shape)))) (part (vec (boxed (one bush_shape))) no_part)) [] ((each_keys (λ y. (option_keys (λ y. (bush_keys y.value)) y)) (out-Bush c.args.value.now).sides.items) ++ ((each_keys (λ y. (bush_keys y.value)) (out-Bush c.args.value.now).next.items) ++ [])) (number (pos (out-Bush c.args.value.now).id)) (value (list (each_meaning (λ y. (option_meaning (λ y. (box (bush_meaning y.value))) y)) (out-Bush c.args.value.now).sides.items)) (value (list (each_meaning (λ y. (box (bush_meaning y.value))) (out-Bush c.args.value.now).next.items)) no_value)) _ _ _ _ _ c.in-Ok.ensures.serialized (serialized_part bush_definitions (both bush_definitions no_definition) (vec (option_shape (boxed (one bush_shape)))) (part (vec (boxed (one bush_shape))) no_part) (each_keys (λ y. (option_keys (λ y. (bush_keys y.value)) y)) (out-Bush c.args.value.now).sides.items) ((each_keys (λ y. (bush_keys y.value)) (out-Bush c.args.value.now).next.items) ++ []) (list (each_meaning (λ y. (option_meaning (λ y. (box (bush_meaning y.value))) y)) (out-Bush c.args.value.now).sides.items)) (value (list (each_meaning (λ y. (box (bush_meaning y.value))) (out-Bush c.args.value.now).next.items)) no_value) _ _ _ _ _ c.in-Ok-serialize_vec_option_box_bush.ensures.serialized (serialized_part bush_definitions no_definition (vec (boxed (one bush_shape))) no_part (each_keys (λ y. (bush_keys y.value)) (out-Bush c.args.value.now).next.items) [] (list (each_meaning (λ y. (box (bush_meaning y.value))) (out-Bush c.args.value.now).next.items)) no_value _ _ _ _ _ c.in-Ok-serialize_vec_box_bush.ensures.serialized (serialized_no_part no_definition _))))))
 
 pub serialize_bush-returns-clause-goes_on : goal.serialize_bush-returns-clause-goes_on
-serialize_bush-returns-clause-goes_on g t c = (goes_both _ _ _ (goes_both _ _ _ (goes_both _ _ _ c.serialize_part.ensures.goes_on c.serialize_vec_option_box_bush.ensures.goes_on) c.serialize_vec_box_bush.ensures.goes_on) c.serialize_box_vec_bush.ensures.goes_on)
+serialize_bush-returns-clause-goes_on g t c = (goes_both _ _ _ (goes_both _ _ _ c.serialize_part.ensures.goes_on c.serialize_vec_option_box_bush.ensures.goes_on) c.serialize_vec_box_bush.ensures.goes_on)

@@ -5,7 +5,7 @@ use Rattle.archive_core.specs.Options.{option_keys, option_meaning, option_flat,
 use Rattle.archive_core.specs.Shape.{boxed, one}
 use Rattle.archive_core.specs.Value.{box, hole, value}
 use Rattle.archive_core.specs.Writing.{to_pointee}
-use Rattle.recursive_kinds.specs.BushMeaning.{bush_meaning, bush_keys, bush_flat, bush_belongs}
+use Rattle.recursive_kinds.specs.BushMeaning.{bush_meaning, bush_keys}
 use Rattle.recursive_kinds.specs.BushShape.{bush_shape, bush_definitions}
 use Rattle.std.proofs.Common.{drop}
 use Rattle.std.specs.Prelude.{⊤}
@@ -16,6 +16,3 @@ invariant-serialize_each_option_box_bush-loop-value g l = record { continues : C
 
 abbrev pub invariant-serialize_each_box_bush-loop-value : goal.invariant-serialize_each_box_bush-loop-value
 invariant-serialize_each_box_bush-loop-value g l = record { continues : Continues bush_definitions (boxed (one bush_shape)) (λ y. (bush_keys y.value)) (λ y. (box (bush_meaning y.value))) (λ y r. (box (hole (to_pointee r (one bush_shape) 0)))) (λ y r. ⊤) (g.S.Keys.state l.initial.serializer) (g.S.Keys.state l.serializer) l.values (drop l.value-index l.values) l.resolvers.items }
-
-abbrev pub invariant-serialize_each_bush-loop-value : goal.invariant-serialize_each_bush-loop-value
-invariant-serialize_each_bush-loop-value g l = record { continues : Continues bush_definitions bush_shape bush_keys bush_meaning bush_flat bush_belongs (g.S.Keys.state l.initial.serializer) (g.S.Keys.state l.serializer) l.values (drop l.value-index l.values) l.resolvers.items }

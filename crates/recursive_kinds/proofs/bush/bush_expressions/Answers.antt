@@ -2,4 +2,4 @@
 use Rattle.recursive_kinds.proofs.bush.bush_expressions.Goals as goal
 
 pub returns : goal.returns
-returns c = c.first_expression.ensures _ _ c.expression_of.ensures (c.first_expression-rest1.ensures _ _ (c.vec_expression-3.ensures _ (c.option_expression.ensures _ (c.boxed_expression-3.ensures _ c.named_expression-3.ensures))) (c.first_expression-rest2.ensures _ _ (c.vec_expression-2.ensures _ (c.boxed_expression-2.ensures _ c.named_expression-2.ensures)) (c.first_expression-rest3.ensures _ _ (c.boxed_expression.ensures _ (c.vec_expression.ensures _ c.named_expression.ensures)) c.no_expressions-rest4.ensures)))
+returns c = c.first_expression.ensures _ _ c.expression_of.ensures (c.first_expression-rest1.ensures _ _ (c.vec_expression-2.ensures _ (c.option_expression.ensures _ (c.boxed_expression-2.ensures _ c.named_expression-2.ensures))) (c.first_expression-rest2.ensures _ _ (c.vec_expression.ensures _ (c.boxed_expression.ensures _ c.named_expression.ensures)) c.no_expressions-rest3.ensures))
