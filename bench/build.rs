@@ -123,6 +123,7 @@ fn peers(out: &Path) {
             .args([
                 "-std=c++17",
                 "-O3",
+                "-ffunction-sections",
                 "-march=x86-64-v2",
                 "-Wall",
                 "-Ipeers",

@@ -1,8 +1,8 @@
 //! Times the project beside its peers, in one process and in turns, and writes RESULTS.md, results.svg and the table in the README, unless the tree has
-//! changes that aren't committed.
+//! changes that aren't committed. The executables that BENCH_LAYOUTS names, of the same program laid out otherwise, time each row of the table too.
 //! `driver` does all; `driver goals` times what the goals speak of and prints their table alone; `driver large ROWS` says what one archive of so many
 //! rows takes; `driver one FORMAT SET OPERATION COUNT`, by their places in the tables, carries one operation out so often, for callgrind. `driver deep
-//! FORMAT OPERATION`, `driver heap` and `driver large-child ROWS` are what it starts as children.
+//! FORMAT OPERATION`, `driver heap`, `driver row ROW ROUNDS` and `driver large-child ROWS` are what it starts as children.
 
 mod archives;
 mod chart;
@@ -19,7 +19,7 @@ mod rkyv_types;
 mod sets;
 mod timing;
 
-use format::{Format, Set};
+use format::Set;
 
 // Chains are written, checked and freed by calls within calls in some formats: the stack for those, in bytes.
 const STACK: usize = 8 << 30;
@@ -55,11 +55,10 @@ fn all() {
     let machine = report::Machine::now();
     let mut rows = Vec::new();
     let mut beside = Vec::new();
-    for (set, operation, limited) in measure::rows() {
+    for (index, (set, operation, _)) in measure::rows().into_iter().enumerate() {
         eprintln!("{}: {}", set.title(), operation.title());
         beside.push(report::others());
-        let row = measure::row(set, operation, limited, &Format::ALL, rounds_of(set));
-        rows.push(row);
+        rows.push(measure::row_of_table(index, rounds_of(set)));
     }
     let mut growth = Vec::new();
     for set in measure::growing() {
@@ -99,17 +98,16 @@ fn goals_alone() {
     let wanted = goals::wanted();
     let of_goals = measure::rows()
         .into_iter()
-        .filter(|(set, operation, _)| wanted.contains(&(*set, *operation)));
+        .enumerate()
+        .filter(|(_, (set, operation, _))| wanted.contains(&(*set, *operation)));
     let rows: Vec<measure::Row> = of_goals
-        .map(|(set, operation, limited)| {
-            measure::row(set, operation, limited, &Format::ALL, rounds_of(set))
-        })
+        .map(|(index, (set, ..))| measure::row_of_table(index, rounds_of(set)))
         .collect();
     let (heap, _) = measure::heap_of_child();
     print!("{}", goals::table(&rows, &heap));
 }
 
-fn on_a_large_stack(work: fn()) {
+fn on_a_large_stack(work: impl FnOnce() + Send + 'static) {
     let thread = std::thread::Builder::new()
         .stack_size(STACK)
         .spawn(work)
@@ -132,6 +130,11 @@ fn main() {
                 number(operation),
                 number(count),
             )
+        }
+        ["row", index, rounds] => {
+            let number = |it: &str| it.parse().expect("a number");
+            let (index, rounds) = (number(index), number(rounds));
+            on_a_large_stack(move || measure::print_times(index, rounds))
         }
         ["heap"] => on_a_large_stack(measure::heap),
         ["large", rows] => print!("{}", measure::said_by_child(&["large-child", rows])),

@@ -1,7 +1,7 @@
 //! The tables' rows: each operation on each set, and how times and the heap grow.
 
 use crate::format::{Format, Operation, Ready, Set, Task};
-use crate::timing;
+use crate::timing::{self, Least};
 use std::process::Command;
 
 /// What stands for a format in a row.
@@ -13,6 +13,20 @@ pub enum Cell {
 }
 
 impl Cell {
+    // What one layout of the program told, and the times of others.
+    fn of(own: Result<(Least, usize), String>, others: impl Iterator<Item = Least>) -> Cell {
+        match own {
+            Ok((own, bytes)) => {
+                let layouts: Vec<Least> = others.chain([own]).collect();
+                Cell::Time {
+                    ns: timing::least_of(&layouts),
+                    bytes,
+                }
+            }
+            Err(why) => Cell::Word(why),
+        }
+    }
+
     pub fn ns(&self) -> Option<f64> {
         match self {
             Cell::Time { ns, .. } => Some(*ns),
@@ -150,14 +164,74 @@ pub fn one(format: usize, set: usize, operation: usize, count: usize) {
     }
 }
 
-/// Times one operation on one set in these formats, in turns.
-pub fn row(
+// The executables of the same program whose functions lie elsewhere, which `bench/run` names.
+fn layouts() -> Vec<String> {
+    let named = std::env::var("BENCH_LAYOUTS").unwrap_or_default();
+    named.split_whitespace().map(String::from).collect()
+}
+
+/// Prints the times of one of the table's rows, by its place there, for the program that started this one. A dash where there is none.
+pub fn print_times(index: usize, rounds: usize) {
+    let (set, operation, limited) = rows()[index];
+    let shown = |it: Result<(Least, usize), String>| match it {
+        Ok((it, _)) => format!("{},{},{}", it.whole, it.prepared, it.count),
+        Err(_) => "-".into(),
+    };
+    let times = timed(set, operation, limited, &Format::ALL, rounds).into_iter();
+    println!("{}", times.map(shown).collect::<Vec<_>>().join(" "));
+}
+
+// What a child prints of one format.
+fn read(said: &str) -> Option<Least> {
+    let mut numbers = said.split(',');
+    Some(Least {
+        whole: numbers.next()?.parse().ok()?,
+        prepared: numbers.next()?.parse().ok()?,
+        count: numbers.next()?.parse().ok()?,
+    })
+}
+
+// The times that a child prints, by format.
+fn times_in(layout: &str, index: usize, rounds: usize) -> Vec<Option<Least>> {
+    let done = Command::new(layout)
+        .args(["row", &index.to_string(), &rounds.to_string()])
+        .output()
+        .expect("a child");
+    let why = String::from_utf8_lossy(&done.stderr);
+    assert!(done.status.success(), "{layout}: {why}");
+    let said = String::from_utf8_lossy(&done.stdout);
+    said.trim().split(' ').map(read).collect()
+}
+
+/// One of the table's rows, by its place there: of each format the least time over the layouts, which share the rounds.
+pub fn row_of_table(index: usize, rounds: usize) -> Row {
+    let (set, operation, limited) = rows()[index];
+    let layouts = layouts();
+    let share = (rounds / (layouts.len() + 1)).max(2);
+    let own = timed(set, operation, limited, &Format::ALL, share);
+    let others: Vec<_> = layouts
+        .iter()
+        .map(|layout| times_in(layout, index, share))
+        .collect();
+    let cells = own.into_iter().enumerate().map(|(format, own)| {
+        let others = others.iter().filter_map(|it| it[format]);
+        Cell::of(own, others)
+    });
+    Row {
+        set,
+        operation,
+        cells: cells.collect(),
+    }
+}
+
+// The times of one operation on one set in these formats, in turns, with the archives' bytes; or why there are none.
+fn timed(
     set: Set,
     operation: Operation,
     limited: bool,
     formats: &[Format],
     rounds: usize,
-) -> Row {
+) -> Vec<Result<(Least, usize), String>> {
     let mut held: Vec<Result<Ready, String>> = Vec::new();
     for format in formats {
         let stops = if set == DEEP && limited {
@@ -176,17 +250,25 @@ pub fn row(
     let mut tasks: Vec<&mut Ready> = held.iter_mut().filter_map(|it| it.as_mut().ok()).collect();
     tasks.iter_mut().for_each(|it| timing::verify(it));
     let mut times = timing::least(&mut tasks, rounds).into_iter();
-    let cells = held.iter().map(|it| match it {
-        Ok(ready) => Cell::Time {
-            ns: times.next().expect("a time for each"),
-            bytes: ready.bytes,
-        },
-        Err(why) => Cell::Word(why.clone()),
-    });
+    let with_bytes = |it: Result<Ready, String>| {
+        it.map(|ready| (times.next().expect("a time for each"), ready.bytes))
+    };
+    held.into_iter().map(with_bytes).collect()
+}
+
+/// Times one operation on one set in these formats, in turns.
+pub fn row(
+    set: Set,
+    operation: Operation,
+    limited: bool,
+    formats: &[Format],
+    rounds: usize,
+) -> Row {
+    let times = timed(set, operation, limited, formats, rounds).into_iter();
     Row {
         set,
         operation,
-        cells: cells.collect(),
+        cells: times.map(|it| Cell::of(it, [].into_iter())).collect(),
     }
 }
 

@@ -367,7 +367,7 @@ pub fn write(taken: &Taken) {
         writeln!(out, "- {line}").unwrap();
     }
     let (rounds, at_start) = (taken.rounds, &taken.machine.load);
-    writeln!(out, "- The least of {rounds} rounds. Load of the machine (1, 5 and 15 minutes): {at_start} at the start, {} at the end.", load()).unwrap();
+    writeln!(out, "- The least of {rounds} rounds in all layouts together. Load of the machine (1, 5 and 15 minutes): {at_start} at the start, {} at the end.", load()).unwrap();
     writeln!(
         out,
         "\n![The ratios as bars](results.svg)\n\n## What is wanted, and what was measured\n\n{}",

@@ -50,9 +50,29 @@ pub fn verify(ready: &mut Ready) {
     }
 }
 
-/// The least time of each, in nanoseconds an operation, over so many rounds. Each round runs all of them, one after another, so that what else the
+/// What a round of one operation took at the least, in nanoseconds: with what it prepares, and that alone; and how often a round carries the operation out.
+#[derive(Clone, Copy)]
+pub struct Least {
+    pub whole: f64,
+    pub prepared: f64,
+    pub count: usize,
+}
+
+/// The time of one operation, in nanoseconds: the least over layouts of the program. They prepare alike, so the least preparation is taken off from each: that
+/// of a round that was disturbed would make the operation too quick.
+pub fn least_of(layouts: &[Least]) -> f64 {
+    let least = |times: &mut dyn Iterator<Item = f64>| times.fold(f64::MAX, f64::min);
+    let prepared = least(&mut layouts.iter().map(|it| it.prepared));
+    least(
+        &mut layouts
+            .iter()
+            .map(|it| (it.whole - prepared).max(0.0) / it.count as f64),
+    )
+}
+
+/// The least times of each over so many rounds. Each round runs all of them, one after another, so that what else the
 /// machine does hits all alike.
-pub fn least(tasks: &mut [&mut Ready], rounds: usize) -> Vec<f64> {
+pub fn least(tasks: &mut [&mut Ready], rounds: usize) -> Vec<Least> {
     let counts: Vec<usize> = tasks.iter_mut().map(|it| count_of(it)).collect();
     let mut prepared = vec![f64::MAX; tasks.len()];
     let mut whole = vec![f64::MAX; tasks.len()];
@@ -63,6 +83,10 @@ pub fn least(tasks: &mut [&mut Ready], rounds: usize) -> Vec<f64> {
         }
     }
     (0..tasks.len())
-        .map(|i| (whole[i] - prepared[i]).max(0.0) / counts[i] as f64)
+        .map(|i| Least {
+            whole: whole[i],
+            prepared: prepared[i],
+            count: counts[i],
+        })
         .collect()
 }

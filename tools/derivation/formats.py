@@ -251,7 +251,7 @@ class Formats:
         own = type.own
         if not self.here(own):
             self.use(self.path_of(own), own.archived)
-        args = [self.rust(arg) if it.name in own.marks else self.archived(arg, bare) for it, arg in zip(own.parameters, type.args)]
+        args = [self.archived(arg, bare) for arg in type.args]
         return own.archived + (f"<{', '.join(args)}>" if args else "")
 
     def layout(self, type):

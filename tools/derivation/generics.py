@@ -21,7 +21,6 @@ class Tuple:
         self.count = len(self.types)
         self.parameters = [parameter.name for parameter in declaration.parameters]
         self.bounds = {parameter.name: parameter.bounds for parameter in declaration.parameters}
-        self.marks = declaration.marks
         self.of = f"{self.name}{self.brackets()}"
         self.rust = [formats.rust(type) for type in self.types]
         self.formats_of = [formats.archived(type) for type in self.types]
@@ -37,16 +36,16 @@ class Tuple:
         return f"<{', '.join(self.parameters)}>" if self.parameters else ""
 
     def bound(self, *more, before=(), after=()):
-        """The parameters of an impl, each with its bounds and these, which a mark needs not."""
+        """The parameters of an impl, each with its bounds and these."""
         out = list(before)
         for name in self.parameters:
-            bounds = [b for b in (self.bounds[name], *(() if name in self.marks else more)) if b]
+            bounds = [b for b in (self.bounds[name], *more) if b]
             out.append(f"{name}: {' + '.join(bounds)}" if bounds else name)
         return out + list(after)
 
     def bound_of_views(self):
         """The parameters of an impl for views, which are archived types."""
-        return ["'a"] + [name if name in self.marks else f"{name}: Portable" for name in self.parameters]
+        return ["'a"] + [f"{name}: Portable" for name in self.parameters]
 
     def built(self):
         if self.declaration.form == "tuple":

@@ -9,6 +9,11 @@ SIGNED = ("i8", "i16", "i32", "i64", "i128", "isize")
 WRITTEN = "Written by tools/derive: change the declaration, and run it again."
 
 
+def holds_array(types):
+    """Whether a field of these types is an array of the machine, which no call returns."""
+    return any(type.own is None and type.name == "array" for type in types)
+
+
 class Made:
     """What is made, a struct or a variant."""
 

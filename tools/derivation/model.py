@@ -109,11 +109,6 @@ class Declaration:
         return self.recursive or self.holder
 
     @property
-    def marks(self) -> List[str]:
-        """The parameters that stand in a `PhantomData` alone: the archived type has them as they are."""
-        return [it.name for it in self.parameters if not any(holds_parameter(field.type, it.name) for field in self.all_fields())]
-
-    @property
     def declared_name(self) -> str:
         """The name under which its variants are declared."""
         return self.instance_of or self.name
@@ -124,13 +119,6 @@ class Declaration:
 
     def all_fields(self) -> List[Field]:
         return self.fields if self.kind == "struct" else [f for v in self.variants for f in v.fields]
-
-
-def holds_parameter(type: Type, name: str) -> bool:
-    """Whether a value of a type that was looked up holds one of this parameter: a `PhantomData` holds nothing."""
-    if type.name == "PhantomData" and type.own is None:
-        return False
-    return type.parameter and type.name == name or any(holds_parameter(it, name) for it in type.args)
 
 
 @dataclass

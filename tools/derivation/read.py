@@ -8,7 +8,7 @@ from typing import Callable, Dict, List, Optional, Sequence, Set
 
 from . import variant_functions
 from .circles import check_circles
-from .formats import snake, substituted
+from .formats import POINTERS, snake, substituted
 from .loads import MOST as MOST_LOAD
 from .loads import MOST_OF_VARIANTS, Loads
 from .long import MOST_BY_NUMBER, is_long
@@ -558,12 +558,16 @@ def check_nests(module: Module):
 
 
 def check_arrays(module: Module):
-    """Refuses arrays that no call returns: those in other types, and of a parameter."""
+    """Refuses arrays behind a pointer, and those that no call returns: those in other types but of bytes, and of a parameter."""
     for it in module.declarations:
         for field in it.all_fields():
             type = field.type
+            pointer = found_in(type, lambda x: x.own is None and x.name in POINTERS and array_in(x, {"array", "OwnedArray"}))
+            if pointer:
+                array = array_in(pointer, {"array", "OwnedArray"})
+                raise Refused(module.path, type.line, f"the check states nothing of an array in a `{pointer.name}`; put `{array.text}` into a struct of its own")
             is_array = type.name == "array" and type.own is None
-            inner = next((found for x in (type.args if is_array else [type]) if (found := array_in(x, {"array"}))), None)
+            inner = unreturned(type.args[0], True) if is_array else unreturned(type)
             if inner:
                 it_is = f"OwnedArray<{inner.args[0].text}, {inner.length}>"
                 raise Refused(module.path, type.line, f"an array in another type is read back as an `OwnedArray`; write `{it_is}`, of `archive_core::core_impls`")
@@ -591,6 +595,16 @@ def found_marks(it: Type) -> List[Type]:
 def array_in(it: Type, names: Set[str]) -> Optional[Type]:
     """The first array in a type, other than in a type that the user declared."""
     return found_in(it, lambda x: x.own is None and x.name in names)
+
+
+def unreturned(it: Type, inside: bool = False) -> Optional[Type]:
+    """The first array in a type that isn't read back as it is: of others than bytes, or `inside` another one."""
+    if it.parameter or it.own is None and it.name == "PhantomData":
+        return None
+    if it.own is None and it.name == "array" and (inside or it.args[0].name != "u8"):
+        return it
+    inside = inside or it.own is None and it.name == "OwnedArray"
+    return next((found for x in it.args if (found := unreturned(x, inside))), None)
 
 
 def is_map(it: Type) -> bool:

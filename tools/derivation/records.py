@@ -23,7 +23,7 @@ from .formats import layout_of, snake
 from .layout import Generic, Group, flat, implementation, literal, pair, signature, statement
 from .loads import Loads
 from .long import as_parts, fields_of, is_long, nest, pattern
-from .made import WRITTEN, Made
+from .made import WRITTEN, Made, holds_array
 from .pieces import Pieces
 
 
@@ -214,8 +214,9 @@ def serialize(record):
 
 
 def is_made_apart(record):
-    """Whether a value is made of those of its fields by a function of its own, whose proof is written beside the module."""
-    return record.count > SHORT_RECORD or bool(record.pieces)
+    """Whether a value is made of those of its fields by a function of its own, whose proof is written beside the module: of many fields, or of an array, which
+    the check doesn't see to mean what was read back."""
+    return record.count > SHORT_RECORD or bool(record.pieces) or holds_array(record.types)
 
 
 def read(record):

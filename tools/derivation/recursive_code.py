@@ -22,7 +22,7 @@ from .model import Type
 from .recursive_expressions import EXPR
 from .recursive_hollow import boxed_slices, hollow_source, shared_at, shared_pointers
 from .recursive_plain import items_of
-from .recursive_reads import is_made, word_of
+from .recursive_reads import is_made, skips_none, word_of
 from .recursive_terms import is_map, is_run, stem
 from .layout import Generic, Group, call, flat, implementation, literal, pair, signature, statement
 from .long import nest
@@ -1020,8 +1020,12 @@ def rows_said(it, type, x):
     return None
 
 
-def reader(it, name, T, contract_, body, said, cycle=True):
-    mark = f"#[cycle(read_{it.family.n})]\n" if cycle else "#[inline(always)]\n"
+ALWAYS = "#[inline(always)]\n"
+NEVER = "#[inline(never)]\n"
+
+
+def reader(it, name, T, contract_, body, said, cycle=True, inlined=""):
+    mark = f"#[cycle(read_{it.family.n})]\n{inlined}" if cycle else ALWAYS
     return f"""// {said}
 {mark}fn read_{name}<{it.reader}>(alloc: Global, part: RawView<'_>, {"levels: usize, " if it.family.shares and cycle else ""}deserializer: &mut D) -> Result<{T}, Error>
 {contract_}{{
@@ -1089,9 +1093,30 @@ def owner_reading(it, type):
     }}
     Ok({made})
 """
+    if skips_none(it, type):
+        return none_reading(it, type) + "\n" + reader(it, f"each_{it.word(item)}", T, read_contract(it, type), body, "Reads the elements of a vector back.", inlined=NEVER)
     whats = {"Box": "a box", "BoxSlice": "a boxed slice", "Option": "an option", "Vec": "a vector", "BTreeMap": "a map", "Shared": "a shared value", "WeakShared": "a weak pointer"}
     told = "Reads a tuple back, part by part." if type.name == "tuple" else f"Reads {whats[type.name]} back."
     return reader(it, it.word(type), T, read_contract(it, type), body, told)
+
+
+
+def none_reading(it, type):
+    """The function that reads a vector back with no call, where it has no elements. It stands in its callers, as does the one that reads an element."""
+    body = f"""    let view: Ref<'_, ArchivedVec<{inside(it, type.args[0])}>> = Ref::at(part);
+    if view.is_empty() {{
+        return Ok(Vec::new(alloc));
+    }}
+    read_each_{it.word(type.args[0])}(alloc, part, deserializer)
+"""
+    return reader(it, it.word(type), it.formats.rust(type), read_contract(it, type), body, "Reads a vector back. One with no elements takes no call, whose result would go through memory.", inlined=ALWAYS)
+
+
+def is_element(it):
+    """Whether vectors of it are read back with no call where they have no elements."""
+    owners = [(other, type) for other in it.family.members for type in other.owners]
+    return any(skips_none(other, type) and type.args[0].own is it.declaration for other, type in owners)
+
 
 def parts_read(it, case):
     lines = ""
@@ -1132,7 +1157,7 @@ def choice_reading(it):
         levels = "levels, " if it.family.shares and any(case.leads_back) else ""
         arms += f"        {tag} => read_{case.n}(alloc, part, {levels}deserializer),\n"
     body = f"{one_level(it)}    match tag_of_choice::<{it.archived}>(part) {{\n{arms}    }}\n"
-    return reader(it, it.n, it.name, READ.format(T=it.name, X=it.archived), body, "Reads a value back.", not it.is_holder)
+    return reader(it, it.n, it.name, READ.format(T=it.name, X=it.archived), body, "Reads a value back.", not it.is_holder, ALWAYS if is_element(it) else "")
 
 
 def one_level(it):
@@ -1143,7 +1168,7 @@ def one_level(it):
 def record_reading(it):
     case = it.cases[0]
     body = one_level(it) + parts_read(it, case) + statement(4, "Ok(", built(it, case), ")")
-    return reader(it, it.n, it.name, READ.format(T=it.name, X=it.archived), body, "Reads a value back, part by part.", not it.is_holder)
+    return reader(it, it.n, it.name, READ.format(T=it.name, X=it.archived), body, "Reads a value back, part by part.", not it.is_holder, ALWAYS if is_element(it) else "")
 
 
 def deserialize(it):

@@ -8,7 +8,7 @@ from . import recursive_code, recursive_expressions, recursive_hollow, recursive
 from .common import numbered
 from .formats import snake
 from .recursive_holders import laid
-from .recursive_reads import Reads
+from .recursive_reads import Reads, skips_none
 from .recursive_specs import owns
 from .recursive_terms import brought, stem
 
@@ -26,6 +26,8 @@ CITED = {
     "archive_core.specs.Held": "keyed_as planned_as written_as refused_as read_as",
     "archive_core.specs.PlannedOwners": "each_planned",
     "archive_core.specs.PartsReading": "part_read_back no_part_read_back",
+    "archive_core.specs.Readable": "target_from",
+    "archive_core.specs.Reads": "u32_at",
     "archive_core.proofs.AddedDefinitions": "extended_both first_conflicts later_conflicts",
     "archive_core.proofs.Causes": "err_by err_from goes_both goes_nowhere",
     "archive_core.proofs.fields.Ties": "if_ok",
@@ -38,7 +40,7 @@ CITED = {
     "archive_core.proofs.Planned": "one_owned",
     "archive_core.proofs.PlannedParts": "serialized_no_part serialized_part serialized_record record_refused first_refused later_refused",
     "archive_core.proofs.ReadChoices": "variant_read_back variant_refuses",
-    "archive_core.proofs.ReadElements": "FirstElements all_have elements_more elements_all element_refused array_read",
+    "archive_core.proofs.ReadElements": "FirstElements all_have elements_none elements_more elements_all element_refused array_read",
     "archive_core.proofs.ReadRecords": "record_read_back record_refuses first_refuses later_refuses",
     "archive_core.proofs.Runs": "Continues continues_start continues_step continues_broken continues_end belongs_end",
     "archive_core.proofs.ReadVariants": "case_read_back case_refuses empty_case_read_back",
@@ -724,7 +726,10 @@ def measures(it, answers):
         return f"l.levels * {ranks} + {rank}" if it.family.shares else f"(l.part.pos + {size}) * {ranks} + {rank}"
 
     for type in it.owners:
-        answers.invariant("", f"decreases-read_{it.word(type)}", measure(it.formats.layout(type)[0], rank(type)))
+        size = it.formats.layout(type)[0]
+        answers.invariant("", f"decreases-read_{it.word(type)}", measure(size, rank(type)))
+        if skips_none(it, type):
+            answers.invariant("", f"decreases-read_each_{it.word(type.args[0])}", measure(size, 0))
     if not it.is_record:
         for case in it.cases:
             if any(case.leads_back):
@@ -797,7 +802,7 @@ def option_read(it, type, answers):
 def run_read(it, type, answers):
     item = type.args[0]
     w, t = it.word(item), it.terms
-    function = f"read_{it.word(type)}"
+    function = f"read_each_{w}" if skips_none(it, type) else f"read_{it.word(type)}"
     D, X = t.definitions(item), t.shape(item)
     if t.is_row(item):
         w = it.word(item)
@@ -814,6 +819,8 @@ def run_read(it, type, answers):
         "(length l.items.items ≡ l.index) × (vec_len l.items ≡ l.index) × (l.list.len ≤ vec_capacity l.items)"
         f" × FirstElements g.D.Entries.keeps {D} {X} {L} l.list.bytes.now l.list.pos (run {X}) l.list.len {said} (g.D.Entries.entry_of l.initial.deserializer) (g.D.Entries.entry_of l.deserializer) l.items.items",
     )
+    if skips_none(it, type):
+        none_read(it, type, answers, (D, X, L, laid, said))
     before = "before_vec-list" if type.name == "Vec" else "before_box_slice-list"
     lets = f"let kept = c.loop-index.invariant in let b = c.{before}.result.bytes.now in let q = c.{before}.result.pos in let n = c.{before}.result.len in"
     below = "let below : c.loop-index.index < n = omega (arith, c.loop-index-test.true, c.loop-index.auto.index-end, c.len-index-end.ensures) in"
@@ -840,6 +847,19 @@ def run_read(it, type, answers):
     answers.answer(
         function, "returns-clause-read",
         f"({lets} {whole} let r = elements_all {here} {now} c.loop-index.items.items whole (kept.3) in {owner}_read {D} {ARGS} {its} _ _ _ _ c.requires (rw ({listed}) at r))",
+    )
+
+
+def none_read(it, type, answers, said):
+    """The answer on a vector with no elements: `said` are the definitions, the shape and the layout of these, and what they mean."""
+    D, X, L, laid, said = said
+    bytes_, pos = ARGS.split()[:2]
+    q, n = f"(target_from {bytes_} {pos} {pos})", f"(u32_at {bytes_} ({pos} + 4))"
+    here = f"{D} {X} {L} {laid} {bytes_} {q} (run {X}) {n} {n} (all_have {D} {X} {L} {laid} {bytes_} {q} {n} (run {X}) {n} (inl (refl, refl))) {said} {TOLD}"
+    answers.answer(
+        f"read_{it.word(type)}", "returns-then-is_empty-clause-read",
+        f"(let none : 0 ≡ u32_at {bytes_} ({pos} + 4) = grind (arith, c.is_empty.ensures, c.if-is_empty.true, c.at-view.ensures.buffer, c.at-view.ensures.position) in"
+        f" rw c.new.ensures.items (vec_read {D} {ARGS} {X} _ _ _ _ c.requires (elements_all {here} {TOLD} [] none (elements_none {here}))))",
     )
 
 

@@ -15,6 +15,12 @@ def word_of(it, type):
     return f"read_{it.word(type)}_of_{it.family.n}" if is_made(type) else "read_part"
 
 
+def skips_none(it, type):
+    """Whether a vector with no elements is read back by no call: one of values of the family. Most nodes of a tree are leaves, and a result that a call returns
+    goes through memory."""
+    return type.name == "Vec" and it.terms.is_member(type.args[0]) and not it.family.shares
+
+
 class Reads:
     """The calls that read parts, each by its index. They go by a `match` each, which has fewer variables than a `?`: the check writes out the type of each at each
     step, and an error's in a hundred lines."""

@@ -22,7 +22,7 @@ from .formats import layout_of, snake
 from .layout import Generic, Group, WIDTH, ended, flat, implementation, lay, literal, pair, signature, statement
 from .loads import Loads
 from .long import is_long, lent, nest, pattern
-from .made import WRITTEN, Made
+from .made import WRITTEN, Made, holds_array
 from .pieces import Pieces, numbered
 from .units import Units
 from .variant_functions import Functions, are_wanted
@@ -55,8 +55,7 @@ class Case:
         loads = Loads()
         self.by_fours = loads.go_by_fours(self.types)
         self.pieces = () if loads.are_read_at_once(self.types) else loads.pieces(self.types)
-        has_array = any(type.own is None and type.name == "array" for type in self.types)
-        self.is_made_apart = is_long(self.types) or bool(self.pieces) or has_array and self.count > 2
+        self.is_made_apart = is_long(self.types) or bool(self.pieces) or holds_array(self.types)
         self.is_long = is_long(self.types)
 
     def its_pieces(self):

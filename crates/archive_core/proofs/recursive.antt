@@ -1,6 +1,5 @@
 -- Lemmas on the calls that write, check and read back recursive types.
 pub mod Links
-pub mod EndsBefore
 pub mod MapsHeld
 pub mod RecordAs
 pub mod ChainsWritten

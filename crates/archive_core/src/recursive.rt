@@ -22,8 +22,8 @@ pub use chain::{
 pub use expressions::{
     array_expression, boxed_expression, define_choice, define_record, expression_of,
     first_expression, first_variant, map_expression, named_expression, no_expressions, no_variants,
-    option_expression, record_expression, run_expression, shared_expression, vec_expression,
-    weak_expression,
+    option_expression, record_expression, run_expression, shared_expression, shared_run_expression,
+    vec_expression, weak_expression,
 };
 pub use fields::{
     resolve_named_case_0, resolve_named_case_1, resolve_named_case_2, resolve_named_case_3,
@@ -37,5 +37,5 @@ pub use maps::{MapAt, before_map, collect_map, serialize_inner_map};
 pub use naming::{choice_of, define_name};
 pub use part_of::{part_of_record, part_of_variant, read_part, tag_of_choice};
 pub use pooled::{begin_reading, finish_reading, part_behind};
-pub use sharing::{begin_shared, finish_shared};
+pub use sharing::{begin_shared, begin_shared_slice, finish_shared, finish_shared_slice};
 pub use views::{seal_of_field, seal_of_payload, tag_of_view, view_of_field, view_of_payload};

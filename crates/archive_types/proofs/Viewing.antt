@@ -8,3 +8,4 @@ pub mod FieldsShown
 pub mod LastElements
 pub mod ChoicesShown
 pub mod OneLengths
+pub mod EndsBefore

@@ -72,8 +72,8 @@ pub record AreCopied {A : Type 0} (D : Definitions) (X : Shape) (L : Layout) (k 
   pub states : KeepsKeys old.states new.states
 
 -- Why bytes up to an end weren't written, where the values have no cause of their own: for want of memory or of room, or by the device.
-abbrev pub IsUnwritten : ℕ → WriterState → WriterState → Error → Type 0
-IsUnwritten end old new = Explains (λ e. ⊥) (λ n. n ≤ end) old new
+abbrev pub IsWriteRefused : ℕ → WriterState → WriterState → Error → Type 0
+IsWriteRefused end old new = Explains (λ e. ⊥) (λ n. n ≤ end) old new
 
 -- Why a copy that goes up to an end was refused: the end is above `usize::MAX`, or the bytes weren't written.
 abbrev pub IsCopyRefused : ℕ → WriterState → WriterState → Error → Type 0

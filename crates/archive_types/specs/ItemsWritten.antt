@@ -69,8 +69,8 @@ module _ {A R : Type 0} (D : Definitions) (X : Shape) (L : Layout) (k : A → Li
 abbrev pub ItemPut : {T A R M C S : Type 0} → Archive.Ghosts T A R C M → FormatOf M → T → Keys.Ghosts S → Both (MutBor S) (MutBor S) → Type 0
 ItemPut a f x k w = ItemWritten f.definitions f.shape f.layout a.keys a.meaning a.flat a.belongs x (k.state w.entry.now) (k.state w.exit.now)
 
-abbrev pub ItemUnput : {T A R M C S : Type 0} → Archive.Ghosts T A R C M → FormatOf M → T → Keys.Ghosts S → Both (MutBor S) (MutBor S) → Error → Type 0
-ItemUnput a f x k w = ItemRefused f.definitions f.shape f.layout a.keys a.meaning a.flat a.belongs x (k.state w.entry.now) (k.state w.exit.now)
+abbrev pub PutRefused : {T A R M C S : Type 0} → Archive.Ghosts T A R C M → FormatOf M → T → Keys.Ghosts S → Both (MutBor S) (MutBor S) → Error → Type 0
+PutRefused a f x k w = ItemRefused f.definitions f.shape f.layout a.keys a.meaning a.flat a.belongs x (k.state w.entry.now) (k.state w.exit.now)
 
 -- They are no more than a vector may have, and lie from t on; where none has a pointer to a region of its own, they are a vector's elements.
 abbrev pub ItemsStored : {I T A R M C S : Type 0} → (I → Option T → I → Type 0) → I → Archive.Ghosts T A R C M → FormatOf M → Keys.Ghosts S → Both (MutBor S) (MutBor S) → ℕ → Type 0
@@ -79,6 +79,6 @@ ItemsStored {T = T} steps s a f k w t = (xs : List T) × Drains steps s xs × (l
     × (OwnNoRegion a.flat a.belongs xs →
     Serialized f.definitions (vec f.shape) (each_keys a.keys xs) (list (each_meaning a.meaning xs)) (vec_flat f.shape (length xs) t) (k.state w.entry.now) (k.state w.exit.now))
 
-abbrev pub ItemsUnstored : {I T A R M C S : Type 0} → (I → Option T → I → Type 0) → I → Archive.Ghosts T A R C M → FormatOf M → Keys.Ghosts S → Both (MutBor S) (MutBor S) → Error → Type 0
-ItemsUnstored {I = I} steps s a f k w =
+abbrev pub CollectionRefused : {I T A R M C S : Type 0} → (I → Option T → I → Type 0) → I → Archive.Ghosts T A R C M → FormatOf M → Keys.Ghosts S → Both (MutBor S) (MutBor S) → Error → Type 0
+CollectionRefused {I = I} steps s a f k w =
     ItemsRefused f.definitions f.shape f.layout a.keys a.meaning a.flat a.belongs (λ xs. (u : I) × Yields steps s xs u) (k.state w.entry.now) (k.state w.exit.now)

@@ -1,9 +1,10 @@
 -- What a view shows that was made of another one.
-use Rattle.std.specs.Prelude.{◌≡◌, ℕ, zero, suc, ◌+◌, ◌*◌, ◌<◌, List, Option, Some, None}
-use Rattle.archive_check.specs.Shape.{Shape, Pointee}
+use Rattle.std.specs.Prelude.{◌≡◌, ℕ, zero, suc, ◌+◌, ◌*◌, ◌<◌, ◌≤◌, List, Option, Some, None}
+use Rattle.archive_check.specs.Shape.{Shape, Pointee, one, run, text}
+use Rattle.archive_check.specs.Layout.{Layout}
 use Rattle.archive_check.specs.Value.{Value, box, list, Values, no_value, value}
 use Rattle.archive_check.specs.Reads.{SchemaTable}
-use Rattle.archive_check.specs.Definitions.{Definitions, Knows}
+use Rattle.archive_check.specs.Definitions.{Definitions, HasLayout, Knows}
 use Rattle.archive_check.specs.Reached.{Reached}
 use Rattle.archive_check.specs.Viewed.{Viewed}
 
@@ -33,3 +34,9 @@ pub record ShowsPart (D : Definitions) (bytes : List ℕ) (q : ℕ) (P : Pointee
 -- Each of n elements of z bytes, from p on, is viewed.
 abbrev pub AreViewed : Definitions → List ℕ → ℕ → ℕ → Pointee → ℕ → Type 0
 AreViewed D bytes p z P n = (k : ℕ) → k < n → Viewed D bytes (p + k * z) P 0
+
+-- P at `begin`, of this length, ends at `limit` or before.
+pub record EndsBefore (D : Definitions) (P : Pointee) (begin length limit : ℕ) : Type 0 where
+  pub value : (X : Shape) (L : Layout) → P ≡ one X → HasLayout D X L → begin + L.size ≤ limit
+  pub elements : (X : Shape) (L : Layout) → P ≡ run X → HasLayout D X L → begin + length * L.size ≤ limit
+  pub bytes : P ≡ text → begin + length ≤ limit

@@ -7,6 +7,7 @@ ghost use Rattle.archive_types.specs.Compared.{elements_from};
 ghost use Rattle.archive_types.specs.Words.Seen.{ShowsPartOf, elements_between};
 ghost use Rattle.archive_types.specs.Views.{element_in};
 
+mod bytes;
 mod owned;
 mod reading;
 mod sources;

@@ -7,7 +7,7 @@ ghost use Rattle.archive_check.specs.Layout.{pointer_size};
 ghost use Rattle.archive_check.specs.Readable.{target_from};
 ghost use Rattle.archive_check.specs.Reads.{length_at};
 ghost use Rattle.archive_types.specs.Words.Seen.{ShowsPartOf};
-ghost use Rattle.archive_types.specs.Views.{ShowsPart, boxed_in};
+ghost use Rattle.archive_types.specs.Views.{EndsBefore, ShowsPart, boxed_in};
 
 mod inner;
 mod reading;
@@ -88,6 +88,7 @@ impl<'a, T: PortablePointee> Ref<'a, ArchivedBox<T>> {
         ensures position { result.pos ≡ target_from self.entry.bytes.now self.entry.pos
             self.entry.pos }
         ensures length { result.len ≡ length_at self.entry.bytes.now self.entry.pos T.pointee }
+        ensures ends { EndsBefore T.definitions T.pointee result.pos result.len self.entry.pos }
         ensures shows { ShowsPartOf result self.entry boxed_in }
     {
         let RawView { bytes, pos, .. } = self.part();

@@ -9,7 +9,7 @@ ghost use Rattle.archive_types.specs.Members.Keyed.{nothing_keyed, part_keyed};
 ghost use Rattle.archive_types.specs.Parts.{ArePlanned, AreKeyed, ZeroedParts};
 ghost use Rattle.archive_types.specs.Members.PartsPlanned.{no_part_planned, part_planned};
 ghost use Rattle.archive_types.specs.PartsReading.{PartsViewed};
-ghost use Rattle.archive_types.specs.Words.PartsWritten.{ReadsPartsBack, UnreadParts};
+ghost use Rattle.archive_types.specs.Words.PartsWritten.{ReadsPartsBack, PartsRefused};
 ghost use Rattle.archive_types.specs.Outcomes.{ResolvesAllParts};
 
 mod four_parts;
@@ -192,7 +192,7 @@ pub trait DeserializeParts<T: OwnedParts, D: Entries>: PortableParts {
         requires viewed { PartsViewed Self.definitions bytes.now pos start Self.parts }
         ensures read { IfOk result (ReadsPartsBack Self.CheckedParts bytes.now pos start D.Entries
             deserializer T.meanings T.keys) }
-        ensures refused { IfErr result (UnreadParts Self.CheckedParts bytes.now pos start D.Entries
+        ensures refused { IfErr result (PartsRefused Self.CheckedParts bytes.now pos start D.Entries
             deserializer) };
 }
 

@@ -4,7 +4,7 @@ ghost use Rattle.std.specs.Prelude.{◌≡◌, ◌⊎◌, None, Option, Some, �
 ghost use Rattle.archive_check.specs.WriterState.{KeepsBytes, KeepsKeys};
 ghost use Rattle.archive_types.specs.Causes.{Explains, HindersShared, HindersRegion, RegionReaches};
 ghost use Rattle.archive_types.specs.Plans.{cursor, begun, SerializedShared};
-ghost use Rattle.archive_types.specs.Words.SharedWriting.{IsUnchangedIfKnown, StoresIfUnknown, UnstoredUnder};
+ghost use Rattle.archive_types.specs.Words.SharedWriting.{IsUnchangedIfKnown, StoresIfUnknown, SharedRefused};
 ghost use Rattle.archive_write.specs.Sharing.{known_answer};
 ghost use Rattle.archive_write.specs.Written.{GoesOn};
 
@@ -39,7 +39,7 @@ pub trait SharingExt: Sharing + Writer {
         ensures serialized { StoresIfUnknown key T.ArchiveUnsized T.Archived.ArchivePointee
             value.now Self.Keys self result }
         ensures goes_on { GoesOn (Self.state self.old) (Self.state self.new) }
-        ensures refused { IfErr result (UnstoredUnder key T.ArchiveUnsized T.Archived.ArchivePointee
+        ensures refused { IfErr result (SharedRefused key T.ArchiveUnsized T.Archived.ArchivePointee
             value.now Self.Keys self) }
         ensures finished { IfOk result (λ p. (Self.state self.new).states key ≡ Some (Some p)) }
         ensures unfinished { OnErr result (((Self.state self.new).states key ≡ None)

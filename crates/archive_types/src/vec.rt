@@ -1,6 +1,6 @@
 //! Vectors: elements in a region of their own, with their number.
 
-ghost use Rattle.std.specs.Prelude.{◌≡◌, ◌+◌, ◌↔◌, IsTrue, refl};
+ghost use Rattle.std.specs.Prelude.{◌≡◌, ◌+◌, ◌*◌, ◌≤◌, ◌↔◌, IsTrue, refl};
 ghost use Rattle.std.proofs.Common.{inl, inr};
 ghost use Rattle.archive_check.specs.Shape.{one, run, vec as vec_shape};
 ghost use Rattle.archive_check.specs.Readable.{target_from};
@@ -87,6 +87,7 @@ impl<'a, T: Portable> Ref<'a, ArchivedVec<T>> {
         ensures position { result.pos ≡ target_from self.entry.bytes.now self.entry.pos
             self.entry.pos }
         ensures length { result.len ≡ u32_at self.entry.bytes.now (self.entry.pos + 4) }
+        ensures ends { result.pos + result.len * T.layout.size ≤ self.entry.pos }
         ensures shows { ShowsPartOf result self.entry itself }
     {
         let RawView { bytes, pos, .. } = self.part();

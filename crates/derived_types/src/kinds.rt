@@ -1,7 +1,7 @@
 //! Fields of every format of the library.
 
 use crate::pair::Pair;
-use crate::spot::Spot;
+use crate::spot::{Line, Spot};
 use archive_core::boxed::{BoxSlice, BoxStr};
 use archive_core::core_impls::OwnedArray;
 use archive_core::primitive::NonZero;
@@ -39,11 +39,11 @@ pub struct Owners {
     pub of: PhantomData<u64>,
 }
 
-/// Lists, and a record with parameters. Its fields have no names.
+/// Lists, and a record with parameters, four deep. Its fields have no names.
 #[derive(Drop)]
 pub struct Lists(
-    /// A number and a place.
-    pub Pair<u64, Spot>,
+    /// A number and a line.
+    pub Pair<u64, Line>,
     /// Four numbers.
     pub OwnedArray<i16, 4>,
     /// Places, perhaps.
@@ -80,7 +80,7 @@ ghost use Rattle.std.proofs.Common.{inl, inr, lit≤};
 ghost use Rattle.std.specs.Prelude.{None, [], length, refl, string_bytes, true, ◌++◌, ◌+◌, ◌≡◌};
 
 use crate::pair::ArchivedPair;
-use crate::spot::ArchivedSpot;
+use crate::spot::{ArchivedLine, ArchivedSpot};
 use archive_core::boxed::ArchivedBox;
 use archive_core::core_impls::ArchivedTuple2;
 use archive_core::error::Error;
@@ -1115,7 +1115,7 @@ impl<'a> OwnersSeal<'a> for Seal<'a, ArchivedOwners> {
 pub struct ArchivedLists;
 
 type ListsParts = (
-    ArchivedPair<ArchivedU64, ArchivedSpot>,
+    ArchivedPair<ArchivedU64, ArchivedLine>,
     (
         [ArchivedI16; 4],
         (ArchivedVec<ArchivedOption<ArchivedSpot>>, ()),
@@ -1123,14 +1123,14 @@ type ListsParts = (
 );
 
 type ListsOwned = (
-    Pair<u64, Spot>,
+    Pair<u64, Line>,
     (OwnedArray<i16, 4>, (Vec<Option<Spot>>, ())),
 );
 
 impl ArchivePointee for ArchivedLists {
     type ArchivedMetadata = ();
 
-    ghost pointee = { one (parts (part ⟦<ArchivedPair<ArchivedU64, ArchivedSpot> as Portable>⟧.shape
+    ghost pointee = { one (parts (part ⟦<ArchivedPair<ArchivedU64, ArchivedLine> as Portable>⟧.shape
         (part ⟦<[ArchivedI16; 4] as Portable>⟧.shape (part
         ⟦<ArchivedVec<ArchivedOption<ArchivedSpot>> as Portable>⟧.shape no_part)))) };
 
@@ -1144,7 +1144,7 @@ impl ArchivePointee for ArchivedLists {
 }
 
 impl Portable for ArchivedLists {
-    ghost shape = { parts (part ⟦<ArchivedPair<ArchivedU64, ArchivedSpot> as Portable>⟧.shape
+    ghost shape = { parts (part ⟦<ArchivedPair<ArchivedU64, ArchivedLine> as Portable>⟧.shape
         (part ⟦<[ArchivedI16; 4] as Portable>⟧.shape (part
         ⟦<ArchivedVec<ArchivedOption<ArchivedSpot>> as Portable>⟧.shape no_part))) };
 
@@ -1159,7 +1159,7 @@ impl Portable for ArchivedLists {
     ghost has_layout = { record { solved = λ s k. refl } };
 
     ghost no_others = { no_definition_reached (parts (part
-        ⟦<ArchivedPair<ArchivedU64, ArchivedSpot> as Portable>⟧.shape
+        ⟦<ArchivedPair<ArchivedU64, ArchivedLine> as Portable>⟧.shape
         (part ⟦<[ArchivedI16; 4] as Portable>⟧.shape (part
         ⟦<ArchivedVec<ArchivedOption<ArchivedSpot>> as Portable>⟧.shape no_part)))) };
 
@@ -1183,7 +1183,7 @@ impl Portable for ArchivedLists {
 }
 
 impl SelfCheck for ArchivedLists {
-    ghost shape = { parts (part ⟦<ArchivedPair<ArchivedU64, ArchivedSpot> as Portable>⟧.shape
+    ghost shape = { parts (part ⟦<ArchivedPair<ArchivedU64, ArchivedLine> as Portable>⟧.shape
         (part ⟦<[ArchivedI16; 4] as Portable>⟧.shape (part
         ⟦<ArchivedVec<ArchivedOption<ArchivedSpot>> as Portable>⟧.shape no_part))) };
 
@@ -1219,7 +1219,7 @@ impl Record for ArchivedLists {
     type Parts = ListsParts;
 
     ghost has_parts = { plain_record
-        (part ⟦<ArchivedPair<ArchivedU64, ArchivedSpot> as Portable>⟧.shape
+        (part ⟦<ArchivedPair<ArchivedU64, ArchivedLine> as Portable>⟧.shape
         (part ⟦<[ArchivedI16; 4] as Portable>⟧.shape (part
         ⟦<ArchivedVec<ArchivedOption<ArchivedSpot>> as Portable>⟧.shape no_part)))
         (both (both no_definition (both no_definition no_definition))
@@ -1232,7 +1232,7 @@ impl Record for ArchivedLists {
 #[derive(Drop)]
 pub struct ListsResolver {
     kept: (
-        <Pair<u64, Spot> as Archive>::Resolver,
+        <Pair<u64, Line> as Archive>::Resolver,
         (
             <OwnedArray<i16, 4> as Archive>::Resolver,
             (<Vec<Option<Spot>> as Archive>::Resolver, ()),
@@ -1241,32 +1241,33 @@ pub struct ListsResolver {
 }
 
 impl Archive for Lists {
+    ghost use Rattle.derived_types.specs.contracts.spot.LineArchive.TheImpl.Laws.{keyed-law as keyed_of_line, planned-law as planned_of_line};
     ghost use Rattle.derived_types.specs.contracts.spot.SpotArchive.TheImpl.Laws.{keyed-law as keyed_of_spot, planned-law as planned_of_spot};
 
     type Archived = ArchivedLists;
 
     type Resolver = ListsResolver;
 
-    ghost meaning = { λ v. product (value (⟦<Pair<u64, Spot> as Archive>⟧.meaning v.0)
+    ghost meaning = { λ v. product (value (⟦<Pair<u64, Line> as Archive>⟧.meaning v.0)
         (value (⟦<OwnedArray<i16, 4> as Archive>⟧.meaning v.1)
         (value (⟦<Vec<Option<Spot>> as Archive>⟧.meaning v.2) no_value))) };
 
-    ghost flat = { λ v r. product (value (⟦<Pair<u64, Spot> as Archive>⟧.flat v.0 r.kept.0)
+    ghost flat = { λ v r. product (value (⟦<Pair<u64, Line> as Archive>⟧.flat v.0 r.kept.0)
         (value (⟦<OwnedArray<i16, 4> as Archive>⟧.flat v.1 r.kept.1.0)
         (value (⟦<Vec<Option<Spot>> as Archive>⟧.flat v.2 r.kept.1.1.0) no_value))) };
 
-    ghost keys = { λ v. ⟦<Pair<u64, Spot> as Archive>⟧.keys v.0
+    ghost keys = { λ v. ⟦<Pair<u64, Line> as Archive>⟧.keys v.0
         ++ (⟦<OwnedArray<i16, 4> as Archive>⟧.keys v.1 ++ (⟦<Vec<Option<Spot>> as Archive>⟧.keys v.2
         ++ [])) };
 
-    ghost belongs = { λ v r. ⟦<Pair<u64, Spot> as Archive>⟧.belongs v.0 r.kept.0
+    ghost belongs = { λ v r. ⟦<Pair<u64, Line> as Archive>⟧.belongs v.0 r.kept.0
         × (⟦<OwnedArray<i16, 4> as Archive>⟧.belongs v.1 r.kept.1.0
         × (⟦<Vec<Option<Spot>> as Archive>⟧.belongs v.2 r.kept.1.1.0 × Unit {0})) };
 
     ghost in_bulk = { None };
 
     ghost keyed = { λ v. record_keyed (part_keyed (record_keyed
-        (part_keyed (number_keyed _) (part_keyed (keyed_of_spot v.0.right) nothing_keyed)))
+        (part_keyed (number_keyed _) (part_keyed (keyed_of_line v.0.right) nothing_keyed)))
         (part_keyed (array_keyed 4 ⟦<i16 as Archive>⟧.keys ⟦<i16 as Archive>⟧.meaning
         (λ x. number_keyed _) v.1) (part_keyed (each_keyed ⟦<Option<Spot> as Archive>⟧.keys
         ⟦<Option<Spot> as Archive>⟧.meaning (λ x. option_keyed ⟦<Spot as Archive>⟧.keys
@@ -1275,21 +1276,21 @@ impl Archive for Lists {
     ghost planned = { λ v. plain_record_planned (both
         (both no_definition (both no_definition no_definition))
         (both no_definition (both no_definition no_definition)))
-        (part ⟦<ArchivedPair<ArchivedU64, ArchivedSpot> as Portable>⟧.shape
+        (part ⟦<ArchivedPair<ArchivedU64, ArchivedLine> as Portable>⟧.shape
         (part ⟦<[ArchivedI16; 4] as Portable>⟧.shape (part
         ⟦<ArchivedVec<ArchivedOption<ArchivedSpot>> as Portable>⟧.shape no_part))) _ _
         (part_planned (both no_definition (both no_definition no_definition))
-        ⟦<ArchivedPair<ArchivedU64, ArchivedSpot> as Portable>⟧.shape
-        (⟦<Pair<u64, Spot> as Archive>⟧.keys v.0) (⟦<Pair<u64, Spot> as Archive>⟧.meaning v.0)
+        ⟦<ArchivedPair<ArchivedU64, ArchivedLine> as Portable>⟧.shape
+        (⟦<Pair<u64, Line> as Archive>⟧.keys v.0) (⟦<Pair<u64, Line> as Archive>⟧.meaning v.0)
         (product_planned (both no_definition (both no_definition no_definition))
-        (part ⟦<ArchivedU64 as Portable>⟧.shape (part ⟦<ArchivedSpot as Portable>⟧.shape no_part))
-        (⟦<u64 as Archive>⟧.keys v.0.left ++ (⟦<Spot as Archive>⟧.keys v.0.right ++ []))
-        (value (⟦<u64 as Archive>⟧.meaning v.0.left) (value (⟦<Spot as Archive>⟧.meaning v.0.right)
+        (part ⟦<ArchivedU64 as Portable>⟧.shape (part ⟦<ArchivedLine as Portable>⟧.shape no_part))
+        (⟦<u64 as Archive>⟧.keys v.0.left ++ (⟦<Line as Archive>⟧.keys v.0.right ++ []))
+        (value (⟦<u64 as Archive>⟧.meaning v.0.left) (value (⟦<Line as Archive>⟧.meaning v.0.right)
         no_value)) (part_planned no_definition ⟦<ArchivedU64 as Portable>⟧.shape
         (⟦<u64 as Archive>⟧.keys v.0.left) (⟦<u64 as Archive>⟧.meaning v.0.left)
         (leaf_planned no_definition _ _ [] _ refl) (part_planned no_definition
-        ⟦<ArchivedSpot as Portable>⟧.shape (⟦<Spot as Archive>⟧.keys v.0.right)
-        (⟦<Spot as Archive>⟧.meaning v.0.right) (planned_of_spot v.0.right) no_part_planned)))
+        ⟦<ArchivedLine as Portable>⟧.shape (⟦<Line as Archive>⟧.keys v.0.right)
+        (⟦<Line as Archive>⟧.meaning v.0.right) (planned_of_line v.0.right) no_part_planned)))
         (part_planned no_definition ⟦<[ArchivedI16; 4] as Portable>⟧.shape
         (⟦<OwnedArray<i16, 4> as Archive>⟧.keys v.1) (⟦<OwnedArray<i16, 4> as Archive>⟧.meaning v.1)
         (array_planned 4 no_definition ⟦<ArchivedI16 as Portable>⟧.shape ⟦<i16 as Archive>⟧.keys
@@ -1316,7 +1317,7 @@ impl Archive for Lists {
     {
         let Place { bytes, pos, .. } = place;
         let ListsResolver { kept } = resolver;
-        resolve_record_3::<Pair<u64, Spot>, OwnedArray<i16, 4>, Vec<Option<Spot>>, ArchivedLists>(
+        resolve_record_3::<Pair<u64, Line>, OwnedArray<i16, 4>, Vec<Option<Spot>>, ArchivedLists>(
             &self.0,
             &self.1,
             &self.2,
@@ -1344,7 +1345,7 @@ impl<S: Writer + ResolverAlloc<Alloc = Global>> Serialize<S> for Lists {
     #[inline(always)]
     fn serialize(&self, serializer: &mut S) -> Result<Self::Resolver, Error> {
         match serialize_record_3::<
-            Pair<u64, Spot>,
+            Pair<u64, Line>,
             OwnedArray<i16, 4>,
             Vec<Option<Spot>>,
             ArchivedLists,
@@ -1374,7 +1375,7 @@ impl ArchiveUnsized for Lists {
     ghost one_length = { λ _ _. refl };
 
     ghost planned = { λ v. one_planned no_definition (parts
-        (part ⟦<ArchivedPair<ArchivedU64, ArchivedSpot> as Portable>⟧.shape
+        (part ⟦<ArchivedPair<ArchivedU64, ArchivedLine> as Portable>⟧.shape
         (part ⟦<[ArchivedI16; 4] as Portable>⟧.shape (part
         ⟦<ArchivedVec<ArchivedOption<ArchivedSpot>> as Portable>⟧.shape no_part))))
         (⟦<Lists as Archive>⟧.keys v) (⟦<Lists as Archive>⟧.meaning v) (planned_of_lists v) };
@@ -1412,8 +1413,8 @@ impl<D: Entries> Deserialize<Lists, D> for ArchivedLists {
 
 /// The fields of an archived `Lists`, as views.
 pub trait ListsView<'a> {
-    /// A number and a place.
-    fn field_0(self) -> Ref<'a, ArchivedPair<ArchivedU64, ArchivedSpot>>;
+    /// A number and a line.
+    fn field_0(self) -> Ref<'a, ArchivedPair<ArchivedU64, ArchivedLine>>;
 
     /// Four numbers.
     fn field_1(self) -> Ref<'a, [ArchivedI16; 4]>;
@@ -1423,13 +1424,13 @@ pub trait ListsView<'a> {
 }
 
 impl<'a> ListsView<'a> for Ref<'a, ArchivedLists> {
-    fn field_0(self) -> Ref<'a, ArchivedPair<ArchivedU64, ArchivedSpot>>
+    fn field_0(self) -> Ref<'a, ArchivedPair<ArchivedU64, ArchivedLine>>
         ensures buffer { result.bytes.now ≡ self.entry.bytes.now }
         ensures position { result.pos ≡ self.entry.pos + 0 }
         ensures length { result.len ≡ 0 }
         ensures shows { ShowsValueOf result self.entry (field_in 0) }
     {
-        part_in_record::<ArchivedLists, ArchivedPair<ArchivedU64, ArchivedSpot>>(self, 0, 0)
+        part_in_record::<ArchivedLists, ArchivedPair<ArchivedU64, ArchivedLine>>(self, 0, 0)
     }
 
     fn field_1(self) -> Ref<'a, [ArchivedI16; 4]>
@@ -1456,8 +1457,8 @@ pub trait ListsSeal<'a> {
     // The seal shows a part of a buffer that was checked.
     ghost sealed: { Self → Type 0 };
 
-    /// A number and a place.
-    fn field_0_mut(self) -> Seal<'a, ArchivedPair<ArchivedU64, ArchivedSpot>>
+    /// A number and a line.
+    fn field_0_mut(self) -> Seal<'a, ArchivedPair<ArchivedU64, ArchivedLine>>
         requires { sealed self };
 
     /// Four numbers.
@@ -1472,14 +1473,14 @@ pub trait ListsSeal<'a> {
 impl<'a> ListsSeal<'a> for Seal<'a, ArchivedLists> {
     ghost sealed = { λ s. IsSealOf no_definition (one ⟦<ArchivedLists as Portable>⟧.shape) s };
 
-    fn field_0_mut(self) -> Seal<'a, ArchivedPair<ArchivedU64, ArchivedSpot>>
+    fn field_0_mut(self) -> Seal<'a, ArchivedPair<ArchivedU64, ArchivedLine>>
         requires come_to { IsSealOf no_definition (one ⟦<ArchivedLists as Portable>⟧.shape) self }
         ensures { SealsPart no_definition (one ⟦<ArchivedLists as Portable>⟧.shape)
             (both no_definition (both no_definition no_definition))
-            ⟦<ArchivedPair<ArchivedU64, ArchivedSpot> as ArchivePointee>⟧.pointee
+            ⟦<ArchivedPair<ArchivedU64, ArchivedLine> as ArchivePointee>⟧.pointee
             (self.entry.pos + 0) 0 self.entry result }
     {
-        sealed_part_in_record::<ArchivedLists, ArchivedPair<ArchivedU64, ArchivedSpot>>(self, 0, 0)
+        sealed_part_in_record::<ArchivedLists, ArchivedPair<ArchivedU64, ArchivedLine>>(self, 0, 0)
     }
 
     fn field_1_mut(self) -> Seal<'a, [ArchivedI16; 4]>

@@ -648,7 +648,29 @@ impl<S: Writer + Keys + ResolverAlloc> SerializeUnsized<S> for Json {
 
 // Reads a vector back.
 #[cycle(read_json)]
+#[inline(always)]
 fn read_vec_json<D: Entries>(
+    alloc: Global,
+    part: RawView<'_>,
+    deserializer: &mut D,
+) -> Result<Vec<Json>, Error>
+    requires { IsPartOf ⟦<ArchivedVec<ArchivedJson> as ArchivePointee>⟧ part }
+    ensures read { IfOk result (Read ⟦<ArchivedVec<ArchivedJson> as ArchivePointee>⟧ part D.Entries
+        deserializer ⟦<Vec<Json> as Archive>⟧) }
+    ensures refused { IfErr result (RefusesPart ⟦<ArchivedVec<ArchivedJson> as ArchivePointee>⟧ part
+        D.Entries deserializer) }
+{
+    let view: Ref<'_, ArchivedVec<ArchivedJson>> = Ref::at(part);
+    if view.is_empty() {
+        return Ok(Vec::new(alloc));
+    }
+    read_each_json(alloc, part, deserializer)
+}
+
+// Reads the elements of a vector back.
+#[cycle(read_json)]
+#[inline(never)]
+fn read_each_json<D: Entries>(
     alloc: Global,
     part: RawView<'_>,
     deserializer: &mut D,
@@ -674,7 +696,29 @@ fn read_vec_json<D: Entries>(
 
 // Reads a vector back.
 #[cycle(read_json)]
+#[inline(always)]
 fn read_vec_member_type<D: Entries>(
+    alloc: Global,
+    part: RawView<'_>,
+    deserializer: &mut D,
+) -> Result<Vec<Member>, Error>
+    requires { IsPartOf ⟦<ArchivedVec<ArchivedMember> as ArchivePointee>⟧ part }
+    ensures read { IfOk result (Read ⟦<ArchivedVec<ArchivedMember> as ArchivePointee>⟧ part
+        D.Entries deserializer ⟦<Vec<Member> as Archive>⟧) }
+    ensures refused { IfErr result (RefusesPart ⟦<ArchivedVec<ArchivedMember> as ArchivePointee>⟧
+        part D.Entries deserializer) }
+{
+    let view: Ref<'_, ArchivedVec<ArchivedMember>> = Ref::at(part);
+    if view.is_empty() {
+        return Ok(Vec::new(alloc));
+    }
+    read_each_member_type(alloc, part, deserializer)
+}
+
+// Reads the elements of a vector back.
+#[cycle(read_json)]
+#[inline(never)]
+fn read_each_member_type<D: Entries>(
     alloc: Global,
     part: RawView<'_>,
     deserializer: &mut D,
@@ -805,6 +849,7 @@ fn read_json_object<D: Entries>(
 
 // Reads a value back.
 #[cycle(read_json)]
+#[inline(always)]
 fn read_json<D: Entries>(
     alloc: Global,
     part: RawView<'_>,
@@ -1197,6 +1242,7 @@ impl<S: Writer + Keys + ResolverAlloc> SerializeUnsized<S> for Member {
 
 // Reads a value back, part by part.
 #[cycle(read_json)]
+#[inline(always)]
 fn read_member_type<D: Entries>(
     alloc: Global,
     part: RawView<'_>,

@@ -345,7 +345,29 @@ impl<S: Writer + Keys + ResolverAlloc> SerializeUnsized<S> for Dir {
 
 // Reads a vector back.
 #[cycle(read_dir)]
+#[inline(always)]
 fn read_vec_entry<D: Entries>(
+    alloc: Global,
+    part: RawView<'_>,
+    deserializer: &mut D,
+) -> Result<Vec<Entry>, Error>
+    requires { IsPartOf ⟦<ArchivedVec<ArchivedEntry> as ArchivePointee>⟧ part }
+    ensures read { IfOk result (Read ⟦<ArchivedVec<ArchivedEntry> as ArchivePointee>⟧ part D.Entries
+        deserializer ⟦<Vec<Entry> as Archive>⟧) }
+    ensures refused { IfErr result (RefusesPart ⟦<ArchivedVec<ArchivedEntry> as ArchivePointee>⟧
+        part D.Entries deserializer) }
+{
+    let view: Ref<'_, ArchivedVec<ArchivedEntry>> = Ref::at(part);
+    if view.is_empty() {
+        return Ok(Vec::new(alloc));
+    }
+    read_each_entry(alloc, part, deserializer)
+}
+
+// Reads the elements of a vector back.
+#[cycle(read_dir)]
+#[inline(never)]
+fn read_each_entry<D: Entries>(
     alloc: Global,
     part: RawView<'_>,
     deserializer: &mut D,
@@ -879,6 +901,7 @@ fn read_entry_sub<D: Entries>(
 
 // Reads a value back.
 #[cycle(read_dir)]
+#[inline(always)]
 fn read_entry<D: Entries>(
     alloc: Global,
     part: RawView<'_>,

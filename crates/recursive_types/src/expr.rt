@@ -512,7 +512,29 @@ fn read_box_expr<D: Entries>(
 
 // Reads a vector back.
 #[cycle(read_expr)]
+#[inline(always)]
 fn read_vec_expr<D: Entries>(
+    alloc: Global,
+    part: RawView<'_>,
+    deserializer: &mut D,
+) -> Result<Vec<Expr>, Error>
+    requires { IsPartOf ⟦<ArchivedVec<ArchivedExpr> as ArchivePointee>⟧ part }
+    ensures read { IfOk result (Read ⟦<ArchivedVec<ArchivedExpr> as ArchivePointee>⟧ part D.Entries
+        deserializer ⟦<Vec<Expr> as Archive>⟧) }
+    ensures refused { IfErr result (RefusesPart ⟦<ArchivedVec<ArchivedExpr> as ArchivePointee>⟧ part
+        D.Entries deserializer) }
+{
+    let view: Ref<'_, ArchivedVec<ArchivedExpr>> = Ref::at(part);
+    if view.is_empty() {
+        return Ok(Vec::new(alloc));
+    }
+    read_each_expr(alloc, part, deserializer)
+}
+
+// Reads the elements of a vector back.
+#[cycle(read_expr)]
+#[inline(never)]
+fn read_each_expr<D: Entries>(
     alloc: Global,
     part: RawView<'_>,
     deserializer: &mut D,
@@ -614,6 +636,7 @@ fn read_expr_call<D: Entries>(
 
 // Reads a value back.
 #[cycle(read_expr)]
+#[inline(always)]
 fn read_expr<D: Entries>(
     alloc: Global,
     part: RawView<'_>,

@@ -466,7 +466,29 @@ impl<S: Writer + Keys + ResolverAlloc> SerializeUnsized<S> for Stmt {
 
 // Reads a vector back.
 #[cycle(read_stmt)]
+#[inline(always)]
 fn read_vec_stmt<D: Entries>(
+    alloc: Global,
+    part: RawView<'_>,
+    deserializer: &mut D,
+) -> Result<Vec<Stmt>, Error>
+    requires { IsPartOf ⟦<ArchivedVec<ArchivedStmt> as ArchivePointee>⟧ part }
+    ensures read { IfOk result (Read ⟦<ArchivedVec<ArchivedStmt> as ArchivePointee>⟧ part D.Entries
+        deserializer ⟦<Vec<Stmt> as Archive>⟧) }
+    ensures refused { IfErr result (RefusesPart ⟦<ArchivedVec<ArchivedStmt> as ArchivePointee>⟧ part
+        D.Entries deserializer) }
+{
+    let view: Ref<'_, ArchivedVec<ArchivedStmt>> = Ref::at(part);
+    if view.is_empty() {
+        return Ok(Vec::new(alloc));
+    }
+    read_each_stmt(alloc, part, deserializer)
+}
+
+// Reads the elements of a vector back.
+#[cycle(read_stmt)]
+#[inline(never)]
+fn read_each_stmt<D: Entries>(
     alloc: Global,
     part: RawView<'_>,
     deserializer: &mut D,
@@ -545,6 +567,7 @@ fn read_stmt_block<D: Entries>(
 
 // Reads a value back.
 #[cycle(read_stmt)]
+#[inline(always)]
 fn read_stmt<D: Entries>(
     alloc: Global,
     part: RawView<'_>,

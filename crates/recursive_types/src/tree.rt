@@ -318,7 +318,29 @@ impl<S: Writer + Keys + ResolverAlloc> SerializeUnsized<S> for Tree {
 
 // Reads a vector back.
 #[cycle(read_tree)]
+#[inline(always)]
 fn read_vec_tree<D: Entries>(
+    alloc: Global,
+    part: RawView<'_>,
+    deserializer: &mut D,
+) -> Result<Vec<Tree>, Error>
+    requires { IsPartOf ⟦<ArchivedVec<ArchivedTree> as ArchivePointee>⟧ part }
+    ensures read { IfOk result (Read ⟦<ArchivedVec<ArchivedTree> as ArchivePointee>⟧ part D.Entries
+        deserializer ⟦<Vec<Tree> as Archive>⟧) }
+    ensures refused { IfErr result (RefusesPart ⟦<ArchivedVec<ArchivedTree> as ArchivePointee>⟧ part
+        D.Entries deserializer) }
+{
+    let view: Ref<'_, ArchivedVec<ArchivedTree>> = Ref::at(part);
+    if view.is_empty() {
+        return Ok(Vec::new(alloc));
+    }
+    read_each_tree(alloc, part, deserializer)
+}
+
+// Reads the elements of a vector back.
+#[cycle(read_tree)]
+#[inline(never)]
+fn read_each_tree<D: Entries>(
     alloc: Global,
     part: RawView<'_>,
     deserializer: &mut D,
@@ -344,6 +366,7 @@ fn read_vec_tree<D: Entries>(
 
 // Reads a value back, part by part.
 #[cycle(read_tree)]
+#[inline(always)]
 fn read_tree<D: Entries>(
     alloc: Global,
     part: RawView<'_>,

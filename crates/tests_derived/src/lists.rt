@@ -15,14 +15,14 @@ use archive_core::view::Ref;
 use derived_types::event::ArchivedEvent;
 use derived_types::kinds::{ArchivedLists, Lists, ListsSeal, ListsView};
 use derived_types::pair::{ArchivedPair, Pair, PairSeal, PairView};
-use derived_types::spot::{ArchivedSpot, Spot, SpotSeal};
+use derived_types::spot::{ArchivedSpot, Line, LineSeal, LineView, Spot, SpotSeal};
 use std::alloc::Global;
 use std::process::Abort;
 
-// An option of the numbers 1 and -2, a None, and four zeros. At 16, a multiple of 8, the number 7 of eight bytes, 3 and 4 of two bytes, and four zeros, at 32
-// the numbers 1, -1, 258 and 0, and the vector that points 40 bytes back at both options.
+// An option of the numbers 1 and -2, a None, and four zeros. At 16, a multiple of 8, the number 7 of eight bytes, the line of 3, 4, 5 and -6 of two bytes each,
+// at 32 the numbers 1, -1, 258 and 0, and the vector that points 40 bytes back at both options.
 const LISTS: &[u8; 48] =
-    b"\x01\0\x01\0\xfe\xff\0\0\0\0\0\0\0\0\0\0\x07\0\0\0\0\0\0\0\x03\0\x04\0\0\0\0\0\x01\0\xff\xff\x02\x01\0\0\xd8\xff\xff\xff\x02\0\0\0";
+    b"\x01\0\x01\0\xfe\xff\0\0\0\0\0\0\0\0\0\0\x07\0\0\0\0\0\0\0\x03\0\x04\0\x05\0\xfa\xff\x01\0\xff\xff\x02\x01\0\0\xd8\xff\xff\xff\x02\0\0\0";
 
 // The value that those bytes are the archive of.
 fn lists(rt: &impl Abort, alloc: Global) -> Lists {
@@ -30,10 +30,11 @@ fn lists(rt: &impl Abort, alloc: Global) -> Lists {
         .to_vec(alloc)
         .expect(rt, "memory for numbers");
     let spots = vec![in alloc; Some(Spot { right: 1, up: -2 }), None];
-    let pair = Pair {
-        left: 7,
-        right: Spot { right: 3, up: 4 },
+    let right = Line {
+        from: Spot { right: 3, up: 4 },
+        to: Spot { right: 5, up: -6 },
     };
+    let pair = Pair { left: 7, right };
     Lists(
         pair,
         OwnedArray::from_vec(four).expect(rt, "four numbers"),
@@ -81,15 +82,17 @@ fn lists_are_viewed(rt: HostRuntime) {
     };
     assert_spots(&rt, first, second);
     assert_same(&rt, "to the left", view.field_0().left().get(), 7);
-    assert_spot(&rt, view.field_0().right(), 3, 4);
+    let line = view.field_0().right();
+    assert_spot(&rt, line.from(), 3, 4);
+    assert_spot(&rt, line.to(), 5, -6);
 }
 
-// Writes over the last number, and over the place of the pair.
+// Writes over the last number, and over the first place of the pair's line.
 fn write_lists(rt: &impl Abort, alloc: Global, bytes: &mut [u8]) {
     let four = sealed::<ArchivedLists>(rt, alloc, bytes).field_1_mut();
     four.index(3).write(5);
     let pair = sealed::<ArchivedLists>(rt, alloc, bytes).field_0_mut();
-    pair.right_mut().up_mut().write(-1);
+    pair.right_mut().from_mut().up_mut().write(-1);
 }
 
 // And over the first place of the list.
@@ -110,7 +113,7 @@ fn lists_are_edited(rt: HostRuntime) {
     write_lists(&rt, rt.alloc(), &mut bytes);
     write_first(&rt, rt.alloc(), &mut bytes);
     let wanted =
-        b"\x01\0\x09\0\xfe\xff\0\0\0\0\0\0\0\0\0\0\x07\0\0\0\0\0\0\0\x03\0\xff\xff\0\0\0\0\x01\0\xff\xff\x02\x01\x05\0\xd8\xff\xff\xff\x02\0\0\0";
+        b"\x01\0\x09\0\xfe\xff\0\0\0\0\0\0\0\0\0\0\x07\0\0\0\0\0\0\0\x03\0\xff\xff\x05\0\xfa\xff\x01\0\xff\xff\x02\x01\x05\0\xd8\xff\xff\xff\x02\0\0\0";
     assert_bytes(&rt, "the edited lists", &bytes, wanted);
 }
 

@@ -1,11 +1,11 @@
 // A record of maps: of texts to numbers, and of numbers to records.
 
-use crate::assertions::{assert_archived, assert_same, text, viewed};
+use crate::assertions::{assert_archived, assert_bytes, assert_same, sealed, text, viewed};
 use crate::judgements::{assert_faults, outside};
 use archive_core::error::Error;
 use archive_core::view::Ref;
-use derived_types::spot::{ArchivedSpot, Spot, SpotView};
-use derived_types::stock::{ArchivedStock, Stock, StockView};
+use derived_types::spot::{ArchivedSpot, Spot, SpotSeal, SpotView};
+use derived_types::stock::{ArchivedStock, Stock, StockSeal, StockView};
 use std::alloc::{AllocError, Global};
 use std::collections::BTreeMap;
 use std::process::Abort;
@@ -77,6 +77,32 @@ fn a_stock_is_looked_up(rt: HostRuntime) {
         let found = numbers_of(view.places().get(&number));
         assert_same(&rt, "a place", found, place);
     }
+}
+
+// Writes over a price and over a place, each found by its key.
+fn write_stock(rt: &impl Abort, alloc: Global, bytes: &mut [u8], name: &String) {
+    if let Some(price) = sealed::<ArchivedStock>(rt, alloc, bytes)
+        .prices_mut()
+        .get_seal(name)
+    {
+        price.write(7);
+    }
+    if let Some(place) = sealed::<ArchivedStock>(rt, alloc, bytes)
+        .places_mut()
+        .get_seal(&258)
+    {
+        place.up_mut().write(-1);
+    }
+}
+
+#[test]
+fn stocks_are_edited(rt: HostRuntime) {
+    let mut bytes = *STOCK;
+    let name = text(&rt, rt.alloc(), "hello world");
+    write_stock(&rt, rt.alloc(), &mut bytes, &name);
+    let wanted =
+        b"hello world\0a\xff\xff\xff\xff\xff\xff\xff\x01\0\0\0\x8b\0\0\0\xe8\xff\xff\xff\x07\0\0\0\x03\0\x01\0\xfe\xff\x02\x01\x03\0\xff\xff\xdc\xff\xff\xff\x02\0\0\0\xec\xff\xff\xff\x02\0\0\0";
+    assert_bytes(&rt, "the edited stock", &bytes, wanted);
 }
 
 #[test]

@@ -11,6 +11,8 @@ mod assertions;
 #[cfg(test)]
 mod declared;
 #[cfg(test)]
+mod deep;
+#[cfg(test)]
 mod derived;
 #[cfg(test)]
 mod faults;

@@ -45,7 +45,7 @@ fn assert_two_boxes<T: PortablePointee>(
 }
 
 // A region isn't within this range.
-fn outside(position: i128, size: usize, start: usize, end: usize) -> Option<Error> {
+pub(crate) fn outside(position: i128, size: usize, start: usize, end: usize) -> Option<Error> {
     Some(Error::InvalidSubtreePointer {
         position,
         size,

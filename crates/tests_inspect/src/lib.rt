@@ -14,6 +14,8 @@ mod mistakes;
 #[cfg(test)]
 mod places;
 #[cfg(test)]
+mod regions;
+#[cfg(test)]
 mod schemas;
 #[cfg(test)]
 mod ways;

@@ -1,6 +1,6 @@
-// Lists of any length, and trees of many levels, on a machine stack of 8 MiB: made, written, validated, read back and dropped.
+// Lists of any length, and trees of many levels and of many children, on a machine stack of 8 MiB: made, written, validated, read back and dropped.
 
-use crate::assertions::{assert_holds, assert_same, value_of};
+use crate::assertions::{assert_bytes, assert_holds, assert_same, value_of};
 use archive_core::api::{HighSerializer, access, to_bytes};
 use archive_core::traits::{Portable, Serialize};
 use recursive_types::list::{ArchivedList, List};
@@ -66,18 +66,38 @@ fn tree_of_depth(alloc: Global, levels: u32) -> Result<Tree, AllocError> {
     Ok(tree)
 }
 
+// The node with so many children.
+fn tree_of_width(alloc: Global, count: u32) -> Result<Tree, AllocError> {
+    let mut children = Vec::new(alloc);
+    for value in 0..count {
+        let child = Tree {
+            value,
+            children: Vec::new(alloc),
+        };
+        children.push(child)?;
+    }
+    Ok(Tree { value: 0, children })
+}
+
+// A tree has an archive of this length, which is validated, read back and written again.
+fn assert_goes_through(rt: &impl Abort, alloc: Global, tree: &Tree, length: usize) {
+    let bytes = written(rt, alloc, tree);
+    assert_same(rt, "bytes", bytes.len(), length);
+    let holds = is_archive::<ArchivedTree>(alloc, bytes.as_slice());
+    assert_holds(rt, "is validated", holds);
+    let back: Tree = value_of(rt, alloc, bytes.as_slice());
+    let again = written(rt, alloc, &back);
+    assert_bytes(rt, "is written again", again.as_slice(), bytes.as_slice());
+}
+
 #[test]
 fn two_thousand_levels(rt: HostRuntime) {
     let tree = tree_of_depth(rt.alloc(), 2_000).expect(&rt, "a tree");
-    let bytes = written(&rt, rt.alloc(), &tree);
-    assert_same(&rt, "bytes", bytes.len(), 24_012);
-    let holds = is_archive::<ArchivedTree>(rt.alloc(), bytes.as_slice());
-    assert_holds(&rt, "is validated", holds);
-    let back: Tree = value_of(&rt, rt.alloc(), bytes.as_slice());
-    let again = written(&rt, rt.alloc(), &back);
-    assert_holds(
-        &rt,
-        "is written again",
-        again.as_slice() == bytes.as_slice(),
-    );
+    assert_goes_through(&rt, rt.alloc(), &tree, 24_012);
+}
+
+#[test]
+fn many_children(rt: HostRuntime) {
+    let tree = tree_of_width(rt.alloc(), 200_000).expect(&rt, "a tree");
+    assert_goes_through(&rt, rt.alloc(), &tree, 2_400_012);
 }

@@ -1,10 +1,11 @@
 // Lists of boxes in boxes: checked, viewed and read back. What is checked is generic in the node, so that a call at the type is made once.
 
-ghost use Rattle.std.specs.Prelude.{◌≢◌, Some};
+ghost use Rattle.std.specs.Prelude.{◌<◌};
 
 use crate::assertions::{assert_refused, assert_same, value_of, viewed};
-use archive_core::api::{HighValidator, access_with_context};
+use archive_core::api::{Access, HighValidator, access_with_context, root_position};
 use archive_core::error::Error;
+use archive_core::shape::Schema;
 use archive_core::traits::{Choice, Portable};
 use own_types::node::{ArchivedNode, Node, boxes};
 use std::alloc::Global;
@@ -57,52 +58,71 @@ fn chain(rt: &impl Abort, alloc: Global, count: usize) -> Vec<u8> {
     bytes
 }
 
-// How many regions a check enters, with a limit of depth.
-fn entered<T: Portable>(alloc: Global, bytes: &[u8], levels: Option<usize>) -> Result<usize, Error>
-    requires { levels ≢ Some 0 }
+// How many regions a check of nodes enters, with a limit of depth: that of the type, one that is kept, and the schema's.
+fn entered<T: Portable>(alloc: Global, bytes: &[u8], levels: usize) -> Result<usize, Error>
+    requires { 0 < levels }
 {
-    let mut context = HighValidator::with_max_depth(alloc, bytes, levels);
+    let mut context = HighValidator::with_max_depth(alloc, bytes, Some(levels));
     let _ = access_with_context::<T, HighValidator<'_>>(alloc, bytes, &mut context)?;
     Ok(context.subtrees())
 }
 
-// A check with a limit of depth enters so many regions.
+fn entered_kept<T: Portable>(alloc: Global, bytes: &[u8], levels: usize) -> Result<usize, Error>
+    requires { 0 < levels }
+{
+    let kept: Access<T> = Access::new(alloc)?;
+    let mut context = HighValidator::with_max_depth(alloc, bytes, Some(levels));
+    kept.check_pos_with_context(bytes, root_position::<T>(bytes.len()), &mut context)?;
+    Ok(context.subtrees())
+}
+
+fn entered_by_schema<T: Portable>(
+    alloc: Global,
+    bytes: &[u8],
+    levels: usize,
+) -> Result<usize, Error>
+    requires { 0 < levels }
+{
+    let schema = Schema::of::<T>(alloc)?;
+    let mut context = HighValidator::with_max_depth(alloc, bytes, Some(levels));
+    schema.check(bytes, root_position::<T>(bytes.len()), &mut context)?;
+    Ok(context.subtrees())
+}
+
+// With a limit of depth each check enters so many regions, or is refused for the limit.
 fn assert_entered<T: Portable>(
     rt: &impl Abort,
     alloc: Global,
     bytes: &[u8],
-    levels: Option<usize>,
-    regions: usize,
+    levels: usize,
+    wanted: Result<usize, Error>,
 )
-    requires { levels ≢ Some 0 }
+    requires { 0 < levels }
 {
-    let found = entered::<T>(alloc, bytes, levels).expect(rt, "an archive");
-    assert_same(rt, "regions", found, regions);
+    let own = entered::<T>(alloc, bytes, levels);
+    assert_same(rt, "the type's check", own, wanted);
+    let kept = entered_kept::<T>(alloc, bytes, levels);
+    assert_same(rt, "a kept check", kept, wanted);
+    let by_schema = entered_by_schema::<T>(alloc, bytes, levels);
+    assert_same(rt, "the schema", by_schema, wanted);
 }
 
-// A check with a limit of depth is refused for it.
-fn assert_too_deep<T: Portable>(rt: &impl Abort, alloc: Global, bytes: &[u8], levels: Option<usize>)
-    requires { levels ≢ Some 0 }
-{
-    let refused = entered::<T>(alloc, bytes, levels).err();
-    let too_deep = Some(Error::ExceededMaximumSubtreeDepth);
-    assert_same(rt, "with few levels", refused, too_deep);
-}
-
-// A node is as deep as its boxes.
+// A node has a region more than boxes, and takes a level more than regions.
 fn assert_depth<T: Portable>(rt: &impl Abort, alloc: Global) {
-    let bytes = chain(rt, alloc, 3);
-    for levels in [1, 2, 3, 4] {
-        assert_too_deep::<T>(rt, alloc, &bytes, Some(levels));
-    }
-    assert_entered::<T>(rt, alloc, &bytes, Some(5), 4);
+    let too_deep = Err(Error::ExceededMaximumSubtreeDepth);
+    let short = chain(rt, alloc, 3);
+    assert_entered::<T>(rt, alloc, &short, 1, too_deep);
+    assert_entered::<T>(rt, alloc, &short, 4, too_deep);
+    assert_entered::<T>(rt, alloc, &short, 5, Ok(4));
+    let long = chain(rt, alloc, 100_000);
+    assert_entered::<T>(rt, alloc, &long, 100_001, too_deep);
+    assert_entered::<T>(rt, alloc, &long, 100_002, Ok(100_001));
 }
 
-// A long chain is checked.
+// A long chain is checked with no limit.
 fn assert_long_chain<X: Choice>(rt: &impl Abort, alloc: Global) {
     let bytes = chain(rt, alloc, 200_000);
     assert_box::<X>(rt, alloc, &bytes);
-    assert_entered::<X>(rt, alloc, &bytes, None, 200_001);
 }
 
 // Archives of nodes are viewed, refused, and checked to any depth.

@@ -27,3 +27,11 @@ class MadeOfSigned(RepositoryTest):
     def test_arrays_beside_them_are_named(self):
         self.assertIn("rw (c.into_array.ensures, c.into_array-2.ensures, to_z-of_z w8", self.answers("[u8; 2]", "i8", "[u8; 4]", *["u8"] * 5))
         self.assertEqual(self.answers("[u8; 2]", *["u8"] * 7), "")
+
+
+class MadeOfArrays(RepositoryTest):
+    def test_a_value_with_an_array_is_made_apart_however_few_its_fields(self):
+        text = write.written(self.module("struct Hash([u8; 32]);\nenum Name { Nothing, Hashed([u8; 32]), Numbered(u64, [u32; 2]), Known(u8) }\n"))
+        for name in ("fn hash_of(", "fn name_hashed_of(", "fn name_numbered_of("):
+            self.assertIn(name, text)
+        self.assertNotIn("fn name_known_of(", text)

@@ -96,7 +96,7 @@ use std::marker::PhantomData;
 const LENGTH: usize = 0x10;
 enum All {
     A { a: (), b: bool, c: char, d: usize, e: i128, f: String, g: std::string::String, h: Option<Result<u8, i8>> },
-    B { i: Box<(u8, u16)>, j: BoxSlice<u8>, k: Line, l: Vec<OwnedArray<u8, 4>>, m: [u8; LENGTH], n: OwnedArray<u8, 3>, o: PhantomData<u64> },
+    B { i: Box<(u8, u16)>, j: BoxSlice<u8>, k: Line, l: Option<OwnedArray<u8, 4>>, m: [u8; LENGTH], n: OwnedArray<u8, 3>, o: PhantomData<u64> },
     C { p: Shared<u8>, q: SharedSlice<u8>, r: rc::SharedStr, s: WeakShared<u8>, t: NonZero<i64>, u: ArchivedNonZeroU16, v: (u8), w: (u8,) },
 }
 """

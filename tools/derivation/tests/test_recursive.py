@@ -87,6 +87,23 @@ class Recursive(RepositoryTest):
             self.assertIn(word, self.text(path))
         self.assertIn("(λ vs. product (value (number (pos t.id)) (value (box (list vs)) no_value)))", self.beside("specs", "GroveMeaning.antt"))
 
+    def test_a_vector_with_no_elements_is_read_by_no_call(self):
+        path = self.put(TREE)
+        self.assertEqual(self.run_command(path), (0, ""))
+        text = self.text(path)
+        for word in (
+            "    if view.is_empty() {\n        return Ok(Vec::new(alloc));\n    }\n    read_each_tree(alloc, part, deserializer)\n",
+            "#[cycle(read_tree)]\n#[inline(never)]\nfn read_each_tree<",
+            "#[cycle(read_tree)]\n#[inline(always)]\nfn read_tree<",
+        ):
+            self.assertIn(word, text)
+        self.assertIn("read_vec_tree-returns-then-is_empty-clause-read", self.beside("proofs", "types", "+read_tree", "Answers.antt"))
+
+    def test_what_shares_is_read_by_a_call_for_each_vector(self):
+        path = self.put("use archive_core::rc::Shared;\n#[derive(Drop)]\npub struct Knot { id: u8, next: Vec<Knot>, other: Option<Shared<Knot>> }\n")
+        self.assertEqual(self.run_command(path), (0, ""))
+        self.assertNotIn("fn read_each_knot<", self.text(path))
+
     def test_plain_fields_are_told_by_what_they_are_made_of(self):
         fields = "due: Option<u16>, owner: Result<String, u8>, done: bool, hours: BTreeMap<String, u8>, parts: Vec<Task>"
         path = self.put(f"use std::collections::BTreeMap;\n#[derive(Drop)]\npub struct Task {{ {fields} }}\n")

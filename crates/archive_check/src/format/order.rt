@@ -8,7 +8,8 @@ ghost use Rattle.std.specs.Slice.Scan.{big_endian};
 
 use std::cmp::Ordering;
 
-/// Eight bytes of a text, from `at` on, as a number: the first byte counts most, so that numbers are ordered as such bytes are.
+/// Eight bytes of a text, from index `at` on, as a number: the first byte counts most, so that numbers are ordered as such bytes are. The caller must ensure that
+/// the text has them.
 #[inline(always)]
 pub fn eight_bytes(text: &[u8], at: usize) -> u64
     requires { at + 8 ≤ length text.now }

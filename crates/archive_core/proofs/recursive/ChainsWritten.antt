@@ -1,6 +1,6 @@
 -- Values that are written by loops, down to the innermost and up again.
 use denote.Ref.{Bor}
-use Rattle.std.proofs.Common.{◌≡◌, ℕ, List, [], ◌∷◌, ◌++◌, Some, refl}
+use Rattle.std.proofs.Common.{◌≡◌, ℕ, List, [], ◌∷◌, ◌++◌, Vec, Some, refl, sym, ap, ◌∙◌, append_assoc, append-nil}
 use Rattle.archive_check.specs.Shape.{Shape, one}
 use Rattle.archive_check.specs.Definitions.{Definitions}
 use Rattle.archive_check.specs.Denotes.{Naming}
@@ -14,7 +14,7 @@ use Rattle.archive_types.proofs.Planning.Causes.{goes_nowhere, goes_both}
 use Rattle.archive_types.proofs.Planning.Owners.{box_refused}
 use Rattle.archive_types.proofs.Planning.Planned.{one_owned}
 use Rattle.archive_write.specs.Written.{GoesOn}
-use Rattle.archive_core.specs.recursive.Chains.{IsWrittenUpTo}
+use Rattle.archive_core.specs.recursive.Chains.{IsWrittenUpTo, in_lists}
 
 module _ {T R K : Type 0} (D : Definitions) (X : Shape) (keys : T → List Naming) (meaning : T → Value) (flat : T → R → Value) (belongs : T → R → Type 0) (closed : K → ℕ → R) where
   -- the head of v is written, k is kept of it, and its box holds x
@@ -107,6 +107,23 @@ module _ {T R K : Type 0} (D : Definitions) (X : Shape) (keys : T → List Namin
             let unboxed = rw (← l.same) at b in
             let go_here = goes_both _ _ _ u.goes go in
             down_refused gs v0 w0 l.above l.since l.down next e (goes_both _ _ _ l.opens.goes go_here) (l.opens.head.unwritten next e go_here (unboxed.since u.since u.goes u.written))
+
+in_lists_more : {X A : Type 0} (ss : List (Vec X A)) (xs ys : List X) → in_lists ss (xs ++ ys) ≡ in_lists ss xs ++ ys
+in_lists_more [] xs ys = refl
+in_lists_more (s ∷ ss) xs ys = ap (λ zs. s.items ++ zs) (in_lists_more ss xs ys) ∙ sym (append_assoc s.items (in_lists ss xs) ys)
+
+pub in_lists_full : {X A : Type 0} (ss : List (Vec X A)) (s : Vec X A) → in_lists (ss ++ s ∷ []) [] ≡ in_lists ss s.items
+in_lists_full [] s = append-nil s.items
+in_lists_full (t ∷ ss) s = ap (λ zs. t.items ++ zs) (in_lists_full ss s)
+
+pub in_lists_last : {X A : Type 0} (ss : List (Vec X A)) (xs ys : List X) (y : X) → xs ≡ ys ++ y ∷ [] → in_lists ss xs ≡ in_lists ss ys ++ y ∷ []
+in_lists_last ss xs ys y e = ap (in_lists ss) e ∙ in_lists_more ss ys (y ∷ [])
+
+pub in_lists_none : {X A : Type 0} (ss : List (Vec X A)) (xs : List X) → ss ≡ [] → xs ≡ [] → in_lists ss xs ≡ []
+in_lists_none ss xs no_lists none = rw (no_lists, none) refl
+
+pub in_lists_outer : {X A : Type 0} (ss ts : List (Vec X A)) (s : Vec X A) (xs : List X) → ss ≡ ts ++ s ∷ [] → xs ≡ [] → in_lists ss xs ≡ in_lists ts s.items
+in_lists_outer ss ts s xs e none = rw (e, none) (in_lists_full ts s)
 
 pub some_same : {A : Type 0} {x y : A} → Some x ≡ Some y → x ≡ y
 some_same e = cc

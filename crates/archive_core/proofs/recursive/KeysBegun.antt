@@ -1,19 +1,22 @@
 -- A key that is begun, and finished after what it names was written.
-use Rattle.std.proofs.Common.{◌≡◌, inl, inr, ℕ, List, Option, Some, None, Result, Ok, Err, refl, sym, ap, ◌∙◌}
+use Rattle.std.proofs.Common.{◌≡◌, ◌<◌, inl, inr, ℕ, List, Option, Some, None, Result, Ok, Err, IfSome, IfNone, refl, sym, ap, ◌∙◌}
 use Rattle.std.proofs.lemmas.Bool.{cases_eq}
 use Rattle.archive_check.specs.Definitions.{Definitions}
 use Rattle.archive_check.specs.Denotes.{Naming}
-use Rattle.archive_check.specs.Shape.{Flavor, Pointee}
-use Rattle.archive_check.specs.Value.{Value}
+use Rattle.archive_check.specs.Shape.{Flavor, Pointee, Shape, run}
+use Rattle.archive_check.specs.Value.{Value, Values, list}
 use Rattle.archive_check.specs.WriterState.{KeyState, WriterState, KeepsBytes}
 use Rattle.archive_check.specs.declared.format.error.Error.{Error}
-use Rattle.archive_core.specs.recursive.SharedParts.{Begins, LiesAt, RefusedUnder}
-use Rattle.archive_types.proofs.Planning.Causes.{goes_both, goes_kept}
+use Rattle.archive_check.specs.declared.format.error.Error.TheVariants.{LengthTooLarge}
+use Rattle.archive_core.specs.recursive.SharedParts.{Begins, IsKnown, LiesAt, RefusedUnder}
+use Rattle.archive_types.proofs.Planning.Causes.{goes_both, goes_kept, goes_nowhere}
 use Rattle.archive_types.proofs.SharedValues.KeyStates.{set_here, set_other}
 use Rattle.archive_types.proofs.SharedValues.SharedCauses.{shared_hindered, laid_shared}
-use Rattle.archive_types.proofs.SharedValues.SharedWritten.{shared_refused}
+use Rattle.archive_types.proofs.SharedValues.SharedWritten.{long_shared_refused, shared_refused}
+use Rattle.archive_types.proofs.Writing.RunRegions.{long_run_refused}
 use Rattle.archive_types.specs.Causes.{IsRegionRefused}
 use Rattle.archive_types.specs.Plans.{SerializedRegion}
+use Rattle.archive_types.specs.Runs.{HasRunPlan}
 use Rattle.archive_write.specs.Sharing.{IsSet, started_key, start_answer, known_answer}
 use Rattle.archive_write.specs.declared.sharing.SharingState.{SharingState}
 use Rattle.archive_write.specs.declared.sharing.SharingState.TheVariants.{Finished}
@@ -82,3 +85,9 @@ module _ (D : Definitions) (P : Pointee) (n key : ℕ) (ks : List Naming) (v : V
   pub region_refused : (flavor : Flavor) (old low new : WriterState) (e : Error) → Begins key old low → GoesOn low new → IsRegionRefused D P n ks v low new e → RefusedUnder D flavor P n key ks v old new e
   region_refused flavor old low new e b go h = shared_refused D P n ks v flavor key (Err e) old new e refl (λ s is. (let no : old.states key ≡ None = b.unknown in cc))
       (shared_hindered D P n ks v key old low new e (b.unknown) (b.same) (b.pending) go h)
+
+-- too many elements hinder the pointer, whether their key is known or was begun
+pub long_begun : (D : Definitions) (X : Shape) (n key : ℕ) (ks : List Naming) (vs : Values) (flavor : Flavor) (old new : WriterState) (known : Option ℕ) → IfSome known (λ t. IsKnown key t old new)
+    → IfNone known (Begins key old new) → HasRunPlan D X n ks vs → 4294967295 < n → RefusedUnder D flavor (run X) n key ks (list vs) old new LengthTooLarge
+long_begun D X n key ks vs flavor old new (Some t) k b plans long = long_shared_refused D flavor (run X) n t _ _ old new (k.said D flavor (run X) n ks (list vs)) long
+long_begun D X n key ks vs flavor old new None k b plans long = region_refused D (run X) n key ks (list vs) flavor old new new LengthTooLarge b (goes_nowhere new) (long_run_refused D X n ks vs new new plans long)

@@ -1,7 +1,7 @@
 -- Recursive enums whose boxes of themselves come last: what is written of a value up to its box, and what is read back of it.
 use denote.Triple.Both.{Both}
 use denote.Ref.{Bor, MutBor}
-use Rattle.std.specs.Prelude.{◌≡◌, ℕ, suc, ◌+◌, ◌<◌, Bool, List, Option, Some, None}
+use Rattle.std.specs.Prelude.{◌≡◌, ℕ, suc, ◌+◌, ◌<◌, Bool, List, [], ◌∷◌, ◌++◌, Vec, Option, Some, None}
 use Rattle.archive_check.specs.Shape.{Shape, Pointee, boxed, one}
 use Rattle.archive_check.specs.Layout.{Layout}
 use Rattle.archive_check.specs.Definitions.{Definitions}
@@ -32,6 +32,11 @@ use Rattle.archive_core.specs.declared.recursive.chain.read.ReadHead.TheVariants
 abbrev pub IsRestOf : {T : Type 0} → Option T → Option (Bor T) → Type 0
 IsRestOf rest None = rest ≡ None
 IsRestOf rest (Some x) = rest ≡ Some x.now
+
+-- What is in full lists and in one more, in order.
+abbrev pub in_lists : {X A : Type 0} → List (Vec X A) → List X → List X
+in_lists [] xs = xs
+in_lists (full ∷ more) xs = full.items ++ in_lists more xs
 
 -- How many boxes, products and choices there are in a value, one in another or side by side.
 abbrev mutual

@@ -59,8 +59,8 @@ pub record IsNotListed (D : Definitions) (X : Shape) (n : ℕ) (keys : List Nami
 abbrev pub InnerListed : {T A R M C S : Type 0} → Archive.Ghosts T A R C M → FormatOf M → List T → List R → Keys.Ghosts S → Both (MutBor S) (MutBor S) → ℕ → Type 0
 InnerListed a f xs rs k w t = IsListed f.definitions f.shape (length xs) (each_keys a.keys xs) (each_meaning a.meaning xs) (each_flat a.flat xs rs) t (k.state w.entry.now) (k.state w.exit.now)
 
-abbrev pub InnerUnlisted : {T A R M C S : Type 0} → Archive.Ghosts T A R C M → FormatOf M → List T → List R → Keys.Ghosts S → Both (MutBor S) (MutBor S) → Error → Type 0
-InnerUnlisted a f xs rs k w e = IsNotListed f.definitions f.shape (length xs) (each_keys a.keys xs) (each_meaning a.meaning xs) (each_flat a.flat xs rs) (k.state w.entry.now) (k.state w.exit.now) e
+abbrev pub ListingRefused : {T A R M C S : Type 0} → Archive.Ghosts T A R C M → FormatOf M → List T → List R → Keys.Ghosts S → Both (MutBor S) (MutBor S) → Error → Type 0
+ListingRefused a f xs rs k w e = IsNotListed f.definitions f.shape (length xs) (each_keys a.keys xs) (each_meaning a.meaning xs) (each_flat a.flat xs rs) (k.state w.entry.now) (k.state w.exit.now) e
 
 -- layers over values: what a vector in a layer means, where its elements were mapped before; and the laws of its elements, from those that induction gives
 

@@ -42,8 +42,8 @@ pub record IsNotMapped (D : Definitions) (X : Shape) (K : Key) (V : Shape) (n : 
 abbrev pub InnerMapped : {T A R M C S : Type 0} → Archive.Ghosts T A R C M → FormatOf M → Key → Shape → List T → List R → Keys.Ghosts S → Both (MutBor S) (MutBor S) → ℕ → Type 0
 InnerMapped a f K V xs rs k w t = IsMapped f.definitions f.shape K V (length xs) (each_keys a.keys xs) (each_meaning a.meaning xs) (each_flat a.flat xs rs) t (k.state w.entry.now) (k.state w.exit.now)
 
-abbrev pub InnerUnmapped : {T A R M C S : Type 0} → Archive.Ghosts T A R C M → FormatOf M → Key → Shape → List T → List R → Keys.Ghosts S → Both (MutBor S) (MutBor S) → Error → Type 0
-InnerUnmapped a f K V xs rs k w e = IsNotMapped f.definitions f.shape K V (length xs) (each_keys a.keys xs) (each_meaning a.meaning xs) (each_flat a.flat xs rs) (k.state w.entry.now) (k.state w.exit.now) e
+abbrev pub MappingRefused : {T A R M C S : Type 0} → Archive.Ghosts T A R C M → FormatOf M → Key → Shape → List T → List R → Keys.Ghosts S → Both (MutBor S) (MutBor S) → Error → Type 0
+MappingRefused a f K V xs rs k w e = IsNotMapped f.definitions f.shape K V (length xs) (each_keys a.keys xs) (each_meaning a.meaning xs) (each_flat a.flat xs rs) (k.state w.entry.now) (k.state w.exit.now) e
 
 -- Where the entries were read back as pairs that mean vs, the map was as a map whose pairs mean ws.
 pub record IsReadMap (D : Definitions) (bytes : List ℕ) (q n : ℕ) (X V : Shape) (K : Key) (vs ws : Values) (ks ls : List Naming) : Type 0 where

@@ -11,7 +11,6 @@ use archive_types::vec::ArchivedVec;
 use archive_types::view::Ref;
 
 /// The view of what a box holds, which ends before the box.
-#[tactic(auto, using(crate::proofs::recursive::EndsBefore::box_ends))]
 #[inline(always)]
 pub fn before_box<'a, X: Portable>(view: Ref<'a, ArchivedBox<X>>) -> Ref<'a, X>
     ensures buffer { result.bytes.now ≡ view.entry.bytes.now }
@@ -23,7 +22,6 @@ pub fn before_box<'a, X: Portable>(view: Ref<'a, ArchivedBox<X>>) -> Ref<'a, X>
 }
 
 /// The view of a vector's elements, which end before the vector.
-#[tactic(auto, using(crate::proofs::recursive::EndsBefore::vec_ends))]
 #[inline(always)]
 pub fn before_vec<'a, X: Portable>(view: Ref<'a, ArchivedVec<X>>) -> Ref<'a, ArchivedSlice<X>>
     ensures buffer { result.bytes.now ≡ view.entry.bytes.now }

@@ -1,5 +1,6 @@
 // The expressions of what the names of recursive types stand for, made of one another. A call takes what others made, or that memory was refused, and hands this
-// on: a module that tests for it drops expressions, which takes its check longer than all else that it says of them.
+// on: a module that tests for it drops expressions, which takes its check longer than all else that it says of them. So each fails where memory is refused, to it
+// or to a call whose result it takes, and nowhere else.
 
 ghost use Rattle.std.specs.Prelude.{◌≡◌, IfErr, IfOk, OnOk};
 ghost use Rattle.archive_check.specs.Words.AddedDefinitions.{AreAdded};
@@ -16,21 +17,21 @@ use archive_check::format::expr::{Defs, Expr, FlavorInfo, Pointee};
 use archive_types::traits::{MapKey, Portable};
 use std::alloc::{AllocError, Global};
 
-/// The expression of a type.
+/// The expression of a type. Fails where memory is refused.
 pub fn expression_of<X: Portable>(alloc: Global) -> Result<Expr, AllocError>
     ensures { Expresses X.shape result }
 {
     X::expr(alloc).map_err(|_| AllocError)
 }
 
-/// The expression of a name.
+/// The expression of a name. It never fails.
 pub fn named_expression(name: &'static str) -> Result<Expr, AllocError>
     ensures { Expresses (named name.now) result }
 {
     Ok(Expr::Named(name))
 }
 
-/// The expression of a box of a value.
+/// The expression of a box of a value. Fails where memory is or was refused.
 pub fn boxed_expression(alloc: Global, item: Result<Expr, AllocError>) -> Result<Expr, AllocError>
     ensures { (s : Shape) → Expresses s item → Expresses (boxed (one s)) result }
 {
@@ -38,7 +39,7 @@ pub fn boxed_expression(alloc: Global, item: Result<Expr, AllocError>) -> Result
     Ok(Expr::Box(pointee))
 }
 
-/// The expression of a boxed slice.
+/// The expression of a boxed slice. Fails where memory is or was refused.
 pub fn run_expression(alloc: Global, item: Result<Expr, AllocError>) -> Result<Expr, AllocError>
     ensures { (s : Shape) → Expresses s item → Expresses (boxed (run s)) result }
 {
@@ -46,7 +47,7 @@ pub fn run_expression(alloc: Global, item: Result<Expr, AllocError>) -> Result<E
     Ok(Expr::Box(pointee))
 }
 
-/// The expression of a vector.
+/// The expression of a vector. Fails where memory is or was refused.
 pub fn vec_expression(alloc: Global, item: Result<Expr, AllocError>) -> Result<Expr, AllocError>
     ensures { (s : Shape) → Expresses s item → Expresses (vec s) result }
 {
@@ -54,7 +55,7 @@ pub fn vec_expression(alloc: Global, item: Result<Expr, AllocError>) -> Result<E
     Ok(Expr::Vec(item))
 }
 
-/// The expression of an option.
+/// The expression of an option. Fails where memory is or was refused.
 pub fn option_expression(alloc: Global, item: Result<Expr, AllocError>) -> Result<Expr, AllocError>
     ensures { (s : Shape) → Expresses s item → Expresses (option_shape s) result }
 {
@@ -64,7 +65,7 @@ pub fn option_expression(alloc: Global, item: Result<Expr, AllocError>) -> Resul
     Ok(choice_of("ArchivedOption", variants))
 }
 
-/// The expression of a shared pointer.
+/// The expression of a shared pointer. Fails where memory is or was refused.
 pub fn shared_expression(alloc: Global, item: Result<Expr, AllocError>) -> Result<Expr, AllocError>
     ensures { (s : Shape) → Expresses s item → Expresses (shared rc_flavor (one s)) result }
 {
@@ -76,7 +77,22 @@ pub fn shared_expression(alloc: Global, item: Result<Expr, AllocError>) -> Resul
     Ok(Expr::Shared(flavor, pointee))
 }
 
-/// The expression of a weak pointer.
+/// The expression of a shared slice. Fails where memory is or was refused.
+pub fn shared_run_expression(
+    alloc: Global,
+    item: Result<Expr, AllocError>,
+) -> Result<Expr, AllocError>
+    ensures { (s : Shape) → Expresses s item → Expresses (shared rc_flavor (run s)) result }
+{
+    let pointee = Box::new(alloc, Pointee::Run(item?))?;
+    let flavor = FlavorInfo {
+        name: "RcFlavor",
+        cycles: false,
+    };
+    Ok(Expr::Shared(flavor, pointee))
+}
+
+/// The expression of a weak pointer. Fails where memory is or was refused.
 pub fn weak_expression(alloc: Global, item: Result<Expr, AllocError>) -> Result<Expr, AllocError>
     ensures { (s : Shape) → Expresses s item → Expresses (weak rc_flavor (one s)) result }
 {
@@ -88,7 +104,7 @@ pub fn weak_expression(alloc: Global, item: Result<Expr, AllocError>) -> Result<
     Ok(Expr::Weak(flavor, pointee))
 }
 
-/// The expression of an array of `length` values.
+/// The expression of an array of `length` values. Fails where memory is or was refused.
 pub fn array_expression(
     length: usize,
     alloc: Global,
@@ -100,7 +116,7 @@ pub fn array_expression(
     Ok(Expr::Array(length, item))
 }
 
-/// The expression of a sorted map.
+/// The expression of a sorted map. Fails where memory is or was refused.
 pub fn map_expression<K: MapKey>(
     alloc: Global,
     item: Result<Expr, AllocError>,
@@ -111,21 +127,21 @@ pub fn map_expression<K: MapKey>(
     Ok(Expr::Map(K::key(), item))
 }
 
-/// The expression of a record of parts.
+/// The expression of a record of parts. Fails where the list did.
 pub fn record_expression(list: Result<Vec<Expr>, AllocError>) -> Result<Expr, AllocError>
     ensures { (ps : Parts) → ExpressesParts ps list → Expresses (parts ps) result }
 {
     Ok(record_of(list?))
 }
 
-/// The expressions of no parts.
+/// The expressions of no parts. It never fails.
 pub fn no_expressions(alloc: Global) -> Result<Vec<Expr>, AllocError>
     ensures { ExpressesParts no_part result }
 {
     Ok(Vec::new(alloc))
 }
 
-/// The expressions of a part and of those behind it.
+/// The expressions of a part and of those behind it. Fails where memory is or was refused.
 pub fn first_expression(
     first: Result<Expr, AllocError>,
     rest: Result<Vec<Expr>, AllocError>,
@@ -138,14 +154,14 @@ pub fn first_expression(
     Ok(list)
 }
 
-/// The expressions of no variants.
+/// The expressions of no variants. It never fails.
 pub fn no_variants(alloc: Global) -> Result<Vec<Vec<Expr>>, AllocError>
     ensures { ExpressesVariants no_variant result }
 {
     Ok(Vec::new(alloc))
 }
 
-/// The expressions of a variant's parts and of the variants behind it.
+/// The expressions of a variant's parts and of the variants behind it. Fails where memory is or was refused.
 pub fn first_variant(
     first: Result<Vec<Expr>, AllocError>,
     rest: Result<Vec<Vec<Expr>>, AllocError>,
@@ -158,7 +174,7 @@ pub fn first_variant(
     Ok(list)
 }
 
-/// Adds the definition of a name that stands for a record of parts. Fails as `define_name` does.
+/// Adds the definition of a name that stands for a record of parts. Fails as `define_name` does, and with `OutOfMemory` where the list did.
 pub fn define_record(
     name: &'static str,
     list: Result<Vec<Expr>, AllocError>,
@@ -175,7 +191,7 @@ pub fn define_record(
     define_name(name, record_of(list), defs)
 }
 
-/// Adds the definition of a name that stands for a choice of variants. Fails as `define_name` does.
+/// Adds the definition of a name that stands for a choice of variants. Fails as `define_name` does, and with `OutOfMemory` where the list did.
 pub fn define_choice(
     name: &'static str,
     variants: Result<Vec<Vec<Expr>>, AllocError>,

@@ -5,7 +5,7 @@ ghost use Rattle.std.specs.Prelude.{◌≡◌, ◌≤◌, IfOk, IfErr, length};
 ghost use Rattle.archive_types.specs.Runs.{EachBelongs};
 ghost use Rattle.archive_types.specs.SourceOutcomes.{BoxesInner, Serializes};
 ghost use Rattle.archive_write.specs.Written.{GoesOn};
-ghost use Rattle.archive_core.specs.recursive.Held.{InnerListed, InnerUnlisted};
+ghost use Rattle.archive_core.specs.recursive.Held.{InnerListed, ListingRefused};
 
 use archive_check::format::error::Error;
 use archive_types::boxed::{self, BoxResolver};
@@ -28,7 +28,7 @@ pub fn serialize_inner_slice<S: Writer + ResolverAlloc, T: Archive, B: Allocator
     ensures listed { IfOk result (InnerListed T.Archive T.Archived.Portable values.now
         resolvers.items S.Keys serializer) }
     ensures goes_on { GoesOn (S.state serializer.old) (S.state serializer.new) }
-    ensures refused { IfErr result (InnerUnlisted T.Archive T.Archived.Portable values.now
+    ensures refused { IfErr result (ListingRefused T.Archive T.Archived.Portable values.now
         resolvers.items S.Keys serializer) }
 {
     if values.is_empty() {
@@ -48,7 +48,7 @@ fn resolve_inner_slice<S: Writer + ResolverAlloc, T: Archive, B: Allocator + Dro
     ensures listed { IfOk result (InnerListed T.Archive T.Archived.Portable values.now
         resolvers.items S.Keys serializer) }
     ensures goes_on { GoesOn (S.state serializer.old) (S.state serializer.new) }
-    ensures refused { IfErr result (InnerUnlisted T.Archive T.Archived.Portable values.now
+    ensures refused { IfErr result (ListingRefused T.Archive T.Archived.Portable values.now
         resolvers.items S.Keys serializer) }
 {
     let alloc = serializer.resolver_alloc();
@@ -71,7 +71,7 @@ fn serialize_elements<S: Writer + ResolverAlloc, T: Archive, B: Allocator + Drop
     ensures listed { IfOk result (InnerListed T.Archive T.Archived.Portable values.now
         resolvers.items S.Keys serializer) }
     ensures goes_on { GoesOn (S.state serializer.old) (S.state serializer.new) }
-    ensures refused { IfErr result (InnerUnlisted T.Archive T.Archived.Portable values.now
+    ensures refused { IfErr result (ListingRefused T.Archive T.Archived.Portable values.now
         resolvers.items S.Keys serializer) }
 {
     resolve_inner_slice(values, resolvers, serializer)

@@ -7,7 +7,7 @@ ghost use Rattle.archive_check.specs.SelfCheck.Maps.{entry_definitions};
 ghost use Rattle.archive_check.specs.Shape.{entry_of};
 ghost use Rattle.archive_check.specs.Value.{product, shared_value};
 ghost use Rattle.archive_check.specs.declared.format.error.Error.TheVariants.{OutOfMemory};
-ghost use Rattle.archive_core.specs.recursive.HeldMaps.{InnerMapped, InnerUnmapped, IsMapped, IsNotMapped, IsReadMap, PairBelongs, pair_flat, pair_shape};
+ghost use Rattle.archive_core.specs.recursive.HeldMaps.{InnerMapped, MappingRefused, IsMapped, IsNotMapped, IsReadMap, PairBelongs, pair_flat, pair_shape};
 ghost use Rattle.archive_types.specs.MapPairs.{pair_keys, pair_meaning};
 ghost use Rattle.archive_types.specs.Members.Arrays.{named_twice, no_two, twice_keyed};
 ghost use Rattle.archive_types.specs.Members.Keyed.{nothing_keyed, part_keyed, record_keyed};
@@ -223,7 +223,7 @@ fn resolve_entries<
     ensures mapped { IfOk result (InnerMapped T.Archive T.Archived.Portable K.key V.shape
         entries.now resolvers.items S.Keys serializer) }
     ensures goes_on { GoesOn (S.state serializer.old) (S.state serializer.new) }
-    ensures refused { IfErr result (InnerUnmapped T.Archive T.Archived.Portable K.key V.shape
+    ensures refused { IfErr result (MappingRefused T.Archive T.Archived.Portable K.key V.shape
         entries.now resolvers.items S.Keys serializer) }
 {
     let alloc = serializer.resolver_alloc();
@@ -271,6 +271,7 @@ where
         (each_flat (pair_flat K.flat V.flat) source.now.entries resolvers.items)
         (S.state serializer.old) (S.state serializer.new)) }
 {
+    // The contract of `len` says that the keys ascend.
     let _count = source.len();
     let entries = entries_of(serializer.resolver_alloc(), source)?;
     resolve_entries::<K::Archived, V::Archived, Entry<'_, K, V>, S, B>(
@@ -315,6 +316,7 @@ pub fn collect_map<K: MapKey, V: Portable, A: SortedKey + Drop, B: Archive + Dro
         (each_keys (pair_keys A.keys B.keys) m.entries)) }
     ensures refused { IfErr result (λ e. e ≡ OutOfMemory) }
 {
+    // The contract alone speaks of the part.
     let _part = part;
     Ok(BTreeMap::from_iter(alloc, pairs)?)
 }

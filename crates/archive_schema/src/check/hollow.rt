@@ -177,7 +177,7 @@ impl Checker<'_> {
     }
 
     /// Checks the first of the elements at `at`, each of `size` bytes: as many as are records that end in a run of no elements, and lead to nothing else that has
-    /// to be listed. Returns how many.
+    /// to be listed. Returns how many, or `None` where one is rejected, with the reason in `work`.
     pub fn check_hollow<C: ArchiveContext>(
         &self,
         node: usize,

@@ -20,7 +20,7 @@ use Rattle.archive_types.specs.Members.Arrays.{ResolvesRun}
 use Rattle.archive_types.specs.Plans.{cursor, SerializedRegion}
 use Rattle.archive_types.specs.Members.PlannedOwners.{run_plan}
 use Rattle.archive_types.specs.Runs.{each_keys, each_meaning, SerializedRun, serialized_run, PutsRun, HindersRunAt}
-use Rattle.archive_types.specs.Copies.{each_bytes, IsCopied, EachCopied, OwnsNothing, EachOwnsNothing, AreCopied, copies_from, copies_to, behind_zeros, IsUnwritten, IsCopyRefused, AreCopiesRefused, TakesCopy}
+use Rattle.archive_types.specs.Copies.{each_bytes, IsCopied, EachCopied, OwnsNothing, EachOwnsNothing, AreCopied, copies_from, copies_to, behind_zeros, IsWriteRefused, IsCopyRefused, AreCopiesRefused, TakesCopy}
 use Rattle.archive_check.specs.declared.format.error.Error.{Error}
 use Rattle.archive_check.specs.declared.format.error.Error.TheVariants.{OutOfMemory, PositionTooLarge, LengthTooLarge, LayoutTooLarge}
 use Rattle.archive_check.specs.Denotes.{Naming}
@@ -110,7 +110,7 @@ module _ {A : Type 0} (D : Definitions) (X : Shape) (size : ℕ) (m : A → Valu
     -- a piece is refused
     pub copies_broken : (new : WriterState) (rest piece later : List A) (start bytes position : ℕ) (e : Error) → rest ≡ piece ++ later → start ≡ length first.bytes → bytes ≡ size
         → Copies D X size m b first now all rest → GoesOn now new → position ≡ length now.bytes
-        → ExplainsRefusal (length piece * size) position (length new.bytes) now.room now.failures new.failures e → IsUnwritten (start + length all * bytes) first new e
+        → ExplainsRefusal (length piece * size) position (length new.bytes) now.room now.failures new.failures e → IsWriteRefused (start + length all * bytes) first new e
     copies_broken new rest piece later start bytes position e cut begin same h g here refused =
         let end : ℕ = start + length all * bytes in
         let whole : end ≡ length first.bytes + length all * size = λ i. begin i + length all * same i in
@@ -165,7 +165,7 @@ module _ {A R : Type 0} (D : Definitions) (X : Shape) (size : ℕ) (m : A → Va
   left_read (Err e) k = tt
 
   pub left_unwritten : (r : Result R Error) (start here : ℕ) → start ≡ length first.bytes → here ≡ length now.bytes → GoesOn now new
-      → IfErr r (IsUnwritten (here + length rest * size) now new) → IfErr r (IsUnwritten (start + length all * size) first new)
+      → IfErr r (IsWriteRefused (here + length rest * size) now new) → IfErr r (IsWriteRefused (start + length all * size) first new)
   left_unwritten (Ok u) start here begin at g k = tt
   left_unwritten (Err e) start here begin at g k = explains_later _ _ _ _ first now new e h.goes g (λ y. y) (λ n y. omega (arith, y, begin, at, h.ends)) k
 
@@ -214,7 +214,7 @@ copies_too_large old new p n size fits h not_so = elim (cases_lt (p + n * size) 
   | inr more ↦ own_cause (refl, more)
 ]
 
-pub unwritten_refused : (end : ℕ) (old new : WriterState) (e : Error) → IsUnwritten end old new e → IsCopyRefused end old new e
+pub unwritten_refused : (end : ℕ) (old new : WriterState) (e : Error) → IsWriteRefused end old new e → IsCopyRefused end old new e
 unwritten_refused end old new e h = explains_sooner (λ x. ⊥) _ (λ n. n ≤ end) _ old new e (λ x. absurd x) (λ n x. x) h
 
 -- the same of a region that stands where the writer does

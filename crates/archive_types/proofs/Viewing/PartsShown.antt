@@ -73,7 +73,7 @@ box_has bytes q n P s v (contents_one reads_boxed) = Contains-push [] (pointer_a
 box_filled : (bytes : List ℕ) (q n : ℕ) (P : Pointee) (s : SchemaTable) (v w : Value) → Contents s bytes q (one (boxed P)) n v → Fills s bytes v w → (u : Value) × (w ≡ box u) × Fills s bytes (hole (pointer_at bytes q None P)) u
 box_filled bytes q n P s v w (contents_one reads_boxed) (fills_box {w = u} f) = (u, refl, f)
 
-vec_has : (bytes : List ℕ) (q n : ℕ) (X : Shape) (s : SchemaTable) (v : Value) → Contents s bytes q (one (vec X)) n v → Contains (pointers v) (pointer_at bytes q None (run X))
+pub vec_has : (bytes : List ℕ) (q n : ℕ) (X : Shape) (s : SchemaTable) (v : Value) → Contents s bytes q (one (vec X)) n v → Contains (pointers v) (pointer_at bytes q None (run X))
 vec_has bytes q n X s v (contents_one reads_vec) = Contains-push [] (pointer_at bytes q None (run X))
 
 vec_filled : (bytes : List ℕ) (q n : ℕ) (X : Shape) (s : SchemaTable) (v w : Value) → Contents s bytes q (one (vec X)) n v → Fills s bytes v w → (u : Value) × (w ≡ u) × Fills s bytes (hole (pointer_at bytes q None (run X))) u

@@ -10,7 +10,7 @@ use Rattle.archive_check.specs.WriterState.{WriterState}
 use Rattle.archive_check.specs.declared.format.error.Error.{Error}
 use Rattle.archive_check.specs.declared.format.error.Error.TheVariants.{OutOfMemory}
 use Rattle.archive_check.specs.declared.format.traits.Keys as Keys
-use Rattle.archive_types.specs.Copies.{each_bytes, EachCopied, copies_from, copies_to, behind_zeros, IsUnwritten, IsCopyRefused, IsSliceRefused, AreCopiesRefused, TakesCopy}
+use Rattle.archive_types.specs.Copies.{each_bytes, EachCopied, copies_from, copies_to, behind_zeros, IsWriteRefused, IsCopyRefused, IsSliceRefused, AreCopiesRefused, TakesCopy}
 
 -- The bytes of each of the values read as it, wherever they stand.
 abbrev pub AllCopied : {A M : Type 0} → FormatOf M → ℕ → (A → Value) → (A → List ℕ) → List A → Type 0
@@ -18,8 +18,8 @@ AllCopied f size meaning bytes xs = EachCopied f.definitions f.shape size meanin
 
 module _ {S : Type 0} (position : S → ℕ) (k : Keys.Ghosts S) (w : Both (MutBor S) (MutBor S)) where
   -- Why n bytes weren't written; why a copy of n bytes was refused.
-  abbrev pub PiecesUnwritten : ℕ → Error → Type 0
-  PiecesUnwritten n = IsUnwritten (position w.entry.now + n) (k.state w.entry.now) (k.state w.exit.now)
+  abbrev pub PiecesRefused : ℕ → Error → Type 0
+  PiecesRefused n = IsWriteRefused (position w.entry.now + n) (k.state w.entry.now) (k.state w.exit.now)
 
   abbrev pub CopyRefused : ℕ → Error → Type 0
   CopyRefused n = IsCopyRefused (position w.entry.now + n) (k.state w.entry.now) (k.state w.exit.now)

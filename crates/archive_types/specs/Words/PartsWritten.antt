@@ -14,5 +14,5 @@ use Rattle.archive_types.specs.PartsReading.{PartsReadBack, RefusesParts}
 abbrev pub ReadsPartsBack : {P T D : Type 0} → CheckedParts.Ghosts P → List ℕ → ℕ → ℕ → Entries.Ghosts D → Both (MutBor D) (MutBor D) → (T → Values) → (T → List Naming) → T → Type 0
 ReadsPartsBack g bytes p start d b meanings keys t = PartsReadBack d.keeps bytes p g.definitions g.parts start (d.entry_of b.entry.now) (d.entry_of b.exit.now) (meanings t) (keys t)
 
-abbrev pub UnreadParts : {P D : Type 0} → CheckedParts.Ghosts P → List ℕ → ℕ → ℕ → Entries.Ghosts D → Both (MutBor D) (MutBor D) → Error → Type 0
-UnreadParts g bytes p start d b = RefusesParts g.definitions bytes p g.parts start (d.entry_of b.entry.now)
+abbrev pub PartsRefused : {P D : Type 0} → CheckedParts.Ghosts P → List ℕ → ℕ → ℕ → Entries.Ghosts D → Both (MutBor D) (MutBor D) → Error → Type 0
+PartsRefused g bytes p start d b = RefusesParts g.definitions bytes p g.parts start (d.entry_of b.entry.now)

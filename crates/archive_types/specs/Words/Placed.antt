@@ -50,8 +50,8 @@ WriteRefused n position k w e =
 abbrev pub Pointed : {S : Type 0} → Pointee → ℕ → ℕ → (S → ℕ) → Keys.Ghosts S → Both (MutBor S) (MutBor S) → Type 0
 Pointed P n t position k w = (k.state w.exit.now).bytes ≡ (k.state w.entry.now).bytes ++ owner_bytes (has_length P) (distance (position w.entry.now) t) n
 
-abbrev pub Unpointed : {S : Type 0} → Pointee → ℕ → ℕ → (S → ℕ) → Keys.Ghosts S → Both (MutBor S) (MutBor S) → Error → Type 0
-Unpointed P n t position k w e =
+abbrev pub PointerRefused : {S : Type 0} → Pointee → ℕ → ℕ → (S → ℕ) → Keys.Ghosts S → Both (MutBor S) (MutBor S) → Error → Type 0
+PointerRefused P n t position k w e =
     (HindersPointerAt n (pointer_size P) (position w.entry.now) t e × (k.state w.exit.now ≡ k.state w.entry.now)) ⊎ WriteRefused (pointer_size P) position k w e
 
 -- There is a plan of a pointee of n elements or bytes, with its region.

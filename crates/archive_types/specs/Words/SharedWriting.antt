@@ -42,8 +42,8 @@ StoresIfUnknown key u g v k w result =
     (k.state w.entry.now).states key ≡ None
     → IfOk result (λ p. SerializedShared g.definitions g.pointee (u.source_length v) key (u.keys v) (u.meaning v) p (k.state w.entry.now) (k.state w.exit.now))
 
-abbrev pub UnstoredUnder : {U A M S : Type 0} → ℕ → ArchiveUnsized.Ghosts U A M → ArchivePointee.Ghosts A M → U → Keys.Ghosts S → Both (MutBor S) (MutBor S) → Error → Type 0
-UnstoredUnder key u g v k w e =
+abbrev pub SharedRefused : {U A M S : Type 0} → ℕ → ArchiveUnsized.Ghosts U A M → ArchivePointee.Ghosts A M → U → Keys.Ghosts S → Both (MutBor S) (MutBor S) → Error → Type 0
+SharedRefused key u g v k w e =
     Explains
     (HindersShared ((k.state w.entry.now).states key)
     (HindersRegion g.definitions g.pointee (u.source_length v) (u.keys v) (u.meaning v) (begun (cursor (k.state w.entry.now)) key)))

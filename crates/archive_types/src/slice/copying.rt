@@ -5,7 +5,7 @@ ghost use Rattle.archive_check.specs.WriterState.{KeepsKeys};
 ghost use Rattle.archive_types.specs.Copies.{each_bytes, copies_from};
 ghost use Rattle.archive_types.specs.Words.KindsWritten.{OwnsNothingAs, EachCopiedAs};
 ghost use Rattle.archive_write.specs.Written.{GoesOn};
-ghost use Rattle.archive_types.specs.Words.CopiesWritten.{AllCopied, PiecesUnwritten, CopyRefused, CopiesRefused, TakesCopies, AddedAligned, CopiesInBulk};
+ghost use Rattle.archive_types.specs.Words.CopiesWritten.{AllCopied, PiecesRefused, CopyRefused, CopiesRefused, TakesCopies, AddedAligned, CopiesInBulk};
 ghost use Rattle.archive_types.specs.Words.Placed.{BytesAdded, WriteRefused};
 ghost use Rattle.archive_types.specs.Outcomes.{WritesElements, CopiesElements};
 
@@ -83,7 +83,7 @@ fn copy_by<W: Writer, T: Copied, const N: usize>(
     ensures copied { OnOk result (BytesAdded (each_bytes T.copied_bytes values.now) W.Keys writer) }
     ensures read { OnOk result (AllCopied T.CopiedAs.Portable size T.copied_meaning T.copied_bytes
         values.now) }
-    ensures refused { IfErr result (PiecesUnwritten W.position W.Keys writer
+    ensures refused { IfErr result (PiecesRefused W.position W.Keys writer
         (length values.now * size)) }
     ensures memory { IsErrOf result Error.OutOfMemory → IsTrue W.takes_memory }
     ensures goes_on { GoesOn (W.state writer.old) (W.state writer.new) }
@@ -214,7 +214,7 @@ fn copy_long<W: Writer, T: Copied>(
     ensures copied { OnOk result (BytesAdded (each_bytes T.copied_bytes values.now) W.Keys writer) }
     ensures read { OnOk result (AllCopied T.CopiedAs.Portable size T.copied_meaning T.copied_bytes
         values.now) }
-    ensures refused { IfErr result (PiecesUnwritten W.position W.Keys writer
+    ensures refused { IfErr result (PiecesRefused W.position W.Keys writer
         (length values.now * size)) }
     ensures memory { IsErrOf result Error.OutOfMemory → IsTrue W.takes_memory }
     ensures goes_on { GoesOn (W.state writer.old) (W.state writer.new) }
@@ -239,7 +239,7 @@ fn copy_pieces<W: Writer, T: Copied>(
     ensures copied { OnOk result (BytesAdded (each_bytes T.copied_bytes values.now) W.Keys writer) }
     ensures read { OnOk result (AllCopied T.CopiedAs.Portable size T.copied_meaning T.copied_bytes
         values.now) }
-    ensures refused { IfErr result (PiecesUnwritten W.position W.Keys writer
+    ensures refused { IfErr result (PiecesRefused W.position W.Keys writer
         (length values.now * size)) }
     ensures memory { IsErrOf result Error.OutOfMemory → IsTrue W.takes_memory }
     ensures goes_on { GoesOn (W.state writer.old) (W.state writer.new) }

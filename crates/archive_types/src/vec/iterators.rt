@@ -3,7 +3,7 @@
 ghost use Rattle.std.specs.Prelude.{◌≡◌, ◌≤◌, ◌⊎◌, List, IfOk, OnOk, IfErr, length};
 ghost use Rattle.std.specs.Iterator.{IsFinite, Drains};
 ghost use Rattle.archive_check.specs.declared.format.error.Error.TheVariants.{OutOfMemory};
-ghost use Rattle.archive_types.specs.ItemsWritten.{ItemPut, ItemUnput, ItemsStored, ItemsUnstored};
+ghost use Rattle.archive_types.specs.ItemsWritten.{ItemPut, PutRefused, ItemsStored, CollectionRefused};
 ghost use Rattle.archive_write.specs.Written.{GoesOn};
 ghost use Rattle.archive_types.specs.Outcomes.{SerializesItems};
 
@@ -24,7 +24,7 @@ fn write_item<A: Allocator + Drop, S: Writer, U: Serialize<S>>(
     ensures written { OnOk result (ItemPut U.Archive U.Archived.Portable item.now S.Keys
         serializer) }
     ensures goes_on { GoesOn (S.state serializer.old) (S.state serializer.new) }
-    ensures refused { IfErr result (ItemUnput U.Archive U.Archived.Portable item.now S.Keys
+    ensures refused { IfErr result (PutRefused U.Archive U.Archived.Portable item.now S.Keys
         serializer) }
 {
     let before = serializer.pos();
@@ -80,7 +80,7 @@ impl<T: Portable> ArchivedVec<T> {
         ensures stored { IfOk result (ItemsStored I.next_gives iter U.Archive T.Portable S.Keys
             serializer) }
         ensures goes_on { GoesOn (S.state serializer.old) (S.state serializer.new) }
-        ensures refused { IfErr result (ItemsUnstored I.next_gives iter U.Archive T.Portable S.Keys
+        ensures refused { IfErr result (CollectionRefused I.next_gives iter U.Archive T.Portable S.Keys
             serializer) }
     {
         let alloc = serializer.resolver_alloc();

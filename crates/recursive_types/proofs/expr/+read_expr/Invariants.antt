@@ -15,6 +15,9 @@ decreases-read_box_expr g l = (l.part.pos + 4) * 4 + 1
 abbrev pub decreases-read_vec_expr : goal.decreases-read_vec_expr
 decreases-read_vec_expr g l = (l.part.pos + 8) * 4 + 1
 
+abbrev pub decreases-read_each_expr : goal.decreases-read_each_expr
+decreases-read_each_expr g l = (l.part.pos + 8) * 4 + 0
+
 abbrev pub decreases-read_expr_add : goal.decreases-read_expr_add
 decreases-read_expr_add g l = (l.part.pos + 24) * 4 + 2
 
@@ -24,5 +27,5 @@ decreases-read_expr_call g l = (l.part.pos + 24) * 4 + 2
 abbrev pub decreases-read_expr : goal.decreases-read_expr
 decreases-read_expr g l = (l.part.pos + 24) * 4 + 3
 
-abbrev pub invariant-read_vec_expr-loop-index : goal.invariant-read_vec_expr-loop-index
-invariant-read_vec_expr-loop-index g l = (length l.items.items ≡ l.index) × (vec_len l.items ≡ l.index) × (l.list.len ≤ vec_capacity l.items) × FirstElements g.D.Entries.keeps expr_definitions expr_shape expr_layout l.list.bytes.now l.list.pos (run expr_shape) l.list.len expr_meaning expr_keys (g.D.Entries.entry_of l.initial.deserializer) (g.D.Entries.entry_of l.deserializer) l.items.items
+abbrev pub invariant-read_each_expr-loop-index : goal.invariant-read_each_expr-loop-index
+invariant-read_each_expr-loop-index g l = (length l.items.items ≡ l.index) × (vec_len l.items ≡ l.index) × (l.list.len ≤ vec_capacity l.items) × FirstElements g.D.Entries.keeps expr_definitions expr_shape expr_layout l.list.bytes.now l.list.pos (run expr_shape) l.list.len expr_meaning expr_keys (g.D.Entries.entry_of l.initial.deserializer) (g.D.Entries.entry_of l.deserializer) l.items.items

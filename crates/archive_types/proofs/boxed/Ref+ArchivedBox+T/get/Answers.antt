@@ -1,5 +1,6 @@
 use Rattle.std.proofs.Common.{arith}
 use Rattle.archive_types.proofs.Writing.Owned.{pointer_some}
+use Rattle.archive_types.proofs.Viewing.EndsBefore.{box_ends}
 use Rattle.archive_types.proofs.Viewing.PartsShown.{box_shown, box_shows, box_within}
 use Rattle.archive_types.proofs.boxed.Ref+ArchivedBox+T.get.Goals as goal
 
@@ -17,6 +18,11 @@ read_length-requires g c = box_within g.T.ArchivePointee.definitions c.part-pos.
 
 pub at-requires : goal.at-requires
 at-requires g c = rw (c.read_target.ensures, c.read_length.ensures) (box_shown g.T.ArchivePointee.definitions c.part-pos.result.bytes.now c.part-pos.result.pos c.part-pos.result.len g.T.ArchivePointee.pointee c.part-pos.ensures.viewed).viewed
+
+pub returns-clause-ends : goal.returns-clause-ends
+returns-clause-ends g c =
+    rw (c.at.ensures.position, c.at.ensures.length, c.read_target.ensures, c.read_length.ensures, ← c.part-pos.ensures.position)
+    (box_ends g.T.ArchivePointee.definitions c.part-pos.result.bytes.now c.part-pos.result.pos c.part-pos.result.len g.T.ArchivePointee.pointee c.part-pos.ensures.viewed)
 
 pub returns-clause-shows : goal.returns-clause-shows
 returns-clause-shows g c =

@@ -1,4 +1,5 @@
 use Rattle.std.proofs.Common.{length, arith, ap}
+use Rattle.archive_types.proofs.Viewing.EndsBefore.{vec_ends}
 use Rattle.archive_types.proofs.Viewing.PartsShown.{vec_shown, vec_shows, vec_within}
 use Rattle.archive_types.proofs.vec.Ref+ArchivedVec+T.as_slice.Goals as goal
 
@@ -23,6 +24,11 @@ read_u32-requires g c = omega (arith, vec_within g.T.ArchivePointee.definitions 
 
 pub at-requires : goal.at-requires
 at-requires g c = rw (c.read_target.ensures, c.read_u32.ensures) (vec_shown g.T.ArchivePointee.definitions c.part-pos.result.bytes.now c.part-pos.result.pos c.part-pos.result.len g.T.Portable.shape c.part-pos.ensures.viewed).viewed
+
+pub returns-clause-ends : goal.returns-clause-ends
+returns-clause-ends g c =
+    rw (c.at.ensures.position, c.at.ensures.length, c.read_target.ensures, c.read_u32.ensures, ← c.part-pos.ensures.position)
+    (vec_ends g.T.ArchivePointee.definitions c.part-pos.result.bytes.now c.part-pos.result.pos c.part-pos.result.len g.T.Portable.shape g.T.Portable.layout g.met.T.Portable.has_layout c.part-pos.ensures.viewed)
 
 pub returns-clause-shows : goal.returns-clause-shows
 returns-clause-shows g c =
